@@ -1,0 +1,15 @@
+//! Calls and replies as data, and what a plain tree of files answers.
+#![tactic(auto)]
+
+mod call;
+mod lines;
+mod path;
+mod reply;
+pub mod rows;
+mod turn;
+
+pub use call::{Call, Line};
+pub use lines::Lines;
+pub use path::Path;
+pub use reply::{FaultReply, Refusal, Reply, Space};
+pub use turn::{Answered, Duty, DutyAnswer, Stage};

@@ -1,0 +1,74 @@
+ghost use Rattle.std.specs.Prelude.{◌≡◌, ◌<◌, ◌≤◌, ◌+◌, ◌^◌, [], ◌∷◌, ◌++◌, length, All, OnOk, OnErr, Some, slice_get};
+
+use crate::Line;
+use nl_field::Memory;
+use std::alloc::Global;
+use std::marker::Model;
+
+/// The lines of a script, in its order.
+#[derive(Debug, Drop)]
+pub struct Lines {
+    lines: Vec<Line>,
+}
+
+impl Model for Lines {
+    ghost use Rattle.std.specs.Prelude.{List, ◌<◌, ◌^◌, length};
+    ghost use Rattle.nl_tree.specs.declared.call.Line.{Line};
+
+    ghost Value = { List Line };
+
+    ghost view = { λ l. l.lines.items };
+
+    ghost invariant = { λ l. length l.lines.items < 2 ^ 32 };
+}
+
+impl Lines {
+    /// No lines. It takes no memory.
+    pub fn new(alloc: Global) -> Self
+        ensures { result ≡ [] }
+    {
+        Lines {
+            lines: Vec::new(alloc),
+        }
+    }
+
+    /// Adds a line behind the others.
+    pub fn push(&mut self, line: Line) -> Result<(), Memory>
+        requires room { length self.old + 1 < 2 ^ 32 }
+        requires number { 0 < line.line }
+        requires rising { All (λ l. (l.line < line.line) × (l.round ≤ line.round)) self.old }
+        requires worker { line.worker ≤ 7 }
+        ensures ok { OnOk result (self.new ≡ self.old ++ line ∷ []) }
+        ensures err { OnErr result (self.new ≡ self.old) }
+    {
+        self.lines.push(line)?;
+        Ok(())
+    }
+
+    pub fn len(&self) -> u32
+        ensures count { result ≡ length self.now }
+    {
+        self.lines.len() as u32
+    }
+
+    pub fn get(&self, at: u32) -> &Line
+        requires { at < length self.now }
+        ensures { slice_get self.now at ≡ Some result.now }
+    {
+        &self.lines[at as usize]
+    }
+
+    pub fn as_slice(&self) -> &[Line]
+        ensures lines { result.now ≡ self.now }
+        ensures small { length self.now < 2 ^ 32 }
+    {
+        &self.lines
+    }
+
+    pub fn into_vec(self) -> Vec<Line>
+        ensures lines { result.items ≡ self }
+        ensures small { length result.items < 2 ^ 32 }
+    {
+        self.lines
+    }
+}

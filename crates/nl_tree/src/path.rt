@@ -1,0 +1,54 @@
+ghost use Rattle.std.specs.Prelude.{◌≡◌, ◌<◌, ◌^◌, ◌+◌, ◌↔◌, [], ◌∷◌, ◌++◌, length, OnOk, OnErr, IsSome, slice_get, Some};
+ghost use Rattle.std.specs.Option.{option_to_list};
+
+use nl_field::{Memory, Text};
+use std::alloc::Global;
+use std::marker::Model;
+
+/// A path as the list of its names from the root on. The empty list is the root.
+#[derive(Debug, Drop)]
+pub struct Path {
+    names: Vec<Text>,
+}
+
+impl Model for Path {
+    ghost use Rattle.std.specs.Prelude.{List, ℕ};
+
+    ghost Value = { List (List ℕ) };
+
+    ghost view = { λ p. p.names.items };
+}
+
+impl Path {
+    /// The root. It takes no memory.
+    pub fn new(alloc: Global) -> Self
+        ensures { result ≡ [] }
+    {
+        Path {
+            names: Vec::new(alloc),
+        }
+    }
+
+    /// Adds a name at the end.
+    pub fn push(&mut self, name: Text) -> Result<(), Memory>
+        ensures ok { OnOk result (self.new ≡ self.old ++ name ∷ []) }
+        ensures err { OnErr result (self.new ≡ self.old) }
+    {
+        self.names.push(name)?;
+        Ok(())
+    }
+
+    /// Takes the last name off.
+    pub fn pop(&mut self) -> Option<Text>
+        ensures names { self.old ≡ self.new ++ option_to_list result }
+        ensures some { IsSome result ↔ (0 < length self.old) }
+    {
+        self.names.pop()
+    }
+
+    pub fn names(&self) -> &[Text]
+        ensures { result.now ≡ self.now }
+    {
+        &self.names
+    }
+}
