@@ -7,6 +7,8 @@ mod mem_source;
 mod sink;
 mod source;
 mod standard;
+#[cfg(test)]
+mod tests;
 mod words;
 
 pub use mem_sink::MemSink;

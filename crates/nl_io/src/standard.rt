@@ -4,6 +4,7 @@ ghost use Rattle.nl_field.specs.CrashStates.{saturated};
 
 use crate::{Sink, SinkAnswer, Source, SourceAnswer};
 use std::io::{Read, Write};
+use std::marker::Model;
 
 /// The most bytes of one read.
 const PIECE: usize = 65536;
@@ -15,8 +16,20 @@ pub struct StdSource<R: Read + Drop> {
     faults: u64,
 }
 
+// It is seen as its count of faults.
+impl<R: Read + Drop> Model for StdSource<R> {
+    ghost use Rattle.std.specs.Prelude.{ℕ};
+
+    ghost Value = { ℕ };
+
+    ghost view = { λ s. s.faults };
+}
+
 impl<R: Read + Drop> StdSource<R> {
-    pub fn new(inner: R) -> Self {
+    /// No fault yet.
+    pub fn new(inner: R) -> Self
+        ensures { result ≡ 0 }
+    {
         StdSource { inner, faults: 0 }
     }
 }
@@ -24,7 +37,7 @@ impl<R: Read + Drop> StdSource<R> {
 impl<R: Read + Drop> Source for StdSource<R> {
     ghost left = { λ s. None };
 
-    ghost faults = { λ s. s.faults };
+    ghost faults = { λ s. s };
 
     fn read(&mut self, out: &mut [u8]) -> SourceAnswer {
         let most = out.len().min(PIECE);
@@ -50,16 +63,28 @@ pub struct StdSink<W: Write + Drop> {
     faults: u64,
 }
 
+// It is seen as its count of faults.
+impl<W: Write + Drop> Model for StdSink<W> {
+    ghost use Rattle.std.specs.Prelude.{ℕ};
+
+    ghost Value = { ℕ };
+
+    ghost view = { λ s. s.faults };
+}
+
 impl<W: Write + Drop> StdSink<W> {
-    pub fn new(inner: W) -> Self {
+    /// No fault yet.
+    pub fn new(inner: W) -> Self
+        ensures { result ≡ 0 }
+    {
         StdSink { inner, faults: 0 }
     }
 
     // Counts a fault.
     fn failed(&mut self) -> SinkAnswer
         ensures answer { result ≡ SinkAnswer.Failed }
-        ensures faults { self.new.faults ≡ saturated (self.old.faults + 1) }
-        ensures never_falls { self.old.faults ≤ self.new.faults }
+        ensures faults { self.new ≡ saturated (self.old + 1) }
+        ensures never_falls { self.old ≤ self.new }
     {
         self.faults = self.faults.saturating_add(1);
         SinkAnswer::Failed
@@ -69,7 +94,7 @@ impl<W: Write + Drop> StdSink<W> {
 impl<W: Write + Drop> Sink for StdSink<W> {
     ghost taken = { λ s. None };
 
-    ghost faults = { λ s. s.faults };
+    ghost faults = { λ s. s };
 
     // All bytes, and then the writer is flushed.
     fn write(&mut self, bytes: &[u8]) -> SinkAnswer {
