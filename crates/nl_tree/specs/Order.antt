@@ -1,4 +1,4 @@
--- In which orders the lines of a script may be answered, and which calls a sync has made safe.
+-- In which orders the lines of a script may be answered, and how many calls a sync has made safe.
 use Rattle.std.specs.Prelude.{◌≡◌, ℕ, ◌+◌, ◌<◌, ◌≤◌, max, nat_le, nat_lt, ◌==◌, Bool, ◌&&◌, ◌||◌, if◌then◌else◌, IsTrue, IsFalse, List, map, fold, filter_map, slice_get, IfSome, Option, Some, None, AllPairs, IsPermutation}
 use Rattle.std.specs.List.{AllByRecursion}
 use Rattle.nl_tree.specs.declared.call.Line.{Line}
@@ -19,9 +19,9 @@ pub record SyncPoint : Type 0 where
   pub upto : ℕ
   pub moment : ℕ
 
--- the greatest `upto` of the syncs up to a moment, and the count of the opening where there is none
-unfoldable pub covered : List SyncPoint → ℕ → ℕ → ℕ
-covered syncs count moment = fold (λ best sync. if nat_le sync.moment moment then max best sync.upto else best) count syncs
+-- The calls that a stop can no longer lose: the greatest `upto` of the syncs up to a moment, and the count of the opening where there is none.
+unfoldable pub durable_prefix : List SyncPoint → ℕ → ℕ → ℕ
+durable_prefix syncs count moment = fold (λ best sync. if nat_le sync.moment moment then max best sync.upto else best) count syncs
 
 -- the numbers of a sync that was answered ok
 abbrev pub sync_answered : Reply → Option SyncPoint

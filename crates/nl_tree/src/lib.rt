@@ -2,9 +2,11 @@
 #![tactic(auto)]
 
 mod call;
+pub mod laws;
 mod lines;
 mod path;
 mod reply;
+mod reply_buf;
 pub mod rows;
 mod turn;
 
@@ -12,4 +14,5 @@ pub use call::{Call, Line};
 pub use lines::Lines;
 pub use path::Path;
 pub use reply::{FaultReply, Refusal, Reply, Space};
+pub use reply_buf::ReplyBuf;
 pub use turn::{Answered, Duty, DutyAnswer, Stage};

@@ -46,6 +46,22 @@ impl Path {
         self.names.pop()
     }
 
+    /// The count of names.
+    pub fn len(&self) -> u32
+        requires small { length self.now < 2 ^ 32 }
+        ensures { result ≡ length self.now }
+    {
+        self.names.len() as u32
+    }
+
+    /// The name at a position from 0.
+    pub fn get(&self, at: u32) -> &Text
+        requires { at < length self.now }
+        ensures { slice_get self.now at ≡ Some result.now }
+    {
+        &self.names[at as usize]
+    }
+
     pub fn names(&self) -> &[Text]
         ensures { result.now ≡ self.now }
     {
