@@ -1,15 +1,38 @@
-//! Numbers, pages and lists of bytes that every other crate names.
+//! Numbers, pages, records and lists of bytes that every other crate names.
 #![tactic(auto)]
 
+mod address_list;
+mod answers;
+mod commit;
+mod entry;
 mod fail_list;
+mod findings;
+mod header;
+mod inode;
+mod name;
 mod page_buf;
+mod place;
 mod pointer;
+pub mod rows;
 mod shape;
+mod spare;
+mod super_page;
 mod text;
 
+pub use address_list::AddressList;
+pub use answers::{Named, NamedRead, VirtualRead, VirtualWrite};
+pub use commit::CommitRec;
+pub use entry::EntryRec;
 pub use fail_list::FailList;
+pub use findings::Findings;
+pub use header::HeaderRec;
+pub use inode::{InodeRec, Kind};
+pub use name::Name;
 pub use page_buf::PageBuf;
+pub use place::{Place, What};
 pub use pointer::{Pointer, Tag};
 pub use shape::{Shape, shape_of};
+pub use spare::SpareRec;
 pub use std::alloc::AllocError as Memory;
+pub use super_page::SuperRec;
 pub use text::Text;
