@@ -2,7 +2,7 @@
 use Rattle.std.specs.Prelude.{◌≡◌, ◌⊎◌, ℕ, ◌+◌, ◌*◌, ◌<◌, ◌≤◌, length, ⊤, IsTrue}
 use Rattle.nl_field.specs.Page.{PageBytes, Page, erased, uncorrectable, written, Image, page_at, is_image}
 use Rattle.nl_field.specs.Numbers.{is_legal}
-use Rattle.nl_field.specs.CrashStates.{saturated, Rose}
+use Rattle.nl_field.specs.CrashStates.{saturated}
 use Rattle.nl_nand.specs.declared.geometry.Geometry.{Geometry}
 use Rattle.nl_nand.specs.declared.answers.WriteAnswer.{WriteAnswer}
 use Rattle.nl_nand.specs.declared.answers.WriteAnswer.TheVariants as write
@@ -69,10 +69,10 @@ abbrev pub ticked : ℕ → WriteAnswer → ℕ
 ticked clock write.Done = saturated (clock + 1)
 ticked clock write.Failed = clock
 
--- a count of failed calls: it rises where this call failed, and stays where it did not
+-- a count of failed calls: it rises by one where this call failed, and stays where it did not
 pub record FaultsCounted (before now : ℕ) (failed : Type 0) : Type 0 where
   pub never_falls : before ≤ now
-  pub cause : failed → Rose before now
+  pub cause : failed → now ≡ saturated (before + 1)
   pub stays : (failed → ⊥) → now ≡ before
 
 -- a crash may have left the same images as before the call
