@@ -1,0 +1,68 @@
+// A line that is put together before it is written, so that most lines are one write.
+ghost use Rattle.std.specs.Prelude.{◌≡◌, ◌≤◌, ◌+◌, ◌++◌, [], length, codes, decimal};
+ghost use Rattle.nl_print.specs.Texts.{then_number};
+
+use arrayvec::ArrayVec;
+use itoa::Buffer;
+use std::marker::Model;
+
+/// Up to 192 bytes of a line.
+#[derive(Drop)]
+pub struct LineBuf {
+    bytes: ArrayVec<u8, 192>,
+}
+
+impl Model for LineBuf {
+    ghost use Rattle.std.specs.Prelude.{List, ℕ};
+
+    ghost Value = { List ℕ };
+
+    ghost view = { λ l. l.bytes.items };
+}
+
+impl LineBuf {
+    pub fn new() -> LineBuf
+        ensures { result ≡ [] }
+    {
+        LineBuf {
+            bytes: ArrayVec::new(),
+        }
+    }
+
+    pub fn push(&mut self, bytes: &[u8])
+        requires { length self.old + length bytes.now ≤ 192 }
+        ensures bytes { self.new ≡ self.old ++ bytes.now }
+        ensures len { length self.new ≡ length self.old + length bytes.now }
+    {
+        match self.bytes.try_extend_from_slice(bytes) {
+            Ok(()) => {}
+            Err(_) => unreachable!(),
+        }
+    }
+
+    /// Adds the decimal digits of a number, at most 20.
+    pub fn push_number(&mut self, number: u64)
+        requires { length self.old + 20 ≤ 192 }
+        ensures bytes { self.new ≡ self.old ++ decimal number }
+        ensures len { length self.new ≤ length self.old + 20 }
+    {
+        let mut buffer = Buffer::new();
+        self.push(buffer.format(number).as_bytes());
+    }
+
+    /// Adds a space and a number.
+    pub fn then_number(&mut self, number: u64)
+        requires { length self.old + 21 ≤ 192 }
+        ensures bytes { self.new ≡ self.old ++ then_number number }
+        ensures len { length self.new ≤ length self.old + 21 }
+    {
+        self.push(b" ");
+        self.push_number(number);
+    }
+
+    pub fn bytes(&self) -> &[u8]
+        ensures { result.now ≡ self.now }
+    {
+        self.bytes.as_slice()
+    }
+}
