@@ -1,0 +1,76 @@
+-- The sequential execution of a script on a medium on which each write of at least a byte programs one further page.
+use Rattle.std.specs.Prelude.{◌≡◌, ℕ, ◌+◌, ◌≤◌, min, nat_le, nat_lt, ◌&&◌, if◌then◌else◌, List, [], ◌∷◌, length, map, sum_by, count_by, is_some, Option, Some, None, ⊤}
+use Rattle.nl_field.specs.CrashStates.{saturated}
+use Rattle.nl_field.specs.declared.shape.Shape.{Shape}
+use Rattle.nl_tree.specs.Tree.{Tree}
+use Rattle.nl_tree.specs.Step.{Outcome}
+use Rattle.nl_tree.specs.Replay.{step_marked}
+use Rattle.nl_tree.specs.declared.call.Call.{Call}
+use Rattle.nl_tree.specs.declared.call.Call.TheVariants.{Write}
+use Rattle.nl_tree.specs.declared.call.Line.{Line}
+use Rattle.nl_tree.specs.declared.reply.FaultReply.{FaultReply}
+use Rattle.nl_tree.specs.declared.reply.FaultReply.TheVariants.{Eio}
+use Rattle.nl_tree.specs.declared.reply.Refusal.TheVariants.{Enospc}
+use Rattle.nl_tree.specs.declared.reply.Reply.{Reply}
+use Rattle.nl_tree.specs.declared.reply.Reply.TheVariants.{Count, No, Fault}
+use Rattle.nl_tree.specs.declared.reply.Space.TheVariants.{Pages}
+use Rattle.nl_print.specs.Texts.{Answered}
+
+-- a line of the script, the fault reply that it got in place of its own, if it got one, and the programs that were begun before it
+pub record Executed : Type 0 where
+  pub line : Line
+  pub fault : Option FaultReply
+  pub begun : ℕ
+
+-- the programs that finish in a call with this reply
+abbrev pub programs_of : Reply → ℕ
+programs_of (Count n) = min n 1
+programs_of _ = 0
+
+-- What a line answers: what the plain tree replies to its call, unless that would program a further page and all pages of the medium were begun.
+abbrev pub outcome_at : Shape → ℕ → Tree → Executed → Outcome
+outcome_at shape capacity tree e =
+    let due = step_marked shape tree (e.line.call, e.fault) in
+    if nat_le capacity e.begun && nat_lt 0 (programs_of due.reply) then record { reply = No (Enospc Pages); bytes = []; tree = tree } else due
+
+-- what the lines answer, in order, and the tree behind them
+unfoldable pub outcomes : Shape → ℕ → Tree → List Executed → List Outcome
+outcomes shape capacity tree [] = []
+outcomes shape capacity tree (e ∷ rest) = outcome_at shape capacity tree e ∷ outcomes shape capacity (outcome_at shape capacity tree e).tree rest
+
+unfoldable pub tree_after : Shape → ℕ → Tree → List Executed → Tree
+tree_after shape capacity tree [] = tree
+tree_after shape capacity tree (e ∷ rest) = tree_after shape capacity (outcome_at shape capacity tree e).tree rest
+
+-- the most programs that a call begins
+abbrev pub most_programs : Call → ℕ
+most_programs (Write path from bytes) = min (length bytes) 1
+most_programs _ = 0
+
+-- A call with this reply began so many programs. One that met a fault may have met it before its program.
+abbrev pub Begins : Call → Reply → ℕ → Type 0
+Begins call (Fault fault) n = n ≤ most_programs call
+Begins call reply n = n ≡ programs_of reply
+
+-- The programs that were begun before each line are counted, from `begun` before the first to `all` behind the last.
+abbrev pub CountsPrograms : Shape → ℕ → Tree → ℕ → List Executed → ℕ → Type 0
+CountsPrograms shape capacity tree begun [] all = begun ≡ all
+CountsPrograms shape capacity tree begun (e ∷ rest) all =
+    let outcome = outcome_at shape capacity tree e in
+    (e.begun ≡ begun) × ((n : ℕ) × Begins e.line.call outcome.reply n × CountsPrograms shape capacity outcome.tree (begun + n) rest all)
+
+-- The only fault reply is EIO. Its number is the sum of both fault counts, which each failed line raises by one.
+abbrev pub FaultsNumbered : ℕ → List (Option FaultReply) → Type 0
+FaultsNumbered sum [] = ⊤
+FaultsNumbered sum (None ∷ rest) = FaultsNumbered sum rest
+FaultsNumbered sum (Some fault ∷ rest) = (fault ≡ Eio (saturated (sum + 1))) × FaultsNumbered (saturated (sum + 1)) rest
+
+-- how many lines got a fault reply
+abbrev pub faults_of : List (Option FaultReply) → ℕ
+faults_of faults = count_by is_some faults
+
+-- the lines with their answers, as they are printed
+abbrev pub answered_of : List Executed → List Outcome → List Answered
+answered_of [] outcomes = []
+answered_of (e ∷ rest) [] = []
+answered_of (e ∷ rest) (o ∷ outcomes) = (e.line.line, o.reply, o.bytes) ∷ answered_of rest outcomes

@@ -1,0 +1,74 @@
+-- The files of the root that a run keeps in memory, each with at most one page of the medium, and the tree for which they stand.
+use Rattle.std.specs.Prelude.{◌≡◌, ◌<◌, ◌≤◌, ℕ, ◌+◌, List, [], ◌∷◌, map, length, find, bytes_eq, Bool, Option, Some, None, option_map, ⊤}
+use Rattle.std.specs.List.{AllByRecursion}
+use Rattle.nl_field.specs.Bytes.{zeros}
+use Rattle.nl_field.specs.FileContent.{FileContent}
+use Rattle.nl_field.specs.Page.{Page, erased, uncorrectable, written, Image, page_at}
+use Rattle.nl_tree.specs.Tree.{Tree, Node, directory, file, node_at}
+use Rattle.nl_tree.specs.TreeLaws.{IsInOrder}
+use Rattle.nl_top.specs.declared.files.FileEntry.{FileEntry}
+
+-- the main bytes of a page; one that does not read as written counts as zeros
+abbrev pub main_of : Page → List ℕ
+main_of (written bytes) = bytes.main
+main_of erased = zeros 4096
+main_of uncorrectable = zeros 4096
+
+-- the bytes of a file's one page, zeros where it has none
+abbrev pub page_bytes_of : Image → Option ℕ → List ℕ
+page_bytes_of image None = zeros 4096
+page_bytes_of image (Some page) = main_of (page_at image page)
+
+abbrev pub pages_of : Image → Option ℕ → List (ℕ × List ℕ)
+pages_of image None = []
+pages_of image (Some page) = (0, main_of (page_at image page)) ∷ []
+
+abbrev pub content_of_entry : Image → FileEntry → FileContent
+content_of_entry image f = record { size = f.size; pages = pages_of image f.page }
+
+-- the names of the files with what they hold
+abbrev pub contents_of : Image → List FileEntry → List (List ℕ × FileContent)
+contents_of image files = map (λ f. (f.name, content_of_entry image f)) files
+
+abbrev pub has_name : List ℕ → FileEntry → Bool
+has_name name f = bytes_eq name f.name
+
+abbrev pub is_named : List ℕ → List ℕ × FileContent → Bool
+is_named name entry = bytes_eq name entry.0
+
+-- a file of the root within its first page
+pub record IsSmallFile (path : List (List ℕ)) (content : FileContent) : Type 0 where
+  pub one_name : length path ≡ 1
+  pub short : content.size ≤ 4096
+  pub no_later_page : AllByRecursion (λ page. page.0 ≡ 0) content.pages
+  pub one_page : length content.pages ≤ 1
+
+abbrev pub IsSmallEntry : List (List ℕ) × Node → Type 0
+IsSmallEntry (path, directory) = ⊥
+IsSmallEntry (path, file content) = IsSmallFile path content
+
+-- the tree has the root, and in it small files
+pub record IsFlat (tree : Tree) : Type 0 where
+  pub entries : Tree
+  pub is : tree ≡ ([], directory) ∷ entries
+  pub small : AllByRecursion IsSmallEntry entries
+
+-- the tree has these files in its root, and nothing else
+pub record HasFiles (contents : List (List ℕ × FileContent)) (tree : Tree) : Type 0 where
+  pub in_order : IsInOrder tree
+  pub flat : IsFlat tree
+  pub named : (name : List ℕ) → node_at tree (name ∷ []) ≡ option_map (λ entry. file entry.1) (find (is_named name) contents)
+  pub count : length tree ≡ length contents + 1
+
+-- what holds of each file while so many pages were begun: it is short, its page was begun, and without a page it is empty
+abbrev pub HasPage : ℕ → FileEntry → Option ℕ → Type 0
+HasPage next f None = f.size ≡ 0
+HasPage next f (Some page) = page < next
+
+pub record IsFile (next : ℕ) (f : FileEntry) : Type 0 where
+  pub size : f.size ≤ 4096
+  pub page : HasPage next f f.page
+
+-- the pages from next on are erased
+abbrev pub IsErasedFrom : ℕ → Image → Type 0
+IsErasedFrom next image = (q : ℕ) → next ≤ q → page_at image q ≡ erased
