@@ -1,12 +1,12 @@
 -- The sequential execution of a script on a medium on which each write of at least a byte programs one further page.
-use Rattle.std.specs.Prelude.{◌≡◌, ℕ, ◌+◌, ◌≤◌, min, nat_le, nat_lt, ◌&&◌, if◌then◌else◌, List, [], ◌∷◌, length, map, sum_by, count_by, is_some, Option, Some, None, ⊤}
+use Rattle.std.specs.Prelude.{◌≡◌, ℕ, zero, suc, ◌+◌, ◌≤◌, min, nat_le, nat_lt, ◌&&◌, if◌then◌else◌, List, [], ◌∷◌, length, map, sum_by, count_by, is_some, Option, Some, None, ⊤}
 use Rattle.nl_field.specs.CrashStates.{saturated}
 use Rattle.nl_field.specs.declared.shape.Shape.{Shape}
 use Rattle.nl_tree.specs.Tree.{Tree}
 use Rattle.nl_tree.specs.Step.{Outcome}
 use Rattle.nl_tree.specs.Replay.{step_marked}
 use Rattle.nl_tree.specs.declared.call.Call.{Call}
-use Rattle.nl_tree.specs.declared.call.Call.TheVariants.{Write}
+use Rattle.nl_tree.specs.declared.call.Call.TheVariants.{Write, Read}
 use Rattle.nl_tree.specs.declared.call.Line.{Line}
 use Rattle.nl_tree.specs.declared.reply.FaultReply.{FaultReply}
 use Rattle.nl_tree.specs.declared.reply.FaultReply.TheVariants.{Eio}
@@ -22,16 +22,25 @@ pub record Executed : Type 0 where
   pub fault : Option FaultReply
   pub begun : ℕ
 
+-- a count after so many further events; it stands still at the end of its type
+abbrev pub risen : ℕ → ℕ → ℕ
+risen zero count = count
+risen (suc n) count = risen n (saturated (count + 1))
+
 -- the programs that finish in a call with this reply
 abbrev pub programs_of : Reply → ℕ
 programs_of (Count n) = min n 1
 programs_of _ = 0
 
--- What a line answers: what the plain tree replies to its call, unless that would program a further page and all pages of the medium were begun.
+-- What a call answers, under a fault reply or none, where so many programs were begun on a medium of so many pages: what the plain tree
+-- replies, unless that would program a further page and all were begun.
+unfoldable pub outcome_of : Shape → ℕ → Tree → Call → Option FaultReply → ℕ → Outcome
+outcome_of shape capacity tree call fault begun =
+    let due = step_marked shape tree (call, fault) in
+    if nat_le capacity begun && nat_lt 0 (programs_of due.reply) then record { reply = No (Enospc Pages); bytes = []; tree = tree } else due
+
 abbrev pub outcome_at : Shape → ℕ → Tree → Executed → Outcome
-outcome_at shape capacity tree e =
-    let due = step_marked shape tree (e.line.call, e.fault) in
-    if nat_le capacity e.begun && nat_lt 0 (programs_of due.reply) then record { reply = No (Enospc Pages); bytes = []; tree = tree } else due
+outcome_at shape capacity tree e = outcome_of shape capacity tree e.line.call e.fault e.begun
 
 -- what the lines answer, in order, and the tree behind them
 unfoldable pub outcomes : Shape → ℕ → Tree → List Executed → List Outcome
@@ -46,6 +55,11 @@ tree_after shape capacity tree (e ∷ rest) = tree_after shape capacity (outcome
 abbrev pub most_programs : Call → ℕ
 most_programs (Write path from bytes) = min (length bytes) 1
 most_programs _ = 0
+
+-- the most bytes that a call reads
+abbrev pub most_bytes : Call → ℕ
+most_bytes (Read path from count) = min count 4096
+most_bytes _ = 0
 
 -- A call with this reply began so many programs. One that met a fault may have met it before its program.
 abbrev pub Begins : Call → Reply → ℕ → Type 0
@@ -65,9 +79,16 @@ FaultsNumbered sum [] = ⊤
 FaultsNumbered sum (None ∷ rest) = FaultsNumbered sum rest
 FaultsNumbered sum (Some fault ∷ rest) = (fault ≡ Eio (saturated (sum + 1))) × FaultsNumbered (saturated (sum + 1)) rest
 
--- how many lines got a fault reply
-abbrev pub faults_of : List (Option FaultReply) → ℕ
-faults_of faults = count_by is_some faults
+-- the sum of both fault counts behind these lines
+abbrev pub sum_after : ℕ → List (Option FaultReply) → ℕ
+sum_after sum [] = sum
+sum_after sum (None ∷ rest) = sum_after sum rest
+sum_after sum (Some fault ∷ rest) = sum_after (saturated (sum + 1)) rest
+
+-- the fault reply that a reply is, if it is one
+abbrev pub fault_of : Reply → Option FaultReply
+fault_of (Fault fault) = Some fault
+fault_of _ = None
 
 -- the lines with their answers, as they are printed
 abbrev pub answered_of : List Executed → List Outcome → List Answered

@@ -6,6 +6,9 @@ use Rattle.nl_field.specs.FileContent.{FileContent}
 use Rattle.nl_field.specs.Page.{Page, erased, uncorrectable, written, Image, page_at}
 use Rattle.nl_tree.specs.Tree.{Tree, Node, directory, file, node_at}
 use Rattle.nl_tree.specs.TreeLaws.{IsInOrder}
+use Rattle.nl_tree.specs.Step.{Outcome}
+use Rattle.nl_tree.specs.declared.reply.Reply.{Reply}
+use Rattle.nl_field.specs.declared.shape.Shape.{Shape}
 use Rattle.nl_top.specs.declared.files.FileEntry.{FileEntry}
 
 -- the main bytes of a page; one that does not read as written counts as zeros
@@ -72,3 +75,19 @@ pub record IsFile (next : ℕ) (f : FileEntry) : Type 0 where
 -- the pages from next on are erased
 abbrev pub IsErasedFrom : ℕ → Image → Type 0
 IsErasedFrom next image = (q : ℕ) → next ≤ q → page_at image q ≡ erased
+
+-- the numbers of a volume on which small files of the root reach no other limits than those of entries and nodes
+pub record IsRoomy (shape : Shape) : Type 0 where
+  pub nodes_within_cap : shape.nodes ≤ shape.cap + 1
+  pub a_full_root : 16 ≤ shape.meta
+
+-- so many files of the root are within these limits
+pub record Fits (shape : Shape) (count : ℕ) : Type 0 where
+  pub entries : count ≤ 1024
+  pub nodes : count + 1 ≤ shape.nodes
+
+-- On a tree with the files of before, a call has this reply with these bytes, and leaves a tree with the files of after.
+pub record Replies (outcome : Tree → Outcome) (before after : List (List ℕ × FileContent)) (reply : Reply) (bytes : List ℕ) : Type 0 where
+  pub reply_is : (tree : Tree) → HasFiles before tree → (outcome tree).reply ≡ reply
+  pub bytes_are : (tree : Tree) → HasFiles before tree → (outcome tree).bytes ≡ bytes
+  pub files_after : (tree : Tree) → HasFiles before tree → HasFiles after (outcome tree).tree

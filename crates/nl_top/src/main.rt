@@ -1,7 +1,11 @@
 //! A flash store that runs a script of file calls.
 #![tactic(auto)]
 
+mod answers;
 mod files;
+mod gate;
+mod lists;
+mod run;
 
 use std::process::ExitCode;
 
