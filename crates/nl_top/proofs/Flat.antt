@@ -1,22 +1,21 @@
 -- What a tree with small files in its root takes of the volume.
-use Rattle.std.proofs.Common.{◌≡◌, ◌<◌, ◌≤◌, ℕ, zero, suc, ◌+◌, ◌*◌, ◌/◌, ◌%◌, min, nat_le, nat_lt, Bool, true, false, ◌&&◌, ◌||◌, cond, List, [], ◌∷◌, length, map, filter, sum_by, count_by, refl, sym, ap, subst, ◌∙◌, Option, Some, None, ne_eqb, zero-add, if◌then◌else◌, arith}
+use Rattle.std.proofs.Common.{◌≡◌, ◌<◌, ◌≤◌, ℕ, suc, ◌+◌, ◌*◌, nat_le, nat_lt, Bool, true, false, ◌&&◌, ◌||◌, cond, List, [], ◌∷◌, length, map, sum_by, count_by, refl, sym, ap, subst, ◌∙◌, Option, Some, None, ne_eqb, zero-add, arith}
 use Rattle.std.proofs.lemmas.Bool.Decides.{nat_tests}
 use Rattle.std.specs.Prelude.{◌==◌}
 use Rattle.std.specs.List.{AllByRecursion, list_any, range_with_len}
 use Rattle.std.specs.Int.{div_ceil}
 use Rattle.std.specs.FinMap.Entries.{where_key}
 use Rattle.std.proofs.lemmas.List.Sums.{sum_by-cons}
-use Rattle.nl_field.specs.FileContent.{FileContent}
 use Rattle.nl_field.specs.Numbers.{max_entries}
 use Rattle.nl_field.specs.declared.shape.Shape.{Shape}
-use Rattle.nl_tree.specs.Tree.{Tree, Node, directory, file, path_cmp, is_at_or_under, entries_of, all_paths, all_nodes}
+use Rattle.nl_tree.specs.Tree.{Tree, directory, file, path_cmp, is_at_or_under, entries_of, all_paths, all_nodes}
 use Rattle.nl_tree.specs.Charges.{data_of_node, data_charge, node_charge, has_page_in_range, ranges_of_node, meta_charge}
 use Rattle.nl_tree.specs.Step.{first_of, when, space_refusal}
 use Rattle.nl_tree.specs.declared.reply.Refusal.{Refusal}
 use Rattle.nl_tree.specs.declared.reply.Refusal.TheVariants.{Enospc}
 use Rattle.nl_tree.specs.declared.reply.Space.TheVariants.{Dir, Nodes, Meta, Pages}
 use Rattle.nl_tree.proofs.ChargeProofs.{is_child}
-use Rattle.nl_top.specs.Files.{IsSmallFile, IsSmallEntry, IsFlat}
+use Rattle.nl_top.specs.Files.{IsSmallEntry}
 
 -- a volume with a data page for each file that it has a node for, and with metadata for a full root
 pub record IsRoomy (shape : Shape) : Type 0 where
@@ -163,7 +162,7 @@ nodes_are es = ap (λ (k : ℕ). suc k) (length-map (λ e. e.1) es)
 
 -- ---- space
 
-room_for : (shape : Shape) (es : Tree) → IsRoomy shape → Fits shape (length es) → AllByRecursion IsSmallEntry es → space_refusal shape (flat_tree es) ≡ None
+pub room_for : (shape : Shape) (es : Tree) → IsRoomy shape → Fits shape (length es) → AllByRecursion IsSmallEntry es → space_refusal shape (flat_tree es) ≡ None
 unfolding space_refusal all_paths
 room_for shape es roomy fits small = λ i.
     first_of (when (none_full es (flat_tree es) fits.entries i) (Enospc Dir) ∷ when (nodes i) (Enospc Nodes) ∷ when (meta i) (Enospc Meta) ∷ when (pages i) (Enospc Pages) ∷ [])

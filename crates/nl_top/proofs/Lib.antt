@@ -1,2 +1,5 @@
 pub mod Flat
 pub mod Named
+pub mod Contents
+pub mod Numbers
+pub mod Steps

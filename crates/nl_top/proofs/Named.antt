@@ -1,15 +1,16 @@
 -- Finding a file by its name in a list of names and contents, and what a change of the list does to that.
 use Rattle.std.proofs.Common.{◌≡◌, ◌<◌, ℕ, zero, suc, ◌+◌, Bool, true, false, cond, List, [], ◌∷◌, ◌++◌, length, slice_get, slice_set, bytes_eq, find, position, refl, sym, ap, subst, ◌∙◌, Option, Some, None, arith}
 use Rattle.std.specs.List.{position_from}
-use Rattle.std.specs.Ordering.{is_eq, ordering_then, nat_cmp, eq_by_cmp}
+use Rattle.std.specs.Ordering.{is_eq, ordering_then, nat_cmp}
 use Rattle.std.specs.declared.cmp.Ordering.{Ordering}
 use Rattle.std.specs.declared.cmp.Ordering.TheVariants.{Less, Equal, Greater}
 use Rattle.std.specs.Cmp.Lexicographic.{slice_cmp}
 use Rattle.std.proofs.lemmas.Map.Text.{is_eq-slice_cmp}
 use Rattle.std.proofs.lemmas.Iterator.Adapters.{position_from-zero}
+use Rattle.std.proofs.lemmas.List.Quantifiers.{position-Some}
 use Rattle.std.proofs.lemmas.Slice.Eq.{bytes_eq-Decides}
 use Rattle.nl_field.specs.FileContent.{FileContent}
-use Rattle.nl_tree.specs.Tree.{path_cmp, paths_eq}
+use Rattle.nl_tree.specs.Tree.{paths_eq}
 use Rattle.nl_top.specs.Files.{is_named}
 
 alone : (o : Ordering) → is_eq (ordering_then o Equal) ≡ is_eq o
@@ -50,6 +51,16 @@ first_from name (f ∷ fs) k i some =
 
     later : (j : ℕ) → i ≡ k + 1 + j → i ≡ k + suc j
     later j e = omega arith
+
+inside : {X : Type 0} (xs : List X) (i : ℕ) → i < length xs → (x : X) × (slice_get xs i ≡ Some x)
+inside [] i lt = absurd (omega arith)
+inside (x ∷ xs) zero lt = (x, refl)
+inside (x ∷ xs) (suc i) lt = inside xs i (omega arith)
+
+-- the one at its position
+pub there_is : {X : Type 0} (p : X → Bool) (xs : List X) (i : ℕ) → position p xs ≡ Some i → (x : X) × (slice_get xs i ≡ Some x)
+there_is p [] i some = cc
+there_is p (x ∷ xs) i some = inside (x ∷ xs) i (position-Some p (x ∷ xs) i x some).0
 
 pub is_first : (name : List ℕ) (contents : Contents) (i : ℕ) (e : List ℕ × FileContent) → position (is_named name) contents ≡ Some i → slice_get contents i ≡ Some e → IsFirst name contents i e
 is_first name contents i e some at =
