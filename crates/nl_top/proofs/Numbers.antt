@@ -1,0 +1,38 @@
+-- Each legal geometry has data pages for as many files as it has nodes.
+use Rattle.std.proofs.Common.{◌≡◌, ◌<◌, ◌≤◌, ℕ, ◌+◌, ◌-◌, ◌*◌, ◌/◌, IsTrue, mul-le-mul_right, add-mul, ap, subst, ◌∙◌, arith}
+use Rattle.std.specs.Int.{div_ceil}
+use Rattle.std.proofs.lemmas.Bool.Decides.{nat_tests}
+use Rattle.std.proofs.lemmas.Grind.{div_ceil_times}
+use Rattle.nl_field.specs.Numbers.{is_legal, shape_for}
+use Rattle.nl_top.specs.Files.{IsRoomy}
+
+record AtLeast (blocks pages : ℕ) : Type 0 where
+  blocks_there : 32 ≤ blocks
+  pages_there : 32 ≤ pages
+
+legal : (blocks pages : ℕ) → IsTrue (is_legal blocks pages) → AtLeast blocks pages
+legal blocks pages is = record { blocks_there = grind (arith, nat_tests); pages_there = grind (arith, nat_tests) }
+
+pub roomy : (blocks pages : ℕ) → IsTrue (is_legal blocks pages) → IsRoomy (shape_for blocks pages)
+unfolding shape_for
+roomy blocks pages is =
+    let least = legal blocks pages is in
+    let total = blocks * pages in
+    let vaddrs = 67 + div_ceil (total / 16) 16 + total / 32 in
+    let filled = div_ceil vaddrs pages in
+    let left = blocks - (filled + 4) - 4 in
+    let many : 32 * pages ≤ total = mul-le-mul_right pages least.blocks_there in
+    let split : total ≤ (left + (filled + 8)) * pages = mul-le-mul_right pages (monus blocks filled) in
+    let parts : (left + (filled + 8)) * pages ≡ left * pages + (filled * pages + 8 * pages) = add-mul left (filled + 8) pages ∙ ap (λ k. left * pages + k) (add-mul filled 8 pages) in
+    let few = (div_ceil_times vaddrs pages (omega (arith, least.pages_there))).1 in
+    record {
+      nodes_within_cap = enough total (left * pages) (filled * pages) pages many least.pages_there few (subst (λ k. total ≤ k) parts split);
+      a_full_root = omega (arith, many, least.pages_there);
+    }
+  where
+    monus : (b f : ℕ) → b ≤ (b - (f + 4) - 4) + (f + 8)
+    monus b f = omega arith
+
+    enough : (total left filled pages : ℕ) → 32 * pages ≤ total → 32 ≤ pages → filled < 67 + div_ceil (total / 16) 16 + total / 32 + pages
+        → total ≤ left + (filled + 8 * pages) → total / 16 ≤ left - 160 + 1
+    enough total left filled pages many least few split = omega arith
