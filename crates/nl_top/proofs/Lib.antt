@@ -4,6 +4,8 @@ pub mod FileLists
 pub mod Flat
 pub mod Named
 pub mod Numbers
+pub mod OneMore
 mod Printing
 pub mod Replying
+pub mod SameCall
 pub mod Steps

@@ -1,6 +1,7 @@
 -- The text of answers, one answer after the other.
 use Rattle.std.proofs.Common.{◌≡◌, ℕ, ◌+◌, ◌≤◌, List, [], ◌∷◌, ◌++◌, length, take, drop, sum_by, sym, ◌∙◌, append_assoc, arith}
 use Rattle.std.proofs.lemmas.List.{append-nil, length-drop}
+use Rattle.std.proofs.lemmas.List.Sums.{sum_by-cons}
 use Rattle.nl_print.specs.Texts.{answer_line, answer_lines}
 use Rattle.nl_top.specs.declared.answers.Answer.{Answer}
 use Rattle.nl_top.specs.Run.{answers_in}
@@ -14,4 +15,4 @@ pub print_end : (done all : List ℕ) (place : ℕ) (left : List Answer) (rest :
 print_end done all place left rest none is = sym (append-nil done) ∙ rw none at is
 
 pub enough_step : (a : Answer) (more : List Answer) (rest : List ℕ) → sum_by (λ x. x.len) (a ∷ more) ≤ length rest → sum_by (λ x. x.len) more ≤ length (drop a.len rest)
-enough_step a more rest h = omega (arith, length-drop a.len rest)
+enough_step a more rest h = omega (arith, length-drop a.len rest, sum_by-cons (λ x. x.len) a more)
