@@ -1,0 +1,4 @@
+pub mod Digits
+pub mod Numbered
+pub mod ScriptCalls
+pub mod Splits

@@ -2,6 +2,9 @@
 #![tactic(auto)]
 
 mod files;
+mod form;
+mod input;
+mod word;
 
 use std::process::ExitCode;
 
