@@ -1,5 +1,5 @@
 -- The calls of a script's lines, one line after the other.
-use Rattle.std.proofs.Common.{◌≡◌, ◌≤◌, ◌<◌, ℕ, ◌+◌, Bool, true, false, cond, List, [], ◌∷◌, ◌++◌, length, refl, sym, ◌∙◌, ap, append_assoc, sum_by, arith}
+use Rattle.std.proofs.Common.{◌≡◌, ◌≤◌, ◌<◌, ◌⊎◌, inl, inr, ℕ, ◌+◌, Bool, true, false, cond, List, [], ◌∷◌, ◌++◌, length, refl, sym, ◌∙◌, ap, append_assoc, sum_by, arith}
 use Rattle.std.proofs.lemmas.Bool.Decides.{nat_tests}
 use Rattle.std.proofs.lemmas.List.{append-nil, length-append}
 use Rattle.std.proofs.lemmas.List.Sums.{sum_by-append, sum_by_push}
@@ -68,12 +68,17 @@ reads_none bytes rest line after before le read parts is =
     let first : calls_of (parts_at 10 rest) ≡ None = ap calls_of parts ∙ calls_of-cons line after 10 ∙ ap (λ o. before_calls o (calls_of (parts_at 10 after))) is in
     script_is bytes le ∙ ap lines_within (sym read ∙ ap (option_map (λ calls. before ++ calls)) first)
 
-not_within : (calls : List Call) → (1000000 < length calls) ⊎ (268435456 < sum_by read_length calls) → is_within calls ≡ false
+-- the sum of read lengths with one call more
+pub total-push : (before : List Call) (call : Call) → sum_by read_length (before ++ call ∷ []) ≡ sum_by read_length before + read_length call
+total-push before call = sum_by_push read_length before call
+
+-- calls exceed a limit
+abbrev Exceeds : List Call → Type 0
+Exceeds calls = (1000000 < length calls) ⊎ (268435456 < sum_by read_length calls)
+
+not_within : (calls : List Call) → Exceeds calls → is_within calls ≡ false
 not_within calls (inl lt) = grind (arith, nat_tests)
 not_within calls (inr lt) = grind (arith, nat_tests)
-
-abbrev pub Exceeds : List Call → Type 0
-Exceeds calls = (1000000 < length calls) ⊎ (268435456 < sum_by read_length calls)
 
 exceeds_more : (before calls : List Call) → Exceeds before → Exceeds (before ++ calls)
 exceeds_more before calls (inl lt) = inl (omega (arith, length-append before calls))
@@ -83,26 +88,33 @@ exceeds_by : (before : List Call) (rest : Option (List Call)) → Exceeds before
 exceeds_by before None over = refl
 exceeds_by before (Some calls) over = rw (not_within (before ++ calls) (exceeds_more before calls over)) refl
 
--- the calls that were read exceed a limit
-pub reads_over : (bytes rest : List ℕ) (before : List Call) → length bytes ≤ 16777216 → HasRead before rest bytes → Exceeds before → script_lines bytes ≡ None
+reads_over : (bytes rest : List ℕ) (before : List Call) → length bytes ≤ 16777216 → HasRead before rest bytes → Exceeds before → script_lines bytes ≡ None
 reads_over bytes rest before le read over = script_is bytes le ∙ ap lines_within (sym read) ∙ exceeds_by before (calls_of (parts_at 10 rest)) over
+
+-- one call more is one too many
+pub reads_too_many : (bytes rest line after : List ℕ) (before : List Call) (call : Call) → length bytes ≤ 16777216 → HasRead before rest bytes → parts_at 10 rest ≡ line ∷ parts_at 10 after → call_of line ≡ Some call → 1000000 ≤ length before → script_lines bytes ≡ None
+reads_too_many bytes rest line after before call le read parts is many =
+    reads_over bytes after (before ++ call ∷ []) le (reads_call bytes rest line after before call read parts is) (inl (omega (arith, length-append before (call ∷ []))))
+
+-- with one call more, the reads are too long
+pub reads_too_long : (bytes rest line after : List ℕ) (before : List Call) (call : Call) → length bytes ≤ 16777216 → HasRead before rest bytes → parts_at 10 rest ≡ line ∷ parts_at 10 after → call_of line ≡ Some call → 268435456 < sum_by read_length before + read_length call → script_lines bytes ≡ None
+reads_too_long bytes rest line after before call le read parts is long =
+    reads_over bytes after (before ++ call ∷ []) le (reads_call bytes rest line after before call read parts is) (inr (omega (arith, total-push before call)))
 
 within : (calls : List Call) → length calls ≤ 1000000 → sum_by read_length calls ≤ 268435456 → is_within calls ≡ true
 within calls few small = grind (arith, nat_tests)
 
 -- behind the last line feed there is nothing
-pub reads_end : (bytes rest : List ℕ) (lines : List Line) → length bytes ≤ 16777216 → HasRead (calls_in lines) rest bytes → AreNumbered lines → length lines ≤ 1000000 → sum_by read_length (calls_in lines) ≤ 268435456 → parts_at 10 rest ≡ [] ∷ [] → script_lines bytes ≡ Some lines
-reads_end bytes rest lines le read are few small parts =
+pub reads_end : (bytes rest line : List ℕ) (lines : List Line) → length bytes ≤ 16777216 → HasRead (calls_in lines) rest bytes → AreNumbered lines → length lines ≤ 1000000 → sum_by read_length (calls_in lines) ≤ 268435456 → parts_at 10 rest ≡ line ∷ [] → length line ≡ 0 → script_lines bytes ≡ Some lines
+reads_end bytes rest [] lines le read are few small parts none =
     let all : calls_of (parts_at 10 bytes) ≡ Some (calls_in lines) = sym read ∙ ap (λ ps. option_map (λ calls. calls_in lines ++ calls) (calls_of ps)) parts ∙ ap Some (append-nil (calls_in lines)) in
     let count : length (calls_in lines) ≤ 1000000 = omega (arith, length-calls_in lines) in
     let kept : lines_within (Some (calls_in lines)) ≡ Some (numbered 1 (calls_in lines)) = rw (within (calls_in lines) count small) refl in
     script_is bytes le ∙ ap lines_within all ∙ kept ∙ ap Some (sym are)
+reads_end bytes rest (b ∷ line) lines le read are few small parts none = absurd (omega arith)
 
-pub reads_rest : (bytes rest : List ℕ) (b : ℕ) (line : List ℕ) (before : List Call) → length bytes ≤ 16777216 → HasRead before rest bytes → parts_at 10 rest ≡ (b ∷ line) ∷ [] → script_lines bytes ≡ None
-reads_rest bytes rest b line before le read parts =
+pub reads_rest : (bytes rest line : List ℕ) (before : List Call) → length bytes ≤ 16777216 → HasRead before rest bytes → parts_at 10 rest ≡ line ∷ [] → 0 < length line → script_lines bytes ≡ None
+reads_rest bytes rest [] before le read parts some = absurd (omega arith)
+reads_rest bytes rest (b ∷ line) before le read parts some =
     let last : calls_of ((b ∷ line) ∷ []) ≡ None = grind (arith, nat_tests) in
     script_is bytes le ∙ ap lines_within (sym read ∙ ap (λ ps. option_map (λ calls. before ++ calls) (calls_of ps)) parts ∙ ap (option_map (λ calls. before ++ calls)) last)
-
--- the sum of read lengths with one call more
-pub total-push : (before : List Call) (call : Call) → sum_by read_length (before ++ call ∷ []) ≡ sum_by read_length before + read_length call
-total-push before call = sum_by_push read_length before call

@@ -173,7 +173,10 @@ pub fn lines_of(alloc: Global, bytes: &[u8]) -> Result<Option<Lines>, Memory>
     'script: loop {
         let (line, after) = cut(rest, b'\n');
         let Some(after) = after else {
-            return Ok(if line.is_empty() { Some(lines) } else { None });
+            if line.is_empty() {
+                return Ok(Some(lines));
+            }
+            return Ok(None);
         };
         let Some(call) = call_of(alloc, line)? else {
             return Ok(None);
@@ -187,5 +190,62 @@ pub fn lines_of(alloc: Global, bytes: &[u8]) -> Result<Option<Lines>, Memory>
         }
         push_call(&mut lines, call)?;
         rest = after;
+    }
+}
+
+#[cfg(test)]
+mod tests {
+    use super::lines_of;
+    use std::test::Fail;
+
+    #[test]
+    fn a_script_has_the_form_or_not(rt: HostRuntime) -> Result<(), Fail> {
+        let alloc = rt.alloc();
+        let rows: [(&[u8], Option<u32>); 24] = [
+            (b"", Some(0)),
+            (b"0 create /a\n", Some(1)),
+            (
+                b"0 create /a\n0 write /a 0 68656c6c6f\n0 read /a 0 5\n",
+                Some(3),
+            ),
+            (b"0 write /a 4095 fF\n", Some(1)),
+            (b"0 write /a 4096 -\n", Some(1)),
+            (b"0 read /a 9223372036854775807 65536\n", Some(1)),
+            (b"0 read /a 0000000000000000001 0\n", Some(1)),
+            (
+                b"0 create /aaaaaaaaaaaaaaaaaaaaaaaaaaaaaaaaaaaaaaaaaaaaaaaaaaaaaaa\n",
+                Some(1),
+            ),
+            // a name of 56 bytes
+            (
+                b"0 create /aaaaaaaaaaaaaaaaaaaaaaaaaaaaaaaaaaaaaaaaaaaaaaaaaaaaaaaa\n",
+                None,
+            ),
+            // names that are none
+            (b"0 create /\n", None),
+            (b"0 create /..\n", None),
+            (b"0 create /a/b\n", None),
+            (b"0 create a\n", None),
+            // past the first page
+            (b"0 write /a 4096 ff\n", None),
+            // half a byte, and no bytes
+            (b"0 write /a 0 f\n", None),
+            (b"0 write /a 0 \n", None),
+            // numbers of 20 digits, of 2^63, and too long a read
+            (b"0 read /a 00000000000000000001 0\n", None),
+            (b"0 read /a 9223372036854775808 0\n", None),
+            (b"0 read /a 0 65537\n", None),
+            // another worker, another command, a second space, an empty line, no line feed at the end
+            (b"1 create /a\n", None),
+            (b"0 mkdir /a\n", None),
+            (b"0  create /a\n", None),
+            (b"0 create /a\n\n", None),
+            (b"0 create /a", None),
+        ];
+        for (script, expected) in &rows {
+            let found = lines_of(alloc, script)?.map(|lines| lines.len());
+            assert_eq!(rt; found, *expected, "{:?}", script);
+        }
+        Ok(())
     }
 }

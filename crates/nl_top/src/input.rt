@@ -46,3 +46,41 @@ pub fn read_all<S: Source>(alloc: Global, src: &mut S) -> Input
         }
     }
 }
+
+#[cfg(test)]
+mod tests {
+    use super::{Input, read_all};
+    use nl_field::{FailList, Text};
+    use nl_io::{MemSource, Source};
+    use std::alloc::Global;
+    use std::test::Fail;
+
+    // The bytes that were read, or none where the source failed.
+    fn bytes_of(alloc: Global, failing_read: u64) -> Result<(Option<Vec<u8>>, u64), Fail> {
+        let mut failing = FailList::new(alloc);
+        failing.push(failing_read)?;
+        let mut text = Vec::new(alloc);
+        text.resize(5000, 7u8)?;
+        let mut source = MemSource::new(Text::from_vec(text), failing);
+        let found = match read_all(alloc, &mut source) {
+            Input::All(bytes) => Some(bytes.bytes().to_vec(alloc)?),
+            _ => None,
+        };
+        Ok((found, source.faults()))
+    }
+
+    #[test]
+    fn a_source_is_read_to_its_end_or_its_first_failure(rt: HostRuntime) -> Result<(), Fail> {
+        let alloc = rt.alloc();
+        let mut expected = Vec::new(alloc);
+        expected.resize(5000, 7u8)?;
+        // two reads take the bytes, and the third meets the end
+        let (found, faults) = bytes_of(alloc, 4)?;
+        assert_eq!(rt; found, Some(expected));
+        assert_eq!(rt; faults, 0);
+        let (found, faults) = bytes_of(alloc, 2)?;
+        assert_eq!(rt; found, None);
+        assert_eq!(rt; faults, 1);
+        Ok(())
+    }
+}
