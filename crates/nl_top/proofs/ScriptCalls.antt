@@ -7,7 +7,7 @@ use Rattle.std.specs.Prelude.{Option, Some, None, ◌==◌, option_map}
 use Rattle.std.specs.List.{slice_split, onto_first}
 use Rattle.nl_tree.specs.declared.call.Call.{Call}
 use Rattle.nl_tree.specs.declared.call.Line.{Line}
-use Rattle.nl_top.specs.Form.{parts_at, call_of, call_of_words, calls_of, before_calls, numbered, is_within, read_length, lines_within, script_lines, max_script, max_calls, max_total}
+use Rattle.nl_top.specs.Form.{parts_at, call_of, call_of_words, calls_of, before_calls, numbered, is_within, read_length, lines_within, script_lines}
 use Rattle.nl_top.specs.Plain.{calls_in, AreNumbered}
 use Rattle.nl_top.proofs.Numbered.{length-calls_in}
 

@@ -1,5 +1,4 @@
-use Rattle.std.proofs.Common.{◌+◌, ◌++◌, [], ◌∷◌, arith}
-use Rattle.nl_tree.specs.declared.call.Line.{Line}
+use Rattle.std.proofs.Common.{arith}
 use Rattle.nl_top.proofs.Numbered.{line-at, pushed}
 use Rattle.nl_top.proofs.form.push_call.Goals as goal
 
