@@ -55,10 +55,8 @@ mod tests {
     use std::alloc::Global;
     use std::test::Fail;
 
-    // The bytes that were read, or none where the source failed.
-    fn bytes_of(alloc: Global, failing_read: u64) -> Result<(Option<Vec<u8>>, u64), Fail> {
-        let mut failing = FailList::new(alloc);
-        failing.push(failing_read)?;
+    // What is read of 5000 bytes, where no read failed, and the count of failed reads.
+    fn bytes_of(alloc: Global, failing: FailList) -> Result<(Option<Vec<u8>>, u64), Fail> {
         let mut text = Vec::new(alloc);
         text.resize(5000, 7u8)?;
         let mut source = MemSource::new(Text::from_vec(text), failing);
@@ -75,10 +73,14 @@ mod tests {
         let mut expected = Vec::new(alloc);
         expected.resize(5000, 7u8)?;
         // two reads take the bytes, and the third meets the end
-        let (found, faults) = bytes_of(alloc, 4)?;
+        let mut failing = FailList::new(alloc);
+        failing.push(4)?;
+        let (found, faults) = bytes_of(alloc, failing)?;
         assert_eq!(rt; found, Some(expected));
         assert_eq!(rt; faults, 0);
-        let (found, faults) = bytes_of(alloc, 2)?;
+        let mut failing = FailList::new(alloc);
+        failing.push(2)?;
+        let (found, faults) = bytes_of(alloc, failing)?;
         assert_eq!(rt; found, None);
         assert_eq!(rt; faults, 1);
         Ok(())
