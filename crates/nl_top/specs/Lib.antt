@@ -1,6 +1,9 @@
 pub mod Execution
 pub mod Files
 pub mod Form
+pub mod Input
 pub mod Plain
 pub mod Run
 pub mod Table
+pub mod Tables
+pub mod Top

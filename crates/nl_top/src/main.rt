@@ -1,11 +1,17 @@
-//! A flash store that runs a script of file calls.
+//! A flash store that runs a script of file calls on a medium in memory.
 #![tactic(auto)]
 
 mod answers;
+mod blank;
 mod files;
+mod form;
 mod gate;
+mod input;
 mod lists;
 mod run;
+mod tables;
+mod top;
+mod word;
 
 use std::process::ExitCode;
 

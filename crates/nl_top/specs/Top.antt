@@ -1,0 +1,127 @@
+-- How a call of the store ends.
+use Rattle.std.specs.Prelude.{◌≡◌, ◌⊎◌, ◌≤◌, ◌<◌, ◌+◌, ◌*◌, ℕ, List, [], ◌∷◌, ◌++◌, length, codes, false, IsTrue, IfSome, Option, Some, None, option_map}
+use Rattle.nl_field.specs.CrashStates.{Rose}
+use Rattle.nl_field.specs.Numbers.{is_legal, shape_for}
+use Rattle.nl_field.specs.Page.{Image}
+use Rattle.nl_field.specs.declared.shape.Shape.{Shape}
+use Rattle.nl_io.specs.Streams.{Writes}
+use Rattle.nl_io.specs.declared.sink.SinkAnswer.{SinkAnswer}
+use Rattle.nl_io.specs.declared.sink.SinkAnswer.TheVariants as sink
+use Rattle.nl_nand.specs.Nand.{IsBlank}
+use Rattle.nl_nand.specs.declared.geometry.Geometry.{Geometry}
+use Rattle.nl_tree.specs.Causes.{Counts}
+use Rattle.nl_tree.specs.Tree.{empty_tree}
+use Rattle.nl_tree.specs.declared.call.Line.{Line}
+use Rattle.nl_print.specs.Texts.{run_text}
+use Rattle.nl_top.specs.declared.lists.Ordered.{Ordered}
+use Rattle.nl_top.specs.Execution.{Executed, outcomes, CountsPrograms, answered_of}
+use Rattle.nl_top.specs.Form.{script_lines, max_script}
+use Rattle.nl_top.specs.Run.{Executes, finished_in}
+
+abbrev pub run_words : List (List ℕ)
+run_words = codes "run" ∷ []
+
+-- ---- source, sink and medium in a call
+
+-- the bytes that a source has left or a sink has taken, where told, and its count of faults
+pub record Stream : Type 0 where
+  pub bytes : Option (List ℕ)
+  pub faults : ℕ
+
+abbrev pub stream : Option (List ℕ) → ℕ → Stream
+stream bytes faults = record { bytes = bytes; faults = faults }
+
+pub record Medium : Type 0 where
+  pub geometry : Geometry
+  pub contents : Image
+  pub counts : Counts
+
+abbrev pub medium : Geometry → Image → ℕ → ℕ → ℕ → Medium
+medium geometry contents clock read_faults write_faults =
+    record { geometry = geometry; contents = contents; counts = record { clock = clock; read_faults = read_faults; write_faults = write_faults } }
+
+abbrev pub shape_of_medium : Medium → Shape
+shape_of_medium m = shape_for m.geometry.blocks m.geometry.pages
+
+abbrev pub total_pages : Geometry → ℕ
+total_pages geometry = geometry.blocks * geometry.pages
+
+abbrev pub MediumRose : Medium → Medium → Type 0
+MediumRose old new = Rose old.counts.read_faults new.counts.read_faults ⊎ Rose old.counts.write_faults new.counts.write_faults
+
+-- these bytes were read from the source, and nothing is left of it
+pub record ReadsWhole (old new : Stream) (bytes : List ℕ) : Type 0 where
+  pub read : old.bytes ≡ option_map (λ rest. bytes ++ rest) new.bytes
+  pub none_left : IfSome new.bytes (λ rest. rest ≡ [])
+
+-- the sink took the text, or its count rose and it took a prefix
+pub record Prints (old new : Stream) (text : List ℕ) : Type 0 where
+  pub answer : SinkAnswer
+  pub taken : Writes old.bytes new.bytes answer text
+  pub never_falls : old.faults ≤ new.faults
+  pub cause : answer ≡ sink.Failed → Rose old.faults new.faults
+
+-- the text was taken whole
+pub record PrintsWhole (old new : Stream) (text : List ℕ) : Type 0 where
+  pub taken : Writes old.bytes new.bytes sink.Took text
+
+-- contents and clock of a medium are as they were
+pub record Untouched (old new : Medium) : Type 0 where
+  pub same_geometry : new.geometry ≡ old.geometry
+  pub same_contents : new.contents ≡ old.contents
+  pub same_clock : new.counts.clock ≡ old.counts.clock
+  pub same_write_faults : new.counts.write_faults ≡ old.counts.write_faults
+
+-- ---- the endings
+
+-- An ending before any line was run: it prints its text, leaves the medium and lists no line.
+pub record EndsBefore (text : List ℕ) (sink sink' : Stream) (medium medium' : Medium) (order : List Ordered) : Type 0 where
+  pub prints : Prints sink sink' text
+  pub untouched : Untouched medium medium'
+  pub no_lines : order ≡ []
+
+-- All that the source had left is no script of the form, or it was more than a script may have.
+abbrev pub NotAScript : Stream → Stream → Type 0
+NotAScript source source' =
+    ((bytes : List ℕ) × ReadsWhole source source' bytes × (script_lines bytes ≡ None))
+    ⊎ ((bytes : List ℕ) × (max_script < length bytes) × (source.bytes ≡ option_map (λ rest. bytes ++ rest) source'.bytes))
+
+-- it was never formed, or has a page that is not erased
+abbrev pub NotFormed : Type 0 → Medium → Type 0
+NotFormed tells medium = (is_legal medium.geometry.blocks medium.geometry.pages ≡ false) ⊎ (tells → IsBlank medium.contents → ⊥)
+
+-- The lines were run one after the other, and their answers were printed. Where the medium tells its contents, each answer is what the plain tree
+-- replies after those before it, under the fault reply that the line got, if it got one.
+pub record Runs (tells : Type 0) (lines : List Line) (sink sink' : Stream) (medium medium' : Medium) (order : List Ordered) (text : List ℕ) : Type 0 where
+  pub executed : List Executed
+  pub finished : ℕ
+  pub failed : ℕ
+  pub executes : Executes lines order medium.counts medium'.counts executed finished failed
+  pub counted : tells → CountsPrograms (shape_of_medium medium) (total_pages medium.geometry) empty_tree 0 executed (finished + failed)
+  pub finished_is : tells → finished ≡ finished_in (shape_of_medium medium) (total_pages medium.geometry) executed
+  pub answers : tells → text ≡ run_text 0 (answered_of executed (outcomes (shape_of_medium medium) (total_pages medium.geometry) empty_tree executed))
+  pub prints : Prints sink sink' text
+
+-- the status of a run: 5 exactly where a count of the medium rose, else 0 where the text was taken whole, and 4 where it was not
+abbrev pub RunStatus : ℕ → Stream → Stream → Medium → Medium → List ℕ → Type 0
+RunStatus status sink sink' medium medium' text =
+    ((status ≡ 5) × MediumRose medium medium')
+    ⊎ (((status ≡ 4) × (MediumRose medium medium' → ⊥) × Rose sink.faults sink'.faults)
+    ⊎ ((status ≡ 0) × (MediumRose medium medium' → ⊥) × PrintsWhole sink sink' text))
+
+-- Each call ends in one of these ways, each with its cause, its status and its text.
+pub data Ends (tells : Type 0) (words : List (List ℕ)) (source source' sink sink' : Stream) (medium medium' : Medium) (order : List Ordered) (status : ℕ) : Type 0 where
+  faulty_words : (words ≡ run_words → ⊥) → status ≡ 2 → source' ≡ source → EndsBefore (codes "words\n") sink sink' medium medium' order
+      → Ends tells words source source' sink sink' medium medium' order status
+  source_fault : words ≡ run_words → status ≡ 3 → Rose source.faults source'.faults → EndsBefore (codes "source fault\n") sink sink' medium medium' order
+      → Ends tells words source source' sink sink' medium medium' order status
+  no_memory : words ≡ run_words → status ≡ 6 → EndsBefore (codes "memory\n") sink sink' medium medium' order
+      → Ends tells words source source' sink sink' medium medium' order status
+  medium_fault : words ≡ run_words → status ≡ 5 → Rose medium.counts.read_faults medium'.counts.read_faults → EndsBefore (codes "medium fault\n") sink sink' medium medium' order
+      → Ends tells words source source' sink sink' medium medium' order status
+  unbuilt : words ≡ run_words → status ≡ 2 → NotAScript source source' ⊎ NotFormed tells medium → EndsBefore (codes "unbuilt\n") sink sink' medium medium' order
+      → Ends tells words source source' sink sink' medium medium' order status
+  ran : words ≡ run_words → (bytes : List ℕ) → ReadsWhole source source' bytes → (lines : List Line) → script_lines bytes ≡ Some lines
+      → IsTrue (is_legal medium.geometry.blocks medium.geometry.pages) → (tells → IsBlank medium.contents)
+      → (text : List ℕ) → Runs tells lines sink sink' medium medium' order text → RunStatus status sink sink' medium medium' text
+      → Ends tells words source source' sink sink' medium medium' order status

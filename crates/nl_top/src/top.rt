@@ -1,0 +1,227 @@
+// The top call: reads a script, runs it on a medium, and prints the answers.
+ghost use Rattle.std.specs.Prelude.{◌≡◌, ◌⊎◌, ◌<◌, ◌≤◌, ◌+◌, ◌^◌, ◌↔◌, ◌++◌, [], ◌∷◌, ℕ, List, Some, None, length, codes, true, false, All, IsTrue, IfOk, IfErr, IfSome, IfNone, sum_by};
+ghost use Rattle.nl_field.specs.CrashStates.{Rose};
+ghost use Rattle.nl_field.specs.Numbers.{is_legal, shape_for};
+ghost use Rattle.nl_nand.specs.Nand.{IsBlank};
+ghost use Rattle.nl_tree.specs.declared.call.Line.{Line};
+ghost use Rattle.nl_top.specs.Form.{script_lines};
+ghost use Rattle.nl_top.specs.Plain.{IsPlain};
+ghost use Rattle.nl_top.specs.Tables.{HaveRoom};
+ghost use Rattle.nl_top.specs.Top.{run_words, stream, medium, EndsBefore, ReadsWhole, NotAScript, Prints, Runs, RunStatus, MediumRose, Ends};
+
+use crate::answers::print_answers;
+use crate::blank::{Look, look_at};
+use crate::form::lines_of;
+use crate::gate::Gate;
+use crate::input::{Input, read_all};
+use crate::lists::{OrderList, SyncList};
+use crate::run::run;
+use crate::tables::{Tables, tables_for};
+use nl_field::{Shape, shape_of};
+use nl_io::{Sink, SinkAnswer, Source, Words};
+use nl_nand::Nand;
+use nl_print::word_line;
+use nl_tree::Line;
+use std::alloc::Global;
+use std::sync::Wait;
+use std::thread::Threads;
+
+/// What a call of the store leaves: its status, the medium, the syncs that were answered ok and the answered lines, in
+/// the order of their places.
+pub struct Done<M> {
+    pub status: u8,
+    pub media: M,
+    pub syncs: SyncList,
+    pub order: OrderList,
+}
+
+fn is_run(words: &Words) -> bool
+    ensures { IsTrue result ↔ (words.now ≡ run_words) }
+{
+    match words.as_slice() {
+        [word] => word.bytes() == b"run".as_slice(),
+        _ => false,
+    }
+}
+
+// Ends with a status and a line of one word, before any line was run.
+fn ended<K: Sink, M>(alloc: Global, status: u8, text: &[u8], sink: &mut K, media: M) -> Done<M>
+    ensures status { result.status ≡ status }
+    ensures media { result.media ≡ media }
+    ensures order { result.order.items ≡ [] }
+    ensures syncs { result.syncs.items ≡ [] }
+    ensures prints { Prints (stream (K.taken sink.old) (K.faults sink.old)) (stream (K.taken sink.new) (K.faults sink.new)) (text.now ++ 10 ∷ []) }
+{
+    let _ = word_line(sink, text);
+    Done {
+        status,
+        media,
+        syncs: SyncList::new(alloc),
+        order: OrderList::new(alloc),
+    }
+}
+
+/// Why no script was read.
+#[derive(Clone, Copy, Debug, PartialEq, Eq)]
+enum Unread {
+    Failed,
+    Memory,
+}
+
+// The lines that a source has left, where they have the form.
+fn script_of<S: Source>(alloc: Global, src: &mut S) -> Result<Option<Vec<Line>>, Unread>
+    ensures lines { IfOk result (λ r. IfSome r (λ v. (bytes : List ℕ) × ReadsWhole (stream (S.left src.old) (S.faults src.old)) (stream (S.left src.new) (S.faults src.new)) bytes × (script_lines bytes ≡ Some v.items))) }
+    ensures none { IfOk result (λ r. IfNone r (NotAScript (stream (S.left src.old) (S.faults src.old)) (stream (S.left src.new) (S.faults src.new)))) }
+    ensures plain { IfOk result (λ r. IfSome r (λ v. All (λ l. IsPlain l.call) v.items)) }
+    ensures few { IfOk result (λ r. IfSome r (λ v. length v.items ≤ 1000000)) }
+    ensures never_falls { S.faults src.old ≤ S.faults src.new }
+    ensures cause { IfErr result (λ e. e ≡ Unread.Failed → Rose (S.faults src.old) (S.faults src.new)) }
+{
+    match read_all(alloc, src) {
+        Input::All(bytes) => match lines_of(alloc, bytes.bytes()) {
+            Ok(Some(lines)) => Ok(Some(lines.into_vec())),
+            Ok(None) => Ok(None),
+            Err(_) => Err(Unread::Memory),
+        },
+        Input::TooLong => Ok(None),
+        Input::Failed => Err(Unread::Failed),
+        Input::Memory => Err(Unread::Memory),
+    }
+}
+
+// Whether a count has risen, or stands at its type's end.
+fn has_risen(before: u64, now: u64) -> bool
+    requires { before ≤ now }
+    ensures { IsTrue result ↔ Rose before now }
+{
+    now > before || now == u64::MAX
+}
+
+// Whether a count of faults of the medium has risen since.
+fn medium_rose<M: Nand>(media: &M, reads: u64, writes: u64) -> bool
+    requires reads { reads ≤ M.read_faults media.now }
+    requires writes { writes ≤ M.write_faults media.now }
+    ensures yes { IsTrue result → Rose reads (M.read_faults media.now) ⊎ Rose writes (M.write_faults media.now) }
+    ensures no { Rose reads (M.read_faults media.now) ⊎ Rose writes (M.write_faults media.now) → IsTrue result }
+{
+    has_risen(reads, media.read_faults()) || has_risen(writes, media.write_faults())
+}
+
+// The status of a run whose text was printed.
+fn status_of(rose: bool, answer: SinkAnswer) -> u8
+    ensures five { IsTrue rose → result ≡ 5 }
+    ensures four { rose ≡ false → answer ≡ SinkAnswer.Failed → result ≡ 4 }
+    ensures zero { rose ≡ false → answer ≡ SinkAnswer.Took → result ≡ 0 }
+{
+    if rose {
+        return 5;
+    }
+    match answer {
+        SinkAnswer::Took => 0,
+        SinkAnswer::Failed => 4,
+    }
+}
+
+// Runs lines on a medium of erased pages, and prints the answers.
+fn run_lines<K: Sink, M: Nand>(
+    alloc: Global,
+    shape: Shape,
+    tables: Tables,
+    lines: Vec<Line>,
+    sink: &mut K,
+    media: M,
+) -> Done<M>
+    requires plain { All (λ l. IsPlain l.call) lines.items }
+    requires few { length lines.items ≤ 1000000 }
+    requires room { HaveRoom tables lines.items }
+    requires legal { IsTrue (is_legal (M.geometry media).blocks (M.geometry media).pages) }
+    requires shape { shape ≡ shape_for (M.geometry media).blocks (M.geometry media).pages }
+    requires blank { M.tells → IsBlank (M.contents media) }
+    ensures ran { (text : List ℕ)
+        × Runs M.tells lines.items (stream (K.taken sink.old) (K.faults sink.old)) (stream (K.taken sink.new) (K.faults sink.new))
+        (medium (M.geometry media) (M.contents media) (M.clock media) (M.read_faults media) (M.write_faults media))
+        (medium (M.geometry result.media) (M.contents result.media) (M.clock result.media) (M.read_faults result.media) (M.write_faults result.media)) result.order.items text
+        × RunStatus result.status (stream (K.taken sink.old) (K.faults sink.old)) (stream (K.taken sink.new) (K.faults sink.new))
+        (medium (M.geometry media) (M.contents media) (M.clock media) (M.read_faults media) (M.write_faults media))
+        (medium (M.geometry result.media) (M.contents result.media) (M.clock result.media) (M.read_faults result.media) (M.write_faults result.media)) text }
+    ensures syncs { result.syncs.items ≡ [] }
+{
+    let mut media = media;
+    let Tables {
+        mut files,
+        mut answers,
+        mut bytes,
+        mut order,
+        mut page,
+    } = tables;
+    let reads = media.read_faults();
+    let writes = media.write_faults();
+    run(
+        &mut media,
+        &mut page,
+        &shape,
+        lines,
+        &mut files,
+        &mut answers,
+        &mut bytes,
+        &mut order,
+    );
+    let rose = medium_rose(&media, reads, writes);
+    let answer = print_answers(sink, &answers, &bytes);
+    Done {
+        status: status_of(rose, answer),
+        media,
+        syncs: SyncList::new(alloc),
+        order,
+    }
+}
+
+/// Answers the words of a command line: `run` reads a script from the source, runs it on the medium, and prints the
+/// answers into the sink. All of it runs on the calling thread, and the gate is not asked.
+///
+/// Statuses: 0; 2 for faulty words, and for a script or a medium that is not of the form (`unbuilt`); 3 where the source
+/// failed; 4 where the sink failed; 5 where the medium failed; 6 for want of memory, before the medium is touched.
+pub fn nameless<Rt: Threads + Wait + Sync, S: Source, K: Sink, M: Nand + Send, G: Gate + Sync>(
+    rt: &Rt,
+    alloc: Global,
+    words: &Words,
+    src: &mut S,
+    sink: &mut K,
+    media: M,
+    gate: &G,
+) -> Done<M>
+    ensures ended { Ends M.tells words.now (stream (S.left src.old) (S.faults src.old)) (stream (S.left src.new) (S.faults src.new))
+        (stream (K.taken sink.old) (K.faults sink.old)) (stream (K.taken sink.new) (K.faults sink.new))
+        (medium (M.geometry media) (M.contents media) (M.clock media) (M.read_faults media) (M.write_faults media))
+        (medium (M.geometry result.media) (M.contents result.media) (M.clock result.media) (M.read_faults result.media) (M.write_faults result.media))
+        result.order.items result.status }
+    ensures syncs { result.syncs.items ≡ [] }
+{
+    let _ = rt;
+    let _ = gate;
+    let mut media = media;
+    if !is_run(words) {
+        return ended(alloc, 2, b"words", sink, media);
+    }
+    let lines = match script_of(alloc, src) {
+        Ok(lines) => lines,
+        Err(Unread::Failed) => return ended(alloc, 3, b"source fault", sink, media),
+        Err(Unread::Memory) => return ended(alloc, 6, b"memory", sink, media),
+    };
+    let Some(lines) = lines else {
+        return ended(alloc, 2, b"unbuilt", sink, media);
+    };
+    let Ok(mut tables) = tables_for(alloc, &lines) else {
+        return ended(alloc, 6, b"memory", sink, media);
+    };
+    let geometry = media.geometry();
+    let Some(shape) = shape_of(geometry.blocks, geometry.pages) else {
+        return ended(alloc, 2, b"unbuilt", sink, media);
+    };
+    match look_at(&mut media, &mut tables.page) {
+        Look::AllErased => {}
+        Look::Other => return ended(alloc, 2, b"unbuilt", sink, media),
+        Look::Failed => return ended(alloc, 5, b"medium fault", sink, media),
+    }
+    run_lines(alloc, shape, tables, lines, sink, media)
+}
