@@ -1,4 +1,5 @@
 pub mod Digits
+pub mod FormRows
 pub mod Numbered
 pub mod ScriptCalls
 pub mod Splits
