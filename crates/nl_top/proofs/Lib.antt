@@ -3,6 +3,7 @@ pub mod Contents
 pub mod Digits
 pub mod FileLists
 pub mod Flat
+pub mod FormRows
 pub mod Named
 pub mod Numbered
 pub mod Numbers
