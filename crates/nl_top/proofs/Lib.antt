@@ -1,3 +1,4 @@
+mod Answering
 mod Blocks
 pub mod Contents
 pub mod Digits
