@@ -1,7 +1,9 @@
 mod Answering
+mod AllErased
 mod Blocks
 pub mod Contents
 pub mod Digits
+mod Ending
 pub mod FileLists
 pub mod Flat
 pub mod FormRows
@@ -9,6 +11,7 @@ pub mod Named
 pub mod Numbered
 pub mod Numbers
 pub mod OneMore
+mod OneWord
 mod Printing
 pub mod Replying
 pub mod SameCall

@@ -36,3 +36,11 @@ roomy blocks pages is =
     enough : (total left filled pages : ℕ) → 32 * pages ≤ total → 32 ≤ pages → filled < 67 + div_ceil (total / 16) 16 + total / 32 + pages
         → total ≤ left + (filled + 8 * pages) → total / 16 ≤ left - 160 + 1
     enough total left filled pages many least few split = omega arith
+
+-- each has a node
+pub some_nodes : (blocks pages : ℕ) → IsTrue (is_legal blocks pages) → 1 ≤ (shape_for blocks pages).nodes
+unfolding shape_for
+some_nodes blocks pages is =
+    let least = legal blocks pages is in
+    let many : 32 * pages ≤ blocks * pages = mul-le-mul_right pages least.blocks_there in
+    omega (arith, many, least.pages_there)

@@ -161,6 +161,7 @@ pub fn read<M: Nand>(
     ensures geometry { M.geometry media.new ≡ M.geometry media.old }
     ensures clock { M.clock media.new ≡ M.clock media.old }
     ensures write_faults { M.write_faults media.new ≡ M.write_faults media.old }
+    ensures reads { M.read_faults media.old ≤ M.read_faults media.new }
     ensures numbered { FaultsNumbered (saturated (M.read_faults media.old + M.write_faults media.old)) (fault_of result.reply ∷ []) }
     ensures sum { saturated (M.read_faults media.new + M.write_faults media.new) ≡ sum_after (saturated (M.read_faults media.old + M.write_faults media.old)) (fault_of result.reply ∷ []) }
 {
@@ -221,6 +222,8 @@ pub fn write<M: Nand>(
     ensures capacity { vec_capacity files.new ≡ vec_capacity files.old }
     ensures geometry { M.geometry media.new ≡ M.geometry media.old }
     ensures clock { M.clock media.new ≡ risen (programs_of result) (M.clock media.old) }
+    ensures reads { M.read_faults media.old ≤ M.read_faults media.new }
+    ensures writes { M.write_faults media.old ≤ M.write_faults media.new }
     ensures numbered { FaultsNumbered (saturated (M.read_faults media.old + M.write_faults media.old)) (fault_of result ∷ []) }
     ensures sum { saturated (M.read_faults media.new + M.write_faults media.new) ≡ sum_after (saturated (M.read_faults media.old + M.write_faults media.old)) (fault_of result ∷ []) }
 {

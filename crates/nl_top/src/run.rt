@@ -66,6 +66,8 @@ pub fn apply<M: Nand>(
     ensures len { vec_len files.new ≤ vec_len files.old + 1 }
     ensures geometry { M.geometry media.new ≡ M.geometry media.old }
     ensures clock { M.clock media.new ≡ risen (programs_of result.reply) (M.clock media.old) }
+    ensures reads { M.read_faults media.old ≤ M.read_faults media.new }
+    ensures writes { M.write_faults media.old ≤ M.write_faults media.new }
     ensures numbered { FaultsNumbered (saturated (M.read_faults media.old + M.write_faults media.old)) (fault_of result.reply ∷ []) }
     ensures sum { saturated (M.read_faults media.new + M.write_faults media.new) ≡ sum_after (saturated (M.read_faults media.old + M.write_faults media.old)) (fault_of result.reply ∷ []) }
 {
@@ -132,6 +134,8 @@ pub fn run<M: Nand>(
     ensures whole { sum_by (λ a. a.len) answers.new.items ≡ length bytes.new.items }
     ensures few { length answers.new.items ≡ length lines.items }
     ensures geometry { M.geometry media.new ≡ M.geometry media.old }
+    ensures reads { M.read_faults media.old ≤ M.read_faults media.new }
+    ensures writes { M.write_faults media.old ≤ M.write_faults media.new }
 {
     let mut next = 0u32;
     'script: for line in lines {

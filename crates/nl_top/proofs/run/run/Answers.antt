@@ -36,6 +36,8 @@ script-init g c =
       fits = record { entries = omega (arith, no_file); nodes = omega (arith, no_file) };
       range = omega arith;
       geometry = refl;
+      reads = omega arith;
+      writes = omega arith;
       files = omega (arith, no_file);
       files_room = omega arith;
       answered = omega (arith, no_answer);
@@ -98,6 +100,8 @@ script-preserved g c =
       fits = c.apply-found.ensures.fits;
       range = subst (λ (geo : Geometry). c.apply-found.new.next ≤ geo.blocks * geo.pages) (sym c.apply-found.ensures.geometry) c.apply-found.ensures.range;
       geometry = c.apply-found.ensures.geometry ∙ c.script.invariant.geometry;
+      reads = le_trans c.script.invariant.reads c.apply-found.ensures.reads;
+      writes = le_trans c.script.invariant.writes c.apply-found.ensures.writes;
       files = omega (arith, grown);
       files_room = le_trans c.script.invariant.files_room c.apply-found.ensures.capacity;
       answered = omega (arith, grown);

@@ -19,6 +19,8 @@ invariant-script g l =
       fits : Fits l.shape (length l.files.items);
       range : l.next ≤ (g.M.Nand.geometry l.media).blocks * (g.M.Nand.geometry l.media).pages;
       geometry : g.M.Nand.geometry l.media ≡ g.M.Nand.geometry l.initial.media;
+      reads : g.M.Nand.read_faults l.initial.media ≤ g.M.Nand.read_faults l.media;
+      writes : g.M.Nand.write_faults l.initial.media ≤ g.M.Nand.write_faults l.media;
       files : vec_len l.files ≤ length l.yielded;
       files_room : vec_capacity l.initial.files ≤ vec_capacity l.files;
       answered : vec_len l.answers ≡ length l.yielded;
