@@ -2,10 +2,14 @@
 #![tactic(auto)]
 
 mod answers;
+mod cell;
 mod geometry;
 mod nand;
+mod record;
 pub mod rows;
+mod stop;
 
 pub use answers::{FormAnswer, ReadAnswer, WriteAnswer};
 pub use geometry::Geometry;
 pub use nand::Nand;
+pub use stop::{Cut, Stop};

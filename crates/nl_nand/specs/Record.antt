@@ -1,0 +1,73 @@
+-- The record of a medium in memory, and the images that a crash may have left by it.
+use Rattle.std.specs.Prelude.{◌≡◌, ◌⊎◌, ℕ, ◌+◌, ◌≤◌, ◌++◌, List, [], ◌∷◌, length, take, drop, map, slice_set, Option, Some, None, IsTrue}
+use Rattle.nl_field.specs.Page.{PageBytes, Page, erased, uncorrectable, written, Image, page_at, is_page, is_image}
+use Rattle.nl_nand.specs.Nand.{Cut}
+use Rattle.nl_nand.specs.declared.cell.Cell.{Cell}
+use Rattle.nl_nand.specs.declared.cell.Cell.TheVariants as cell
+use Rattle.nl_nand.specs.declared.record.Attempt.{Attempt}
+use Rattle.nl_nand.specs.declared.record.Attempt.TheVariants as attempt
+use Rattle.nl_nand.specs.declared.record.Entry.{Entry}
+use Rattle.nl_nand.specs.declared.record.Entry.TheVariants as entry
+
+abbrev pub page_of : Cell → Page
+page_of cell.Erased = erased
+page_of cell.Uncorrectable = uncorrectable
+page_of (cell.Written buf) = written buf.value
+
+abbrev pub pages_of : List Cell → List Page
+pages_of cells = map page_of cells
+
+-- the range of an operation that changed nothing, and the value that it was to give
+abbrev pub low_of_attempt : Attempt → ℕ
+low_of_attempt (attempt.Program page value) = page
+low_of_attempt (attempt.Erase low high) = low
+
+abbrev pub high_of_attempt : Attempt → ℕ
+high_of_attempt (attempt.Program page value) = page + 1
+high_of_attempt (attempt.Erase low high) = high
+
+abbrev pub value_of_attempt : Attempt → Page
+value_of_attempt (attempt.Program page value) = written value.value
+value_of_attempt (attempt.Erase low high) = erased
+
+-- the range of an operation
+abbrev pub low_of : Entry → ℕ
+low_of (entry.Programmed page moment) = page
+low_of (entry.Erased low cells moment) = low
+low_of (entry.Failed tried moment) = low_of_attempt tried
+
+abbrev pub high_of : Entry → ℕ
+high_of (entry.Programmed page moment) = page + 1
+high_of (entry.Erased low cells moment) = low + length cells.items
+high_of (entry.Failed tried moment) = high_of_attempt tried
+
+-- the moment before it
+abbrev pub moment_of : Entry → ℕ
+moment_of (entry.Programmed page moment) = moment
+moment_of (entry.Erased low cells moment) = moment
+moment_of (entry.Failed tried moment) = moment
+
+-- the value that it gives to each page of its range, from the image after it
+abbrev pub value_in : Entry → Image → Page
+value_in (entry.Programmed page moment) now = page_at now page
+value_in (entry.Erased low cells moment) now = erased
+value_in (entry.Failed tried moment) now = value_of_attempt tried
+
+-- the image before it, from the image after it
+abbrev pub undone : Entry → Image → Image
+undone (entry.Programmed page moment) now = record now { contents = slice_set now.contents page erased }
+undone (entry.Erased low cells moment) now =
+    record now { contents = take low now.contents ++ pages_of cells.items ++ drop (low + length cells.items) now.contents }
+undone (entry.Failed tried moment) now = now
+
+-- What a crash may have left at moment m, where the newest entry comes first, and the image now and the clock now are given.
+abbrev pub LeftBy : List Entry → Image → ℕ → ℕ → Image → Type 0
+LeftBy [] now clock m c = (m ≡ clock) × (c ≡ now)
+LeftBy (e ∷ older) now clock m c = ((m ≡ clock) × (c ≡ now))
+    ⊎ (((m ≡ moment_of e) × Cut (low_of e) (high_of e) (value_in e now) (undone e now) c) ⊎ LeftBy older (undone e now) (moment_of e) m c)
+
+-- Each image that the record tells of is one, and no entry is later than the next.
+abbrev pub IsHistory : List Entry → Image → ℕ → Type 0
+IsHistory [] now clock = IsTrue (is_image now)
+IsHistory (e ∷ older) now clock =
+    IsTrue (is_image now) × IsTrue (is_page (value_in e now)) × (moment_of e ≤ clock) × IsHistory older (undone e now) (moment_of e)
