@@ -1,0 +1,4 @@
+pub mod Cells
+pub mod Fresh
+pub mod Images
+pub mod Left

@@ -1,9 +1,12 @@
 -- The record of a medium in memory, and the images that a crash may have left by it.
-use Rattle.std.specs.Prelude.{◌≡◌, ◌⊎◌, ℕ, ◌+◌, ◌≤◌, ◌++◌, List, [], ◌∷◌, length, take, drop, map, slice_set, Option, Some, None, IsTrue}
+use Rattle.std.specs.Prelude.{◌≡◌, ◌⊎◌, ℕ, ◌+◌, ◌++◌, List, [], ◌∷◌, length, take, drop, map, slice_set, reverse, Option, Some, None, Bool, ◌&&◌, ◌||◌, ◌==◌, nat_le}
 use Rattle.nl_field.specs.Page.{PageBytes, Page, erased, uncorrectable, written, Image, page_at, is_page, is_image}
+use Rattle.nl_field.specs.Numbers.{is_legal}
 use Rattle.nl_nand.specs.Nand.{Cut}
+use Rattle.nl_nand.specs.declared.geometry.Geometry.{Geometry}
 use Rattle.nl_nand.specs.declared.cell.Cell.{Cell}
 use Rattle.nl_nand.specs.declared.cell.Cell.TheVariants as cell
+use Rattle.nl_nand.specs.declared.interrupted.Interrupted.{Interrupted}
 use Rattle.nl_nand.specs.declared.record.Attempt.{Attempt}
 use Rattle.nl_nand.specs.declared.record.Attempt.TheVariants as attempt
 use Rattle.nl_nand.specs.declared.record.Entry.{Entry}
@@ -16,6 +19,13 @@ page_of (cell.Written buf) = written buf.value
 
 abbrev pub pages_of : List Cell → List Page
 pages_of cells = map page_of cells
+
+-- legal numbers, or none
+abbrev pub is_geometry : Geometry → Bool
+is_geometry geometry = is_legal geometry.blocks geometry.pages || geometry.blocks == 0 && geometry.pages == 0
+
+abbrev pub image_of : Geometry → List Cell → Image
+image_of geometry cells = record { blocks = geometry.blocks; pages = geometry.pages; contents = pages_of cells }
 
 -- the range of an operation that changed nothing, and the value that it was to give
 abbrev pub low_of_attempt : Attempt → ℕ
@@ -67,7 +77,17 @@ LeftBy (e ∷ older) now clock m c = ((m ≡ clock) × (c ≡ now))
     ⊎ (((m ≡ moment_of e) × Cut (low_of e) (high_of e) (value_in e now) (undone e now) c) ⊎ LeftBy older (undone e now) (moment_of e) m c)
 
 -- Each image that the record tells of is one, and no entry is later than the next.
-abbrev pub IsHistory : List Entry → Image → ℕ → Type 0
-IsHistory [] now clock = IsTrue (is_image now)
-IsHistory (e ∷ older) now clock =
-    IsTrue (is_image now) × IsTrue (is_page (value_in e now)) × (moment_of e ≤ clock) × IsHistory older (undone e now) (moment_of e)
+abbrev pub is_history : List Entry → Image → ℕ → Bool
+is_history [] now clock = is_image now
+is_history (e ∷ older) now clock =
+    is_image now && is_page (value_in e now) && nat_le (moment_of e) clock && is_history older (undone e now) (moment_of e)
+
+-- the record, newest entry first, with the operation that a stop cut short
+abbrev pub logged : Option Interrupted → ℕ → List Entry → List Entry
+logged None clock entries = reverse entries
+logged (Some i) clock entries = entry.Failed i.attempt clock ∷ reverse entries
+
+-- the end of the range of the operation that a stop cut short
+abbrev pub end_of : Option Interrupted → ℕ
+end_of None = 0
+end_of (Some i) = high_of_attempt i.attempt

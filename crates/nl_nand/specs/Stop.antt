@@ -25,14 +25,14 @@ page_after outcome.Finished value old = value
 page_after outcome.Lost value old = uncorrectable
 
 -- an operation that a stop cut short: its range, the value that it gives to each page of it, and the cut
-pub record Interrupted : Type 0 where
+pub record CutShort : Type 0 where
   pub low : ℕ
   pub high : ℕ
   pub value : Page
   pub how : Cut
 
 -- the image that the stop leaves of the old one
-pub record LeftImage (stopped : Interrupted) (old new : Image) : Type 0 where
+pub record LeftImage (stopped : CutShort) (old new : Image) : Type 0 where
   pub shape : SameShape old new
   pub inside : (p : ℕ) → stopped.low ≤ p → p < stopped.high
       → page_at new p ≡ page_after (outcome_of stopped.how (p - stopped.low)) stopped.value (page_at old p)

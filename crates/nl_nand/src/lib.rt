@@ -3,7 +3,10 @@
 
 mod answers;
 mod cell;
+mod fate;
 mod geometry;
+mod interrupted;
+mod mem_nand;
 mod nand;
 mod record;
 pub mod rows;
@@ -11,5 +14,6 @@ mod stop;
 
 pub use answers::{FormAnswer, ReadAnswer, WriteAnswer};
 pub use geometry::Geometry;
+pub use mem_nand::MemNand;
 pub use nand::Nand;
 pub use stop::{Cut, Stop};
