@@ -59,7 +59,7 @@ module _ (g : Geometry) (cells row : List Cell) (low count : ℕ) (within : low 
   abbrev news : List Cell
   news = take low cells ++ row ++ drop (low + length row) cells
 
-  row_length : length row ≡ count
+  pub row_length : length row ≡ count
   row_length = ap length blank ∙ length-replicate count cell.Erased
 
   length_front : length (take low cells) ≡ low
@@ -117,7 +117,8 @@ module _ (g : Geometry) (cells row : List Cell) (low count : ℕ) (within : low 
   pub part_length : length part ≡ length row
   part_length = length-take-le (length row) (drop low cells) (omega (arith, length-drop low cells, within, row_length))
 
-  contents_back : (before : List Cell) → before ≡ part → take low (pages_of news) ++ pages_of before ++ drop (low + length before) (pages_of news) ≡ pages_of cells
+  -- undoing gives the pages from before
+  pub contents_back : (before : List Cell) → before ≡ part → take low (pages_of news) ++ pages_of before ++ drop (low + length before) (pages_of news) ≡ pages_of cells
   contents_back before is =
       let size : low + length before ≡ low + length row = ap (λ n. low + n) (ap length is ∙ part_length) in
       (λ i. take low (pages_of news) ++ pages_of (is i) ++ drop (size i) (pages_of news))

@@ -25,7 +25,9 @@ blank_image g cells is = image_from (image_of g cells)
     (λ p. ap is_page (blank g cells (g.blocks * g.pages) is p))
 
 pub fresh_history : (entries : List Entry) (now : Image) (clock : ℕ) → entries ≡ [] → IsTrue (is_image now) → IsTrue (is_history (reverse entries) now clock)
+unfolding is_history
 fresh_history entries now clock none is = subst (λ h. IsTrue (is_history (reverse h) now clock)) (sym none) is
 
 pub fresh_left : (entries : List Entry) (now : Image) (clock m : ℕ) (c : Image) → entries ≡ [] → LeftBy (reverse entries) now clock m c → (m ≡ clock) × (c ≡ now)
+unfolding LeftBy
 fresh_left entries now clock m c none l = subst (λ h. LeftBy (reverse h) now clock m c) none l

@@ -24,6 +24,7 @@ second : (a b : Bool) → IsTrue (a && b) → IsTrue b
 second a b h = search rules
 
 pub history_from : (h : List Entry) (now : Image) (clock : ℕ) → IsHistory h now clock → IsTrue (is_history h now clock)
+unfolding is_history
 history_from [] now clock is = is
 history_from (e ∷ older) now clock is =
     let order : IsTrue (nat_le (moment_of e) clock) = let le = is.2 in search rules in
@@ -35,6 +36,7 @@ order_from : (a b : ℕ) → IsTrue (nat_le a b) → a ≤ b
 order_from a b le = search rules
 
 pub history_is : (h : List Entry) (now : Image) (clock : ℕ) → IsTrue (is_history h now clock) → IsHistory h now clock
+unfolding is_history
 history_is [] now clock is = is
 history_is (e ∷ older) now clock is =
     let three = first (is_image now && is_page (value_in e now) && nat_le (moment_of e) clock) (is_history older (undone e now) (moment_of e)) is in
@@ -47,6 +49,7 @@ history_is (e ∷ older) now clock is =
 
 -- what there is now
 pub now_left : (h : List Entry) (now : Image) (clock : ℕ) → LeftBy h now clock clock now
+unfolding LeftBy
 now_left [] now clock = (refl, refl)
 now_left (e ∷ h) now clock = inl (refl, refl)
 
@@ -55,6 +58,7 @@ history_now [] now clock history = history
 history_now (e ∷ h) now clock history = history.0
 
 pub no_later : (h : List Entry) (now : Image) (clock m : ℕ) (c : Image) → IsHistory h now clock → LeftBy h now clock m c → m ≤ clock
+unfolding LeftBy
 no_later [] now clock m c history l = le_of_eq l.0
 no_later (e ∷ older) now clock m c history (inl here) = le_of_eq here.0
 no_later (e ∷ older) now clock m c history (inr (inl cut)) = le_trans (le_of_eq cut.0) history.2
@@ -72,6 +76,7 @@ undone_pages (entry.Failed tried moment) now = refl
 
 pub left_fits : (g : Geometry) (h : List Entry) (now : Image) (clock m : ℕ) (c : Image) → now.blocks ≡ g.blocks → now.pages ≡ g.pages → IsHistory h now clock → LeftBy h now clock m c
     → ImageOf g c
+unfolding LeftBy
 left_fits g [] now clock m c blocks pages history l =
     record { blocks = ap (λ (i : Image). i.blocks) l.1 ∙ blocks; pages = ap (λ (i : Image). i.pages) l.1 ∙ pages; whole = ap is_image l.1 ∙ history }
 left_fits g (e ∷ older) now clock m c blocks pages history (inl here) =
@@ -109,14 +114,17 @@ module _ {h next : List Entry} {old new : Image} {clock k low high : ℕ} {value
   same_left m c i = LeftBy (noted.newest i) new k m c
 
   pub noted_each : (m : ℕ) (c : Image) → LeftBy next new k m c → LeftBy h old clock m c ⊎ (((m ≡ clock) × Cut low high value old c) ⊎ ((m ≡ k) × (c ≡ new)))
+  unfolding LeftBy
   noted_each m c l = ⊎_elim (λ now. inr (inr now))
       (λ past. ⊎_elim (λ cut. inr (inl (cut.0 ∙ noted.moment, subst (λ t. t) (same_cut c) cut.1))) (λ before. inl (subst (λ t. t) (same_old m c) before)) past)
       (subst (λ t. t) (same_left m c) l)
 
   pub noted_keeps : (m : ℕ) (c : Image) → LeftBy h old clock m c → LeftBy next new k m c
+  unfolding LeftBy
   noted_keeps m c l = subst (λ t. t) (sym (same_left m c)) (inr (inr (subst (λ t. t) (sym (same_old m c)) l)))
 
   pub noted_reached : (c : Image) → Cut low high value old c → LeftBy next new k clock c
+  unfolding LeftBy
   noted_reached c cut = subst (λ t. t) (sym (same_left clock c)) (inr (inl (sym noted.moment, subst (λ t. t) (sym (same_cut c)) cut)))
 
   pub noted_history : Cut low high value old new → IsTrue (is_page value) → IsHistory h old clock → IsHistory next new k

@@ -71,13 +71,13 @@ undone (entry.Erased low cells moment) now =
 undone (entry.Failed tried moment) now = now
 
 -- What a crash may have left at moment m, where the newest entry comes first, and the image now and the clock now are given.
-abbrev pub LeftBy : List Entry → Image → ℕ → ℕ → Image → Type 0
+unfoldable pub LeftBy : List Entry → Image → ℕ → ℕ → Image → Type 0
 LeftBy [] now clock m c = (m ≡ clock) × (c ≡ now)
 LeftBy (e ∷ older) now clock m c = ((m ≡ clock) × (c ≡ now))
     ⊎ (((m ≡ moment_of e) × Cut (low_of e) (high_of e) (value_in e now) (undone e now) c) ⊎ LeftBy older (undone e now) (moment_of e) m c)
 
 -- Each image that the record tells of is one, and no entry is later than the next.
-abbrev pub is_history : List Entry → Image → ℕ → Bool
+unfoldable pub is_history : List Entry → Image → ℕ → Bool
 is_history [] now clock = is_image now
 is_history (e ∷ older) now clock =
     is_image now && is_page (value_in e now) && nat_le (moment_of e) clock && is_history older (undone e now) (moment_of e)

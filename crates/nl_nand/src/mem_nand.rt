@@ -79,3 +79,90 @@ impl MemNand {
         self.log.reserve(self.alloc, operations as usize)
     }
 }
+
+impl MemNand {
+    ghost use Rattle.std.specs.Prelude.{◌≡◌, ◌+◌, ◌*◌, ◌<◌, ◌≤◌, ⊤};
+    ghost use Rattle.nl_field.specs.Page.{erased, written};
+    ghost use Rattle.nl_nand.specs.Nand.{CanProgram};
+    ghost use Rattle.nl_nand.specs.Memory.{contents_of, Operated};
+
+    fn run_program(&mut self, page: usize, from: &PageBuf) -> WriteAnswer
+        requires within { page < self.old.geometry.blocks * self.old.geometry.pages }
+        requires erased { CanProgram (contents_of self.old) page }
+        ensures { Operated page (page + 1) (written from.now) self.old self.new result }
+    {
+        if self.stopped.is_some() {
+            self.write_faults = self.write_faults.saturating_add(1);
+            return WriteAnswer::Failed;
+        }
+        let value = match self.log.page_for(self.alloc, from) {
+            Ok(value) => value,
+            Err(_) => {
+                self.write_faults = self.write_faults.saturating_add(1);
+                return WriteAnswer::Failed;
+            }
+        };
+        self.operations = self.operations.saturating_add(1);
+        let moment = self.clock;
+        match fate_of(self.stop, &self.writes, self.operations) {
+            Fate::Stops(cut) => {
+                let attempt = Attempt::Program { page, value };
+                self.stopped = Some(Interrupted { attempt, cut });
+                self.write_faults = self.write_faults.saturating_add(1);
+                WriteAnswer::Failed
+            }
+            Fate::Fails => {
+                let attempt = Attempt::Program { page, value };
+                self.log.push(Entry::Failed { attempt, moment });
+                self.write_faults = self.write_faults.saturating_add(1);
+                WriteAnswer::Failed
+            }
+            Fate::Finishes => {
+                self.cells[page] = Cell::Written(value);
+                self.log.push(Entry::Programmed { page, moment });
+                self.clock = self.clock.saturating_add(1);
+                WriteAnswer::Done
+            }
+        }
+    }
+
+    fn run_erase(&mut self, low: usize) -> WriteAnswer
+        requires { low + self.old.geometry.pages ≤ self.old.geometry.blocks * self.old.geometry.pages }
+        ensures { Operated low (low + self.old.geometry.pages) erased self.old self.new result }
+    {
+        if self.stopped.is_some() {
+            self.write_faults = self.write_faults.saturating_add(1);
+            return WriteAnswer::Failed;
+        }
+        let mut cells = match self.log.row(self.alloc) {
+            Ok(cells) => cells,
+            Err(_) => {
+                self.write_faults = self.write_faults.saturating_add(1);
+                return WriteAnswer::Failed;
+            }
+        };
+        self.operations = self.operations.saturating_add(1);
+        let moment = self.clock;
+        let high = low + self.geometry.pages as usize;
+        match fate_of(self.stop, &self.writes, self.operations) {
+            Fate::Stops(cut) => {
+                let attempt = Attempt::Erase { low, high };
+                self.stopped = Some(Interrupted { attempt, cut });
+                self.write_faults = self.write_faults.saturating_add(1);
+                WriteAnswer::Failed
+            }
+            Fate::Fails => {
+                let attempt = Attempt::Erase { low, high };
+                self.log.push(Entry::Failed { attempt, moment });
+                self.write_faults = self.write_faults.saturating_add(1);
+                WriteAnswer::Failed
+            }
+            Fate::Finishes => {
+                exchange(&mut self.cells, low, &mut cells);
+                self.log.push(Entry::Erased { low, cells, moment });
+                self.clock = self.clock.saturating_add(1);
+                WriteAnswer::Done
+            }
+        }
+    }
+}

@@ -1,4 +1,5 @@
-ghost use Rattle.std.specs.Prelude.{◌≡◌, ◌+◌, ◌≤◌, ◌<◌, ◌∷◌, [], ◌++◌, replicate, All, vec_len, vec_capacity, IfOk, OnOk, OnErr};
+ghost use Rattle.std.specs.Prelude.{◌≡◌, ◌+◌, ◌≤◌, ◌<◌, ◌∷◌, [], ◌++◌, replicate, All, vec_len, vec_capacity, IsTrue, IfOk, OnOk, OnErr};
+ghost use Rattle.nl_field.specs.Page.{is_page, written};
 ghost use Rattle.nl_nand.specs.declared.cell.Cell.TheVariants as cell;
 
 use crate::cell::{Cell, erased_cells};
@@ -69,6 +70,7 @@ impl Record {
     /// Room for an entry, and a copy of a page out of the room.
     pub fn page_for(&mut self, alloc: Global, from: &PageBuf) -> Result<Box<PageBuf>, Memory>
         ensures page { IfOk result (λ b. b.value ≡ from.now) }
+        ensures whole { IsTrue (is_page (written from.now)) }
         ensures pages { self.new.pages ≡ self.old.pages }
         ensures entries { self.new.entries.items ≡ self.old.entries.items }
         ensures len { vec_len self.new.entries ≡ vec_len self.old.entries }
@@ -78,6 +80,7 @@ impl Record {
         ensures rows { vec_len self.new.rows ≡ vec_len self.old.rows }
         ensures full { OnErr result (room_in self.old ≡ 0) }
     {
+        page_is_whole(from);
         self.entries.reserve(1)?;
         let mut page = match self.blanks.pop() {
             Some(page) => page,
@@ -118,6 +121,15 @@ impl Record {
     {
         let _ = self.entries.push(entry);
     }
+}
+
+/// A page has the bytes of one. It does nothing.
+fn page_is_whole(page: &PageBuf)
+    ensures { IsTrue (is_page (written page.now)) }
+{
+    let _ = page.main();
+    let spare: &[u8] = page.spare();
+    let _ = spare.len();
 }
 
 fn add_blanks(alloc: Global, blanks: &mut Vec<Box<PageBuf>>, count: usize) -> Result<(), Memory>
