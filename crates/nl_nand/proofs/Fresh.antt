@@ -8,7 +8,7 @@ use Rattle.nl_nand.specs.declared.cell.Cell.TheVariants as cell
 use Rattle.nl_nand.specs.declared.record.Entry.{Entry}
 use Rattle.nl_nand.specs.Nand.{IsBlank}
 use Rattle.nl_nand.specs.Record.{page_of, pages_of, image_of, is_history, LeftBy}
-use Rattle.nl_nand.proofs.Images.{image_from}
+use Rattle.nl_nand.specs.ImageLaws.{image_from}
 use Rattle.nl_nand.proofs.Cells.{at_map}
 
 all_erased : (n p : ℕ) → page_of (get_or (replicate n cell.Erased) p cell.Erased) ≡ erased

@@ -18,8 +18,9 @@ use Rattle.nl_nand.specs.declared.stop.Cut.{Cut as How}
 use Rattle.nl_nand.specs.declared.answers.WriteAnswer.{WriteAnswer}
 use Rattle.nl_nand.specs.declared.answers.WriteAnswer.TheVariants as write
 use Rattle.nl_nand.specs.declared.mem_nand.MemNand.{MemNand}
-use Rattle.nl_nand.proofs.Images.{image_size, nothing_cut, filled_cut}
-use Rattle.nl_nand.proofs.Left.{Noted, noted_each, noted_keeps, noted_reached, noted_history, IsHistory, history_is, history_from, history_now}
+use Rattle.nl_nand.specs.ImageLaws.{image_size, nothing_cut, filled_cut}
+use Rattle.nl_nand.specs.RecordLaws.{history_is, history_from, history_now}
+use Rattle.nl_nand.proofs.Left.{Noted, noted_each, noted_keeps, noted_reached, noted_history}
 
 -- as many cells as the geometry has
 pub cells_size : (m : MemNand) → length m.cells.items ≡ m.geometry.blocks * m.geometry.pages

@@ -11,7 +11,7 @@ use Rattle.nl_nand.specs.declared.record.Attempt.TheVariants as attempt
 use Rattle.nl_nand.specs.declared.record.Entry.{Entry}
 use Rattle.nl_nand.specs.declared.record.Entry.TheVariants as entry
 use Rattle.nl_nand.specs.declared.cell.Cell.TheVariants as cell
-use Rattle.nl_nand.proofs.Images.{nothing_cut, filled_cut}
+use Rattle.nl_nand.specs.ImageLaws.{nothing_cut, filled_cut}
 use Rattle.nl_nand.proofs.Cells.{set_filled}
 use Rattle.nl_nand.proofs.Notes.{noted_stop, noted_fail, noted_program}
 use Rattle.nl_nand.proofs.Operations.{cells_size, next_history, none_from, plan_stops, plan_goes, fails_stop, fails_listed, finishes, operated_failed, operated_done}
