@@ -3,3 +3,4 @@ pub mod Fresh
 pub mod Left
 pub mod Notes
 pub mod Operations
+pub mod Restarts

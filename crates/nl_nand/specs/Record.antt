@@ -30,15 +30,15 @@ image_of geometry cells = record { blocks = geometry.blocks; pages = geometry.pa
 -- the range of an operation that changed nothing, and the value that it was to give
 abbrev pub low_of_attempt : Attempt → ℕ
 low_of_attempt (attempt.Program page value) = page
-low_of_attempt (attempt.Erase low high) = low
+low_of_attempt (attempt.Erase low count) = low
 
 abbrev pub high_of_attempt : Attempt → ℕ
 high_of_attempt (attempt.Program page value) = page + 1
-high_of_attempt (attempt.Erase low high) = high
+high_of_attempt (attempt.Erase low count) = low + count
 
 abbrev pub value_of_attempt : Attempt → Page
 value_of_attempt (attempt.Program page value) = written value.value
-value_of_attempt (attempt.Erase low high) = erased
+value_of_attempt (attempt.Erase low count) = erased
 
 -- the range of an operation
 abbrev pub low_of : Entry → ℕ

@@ -9,6 +9,7 @@ mod interrupted;
 mod mem_nand;
 mod nand;
 mod record;
+mod restart;
 pub mod rows;
 mod stop;
 

@@ -8,6 +8,7 @@ use crate::geometry::Geometry;
 use crate::interrupted::Interrupted;
 use crate::nand::Nand;
 use crate::record::{Attempt, Entry, Record};
+use crate::restart::left_cells;
 use crate::stop::Stop;
 use nl_field::{FailList, Memory, PageBuf};
 use std::alloc::Global;
@@ -36,7 +37,8 @@ pub struct MemNand {
 }
 
 impl MemNand {
-    ghost use Rattle.std.specs.Prelude.{◌≡◌, ℕ, ◌≤◌, OnOk};
+    ghost use Rattle.std.specs.Prelude.{◌≡◌, ℕ, ◌≤◌, [], OnOk, MatchOption};
+    ghost use Rattle.nl_nand.specs.Stop.{LeftImage};
     ghost use Rattle.nl_field.specs.Page.{Image};
     ghost use Rattle.nl_nand.specs.Plan.{fresh};
     ghost use Rattle.nl_nand.specs.Memory.{geometry_of, contents_of, clock_of, read_faults_of, write_faults_of, left_of, plan_of, room_of, SameButRoom};
@@ -60,6 +62,53 @@ impl MemNand {
             log: Record::new(alloc, 0),
             reads,
             writes,
+            stop,
+            stopped: None,
+            read_calls: 0,
+            operations: 0,
+            clock: 0,
+            read_faults: 0,
+            write_faults: 0,
+        }
+    }
+
+    /// The same medium after a crash: with the image that the stop left, or with its contents where no stop came. No call of it
+    /// fails but by the next stop, whose operation is counted from 1 anew. Clock and counts begin at 0, and the record is
+    /// empty, with no room.
+    pub fn restart(self, stop: Option<Stop>) -> MemNand
+        ensures geometry { geometry_of result ≡ geometry_of self }
+        ensures contents { MatchOption (plan_of self).stopped (contents_of result ≡ contents_of self) (λ s. LeftImage s (contents_of self) (contents_of result)) }
+        ensures was_left { left_of self (clock_of self) (contents_of result) }
+        ensures begins { (m : ℕ) (c : Image) → left_of result m c → (m ≡ 0) × (c ≡ contents_of result) }
+        ensures clock { clock_of result ≡ 0 }
+        ensures read_faults { read_faults_of result ≡ 0 }
+        ensures write_faults { write_faults_of result ≡ 0 }
+        ensures plan { plan_of result ≡ fresh [] [] stop }
+    {
+        let alloc = self.alloc;
+        let MemNand {
+            alloc: _,
+            geometry,
+            cells,
+            log: _,
+            reads: _,
+            writes: _,
+            stop: _,
+            stopped,
+            read_calls: _,
+            operations: _,
+            clock: _,
+            read_faults: _,
+            write_faults: _,
+        } = self;
+        let cells = left_cells(cells, stopped);
+        MemNand {
+            alloc,
+            geometry,
+            cells,
+            log: Record::new(alloc, geometry.pages as usize),
+            reads: FailList::new(alloc),
+            writes: FailList::new(alloc),
             stop,
             stopped: None,
             read_calls: 0,
@@ -143,16 +192,16 @@ impl MemNand {
         };
         self.operations = self.operations.saturating_add(1);
         let moment = self.clock;
-        let high = low + self.geometry.pages as usize;
+        let count = self.geometry.pages as usize;
         match fate_of(self.stop, &self.writes, self.operations) {
             Fate::Stops(cut) => {
-                let attempt = Attempt::Erase { low, high };
+                let attempt = Attempt::Erase { low, count };
                 self.stopped = Some(Interrupted { attempt, cut });
                 self.write_faults = self.write_faults.saturating_add(1);
                 WriteAnswer::Failed
             }
             Fate::Fails => {
-                let attempt = Attempt::Erase { low, high };
+                let attempt = Attempt::Erase { low, count };
                 self.log.push(Entry::Failed { attempt, moment });
                 self.write_faults = self.write_faults.saturating_add(1);
                 WriteAnswer::Failed

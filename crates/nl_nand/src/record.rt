@@ -10,7 +10,7 @@ use std::alloc::Global;
 #[derive(Drop)]
 pub enum Attempt {
     Program { page: usize, value: Box<PageBuf> },
-    Erase { low: usize, high: usize },
+    Erase { low: usize, count: usize },
 }
 
 /// A program or an erase that was begun, and the moment when it was.

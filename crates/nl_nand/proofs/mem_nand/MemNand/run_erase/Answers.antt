@@ -27,13 +27,13 @@ pub invariant_of-self-in-Stops-clause-history : goal.invariant_of-self-in-Stops-
 invariant_of-self-in-Stops-clause-history c =
     let m = c.args.self.now in
     let none : m.stopped ≡ None = none_from m.stopped (search rules) in
-    next_history (noted_stop m none c.row.new.self.entries.items (attempt.Erase c.args.low (c.args.low + c.args.self.now.geometry.pages)) c.in-Ok.ensures.entries) (nothing_cut _) refl m.history
+    next_history (noted_stop m none c.row.new.self.entries.items (attempt.Erase c.args.low c.args.self.now.geometry.pages) c.in-Ok.ensures.entries) (nothing_cut _) refl m.history
 
 pub invariant_of-self-in-Fails-clause-history : goal.invariant_of-self-in-Fails-clause-history
 invariant_of-self-in-Fails-clause-history c =
     let m = c.args.self.now in
     let none : m.stopped ≡ None = none_from m.stopped (search rules) in
-    let tried = attempt.Erase c.args.low (c.args.low + c.args.self.now.geometry.pages) in
+    let tried = attempt.Erase c.args.low c.args.self.now.geometry.pages in
     next_history (noted_fail m none c.push.new.self.entries.items tried (c.push.ensures.entries ∙ ap (λ (l : List Entry). l ++ entry.Failed tried m.clock ∷ []) c.in-Ok.ensures.entries)) (nothing_cut _) refl m.history
 
 pub invariant_of-self-in-Finishes-clause-history : goal.invariant_of-self-in-Finishes-clause-history
@@ -51,7 +51,7 @@ pub returns-in-Stops : goal.returns-in-Stops
 returns-in-Stops c =
     let m = c.args.self.now in
     let none : m.stopped ≡ None = none_from m.stopped (search rules) in
-    let tried = attempt.Erase c.args.low (c.args.low + c.args.self.now.geometry.pages) in
+    let tried = attempt.Erase c.args.low c.args.self.now.geometry.pages in
     let number : c.saturating_add-self-2.result ≡ next_operation (plan_of m) = c.saturating_add-self-2.ensures in
     let room : room_of m ≤ room_in c.row.new.self + 1 = omega (arith, c.in-Ok.ensures.len, c.in-Ok.ensures.capacity, c.in-Ok.ensures.blanks, c.in-Ok.ensures.rows) in
     let rises : m.write_faults ≤ c.saturating_add-self-in-Stops.result = omega (arith, c.saturating_add-self-in-Stops.ensures) in
@@ -64,7 +64,7 @@ pub returns-in-Fails : goal.returns-in-Fails
 returns-in-Fails c =
     let m = c.args.self.now in
     let none : m.stopped ≡ None = none_from m.stopped (search rules) in
-    let tried = attempt.Erase c.args.low (c.args.low + c.args.self.now.geometry.pages) in
+    let tried = attempt.Erase c.args.low c.args.self.now.geometry.pages in
     let number : c.saturating_add-self-2.result ≡ next_operation (plan_of m) = c.saturating_add-self-2.ensures in
     let none_plan : (plan_of m).stopped ≡ None = ap (option_map cut_short) none in
     let room : room_of m ≤ room_in c.push.new.self + 1 = omega (arith, c.in-Ok.ensures.len, c.in-Ok.ensures.capacity, c.in-Ok.ensures.blanks, c.in-Ok.ensures.rows, c.push.ensures.len, c.push.ensures.capacity, c.push.ensures.blanks, c.push.ensures.rows) in
