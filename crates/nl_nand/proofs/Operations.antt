@@ -4,7 +4,7 @@ use Rattle.std.specs.Option.{option_map}
 use Rattle.std.specs.List.{Contains}
 use Rattle.std.proofs.lemmas.List.{reverse-append, length-map}
 use Rattle.nl_field.specs.Page.{Page, Image, is_page, is_image}
-use Rattle.nl_field.specs.CrashStates.{saturated, Rose}
+use Rattle.nl_field.specs.CrashStates.{saturated}
 use Rattle.nl_nand.specs.Nand.{Cut, Filled, FaultsCounted, CrashLeaves}
 use Rattle.nl_nand.specs.Plan.{Plan, cut_at, next_operation, OperationFails, begun}
 use Rattle.nl_nand.specs.Stop.{CutShort}
@@ -78,7 +78,7 @@ module _ {m n : MemNand} {low high : ℕ} {value : Page} (noted : Noted (log_of 
 
   -- it failed, and changed no page
   pub operated_failed : contents_of n ≡ contents_of m → n.geometry ≡ m.geometry → n.clock ≡ m.clock → n.read_faults ≡ m.read_faults
-      → m.write_faults ≤ n.write_faults → Rose m.write_faults n.write_faults
+      → m.write_faults ≤ n.write_faults → n.write_faults ≡ saturated (m.write_faults + 1)
       → (plan_of m).stopped ≡ None → plan_of n ≡ begun low high value (plan_of m) → OperationFails (plan_of m) → room_of m ≤ room_of n + 1
       → (v : Page) → value ≡ v → Operated low high v m n write.Failed
   operated_failed contents geometry clock reads rises rose running plan fails room v is = subst (λ p. Operated low high p m n write.Failed) is (record {

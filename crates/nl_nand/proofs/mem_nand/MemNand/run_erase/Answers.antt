@@ -2,7 +2,6 @@ use Rattle.std.proofs.Common.{◌≡◌, ℕ, length, ◌+◌, ◌-◌, ◌*◌,
 use Rattle.std.proofs.lemmas.List.{length-replicate}
 use Rattle.std.specs.Option.{option_map}
 use Rattle.nl_field.specs.Page.{erased}
-use Rattle.nl_field.specs.CrashStates.{Rose}
 use Rattle.nl_nand.specs.Nand.{Filled}
 use Rattle.nl_nand.specs.Plan.{next_operation}
 use Rattle.nl_nand.specs.Record.{image_of}
@@ -55,8 +54,7 @@ returns-in-Stops c =
     let number : c.saturating_add-self-2.result ≡ next_operation (plan_of m) = c.saturating_add-self-2.ensures in
     let room : room_of m ≤ room_in c.row.new.self + 1 = omega (arith, c.in-Ok.ensures.len, c.in-Ok.ensures.capacity, c.in-Ok.ensures.blanks, c.in-Ok.ensures.rows) in
     let rises : m.write_faults ≤ c.saturating_add-self-in-Stops.result = omega (arith, c.saturating_add-self-in-Stops.ensures) in
-    let rose : Rose m.write_faults c.saturating_add-self-in-Stops.result = omega (arith, c.saturating_add-self-in-Stops.ensures) in
-    operated_failed (noted_stop m none c.row.new.self.entries.items tried c.in-Ok.ensures.entries) refl refl refl refl rises rose
+    operated_failed (noted_stop m none c.row.new.self.entries.items tried c.in-Ok.ensures.entries) refl refl refl refl rises c.saturating_add-self-in-Stops.ensures
     (ap (option_map cut_short) none) (plan_stops (plan_of m) _ c.in-Stops.cut _ _ _ number c.in-Stops.ensures)
     (fails_stop (plan_of m) _ c.in-Stops.cut number c.in-Stops.ensures) room erased refl
 
@@ -69,8 +67,7 @@ returns-in-Fails c =
     let none_plan : (plan_of m).stopped ≡ None = ap (option_map cut_short) none in
     let room : room_of m ≤ room_in c.push.new.self + 1 = omega (arith, c.in-Ok.ensures.len, c.in-Ok.ensures.capacity, c.in-Ok.ensures.blanks, c.in-Ok.ensures.rows, c.push.ensures.len, c.push.ensures.capacity, c.push.ensures.blanks, c.push.ensures.rows) in
     let rises : m.write_faults ≤ c.saturating_add-self-in-Fails.result = omega (arith, c.saturating_add-self-in-Fails.ensures) in
-    let rose : Rose m.write_faults c.saturating_add-self-in-Fails.result = omega (arith, c.saturating_add-self-in-Fails.ensures) in
-    operated_failed (noted_fail m none c.push.new.self.entries.items tried (c.push.ensures.entries ∙ ap (λ (l : List Entry). l ++ entry.Failed tried m.clock ∷ []) c.in-Ok.ensures.entries)) refl refl refl refl rises rose
+    operated_failed (noted_fail m none c.push.new.self.entries.items tried (c.push.ensures.entries ∙ ap (λ (l : List Entry). l ++ entry.Failed tried m.clock ∷ []) c.in-Ok.ensures.entries)) refl refl refl refl rises c.saturating_add-self-in-Fails.ensures
     none_plan (plan_goes (plan_of m) _ _ _ _ number c.in-Fails.ensures.0 none_plan)
     (fails_listed (plan_of m) _ number c.in-Fails.ensures.1) room erased refl
 
