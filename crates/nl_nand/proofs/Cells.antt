@@ -1,13 +1,11 @@
 -- The image after a program or an erase, and before it.
-use Rattle.std.proofs.Common.{◌≡◌, ◌⊎◌, inl, inr, ℕ, zero, suc, ◌+◌, ◌-◌, ◌<◌, ◌≤◌, List, [], ◌∷◌, ◌++◌, length, get_or, take, drop, map, replicate, set, refl, sym, ◌∙◌, ap, arith, append_assoc, length-append, length-drop, take-append-drop}
-use Rattle.std.proofs.lemmas.Bool.{cases_lt, cases_eq}
+use Rattle.std.proofs.Common.{◌≡◌, ◌⊎◌, inl, inr, ℕ, zero, suc, ◌+◌, ◌-◌, ◌<◌, ◌≤◌, List, [], ◌∷◌, ◌++◌, length, get_or, take, drop, replicate, set, refl, sym, ◌∙◌, ap, arith, append_assoc, length-append, length-drop, take-append-drop}
 use Rattle.std.proofs.lemmas.List.{get_or_append_left, get_or-append_right, get_or-take, get_or-drop, length-take-le, take_at, drop_at, map-append, map-set, take-map, drop-map, drop-drop, length-map, length-set, get_or-set_same, get_or-set_other, set-get_or, get_or-replicate, length-replicate}
-use Rattle.nl_field.specs.Page.{Page, erased, uncorrectable, Image, page_at}
+use Rattle.nl_field.specs.Page.{Page, erased, page_at}
 use Rattle.nl_nand.specs.Nand.{SameShape, Filled}
 use Rattle.nl_nand.specs.declared.geometry.Geometry.{Geometry}
 use Rattle.nl_nand.specs.declared.cell.Cell.{Cell}
 use Rattle.nl_nand.specs.declared.cell.Cell.TheVariants as cell
-use Rattle.nl_nand.specs.declared.record.Entry.{Entry}
 use Rattle.nl_nand.specs.declared.record.Entry.TheVariants as entry
 use Rattle.nl_nand.specs.Record.{page_of, pages_of, image_of, undone}
 

@@ -1,13 +1,13 @@
 -- A medium with erased pages and an empty record.
-use Rattle.std.proofs.Common.{◌≡◌, ◌⊎◌, ℕ, zero, suc, ◌*◌, List, [], ◌∷◌, Option, None, length, get_or, replicate, reverse, refl, sym, ◌∙◌, ap, subst, IsTrue}
+use Rattle.std.proofs.Common.{◌≡◌, ℕ, zero, suc, ◌*◌, List, [], Option, None, length, get_or, replicate, reverse, refl, sym, ◌∙◌, ap, subst, IsTrue}
 use Rattle.std.proofs.lemmas.List.{length-map, length-replicate}
-use Rattle.nl_field.specs.Page.{Page, erased, Image, page_at, is_page, is_image}
+use Rattle.nl_field.specs.Page.{erased, Image, is_page, is_image}
 use Rattle.nl_nand.specs.declared.geometry.Geometry.{Geometry}
 use Rattle.nl_nand.specs.declared.cell.Cell.{Cell}
 use Rattle.nl_nand.specs.declared.cell.Cell.TheVariants as cell
 use Rattle.nl_nand.specs.declared.record.Entry.{Entry}
 use Rattle.nl_nand.specs.Nand.{IsBlank}
-use Rattle.nl_nand.specs.Record.{page_of, pages_of, image_of, logged, is_history, LeftBy}
+use Rattle.nl_nand.specs.Record.{page_of, image_of, logged, is_history, LeftBy}
 use Rattle.nl_nand.specs.declared.interrupted.Interrupted.{Interrupted}
 use Rattle.nl_nand.specs.ImageLaws.{image_from}
 use Rattle.nl_nand.proofs.Cells.{at_map}

@@ -1,9 +1,9 @@
 -- What is noted of an operation.
-use Rattle.std.proofs.Common.{◌≡◌, ℕ, ◌+◌, ◌*◌, ◌<◌, ◌≤◌, List, [], ◌∷◌, ◌++◌, Option, None, Vec, reverse, length, take, drop, replicate, set, refl, sym, ◌∙◌, ap, subst, arith}
+use Rattle.std.proofs.Common.{◌≡◌, ℕ, ◌+◌, ◌<◌, ◌≤◌, List, [], ◌∷◌, ◌++◌, None, Vec, reverse, length, take, drop, replicate, set, refl, sym, ◌∙◌, ap, subst, arith}
 use Rattle.std.specs.declared.alloc.Global.{Global}
-use Rattle.nl_field.specs.Page.{erased, written, Image, page_at}
+use Rattle.nl_field.specs.Page.{erased, page_at}
 use Rattle.nl_nand.specs.Nand.{Filled}
-use Rattle.nl_nand.specs.Record.{page_of, pages_of, image_of, logged, undone, low_of_attempt, high_of_attempt, value_of_attempt}
+use Rattle.nl_nand.specs.Record.{page_of, image_of, logged, undone, low_of_attempt, high_of_attempt, value_of_attempt}
 use Rattle.nl_nand.specs.Memory.{contents_of, log_of}
 use Rattle.nl_nand.specs.declared.cell.Cell.TheVariants as cell
 use Rattle.nl_nand.specs.declared.cell.Cell.{Cell}

@@ -1,24 +1,20 @@
 -- What an operation of a medium in memory makes of it.
-use Rattle.std.proofs.Common.{◌≡◌, ◌⊎◌, inl, inr, ℕ, ◌+◌, ◌*◌, ◌<◌, ◌≤◌, ◌-◌, min, List, [], ◌∷◌, ◌++◌, Option, Some, None, IsSome, reverse, length, refl, sym, ◌∙◌, ap, subst, arith, rules, IsTrue, if◌then◌else◌, is_some, Bool, true, false}
+use Rattle.std.proofs.Common.{◌≡◌, inl, inr, ℕ, ◌+◌, ◌*◌, ◌≤◌, List, [], ◌∷◌, ◌++◌, Option, Some, None, IsSome, reverse, length, refl, sym, ◌∙◌, ap, subst, arith, IsTrue, is_some, true, false}
 use Rattle.std.specs.Option.{option_map}
 use Rattle.std.specs.List.{Contains}
 use Rattle.std.proofs.lemmas.List.{reverse-append, length-map}
-use Rattle.nl_field.specs.Page.{Page, Image, is_page, is_image}
+use Rattle.nl_field.specs.Page.{Page, Image, is_page}
 use Rattle.nl_field.specs.CrashStates.{saturated}
-use Rattle.nl_nand.specs.Nand.{Cut, Filled, FaultsCounted, CrashLeaves}
+use Rattle.nl_nand.specs.Nand.{Cut, Filled, CrashLeaves}
 use Rattle.nl_nand.specs.Plan.{Plan, cut_at, next_operation, OperationFails, begun}
-use Rattle.nl_nand.specs.Stop.{CutShort}
-use Rattle.nl_nand.specs.Record.{pages_of, image_of, logged, is_history}
-use Rattle.nl_nand.specs.Memory.{contents_of, clock_of, left_of, log_of, plan_of, room_of, Operated, Begun}
-use Rattle.nl_nand.specs.declared.geometry.Geometry.{Geometry}
-use Rattle.nl_nand.specs.declared.cell.Cell.{Cell}
+use Rattle.nl_nand.specs.Record.{logged, is_history}
+use Rattle.nl_nand.specs.Memory.{contents_of, clock_of, left_of, log_of, plan_of, room_of, Operated}
 use Rattle.nl_nand.specs.declared.record.Entry.{Entry}
 use Rattle.nl_nand.specs.declared.interrupted.Interrupted.{Interrupted}
 use Rattle.nl_nand.specs.declared.stop.Cut.{Cut as How}
-use Rattle.nl_nand.specs.declared.answers.WriteAnswer.{WriteAnswer}
 use Rattle.nl_nand.specs.declared.answers.WriteAnswer.TheVariants as write
 use Rattle.nl_nand.specs.declared.mem_nand.MemNand.{MemNand}
-use Rattle.nl_nand.specs.ImageLaws.{image_size, nothing_cut, filled_cut}
+use Rattle.nl_nand.specs.ImageLaws.{image_size, nothing_cut}
 use Rattle.nl_nand.specs.RecordLaws.{history_is, history_from, history_now}
 use Rattle.nl_nand.proofs.Left.{Noted, noted_each, noted_keeps, noted_reached, noted_history}
 

@@ -1,9 +1,9 @@
 -- What a medium in memory is after a restart.
-use Rattle.std.proofs.Common.{◌≡◌, ◌⊎◌, inl, inr, ℕ, ◌-◌, ◌<◌, ◌≤◌, List, Option, Some, None, MatchOption, refl, sym, ◌∙◌, ap, subst, IsTrue}
+use Rattle.std.proofs.Common.{◌≡◌, ◌⊎◌, inl, inr, ℕ, ◌-◌, ◌<◌, ◌≤◌, List, Option, Some, None, MatchOption, refl, sym, ap, subst, IsTrue}
 use Rattle.std.specs.Option.{option_map}
 use Rattle.std.proofs.lemmas.Bool.{cases_lt}
-use Rattle.nl_field.specs.Page.{Page, uncorrectable, Image, page_at, is_page, is_image}
-use Rattle.nl_nand.specs.Nand.{Cut, SameShape}
+use Rattle.nl_field.specs.Page.{Page, uncorrectable, Image, page_at, is_image}
+use Rattle.nl_nand.specs.Nand.{Cut}
 use Rattle.nl_nand.specs.Stop.{CutShort, LeftImage, outcome_of, page_after}
 use Rattle.nl_nand.specs.Record.{image_of, logged, is_history, LeftBy}
 use Rattle.nl_nand.specs.RecordLaws.{history_is, history_now, now_left}

@@ -1,5 +1,5 @@
 -- Which calls of a medium in memory fail.
-use Rattle.std.specs.Prelude.{◌≡◌, ◌⊎◌, ℕ, ◌+◌, ◌==◌, if◌then◌else◌, List, Option, Some, None, IsSome}
+use Rattle.std.specs.Prelude.{◌⊎◌, ℕ, ◌+◌, ◌==◌, if◌then◌else◌, List, Option, Some, None, IsSome}
 use Rattle.std.specs.Option.{option_map}
 use Rattle.std.specs.List.{Contains}
 use Rattle.nl_field.specs.Page.{Page}

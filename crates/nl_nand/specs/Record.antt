@@ -1,6 +1,6 @@
 -- The record of a medium in memory, and the images that a crash may have left by it.
 use Rattle.std.specs.Prelude.{◌≡◌, ◌⊎◌, ℕ, ◌+◌, ◌++◌, List, [], ◌∷◌, length, take, drop, map, slice_set, reverse, Option, Some, None, Bool, ◌&&◌, ◌||◌, ◌==◌, nat_le}
-use Rattle.nl_field.specs.Page.{PageBytes, Page, erased, uncorrectable, written, Image, page_at, is_page, is_image}
+use Rattle.nl_field.specs.Page.{Page, erased, uncorrectable, written, Image, page_at, is_page, is_image}
 use Rattle.nl_field.specs.Numbers.{is_legal}
 use Rattle.nl_nand.specs.Nand.{Cut}
 use Rattle.nl_nand.specs.declared.geometry.Geometry.{Geometry}

@@ -1,6 +1,6 @@
 -- The laws of the record of a medium: what a crash may have left by it is an image, at no later moment.
-use Rattle.std.proofs.Common.{◌≡◌, ◌⊎◌, inl, inr, ⊎_elim, ℕ, ◌≤◌, List, [], ◌∷◌, ◌==◌, Bool, true, false, ◌&&◌, ◌||◌, nat_le, refl, sym, ◌∙◌, ap, subst, IsTrue, le_trans, le_of_eq, rules}
-use Rattle.nl_field.specs.Page.{Page, Image, is_page, is_image}
+use Rattle.std.proofs.Common.{◌≡◌, ◌⊎◌, inl, inr, ⊎_elim, ℕ, ◌≤◌, List, [], ◌∷◌, ◌==◌, Bool, true, false, ◌&&◌, ◌||◌, nat_le, refl, ◌∙◌, ap, IsTrue, le_trans, le_of_eq, rules}
+use Rattle.nl_field.specs.Page.{Image, is_page, is_image}
 use Rattle.nl_field.specs.Numbers.{is_legal}
 use Rattle.nl_nand.specs.Nand.{IsLegal, ImageOf}
 use Rattle.nl_nand.specs.Record.{LeftBy, is_geometry, is_history, moment_of, value_in, undone}

@@ -1,7 +1,7 @@
+ghost use Rattle.std.specs.Prelude.{◌≡◌, ◌+◌, ◌≤◌, ◌++◌, length, take, drop, replicate, IfOk};
+
 use nl_field::PageBuf;
 use std::alloc::{AllocError, Global};
-
-ghost use Rattle.std.specs.Prelude.{◌≡◌, ◌+◌, ◌≤◌, ◌++◌, length, take, drop, replicate, IfOk};
 
 /// One page in memory.
 #[derive(Drop)]

@@ -12,6 +12,8 @@ mod record;
 mod restart;
 pub mod rows;
 mod stop;
+#[cfg(test)]
+mod tests;
 
 pub use answers::{FormAnswer, ReadAnswer, WriteAnswer};
 pub use geometry::Geometry;

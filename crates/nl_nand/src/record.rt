@@ -17,14 +17,20 @@ pub enum Attempt {
 #[derive(Drop)]
 pub enum Entry {
     /// A finished program. The page was erased before.
-    Programmed { page: usize, moment: u64 },
+    Programmed {
+        page: usize,
+        moment: u64,
+    },
     /// A finished erase, with the cells that stood there before.
     Erased {
         low: usize,
         cells: Vec<Cell>,
         moment: u64,
     },
-    Failed { attempt: Attempt, moment: u64 },
+    Failed {
+        attempt: Attempt,
+        moment: u64,
+    },
 }
 
 /// The record of a medium, oldest entry first, from which each earlier image can be told. With it stands the room for

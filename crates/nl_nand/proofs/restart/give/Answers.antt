@@ -1,4 +1,4 @@
-use Rattle.std.proofs.Common.{◌≡◌, sym, ◌∙◌, ap, set, get_or}
+use Rattle.std.proofs.Common.{sym, ◌∙◌, ap, set, get_or}
 use Rattle.std.proofs.lemmas.List.{map-set}
 use Rattle.nl_field.specs.Page.{erased}
 use Rattle.nl_nand.specs.Stop.{page_after}

@@ -1,5 +1,3 @@
-use Rattle.std.proofs.Common.{replicate}
-use Rattle.nl_nand.specs.Record.{image_of}
 use Rattle.nl_nand.proofs.Fresh.{blank_image, fresh_history, fresh_left}
 use Rattle.nl_nand.proofs.mem_nand.MemNand.new.Goals as goal
 

@@ -1,4 +1,4 @@
-use Rattle.std.proofs.Common.{◌≡◌, ◌≤◌, ◌*◌, length, arith}
+use Rattle.std.proofs.Common.{arith}
 use Rattle.nl_nand.proofs.Fresh.{fresh_history, fresh_left}
 use Rattle.nl_nand.proofs.Operations.{cells_size}
 use Rattle.nl_nand.proofs.Restarts.{restarted, restarted_left, restarted_fits}

@@ -1,11 +1,9 @@
-use Rattle.std.proofs.Common.{◌≡◌, ℕ, length, ◌+◌, ◌-◌, ◌*◌, ◌<◌, ◌≤◌, ◌∷◌, [], ◌++◌, List, None, replicate, refl, sym, ◌∙◌, ap, subst, arith, rules}
+use Rattle.std.proofs.Common.{◌≡◌, length, ◌+◌, ◌≤◌, ◌∷◌, [], ◌++◌, List, None, replicate, refl, ◌∙◌, ap, arith, rules}
 use Rattle.std.proofs.lemmas.List.{length-replicate}
 use Rattle.std.specs.Option.{option_map}
 use Rattle.nl_field.specs.Page.{erased}
-use Rattle.nl_nand.specs.Nand.{Filled}
 use Rattle.nl_nand.specs.Plan.{next_operation}
-use Rattle.nl_nand.specs.Record.{image_of}
-use Rattle.nl_nand.specs.Memory.{plan_of, room_of, cut_short, contents_of}
+use Rattle.nl_nand.specs.Memory.{plan_of, room_of, cut_short}
 use Rattle.nl_nand.specs.Room.{room_in}
 use Rattle.nl_nand.specs.declared.record.Attempt.TheVariants as attempt
 use Rattle.nl_nand.specs.declared.record.Entry.{Entry}

@@ -1,11 +1,10 @@
-use Rattle.std.proofs.Common.{◌≡◌, ℕ, IsTrue, length, ◌+◌, ◌-◌, ◌*◌, ◌<◌, ◌≤◌, ◌∷◌, [], ◌++◌, List, None, refl, sym, ◌∙◌, ap, subst, arith, rules}
+use Rattle.std.proofs.Common.{◌≡◌, ℕ, IsTrue, length, ◌+◌, ◌<◌, ◌≤◌, ◌∷◌, [], ◌++◌, List, None, refl, sym, ◌∙◌, ap, subst, arith, rules}
 use Rattle.std.specs.Option.{option_map}
 use Rattle.nl_field.specs.Page.{erased, written, is_page, Image, page_at}
 use Rattle.nl_nand.specs.Nand.{CanProgram}
 use Rattle.nl_nand.specs.Plan.{next_operation}
 use Rattle.nl_nand.specs.Memory.{plan_of, room_of, cut_short}
 use Rattle.nl_nand.specs.Room.{room_in}
-use Rattle.nl_nand.specs.declared.answers.WriteAnswer.TheVariants as write
 use Rattle.nl_nand.specs.declared.record.Attempt.TheVariants as attempt
 use Rattle.nl_nand.specs.declared.record.Entry.{Entry}
 use Rattle.nl_nand.specs.declared.record.Entry.TheVariants as entry

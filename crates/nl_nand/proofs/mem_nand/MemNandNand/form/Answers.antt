@@ -1,4 +1,4 @@
-use Rattle.std.proofs.Common.{◌≡◌, ◌≤◌, ◌*◌, None, List, refl, sym, ◌∙◌, ap, arith, rules, IsTrue}
+use Rattle.std.proofs.Common.{◌≡◌, ◌*◌, None, ap, arith, rules}
 use Rattle.nl_nand.specs.Record.{end_of}
 use Rattle.nl_nand.proofs.Fresh.{blank, blank_image, begun_history, begun_left}
 use Rattle.nl_nand.proofs.Operations.{none_from}

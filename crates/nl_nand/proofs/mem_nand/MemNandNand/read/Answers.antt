@@ -1,6 +1,6 @@
-use Rattle.std.proofs.Common.{◌≡◌, ℕ, ◌+◌, ◌*◌, ◌<◌, List, length, get_or, refl, sym, ◌∙◌, ap, arith}
+use Rattle.std.proofs.Common.{◌≡◌, ℕ, ◌*◌, ◌<◌, length, get_or, sym, ◌∙◌, ap, arith}
 use Rattle.std.proofs.lemmas.List.{get_or_read}
-use Rattle.nl_field.specs.Page.{Page, erased, uncorrectable, written, page_at}
+use Rattle.nl_field.specs.Page.{written, page_at}
 use Rattle.nl_nand.specs.Record.{page_of}
 use Rattle.nl_nand.specs.Memory.{contents_of}
 use Rattle.nl_nand.specs.declared.cell.Cell.{Cell}
