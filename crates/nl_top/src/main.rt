@@ -10,12 +10,72 @@ mod input;
 mod lists;
 mod run;
 mod tables;
+#[cfg(test)]
+mod tests;
 mod top;
 mod word;
 
+use gate::NoGate;
+use nl_field::{FailList, Memory};
+use nl_io::{StdSink, StdSource, Words};
+use nl_nand::{FormAnswer, MemNand, Nand};
+use std::alloc::Global;
+use std::env;
 use std::process::ExitCode;
+use top::{Done, nameless};
+
+const MEDIUM_FAULT: u8 = 5;
+
+const NO_MEMORY: u8 = 6;
+
+// The words of the command line, and `run` where there are none.
+fn words_of(rt: &HostRuntime, alloc: Global) -> Result<Words, Memory> {
+    let mut words = Words::new(alloc);
+    let mut some = false;
+    if let Ok(args) = env::args(rt) {
+        for (i, word) in args.enumerate() {
+            if i > 0 && i < 1000 {
+                words.push(word.as_bytes())?;
+                some = true;
+            }
+        }
+    }
+    if !some {
+        words.push(b"run")?;
+    }
+    Ok(words)
+}
+
+// A formed medium of 32 blocks of 32 pages, with room for as many programs as it has pages.
+fn formed(alloc: Global) -> Result<MemNand, u8> {
+    let mut media = MemNand::new(alloc, FailList::new(alloc), FailList::new(alloc), None);
+    match media.form(32, 32) {
+        FormAnswer::Done => {}
+        FormAnswer::Failed => return Err(MEDIUM_FAULT),
+        FormAnswer::Memory => return Err(NO_MEMORY),
+    }
+    match media.reserve(1024) {
+        Ok(()) => Ok(media),
+        Err(_) => Err(NO_MEMORY),
+    }
+}
 
 fn main(rt: HostRuntime) -> ExitCode {
-    let _ = rt;
-    ExitCode::from(0)
+    let alloc = rt.alloc();
+    let Ok(words) = words_of(&rt, alloc) else {
+        return ExitCode::from(NO_MEMORY);
+    };
+    let media = match formed(alloc) {
+        Ok(media) => media,
+        Err(status) => return ExitCode::from(status),
+    };
+    let mut source = StdSource::new(rt.stdin());
+    let mut sink = StdSink::new(rt.stdout());
+    let Done {
+        status,
+        media: _,
+        syncs: _,
+        order: _,
+    } = nameless(&rt, alloc, &words, &mut source, &mut sink, media, &NoGate);
+    ExitCode::from(status)
 }

@@ -92,16 +92,7 @@ pub fn apply<M: Nand>(
         }
         Call::Read(path, from, count) => {
             let name = name_of(path);
-            read(
-                media,
-                files,
-                *next,
-                page,
-                shape,
-                name.bytes(),
-                from,
-                count,
-            )
+            read(media, files, *next, page, shape, name.bytes(), from, count)
         }
         _ => unreachable!(),
     }

@@ -35,12 +35,12 @@ returns-clause-ran g c =
     let kept : answers_in c.deref.result.now c.deref-2.result.now ≡ answers_in c.run.new.answers.items c.run.new.bytes.items = (λ i. answers_in (c.deref.ensures.value i) (c.deref-2.ensures.value i)) in
     let same = c.requires.shape in
     let yes : IsTrue c.medium_rose-rose.result → MediumRose before after = λ rose.
-        subst (λ (r : ℕ). Rose r (g.M.Nand.read_faults c.run.new.media) ⊎ Rose (g.M.Nand.write_faults c.args.media) (g.M.Nand.write_faults c.run.new.media)) c.read_faults-reads.ensures
-        (subst (λ (w : ℕ). Rose c.read_faults-reads.result (g.M.Nand.read_faults c.run.new.media) ⊎ Rose w (g.M.Nand.write_faults c.run.new.media)) c.write_faults-writes.ensures (c.medium_rose-rose.ensures.yes rose)) in
+    subst (λ (r : ℕ). Rose r (g.M.Nand.read_faults c.run.new.media) ⊎ Rose (g.M.Nand.write_faults c.args.media) (g.M.Nand.write_faults c.run.new.media)) c.read_faults-reads.ensures
+    (subst (λ (w : ℕ). Rose c.read_faults-reads.result (g.M.Nand.read_faults c.run.new.media) ⊎ Rose w (g.M.Nand.write_faults c.run.new.media)) c.write_faults-writes.ensures (c.medium_rose-rose.ensures.yes rose)) in
     let no : MediumRose before after → IsTrue c.medium_rose-rose.result = λ rose.
-        c.medium_rose-rose.ensures.no
-        (subst (λ (r : ℕ). Rose r (g.M.Nand.read_faults c.run.new.media) ⊎ Rose c.write_faults-writes.result (g.M.Nand.write_faults c.run.new.media)) (sym c.read_faults-reads.ensures)
-        (subst (λ (w : ℕ). Rose (g.M.Nand.read_faults c.args.media) (g.M.Nand.read_faults c.run.new.media) ⊎ Rose w (g.M.Nand.write_faults c.run.new.media)) (sym c.write_faults-writes.ensures) rose)) in
+    c.medium_rose-rose.ensures.no
+    (subst (λ (r : ℕ). Rose r (g.M.Nand.read_faults c.run.new.media) ⊎ Rose c.write_faults-writes.result (g.M.Nand.write_faults c.run.new.media)) (sym c.read_faults-reads.ensures)
+    (subst (λ (w : ℕ). Rose (g.M.Nand.read_faults c.args.media) (g.M.Nand.read_faults c.run.new.media) ⊎ Rose w (g.M.Nand.write_faults c.run.new.media)) (sym c.write_faults-writes.ensures) rose)) in
     let runs : Runs g.M.Nand.tells c.args.lines.items sink sink' before after c.run.new.order.items text = record {
       executed = run.executed;
       finished = run.finished;

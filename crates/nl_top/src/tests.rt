@@ -1,0 +1,171 @@
+// The first run on a medium of 32 blocks of 32 pages in memory. Expected texts are written by hand.
+use crate::gate::NoGate;
+use crate::top::{Done, nameless};
+use nl_field::{FailList, Memory, Text};
+use nl_io::{MemSink, MemSource, Words};
+use nl_nand::{MemNand, Nand};
+use std::alloc::Global;
+use std::sync::Wait;
+use std::test::Fail;
+use std::thread::Threads;
+
+fn list_of(alloc: Global, number: u64) -> Result<FailList, Memory> {
+    let mut list = FailList::new(alloc);
+    if number > 0 {
+        list.push(number)?;
+    }
+    Ok(list)
+}
+
+// The calls that fail, 0 for none: a read of the source, a write of the sink, and a read and a program of the medium.
+#[derive(Clone, Copy)]
+struct Failing {
+    source: u64,
+    sink: u64,
+    read: u64,
+    write: u64,
+}
+
+const NOTHING: Failing = Failing {
+    source: 0,
+    sink: 0,
+    read: 0,
+    write: 0,
+};
+
+// The status of a run, its text, and how many lines were answered.
+fn run_on<Rt: Threads + Wait + Sync>(
+    rt: &Rt,
+    alloc: Global,
+    word: &[u8],
+    script: &[u8],
+    failing: Failing,
+) -> Result<(u8, MemSink, u32), Memory> {
+    let mut words = Words::new(alloc);
+    words.push(word)?;
+    let mut media = MemNand::new(
+        alloc,
+        list_of(alloc, failing.read)?,
+        list_of(alloc, failing.write)?,
+        None,
+    );
+    let _ = media.form(32, 32);
+    media.reserve(1024)?;
+    let mut source = MemSource::new(Text::of(alloc, script)?, list_of(alloc, failing.source)?);
+    let mut sink = MemSink::new(alloc, 100_000, list_of(alloc, failing.sink)?)?;
+    let Done {
+        status,
+        media: _,
+        syncs: _,
+        order,
+    } = nameless(rt, alloc, &words, &mut source, &mut sink, media, &NoGate);
+    let lines = order.len();
+    Ok((status, sink, lines))
+}
+
+#[test]
+fn answers_are_those_of_a_tree(rt: HostRuntime) -> Result<(), Fail> {
+    let alloc = rt.alloc();
+    let rows: [(&[u8], u8, &[u8]); 7] = [
+        (
+            b"0 read /b 0 1\n0 create /b\n0 create /b\n",
+            0,
+            b"opened 0\n1 @1 ENOENT\n2 @2 ok\n3 @3 EEXIST\n",
+        ),
+        (b"", 0, b"opened 0\n"),
+        (
+            b"0 create /a\n0 write /a 4 6f\n0 write /a 0 68656c6c\n0 read /a 1 9\n0 read /a 9 1\n",
+            0,
+            b"opened 0\n1 @1 ok\n2 @2 ok 1\n3 @3 ok 4\n4 @4 ok 656c6c6f\n5 @5 ok -\n",
+        ),
+        (
+            b"0 create /a\n0 write /a 2 61\n0 read /a 0 3\n0 write /b 0 -\n0 write /a 9 -\n0 read /a 0 9\n",
+            0,
+            b"opened 0\n1 @1 ok\n2 @2 ok 1\n3 @3 ok 000061\n4 @4 ENOENT\n5 @5 ok 0\n6 @6 ok 000061\n",
+        ),
+        (b"0 mkdir /d\n", 2, b"unbuilt\n"),
+        (b"0 create /a", 2, b"unbuilt\n"),
+        (b"0 write /a 4096 61\n", 2, b"unbuilt\n"),
+    ];
+    for (script, want, text) in rows {
+        let (status, sink, _) = run_on(&rt, alloc, b"run", script, NOTHING)?;
+        assert_eq!(rt; status, want);
+        assert_eq!(rt; sink.bytes(), text);
+    }
+    let (status, sink, _) = run_on(&rt, alloc, b"tree", b"", NOTHING)?;
+    assert_eq!(rt; status, 2);
+    assert_eq!(rt; sink.bytes(), b"words\n".as_slice());
+    Ok(())
+}
+
+#[test]
+fn a_full_medium_is_told(rt: HostRuntime) -> Result<(), Fail> {
+    let alloc = rt.alloc();
+    let mut script = Vec::new(alloc);
+    script.extend_from_slice(b"0 create /a\n")?;
+    for _ in 0..1025 {
+        script.extend_from_slice(b"0 write /a 0 61\n")?;
+    }
+    script.extend_from_slice(b"0 read /a 0 1\n")?;
+    let (status, sink, lines) = run_on(&rt, alloc, b"run", &script, NOTHING)?;
+    assert_eq!(rt; status, 0);
+    assert_eq!(rt; lines, 1027);
+    let end = b"\n1025 @1025 ok 1\n1026 @1026 ENOSPC data\n1027 @1027 ok 61\n".as_slice();
+    assert!(rt; sink.bytes().ends_with(end));
+    Ok(())
+}
+
+#[test]
+fn faults_are_told(rt: HostRuntime) -> Result<(), Fail> {
+    let alloc = rt.alloc();
+    let script =
+        b"0 create /a\n0 write /a 0 61\n0 write /a 0 62\n0 read /a 0 1\n0 read /a 0 1\n".as_slice();
+    // The look at the medium reads its 1024 pages. The second write of the script reads the page of the first.
+    let rows: [(Failing, u8, &[u8], u32); 6] = [
+        (
+            Failing {
+                source: 1,
+                ..NOTHING
+            },
+            3,
+            b"source fault\n",
+            0,
+        ),
+        (Failing { sink: 1, ..NOTHING }, 4, b"", 5),
+        (Failing { read: 3, ..NOTHING }, 5, b"medium fault\n", 0),
+        (
+            Failing {
+                write: 2,
+                ..NOTHING
+            },
+            5,
+            b"opened 0\n1 @1 ok\n2 @2 ok 1\n3 @3 EIO 1\n4 @4 ok 61\n5 @5 ok 61\n",
+            5,
+        ),
+        (
+            Failing {
+                read: 1025,
+                ..NOTHING
+            },
+            5,
+            b"opened 0\n1 @1 ok\n2 @2 ok 1\n3 @3 EIO 1\n4 @4 ok 61\n5 @5 ok 61\n",
+            5,
+        ),
+        (
+            Failing {
+                read: 1026,
+                ..NOTHING
+            },
+            5,
+            b"opened 0\n1 @1 ok\n2 @2 ok 1\n3 @3 ok 1\n4 @4 EIO 1\n5 @5 ok 62\n",
+            5,
+        ),
+    ];
+    for (failing, want, text, answered) in rows {
+        let (status, sink, lines) = run_on(&rt, alloc, b"run", script, failing)?;
+        assert_eq!(rt; status, want);
+        assert_eq!(rt; sink.bytes(), text);
+        assert_eq!(rt; lines, answered);
+    }
+    Ok(())
+}
