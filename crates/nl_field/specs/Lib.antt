@@ -9,6 +9,7 @@ pub mod Inode
 pub mod Journal
 pub mod Live
 pub mod Medium
+pub mod Names
 pub mod Numbers
 pub mod Page
 pub mod Pointers

@@ -1,0 +1,7 @@
+use Rattle.std.proofs.Common.{◌≡◌, ◌*◌, take}
+use Rattle.std.specs.List.{flat_map}
+use Rattle.nl_field.specs.Pointers.{pointer_bytes}
+use Rattle.nl_field.proofs.numbers.put_pointers.Given as goal
+
+abbrev pub invariant-loop-i : goal.invariant-loop-i
+invariant-loop-i l = take (16 * l.i) l.out ≡ flat_map pointer_bytes (take l.i l.from)
