@@ -1,6 +1,7 @@
 -- Lists of bytes, and the numbers that are read from them.
-use Rattle.std.proofs.Common.{◌≡◌, ℕ, ◌+◌, ◌<◌, ◌≤◌, ◌^◌, ◌&&◌, Bool, true, false, List, drop, take, slice_index, get_or, refl, arith}
+use Rattle.std.proofs.Common.{◌≡◌, ℕ, zero, suc, [], ◌∷◌, ◌+◌, ◌<◌, ◌≤◌, ◌^◌, ◌&&◌, Bool, true, false, List, drop, take, slice_index, get_or, refl, arith}
 use Rattle.std.proofs.lemmas.List.{get_or-drop}
+use Rattle.std.specs.List.{list_all}
 use Rattle.std.specs.Prelude.{IsTrue, nat_le, nat_lt, ◌++◌}
 use Rattle.std.proofs.lemmas.Bool.{lt-ltb, ltb-true}
 use Rattle.byteorder.specs.Endian.{little_number}
@@ -36,3 +37,13 @@ u64-back n rest fits = little_number-reads_back 8 n rest fits
 -- a sequence number that is spelled fits its bytes
 pub stamp-fits : (s : ℕ) → IsTrue (is_stamp s) → s < 2 ^ 64
 stamp-fits s spelled = let below = ltb-true s (2 ^ 63) (IsTrue-and_right (nat_le 1 s) (nat_lt s (2 ^ 63)) spelled) in omega arith
+
+-- numbers that fit one by one fit all
+pub all-fit_u32 : (numbers : List ℕ) → ((k : ℕ) → slice_index numbers k < 2 ^ 32) → IsTrue (list_all fits_u32 numbers)
+all-fit_u32 [] each = refl
+all-fit_u32 (n ∷ numbers) each = rw (lt-ltb n (2 ^ 32) (each 0), all-fit_u32 numbers (λ k. each (suc k))) refl
+
+pub all-fit_u32-take : (count : ℕ) (numbers : List ℕ) → ((k : ℕ) → slice_index numbers k < 2 ^ 32) → IsTrue (list_all fits_u32 (take count numbers))
+all-fit_u32-take zero numbers each = refl
+all-fit_u32-take (suc count) [] each = refl
+all-fit_u32-take (suc count) (n ∷ numbers) each = rw (lt-ltb n (2 ^ 32) (each 0), all-fit_u32-take count numbers (λ k. each (suc k))) refl

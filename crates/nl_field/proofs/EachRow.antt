@@ -47,3 +47,12 @@ unfolding each_of
 list_all-each_of read fits width zero bytes each are = refl
 list_all-each_of read fits width (suc n) bytes each are =
     rw (each bytes are, list_all-each_of read fits width n (drop width bytes) each (AreBytes-drop width bytes are)) refl
+
+-- one row more is read
+pub each_of-more : {X : Type 0} (read : List ℕ → X) (width n : ℕ) (bytes : List ℕ) → each_of read width (n + 1) bytes ≡ each_of read width n bytes ++ read (drop (width * n) bytes) ∷ []
+unfolding each_of
+each_of-more read width zero bytes = let none : width * 0 ≡ 0 = omega arith in rw none refl
+each_of-more read width (suc n) bytes =
+    let next : width * suc n ≡ width + width * n = omega arith in
+    let more : suc n + 1 ≡ suc (n + 1) = omega arith in
+    rw (more, each_of-more read width n (drop width bytes), drop-drop (width * n) width bytes, next) refl

@@ -56,7 +56,8 @@ impl AddressList {
 
     /// The addresses.
     pub fn as_slice(&self) -> &[u32]
-        ensures { result.now ≡ self.now }
+        ensures value { result.now ≡ self.now }
+        ensures most { length self.now ≤ 64 }
     {
         &self.items[..self.len as usize]
     }

@@ -1,7 +1,8 @@
-ghost use Rattle.std.specs.Prelude.{◌≡◌, ◌≤◌, ◌+◌, ◌-◌, ◌*◌, ◌++◌, length, take, drop, flat_map, bytes_eq};
+ghost use Rattle.std.specs.Prelude.{◌≡◌, ◌≤◌, ◌+◌, ◌-◌, ◌*◌, ◌++◌, length, take, drop, flat_map, bytes_eq, IsTrue};
+ghost use Rattle.std.specs.List.{list_all};
 ghost use Rattle.nl_field.specs.Bytes.{zeros, all_zero};
-ghost use Rattle.nl_field.specs.Spelling.{u32_bytes, u64_bytes, u32_at, u64_at, u32s};
-ghost use Rattle.nl_field.specs.Pointers.{pointer_bytes, pointers, pointer_fields};
+ghost use Rattle.nl_field.specs.Spelling.{u32_bytes, u64_bytes, u32_at, u64_at, u32s, fits_u32};
+ghost use Rattle.nl_field.specs.Pointers.{pointer_bytes, pointers, pointer_fields, fits_pointer};
 
 use crate::Pointer;
 use byteorder::{ByteOrder, LittleEndian};
@@ -46,7 +47,8 @@ pub fn put_u64(out: &mut [u8], at: usize, n: u64)
 #[tactic(auto, unfolding(crate::specs::Spelling::u32_bytes))]
 pub fn put_u32s(out: &mut [u8], at: usize, numbers: &[u32])
     requires { at + 4 * length numbers.now ≤ length out.old }
-    ensures { out.new ≡ take at out.old ++ flat_map u32_bytes numbers.now ++ drop (at + 4 * length numbers.now) out.old }
+    ensures bytes { out.new ≡ take at out.old ++ flat_map u32_bytes numbers.now ++ drop (at + 4 * length numbers.now) out.old }
+    ensures fits { IsTrue (list_all fits_u32 numbers.now) }
 {
     let end = at + 4 * numbers.len();
     LittleEndian::write_u32_into(numbers, &mut out[at..end]);
@@ -75,17 +77,20 @@ pub fn pointer_from(bytes: &[u8]) -> Pointer
 /// Puts a pointer into the first 16 bytes.
 pub fn put_pointer(out: &mut [u8], pointer: &Pointer)
     requires { 16 ≤ length out.old }
-    ensures { out.new ≡ pointer_bytes pointer.now ++ drop 16 out.old }
+    ensures bytes { out.new ≡ pointer_bytes pointer.now ++ drop 16 out.old }
+    ensures fits { IsTrue (fits_pointer pointer.now) }
 {
-    put_u32(out, 0, pointer.name);
+    let Pointer { name, stamp } = *pointer;
+    put_u32(out, 0, name);
     put_u32(out, 4, 0);
-    put_u64(out, 8, pointer.stamp);
+    put_u64(out, 8, stamp);
 }
 
 /// Puts pointers of 16 bytes each into bytes for exactly as many.
 pub fn put_pointers(out: &mut [u8], from: &[Pointer])
     requires { length out.old ≡ 16 * length from.now }
-    ensures { out.new ≡ flat_map pointer_bytes from.now }
+    ensures bytes { out.new ≡ flat_map pointer_bytes from.now }
+    ensures fits { IsTrue (list_all fits_pointer from.now) }
 {
     for i in 0..from.len() {
         put_pointer(&mut out[16 * i..], &from[i]);
