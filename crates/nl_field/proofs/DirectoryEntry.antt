@@ -28,7 +28,3 @@ entry-reads bytes are = reads-spelled fits_entry is_entry entry_bytes entry_fiel
 pub entry-spelled : (rec : EntryRec) → IsTrue (fits_entry rec) → IsTrue (is_entry rec) → entry_of (entry_bytes rec) ≡ Some rec
 unfolding entry_of
 entry-spelled rec fits spelled = spelled-back is_entry entry_bytes entry_fields rec (entry-back rec fits spelled) spelled
-
--- a length above 55 reads the 55 bytes that there are
-pub capped-name : (bytes : List ℕ) (n : ℕ) → length bytes ≡ 64 → take (min n 55) (drop 9 bytes) ≡ take n (drop 9 bytes)
-capped-name bytes n len = ?
