@@ -1,5 +1,5 @@
 -- Bytes put into a part of a slice, and bytes that are a head and then zeros.
-use Rattle.std.proofs.Common.{◌≡◌, ℕ, zero, suc, ◌+◌, ◌-◌, ◌*◌, ◌==◌, ◌≤◌, ◌&&◌, List, [], ◌∷◌, ◌++◌, length, take, drop, replicate, refl, sym, ap, ◌∙◌, arith}
+use Rattle.std.proofs.Common.{◌≡◌, ℕ, zero, suc, ◌+◌, ◌-◌, ◌*◌, ◌==◌, ◌≤◌, ◌&&◌, List, [], ◌∷◌, ◌++◌, length, length-append, take, drop, replicate, refl, sym, ap, ◌∙◌, arith}
 use Rattle.std.proofs.lemmas.List.{append-nil, append_assoc, drop-drop, drop_all, length-drop, take_rest, take_at}
 use Rattle.std.proofs.lemmas.Bool.Decides.{nat_tests}
 use Rattle.std.proofs.Math.Dec.{eqb-zero-suc, eqb-suc-zero}
@@ -37,3 +37,9 @@ pub put_next : (front old b : List ℕ) (at w : ℕ) → length front ≡ at →
 put_next front old b at w len =
     let past : drop (at + w) (front ++ drop at old) ≡ drop (at + w) old = drop-append-drop at old front (at + w) (omega arith) len in
     rw (past, take_at front (drop at old) at len) refl
+
+-- and over all the others
+pub put_last : (front rest b : List ℕ) (at w : ℕ) → length front ≡ at → length rest ≤ w → take at (front ++ rest) ++ b ++ drop (at + w) (front ++ rest) ≡ front ++ b
+put_last front rest b at w len few =
+    let past : drop (at + w) (front ++ rest) ≡ [] = drop_all (at + w) (front ++ rest) (omega (arith, length-append front rest, len)) in
+    rw (take_at front rest at len, past, append-nil) refl

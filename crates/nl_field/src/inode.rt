@@ -90,7 +90,7 @@ impl InodeRec {
         out[0] = byte_of(self.kind);
         put_u32(&mut out, 4, generation);
         put_u64(&mut out, 8, self.size);
-        put_pointers(&mut out[64..192], &self.direct);
+        put_pointers(&mut out, 64, &self.direct);
         put_u32s(&mut out, 192, &self.addresses);
         out
     }

@@ -86,8 +86,17 @@ pub fn put_pointer(out: &mut [u8], pointer: &Pointer)
     put_u64(out, 8, stamp);
 }
 
-/// Puts pointers of 16 bytes each into bytes for exactly as many.
-pub fn put_pointers(out: &mut [u8], from: &[Pointer])
+/// Puts pointers of 16 bytes each into the bytes from an offset on.
+pub fn put_pointers(out: &mut [u8], at: usize, from: &[Pointer])
+    requires { at + 16 * length from.now ≤ length out.old }
+    ensures bytes { out.new ≡ take at out.old ++ flat_map pointer_bytes from.now ++ drop (at + 16 * length from.now) out.old }
+    ensures fits { IsTrue (list_all fits_pointer from.now) }
+{
+    let end = at + 16 * from.len();
+    fill_pointers(&mut out[at..end], from);
+}
+
+fn fill_pointers(out: &mut [u8], from: &[Pointer])
     requires { length out.old ≡ 16 * length from.now }
     ensures bytes { out.new ≡ flat_map pointer_bytes from.now }
     ensures fits { IsTrue (list_all fits_pointer from.now) }

@@ -3,7 +3,7 @@ use Rattle.std.proofs.lemmas.List.Folds.{list_all_more}
 use Rattle.byteorder.proofs.Slices.{write_step}
 use Rattle.nl_field.specs.Pointers.{no_pointer, pointer_bytes, fits_pointer}
 use Rattle.nl_field.proofs.Widths.{length-pointer_bytes}
-use Rattle.nl_field.proofs.numbers.put_pointers.Goals as goal
+use Rattle.nl_field.proofs.numbers.fill_pointers.Goals as goal
 
 pub loop-i-preserved : goal.loop-i-preserved
 loop-i-preserved c =
