@@ -18,6 +18,7 @@ use Rattle.nl_field.specs.declared.inode.Kind.TheVariants.{Unused, File, Dir}
 use Rattle.nl_field.proofs.AllOf.{all-both, all-weaker}
 use Rattle.nl_field.proofs.AreBytes.{AreBytes, AreBytes-drop, IsTrue-and_left, IsTrue-and_right, fits-u32_at, u32-back, u64-back, stamp-fits}
 use Rattle.nl_field.proofs.EachRow.{each_of-flat_map, list_all-each_of}
+use Rattle.nl_field.proofs.PointerRecord.{is_read_back, pointer-back}
 use Rattle.nl_field.proofs.Reading.{reads-spelled, spelled-back}
 use Rattle.nl_field.proofs.Widths.{length-u32_bytes, length-pointer_bytes, length-rows}
 
@@ -25,24 +26,6 @@ kind-back : (kind : Kind) → kind_of (kind_byte kind) ≡ kind
 kind-back Unused = refl
 kind-back File = refl
 kind-back Dir = refl
-
--- a pointer is read back where its name fits and it is none or has a sequence number that is spelled
-abbrev pub is_read_back : Pointer → Bool
-is_read_back p = fits_pointer p && is_pointer p
-
-stamp-below : (none : Bool) (s : ℕ) → (IsTrue none → s ≡ 0) → IsTrue (none || is_stamp s) → s < 2 ^ 64
-stamp-below true s nought spelled = let e = nought refl in omega arith
-stamp-below false s nought spelled = stamp-fits s spelled
-
-pub pointer-stamp : (p : Pointer) → IsTrue (is_pointer p) → p.stamp < 2 ^ 64
-pointer-stamp p spelled = stamp-below (is_none_pointer p) p.stamp (λ none. eqb-true p.stamp 0 (IsTrue-and_right (p.name == 0) (p.stamp == 0) none)) spelled
-
-pub pointer-back : (p : Pointer) (rest : List ℕ) → IsTrue (is_read_back p) → pointer_fields (pointer_bytes p ++ rest) ≡ p
-unfolding pointer_fields pointer_bytes u32_bytes u64_bytes u32_at u64_at
-pointer-back p rest fits =
-    let n = u32-back p.name (gap 4 ++ u64_bytes p.stamp ++ rest) (IsTrue-and_left (fits_pointer p) (is_pointer p) fits) in
-    let s = u64-back p.stamp rest (pointer-stamp p (IsTrue-and_right (fits_pointer p) (is_pointer p) fits)) in
-    λ i. record { name = n i; stamp = s i }
 
 none-is_pointer : (p : Pointer) → IsTrue (is_none_pointer p) → IsTrue (is_pointer p)
 none-is_pointer p none = rw none refl

@@ -12,6 +12,7 @@ pub mod Medium
 pub mod Names
 pub mod Numbers
 pub mod Page
+pub mod PointerItems
 pub mod Pointers
 pub mod Scan
 pub mod Space

@@ -160,7 +160,7 @@ fn are_none(pointers: &[Pointer]) -> bool
     ensures { result ≡ list_all is_none_pointer pointers.now }
 {
     for pointer in pointers {
-        if !is_none(pointer) {
+        if !pointer.is_none() {
             return false;
         }
     }
@@ -171,23 +171,11 @@ fn are_pointers(pointers: &[Pointer]) -> bool
     ensures { result ≡ list_all is_pointer pointers.now }
 {
     for pointer in pointers {
-        if !is_spelled(pointer) {
+        if !pointer.is_spelled() {
             return false;
         }
     }
     true
-}
-
-fn is_none(pointer: &Pointer) -> bool
-    ensures { result ≡ is_none_pointer pointer.now }
-{
-    pointer.name == 0 && pointer.stamp == 0
-}
-
-fn is_spelled(pointer: &Pointer) -> bool
-    ensures { result ≡ is_pointer pointer.now }
-{
-    is_none(pointer) || 1 <= pointer.stamp && pointer.stamp < 1 << 63
 }
 
 fn are_zero(numbers: &[u32]) -> bool
