@@ -9,6 +9,7 @@ mod fail_list;
 mod findings;
 mod header;
 mod inode;
+pub mod laws;
 mod name;
 mod numbers;
 mod page_buf;
@@ -19,6 +20,8 @@ pub mod rows;
 mod shape;
 mod spare;
 mod super_page;
+#[cfg(test)]
+mod tests;
 mod text;
 
 pub use address_list::AddressList;
