@@ -1,5 +1,5 @@
 -- Tests of all items of a list.
-use Rattle.std.proofs.Common.{◌≡◌, ◌&&◌, ◌∷◌, [], Bool, true, List, refl}
+use Rattle.std.proofs.Common.{◌&&◌, ◌∷◌, [], Bool, List, refl}
 use Rattle.std.specs.List.{list_all}
 use Rattle.std.specs.Prelude.{IsTrue}
 use Rattle.nl_field.proofs.AreBytes.{IsTrue-and_left, IsTrue-and_right}

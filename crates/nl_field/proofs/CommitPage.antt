@@ -1,5 +1,5 @@
 -- The commit page is read back from its bytes.
-use Rattle.std.proofs.Common.{◌≡◌, ◌++◌, List, ℕ, Some, refl, length}
+use Rattle.std.proofs.Common.{◌≡◌, List, ℕ, Some, refl, length}
 use Rattle.std.specs.Prelude.{IsTrue}
 use Rattle.nl_field.specs.Bytes.{zeros}
 use Rattle.nl_field.specs.Spelling.{u64_bytes, u64_at, Reads}

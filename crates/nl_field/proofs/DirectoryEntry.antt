@@ -1,6 +1,6 @@
 -- An entry is read back from its bytes, and what is read fits its fields.
-use Rattle.std.proofs.Common.{◌≡◌, ◌&&◌, ◌++◌, ◌-◌, ◌≤◌, ◌∷◌, [], min, List, ℕ, Some, refl, sym, ap, ◌∙◌, length, take, drop, replicate, slice_index, arith}
-use Rattle.std.proofs.lemmas.List.{take_at, take_all, length-drop}
+use Rattle.std.proofs.Common.{◌≡◌, ◌++◌, ◌-◌, ◌∷◌, List, ℕ, Some, refl, length, replicate}
+use Rattle.std.proofs.lemmas.List.{take_at}
 use Rattle.std.specs.Prelude.{IsTrue}
 use Rattle.nl_field.specs.Spelling.{u32_bytes, u32_at, fits_u32, Reads}
 use Rattle.nl_field.specs.EntryRecord.{entry_bytes, entry_fields, entry_of, is_entry, fits_entry}

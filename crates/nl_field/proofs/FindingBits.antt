@@ -1,5 +1,5 @@
 -- Each finding has a bit of its own.
-use Rattle.std.proofs.Common.{◌≡◌, ◌==◌, ◌∙◌, ℕ, true, refl, ap}
+use Rattle.std.proofs.Common.{◌≡◌, ◌==◌, ℕ, true, refl, ap}
 use Rattle.std.specs.Prelude.{◌≢◌}
 use Rattle.std.specs.Int.RustNames.{bit_and, bit_or}
 use Rattle.std.proofs.lemmas.Bool.{eq-eqb}

@@ -1,11 +1,10 @@
 -- The spare record is read back from its bytes, and what is read fits its fields.
 use Rattle.std.proofs.Common.{◌≡◌, ◌&&◌, ◌==◌, ◌++◌, Bool, true, false, List, ℕ, Some, refl, slice_index}
 use Rattle.std.specs.Prelude.{IsTrue, if◌then◌else◌}
-use Rattle.nl_field.specs.Spelling.{u32_bytes, u64_bytes, u32_at, u64_at, gap, fits_u32, is_stamp, Reads}
+use Rattle.nl_field.specs.Spelling.{u32_bytes, u64_bytes, u32_at, u64_at, gap, fits_u32, Reads}
 use Rattle.nl_field.specs.SpareRecord.{spare_bytes, spare_fields, spare_rec_of, is_spare, fits_spare}
 use Rattle.nl_field.specs.declared.spare.SpareRec.{SpareRec}
 use Rattle.nl_field.specs.declared.spare.SpareRec.TheVariants.{Virtual, Physical}
-use Rattle.nl_field.specs.declared.pointer.Tag.{Tag}
 use Rattle.nl_field.proofs.AreBytes.{AreBytes, IsTrue-and_left, IsTrue-and_right, fits-u32_at, u32-back, u64-back, stamp-fits}
 use Rattle.nl_field.proofs.Reading.{reads-spelled, spelled-back}
 

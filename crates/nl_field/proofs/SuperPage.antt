@@ -1,5 +1,5 @@
 -- The super page is read back from its bytes, and what is read fits its fields.
-use Rattle.std.proofs.Common.{◌≡◌, ◌==◌, ◌&&◌, ◌++◌, ◌<◌, ◌^◌, List, ℕ, Some, refl, length, arith}
+use Rattle.std.proofs.Common.{◌≡◌, ◌==◌, ◌++◌, ◌<◌, ◌^◌, List, ℕ, Some, refl, length, arith}
 use Rattle.std.proofs.lemmas.Bool.{eqb-true, ltb-true}
 use Rattle.std.specs.Prelude.{IsTrue, nat_lt}
 use Rattle.nl_field.specs.Bytes.{zeros}

@@ -1,4 +1,4 @@
-use Rattle.std.proofs.Common.{◌≡◌, ◌∙◌, ◌*◌, ap, length, drop, refl, sym, arith}
+use Rattle.std.proofs.Common.{◌∙◌, ap, length, sym, arith}
 use Rattle.nl_field.specs.Spelling.{each_of, u32_at}
 use Rattle.nl_field.proofs.EachRow.{each_of-more, length-each_of}
 use Rattle.nl_field.proofs.header.addresses_from.Goals as goal

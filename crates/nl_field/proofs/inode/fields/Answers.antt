@@ -1,4 +1,3 @@
-use Rattle.std.proofs.Common.{◌≡◌}
 use Rattle.std.proofs.lemmas.List.{take_rest}
 use Rattle.nl_field.specs.Inode.{inode_fields}
 use Rattle.nl_field.proofs.inode.fields.Goals as goal

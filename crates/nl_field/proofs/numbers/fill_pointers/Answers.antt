@@ -1,4 +1,4 @@
-use Rattle.std.proofs.Common.{◌≡◌, ◌*◌, ◌+◌, arith, length, refl}
+use Rattle.std.proofs.Common.{◌≡◌, ◌*◌, ◌+◌, arith, refl}
 use Rattle.std.proofs.lemmas.List.Folds.{list_all_more}
 use Rattle.byteorder.proofs.Slices.{write_step}
 use Rattle.nl_field.specs.Pointers.{no_pointer, pointer_bytes, fits_pointer}

@@ -1,4 +1,4 @@
-use Rattle.std.proofs.Common.{◌≡◌, ◌++◌, drop, refl, arith, ◌∙◌, ap}
+use Rattle.std.proofs.Common.{◌≡◌, ◌++◌, drop, refl, ◌∙◌}
 use Rattle.nl_field.specs.Spelling.{u32_bytes, u64_bytes}
 use Rattle.nl_field.specs.Pointers.{pointer_bytes}
 use Rattle.nl_field.proofs.Placing.{put_next}

@@ -1,4 +1,3 @@
-use Rattle.std.proofs.Common.{◌≡◌}
 use Rattle.nl_field.specs.Spelling.{u64_bytes}
 use Rattle.nl_field.proofs.Placing.{put_from}
 use Rattle.nl_field.proofs.numbers.put_u64.Goals as goal

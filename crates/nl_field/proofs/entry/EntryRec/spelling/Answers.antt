@@ -1,4 +1,4 @@
-use Rattle.std.proofs.Common.{◌≡◌, ◌++◌, ◌+◌, ◌-◌, ◌∷◌, ℕ, List, length, drop, replicate, refl, ap, arith}
+use Rattle.std.proofs.Common.{◌≡◌, ◌++◌, ◌+◌, ◌-◌, ◌∷◌, ℕ, List, length, drop, replicate, ap, arith}
 use Rattle.std.proofs.lemmas.List.{drop-replicate}
 use Rattle.nl_field.specs.Spelling.{u32_bytes}
 use Rattle.nl_field.specs.EntryRecord.{entry_bytes}

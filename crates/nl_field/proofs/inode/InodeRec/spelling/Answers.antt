@@ -1,4 +1,4 @@
-use Rattle.std.proofs.Common.{◌≡◌, ◌++◌, ◌+◌, ◌*◌, ◌∙◌, ◌∷◌, ◌≤◌, [], List, ℕ, length, length-append, take, drop, refl, ap, arith}
+use Rattle.std.proofs.Common.{◌≡◌, ◌++◌, ◌+◌, ◌*◌, ◌∙◌, ◌∷◌, List, ℕ, length, length-append, refl, ap, arith}
 use Rattle.std.specs.List.{flat_map}
 use Rattle.nl_field.specs.Spelling.{u32_bytes, u64_bytes, gap}
 use Rattle.nl_field.specs.Pointers.{pointer_bytes}

@@ -1,4 +1,3 @@
-use Rattle.std.proofs.Common.{refl}
 use Rattle.nl_field.specs.SuperPage.{super_bytes}
 use Rattle.nl_field.proofs.SuperPage.{length-super_head, super-spelled}
 use Rattle.nl_field.proofs.super_page.SuperRec.into_page.Goals as goal
