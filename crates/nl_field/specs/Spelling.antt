@@ -35,9 +35,6 @@ gap n = replicate n 0
 abbrev pub fits_u32 : ℕ → Bool
 fits_u32 n = nat_lt n (2 ^ 32)
 
-abbrev pub fits_u64 : ℕ → Bool
-fits_u64 n = nat_lt n (2 ^ 64)
-
 -- a write sequence number that is spelled: from 1, below 2^63
 abbrev pub is_stamp : ℕ → Bool
 is_stamp s = nat_le 1 s && nat_lt s (2 ^ 63)
