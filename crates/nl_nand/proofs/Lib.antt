@@ -1,0 +1,6 @@
+pub mod Cells
+pub mod Fresh
+pub mod Left
+pub mod Notes
+pub mod Operations
+pub mod Restarts
