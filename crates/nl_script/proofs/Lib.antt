@@ -1,3 +1,4 @@
 pub mod Splits
 pub mod Digits
 pub mod Placed
+pub mod Steps

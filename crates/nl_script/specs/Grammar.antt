@@ -154,5 +154,5 @@ bytes_say line =
     else if is_comment words then Ok Nothing
     else control_or (position is_control line) (words_say (length line + 1) words)
 
-abbrev pub line_says : List ℕ → Result Said Fault
+unfoldable pub line_says : List ℕ → Result Said Fault
 line_says raw = bytes_say (without_return raw)

@@ -2,3 +2,4 @@ pub mod Words
 pub mod Spellings
 pub mod Grammar
 pub mod Script
+pub mod Reading

@@ -6,7 +6,8 @@ use Rattle.nl_tree.specs.declared.call.Line.{Line}
 use Rattle.nl_script.specs.declared.refusal.ScriptRefusal.{ScriptRefusal}
 use Rattle.nl_script.specs.declared.refusal.ScriptRefusal.TheVariants.{Refused}
 use Rattle.nl_script.specs.declared.said.Said.TheVariants.{Nothing, Barrier, CallOf}
-use Rattle.nl_script.specs.declared.why.Why.TheVariants.{Size, Lines, Total}
+use Rattle.nl_script.specs.declared.why.Why.{Why}
+use Rattle.nl_script.specs.declared.why.Why.TheVariants.{Size, Lines as LinesCause, Total}
 use Rattle.nl_script.specs.Grammar.{line_says}
 use Rattle.nl_script.specs.Spellings.{max_bytes}
 use Rattle.nl_script.specs.Words.{lines_of}
@@ -32,7 +33,15 @@ max_calls = 1000000
 abbrev pub max_total : ℕ
 max_total = 268435456
 
--- The lines from number n on, in an epoch between barriers, after so many calls whose read lengths have that sum.
+-- the sum of the read lengths with one more call, behind so many calls with that sum, or why it is one too many
+unfoldable pub counted : ℕ → ℕ → Call → Result ℕ Why
+counted calls total made =
+    let sum = total + read_length made in
+    if nat_le max_calls calls then Err LinesCause
+    else if nat_lt max_total sum then Err Total
+    else Ok sum
+
+-- The lines from number n on, in an epoch between barriers, behind so many calls whose read lengths have that sum.
 unfoldable pub lines_from : ℕ → ℕ → ℕ → ℕ → List (List ℕ) → Result (List Line) ScriptRefusal
 lines_from n round calls total [] = Ok []
 lines_from n round calls total (raw ∷ rest) =
@@ -41,10 +50,10 @@ lines_from n round calls total (raw ∷ rest) =
       | Ok Nothing ↦ lines_from (n + 1) round calls total rest
       | Ok Barrier ↦ lines_from (n + 1) (round + 1) calls total rest
       | Ok (CallOf worker made) ↦
-          let sum = total + read_length made in
-          if nat_le max_calls calls then Err (Refused n 1 Lines)
-          else if nat_lt max_total sum then Err (Refused n 1 Total)
-          else line_before (record { line = n; round = round; worker = worker; call = made }) (lines_from (n + 1) round (calls + 1) sum rest)
+          elim (counted calls total made) [
+            | Err why ↦ Err (Refused n 1 why)
+            | Ok sum ↦ line_before (record { line = n; round = round; worker = worker; call = made }) (lines_from (n + 1) round (calls + 1) sum rest)
+          ]
     ]
 
 -- Lines are numbered from 1, and epochs from 0 by the barriers before.

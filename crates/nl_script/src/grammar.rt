@@ -381,6 +381,7 @@ fn bytes_say(alloc: Global, line: &[u8]) -> Result<Result<Said, Fault>, Memory>
 }
 
 // What a line says that may end with a carriage return.
+#[tactic(auto, unfolding(crate::specs::Grammar::line_says))]
 pub(crate) fn line_says(alloc: Global, raw: &[u8]) -> Result<Result<Said, Fault>, Memory>
     ensures said { IfOk result (λ r. r ≡ says.line_says raw.now) }
     ensures worker { IfOk result (λ r. IfOk r says.HasWorker) }

@@ -5,6 +5,7 @@ mod command;
 mod cut;
 mod fault;
 mod grammar;
+mod reading;
 mod refusal;
 pub mod rows;
 mod said;
@@ -14,5 +15,5 @@ mod why;
 mod words;
 
 pub use refusal::ScriptRefusal;
-//pub use script::script_of;
+pub use script::script_of;
 pub use why::Why;

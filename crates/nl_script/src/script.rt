@@ -1,20 +1,15 @@
-ghost use Rattle.std.specs.Prelude.{◌≡◌, ◌<◌, ◌≤◌, ◌+◌, ◌^◌, ◌∷◌, ◌++◌, [], length, All, IfOk, IfErr, OnOk, OnErr, ◌⊎◌, Ok, Err};
-ghost use Rattle.nl_script.specs.Script as spec;
+ghost use Rattle.std.specs.Prelude.{◌≡◌, ◌<◌, ◌∷◌, length, IfOk, IfErr, ◌⊎◌, Ok, Err};
+ghost use Rattle.nl_script.specs.Script.{script};
 ghost use Rattle.nl_script.specs.Words.{lines_of};
+ghost use Rattle.nl_script.specs.declared.refusal.ScriptRefusal.TheVariants.{Memory as OutOfMemory};
 
 use crate::cut::cut;
-use crate::grammar::line_says;
-use crate::said::Said;
+use crate::reading::{Place, read_line};
 use crate::{ScriptRefusal, Why};
-use nl_field::Memory;
-use nl_tree::{Call, Line, Lines};
+use nl_tree::Lines;
 use std::alloc::Global;
 
 const MAX_SCRIPT: usize = 16777216;
-
-const MAX_CALLS: u32 = 1000000;
-
-const MAX_TOTAL: u64 = 268435456;
 
 // The first line, and the bytes behind its line feed.
 fn first_line(rest: &[u8]) -> (&[u8], &[u8])
@@ -29,13 +24,30 @@ fn first_line(rest: &[u8]) -> (&[u8], &[u8])
     }
 }
 
-fn read_length(call: &Call) -> u32
-    ensures { result ≡ spec.read_length call.now }
+/// The lines of a script. A refusal names the first line at fault with its column and cause. `Memory` is answered only
+/// where memory runs out.
+pub fn script_of(alloc: Global, bytes: &[u8]) -> Result<Lines, ScriptRefusal>
+    ensures lines { IfOk result (λ lines. script bytes.now ≡ Ok lines) }
+    ensures refusal { IfErr result (λ e. (e ≡ OutOfMemory) ⊎ (script bytes.now ≡ Err e)) }
 {
-    match call {
-        Call::Read(_, _, count) => *count,
-        Call::List(_) => 65536,
-        _ => 0,
+    if bytes.len() > MAX_SCRIPT {
+        return Err(ScriptRefusal::Refused {
+            line: 0,
+            column: 0,
+            why: Why::Size,
+        });
     }
+    let mut lines = Lines::new(alloc);
+    let mut at = Place {
+        number: 0,
+        round: 0,
+        total: 0,
+    };
+    let mut rest = bytes;
+    'script: while !rest.is_empty() {
+        let (line, after) = first_line(rest);
+        at = read_line(alloc, line, at, &mut lines)?;
+        rest = after;
+    }
+    Ok(lines)
 }
-
