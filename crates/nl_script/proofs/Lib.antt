@@ -1,3 +1,4 @@
+pub mod OnLiterals
 pub mod Splits
 pub mod Digits
 pub mod Placed

@@ -3,3 +3,4 @@ pub mod Spellings
 pub mod Grammar
 pub mod Script
 pub mod Reading
+pub mod Causes

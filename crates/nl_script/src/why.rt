@@ -1,3 +1,6 @@
+ghost use Rattle.std.specs.Prelude.{◌≡◌};
+ghost use Rattle.nl_script.specs.Causes.{cause_word};
+
 /// Why a script is refused.
 #[derive(Clone, Copy, Debug, PartialEq, Eq)]
 pub enum Why {
@@ -20,4 +23,26 @@ pub enum Why {
     Lines,
     /// The sum of the read lengths exceeds 268,435,456.
     Total,
+}
+
+impl Why {
+    /// The word that is printed for the cause.
+    pub fn word(self) -> &'static [u8]
+        ensures word { result.now ≡ cause_word self }
+    {
+        match self {
+            Why::Size => b"size",
+            Why::Long => b"long",
+            Why::Byte => b"byte",
+            Why::Worker => b"worker",
+            Why::Command => b"command",
+            Why::Path => b"path",
+            Why::Number => b"number",
+            Why::Hex => b"hex",
+            Why::Missing => b"missing",
+            Why::Extra => b"extra",
+            Why::Lines => b"lines",
+            Why::Total => b"total",
+        }
+    }
 }
