@@ -30,7 +30,10 @@ fn at<T: Drop>(column: u32, spelled: Result<T, Why>) -> Result<T, Fault>
 fn missing<T: Drop>(after: u32) -> Result<T, Fault>
     ensures { result ≡ says.refused after Missing }
 {
-    Err(Fault { column: after, why: Why::Missing })
+    Err(Fault {
+        column: after,
+        why: Why::Missing,
+    })
 }
 
 #[tactic(auto, unfolding(crate::specs::Grammar::read))]
@@ -113,7 +116,10 @@ fn no_more(words: &mut Words<'_>) -> Result<(), Fault>
 {
     match words.next() {
         None => Ok(()),
-        Some(word) => Err(Fault { column: word.column(), why: Why::Extra }),
+        Some(word) => Err(Fault {
+            column: word.column(),
+            why: Why::Extra,
+        }),
     }
 }
 
@@ -154,11 +160,7 @@ fn rename_of(
 }
 
 #[tactic(auto, unfolding(crate::specs::Grammar::write_of))]
-fn write_of(
-    alloc: Global,
-    words: &mut Words<'_>,
-    after: u32,
-) -> Result<Result<Call, Fault>, Memory>
+fn write_of(alloc: Global, words: &mut Words<'_>, after: u32) -> Result<Result<Call, Fault>, Memory>
     ensures { IfOk result (λ r. r ≡ says.write_of after words.old) }
 {
     let path = match read_path(alloc, words, after)? {
@@ -180,11 +182,7 @@ fn write_of(
 }
 
 #[tactic(auto, unfolding(crate::specs::Grammar::fill_of))]
-fn fill_of(
-    alloc: Global,
-    words: &mut Words<'_>,
-    after: u32,
-) -> Result<Result<Call, Fault>, Memory>
+fn fill_of(alloc: Global, words: &mut Words<'_>, after: u32) -> Result<Result<Call, Fault>, Memory>
     ensures { IfOk result (λ r. r ≡ says.fill_of after words.old) }
 {
     let path = match read_path(alloc, words, after)? {
@@ -210,11 +208,7 @@ fn fill_of(
 }
 
 #[tactic(auto, unfolding(crate::specs::Grammar::read_of))]
-fn read_of(
-    alloc: Global,
-    words: &mut Words<'_>,
-    after: u32,
-) -> Result<Result<Call, Fault>, Memory>
+fn read_of(alloc: Global, words: &mut Words<'_>, after: u32) -> Result<Result<Call, Fault>, Memory>
     ensures { IfOk result (λ r. r ≡ says.read_of after words.old) }
 {
     let path = match read_path(alloc, words, after)? {
@@ -365,7 +359,9 @@ fn bytes_say(alloc: Global, line: &[u8]) -> Result<Result<Said, Fault>, Memory>
     }
     let mut words = Words::of(line);
     let first = words.next();
-    if let Some(word) = &first && is_comment(word) {
+    if let Some(word) = &first
+        && is_comment(word)
+    {
         return Ok(Ok(Said::Nothing));
     }
     if let Some(at) = control_at(line) {

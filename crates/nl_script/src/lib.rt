@@ -11,6 +11,8 @@ pub mod rows;
 mod said;
 mod script;
 mod spelling;
+#[cfg(test)]
+mod tests;
 mod why;
 mod words;
 
