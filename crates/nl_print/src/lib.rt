@@ -7,7 +7,10 @@ mod findings;
 mod line;
 mod path;
 mod report;
+pub mod rows;
 mod status;
+#[cfg(test)]
+mod tests;
 mod word;
 
 pub use answer::answer_line;
