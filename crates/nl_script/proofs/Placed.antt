@@ -2,7 +2,7 @@
 use Rattle.std.proofs.Common.{◌≡◌, ℕ, ◌+◌, ◌<◌, List, [], ◌∷◌, length, refl, sym, ◌∙◌, ap, arith}
 use Rattle.std.specs.Prelude.{◌==◌}
 use Rattle.std.proofs.lemmas.List.Splits.{length-slice_split}
-use Rattle.nl_script.specs.Words.{Word, parts, with_part, placed, words_from, without_last_empty, lines_of}
+use Rattle.nl_script.specs.Words.{parts, with_part, placed, words_from, without_last_empty, lines_of}
 
 -- a space behind the first part
 pub words-cut : (column : ℕ) (bytes part after : List ℕ) → parts 32 bytes ≡ part ∷ parts 32 after → words_from column bytes ≡ with_part column part (words_from (column + length part + 1) after)

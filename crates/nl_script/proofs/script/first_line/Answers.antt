@@ -1,4 +1,4 @@
-use Rattle.std.proofs.Common.{[], length, rules, refl, arith}
+use Rattle.std.proofs.Common.{[], rules, refl}
 use Rattle.nl_script.proofs.Placed.{lines-cut, lines-end}
 use Rattle.nl_script.proofs.script.first_line.Goals as goal
 

@@ -1,7 +1,6 @@
-use Rattle.std.proofs.Common.{◌≡◌, ◌≤◌, length, sym, ◌∙◌, inr, refl, arith, rules}
-use Rattle.std.proofs.lemmas.Grind.{common_steps}
+use Rattle.std.proofs.Common.{sym, ◌∙◌, inr, arith, rules}
 use Rattle.std.proofs.lemmas.Bool.Decides.{nat_tests}
-use Rattle.nl_script.specs.Script.{script, lines_from}
+use Rattle.nl_script.specs.Script.{script}
 use Rattle.nl_script.specs.Words.{lines_of}
 use Rattle.nl_script.proofs.Placed.{lines-none}
 use Rattle.nl_script.proofs.Steps.{at-start, at-end}
