@@ -1,7 +1,7 @@
-use Rattle.std.proofs.Common.{◌≡◌, ℕ, ◌+◌, List, ◌∷◌, ◌++◌, drop, subst, sym, ◌∙◌, le_trans, arith}
+use Rattle.std.proofs.Common.{ℕ, ◌+◌, List, ◌∷◌, ◌++◌, drop, subst, sym, ◌∙◌, le_trans}
 use Rattle.nl_io.specs.Streams.{Writes}
 use Rattle.nl_io.specs.declared.sink.SinkAnswer.TheVariants as sink
-use Rattle.nl_print.specs.Texts.{slashed, path_text}
+use Rattle.nl_print.specs.Texts.{slashed}
 use Rattle.nl_print.proofs.Names.{next_name, slashed_split, slashed_end, path_is}
 use Rattle.nl_print.proofs.Written.{then_write, stopped}
 use Rattle.nl_print.proofs.path.write_path.Goals as goal

@@ -1,7 +1,7 @@
-use Rattle.std.proofs.Common.{◌≡◌, ℕ, List, [], ◌∷◌, ◌++◌, ◌∙◌, ap, subst}
+use Rattle.std.proofs.Common.{ℕ, List, [], ◌∷◌, ◌++◌, ◌∙◌, ap, subst}
 use Rattle.std.specs.Prelude.{codes}
 use Rattle.nl_io.specs.Streams.{Writes}
-use Rattle.nl_print.specs.Texts.{field, formatted_text}
+use Rattle.nl_print.specs.Texts.{field}
 use Rattle.nl_print.proofs.Fields.{six_from_none}
 use Rattle.nl_print.proofs.report.formatted_line.Goals as goal
 
