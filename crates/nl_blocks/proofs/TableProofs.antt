@@ -1,14 +1,13 @@
 -- Facts about the table of blocks.
-use Rattle.std.proofs.Common.{◌≡◌, ℕ, suc, zero, ◌+◌, ◌-◌, ◌*◌, ◌/◌, ◌%◌, ◌^◌, ◌<◌, ◌≤◌, ◌⊎◌, inl, inr, ⊎_elim, ◌↔◌, Bool, true, false, cond, List, [], ◌∷◌, length, get_or, set, take, All, Option, Some, None, IsNone, IfNone, IfSome, refl, sym, ◌∙◌, ap, subst, arith}
+use Rattle.std.proofs.Common.{◌≡◌, ℕ, suc, zero, ◌+◌, ◌-◌, ◌*◌, ◌/◌, ◌^◌, ◌<◌, ◌≤◌, Bool, true, false, cond, List, [], ◌∷◌, length, get_or, set, Option, Some, None, IfNone, IfSome, refl, sym, ◌∙◌, arith}
 use Rattle.std.specs.List.{count_by}
 use Rattle.std.proofs.Math.Nat.{le-mul_of_pos_right}
 use Rattle.std.proofs.lemmas.Nat.{div-mul-add, mod-mul-add}
-use Rattle.std.proofs.lemmas.Bool.{cases_lt, cases_order, false≢true}
 use Rattle.std.proofs.lemmas.List.{length-set, get_or_default}
 use Rattle.std.proofs.lemmas.List.Sums.{count_by-le-length, sum_by-cons, sum_by-set}
 use Rattle.nl_blocks.specs.declared.states.Page.{Page}
-use Rattle.nl_blocks.specs.declared.states.PageState.TheVariants.{Dead, Live}
-use Rattle.nl_blocks.specs.Table.{BlockRow, Table, IsTable, IsRow, HasBlock, block_at, page_at, new_page, row_at, no_row, is_dead, NonePass, IsFirstLeast, BestOf}
+use Rattle.nl_blocks.specs.declared.states.PageState.TheVariants.{Live}
+use Rattle.nl_blocks.specs.Table.{BlockRow, Table, IsTable, HasBlock, block_at, page_at, new_page, row_at, no_row, is_dead, NonePass, BestOf}
 
 -- the number of blocks is a u32
 pub count_fits : (t : Table) → IsTable t → t.first + length t.blocks < 2 ^ 32

@@ -1,5 +1,5 @@
 -- Which block the cleaner takes.
-use Rattle.std.specs.Prelude.{◌≡◌, ℕ, ◌+◌, ◌-◌, ◌<◌, ◌≤◌, true, Option, MatchOption}
+use Rattle.std.specs.Prelude.{◌≡◌, ℕ, ◌+◌, ◌<◌, ◌≤◌, true}
 use Rattle.nl_blocks.specs.Table.{Table, HasBlock, block_at, dead_count, is_sealed, wear_of}
 
 abbrev pub IsSealed : Table → ℕ → Type 0
@@ -21,27 +21,3 @@ pub record IsColdest (t : Table) (block : ℕ) : Type 0 where
 -- no block of the table exceeds this wear by 16 or more
 abbrev pub IsLevel : Table → ℕ → Type 0
 IsLevel t wear = (block : ℕ) → HasBlock t block → wear_of (block_at t block) < wear + 16
-
--- what a search of the blocks below `end` has found
-pub record IsMostDeadBelow (t : Table) (end block : ℕ) : Type 0 where
-  pub below : block < end
-  pub sealed : IsSealed t block
-  pub some : 0 < dead_count (block_at t block)
-  pub most : (other : ℕ) → IsSealed t other → other < end → dead_count (block_at t other) ≤ dead_count (block_at t block)
-  pub first : (other : ℕ) → IsSealed t other → other < block → dead_count (block_at t other) < dead_count (block_at t block)
-
-abbrev pub MostDeadBelow : Table → ℕ → Option ℕ → Type 0
-MostDeadBelow t end best = MatchOption best ((other : ℕ) → IsSealed t other → other < end → dead_count (block_at t other) ≡ 0) (IsMostDeadBelow t end)
-
-pub record IsColdestBelow (t : Table) (end block : ℕ) : Type 0 where
-  pub below : block < end
-  pub sealed : IsSealed t block
-  pub least : (other : ℕ) → IsSealed t other → other < end → wear_of (block_at t block) ≤ wear_of (block_at t other)
-  pub first : (other : ℕ) → IsSealed t other → other < block → wear_of (block_at t block) < wear_of (block_at t other)
-
-abbrev pub ColdestBelow : Table → ℕ → Option ℕ → Type 0
-ColdestBelow t end best = MatchOption best ((other : ℕ) → IsSealed t other → other < end → ⊥) (IsColdestBelow t end)
-
-pub record WornBelow (t : Table) (end block : ℕ) : Type 0 where
-  pub has : HasBlock t block
-  pub most : (other : ℕ) → HasBlock t other → other < end → wear_of (block_at t other) ≤ wear_of (block_at t block)

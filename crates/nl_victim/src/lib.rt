@@ -3,7 +3,8 @@
 
 ghost use Rattle.std.specs.Prelude.{◌≡◌, ℕ, ◌+◌, ◌-◌, ◌<◌, ◌≤◌, IfSome, IfNone};
 ghost use Rattle.nl_blocks.specs.Table.{HasBlock, block_at, dead_count, wear_of};
-ghost use Rattle.nl_victim.specs.Victims.{IsColdest, IsLevel, IsMostDead, IsSealed, MostDeadBelow, ColdestBelow, WornBelow};
+ghost use Rattle.nl_victim.specs.Search.{ColdestBelow, MostDeadBelow, WornBelow};
+ghost use Rattle.nl_victim.specs.Victims.{IsColdest, IsLevel, IsMostDead, IsSealed};
 
 use nl_blocks::{BlockState, Blocks};
 
@@ -109,3 +110,6 @@ fn worn(blocks: &Blocks, most: u32, block: u32) -> u32
         most
     }
 }
+
+#[cfg(test)]
+mod tests;

@@ -1,5 +1,5 @@
 use Rattle.std.proofs.Common.{◌+◌}
-use Rattle.nl_victim.specs.Victims.{ColdestBelow}
+use Rattle.nl_victim.specs.Search.{ColdestBelow}
 use Rattle.nl_victim.proofs.coldest.Given as goal
 
 abbrev pub invariant-loop-i : goal.invariant-loop-i
