@@ -1,0 +1,7 @@
+pub mod Histories
+pub mod Views
+pub mod Moves
+pub mod TurnSteps
+pub mod Ends
+pub mod Seating
+pub mod BetweenCalls
