@@ -53,8 +53,11 @@ abbrev pub fault_of : FaultMark → Option FaultReply
 fault_of NoFault = None
 fault_of (Fault fault) = Some fault
 
+abbrev pub line_at : List Line → ℕ → Option Line
+line_at lines n = find (λ line. line.line == n) lines
+
 abbrev pub call_at : List Line → ℕ → Option Call
-call_at lines n = option_map (λ line. line.call) (find (λ line. line.line == n) lines)
+call_at lines n = option_map (λ line. line.call) (line_at lines n)
 
 -- the call whose effect an entry was
 abbrev pub call_of : Opening → Entry → Option Call

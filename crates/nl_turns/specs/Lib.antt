@@ -1,4 +1,5 @@
 pub mod History
+pub mod Served
 pub mod Seat
 pub mod View
 pub mod Rule

@@ -8,8 +8,6 @@ use Rattle.nl_turns.specs.Seat.{Passed, passed_by, by_seat, longer, NoneBeyond, 
 use Rattle.nl_turns.specs.View.{Role, idle, waits, enters, inside, leaves, hosts, spent, View}
 use Rattle.nl_turns.specs.Rule.{HostFits}
 use Rattle.nl_turns.specs.declared.entry.Entry.{Entry}
-use Rattle.nl_turns.specs.declared.entry.FaultMark.TheVariants.{NoFault}
-use Rattle.nl_turns.specs.declared.entry.SyncMark.TheVariants.{NoSync}
 
 -- ---- the view after each step
 
@@ -89,10 +87,6 @@ module _ {V : Type 0} where
   -- the first seat is at rest again, and knows how the two histories belong together, and that it has few places
   abbrev pub settles : Step (Option V) → Me (Option V) View → ℕ → Me (Option V) View → Type 0
   settles st m n m' = (m' ≡ (record m.0 { role = idle }, m.1)) × HostFits m.0 m.0.role × (m.0.number ≡ 0 → m.0.places + 1 ≤ 10) × IsTold m.0 m.0.seen
-
--- an entry that says nothing
-abbrev pub no_entry : Entry
-no_entry = record { line = 0; staged = 0; more = false; fault = NoFault; synced = NoSync }
 
 -- ---- the seat between calls
 

@@ -45,9 +45,9 @@ pub(crate) trait Says {
 }
 
 impl Says for Brand {
-    ghost use Rattle.nl_turns.specs.Steps.{no_entry};
+    ghost use Rattle.nl_turns.specs.Served.{duty_entry};
 
-    ghost entry = { no_entry };
+    ghost entry = { duty_entry };
 }
 
 pub(crate) struct Add<E> {
