@@ -1,3 +1,4 @@
+pub mod OnLiterals
 pub mod Histories
 pub mod Views
 pub mod Moves

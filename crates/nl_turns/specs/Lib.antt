@@ -4,3 +4,4 @@ pub mod Seat
 pub mod View
 pub mod Rule
 pub mod Steps
+pub mod Examples

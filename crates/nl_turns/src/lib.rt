@@ -4,6 +4,7 @@
 mod entry;
 mod kept;
 mod plays;
+pub mod rows;
 mod seat;
 mod served;
 mod steps;
