@@ -1,3 +1,4 @@
+pub mod Lines
 pub mod OnLiterals
 pub mod Histories
 pub mod Views

@@ -1,0 +1,10 @@
+//! A small value behind the turn lock, and threads that take turns.
+#![tactic(auto)]
+
+mod failing;
+mod line;
+mod work;
+
+pub use failing::FailingVolume;
+pub use line::run_line;
+pub use work::take_turns;
