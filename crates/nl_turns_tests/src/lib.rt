@@ -3,8 +3,10 @@
 
 mod failing;
 mod line;
+mod rounds;
 mod work;
 
 pub use failing::FailingVolume;
 pub use line::run_line;
+pub use rounds::round;
 pub use work::take_turns;
