@@ -1,10 +1,13 @@
 -- The seat between calls.
-use Rattle.std.proofs.Common.{◌≡◌, ℕ, true, false, List, [], ◌∷◌, refl, sym, ap, ◌∙◌, subst, true≢false}
+use Rattle.std.proofs.Common.{◌≢◌, ⊎_elim, ◌≡◌, ℕ, ◌+◌, ◌<◌, true, false, List, [], ◌∷◌, refl, sym, ap, ◌∙◌, subst, true≢false, arith}
 use Rattle.std.specs.Prelude.{Contains}
-use Rattle.nl_turns.specs.Seat.{by_seat}
+use Rattle.nl_turns.specs.Seat.{by_seat, passed_by}
 use Rattle.nl_turns.specs.View.{Role, idle, waits, enters, inside, leaves, hosts, spent, View}
 use Rattle.nl_turns.specs.Rule.{HostFits}
-use Rattle.nl_turns.specs.Steps.{after_join, is_inside, IsBetweenCalls, IsSettled, view_of}
+use Rattle.nl_turns.specs.Steps.{after_pass, after_join, IsTold, is_inside, IsBetweenCalls, IsSettled, view_of, IsSeat}
+use Rattle.nl_turns.specs.declared.entry.Entry.{Entry}
+use Rattle.nl_turns.proofs.Histories.{by_other}
+use Rattle.nl_turns.proofs.Views.{contains_more}
 
 -- a badge between calls has one view
 pub one_view : (vs : List View) → IsSettled vs → vs ≡ view_of vs ∷ []
@@ -47,3 +50,35 @@ pub joined_stay : (v w u : View) → u ≡ after_join v w → HostFits u u.role 
 joined_stay v w u is host n has =
     let fits : HostFits (after_join v w) (after_join v w).role = subst (λ (x : View). HostFits x x.role) is host in
     ap (λ (x : View). by_seat n x.seen) is ∙ fits.4 n has
+
+-- after a pass: the first seat's own entry has a number that was given
+pub pass_keeps_seat : (v : View) (e : Entry) (places : ℕ) → IsSeat (v ∷ []) places → IsSeat (after_pass v e ∷ []) places
+pass_keeps_seat v e places seat = record {
+  settled = tt;
+  places_are = seat.places_are;
+  numbers = λ first.
+      let k = seat.numbers first in
+      (k.0, λ n le. by_other n v.seen (passed_by v.number e) (λ same. omega (arith, same, first, k.0, le)) ∙ k.1 n le);
+  apart = seat.apart;
+}
+
+-- after a join: the other number differs from the seat's own, and the read of a word told the rest
+pub join_keeps_seat : (v w u : View) (places : ℕ) → u ≡ after_join v w → HostFits u u.role → IsTold u u.seen → IsSeat (v ∷ []) places → IsSeat (record u { role = idle } ∷ []) (places + 1)
+join_keeps_seat v w u places is host told seat = record {
+  settled = tt;
+  places_are = ap (λ (n : ℕ). n + 1) seat.places_are ∙ sym (ap (λ (x : View). x.places) is);
+  numbers = λ first.
+      let k = seat.numbers (sym number ∙ first) in
+      let next : u.next ≡ v.next = ap (λ (x : View). x.next) is in
+      (subst (λ n. 0 < n) (sym next) k.0, told first);
+  apart = λ n has.
+      let has' : Contains (w.number ∷ v.joined) n = subst (λ (x : View). Contains x.joined n) is has in
+      let ne : n ≢ v.number = ⊎_elim (λ (e : w.number ≡ n). λ same. fits.5 (e ∙ same)) (λ h. seat.apart n h) (contains_more n w.number v.joined has') in
+      λ same. ne (same ∙ number);
+}
+  where
+    fits : HostFits (after_join v w) (after_join v w).role
+    fits = subst (λ (x : View). HostFits x x.role) is host
+
+    number : u.number ≡ v.number
+    number = ap (λ (x : View). x.number) is

@@ -1,6 +1,6 @@
 -- In lines with rising numbers each is found by its number.
-use Rattle.std.proofs.Common.{◌≡◌, ◌==◌, ℕ, zero, suc, ◌<◌, Bool, cond, List, [], ◌∷◌, length, Option, Some, None, refl, sym, ap, ◌∙◌, subst, arith, ne_eqb, eq-eqb}
-use Rattle.std.specs.Prelude.{AllPairs, slice_get, slice_index_or, IfSome}
+use Rattle.std.proofs.Common.{◌≡◌, ℕ, zero, suc, ◌<◌, Bool, cond, List, [], ◌∷◌, length, Some, ap, ◌∙◌, subst, arith, ne_eqb, eq-eqb}
+use Rattle.std.specs.Prelude.{AllPairs, slice_get, slice_index_or}
 use Rattle.nl_tree.specs.declared.call.Line.{Line}
 use Rattle.nl_turns.specs.History.{line_at}
 

@@ -288,6 +288,7 @@ module _ {V : Type 0} (stands : Opening → List Passed → V → Type 0) (o : O
         by_theirs ∙ sym theirs.own,
         by_mine v.number ok.own ∙ sym ok.own,
         λ j h. let f = ok.joined j h in by_mine j f.2 ∙ sym f.2,
+        λ same. not_mine (sym same),
       )
 
       mine : ViewFits o k' id (after_join v w)

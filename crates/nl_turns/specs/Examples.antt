@@ -1,6 +1,6 @@
 -- A history of five turns from a count of 5: a directory is made, the sync of another worker finds nothing to stage, a read of the root
 -- fails, the sync is answered, and a background task runs.
-use Rattle.std.specs.Prelude.{List, [], ◌∷◌, ℕ, false, codes, ⊤}
+use Rattle.std.specs.Prelude.{List, [], ◌∷◌, ℕ, codes}
 use Rattle.nl_tree.specs.Tree.{empty_tree}
 use Rattle.nl_tree.specs.Examples.{small}
 use Rattle.nl_tree.specs.declared.call.Line.{Line}

@@ -1,5 +1,5 @@
 -- The rule of the lock. Word 0 counts the tickets drawn, word 1 the turns passed, and the one slot holds the value.
-use Rattle.std.specs.Prelude.{◌≡◌, ℕ, ◌+◌, ◌-◌, ◌%◌, ◌^◌, ◌<◌, ◌≤◌, Bool, true, false, List, [], ◌∷◌, length, count_by, Contains, Option, Some, None}
+use Rattle.std.specs.Prelude.{◌≡◌, ◌≢◌, ℕ, ◌+◌, ◌-◌, ◌%◌, ◌^◌, ◌<◌, ◌≤◌, Bool, true, false, List, [], ◌∷◌, length, count_by, Contains, Option, Some, None}
 use mathlib.Core.Option.{some, none}
 use mathlib.Core.Option as maybe
 use mathlib.Core.List.{IsPrefix}
@@ -77,11 +77,12 @@ abbrev pub joined_before : List ℕ → List ℕ
 joined_before [] = []
 joined_before (m ∷ ms) = ms
 
--- A seat that took in another has what both had seen, with all entries of the other, of its own, and of those taken in before.
+-- A seat that took in another, of another number, has what both had seen, with all entries of the other, of its own, and of those
+-- taken in before.
 abbrev pub HostFits : View → Role → Type 0
 HostFits v (hosts n xs ys) =
     IsPrefix ys v.seen × IsPrefix xs v.seen × (by_seat n v.seen ≡ by_seat n xs) × (by_seat v.number v.seen ≡ by_seat v.number ys)
-    × ((j : ℕ) → Contains (joined_before v.joined) j → by_seat j v.seen ≡ by_seat j ys)
+    × ((j : ℕ) → Contains (joined_before v.joined) j → by_seat j v.seen ≡ by_seat j ys) × (n ≢ v.number)
 HostFits v _ = Unit {0}
 
 -- The rule on the living view j. Its number is in use, and its alone. It has seen a beginning of the history, with all of its own

@@ -1,5 +1,5 @@
 -- What a value behind the lock does in one turn, and the entry of that turn.
-use Rattle.std.specs.Prelude.{◌≡◌, ◌≢◌, ◌⊎◌, ℕ, ◌+◌, ◌<◌, ◌++◌, [], ◌∷◌, Bool, true, false, List, Option, Some, None, IfSome}
+use Rattle.std.specs.Prelude.{◌≡◌, ◌≢◌, ◌⊎◌, ℕ, ◌+◌, ◌<◌, ◌++◌, [], ◌∷◌, Bool, true, false, List, Some, IfSome}
 use Rattle.nl_field.specs.CrashStates.{saturated, Rose}
 use Rattle.nl_tree.specs.Causes.{Counts, HasCause}
 use Rattle.nl_tree.specs.Step.{Outcome}

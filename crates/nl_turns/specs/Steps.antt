@@ -127,3 +127,4 @@ pub record IsSeat (views : List View) (places : ℕ) : Type 0 where
   pub settled : IsSettled views
   pub places_are : places ≡ (view_of views).places
   pub numbers : KnowsNumbers (view_of views)
+  pub apart : (n : ℕ) → Contains (view_of views).joined n → n ≢ (view_of views).number

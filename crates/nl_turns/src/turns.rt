@@ -86,6 +86,7 @@ impl<V: Kept> Turns<V> {
         requires turn { seat.old.has_turn ≡ true }
         requires stands { V.stands seat.old.opening (entries seat.old.seen ++ entry ∷ []) turn.value }
         ensures seat { seat.new ≡ record seat.old { seen = seat.old.seen ++ passed_by seat.old.number entry ∷ []; has_turn = false } }
+        ensures joined { (n : ℕ) → Contains seat.old.joined n → by_seat n seat.new.seen ≡ by_seat n seat.old.seen }
         ensures numbers { seat.old.number ≡ 0 → NoneBeyond seat.old.next seat.new.seen }
     {
         let Turn { value } = turn;

@@ -1,10 +1,10 @@
 use Rattle.std.specs.Prelude.{Contains}
-use Rattle.std.proofs.Common.{rules, ◌≡◌, subst, List, [], ◌∷◌, false, sym, ap, ◌∙◌}
+use Rattle.std.proofs.Common.{rules, ◌+◌, ◌≡◌, subst, List, [], ◌∷◌, false, sym, ap, ◌∙◌}
 use Rattle.nl_turns.specs.View.{View}
 use Rattle.nl_turns.specs.Rule.{by_entries}
 use Rattle.nl_turns.specs.Seat.{SeatState, by_seat}
-use Rattle.nl_turns.specs.Steps.{is_inside, view_of, state_of}
-use Rattle.nl_turns.proofs.BetweenCalls.{at_rest, joined_stay}
+use Rattle.nl_turns.specs.Steps.{is_inside, view_of, state_of, IsSeat}
+use Rattle.nl_turns.proofs.BetweenCalls.{at_rest, joined_stay, join_keeps_seat}
 use Rattle.nl_turns.proofs.Seating.{join_keeps}
 use Rattle.nl_turns.proofs.turns.Turns.join.Goals as goal
 
@@ -36,3 +36,13 @@ returns-clause-joined g c n has =
     let stay = joined_stay v c.into_seat.result.me.0 c.join_seat.new.seat.me.0 (ap (λ m. m.0) c.join_seat.ensures.2) c.settle.ensures.host n has' in
     let now = ap (λ us. by_seat n (view_of us).seen) c.into_badge.ensures.2 ∙ ap (λ m. by_seat n m.0.seen) c.settle.ensures.place.2 in
     now ∙ (stay ∙ ap (λ (k : SeatState). by_seat n k.seen) is)
+
+pub invariant_of-seat : goal.invariant_of-seat
+invariant_of-seat g c =
+    let places = c.seat.inside.places in
+    let v : View = c.into_seat-place.result.me.0 in
+    let views : c.seat.inside.badge.views ≡ v ∷ [] = ap (λ b. b.views) (sym c.replace.ensures.value) ∙ c.into_seat-place.ensures.2 in
+    let seat = subst (λ us. IsSeat us places) views c.seat.invariant in
+    let keeps = join_keeps_seat v c.into_seat.result.me.0 c.join_seat.new.seat.me.0 places (ap (λ m. m.0) c.join_seat.ensures.2) c.settle.ensures.host c.settle.ensures.told seat in
+    let now = c.into_badge.ensures.2 ∙ ap (λ m. m.0 ∷ []) c.settle.ensures.place.2 in
+    subst (λ us. IsSeat us (places + 1)) (sym now) keeps
