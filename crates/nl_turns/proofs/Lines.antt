@@ -4,7 +4,8 @@ use Rattle.std.specs.Prelude.{AllPairs, slice_get, slice_index_or}
 use Rattle.nl_tree.specs.declared.call.Line.{Line}
 use Rattle.nl_turns.specs.History.{line_at}
 
-get_at : (xs : List Line) (i : ℕ) (l d : Line) → slice_get xs i ≡ Some l → (i < length xs) × (slice_index_or xs i d ≡ l)
+-- the line at an index
+pub get_at : (xs : List Line) (i : ℕ) (l d : Line) → slice_get xs i ≡ Some l → (i < length xs) × (slice_index_or xs i d ≡ l)
 get_at [] i l d e = absurd (cc e)
 get_at (x ∷ xs) zero l d e = (omega arith, cc e)
 get_at (x ∷ xs) (suc i) l d e = let h = get_at xs i l d e in (omega arith, h.1)

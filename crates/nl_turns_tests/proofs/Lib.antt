@@ -1,3 +1,4 @@
 pub mod Turned
 pub mod OneMore
 pub mod Totals
+pub mod RoundSums

@@ -1,10 +1,10 @@
 -- One worker more in a round.
-use Rattle.std.proofs.Common.{◌≡◌, ℕ, zero, suc, ◌+◌, ◌-◌, ◌<◌, ◌≤◌, List, [], ◌∷◌, ◌++◌, length, map, replicate, Option, Some, None, refl, sym, ap, ◌∙◌, subst, arith, append_assoc}
+use Rattle.std.proofs.Common.{◌≡◌, ℕ, zero, suc, ◌+◌, ◌-◌, ◌<◌, List, [], ◌∷◌, ◌++◌, map, replicate, Option, Some, None, sym, ap, ◌∙◌, subst, arith}
 use Rattle.std.specs.Prelude.{slice_get, IfSome, Contains}
 use mathlib.Core.List.{IsPrefix}
 use Rattle.nl_tree.specs.declared.call.Line.{Line}
 use Rattle.nl_turns.specs.Seat.{Passed, SeatState, by_seat, longer, NoneBeyond}
-use Rattle.nl_turns_tests.specs.Work.{entries_of, lines_of, HasWorked, MayRun, HasRun}
+use Rattle.nl_turns_tests.specs.Work.{lines_of, HasWorked, MayRun, HasRun}
 use Rattle.nl_turns_tests.proofs.Turned.{prefix_on}
 
 contains_cons : (n m : ℕ) (ms : List ℕ) → Contains ms n → Contains (m ∷ ms) n
@@ -28,7 +28,8 @@ module _ (seat own s1 own' s2 s3 : SeatState) (lines : List Line) (line : Line) 
     (grows : IsPrefix s2.seen s3.seen × IsPrefix own'.seen s3.seen)
     (kept : by_seat 0 s3.seen ≡ by_seat 0 s2.seen)
     (theirs : by_seat own'.number s3.seen ≡ by_seat own'.number own'.seen)
-    (before : (n : ℕ) → Contains s2.joined n → by_seat n s3.seen ≡ by_seat n s2.seen) where
+    (before : (n : ℕ) → Contains s2.joined n → by_seat n s3.seen ≡ by_seat n s2.seen)
+    (numbers : NoneBeyond s3.next s3.seen) where
   joined_is : s3.joined ≡ own'.number ∷ s2.joined
   joined_is = ap (λ (z : SeatState). z.joined) joined
 
@@ -104,6 +105,7 @@ module _ (seat own s1 own' s2 s3 : SeatState) (lines : List Line) (line : Line) 
         let b : IsPrefix seat.seen s2.seen = subst (λ xs. IsPrefix xs s2.seen) seen1 ran.grows in
         prefix_on seat.seen s2.seen s3.seen b grows.0);
     own = kept ∙ (ran.own ∙ ap (by_seat 0) seen1);
+    numbers = λ _. numbers;
     joined = λ n h.
         let was : Contains s1.joined n = subst (λ (z : SeatState). Contains z.joined n) (sym left) h in
         let q = ran.joined n was in

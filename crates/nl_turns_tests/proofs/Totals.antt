@@ -1,11 +1,11 @@
 -- How many effects a history has, by its seats.
-use Rattle.std.proofs.Common.{◌≡◌, ◌==◌, ℕ, zero, suc, ◌+◌, ◌*◌, ◌<◌, ◌≤◌, Bool, true, false, cond, not, List, [], ◌∷◌, ◌++◌, length, map, filter, replicate, count_by, refl, sym, ap, ◌∙◌, subst, arith, eq-eqb, ne_eqb, lt_of_not-le}
+use Rattle.std.proofs.Common.{◌≡◌, ◌==◌, ℕ, zero, suc, ◌+◌, ◌*◌, ◌<◌, Bool, true, false, cond, not, List, [], ◌∷◌, map, replicate, nat_lt, refl, ap, arith, eq-eqb, ne_eqb, lt_of_not-le}
 use Rattle.std.proofs.lemmas.Bool.Decides.{nat_tests}
 use Rattle.std.proofs.lemmas.List.Sums.{sum_by-cons}
 use Rattle.nl_turns.specs.History.{is_effect, effects}
 use Rattle.nl_turns.specs.Seat.{Passed, by_seat, entries, NoneBeyond}
 use Rattle.nl_turns.specs.declared.entry.Entry.{Entry}
-use Rattle.nl_turns_tests.specs.Work.{entries_of, lines_of}
+use Rattle.nl_turns_tests.specs.Work.{entries_of}
 
 -- 1 for an effect, and 0 for another entry
 abbrev weight : Entry → ℕ
@@ -21,38 +21,71 @@ one_if false p ys = omega arith
 of_cons : (n : ℕ) (p : Passed) (xs : List Passed) → effects (entries_of n (p ∷ xs)) ≡ cond {A = ℕ} (p.seat == n) (weight p.entry) 0 + effects (entries_of n xs)
 of_cons n p xs = one_if (p.seat == n) p (by_seat n xs)
 
-one_of_three : (m w : ℕ) → m < 3 → cond {A = ℕ} (m == 0) w 0 + cond {A = ℕ} (m == 1) w 0 + cond {A = ℕ} (m == 2) w 0 ≡ w
-one_of_three zero w h = omega arith
-one_of_three (suc zero) w h = omega arith
-one_of_three (suc (suc zero)) w h = omega arith
-one_of_three (suc (suc (suc m))) w h = absurd (omega arith)
+-- the effects of the seats below n
+abbrev pub effects_below : ℕ → List Passed → ℕ
+effects_below zero xs = 0
+effects_below (suc n) xs = effects_below n xs + effects (entries_of n xs)
 
--- a number that the first entry has is below 3, where none from 3 on stands in the history
-below_three : (p : Passed) (xs : List Passed) → NoneBeyond 3 (p ∷ xs) → p.seat < 3
-below_three p xs none = lt_of_not-le (λ le. not_empty (p.seat == p.seat) (eq-eqb p.seat p.seat refl) (none p.seat le))
+one_weight : (m n w : ℕ) → cond {A = ℕ} (nat_lt m n) w 0 + cond {A = ℕ} (m == n) w 0 ≡ cond {A = ℕ} (nat_lt m (n + 1)) w 0
+one_weight m n w = grind (arith, nat_tests)
+
+below_cons : (n : ℕ) (p : Passed) (xs : List Passed) → effects_below n (p ∷ xs) ≡ cond {A = ℕ} (nat_lt p.seat n) (weight p.entry) 0 + effects_below n xs
+below_cons zero p xs = grind (arith, nat_tests)
+below_cons (suc n) p xs =
+    let rest = below_cons n p xs in
+    let here = of_cons n p xs in
+    let one = one_weight p.seat n (weight p.entry) in
+    let next : cond {A = ℕ} (nat_lt p.seat (n + 1)) (weight p.entry) 0 ≡ cond {A = ℕ} (nat_lt p.seat (suc n)) (weight p.entry) 0 = ap (λ k. cond {A = ℕ} (nat_lt p.seat k) (weight p.entry) 0) (omega arith) in
+    omega arith
+
+-- the number that the first entry has, where none from n on stands in the history
+below_next : (n : ℕ) (p : Passed) (xs : List Passed) → NoneBeyond n (p ∷ xs) → p.seat < n
+below_next n p xs none = lt_of_not-le (λ le. not_empty (p.seat == p.seat) (eq-eqb p.seat p.seat refl) (none p.seat le))
   where
     not_empty : (b : Bool) → b ≡ true → cond b (p ∷ by_seat p.seat xs) (by_seat p.seat xs) ≡ [] → ⊥
     not_empty true so e = absurd (cc e)
     not_empty false so e = absurd (cc so)
 
-none_later : (p : Passed) (xs : List Passed) → NoneBeyond 3 (p ∷ xs) → NoneBeyond 3 xs
-none_later p xs none n le = go (p.seat == n) (none n le)
+none_later : (n : ℕ) (p : Passed) (xs : List Passed) → NoneBeyond n (p ∷ xs) → NoneBeyond n xs
+none_later n p xs none m le = go (p.seat == m) (none m le)
   where
-    go : (b : Bool) → cond b (p ∷ by_seat n xs) (by_seat n xs) ≡ [] → by_seat n xs ≡ []
+    go : (b : Bool) → cond b (p ∷ by_seat m xs) (by_seat m xs) ≡ [] → by_seat m xs ≡ []
     go true e = absurd (cc e)
     go false e = e
 
--- where there are no seats but 0, 1 and 2, the effects are theirs
-pub three_seats : (xs : List Passed) → NoneBeyond 3 xs → effects (entries xs) ≡ effects (entries_of 0 xs) + effects (entries_of 1 xs) + effects (entries_of 2 xs)
-three_seats [] none = refl
-three_seats (p ∷ xs) none =
-    let rest = three_seats xs (none_later p xs none) in
+-- where no number from n on stands in the history, all effects are those of the seats below n
+all_effects : (n : ℕ) (xs : List Passed) → NoneBeyond n xs → effects (entries xs) ≡ effects_below n xs
+all_effects n [] none = none_in n
+  where
+    none_in : (m : ℕ) → 0 ≡ effects_below m []
+    none_in zero = refl
+    none_in (suc m) = let rest = none_in m in omega arith
+all_effects n (p ∷ xs) none =
+    let rest = all_effects n xs (none_later n p xs none) in
     let all = effects_cons p.entry (entries xs) in
-    let a = of_cons 0 p xs in
-    let b = of_cons 1 p xs in
-    let c = of_cons 2 p xs in
-    let one = one_of_three p.seat (weight p.entry) (below_three p xs none) in
+    let here = below_cons n p xs in
+    let counts : cond {A = ℕ} (nat_lt p.seat n) (weight p.entry) 0 ≡ weight p.entry = let b = below_next n p xs none in grind (arith, nat_tests) in
     omega arith
+
+-- so many workers of so many effects each, from seat 1 on
+pub workers_effects : (workers times : ℕ) (xs : List Passed) → NoneBeyond (workers + 1) xs → by_seat 0 xs ≡ [] → ((i : ℕ) → i < workers → effects (entries_of (1 + i) xs) ≡ times)
+    → effects (entries xs) ≡ workers * times
+workers_effects workers times xs none zero_is each =
+    let all = all_effects (workers + 1) xs none in
+    let upto = below workers (λ i h. each i h) in
+    omega arith
+  where
+    below : (w : ℕ) → ((i : ℕ) → i < w → effects (entries_of (1 + i) xs) ≡ times) → effects_below (w + 1) xs ≡ w * times
+    below zero each' = let none_own : effects (entries_of 0 xs) ≡ 0 = ap (λ (ps : List Passed). effects (entries ps)) zero_is in omega arith
+    below (suc w) each' =
+        let rest = below w (λ i h. each' i (omega arith)) in
+        let last : effects (entries_of (1 + w) xs) ≡ times = each' w (omega arith) in
+        let next : suc w + 1 ≡ suc (w + 1) = omega arith in
+        let turned : 1 + w ≡ w + 1 = omega arith in
+        let step : effects_below (suc w + 1) xs ≡ effects_below (w + 1) xs + effects (entries_of (w + 1) xs) = ap (λ k. effects_below k xs) next in
+        let same : effects (entries_of (1 + w) xs) ≡ effects (entries_of (w + 1) xs) = ap (λ k. effects (entries_of k xs)) turned in
+        let product : suc w * times ≡ w * times + times = grind arith in
+        omega arith
 
 -- as many effects as lines, where each line is this one
 pub effects_of_line : (line times : ℕ) (es : List Entry) → 0 < line → map (λ (e : Entry). e.line) es ≡ replicate times line → effects es ≡ times

@@ -4,7 +4,7 @@ use Rattle.std.proofs.lemmas.List.Elements.{filter-append}
 use mathlib.Core.List.{map-append, IsPrefix}
 use Rattle.nl_turns.specs.Seat.{Passed, by_seat, entries, passed_by}
 use Rattle.nl_turns.specs.declared.entry.Entry.{Entry}
-use Rattle.nl_turns_tests.specs.Work.{entries_of, lines_of}
+use Rattle.nl_turns_tests.specs.Work.{entries_of}
 
 by_seat_more : (n : ℕ) (old mid : List Passed) (e : Entry) → by_seat n mid ≡ by_seat n old → by_seat n (mid ++ passed_by n e ∷ []) ≡ by_seat n old ++ passed_by n e ∷ []
 by_seat_more n old mid e same =

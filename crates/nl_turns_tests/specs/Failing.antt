@@ -1,5 +1,5 @@
 -- For which opening and history a volume stands that answers each call with a failed read.
-use Rattle.std.specs.Prelude.{◌≡◌, ℕ, ◌+◌, ◌≤◌, List, [], ◌∷◌}
+use Rattle.std.specs.Prelude.{◌≡◌, ℕ, ◌+◌, ◌≤◌, List, []}
 use Rattle.nl_field.specs.CrashStates.{saturated}
 use Rattle.nl_tree.specs.Tree.{empty_tree}
 use Rattle.nl_tree.specs.Causes.{Counts}

@@ -1,5 +1,5 @@
 -- What a worker adds to the history.
-use Rattle.std.specs.Prelude.{◌≡◌, ℕ, ◌+◌, ◌-◌, ◌<◌, ◌≤◌, List, [], ◌∷◌, ◌++◌, map, length, replicate, false, slice_get, IfSome, Contains}
+use Rattle.std.specs.Prelude.{◌≡◌, ℕ, ◌+◌, ◌-◌, ◌<◌, ◌≤◌, List, ◌++◌, map, replicate, false, slice_get, IfSome, Contains}
 use mathlib.Core.List.{IsPrefix}
 use Rattle.nl_tree.specs.declared.call.Line.{Line}
 use Rattle.nl_turns.specs.History.{Opening}
@@ -36,6 +36,7 @@ pub record HasRun (seat : SeatState) (lines : List Line) (workers times : ℕ) (
   pub same : after ≡ record seat { seen = after.seen; next = seat.next + workers; joined = after.joined }
   pub grows : IsPrefix seat.seen after.seen
   pub own : by_seat 0 after.seen ≡ by_seat 0 seat.seen
+  pub numbers : NoneBeyond seat.next seat.seen → NoneBeyond after.next after.seen
   pub joined : (n : ℕ) → Contains seat.joined n → Contains after.joined n × (by_seat n after.seen ≡ by_seat n seat.seen)
   pub each : (i : ℕ) → i < workers → Contains after.joined (seat.next + i)
       × IfSome (slice_get lines (workers - 1 - i)) (λ line. lines_of (seat.next + i) after.seen ≡ replicate times line.line)
