@@ -9,12 +9,6 @@ use Rattle.nl_turns.specs.declared.entry.Entry.{Entry}
 use Rattle.nl_turns.proofs.Histories.{by_other}
 use Rattle.nl_turns.proofs.Views.{contains_more}
 
--- a badge between calls has one view
-pub one_view : (vs : List View) → IsSettled vs → vs ≡ view_of vs ∷ []
-one_view [] h = absurd h
-one_view (v ∷ []) h = refl
-one_view (v ∷ w ∷ vs) h = absurd h
-
 between_calls : (vs : List View) → IsSettled vs → IsBetweenCalls (view_of vs).role
 between_calls [] h = absurd h
 between_calls (v ∷ []) h = h

@@ -5,7 +5,7 @@ use mathlib.Core.List.{IsPrefix}
 use Rattle.nl_tree.specs.declared.call.Line.{Line}
 use Rattle.nl_turns.specs.Seat.{Passed, SeatState, by_seat, longer, NoneBeyond}
 use Rattle.nl_turns_tests.specs.Work.{lines_of, HasWorked, MayRun, HasRun}
-use Rattle.nl_turns_tests.proofs.Turned.{prefix_on}
+use Rattle.nl_turns.proofs.Histories.{prefix_trans}
 
 contains_cons : (n m : ℕ) (ms : List ℕ) → Contains ms n → Contains (m ∷ ms) n
 contains_cons n m ms h = (suc h.0, let below = h.1 in omega arith, h.2)
@@ -103,7 +103,7 @@ module _ (seat own s1 own' s2 s3 : SeatState) (lines : List Line) (line : Line) 
     same = same_is;
     grows = (
         let b : IsPrefix seat.seen s2.seen = subst (λ xs. IsPrefix xs s2.seen) seen1 ran.grows in
-        prefix_on seat.seen s2.seen s3.seen b grows.0);
+        prefix_trans seat.seen s2.seen s3.seen b grows.0);
     own = kept ∙ (ran.own ∙ ap (by_seat 0) seen1);
     numbers = λ _. numbers;
     joined = λ n h.

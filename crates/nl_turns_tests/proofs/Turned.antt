@@ -1,7 +1,8 @@
 -- What one turn adds to the history, and to the entries of its seat.
-use Rattle.std.proofs.Common.{◌≡◌, ◌==◌, ℕ, Bool, true, cond, List, [], ◌∷◌, ◌++◌, filter, refl, sym, ap, ◌∙◌, append_assoc, eq-eqb}
+use Rattle.std.proofs.Common.{◌≡◌, ◌==◌, ℕ, Bool, true, cond, List, [], ◌∷◌, ◌++◌, filter, refl, ap, ◌∙◌, eq-eqb}
 use Rattle.std.proofs.lemmas.List.Elements.{filter-append}
 use mathlib.Core.List.{map-append, IsPrefix}
+use Rattle.nl_turns.proofs.Histories.{prefix_more}
 use Rattle.nl_turns.specs.Seat.{Passed, by_seat, entries, passed_by}
 use Rattle.nl_turns.specs.declared.entry.Entry.{Entry}
 use Rattle.nl_turns_tests.specs.Work.{entries_of}
@@ -20,7 +21,4 @@ pub entries_more : (n : ℕ) (mid : List Passed) (e : Entry) → entries (mid ++
 entries_more n mid e = map-append (λ (p : Passed). p.entry) mid (passed_by n e ∷ [])
 
 pub prefix_push : {A : Type 0} (xs ys : List A) (p : A) → IsPrefix xs ys → IsPrefix xs (ys ++ p ∷ [])
-prefix_push xs ys p h = (h.0 ++ p ∷ [], sym (append_assoc xs h.0 (p ∷ [])) ∙ ap (λ w. w ++ p ∷ []) h.1)
-
-pub prefix_on : {A : Type 0} (xs ys zs : List A) → IsPrefix xs ys → IsPrefix ys zs → IsPrefix xs zs
-prefix_on xs ys zs p q = (p.0 ++ q.0, sym (append_assoc xs p.0 q.0) ∙ (ap (λ w. w ++ q.0) p.1 ∙ q.1))
+prefix_push xs ys p h = prefix_more xs ys (p ∷ []) h

@@ -36,7 +36,7 @@ fn stage_turn<V: Served, R: Wait>(
 
 /// The turn of the line's effect.
 #[tactic(auto, using(crate::proofs::Turned::own_more, crate::proofs::Turned::prefix_push))]
-pub fn effect_turn<V: Served, R: Wait>(
+pub(crate) fn effect_turn<V: Served, R: Wait>(
     rt: &R,
     turns: &Turns<V>,
     seat: &mut TurnSeat,
