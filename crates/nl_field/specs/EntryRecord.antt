@@ -1,17 +1,9 @@
 -- An entry of a directory: the node that it names, that node's generation, and the name.
-use Rattle.std.specs.Prelude.{ℕ, ◌-◌, ◌==◌, nat_le, Bool, not, ◌&&◌, List, ◌∷◌, ◌++◌, length, take, drop, slice_index, codes, bytes_eq, replicate, Option}
-use Rattle.std.specs.List.{list_all}
+use Rattle.std.specs.Prelude.{ℕ, ◌-◌, nat_le, Bool, ◌&&◌, List, ◌∷◌, ◌++◌, length, take, drop, slice_index, replicate, Option}
 use Rattle.nl_field.specs.Numbers.{max_name}
+use Rattle.nl_field.specs.Names.{is_name}
 use Rattle.nl_field.specs.Spelling.{u32_bytes, u32_at, fits_u32, spelled_by}
 use Rattle.nl_field.specs.declared.entry.EntryRec.{EntryRec}
-
--- a byte that a name may have: no control byte, no space, no DEL and no `/`
-abbrev pub is_name_byte : ℕ → Bool
-is_name_byte b = nat_le 33 b && not (b == 127) && not (b == 47)
-
--- a name of any length
-unfoldable pub is_name : List ℕ → Bool
-is_name name = nat_le 1 (length name) && list_all is_name_byte name && not (bytes_eq name (codes ".")) && not (bytes_eq name (codes ".."))
 
 -- 64 bytes: the node; from 4 the generation, at 8 the length of the name, and from 9 the name
 unfoldable pub entry_bytes : EntryRec → List ℕ

@@ -14,10 +14,11 @@ are_home_addresses [] = true
 are_home_addresses (a ∷ rest) = (a == 0 || nat_le 67 a) && list_all (λ b. nat_lt a b) rest && are_home_addresses rest
 
 -- eight letters; from 8 the transaction's number, from 16 how many addresses, from 24 the addresses
+unfoldable pub header_head : HeaderRec → List ℕ
+header_head rec = codes "NLHEADER" ++ u64_bytes rec.number ++ u32_bytes (length rec.addresses) ++ gap 4 ++ flat_map u32_bytes rec.addresses
+
 unfoldable pub header_bytes : HeaderRec → List ℕ
-header_bytes rec =
-    codes "NLHEADER" ++ u64_bytes rec.number ++ u32_bytes (length rec.addresses) ++ gap 4 ++ flat_map u32_bytes rec.addresses
-    ++ zeros (4072 - 4 * length rec.addresses)
+header_bytes rec = header_head rec ++ zeros (4072 - 4 * length rec.addresses)
 
 -- which have a spelling: 1 to 64 addresses
 abbrev pub is_header : HeaderRec → Bool

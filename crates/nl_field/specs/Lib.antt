@@ -9,8 +9,10 @@ pub mod Inode
 pub mod Journal
 pub mod Live
 pub mod Medium
+pub mod Names
 pub mod Numbers
 pub mod Page
+pub mod PointerItems
 pub mod Pointers
 pub mod Scan
 pub mod Space

@@ -1,7 +1,7 @@
 -- Pointers to physical pages, and a metadata page of 256 of them.
-use Rattle.std.specs.Prelude.{ℕ, zero, suc, ◌==◌, Bool, not, ◌&&◌, ◌||◌, List, [], ◌∷◌, ◌++◌, length, drop, flat_map, Option}
+use Rattle.std.specs.Prelude.{ℕ, ◌==◌, Bool, not, ◌&&◌, ◌||◌, List, ◌++◌, length, flat_map, Option}
 use Rattle.std.specs.List.{list_all, list_any}
-use Rattle.nl_field.specs.Spelling.{u32_bytes, u64_bytes, u32_at, u64_at, gap, fits_u32, is_stamp, spelled_by}
+use Rattle.nl_field.specs.Spelling.{u32_bytes, u64_bytes, u32_at, u64_at, each_of, gap, fits_u32, is_stamp, spelled_by}
 use Rattle.nl_field.specs.declared.pointer.Pointer.{Pointer}
 
 abbrev pub no_pointer : Pointer
@@ -23,10 +23,16 @@ is_pointer p = is_none_pointer p || is_stamp p.stamp
 abbrev pub fits_pointer : Pointer → Bool
 fits_pointer p = fits_u32 p.name
 
+unfoldable pub pointer_fields : List ℕ → Pointer
+pointer_fields bytes = record { name = u32_at bytes 0; stamp = u64_at bytes 8 }
+
+-- the pointer that these 16 bytes spell
+unfoldable pub pointer_of : List ℕ → Option Pointer
+pointer_of bytes = spelled_by is_pointer pointer_bytes (pointer_fields bytes) bytes
+
 -- so many pointers in a row
-unfoldable pub pointers : ℕ → List ℕ → List Pointer
-pointers zero bytes = []
-pointers (suc n) bytes = record { name = u32_at bytes 0; stamp = u64_at bytes 8 } ∷ pointers n (drop 16 bytes)
+abbrev pub pointers : ℕ → List ℕ → List Pointer
+pointers n bytes = each_of pointer_fields 16 n bytes
 
 -- an indirect page has 256 of them, and at least one that is not none
 unfoldable pub indirect_bytes : List Pointer → List ℕ

@@ -19,10 +19,14 @@ u32_at bytes at = little_number 4 (drop at bytes)
 unfoldable pub u64_at : List ℕ → ℕ → ℕ
 u64_at bytes at = little_number 8 (drop at bytes)
 
+-- what stands in so many rows of this width, read one by one
+unfoldable pub each_of : {X : Type 0} → (List ℕ → X) → ℕ → ℕ → List ℕ → List X
+each_of read width zero bytes = []
+each_of read width (suc n) bytes = read bytes ∷ each_of read width n (drop width bytes)
+
 -- so many numbers of 4 bytes each, in a row
-unfoldable pub u32s : ℕ → List ℕ → List ℕ
-u32s zero bytes = []
-u32s (suc n) bytes = u32_at bytes 0 ∷ u32s n (drop 4 bytes)
+abbrev pub u32s : ℕ → List ℕ → List ℕ
+u32s n bytes = each_of (λ row. u32_at row 0) 4 n bytes
 
 -- bytes between two fields, which no rule names
 abbrev pub gap : ℕ → List ℕ
@@ -30,9 +34,6 @@ gap n = replicate n 0
 
 abbrev pub fits_u32 : ℕ → Bool
 fits_u32 n = nat_lt n (2 ^ 32)
-
-abbrev pub fits_u64 : ℕ → Bool
-fits_u64 n = nat_lt n (2 ^ 64)
 
 -- a write sequence number that is spelled: from 1, below 2^63
 abbrev pub is_stamp : ℕ → Bool

@@ -1,5 +1,9 @@
-ghost use Rattle.std.specs.Prelude.{⊤, [], ◌∷◌, codes};
+ghost use Rattle.std.specs.Prelude.{⊤, ◌≡◌, ◌≢◌, ◌==◌, IsTrue, [], ◌∷◌, codes};
+ghost use Rattle.std.specs.Int.RustNames.{bit_or};
+ghost use Rattle.nl_field.specs.FindingBits.{bit_of, bits_of, has_finding};
+ghost use Rattle.nl_field.specs.declared.place.What.{What};
 
+use crate::What;
 use bitflags::{Flag, Flags, bitflag_items};
 
 /// What a check of an image finds at fault: a bit for each phase of an opening's walk, the lowest for the first.
@@ -39,5 +43,53 @@ impl Flags for Findings {
 
     fn from_bits_retain(bits: u16) -> Findings {
         Findings(bits)
+    }
+}
+
+impl Findings {
+    /// No finding.
+    pub fn none() -> Findings
+        ensures { bits_of result ≡ 0 }
+    {
+        Findings(0)
+    }
+
+    /// Whether there is no finding.
+    pub fn is_none(&self) -> bool
+        ensures { result ≡ (bits_of self.now == 0) }
+    {
+        self.0 == 0
+    }
+
+    /// Whether this finding is among them.
+    pub fn has(&self, what: What) -> bool
+        ensures { result ≡ has_finding self.now what }
+    {
+        self.contains(flag(what))
+    }
+
+    /// Adds a finding. The others stay as they are.
+    pub fn add(&mut self, what: What)
+        ensures bits { bits_of self.new ≡ bit_or (bits_of self.old) (bit_of what) }
+        ensures added { IsTrue (has_finding self.new what) }
+        ensures others { (other : What) → other ≢ what → has_finding self.new other ≡ has_finding self.old other }
+    {
+        self.insert(flag(what));
+    }
+}
+
+fn flag(what: What) -> Findings
+    ensures { bits_of result ≡ bit_of what }
+{
+    match what {
+        What::Super => Findings::SUPER,
+        What::Stamp => Findings::STAMP,
+        What::Inode => Findings::INODE,
+        What::Pages => Findings::PAGES,
+        What::Entry => Findings::ENTRY,
+        What::Pointer => Findings::POINTER,
+        What::Names => Findings::NAMES,
+        What::Charges => Findings::CHARGES,
+        What::Crowded => Findings::CROWDED,
     }
 }

@@ -1,4 +1,4 @@
-ghost use Rattle.std.specs.Prelude.{◌≡◌, ◌≤◌, ◌+◌, ◌++◌, length, take, drop, IfOk};
+ghost use Rattle.std.specs.Prelude.{◌≡◌, ◌≤◌, ◌+◌, ◌-◌, ◌++◌, length, take, drop, IfOk};
 ghost use Rattle.nl_field.specs.Bytes.{zeros};
 ghost use Rattle.nl_field.specs.Page.{PageBytes};
 
@@ -62,6 +62,15 @@ impl PageBuf {
         self.main[at..at + bytes.len()].copy_from_slice(bytes);
     }
 
+    /// These main bytes, and zeros behind them.
+    pub fn set_head(&mut self, bytes: &[u8])
+        requires { length bytes.now ≤ 4096 }
+        ensures main { self.new.main ≡ bytes.now ++ zeros (4096 - length bytes.now) }
+        ensures spare { self.new.spare ≡ self.old.spare }
+    {
+        pad(&mut self.main, bytes);
+    }
+
     pub fn set_spare(&mut self, bytes: &[u8; 64])
         ensures main { self.new.main ≡ self.old.main }
         ensures spare { self.new.spare ≡ bytes.now }
@@ -100,4 +109,13 @@ fn zero(bytes: &mut [u8])
     ensures { bytes.new ≡ zeros (length bytes.old) }
 {
     bytes.fill(0);
+}
+
+// These bytes, and zeros behind them.
+fn pad(out: &mut [u8], bytes: &[u8])
+    requires { length bytes.now ≤ length out.old }
+    ensures { out.new ≡ bytes.now ++ zeros (length out.old - length bytes.now) }
+{
+    out[..bytes.len()].copy_from_slice(bytes);
+    zero(&mut out[bytes.len()..]);
 }

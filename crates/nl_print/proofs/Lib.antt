@@ -1,1 +1,4 @@
+pub mod OnLiterals
+pub mod Fields
+pub mod Names
 pub mod Written

@@ -1,6 +1,8 @@
 -- The printed texts.
-use Rattle.std.specs.Prelude.{ℕ, ◌+◌, ◌-◌, List, [], ◌∷◌, ◌++◌, length, flat_map, codes, decimal}
+use Rattle.std.specs.Prelude.{ℕ, ◌+◌, ◌-◌, List, [], ◌∷◌, ◌++◌, length, flat_map, codes, decimal, if◌then◌else◌}
 use Rattle.hex.specs.Hex.{encode_lower}
+use Rattle.nl_field.specs.FindingBits.{has_finding}
+use Rattle.nl_field.specs.declared.findings.Findings.{Findings}
 use Rattle.nl_field.specs.declared.shape.Shape.{Shape}
 use Rattle.nl_field.specs.declared.place.Place.{Place}
 use Rattle.nl_field.specs.declared.place.What.{What}
@@ -18,6 +20,14 @@ use Rattle.nl_tree.specs.declared.reply.Reply.TheVariants.{Done, Count, Content,
 -- a space and a number
 abbrev pub then_number : ℕ → List ℕ
 then_number n = 32 ∷ decimal n
+
+-- a word, a space and a number
+abbrev pub field : List ℕ → ℕ → List ℕ
+field word n = word ++ then_number n
+
+-- how much of the most there may be
+abbrev pub share : List ℕ → ℕ → ℕ → List ℕ
+share word n most = field word n ++ field (codes " of") most
 
 -- the bytes in lower case hexadecimal, and a dash for none
 abbrev pub content_text : List ℕ → List ℕ
@@ -71,22 +81,35 @@ abbrev pub answer_lines : ℕ → List Answered → List ℕ
 answer_lines count [] = []
 answer_lines count (one ∷ rest) = answer_line (count + 1) one ++ answer_lines (count + 1) rest
 
+-- a line of a word and a number
+abbrev pub number_text : List ℕ → ℕ → List ℕ
+number_text word n = field word n ++ 10 ∷ []
+
 abbrev pub opened_line : ℕ → List ℕ
-opened_line count = codes "opened" ++ then_number count ++ 10 ∷ []
+opened_line count = number_text (codes "opened") count
 
 -- the text of `run`, where the volume opened with this count of calls
 abbrev pub run_text : ℕ → List Answered → List ℕ
 run_text count answered = opened_line count ++ answer_lines count answered
 
+-- a slash before each name
+abbrev pub slashed : List (List ℕ) → List ℕ
+slashed names = flat_map (λ name. 47 ∷ name) names
+
 -- the root is `/`
 abbrev pub path_text : List (List ℕ) → List ℕ
 path_text [] = codes "/"
-path_text (name ∷ []) = 47 ∷ name
-path_text (name ∷ next ∷ names) = 47 ∷ name ++ path_text (next ∷ names)
+path_text (name ∷ names) = slashed (name ∷ names)
+
+abbrev pub dir_text : List (List ℕ) → ℕ → List ℕ
+dir_text path entries = codes "d " ++ path_text path ++ then_number entries ++ 10 ∷ []
+
+abbrev pub file_text : List (List ℕ) → ℕ → ℕ → List ℕ
+file_text path size pages = codes "f " ++ path_text path ++ then_number size ++ then_number pages ++ 10 ∷ []
 
 abbrev pub node_line : ℕ → List (List ℕ) → Node → List ℕ
-node_line entries path directory = codes "d " ++ path_text path ++ then_number entries ++ 10 ∷ []
-node_line entries path (file content) = codes "f " ++ path_text path ++ then_number content.size ++ then_number (length content.pages) ++ 10 ∷ []
+node_line entries path directory = dir_text path entries
+node_line entries path (file content) = file_text path content.size (length content.pages)
 
 -- the text of `tree`
 abbrev pub tree_text : ℕ → Tree → List ℕ
@@ -94,8 +117,8 @@ tree_text count tree = opened_line count ++ flat_map (λ e. node_line (length (e
 
 abbrev pub formatted_text : Shape → List ℕ
 formatted_text shape =
-    codes "formatted blocks" ++ then_number shape.blocks ++ codes " pages" ++ then_number shape.pages ++ codes " data" ++ then_number shape.cap
-    ++ codes " nodes" ++ then_number shape.nodes ++ codes " meta" ++ then_number shape.meta ++ 10 ∷ []
+    field (codes "formatted blocks") shape.blocks ++ field (codes " pages") shape.pages ++ field (codes " data") shape.cap
+    ++ field (codes " nodes") shape.nodes ++ field (codes " meta") shape.meta ++ 10 ∷ []
 
 -- the text of a script that is refused
 abbrev pub refused_text : ℕ → ℕ → List ℕ → List ℕ
@@ -115,27 +138,44 @@ what_text Crowded = codes "crowded"
 abbrev pub damaged_text : Place → List ℕ
 damaged_text at = codes "damaged" ++ then_number at.place ++ 32 ∷ what_text at.what ++ 10 ∷ []
 
--- the names of the phases in which a checker found a fault
-abbrev pub findings_text : List What → List ℕ
-findings_text found = flat_map (λ what. what_text what ++ 10 ∷ []) found
+-- the phases in their order
+abbrev pub phases : List What
+phases = Super ∷ Stamp ∷ Inode ∷ PagesPhase ∷ Entry ∷ Pointer ∷ NamesPhase ∷ Charges ∷ Crowded ∷ []
+
+-- the line of a phase, where a checker found a fault in it
+abbrev pub finding_text : Findings → What → List ℕ
+finding_text found what = if has_finding found what then what_text what ++ 10 ∷ [] else []
+
+abbrev pub findings_text : Findings → List ℕ
+findings_text found = flat_map (finding_text found) phases
 
 abbrev pub sound_text : ℕ → List ℕ
-sound_text count = codes "sound" ++ then_number count ++ 10 ∷ []
+sound_text count = number_text (codes "sound") count
+
+abbrev pub blocks_text : ℕ → ℕ → List ℕ
+blocks_text vblocks pblocks = field (codes "blocks virtual") vblocks ++ field (codes " physical") pblocks ++ 10 ∷ []
+
+abbrev pub pages_text : Shape → ℕ → ℕ → ℕ → List ℕ
+pages_text shape pages nodes meta = share (codes "pages data") pages shape.cap ++ share (codes " nodes") nodes shape.nodes ++ share (codes " meta") meta shape.meta ++ 10 ∷ []
+
+abbrev pub wear_text : ℕ → ℕ → List ℕ
+wear_text least greatest = field (codes "wear least") least ++ field (codes " greatest") greatest ++ 10 ∷ []
 
 -- the text of `report`: the charges of the tree, the pairs after opening, the wear of readable pages and the next stamp
 abbrev pub report_text : Shape → ℕ → ℕ → ℕ → ℕ → ℕ → ℕ → ℕ → ℕ → List ℕ
 report_text shape count pages nodes meta pairs least greatest stamp =
-    opened_line count
-    ++ codes "blocks virtual" ++ then_number shape.vblocks ++ codes " physical" ++ then_number shape.pblocks ++ 10 ∷ []
-    ++ codes "pages data" ++ then_number pages ++ codes " of" ++ then_number shape.cap ++ codes " nodes" ++ then_number nodes ++ codes " of" ++ then_number shape.nodes
-    ++ codes " meta" ++ then_number meta ++ codes " of" ++ then_number shape.meta ++ 10 ∷ []
-    ++ codes "remap" ++ then_number pairs ++ 10 ∷ []
-    ++ codes "wear least" ++ then_number least ++ codes " greatest" ++ then_number greatest ++ 10 ∷ []
-    ++ codes "stamp" ++ then_number stamp ++ 10 ∷ []
+    number_text (codes "opened") count ++ blocks_text shape.vblocks shape.pblocks ++ pages_text shape pages nodes meta ++ number_text (codes "remap") pairs
+    ++ wear_text least greatest ++ number_text (codes "stamp") stamp
+
+abbrev pub calls_text : ℕ → ℕ → List ℕ
+calls_text calls ok = field (codes "soak calls") calls ++ field (codes " ok") ok ++ field (codes " refused") (calls - ok) ++ 10 ∷ []
+
+abbrev pub bytes_text : ℕ → ℕ → List ℕ
+bytes_text written read = field (codes "bytes written") written ++ field (codes " read") read ++ 10 ∷ []
+
+abbrev pub charges_text : ℕ → ℕ → ℕ → List ℕ
+charges_text pages nodes meta = field (codes "data") pages ++ field (codes " nodes") nodes ++ field (codes " meta") meta ++ 10 ∷ []
 
 -- the text of `soak`: counts of calls, of those answered ok, of bytes, and the charges of the last tree
 abbrev pub soak_text : ℕ → ℕ → ℕ → ℕ → ℕ → ℕ → ℕ → List ℕ
-soak_text calls ok written read pages nodes meta =
-    codes "soak calls" ++ then_number calls ++ codes " ok" ++ then_number ok ++ codes " refused" ++ then_number (calls - ok) ++ 10 ∷ []
-    ++ codes "bytes written" ++ then_number written ++ codes " read" ++ then_number read ++ 10 ∷ []
-    ++ codes "data" ++ then_number pages ++ codes " nodes" ++ then_number nodes ++ codes " meta" ++ then_number meta ++ 10 ∷ []
+soak_text calls ok written read pages nodes meta = calls_text calls ok ++ bytes_text written read ++ charges_text pages nodes meta

@@ -30,7 +30,7 @@ fn refusal_bytes(refusal: Refusal) -> &'static [u8]
 }
 
 fn push_fault(line: &mut LineBuf, fault: FaultReply)
-    requires { length line.old + 50 ≤ 192 }
+    requires { length line.old + 50 ≤ 384 }
     ensures bytes { line.new ≡ line.old ++ fault_text fault }
     ensures len { length line.new ≤ length line.old + 50 }
 {
@@ -64,7 +64,7 @@ ghost use Rattle.nl_print.specs.Tail.{tail_text};
 
 // Adds the front of an answer, and tells what follows it.
 fn push_reply(line: &mut LineBuf, reply: &Reply, bytes: &[u8]) -> Tail
-    requires { length line.old + 60 ≤ 192 }
+    requires { length line.old + 60 ≤ 384 }
     ensures text { line.new ++ tail_text result bytes.now ≡ line.old ++ reply_text reply.now bytes.now }
     ensures len { length line.new ≤ length line.old + 60 }
 {

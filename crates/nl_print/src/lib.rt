@@ -3,8 +3,19 @@
 #![tactic(auto)]
 
 mod answer;
+mod findings;
 mod line;
+mod path;
+mod report;
+pub mod rows;
+mod status;
+#[cfg(test)]
+mod tests;
 mod word;
 
 pub use answer::answer_line;
+pub use findings::findings_lines;
+pub use path::{dir_line, file_line};
+pub use report::{formatted_line, report_lines, soak_lines};
+pub use status::{damaged_line, refused_line};
 pub use word::{number_line, word_line};

@@ -1,15 +1,15 @@
 // A line that is put together before it is written, so that most lines are one write.
 ghost use Rattle.std.specs.Prelude.{◌≡◌, ◌≤◌, ◌+◌, ◌++◌, [], length, codes, decimal};
-ghost use Rattle.nl_print.specs.Texts.{then_number};
+ghost use Rattle.nl_print.specs.Texts.{then_number, field, share};
 
 use arrayvec::ArrayVec;
 use itoa::Buffer;
 use std::marker::Model;
 
-/// Up to 192 bytes of a line.
+/// Up to 384 bytes of a line.
 #[derive(Drop)]
 pub struct LineBuf {
-    bytes: ArrayVec<u8, 192>,
+    bytes: ArrayVec<u8, 384>,
 }
 
 impl Model for LineBuf {
@@ -30,7 +30,7 @@ impl LineBuf {
     }
 
     pub fn push(&mut self, bytes: &[u8])
-        requires { length self.old + length bytes.now ≤ 192 }
+        requires { length self.old + length bytes.now ≤ 384 }
         ensures bytes { self.new ≡ self.old ++ bytes.now }
         ensures len { length self.new ≡ length self.old + length bytes.now }
     {
@@ -42,7 +42,7 @@ impl LineBuf {
 
     /// Adds the decimal digits of a number, at most 20.
     pub fn push_number(&mut self, number: u64)
-        requires { length self.old + 20 ≤ 192 }
+        requires { length self.old + 20 ≤ 384 }
         ensures bytes { self.new ≡ self.old ++ decimal number }
         ensures len { length self.new ≤ length self.old + 20 }
     {
@@ -52,12 +52,32 @@ impl LineBuf {
 
     /// Adds a space and a number.
     pub fn then_number(&mut self, number: u64)
-        requires { length self.old + 21 ≤ 192 }
+        requires { length self.old + 21 ≤ 384 }
         ensures bytes { self.new ≡ self.old ++ then_number number }
         ensures len { length self.new ≤ length self.old + 21 }
     {
         self.push(b" ");
         self.push_number(number);
+    }
+
+    /// Adds a word, a space and a number.
+    pub fn push_field(&mut self, word: &[u8], number: u64)
+        requires { length self.old + length word.now + 21 ≤ 384 }
+        ensures bytes { self.new ≡ self.old ++ field word.now number }
+        ensures len { length self.new ≤ length self.old + length word.now + 21 }
+    {
+        self.push(word);
+        self.then_number(number);
+    }
+
+    /// Adds a field, and the most that it may be.
+    pub fn push_share(&mut self, word: &[u8], number: u64, most: u64)
+        requires { length self.old + length word.now + 45 ≤ 384 }
+        ensures bytes { self.new ≡ self.old ++ share word.now number most }
+        ensures len { length self.new ≤ length self.old + length word.now + 45 }
+    {
+        self.push_field(word, number);
+        self.push_field(b" of", most);
     }
 
     pub fn bytes(&self) -> &[u8]

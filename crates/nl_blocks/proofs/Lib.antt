@@ -1,0 +1,2 @@
+pub mod TableProofs
+pub mod TableLaws

@@ -1,0 +1,254 @@
+ghost use Rattle.std.specs.Prelude.{◌≡◌, ◌⊎◌, ℕ, ◌+◌, ◌-◌, ◌*◌, ◌/◌, ◌^◌, ◌<◌, ◌≤◌, ◌↔◌, length, true, IfOk, IfSome, IfNone, IsNone, IsSome};
+ghost use Rattle.nl_blocks.specs.Table.{BestOf, HasBlock, HasPage, IsLeastWornFree, IsNextPage, IsTable, after_erase, block_at, dead_count, erased_row, free_count, in_state, is_free, is_retired_state, is_sealed_state, is_free_state, names_of, new_table, page_at, taken, wear_of, with_block, with_page};
+
+use crate::Memory;
+use crate::row::{Block, state_with};
+use crate::states::{BlockState, PageState};
+use std::alloc::Global;
+use std::marker::Model;
+
+/// The blocks of one segment: the state and the wear of each, and the state of each page. Blocks and pages go by
+/// their numbers on the medium. No call but `new` takes memory.
+#[derive(Drop)]
+pub struct Blocks {
+    first: u32,
+    size: u32,
+    blocks: Vec<Block>,
+}
+
+impl Model for Blocks {
+    ghost use Rattle.nl_blocks.specs.Table.{Table, IsTable};
+
+    ghost Value = { Table };
+
+    ghost view = { λ b. record { first = b.first; size = b.size; blocks = b.blocks.items } };
+
+    ghost invariant = { λ b. IsTable (record { first = b.first; size = b.size; blocks = b.blocks.items }) };
+}
+
+impl Blocks {
+    /// `count` blocks of `pages` pages, the first of them number `first`. Every block is Free with wear 0, every
+    /// page Dead and not marked. The number behind the last page is below 2^32.
+    pub fn new(alloc: Global, first: u32, count: u32, pages: u32) -> Result<Blocks, Memory>
+        requires some { 0 < pages }
+        requires numbers { (first + count) * pages < 2 ^ 32 }
+        ensures { IfOk result (λ b. b ≡ new_table first count pages) }
+    {
+        let mut blocks = Vec::with_capacity(alloc, count as usize)?;
+        'made: for _ in 0..count {
+            blocks.push(Block::new(alloc, pages)?)?;
+        }
+        Ok(Blocks {
+            first,
+            size: pages,
+            blocks,
+        })
+    }
+
+    /// The number of the first block.
+    pub fn first(&self) -> u32
+        ensures { result ≡ self.now.first }
+    {
+        self.first
+    }
+
+    /// The number of blocks.
+    pub fn count(&self) -> u32
+        ensures value { result ≡ length self.now.blocks }
+        ensures table { IsTable self.now }
+    {
+        self.blocks.len() as u32
+    }
+
+    /// The number of pages of a block.
+    pub fn pages(&self) -> u32
+        ensures { result ≡ self.now.size }
+    {
+        self.size
+    }
+
+    pub fn state(&self, block: u32) -> BlockState
+        requires { HasBlock self.now block }
+        ensures { result ≡ (block_at self.now block).state }
+    {
+        self.blocks[(block - self.first) as usize].state()
+    }
+
+    pub fn page_state(&self, page: u32) -> PageState
+        requires { HasPage self.now page }
+        ensures { result ≡ (page_at self.now page).state }
+    {
+        self.blocks[(page / self.size - self.first) as usize].page_state(page % self.size)
+    }
+
+    /// How often the block was erased; it stands at 2^32 - 1.
+    pub fn wear(&self, block: u32) -> u32
+        requires { HasBlock self.now block }
+        ensures { result ≡ (block_at self.now block).wear }
+    {
+        self.blocks[(block - self.first) as usize].wear()
+    }
+
+    /// The number of the block's dead pages.
+    pub fn dead(&self, block: u32) -> u32
+        requires { HasBlock self.now block }
+        ensures { result ≡ dead_count (block_at self.now block) }
+    {
+        self.blocks[(block - self.first) as usize].dead()
+    }
+
+    /// The number of Free blocks.
+    pub fn free(&self) -> u32
+        ensures { result ≡ free_count self.now }
+    {
+        let mut count = 0;
+        for i in 0..self.blocks.len() {
+            if matches!(self.blocks[i].state(), BlockState::Free) {
+                count += 1;
+            }
+        }
+        count
+    }
+
+    /// The better of the best Free block so far and block `i`: the one with less wear.
+    fn better(&self, best: Option<usize>, i: usize) -> Option<usize>
+        requires within { i < length self.now.blocks }
+        requires so_far { BestOf is_free wear_of self.now.blocks i best }
+        ensures { BestOf is_free wear_of self.now.blocks (i + 1) result }
+    {
+        if !matches!(self.blocks[i].state(), BlockState::Free) {
+            return best;
+        }
+        let Some(b) = best else {
+            return Some(i);
+        };
+        if self.blocks[i].wear() < self.blocks[b].wear() {
+            Some(i)
+        } else {
+            Some(b)
+        }
+    }
+
+    /// The index of the Free block with the least wear, of equals the first.
+    fn least_worn(&self) -> Option<usize>
+        ensures best { BestOf is_free wear_of self.now.blocks (length self.now.blocks) result }
+        ensures some { IfSome result (λ _. 1 ≤ free_count self.now) }
+        ensures none { IfNone result (free_count self.now ≡ 0) }
+    {
+        let mut best = None;
+        for i in 0..self.blocks.len() {
+            best = self.better(best, i);
+        }
+        best
+    }
+
+    /// Gives out the Free block with the least wear, of equals the one with the least number; it becomes Active, with
+    /// no page marked. None exactly where fewer than 2 blocks are Free: one is kept for the cleaner.
+    pub fn take_free(&mut self) -> Option<u32>
+        ensures few { IsNone result ↔ (free_count self.old < 2) }
+        ensures chosen { IfSome result (λ block. IsLeastWornFree self.old block) }
+        ensures taken { IfSome result (λ block. self.new ≡ with_block self.old block (taken (block_at self.old block) BlockState.Active)) }
+        ensures none { IfNone result (self.new ≡ self.old) }
+    {
+        if self.free() < 2 {
+            return None;
+        }
+        let i = self.least_worn()?;
+        self.blocks[i].take(BlockState::Active);
+        Some(self.first + i as u32)
+    }
+
+    /// Gives out the Free block with the least wear, of equals the one with the least number, to the cleaner; it
+    /// becomes Target, with no page marked. None exactly where no block is Free.
+    pub fn take_reserve(&mut self) -> Option<u32>
+        ensures few { IsNone result ↔ (free_count self.old ≡ 0) }
+        ensures chosen { IfSome result (λ block. IsLeastWornFree self.old block) }
+        ensures taken { IfSome result (λ block. self.new ≡ with_block self.old block (taken (block_at self.old block) BlockState.Target)) }
+        ensures none { IfNone result (self.new ≡ self.old) }
+    {
+        let i = self.least_worn()?;
+        self.blocks[i].take(BlockState::Target);
+        Some(self.first + i as u32)
+    }
+
+    /// The first page of the block that was not marked since the block was taken, or since `new` where it never was.
+    /// None exactly where the block is full: each page was marked since.
+    pub fn next_page(&self, block: u32) -> Option<u32>
+        requires { HasBlock self.now block }
+        ensures some { IfSome result (λ page. IsNextPage self.now block page) }
+        ensures full { IsNone result ↔ ((page : ℕ) → page / self.now.size ≡ block → (page_at self.now page).marked ≡ true) }
+    {
+        let at = self.blocks[(block - self.first) as usize].next()?;
+        Some(block * self.size + at)
+    }
+
+    /// The page is Live, and marked.
+    pub fn mark_live(&mut self, page: u32)
+        requires { HasPage self.old page }
+        ensures { self.new ≡ with_page self.old page PageState.Live }
+    {
+        self.blocks[(page / self.size - self.first) as usize].mark(
+            page % self.size,
+            PageState::Live,
+        );
+    }
+
+    /// The page is Dead, and marked.
+    pub fn mark_dead(&mut self, page: u32)
+        requires { HasPage self.old page }
+        ensures { self.new ≡ with_page self.old page PageState.Dead }
+    {
+        self.blocks[(page / self.size - self.first) as usize].mark(
+            page % self.size,
+            PageState::Dead,
+        );
+    }
+
+    /// The block is Sealed.
+    pub fn seal(&mut self, block: u32)
+        requires { HasBlock self.old block }
+        ensures { self.new ≡ with_block self.old block (in_state (block_at self.old block) BlockState.Sealed) }
+    {
+        self.blocks[(block - self.first) as usize].set_state(BlockState::Sealed);
+    }
+
+    /// Makes a Sealed block the Victim.
+    pub fn choose(&mut self, block: u32)
+        requires has { HasBlock self.old block }
+        requires sealed { is_sealed_state (block_at self.old block).state ≡ true }
+        ensures { self.new ≡ with_block self.old block (in_state (block_at self.old block) BlockState.Victim) }
+    {
+        self.blocks[(block - self.first) as usize].set_state(BlockState::Victim);
+    }
+
+    /// The block was erased: it is Free where no name of its pages is in use, and else Retired with that many names.
+    /// Its wear is one more. Its pages keep their states.
+    pub fn erased(&mut self, block: u32, names: u32)
+        requires { HasBlock self.old block }
+        ensures { self.new ≡ with_block self.old block (erased_row (block_at self.old block) names) }
+    {
+        self.blocks[(block - self.first) as usize].erased(names);
+    }
+
+    /// Takes one name from a Retired block; on the last name it is Free.
+    pub fn name_gone(&mut self, block: u32)
+        requires has { HasBlock self.old block }
+        requires retired { is_retired_state (block_at self.old block).state ≡ true }
+        ensures { let row = block_at self.old block in self.new ≡ with_block self.old block (in_state row (after_erase (names_of row.state - 1))) }
+    {
+        let i = (block - self.first) as usize;
+        if let BlockState::Retired(names) = self.blocks[i].state() {
+            self.blocks[i].set_state(state_with(names.saturating_sub(1)));
+        }
+    }
+
+    /// Serves an opening: sets the wear of a block that is Free or Retired, and leaves it Free where no name of its
+    /// pages is in use, and else Retired with that many names.
+    pub fn found(&mut self, block: u32, wear: u32, names: u32)
+        requires has { HasBlock self.old block }
+        requires idle { (is_free_state (block_at self.old block).state ≡ true) ⊎ (is_retired_state (block_at self.old block).state ≡ true) }
+        ensures { self.new ≡ with_block self.old block (record { state = after_erase names; wear = wear; pages = (block_at self.old block).pages }) }
+    {
+        self.blocks[(block - self.first) as usize].found(wear, names);
+    }
+}

@@ -1,0 +1,13 @@
+//! States and wear of the blocks of one segment, and the states of their pages.
+#![tactic(auto)]
+
+mod blocks;
+mod row;
+mod states;
+
+pub use blocks::Blocks;
+pub use states::{BlockState, PageState};
+pub use std::alloc::AllocError as Memory;
+
+#[cfg(test)]
+mod tests;

@@ -1,0 +1,156 @@
+ghost use Rattle.std.specs.Prelude.{◌≡◌, ℕ, ◌^◌, ◌<◌, ◌≤◌, ◌↔◌, length, map, true, false, IfOk, IfSome, IsNone, slice_index_or};
+ghost use Rattle.nl_blocks.specs.Table.{after_erase, dead_count, erased_row, in_state, new_page, new_row, taken, unmarked, with_mark};
+
+use crate::Memory;
+use crate::states::{BlockState, Page, PageState};
+use std::alloc::Global;
+use std::marker::Model;
+
+/// What the table keeps of one block.
+#[derive(Drop)]
+pub struct Block {
+    state: BlockState,
+    wear: u32,
+    /// The number of its dead pages.
+    dead: u32,
+    pages: Vec<Page>,
+}
+
+impl Model for Block {
+    ghost use Rattle.std.specs.Prelude.{◌≡◌, ◌<◌, ◌^◌, length, count_by};
+    ghost use Rattle.nl_blocks.specs.Table.{BlockRow, is_dead};
+
+    ghost Value = { BlockRow };
+
+    ghost view = { λ b. record { state = b.state; wear = b.wear; pages = b.pages.items } };
+
+    ghost invariant = { λ b. (b.dead ≡ count_by is_dead b.pages.items) × (length b.pages.items < 2 ^ 32) };
+}
+
+impl Block {
+    /// A block of so many pages that was never used.
+    pub fn new(alloc: Global, size: u32) -> Result<Self, Memory>
+        ensures { IfOk result (λ b. b ≡ new_row size) }
+    {
+        let page = Page {
+            state: PageState::Dead,
+            marked: false,
+        };
+        let pages = vec![in alloc; page; size as usize]?;
+        Ok(Block {
+            state: BlockState::Free,
+            wear: 0,
+            dead: size,
+            pages,
+        })
+    }
+
+    pub fn state(&self) -> BlockState
+        ensures { result ≡ self.now.state }
+    {
+        self.state
+    }
+
+    pub fn wear(&self) -> u32
+        ensures { result ≡ self.now.wear }
+    {
+        self.wear
+    }
+
+    pub fn dead(&self) -> u32
+        ensures value { result ≡ dead_count self.now }
+        ensures few { result ≤ length self.now.pages }
+    {
+        self.dead
+    }
+
+    pub fn page_state(&self, at: u32) -> PageState
+        requires { at < length self.now.pages }
+        ensures { result ≡ (slice_index_or self.now.pages at new_page).state }
+    {
+        self.pages[at as usize].state
+    }
+
+    /// The first page that was not marked.
+    pub fn next(&self) -> Option<u32>
+        ensures some { IfSome result (λ at. at < length self.now.pages) }
+        ensures unmarked { IfSome result (λ at. (slice_index_or self.now.pages at new_page).marked ≡ false) }
+        ensures earlier { IfSome result (λ at. (k : ℕ) → k < at → (slice_index_or self.now.pages k new_page).marked ≡ true) }
+        ensures none { IsNone result ↔ ((k : ℕ) → k < length self.now.pages → (slice_index_or self.now.pages k new_page).marked ≡ true) }
+    {
+        for at in 0..self.pages.len() {
+            if !self.pages[at].marked {
+                return Some(at as u32);
+            }
+        }
+        None
+    }
+
+    pub fn set_state(&mut self, state: BlockState)
+        ensures { self.new ≡ in_state self.old state }
+    {
+        self.state = state;
+    }
+
+    pub fn found(&mut self, wear: u32, names: u32)
+        ensures { self.new ≡ record { state = after_erase names; wear = wear; pages = self.old.pages } }
+    {
+        self.wear = wear;
+        self.state = state_with(names);
+    }
+
+    /// One more erase; the wear stands at the end of its type.
+    pub fn erased(&mut self, names: u32)
+        ensures { self.new ≡ erased_row self.old names }
+    {
+        self.wear = self.wear.saturating_add(1);
+        self.state = state_with(names);
+    }
+
+    /// Gives the block out with no page marked.
+    pub fn take(&mut self, state: BlockState)
+        ensures { self.new ≡ taken self.old state }
+    {
+        self.state = state;
+        unmark(&mut self.pages);
+    }
+
+    pub fn mark(&mut self, at: u32, state: PageState)
+        requires { at < length self.old.pages }
+        ensures { self.new ≡ with_mark self.old at state }
+    {
+        let at = at as usize;
+        match (self.pages[at].state, state) {
+            (PageState::Dead, PageState::Live) => self.dead -= 1,
+            (PageState::Live, PageState::Dead) => self.dead += 1,
+            _ => {}
+        }
+        self.pages[at] = Page {
+            state,
+            marked: true,
+        };
+    }
+}
+
+/// The state of an erased block of which so many names are in use.
+pub fn state_with(names: u32) -> BlockState
+    ensures { result ≡ after_erase names }
+{
+    if names == 0 {
+        BlockState::Free
+    } else {
+        BlockState::Retired(names)
+    }
+}
+
+fn unmark(pages: &mut Vec<Page>)
+    ensures { pages.new.items ≡ map unmarked pages.old.items }
+{
+    for at in 0..pages.len() {
+        let page = pages[at];
+        pages[at] = Page {
+            state: page.state,
+            marked: false,
+        };
+    }
+}

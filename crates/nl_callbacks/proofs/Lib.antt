@@ -1,0 +1,3 @@
+pub mod IndexProofs
+pub mod ListsProofs
+pub mod PendingProofs

@@ -1,0 +1,6 @@
+use Rattle.std.proofs.Common.{arith}
+use Rattle.nl_field.proofs.CommitPage.{commit-reads}
+use Rattle.nl_field.proofs.commit.read.Goals as goal
+
+pub returns-clause-reads : goal.returns-clause-reads
+returns-clause-reads c = rw c.decode.ensures (commit-reads c.args.main.now (λ k. let byte = c.type_inv.main k in omega arith))

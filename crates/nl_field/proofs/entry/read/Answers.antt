@@ -1,0 +1,6 @@
+use Rattle.std.proofs.Common.{arith}
+use Rattle.nl_field.proofs.DirectoryEntry.{entry-reads}
+use Rattle.nl_field.proofs.entry.read.Goals as goal
+
+pub returns-clause-reads : goal.returns-clause-reads
+returns-clause-reads c = rw c.decode.ensures (entry-reads c.args.bytes.now (λ k. let byte = c.type_inv.bytes k in omega arith))

@@ -1,0 +1,2 @@
+pub mod LinksProofs
+pub mod TableProofs

@@ -1,0 +1,5 @@
+pub mod OnLiterals
+pub mod Splits
+pub mod Digits
+pub mod Placed
+pub mod Steps

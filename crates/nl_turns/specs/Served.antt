@@ -1,0 +1,81 @@
+-- What a value behind the lock does in one turn, and the entry of that turn.
+use Rattle.std.specs.Prelude.{◌≡◌, ◌≢◌, ◌⊎◌, ℕ, ◌+◌, ◌<◌, ◌++◌, [], ◌∷◌, Bool, true, false, List, Some, IfSome}
+use Rattle.nl_field.specs.CrashStates.{saturated, Rose}
+use Rattle.nl_tree.specs.Causes.{Counts, HasCause}
+use Rattle.nl_tree.specs.Step.{Outcome}
+use Rattle.nl_tree.specs.Replay.{step_marked}
+use Rattle.nl_tree.specs.declared.call.Call.{Call}
+use Rattle.nl_tree.specs.declared.call.Line.{Line}
+use Rattle.nl_tree.specs.declared.reply.Reply.{Reply}
+use Rattle.nl_tree.specs.declared.reply.Reply.TheVariants.{Synced, Fault as FaultAnswer}
+use Rattle.nl_tree.specs.declared.turn.Stage.{Stage}
+use Rattle.nl_tree.specs.declared.turn.Stage.TheVariants.{Staged}
+use Rattle.nl_turns.specs.History.{Opening, effects, fault_of, line_at, tree_after, opening_counts}
+use Rattle.nl_turns.specs.declared.entry.Entry.{Entry}
+use Rattle.nl_turns.specs.declared.entry.FaultMark.{FaultMark}
+use Rattle.nl_turns.specs.declared.entry.FaultMark.TheVariants.{NoFault, Fault}
+use Rattle.nl_turns.specs.declared.entry.SyncMark.{SyncMark}
+use Rattle.nl_turns.specs.declared.entry.SyncMark.TheVariants.{NoSync, At}
+
+-- ---- the entry of a turn
+
+abbrev pub is_staged : Stage → Bool
+is_staged Staged = true
+is_staged _ = false
+
+abbrev pub fault_mark : Reply → FaultMark
+fault_mark (FaultAnswer fault) = Fault fault
+fault_mark _ = NoFault
+
+abbrev pub sync_mark : Reply → SyncMark
+sync_mark (Synced upto moment) = At upto moment
+sync_mark _ = NoSync
+
+abbrev pub stage_entry : ℕ → Stage → Entry
+stage_entry line answer = record { line = 0; staged = line; more = is_staged answer; fault = NoFault; synced = NoSync }
+
+abbrev pub effect_entry : ℕ → Reply → Entry
+effect_entry line reply = record { line = line; staged = 0; more = false; fault = fault_mark reply; synced = sync_mark reply }
+
+abbrev pub duty_entry : Entry
+duty_entry = record { line = 0; staged = 0; more = false; fault = NoFault; synced = NoSync }
+
+-- ---- what a call may be asked, and what it does
+
+-- the opening has this line, of this worker and with this call
+pub record IsLineOf (opening : Opening) (worker line : ℕ) (call : Call) : Type 0 where
+  pub numbered : 0 < line
+  pub found : (l : Line) × (line_at opening.lines line ≡ Some l) × (l.worker ≡ worker) × (l.call ≡ call)
+
+module _ {V : Type 0} (stands : Opening → List Entry → V → Type 0) (value : V) where
+  abbrev pub StandsForSome : Type 0
+  StandsForSome = (opening : Opening) × (history : List Entry) × stands opening history value
+
+  abbrev pub StandsForSomeWithLine : ℕ → ℕ → Call → Type 0
+  StandsForSomeWithLine worker line call = (opening : Opening) × (history : List Entry) × stands opening history value × IsLineOf opening worker line call
+
+  -- P holds from each opening and history for which the value stands and which have the line
+  abbrev pub FromEachWithLine : ℕ → ℕ → Call → (Opening → List Entry → Type 0) → Type 0
+  FromEachWithLine worker line call P =
+      (opening : Opening) (history : List Entry) → stands opening history value → IsLineOf opening worker line call → P opening history
+
+-- the sum of the opening's count and of the effects with this one
+abbrev pub place_due : Opening → List Entry → ℕ → Reply → ℕ
+place_due opening history line reply = saturated (opening.count + effects (history ++ effect_entry line reply ∷ []))
+
+-- what is due on the tree after the history, with the fault of the reply, if it is one
+abbrev pub outcome_due : Opening → List Entry → Call → Reply → Outcome
+outcome_due opening history call reply = step_marked opening.shape (tree_after opening history) (call, fault_of (fault_mark reply))
+
+-- a fault reply has its cause between the opening and now
+abbrev pub FaultHasCause : Type 0 → Opening → Counts → Call → Reply → Type 0
+FaultHasCause tells opening now call reply =
+    IfSome (fault_of (fault_mark reply)) (HasCause tells (opening_counts opening) now opening.next_stamp call)
+
+-- an operation of the medium failed, by its counts before and after
+abbrev pub FaultRose : Counts → Counts → Type 0
+FaultRose before now = Rose before.read_faults now.read_faults ⊎ Rose before.write_faults now.write_faults
+
+-- a page did not hold the wanted stamp, which cannot be over a medium that tells its contents
+abbrev pub LostHasCause : Type 0 → ℕ → ℕ → Type 0
+LostHasCause tells wanted found = (tells → ⊥) × (wanted ≢ found)

@@ -1,0 +1,18 @@
+//! A ticket lock over one value, and the history of its turns.
+#![tactic(auto)]
+
+mod entry;
+mod kept;
+mod plays;
+pub mod rows;
+mod seat;
+mod served;
+mod steps;
+mod table;
+mod turns;
+
+pub use entry::{Entry, FaultMark, SyncMark};
+pub use kept::Kept;
+pub use seat::{Turn, TurnSeat};
+pub use served::Served;
+pub use turns::Turns;

@@ -1,0 +1,87 @@
+//! What each step on the table tells.
+use crate::kept::Kept;
+use crate::table::SeatView;
+use atomic_table::{Join, Play, Split};
+use std::marker::{Brand, PhantomData};
+
+pub(crate) struct Draw;
+
+impl<V> Play<Option<V>, SeatView> for Draw {
+    ghost use Rattle.nl_turns.specs.Steps.{draws};
+
+    ghost then = { draws };
+}
+
+pub(crate) struct Look;
+
+impl<V: Kept> Play<Option<V>, SeatView> for Look {
+    ghost use Rattle.nl_turns.specs.Rule.{by_entries};
+    ghost use Rattle.nl_turns.specs.Steps.{looks};
+
+    ghost then = { looks (by_entries V.stands) };
+}
+
+pub(crate) struct Park;
+
+impl<V> Play<Option<V>, SeatView> for Park {
+    ghost use Rattle.nl_turns.specs.Steps.{parks};
+
+    ghost then = { parks };
+}
+
+pub(crate) struct Fetch;
+
+impl<V> Play<Option<V>, SeatView> for Fetch {
+    ghost use Rattle.nl_turns.specs.Steps.{fetches};
+
+    ghost then = { fetches };
+}
+
+/// The entry that a step adds. Each call picks it.
+pub(crate) trait Says {
+    ghost use Rattle.nl_turns.specs.declared.entry.Entry.{Entry};
+
+    ghost entry: { Entry };
+}
+
+impl Says for Brand {
+    ghost use Rattle.nl_turns.specs.Served.{duty_entry};
+
+    ghost entry = { duty_entry };
+}
+
+pub(crate) struct Add<E> {
+    said: PhantomData<E>,
+}
+
+impl<V, E: Says> Play<Option<V>, SeatView> for Add<E> {
+    ghost use Rattle.nl_turns.specs.Steps.{adds};
+
+    ghost then = { adds E.entry };
+}
+
+pub(crate) struct Settle;
+
+impl<V> Play<Option<V>, SeatView> for Settle {
+    ghost use Rattle.nl_turns.specs.Steps.{settles};
+
+    ghost then = { settles };
+}
+
+pub(crate) struct Seats;
+
+impl Split<SeatView> for Seats {
+    ghost use Rattle.nl_turns.specs.Steps.{after_split, newcomer};
+
+    ghost left = { after_split };
+
+    ghost right = { newcomer };
+}
+
+impl Join<SeatView> for Seats {
+    ghost use Rattle.nl_turns.specs.Steps.{after_join, spent_view};
+
+    ghost both = { after_join };
+
+    ghost spent = { spent_view };
+}

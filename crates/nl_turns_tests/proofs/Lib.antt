@@ -1,0 +1,4 @@
+pub mod Turned
+pub mod OneMore
+pub mod Totals
+pub mod RoundSums

@@ -1,0 +1,27 @@
+use Rattle.std.proofs.Common.{rules, ◌≡◌, ℕ, ◌+◌, ◌++◌, ◌∷◌, [], replicate, ap, ◌∙◌, subst, append_assoc}
+use Rattle.std.proofs.lemmas.List.{replicate_more}
+use Rattle.nl_tree.specs.declared.turn.Stage.{Stage}
+use Rattle.nl_tree.specs.declared.turn.Stage.TheVariants.{Staged}
+use Rattle.nl_turns.specs.Seat.{SeatState}
+use Rattle.nl_turns.specs.Served.{stage_entry}
+use Rattle.nl_turns_tests.specs.Work.{entries_of}
+use Rattle.nl_turns.proofs.Histories.{prefix_trans}
+use Rattle.nl_turns_tests.proofs.line.run_line.Goals as goal
+
+pub loop-preserved : goal.loop-preserved
+loop-preserved g c =
+    let i = c.loop.invariant in
+    let s = c.stage_turn.ensures in
+    let n = c.args.seat.number in
+    let line = c.args.line.now.line in
+    let number : c.loop.seat.number ≡ n = ap (λ (z : SeatState). z.number) i.same in
+    let more : c.stage_turn.result ≡ Staged = search rules in
+    let did : entries_of n c.stage_turn.new.seat.seen ≡ entries_of n c.loop.seat.seen ++ stage_entry line Staged ∷ [] = subst (λ (z : ℕ × Stage). entries_of z.0 c.stage_turn.new.seat.seen ≡ entries_of z.0 c.loop.seat.seen ++ stage_entry line z.1 ∷ []) (λ k. (number k, more k)) s.own in
+    record {
+      same = search rules;
+      grows = prefix_trans c.args.seat.seen c.loop.seat.seen c.stage_turn.new.seat.seen i.grows s.grows;
+      own = (
+        i.own.0 + 1,
+        did ∙ (ap (λ xs. xs ++ stage_entry line Staged ∷ []) i.own.1 ∙ (append_assoc (entries_of n c.args.seat.seen) (replicate i.own.0 (stage_entry line Staged)) (stage_entry line Staged ∷ []) ∙ ap (λ xs. entries_of n c.args.seat.seen ++ xs) (replicate_more i.own.0 (stage_entry line Staged)))),
+      );
+    }

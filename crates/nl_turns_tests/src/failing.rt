@@ -1,0 +1,83 @@
+ghost use Rattle.std.specs.Prelude.{◌≡◌, ◌+◌, ⊤};
+
+use nl_tree::{Answered, Call, Duty, DutyAnswer, FaultReply, Reply, ReplyBuf, Stage};
+use nl_turns::{Kept, Served};
+
+const WORKERS: usize = 16;
+
+/// A volume whose medium fails each read, so that no call succeeds. It stages one page of a line before each effect.
+#[derive(Drop)]
+pub struct FailingVolume {
+    /// The effects so far, at most 2^64 - 1.
+    pub calls: u64,
+    /// The failed reads so far, at most 2^64 - 1.
+    pub faults: u64,
+    /// The line of which a page is staged, for each worker, or 0.
+    staged: [u32; 16],
+}
+
+impl FailingVolume {
+    pub fn new() -> Self
+        ensures calls { result.calls ≡ 0 }
+        ensures faults { result.faults ≡ 0 }
+    {
+        FailingVolume {
+            calls: 0,
+            faults: 0,
+            staged: [0; WORKERS],
+        }
+    }
+}
+
+impl Kept for FailingVolume {
+    ghost use Rattle.nl_turns_tests.specs.Failing.{failing_opening, FailingStands};
+
+    ghost opening = { λ v. failing_opening v.calls v.faults };
+
+    ghost stands = { λ o h v. FailingStands o h v.calls v.faults };
+}
+
+impl Served for FailingVolume {
+    ghost use Rattle.std.specs.Prelude.{⊤};
+    ghost use Rattle.nl_turns_tests.specs.Failing.{failing_counts};
+
+    ghost tells = { ⊤ };
+
+    ghost counts = { λ v. failing_counts v.faults };
+
+    ghost posted = { λ _. 0 };
+
+    ghost free_blocks = { λ _. 6 };
+
+    fn stage(&mut self, worker: u8, line: u32, _call: &Call) -> Stage {
+        let at = usize::from(worker) % WORKERS;
+        if self.staged[at] == line {
+            return Stage::Whole;
+        }
+        self.staged[at] = line;
+        Stage::Staged
+    }
+
+    fn effect(&mut self, worker: u8, _line: u32, _call: &Call, out: &mut ReplyBuf) -> Answered {
+        self.staged[usize::from(worker) % WORKERS] = 0;
+        self.calls = self.calls.saturating_add(1);
+        self.faults = self.faults.saturating_add(1);
+        out.clear();
+        Answered {
+            place: self.calls,
+            reply: Reply::Fault(FaultReply::Eio(self.faults)),
+        }
+    }
+
+    fn duty(&mut self, _which: Duty) -> DutyAnswer {
+        DutyAnswer::Nothing
+    }
+
+    fn posted(&self) -> u64 {
+        0
+    }
+
+    fn free_blocks(&self) -> u32 {
+        6
+    }
+}

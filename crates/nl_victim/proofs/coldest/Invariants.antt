@@ -1,0 +1,6 @@
+use Rattle.std.proofs.Common.{◌+◌}
+use Rattle.nl_victim.specs.Search.{ColdestBelow}
+use Rattle.nl_victim.proofs.coldest.Given as goal
+
+abbrev pub invariant-loop-i : goal.invariant-loop-i
+invariant-loop-i l = ColdestBelow l.blocks (l.blocks.first + l.i) l.best
