@@ -2,7 +2,7 @@
 use Rattle.std.proofs.Common.{◌≡◌, ◌++◌, [], ◌∷◌, refl}
 use Rattle.std.specs.Prelude.{codes, Some, None}
 use Rattle.hex.specs.Hex.{decode_pairs}
-use Rattle.nl_field.specs.EntryRecord.{is_name}
+use Rattle.nl_field.specs.Names.{is_name}
 use Rattle.nl_tree.specs.declared.call.Call.TheVariants.{Create, Write, Read}
 use Rattle.nl_top.specs.Form.{script_lines, numbered}
 

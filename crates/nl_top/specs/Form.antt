@@ -7,7 +7,7 @@ use Rattle.std.specs.Str.Parse.{digits_value}
 use Rattle.std.specs.Char.{is_ascii_digit}
 use Rattle.hex.specs.Hex.{decode_of}
 use Rattle.nl_field.specs.Numbers.{max_name}
-use Rattle.nl_field.specs.EntryRecord.{is_name}
+use Rattle.nl_field.specs.Names.{is_name}
 use Rattle.nl_tree.specs.declared.call.Call.{Call}
 use Rattle.nl_tree.specs.declared.call.Call.TheVariants.{Create, Write, Read}
 use Rattle.nl_tree.specs.declared.call.Line.{Line}

@@ -2,7 +2,7 @@
 use Rattle.std.specs.Prelude.{◌≡◌, ◌≤◌, ℕ, ◌+◌, true, List, length, map}
 use Rattle.std.specs.List.{AllByRecursion}
 use Rattle.nl_field.specs.Numbers.{max_name}
-use Rattle.nl_field.specs.EntryRecord.{is_name}
+use Rattle.nl_field.specs.Names.{is_name}
 use Rattle.nl_tree.specs.declared.call.Call.{Call}
 use Rattle.nl_tree.specs.declared.call.Call.TheVariants.{Create, Write, Read}
 use Rattle.nl_tree.specs.declared.call.Line.{Line}

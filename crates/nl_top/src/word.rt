@@ -2,7 +2,7 @@
 ghost use Rattle.std.specs.Prelude.{◌≡◌, ◌<◌, ◌≤◌, [], ◌∷◌, length, IfOk, IfSome, MatchOption, ◌==◌, ◌&&◌, ◌||◌, nat_le, bytes_eq, codes, true, false};
 ghost use Rattle.std.specs.Char.{is_ascii_digit, digit_value};
 ghost use Rattle.std.specs.List.{list_all, position};
-ghost use Rattle.nl_field.specs.EntryRecord.{is_name_byte, is_name};
+ghost use Rattle.nl_field.specs.Names.{is_name_byte, is_name};
 ghost use Rattle.nl_field.specs.Numbers.{max_name};
 ghost use Rattle.nl_top.specs.Form.{parts_at, path_of, number_of, data_of};
 ghost use Rattle.nl_top.specs.Plain.{IsOneName};
@@ -47,7 +47,7 @@ fn is_dots(name: &[u8]) -> bool
 }
 
 // Whether these are 1 to 55 bytes of a name.
-#[tactic(auto, unfolding(nl_field::specs::EntryRecord::is_name))]
+#[tactic(auto, unfolding(nl_field::specs::Names::is_name))]
 fn is_short_name(name: &[u8]) -> bool
     ensures { result ≡ (is_name name.now && nat_le (length name.now) max_name) }
 {
