@@ -1,5 +1,5 @@
 -- A medium all of whose pages are erased.
-use Rattle.std.proofs.Common.{◌≡◌, ◌<◌, ◌≤◌, ℕ, ◌*◌, ◌==◌, true, List, length, ap, ◌∙◌, le_trans, le_of_eq, inl, inr}
+use Rattle.std.proofs.Common.{◌≡◌, ◌<◌, ◌≤◌, ℕ, ◌*◌, ◌==◌, true, length, ap, ◌∙◌, le_trans, le_of_eq, inl, inr}
 use Rattle.std.proofs.lemmas.Bool.{and_parts, eqb-true, cases_lt}
 use Rattle.std.proofs.lemmas.List.{get_or_past}
 use Rattle.std.specs.List.{list_all}

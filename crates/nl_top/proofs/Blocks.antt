@@ -1,5 +1,5 @@
 -- A page of a medium whose later pages are erased can be programmed.
-use Rattle.std.proofs.Common.{◌≡◌, ℕ, ◌+◌, ◌*◌, ◌/◌, ◌%◌, ◌<◌, ◌≤◌, zero, suc, arith, le_trans, subst, sym}
+use Rattle.std.proofs.Common.{◌≡◌, ℕ, ◌+◌, ◌*◌, ◌/◌, ◌<◌, ◌≤◌, zero, suc, arith, subst, sym}
 use Rattle.nl_field.specs.Page.{Image}
 use Rattle.nl_nand.specs.Nand.{CanProgram}
 use Rattle.nl_top.specs.Files.{IsErasedFrom}

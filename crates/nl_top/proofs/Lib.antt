@@ -1,6 +1,7 @@
 mod Answering
 mod AllErased
 mod Blocks
+mod Complete
 pub mod Contents
 pub mod Digits
 mod Ending

@@ -19,7 +19,7 @@ use Rattle.nl_top.specs.declared.files.FileEntry.{FileEntry}
 use Rattle.nl_top.specs.declared.lists.Ordered.{Ordered}
 use Rattle.nl_top.specs.Execution.{Executed, risen, programs_of, outcome_of, outcome_at, outcomes, tree_after, Begins, CountsPrograms, FaultsNumbered, sum_after, fault_of, answered_of}
 use Rattle.nl_top.specs.Files.{HasFiles, contents_of, Replies}
-use Rattle.nl_top.specs.Run.{answers_in, lines_in, ordered, Executes, finished_in, AnswersAll, HasRun}
+use Rattle.nl_top.specs.Run.{answers_in, ordered, Executes, finished_in, AnswersAll, HasRun}
 
 -- ---- one more at the end of each list
 

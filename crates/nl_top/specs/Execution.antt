@@ -1,5 +1,5 @@
 -- The sequential execution of a script on a medium on which each write of at least a byte programs one further page.
-use Rattle.std.specs.Prelude.{◌≡◌, ℕ, zero, suc, ◌+◌, ◌≤◌, min, nat_le, nat_lt, ◌&&◌, if◌then◌else◌, List, [], ◌∷◌, length, map, sum_by, count_by, is_some, Option, Some, None, ⊤}
+use Rattle.std.specs.Prelude.{◌≡◌, ℕ, zero, suc, ◌+◌, ◌≤◌, min, nat_le, nat_lt, ◌&&◌, if◌then◌else◌, List, [], ◌∷◌, length, Option, Some, None, ⊤}
 use Rattle.nl_field.specs.CrashStates.{saturated}
 use Rattle.nl_field.specs.declared.shape.Shape.{Shape}
 use Rattle.nl_tree.specs.Tree.{Tree}

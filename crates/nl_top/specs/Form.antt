@@ -1,6 +1,6 @@
 -- The form of a script, as a definition on its bytes: each line is `0 create /N`, `0 write /N F D` or `0 read /N F L`, with one space between
 -- words and a line feed at its end.
-use Rattle.std.specs.Prelude.{ℕ, ◌+◌, ◌^◌, ◌==◌, nat_lt, nat_le, Bool, ◌&&◌, if◌then◌else◌, List, [], ◌∷◌, length, map, sum_by, codes, bytes_eq, Option, Some, None, option_map}
+use Rattle.std.specs.Prelude.{ℕ, ◌+◌, ◌^◌, ◌==◌, nat_lt, nat_le, Bool, ◌&&◌, if◌then◌else◌, List, [], ◌∷◌, length, sum_by, codes, bytes_eq, Option, Some, None, option_map}
 use Rattle.std.specs.List.{slice_split, list_all}
 use Rattle.std.specs.Result.{result_ok}
 use Rattle.std.specs.Str.Parse.{digits_value}

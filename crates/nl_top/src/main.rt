@@ -28,19 +28,20 @@ const MEDIUM_FAULT: u8 = 5;
 
 const NO_MEMORY: u8 = 6;
 
+/// The most words that are read.
+const MOST_WORDS: u32 = 1000;
+
 // The words of the command line, and `run` where there are none.
 fn words_of(rt: &HostRuntime, alloc: Global) -> Result<Words, Memory> {
     let mut words = Words::new(alloc);
-    let mut some = false;
     if let Ok(args) = env::args(rt) {
-        for (i, word) in args.enumerate() {
-            if i > 0 && i < 1000 {
+        for word in args.skip(1) {
+            if words.len() < MOST_WORDS {
                 words.push(word.as_bytes())?;
-                some = true;
             }
         }
     }
-    if !some {
+    if words.len() == 0 {
         words.push(b"run")?;
     }
     Ok(words)

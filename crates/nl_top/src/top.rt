@@ -176,19 +176,13 @@ fn run_lines<K: Sink, M: Nand>(
     }
 }
 
-/// Answers the words of a command line: `run` reads a script from the source, runs it on the medium, and prints the
-/// answers into the sink. All of it runs on the calling thread, and the gate is not asked.
-///
-/// Statuses: 0; 2 for faulty words, and for a script or a medium that is not of the form (`unbuilt`); 3 where the source
-/// failed; 4 where the sink failed; 5 where the medium failed; 6 for want of memory, before the medium is touched.
-pub fn nameless<Rt: Threads + Wait + Sync, S: Source, K: Sink, M: Nand + Send, G: Gate + Sync>(
-    rt: &Rt,
+// Answers the words of a command line.
+fn answer_words<S: Source, K: Sink, M: Nand>(
     alloc: Global,
     words: &Words,
     src: &mut S,
     sink: &mut K,
     media: M,
-    gate: &G,
 ) -> Done<M>
     ensures ended { Ends M.tells words.now (stream (S.left src.old) (S.faults src.old)) (stream (S.left src.new) (S.faults src.new))
         (stream (K.taken sink.old) (K.faults sink.old)) (stream (K.taken sink.new) (K.faults sink.new))
@@ -197,8 +191,6 @@ pub fn nameless<Rt: Threads + Wait + Sync, S: Source, K: Sink, M: Nand + Send, G
         result.order.items result.status }
     ensures syncs { result.syncs.items ≡ [] }
 {
-    let _ = rt;
-    let _ = gate;
     let mut media = media;
     if !is_run(words) {
         return ended(alloc, 2, b"words", sink, media);
@@ -224,4 +216,37 @@ pub fn nameless<Rt: Threads + Wait + Sync, S: Source, K: Sink, M: Nand + Send, G
         Look::Failed => return ended(alloc, 5, b"medium fault", sink, media),
     }
     run_lines(alloc, shape, tables, lines, sink, media)
+}
+
+/// Answers the words of a command line: `run` reads a script from the source, runs it on the medium, and prints the
+/// answers into the sink. All of it runs on the calling thread, and the gate is not asked.
+///
+/// Statuses: 0; 2 for faulty words, and for a script or a medium that is not of the form (`unbuilt`); 3 where the source
+/// failed; 4 where the sink failed; 5 where the medium failed; 6 for want of memory, before the medium is touched.
+pub fn nameless<Rt: Threads + Wait + Sync, S: Source, K: Sink, M: Nand + Send, G: Gate + Sync>(
+    rt: &Rt,
+    alloc: Global,
+    words: &Words,
+    src: &mut S,
+    sink: &mut K,
+    media: M,
+    gate: &G,
+) -> Done<M>
+    ensures ended { Ends M.tells words.now (stream (S.left src.old) (S.faults src.old)) (stream (S.left src.new) (S.faults src.new))
+        (stream (K.taken sink.old) (K.faults sink.old)) (stream (K.taken sink.new) (K.faults sink.new))
+        (medium (M.geometry media) (M.contents media) (M.clock media) (M.read_faults media) (M.write_faults media))
+        (medium (M.geometry result.media) (M.contents result.media) (M.clock result.media) (M.read_faults result.media) (M.write_faults result.media))
+        result.order.items result.status }
+    ensures syncs { result.syncs.items ≡ [] }
+
+    // A script of the form is run on a medium of the form, unless something fails or memory is wanting.
+    ensures complete { words.now ≡ run_words → (bytes : List ℕ) → S.left src.old ≡ Some bytes → (lines : List Line) → script_lines bytes ≡ Some lines
+        → M.tells → IsTrue (is_legal (M.geometry media).blocks (M.geometry media).pages) → IsBlank (M.contents media)
+        → (Rose (S.faults src.old) (S.faults src.new) → ⊥) → (Rose (K.faults sink.old) (K.faults sink.new) → ⊥)
+        → (Rose (M.read_faults media) (M.read_faults result.media) ⊎ Rose (M.write_faults media) (M.write_faults result.media) → ⊥)
+        → (result.status ≡ 0) ⊎ (result.status ≡ 6) }
+{
+    let _ = rt;
+    let _ = gate;
+    answer_words(alloc, words, src, sink, media)
 }

@@ -1,9 +1,7 @@
 use Rattle.std.proofs.Common.{◌≡◌, ℕ, ◌*◌, List, [], ◌∷◌, ap, ◌∙◌, sym, subst, None, take, drop}
-use Rattle.nl_tree.specs.declared.call.Call.{Call}
 use Rattle.nl_tree.specs.declared.call.Call.TheVariants.{Create, Read}
 use Rattle.nl_top.specs.Files.{contents_of, Replies}
 use Rattle.nl_top.specs.Execution.{outcome_of, fault_of}
-use Rattle.nl_top.specs.declared.files.FileEntry.{FileEntry}
 use Rattle.nl_top.proofs.Named.{Contents}
 use Rattle.nl_top.proofs.SameCall.{same_call, plainly}
 use Rattle.nl_top.proofs.run.apply.Goals as goal

@@ -1,4 +1,4 @@
-use Rattle.std.proofs.Common.{◌≡◌, ◌<◌, ℕ, ◌+◌, ◌-◌, ◌*◌, ◌≤◌, List, [], ◌∷◌, ◌++◌, length, take, drop, sum_by, refl, sym, ◌∙◌, ap, subst, arith, length-append, le_trans}
+use Rattle.std.proofs.Common.{◌≡◌, ℕ, ◌+◌, ◌-◌, ◌*◌, ◌≤◌, List, [], ◌∷◌, ◌++◌, length, take, drop, sum_by, refl, sym, ◌∙◌, ap, subst, arith, length-append, le_trans}
 use Rattle.std.proofs.lemmas.List.{append_assoc}
 use Rattle.std.proofs.lemmas.List.Sums.{sum_by_push}
 use Rattle.std.proofs.lemmas.Grind.{common_steps}
@@ -12,7 +12,7 @@ use Rattle.nl_top.specs.declared.answers.Answer.{Answer}
 use Rattle.nl_top.specs.declared.files.FileEntry.{FileEntry}
 use Rattle.nl_top.specs.declared.lists.Ordered.{Ordered}
 use Rattle.nl_top.specs.Execution.{most_bytes, fault_of, outcome_of}
-use Rattle.nl_top.specs.Files.{IsFile, Fits, Replies, contents_of}
+use Rattle.nl_top.specs.Files.{Replies, contents_of}
 use Rattle.nl_top.specs.Run.{HasRun}
 use Rattle.nl_top.proofs.OneMore.{AnswersLine, has_run_more, has_run_none, has_run_at}
 use Rattle.nl_top.proofs.Steps.{no_files}

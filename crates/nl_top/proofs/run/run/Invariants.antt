@@ -1,4 +1,4 @@
-use Rattle.std.proofs.Common.{◌≡◌, ◌≤◌, ◌+◌, ◌*◌, ℕ, List, ◌++◌, length, vec_len, sum_by}
+use Rattle.std.proofs.Common.{◌≡◌, ◌≤◌, ◌+◌, ◌*◌, ◌++◌, length, vec_len, sum_by}
 use Rattle.std.specs.Prelude.{vec_capacity, All}
 use Rattle.std.specs.Vec.Iter.{into_iter_items}
 use Rattle.nl_top.specs.Execution.{most_bytes}

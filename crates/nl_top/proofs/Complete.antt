@@ -1,0 +1,58 @@
+-- A script of the form is run on a medium of the form, unless something fails.
+use Rattle.std.proofs.Common.{◌≡◌, ◌⊎◌, ◌<◌, ◌+◌, ℕ, Bool, IsTrue, false, List, [], ◌++◌, length, refl, sym, ap, ◌∙◌, subst, inl, inr, arith, length-append, Option, Some, None}
+use Rattle.std.proofs.lemmas.List.{append-nil}
+use Rattle.std.proofs.lemmas.Bool.Decides.{nat_tests}
+use Rattle.std.specs.Prelude.{option_map, nat_le, if◌then◌else◌, IfSome}
+use Rattle.nl_field.specs.CrashStates.{Rose}
+use Rattle.nl_field.specs.Numbers.{is_legal}
+use Rattle.nl_nand.specs.Nand.{IsBlank}
+use Rattle.nl_tree.specs.declared.call.Line.{Line}
+use Rattle.nl_top.specs.declared.lists.Ordered.{Ordered}
+use Rattle.nl_top.specs.Form.{script_lines, max_script, lines_within, calls_of, parts_at}
+use Rattle.nl_top.specs.Top.{Stream, Medium, MediumRose, NotAScript, Ends, run_words, faulty_words, source_fault, no_memory, medium_fault, unbuilt, ran}
+
+-- what was left, in two parts
+parts : (bytes read : List ℕ) (left : Option (List ℕ)) → Some bytes ≡ option_map (λ rest. read ++ rest) left → (rest : List ℕ) × (left ≡ Some rest) × (bytes ≡ read ++ rest)
+parts bytes read None is = cc
+parts bytes read (Some rest) is = (rest, refl, cc)
+
+none_left : (left : Option (List ℕ)) (rest : List ℕ) → left ≡ Some rest → IfSome left (λ r. r ≡ []) → rest ≡ []
+none_left left rest is none = let at = subst (λ (o : Option (List ℕ)). IfSome o (λ r. r ≡ [])) is none in at
+
+too_long : (bytes : List ℕ) → max_script < length bytes → script_lines bytes ≡ None
+unfolding script_lines
+too_long bytes long =
+    let no : nat_le (length bytes) max_script ≡ false = grind (arith, nat_tests) in
+    ap (λ (b : Bool). if b then lines_within (calls_of (parts_at 10 bytes)) else None) no
+
+not_none : (o : Option (List Line)) (lines : List Line) → o ≡ None → o ≡ Some lines → ⊥
+not_none o lines none some = cc
+
+a_script : (source source' : Stream) (bytes : List ℕ) (lines : List Line) → source.bytes ≡ Some bytes → script_lines bytes ≡ Some lines → NotAScript source source' → ⊥
+a_script source source' bytes lines left some (inl (read, whole, none)) =
+    let two = parts bytes read source'.bytes (sym left ∙ whole.read) in
+    let all : bytes ≡ read = two.2 ∙ ap (λ (r : List ℕ). read ++ r) (none_left source'.bytes two.0 two.1 whole.none_left) ∙ append-nil read in
+    not_none (script_lines bytes) lines (ap script_lines all ∙ none) some
+a_script source source' bytes lines left some (inr (read, long, is)) =
+    let two = parts bytes read source'.bytes (sym left ∙ is) in
+    let more : length bytes ≡ length read + length two.0 = ap (λ (b : List ℕ). length b) two.2 ∙ length-append read two.0 in
+    not_none (script_lines bytes) lines (too_long bytes (omega (arith, more, long))) some
+
+not_both : (b : Bool) → IsTrue b → b ≡ false → ⊥
+not_both b is not = cc
+
+pub complete : (tells : Type 0) (words : List (List ℕ)) (source source' sink sink' : Stream) (medium medium' : Medium) (order : List Ordered) (status : ℕ)
+    → words ≡ run_words → (bytes : List ℕ) → source.bytes ≡ Some bytes → (lines : List Line) → script_lines bytes ≡ Some lines
+    → tells → IsTrue (is_legal medium.geometry.blocks medium.geometry.pages) → IsBlank medium.contents
+    → (Rose source.faults source'.faults → ⊥) → (Rose sink.faults sink'.faults → ⊥) → (MediumRose medium medium' → ⊥)
+    → Ends tells words source source' sink sink' medium medium' order status → (status ≡ 0) ⊎ (status ≡ 6)
+complete tells words source source' sink sink' medium medium' order status run bytes left lines script t legal blank no_source no_sink no_medium (faulty_words not two same ends) = absurd (not run)
+complete tells words source source' sink sink' medium medium' order status run bytes left lines script t legal blank no_source no_sink no_medium (source_fault is three rose ends) = absurd (no_source rose)
+complete tells words source source' sink sink' medium medium' order status run bytes left lines script t legal blank no_source no_sink no_medium (no_memory is six ends) = inr six
+complete tells words source source' sink sink' medium medium' order status run bytes left lines script t legal blank no_source no_sink no_medium (medium_fault is five rose ends) = absurd (no_medium (inl rose))
+complete tells words source source' sink sink' medium medium' order status run bytes left lines script t legal blank no_source no_sink no_medium (unbuilt is two (inl no_script) ends) = absurd (a_script source source' bytes lines left script no_script)
+complete tells words source source' sink sink' medium medium' order status run bytes left lines script t legal blank no_source no_sink no_medium (unbuilt is two (inr (inl illegal)) ends) = absurd (not_both _ legal illegal)
+complete tells words source source' sink sink' medium medium' order status run bytes left lines script t legal blank no_source no_sink no_medium (unbuilt is two (inr (inr written)) ends) = absurd (written t blank)
+complete tells words source source' sink sink' medium medium' order status run bytes left lines script t legal blank no_source no_sink no_medium (ran is read whole all spelled numbers erased text runs (inl five)) = absurd (no_medium five.1)
+complete tells words source source' sink sink' medium medium' order status run bytes left lines script t legal blank no_source no_sink no_medium (ran is read whole all spelled numbers erased text runs (inr (inl four))) = absurd (no_sink four.2)
+complete tells words source source' sink sink' medium medium' order status run bytes left lines script t legal blank no_source no_sink no_medium (ran is read whole all spelled numbers erased text runs (inr (inr zero))) = inl zero.0

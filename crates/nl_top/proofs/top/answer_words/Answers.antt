@@ -1,0 +1,51 @@
+use Rattle.std.proofs.Common.{◌≡◌, ℕ, false, IsTrue, List, ap, sym, ◌∙◌, subst, refl, inl, inr}
+use Rattle.std.specs.Prelude.{codes, Some}
+use Rattle.nl_field.specs.Numbers.{is_legal}
+use Rattle.nl_nand.specs.declared.geometry.Geometry.{Geometry}
+use Rattle.nl_top.specs.Form.{script_lines}
+use Rattle.nl_top.specs.Top.{run_words, stream, medium, Medium, ReadsWhole, EndsBefore, Runs, RunStatus, ran, unbuilt}
+use Rattle.nl_top.proofs.Ending.{not_legal}
+use Rattle.nl_top.proofs.top.answer_words.Goals as goal
+
+pub returns-in_default-shape_of-clause-ended : goal.returns-in_default-shape_of-clause-ended
+returns-in_default-shape_of-clause-ended g c =
+    let end = c.ended-in_default-shape_of in
+    let words : c.args.words.now ≡ run_words = c.is_run.ensures.0 c.if-not-is_run.false in
+    let before = medium (g.M.Nand.geometry c.args.media) (g.M.Nand.contents c.args.media) (g.M.Nand.clock c.args.media) (g.M.Nand.read_faults c.args.media) (g.M.Nand.write_faults c.args.media) in
+    let after = medium (g.M.Nand.geometry end.result.media) (g.M.Nand.contents end.result.media) (g.M.Nand.clock end.result.media) (g.M.Nand.read_faults end.result.media) (g.M.Nand.write_faults end.result.media) in
+    let sink = stream (g.K.Sink.taken c.args.sink.now) (g.K.Sink.faults c.args.sink.now) in
+    let sink' = stream (g.K.Sink.taken end.new.sink) (g.K.Sink.faults end.new.sink) in
+    let illegal : is_legal (g.M.Nand.geometry c.args.media).blocks (g.M.Nand.geometry c.args.media).pages ≡ false =
+    sym (ap (λ (x : Geometry). is_legal x.blocks x.pages) c.geometry-geometry.ensures) ∙ not_legal _ c.in_default-shape_of.ensures.legal.1 in
+    let ends : EndsBefore (codes "unbuilt\n") sink sink' before after end.result.order.items = record {
+      prints = end.ensures.prints;
+      untouched = record {
+        same_geometry = ap (λ m. g.M.Nand.geometry m) end.ensures.media;
+        same_contents = ap (λ m. g.M.Nand.contents m) end.ensures.media;
+        same_clock = ap (λ m. g.M.Nand.clock m) end.ensures.media;
+        same_write_faults = ap (λ m. g.M.Nand.write_faults m) end.ensures.media;
+      };
+      no_lines = end.ensures.order;
+    } in
+    unbuilt words end.ensures.status (inr (inl illegal)) ends
+
+pub returns-clause-ended : goal.returns-clause-ended
+returns-clause-ended g c =
+    let words : c.args.words.now ≡ run_words = c.is_run.ensures.0 c.if-not-is_run.false in
+    let source = stream (g.S.Source.left c.args.src.now) (g.S.Source.faults c.args.src.now) in
+    let source' = stream (g.S.Source.left c.script_of.new.src) (g.S.Source.faults c.script_of.new.src) in
+    let read : (bytes : List ℕ) × ReadsWhole source source' bytes × (script_lines bytes ≡ Some c.in-Some.lines.items) = rw c.in-Some.is at c.in-Ok.ensures.lines in
+    let media = c.look_at.new.media in
+    let done = c.run_lines.result.media in
+    let sink = stream (g.K.Sink.taken c.args.sink.now) (g.K.Sink.faults c.args.sink.now) in
+    let sink' = stream (g.K.Sink.taken c.run_lines.new.sink) (g.K.Sink.faults c.run_lines.new.sink) in
+    let before = medium (g.M.Nand.geometry c.args.media) (g.M.Nand.contents c.args.media) (g.M.Nand.clock c.args.media) (g.M.Nand.read_faults c.args.media) (g.M.Nand.write_faults c.args.media) in
+    let middle = medium (g.M.Nand.geometry media) (g.M.Nand.contents media) (g.M.Nand.clock media) (g.M.Nand.read_faults media) (g.M.Nand.write_faults media) in
+    let after = medium (g.M.Nand.geometry done) (g.M.Nand.contents done) (g.M.Nand.clock done) (g.M.Nand.read_faults done) (g.M.Nand.write_faults done) in
+    let reads : g.M.Nand.read_faults media ≡ g.M.Nand.read_faults c.args.media = c.in-AllErased.ensures.not_failed (λ e. cc) in
+    let same : middle ≡ before = (λ i. medium (c.look_at.ensures.geometry i) (c.look_at.ensures.contents i) (c.look_at.ensures.clock i) (reads i) (c.look_at.ensures.write_faults i)) in
+    let legal = subst (λ (x : Geometry). IsTrue (is_legal x.blocks x.pages)) c.geometry-geometry.ensures (c.in-Some-shape_of.ensures.legal.0 refl) in
+    let run = c.run_lines.ensures.ran in
+    let runs = subst (λ (m : Medium). Runs g.M.Nand.tells c.in-Some.lines.items sink sink' m after c.run_lines.result.order.items run.0) same run.1 in
+    let status = subst (λ (m : Medium). RunStatus c.run_lines.result.status sink sink' m after run.0) same run.2 in
+    ran words read.0 read.1 c.in-Some.lines.items read.2 legal (λ t. c.in-AllErased.ensures.erased t refl) run.0 runs status
