@@ -20,8 +20,8 @@ use nl_field::{FailList, Memory};
 use nl_io::{StdSink, StdSource, Words};
 use nl_nand::{FormAnswer, MemNand, Nand};
 use std::alloc::Global;
-use std::env;
 use std::process::ExitCode;
+use std::{env, io};
 use top::{Done, nameless};
 
 const MEDIUM_FAULT: u8 = 5;
@@ -34,12 +34,17 @@ const MOST_WORDS: u32 = 1000;
 // The words of the command line, and `run` where there are none.
 fn words_of(rt: &HostRuntime, alloc: Global) -> Result<Words, Memory> {
     let mut words = Words::new(alloc);
-    if let Ok(args) = env::args(rt) {
-        for word in args.skip(1) {
-            if words.len() < MOST_WORDS {
-                words.push(word.as_bytes())?;
+    match env::args(rt) {
+        Ok(args) => {
+            for word in args.skip(1) {
+                if words.len() < MOST_WORDS {
+                    words.push(word.as_bytes())?;
+                }
             }
         }
+        Err(error) if error.kind() == io::ErrorKind::OutOfMemory => return Err(Memory),
+        // A word that is not UTF-8 is none of the commands.
+        Err(_) => words.push(b"")?,
     }
     if words.len() == 0 {
         words.push(b"run")?;
@@ -61,14 +66,25 @@ fn formed(alloc: Global) -> Result<MemNand, u8> {
     }
 }
 
+// Ends before the script is read, with a text on standard error.
+fn failed(rt: &HostRuntime, status: u8) -> ExitCode {
+    let text = if status == NO_MEMORY {
+        "memory"
+    } else {
+        "medium fault"
+    };
+    let _ = eprintln!(rt; "{text}");
+    ExitCode::from(status)
+}
+
 fn main(rt: HostRuntime) -> ExitCode {
     let alloc = rt.alloc();
     let Ok(words) = words_of(&rt, alloc) else {
-        return ExitCode::from(NO_MEMORY);
+        return failed(&rt, NO_MEMORY);
     };
     let media = match formed(alloc) {
         Ok(media) => media,
-        Err(status) => return ExitCode::from(status),
+        Err(status) => return failed(&rt, status),
     };
     let mut source = StdSource::new(rt.stdin());
     let mut sink = StdSink::new(rt.stdout());
