@@ -111,6 +111,26 @@ impl SyncList {
         }
     }
 
+    pub fn push(&mut self, sync: Synced) -> Result<(), Memory>
+        requires { length self.old.items + 1 < 2 ^ 32 }
+        ensures ok { OnOk result (self.new.items ≡ self.old.items ++ sync ∷ []) }
+        ensures err { OnErr result (self.new.items ≡ self.old.items) }
+        ensures succeeds { 0 < self.old.room → IsOk result }
+        ensures room { self.old.room ≤ self.new.room + 1 }
+    {
+        self.items.push(sync)?;
+        Ok(())
+    }
+
+    /// Makes room: afterwards so many pushes succeed.
+    pub fn reserve(&mut self, more: u32) -> Result<(), Memory>
+        ensures items { self.new.items ≡ self.old.items }
+        ensures room { OnOk result (more ≤ self.new.room) }
+        ensures err { OnErr result (self.old.room ≤ self.new.room) }
+    {
+        self.items.reserve(more as usize)
+    }
+
     pub fn len(&self) -> u32
         ensures { result ≡ length self.now.items }
     {

@@ -1,5 +1,6 @@
 // The first run on a medium of 32 blocks of 32 pages in memory. Expected texts are written by hand.
 use crate::gate::NoGate;
+use crate::lists::{OrderList, Ordered, SyncList, Synced};
 use crate::top::{Done, nameless};
 use nl_field::{FailList, Memory, Text};
 use nl_io::{MemSink, MemSource, Words};
@@ -167,5 +168,32 @@ fn faults_are_told(rt: HostRuntime) -> Result<(), Fail> {
         assert_eq!(rt; sink.bytes(), text);
         assert_eq!(rt; lines, answered);
     }
+    Ok(())
+}
+
+#[test]
+fn lists_keep_their_order(rt: HostRuntime) -> Result<(), Fail> {
+    let alloc = rt.alloc();
+    let mut order = OrderList::new(alloc);
+    order.push(Ordered {
+        line: 4,
+        fault: None,
+    })?;
+    assert_eq!(rt; order.len(), 1);
+    assert_eq!(rt; order.get(0).line, 4);
+    let mut syncs = SyncList::new(alloc);
+    syncs.reserve(2)?;
+    syncs.push(Synced {
+        line: 9,
+        upto: 3,
+        moment: 7,
+    })?;
+    syncs.push(Synced {
+        line: 9,
+        upto: 5,
+        moment: 7,
+    })?;
+    assert_eq!(rt; syncs.len(), 2);
+    assert_eq!(rt; syncs.get(1).upto, 5);
     Ok(())
 }
