@@ -5,14 +5,18 @@ mod call;
 pub mod laws;
 mod lines;
 mod path;
+mod plain;
 mod reply;
 mod reply_buf;
 pub mod rows;
+#[cfg(test)]
+mod tests;
 mod turn;
 
 pub use call::{Call, Line};
 pub use lines::Lines;
 pub use path::Path;
+pub use plain::Plain;
 pub use reply::{FaultReply, Refusal, Reply, Space};
 pub use reply_buf::ReplyBuf;
 pub use turn::{Answered, Duty, DutyAnswer, Stage};

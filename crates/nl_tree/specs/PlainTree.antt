@@ -1,0 +1,106 @@
+-- What the plain tree as a program keeps beside the tree.
+use Rattle.std.specs.Prelude.{◌≡◌, ℕ, suc, ◌+◌, ◌-◌, ◌*◌, ◌++◌, take, min, ◌==◌, ◌&&◌, ◌≤◌, ◌<◌, ◌^◌, is_none, Option, Some, None, nat_le, nat_lt, count_by, Bool, false, if◌then◌else◌, List, [], ◌∷◌, length}
+use Rattle.std.specs.declared.cmp.Ordering.{Ordering}
+use Rattle.std.specs.Ordering.{is_gt, eq_by_cmp}
+use Rattle.std.specs.List.{AllByRecursion, list_any, range_with_len}
+use Rattle.std.specs.Int.{div_ceil}
+use Rattle.nl_field.specs.Numbers.{max_file_size, max_name, max_entries}
+use Rattle.nl_field.specs.Bytes.{zeros}
+use Rattle.nl_field.specs.FileContent.{FileContent}
+use Rattle.nl_tree.specs.Tree.{Node, file, Tree, is_at_or_under, entries_of, last_name, node_at}
+use Rattle.nl_tree.specs.declared.call.Call.{Call}
+use Rattle.nl_tree.specs.declared.call.Call.TheVariants.{Write, Fill, Read}
+use Rattle.nl_field.specs.declared.shape.Shape.{Shape}
+use Rattle.nl_tree.specs.declared.reply.Reply.{Reply}
+use Rattle.nl_tree.specs.declared.reply.Reply.TheVariants.{Synced}
+use Rattle.nl_tree.specs.declared.reply.Refusal.{Refusal}
+use Rattle.nl_tree.specs.declared.reply.Refusal.TheVariants.{Enametoolong}
+use Rattle.nl_tree.specs.Step.{when, first_of, is_too_long, paths_of, own_refusal, space_refusal}
+use Rattle.nl_tree.specs.TreeLaws.{IsInOrder}
+use Rattle.nl_tree.specs.Charges.{data_of_node, ranges_of_node}
+
+-- each page has 4096 bytes
+abbrev pub AreWhole : List (ℕ × List ℕ) → Type 0
+AreWhole pages = AllByRecursion (λ page. length page.1 ≡ 4096) pages
+
+-- the file is not too large, its pages are whole, and it has some in so many ranges
+pub record IsFileBuf (content : FileContent) (ranges : ℕ) : Type 0 where
+  pub small : content.size ≤ max_file_size
+  pub whole : AreWhole content.pages
+  pub counted : ranges ≡ ranges_of_node (file content)
+
+-- how many entries are before the first whose key is not below this
+abbrev pub place_in : {K X : Type 0} → (K → K → Ordering) → K → List (K × X) → ℕ
+place_in R key [] = 0
+place_in R key (e ∷ entries) = if is_gt (R key e.0) then suc (place_in R key entries) else 0
+
+-- the first entry is at the key
+abbrev pub is_first : {K X : Type 0} → (K → K → Ordering) → K → List (K × X) → Bool
+is_first R key [] = false
+is_first R key (e ∷ entries) = eq_by_cmp R key e.0
+
+-- the second path is that of an entry of the first
+abbrev pub is_entry_of : List (List ℕ) → List (List ℕ) → Bool
+is_entry_of path p = length p == length path + 1 && is_at_or_under path p
+
+-- how many entries of a directory stand in the leading run of what lies under it
+abbrev pub run_of : List (List ℕ) → Tree → ℕ
+run_of path [] = 0
+run_of path (e ∷ tree) = if is_at_or_under path e.0 then (if length e.0 == length path + 1 then 1 else 0) + run_of path tree else 0
+
+-- the metadata pages that one path takes
+abbrev pub meta_of_entry : Tree → List (List ℕ) × Node → ℕ
+meta_of_entry tree e = div_ceil (length (entries_of tree e.0)) 64 + ranges_of_node e.1
+
+-- the data pages that one path takes
+abbrev pub data_of_entry : List (List ℕ) × Node → ℕ
+data_of_entry e = data_of_node e.1
+
+-- the bounds of a call's data, which its writers keep
+abbrev pub IsBounded : Call → Type 0
+IsBounded (Write path from bytes) = length bytes ≤ 65536
+IsBounded (Fill path from len byte) = len ≤ 65536
+IsBounded (Read path from len) = len ≤ 65536
+IsBounded _ = Unit {0}
+
+-- a page lies in the range
+abbrev pub is_in_range : List (ℕ × List ℕ) → ℕ → Bool
+is_in_range pages r = list_any (λ page. nat_le (8 + 256 * r) page.0 && nat_lt page.0 (264 + 256 * r)) pages
+
+abbrev pub ranges_of_pages : List (ℕ × List ℕ) → ℕ
+ranges_of_pages pages = count_by (is_in_range pages) (range_with_len 0 16)
+
+-- what a cut to a size leaves of a page
+abbrev pub cut_entry : ℕ → ℕ × List ℕ → ℕ × List ℕ
+cut_entry size page = (page.0, take (size - 4096 * page.0) page.1 ++ zeros (4096 - min 4096 (size - 4096 * page.0)))
+
+-- each path ends in a name of at most 55 bytes
+abbrev pub HasShortNames : Tree → Type 0
+HasShortNames tree = AllByRecursion (λ e. length (last_name e.0) ≤ max_name) tree
+
+-- what a tree that the volume has room for keeps within the bounds of a reply
+pub record IsRoomy (tree : Tree) : Type 0 where
+  pub short : HasShortNames tree
+  pub few : (path : List (List ℕ)) → is_none (node_at tree path) ≡ false → length (entries_of tree path) ≤ max_entries
+  pub pages : (path : List (List ℕ)) (content : FileContent) → node_at tree path ≡ Some (file content) → length content.pages < 2 ^ 32
+
+-- what the plain tree as a program keeps of its tree
+pub record IsPlain (shape : Shape) (tree : Tree) : Type 0 where
+  pub in_order : IsInOrder tree
+  pub short : HasShortNames tree
+  pub room : space_refusal shape tree ≡ None
+
+-- The tree of a volume of this shape, and how many calls were made on it.
+pub record PlainState : Type 0 where
+  pub shape : Shape
+  pub tree : Tree
+  pub calls : ℕ
+
+-- A sync is answered with the count of calls before it.
+abbrev pub numbered : ℕ → Reply → Reply
+numbered calls (Synced upto moment) = Synced calls 0
+numbered calls reply = reply
+
+-- what refuses a call whatever the tree after it
+abbrev pub refusal_before : Tree → Call → Option Refusal
+refusal_before tree call = first_of (when (list_any is_too_long (paths_of call)) Enametoolong ∷ own_refusal tree call ∷ [])
