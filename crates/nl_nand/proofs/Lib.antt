@@ -1,4 +1,5 @@
 pub mod Cells
+pub mod Crashes
 pub mod Fresh
 pub mod Left
 pub mod Notes
