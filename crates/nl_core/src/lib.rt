@@ -1,0 +1,4 @@
+//! What an image stands for.
+#![tactic(auto)]
+
+pub mod rows;

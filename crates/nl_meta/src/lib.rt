@@ -1,0 +1,4 @@
+//! The metadata of a volume: the pages of virtual addresses, and what they stand for.
+#![tactic(auto)]
+
+pub mod rows;
