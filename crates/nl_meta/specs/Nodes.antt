@@ -1,6 +1,9 @@
--- The nodes that metadata pages stand for.
-use Rattle.std.specs.Prelude.{ℕ, nat_lt, ◌+◌, ◌*◌, ◌/◌, ◌%◌, ◌==◌, not, if◌then◌else◌, List, [], ◌++◌, take, drop, replicate, map, filter, filter_map, flat_map, slice_index, Option, Some, None, unwrap_or}
+-- What metadata pages stand for: the super record, the nodes, and the pointers of files.
+use Rattle.std.specs.Prelude.{ℕ, nat_le, nat_lt, Bool, ◌&&◌, ◌||◌, ◌+◌, ◌*◌, ◌/◌, ◌%◌, ◌==◌, not, if◌then◌else◌, List, [], ◌++◌, take, drop, replicate, map, filter, filter_map, flat_map, slice_index, Option, Some, None, option_and_then, unwrap_or}
 use Rattle.std.specs.List.{range_with_len, enumerate_from}
+use Rattle.nl_field.specs.Page.{Image}
+use Rattle.nl_field.specs.Medium.{shape_of_image, first_physical}
+use Rattle.nl_field.specs.SuperPage.{super_of}
 use Rattle.nl_field.specs.Inode.{inode_of}
 use Rattle.nl_field.specs.EntryRecord.{entry_of}
 use Rattle.nl_field.specs.Pointers.{pointers, is_none_pointer, no_pointer}
@@ -8,14 +11,19 @@ use Rattle.nl_field.specs.Graph.{NodeBody, unused, directory_node, file_node, Gr
 use Rattle.nl_field.specs.declared.shape.Shape.{Shape}
 use Rattle.nl_field.specs.declared.pointer.Pointer.{Pointer}
 use Rattle.nl_field.specs.declared.pointer.Tag.{Tag}
+use Rattle.nl_field.specs.declared.super_page.SuperRec.{SuperRec}
 use Rattle.nl_field.specs.declared.inode.Kind.{Kind}
 use Rattle.nl_field.specs.declared.inode.Kind.TheVariants.{Unused, File, Dir}
 use Rattle.nl_field.specs.declared.inode.InodeRec.{InodeRec}
 use Rattle.nl_field.specs.declared.entry.EntryRec.{EntryRec}
-use Rattle.nl_meta.specs.Committed.{VirtualMap}
+use Rattle.nl_meta.specs.Committed.{VirtualMap, committed_of}
 
 abbrev pub bytes_at : VirtualMap → ℕ → List ℕ
 bytes_at pages v = unwrap_or (pages v) []
+
+-- the record that address 0 spells
+unfoldable pub super_of_pages : VirtualMap → Option SuperRec
+super_of_pages pages = option_and_then super_of (pages 0)
 
 -- node n is in address 67 + n / 16
 unfoldable pub bytes_of_node : VirtualMap → ℕ → List ℕ
@@ -80,3 +88,11 @@ held_by n node =
 -- all pointers of files, in the order of nodes and indexes
 unfoldable pub pointers_of : Shape → Graph → List Held
 pointers_of shape graph = flat_map (λ n. held_by n (graph n)) (range_with_len 0 shape.nodes)
+
+-- the pointer is none, or names a page of the physical segment
+abbrev pub is_physical_name : Shape → Pointer → Bool
+is_physical_name shape p = is_none_pointer p || (nat_le (first_physical shape) p.name && nat_lt p.name (shape.blocks * shape.pages))
+
+-- the committed pointers of an image, in the order of nodes and indexes
+unfoldable pub committed_pointers : Image → List Held
+committed_pointers image = pointers_of (shape_of_image image) (graph_of (shape_of_image image) (committed_of image))

@@ -1,14 +1,13 @@
 -- The walk of an opening: the first place at fault, in the order of its phases. An image is sound where there is none.
-use Rattle.std.specs.Prelude.{◌≡◌, ℕ, zero, suc, ◌+◌, ◌-◌, ◌*◌, ◌==◌, nat_le, nat_lt, Bool, true, false, not, ◌&&◌, ◌||◌, if◌then◌else◌, List, [], ◌∷◌, length, drop, map, filter, filter_map, flat_map, find, count_by, bytes_eq, Option, Some, None, option_map, option_and_then, is_none, is_some, IsTrue, AllPairs}
+use Rattle.std.specs.Prelude.{◌≡◌, ℕ, zero, suc, ◌+◌, ◌-◌, ◌*◌, ◌==◌, nat_le, nat_lt, Bool, true, false, not, ◌&&◌, ◌||◌, if◌then◌else◌, List, [], ◌∷◌, length, drop, map, filter, filter_map, flat_map, find, count_by, bytes_eq, Option, Some, None, option_map, is_none, is_some, IsTrue, AllPairs}
 use Rattle.std.specs.List.{list_all, list_any, range_with_len}
 use Rattle.std.specs.Int.{div_ceil}
 use Rattle.nl_field.specs.Numbers.{is_legal}
 use Rattle.nl_field.specs.Page.{Image}
 use Rattle.nl_field.specs.Bytes.{all_zero}
-use Rattle.nl_field.specs.SuperPage.{super_of}
 use Rattle.nl_field.specs.EntryRecord.{entry_of}
-use Rattle.nl_field.specs.Pointers.{indirect_of, is_none_pointer}
-use Rattle.nl_field.specs.Medium.{shape_of_image, Readable, stamp_on, virtual_pages, physical_pages, readable_pages, first_physical}
+use Rattle.nl_field.specs.Pointers.{indirect_of}
+use Rattle.nl_field.specs.Medium.{shape_of_image, Readable, stamp_on, virtual_pages, physical_pages, readable_pages}
 use Rattle.nl_field.specs.Space.{is_lost, owns_name, virtual_spare, physical_spare, place_outside}
 use Rattle.nl_field.specs.Scan.{differs_from_lower}
 use Rattle.nl_field.specs.declared.shape.Shape.{Shape}
@@ -25,7 +24,7 @@ use Rattle.nl_field.specs.declared.place.Place.{Place}
 use Rattle.nl_field.specs.declared.place.What.{What}
 use Rattle.nl_field.specs.declared.place.What.TheVariants.{Super, Stamp, Inode, Pages as PagesPhase, Entry, Pointer as PointerPhase, Names, Charges, Crowded}
 use Rattle.nl_meta.specs.Committed.{VirtualMap, committed_of}
-use Rattle.nl_meta.specs.Nodes.{bytes_at, bytes_of_node, inode_at, address_of_place, bytes_of_place, Held, graph_of, pointers_of}
+use Rattle.nl_meta.specs.Nodes.{bytes_at, super_of_pages, bytes_of_node, inode_at, address_of_place, bytes_of_place, is_physical_name, Held, committed_pointers}
 
 -- ---- finding the first fault
 
@@ -40,9 +39,6 @@ zero_where b = if b then Some 0 else None
 
 -- ---- super: the record of address 0, with the medium's legal numbers
 
-unfoldable pub super_of_pages : VirtualMap → Option SuperRec
-super_of_pages pages = option_and_then super_of (pages 0)
-
 abbrev pub is_super_of : Image → Option SuperRec → Bool
 is_super_of image None = false
 is_super_of image (Some rec) = rec.blocks == image.blocks && rec.pages == image.pages && is_legal image.blocks image.pages
@@ -53,9 +49,6 @@ unfoldable pub stamp_fault : List Readable → Option ℕ
 stamp_fault pages = option_map (λ r. r.page) (find (differs_from_lower pages) pages)
 
 -- ---- inode: records are spelled, their direct pointers lie in the physical segment, what follows the last node is zero, and node 0 is a directory
-
-abbrev pub is_physical_name : Shape → Pointer → Bool
-is_physical_name shape p = is_none_pointer p || (nat_le (first_physical shape) p.name && nat_lt p.name (shape.blocks * shape.pages))
 
 abbrev pub is_dir_kind : Kind → Bool
 is_dir_kind Dir = true
@@ -201,10 +194,6 @@ crowded_fault image held =
 abbrev pub or_then : Option ℕ → Option ℕ → Option ℕ
 or_then None later = later
 or_then (Some place) later = Some place
-
--- all committed pointers, in the order of nodes and indexes
-unfoldable pub committed_pointers : Image → List Held
-committed_pointers image = pointers_of (shape_of_image image) (graph_of (shape_of_image image) (committed_of image))
 
 -- the first place at fault in a phase
 unfoldable pub phase_fault : Image → What → Option ℕ

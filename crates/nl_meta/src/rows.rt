@@ -3,9 +3,10 @@ ghost use Rattle.nl_field.specs.Page.{uncorrectable};
 ghost use Rattle.nl_field.specs.Examples.{fresh_image, two_supers};
 ghost use Rattle.nl_field.specs.declared.place.What.TheVariants.{Super, Stamp, Inode, Pages, Entry, Pointer, Names, Charges, Crowded};
 ghost use Rattle.nl_meta.specs.Committed.{committed_of};
+ghost use Rattle.nl_meta.specs.Nodes.{super_of_pages};
 ghost use Rattle.nl_meta.specs.Phases.{sound_image, bad_super, bad_stamp, bad_inode, bad_pages, bad_entry, behind_entries, two_names, unreached, bad_pointer, bad_names, moved_page, with_journal, only_missing, blank_image};
 ghost use Rattle.nl_meta.specs.LargeFiles.{filled, spread, lost, virtual_blocks};
-ghost use Rattle.nl_meta.specs.Walk.{walk, super_of_pages, phase_fault, opening_answer, answers_blank, answers_damaged, opens, place_of_pointer};
+ghost use Rattle.nl_meta.specs.Walk.{walk, phase_fault, opening_answer, answers_blank, answers_damaged, opens, place_of_pointer};
 ghost use Rattle.nl_meta.specs.Examples.{image_of_a, hello_page, long_page};
 
 pub fn fresh_is_sound()
