@@ -120,7 +120,7 @@ module _ (shape : Shape) (pages : VirtualMap) where
   abbrev other_name : Naming → Naming → Type 0
   other_name x y = x.0 ≡ y.0 → x.1.name ≢ y.1.name
 
-  same_entry : (d i : ℕ) (e e' : EntryRec) → EntryAt shape pages d i e → EntryAt shape pages d i e' → e ≡ e'
+  pub same_entry : (d i : ℕ) (e e' : EntryRec) → EntryAt shape pages d i e → EntryAt shape pages d i e' → e ≡ e'
   same_entry d i e e' a b = some_in e e' (sym (subst (λ (z : InodeRec). entry_of (bytes_of_place pages z i) ≡ Some e) (same_rec shape pages d a.rec b.rec a.is_node b.is_node) a.spelled) ∙ b.spelled)
 
   named : (n : ℕ) (rec : InodeRec)
