@@ -98,13 +98,28 @@ bad_names = usual usual_nodes (entry_for 1 1 (codes "a")) (data_page 0 3 (codes 
 abbrev pub moved_page : Image
 moved_page = usual usual_nodes (entry_for 1 1 (codes "a")) (data_page 0 3 (codes "one") ∷ erased ∷ data_page 1 4 (codes "two") ∷ [])
 
--- A transaction with a new root and count: its header, images and commit page stand beside the pages at home.
-abbrev pub with_journal : ℕ → Image
-with_journal commit_number =
+-- A new root and count stand in a transaction that lists these addresses, has these pages besides and a commit page of this
+-- number, beside the pages at home.
+abbrev pub transaction : List ℕ → List Page → ℕ → Image
+transaction addresses images commit_number =
     image_with (at_address 67 1 (dir_of 0 []) ∷ at_address 0 2 (super_with 0)
-    ∷ at_address 1 10 (header_bytes (record { number = 1; addresses = 0 ∷ 67 ∷ 71 ∷ [] }))
-    ∷ at_address 2 11 (super_with 2) ∷ at_address 3 12 usual_nodes ∷ at_address 4 13 (entry_for 1 1 (codes "a"))
-    ∷ at_address 66 14 (commit_bytes (record { number = commit_number })) ∷ []) usual_data
+    ∷ at_address 1 10 (header_bytes (record { number = 1; addresses = addresses }))
+    ∷ at_address 2 11 (super_with 2) ∷ images ++ at_address 66 14 (commit_bytes (record { number = commit_number })) ∷ []) usual_data
+
+abbrev pub two_images : List Page
+two_images = at_address 3 12 usual_nodes ∷ at_address 4 13 (entry_for 1 1 (codes "a")) ∷ []
+
+-- header and commit page have the same number or not
+abbrev pub with_journal : ℕ → Image
+with_journal commit_number = transaction (0 ∷ 67 ∷ 71 ∷ []) two_images commit_number
+
+-- the last image was never written
+abbrev pub without_image : Image
+without_image = transaction (0 ∷ 67 ∷ 71 ∷ []) (at_address 3 12 usual_nodes ∷ []) 1
+
+-- the header lists an address behind the last
+abbrev pub far_address : Image
+far_address = transaction (0 ∷ 67 ∷ 103 ∷ []) two_images 1
 
 -- The root has one entry in address 71, which was never written, and no other node is used.
 abbrev pub only_missing : Image

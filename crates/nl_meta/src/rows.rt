@@ -4,7 +4,7 @@ ghost use Rattle.nl_field.specs.Examples.{fresh_image, two_supers};
 ghost use Rattle.nl_field.specs.declared.place.What.TheVariants.{Super, Stamp, Inode, Pages, Entry, Pointer, Names, Charges, Crowded};
 ghost use Rattle.nl_meta.specs.Committed.{committed_of};
 ghost use Rattle.nl_meta.specs.Nodes.{super_of_pages};
-ghost use Rattle.nl_meta.specs.Phases.{sound_image, bad_super, bad_stamp, bad_inode, bad_pages, bad_entry, behind_entries, two_names, unreached, bad_pointer, bad_names, moved_page, with_journal, only_missing, blank_image};
+ghost use Rattle.nl_meta.specs.Phases.{sound_image, bad_super, bad_stamp, bad_inode, bad_pages, bad_entry, behind_entries, two_names, unreached, bad_pointer, bad_names, moved_page, with_journal, without_image, far_address, only_missing, blank_image};
 ghost use Rattle.nl_meta.specs.LargeFiles.{filled, spread, lost, virtual_blocks};
 ghost use Rattle.nl_meta.specs.Walk.{walk, phase_fault, opening_answer, answers_blank, answers_damaged, opens, place_of_pointer};
 ghost use Rattle.nl_meta.specs.Examples.{image_of_a, hello_page, long_page};
@@ -42,11 +42,15 @@ pub fn phases()
     ensures two_pages { walk two_supers ≡ Some (record { place = 33; what = Stamp }) }
 {}
 
+// A transaction counts whose header and commit page have one number, whose addresses the volume has, and whose images are
+// all there.
 pub fn journal()
     ensures counts { walk (with_journal 1) ≡ None }
     ensures count { option_map (λ rec. rec.count) (super_of_pages (committed_of (with_journal 1))) ≡ Some 2 }
     ensures other_number { walk (with_journal 2) ≡ None }
     ensures old_count { option_map (λ rec. rec.count) (super_of_pages (committed_of (with_journal 2))) ≡ Some 0 }
+    ensures no_image { option_map (λ rec. rec.count) (super_of_pages (committed_of without_image)) ≡ Some 0 }
+    ensures no_address { option_map (λ rec. rec.count) (super_of_pages (committed_of far_address)) ≡ Some 0 }
 {}
 
 // A page of entries that is not there is at fault as an address, and its entries are passed over.
