@@ -1,10 +1,12 @@
 //! One pass over all pages of a medium, and what it tells.
 #![tactic(auto)]
 
-ghost use Rattle.std.specs.Prelude.{◌≡◌};
+ghost use Rattle.std.specs.Prelude.{◌≡◌, ◌*◌, IsTrue, IfOk, Err};
+ghost use Rattle.nl_field.specs.Numbers.{is_legal, shape_for};
 ghost use Rattle.nl_nand.specs.Nand.{FaultsCounted, SameLeft};
 ghost use Rattle.nl_scan.specs.Scans.{IfTables};
-ghost use Rattle.nl_scan.specs.Tables.{IsTableOf, FitsMedium};
+ghost use Rattle.nl_scan.specs.Tables.{IsTableOf, IsKept, FitsMedium};
+ghost use Rattle.nl_scan.specs.Passes.{OnlyReads, Stands};
 
 mod alike;
 mod firsts;
@@ -48,7 +50,7 @@ pub fn scan<M: Nand>(alloc: Global, media: &mut M) -> Scanned
     let geometry = media.geometry();
     match shape_of(geometry.blocks, geometry.pages) {
         Some(shape) => match pages(alloc, media, geometry, &shape) {
-            Ok(pass) => tables_of(pass),
+            Ok(pass) => Scanned::Tables(tables_of(pass)),
             Err(Stopped::Fault) => Scanned::Fault,
             Err(Stopped::Memory) => Scanned::Memory,
         },
@@ -56,7 +58,10 @@ pub fn scan<M: Nand>(alloc: Global, media: &mut M) -> Scanned
     }
 }
 
-fn tables_of(pass: Pass) -> Scanned {
+fn tables_of(pass: Pass) -> ScanTables
+    requires { IsKept pass.seen.items pass.greatest }
+    ensures { result ≡ record { seen = pass.seen.items; erased = pass.erased.items; version = pass.newest.version } }
+{
     let Pass {
         seen,
         erased,
@@ -65,7 +70,7 @@ fn tables_of(pass: Pass) -> Scanned {
         newest,
         greatest,
     } = pass;
-    Scanned::Tables(ScanTables::of_pass(seen, erased, newest.version, greatest))
+    ScanTables::of_pass(seen, erased, newest.version, greatest)
 }
 
 /// Reads all pages.
@@ -74,7 +79,15 @@ fn pages<M: Nand>(
     media: &mut M,
     geometry: Geometry,
     shape: &Shape,
-) -> Result<Pass, Stopped> {
+) -> Result<Pass, Stopped>
+    requires geometry { geometry ≡ M.geometry media.old }
+    requires legal { IsTrue (is_legal geometry.blocks geometry.pages) }
+    requires shape { shape.now ≡ shape_for geometry.blocks geometry.pages }
+    ensures tables { M.tells → IfOk result (λ pass. IsTableOf (M.contents media.old) (record { seen = pass.seen.items; erased = pass.erased.items; version = pass.newest.version })) }
+    ensures stands { IfOk result (Stands geometry (geometry.blocks * geometry.pages)) }
+    ensures reads { OnlyReads M.geometry M.contents M.clock M.write_faults M.left media.old media.new }
+    ensures faults { FaultsCounted (M.read_faults media.old) (M.read_faults media.new) (result ≡ Err Stopped.Fault) }
+{
     let Ok(mut pass) = Pass::new(alloc, geometry.blocks) else {
         return Err(Stopped::Memory);
     };
