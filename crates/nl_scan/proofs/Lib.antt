@@ -1,5 +1,6 @@
 pub mod Agreeing
 pub mod Below
+pub mod Ends
 pub mod Knowing
 pub mod Readables
 pub mod Standing

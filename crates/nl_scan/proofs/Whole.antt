@@ -43,13 +43,13 @@ spelled_page p (written bytes) q e = kept (spare_rec_of bytes.spare) refl e
     kept None is e = cc
     kept (Some rec) is e = ap (λ (r : Readable). is_spare r.rec) (sym (same_some (record { page = p; rec = rec; main = bytes.main }) q e)) ∙ spelled_rec bytes.spare rec is
 
-pages_spelled : (image : Image) → AllByRecursion (λ r. IsTrue (is_spare r.rec)) (readable_pages image)
+pub pages_spelled : (image : Image) → AllByRecursion (λ r. IsTrue (is_spare r.rec)) (readable_pages image)
 pages_spelled image =
     subst (AllByRecursion (λ r. IsTrue (is_spare r.rec))) (below_all image (length image.contents) (omega arith))
     (weaken_all (IsOneOf image.contents (length image.contents)) (λ r. IsTrue (is_spare r.rec)) (λ q one. spelled_page q.page (get_or image.contents q.page erased) q one.there) (readable_below image (length image.contents))
     (below_on image (length image.contents) (omega arith)))
 
-greatest_is : (image : Image) → 1 + greatest_stamp (map (seen_of image) (readable_pages image)) ≡ next_stamp_of image
+pub greatest_is : (image : Image) → 1 + greatest_stamp (map (seen_of image) (readable_pages image)) ≡ next_stamp_of image
 unfolding greatest_stamp next_stamp_of
 greatest_is image = ap (λ n. 1 + n) (fold-map (λ best s. max best (stamp_of s.rec)) (seen_of image) 0 (readable_pages image))
 
