@@ -50,7 +50,13 @@ pub fn read_record(file: &File, at: u64, buffer: &mut PageRecord, _page: u32) ->
 
 /// Writes the record of this page, which holds these bytes. The state comes last: a write that is cut short leaves the page
 /// erased.
-pub fn write_page(file: &File, at: u64, buffer: &PageRecord, _page: u32, _from: &PageBuf) -> io::Result<()>
+pub fn write_page(
+    file: &File,
+    at: u64,
+    buffer: &PageRecord,
+    _page: u32,
+    _from: &PageBuf,
+) -> io::Result<()>
     requires place { at ≡ position _page }
     requires bytes { buffer.now ≡ written_record _from.now }
 {

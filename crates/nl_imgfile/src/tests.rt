@@ -1,5 +1,5 @@
-// Image files in a folder of their own.
-ghost use Rattle.std.specs.Prelude.{◌≡◌, ◌<◌, IfOk, IsTrue};
+// Image files in the folder where the tests run.
+ghost use Rattle.std.specs.Prelude.{◌≡◌, ◌<◌, ◌≤◌, length, IfOk, IsTrue};
 ghost use Rattle.nl_imgfile.specs.FileMedium.{geometry_of};
 
 use crate::{Attach, FileNand};
@@ -10,16 +10,13 @@ use std::os::unix::fs::FileExt;
 use std::test::Fail;
 
 /// The first bytes of a file of 32 blocks of 32 pages. The others of its header are zeros.
-const HEAD: [u8; 20] = *b"NLIMAGE\0\x01\0\0\0\x20\0\0\0\x20\0\0\0";
+const HEAD: &[u8] = b"NLIMAGE\0\x01\0\0\0\x20\0\0\0\x20\0\0\0";
 
 /// Opens a file for reading and writing, and makes it where it is missing.
 fn opened(rt: &HostRuntime, path: &str) -> Result<File, Fail> {
-    let file = OpenOptions::new()
-        .read(true)
-        .write(true)
-        .create(true)
-        .open(rt, path)?;
-    Ok(file)
+    let mut options = OpenOptions::new();
+    options.read(true).write(true).create(true);
+    Ok(options.open(rt, path)?)
 }
 
 fn attached(rt: &HostRuntime, path: &str) -> Result<FileNand, Fail> {
@@ -29,29 +26,35 @@ fn attached(rt: &HostRuntime, path: &str) -> Result<FileNand, Fail> {
     }
 }
 
-/// The medium in a file that was formed.
+/// The blocks and pages of a file.
+fn numbers(rt: &HostRuntime, path: &str) -> Result<(u32, u32), Fail> {
+    let Geometry { blocks, pages } = attached(rt, path)?.geometry();
+    Ok((blocks, pages))
+}
+
+/// The medium in a file of 32 blocks of 32 pages.
 fn formed(rt: &HostRuntime, path: &str) -> Result<FileNand, Fail>
     ensures { IfOk result (λ f. geometry_of f ≡ record { blocks = 32; pages = 32 }) }
 {
-    let media = attached(rt, path)?;
-    if is_32_32(&media) {
+    as_32_32(attached(rt, path)?)
+}
+
+fn as_32_32(media: FileNand) -> Result<FileNand, Fail>
+    ensures { IfOk result (λ f. geometry_of f ≡ record { blocks = 32; pages = 32 }) }
+{
+    let Geometry { blocks, pages } = media.geometry();
+    if blocks == 32 && pages == 32 {
         Ok(media)
     } else {
         Err(Fail::new("geometry"))
     }
 }
 
-fn is_32_32(media: &FileNand) -> bool
-    ensures { IsTrue result → geometry_of media.now ≡ record { blocks = 32; pages = 32 } }
-{
-    let Geometry { blocks, pages } = media.geometry();
-    blocks == 32 && pages == 32
-}
-
 /// A new file of 32 blocks of 32 erased pages.
 fn fresh(rt: &HostRuntime, path: &str) -> Result<FileNand, Fail>
     ensures { IfOk result (λ f. geometry_of f ≡ record { blocks = 32; pages = 32 }) }
 {
+    let _ = fs::remove_file(rt, path);
     let mut media = attached(rt, path)?;
     match media.form(32, 32) {
         FormAnswer::Done => Ok(media),
@@ -59,19 +62,7 @@ fn fresh(rt: &HostRuntime, path: &str) -> Result<FileNand, Fail>
     }
 }
 
-/// Programs a page that has this byte at its start and at its end.
-fn put(media: &mut FileNand, page: u32, byte: u8, buf: &mut PageBuf) -> WriteAnswer
-    requires within { page < 1024 }
-    requires geometry { geometry_of media.old ≡ record { blocks = 32; pages = 32 } }
-    ensures geometry { geometry_of media.new ≡ geometry_of media.old }
-{
-    buf.clear();
-    buf.set_main(0, &[byte]);
-    buf.set_spare(&[byte; 64]);
-    media.program(page, buf)
-}
-
-/// What a read of a page answers, as a letter, or the byte of a written page.
+/// What a read of a page answers, as a letter, or the byte at the start and at the end of a written page.
 fn seen(media: &mut FileNand, page: u32, buf: &mut PageBuf) -> u8
     requires within { page < 1024 }
     requires geometry { geometry_of media.old ≡ record { blocks = 32; pages = 32 } }
@@ -88,158 +79,221 @@ fn seen(media: &mut FileNand, page: u32, buf: &mut PageBuf) -> u8
     }
 }
 
+/// What a call answers: `r` reads a page, `p` programs it with the letter `p`, and `e` erases its block.
+fn answer(media: &mut FileNand, call: u8, page: u32, buf: &mut PageBuf) -> u8
+    requires geometry { geometry_of media.old ≡ record { blocks = 32; pages = 32 } }
+    ensures geometry { geometry_of media.new ≡ geometry_of media.old }
+{
+    let page = page % 1024;
+    if call == b'r' {
+        return seen(media, page, buf);
+    }
+    buf.clear();
+    buf.set_main(0, b"p");
+    buf.set_spare(&[b'p'; 64]);
+    let answer = if call == b'e' {
+        media.erase(page / 32)
+    } else {
+        media.program(page, buf)
+    };
+    match answer {
+        WriteAnswer::Done => b'D',
+        WriteAnswer::Failed => b'F',
+    }
+}
+
+/// Whether the calls answer as they should.
+fn answers(media: &mut FileNand, buf: &mut PageBuf, calls: &[(u8, u32, u8)]) -> bool
+    requires geometry { geometry_of media.old ≡ record { blocks = 32; pages = 32 } }
+    ensures geometry { geometry_of media.new ≡ geometry_of media.old }
+{
+    for i in 0..calls.len() {
+        let (call, page, want) = calls[i];
+        if answer(media, call, page, buf) != want {
+            return false;
+        }
+    }
+    true
+}
+
+/// Whether the bytes stand in the file from an offset on.
+fn stands(rt: &HostRuntime, path: &str, at: u64, bytes: &[u8]) -> Result<bool, Fail>
+    requires { length bytes.now ≤ 64 }
+{
+    let file = opened(rt, path)?;
+    let mut found = [0; 64];
+    file.read_exact_at(&mut found[..bytes.len()], at)?;
+    Ok(&found[..bytes.len()] == bytes)
+}
+
+fn write(rt: &HostRuntime, path: &str, at: u64, bytes: &[u8]) -> Result<(), Fail> {
+    Ok(opened(rt, path)?.write_all_at(bytes, at)?)
+}
+
+fn resize(rt: &HostRuntime, path: &str, len: u64) -> Result<(), Fail> {
+    Ok(opened(rt, path)?.set_len(len)?)
+}
+
 #[test]
 fn a_page_reaches_its_place_in_the_file(rt: HostRuntime) -> Result<(), Fail> {
-    const FOLDER: &str = "nl_imgfile_place";
-    const IMAGE: &str = "nl_imgfile_place/disk.img";
-    let _ = fs::remove_dir_all(&rt, FOLDER);
-    fs::create_dir(&rt, FOLDER)?;
+    let path = "nl_imgfile_place.img";
     let mut buf = PageBuf::new(rt.alloc())?;
-    let mut media = attached(&rt, IMAGE)?;
-    assert_eq!(rt; media.geometry(), Geometry { blocks: 0, pages: 0 });
-    media = fresh(&rt, IMAGE)?;
-    assert_eq!(rt; media.geometry(), Geometry { blocks: 32, pages: 32 });
-    assert_eq!(rt; fs::metadata(&rt, IMAGE)?.len(), 4_272_128);
-    let other = opened(&rt, IMAGE)?;
-    let mut head = [0; 20];
-    other.read_exact_at(&mut head, 0)?;
-    assert_eq!(rt; head, HEAD);
-    assert_eq!(rt; seen(&mut media, 0, &mut buf), b'E');
-    assert_eq!(rt; seen(&mut media, 1023, &mut buf), b'E');
+    let mut media = fresh(&rt, path)?;
+    assert!(rt; answers(&mut media, &mut buf, &[(b'p', 33, b'D')]));
+    assert_eq!(rt; media.clock(), 1);
+    assert!(rt; stands(&rt, path, 0, HEAD)?);
+    assert!(rt; stands(&rt, path, 137_472, &[0; 64])?);
+    assert!(rt; stands(&rt, path, 141_640, b"\x01\0\0\0\0\0\0\0p\0")?);
+    assert!(rt; stands(&rt, path, 145_743, b"\0pp")?);
+    assert!(rt; stands(&rt, path, 145_807, b"p\0")?);
+    assert_eq!(rt; fs::metadata(&rt, path)?.len(), 4_272_128);
+    fs::remove_file(&rt, path)?;
+    Ok(())
+}
 
-    assert!(rt; put(&mut media, 33, b'a', &mut buf) == WriteAnswer::Done);
-    assert!(rt; put(&mut media, 63, b'b', &mut buf) == WriteAnswer::Done);
-    assert!(rt; put(&mut media, 64, b'c', &mut buf) == WriteAnswer::Done);
-    assert_eq!(rt; media.clock(), 3);
-    let mut record = [0; 4168];
-    other.read_exact_at(&mut record, 141_640)?;
-    assert_eq!(rt; &record[..10], b"\x01\0\0\0\0\0\0\0a\0".as_slice());
-    assert_eq!(rt; &record[4103..4105], b"\0a".as_slice());
-    assert_eq!(rt; &record[4166..], b"aa".as_slice());
-    assert_eq!(rt; seen(&mut media, 33, &mut buf), b'a');
-    assert_eq!(rt; seen(&mut media, 34, &mut buf), b'E');
-    drop(media);
+#[test]
+fn pages_stay_in_the_file(rt: HostRuntime) -> Result<(), Fail> {
+    let path = "nl_imgfile_stay.img";
+    let mut buf = PageBuf::new(rt.alloc())?;
+    let first = [
+        (b'r', 0, b'E'),
+        (b'r', 1023, b'E'),
+        (b'p', 33, b'D'),
+        (b'p', 63, b'D'),
+        (b'p', 64, b'D'),
+        (b'r', 33, b'p'),
+        (b'r', 34, b'E'),
+    ];
+    let second = [
+        (b'r', 33, b'p'),
+        (b'e', 33, b'D'),
+        (b'r', 33, b'E'),
+        (b'r', 63, b'E'),
+        (b'r', 64, b'p'),
+    ];
+    assert!(rt; answers(&mut fresh(&rt, path)?, &mut buf, &first));
+    assert!(rt; answers(&mut formed(&rt, path)?, &mut buf, &second));
+    assert!(rt; stands(&rt, path, 141_640, &[0; 64])?);
+    assert_eq!(rt; fs::metadata(&rt, path)?.len(), 4_272_128);
+    assert!(rt; answers(&mut fresh(&rt, path)?, &mut buf, &[(b'r', 64, b'E')]));
+    fs::remove_file(&rt, path)?;
+    Ok(())
+}
 
-    let mut again = formed(&rt, IMAGE)?;
-    assert_eq!(rt; again.clock(), 0);
-    assert_eq!(rt; seen(&mut again, 33, &mut buf), b'a');
-    assert!(rt; again.erase(1) == WriteAnswer::Done);
-    assert_eq!(rt; again.clock(), 1);
-    for (page, want) in [(32, b'E'), (33, b'E'), (63, b'E'), (64, b'c')] {
-        assert_eq!(rt; seen(&mut again, page, &mut buf), want);
-    }
-    other.read_exact_at(&mut record, 141_640)?;
-    assert!(rt; record == [0; 4168]);
-    assert_eq!(rt; again.read_faults(), 0);
-    assert_eq!(rt; again.write_faults(), 0);
-    assert_eq!(rt; fs::metadata(&rt, IMAGE)?.len(), 4_272_128);
-
-    assert!(rt; again.form(33, 32) == FormAnswer::Done);
-    assert_eq!(rt; again.geometry(), Geometry { blocks: 33, pages: 32 });
-    assert_eq!(rt; fs::metadata(&rt, IMAGE)?.len(), 4_405_504);
-    assert!(rt; again.form(32, 32) == FormAnswer::Done);
-    assert_eq!(rt; seen(&mut again, 64, &mut buf), b'E');
-    assert_eq!(rt; fs::metadata(&rt, IMAGE)?.len(), 4_272_128);
-    fs::remove_dir_all(&rt, FOLDER)?;
+#[test]
+fn forming_drops_what_was_there(rt: HostRuntime) -> Result<(), Fail> {
+    let path = "nl_imgfile_again.img";
+    let mut buf = PageBuf::new(rt.alloc())?;
+    let mut media = fresh(&rt, path)?;
+    assert!(rt; answers(&mut media, &mut buf, &[(b'p', 64, b'D')]));
+    assert!(rt; media.form(33, 64) == FormAnswer::Done);
+    assert_eq!(rt; numbers(&rt, path)?, (33, 64));
+    assert_eq!(rt; fs::metadata(&rt, path)?.len(), 8_806_912);
+    assert!(rt; media.form(32, 32) == FormAnswer::Done);
+    assert_eq!(rt; fs::metadata(&rt, path)?.len(), 4_272_128);
+    assert!(rt; answers(&mut media, &mut buf, &[(b'r', 64, b'E')]));
+    fs::remove_file(&rt, path)?;
     Ok(())
 }
 
 #[test]
 fn a_file_with_another_header_was_never_formed(rt: HostRuntime) -> Result<(), Fail> {
-    const FOLDER: &str = "nl_imgfile_header";
-    const IMAGE: &str = "nl_imgfile_header/disk.img";
-    let _ = fs::remove_dir_all(&rt, FOLDER);
-    fs::create_dir(&rt, FOLDER)?;
-    let never = Geometry { blocks: 0, pages: 0 };
-    let file = opened(&rt, IMAGE)?;
-    file.write_all_at(&HEAD, 0)?;
-    for length in [0, 20, 4095] {
-        file.set_len(length)?;
-        assert_eq!(rt; attached(&rt, IMAGE)?.geometry(), never);
-    }
-    file.write_all_at(&HEAD, 0)?;
-    file.set_len(4096)?;
-    assert_eq!(rt; attached(&rt, IMAGE)?.geometry(), Geometry { blocks: 32, pages: 32 });
+    let path = "nl_imgfile_header.img";
+    let _ = fs::remove_file(&rt, path);
+    assert_eq!(rt; numbers(&rt, path)?, (0, 0));
+    write(&rt, path, 0, HEAD)?;
+    resize(&rt, path, 4095)?;
+    assert_eq!(rt; numbers(&rt, path)?, (0, 0));
+    resize(&rt, path, 4096)?;
+    assert_eq!(rt; numbers(&rt, path)?, (32, 32));
     for (at, byte, was) in [
-        (0u64, b'n', b'N'),
-        (7, b'1', 0),
-        (8, 2, 1),
-        (11, 1, 0),
-        (12, 31, 32),
-        (13, 16, 0),
-        (15, 1, 0),
-        (16, 31, 32),
-        (17, 1, 0),
-        (20, 1, 0),
-        (4095, 1, 0),
+        (0, b"n", b"N"),
+        (7, b"1", b"\0"),
+        (8, b"\x02", b"\x01"),
+        (12, b"\x1f", b"\x20"),
+        (13, b"\x10", b"\0"),
+        (17, b"\x01", b"\0"),
+        (20, b"\x01", b"\0"),
+        (4095, b"\x01", b"\0"),
     ] {
-        file.write_all_at(&[byte], at)?;
-        assert_eq!(rt; attached(&rt, IMAGE)?.geometry(), never);
-        file.write_all_at(&[was], at)?;
+        write(&rt, path, at, byte)?;
+        assert_eq!(rt; numbers(&rt, path)?, (0, 0));
+        write(&rt, path, at, was)?;
     }
-    file.write_all_at(&[64], 16)?;
-    assert_eq!(rt; attached(&rt, IMAGE)?.geometry(), Geometry { blocks: 32, pages: 64 });
-    fs::remove_dir_all(&rt, FOLDER)?;
+    write(&rt, path, 16, b"\x40")?;
+    assert_eq!(rt; numbers(&rt, path)?, (32, 64));
+    fs::remove_file(&rt, path)?;
+    Ok(())
+}
+
+#[test]
+fn other_states_are_uncorrectable(rt: HostRuntime) -> Result<(), Fail> {
+    let path = "nl_imgfile_state.img";
+    let mut buf = PageBuf::new(rt.alloc())?;
+    let mut media = fresh(&rt, path)?;
+    assert!(rt; answers(&mut media, &mut buf, &[(b'p', 0, b'D')]));
+    for (state, want) in [
+        (0u64, b'E'),
+        (1, b'p'),
+        (2, b'U'),
+        (256, b'U'),
+        (1 << 63, b'U'),
+    ] {
+        write(&rt, path, 4096, &state.to_le_bytes())?;
+        assert!(rt; answers(&mut media, &mut buf, &[(b'r', 0, want)]));
+    }
+    fs::remove_file(&rt, path)?;
     Ok(())
 }
 
 #[test]
 fn a_cut_record_is_a_failed_read(rt: HostRuntime) -> Result<(), Fail> {
-    const FOLDER: &str = "nl_imgfile_cut";
-    const IMAGE: &str = "nl_imgfile_cut/disk.img";
-    let _ = fs::remove_dir_all(&rt, FOLDER);
-    fs::create_dir(&rt, FOLDER)?;
+    let path = "nl_imgfile_cut.img";
     let mut buf = PageBuf::new(rt.alloc())?;
-    let mut media = fresh(&rt, IMAGE)?;
-    let file = opened(&rt, IMAGE)?;
-    assert!(rt; put(&mut media, 0, b'a', &mut buf) == WriteAnswer::Done);
-    for (state, want) in [(0u64, b'E'), (1, b'a'), (2, b'U'), (256, b'U'), (1 << 63, b'U')] {
-        file.write_all_at(&state.to_le_bytes(), 4096)?;
-        assert_eq!(rt; seen(&mut media, 0, &mut buf), want);
-    }
-    file.set_len(12_431)?;
-    assert_eq!(rt; seen(&mut media, 1, &mut buf), b'F');
+    let mut media = fresh(&rt, path)?;
+    resize(&rt, path, 12_431)?;
+    assert!(rt; answers(&mut media, &mut buf, &[(b'r', 0, b'E'), (b'r', 1, b'F')]));
     assert_eq!(rt; media.read_faults(), 1);
-    file.set_len(12_432)?;
-    assert_eq!(rt; seen(&mut media, 1, &mut buf), b'E');
-    assert_eq!(rt; seen(&mut media, 1023, &mut buf), b'F');
+    resize(&rt, path, 12_432)?;
+    assert!(rt; answers(&mut media, &mut buf, &[(b'r', 1, b'E'), (b'r', 1023, b'F')]));
     assert_eq!(rt; media.read_faults(), 2);
-    assert_eq!(rt; media.write_faults(), 0);
-    file.write_all_at(b"behind", 4_272_128)?;
-    let mut longer = formed(&rt, IMAGE)?;
-    assert_eq!(rt; seen(&mut longer, 1023, &mut buf), b'E');
-    fs::remove_dir_all(&rt, FOLDER)?;
+    write(&rt, path, 4_272_128, b"behind")?;
+    assert!(rt; answers(&mut formed(&rt, path)?, &mut buf, &[(b'r', 1023, b'E')]));
+    fs::remove_file(&rt, path)?;
     Ok(())
 }
 
 #[test]
 fn a_failed_call_is_counted(rt: HostRuntime) -> Result<(), Fail> {
-    const FOLDER: &str = "nl_imgfile_failed";
-    const IMAGE: &str = "nl_imgfile_failed/disk.img";
-    let _ = fs::remove_dir_all(&rt, FOLDER);
-    fs::create_dir(&rt, FOLDER)?;
+    let path = "nl_imgfile_failed.img";
     let mut buf = PageBuf::new(rt.alloc())?;
-    assert!(rt; matches!(
-        FileNand::attach(rt.alloc(), File::create(&rt, IMAGE)?),
-        Err(Attach::Fault(_))
-    ));
-    drop(fresh(&rt, IMAGE)?);
-    let Ok(mut media) = FileNand::attach(rt.alloc(), File::open(&rt, IMAGE)?) else {
+    drop(fresh(&rt, path)?);
+    let Ok(media) = FileNand::attach(rt.alloc(), File::open(&rt, path)?) else {
         return Err(Fail::new("attach"));
     };
-    if !is_32_32(&media) {
-        return Err(Fail::new("geometry"));
-    }
-    assert!(rt; put(&mut media, 0, b'a', &mut buf) == WriteAnswer::Failed);
-    assert_eq!(rt; media.write_faults(), 1);
-    assert!(rt; media.erase(0) == WriteAnswer::Failed);
+    let mut media = as_32_32(media)?;
+    assert!(rt;
+        answers(
+            &mut media,
+            &mut buf,
+            &[(b'p', 0, b'F'), (b'e', 0, b'F'), (b'r', 0, b'E')]
+        )
+    );
     assert_eq!(rt; media.write_faults(), 2);
     assert!(rt; media.form(64, 64) == FormAnswer::Failed);
     assert_eq!(rt; media.write_faults(), 3);
-    assert_eq!(rt; media.geometry(), Geometry { blocks: 32, pages: 32 });
-    assert_eq!(rt; seen(&mut media, 0, &mut buf), b'E');
     assert_eq!(rt; media.clock(), 0);
-    assert_eq!(rt; media.read_faults(), 0);
-    fs::remove_dir_all(&rt, FOLDER)?;
+    assert_eq!(rt; numbers(&rt, path)?, (32, 32));
+    fs::remove_file(&rt, path)?;
+    Ok(())
+}
+
+#[test]
+fn a_file_that_cannot_be_read_is_given_back(rt: HostRuntime) -> Result<(), Fail> {
+    let path = "nl_imgfile_unread.img";
+    let file = File::create(&rt, path)?;
+    let back = matches!(FileNand::attach(rt.alloc(), file), Err(Attach::Fault(_)));
+    fs::remove_file(&rt, path)?;
+    assert!(rt; back);
     Ok(())
 }
