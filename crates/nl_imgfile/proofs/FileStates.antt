@@ -1,5 +1,5 @@
 -- What a crash may leave of a medium that tells no contents: nothing that was not left before, or what there is now.
-use Rattle.std.proofs.Common.{◌≡◌, ◌⊎◌, inl, inr, ⊎_elim, ℕ, ◌+◌, ◌≤◌, refl, arith}
+use Rattle.std.proofs.Common.{◌≡◌, ◌⊎◌, inl, inr, ⊎_elim, ℕ, ◌+◌, ◌≤◌, arith}
 use Rattle.std.proofs.Math.Nat.{eq-or-lt_of_le}
 use Rattle.nl_field.specs.Page.{Page}
 use Rattle.nl_nand.specs.Nand.{CrashLeaves, ticked}
