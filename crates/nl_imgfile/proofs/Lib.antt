@@ -1,0 +1,4 @@
+mod FileStates
+mod HeaderBytes
+mod RecordBytes
+mod OnFileLiterals
