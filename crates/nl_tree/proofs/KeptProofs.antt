@@ -1,5 +1,5 @@
 -- How a change at one path changes the sums over a tree.
-use Rattle.std.proofs.Common.{◌≡◌, ◌<◌, ◌≤◌, ◌+◌, ◌-◌, ◌==◌, ◌&&◌, ◌||◌, ℕ, Bool, true, false, not, T, cond, List, [], ◌∷◌, length, take, nat_lt, sum_by, ap, sym, subst, refl, arith, ◌∙◌, Option, Some, None, option_map}
+use Rattle.std.proofs.Common.{◌≡◌, ◌<◌, ◌≤◌, ◌+◌, ◌-◌, ◌==◌, ◌&&◌, ◌||◌, ℕ, Bool, true, false, not, T, cond, List, [], ◌∷◌, length, take, nat_lt, sum_by, ap, sym, subst, refl, arith, ◌∙◌, Option, Some, None, option_map, is_some}
 use Rattle.std.specs.Bool.{passes}
 use Rattle.std.specs.List.{list_any}
 use Rattle.std.specs.Option.{option_map_or}
@@ -21,11 +21,11 @@ use Rattle.nl_tree.specs.TreeLaws.{IsInOrder}
 use Rattle.nl_tree.specs.Step.{space_refusal, effect_of}
 use Rattle.nl_tree.specs.Charges.{data_of_node, ranges_of_node, data_charge, meta_charge}
 use Rattle.nl_tree.specs.PlainTree.{is_entry_of}
-use Rattle.nl_tree.specs.KeptSums.{AreCharges, IsChangeAt, has_overfull, parent_of, node_part, count_at, count_part, pages_of_entries, overfull, changed_path}
+use Rattle.nl_tree.specs.KeptSums.{AreCharges, IsChangeAt, has_overfull, parent_of, data_part, ranges_part, count_at, count_part, pages_of_entries, overfull, changed_path}
 use Rattle.nl_tree.proofs.TreeProofs.{eq_path, path_eq, not_true, alike}
 use Rattle.nl_tree.proofs.SpaceProofs.{data-is, meta-is, of_both}
 use Rattle.nl_tree.proofs.StepProofs.{order_after}
-use Rattle.nl_tree.proofs.RoomProofs.{few_entries}
+use Rattle.nl_tree.proofs.RoomProofs.{few_entries, few_meta, few_pages}
 
 abbrev E : Type 0
 E = List (List ℕ) × Node
@@ -179,26 +179,76 @@ counts_changed f p t n some c =
 
 -- ---- the charges
 
-node_part_is : (f : Node → ℕ) (t : Tree) (p : List (List ℕ)) → option_map_or (λ x. f x) (find path_cmp p t) 0 ≡ node_part f t p
+nodes_changed : (f : Node → ℕ) (p : List (List ℕ)) (t n : Tree) → IsChangeAt p t n
+    → sum_by (λ e. f e.1) n + option_map_or f (node_at t p) 0 ≡ sum_by (λ e. f e.1) t + option_map_or f (node_at n p) 0
 unfolding node_at
-node_part_is f t p = refl
+nodes_changed f p t n c = sum_changed (λ e. f e.1) p t n c
 
-nodes_changed : (f : Node → ℕ) (p : List (List ℕ)) (t n : Tree) → IsChangeAt p t n → sum_by (λ e. f e.1) n + node_part f t p ≡ sum_by (λ e. f e.1) t + node_part f n p
-nodes_changed f p t n c = (λ i. sum_by (λ (e : E). f e.1) n + sym (node_part_is f t p) i) ∙ sum_changed (λ e. f e.1) p t n c ∙ (λ i. sum_by (λ (e : E). f e.1) t + node_part_is f n p i)
-
-pub data_changed : (p : List (List ℕ)) (t n : Tree) → IsChangeAt p t n → data_charge n + node_part data_of_node t p ≡ data_charge t + node_part data_of_node n p
-data_changed p t n c = (λ i. sym (data-is n) i + node_part data_of_node t p) ∙ nodes_changed data_of_node p t n c ∙ (λ i. data-is t i + node_part data_of_node n p)
+pub data_changed : (p : List (List ℕ)) (t n : Tree) (was now : Option Node) → IsChangeAt p t n → was ≡ node_at t p → now ≡ node_at n p → data_charge n + data_part was ≡ data_charge t + data_part now
+data_changed p t n was now c is_was is_now =
+    (λ i. sym (data-is n) i + data_part (is_was i)) ∙ nodes_changed data_of_node p t n c ∙ (λ i. data-is t i + data_part (sym is_now i))
 
 meta_parts : (t : Tree) → meta_charge t ≡ sum_by (at pages_of_entries t) t + sum_by (λ e. ranges_of_node e.1) t
 meta_parts t = sym (of_both (at pages_of_entries t) (λ e. ranges_of_node e.1) t ∙ meta-is t)
 
-pub meta_changed : (p : List (List ℕ)) (t n : Tree) → 0 < length p → IsChangeAt p t n
-    → meta_charge n + (count_part pages_of_entries (count_at t p) + count_part pages_of_entries (count_at t (parent_of p)) + node_part ranges_of_node t p)
-    ≡ meta_charge t + (count_part pages_of_entries (count_at n p) + count_part pages_of_entries (count_at n (parent_of p)) + node_part ranges_of_node n p)
-meta_changed p t n some c = turned _ _ _ _ _ _ _ _ _ _ (meta_parts t) (meta_parts n) (counts_changed pages_of_entries p t n some c) (nodes_changed ranges_of_node p t n c)
+pub meta_changed : (p : List (List ℕ)) (t n : Tree) (was now : Option Node) (was_own was_parent own parent : Option ℕ) → 0 < length p → IsChangeAt p t n → was ≡ node_at t p → now ≡ node_at n p
+    → was_own ≡ count_at t p → was_parent ≡ count_at t (parent_of p) → own ≡ count_at n p → parent ≡ count_at n (parent_of p)
+    → meta_charge n + (count_part pages_of_entries was_own + count_part pages_of_entries was_parent + ranges_part was) ≡ meta_charge t + (count_part pages_of_entries own + count_part pages_of_entries parent + ranges_part now)
+meta_changed p t n was now was_own was_parent own parent some c is_was is_now a b d e =
+    (λ i. meta_charge n + (count_part pages_of_entries (a i) + count_part pages_of_entries (b i) + ranges_part (is_was i)))
+    ∙ turned _ _ _ _ _ _ _ _ _ _ (meta_parts t) (meta_parts n) (counts_changed pages_of_entries p t n some c) (nodes_changed ranges_of_node p t n c)
+    ∙ (λ i. meta_charge t + (count_part pages_of_entries (sym d i) + count_part pages_of_entries (sym e i) + ranges_part (sym is_now i)))
   where
     turned : (mt mn st sn rt rn a b x y : ℕ) → mt ≡ st + rt → mn ≡ sn + rn → sn + a ≡ st + b → rn + x ≡ rt + y → mn + (a + x) ≡ mt + (b + y)
     turned mt mn st sn rt rn a b x y d g e h = omega arith
+
+-- ---- where the path is there before and after
+
+same_own : (p : List (List ℕ)) (t n : Tree) (x y : Node) → IsChangeAt p t n → node_at t p ≡ Some x → node_at n p ≡ Some y → count_at t p ≡ count_at n p
+same_own p t n x y c a b =
+    (λ i. option_map (λ (z : Node). length (entries_of t p)) (a i)) ∙ ap Some (count_stays p p t n c (not_itself p)) ∙ (λ i. option_map (λ (z : Node). length (entries_of n p)) (sym b i))
+
+same_of : (p q : List (List ℕ)) (t n : Tree) (x y : Node) → IsChangeAt p t n → node_at t p ≡ Some x → node_at n p ≡ Some y → length (entries_of t q) ≡ length (entries_of n q)
+unfolding node_at
+same_of p q t n x y c a b =
+    let one : ℕ = cond (is_entry_of q p) 1 0 in
+    equal _ _ _ _ one (count_changed p q t n c) (ap (λ (o : Option Node). option_map_or (λ z. one) o 0) a) (ap (λ (o : Option Node). option_map_or (λ z. one) o 0) b)
+  where
+    equal : (a b x y k : ℕ) → b + x ≡ a + y → x ≡ k → y ≡ k → a ≡ b
+    equal a b x y k e d g = omega arith
+
+same_parent : (p : List (List ℕ)) (t n : Tree) (x y : Node) → 0 < length p → IsChangeAt p t n → node_at t p ≡ Some x → node_at n p ≡ Some y
+    → count_at t (parent_of p) ≡ count_at n (parent_of p)
+unfolding node_at
+same_parent p t n x y some c a b =
+    let q = parent_of p in
+    let found : find path_cmp q t ≡ find path_cmp q n =
+    sym (found_other p q t (other_path p some)) ∙ ap (λ (z : Tree). find path_cmp q z) (rests p t n c) ∙ found_other p q n (other_path p some) in
+    (λ i. option_map (λ (z : Node). same_of p q t n x y c a b i) (found i))
+
+counts_kept : (f : ℕ → ℕ) (p : List (List ℕ)) (t n : Tree) (x y : Node) → 0 < length p → IsChangeAt p t n → node_at t p ≡ Some x → node_at n p ≡ Some y
+    → sum_by (at f n) n ≡ sum_by (at f t) t
+counts_kept f p t n x y some c a b =
+    equal _ _ _ _ _ _ (counts_changed f p t n some c) (ap (count_part f) (same_own p t n x y c a b)) (ap (count_part f) (same_parent p t n x y some c a b))
+  where
+    equal : (sn st a b x y : ℕ) → sn + (a + b) ≡ st + (x + y) → a ≡ x → b ≡ y → sn ≡ st
+    equal sn st a b x y e d g = omega arith
+
+there : (o : Option Node) → is_some o ≡ true → (x : Node) × (o ≡ Some x)
+there (Some x) h = (x, refl)
+there None h = cc
+
+pub meta_kept : (p : List (List ℕ)) (t n : Tree) (was now : Option Node) → 0 < length p → IsChangeAt p t n → was ≡ node_at t p → now ≡ node_at n p → is_some was ≡ true → is_some now ≡ true
+    → meta_charge n + ranges_part was ≡ meta_charge t + ranges_part now
+meta_kept p t n was now some c is_was is_now a b =
+    let x = there was a in
+    let y = there now b in
+    (λ i. meta_charge n + ranges_part (is_was i))
+    ∙ turned _ _ _ _ _ _ _ _ (meta_parts t) (meta_parts n) (counts_kept pages_of_entries p t n x.0 y.0 some c (sym is_was ∙ x.1) (sym is_now ∙ y.1)) (nodes_changed ranges_of_node p t n c)
+    ∙ (λ i. meta_charge t + ranges_part (sym is_now i))
+  where
+    turned : (mt mn st sn rt rn x y : ℕ) → mt ≡ st + rt → mn ≡ sn + rn → sn ≡ st → rn + x ≡ rt + y → mn + x ≡ mt + y
+    turned mt mn st sn rt rn x y d g e h = omega arith
 
 any_sum : (f : E → Bool) (t : Tree) → list_any f t ≡ nat_lt 0 (sum_by (λ e. cond (f e) 1 0) t)
 any_sum f [] = refl
@@ -221,6 +271,15 @@ overfull_changed p t n some c none =
     turned : (st sn a b x y r : ℕ) → st ≡ 0 → st ≡ a + (b + r) → sn + (a + b) ≡ st + (x + y) → sn ≡ x + y
     turned st sn a b x y r z d e = omega arith
 
+pub overfull_kept : (shape : Shape) (p : List (List ℕ)) (t n : Tree) (was now : Option Node) → 0 < length p → IsChangeAt p t n → None ≡ space_refusal shape t
+    → was ≡ node_at t p → now ≡ node_at n p → is_some was ≡ true → is_some now ≡ true → false ≡ has_overfull n
+overfull_kept shape p t n was now some c room is_was is_now a b =
+    let x = there was a in
+    let y = there now b in
+    sym (few_entries shape t (sym room)) ∙ any_sum (λ e. nat_lt max_entries (length (entries_of t e.0))) t
+    ∙ ap (λ (k : ℕ). nat_lt 0 k) (sym (counts_kept overfull p t n x.0 y.0 some c (sym is_was ∙ x.1) (sym is_now ∙ y.1)))
+    ∙ sym (any_sum (λ e. nat_lt max_entries (length (entries_of n e.0))) n)
+
 -- from the counts of the path and of its parent
 pub overfull_is : (shape : Shape) (p : List (List ℕ)) (t n : Tree) (own parent : Option ℕ) (full : Bool) → 0 < length p → IsChangeAt p t n → None ≡ space_refusal shape t
     → own ≡ count_at n p → parent ≡ count_at n (parent_of p) → full ≡ nat_lt 0 (count_part overfull own + count_part overfull parent) → full ≡ has_overfull n
@@ -234,6 +293,13 @@ beyond limit sum h = grind (arith, nat_tests)
 
 pub within : (limit sum n : ℕ) → n ≡ sum → n ≤ limit → false ≡ nat_lt limit sum
 within limit sum n e h = grind (arith, nat_tests)
+
+pub small_sums : (shape : Shape) (t : Tree) (pages meta : ℕ) → None ≡ space_refusal shape t → AreCharges pages meta t → (pages ≤ shape.cap) × (meta ≤ shape.meta)
+small_sums shape t pages meta room kept =
+    (most _ _ _ kept.of_data (few_pages shape t (sym room)), most _ _ _ kept.of_meta (few_meta shape t (sym room)))
+  where
+    most : (n sum limit : ℕ) → n ≡ sum → nat_lt limit sum ≡ false → n ≤ limit
+    most n sum limit e h = grind (arith, nat_tests, e, h)
 
 -- ---- which call is a change at one path
 

@@ -8,7 +8,7 @@ use Rattle.nl_tree.specs.Tree.{Node, Tree, node_at, entries_of, without}
 use Rattle.nl_tree.specs.declared.call.Call.{Call}
 use Rattle.nl_tree.specs.declared.call.Call.TheVariants.{Mkdir, Rmdir, Create, Unlink, Write, Fill, Truncate}
 use Rattle.nl_tree.specs.TreeLaws.{IsInOrder}
-use Rattle.nl_tree.specs.Charges.{data_charge, meta_charge}
+use Rattle.nl_tree.specs.Charges.{data_of_node, ranges_of_node, data_charge, meta_charge}
 
 -- the data pages and the metadata pages of a tree
 pub record AreCharges (pages meta : ℕ) (tree : Tree) : Type 0 where
@@ -29,9 +29,13 @@ has_overfull tree = list_any (λ e. nat_lt max_entries (length (entries_of tree 
 abbrev pub parent_of : List (List ℕ) → List (List ℕ)
 parent_of path = take (length path - 1) path
 
--- what the node at a path adds to a sum over the nodes
-abbrev pub node_part : (Node → ℕ) → Tree → List (List ℕ) → ℕ
-node_part f tree path = option_map_or f (node_at tree path) 0
+-- what a node adds to the data pages
+abbrev pub data_part : Option Node → ℕ
+data_part node = option_map_or data_of_node node 0
+
+-- what a node itself adds to the metadata pages
+abbrev pub ranges_part : Option Node → ℕ
+ranges_part node = option_map_or ranges_of_node node 0
 
 -- how many entries a path has, if it is there
 abbrev pub count_at : Tree → List (List ℕ) → Option ℕ

@@ -1,14 +1,16 @@
 //! The sums that are kept beside a tree.
-ghost use Rattle.std.specs.Prelude.{◌≡◌, ◌<◌, ◌≤◌, ◌^◌, ◌+◌, ◌||◌, Option, None, Some, IfOk, IfErr, OnOk, IfSome, IfNone, false, true, is_none, length, nat_lt};
-ghost use Rattle.std.specs.Option.{option_map_or};
+ghost use Rattle.std.specs.Prelude.{◌≡◌, ◌<◌, ◌≤◌, ◌^◌, ◌+◌, ◌||◌, Option, None, Some, IfOk, IfErr, OnOk, IfSome, IfNone, false, true, is_some, length, nat_lt};
+ghost use Rattle.std.specs.Option.{option_copied};
 ghost use Rattle.nl_field.specs.Numbers.{max_entries};
 ghost use Rattle.nl_tree.specs.Tree.{Node, node_at, entries_of};
 ghost use Rattle.nl_tree.specs.TreeLaws.{IsInOrder};
 ghost use Rattle.nl_tree.specs.Charges.{data_of_node, ranges_of_node, data_charge, node_charge, meta_charge};
 ghost use Rattle.nl_tree.specs.Step.{space_refusal};
-ghost use Rattle.nl_tree.specs.KeptSums.{AreCharges, IsChangeAt, has_overfull, parent_of, node_part, count_at, count_part, pages_of_entries, overfull};
+ghost use Rattle.nl_tree.specs.KeptSums.{AreCharges, IsChangeAt, has_overfull, parent_of, data_part, ranges_part, count_at, count_part, pages_of_entries, overfull};
 
 use super::entries::{Entry, count_entries, find};
+use super::refusals::is_missing;
+use super::shared::SharedNode;
 use super::space::{MAX_ENTRIES, data_total, exceeds_nodes, has_full_directory, meta_total};
 use crate::{Refusal, Space};
 use nl_field::{Shape, Text};
@@ -27,12 +29,14 @@ struct Counts {
     parent: Option<usize>,
 }
 
-fn count_of(tree: &[Entry], path: &[Text]) -> Option<usize>
+fn count_of(tree: &[Entry], path: &[Text], there: bool) -> Option<usize>
+    requires { there ≡ is_some (node_at tree.now path.now) }
     ensures { result ≡ count_at tree.now path.now }
 {
-    match find(tree, path) {
-        Some(_) => Some(count_entries(tree, path)),
-        None => None,
+    if there {
+        Some(count_entries(tree, path))
+    } else {
+        None
     }
 }
 
@@ -42,13 +46,16 @@ fn parent(path: &[Text]) -> &[Text]
     &path[..path.len().saturating_sub(1)]
 }
 
-fn counts_of(tree: &[Entry], path: &[Text]) -> Counts
+fn counts_of(tree: &[Entry], path: &[Text], there: bool) -> Counts
+    requires { there ≡ is_some (node_at tree.now path.now) }
     ensures own { result.own ≡ count_at tree.now path.now }
     ensures parent { result.parent ≡ count_at tree.now (parent_of path.now) }
 {
+    let above = parent(path);
+    let parent_there = !is_missing(tree, above);
     Counts {
-        own: count_of(tree, path),
-        parent: count_of(tree, parent(path)),
+        own: count_of(tree, path, there),
+        parent: count_of(tree, above, parent_there),
     }
 }
 
@@ -71,11 +78,20 @@ fn entry_pages(count: Option<usize>) -> u64
     }
 }
 
-fn data_at(tree: &[Entry], path: &[Text]) -> u64
-    ensures pages { result ≡ node_part data_of_node tree.now path.now }
+fn is_there(node: Option<&SharedNode>) -> bool
+    ensures { result ≡ is_some (option_copied node.entry) }
+{
+    match node {
+        Some(_) => true,
+        None => false,
+    }
+}
+
+fn data_of(node: Option<&SharedNode>) -> u64
+    ensures pages { result ≡ data_part (option_copied node.entry) }
     ensures bound { result < 2 ^ 63 }
 {
-    match find(tree, path) {
+    match node {
         Some(node) => match node.content() {
             Some(content) => content.page_count() as u64,
             None => 0,
@@ -84,11 +100,11 @@ fn data_at(tree: &[Entry], path: &[Text]) -> u64
     }
 }
 
-fn ranges_at(tree: &[Entry], path: &[Text]) -> u64
-    ensures pages { result ≡ node_part ranges_of_node tree.now path.now }
+fn ranges_of(node: Option<&SharedNode>) -> u64
+    ensures pages { result ≡ ranges_part (option_copied node.entry) }
     ensures bound { result < 2 ^ 32 }
 {
-    match find(tree, path) {
+    match node {
         Some(node) => match node.content() {
             Some(content) => content.ranges() as u64,
             None => 0,
@@ -97,44 +113,12 @@ fn ranges_at(tree: &[Entry], path: &[Text]) -> u64
     }
 }
 
-/// The metadata pages that a path and its parent add.
-fn meta_at(tree: &[Entry], path: &[Text], counts: Counts) -> u64
-    requires own { counts.own ≡ count_at tree.now path.now }
-    requires parent { counts.parent ≡ count_at tree.now (parent_of path.now) }
-    ensures pages { result ≡ count_part pages_of_entries (count_at tree.now path.now) + count_part pages_of_entries (count_at tree.now (parent_of path.now)) + node_part ranges_of_node tree.now path.now }
-    ensures bound { result < 2 ^ 63 + 2 ^ 32 }
+/// The metadata pages of the entries that a path and its parent have.
+fn pages_of(counts: Counts) -> u64
+    ensures pages { result ≡ count_part pages_of_entries counts.own + count_part pages_of_entries counts.parent }
+    ensures bound { result < 2 ^ 63 }
 {
-    entry_pages(counts.own) + entry_pages(counts.parent) + ranges_at(tree, path)
-}
-
-fn data_after(tree: &[Entry], next: &[Entry], path: &[Text], pages: u64) -> u64
-    requires change { IsChangeAt path.now tree.now next.now }
-    requires kept { pages ≡ data_charge tree.now }
-    requires small { pages < 2 ^ 32 }
-    ensures { result ≡ data_charge next.now }
-{
-    pages + data_at(next, path) - data_at(tree, path)
-}
-
-fn meta_after(
-    tree: &[Entry],
-    next: &[Entry],
-    path: &[Text],
-    was: Counts,
-    now: Counts,
-    meta: u64,
-) -> u64
-    requires change { IsChangeAt path.now tree.now next.now }
-    requires some { 0 < length path.now }
-    requires kept { meta ≡ meta_charge tree.now }
-    requires small { meta < 2 ^ 32 }
-    requires was_own { was.own ≡ count_at tree.now path.now }
-    requires was_parent { was.parent ≡ count_at tree.now (parent_of path.now) }
-    requires own { now.own ≡ count_at next.now path.now }
-    requires parent { now.parent ≡ count_at next.now (parent_of path.now) }
-    ensures { result ≡ meta_charge next.now }
-{
-    meta + meta_at(next, path, now) - meta_at(tree, path, was)
+    entry_pages(counts.own) + entry_pages(counts.parent)
 }
 
 /// Whether the path or its parent has too many entries.
@@ -160,23 +144,47 @@ pub(crate) fn after_change(
     ensures room { OnOk result (None ≡ space_refusal shape next.now) }
     ensures refusal { IfErr result (λ r. Some r ≡ space_refusal shape next.now) }
 {
-    let was = counts_of(tree, path);
-    let now = counts_of(next, path);
-    if overfills(now) {
+    let was = find(tree, path);
+    let now = find(next, path);
+    let pages = sums.pages + data_of(now) - data_of(was);
+    let meta = sums.meta + ranges_of(now);
+    if is_there(was) && is_there(now) {
+        let changed = Sums {
+            pages,
+            meta: meta - ranges_of(was),
+        };
+        return judged(shape, next, false, changed);
+    }
+    let before = counts_of(tree, path, is_there(was));
+    let after = counts_of(next, path, is_there(now));
+    let changed = Sums {
+        pages,
+        meta: meta + pages_of(after) - pages_of(before) - ranges_of(was),
+    };
+    judged(shape, next, overfills(after), changed)
+}
+
+/// The sums of a tree, or what the volume lacks for it.
+fn judged(shape: Shape, tree: &[Entry], full: bool, sums: Sums) -> Result<Sums, Refusal>
+    requires full { full ≡ has_overfull tree.now }
+    requires sums { AreCharges sums.pages sums.meta tree.now }
+    ensures sums { IfOk result (λ s. AreCharges s.pages s.meta tree.now) }
+    ensures room { OnOk result (None ≡ space_refusal shape tree.now) }
+    ensures refusal { IfErr result (λ r. Some r ≡ space_refusal shape tree.now) }
+{
+    if full {
         return Err(Refusal::Enospc(Space::Dir));
     }
-    if exceeds_nodes(next, shape.nodes) {
+    if exceeds_nodes(tree, shape.nodes) {
         return Err(Refusal::Enospc(Space::Nodes));
     }
-    let meta = meta_after(tree, next, path, was, now, sums.meta);
-    if meta > shape.meta as u64 {
+    if sums.meta > shape.meta as u64 {
         return Err(Refusal::Enospc(Space::Meta));
     }
-    let pages = data_after(tree, next, path, sums.pages);
-    if pages > shape.cap as u64 {
+    if sums.pages > shape.cap as u64 {
         return Err(Refusal::Enospc(Space::Pages));
     }
-    Ok(Sums { pages, meta })
+    Ok(sums)
 }
 
 /// The sums of a tree in one pass over it, or what the volume lacks for it.
