@@ -3,7 +3,7 @@ use Rattle.std.proofs.lemmas.Bool.Decides.{nat_tests}
 use Rattle.nl_tree.specs.Tree.{directory}
 use Rattle.nl_tree.specs.PlainTree.{meta_of_entry}
 use Rattle.nl_tree.proofs.SpaceProofs.{sum_more, meta-is}
-use Rattle.nl_tree.proofs.plain.space.exceeds_meta.Goals as goal
+use Rattle.nl_tree.proofs.plain.space.meta_total.Goals as goal
 
 pub entries-init : goal.entries-init
 entries-init c = (omega (arith, meta-is c.args.tree.now), omega arith)
