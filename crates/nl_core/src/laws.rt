@@ -1,4 +1,5 @@
 //! Laws of the definitions. Each function stands for the law that its contract names.
+ghost use Rattle.nl_core.specs.Formatted.{FormattedIsSound};
 ghost use Rattle.nl_core.specs.Fresh.{FreshIsSound, SpareByCopies, SpareByFewPages};
 ghost use Rattle.nl_core.specs.StandsLaws.{MetadataStands, StandsForOne, WalkIsSoundness, StandsWithCharges};
 
@@ -35,4 +36,9 @@ pub fn spare_by_few_pages()
 // The pages that formatting leaves open as the tree with only the root, on any legal geometry.
 pub fn fresh_is_sound()
     ensures { FreshIsSound }
+{}
+
+// What a format leaves opens as the tree with only the root.
+pub fn formatted_is_sound()
+    ensures { FormattedIsSound }
 {}

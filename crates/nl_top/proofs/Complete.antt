@@ -6,12 +6,12 @@ use Rattle.std.specs.Prelude.{option_map, nat_le, if◌then◌else◌, IfSome}
 use Rattle.nl_field.specs.CrashStates.{Rose}
 use Rattle.nl_field.specs.Numbers.{is_legal}
 use Rattle.nl_tree.specs.declared.call.Line.{Line}
+use Rattle.nl_core.specs.Formatted.{IsFormatted}
 use Rattle.nl_top.specs.declared.command.Command.{Command}
 use Rattle.nl_top.specs.declared.command.Command.TheVariants.{Run, Format}
 use Rattle.nl_top.specs.declared.lists.Ordered.{Ordered}
 use Rattle.nl_top.specs.Command.{command_of}
 use Rattle.nl_top.specs.Form.{script_lines, max_script, lines_within, calls_of, parts_at}
-use Rattle.nl_top.specs.Formatted.{IsFormatted}
 use Rattle.nl_top.specs.Top.{Stream, Medium, MediumRose, NotAScript, Ends, faulty_words, source_fault, no_memory, medium_fault, unbuilt, ran, formats, format_fault, format_no_memory, formatted}
 
 -- what was left, in two parts
@@ -63,9 +63,9 @@ module _ (tells : Type 0) (words : List (List ℕ)) (source source' sink sink' :
   complete run bytes left lines script t legal form no_source no_sink no_medium (unbuilt is two (inl no_script) ends) = absurd (a_script source source' bytes lines left script no_script)
   complete run bytes left lines script t legal form no_source no_sink no_medium (unbuilt is two (inr (inl illegal)) ends) = absurd (not_both _ legal illegal)
   complete run bytes left lines script t legal form no_source no_sink no_medium (unbuilt is two (inr (inr other)) ends) = absurd (other t form)
-  complete run bytes left lines script t legal form no_source no_sink no_medium (ran is read whole all spelled numbers formed text runs (inl five)) = absurd (no_medium five.1)
-  complete run bytes left lines script t legal form no_source no_sink no_medium (ran is read whole all spelled numbers formed text runs (inr (inl four))) = absurd (no_sink four.2)
-  complete run bytes left lines script t legal form no_source no_sink no_medium (ran is read whole all spelled numbers formed text runs (inr (inr zero))) = inl zero.0
+  complete run bytes left lines script t legal form no_source no_sink no_medium (ran is read whole all spelled numbers formed sound text runs (inl five)) = absurd (no_medium five.1)
+  complete run bytes left lines script t legal form no_source no_sink no_medium (ran is read whole all spelled numbers formed sound text runs (inr (inl four))) = absurd (no_sink four.2)
+  complete run bytes left lines script t legal form no_source no_sink no_medium (ran is read whole all spelled numbers formed sound text runs (inr (inr zero))) = inl zero.0
   complete run bytes left lines script t legal form no_source no_sink no_medium (formats blocks pages is same ends) = absurd (run_or_format (command_of words) blocks pages run is)
 
   pub completes : (blocks pages : ℕ) → command_of words ≡ Some (Format blocks pages) → (Rose sink.faults sink'.faults → ⊥) → (MediumRose medium medium' → ⊥)
@@ -75,7 +75,7 @@ module _ (tells : Type 0) (words : List (List ℕ)) (source source' sink sink' :
   completes blocks pages format no_sink no_medium (no_memory is six ends) = inr six
   completes blocks pages format no_sink no_medium (medium_fault is five rose ends) = absurd (no_medium (inl rose))
   completes blocks pages format no_sink no_medium (unbuilt is two cause ends) = absurd (run_or_format (command_of words) blocks pages is format)
-  completes blocks pages format no_sink no_medium (ran is read whole all spelled numbers formed text runs done) = absurd (run_or_format (command_of words) blocks pages is format)
+  completes blocks pages format no_sink no_medium (ran is read whole all spelled numbers formed sound text runs done) = absurd (run_or_format (command_of words) blocks pages is format)
   completes blocks pages format no_sink no_medium (formats b p is same (format_fault five rose prints none)) = absurd (no_medium (inr rose))
   completes blocks pages format no_sink no_medium (formats b p is same (format_no_memory six ends)) = inr six
   completes blocks pages format no_sink no_medium (formats b p is same (formatted text made (inl five))) = absurd (no_medium five.1)

@@ -18,5 +18,6 @@ pub mod Replying
 mod RunsOf
 pub mod SameCall
 pub mod ScriptCalls
+mod SoundMedium
 pub mod Splits
 pub mod Steps

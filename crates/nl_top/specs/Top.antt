@@ -1,5 +1,5 @@
 -- How a call of the store ends.
-use Rattle.std.specs.Prelude.{◌≡◌, ◌⊎◌, ◌≤◌, ◌<◌, ◌+◌, ◌*◌, ℕ, List, [], ◌∷◌, ◌++◌, length, codes, false, IsTrue, IfSome, Option, Some, None, option_map}
+use Rattle.std.specs.Prelude.{◌≡◌, ◌⊎◌, ◌≤◌, ◌<◌, ◌+◌, ◌*◌, ℕ, List, [], ◌++◌, length, codes, false, IsTrue, IfSome, Option, Some, None, option_map}
 use Rattle.nl_field.specs.CrashStates.{Rose}
 use Rattle.nl_field.specs.Numbers.{is_legal, shape_for}
 use Rattle.nl_field.specs.Page.{Image}
@@ -11,14 +11,14 @@ use Rattle.nl_nand.specs.declared.geometry.Geometry.{Geometry}
 use Rattle.nl_tree.specs.Causes.{Counts}
 use Rattle.nl_tree.specs.Tree.{empty_tree}
 use Rattle.nl_tree.specs.declared.call.Line.{Line}
+use Rattle.nl_core.specs.Formatted.{IsFormatted}
+use Rattle.nl_core.specs.Stands.{SoundAs}
 use Rattle.nl_print.specs.Texts.{run_text, formatted_text}
-use Rattle.nl_top.specs.declared.command.Command.{Command}
 use Rattle.nl_top.specs.declared.command.Command.TheVariants.{Run, Format}
 use Rattle.nl_top.specs.declared.lists.Ordered.{Ordered}
 use Rattle.nl_top.specs.Command.{command_of}
 use Rattle.nl_top.specs.Execution.{Executed, outcomes, CountsPrograms, answered_of}
 use Rattle.nl_top.specs.Form.{script_lines, max_script}
-use Rattle.nl_top.specs.Formatted.{IsFormatted}
 use Rattle.nl_top.specs.Run.{Executes, finished_in}
 
 -- ---- source, sink and medium in a call
@@ -105,10 +105,11 @@ pub record Runs (tells : Type 0) (lines : List Line) (sink sink' : Stream) (medi
   pub answers : tells → text ≡ run_text 0 (answered_of executed (outcomes (shape_of_medium medium) (physical_pages (shape_of_medium medium)) empty_tree executed))
   pub prints : Prints sink sink' text
 
--- A volume of this geometry was made, whatever the medium held, and told.
+-- A volume of this geometry was made, whatever the medium held, and told. It opens as the tree with only the root, after no call.
 pub record Formats (tells : Type 0) (blocks pages : ℕ) (sink sink' : Stream) (medium' : Medium) (order : List Ordered) (text : List ℕ) : Type 0 where
   pub geometry : medium'.geometry ≡ record { blocks = blocks; pages = pages }
   pub contents : tells → IsFormatted blocks pages medium'.contents
+  pub sound : tells → SoundAs medium'.contents 0 empty_tree
   pub text_is : text ≡ formatted_text (shape_for blocks pages)
   pub prints : Prints sink sink' text
   pub no_lines : order ≡ []
@@ -144,6 +145,7 @@ pub data Ends (tells : Type 0) (words : List (List ℕ)) (source source' sink si
       → Ends tells words source source' sink sink' medium medium' order status
   ran : command_of words ≡ Some Run → (bytes : List ℕ) → ReadsWhole source source' bytes → (lines : List Line) → script_lines bytes ≡ Some lines
       → IsTrue (is_legal medium.geometry.blocks medium.geometry.pages) → (tells → IsFormatted medium.geometry.blocks medium.geometry.pages medium.contents)
+      → (tells → SoundAs medium.contents 0 empty_tree)
       → (text : List ℕ) → Runs tells lines sink sink' medium medium' order text → DoneStatus status sink sink' medium medium' text
       → Ends tells words source source' sink sink' medium medium' order status
   formats : (blocks pages : ℕ) → command_of words ≡ Some (Format blocks pages) → source' ≡ source → FormatEnds tells blocks pages sink sink' medium medium' order status

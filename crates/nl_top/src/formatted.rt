@@ -5,7 +5,7 @@ ghost use Rattle.nl_field.specs.Numbers.{is_legal};
 ghost use Rattle.nl_field.specs.Page.{page_at, erased, written};
 ghost use Rattle.nl_field.specs.SpareRecord.{spare_bytes};
 ghost use Rattle.nl_field.specs.declared.spare.SpareRec.TheVariants.{Virtual};
-ghost use Rattle.nl_top.specs.Formatted.{root_page, super_page, IsFormatted};
+ghost use Rattle.nl_core.specs.Formatted.{formatted_root, formatted_super, IsFormatted};
 
 use crate::files::program_next;
 use nl_field::{InodeRec, Kind, PageBuf, Pointer, SpareRec, SuperRec, spare_into};
@@ -30,9 +30,9 @@ fn put_spare(page: &mut PageBuf, vaddr: u32, stamp: u64)
 }
 
 /// The first inode page of a new volume: an empty root.
-#[tactic(auto, unfolding(crate::specs::Formatted::root_page))]
+#[tactic(auto, unfolding(nl_core::specs::Formatted::formatted_root))]
 pub fn put_root(page: &mut PageBuf)
-    ensures { page.new ≡ root_page }
+    ensures { page.new ≡ formatted_root }
 {
     page.clear();
     InodeRec {
@@ -47,9 +47,9 @@ pub fn put_root(page: &mut PageBuf)
 }
 
 /// The super page of a new volume.
-#[tactic(auto, unfolding(crate::specs::Formatted::super_page))]
+#[tactic(auto, unfolding(nl_core::specs::Formatted::formatted_super))]
 pub fn put_super(page: &mut PageBuf, blocks: u32, pages: u32)
-    ensures { page.new ≡ super_page blocks pages }
+    ensures { page.new ≡ formatted_super blocks pages }
 {
     SuperRec {
         version: 1,

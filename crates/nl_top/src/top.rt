@@ -3,9 +3,9 @@ ghost use Rattle.std.specs.Prelude.{◌≡◌, ◌⊎◌, ◌<◌, ◌≤◌, �
 ghost use Rattle.nl_field.specs.CrashStates.{Rose};
 ghost use Rattle.nl_field.specs.Numbers.{is_legal, shape_for};
 ghost use Rattle.nl_tree.specs.declared.call.Line.{Line};
+ghost use Rattle.nl_core.specs.Formatted.{IsFormatted};
 ghost use Rattle.nl_top.specs.Command.{command_of};
 ghost use Rattle.nl_top.specs.Form.{script_lines};
-ghost use Rattle.nl_top.specs.Formatted.{IsFormatted};
 ghost use Rattle.nl_top.specs.Plain.{IsPlain};
 ghost use Rattle.nl_top.specs.Tables.{HaveRoom};
 ghost use Rattle.nl_top.specs.Top.{stream, medium, ReadsWhole, NotAScript, Prints, Runs, DoneStatus, FormatEnds, Ends};

@@ -3,7 +3,7 @@ use Rattle.std.proofs.lemmas.List.{drop-replicate}
 use Rattle.nl_field.specs.Bytes.{zeros}
 use Rattle.nl_field.specs.Examples.{root_inode}
 use Rattle.nl_field.specs.Inode.{inode_bytes, is_inode_of_kind, are_filled}
-use Rattle.nl_top.specs.Formatted.{root_page}
+use Rattle.nl_core.specs.Formatted.{formatted_root}
 use Rattle.nl_top.proofs.formatted.put_root.Goals as goal
 
 pub into_page-requires-clause-spelled : goal.into_page-requires-clause-spelled
@@ -15,7 +15,7 @@ unfolding zeros
 behind = drop-replicate 256 4096 0
 
 pub returns : goal.returns
-unfolding root_page
+unfolding formatted_root
 returns c = λ i. record { main = main i; spare = c.put_spare.ensures.spare i }
   where
     main : c.put_spare.new.page.main ≡ inode_bytes root_inode ++ zeros 3840

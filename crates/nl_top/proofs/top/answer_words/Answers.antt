@@ -2,12 +2,15 @@ use Rattle.std.proofs.Common.{◌≡◌, ℕ, false, IsTrue, List, ap, sym, ◌�
 use Rattle.std.specs.Prelude.{codes, Some}
 use Rattle.nl_field.specs.Numbers.{is_legal}
 use Rattle.nl_nand.specs.declared.geometry.Geometry.{Geometry}
+use Rattle.nl_tree.specs.Tree.{empty_tree}
+use Rattle.nl_core.specs.Stands.{SoundAs}
 use Rattle.nl_top.specs.declared.command.Command.{Command}
 use Rattle.nl_top.specs.declared.command.Command.TheVariants.{Run, Format}
 use Rattle.nl_top.specs.Command.{command_of}
 use Rattle.nl_top.specs.Form.{script_lines}
 use Rattle.nl_top.specs.Top.{stream, medium, Medium, ReadsWhole, EndsBefore, Runs, DoneStatus, ran, unbuilt, formats}
 use Rattle.nl_top.proofs.Ending.{not_legal}
+use Rattle.nl_top.proofs.SoundMedium.{sound_medium}
 use Rattle.nl_top.proofs.top.answer_words.Goals as goal
 
 pub returns-in_default-shape_of-clause-ended : goal.returns-in_default-shape_of-clause-ended
@@ -51,7 +54,10 @@ returns-clause-ended g c =
     let run = c.run_lines.ensures.ran in
     let runs = subst (λ (m : Medium). Runs g.M.Nand.tells c.in-Some.lines.items sink sink' m after c.run_lines.result.order.items run.0) same run.1 in
     let status = subst (λ (m : Medium). DoneStatus c.run_lines.result.status sink sink' m after run.0) same run.2 in
-    ran is read.0 read.1 c.in-Some.lines.items read.2 legal (λ t. c.in-Formatted.ensures.formatted t refl) run.0 runs status
+    let geometry = g.M.Nand.geometry c.args.media in
+    let sound : g.M.Nand.tells → SoundAs (g.M.Nand.contents c.args.media) 0 empty_tree = λ t.
+    sound_medium geometry geometry.blocks geometry.pages (g.M.Nand.contents c.args.media) (g.met.M.Nand.contents_fit c.args.media t) refl legal (c.in-Formatted.ensures.formatted t refl) in
+    ran is read.0 read.1 c.in-Some.lines.items read.2 legal (λ t. c.in-Formatted.ensures.formatted t refl) sound run.0 runs status
 
 pub returns-in-Some-Format-clause-ended : goal.returns-in-Some-Format-clause-ended
 returns-in-Some-Format-clause-ended g c =

@@ -1,8 +1,9 @@
-use Rattle.std.proofs.Common.{◌≡◌, ◌⊎◌, ◌≤◌, ℕ, IsTrue, refl, ap, sym, ◌∙◌, subst}
+use Rattle.std.proofs.Common.{◌⊎◌, ℕ, IsTrue, refl, ap, sym, subst}
 use Rattle.nl_field.specs.CrashStates.{Rose}
 use Rattle.nl_print.specs.Texts.{formatted_text}
 use Rattle.nl_top.specs.Top.{stream, medium, MediumRose, Formats, formatted}
 use Rattle.nl_top.proofs.Ending.{done_status}
+use Rattle.nl_top.proofs.SoundMedium.{sound_medium}
 use Rattle.nl_top.proofs.top.format.Goals as goal
 
 pub returns-clause-ended : goal.returns-clause-ended
@@ -23,6 +24,7 @@ returns-clause-ended g c =
     let formats : Formats g.M.Nand.tells c.args.blocks c.args.pages sink sink' after c.new-3.result.items text = record {
       geometry = c.in-Done.ensures.geometry refl;
       contents = λ t. c.in-Done.ensures.formatted t refl;
+      sound = λ t. sound_medium (g.M.Nand.geometry made) c.args.blocks c.args.pages (g.M.Nand.contents made) (g.met.M.Nand.contents_fit made t) (c.in-Done.ensures.geometry refl) c.requires.legal (c.in-Done.ensures.formatted t refl);
       text_is = ap formatted_text c.in-Some.ensures.numbers;
       prints = record { answer = c.formatted_line-answer.result; taken = c.formatted_line-answer.ensures.text; never_falls = c.formatted_line-answer.ensures.never_falls; cause = c.formatted_line-answer.ensures.cause };
       no_lines = c.new-3.ensures;
