@@ -29,9 +29,10 @@ use Rattle.nl_scan.proofs.Whole.{pages_spelled, greatest_is}
 pub fresh_blocks : (image : Image) (blocks : ℕ) (pass : Pass) → image.blocks ≡ blocks → IsFresh blocks pass → KnowsBlocks image 0 pass.erased.items
 fresh_blocks image blocks pass same fresh =
     record {
-      each_block = λ block below.
-          ((λ is p low high end. absurd (omega arith)),
-          (λ all. ap (λ (l : List Bool). get_or l block false) fresh.all_erased ∙ get_or-replicate blocks block true false (omega (arith, same, below))));
+      each_block = λ block below. (
+        (λ is p low high end. absurd (omega arith)),
+        (λ all. ap (λ (l : List Bool). get_or l block false) fresh.all_erased ∙ get_or-replicate blocks block true false (omega (arith, same, below))),
+      );
     }
 
 no_firsts : (pages : ℕ) (firsts : BTreeMap ℕ First) → firsts.entries ≡ [] → AreWithin pages firsts

@@ -16,12 +16,9 @@ use Rattle.nl_scan.specs.declared.super_seen.SuperSeen.{SuperSeen}
 use Rattle.nl_scan.specs.Supers.{no_super, super_after}
 use Rattle.nl_scan.specs.Tables.{Table, seen_of, greatest_stamp, IsTableOf}
 use Rattle.nl_scan.specs.Passes.{readable_below, KnowsPages, ErasedBelow, KnowsBlocks}
-use Rattle.nl_scan.proofs.Below.{weaken_all}
+use Rattle.nl_scan.proofs.Lists.{weaken_all, same_some}
 use Rattle.nl_scan.proofs.Readables.{IsOneOf, below_all, below_on}
 use Rattle.nl_scan.proofs.Supers.{version_found}
-
-same_some : {X : Type 0} (x y : X) → Some x ≡ Some y → x ≡ y
-same_some x y e = cc
 
 -- a value that was taken by a test passes it
 taken_where : {R : Type 0} (h : R → Bool) (t b : Bool) (v r : R) → h v ≡ b → (if b && t then Some v else None) ≡ Some r → h r ≡ true

@@ -35,11 +35,11 @@ ends_there bytes end within why =
     ⊎_elim
     (λ none. ap (λ (n : ℕ). zeros_from (take n bytes)) none ∙ none_left bytes ∙ sym none)
     (λ other. ⊎_elim
-        (λ none. ap (λ (n : ℕ). zeros_from (take n bytes)) none ∙ none_left bytes ∙ sym none)
-        (λ some.
-            ap zeros_from (one_less bytes end some within) ∙ push_other (take (end - 1) bytes) (get_or bytes (end - 1) 0) other
-            ∙ omega (arith, length-take-le (end - 1) bytes (omega arith)))
-        (zero_or_more end))
+    (λ none. ap (λ (n : ℕ). zeros_from (take n bytes)) none ∙ none_left bytes ∙ sym none)
+    (λ some.
+    ap zeros_from (one_less bytes end some within) ∙ push_other (take (end - 1) bytes) (get_or bytes (end - 1) 0) other
+    ∙ omega (arith, length-take-le (end - 1) bytes (omega arith)))
+    (zero_or_more end))
     why
   where
     zero_or_more : (n : ℕ) → (n ≡ 0) ⊎ (0 < n)

@@ -20,7 +20,7 @@ returns-in-None-clause-tables g c = λ tells.
     let geometry = g.M.Nand.geometry c.args.media.now in
     let image = g.M.Nand.contents c.args.media.now in
     let none : c.geometry-geometry.result ≡ record { blocks = 0; pages = 0 } =
-        not_formed c.geometry-geometry.result (subst IsLegal (sym c.geometry-geometry.ensures) (g.met.M.Nand.legal c.args.media.now)) (λ legal. false≢true (c.in-None.ensures.legal.1 legal)) in
+    not_formed c.geometry-geometry.result (subst IsLegal (sym c.geometry-geometry.ensures) (g.met.M.Nand.legal c.args.media.now)) (λ legal. false≢true (c.in-None.ensures.legal.1 legal)) in
     subst (IsTableOf image)
     (sym (c.of_pass.ensures ∙ (λ i. record { seen = c.new.ensures.items i; erased = c.new-in-None.ensures.items i; version = 0 })))
     (none_table geometry image (g.met.M.Nand.contents_fit c.args.media.now tells) (sym c.geometry-geometry.ensures ∙ none))
