@@ -1,5 +1,5 @@
 -- A pass before its first page, and what it gives after its last.
-use Rattle.std.proofs.Common.{◌≡◌, ◌↔◌, ℕ, ◌+◌, ◌*◌, ◌<◌, ◌≤◌, ◌^◌, Bool, true, false, List, [], length, IsTrue, All, refl, sym, ◌∙◌, ap, subst, arith, map, get_or, replicate, ◌⊎◌, ⊎_elim}
+use Rattle.std.proofs.Common.{◌≡◌, ℕ, ◌+◌, ◌*◌, ◌<◌, ◌≤◌, Bool, true, false, List, [], length, IsTrue, All, refl, sym, ◌∙◌, ap, subst, arith, map, get_or, ⊎_elim}
 use Rattle.std.specs.Prelude.{fold, nat_le, ◌&&◌, IfSome}
 use Rattle.std.specs.List.{AllPairs}
 use Rattle.std.specs.Map.{lookup}
@@ -11,8 +11,6 @@ use Rattle.std.proofs.lemmas.List.Elements.{All-nil}
 use Rattle.nl_field.specs.Numbers.{is_legal, shape_for}
 use Rattle.nl_field.specs.Page.{Image}
 use Rattle.nl_field.specs.Medium.{Readable, readable_pages, shape_of_image}
-use Rattle.nl_field.specs.Scan.{next_stamp_of, super_version}
-use Rattle.nl_field.specs.declared.shape.Shape.{Shape}
 use Rattle.nl_nand.specs.Nand.{ImageOf, IsLegal}
 use Rattle.nl_nand.specs.ImageLaws.{image_size}
 use Rattle.nl_nand.specs.declared.geometry.Geometry.{Geometry}

@@ -1,7 +1,7 @@
 -- What a pass knows of the readable pages after one more page, and after all of them.
-use Rattle.std.proofs.Common.{◌≡◌, ℕ, ◌+◌, ◌<◌, ◌≤◌, Bool, true, false, not, ◌&&◌, List, [], ◌∷◌, ◌++◌, length, Option, Some, None, refl, sym, ◌∙◌, ap, subst, arith, ⊎_elim, map, cond}
+use Rattle.std.proofs.Common.{◌≡◌, ℕ, ◌+◌, ◌<◌, ◌≤◌, Bool, false, not, ◌&&◌, List, [], ◌∷◌, ◌++◌, length, Option, Some, None, sym, ◌∙◌, ap, subst, arith, ⊎_elim, map, cond}
 use Rattle.std.specs.Prelude.{filter, fold, MatchBool}
-use Rattle.std.specs.List.{list_any, AllByRecursion}
+use Rattle.std.specs.List.{AllByRecursion}
 use Rattle.std.specs.Ordering.{nat_cmp, is_eq}
 use Rattle.std.proofs.lemmas.Bool.Decides.{nat_tests}
 use Rattle.std.specs.BTreeMap.{BTreeMap, get, Updates}
@@ -11,20 +11,19 @@ use Rattle.std.proofs.lemmas.List.{map-append, append-nil}
 use Rattle.std.proofs.lemmas.List.Sums.{fold-append}
 use Rattle.std.proofs.lemmas.List.Elements.{filter-append}
 use Rattle.nl_field.specs.Page.{Image, page_at}
-use Rattle.nl_field.specs.Medium.{Readable, readable, readable_pages, stamp_on, shape_of_image}
+use Rattle.nl_field.specs.Medium.{Readable, readable, stamp_on, shape_of_image}
 use Rattle.nl_field.specs.Scan.{agrees_below, zeros_from}
 use Rattle.nl_scan.specs.declared.firsts.First.{First}
 use Rattle.nl_scan.specs.declared.pass.Pass.{Pass}
-use Rattle.nl_scan.specs.declared.seen.Seen.{Seen}
 use Rattle.nl_scan.specs.declared.super_seen.SuperSeen.{SuperSeen}
 use Rattle.nl_scan.specs.Firsts.{noted, first_of}
 use Rattle.nl_scan.specs.Supers.{no_super, super_after}
 use Rattle.nl_scan.specs.Tables.{seen_of}
-use Rattle.nl_scan.specs.Passes.{is_own_virtual, is_own_physical, readable_below, Compared, Added, KnowsPages}
+use Rattle.nl_scan.specs.Passes.{is_own_virtual, is_own_physical, readable_below, Added, KnowsPages}
 use Rattle.nl_scan.proofs.Agreeing.{IsOn, differs_from, verdict, first_here, first_apart}
 use Rattle.nl_scan.proofs.Lists.{filter_all, weaken_all}
 use Rattle.nl_scan.proofs.Below.{IsBelow, agrees_by_lower}
-use Rattle.nl_scan.proofs.Readables.{IsOneOf, below_none, below_more_none, below_more_some, below_all, below_on, readable_behind, split_at, behind_above, number_kept}
+use Rattle.nl_scan.proofs.Readables.{IsOneOf, below_none, below_more_none, below_more_some, below_on, readable_behind, split_at, behind_above, number_kept}
 
 -- the table of a segment has the first pages of these
 abbrev pub Holds : BTreeMap ℕ First → List Readable → Type 0

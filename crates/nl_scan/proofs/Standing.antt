@@ -1,9 +1,9 @@
 -- A pass after one more page.
-use Rattle.std.proofs.Common.{◌≡◌, ◌↔◌, ◌⊎◌, inl, inr, ℕ, zero, suc, ◌+◌, ◌*◌, ◌/◌, ◌<◌, ◌≤◌, ◌^◌, Bool, true, false, List, [], ◌∷◌, ◌++◌, length, Option, Some, None, IsTrue, All, refl, sym, ◌∙◌, ap, subst, arith, ⊎_elim, max, get_or, set}
+use Rattle.std.proofs.Common.{◌≡◌, ◌↔◌, ℕ, zero, suc, ◌+◌, ◌*◌, ◌/◌, ◌<◌, ◌≤◌, ◌^◌, Bool, false, List, [], ◌∷◌, ◌++◌, length, Some, None, IsTrue, All, sym, ◌∙◌, ap, subst, arith, ⊎_elim, max, get_or, set}
 use Rattle.std.specs.Prelude.{option_map, nat_le, nat_lt, ◌&&◌}
 use Rattle.std.specs.List.{AllPairs}
 use Rattle.std.proofs.Math.Nat.{mul-le-mul_right, add-mul}
-use Rattle.std.proofs.lemmas.Bool.{and_parts, ltb-true, leb-true, cases_eq, cases_lt, cases_order, both_ways}
+use Rattle.std.proofs.lemmas.Bool.{and_parts, ltb-true, cases_eq, cases_lt, cases_order, both_ways}
 use Rattle.std.proofs.lemmas.List.{length_push, get_or-set_same, get_or-set_other}
 use Rattle.std.proofs.lemmas.List.Elements.{All-push, All-weaker, All-get_or}
 use Rattle.std.proofs.lemmas.List.Quantifiers.{all_pairs_push}
@@ -12,7 +12,7 @@ use Rattle.nl_field.specs.Page.{Page, PageBytes, erased, written, Image, page_at
 use Rattle.nl_field.specs.SpareRecord.{spare_rec_of, is_spare, stamp_of}
 use Rattle.nl_field.specs.declared.spare.SpareRec.{SpareRec}
 use Rattle.nl_field.specs.declared.shape.Shape.{Shape}
-use Rattle.nl_field.specs.Medium.{Readable, readable, shape_of_image}
+use Rattle.nl_field.specs.Medium.{readable, shape_of_image}
 use Rattle.nl_nand.specs.Nand.{ImageOf}
 use Rattle.nl_nand.specs.ImageLaws.{image_size}
 use Rattle.nl_nand.specs.declared.geometry.Geometry.{Geometry}

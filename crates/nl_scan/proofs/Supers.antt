@@ -1,16 +1,14 @@
 -- The super page that is found page by page is the first one of greatest stamp.
-use Rattle.std.proofs.Common.{◌≡◌, ◌⊎◌, inl, inr, ℕ, zero, suc, ◌+◌, ◌<◌, ◌≤◌, Bool, true, false, not, ◌&&◌, ◌||◌, cond, List, [], ◌∷◌, ◌++◌, Option, Some, None, IsTrue, All, refl, sym, ◌∙◌, ap, subst, arith, ⊎_elim}
-use Rattle.std.specs.Prelude.{filter, find, fold, option_map, option_and_then, unwrap_or, nat_lt, nat_le, ◌==◌, ◌^◌}
+use Rattle.std.proofs.Common.{◌≡◌, ◌⊎◌, inl, inr, ℕ, ◌<◌, ◌≤◌, Bool, true, false, not, cond, List, [], ◌∷◌, ◌++◌, Option, Some, IsTrue, refl, sym, ◌∙◌, ap, subst, arith, ⊎_elim}
+use Rattle.std.specs.Prelude.{filter, find, fold, option_map, option_and_then, unwrap_or, nat_lt, nat_le, ◌^◌}
 use Rattle.std.specs.List.{list_any, AllByRecursion}
-use Rattle.std.proofs.lemmas.Bool.{cases_lt, leb-true, and_left, and_right, cond-true, cond-false, ltb-true, ltb-false, lt-ltb, le-ltb, cases_Bool, and_parts, and_cases, and_from, not_from_true, not_from_false, or_right, or_left}
+use Rattle.std.proofs.lemmas.Bool.{cases_lt, leb-true, and_left, and_right, cond-true, cond-false, lt-ltb, le-ltb, cases_Bool, and_parts, and_from, not_from_true, not_from_false}
 use Rattle.std.proofs.lemmas.List.{append_assoc, append-nil}
 use Rattle.std.proofs.lemmas.List.Elements.{filter-append}
-use Rattle.std.proofs.lemmas.Grind.{common_steps}
 use Rattle.nl_field.specs.SpareRecord.{is_spare}
 use Rattle.nl_field.specs.Medium.{Readable, stamp_on, readable_pages}
 use Rattle.nl_field.specs.Page.{Image}
 use Rattle.nl_field.specs.SuperPage.{super_of}
-use Rattle.nl_field.specs.declared.super_page.SuperRec.{SuperRec}
 use Rattle.nl_field.specs.Scan.{is_super_rec, super_version}
 use Rattle.nl_scan.proofs.Lists.{push_all, weaken_all, join_all, any_at, any_none, find_behind}
 use Rattle.nl_scan.specs.Supers.{no_super, version_on, is_newer, super_after}

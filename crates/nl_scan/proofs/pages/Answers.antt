@@ -2,7 +2,7 @@ use Rattle.std.proofs.Common.{◌≡◌, ◌*◌, ◌≤◌, ℕ, refl, sym, ◌
 use Rattle.nl_field.specs.Page.{Image}
 use Rattle.nl_field.specs.declared.shape.Shape.{Shape}
 use Rattle.nl_nand.specs.declared.geometry.Geometry.{Geometry}
-use Rattle.nl_scan.specs.Passes.{IsFresh, KnowsPages, KnowsBlocks, Stands}
+use Rattle.nl_scan.specs.Passes.{KnowsPages, KnowsBlocks, Stands}
 use Rattle.nl_scan.proofs.Ends.{fresh_blocks, fresh_stands, pages_of, size_of}
 use Rattle.nl_scan.proofs.Knowing.{knows_nothing}
 use Rattle.nl_scan.proofs.Whole.{is_table}
