@@ -1,11 +1,10 @@
 -- Comparing a page with the first of its stamp, and knowing whether one between differs from the first, tells whether it
 -- differs from any of them.
-use Rattle.std.proofs.Common.{◌≡◌, ◌≢◌, ◌⊎◌, inl, inr, ℕ, zero, suc, ◌+◌, ◌<◌, ◌≤◌, Bool, true, false, not, ◌&&◌, ◌||◌, cond, List, [], ◌∷◌, ◌++◌, Option, Some, None, IsTrue, refl, sym, ◌∙◌, ap, subst, arith, ⊎_elim, ◌==◌}
-use Rattle.std.proofs.lemmas.Bool.{false≢true}
+use Rattle.std.proofs.Common.{◌≡◌, ℕ, Bool, true, false, not, ◌&&◌, ◌||◌, cond, List, [], ◌∷◌, ◌++◌, Option, Some, None, refl, sym, ◌∙◌, ap, subst, ⊎_elim, ◌==◌}
 use Rattle.std.specs.Prelude.{find, option_map, bytes_eq}
 use Rattle.std.specs.List.{list_any, AllByRecursion}
 use Rattle.std.specs.Option.{option_or}
-use Rattle.std.proofs.lemmas.Bool.{cases_Bool, and_parts, and_from, and_left, and_right, or_left, or_right, eq-eqb, ne_eqb, both_ways, false_from_ne_true, not_from_true, not_from_false}
+use Rattle.std.proofs.lemmas.Bool.{cases_Bool, and_parts, and_from, and_right, or_left, or_right, eq-eqb, ne_eqb, both_ways, false_from_ne_true, not_from_true, not_from_false}
 use Rattle.std.proofs.lemmas.List.Folds.{find-append, list_any-append}
 use Rattle.std.proofs.lemmas.Slice.Eq.{bytes_eq-Decides}
 use Rattle.nl_field.specs.Page.{Image, page_at}
@@ -13,6 +12,7 @@ use Rattle.nl_field.specs.SpareRecord.{spare_bytes}
 use Rattle.nl_field.specs.Medium.{Readable, readable, stamp_on}
 use Rattle.nl_field.specs.Scan.{agree, without_wear}
 use Rattle.nl_scan.specs.declared.firsts.First.{First}
+use Rattle.nl_scan.proofs.Lists.{all_each, any_same, or_false, same_some}
 use Rattle.nl_scan.specs.Firsts.{agrees_with, is_alike, noted, first_of}
 
 -- one of these pages has the stamp and differs
@@ -59,15 +59,12 @@ agree_alike f r q is = let same = same_from f r is in agree_both f q ∙ (λ i. 
 some_or_none : {X : Type 0} (x : X) → Some x ≡ None → ⊥
 some_or_none x e = cc
 
-same_some : {X : Type 0} (x f : X) → Some x ≡ Some f → x ≡ f
-same_some x f e = cc
-
-any_none : {X : Type 0} (p h : X → Bool) (xs : List X) → find p xs ≡ None → list_any (λ x. p x && h x) xs ≡ false
-any_none p h [] none = refl
-any_none {X} p h (x ∷ xs) none =
+none_found : {X : Type 0} (p h : X → Bool) (xs : List X) → find p xs ≡ None → list_any (λ x. p x && h x) xs ≡ false
+none_found p h [] none = refl
+none_found {X} p h (x ∷ xs) none =
     ⊎_elim
     (λ is. absurd (some_or_none x (sym (λ i. cond (is i) (Some x) (find p xs)) ∙ none)))
-    (λ is. (λ i. (is i && h x) || list_any (λ y. p y && h y) xs) ∙ any_none p h xs (sym (λ i. cond (is i) (Some x) (find p xs)) ∙ none))
+    (λ is. (λ i. (is i && h x) || list_any (λ y. p y && h y) xs) ∙ none_found p h xs (sym (λ i. cond (is i) (Some x) (find p xs)) ∙ none))
     (cases_Bool (p x))
 
 passes : {X : Type 0} (p : X → Bool) (xs : List X) (f : X) → find p xs ≡ Some f → p f ≡ true
@@ -94,14 +91,6 @@ holds_found {X} p P (x ∷ xs) f some all =
     (λ is. holds_found p P xs f (sym (λ i. cond (is i) (Some x) (find p xs)) ∙ some) all.1)
     (cases_Bool (p x))
 
-any_same : {X : Type 0} (p q : X → Bool) (xs : List X) → ((x : X) → p x ≡ q x) → list_any p xs ≡ list_any q xs
-any_same p q [] same = refl
-any_same p q (x ∷ xs) same = λ i. same x i || any_same p q xs same i
-
-or_false : (b : Bool) → (b || false) ≡ b
-or_false true = refl
-or_false false = refl
-
 abbrev has_stamp : ℕ → Readable → Bool
 has_stamp stamp q = stamp_on q == stamp
 
@@ -114,7 +103,8 @@ differs_by_first : (pages : List Readable) (r f : Readable) → find (has_stamp 
 differs_by_first pages r f some =
     ⊎_elim
     (λ is.
-    any_same (λ q. stamp_on q == stamp_on r && not (agree q r)) (λ q. stamp_on q == stamp_on r && not (agree f q)) pages (λ q. ap (λ (b : Bool). stamp_on q == stamp_on r && not b) (sym (agree_alike f r q is)))
+    any_same (λ q. stamp_on q == stamp_on r && not (agree q r)) (λ q. stamp_on q == stamp_on r && not (agree f q)) pages
+    (all_each (λ q. (stamp_on q == stamp_on r && not (agree q r)) ≡ (stamp_on q == stamp_on r && not (agree f q))) (λ q. ap (λ (b : Bool). stamp_on q == stamp_on r && not b) (sym (agree_alike f r q is))) pages)
     ∙ sym (ap (λ (b : Bool). differ_from_first pages (stamp_on r) f || not b) is ∙ or_false (differ_from_first pages (stamp_on r) f)))
     (λ is.
     any_found (has_stamp (stamp_on r)) (λ q. stamp_on q == stamp_on r && not (agree q r)) pages f some (and_from (stamp_on f == stamp_on r) (not (agree f r)) (passes (has_stamp (stamp_on r)) pages f some) (not_from_false (agree f r) is))
@@ -129,7 +119,7 @@ first_in pages stamp f = record { page = f.page; mixed = differ_from_first pages
 
 noted_first : (image : Image) (pages : List Readable) (r : Readable) (found : Option Readable) → AllByRecursion (IsOn image) pages
     → find (has_stamp (stamp_on r)) pages ≡ found → (noted image r (option_map (first_in pages (stamp_on r)) found)).mixed ≡ differs_from pages r
-noted_first image pages r None on some = sym (any_none (has_stamp (stamp_on r)) (λ q. not (agree q r)) pages some)
+noted_first image pages r None on some = sym (none_found (has_stamp (stamp_on r)) (λ q. not (agree q r)) pages some)
 noted_first image pages r (Some f) on some =
     ap (λ (b : Bool). differ_from_first pages (stamp_on r) f || not b) (alike_first image f r (holds_found (has_stamp (stamp_on r)) (IsOn image) pages f some on))
     ∙ sym (differs_by_first pages r f some)
@@ -154,7 +144,7 @@ here image pages r None on some =
     (λ i. option_map (first_in (pages ++ r ∷ []) (stamp_on r)) (cond (its_stamp r i) (Some r) None))
     ∙ ap (λ (m : Bool). Some (record { page = r.page; mixed = m }))
     (one_more pages r r (stamp_on r)
-    ∙ (λ i. any_none (has_stamp (stamp_on r)) (λ q. not (agree r q)) pages some i || and_right (stamp_on r == stamp_on r) (not (agree r r)) (not_from_true (agree r r) (agree_itself r)) i))
+    ∙ (λ i. none_found (has_stamp (stamp_on r)) (λ q. not (agree r q)) pages some i || and_right (stamp_on r == stamp_on r) (not (agree r r)) (not_from_true (agree r r) (agree_itself r)) i))
 here image pages r (Some f) on some =
     ap (λ (m : Bool). Some (record { page = f.page; mixed = m }))
     (one_more pages r f (stamp_on r)

@@ -1,39 +1,16 @@
 -- Whether a page agrees with the lower ones of its segment, by the pages below it.
-use Rattle.std.proofs.Common.{◌≡◌, ℕ, ◌<◌, ◌≤◌, Bool, true, false, not, ◌&&◌, ◌||◌, cond, List, [], ◌∷◌, ◌++◌, refl, sym, ◌∙◌, ap, subst, arith, ⊎_elim, ◌==◌}
+use Rattle.std.proofs.Common.{◌≡◌, ℕ, ◌<◌, ◌≤◌, Bool, false, not, ◌&&◌, ◌||◌, cond, List, ◌∷◌, ◌++◌, refl, sym, ◌∙◌, ap, arith, ⊎_elim, ◌==◌}
 use Rattle.std.specs.Prelude.{filter, nat_lt}
 use Rattle.std.specs.List.{list_any, AllByRecursion}
-use Rattle.std.proofs.lemmas.Bool.{cases_Bool, and_left, and_right, eq-eqb, ne_eqb, lt-ltb, le-ltb}
+use Rattle.std.proofs.lemmas.Bool.{cases_Bool, and_left, eq-eqb, ne_eqb, lt-ltb, le-ltb}
 use Rattle.std.proofs.lemmas.List.Folds.{list_any-append}
 use Rattle.std.proofs.lemmas.List.Elements.{filter-append}
 use Rattle.nl_field.specs.Page.{Image}
 use Rattle.nl_field.specs.Medium.{Readable, readable_pages, virtual_pages, physical_pages, shape_of_image, stamp_on}
 use Rattle.nl_field.specs.Scan.{agree, differs_from_lower, agrees_below}
 use Rattle.nl_scan.specs.Passes.{is_own_virtual, is_own_physical}
+use Rattle.nl_scan.proofs.Lists.{any_none, filter_all, weaken_all, any_same, or_false}
 use Rattle.nl_scan.proofs.Agreeing.{differs_from}
-
-any_none : {X : Type 0} (p : X → Bool) (xs : List X) → AllByRecursion (λ x. p x ≡ false) xs → list_any p xs ≡ false
-any_none p [] all = refl
-any_none p (x ∷ xs) all = λ i. all.0 i || any_none p xs all.1 i
-
-pub filtered : {X : Type 0} (P : X → Type 0) (own : X → Bool) (xs : List X) → AllByRecursion P xs → AllByRecursion P (filter own xs)
-filtered P own [] all = tt
-filtered P own (x ∷ xs) all =
-    ⊎_elim
-    (λ is. subst (AllByRecursion P) (sym (λ i. cond (is i) (x ∷ filter own xs) (filter own xs))) (all.0, filtered P own xs all.1))
-    (λ is. subst (AllByRecursion P) (sym (λ i. cond (is i) (x ∷ filter own xs) (filter own xs))) (filtered P own xs all.1))
-    (cases_Bool (own x))
-
-pub weaken_all : {X : Type 0} (P Q : X → Type 0) → ((x : X) → P x → Q x) → (xs : List X) → AllByRecursion P xs → AllByRecursion Q xs
-weaken_all P Q f [] all = tt
-weaken_all P Q f (x ∷ xs) all = (f x all.0, weaken_all P Q f xs all.1)
-
-any_same : {X : Type 0} (p q : X → Bool) (xs : List X) → AllByRecursion (λ x. p x ≡ q x) xs → list_any p xs ≡ list_any q xs
-any_same p q [] same = refl
-any_same p q (x ∷ xs) same = λ i. same.0 i || any_same p q xs same.1 i
-
-or_false : (b : Bool) → (b || false) ≡ b
-or_false true = refl
-or_false false = refl
 
 abbrev pub IsBelow : ℕ → Readable → Type 0
 IsBelow at q = q.page < at
@@ -84,11 +61,11 @@ in_segment own low high r below above =
     ⊎_elim
     (λ is.
     ap (λ (l : List Readable). list_any (is_at_fault l r) l) (filter-append own low (r ∷ high) ∙ (λ i. filter own low ++ cond (is i) (r ∷ filter own high) (filter own high)))
-    ∙ with_page (filter own low) (filter own high) r (filtered (IsBelow r.page) own low below) (filtered (λ q. r.page < q.page) own high above)
+    ∙ with_page (filter own low) (filter own high) r (filter_all (IsBelow r.page) own low below) (filter_all (λ q. r.page < q.page) own high above)
     ∙ sym (λ i. is i && differs_from (filter own low) r))
     (λ is.
     ap (λ (l : List Readable). list_any (is_at_fault l r) l) (filter-append own low (r ∷ high) ∙ (λ i. filter own low ++ cond (is i) (r ∷ filter own high) (filter own high)))
-    ∙ without_page (filter own low) (filter own high) r (filtered (IsBelow r.page) own low below) (filtered (λ q. r.page < q.page) own high above)
+    ∙ without_page (filter own low) (filter own high) r (filter_all (IsBelow r.page) own low below) (filter_all (λ q. r.page < q.page) own high above)
     ∙ sym (λ i. is i && differs_from (filter own low) r))
     (cases_Bool (own r))
 

@@ -1,5 +1,5 @@
 -- A pass before its first page, and what it gives after its last.
-use Rattle.std.proofs.Common.{◌≡◌, ◌↔◌, ℕ, ◌+◌, ◌*◌, ◌<◌, ◌≤◌, ◌^◌, Bool, true, false, List, [], length, IsTrue, All, refl, sym, ◌∙◌, ap, subst, arith, map, get_or, replicate, ◌⊎◌, ⊎_elim}
+use Rattle.std.proofs.Common.{◌≡◌, ℕ, ◌+◌, ◌*◌, ◌<◌, ◌≤◌, Bool, true, false, List, [], length, IsTrue, All, refl, sym, ◌∙◌, ap, subst, arith, map, get_or, ⊎_elim}
 use Rattle.std.specs.Prelude.{fold, nat_le, ◌&&◌, IfSome}
 use Rattle.std.specs.List.{AllPairs}
 use Rattle.std.specs.Map.{lookup}
@@ -11,8 +11,6 @@ use Rattle.std.proofs.lemmas.List.Elements.{All-nil}
 use Rattle.nl_field.specs.Numbers.{is_legal, shape_for}
 use Rattle.nl_field.specs.Page.{Image}
 use Rattle.nl_field.specs.Medium.{Readable, readable_pages, shape_of_image}
-use Rattle.nl_field.specs.Scan.{next_stamp_of, super_version}
-use Rattle.nl_field.specs.declared.shape.Shape.{Shape}
 use Rattle.nl_nand.specs.Nand.{ImageOf, IsLegal}
 use Rattle.nl_nand.specs.ImageLaws.{image_size}
 use Rattle.nl_nand.specs.declared.geometry.Geometry.{Geometry}
@@ -29,9 +27,10 @@ use Rattle.nl_scan.proofs.Whole.{pages_spelled, greatest_is}
 pub fresh_blocks : (image : Image) (blocks : ℕ) (pass : Pass) → image.blocks ≡ blocks → IsFresh blocks pass → KnowsBlocks image 0 pass.erased.items
 fresh_blocks image blocks pass same fresh =
     record {
-      each_block = λ block below.
-          ((λ is p low high end. absurd (omega arith)),
-          (λ all. ap (λ (l : List Bool). get_or l block false) fresh.all_erased ∙ get_or-replicate blocks block true false (omega (arith, same, below))));
+      each_block = λ block below. (
+        (λ is p low high end. absurd (omega arith)),
+        (λ all. ap (λ (l : List Bool). get_or l block false) fresh.all_erased ∙ get_or-replicate blocks block true false (omega (arith, same, below))),
+      );
     }
 
 no_firsts : (pages : ℕ) (firsts : BTreeMap ℕ First) → firsts.entries ≡ [] → AreWithin pages firsts

@@ -1,7 +1,7 @@
 -- What a pass knows of the readable pages after one more page, and after all of them.
-use Rattle.std.proofs.Common.{◌≡◌, ℕ, ◌+◌, ◌<◌, ◌≤◌, Bool, true, false, not, ◌&&◌, List, [], ◌∷◌, ◌++◌, length, Option, Some, None, refl, sym, ◌∙◌, ap, subst, arith, ⊎_elim, map, cond}
+use Rattle.std.proofs.Common.{◌≡◌, ℕ, ◌+◌, ◌<◌, ◌≤◌, Bool, false, not, ◌&&◌, List, [], ◌∷◌, ◌++◌, length, Option, Some, None, sym, ◌∙◌, ap, subst, arith, ⊎_elim, map, cond}
 use Rattle.std.specs.Prelude.{filter, fold, MatchBool}
-use Rattle.std.specs.List.{list_any, AllByRecursion}
+use Rattle.std.specs.List.{AllByRecursion}
 use Rattle.std.specs.Ordering.{nat_cmp, is_eq}
 use Rattle.std.proofs.lemmas.Bool.Decides.{nat_tests}
 use Rattle.std.specs.BTreeMap.{BTreeMap, get, Updates}
@@ -11,19 +11,19 @@ use Rattle.std.proofs.lemmas.List.{map-append, append-nil}
 use Rattle.std.proofs.lemmas.List.Sums.{fold-append}
 use Rattle.std.proofs.lemmas.List.Elements.{filter-append}
 use Rattle.nl_field.specs.Page.{Image, page_at}
-use Rattle.nl_field.specs.Medium.{Readable, readable, readable_pages, stamp_on, shape_of_image}
+use Rattle.nl_field.specs.Medium.{Readable, readable, stamp_on, shape_of_image}
 use Rattle.nl_field.specs.Scan.{agrees_below, zeros_from}
 use Rattle.nl_scan.specs.declared.firsts.First.{First}
 use Rattle.nl_scan.specs.declared.pass.Pass.{Pass}
-use Rattle.nl_scan.specs.declared.seen.Seen.{Seen}
 use Rattle.nl_scan.specs.declared.super_seen.SuperSeen.{SuperSeen}
 use Rattle.nl_scan.specs.Firsts.{noted, first_of}
 use Rattle.nl_scan.specs.Supers.{no_super, super_after}
 use Rattle.nl_scan.specs.Tables.{seen_of}
-use Rattle.nl_scan.specs.Passes.{is_own_virtual, is_own_physical, readable_below, Compared, Added, KnowsPages}
+use Rattle.nl_scan.specs.Passes.{is_own_virtual, is_own_physical, readable_below, Added, KnowsPages}
 use Rattle.nl_scan.proofs.Agreeing.{IsOn, differs_from, verdict, first_here, first_apart}
-use Rattle.nl_scan.proofs.Below.{IsBelow, agrees_by_lower, filtered, weaken_all}
-use Rattle.nl_scan.proofs.Readables.{IsOneOf, below_none, below_more_none, below_more_some, below_all, below_on, readable_behind, split_at, behind_above, number_kept}
+use Rattle.nl_scan.proofs.Lists.{filter_all, weaken_all}
+use Rattle.nl_scan.proofs.Below.{IsBelow, agrees_by_lower}
+use Rattle.nl_scan.proofs.Readables.{IsOneOf, below_none, below_more_none, below_more_some, below_on, readable_behind, split_at, behind_above, number_kept}
 
 -- the table of a segment has the first pages of these
 abbrev pub Holds : BTreeMap ℕ First → List Readable → Type 0
@@ -49,7 +49,7 @@ segment_more image own pages r old new on holds matched =
     ⊎_elim
     (λ is.
     subst (Holds new) (sym (filter-append own pages (r ∷ []) ∙ (λ i. filter own pages ++ cond (is i) (r ∷ []) [])))
-    (noted_more image (filter own pages) r old new (filtered (IsOn image) own pages on) holds (MatchBool-at_true _ _ is matched)))
+    (noted_more image (filter own pages) r old new (filter_all (IsOn image) own pages on) holds (MatchBool-at_true _ _ is matched)))
     (λ is.
     subst (Holds new) (sym (filter-append own pages (r ∷ []) ∙ (λ i. filter own pages ++ cond (is i) (r ∷ []) []) ∙ append-nil (filter own pages)))
     (subst (λ firsts. Holds firsts (filter own pages)) (sym (MatchBool-at_false _ _ is matched)) holds))
@@ -62,7 +62,7 @@ pages_on image at le = weaken_all (IsOneOf image.contents at) (IsOn image) (λ q
 compared_in : (image : Image) (own : Readable → Bool) (pages : List Readable) (r : Readable) (firsts : BTreeMap ℕ First) → AllByRecursion (IsOn image) pages → Holds firsts (filter own pages)
     → (noted image r (get nat_cmp firsts (stamp_on r))).mixed ≡ differs_from (filter own pages) r
 compared_in image own pages r firsts on holds =
-    ap (λ (o : Option First). (noted image r o).mixed) (holds (stamp_on r)) ∙ verdict image (filter own pages) r (filtered (IsOn image) own pages on)
+    ap (λ (o : Option First). (noted image r o).mixed) (holds (stamp_on r)) ∙ verdict image (filter own pages) r (filter_all (IsOn image) own pages on)
 
 verdict_is : (image : Image) (at : ℕ) (r : Readable) (old new : Pass) → at < length image.contents → readable (at, page_at image at) ≡ Some r → KnowsPages image at old
     → (added : Added image (shape_of_image image) r old new) → added.verdict ≡ agrees_below image r

@@ -2,6 +2,7 @@ pub mod Agreeing
 pub mod Below
 pub mod Ends
 pub mod Knowing
+pub mod Lists
 pub mod Readables
 pub mod Standing
 pub mod Supers

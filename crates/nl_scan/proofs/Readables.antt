@@ -1,15 +1,16 @@
 -- The readable pages below a number, page by page.
-use Rattle.std.proofs.Common.{◌≡◌, ◌⊎◌, inl, inr, ℕ, zero, suc, ◌+◌, ◌<◌, ◌≤◌, List, [], ◌∷◌, ◌++◌, length, take, drop, get_or, Option, Some, None, All, refl, sym, ◌∙◌, ap, subst, arith}
+use Rattle.std.proofs.Common.{◌≡◌, ℕ, ◌+◌, ◌<◌, ◌≤◌, List, [], ◌∷◌, ◌++◌, length, take, drop, get_or, Option, Some, None, refl, sym, ◌∙◌, ap, subst, arith}
 use Rattle.std.specs.Prelude.{filter_map, option_map}
 use Rattle.std.specs.List.{enumerate_from, cons_option, AllByRecursion}
 use Rattle.std.proofs.lemmas.List.{take_more, drop_more, take-append-drop, take_all, append_assoc, length-take-le, length_push, get_or-take, get_or_at}
-use Rattle.std.proofs.lemmas.List.Elements.{filter_map-append, All-nil, All-cons}
+use Rattle.std.proofs.lemmas.List.Elements.{filter_map-append}
 use Rattle.std.proofs.lemmas.Grind.{common_steps}
 use Rattle.nl_field.specs.Page.{Page, erased, written, uncorrectable, Image, page_at}
 use Rattle.nl_field.specs.SpareRecord.{spare_rec_of}
 use Rattle.nl_field.specs.declared.spare.SpareRec.{SpareRec}
 use Rattle.nl_field.specs.Medium.{Readable, readable, readable_pages}
 use Rattle.nl_scan.specs.Passes.{readable_below}
+use Rattle.nl_scan.proofs.Lists.{weaken_all, same_some}
 
 enumerate_append : {X : Type 0} (n m : ℕ) (xs ys : List X) → n + length xs ≡ m → enumerate_from n (xs ++ ys) ≡ enumerate_from n xs ++ enumerate_from m ys
 enumerate_append n m [] ys e = ap (λ k. enumerate_from k ys) (omega arith)
@@ -39,13 +40,6 @@ below_all image at all = ap (λ (l : List Page). filter_map readable (enumerate_
 pub below_none : (image : Image) → readable_below image 0 ≡ []
 unfolding readable_below
 below_none image = refl
-
-weaken_all : {X : Type 0} (P Q : X → Type 0) → ((x : X) → P x → Q x) → (xs : List X) → AllByRecursion P xs → AllByRecursion Q xs
-weaken_all P Q f [] all = tt
-weaken_all P Q f (x ∷ xs) all = (f x all.0, weaken_all P Q f xs all.1)
-
-same_some : {X : Type 0} (x y : X) → Some x ≡ Some y → x ≡ y
-same_some x y e = cc
 
 pub number_kept : (p : ℕ) (x : Page) (q : Readable) → readable (p, x) ≡ Some q → q.page ≡ p
 number_kept p erased q e = cc

@@ -1,9 +1,9 @@
 -- A pass after one more page.
-use Rattle.std.proofs.Common.{◌≡◌, ◌↔◌, ◌⊎◌, inl, inr, ℕ, zero, suc, ◌+◌, ◌*◌, ◌/◌, ◌<◌, ◌≤◌, ◌^◌, Bool, true, false, List, [], ◌∷◌, ◌++◌, length, Option, Some, None, IsTrue, All, refl, sym, ◌∙◌, ap, subst, arith, ⊎_elim, max, get_or, set}
+use Rattle.std.proofs.Common.{◌≡◌, ◌↔◌, ℕ, zero, suc, ◌+◌, ◌*◌, ◌/◌, ◌<◌, ◌≤◌, ◌^◌, Bool, false, List, [], ◌∷◌, ◌++◌, length, Some, None, IsTrue, All, sym, ◌∙◌, ap, subst, arith, ⊎_elim, max, get_or, set}
 use Rattle.std.specs.Prelude.{option_map, nat_le, nat_lt, ◌&&◌}
 use Rattle.std.specs.List.{AllPairs}
 use Rattle.std.proofs.Math.Nat.{mul-le-mul_right, add-mul}
-use Rattle.std.proofs.lemmas.Bool.{and_parts, ltb-true, leb-true, cases_eq, cases_lt, cases_order, both_ways}
+use Rattle.std.proofs.lemmas.Bool.{and_parts, ltb-true, cases_eq, cases_lt, cases_order, both_ways}
 use Rattle.std.proofs.lemmas.List.{length_push, get_or-set_same, get_or-set_other}
 use Rattle.std.proofs.lemmas.List.Elements.{All-push, All-weaker, All-get_or}
 use Rattle.std.proofs.lemmas.List.Quantifiers.{all_pairs_push}
@@ -12,7 +12,7 @@ use Rattle.nl_field.specs.Page.{Page, PageBytes, erased, written, Image, page_at
 use Rattle.nl_field.specs.SpareRecord.{spare_rec_of, is_spare, stamp_of}
 use Rattle.nl_field.specs.declared.spare.SpareRec.{SpareRec}
 use Rattle.nl_field.specs.declared.shape.Shape.{Shape}
-use Rattle.nl_field.specs.Medium.{Readable, readable, shape_of_image}
+use Rattle.nl_field.specs.Medium.{readable, shape_of_image}
 use Rattle.nl_nand.specs.Nand.{ImageOf}
 use Rattle.nl_nand.specs.ImageLaws.{image_size}
 use Rattle.nl_nand.specs.declared.geometry.Geometry.{Geometry}
@@ -88,9 +88,9 @@ one_block at pages block other one two =
     ⊎_elim
     (λ same. same)
     (λ apart. ⊎_elim
-        (λ before. absurd (not_before at pages block other one two before))
-        (λ behind. absurd (not_before at pages other block two one behind))
-        apart)
+    (λ before. absurd (not_before at pages block other one two before))
+    (λ behind. absurd (not_before at pages other block two one behind))
+    apart)
     (cases_order block other)
 
 its_block : (at pages : ℕ) → 0 < pages → BlockOf at pages (at / pages)
@@ -109,17 +109,19 @@ some_pages at blocks (suc n) below = omega arith
 
 marked_block : (image : Image) (at : ℕ) (marks : List Bool) (block : ℕ) → BlockOf at image.pages block → block < length marks → (page_at image at ≡ erased → ⊥)
     → IsTrue (get_or (set marks block false) block false) ↔ ErasedBelow image (at + 1) block
-marked_block image at marks block its below other =
-    ((λ is. absurd (both_ways (get_or (set marks block false) block false) (get_or-set_same marks block false false below) is)),
-    (λ all. absurd (other (all at its.low its.high (omega arith)))))
+marked_block image at marks block its below other = (
+  (λ is. absurd (both_ways (get_or (set marks block false) block false) (get_or-set_same marks block false false below) is)),
+  (λ all. absurd (other (all at its.low its.high (omega arith)))),
+)
 
 other_block : (image : Image) (at : ℕ) (block : ℕ) → (BlockOf at image.pages block → ⊥) → ErasedBelow image at block ↔ ErasedBelow image (at + 1) block
-other_block image at block apart =
-    ((λ so_far p low high end. ⊎_elim
-        (λ below. so_far p low high below)
-        (λ from. absurd (apart (let here : p ≡ at = omega arith in record { low = omega arith; high = omega arith })))
-        (cases_lt p at)),
-    (λ so_far p low high end. so_far p low high (omega arith)))
+other_block image at block apart = (
+  (λ so_far p low high end. ⊎_elim
+      (λ below. so_far p low high below)
+      (λ from. absurd (apart (let here : p ≡ at = omega arith in record { low = omega arith; high = omega arith })))
+      (cases_lt p at)),
+  (λ so_far p low high end. so_far p low high (omega arith)),
+)
 
 pub blocks_marked : (image : Image) (at pages : ℕ) (marks : List Bool) → pages ≡ image.pages → at < image.blocks * image.pages → length marks ≡ image.blocks → (page_at image at ≡ erased → ⊥)
     → KnowsBlocks image at marks → KnowsBlocks image (at + 1) (set marks (at / pages) false)
@@ -136,8 +138,8 @@ blocks_marked image at pages marks same below size other knows = subst (λ (n : 
         ⊎_elim
         (λ is. subst (λ (b : ℕ). IsTrue (get_or (set marks (at / image.pages) false) b false) ↔ ErasedBelow image (at + 1) b) (sym is) (marked_block image at marks (at / image.pages) (its_block at image.pages some) here other))
         (λ apart.
-            let kept = get_or-set_other marks (at / image.pages) block false false apart in
-            let before = knows.each_block block in_range in
-            let after = other_block image at block (λ its. apart (one_block at image.pages block (at / image.pages) its (its_block at image.pages some))) in
-            ((λ is. after.0 (before.0 (sym kept ∙ is))), (λ all. kept ∙ before.1 (after.1 all))))
+        let kept = get_or-set_other marks (at / image.pages) block false false apart in
+        let before = knows.each_block block in_range in
+        let after = other_block image at block (λ its. apart (one_block at image.pages block (at / image.pages) its (its_block at image.pages some))) in
+        ((λ is. after.0 (before.0 (sym kept ∙ is))), (λ all. kept ∙ before.1 (after.1 all))))
         (cases_eq block (at / image.pages))

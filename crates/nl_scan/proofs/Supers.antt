@@ -1,17 +1,16 @@
 -- The super page that is found page by page is the first one of greatest stamp.
-use Rattle.std.proofs.Common.{◌≡◌, ◌⊎◌, inl, inr, ℕ, zero, suc, ◌+◌, ◌<◌, ◌≤◌, Bool, true, false, not, ◌&&◌, ◌||◌, cond, List, [], ◌∷◌, ◌++◌, Option, Some, None, IsTrue, All, refl, sym, ◌∙◌, ap, subst, arith, ⊎_elim}
-use Rattle.std.specs.Prelude.{filter, find, fold, option_map, option_and_then, unwrap_or, nat_lt, nat_le, ◌==◌, ◌^◌}
+use Rattle.std.proofs.Common.{◌≡◌, ◌⊎◌, inl, inr, ℕ, ◌<◌, ◌≤◌, Bool, true, false, not, cond, List, [], ◌∷◌, ◌++◌, Option, Some, IsTrue, refl, sym, ◌∙◌, ap, subst, arith, ⊎_elim}
+use Rattle.std.specs.Prelude.{filter, find, fold, option_map, option_and_then, unwrap_or, nat_lt, nat_le, ◌^◌}
 use Rattle.std.specs.List.{list_any, AllByRecursion}
-use Rattle.std.proofs.lemmas.Bool.{cases_lt, leb-true, and_left, and_right, cond-true, cond-false, ltb-true, ltb-false, lt-ltb, le-ltb, cases_Bool, and_parts, and_cases, and_from, not_from_true, not_from_false, or_right, or_left}
+use Rattle.std.proofs.lemmas.Bool.{cases_lt, leb-true, and_left, and_right, cond-true, cond-false, lt-ltb, le-ltb, cases_Bool, and_parts, and_from, not_from_true, not_from_false}
 use Rattle.std.proofs.lemmas.List.{append_assoc, append-nil}
 use Rattle.std.proofs.lemmas.List.Elements.{filter-append}
-use Rattle.std.proofs.lemmas.Grind.{common_steps}
 use Rattle.nl_field.specs.SpareRecord.{is_spare}
 use Rattle.nl_field.specs.Medium.{Readable, stamp_on, readable_pages}
 use Rattle.nl_field.specs.Page.{Image}
 use Rattle.nl_field.specs.SuperPage.{super_of}
-use Rattle.nl_field.specs.declared.super_page.SuperRec.{SuperRec}
 use Rattle.nl_field.specs.Scan.{is_super_rec, super_version}
+use Rattle.nl_scan.proofs.Lists.{push_all, weaken_all, join_all, any_at, any_none, find_behind}
 use Rattle.nl_scan.specs.Supers.{no_super, version_on, is_newer, super_after}
 use Rattle.nl_scan.specs.declared.super_seen.SuperSeen.{SuperSeen}
 
@@ -27,30 +26,6 @@ pub record IsNewest (pages : List Readable) (f : Readable) : Type 0 where
   pub split : pages ≡ first ++ f ∷ rest
   pub less : AllByRecursion (λ q. stamp_on q < stamp_on f) first
   pub most : AllByRecursion (λ q. stamp_on q ≤ stamp_on f) rest
-
-push_all : {X : Type 0} (P : X → Type 0) (xs : List X) (y : X) → AllByRecursion P xs → P y → AllByRecursion P (xs ++ y ∷ [])
-push_all P [] y all p = (p, tt)
-push_all P (x ∷ xs) y all p = (all.0, push_all P xs y all.1 p)
-
-weaken_all : {X : Type 0} (P Q : X → Type 0) → ((x : X) → P x → Q x) → (xs : List X) → AllByRecursion P xs → AllByRecursion Q xs
-weaken_all P Q f [] all = tt
-weaken_all P Q f (x ∷ xs) all = (f x all.0, weaken_all P Q f xs all.1)
-
-join_all : {X : Type 0} (P : X → Type 0) (xs ys : List X) → AllByRecursion P xs → AllByRecursion P ys → AllByRecursion P (xs ++ ys)
-join_all P [] ys all more = more
-join_all P (x ∷ xs) ys all more = (all.0, join_all P xs ys all.1 more)
-
-any_at : {X : Type 0} (p : X → Bool) (xs : List X) (y : X) (ys : List X) → p y ≡ true → list_any p (xs ++ y ∷ ys) ≡ true
-any_at p [] y ys is = or_left (p y) (list_any p ys) is
-any_at p (x ∷ xs) y ys is = or_right (p x) (list_any p (xs ++ y ∷ ys)) (any_at p xs y ys is)
-
-any_none : {X : Type 0} (p : X → Bool) (xs : List X) → AllByRecursion (λ x. p x ≡ false) xs → list_any p xs ≡ false
-any_none p [] all = refl
-any_none p (x ∷ xs) all = λ i. all.0 i || any_none p xs all.1 i
-
-find_behind : {X : Type 0} (p : X → Bool) (xs : List X) (y : X) (ys : List X) → AllByRecursion (λ x. p x ≡ false) xs → p y ≡ true → find p (xs ++ y ∷ ys) ≡ Some y
-find_behind p [] y ys all is = λ i. cond (is i) (Some y) (find p ys)
-find_behind p (x ∷ xs) y ys all is = (λ i. cond (all.0 i) (Some x) (find p (xs ++ y ∷ ys))) ∙ find_behind p xs y ys all.1 is
 
 none_greater : (f : Readable) (xs : List Readable) → AllByRecursion (λ q. stamp_on q ≤ stamp_on f) xs → AllByRecursion (λ q. nat_lt (stamp_on f) (stamp_on q) ≡ false) xs
 none_greater f xs all = weaken_all (λ q. stamp_on q ≤ stamp_on f) (λ q. nat_lt (stamp_on f) (stamp_on q) ≡ false) (λ q le. le-ltb (stamp_on f) (stamp_on q) le) xs all

@@ -1,27 +1,24 @@
 -- What a pass knows once all pages were read is what the scan is to tell.
-use Rattle.std.proofs.Common.{◌≡◌, ◌↔◌, ℕ, ◌+◌, ◌*◌, ◌<◌, ◌≤◌, ◌^◌, Bool, true, false, ◌&&◌, if◌then◌else◌, List, [], ◌∷◌, length, Option, Some, None, IsTrue, refl, sym, ◌∙◌, ap, subst, arith, map, get_or, bytes_eq, max}
+use Rattle.std.proofs.Common.{◌≡◌, ℕ, ◌+◌, ◌*◌, ◌<◌, ◌≤◌, Bool, true, false, ◌&&◌, if◌then◌else◌, List, length, Option, Some, None, IsTrue, refl, sym, ◌∙◌, ap, subst, arith, map, get_or, bytes_eq, max}
 use Rattle.std.specs.Prelude.{fold, option_map}
 use Rattle.std.specs.List.{AllByRecursion}
 use Rattle.std.proofs.Math.Nat.{mul-le-mul_right}
 use Rattle.std.proofs.lemmas.List.Folds.{fold-map}
-use Rattle.nl_field.specs.Page.{Page, erased, written, uncorrectable, Image, page_at}
+use Rattle.nl_field.specs.Page.{Page, erased, written, uncorrectable, Image}
 use Rattle.nl_field.specs.SpareRecord.{spare_rec_of, spare_bytes, spare_fields, is_spare, stamp_of}
 use Rattle.nl_field.specs.declared.spare.SpareRec.{SpareRec}
-use Rattle.nl_field.specs.Medium.{Readable, readable, readable_pages, stamp_on}
-use Rattle.nl_field.specs.Scan.{next_stamp_of, super_version}
+use Rattle.nl_field.specs.Medium.{Readable, readable, readable_pages}
+use Rattle.nl_field.specs.Scan.{next_stamp_of}
 use Rattle.nl_nand.specs.Nand.{ErasedWithin}
 use Rattle.nl_scan.specs.declared.pass.Pass.{Pass}
 use Rattle.nl_scan.specs.declared.seen.Seen.{Seen}
 use Rattle.nl_scan.specs.declared.super_seen.SuperSeen.{SuperSeen}
 use Rattle.nl_scan.specs.Supers.{no_super, super_after}
-use Rattle.nl_scan.specs.Tables.{Table, seen_of, greatest_stamp, IsTableOf}
+use Rattle.nl_scan.specs.Tables.{seen_of, greatest_stamp, IsTableOf}
 use Rattle.nl_scan.specs.Passes.{readable_below, KnowsPages, ErasedBelow, KnowsBlocks}
-use Rattle.nl_scan.proofs.Below.{weaken_all}
+use Rattle.nl_scan.proofs.Lists.{weaken_all, same_some}
 use Rattle.nl_scan.proofs.Readables.{IsOneOf, below_all, below_on}
 use Rattle.nl_scan.proofs.Supers.{version_found}
-
-same_some : {X : Type 0} (x y : X) → Some x ≡ Some y → x ≡ y
-same_some x y e = cc
 
 -- a value that was taken by a test passes it
 taken_where : {R : Type 0} (h : R → Bool) (t b : Bool) (v r : R) → h v ≡ b → (if b && t then Some v else None) ≡ Some r → h r ≡ true

@@ -1,7 +1,7 @@
 -- Where the zeros at the end of some bytes begin.
-use Rattle.std.proofs.Common.{◌≡◌, ◌⊎◌, inl, inr, ℕ, zero, suc, ◌+◌, ◌-◌, ◌<◌, ◌≤◌, ◌==◌, ◌&&◌, if◌then◌else◌, Bool, true, false, List, [], ◌∷◌, ◌++◌, length, take, get_or, refl, sym, ◌∙◌, ap, subst, arith, ⊎_elim}
+use Rattle.std.proofs.Common.{◌≡◌, ◌⊎◌, inl, inr, ℕ, zero, suc, ◌+◌, ◌-◌, ◌<◌, ◌≤◌, ◌==◌, ◌&&◌, if◌then◌else◌, List, [], ◌∷◌, ◌++◌, length, take, get_or, refl, sym, ◌∙◌, ap, arith, ⊎_elim}
 use Rattle.std.proofs.lemmas.Bool.{ne_eqb}
-use Rattle.std.proofs.lemmas.List.{take_more, take_all, length-take-le}
+use Rattle.std.proofs.lemmas.List.{take_more, length-take-le}
 use Rattle.nl_field.specs.Scan.{zeros_from}
 
 push_zero : (xs : List ℕ) → zeros_from (xs ++ 0 ∷ []) ≡ zeros_from xs
@@ -35,11 +35,11 @@ ends_there bytes end within why =
     ⊎_elim
     (λ none. ap (λ (n : ℕ). zeros_from (take n bytes)) none ∙ none_left bytes ∙ sym none)
     (λ other. ⊎_elim
-        (λ none. ap (λ (n : ℕ). zeros_from (take n bytes)) none ∙ none_left bytes ∙ sym none)
-        (λ some.
-            ap zeros_from (one_less bytes end some within) ∙ push_other (take (end - 1) bytes) (get_or bytes (end - 1) 0) other
-            ∙ omega (arith, length-take-le (end - 1) bytes (omega arith)))
-        (zero_or_more end))
+    (λ none. ap (λ (n : ℕ). zeros_from (take n bytes)) none ∙ none_left bytes ∙ sym none)
+    (λ some.
+    ap zeros_from (one_less bytes end some within) ∙ push_other (take (end - 1) bytes) (get_or bytes (end - 1) 0) other
+    ∙ omega (arith, length-take-le (end - 1) bytes (omega arith)))
+    (zero_or_more end))
     why
   where
     zero_or_more : (n : ℕ) → (n ≡ 0) ⊎ (0 < n)

@@ -1,8 +1,7 @@
 -- The first page of each stamp in a segment, and whether a page of that stamp differs from it.
-use Rattle.std.specs.Prelude.{ℕ, ◌==◌, Bool, true, false, not, ◌&&◌, ◌||◌, List, find, Option, Some, None, option_map}
+use Rattle.std.specs.Prelude.{ℕ, ◌==◌, Bool, false, not, ◌&&◌, ◌||◌, List, find, Option, Some, None, option_map}
 use Rattle.std.specs.List.{list_any}
 use Rattle.nl_field.specs.Page.{Page, Image, page_at}
-use Rattle.nl_field.specs.SpareRecord.{stamp_of}
 use Rattle.nl_field.specs.Medium.{Readable, readable, stamp_on}
 use Rattle.nl_field.specs.Scan.{agree}
 use Rattle.nl_field.specs.declared.spare.SpareRec.{SpareRec}

@@ -1,5 +1,5 @@
 -- What a scan tells, and of which image.
-use Rattle.std.specs.Prelude.{◌≡◌, ◌↔◌, ℕ, ◌+◌, ◌*◌, ◌^◌, ◌<◌, ◌≤◌, Bool, false, IsTrue, List, length, map, fold, max, slice_index_or, All, ⊤}
+use Rattle.std.specs.Prelude.{◌≡◌, ◌↔◌, ℕ, ◌+◌, ◌*◌, ◌^◌, ◌<◌, ◌≤◌, Bool, false, IsTrue, List, length, map, fold, max, slice_index_or, All}
 use Rattle.std.specs.List.{AllPairs}
 use Rattle.nl_field.specs.Page.{Image}
 use Rattle.nl_field.specs.SpareRecord.{is_spare, stamp_of}

@@ -26,7 +26,12 @@ impl Model for ScanTables {
 
 impl ScanTables {
     /// What a pass over all pages gathered. The last is the greatest write sequence number of the pages, or 0.
-    pub fn of_pass(seen: Vec<Seen>, erased: Vec<bool>, version: u32, greatest: u64) -> ScanTables
+    pub(crate) fn of_pass(
+        seen: Vec<Seen>,
+        erased: Vec<bool>,
+        version: u32,
+        greatest: u64,
+    ) -> ScanTables
         requires { IsKept seen.items greatest }
         ensures { result ≡ record { seen = seen.items; erased = erased.items; version = version } }
     {

@@ -2,7 +2,7 @@ use Rattle.std.proofs.Common.{◌≡◌, ◌*◌, ◌≤◌, ℕ, refl, sym, ◌
 use Rattle.nl_field.specs.Page.{Image}
 use Rattle.nl_field.specs.declared.shape.Shape.{Shape}
 use Rattle.nl_nand.specs.declared.geometry.Geometry.{Geometry}
-use Rattle.nl_scan.specs.Passes.{IsFresh, KnowsPages, KnowsBlocks, Stands}
+use Rattle.nl_scan.specs.Passes.{KnowsPages, KnowsBlocks, Stands}
 use Rattle.nl_scan.proofs.Ends.{fresh_blocks, fresh_stands, pages_of, size_of}
 use Rattle.nl_scan.proofs.Knowing.{knows_nothing}
 use Rattle.nl_scan.proofs.Whole.{is_table}
@@ -30,7 +30,7 @@ returns-clause-tables g c = λ tells.
     let image = g.M.Nand.contents c.args.media.now in
     let fits = g.met.M.Nand.contents_fit c.args.media.now tells in
     let size : c.args.geometry.blocks * c.args.geometry.pages ≡ image.blocks * image.pages =
-        ap (λ (x : Geometry). x.blocks * x.pages) c.requires.geometry ∙ sym (λ i. fits.blocks i * fits.pages i) in
+    ap (λ (x : Geometry). x.blocks * x.pages) c.requires.geometry ∙ sym (λ i. fits.blocks i * fits.pages i) in
     is_table image c.pages.page c.pages.pass
     (far (c.args.geometry.blocks * c.args.geometry.pages) _ c.pages.page (ap (λ (x : Geometry). x.blocks * x.pages) c.requires.geometry ∙ sym (size_of (g.M.Nand.geometry c.args.media.now) image fits)) c.pages-test.false)
     (far (c.args.geometry.blocks * c.args.geometry.pages) _ c.pages.page size c.pages-test.false)
