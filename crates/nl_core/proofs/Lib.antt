@@ -3,6 +3,7 @@ pub mod EmptyTree
 pub mod FreshProofs
 pub mod GraphOfPages
 pub mod PagesOfFiles
+pub mod ReadableProofs
 pub mod SoundProofs
 pub mod SpareProofs
 pub mod Sums
