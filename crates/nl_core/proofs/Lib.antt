@@ -1,5 +1,6 @@
 pub mod ChargeOfImage
 pub mod EmptyTree
+pub mod FreshImage
 pub mod FreshProofs
 pub mod GraphOfPages
 pub mod PagesOfFiles

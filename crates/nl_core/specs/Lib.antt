@@ -1,4 +1,5 @@
 pub mod Crash
+pub mod Examples
 pub mod Fresh
 pub mod ReadablePages
 pub mod Stands
