@@ -38,8 +38,9 @@ use Rattle.nl_meta.specs.Consistent.{Member, NumbersRight, NamesPhysical, IsNode
 use Rattle.nl_meta.specs.Nodes.{inode_at, bytes_of_node, bytes_at, Held, super_of_pages, is_physical_name, committed_pointers, held_by, size_of, pointers_in, node_from, graph_of, pointers_of, entries_of_inode}
 use Rattle.nl_meta.proofs.Lists.{some_in, true_false, none_some, none-any, each-all, member-find, find-some, range-member, member-filter, filter-member, member-flat}
 use Rattle.nl_meta.proofs.WalkProofs.{nodes_some, nodes_fit, names}
-use Rattle.nl_core.specs.Fresh.{IsFresh, HasFreshPages, root_page, fresh_super, FreshIsSound}
+use Rattle.nl_core.specs.Fresh.{FewFreshAreSound, IsFresh, HasFreshPages, root_page, fresh_super, FreshIsSound}
 use Rattle.nl_core.specs.Stands.{bytes_found, SoundAs}
+use Rattle.nl_core.proofs.SpareProofs.{spare_by_few_pages}
 use Rattle.nl_core.proofs.EmptyTree.{empty_at_root, empty_below, no_data_in, empty_is_tree}
 
 -- ---- the geometry
@@ -480,3 +481,27 @@ module _ (image : Image) (fresh : HasFreshPages image) where
 
 pub fresh_is_sound : FreshIsSound
 fresh_is_sound image fresh spare = sound_with image fresh spare
+
+-- there are more than four virtual blocks
+many_blocks : (blocks pages : ℕ) → is_legal blocks pages ≡ true → 4 < (shape_for blocks pages).vblocks
+unfolding shape_for
+many_blocks blocks pages legal = by (cases_lt 0 (div_ceil v pages))
+  where
+    v : ℕ
+    v = 67 + div_ceil (blocks * pages / 16) 16 + blocks * pages / 32
+
+    none : (q p a : ℕ) → q ≤ 0 → 67 + a ≤ q * p → ⊥
+    none zero p a h e = omega arith
+    none (suc q) p a h e = omega (arith, h)
+
+    at_least : 67 + (div_ceil (blocks * pages / 16) 16 + blocks * pages / 32) ≤ v
+    at_least = omega arith
+
+    by : (0 < div_ceil v pages) ⊎ (div_ceil v pages ≤ 0) → 4 < div_ceil v pages + 4
+    by (inl h) = omega (arith, h)
+    by (inr h) =
+        absurd (none (div_ceil v pages) pages (div_ceil (blocks * pages / 16) 16 + blocks * pages / 32) h
+        (omega (arith, at_least, (div_ceil_times v pages (omega (arith, (limits blocks pages legal).2))).0)))
+
+pub few_fresh_are_sound : FewFreshAreSound
+few_fresh_are_sound image fresh few = fresh_is_sound image fresh (spare_by_few_pages image (omega (arith, few, many_blocks image.blocks image.pages fresh.legal)))

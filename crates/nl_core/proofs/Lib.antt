@@ -1,9 +1,11 @@
 pub mod ChargeOfImage
 pub mod EmptyTree
 pub mod FormattedProofs
+pub mod FreshImage
 pub mod FreshProofs
 pub mod GraphOfPages
 pub mod PagesOfFiles
+pub mod ReadableProofs
 pub mod SoundProofs
 pub mod SpareProofs
 pub mod Sums

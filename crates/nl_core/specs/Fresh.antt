@@ -1,5 +1,5 @@
 -- What formatting leaves: the pages of a fresh volume of any legal geometry.
-use Rattle.std.specs.Prelude.{◌≡◌, ◌≢◌, ◌⊎◌, ℕ, ◌/◌, ◌<◌, List, ◌++◌, length, IsTrue, IsSome}
+use Rattle.std.specs.Prelude.{◌≡◌, ◌≢◌, ◌⊎◌, ℕ, ◌/◌, ◌<◌, ◌≤◌, List, ◌++◌, length, IsTrue, IsSome}
 use Rattle.nl_field.specs.Numbers.{is_legal}
 use Rattle.nl_field.specs.Page.{Image, is_image}
 use Rattle.nl_field.specs.Bytes.{zeros}
@@ -50,3 +50,7 @@ SpareByCopies =
 -- And where fewer pages are readable than there are blocks.
 abbrev pub SpareByFewPages : Type 0
 SpareByFewPages = (image : Image) → length (virtual_pages image) < (shape_of_image image).vblocks → IsSome (virtual_spare image)
+
+-- So at most four readable pages leave a spare block, and then they open so.
+abbrev pub FewFreshAreSound : Type 0
+FewFreshAreSound = (image : Image) → HasFreshPages image → length (virtual_pages image) ≤ 4 → SoundAs image 0 empty_tree

@@ -1,5 +1,7 @@
 pub mod Crash
+pub mod Examples
 pub mod Formatted
 pub mod Fresh
+pub mod ReadablePages
 pub mod Stands
 pub mod StandsLaws

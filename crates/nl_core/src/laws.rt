@@ -1,6 +1,7 @@
 //! Laws of the definitions. Each function stands for the law that its contract names.
 ghost use Rattle.nl_core.specs.Formatted.{FormattedIsSound};
-ghost use Rattle.nl_core.specs.Fresh.{FreshIsSound, SpareByCopies, SpareByFewPages};
+ghost use Rattle.nl_core.specs.Fresh.{FewFreshAreSound, FreshIsSound, SpareByCopies, SpareByFewPages};
+ghost use Rattle.nl_core.specs.ReadablePages.{PagesAreReadable};
 ghost use Rattle.nl_core.specs.StandsLaws.{MetadataStands, StandsForOne, WalkIsSoundness, StandsWithCharges};
 
 // Metadata that is right stands for a tree.
@@ -41,4 +42,14 @@ pub fn fresh_is_sound()
 // What a format leaves opens as the tree with only the root.
 pub fn formatted_is_sound()
     ensures { FormattedIsSound }
+{}
+
+// With at most four readable pages there is a spare block, and so they open so.
+pub fn few_fresh_are_sound()
+    ensures { FewFreshAreSound }
+{}
+
+// Which pages of an image are the readable ones of a segment.
+pub fn pages_are_readable()
+    ensures { PagesAreReadable }
 {}
