@@ -5,11 +5,14 @@ use Rattle.std.proofs.lemmas.Bool.Decides.{nat_tests}
 use Rattle.std.specs.Prelude.{option_map, nat_le, if◌then◌else◌, IfSome}
 use Rattle.nl_field.specs.CrashStates.{Rose}
 use Rattle.nl_field.specs.Numbers.{is_legal}
-use Rattle.nl_nand.specs.Nand.{IsBlank}
 use Rattle.nl_tree.specs.declared.call.Line.{Line}
+use Rattle.nl_top.specs.declared.command.Command.{Command}
+use Rattle.nl_top.specs.declared.command.Command.TheVariants.{Run, Format}
 use Rattle.nl_top.specs.declared.lists.Ordered.{Ordered}
+use Rattle.nl_top.specs.Command.{command_of}
 use Rattle.nl_top.specs.Form.{script_lines, max_script, lines_within, calls_of, parts_at}
-use Rattle.nl_top.specs.Top.{Stream, Medium, MediumRose, NotAScript, Ends, run_words, faulty_words, source_fault, no_memory, medium_fault, unbuilt, ran}
+use Rattle.nl_top.specs.Formatted.{IsFormatted}
+use Rattle.nl_top.specs.Top.{Stream, Medium, MediumRose, NotAScript, Ends, faulty_words, source_fault, no_memory, medium_fault, unbuilt, ran, formats, format_fault, format_no_memory, formatted}
 
 -- what was left, in two parts
 parts : (bytes read : List ℕ) (left : Option (List ℕ)) → Some bytes ≡ option_map (λ rest. read ++ rest) left → (rest : List ℕ) × (left ≡ Some rest) × (bytes ≡ read ++ rest)
@@ -41,18 +44,40 @@ a_script source source' bytes lines left some (inr (read, long, is)) =
 not_both : (b : Bool) → IsTrue b → b ≡ false → ⊥
 not_both b is not = cc
 
-pub complete : (tells : Type 0) (words : List (List ℕ)) (source source' sink sink' : Stream) (medium medium' : Medium) (order : List Ordered) (status : ℕ)
-    → words ≡ run_words → (bytes : List ℕ) → source.bytes ≡ Some bytes → (lines : List Line) → script_lines bytes ≡ Some lines
-    → tells → IsTrue (is_legal medium.geometry.blocks medium.geometry.pages) → IsBlank medium.contents
-    → (Rose source.faults source'.faults → ⊥) → (Rose sink.faults sink'.faults → ⊥) → (MediumRose medium medium' → ⊥)
-    → Ends tells words source source' sink sink' medium medium' order status → (status ≡ 0) ⊎ (status ≡ 6)
-complete tells words source source' sink sink' medium medium' order status run bytes left lines script t legal blank no_source no_sink no_medium (faulty_words not two same ends) = absurd (not run)
-complete tells words source source' sink sink' medium medium' order status run bytes left lines script t legal blank no_source no_sink no_medium (source_fault is three rose ends) = absurd (no_source rose)
-complete tells words source source' sink sink' medium medium' order status run bytes left lines script t legal blank no_source no_sink no_medium (no_memory is six ends) = inr six
-complete tells words source source' sink sink' medium medium' order status run bytes left lines script t legal blank no_source no_sink no_medium (medium_fault is five rose ends) = absurd (no_medium (inl rose))
-complete tells words source source' sink sink' medium medium' order status run bytes left lines script t legal blank no_source no_sink no_medium (unbuilt is two (inl no_script) ends) = absurd (a_script source source' bytes lines left script no_script)
-complete tells words source source' sink sink' medium medium' order status run bytes left lines script t legal blank no_source no_sink no_medium (unbuilt is two (inr (inl illegal)) ends) = absurd (not_both _ legal illegal)
-complete tells words source source' sink sink' medium medium' order status run bytes left lines script t legal blank no_source no_sink no_medium (unbuilt is two (inr (inr written)) ends) = absurd (written t blank)
-complete tells words source source' sink sink' medium medium' order status run bytes left lines script t legal blank no_source no_sink no_medium (ran is read whole all spelled numbers erased text runs (inl five)) = absurd (no_medium five.1)
-complete tells words source source' sink sink' medium medium' order status run bytes left lines script t legal blank no_source no_sink no_medium (ran is read whole all spelled numbers erased text runs (inr (inl four))) = absurd (no_sink four.2)
-complete tells words source source' sink sink' medium medium' order status run bytes left lines script t legal blank no_source no_sink no_medium (ran is read whole all spelled numbers erased text runs (inr (inr zero))) = inl zero.0
+-- the words name one command
+no_command : (o : Option Command) (c : Command) → o ≡ Some c → o ≡ None → ⊥
+no_command o c some none = cc
+
+run_or_format : (o : Option Command) (blocks pages : ℕ) → o ≡ Some Run → o ≡ Some (Format blocks pages) → ⊥
+run_or_format o blocks pages run format = cc
+
+module _ (tells : Type 0) (words : List (List ℕ)) (source source' sink sink' : Stream) (medium medium' : Medium) (order : List Ordered) (status : ℕ) where
+  pub complete : command_of words ≡ Some Run → (bytes : List ℕ) → source.bytes ≡ Some bytes → (lines : List Line) → script_lines bytes ≡ Some lines
+      → tells → IsTrue (is_legal medium.geometry.blocks medium.geometry.pages) → IsFormatted medium.geometry.blocks medium.geometry.pages medium.contents
+      → (Rose source.faults source'.faults → ⊥) → (Rose sink.faults sink'.faults → ⊥) → (MediumRose medium medium' → ⊥)
+      → Ends tells words source source' sink sink' medium medium' order status → (status ≡ 0) ⊎ (status ≡ 6)
+  complete run bytes left lines script t legal form no_source no_sink no_medium (faulty_words none two same ends) = absurd (no_command (command_of words) Run run none)
+  complete run bytes left lines script t legal form no_source no_sink no_medium (source_fault is three rose ends) = absurd (no_source rose)
+  complete run bytes left lines script t legal form no_source no_sink no_medium (no_memory is six ends) = inr six
+  complete run bytes left lines script t legal form no_source no_sink no_medium (medium_fault is five rose ends) = absurd (no_medium (inl rose))
+  complete run bytes left lines script t legal form no_source no_sink no_medium (unbuilt is two (inl no_script) ends) = absurd (a_script source source' bytes lines left script no_script)
+  complete run bytes left lines script t legal form no_source no_sink no_medium (unbuilt is two (inr (inl illegal)) ends) = absurd (not_both _ legal illegal)
+  complete run bytes left lines script t legal form no_source no_sink no_medium (unbuilt is two (inr (inr other)) ends) = absurd (other t form)
+  complete run bytes left lines script t legal form no_source no_sink no_medium (ran is read whole all spelled numbers formed text runs (inl five)) = absurd (no_medium five.1)
+  complete run bytes left lines script t legal form no_source no_sink no_medium (ran is read whole all spelled numbers formed text runs (inr (inl four))) = absurd (no_sink four.2)
+  complete run bytes left lines script t legal form no_source no_sink no_medium (ran is read whole all spelled numbers formed text runs (inr (inr zero))) = inl zero.0
+  complete run bytes left lines script t legal form no_source no_sink no_medium (formats blocks pages is same ends) = absurd (run_or_format (command_of words) blocks pages run is)
+
+  pub completes : (blocks pages : ℕ) → command_of words ≡ Some (Format blocks pages) → (Rose sink.faults sink'.faults → ⊥) → (MediumRose medium medium' → ⊥)
+      → Ends tells words source source' sink sink' medium medium' order status → (status ≡ 0) ⊎ (status ≡ 6)
+  completes blocks pages format no_sink no_medium (faulty_words none two same ends) = absurd (no_command (command_of words) (Format blocks pages) format none)
+  completes blocks pages format no_sink no_medium (source_fault is three rose ends) = absurd (run_or_format (command_of words) blocks pages is format)
+  completes blocks pages format no_sink no_medium (no_memory is six ends) = inr six
+  completes blocks pages format no_sink no_medium (medium_fault is five rose ends) = absurd (no_medium (inl rose))
+  completes blocks pages format no_sink no_medium (unbuilt is two cause ends) = absurd (run_or_format (command_of words) blocks pages is format)
+  completes blocks pages format no_sink no_medium (ran is read whole all spelled numbers formed text runs done) = absurd (run_or_format (command_of words) blocks pages is format)
+  completes blocks pages format no_sink no_medium (formats b p is same (format_fault five rose prints none)) = absurd (no_medium (inr rose))
+  completes blocks pages format no_sink no_medium (formats b p is same (format_no_memory six ends)) = inr six
+  completes blocks pages format no_sink no_medium (formats b p is same (formatted text made (inl five))) = absurd (no_medium five.1)
+  completes blocks pages format no_sink no_medium (formats b p is same (formatted text made (inr (inl four)))) = absurd (no_sink four.2)
+  completes blocks pages format no_sink no_medium (formats b p is same (formatted text made (inr (inr zero)))) = inl zero.0

@@ -8,13 +8,14 @@ mod Ending
 pub mod FileLists
 pub mod Flat
 pub mod FormRows
+mod Lowered
 pub mod Named
 pub mod Numbered
 pub mod Numbers
 pub mod OneMore
-mod OneWord
 mod Printing
 pub mod Replying
+mod RunsOf
 pub mod SameCall
 pub mod ScriptCalls
 pub mod Splits

@@ -1,9 +1,10 @@
 -- Each legal geometry has data pages for as many files as it has nodes.
-use Rattle.std.proofs.Common.{◌≡◌, ◌<◌, ◌≤◌, ℕ, ◌+◌, ◌-◌, ◌*◌, ◌/◌, IsTrue, mul-le-mul_right, add-mul, ap, subst, ◌∙◌, arith}
+use Rattle.std.proofs.Common.{◌≡◌, ◌<◌, ◌≤◌, ℕ, ◌+◌, ◌-◌, ◌*◌, ◌/◌, IsTrue, mul-le-mul_right, le_of_mul-le-mul_right, add-mul, ap, sym, subst, ◌∙◌, arith}
 use Rattle.std.specs.Int.{div_ceil}
 use Rattle.std.proofs.lemmas.Bool.Decides.{nat_tests}
 use Rattle.std.proofs.lemmas.Grind.{div_ceil_times}
 use Rattle.nl_field.specs.Numbers.{is_legal, shape_for}
+use Rattle.nl_field.specs.declared.shape.Shape.{Shape}
 use Rattle.nl_top.specs.Files.{IsRoomy}
 
 record AtLeast (blocks pages : ℕ) : Type 0 where
@@ -44,3 +45,37 @@ some_nodes blocks pages is =
     let least = legal blocks pages is in
     let many : 32 * pages ≤ blocks * pages = mul-le-mul_right pages least.blocks_there in
     omega (arith, many, least.pages_there)
+
+-- ---- the segments
+
+few_enough : (total filled pages : ℕ) → 32 * pages ≤ total → 32 ≤ pages → filled < 67 + div_ceil (total / 16) 16 + total / 32 + pages → filled + 4 * pages ≤ total
+few_enough total filled pages many least few = omega arith
+
+pub record Segments (total : ℕ) (shape : Shape) : Type 0 where
+  pub all : shape.vblocks * shape.pages + shape.pblocks * shape.pages ≡ total
+  pub some : 2 ≤ shape.vblocks * shape.pages
+
+-- the pages of both segments are those of the medium, and the virtual one has two and more
+pub segments : (blocks pages : ℕ) → IsTrue (is_legal blocks pages) → Segments (blocks * pages) (shape_for blocks pages)
+unfolding shape_for
+segments blocks pages is =
+    let least = legal blocks pages is in
+    let total = blocks * pages in
+    let vaddrs = 67 + div_ceil (total / 16) 16 + total / 32 in
+    let filled = div_ceil vaddrs pages in
+    let many : 32 * pages ≤ total = mul-le-mul_right pages least.blocks_there in
+    let few = (div_ceil_times vaddrs pages (omega (arith, least.pages_there))).1 in
+    let within : filled * pages + 4 * pages ≤ total = few_enough total (filled * pages) pages many least.pages_there few in
+    let sum : (filled + 4) * pages ≡ filled * pages + 4 * pages = add-mul filled 4 pages in
+    let fits : filled + 4 ≤ blocks = le_of_mul-le-mul_right {k = pages} (omega (arith, within, sum)) (omega (arith, least.pages_there)) in
+    record {
+      all = sym (add-mul (filled + 4) (blocks - (filled + 4)) pages) ∙ ap (λ (k : ℕ). k * pages) (back blocks (filled + 4) fits);
+      some = omega (arith, sum, least.pages_there);
+    }
+  where
+    back : (b f : ℕ) → f ≤ b → f + (b - f) ≡ b
+    back b f le = omega (arith, le)
+
+-- there are few pages
+pub few_pages : (blocks pages : ℕ) → IsTrue (is_legal blocks pages) → blocks * pages ≤ 262144
+few_pages blocks pages is = grind (arith, nat_tests)

@@ -101,7 +101,7 @@ pub record AnswersLine (tells : Type 0) (shape : Shape) (capacity : ℕ) (line :
   pub numbered : FaultsNumbered (fault_sum before) (fault_of reply ∷ [])
   pub sum : fault_sum now ≡ sum_after (fault_sum before) (fault_of reply ∷ [])
 
-module _ (tells : Type 0) (shape : Shape) (capacity : ℕ) (done : List Line) (order : List Ordered) (first before now : Counts) (image image' : Image) (files files' : List FileEntry) (next n : ℕ) (answers : List Answer) (bytes piece : List ℕ) (line : Line) (a : Answer) where
+module _ (tells : Type 0) (shape : Shape) (capacity : ℕ) (done : List Line) (order : List Ordered) (first before now : Counts) (image image' : Image) (files files' : List FileEntry) (start next n : ℕ) (answers : List Answer) (bytes piece : List ℕ) (line : Line) (a : Answer) where
   e : Executed
   e = record { line = line; fault = fault_of a.reply; begun = next }
 
@@ -120,10 +120,10 @@ module _ (tells : Type 0) (shape : Shape) (capacity : ℕ) (done : List Line) (o
     write_faults = one.write_faults ∙ ap (risen (n - programs_of a.reply)) so_far.write_faults ∙ sym (risen-add failed (n - programs_of a.reply) first.write_faults);
   }
 
-  answers_more : (xs : List Executed) (finished : ℕ) → AnswersAll shape capacity image files next answers bytes xs finished
+  answers_more : (xs : List Executed) (finished : ℕ) → AnswersAll shape capacity start image files next answers bytes xs finished
       → Replies (λ tree. outcome_of shape capacity tree line.call (fault_of a.reply) next) (contents_of image files) (contents_of image' files') a.reply piece
       → Begins line.call a.reply n → sum_by (λ x. x.len) answers ≡ length bytes → a.len ≡ length piece → a.line ≡ line.line
-      → AnswersAll shape capacity image' files' (next + n) (answers ++ a ∷ []) (bytes ++ piece) (xs ++ e ∷ []) (finished + programs_of a.reply)
+      → AnswersAll shape capacity start image' files' (next + n) (answers ++ a ∷ []) (bytes ++ piece) (xs ++ e ∷ []) (finished + programs_of a.reply)
   unfolding e
   answers_more xs finished so_far one begins all len number =
       let t : Tree = tree_after shape capacity empty_tree xs in
@@ -132,7 +132,7 @@ module _ (tells : Type 0) (shape : Shape) (capacity : ℕ) (done : List Line) (o
       let bytes_are : o.bytes ≡ piece = one.bytes_are t so_far.tree in
       record {
         tree = subst (HasFiles (contents_of image' files')) (sym (tree_after-push shape capacity empty_tree xs e)) (one.files_after t so_far.tree);
-        counted = counts-push shape capacity empty_tree 0 next n xs e so_far.counted refl (subst (λ (r : Reply). Begins line.call r n) (sym reply) begins);
+        counted = counts-push shape capacity empty_tree start next n xs e so_far.counted refl (subst (λ (r : Reply). Begins line.call r n) (sym reply) begins);
         finished_is = ap (λ (k : ℕ). k + programs_of a.reply) so_far.finished_is
             ∙ ap (λ (r : Reply). finished_in shape capacity xs + programs_of r) (sym reply)
             ∙ sym (sum_by_push (λ (x : Outcome). programs_of x.reply) (outcomes shape capacity empty_tree xs) o)
@@ -144,10 +144,10 @@ module _ (tells : Type 0) (shape : Shape) (capacity : ℕ) (done : List Line) (o
             ∙ sym (ap (answered_of (xs ++ e ∷ [])) (outcomes-push shape capacity empty_tree xs e));
       }
 
-  pub has_run_more : HasRun tells shape capacity done order first before image files next answers bytes
+  pub has_run_more : HasRun tells shape capacity start done order first before image files next answers bytes
       → AnswersLine tells shape capacity line before now image image' files files' next n a.reply piece
       → sum_by (λ x. x.len) answers ≡ length bytes → a.len ≡ length piece → a.line ≡ line.line
-      → HasRun tells shape capacity (done ++ line ∷ []) (order ++ record { line = line.line; fault = fault_of a.reply } ∷ []) first now image' files' (next + n) (answers ++ a ∷ []) (bytes ++ piece)
+      → HasRun tells shape capacity start (done ++ line ∷ []) (order ++ record { line = line.line; fault = fault_of a.reply } ∷ []) first now image' files' (next + n) (answers ++ a ∷ []) (bytes ++ piece)
   has_run_more run one all len number = record {
     executed = run.executed ++ e ∷ [];
     finished = run.finished + programs_of a.reply;
@@ -158,23 +158,23 @@ module _ (tells : Type 0) (shape : Shape) (capacity : ℕ) (done : List Line) (o
   }
 
 -- no line yet
-pub has_run_none : (tells : Type 0) (shape : Shape) (capacity : ℕ) (first : Counts) (image : Image) → HasFiles [] empty_tree → HasRun tells shape capacity [] [] first first image [] 0 [] []
+pub has_run_none : (tells : Type 0) (shape : Shape) (capacity start : ℕ) (first : Counts) (image : Image) → HasFiles [] empty_tree → HasRun tells shape capacity start [] [] first first image [] start [] []
 unfolding outcomes tree_after
-has_run_none tells shape capacity first image none = record {
+has_run_none tells shape capacity start first image none = record {
   executed = [];
   finished = 0;
   failed = 0;
   executes = record { each_line = refl; listed = refl; numbered = _; sum = refl; clock = refl; write_faults = refl };
-  programs = refl;
+  programs = omega arith;
   told = λ t. record { tree = none; counted = refl; finished_is = refl; answered = refl };
 }
 
 -- the same lists, written in another way
-pub has_run_at : (tells : Type 0) (shape : Shape) (capacity : ℕ) (lines : List Line) (order order' : List Ordered) (first now : Counts) (image : Image) (files : List FileEntry) (next next' : ℕ) (answers answers' : List Answer) (bytes bytes' : List ℕ)
+pub has_run_at : (tells : Type 0) (shape : Shape) (capacity start : ℕ) (lines : List Line) (order order' : List Ordered) (first now : Counts) (image : Image) (files : List FileEntry) (next next' : ℕ) (answers answers' : List Answer) (bytes bytes' : List ℕ)
     → order' ≡ order → next' ≡ next → answers' ≡ answers → bytes' ≡ bytes
-    → HasRun tells shape capacity lines order first now image files next answers bytes → HasRun tells shape capacity lines order' first now image files next' answers' bytes'
-has_run_at tells shape capacity lines order order' first now image files next next' answers answers' bytes bytes' o n a b run =
-    subst (λ (x : List ℕ). HasRun tells shape capacity lines order' first now image files next' answers' x) (sym b)
-    (subst (λ (x : List Answer). HasRun tells shape capacity lines order' first now image files next' x bytes) (sym a)
-    (subst (λ (x : ℕ). HasRun tells shape capacity lines order' first now image files x answers bytes) (sym n)
-    (subst (λ (x : List Ordered). HasRun tells shape capacity lines x first now image files next answers bytes) (sym o) run)))
+    → HasRun tells shape capacity start lines order first now image files next answers bytes → HasRun tells shape capacity start lines order' first now image files next' answers' bytes'
+has_run_at tells shape capacity start lines order order' first now image files next next' answers answers' bytes bytes' o n a b run =
+    subst (λ (x : List ℕ). HasRun tells shape capacity start lines order' first now image files next' answers' x) (sym b)
+    (subst (λ (x : List Answer). HasRun tells shape capacity start lines order' first now image files next' x bytes) (sym a)
+    (subst (λ (x : ℕ). HasRun tells shape capacity start lines order' first now image files x answers bytes) (sym n)
+    (subst (λ (x : List Ordered). HasRun tells shape capacity start lines x first now image files next answers bytes) (sym o) run)))

@@ -1,6 +1,8 @@
+pub mod Command
 pub mod Execution
 pub mod Files
 pub mod Form
+pub mod Formatted
 pub mod Input
 pub mod Plain
 pub mod Run

@@ -36,17 +36,18 @@ pub record Executes (lines : List Line) (order : List Ordered) (before now : Cou
 abbrev pub finished_in : Shape → ℕ → List Executed → ℕ
 finished_in shape capacity executed = sum_by (λ o. programs_of o.reply) (outcomes shape capacity empty_tree executed)
 
--- what the answers are, and the files, where the medium tells its contents
-pub record AnswersAll (shape : Shape) (capacity : ℕ) (image : Image) (files : List FileEntry) (next : ℕ) (answers : List Answer) (bytes : List ℕ) (executed : List Executed) (finished : ℕ) : Type 0 where
+-- What the answers are, and the files, where the medium tells its contents. Programs go to the pages from `first` up to the capacity, and those before
+-- count as begun.
+pub record AnswersAll (shape : Shape) (capacity first : ℕ) (image : Image) (files : List FileEntry) (next : ℕ) (answers : List Answer) (bytes : List ℕ) (executed : List Executed) (finished : ℕ) : Type 0 where
   pub tree : HasFiles (contents_of image files) (tree_after shape capacity empty_tree executed)
-  pub counted : CountsPrograms shape capacity empty_tree 0 executed next
+  pub counted : CountsPrograms shape capacity empty_tree first executed next
   pub finished_is : finished ≡ finished_in shape capacity executed
   pub answered : answers_in answers bytes ≡ answered_of executed (outcomes shape capacity empty_tree executed)
 
-pub record HasRun (tells : Type 0) (shape : Shape) (capacity : ℕ) (lines : List Line) (order : List Ordered) (before now : Counts) (image : Image) (files : List FileEntry) (next : ℕ) (answers : List Answer) (bytes : List ℕ) : Type 0 where
+pub record HasRun (tells : Type 0) (shape : Shape) (capacity first : ℕ) (lines : List Line) (order : List Ordered) (before now : Counts) (image : Image) (files : List FileEntry) (next : ℕ) (answers : List Answer) (bytes : List ℕ) : Type 0 where
   pub executed : List Executed
   pub finished : ℕ
   pub failed : ℕ
   pub executes : Executes lines order before now executed finished failed
-  pub programs : next ≡ finished + failed
-  pub told : tells → AnswersAll shape capacity image files next answers bytes executed finished
+  pub programs : next ≡ first + (finished + failed)
+  pub told : tells → AnswersAll shape capacity first image files next answers bytes executed finished

@@ -7,19 +7,19 @@ use Rattle.nl_field.specs.declared.shape.Shape.{Shape}
 use Rattle.nl_io.specs.Streams.{Writes}
 use Rattle.nl_io.specs.declared.sink.SinkAnswer.{SinkAnswer}
 use Rattle.nl_io.specs.declared.sink.SinkAnswer.TheVariants as sink
-use Rattle.nl_nand.specs.Nand.{IsBlank}
 use Rattle.nl_nand.specs.declared.geometry.Geometry.{Geometry}
 use Rattle.nl_tree.specs.Causes.{Counts}
 use Rattle.nl_tree.specs.Tree.{empty_tree}
 use Rattle.nl_tree.specs.declared.call.Line.{Line}
-use Rattle.nl_print.specs.Texts.{run_text}
+use Rattle.nl_print.specs.Texts.{run_text, formatted_text}
+use Rattle.nl_top.specs.declared.command.Command.{Command}
+use Rattle.nl_top.specs.declared.command.Command.TheVariants.{Run, Format}
 use Rattle.nl_top.specs.declared.lists.Ordered.{Ordered}
+use Rattle.nl_top.specs.Command.{command_of}
 use Rattle.nl_top.specs.Execution.{Executed, outcomes, CountsPrograms, answered_of}
 use Rattle.nl_top.specs.Form.{script_lines, max_script}
+use Rattle.nl_top.specs.Formatted.{IsFormatted}
 use Rattle.nl_top.specs.Run.{Executes, finished_in}
-
-abbrev pub run_words : List (List ℕ)
-run_words = codes "run" ∷ []
 
 -- ---- source, sink and medium in a call
 
@@ -43,8 +43,9 @@ medium geometry contents clock read_faults write_faults =
 abbrev pub shape_of_medium : Medium → Shape
 shape_of_medium m = shape_for m.geometry.blocks m.geometry.pages
 
-abbrev pub total_pages : Geometry → ℕ
-total_pages geometry = geometry.blocks * geometry.pages
+-- the pages of the physical segment, to which the data of files goes
+abbrev pub physical_pages : Shape → ℕ
+physical_pages shape = shape.pblocks * shape.pages
 
 abbrev pub MediumRose : Medium → Medium → Type 0
 MediumRose old new = Rose old.counts.read_faults new.counts.read_faults ⊎ Rose old.counts.write_faults new.counts.write_faults
@@ -74,7 +75,7 @@ pub record Untouched (old new : Medium) : Type 0 where
 
 -- ---- the endings
 
--- An ending before any line was run: it prints its text, leaves the medium and lists no line.
+-- An ending before anything was done: it prints its text, leaves the medium and lists no line.
 pub record EndsBefore (text : List ℕ) (sink sink' : Stream) (medium medium' : Medium) (order : List Ordered) : Type 0 where
   pub prints : Prints sink sink' text
   pub untouched : Untouched medium medium'
@@ -86,9 +87,11 @@ NotAScript source source' =
     ((bytes : List ℕ) × ReadsWhole source source' bytes × (script_lines bytes ≡ None))
     ⊎ ((bytes : List ℕ) × (max_script < length bytes) × (source.bytes ≡ option_map (λ rest. bytes ++ rest) source'.bytes))
 
--- it was never formed, or has a page that is not erased
-abbrev pub NotFormed : Type 0 → Medium → Type 0
-NotFormed tells medium = (is_legal medium.geometry.blocks medium.geometry.pages ≡ false) ⊎ (tells → IsBlank medium.contents → ⊥)
+-- it was never formed, or is not exactly as a format leaves it
+abbrev pub NotFormatted : Type 0 → Medium → Type 0
+NotFormatted tells medium =
+    (is_legal medium.geometry.blocks medium.geometry.pages ≡ false)
+    ⊎ (tells → IsFormatted medium.geometry.blocks medium.geometry.pages medium.contents → ⊥)
 
 -- The lines were run one after the other, and their answers were printed. Where the medium tells its contents, each answer is what the plain tree
 -- replies after those before it, under the fault reply that the line got, if it got one.
@@ -97,31 +100,51 @@ pub record Runs (tells : Type 0) (lines : List Line) (sink sink' : Stream) (medi
   pub finished : ℕ
   pub failed : ℕ
   pub executes : Executes lines order medium.counts medium'.counts executed finished failed
-  pub counted : tells → CountsPrograms (shape_of_medium medium) (total_pages medium.geometry) empty_tree 0 executed (finished + failed)
-  pub finished_is : tells → finished ≡ finished_in (shape_of_medium medium) (total_pages medium.geometry) executed
-  pub answers : tells → text ≡ run_text 0 (answered_of executed (outcomes (shape_of_medium medium) (total_pages medium.geometry) empty_tree executed))
+  pub counted : tells → CountsPrograms (shape_of_medium medium) (physical_pages (shape_of_medium medium)) empty_tree 0 executed (finished + failed)
+  pub finished_is : tells → finished ≡ finished_in (shape_of_medium medium) (physical_pages (shape_of_medium medium)) executed
+  pub answers : tells → text ≡ run_text 0 (answered_of executed (outcomes (shape_of_medium medium) (physical_pages (shape_of_medium medium)) empty_tree executed))
   pub prints : Prints sink sink' text
 
--- the status of a run: 5 exactly where a count of the medium rose, else 0 where the text was taken whole, and 4 where it was not
-abbrev pub RunStatus : ℕ → Stream → Stream → Medium → Medium → List ℕ → Type 0
-RunStatus status sink sink' medium medium' text =
+-- A volume of this geometry was made, whatever the medium held, and told.
+pub record Formats (tells : Type 0) (blocks pages : ℕ) (sink sink' : Stream) (medium' : Medium) (order : List Ordered) (text : List ℕ) : Type 0 where
+  pub geometry : medium'.geometry ≡ record { blocks = blocks; pages = pages }
+  pub contents : tells → IsFormatted blocks pages medium'.contents
+  pub text_is : text ≡ formatted_text (shape_for blocks pages)
+  pub prints : Prints sink sink' text
+  pub no_lines : order ≡ []
+
+-- the status of a command that was carried out: 5 exactly where a count of the medium rose, else 0 where the text was taken whole, and 4 where it
+-- was not
+abbrev pub DoneStatus : ℕ → Stream → Stream → Medium → Medium → List ℕ → Type 0
+DoneStatus status sink sink' medium medium' text =
     ((status ≡ 5) × MediumRose medium medium')
     ⊎ (((status ≡ 4) × (MediumRose medium medium' → ⊥) × Rose sink.faults sink'.faults)
     ⊎ ((status ≡ 0) × (MediumRose medium medium' → ⊥) × PrintsWhole sink sink' text))
 
+-- How a format ends.
+pub data FormatEnds (tells : Type 0) (blocks pages : ℕ) (sink sink' : Stream) (medium medium' : Medium) (order : List Ordered) (status : ℕ) : Type 0 where
+  format_fault : status ≡ 5 → Rose medium.counts.write_faults medium'.counts.write_faults → Prints sink sink' (codes "medium fault\n") → order ≡ []
+      → FormatEnds tells blocks pages sink sink' medium medium' order status
+  format_no_memory : status ≡ 6 → EndsBefore (codes "memory\n") sink sink' medium medium' order
+      → FormatEnds tells blocks pages sink sink' medium medium' order status
+  formatted : (text : List ℕ) → Formats tells blocks pages sink sink' medium' order text → DoneStatus status sink sink' medium medium' text
+      → FormatEnds tells blocks pages sink sink' medium medium' order status
+
 -- Each call ends in one of these ways, each with its cause, its status and its text.
 pub data Ends (tells : Type 0) (words : List (List ℕ)) (source source' sink sink' : Stream) (medium medium' : Medium) (order : List Ordered) (status : ℕ) : Type 0 where
-  faulty_words : (words ≡ run_words → ⊥) → status ≡ 2 → source' ≡ source → EndsBefore (codes "words\n") sink sink' medium medium' order
+  faulty_words : command_of words ≡ None → status ≡ 2 → source' ≡ source → EndsBefore (codes "words\n") sink sink' medium medium' order
       → Ends tells words source source' sink sink' medium medium' order status
-  source_fault : words ≡ run_words → status ≡ 3 → Rose source.faults source'.faults → EndsBefore (codes "source fault\n") sink sink' medium medium' order
+  source_fault : command_of words ≡ Some Run → status ≡ 3 → Rose source.faults source'.faults → EndsBefore (codes "source fault\n") sink sink' medium medium' order
       → Ends tells words source source' sink sink' medium medium' order status
-  no_memory : words ≡ run_words → status ≡ 6 → EndsBefore (codes "memory\n") sink sink' medium medium' order
+  no_memory : command_of words ≡ Some Run → status ≡ 6 → EndsBefore (codes "memory\n") sink sink' medium medium' order
       → Ends tells words source source' sink sink' medium medium' order status
-  medium_fault : words ≡ run_words → status ≡ 5 → Rose medium.counts.read_faults medium'.counts.read_faults → EndsBefore (codes "medium fault\n") sink sink' medium medium' order
+  medium_fault : command_of words ≡ Some Run → status ≡ 5 → Rose medium.counts.read_faults medium'.counts.read_faults → EndsBefore (codes "medium fault\n") sink sink' medium medium' order
       → Ends tells words source source' sink sink' medium medium' order status
-  unbuilt : words ≡ run_words → status ≡ 2 → NotAScript source source' ⊎ NotFormed tells medium → EndsBefore (codes "unbuilt\n") sink sink' medium medium' order
+  unbuilt : command_of words ≡ Some Run → status ≡ 2 → NotAScript source source' ⊎ NotFormatted tells medium → EndsBefore (codes "unbuilt\n") sink sink' medium medium' order
       → Ends tells words source source' sink sink' medium medium' order status
-  ran : words ≡ run_words → (bytes : List ℕ) → ReadsWhole source source' bytes → (lines : List Line) → script_lines bytes ≡ Some lines
-      → IsTrue (is_legal medium.geometry.blocks medium.geometry.pages) → (tells → IsBlank medium.contents)
-      → (text : List ℕ) → Runs tells lines sink sink' medium medium' order text → RunStatus status sink sink' medium medium' text
+  ran : command_of words ≡ Some Run → (bytes : List ℕ) → ReadsWhole source source' bytes → (lines : List Line) → script_lines bytes ≡ Some lines
+      → IsTrue (is_legal medium.geometry.blocks medium.geometry.pages) → (tells → IsFormatted medium.geometry.blocks medium.geometry.pages medium.contents)
+      → (text : List ℕ) → Runs tells lines sink sink' medium medium' order text → DoneStatus status sink sink' medium medium' text
+      → Ends tells words source source' sink sink' medium medium' order status
+  formats : (blocks pages : ℕ) → command_of words ≡ Some (Format blocks pages) → source' ≡ source → FormatEnds tells blocks pages sink sink' medium medium' order status
       → Ends tells words source source' sink sink' medium medium' order status

@@ -85,8 +85,8 @@ fn load<M: Nand>(media: &mut M, at: Option<u32>, page: &mut PageBuf) -> bool
     }
 }
 
-// Programs the next page. False where the program fails.
-fn program_next<M: Nand>(media: &mut M, next: &mut u32, page: &PageBuf) -> bool
+/// Programs the next page. False where the program fails.
+pub fn program_next<M: Nand>(media: &mut M, next: &mut u32, page: &PageBuf) -> bool
     requires range { next.old < (M.geometry media.old).blocks * (M.geometry media.old).pages }
     requires erased { M.tells → IsErasedFrom next.old (M.contents media.old) }
     ensures programmed { M.tells → IsTrue result → page_at (M.contents media.new) next.old ≡ written page.now }

@@ -98,11 +98,12 @@ pub fn apply<M: Nand>(
     }
 }
 
-/// Answers the lines in their order, and keeps the answers with their bytes.
+/// Answers the lines in their order, and keeps the answers with their bytes. Programs go to the pages from `first` on.
 pub fn run<M: Nand>(
     media: &mut M,
     page: &mut PageBuf,
     shape: &Shape,
+    first: u32,
     lines: Vec<Line>,
     files: &mut Vec<FileEntry>,
     answers: &mut Vec<Answer>,
@@ -115,10 +116,11 @@ pub fn run<M: Nand>(
     requires answers { (answers.old.items ≡ []) × (length lines.items ≤ vec_capacity answers.old) }
     requires bytes { (bytes.old.items ≡ []) × (sum_by (λ l. most_bytes l.call) lines.items ≤ vec_capacity bytes.old) }
     requires order { (order.old.items ≡ []) × (length lines.items ≤ order.old.room) }
-    requires erased { M.tells → IsErasedFrom 0 (M.contents media.old) }
+    requires range { first ≤ (M.geometry media.old).blocks * (M.geometry media.old).pages }
+    requires erased { M.tells → IsErasedFrom first (M.contents media.old) }
     requires roomy { IsRoomy shape.now }
     requires nodes { 1 ≤ shape.now.nodes }
-    ensures ran { (next : ℕ) × HasRun M.tells shape.now ((M.geometry media.old).blocks * (M.geometry media.old).pages) lines.items order.new.items
+    ensures ran { (next : ℕ) × HasRun M.tells shape.now ((M.geometry media.old).blocks * (M.geometry media.old).pages) first lines.items order.new.items
         (record { clock = M.clock media.old; read_faults = M.read_faults media.old; write_faults = M.write_faults media.old })
         (record { clock = M.clock media.new; read_faults = M.read_faults media.new; write_faults = M.write_faults media.new })
         (M.contents media.new) files.new.items next answers.new.items bytes.new.items }
@@ -128,7 +130,7 @@ pub fn run<M: Nand>(
     ensures reads { M.read_faults media.old ≤ M.read_faults media.new }
     ensures writes { M.write_faults media.old ≤ M.write_faults media.new }
 {
-    let mut next = 0u32;
+    let mut next = first;
     'script: for line in lines {
         let Line {
             line: number,

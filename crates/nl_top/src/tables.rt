@@ -17,6 +17,7 @@ pub struct Tables {
     pub bytes: Vec<u8>,
     pub order: OrderList,
     pub page: PageBuf,
+    pub wanted: PageBuf,
 }
 
 /// Tables with room for these lines.
@@ -32,6 +33,7 @@ pub fn tables_for(alloc: Global, lines: &[Line]) -> Result<Tables, Memory>
         bytes: Vec::with_capacity(alloc, count_bytes(lines))?,
         order,
         page: PageBuf::new(alloc)?,
+        wanted: PageBuf::new(alloc)?,
     })
 }
 

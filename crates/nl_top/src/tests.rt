@@ -1,4 +1,4 @@
-// The first run on a medium of 32 blocks of 32 pages in memory. Expected texts are written by hand.
+// Commands on a medium of 32 blocks of 32 pages in memory. Expected texts are written by hand.
 use crate::gate::NoGate;
 use crate::lists::{OrderList, Ordered, SyncList, Synced};
 use crate::top::{Done, nameless};
@@ -34,34 +34,124 @@ const NOTHING: Failing = Failing {
     write: 0,
 };
 
-// The status of a run, its text, and how many lines were answered.
-fn run_on<Rt: Threads + Wait + Sync>(
-    rt: &Rt,
-    alloc: Global,
-    word: &[u8],
-    script: &[u8],
-    failing: Failing,
-) -> Result<(u8, MemSink, u32), Memory> {
-    let mut words = Words::new(alloc);
-    words.push(word)?;
+// A medium that was never formed, on which these calls fail.
+fn medium(alloc: Global, failing: Failing) -> Result<MemNand, Memory> {
     let mut media = MemNand::new(
         alloc,
         list_of(alloc, failing.read)?,
         list_of(alloc, failing.write)?,
         None,
     );
-    let _ = media.form(32, 32);
     media.reserve(1024)?;
+    Ok(media)
+}
+
+// The status of a command, its text, the medium behind it, and how many lines were answered.
+fn answer<Rt: Threads + Wait + Sync>(
+    rt: &Rt,
+    alloc: Global,
+    line: &[u8],
+    script: &[u8],
+    failing: Failing,
+    media: MemNand,
+) -> Result<(u8, MemSink, MemNand, u32), Memory> {
+    let mut words = Words::new(alloc);
+    for word in line.split(|b| *b == b' ') {
+        words.push(word)?;
+    }
     let mut source = MemSource::new(Text::of(alloc, script)?, list_of(alloc, failing.source)?);
     let mut sink = MemSink::new(alloc, 100_000, list_of(alloc, failing.sink)?)?;
     let Done {
         status,
-        media: _,
+        media,
         syncs: _,
         order,
     } = nameless(rt, alloc, &words, &mut source, &mut sink, media, &NoGate);
     let lines = order.len();
+    Ok((status, sink, media, lines))
+}
+
+// The status of a run on a new volume of 32 blocks of 32 pages, its text, and how many lines were answered.
+fn run_on<Rt: Threads + Wait + Sync>(
+    rt: &Rt,
+    alloc: Global,
+    script: &[u8],
+    failing: Failing,
+) -> Result<(u8, MemSink, u32), Memory> {
+    let media = medium(alloc, failing)?;
+    let (_, _, media, _) = answer(rt, alloc, b"format 32 32", b"", NOTHING, media)?;
+    let (status, sink, _, lines) = answer(rt, alloc, b"run", script, failing, media)?;
     Ok((status, sink, lines))
+}
+
+#[test]
+fn a_format_tells_its_numbers(rt: HostRuntime) -> Result<(), Fail> {
+    let alloc = rt.alloc();
+    let rows: [(&[u8], Failing, u8, &[u8]); 11] = [
+        (
+            b"format 32 32",
+            NOTHING,
+            0,
+            b"formatted blocks 32 pages 32 data 480 nodes 64 meta 32\n",
+        ),
+        (
+            b"format 256 064",
+            NOTHING,
+            0,
+            b"formatted blocks 256 pages 64 data 15008 nodes 1024 meta 512\n",
+        ),
+        (b"format 31 32", NOTHING, 2, b"words\n"),
+        (b"format 4096 128", NOTHING, 2, b"words\n"),
+        (b"format 32 4294967328", NOTHING, 2, b"words\n"),
+        (b"format 32", NOTHING, 2, b"words\n"),
+        (b"run 32", NOTHING, 2, b"words\n"),
+        (b"tree", NOTHING, 2, b"words\n"),
+        (
+            b"format 32 32",
+            Failing {
+                write: 1,
+                ..NOTHING
+            },
+            5,
+            b"medium fault\n",
+        ),
+        (
+            b"format 32 32",
+            Failing {
+                write: 2,
+                ..NOTHING
+            },
+            5,
+            b"medium fault\n",
+        ),
+        (b"format 32 32", Failing { sink: 1, ..NOTHING }, 4, b""),
+    ];
+    for (line, failing, want, text) in rows {
+        let media = medium(alloc, failing)?;
+        let (status, sink, _, lines) = answer(&rt, alloc, line, b"", failing, media)?;
+        assert_eq!(rt; status, want);
+        assert_eq!(rt; sink.bytes(), text);
+        assert_eq!(rt; lines, 0);
+    }
+    Ok(())
+}
+
+#[test]
+fn only_a_new_volume_is_run(rt: HostRuntime) -> Result<(), Fail> {
+    let alloc = rt.alloc();
+    let script = b"0 create /a\n0 write /a 0 61\n".as_slice();
+    let media = medium(alloc, NOTHING)?;
+    let (status, sink, media, _) = answer(&rt, alloc, b"run", script, NOTHING, media)?;
+    assert_eq!(rt; (status, sink.bytes()), (2, b"unbuilt\n".as_slice()));
+    let (_, _, media, _) = answer(&rt, alloc, b"format 32 32", b"", NOTHING, media)?;
+    let (status, _, media, _) = answer(&rt, alloc, b"run", script, NOTHING, media)?;
+    assert_eq!(rt; status, 0);
+    let (status, sink, media, _) = answer(&rt, alloc, b"run", script, NOTHING, media)?;
+    assert_eq!(rt; (status, sink.bytes()), (2, b"unbuilt\n".as_slice()));
+    let (_, _, media, _) = answer(&rt, alloc, b"format 32 64", b"", NOTHING, media)?;
+    let (status, _, _, _) = answer(&rt, alloc, b"run", script, NOTHING, media)?;
+    assert_eq!(rt; status, 0);
+    Ok(())
 }
 
 #[test]
@@ -89,13 +179,10 @@ fn answers_are_those_of_a_tree(rt: HostRuntime) -> Result<(), Fail> {
         (b"0 write /a 4096 61\n", 2, b"unbuilt\n"),
     ];
     for (script, want, text) in rows {
-        let (status, sink, _) = run_on(&rt, alloc, b"run", script, NOTHING)?;
+        let (status, sink, _) = run_on(&rt, alloc, script, NOTHING)?;
         assert_eq!(rt; status, want);
         assert_eq!(rt; sink.bytes(), text);
     }
-    let (status, sink, _) = run_on(&rt, alloc, b"tree", b"", NOTHING)?;
-    assert_eq!(rt; status, 2);
-    assert_eq!(rt; sink.bytes(), b"words\n".as_slice());
     Ok(())
 }
 
@@ -104,14 +191,14 @@ fn a_full_medium_is_told(rt: HostRuntime) -> Result<(), Fail> {
     let alloc = rt.alloc();
     let mut script = Vec::new(alloc);
     script.extend_from_slice(b"0 create /a\n")?;
-    for _ in 0..1025 {
+    for _ in 0..769 {
         script.extend_from_slice(b"0 write /a 0 61\n")?;
     }
     script.extend_from_slice(b"0 read /a 0 1\n")?;
-    let (status, sink, lines) = run_on(&rt, alloc, b"run", &script, NOTHING)?;
+    let (status, sink, lines) = run_on(&rt, alloc, &script, NOTHING)?;
     assert_eq!(rt; status, 0);
-    assert_eq!(rt; lines, 1027);
-    let end = b"\n1025 @1025 ok 1\n1026 @1026 ENOSPC data\n1027 @1027 ok 61\n".as_slice();
+    assert_eq!(rt; lines, 771);
+    let end = b"\n769 @769 ok 1\n770 @770 ENOSPC data\n771 @771 ok 61\n".as_slice();
     assert!(rt; sink.bytes().ends_with(end));
     Ok(())
 }
@@ -121,7 +208,7 @@ fn faults_are_told(rt: HostRuntime) -> Result<(), Fail> {
     let alloc = rt.alloc();
     let script =
         b"0 create /a\n0 write /a 0 61\n0 write /a 0 62\n0 read /a 0 1\n0 read /a 0 1\n".as_slice();
-    // The look at the medium reads its 1024 pages. The second write of the script reads the page of the first.
+    // The format programs two pages, and the look at the medium reads its 1024 pages. The second write of the script reads the page of the first.
     let rows: [(Failing, u8, &[u8], u32); 6] = [
         (
             Failing {
@@ -136,7 +223,7 @@ fn faults_are_told(rt: HostRuntime) -> Result<(), Fail> {
         (Failing { read: 3, ..NOTHING }, 5, b"medium fault\n", 0),
         (
             Failing {
-                write: 2,
+                write: 4,
                 ..NOTHING
             },
             5,
@@ -163,7 +250,7 @@ fn faults_are_told(rt: HostRuntime) -> Result<(), Fail> {
         ),
     ];
     for (failing, want, text, answered) in rows {
-        let (status, sink, lines) = run_on(&rt, alloc, b"run", script, failing)?;
+        let (status, sink, lines) = run_on(&rt, alloc, script, failing)?;
         assert_eq!(rt; status, want);
         assert_eq!(rt; sink.bytes(), text);
         assert_eq!(rt; lines, answered);

@@ -1,26 +1,28 @@
 // The top call: reads a script, runs it on a medium, and prints the answers.
-ghost use Rattle.std.specs.Prelude.{◌≡◌, ◌⊎◌, ◌<◌, ◌≤◌, ◌+◌, ◌^◌, ◌↔◌, ◌++◌, [], ◌∷◌, ℕ, List, Some, None, length, codes, true, false, All, IsTrue, IfOk, IfErr, IfSome, IfNone, sum_by};
+ghost use Rattle.std.specs.Prelude.{◌≡◌, ◌⊎◌, ◌<◌, ◌≤◌, ◌+◌, ◌*◌, ◌^◌, ◌↔◌, ◌++◌, [], ◌∷◌, ℕ, List, Some, None, length, codes, true, false, All, IsTrue, IfOk, IfErr, IfSome, IfNone, sum_by};
 ghost use Rattle.nl_field.specs.CrashStates.{Rose};
 ghost use Rattle.nl_field.specs.Numbers.{is_legal, shape_for};
-ghost use Rattle.nl_nand.specs.Nand.{IsBlank};
 ghost use Rattle.nl_tree.specs.declared.call.Line.{Line};
+ghost use Rattle.nl_top.specs.Command.{command_of};
 ghost use Rattle.nl_top.specs.Form.{script_lines};
+ghost use Rattle.nl_top.specs.Formatted.{IsFormatted};
 ghost use Rattle.nl_top.specs.Plain.{IsPlain};
 ghost use Rattle.nl_top.specs.Tables.{HaveRoom};
-ghost use Rattle.nl_top.specs.Top.{run_words, stream, medium, EndsBefore, ReadsWhole, NotAScript, Prints, Runs, RunStatus, MediumRose, Ends};
+ghost use Rattle.nl_top.specs.Top.{stream, medium, ReadsWhole, NotAScript, Prints, Runs, DoneStatus, FormatEnds, Ends};
 
 use crate::answers::print_answers;
-use crate::blank::{Look, look_at};
+use crate::command::{Command, command_of};
 use crate::form::lines_of;
+use crate::formatted::{Look, Making, inspect, make};
 use crate::gate::Gate;
 use crate::input::{Input, read_all};
 use crate::lists::{OrderList, SyncList};
 use crate::run::run;
 use crate::tables::{Tables, tables_for};
-use nl_field::{Shape, shape_of};
+use nl_field::{PageBuf, Shape, shape_of};
 use nl_io::{Sink, SinkAnswer, Source, Words};
 use nl_nand::Nand;
-use nl_print::word_line;
+use nl_print::{formatted_line, word_line};
 use nl_tree::Line;
 use std::alloc::Global;
 use std::sync::Wait;
@@ -33,15 +35,6 @@ pub struct Done<M> {
     pub media: M,
     pub syncs: SyncList,
     pub order: OrderList,
-}
-
-fn is_run(words: &Words) -> bool
-    ensures { IsTrue result ↔ (words.now ≡ run_words) }
-{
-    match words.as_slice() {
-        [word] => word.bytes() == b"run".as_slice(),
-        _ => false,
-    }
 }
 
 // Ends with a status and a line of one word, before any line was run.
@@ -107,7 +100,7 @@ fn medium_rose<M: Nand>(media: &M, reads: u64, writes: u64) -> bool
     has_risen(reads, media.read_faults()) || has_risen(writes, media.write_faults())
 }
 
-// The status of a run whose text was printed.
+// The status of a command that was carried out and whose text was printed.
 fn status_of(rose: bool, answer: SinkAnswer) -> u8
     ensures five { IsTrue rose → result ≡ 5 }
     ensures four { rose ≡ false → answer ≡ SinkAnswer.Failed → result ≡ 4 }
@@ -122,7 +115,15 @@ fn status_of(rose: bool, answer: SinkAnswer) -> u8
     }
 }
 
-// Runs lines on a medium of erased pages, and prints the answers.
+// The first page of the physical segment.
+fn first_page(shape: &Shape) -> u32
+    requires { shape.now.vblocks * shape.now.pages < 2 ^ 32 }
+    ensures { result ≡ shape.now.vblocks * shape.now.pages }
+{
+    shape.vblocks * shape.pages
+}
+
+// Runs lines on a medium as a format leaves it, and prints the answers.
 fn run_lines<K: Sink, M: Nand>(
     alloc: Global,
     shape: Shape,
@@ -136,12 +137,12 @@ fn run_lines<K: Sink, M: Nand>(
     requires room { HaveRoom tables lines.items }
     requires legal { IsTrue (is_legal (M.geometry media).blocks (M.geometry media).pages) }
     requires shape { shape ≡ shape_for (M.geometry media).blocks (M.geometry media).pages }
-    requires blank { M.tells → IsBlank (M.contents media) }
+    requires formatted { M.tells → IsFormatted (M.geometry media).blocks (M.geometry media).pages (M.contents media) }
     ensures ran { (text : List ℕ)
         × Runs M.tells lines.items (stream (K.taken sink.old) (K.faults sink.old)) (stream (K.taken sink.new) (K.faults sink.new))
         (medium (M.geometry media) (M.contents media) (M.clock media) (M.read_faults media) (M.write_faults media))
         (medium (M.geometry result.media) (M.contents result.media) (M.clock result.media) (M.read_faults result.media) (M.write_faults result.media)) result.order.items text
-        × RunStatus result.status (stream (K.taken sink.old) (K.faults sink.old)) (stream (K.taken sink.new) (K.faults sink.new))
+        × DoneStatus result.status (stream (K.taken sink.old) (K.faults sink.old)) (stream (K.taken sink.new) (K.faults sink.new))
         (medium (M.geometry media) (M.contents media) (M.clock media) (M.read_faults media) (M.write_faults media))
         (medium (M.geometry result.media) (M.contents result.media) (M.clock result.media) (M.read_faults result.media) (M.write_faults result.media)) text }
     ensures syncs { result.syncs.items ≡ [] }
@@ -153,6 +154,7 @@ fn run_lines<K: Sink, M: Nand>(
         mut bytes,
         mut order,
         mut page,
+        wanted: _,
     } = tables;
     let reads = media.read_faults();
     let writes = media.write_faults();
@@ -160,6 +162,7 @@ fn run_lines<K: Sink, M: Nand>(
         &mut media,
         &mut page,
         &shape,
+        first_page(&shape),
         lines,
         &mut files,
         &mut answers,
@@ -173,6 +176,45 @@ fn run_lines<K: Sink, M: Nand>(
         media,
         syncs: SyncList::new(alloc),
         order,
+    }
+}
+
+// Makes a volume, and tells its numbers.
+fn format<K: Sink, M: Nand>(
+    alloc: Global,
+    blocks: u32,
+    pages: u32,
+    sink: &mut K,
+    media: M,
+) -> Done<M>
+    requires legal { IsTrue (is_legal blocks pages) }
+    ensures ended { FormatEnds M.tells blocks pages (stream (K.taken sink.old) (K.faults sink.old)) (stream (K.taken sink.new) (K.faults sink.new))
+        (medium (M.geometry media) (M.contents media) (M.clock media) (M.read_faults media) (M.write_faults media))
+        (medium (M.geometry result.media) (M.contents result.media) (M.clock result.media) (M.read_faults result.media) (M.write_faults result.media))
+        result.order.items result.status }
+    ensures syncs { result.syncs.items ≡ [] }
+{
+    let mut media = media;
+    let Ok(mut page) = PageBuf::new(alloc) else {
+        return ended(alloc, 6, b"memory", sink, media);
+    };
+    let Some(shape) = shape_of(blocks, pages) else {
+        return ended(alloc, 2, b"words", sink, media);
+    };
+    let reads = media.read_faults();
+    let writes = media.write_faults();
+    match make(&mut media, &mut page, blocks, pages) {
+        Making::Done => {}
+        Making::Failed => return ended(alloc, 5, b"medium fault", sink, media),
+        Making::Memory => return ended(alloc, 6, b"memory", sink, media),
+    }
+    let rose = medium_rose(&media, reads, writes);
+    let answer = formatted_line(sink, &shape);
+    Done {
+        status: status_of(rose, answer),
+        media,
+        syncs: SyncList::new(alloc),
+        order: OrderList::new(alloc),
     }
 }
 
@@ -192,8 +234,10 @@ fn answer_words<S: Source, K: Sink, M: Nand>(
     ensures syncs { result.syncs.items ≡ [] }
 {
     let mut media = media;
-    if !is_run(words) {
-        return ended(alloc, 2, b"words", sink, media);
+    match command_of(words) {
+        None => return ended(alloc, 2, b"words", sink, media),
+        Some(Command::Format(blocks, pages)) => return format(alloc, blocks, pages, sink, media),
+        Some(Command::Run) => {}
     }
     let lines = match script_of(alloc, src) {
         Ok(lines) => lines,
@@ -210,16 +254,17 @@ fn answer_words<S: Source, K: Sink, M: Nand>(
     let Some(shape) = shape_of(geometry.blocks, geometry.pages) else {
         return ended(alloc, 2, b"unbuilt", sink, media);
     };
-    match look_at(&mut media, &mut tables.page) {
-        Look::AllErased => {}
+    match inspect(&mut media, &mut tables.page, &mut tables.wanted) {
+        Look::Formatted => {}
         Look::Other => return ended(alloc, 2, b"unbuilt", sink, media),
         Look::Failed => return ended(alloc, 5, b"medium fault", sink, media),
     }
     run_lines(alloc, shape, tables, lines, sink, media)
 }
 
-/// Answers the words of a command line: `run` reads a script from the source, runs it on the medium, and prints the
-/// answers into the sink. All of it runs on the calling thread, and the gate is not asked.
+/// Answers the words of a command line. `format B P` makes a volume of B blocks of P pages, and prints its numbers. `run`
+/// reads a script from the source, runs it on a medium as `format` leaves it, and prints the answers into the sink. All of
+/// it runs on the calling thread, and the gate is not asked.
 ///
 /// Statuses: 0; 2 for faulty words, and for a script or a medium that is not of the form (`unbuilt`); 3 where the source
 /// failed; 4 where the sink failed; 5 where the medium failed; 6 for want of memory, before the medium is touched.
@@ -239,10 +284,16 @@ pub fn nameless<Rt: Threads + Wait + Sync, S: Source, K: Sink, M: Nand + Send, G
         result.order.items result.status }
     ensures syncs { result.syncs.items ≡ [] }
 
-    // A script of the form is run on a medium of the form, unless something fails or memory is wanting.
-    ensures complete { words.now ≡ run_words → (bytes : List ℕ) → S.left src.old ≡ Some bytes → (lines : List Line) → script_lines bytes ≡ Some lines
-        → M.tells → IsTrue (is_legal (M.geometry media).blocks (M.geometry media).pages) → IsBlank (M.contents media)
+    // A script of the form is run on a medium as a format leaves it, unless something fails or memory is wanting.
+    ensures complete { command_of words.now ≡ Some Command.Run → (bytes : List ℕ) → S.left src.old ≡ Some bytes → (lines : List Line) → script_lines bytes ≡ Some lines
+        → M.tells → IsTrue (is_legal (M.geometry media).blocks (M.geometry media).pages) → IsFormatted (M.geometry media).blocks (M.geometry media).pages (M.contents media)
         → (Rose (S.faults src.old) (S.faults src.new) → ⊥) → (Rose (K.faults sink.old) (K.faults sink.new) → ⊥)
+        → (Rose (M.read_faults media) (M.read_faults result.media) ⊎ Rose (M.write_faults media) (M.write_faults result.media) → ⊥)
+        → (result.status ≡ 0) ⊎ (result.status ≡ 6) }
+
+    // A volume is made, unless something fails or memory is wanting.
+    ensures formats { (blocks pages : ℕ) → command_of words.now ≡ Some (Command.Format blocks pages)
+        → (Rose (K.faults sink.old) (K.faults sink.new) → ⊥)
         → (Rose (M.read_faults media) (M.read_faults result.media) ⊎ Rose (M.write_faults media) (M.write_faults result.media) → ⊥)
         → (result.status ≡ 0) ⊎ (result.status ≡ 6) }
 {

@@ -27,11 +27,18 @@ rest_not : (b : Bool) (x : Refusal) (rest : List (Option Refusal)) → first_of 
 rest_not true x rest h = cc
 rest_not false x rest h = h
 
-few_entries : (shape : Shape) (tree : Tree) → space_refusal shape tree ≡ None → list_any (λ e. nat_lt max_entries (length (entries_of tree e.0))) tree ≡ false
+pub few_entries : (shape : Shape) (tree : Tree) → space_refusal shape tree ≡ None → list_any (λ e. nat_lt max_entries (length (entries_of tree e.0))) tree ≡ false
 unfolding space_refusal all_paths
 few_entries shape tree h = first_not (list_any (λ e. nat_lt max_entries (length (entries_of tree e.0))) tree) (Enospc DirSpace) _ h
 
-few_pages : (shape : Shape) (tree : Tree) → space_refusal shape tree ≡ None → nat_lt shape.cap (data_charge tree) ≡ false
+pub few_meta : (shape : Shape) (tree : Tree) → space_refusal shape tree ≡ None → nat_lt shape.meta (meta_charge tree) ≡ false
+unfolding space_refusal all_paths
+few_meta shape tree h =
+    let a = rest_not (list_any (λ e. nat_lt max_entries (length (entries_of tree e.0))) tree) (Enospc DirSpace) _ h in
+    let b = rest_not (nat_lt shape.nodes (node_charge tree)) (Enospc Nodes) _ a in
+    first_not (nat_lt shape.meta (meta_charge tree)) (Enospc Meta) _ b
+
+pub few_pages : (shape : Shape) (tree : Tree) → space_refusal shape tree ≡ None → nat_lt shape.cap (data_charge tree) ≡ false
 unfolding space_refusal all_paths
 few_pages shape tree h =
     let a = rest_not (list_any (λ e. nat_lt max_entries (length (entries_of tree e.0))) tree) (Enospc DirSpace) _ h in

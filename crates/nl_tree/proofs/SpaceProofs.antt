@@ -41,7 +41,7 @@ of_nodes : (f : Node → ℕ) (tree : Tree) → sum_by f (map (λ e. e.1) tree) 
 of_nodes f [] = refl
 of_nodes f (e ∷ tree) = sum_by-cons f e.1 (map (λ x. x.1) tree) ∙ ap (λ n. f e.1 + n) (of_nodes f tree) ∙ sym (sum_by-cons (λ x. f x.1) e tree)
 
-of_both : (f g : List (List ℕ) × Node → ℕ) (tree : Tree) → sum_by f tree + sum_by g tree ≡ sum_by (λ e. f e + g e) tree
+pub of_both : (f g : List (List ℕ) × Node → ℕ) (tree : Tree) → sum_by f tree + sum_by g tree ≡ sum_by (λ e. f e + g e) tree
 of_both f g [] = refl
 of_both f g (e ∷ tree) = let rest : sum_by f tree + sum_by g tree ≡ sum_by (λ x. f x + g x) tree = of_both f g tree in omega (arith, sum_by-cons f e tree, sum_by-cons g e tree, sum_by-cons (λ x. f x + g x) e tree)
 

@@ -1,11 +1,12 @@
 //! The plain tree of files as a program: slow, simple, and exactly the definition of a step.
-ghost use Rattle.std.specs.Prelude.{◌≡◌, ◌<◌, ◌+◌, [], None, IfOk, IfSome, IfNone, OnOk, OnErr};
+ghost use Rattle.std.specs.Prelude.{◌≡◌, ◌<◌, ◌+◌, [], IfOk, IfErr, Some, IfSome, IfNone, OnOk, OnErr, None};
 ghost use Rattle.nl_field.specs.CrashStates.{saturated};
 ghost use Rattle.nl_field.specs.declared.shape.Shape.{Shape};
 ghost use Rattle.nl_tree.specs.Tree.{empty_tree};
 ghost use Rattle.nl_tree.specs.Step.{step, effect_of, space_refusal};
 ghost use Rattle.nl_tree.specs.TreeLaws.{IsInOrder};
 ghost use Rattle.nl_tree.specs.PlainTree.{PlainState, IsPlain, IsBounded, numbered, refusal_before};
+ghost use Rattle.nl_tree.specs.KeptSums.{AreCharges, changed_path};
 
 mod after;
 mod entries;
@@ -19,6 +20,7 @@ mod rename;
 mod reply;
 mod shared;
 mod space;
+mod sums;
 
 use crate::{Call, Path, Refusal, Reply, ReplyBuf};
 use entries::Entry;
@@ -26,25 +28,28 @@ use nl_field::{Memory, Shape};
 use shared::{SharedNode, SharedPath};
 use std::alloc::Global;
 use std::marker::Model;
+use sums::Sums;
 
 /// A plain tree of files that answers calls one at a time. It is for tests: a call that changes the tree makes the list of
-/// its paths anew, and shares the paths and files that stay.
+/// its paths anew, and shares the paths and files that stay. The sums of its charges stand beside it.
 #[derive(Drop)]
 pub struct Plain {
     alloc: Global,
     shape: Shape,
     tree: Vec<Entry>,
+    sums: Sums,
     calls: u64,
 }
 
 impl Model for Plain {
     ghost use Rattle.nl_tree.specs.PlainTree.{PlainState, IsPlain};
+    ghost use Rattle.nl_tree.specs.KeptSums.{AreCharges};
 
     ghost Value = { PlainState };
 
     ghost view = { λ p. record { shape = p.shape; tree = p.tree.items; calls = p.calls } };
 
-    ghost invariant = { λ p. IsPlain p.shape p.tree.items };
+    ghost invariant = { λ p. IsPlain p.shape p.tree.items × AreCharges p.sums.pages p.sums.meta p.tree.items };
 }
 
 impl Plain {
@@ -60,6 +65,7 @@ impl Plain {
             alloc,
             shape,
             tree,
+            sums: Sums { pages: 0, meta: 0 },
             calls: 0,
         })
     }
@@ -80,6 +86,7 @@ impl Plain {
             self.alloc,
             self.shape,
             &mut self.tree,
+            &mut self.sums,
             self.calls,
             call,
             out,
@@ -94,23 +101,26 @@ fn answer(
     alloc: Global,
     shape: Shape,
     tree: &mut Vec<Entry>,
+    sums: &mut Sums,
     calls: u64,
     call: &Call,
     out: &mut ReplyBuf,
 ) -> Result<Reply, Memory>
     requires bounded { IsBounded call.now }
     requires plain { IsPlain shape tree.old.items }
+    requires kept { AreCharges sums.old.pages sums.old.meta tree.old.items }
     requires empty { out.old ≡ [] }
     ensures reply { IfOk result (λ r. r ≡ numbered calls (step shape tree.old.items call.now).reply) }
     ensures bytes { OnOk result (out.new ≡ (step shape tree.old.items call.now).bytes) }
     ensures tree { OnOk result (tree.new.items ≡ (step shape tree.old.items call.now).tree) }
     ensures plain { IsPlain shape tree.new.items }
+    ensures kept { AreCharges sums.new.pages sums.new.meta tree.new.items }
     ensures unchanged { OnErr result (tree.new.items ≡ tree.old.items) }
     ensures cleared { OnErr result (out.new ≡ []) }
 {
     match before(tree, call) {
         Some(refusal) => Ok(Reply::No(refusal)),
-        None => perform(alloc, shape, tree, calls, call, out),
+        None => perform(alloc, shape, tree, sums, calls, call, out),
     }
 }
 
@@ -126,6 +136,7 @@ fn perform(
     alloc: Global,
     shape: Shape,
     tree: &mut Vec<Entry>,
+    sums: &mut Sums,
     calls: u64,
     call: &Call,
     out: &mut ReplyBuf,
@@ -133,16 +144,18 @@ fn perform(
     requires bounded { IsBounded call.now }
     requires passes { None ≡ refusal_before tree.old.items call.now }
     requires plain { IsPlain shape tree.old.items }
+    requires kept { AreCharges sums.old.pages sums.old.meta tree.old.items }
     requires empty { out.old ≡ [] }
     ensures reply { IfOk result (λ r. r ≡ numbered calls (step shape tree.old.items call.now).reply) }
     ensures bytes { OnOk result (out.new ≡ (step shape tree.old.items call.now).bytes) }
     ensures tree { OnOk result (tree.new.items ≡ (step shape tree.old.items call.now).tree) }
     ensures plain { IsPlain shape tree.new.items }
+    ensures kept { AreCharges sums.new.pages sums.new.meta tree.new.items }
     ensures unchanged { OnErr result (tree.new.items ≡ tree.old.items) }
     ensures cleared { OnErr result (out.new ≡ []) }
 {
     match tree_after(alloc, tree, call)? {
-        Some(next) => Ok(settle(alloc, shape, tree, next, calls, call, out)),
+        Some(next) => Ok(settle(alloc, shape, tree, sums, next, calls, call, out)),
         None => Ok(stay(alloc, shape, tree, calls, call, out)),
     }
 }
@@ -182,6 +195,7 @@ fn settle(
     alloc: Global,
     shape: Shape,
     tree: &mut Vec<Entry>,
+    sums: &mut Sums,
     next: Vec<Entry>,
     calls: u64,
     call: &Call,
@@ -190,28 +204,68 @@ fn settle(
     requires bounded { IsBounded call.now }
     requires passes { None ≡ refusal_before tree.old.items call.now }
     requires plain { IsPlain shape tree.old.items }
+    requires kept { AreCharges sums.old.pages sums.old.meta tree.old.items }
     requires changed { next.items ≡ (effect_of tree.old.items call.now).tree }
     requires empty { out.old ≡ [] }
     ensures reply { result ≡ numbered calls (step shape tree.old.items call.now).reply }
     ensures bytes { out.new ≡ (step shape tree.old.items call.now).bytes }
     ensures tree { tree.new.items ≡ (step shape tree.old.items call.now).tree }
     ensures plain { IsPlain shape tree.new.items }
+    ensures kept { AreCharges sums.new.pages sums.new.meta tree.new.items }
 {
-    match room(shape, &next) {
-        Some(refusal) => Reply::No(refusal),
-        None => {
+    match room(shape, tree, &next, call, *sums) {
+        Err(refusal) => Reply::No(refusal),
+        Ok(changed) => {
             let reply = reply_in(alloc, shape, tree, calls, call, out);
             *tree = next;
+            *sums = changed;
             reply
         }
     }
 }
 
-fn room(shape: Shape, tree: &Vec<Entry>) -> Option<Refusal>
-    requires { IsInOrder tree.now.items }
-    ensures { result ≡ space_refusal shape tree.now.items }
+/// The sums of the tree after a call, or what the volume lacks for it. A rename takes one pass over the tree after it, and
+/// every other call looks at what it changes.
+fn room(
+    shape: Shape,
+    tree: &Vec<Entry>,
+    next: &Vec<Entry>,
+    call: &Call,
+    sums: Sums,
+) -> Result<Sums, Refusal>
+    requires plain { IsPlain shape tree.now.items }
+    requires kept { AreCharges sums.pages sums.meta tree.now.items }
+    requires changed { next.now.items ≡ (effect_of tree.now.items call.now).tree }
+    ensures sums { IfOk result (λ s. AreCharges s.pages s.meta next.now.items) }
+    ensures room { OnOk result (None ≡ space_refusal shape next.now.items) }
+    ensures refusal { IfErr result (λ r. Some r ≡ space_refusal shape next.now.items) }
 {
-    space::refusal(shape, tree)
+    match path_of(call) {
+        Some(path) if !path.names().is_empty() => {
+            sums::after_change(shape, tree, next, path.names(), sums)
+        }
+        _ => sums::in_one_pass(shape, next),
+    }
+}
+
+fn path_of(call: &Call) -> Option<&Path>
+    ensures { IfSome result (λ p. changed_path call.now ≡ Some p.now) }
+{
+    match call {
+        Call::Mkdir(path)
+        | Call::Create(path)
+        | Call::Rmdir(path)
+        | Call::Unlink(path)
+        | Call::Write(path, _, _)
+        | Call::Fill(path, _, _, _)
+        | Call::Truncate(path, _) => Some(path),
+        Call::Rename(_, _)
+        | Call::Read(_, _, _)
+        | Call::Stat(_)
+        | Call::List(_)
+        | Call::Sync
+        | Call::Clean => None,
+    }
 }
 
 fn reply_in(

@@ -61,9 +61,40 @@ impl Run {
         self.ask(call, reply, b"")
     }
 
-    fn fill(&mut self, at: &[u8], from: u64, len: u32, reply: Reply) -> Result<(), Memory> {
-        let call = Call::Fill(path(self.alloc, at)?, from, len, b'a');
+    /// Writes the byte so many times.
+    fn fill(
+        &mut self,
+        at: &[u8],
+        from: u64,
+        len: u32,
+        byte: u8,
+        reply: Reply,
+    ) -> Result<(), Memory> {
+        let call = Call::Fill(path(self.alloc, at)?, from, len, byte);
         self.ask(call, reply, b"")
+    }
+
+    /// Fills 30 times 16 pages of `/a`.
+    fn fill_all(&mut self, byte: u8) -> Result<(), Memory> {
+        for i in 0..30u64 {
+            self.fill(b"/a", 65536 * i, 65536, byte, Reply::Count(65536))?;
+        }
+        Ok(())
+    }
+
+    fn unlink(&mut self, at: &[u8], reply: Reply) -> Result<(), Memory> {
+        let call = Call::Unlink(path(self.alloc, at)?);
+        self.ask(call, reply, b"")
+    }
+
+    fn sync(&mut self, upto: u64) -> Result<(), Memory> {
+        self.ask(Call::Sync, Reply::Synced { upto, moment: 0 }, b"")
+    }
+
+    /// A read that is refused.
+    fn read_none(&mut self, at: &[u8], refusal: Refusal) -> Result<(), Memory> {
+        let call = Call::Read(path(self.alloc, at)?, 0, 1);
+        self.ask(call, Reply::No(refusal), b"")
     }
 
     fn read(&mut self, at: &[u8], from: u64, len: u32, bytes: &[u8]) -> Result<(), Memory> {
@@ -141,8 +172,25 @@ fn is_bounded(call: &Call) -> bool
 
 fn files(run: &mut Run) -> Result<(), Memory> {
     run.create(b"/a", Reply::Done)?;
-    run.write(b"/a", 4090, b"0123456789", Reply::Count(10))?;
-    run.read(b"/a", 4088, 14, b"\0\x000123456789")?;
+    run.write(b"/a", 0, b"hello", Reply::Count(5))?;
+    run.read(b"/a", 0, 5, b"hello")?;
+    run.sync(3)
+}
+
+fn borders_and_holes(run: &mut Run) -> Result<(), Memory> {
+    run.create(b"/a", Reply::Done)?;
+    run.write(
+        b"/a",
+        4090,
+        b"\x00\x01\x02\x03\x04\x05\x06\x07\x08\x09",
+        Reply::Count(10),
+    )?;
+    run.read(
+        b"/a",
+        4088,
+        14,
+        b"\x00\x00\x00\x01\x02\x03\x04\x05\x06\x07\x08\x09",
+    )?;
     run.stat(
         b"/a",
         Reply::File {
@@ -151,7 +199,7 @@ fn files(run: &mut Run) -> Result<(), Memory> {
         },
     )?;
     run.create(b"/hole", Reply::Done)?;
-    run.write(b"/hole", 20000, b"1", Reply::Count(1))?;
+    run.write(b"/hole", 20000, b"\x01", Reply::Count(1))?;
     run.read(b"/hole", 0, 4, b"\0\0\0\0")?;
     run.stat(
         b"/hole",
@@ -167,17 +215,21 @@ fn cuts(run: &mut Run) -> Result<(), Memory> {
     run.write(b"/a", 0, b"hello", Reply::Count(5))?;
     run.truncate(b"/a", 3)?;
     run.truncate(b"/a", 10)?;
-    run.read(b"/a", 0, 10, b"hel\0\0\0\0\0\0\0")?;
-    run.create(b"/b", Reply::Done)?;
-    run.write(b"/b", 0, b"", Reply::Count(0))?;
-    run.fill(b"/b", 7, 0, Reply::Count(0))?;
-    run.write(b"/c", 0, b"", Reply::No(Refusal::Enoent))?;
-    run.stat(b"/b", Reply::File { size: 0, pages: 0 })
+    run.read(b"/a", 0, 10, b"hel\0\0\0\0\0\0\0")
+}
+
+fn writes_nothing(run: &mut Run) -> Result<(), Memory> {
+    run.create(b"/a", Reply::Done)?;
+    run.write(b"/a", 0, b"", Reply::Count(0))?;
+    run.write(b"/b", 0, b"", Reply::No(Refusal::Enoent))?;
+    run.fill(b"/a", 7, 0, b'a', Reply::Count(0))?;
+    run.stat(b"/a", Reply::File { size: 0, pages: 0 })?;
+    run.read(b"/a", 0, 4, b"")
 }
 
 fn limits(run: &mut Run) -> Result<(), Memory> {
     run.create(b"/a", Reply::Done)?;
-    run.fill(b"/a", 16744448, 65536, Reply::Count(65536))?;
+    run.fill(b"/a", 16744448, 65536, b'a', Reply::Count(65536))?;
     run.write(b"/a", 16809984, b"b", Reply::No(Refusal::Efbig))?;
     run.stat(
         b"/a",
@@ -200,26 +252,34 @@ fn renames(run: &mut Run) -> Result<(), Memory> {
     run.rename(b"/b", b"/d", Reply::No(Refusal::Eisdir))?;
     run.rename(b"/d", b"/b", Reply::No(Refusal::Enotdir))?;
     run.read(b"/b", 0, 1, b"a")?;
-    run.list(b"/", 2, b" b d/")
+    run.list(b"/", 2, b" b d/")?;
+    run.read_none(b"/a", Refusal::Enoent)
 }
 
 fn saves_a_note(run: &mut Run) -> Result<(), Memory> {
     run.mkdir(b"/home", Reply::Done)?;
-    run.create(b"/home/note", Reply::Done)?;
-    run.write(b"/home/note", 0, b"old\n", Reply::Count(4))?;
-    run.create(b"/home/.note.tmp", Reply::Done)?;
-    run.write(b"/home/.note.tmp", 0, b"new\n", Reply::Count(4))?;
-    run.rename(b"/home/.note.tmp", b"/home/note", Reply::Done)?;
-    run.read(b"/home/note", 0, 100, b"new\n")?;
-    run.list(b"/home", 1, b" note")?;
-    run.stat(b"/", Reply::Dir { entries: 1 })?;
-    run.ask(Call::Sync, Reply::Synced { upto: 9, moment: 0 }, b"")
+    run.mkdir(b"/home/ann", Reply::Done)?;
+    run.create(b"/home/ann/note", Reply::Done)?;
+    run.write(b"/home/ann/note", 0, b"old\n", Reply::Count(4))?;
+    run.sync(4)?;
+    run.create(b"/home/ann/.note.tmp", Reply::Done)?;
+    run.write(b"/home/ann/.note.tmp", 0, b"new\n", Reply::Count(4))?;
+    run.sync(7)?;
+    run.rename(b"/home/ann/.note.tmp", b"/home/ann/note", Reply::Done)?;
+    run.sync(9)?;
+    run.read(b"/home/ann/note", 0, 100, b"new\n")?;
+    run.list(b"/home/ann", 1, b" note")?;
+    run.stat(b"/home", Reply::Dir { entries: 1 })
 }
 
 fn fills_a_directory(run: &mut Run) -> Result<(), Memory> {
     run.mkdir(b"/d", Reply::Done)?;
     run.create_all(b"/d", 1024)?;
-    run.create(b"/d/more", Reply::No(Refusal::Enospc(Space::Dir)))
+    run.create(b"/d/more", Reply::No(Refusal::Enospc(Space::Dir)))?;
+    let longest = b"nnnnnnnnnnnnnnnnnnnnnnnnnnnnnnnnnnnnnnnnnnnnnnnnnnnnnnn";
+    run.create(longest, Reply::Done)?;
+    let too_long = b"nnnnnnnnnnnnnnnnnnnnnnnnnnnnnnnnnnnnnnnnnnnnnnnnnnnnnnnn";
+    run.create(too_long, Reply::No(Refusal::Enametoolong))
 }
 
 fn takes_all_nodes(run: &mut Run) -> Result<(), Memory> {
@@ -229,22 +289,20 @@ fn takes_all_nodes(run: &mut Run) -> Result<(), Memory> {
 
 fn takes_all_data(run: &mut Run) -> Result<(), Memory> {
     run.create(b"/a", Reply::Done)?;
-    for i in 0..30u64 {
-        run.fill(b"/a", 65536 * i, 65536, Reply::Count(65536))?;
-    }
-    run.write(
-        b"/a",
-        1966080,
-        b"b",
-        Reply::No(Refusal::Enospc(Space::Pages)),
-    )?;
-    run.stat(
-        b"/a",
-        Reply::File {
-            size: 1966080,
-            pages: 480,
-        },
-    )
+    run.fill_all(b'a')?;
+    let full = Reply::File {
+        size: 1966080,
+        pages: 480,
+    };
+    let no_room = Reply::No(Refusal::Enospc(Space::Pages));
+    run.write(b"/a", 1966080, b"b", no_room)?;
+    run.stat(b"/a", full)?;
+    run.fill(b"/a", 0, 65536, b'b', Reply::Count(65536))?;
+    run.read(b"/a", 65534, 4, b"bbaa")?;
+    run.unlink(b"/a", Reply::Done)?;
+    run.create(b"/a", Reply::Done)?;
+    run.fill_all(b'c')?;
+    run.stat(b"/a", full)
 }
 
 fn takes_all_metadata(run: &mut Run) -> Result<(), Memory> {
@@ -264,7 +322,7 @@ fn takes_all_metadata(run: &mut Run) -> Result<(), Memory> {
 #[test]
 fn the_worked_examples_hold(rt: HostRuntime) -> Result<(), Fail> {
     let alloc = rt.alloc();
-    for row in 0..9u32 {
+    for row in 0..11u32 {
         let (blocks, pages) = if row == 5 { (512, 64) } else { (32, 32) };
         let Some(mut run) = Run::new(alloc, blocks, pages)? else {
             return Err(Fail::new("no volume of this shape"));
@@ -278,7 +336,9 @@ fn the_worked_examples_hold(rt: HostRuntime) -> Result<(), Fail> {
             5 => fills_a_directory(&mut run)?,
             6 => takes_all_nodes(&mut run)?,
             7 => takes_all_data(&mut run)?,
-            _ => takes_all_metadata(&mut run)?,
+            8 => takes_all_metadata(&mut run)?,
+            9 => writes_nothing(&mut run)?,
+            _ => borders_and_holes(&mut run)?,
         }
         assert!(rt; run.holds, "row {row}");
     }

@@ -45,7 +45,7 @@ fn is_root_path(path: &[Text]) -> bool
     }
 }
 
-fn is_missing(tree: &[Entry], path: &[Text]) -> bool
+pub(crate) fn is_missing(tree: &[Entry], path: &[Text]) -> bool
     ensures { result ≡ is_none (node_at tree.now path.now) }
 {
     find(tree, path).is_none()

@@ -1,39 +1,16 @@
 //! Whether a volume has room for a tree.
-ghost use Rattle.std.specs.Prelude.{◌≡◌, ◌<◌, ◌≤◌, ◌^◌, ℕ, List, length, nat_lt, slice_index_or};
+ghost use Rattle.std.specs.Prelude.{◌≡◌, ◌<◌, ◌≤◌, ◌^◌, ℕ, List, length, nat_lt, slice_index_or, IfSome, IfNone};
 ghost use Rattle.std.specs.List.{list_any};
 ghost use Rattle.nl_field.specs.Numbers.{max_entries};
 ghost use Rattle.nl_tree.specs.Tree.{Node, entries_of};
 ghost use Rattle.nl_tree.specs.TreeLaws.{IsInOrder};
 ghost use Rattle.nl_tree.specs.Charges.{data_of_node, ranges_of_node, data_charge, node_charge, meta_charge};
-ghost use Rattle.nl_tree.specs.Step.{space_refusal};
 ghost use Rattle.nl_tree.specs.PlainTree.{meta_of_entry, data_of_entry};
 
 use super::entries::{Entry, run};
 use super::shared::SharedNode;
-use crate::{Refusal, Space};
-use nl_field::Shape;
 
-const MAX_ENTRIES: usize = 1024;
-
-/// What the volume lacks for this tree.
-pub(crate) fn refusal(shape: Shape, tree: &[Entry]) -> Option<Refusal>
-    requires { IsInOrder tree.now }
-    ensures { result ≡ space_refusal shape tree.now }
-{
-    if has_full_directory(tree) {
-        return Some(Refusal::Enospc(Space::Dir));
-    }
-    if exceeds_nodes(tree, shape.nodes) {
-        return Some(Refusal::Enospc(Space::Nodes));
-    }
-    if exceeds_meta(tree, shape.meta) {
-        return Some(Refusal::Enospc(Space::Meta));
-    }
-    if exceeds_data(tree, shape.cap) {
-        return Some(Refusal::Enospc(Space::Pages));
-    }
-    None
-}
+pub(crate) const MAX_ENTRIES: usize = 1024;
 
 /// How many entries the directory at a position has.
 fn entry_count(tree: &[Entry], at: usize) -> usize
@@ -53,7 +30,7 @@ fn is_overfull(tree: &[Entry], at: usize) -> bool
     entry_count(tree, at) > MAX_ENTRIES
 }
 
-fn has_full_directory(tree: &[Entry]) -> bool
+pub(crate) fn has_full_directory(tree: &[Entry]) -> bool
     requires { IsInOrder tree.now }
     ensures { result ≡ list_any (λ e. nat_lt max_entries (length (entries_of tree.now e.0))) tree.now }
 {
@@ -86,24 +63,26 @@ fn ranges(node: &SharedNode) -> u64
     }
 }
 
-fn exceeds_nodes(tree: &[Entry], limit: u32) -> bool
+pub(crate) fn exceeds_nodes(tree: &[Entry], limit: u32) -> bool
     ensures { result ≡ nat_lt limit (node_charge tree.now) }
 {
     tree.len() > limit as usize
 }
 
-fn exceeds_meta(tree: &[Entry], limit: u32) -> bool
+/// The metadata pages of a tree, if they are not beyond a limit.
+pub(crate) fn meta_total(tree: &[Entry], limit: u32) -> Option<u64>
     requires { IsInOrder tree.now }
-    ensures { result ≡ nat_lt limit (meta_charge tree.now) }
+    ensures within { IfSome result (λ n. (n ≡ meta_charge tree.now) × (n ≤ limit)) }
+    ensures beyond { IfNone result (limit < meta_charge tree.now) }
 {
     let mut total = 0u64;
     'entries: for at in 0..tree.len() {
         total += meta_pages(tree, at);
         if total > limit as u64 {
-            return true;
+            return None;
         }
     }
-    false
+    Some(total)
 }
 
 fn data_pages(entry: &Entry) -> u64
@@ -116,15 +95,17 @@ fn data_pages(entry: &Entry) -> u64
     }
 }
 
-fn exceeds_data(tree: &[Entry], limit: u32) -> bool
-    ensures { result ≡ nat_lt limit (data_charge tree.now) }
+/// The data pages of a tree, if they are not beyond a limit.
+pub(crate) fn data_total(tree: &[Entry], limit: u32) -> Option<u64>
+    ensures within { IfSome result (λ n. (n ≡ data_charge tree.now) × (n ≤ limit)) }
+    ensures beyond { IfNone result (limit < data_charge tree.now) }
 {
     let mut total = 0u64;
     'entries: for entry in tree {
         total += data_pages(entry);
         if total > limit as u64 {
-            return true;
+            return None;
         }
     }
-    false
+    Some(total)
 }

@@ -22,19 +22,19 @@ pub script-init : goal.script-init
 script-init g c =
     let first : Counts = record { clock = g.M.Nand.clock c.args.media.now; read_faults = g.M.Nand.read_faults c.args.media.now; write_faults = g.M.Nand.write_faults c.args.media.now } in
     let geometry = g.M.Nand.geometry c.args.media.now in
-    let none = has_run_none g.M.Nand.tells c.args.shape.now (geometry.blocks * geometry.pages) first (g.M.Nand.contents c.args.media.now) no_files in
+    let none = has_run_none g.M.Nand.tells c.args.shape.now (geometry.blocks * geometry.pages) c.args.first first (g.M.Nand.contents c.args.media.now) no_files in
     let no_file : length c.args.files.now.items ≡ 0 = ap (λ (fs : List FileEntry). length fs) c.requires.files.0 in
     let no_answer : length c.args.answers.now.items ≡ 0 = ap (λ (x : List Answer). length x) c.requires.answers.0 in
     let no_order : length c.args.order.now.items ≡ 0 = ap (λ (x : List Ordered). length x) c.requires.order.0 in
     let no_bytes : length c.args.bytes.now.items ≡ 0 = ap (λ (x : List ℕ). length x) c.requires.bytes.0 in
     record {
       taken = refl;
-      ran = has_run_at g.M.Nand.tells c.args.shape.now (geometry.blocks * geometry.pages) [] [] c.args.order.now.items first first (g.M.Nand.contents c.args.media.now) c.args.files.now.items 0 0 [] c.args.answers.now.items [] c.args.bytes.now.items c.requires.order.0 refl c.requires.answers.0 c.requires.bytes.0
-          (subst (λ (fs : List FileEntry). HasRun g.M.Nand.tells c.args.shape.now (geometry.blocks * geometry.pages) [] [] first first (g.M.Nand.contents c.args.media.now) fs 0 [] []) (sym c.requires.files.0) none);
+      ran = has_run_at g.M.Nand.tells c.args.shape.now (geometry.blocks * geometry.pages) c.args.first [] [] c.args.order.now.items first first (g.M.Nand.contents c.args.media.now) c.args.files.now.items c.args.first c.args.first [] c.args.answers.now.items [] c.args.bytes.now.items c.requires.order.0 refl c.requires.answers.0 c.requires.bytes.0
+          (subst (λ (fs : List FileEntry). HasRun g.M.Nand.tells c.args.shape.now (geometry.blocks * geometry.pages) c.args.first [] [] first first (g.M.Nand.contents c.args.media.now) fs c.args.first [] []) (sym c.requires.files.0) none);
       erased = c.requires.erased;
       each = λ k d lt. absurd (omega (arith, no_file));
       fits = record { entries = omega (arith, no_file); nodes = omega (arith, no_file) };
-      range = omega arith;
+      range = c.requires.range;
       geometry = refl;
       reads = omega arith;
       writes = omega arith;
@@ -89,11 +89,11 @@ script-preserved g c =
       numbered = c.apply-found.ensures.numbered;
       sum = c.apply-found.ensures.sum;
     } in
-    let more = has_run_more g.M.Nand.tells c.args.shape.now capacity done c.script.order.items first before now image after c.script.files.items c.apply-found.new.files.items c.script.next begins.0 c.script.answers.items c.script.bytes.items piece line a
+    let more = has_run_more g.M.Nand.tells c.args.shape.now capacity done c.script.order.items first before now image after c.script.files.items c.apply-found.new.files.items c.args.first c.script.next begins.0 c.script.answers.items c.script.bytes.items piece line a
     c.script.invariant.ran one c.script.invariant.whole piece_len refl in
     record {
       taken = append_assoc done (line ∷ []) (into_iter_items c.next.new.self) ∙ ap (λ (ls : List Line). done ++ ls) (sym step) ∙ c.script.invariant.taken;
-      ran = has_run_at g.M.Nand.tells c.args.shape.now capacity (done ++ line ∷ []) (c.script.order.items ++ record { line = line.line; fault = fault_of found.reply } ∷ []) c.push_order.new.order.items first now after c.apply-found.new.files.items
+      ran = has_run_at g.M.Nand.tells c.args.shape.now capacity c.args.first (done ++ line ∷ []) (c.script.order.items ++ record { line = line.line; fault = fault_of found.reply } ∷ []) c.push_order.new.order.items first now after c.apply-found.new.files.items
           (c.script.next + begins.0) c.apply-found.new.next (c.script.answers.items ++ a ∷ []) c.push_reserved.new.self.items (c.script.bytes.items ++ piece) c.push_bytes.new.bytes.items order_is begins.1 answers_are bytes_are more;
       erased = c.apply-found.ensures.erased;
       each = c.apply-found.ensures.each;

@@ -10,7 +10,7 @@ abbrev pub invariant-script : goal.invariant-script
 invariant-script g l =
     record {
       taken : l.yielded ++ into_iter_items l.line-iterator ≡ into_iter_items l.initial.line-iterator;
-      ran : HasRun g.M.Nand.tells l.shape ((g.M.Nand.geometry l.initial.media).blocks * (g.M.Nand.geometry l.initial.media).pages) l.yielded l.order.items
+      ran : HasRun g.M.Nand.tells l.shape ((g.M.Nand.geometry l.initial.media).blocks * (g.M.Nand.geometry l.initial.media).pages) l.first l.yielded l.order.items
           (record { clock = g.M.Nand.clock l.initial.media; read_faults = g.M.Nand.read_faults l.initial.media; write_faults = g.M.Nand.write_faults l.initial.media })
           (record { clock = g.M.Nand.clock l.media; read_faults = g.M.Nand.read_faults l.media; write_faults = g.M.Nand.write_faults l.media })
           (g.M.Nand.contents l.media) l.files.items l.next l.answers.items l.bytes.items;

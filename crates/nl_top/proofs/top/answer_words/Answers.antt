@@ -2,15 +2,18 @@ use Rattle.std.proofs.Common.{◌≡◌, ℕ, false, IsTrue, List, ap, sym, ◌�
 use Rattle.std.specs.Prelude.{codes, Some}
 use Rattle.nl_field.specs.Numbers.{is_legal}
 use Rattle.nl_nand.specs.declared.geometry.Geometry.{Geometry}
+use Rattle.nl_top.specs.declared.command.Command.{Command}
+use Rattle.nl_top.specs.declared.command.Command.TheVariants.{Run, Format}
+use Rattle.nl_top.specs.Command.{command_of}
 use Rattle.nl_top.specs.Form.{script_lines}
-use Rattle.nl_top.specs.Top.{run_words, stream, medium, Medium, ReadsWhole, EndsBefore, Runs, RunStatus, ran, unbuilt}
+use Rattle.nl_top.specs.Top.{stream, medium, Medium, ReadsWhole, EndsBefore, Runs, DoneStatus, ran, unbuilt, formats}
 use Rattle.nl_top.proofs.Ending.{not_legal}
 use Rattle.nl_top.proofs.top.answer_words.Goals as goal
 
 pub returns-in_default-shape_of-clause-ended : goal.returns-in_default-shape_of-clause-ended
 returns-in_default-shape_of-clause-ended g c =
+    let is : command_of c.args.words.now ≡ Some Run = sym c.command_of.ensures.command ∙ c.in-Some-Run.is ∙ ap (λ (x : Command). Some x) c.in-Some-Run.field-0-is in
     let end = c.ended-in_default-shape_of in
-    let words : c.args.words.now ≡ run_words = c.is_run.ensures.0 c.if-not-is_run.false in
     let before = medium (g.M.Nand.geometry c.args.media) (g.M.Nand.contents c.args.media) (g.M.Nand.clock c.args.media) (g.M.Nand.read_faults c.args.media) (g.M.Nand.write_faults c.args.media) in
     let after = medium (g.M.Nand.geometry end.result.media) (g.M.Nand.contents end.result.media) (g.M.Nand.clock end.result.media) (g.M.Nand.read_faults end.result.media) (g.M.Nand.write_faults end.result.media) in
     let sink = stream (g.K.Sink.taken c.args.sink.now) (g.K.Sink.faults c.args.sink.now) in
@@ -27,25 +30,30 @@ returns-in_default-shape_of-clause-ended g c =
       };
       no_lines = end.ensures.order;
     } in
-    unbuilt words end.ensures.status (inr (inl illegal)) ends
+    unbuilt is end.ensures.status (inr (inl illegal)) ends
 
 pub returns-clause-ended : goal.returns-clause-ended
 returns-clause-ended g c =
-    let words : c.args.words.now ≡ run_words = c.is_run.ensures.0 c.if-not-is_run.false in
+    let is : command_of c.args.words.now ≡ Some Run = sym c.command_of.ensures.command ∙ c.in-Some-Run.is ∙ ap (λ (x : Command). Some x) c.in-Some-Run.field-0-is in
     let source = stream (g.S.Source.left c.args.src.now) (g.S.Source.faults c.args.src.now) in
     let source' = stream (g.S.Source.left c.script_of.new.src) (g.S.Source.faults c.script_of.new.src) in
     let read : (bytes : List ℕ) × ReadsWhole source source' bytes × (script_lines bytes ≡ Some c.in-Some.lines.items) = rw c.in-Some.is at c.in-Ok.ensures.lines in
-    let media = c.look_at.new.media in
+    let media = c.inspect.new.media in
     let done = c.run_lines.result.media in
     let sink = stream (g.K.Sink.taken c.args.sink.now) (g.K.Sink.faults c.args.sink.now) in
     let sink' = stream (g.K.Sink.taken c.run_lines.new.sink) (g.K.Sink.faults c.run_lines.new.sink) in
     let before = medium (g.M.Nand.geometry c.args.media) (g.M.Nand.contents c.args.media) (g.M.Nand.clock c.args.media) (g.M.Nand.read_faults c.args.media) (g.M.Nand.write_faults c.args.media) in
     let middle = medium (g.M.Nand.geometry media) (g.M.Nand.contents media) (g.M.Nand.clock media) (g.M.Nand.read_faults media) (g.M.Nand.write_faults media) in
     let after = medium (g.M.Nand.geometry done) (g.M.Nand.contents done) (g.M.Nand.clock done) (g.M.Nand.read_faults done) (g.M.Nand.write_faults done) in
-    let reads : g.M.Nand.read_faults media ≡ g.M.Nand.read_faults c.args.media = c.in-AllErased.ensures.not_failed (λ e. cc) in
-    let same : middle ≡ before = (λ i. medium (c.look_at.ensures.geometry i) (c.look_at.ensures.contents i) (c.look_at.ensures.clock i) (reads i) (c.look_at.ensures.write_faults i)) in
+    let reads : g.M.Nand.read_faults media ≡ g.M.Nand.read_faults c.args.media = c.in-Formatted.ensures.not_failed (λ e. cc) in
+    let same : middle ≡ before = (λ i. medium (c.inspect.ensures.geometry i) (c.inspect.ensures.contents i) (c.inspect.ensures.clock i) (reads i) (c.inspect.ensures.write_faults i)) in
     let legal = subst (λ (x : Geometry). IsTrue (is_legal x.blocks x.pages)) c.geometry-geometry.ensures (c.in-Some-shape_of.ensures.legal.0 refl) in
     let run = c.run_lines.ensures.ran in
     let runs = subst (λ (m : Medium). Runs g.M.Nand.tells c.in-Some.lines.items sink sink' m after c.run_lines.result.order.items run.0) same run.1 in
-    let status = subst (λ (m : Medium). RunStatus c.run_lines.result.status sink sink' m after run.0) same run.2 in
-    ran words read.0 read.1 c.in-Some.lines.items read.2 legal (λ t. c.in-AllErased.ensures.erased t refl) run.0 runs status
+    let status = subst (λ (m : Medium). DoneStatus c.run_lines.result.status sink sink' m after run.0) same run.2 in
+    ran is read.0 read.1 c.in-Some.lines.items read.2 legal (λ t. c.in-Formatted.ensures.formatted t refl) run.0 runs status
+
+pub returns-in-Some-Format-clause-ended : goal.returns-in-Some-Format-clause-ended
+returns-in-Some-Format-clause-ended g c =
+    let is : command_of c.args.words.now ≡ Some (Format c.in-Some-Format.blocks c.in-Some-Format.pages) = sym c.command_of.ensures.command ∙ c.in-Some-Format.is ∙ ap (λ (x : Command). Some x) c.in-Some-Format.field-0-is in
+    formats c.in-Some-Format.blocks c.in-Some-Format.pages is refl c.format.ensures.ended

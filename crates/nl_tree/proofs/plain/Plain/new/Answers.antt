@@ -1,9 +1,12 @@
 use Rattle.std.proofs.Common.{◌∙◌, ◌++◌, ◌∷◌, [], sym, subst}
+use Rattle.nl_tree.specs.Tree.{Tree}
 use Rattle.nl_tree.specs.PlainTree.{IsPlain}
+use Rattle.nl_tree.specs.KeptSums.{AreCharges}
 use Rattle.nl_tree.proofs.StepProofs.{new_plain}
+use Rattle.nl_tree.proofs.KeptProofs.{new_charges}
 use Rattle.nl_tree.proofs.plain.Plain.new.Goals as goal
 
 pub invariant_of-result : goal.invariant_of-result
 invariant_of-result c =
-    subst (IsPlain c.args.shape) (sym (c.in_ok-push.ensures.items ∙ (λ i. c.new-tree.ensures.items i ++ ((c.in_ok-root.ensures ∙ c.new.ensures) i, c.directory.ensures i) ∷ [])))
-    (new_plain c.args.shape c.requires)
+    subst (λ (t : Tree). IsPlain c.args.shape t × AreCharges 0 0 t) (sym (c.in_ok-push.ensures.items ∙ (λ i. c.new-tree.ensures.items i ++ ((c.in_ok-root.ensures ∙ c.new.ensures) i, c.directory.ensures i) ∷ [])))
+    (new_plain c.args.shape c.requires, new_charges)

@@ -1,0 +1,9 @@
+pub mod ChargeOfImage
+pub mod EmptyTree
+pub mod FreshProofs
+pub mod GraphOfPages
+pub mod PagesOfFiles
+pub mod SoundProofs
+pub mod SpareProofs
+pub mod Sums
+pub mod TreeOfImage

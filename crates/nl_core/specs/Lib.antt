@@ -1,0 +1,4 @@
+pub mod Crash
+pub mod Fresh
+pub mod Stands
+pub mod StandsLaws

@@ -1,0 +1,5 @@
+//! What an image stands for.
+#![tactic(auto)]
+
+pub mod laws;
+pub mod rows;

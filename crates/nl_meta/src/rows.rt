@@ -1,0 +1,88 @@
+ghost use Rattle.std.specs.Prelude.{◌≡◌, ◌∷◌, [], Some, None, codes, option_map, option_and_then};
+ghost use Rattle.nl_field.specs.Page.{uncorrectable};
+ghost use Rattle.nl_field.specs.Examples.{fresh_image, two_supers};
+ghost use Rattle.nl_field.specs.declared.place.What.TheVariants.{Super, Stamp, Inode, Pages, Entry, Pointer, Names, Charges, Crowded};
+ghost use Rattle.nl_meta.specs.Committed.{committed_of};
+ghost use Rattle.nl_meta.specs.Nodes.{super_of_pages};
+ghost use Rattle.nl_meta.specs.Phases.{sound_image, bad_super, bad_stamp, bad_inode, bad_pages, bad_entry, behind_entries, two_names, unreached, bad_pointer, bad_names, moved_page, with_journal, without_image, far_address, only_missing, blank_image};
+ghost use Rattle.nl_meta.specs.LargeFiles.{filled, spread, lost, virtual_blocks};
+ghost use Rattle.nl_meta.specs.Walk.{walk, phase_fault, opening_answer, answers_blank, answers_damaged, opens, place_of_pointer};
+ghost use Rattle.nl_meta.specs.Examples.{image_of_a, hello_page, long_page};
+
+pub fn fresh_is_sound()
+    ensures { walk fresh_image ≡ None }
+{}
+
+pub fn a_is_sound()
+    ensures { walk (image_of_a hello_page) ≡ None }
+{}
+
+// As after an erase of the block that was cut short.
+pub fn erase_cut_short()
+    ensures { walk (image_of_a uncorrectable) ≡ Some (record { place = 1; what = Pointer }) }
+{}
+
+pub fn not_zero_behind()
+    ensures { walk (image_of_a long_page) ≡ Some (record { place = 1; what = Pointer }) }
+{}
+
+pub fn phases()
+    ensures none { walk sound_image ≡ None }
+    ensures numbers { walk bad_super ≡ Some (record { place = 0; what = Super }) }
+    ensures stamps { walk bad_stamp ≡ Some (record { place = 257; what = Stamp }) }
+    ensures inodes { walk bad_inode ≡ Some (record { place = 2; what = Inode }) }
+    ensures addresses { walk bad_pages ≡ Some (record { place = 71; what = Pages }) }
+    ensures entries { walk bad_entry ≡ Some (record { place = 0; what = Entry }) }
+    ensures behind { walk behind_entries ≡ Some (record { place = 0; what = Entry }) }
+    ensures two { walk two_names ≡ Some (record { place = 0; what = Entry }) }
+    ensures reached { walk unreached ≡ Some (record { place = 1; what = Entry }) }
+    ensures pointers { walk bad_pointer ≡ Some (record { place = 1; what = Pointer }) }
+    ensures names { walk bad_names ≡ Some (record { place = 257; what = Names }) }
+    ensures moved { walk moved_page ≡ None }
+    ensures two_pages { walk two_supers ≡ Some (record { place = 33; what = Stamp }) }
+{}
+
+// A transaction counts whose header and commit page have one number, whose addresses the volume has, and whose images are
+// all there.
+pub fn journal()
+    ensures counts { walk (with_journal 1) ≡ None }
+    ensures count { option_map (λ rec. rec.count) (super_of_pages (committed_of (with_journal 1))) ≡ Some 2 }
+    ensures other_number { walk (with_journal 2) ≡ None }
+    ensures old_count { option_map (λ rec. rec.count) (super_of_pages (committed_of (with_journal 2))) ≡ Some 0 }
+    ensures no_image { option_map (λ rec. rec.count) (super_of_pages (committed_of without_image)) ≡ Some 0 }
+    ensures no_address { option_map (λ rec. rec.count) (super_of_pages (committed_of far_address)) ≡ Some 0 }
+{}
+
+// A page of entries that is not there is at fault as an address, and its entries are passed over.
+pub fn missing_entries()
+    ensures addresses { walk only_missing ≡ Some (record { place = 71; what = Pages }) }
+    ensures entries { phase_fault only_missing Entry ≡ None }
+{}
+
+pub fn opening_answers()
+    ensures blank { opening_answer blank_image ≡ answers_blank }
+    ensures damaged { opening_answer (image_of_a uncorrectable) ≡ answers_damaged (record { place = 1; what = Pointer }) }
+    ensures sound { opening_answer fresh_image ≡ opens }
+{}
+
+// The first pointer is found under its name, and the second where its page was moved to.
+pub fn places()
+    ensures own { place_of_pointer moved_page (record { name = 256; stamp = 3 }) ≡ Some 256 }
+    ensures moved { place_of_pointer moved_page (record { name = 257; stamp = 4 }) ≡ Some 258 }
+{}
+
+// Files have 480 pages at most.
+pub fn charges()
+    ensures full { walk (filled 480) ≡ None }
+    ensures over { walk (filled 481) ≡ Some (record { place = 0; what = Charges }) }
+{}
+
+// A block of each segment has no page that is needed there alone, and at most 96 pointers are stale.
+pub fn crowded()
+    ensures room { walk (virtual_blocks 7) ≡ None }
+    ensures no_room { walk (virtual_blocks 8) ≡ Some (record { place = 0; what = Crowded }) }
+    ensures data_room { walk (spread 23) ≡ None }
+    ensures no_data_room { walk (spread 24) ≡ Some (record { place = 1; what = Crowded }) }
+    ensures few_stale { walk (lost 96) ≡ None }
+    ensures many_stale { walk (lost 97) ≡ Some (record { place = 2; what = Crowded }) }
+{}

@@ -1,0 +1,26 @@
+use Rattle.std.proofs.Common.{◌≡◌, ◌*◌, ℕ, Bool, List, [], sym, ◌∙◌, ap, subst}
+use Rattle.std.proofs.lemmas.Bool.{false≢true}
+use Rattle.nl_nand.specs.Nand.{IsLegal}
+use Rattle.nl_nand.specs.declared.geometry.Geometry.{Geometry}
+use Rattle.nl_scan.specs.Tables.{Table, IsTableOf, IsKept, FitsMedium}
+use Rattle.nl_scan.specs.declared.seen.Seen.{Seen}
+use Rattle.nl_scan.proofs.Ends.{fits_medium, none_kept, not_formed, none_table}
+use Rattle.nl_scan.proofs.scan.Goals as goal
+
+pub of_pass-requires : goal.of_pass-requires
+of_pass-requires g c = subst (λ (l : List Seen). IsKept l 0) (sym c.new.ensures.items) none_kept
+
+pub returns-in-Ok-clause-fits : goal.returns-in-Ok-clause-fits
+returns-in-Ok-clause-fits g c =
+    subst (λ (x : Geometry). FitsMedium x c.tables_of.result) c.geometry-geometry.ensures
+    (subst (FitsMedium c.geometry-geometry.result) (sym c.tables_of.ensures) (fits_medium c.geometry-geometry.result c.in-Ok.pass c.in-Ok.ensures.stands))
+
+pub returns-in-None-clause-tables : goal.returns-in-None-clause-tables
+returns-in-None-clause-tables g c = λ tells.
+    let geometry = g.M.Nand.geometry c.args.media.now in
+    let image = g.M.Nand.contents c.args.media.now in
+    let none : c.geometry-geometry.result ≡ record { blocks = 0; pages = 0 } =
+        not_formed c.geometry-geometry.result (subst IsLegal (sym c.geometry-geometry.ensures) (g.met.M.Nand.legal c.args.media.now)) (λ legal. false≢true (c.in-None.ensures.legal.1 legal)) in
+    subst (IsTableOf image)
+    (sym (c.of_pass.ensures ∙ (λ i. record { seen = c.new.ensures.items i; erased = c.new-in-None.ensures.items i; version = 0 })))
+    (none_table geometry image (g.met.M.Nand.contents_fit c.args.media.now tells) (sym c.geometry-geometry.ensures ∙ none))

@@ -1,0 +1,5 @@
+pub mod Firsts
+pub mod Passes
+pub mod Scans
+pub mod Supers
+pub mod Tables

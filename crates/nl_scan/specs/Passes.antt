@@ -1,0 +1,86 @@
+-- A pass over the pages below a number, and what it knows then.
+use Rattle.std.specs.Prelude.{◌≡◌, ◌↔◌, ℕ, ◌+◌, ◌*◌, ◌^◌, ◌<◌, ◌≤◌, nat_le, nat_lt, Bool, true, false, ◌&&◌, replicate, IsTrue, List, [], length, map, take, filter, filter_map, fold, slice_index_or, All, IfSome, Some, MatchBool, not, ◌++◌, ◌∷◌}
+use Rattle.std.specs.List.{enumerate_from, AllPairs}
+use Rattle.std.specs.Ordering.{nat_cmp}
+use Rattle.std.specs.BTreeMap.{BTreeMap, get, Updates}
+use Rattle.nl_field.specs.Page.{Image, page_at, erased}
+use Rattle.nl_field.specs.Medium.{Readable, readable, stamp_on, is_virtual_rec, is_physical_rec, first_physical, shape_of_image}
+use Rattle.nl_field.specs.declared.shape.Shape.{Shape}
+use Rattle.nl_nand.specs.Nand.{Unchanged}
+use Rattle.nl_nand.specs.declared.geometry.Geometry.{Geometry}
+use Rattle.nl_field.specs.Scan.{zeros_from}
+use Rattle.nl_scan.specs.Firsts.{first_of, noted}
+use Rattle.nl_scan.specs.Supers.{no_super, super_after}
+use Rattle.nl_scan.specs.Tables.{IsSeen, greatest_stamp, seen_of}
+use Rattle.nl_scan.specs.declared.firsts.First.{First}
+use Rattle.nl_scan.specs.declared.pass.Pass.{Pass}
+
+-- the medium was read, and nothing else was done to it
+pub record OnlyReads {M : Type 0} (geometry : M → Geometry) (contents : M → Image) (clock write_faults : M → ℕ) (left : M → ℕ → Image → Type 0) (old new : M) : Type 0 where
+  pub same : Unchanged geometry contents left old new
+  pub same_clock : clock new ≡ clock old
+  pub same_write_faults : write_faults new ≡ write_faults old
+
+-- the first pages are among so many
+abbrev pub AreWithin : ℕ → BTreeMap ℕ First → Type 0
+AreWithin pages firsts = (stamp : ℕ) → IfSome (get nat_cmp firsts stamp) (λ f. f.page < pages)
+
+-- a page of the virtual segment with its kind of record
+abbrev pub is_own_virtual : Shape → Readable → Bool
+is_own_virtual shape r = nat_lt r.page (first_physical shape) && is_virtual_rec shape r.rec
+
+abbrev pub is_own_physical : Shape → Readable → Bool
+is_own_physical shape r = nat_le (first_physical shape) r.page && is_physical_rec r.rec
+
+-- the readable pages below a number
+unfoldable pub readable_below : Image → ℕ → List Readable
+readable_below image at = filter_map readable (enumerate_from 0 (take at image.contents))
+
+-- A page was compared with the lower pages of its segment, and noted among the first pages there.
+pub record Compared (image : Image) (shape : Shape) (r : Readable) (virtuals virtuals' physicals physicals' : BTreeMap ℕ First) (agrees : Bool) : Type 0 where
+  pub in_virtual : MatchBool (is_own_virtual shape r) (Updates nat_cmp virtuals virtuals' (stamp_on r) (Some (noted image r (get nat_cmp virtuals (stamp_on r))))) (virtuals' ≡ virtuals)
+  pub in_physical : MatchBool (is_own_physical shape r) (Updates nat_cmp physicals physicals' (stamp_on r) (Some (noted image r (get nat_cmp physicals (stamp_on r))))) (physicals' ≡ physicals)
+  pub verdict : agrees ≡ (not (is_own_virtual shape r && (noted image r (get nat_cmp virtuals (stamp_on r))).mixed)
+      && not (is_own_physical shape r && (noted image r (get nat_cmp physicals (stamp_on r))).mixed))
+
+-- a readable page was added
+pub record Added (image : Image) (shape : Shape) (r : Readable) (old new : Pass) : Type 0 where
+  pub verdict : Bool
+  pub compared : Compared image shape r old.virtuals new.virtuals old.physicals new.physicals verdict
+  pub seen : new.seen.items ≡ old.seen.items ++ record { page = r.page; rec = r.rec; zeros = zeros_from r.main; agrees = verdict } ∷ []
+  pub newest : new.newest ≡ super_after old.newest r
+
+-- what a pass knows of the readable pages of an image below a number
+pub record KnowsPages (image : Image) (at : ℕ) (pass : Pass) : Type 0 where
+  pub each_page : pass.seen.items ≡ map (seen_of image) (readable_below image at)
+  pub virtuals : (stamp : ℕ) → get nat_cmp pass.virtuals stamp ≡ first_of (filter (is_own_virtual (shape_of_image image)) (readable_below image at)) stamp
+  pub physicals : (stamp : ℕ) → get nat_cmp pass.physicals stamp ≡ first_of (filter (is_own_physical (shape_of_image image)) (readable_below image at)) stamp
+  pub newest : pass.newest ≡ fold super_after no_super (readable_below image at)
+
+-- so far all pages of the block are erased
+abbrev pub ErasedBelow : Image → ℕ → ℕ → Type 0
+ErasedBelow image at block = (p : ℕ) → block * image.pages ≤ p → p < block * image.pages + image.pages → p < at → page_at image p ≡ erased
+
+-- what it knows of the blocks
+pub record KnowsBlocks (image : Image) (at : ℕ) (erased_so_far : List Bool) : Type 0 where
+  pub each_block : (block : ℕ) → block < image.blocks → IsTrue (slice_index_or erased_so_far block false) ↔ ErasedBelow image at block
+
+-- what holds of a pass below a page, whatever the pages hold
+pub record Stands (geometry : Geometry) (at : ℕ) (pass : Pass) : Type 0 where
+  pub rising : AllPairs (λ a b. a.page < b.page) pass.seen.items
+  pub pages : All (IsSeen at) pass.seen.items
+  pub few : length pass.seen.items ≤ at
+  pub is_greatest : pass.greatest ≡ greatest_stamp pass.seen.items
+  pub small : pass.greatest < 2 ^ 63
+  pub virtuals : AreWithin (geometry.blocks * geometry.pages) pass.virtuals
+  pub physicals : AreWithin (geometry.blocks * geometry.pages) pass.physicals
+  pub blocks : length pass.erased.items ≡ geometry.blocks
+
+-- a pass before the first page of a medium of so many blocks
+pub record IsFresh (blocks : ℕ) (pass : Pass) : Type 0 where
+  pub no_pages : pass.seen.items ≡ []
+  pub all_erased : pass.erased.items ≡ replicate blocks true
+  pub no_virtuals : pass.virtuals.entries ≡ []
+  pub no_physicals : pass.physicals.entries ≡ []
+  pub no_newest : pass.newest ≡ no_super
+  pub no_greatest : pass.greatest ≡ 0
