@@ -1,0 +1,52 @@
+//! A flash store in an image file: answers the words of a command line, from standard input to standard output.
+#![tactic(auto)]
+
+mod arguments;
+mod help;
+mod image;
+mod notice;
+mod program;
+#[cfg(test)]
+mod tests;
+
+use arguments::{Request, request_of};
+use help::{HELP, VERSION};
+use nl_io::{StdSink, StdSource};
+use notice::Notice;
+use program::answer;
+use std::process::ExitCode;
+
+const NOT_PRINTED: u8 = 4;
+
+// Prints a text that was asked for. Where standard output does not take it, the status says so.
+fn print(rt: &HostRuntime, text: &str) -> u8 {
+    match println!(rt; "{text}") {
+        Ok(()) => 0,
+        Err(_) => NOT_PRINTED,
+    }
+}
+
+// What the program prints by itself, and its status.
+fn noticed(rt: &HostRuntime, notice: Notice) -> u8 {
+    let text = notice.text();
+    let _ = eprintln!(rt; "{text}");
+    notice.status()
+}
+
+fn main(rt: HostRuntime) -> ExitCode {
+    let status = match request_of(&rt) {
+        Ok(Request::Help) => print(&rt, HELP),
+        Ok(Request::Version) => print(&rt, VERSION),
+        Ok(Request::Nothing) => noticed(&rt, Notice::Words),
+        Ok(Request::Image { path, words }) => {
+            let mut source = StdSource::new(rt.stdin());
+            let mut sink = StdSink::new(rt.stdout());
+            match answer(&rt, path.as_str(), &words, &mut source, &mut sink) {
+                Ok(status) => status,
+                Err(notice) => noticed(&rt, notice),
+            }
+        }
+        Err(_) => noticed(&rt, Notice::Memory),
+    };
+    ExitCode::from(status)
+}

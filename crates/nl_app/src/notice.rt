@@ -1,0 +1,33 @@
+ghost use Rattle.std.specs.Prelude.{◌≡◌};
+
+/// What the program itself tells on standard error.
+#[derive(Clone, Copy, Debug, PartialEq, Eq)]
+pub enum Notice {
+    /// No image file is named, or a word is not UTF-8.
+    Words,
+    /// The image file could not be opened or attached.
+    MediumFault,
+    Memory,
+}
+
+impl Notice {
+    pub fn text(self) -> &'static str {
+        match self {
+            Notice::Words => "words",
+            Notice::MediumFault => "medium fault",
+            Notice::Memory => "memory",
+        }
+    }
+
+    pub fn status(self) -> u8
+        ensures words { self ≡ Notice.Words → result ≡ 2 }
+        ensures medium_fault { self ≡ Notice.MediumFault → result ≡ 5 }
+        ensures memory { self ≡ Notice.Memory → result ≡ 6 }
+    {
+        match self {
+            Notice::Words => 2,
+            Notice::MediumFault => 5,
+            Notice::Memory => 6,
+        }
+    }
+}

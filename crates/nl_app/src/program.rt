@@ -1,0 +1,63 @@
+ghost use Rattle.std.specs.Prelude.{◌≡◌, ℕ, Ok, None, false, IsTrue};
+ghost use Rattle.nl_top.specs.Command.{command_of};
+
+use crate::image::open;
+use crate::notice::Notice;
+use nl_field::FailList;
+use nl_imgfile::{Attach, FileNand};
+use nl_io::{Sink, Source, Words};
+use nl_nand::MemNand;
+use nl_top::{Command, Done, NoGate, command_of, nameless};
+use std::fs::File;
+use std::rt::Files;
+use std::sync::Wait;
+use std::thread::Threads;
+
+// Only a format makes a file that is missing.
+fn makes_a_file(command: Command) -> bool
+    ensures format { (blocks pages : ℕ) → command ≡ Command.Format blocks pages → IsTrue result }
+    ensures run { command ≡ Command.Run → result ≡ false }
+{
+    match command {
+        Command::Format(_, _) => true,
+        Command::Run => false,
+    }
+}
+
+fn status_of<M: Drop>(done: Done<M>) -> u8
+    ensures { result ≡ done.status }
+{
+    let Done {
+        status,
+        media: _,
+        syncs: _,
+        order: _,
+    } = done;
+    status
+}
+
+/// Answers the words of a command line on the image file at a path, and gives the status. Faulty words leave the file alone,
+/// whether it is there or not.
+pub fn answer<Rt: Files<File = File> + AllocGlobal + Threads + Wait + Sync, S: Source, K: Sink>(
+    rt: &Rt,
+    path: &str,
+    words: &Words,
+    src: &mut S,
+    sink: &mut K,
+) -> Result<u8, Notice>
+    ensures faulty { command_of words.now ≡ None → result ≡ Ok 2 }
+{
+    let alloc = rt.alloc();
+    let Some(command) = command_of(words) else {
+        let media = MemNand::new(alloc, FailList::new(alloc), FailList::new(alloc), None);
+        return Ok(status_of(nameless(rt, alloc, words, src, sink, media, &NoGate)));
+    };
+    let Ok(file) = open(rt, path, makes_a_file(command)) else {
+        return Err(Notice::MediumFault);
+    };
+    match FileNand::attach(alloc, file) {
+        Ok(media) => Ok(status_of(nameless(rt, alloc, words, src, sink, media, &NoGate))),
+        Err(Attach::Fault(_)) => Err(Notice::MediumFault),
+        Err(Attach::Memory(_)) => Err(Notice::Memory),
+    }
+}
