@@ -1,10 +1,10 @@
 -- The readable pages of a segment, by their numbers.
-use Rattle.std.proofs.Common.{◌≡◌, ℕ, zero, suc, ◌+◌, ◌≤◌, ◌<◌, nat_le, nat_lt, ◌&&◌, true, List, [], ◌∷◌, length, refl, sym, ap, subst, ◌∙◌, Option, Some, None, option_map, ◌⊎◌, inl, inr, arith, IsTrue}
+use Rattle.std.proofs.Common.{◌≡◌, ℕ, zero, suc, ◌+◌, ◌≤◌, ◌<◌, nat_le, nat_lt, ◌&&◌, List, [], ◌∷◌, length, refl, sym, ap, subst, ◌∙◌, Option, Some, None, option_map, ◌⊎◌, inl, inr, arith, IsTrue}
 use Rattle.std.proofs.lemmas.Bool.{and_parts, and_from, ltb-true, leb-true, lt-ltb, le-leb, cases_lt}
 use Rattle.std.proofs.lemmas.List.{get_or_past}
 use Rattle.std.specs.List.{enumerate_from}
 use Rattle.std.specs.Prelude.{slice_index_or}
-use Rattle.nl_field.specs.Page.{PageBytes, Page, erased, uncorrectable, written, Image, page_at}
+use Rattle.nl_field.specs.Page.{Page, erased, uncorrectable, written, Image, page_at}
 use Rattle.nl_field.specs.SpareRecord.{spare_rec_of}
 use Rattle.nl_field.specs.Medium.{Readable, readable, readable_pages, shape_of_image, first_physical, is_virtual_rec, is_physical_rec, virtual_pages, physical_pages}
 use Rattle.nl_field.specs.declared.spare.SpareRec.{SpareRec}

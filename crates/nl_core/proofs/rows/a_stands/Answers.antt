@@ -1,4 +1,4 @@
-use Rattle.std.proofs.Common.{◌≡◌, ℕ, ◌≤◌, true, List, [], ◌∷◌, refl, sym, ap, subst, ◌∙◌, Option, Some, None, option_map, option_and_then, cond, arith}
+use Rattle.std.proofs.Common.{◌≡◌, ℕ, ◌≤◌, true, List, [], ◌∷◌, refl, sym, ap, subst, ◌∙◌, Some, None, option_map, option_and_then, cond, arith}
 use Rattle.std.specs.declared.cmp.Ordering.{Ordering}
 use Rattle.std.specs.declared.cmp.Ordering.TheVariants.{Less, Equal, Greater}
 use Rattle.std.specs.Ordering.{nat_cmp, is_eq, ordering_then}
@@ -8,7 +8,7 @@ use Rattle.nl_field.specs.Graph.{Graph}
 use Rattle.nl_field.specs.Medium.{shape_of_image}
 use Rattle.nl_field.specs.declared.super_page.SuperRec.{SuperRec}
 use Rattle.nl_tree.specs.Charges.{data_charge}
-use Rattle.nl_tree.specs.Tree.{Node, file, Tree, node_at, IsTree}
+use Rattle.nl_tree.specs.Tree.{file, Tree, IsTree}
 use Rattle.nl_tree.specs.TreeLaws.{IsInOrder}
 use Rattle.nl_tree.specs.Represents.{Represents, node_of, node_reached}
 use Rattle.nl_tree.proofs.OnLiterals.{tree_on_literals}

@@ -1,5 +1,5 @@
-use Rattle.std.proofs.Common.{◌≡◌, true, refl, sym, ◌∙◌, Some, None}
-use Rattle.nl_field.specs.Page.{Image, uncorrectable, is_image}
+use Rattle.std.proofs.Common.{◌≡◌, refl, sym, ◌∙◌, Some}
+use Rattle.nl_field.specs.Page.{Image, uncorrectable}
 use Rattle.nl_field.specs.declared.place.Place.{Place}
 use Rattle.nl_field.specs.declared.place.What.TheVariants.{Pointer}
 use Rattle.nl_meta.specs.Examples.{image_of_a, long_page}

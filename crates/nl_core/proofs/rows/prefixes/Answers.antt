@@ -1,6 +1,6 @@
 use Rattle.std.proofs.Common.{◌≡◌, ℕ, ◌≤◌, [], ◌∷◌, refl, arith}
 use Rattle.nl_field.specs.Examples.{fresh_image}
-use Rattle.nl_tree.specs.Order.{SyncPoint, durable_prefix}
+use Rattle.nl_tree.specs.Order.{durable_prefix}
 use Rattle.nl_tree.proofs.OnLiterals.{tree_on_literals}
 use Rattle.nl_core.proofs.FreshImage.{fresh_stands}
 use Rattle.nl_core.proofs.SoundProofs.{stands_for_one}
