@@ -1,5 +1,3 @@
-ghost use Rattle.std.specs.Prelude.{◌≡◌};
-
 /// What the program itself tells on standard error.
 #[derive(Clone, Copy, Debug, PartialEq, Eq)]
 pub enum Notice {
@@ -11,7 +9,13 @@ pub enum Notice {
 }
 
 impl Notice {
-    pub fn text(self) -> &'static str {
+    ghost use Rattle.std.specs.Prelude.{◌≡◌, codes};
+
+    pub fn text(self) -> &'static str
+        ensures words { self ≡ Notice.Words → result.now ≡ codes "words" }
+        ensures medium_fault { self ≡ Notice.MediumFault → result.now ≡ codes "medium fault" }
+        ensures memory { self ≡ Notice.Memory → result.now ≡ codes "memory" }
+    {
         match self {
             Notice::Words => "words",
             Notice::MediumFault => "medium fault",
