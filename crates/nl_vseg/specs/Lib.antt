@@ -1,0 +1,7 @@
+pub mod Answers
+pub mod Copying
+pub mod Effects
+pub mod Maps
+pub mod Pages
+pub mod Seen
+pub mod Segment

@@ -1,0 +1,18 @@
+//! Pages by virtual address: each write goes to a new page, and the segment cleans its own blocks.
+#![tactic(auto)]
+
+mod copy;
+mod open;
+mod pages;
+mod place;
+mod read;
+mod room;
+mod state;
+mod victim;
+mod vseg;
+mod write;
+
+#[cfg(test)]
+mod tests;
+
+pub use vseg::VSeg;

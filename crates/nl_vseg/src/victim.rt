@@ -1,0 +1,54 @@
+// Which block is cleaned.
+ghost use Rattle.std.specs.Prelude.{◌≡◌, ◌⊎◌, ℕ, ◌+◌, ◌*◌, ◌/◌, ◌<◌, ◌≤◌, length, true, false};
+ghost use Rattle.nl_blocks.specs.Table.{Table, HasBlock, IsTable, block_at, dead_count, free_count, is_sealed};
+ghost use Rattle.nl_vseg.specs.Segment.{AreApart, AreBelow, IsUnmapped, block_is_free};
+ghost use Rattle.nl_vseg.specs.Copying.{mapped_in, SameUse, IsSettled};
+
+use crate::place::Place;
+use nl_blocks::{BlockState, Blocks};
+use nl_victim::most_dead;
+
+/// Brings the table in line with the map: each block in use is Sealed, and a page is Live where it is that of an address.
+fn settle(blocks: &mut Blocks, places: &Vec<Option<Place>>)
+    requires first { blocks.old.first ≡ 0 }
+    requires below { AreBelow (length blocks.old.blocks * blocks.old.size) places.now.items }
+    requires apart { AreApart places.now.items }
+    ensures states { SameUse blocks.old blocks.new }
+    ensures settled { IsSettled places.now.items blocks.new }
+{
+    let count = blocks.count();
+    let pages = blocks.pages();
+    for block in 0..count {
+        if !matches!(blocks.state(block), BlockState::Free) {
+            blocks.seal(block);
+        }
+    }
+    for page in 0..count * pages {
+        blocks.mark_dead(page);
+    }
+    for v in 0..places.len() {
+        if let Some(place) = places[v] {
+            blocks.mark_live(place.page);
+        }
+    }
+}
+
+/// The block with the most pages that no address has, of those in use. At most one block is Free.
+pub fn choose(blocks: &mut Blocks, places: &Vec<Option<Place>>) -> u32
+    requires first { blocks.old.first ≡ 0 }
+    requires below { AreBelow (length blocks.old.blocks * blocks.old.size) places.now.items }
+    requires apart { AreApart places.now.items }
+    requires few { length places.now.items + 4 * blocks.old.size ≤ length blocks.old.blocks * blocks.old.size }
+    requires free { free_count blocks.old ≤ 1 }
+    ensures states { SameUse blocks.old blocks.new }
+    ensures within { result < length blocks.old.blocks }
+    ensures in_use { block_is_free blocks.old result ≡ false }
+    ensures dead { mapped_in blocks.old.size result places.now.items < blocks.old.size }
+    ensures unmapped { free_count blocks.old ≡ 0 → (block : ℕ) → block < length blocks.old.blocks → IsUnmapped blocks.old.size places.now.items block → IsUnmapped blocks.old.size places.now.items result }
+{
+    settle(blocks, places);
+    match most_dead(blocks) {
+        Some(block) => block,
+        None => unreachable!(),
+    }
+}
