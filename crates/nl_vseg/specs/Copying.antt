@@ -26,6 +26,11 @@ pub record SameUse (old new : Table) : Type 0 where
   pub free : (block : ℕ) → block_is_free new block ≡ block_is_free old block
   pub total : free_count new ≡ free_count old
 
+-- each block is in the same state
+pub record SameStates (old new : Table) : Type 0 where
+  pub same : SameUse old new
+  pub states : (block : ℕ) → (block_at new block).state ≡ (block_at old block).state
+
 -- one block is Free now, or not, and the others are as before
 pub record Restated (block : ℕ) (free : Bool) (old new : Table) : Type 0 where
   pub numbers : SameNumbers old new

@@ -1,7 +1,8 @@
 // Sees to it that a page can be programmed, and that one block holds no page of the map.
-ghost use Rattle.std.specs.Prelude.{◌≡◌, ◌⊎◌, ℕ, ◌+◌, ◌*◌, ◌/◌, ◌<◌, ◌≤◌, length, true, false};
-ghost use Rattle.nl_blocks.specs.Table.{HasBlock, free_count};
-ghost use Rattle.nl_vseg.specs.Segment.{IsSegmentOf, IsUnmapped, KeepsSpare, SameSize, TakenAsErased, block_is_free, bound, map_of, room, stamp_for};
+ghost use Rattle.std.specs.Prelude.{◌≡◌, ◌⊎◌, ℕ, ◌+◌, ◌*◌, ◌/◌, ◌<◌, ◌≤◌, length, true, false, IfNone, IfSome, IsNone};
+ghost use Rattle.nl_field.specs.Page.{erased, page_at};
+ghost use Rattle.nl_blocks.specs.Table.{free_count};
+ghost use Rattle.nl_vseg.specs.Segment.{IsSegmentOf, IsUnmapped, KeepsSpare, SameSize, TakenAsErased, block_is_free, bound, is_soiled, map_of, room, stamp_for};
 ghost use Rattle.nl_vseg.specs.Seen.{seen, IsFormed, Fits};
 ghost use Rattle.nl_vseg.specs.Copying.{mapped_in, Restated, SameUse, StaysOrErased};
 ghost use Rattle.nl_vseg.specs.Effects.{Counted, KeepsMap};
@@ -34,37 +35,22 @@ fn take(blocks: &mut Blocks) -> u32
 }
 
 impl State {
-    /// Makes a Free block the active one, and erases it first where it is soiled.
-    fn start<M: Nand>(&mut self, media: &mut M) -> WriteAnswer
+    /// A block that holds no page of the map is Free, and erased before use where it is soiled.
+    fn set_free(&mut self, block: u32, soiled: bool)
         requires formed { IsFormed self.old }
-        requires fits { Fits (M.geometry media.old) (seen self.old) }
-        requires closed { self.old.used ≡ self.old.blocks.size }
-        requires free { 1 ≤ free_count self.old.blocks }
-        requires segment { M.tells → IsSegmentOf (M.contents media.old) (seen self.old) }
+        requires within { block < length self.old.blocks.blocks }
+        requires unmapped { IsUnmapped self.old.blocks.size self.old.places.items block }
+        requires idle { self.old.used < self.old.blocks.size → block ≡ self.old.active → ⊥ }
         ensures formed { IsFormed self.new }
         ensures places { self.new.places.items ≡ self.old.places.items }
-        ensures failed { result ≡ WriteAnswer.Failed → SameUse self.old.blocks self.new.blocks × (self.new.used ≡ self.new.blocks.size) }
-        ensures done { result ≡ WriteAnswer.Done → Restated self.new.active false self.old.blocks self.new.blocks × (self.new.used ≡ 0) }
-        ensures was_free { result ≡ WriteAnswer.Done → block_is_free self.old.blocks self.new.active ≡ true }
-        ensures segment { M.tells → IsSegmentOf (M.contents media.new) (seen self.new) }
-        ensures map { M.tells → KeepsMap M.clock M.contents M.left self.old.blocks.size (bound (seen self.old)) (map_of self.old.places.items (M.contents media.old)) (map_of self.new.places.items (M.contents media.new)) media.old media.new }
-        ensures others { M.tells → result ≡ WriteAnswer.Done → StaysOrErased self.new.blocks.size self.new.active (M.contents media.old) (M.contents media.new) }
-        ensures geometry { M.geometry media.new ≡ M.geometry media.old }
-        ensures counts { Counted M.clock M.read_faults M.write_faults media.old media.new (result ≡ WriteAnswer.Failed) }
+        ensures used { self.new.used ≡ self.old.used }
+        ensures active { self.new.active ≡ self.old.active }
+        ensures states { Restated block true self.old.blocks self.new.blocks }
+        ensures soiled { is_soiled (seen self.new) block ≡ soiled }
+        ensures erased { (p : ℕ) → TakenAsErased (seen self.new) p → (p / self.old.blocks.size ≡ block → soiled ≡ false) × ((p / self.old.blocks.size ≡ block → ⊥) → TakenAsErased (seen self.old) p) }
     {
-        let block = take(&mut self.blocks);
-        if self.soiled[block as usize] {
-            let answer = media.erase(block);
-            self.blocks.erased(block, 0);
-            if answer == WriteAnswer::Failed {
-                return WriteAnswer::Failed;
-            }
-            self.soiled[block as usize] = false;
-            self.blocks.seal(block);
-        }
-        self.active = block;
-        self.used = 0;
-        WriteAnswer::Done
+        self.blocks.erased(block, 0);
+        self.soiled[block as usize] = soiled;
     }
 
     /// Erases a block that holds no page of the map. It is Free.
@@ -81,14 +67,86 @@ impl State {
         ensures active { self.new.active ≡ self.old.active }
         ensures states { Restated block true self.old.blocks self.new.blocks }
         ensures segment { M.tells → IsSegmentOf (M.contents media.new) (seen self.new) }
+        ensures blank { M.tells → result ≡ WriteAnswer.Done → (p : ℕ) → p / self.old.blocks.size ≡ block → page_at (M.contents media.new) p ≡ erased }
+        ensures others { M.tells → (p : ℕ) → (p / self.old.blocks.size ≡ block → ⊥) → page_at (M.contents media.new) p ≡ page_at (M.contents media.old) p }
         ensures map { M.tells → KeepsMap M.clock M.contents M.left self.old.blocks.size (bound (seen self.old)) (map_of self.old.places.items (M.contents media.old)) (map_of self.new.places.items (M.contents media.new)) media.old media.new }
         ensures geometry { M.geometry media.new ≡ M.geometry media.old }
         ensures counts { Counted M.clock M.read_faults M.write_faults media.old media.new (result ≡ WriteAnswer.Failed) }
     {
-        let answer = media.erase(block);
-        self.blocks.erased(block, 0);
-        self.soiled[block as usize] = answer == WriteAnswer::Failed;
-        answer
+        match media.erase(block) {
+            WriteAnswer::Done => {
+                self.set_free(block, false);
+                WriteAnswer::Done
+            }
+            WriteAnswer::Failed => {
+                self.set_free(block, true);
+                WriteAnswer::Failed
+            }
+        }
+    }
+
+    /// Takes a Free block, and erases it first where it is soiled. None where that failed.
+    fn take_erased<M: Nand>(&mut self, media: &mut M) -> Option<u32>
+        requires formed { IsFormed self.old }
+        requires fits { Fits (M.geometry media.old) (seen self.old) }
+        requires closed { self.old.used ≡ self.old.blocks.size }
+        requires free { 1 ≤ free_count self.old.blocks }
+        requires segment { M.tells → IsSegmentOf (M.contents media.old) (seen self.old) }
+        ensures formed { IsFormed self.new }
+        ensures places { self.new.places.items ≡ self.old.places.items }
+        ensures used { self.new.used ≡ self.old.used }
+        ensures none { IfNone result (SameUse self.old.blocks self.new.blocks) }
+        ensures some { IfSome result (λ block. block < length self.old.blocks.blocks) }
+        ensures was_free { IfSome result (λ block. block_is_free self.old.blocks block ≡ true) }
+        ensures taken { IfSome result (λ block. Restated block false self.old.blocks self.new.blocks) }
+        ensures segment { M.tells → IsSegmentOf (M.contents media.new) (seen self.new) }
+        ensures blank { M.tells → IfSome result (λ block. (p : ℕ) → p / self.old.blocks.size ≡ block → page_at (M.contents media.new) p ≡ erased) }
+        ensures others { M.tells → IfSome result (λ block. (p : ℕ) → (p / self.old.blocks.size ≡ block → ⊥) → page_at (M.contents media.new) p ≡ page_at (M.contents media.old) p) }
+        ensures map { M.tells → KeepsMap M.clock M.contents M.left self.old.blocks.size (bound (seen self.old)) (map_of self.old.places.items (M.contents media.old)) (map_of self.new.places.items (M.contents media.new)) media.old media.new }
+        ensures geometry { M.geometry media.new ≡ M.geometry media.old }
+        ensures counts { Counted M.clock M.read_faults M.write_faults media.old media.new (IsNone result) }
+    {
+        let block = take(&mut self.blocks);
+        if !self.soiled[block as usize] {
+            return Some(block);
+        }
+        match self.erase(media, block) {
+            WriteAnswer::Failed => None,
+            WriteAnswer::Done => {
+                self.blocks.seal(block);
+                Some(block)
+            }
+        }
+    }
+
+    /// Makes a Free block the active one, and erases it first where it is soiled.
+    fn start<M: Nand>(&mut self, media: &mut M) -> WriteAnswer
+        requires formed { IsFormed self.old }
+        requires fits { Fits (M.geometry media.old) (seen self.old) }
+        requires closed { self.old.used ≡ self.old.blocks.size }
+        requires free { 1 ≤ free_count self.old.blocks }
+        requires segment { M.tells → IsSegmentOf (M.contents media.old) (seen self.old) }
+        ensures formed { IsFormed self.new }
+        ensures places { self.new.places.items ≡ self.old.places.items }
+        ensures same { result ≡ WriteAnswer.Failed → SameUse self.old.blocks self.new.blocks }
+        ensures closed { result ≡ WriteAnswer.Failed → self.new.used ≡ self.new.blocks.size }
+        ensures taken { result ≡ WriteAnswer.Done → Restated self.new.active false self.old.blocks self.new.blocks }
+        ensures begins { result ≡ WriteAnswer.Done → self.new.used ≡ 0 }
+        ensures was_free { result ≡ WriteAnswer.Done → block_is_free self.old.blocks self.new.active ≡ true }
+        ensures segment { M.tells → IsSegmentOf (M.contents media.new) (seen self.new) }
+        ensures others { M.tells → result ≡ WriteAnswer.Done → StaysOrErased self.old.blocks.size self.new.active (M.contents media.old) (M.contents media.new) }
+        ensures map { M.tells → KeepsMap M.clock M.contents M.left self.old.blocks.size (bound (seen self.old)) (map_of self.old.places.items (M.contents media.old)) (map_of self.new.places.items (M.contents media.new)) media.old media.new }
+        ensures geometry { M.geometry media.new ≡ M.geometry media.old }
+        ensures counts { Counted M.clock M.read_faults M.write_faults media.old media.new (result ≡ WriteAnswer.Failed) }
+    {
+        match self.take_erased(media) {
+            None => WriteAnswer::Failed,
+            Some(block) => {
+                self.active = block;
+                self.used = 0;
+                WriteAnswer::Done
+            }
+        }
     }
 
     /// Leaves the active block, which holds no page of the map. It is Free, and erased before use.
@@ -101,11 +159,11 @@ impl State {
         ensures states { Restated self.old.active true self.old.blocks self.new.blocks }
         ensures erased { (p : ℕ) → TakenAsErased (seen self.new) p → TakenAsErased (seen self.old) p × (p / self.old.blocks.size ≡ self.old.active → ⊥) }
     {
-        let wear = self.blocks.wear(self.active);
-        self.blocks.erased(self.active, 0);
-        self.blocks.found(self.active, wear, 0);
-        self.soiled[self.active as usize] = true;
+        let block = self.active;
+        let wear = self.blocks.wear(block);
         self.used = self.blocks.pages();
+        self.set_free(block, true);
+        self.blocks.found(block, wear, 0);
     }
 
     /// Copies the pages of the victim that addresses have to the active block. The map has the copies once all are made.
@@ -120,8 +178,13 @@ impl State {
         ensures formed { IsFormed self.new }
         ensures moved { result ≡ VirtualWrite.Done → IsUnmapped self.new.blocks.size self.new.places.items victim }
         ensures stamps { (v : ℕ) → stamp_for (seen self.new) v ≡ stamp_for (seen self.old) v }
-        ensures done { result ≡ VirtualWrite.Done → (self.new.blocks ≡ self.old.blocks) × (self.new.active ≡ self.old.active) × (self.new.used < self.new.blocks.size) }
-        ensures failed { (result ≡ VirtualWrite.Done → ⊥) → (self.new.places.items ≡ self.old.places.items) × (self.new.used ≡ self.new.blocks.size) × Restated self.old.active true self.old.blocks self.new.blocks }
+        ensures table { result ≡ VirtualWrite.Done → self.new.blocks ≡ self.old.blocks }
+        ensures active { result ≡ VirtualWrite.Done → self.new.active ≡ self.old.active }
+        ensures used { result ≡ VirtualWrite.Done → self.new.used < self.new.blocks.size }
+        ensures count { length self.new.places.items ≡ length self.old.places.items }
+        ensures kept_places { (result ≡ VirtualWrite.Done → ⊥) → self.new.places.items ≡ self.old.places.items }
+        ensures closed { (result ≡ VirtualWrite.Done → ⊥) → self.new.used ≡ self.new.blocks.size }
+        ensures given { (result ≡ VirtualWrite.Done → ⊥) → Restated self.old.active true self.old.blocks self.new.blocks }
         ensures segment { M.tells → IsSegmentOf (M.contents media.new) (seen self.new) }
         ensures map { M.tells → KeepsMap M.clock M.contents M.left self.old.blocks.size (bound (seen self.old)) (map_of self.old.places.items (M.contents media.old)) (map_of self.new.places.items (M.contents media.new)) media.old media.new }
         ensures lost { LosesStamp (seen self.old) result }
@@ -230,7 +293,7 @@ impl State {
         ensures stamps { (v : ℕ) → stamp_for (seen self.new) v ≡ stamp_for (seen self.old) v }
         ensures numbers { SameSize (seen self.old) (seen self.new) }
         ensures direct { 0 < room (seen self.old) → result ≡ VirtualWrite.Done → (room (seen self.new) ≡ room (seen self.old)) × (self.new.places.items ≡ self.old.places.items) }
-        ensures others { M.tells → 0 < room (seen self.old) → result ≡ VirtualWrite.Done → StaysOrErased self.new.blocks.size self.new.active (M.contents media.old) (M.contents media.new) }
+        ensures others { M.tells → 0 < room (seen self.old) → result ≡ VirtualWrite.Done → StaysOrErased self.old.blocks.size self.new.active (M.contents media.old) (M.contents media.new) }
         ensures segment { M.tells → IsSegmentOf (M.contents media.new) (seen self.new) }
         ensures map { M.tells → KeepsMap M.clock M.contents M.left self.old.blocks.size (bound (seen self.old)) (map_of self.old.places.items (M.contents media.old)) (map_of self.new.places.items (M.contents media.new)) media.old media.new }
         ensures lost { LosesStamp (seen self.old) result }

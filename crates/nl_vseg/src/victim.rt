@@ -1,12 +1,54 @@
 // Which block is cleaned.
 ghost use Rattle.std.specs.Prelude.{◌≡◌, ◌⊎◌, ℕ, ◌+◌, ◌*◌, ◌/◌, ◌<◌, ◌≤◌, length, true, false};
-ghost use Rattle.nl_blocks.specs.Table.{Table, HasBlock, IsTable, block_at, dead_count, free_count, is_sealed};
+ghost use Rattle.nl_blocks.specs.Table.{block_at, dead_count, free_count, is_sealed, page_at};
 ghost use Rattle.nl_vseg.specs.Segment.{AreApart, AreBelow, IsUnmapped, block_is_free};
-ghost use Rattle.nl_vseg.specs.Copying.{mapped_in, SameUse, IsSettled};
+ghost use Rattle.nl_vseg.specs.Copying.{mapped_in, SameUse, IsSettled, SameStates};
 
 use crate::place::Place;
-use nl_blocks::{BlockState, Blocks};
+use nl_blocks::{BlockState, Blocks, PageState};
 use nl_victim::most_dead;
+
+/// Each block in use is Sealed.
+fn seal_all(blocks: &mut Blocks)
+    requires { blocks.old.first ≡ 0 }
+    ensures states { SameUse blocks.old blocks.new }
+    ensures sealed { (block : ℕ) → block < length blocks.new.blocks → block_is_free blocks.new block ≡ false → is_sealed (block_at blocks.new block) ≡ true }
+{
+    for block in 0..blocks.count() {
+        if !matches!(blocks.state(block), BlockState::Free) {
+            blocks.seal(block);
+        }
+    }
+}
+
+/// Each page is Dead.
+fn mark_dead(blocks: &mut Blocks)
+    requires { blocks.old.first ≡ 0 }
+    ensures states { SameStates blocks.old blocks.new }
+    ensures pages { (page : ℕ) → page < length blocks.new.blocks * blocks.new.size → (page_at blocks.new page).state ≡ PageState.Dead }
+{
+    let end = blocks.count() * blocks.pages();
+    for page in 0..end {
+        blocks.mark_dead(page);
+    }
+}
+
+/// The page of each address is Live.
+fn mark_live(blocks: &mut Blocks, places: &Vec<Option<Place>>)
+    requires first { blocks.old.first ≡ 0 }
+    requires below { AreBelow (length blocks.old.blocks * blocks.old.size) places.now.items }
+    requires apart { AreApart places.now.items }
+    requires pages { (page : ℕ) → page < length blocks.old.blocks * blocks.old.size → (page_at blocks.old page).state ≡ PageState.Dead }
+    ensures states { SameStates blocks.old blocks.new }
+    ensures counted { (block : ℕ) → block < length blocks.new.blocks → mapped_in blocks.new.size block places.now.items + dead_count (block_at blocks.new block) ≡ blocks.new.size }
+{
+    let _ = blocks.count();
+    for v in 0..places.len() {
+        if let Some(place) = places[v] {
+            blocks.mark_live(place.page);
+        }
+    }
+}
 
 /// Brings the table in line with the map: each block in use is Sealed, and a page is Live where it is that of an address.
 fn settle(blocks: &mut Blocks, places: &Vec<Option<Place>>)
@@ -16,21 +58,9 @@ fn settle(blocks: &mut Blocks, places: &Vec<Option<Place>>)
     ensures states { SameUse blocks.old blocks.new }
     ensures settled { IsSettled places.now.items blocks.new }
 {
-    let count = blocks.count();
-    let pages = blocks.pages();
-    for block in 0..count {
-        if !matches!(blocks.state(block), BlockState::Free) {
-            blocks.seal(block);
-        }
-    }
-    for page in 0..count * pages {
-        blocks.mark_dead(page);
-    }
-    for v in 0..places.len() {
-        if let Some(place) = places[v] {
-            blocks.mark_live(place.page);
-        }
-    }
+    seal_all(blocks);
+    mark_dead(blocks);
+    mark_live(blocks, places);
 }
 
 /// The block with the most pages that no address has, of those in use. At most one block is Free.
