@@ -4,4 +4,6 @@ pub mod Counts
 pub mod Images
 pub mod Marks
 pub mod Places
+pub mod ReadPlaces
+pub mod Records
 pub mod Segments

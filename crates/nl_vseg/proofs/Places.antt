@@ -115,3 +115,33 @@ module _ {pages bound active used : ℕ} {places : List (Option Place)} where
       apart u w a b same (inl x) (inr y) = absurd (not_new w b y.1 (sym same ∙ sym (ap (λ (q : Place). q.page) x.1)))
       apart u w a b same (inr x) (inl y) = absurd (not_new u a x.1 (same ∙ sym (ap (λ (q : Place). q.page) y.1)))
       apart u w a b same (inr x) (inr y) = are.apart u w a b x.1 y.1 same
+
+-- an address gets a page that is that of no address
+pub placed : (pages bound active used : ℕ) (places : List (Option Place)) (v : ℕ) (new : Place) → v < length places → IsPlace pages bound active used new
+    → ((u : ℕ) (place : Place) → place_of places u ≡ Some place → place.page ≡ new.page → ⊥)
+    → ArePlaces pages bound active used places → ArePlaces pages bound active used (set places v (Some new))
+placed pages bound active used places v new within is beside are = record {
+  each = λ u place named. each u place (set_place places v new within u place named);
+  apart = λ u w a b at_u at_w same. apart u w a b same (set_place places v new within u a at_u) (set_place places v new within w b at_w);
+}
+  where
+    each : (u : ℕ) (place : Place) → ((u ≡ v) × (new ≡ place)) ⊎ ((u ≡ v → ⊥) × (place_of places u ≡ Some place)) → IsPlace pages bound active used place
+    each u place (inl here) = subst (IsPlace pages bound active used) here.1 is
+    each u place (inr there) = are.each u place there.1
+
+    apart : (u w : ℕ) (a b : Place) → a.page ≡ b.page → ((u ≡ v) × (new ≡ a)) ⊎ ((u ≡ v → ⊥) × (place_of places u ≡ Some a))
+        → ((w ≡ v) × (new ≡ b)) ⊎ ((w ≡ v → ⊥) × (place_of places w ≡ Some b)) → u ≡ w
+    apart u w a b same (inl x) (inl y) = x.0 ∙ sym y.0
+    apart u w a b same (inl x) (inr y) = absurd (beside w b y.1 (sym same ∙ sym (ap (λ (q : Place). q.page) x.1)))
+    apart u w a b same (inr x) (inl y) = absurd (beside u a x.1 (same ∙ sym (ap (λ (q : Place). q.page) y.1)))
+    apart u w a b same (inr x) (inr y) = are.apart u w a b x.1 y.1 same
+
+-- a page of a block in use is not one of the next pages, where that block is not written to
+pub behind_of : (pages active used p block : ℕ) → used ≤ pages → p / pages ≡ block → (used < pages → block ≡ active → ⊥) → (p < active * pages + used) ⊎ (active * pages + pages ≤ p)
+behind_of pages active used p block fits is idle = elim (cases_lt used pages) [
+  | inl room ↦ ⊎_elim (λ lt. inl (omega (arith, lt))) (λ ge. inr ge) (beside_of p pages active (λ at. idle room (sym is ∙ at)))
+  | inr full ↦ elim (cases_lt p (active * pages + pages)) [
+    | inl lt ↦ inl (omega (arith, lt, full))
+    | inr ge ↦ inr ge
+  ]
+]

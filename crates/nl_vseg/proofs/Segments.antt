@@ -1,19 +1,20 @@
 -- How segments and their images go on.
-use Rattle.std.proofs.Common.{◌≡◌, ◌⊎◌, inl, inr, ⊎_elim, ℕ, ◌+◌, ◌-◌, ◌*◌, ◌/◌, ◌<◌, ◌≤◌, Bool, true, false, Option, Some, None, List, length, get_or, set, refl, sym, ◌∙◌, ap, subst, arith, true≢false}
+use Rattle.std.proofs.Common.{◌≡◌, ◌⊎◌, inl, inr, ⊎_elim, ℕ, ◌+◌, ◌-◌, ◌*◌, ◌/◌, ◌<◌, ◌≤◌, Bool, true, false, Option, Some, None, List, length, get_or, set, refl, sym, ◌∙◌, ap, subst, arith, true≢false, ◌^◌, IsTrue, length-set}
 use Rattle.std.proofs.lemmas.Bool.{cases_eq, cases_lt}
 use Rattle.std.proofs.lemmas.List.{get_or-set_same, get_or-set_other}
 use Rattle.nl_field.specs.CrashStates.{LeavesOnly}
+use Rattle.nl_field.specs.Spelling.{is_stamp}
 use Rattle.nl_field.specs.Page.{Page, erased, Image, page_at}
 use Rattle.nl_nand.specs.declared.answers.WriteAnswer.{WriteAnswer}
 use Rattle.nl_nand.specs.Nand.{Cut, Filled, Leaves, CrashLeaves}
 use Rattle.nl_nand.proofs.Crashes.{outside, operation, leaves_cut}
 use Rattle.nl_blocks.specs.Table.{Table}
 use Rattle.nl_vseg.specs.Pages.{fact_of, main_of, IsBeside}
-use Rattle.nl_vseg.specs.Segment.{Segment, bound, place_of, value_at, map_of, is_soiled, block_is_free, IsUnmapped, IsNext, TakenAsErased, Holds, IsSegmentOf, AreBelow, IsSegment}
+use Rattle.nl_vseg.specs.Segment.{Segment, bound, place_of, value_at, map_of, is_soiled, block_is_free, IsUnmapped, IsNext, TakenAsErased, Holds, IsSegmentOf, AreBelow, ArePlaces, IsSegment}
 use Rattle.nl_vseg.specs.Copying.{SameNumbers, SameUse, Restated}
 use Rattle.nl_vseg.specs.Effects.{Keeps, KeepsMap}
 use Rattle.nl_vseg.specs.declared.place.Place.{Place}
-use Rattle.nl_vseg.proofs.Places.{in_block, block_of, not_beside, beside_of, block_below}
+use Rattle.nl_vseg.proofs.Places.{in_block, block_of, beside_of, block_below, behind_of, placed, set_place}
 use Rattle.nl_vseg.proofs.Images.{keeps_erase, keeps_same}
 
 -- what a segment takes as erased, in the numbers of another one
@@ -110,3 +111,101 @@ below_of seg is v place named = (is.places_are.each v place named).within
 pub free_unmapped : (seg : Segment) → IsSegment seg → (block : ℕ) → block_is_free seg.table block ≡ true → IsUnmapped seg.table.size seg.places block
 free_unmapped seg is block free v place named = beside_of place.page seg.table.size block
     (λ at. true≢false (sym free ∙ (ap (block_is_free seg.table) (sym at) ∙ is.in_use v place named)))
+
+-- an erase of a block without a page of the map leaves an image of the segment
+pub erase_segment : (old new : Segment) (block g : ℕ) (soiled : Bool) (before after : Image) → 0 < old.table.size → g ≡ old.table.size → new.places ≡ old.places
+    → IsUnmapped old.table.size old.places block → Cut (block * g) (block * g + g) erased before after
+    → (soiled ≡ false → Filled (block * g) (block * g + g) erased before after)
+    → ((p : ℕ) → TakenAsErased new p → (p / old.table.size ≡ block → soiled ≡ false) × ((p / old.table.size ≡ block → ⊥) → TakenAsErased old p))
+    → IsSegmentOf before old → IsSegmentOf after new
+erase_segment old new block g soiled before after some is places unmapped cut done taken seg = record {
+  holds = subst (Holds after) (sym places) (holds_same old.places before after seg.holds (λ v place named. erased_outside block g old.table.size is cut place.page (unmapped v place named)));
+  blank = λ p t. blank p (taken p t) (cases_eq (p / old.table.size) block);
+}
+  where
+    blank : (p : ℕ) → (p / old.table.size ≡ block → soiled ≡ false) × ((p / old.table.size ≡ block → ⊥) → TakenAsErased old p)
+        → (p / old.table.size ≡ block) ⊎ (p / old.table.size ≡ block → ⊥) → page_at after p ≡ erased
+    blank p e (inl at) = erased_inside block g old.table.size is (done (e.0 at)) some p at
+    blank p e (inr ne) = erased_outside block g old.table.size is cut p (beside_of p old.table.size block ne) ∙ seg.blank p (e.1 ne)
+
+-- the same image, where less is taken as erased
+pub segment_fewer : (old new : Segment) (image : Image) → new.places ≡ old.places → ((p : ℕ) → TakenAsErased new p → TakenAsErased old p) → IsSegmentOf image old → IsSegmentOf image new
+segment_fewer old new image places fewer seg = record {
+  holds = subst (Holds image) (sym places) seg.holds;
+  blank = λ p taken. seg.blank p (fewer p taken);
+}
+
+-- a block is out of what is taken as erased
+pub taken_without : (old new : Segment) (block : ℕ) → SameNumbers old.table new.table → new.active ≡ old.active → new.used ≡ old.used
+    → ((b : ℕ) → block_is_free new.table b ≡ true → is_soiled new b ≡ false → (b ≡ block → ⊥) × (block_is_free old.table b ≡ true) × (is_soiled old b ≡ false))
+    → (old.used < old.table.size → block ≡ old.active → ⊥)
+    → (p : ℕ) → TakenAsErased new p → TakenAsErased old p × (p / old.table.size ≡ block → ⊥)
+taken_without old new block numbers active_is used_is free idle p taken = cases n.1
+  where
+    n : (p < length old.table.blocks * old.table.size) × (((new.active * old.table.size + new.used ≤ p) × (p < new.active * old.table.size + old.table.size))
+        ⊎ ((block_is_free new.table (p / old.table.size) ≡ true) × (is_soiled new (p / old.table.size) ≡ false)))
+    n = taken_cases new old.table.size (length old.table.blocks) numbers.same_size numbers.same_count p taken
+
+    next : (new.active * old.table.size + new.used ≤ p) × (p < new.active * old.table.size + old.table.size) → IsNext old p
+    next x = (subst (λ a. a * old.table.size + old.used ≤ p) active_is (subst (λ u. new.active * old.table.size + u ≤ p) used_is x.0), subst (λ a. p < a * old.table.size + old.table.size) active_is x.1)
+
+    cases : ((new.active * old.table.size + new.used ≤ p) × (p < new.active * old.table.size + old.table.size))
+        ⊎ ((block_is_free new.table (p / old.table.size) ≡ true) × (is_soiled new (p / old.table.size) ≡ false)) → TakenAsErased old p × (p / old.table.size ≡ block → ⊥)
+    cases (inl x) =
+        let y = next x in
+        let from : old.active * old.table.size ≤ p = omega (arith, y.0) in
+        let room : old.used < old.table.size = omega (arith, y.0, y.1) in
+        ((n.0, inl y), λ is. idle room (sym is ∙ block_of p old.table.size old.active from y.1))
+    cases (inr x) =
+        let f = free (p / old.table.size) x.0 x.1 in
+        ((n.0, inr (f.1, f.2)), f.0)
+
+-- a Free block is in use now
+pub sealed_taken : (old : Segment) (table : Table) (block : ℕ) → Restated block false old.table table → (p : ℕ) → TakenAsErased (record old { table = table }) p → TakenAsErased old p
+sealed_taken old table block restated p taken = cases n.1
+  where
+    n : (p < length old.table.blocks * old.table.size) × (((old.active * old.table.size + old.used ≤ p) × (p < old.active * old.table.size + old.table.size))
+        ⊎ ((block_is_free table (p / old.table.size) ≡ true) × (is_soiled old (p / old.table.size) ≡ false)))
+    n = taken_cases (record old { table = table }) old.table.size (length old.table.blocks) restated.numbers.same_size restated.numbers.same_count p taken
+
+    cases : ((old.active * old.table.size + old.used ≤ p) × (p < old.active * old.table.size + old.table.size))
+        ⊎ ((block_is_free table (p / old.table.size) ≡ true) × (is_soiled old (p / old.table.size) ≡ false)) → TakenAsErased old p
+    cases (inl x) = (n.0, inl x)
+    cases (inr x) = (n.0, inr (⊎_elim
+        (λ is. absurd (true≢false (sym x.0 ∙ (ap (block_is_free table) is ∙ restated.here))))
+        (λ ne. sym (restated.others (p / old.table.size) ne) ∙ x.0)
+        (cases_eq (p / old.table.size) block), x.1))
+
+-- an address got a page of a block that is in use now, and is not written to
+pub loaded : (old : Segment) (table : Table) (block v : ℕ) (new : Place) → IsSegment old → Restated block false old.table table → new.page / old.table.size ≡ block → new.page < bound old → IsTrue (is_stamp new.stamp)
+    → v < length old.places → ((u : ℕ) (place : Place) → place_of old.places u ≡ Some place → place.page ≡ new.page → ⊥) → (old.used < old.table.size → block ≡ old.active → ⊥)
+    → IsSegment (record old { places = set old.places v (Some new); table = table })
+loaded old table block v new is restated at below spelled within beside idle = record {
+  first = restated.numbers.same_first ∙ is.first;
+  some = subst (λ n. 0 < n) (sym restated.numbers.same_size) is.some;
+  numbers = subst (λ n. n < 2 ^ 32) (sym bound_same) is.numbers;
+  marks = is.marks ∙ sym restated.numbers.same_count;
+  few = subst (λ n. n + 4 * table.size ≤ length table.blocks * table.size) (sym (length-set old.places v (Some new)))
+      (subst (λ n. length old.places + 4 * n ≤ length table.blocks * table.size) (sym restated.numbers.same_size) (subst (λ n. length old.places + 4 * old.table.size ≤ n) (sym bound_same) is.few));
+  active_is = subst (λ n. old.active < n) (sym restated.numbers.same_count) is.active_is;
+  used_fits = subst (λ n. old.used ≤ n) (sym restated.numbers.same_size) is.used_fits;
+  taken = λ lt. ⊎_elim
+      (λ same. ap (block_is_free table) same ∙ restated.here)
+      (λ ne. restated.others old.active ne ∙ is.taken (subst (λ n. old.used < n) restated.numbers.same_size lt))
+      (cases_eq old.active block);
+  places_are = subst (λ n. ArePlaces table.size n old.active old.used (set old.places v (Some new))) (sym bound_same)
+      (subst (λ n. ArePlaces n (bound old) old.active old.used (set old.places v (Some new))) (sym restated.numbers.same_size)
+      (placed old.table.size (bound old) old.active old.used old.places v new within
+      (record { within = below; behind = behind_of old.table.size old.active old.used new.page block is.used_fits at idle; spelled = spelled }) beside is.places_are));
+  in_use = λ u place named. subst (λ n. block_is_free table (place.page / n) ≡ false) (sym restated.numbers.same_size) (in_use u place (set_place old.places v new within u place named));
+}
+  where
+    bound_same : length table.blocks * table.size ≡ length old.table.blocks * old.table.size
+    bound_same i = restated.numbers.same_count i * restated.numbers.same_size i
+
+    used_at : (b : ℕ) → block_is_free old.table b ≡ false → block_is_free table b ≡ false
+    used_at b was = ⊎_elim (λ same. ap (block_is_free table) same ∙ restated.here) (λ ne. restated.others b ne ∙ was) (cases_eq b block)
+
+    in_use : (u : ℕ) (place : Place) → ((u ≡ v) × (new ≡ place)) ⊎ ((u ≡ v → ⊥) × (place_of old.places u ≡ Some place)) → block_is_free table (place.page / old.table.size) ≡ false
+    in_use u place (inl here) = ap (block_is_free table) (ap (λ (q : Place). q.page / old.table.size) (sym here.1) ∙ at) ∙ restated.here
+    in_use u place (inr there) = used_at (place.page / old.table.size) (is.in_use u place there.1)

@@ -4,8 +4,8 @@ ghost use Rattle.nl_vseg.specs.Segment.{AreBeside, SameSize, TakenAsErased, boun
 ghost use Rattle.nl_vseg.specs.Seen.{seen, IsFormed};
 
 use crate::place::Place;
+use crate::room::set_wear;
 use crate::state::State;
-use nl_blocks::BlockState;
 
 impl State {
     pub fn load(&mut self, page: u32, vaddr: u32, stamp: u64)
@@ -20,13 +20,10 @@ impl State {
         ensures numbers { SameSize (seen self.old) (seen self.new) }
         ensures erased { (p : ℕ) → TakenAsErased (seen self.new) p → TakenAsErased (seen self.old) p × (p / self.old.blocks.size ≡ page / self.old.blocks.size → ⊥) }
     {
-        let pages = self.blocks.pages();
-        let block = page / pages;
-        self.places[vaddr as usize] = Some(Place { page, stamp });
+        let block = page / self.blocks.pages();
+        self.close(block);
         self.blocks.seal(block);
-        if block == self.active {
-            self.used = pages;
-        }
+        self.places[vaddr as usize] = Some(Place { page, stamp });
     }
 
     pub fn soil(&mut self, block: u32, wear: u32)
@@ -37,17 +34,8 @@ impl State {
         ensures numbers { SameSize (seen self.old) (seen self.new) }
         ensures erased { (p : ℕ) → TakenAsErased (seen self.new) p → TakenAsErased (seen self.old) p × (p / self.old.blocks.size ≡ block → ⊥) }
     {
-        let is_free = matches!(self.blocks.state(block), BlockState::Free);
-        if !is_free {
-            self.blocks.erased(block, 0);
-        }
-        self.blocks.found(block, wear, 0);
-        if !is_free {
-            self.blocks.seal(block);
-        }
+        self.close(block);
+        set_wear(&mut self.blocks, block, wear);
         self.soiled[block as usize] = true;
-        if block == self.active {
-            self.used = self.blocks.pages();
-        }
     }
 }

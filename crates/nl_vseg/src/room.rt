@@ -11,7 +11,7 @@ ghost use Rattle.nl_vseg.specs.Answers.{IsLost, LosesStamp};
 use crate::copy::copy_block;
 use crate::state::State;
 use crate::victim::choose;
-use nl_blocks::Blocks;
+use nl_blocks::{BlockState, Blocks};
 use nl_field::VirtualWrite;
 use nl_nand::{Nand, WriteAnswer};
 
@@ -32,6 +32,29 @@ fn take(blocks: &mut Blocks) -> u32
         Some(block) => block,
         None => unreachable!(),
     }
+}
+
+fn is_free(blocks: &Blocks, block: u32) -> bool
+    requires first { blocks.now.first ≡ 0 }
+    requires within { block < length blocks.now.blocks }
+    ensures { result ≡ block_is_free blocks.now block }
+{
+    matches!(blocks.state(block), BlockState::Free)
+}
+
+/// Sets the wear of a block.
+pub fn set_wear(blocks: &mut Blocks, block: u32, wear: u32)
+    requires first { blocks.old.first ≡ 0 }
+    requires within { block < length blocks.old.blocks }
+    ensures { SameUse blocks.old blocks.new }
+{
+    if is_free(blocks, block) {
+        blocks.found(block, wear, 0);
+        return;
+    }
+    blocks.erased(block, 0);
+    blocks.found(block, wear, 0);
+    blocks.seal(block);
 }
 
 impl State {
@@ -161,9 +184,26 @@ impl State {
     {
         let block = self.active;
         let wear = self.blocks.wear(block);
-        self.used = self.blocks.pages();
+        self.close(block);
         self.set_free(block, true);
-        self.blocks.found(block, wear, 0);
+        set_wear(&mut self.blocks, block, wear);
+    }
+
+    /// Nothing more is programmed in this block before it is erased.
+    pub fn close(&mut self, block: u32)
+        requires { IsFormed self.old }
+        ensures formed { IsFormed self.new }
+        ensures places { self.new.places.items ≡ self.old.places.items }
+        ensures table { self.new.blocks ≡ self.old.blocks }
+        ensures soiled { self.new.soiled.items ≡ self.old.soiled.items }
+        ensures active { self.new.active ≡ self.old.active }
+        ensures used { self.new.active ≡ block → self.new.used ≡ self.new.blocks.size }
+        ensures idle { self.new.used < self.new.blocks.size → block ≡ self.new.active → ⊥ }
+        ensures erased { (p : ℕ) → TakenAsErased (seen self.new) p → TakenAsErased (seen self.old) p }
+    {
+        if block == self.active {
+            self.used = self.blocks.pages();
+        }
     }
 
     /// Copies the pages of the victim that addresses have to the active block. The map has the copies once all are made.

@@ -8,6 +8,20 @@ use crate::place::Place;
 use nl_blocks::{BlockState, Blocks, PageState};
 use nl_victim::most_dead;
 
+/// Seals the block where it is in use.
+fn seal_used(blocks: &mut Blocks, block: u32)
+    requires first { blocks.old.first ≡ 0 }
+    requires within { block < length blocks.old.blocks }
+    ensures states { SameUse blocks.old blocks.new }
+    ensures here { block_is_free blocks.new block ≡ false → is_sealed (block_at blocks.new block) ≡ true }
+    ensures others { (other : ℕ) → (other ≡ block → ⊥) → block_at blocks.new other ≡ block_at blocks.old other }
+{
+    if matches!(blocks.state(block), BlockState::Free) {
+        return;
+    }
+    blocks.seal(block);
+}
+
 /// Each block in use is Sealed.
 fn seal_all(blocks: &mut Blocks)
     requires { blocks.old.first ≡ 0 }
@@ -15,9 +29,7 @@ fn seal_all(blocks: &mut Blocks)
     ensures sealed { (block : ℕ) → block < length blocks.new.blocks → block_is_free blocks.new block ≡ false → is_sealed (block_at blocks.new block) ≡ true }
 {
     for block in 0..blocks.count() {
-        if !matches!(blocks.state(block), BlockState::Free) {
-            blocks.seal(block);
-        }
+        seal_used(blocks, block);
     }
 }
 
@@ -65,6 +77,7 @@ fn settle(blocks: &mut Blocks, places: &Vec<Option<Place>>)
 
 /// The block with the most pages that no address has, of those in use. At most one block is Free.
 pub fn choose(blocks: &mut Blocks, places: &Vec<Option<Place>>) -> u32
+    requires some { 0 < blocks.old.size }
     requires first { blocks.old.first ≡ 0 }
     requires below { AreBelow (length blocks.old.blocks * blocks.old.size) places.now.items }
     requires apart { AreApart places.now.items }
