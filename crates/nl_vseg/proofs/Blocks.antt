@@ -1,9 +1,9 @@
 -- What the calls on the table of blocks do to which blocks are Free.
-use Rattle.std.proofs.Common.{◌≡◌, ◌⊎◌, inl, inr, ⊎_elim, ℕ, zero, suc, ◌+◌, ◌-◌, ◌<◌, ◌≤◌, Bool, true, false, cond, List, length, refl, sym, ◌∙◌, ap, subst, arith, length-set}
-use Rattle.std.proofs.lemmas.Bool.{cases_eq}
+use Rattle.std.proofs.Common.{◌≡◌, ◌⊎◌, inl, inr, ⊎_elim, ℕ, zero, suc, ◌+◌, ◌-◌, ◌<◌, ◌≤◌, Bool, true, false, cond, List, [], ◌∷◌, length, refl, sym, ◌∙◌, ap, arith, length-set, count_by}
+use Rattle.std.proofs.lemmas.Bool.{cases_eq, cases_Bool}
 use Rattle.std.proofs.lemmas.List.{get_or-set_same, get_or-set_other}
-use Rattle.nl_blocks.specs.declared.states.BlockState.{BlockState}
-use Rattle.nl_blocks.specs.Table.{BlockRow, Table, HasBlock, block_at, no_row, with_block, is_free, free_count}
+use Rattle.std.proofs.lemmas.List.Sums.{sum_by-cons}
+use Rattle.nl_blocks.specs.Table.{BlockRow, Table, HasBlock, block_at, row_at, no_row, with_block, is_free, free_count}
 use Rattle.nl_blocks.proofs.TableLaws.{sum_by-with_block}
 use Rattle.nl_vseg.specs.Segment.{block_is_free}
 use Rattle.nl_vseg.specs.Copying.{SameNumbers, SameUse, Restated}
@@ -75,3 +75,40 @@ restated_after {block} {free} {a} {b} {c} first second = record {
       let t : free_count c + cond (block_is_free a block) 1 0 ≡ free_count b + cond free 1 0 = ap (λ x. free_count c + cond x 1 0) (sym (first.free block)) ∙ second.total in
       omega (arith, t, first.total);
 }
+
+abbrev num : Bool → ℕ
+num b = cond b 1 0
+
+some_row : (rows : List BlockRow) → 1 ≤ count_by is_free rows → (i : ℕ) × (i < length rows) × (is_free (row_at rows i) ≡ true)
+some_row [] some = absurd (omega (arith, some))
+some_row (row ∷ rows) some = elim (cases_Bool (is_free row)) [
+  | inl free ↦ (0, omega arith, free)
+  | inr used ↦
+      let e : count_by is_free (row ∷ rows) ≡ cond (is_free row) 1 0 + count_by is_free rows = sum_by-cons (λ r. cond (is_free r) 1 0) row rows in
+      let none : cond (is_free row) 1 0 ≡ 0 = ap num used in
+      let rest = some_row rows (omega (arith, some, e, none)) in
+      (suc rest.0, omega (arith, rest.1), rest.2)
+]
+
+-- some block is Free
+pub some_free : (t : Table) → t.first ≡ 0 → 1 ≤ free_count t → (block : ℕ) × (block < length t.blocks) × (block_is_free t block ≡ true)
+some_free t first some =
+    let row = some_row t.blocks some in
+    (row.0, row.1, ap (λ n. is_free (row_at t.blocks n)) (omega (arith, first)) ∙ row.2)
+
+none_row : (rows : List BlockRow) (i : ℕ) → count_by is_free rows ≡ 0 → i < length rows → is_free (row_at rows i) ≡ false
+none_row [] i none within = absurd (omega (arith, within))
+none_row (row ∷ rows) zero none within = elim (cases_Bool (is_free row)) [
+  | inl free ↦
+      let e : count_by is_free (row ∷ rows) ≡ cond (is_free row) 1 0 + count_by is_free rows = sum_by-cons (λ r. cond (is_free r) 1 0) row rows in
+      let one : cond (is_free row) 1 0 ≡ 1 = ap num free in
+      absurd (omega (arith, none, e, one))
+  | inr used ↦ used
+]
+none_row (row ∷ rows) (suc i) none within =
+    let e : count_by is_free (row ∷ rows) ≡ cond (is_free row) 1 0 + count_by is_free rows = sum_by-cons (λ r. cond (is_free r) 1 0) row rows in
+    none_row rows i (omega (arith, none, e)) (omega (arith, within))
+
+-- no block is Free
+pub none_free : (t : Table) → t.first ≡ 0 → free_count t ≡ 0 → (block : ℕ) → block < length t.blocks → block_is_free t block ≡ false
+none_free t first none block within = ap (λ n. is_free (row_at t.blocks n)) (omega (arith, first)) ∙ none_row t.blocks block none within

@@ -10,6 +10,9 @@ use Rattle.nl_vseg.specs.Copying.{is_in, mapped_in, IsSettled}
 use Rattle.nl_vseg.specs.declared.place.Place.{Place}
 use Rattle.nl_vseg.proofs.Places.{not_beside, beside_of}
 
+abbrev num : Bool → ℕ
+num b = cond b 1 0
+
 -- the sum of the first values of a function
 total : (ℕ → ℕ) → ℕ → ℕ
 total f zero = 0
@@ -36,12 +39,12 @@ unfolding total
 total_one zero a = omega arith
 total_one (suc n) a = elim (cases_eq a n) [
   | inl is ↦
-      let rest : total (λ k. cond (a == k) 1 0) n ≡ 0 = total_zero n (λ k. cond (a == k) 1 0) (λ k less. ap (λ b. cond b 1 0) (ne_eqb a k (λ same. omega (arith, same, is, less)))) in
-      let here : cond (a == n) 1 0 ≡ 1 = ap (λ b. cond b 1 0) (eq-eqb a n is) in
+      let rest : total (λ k. cond (a == k) 1 0) n ≡ 0 = total_zero n (λ k. cond (a == k) 1 0) (λ k less. ap num (ne_eqb a k (λ same. omega (arith, same, is, less)))) in
+      let here : num (a == n) ≡ 1 = ap num (eq-eqb a n is) in
       omega arith
   | inr ne ↦
       let rest : total (λ k. cond (a == k) 1 0) n ≤ 1 = total_one n a in
-      let here : cond (a == n) 1 0 ≡ 0 = ap (λ b. cond b 1 0) (ne_eqb a n ne) in
+      let here : num (a == n) ≡ 0 = ap num (ne_eqb a n ne) in
       omega arith
 ]
 
@@ -106,7 +109,7 @@ some_dead t places first some few fit settled none =
 
     each : (k : ℕ) → k < length t.blocks → (block_is_free t k ≡ true) ⊎ (block_is_free t k ≡ false) → t.size ≤ mapped_in t.size k places + cond (is_free (row_at t.blocks k)) 1 0 * t.size
     each k less (inl is) =
-        let one : cond (is_free (row_at t.blocks k)) 1 0 ≡ 1 = ap (λ (r : BlockRow). cond (is_free r) 1 0) (same k) ∙ ap (λ b. cond b 1 0) is in
+        let one : cond (is_free (row_at t.blocks k)) 1 0 ≡ 1 = ap (λ (r : BlockRow). cond (is_free r) 1 0) (same k) ∙ ap num is in
         subst (λ n. t.size ≤ mapped_in t.size k places + n * t.size) (sym one) (omega arith)
     each k less (inr is) =
         let counted = settled.counted k less in
@@ -119,10 +122,11 @@ pub mapped_zero : (pages block : ℕ) (places : List (Option Place)) → 0 < pag
 mapped_zero pages block [] some unmapped = refl
 mapped_zero pages block (None ∷ places) some unmapped =
     let rest : mapped_in pages block places ≡ 0 = mapped_zero pages block places some (λ v place named. unmapped (suc v) place named) in
-    sum_by-cons (λ x. cond (is_in pages block x) 1 0) None places ∙ rest
+    let e : mapped_in pages block (None ∷ places) ≡ 0 + mapped_in pages block places = sum_by-cons (λ x. cond (is_in pages block x) 1 0) None places in
+    omega (arith, e, rest)
 mapped_zero pages block (Some place ∷ places) some unmapped =
     let rest : mapped_in pages block places ≡ 0 = mapped_zero pages block places some (λ v p named. unmapped (suc v) p named) in
-    let here : cond (is_in pages block (Some place)) 1 0 ≡ 0 = ap (λ b. cond b 1 0) (ne_eqb (place.page / pages) block (not_beside place.page pages block some (unmapped 0 place refl))) in
+    let here : cond (is_in pages block (Some place)) 1 0 ≡ 0 = ap num (ne_eqb (place.page / pages) block (not_beside place.page pages block some (unmapped 0 place refl))) in
     let e : mapped_in pages block (Some place ∷ places) ≡ cond (is_in pages block (Some place)) 1 0 + mapped_in pages block places = sum_by-cons (λ x. cond (is_in pages block x) 1 0) (Some place) places in
     omega (arith, e, here, rest)
 
@@ -133,7 +137,7 @@ zero_unmapped pages block places zero_is v place named = beside_of place.page pa
     counted [] none v there is = none-some place there
     counted (x ∷ list) none zero there is =
         let e : mapped_in pages block (x ∷ list) ≡ cond (is_in pages block x) 1 0 + mapped_in pages block list = sum_by-cons (λ y. cond (is_in pages block y) 1 0) x list in
-        let one : cond (is_in pages block x) 1 0 ≡ 1 = ap (λ y. cond (is_in pages block y) 1 0) there ∙ ap (λ b. cond b 1 0) (eq-eqb (place.page / pages) block is) in
+        let one : cond (is_in pages block x) 1 0 ≡ 1 = ap (λ y. cond (is_in pages block y) 1 0) there ∙ ap num (eq-eqb (place.page / pages) block is) in
         omega (arith, none, e, one)
     counted (x ∷ list) none (suc v) there is =
         let e : mapped_in pages block (x ∷ list) ≡ cond (is_in pages block x) 1 0 + mapped_in pages block list = sum_by-cons (λ y. cond (is_in pages block y) 1 0) x list in
@@ -145,7 +149,7 @@ pub mapped_some : (pages block v : ℕ) (place : Place) (places : List (Option P
 mapped_some pages block v place [] named is = absurd (none-some place named)
 mapped_some pages block zero place (x ∷ places) named is =
     let e : mapped_in pages block (x ∷ places) ≡ cond (is_in pages block x) 1 0 + mapped_in pages block places = sum_by-cons (λ y. cond (is_in pages block y) 1 0) x places in
-    let one : cond (is_in pages block x) 1 0 ≡ 1 = ap (λ y. cond (is_in pages block y) 1 0) named ∙ ap (λ b. cond b 1 0) (eq-eqb (place.page / pages) block is) in
+    let one : cond (is_in pages block x) 1 0 ≡ 1 = ap (λ y. cond (is_in pages block y) 1 0) named ∙ ap num (eq-eqb (place.page / pages) block is) in
     omega (arith, e, one)
 mapped_some pages block (suc v) place (x ∷ places) named is =
     let e : mapped_in pages block (x ∷ places) ≡ cond (is_in pages block x) 1 0 + mapped_in pages block places = sum_by-cons (λ y. cond (is_in pages block y) 1 0) x places in

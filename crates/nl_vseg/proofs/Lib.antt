@@ -1,4 +1,5 @@
 pub mod Blocks
+pub mod Copies
 pub mod Counting
 pub mod Counts
 pub mod Images
@@ -7,3 +8,5 @@ pub mod Places
 pub mod ReadPlaces
 pub mod Records
 pub mod Segments
+pub mod Shapes
+pub mod Writing

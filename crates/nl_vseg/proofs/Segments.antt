@@ -209,3 +209,33 @@ loaded old table block v new is restated at below spelled within beside idle = r
     in_use : (u : ℕ) (place : Place) → ((u ≡ v) × (new ≡ place)) ⊎ ((u ≡ v → ⊥) × (place_of old.places u ≡ Some place)) → block_is_free table (place.page / old.table.size) ≡ false
     in_use u place (inl here) = ap (block_is_free table) (ap (λ (q : Place). q.page / old.table.size) (sym here.1) ∙ at) ∙ restated.here
     in_use u place (inr there) = used_at (place.page / old.table.size) (is.in_use u place there.1)
+
+-- a block is the active one now, and none of its pages is used
+pub started : (old : Segment) (block : ℕ) → IsSegment old → block < length old.table.blocks → block_is_free old.table block ≡ false → IsUnmapped old.table.size old.places block
+    → IsSegment (record old { active = block; used = 0 })
+started old block is within taken unmapped = record {
+  first = is.first;
+  some = is.some;
+  numbers = is.numbers;
+  marks = is.marks;
+  few = is.few;
+  active_is = within;
+  used_fits = omega arith;
+  taken = λ lt. taken;
+  places_are = record {
+    each = λ v place named.
+        let was = is.places_are.each v place named in
+        record { within = was.within; behind = ⊎_elim (λ lt. inl (omega (arith, lt))) (λ ge. inr ge) (unmapped v place named); spelled = was.spelled };
+    apart = is.places_are.apart;
+  };
+  in_use = is.in_use;
+}
+
+pub started_segment : (old : Segment) (block : ℕ) (image : Image) → ((p : ℕ) → p / old.table.size ≡ block → page_at image p ≡ erased) → IsSegmentOf image old → IsSegmentOf image (record old { active = block; used = 0 })
+started_segment old block image blank seg = record {
+  holds = seg.holds;
+  blank = λ p taken. ⊎_elim
+      (λ next. blank p (block_of p old.table.size block (omega (arith, next.0)) next.1))
+      (λ free. seg.blank p (taken.0, inr free))
+      taken.1;
+}

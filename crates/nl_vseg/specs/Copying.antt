@@ -1,7 +1,9 @@
 -- What the steps of a cleaning do to the table of blocks, to the places and to the pages.
 use Rattle.std.specs.Prelude.{◌≡◌, ◌⊎◌, ℕ, ◌+◌, ◌*◌, ◌/◌, ◌<◌, ◌≤◌, ◌==◌, Bool, true, false, cond, List, length, count_by, Option, Some, None}
 use Rattle.nl_field.specs.Page.{Image, Page, written, erased, page_at}
+use Rattle.nl_blocks.specs.declared.states.PageState.TheVariants.{Live}
 use Rattle.nl_blocks.specs.Table.{Table, block_at, dead_count, is_sealed, free_count}
+use Rattle.nl_blocks.specs.Table.{page_at as row_page}
 use Rattle.nl_vseg.specs.Pages.{IsBeside, fact_of, main_of, page_with}
 use Rattle.nl_vseg.specs.Segment.{block_is_free, place_of, stamp_in_place}
 use Rattle.nl_vseg.specs.declared.place.Place.{Place}
@@ -31,6 +33,13 @@ pub record SameStates (old new : Table) : Type 0 where
   pub same : SameUse old new
   pub states : (block : ℕ) → (block_at new block).state ≡ (block_at old block).state
 
+-- the page of a place was marked Live
+pub record IsMarked (place : Option Place) (old new : Table) : Type 0 where
+  pub states : SameStates old new
+  pub rows : (block : ℕ) → length (block_at new block).pages ≡ length (block_at old block).pages
+  pub dead : (block : ℕ) → dead_count (block_at new block) + cond (is_in old.size block place) 1 0 ≡ dead_count (block_at old block)
+  pub live : (page : ℕ) → page < length old.blocks * old.size → (row_page new page).state ≡ Live → ((row_page old page).state ≡ Live) ⊎ ((p : Place) × (place ≡ Some p) × (p.page ≡ page))
+
 -- one block is Free now, or not, and the others are as before
 pub record Restated (block : ℕ) (free : Bool) (old new : Table) : Type 0 where
   pub numbers : SameNumbers old new
@@ -43,12 +52,15 @@ pub record IsSettled (places : List (Option Place)) (table : Table) : Type 0 whe
   pub sealed : (block : ℕ) → block < length table.blocks → block_is_free table block ≡ false → is_sealed (block_at table block) ≡ true
   pub counted : (block : ℕ) → block < length table.blocks → mapped_in table.size block places + dead_count (block_at table block) ≡ table.size
 
+-- a place was not in the victim, and is as it was, or it is one of the first pages of the target
+abbrev pub IsMovedPlace : ℕ → ℕ → ℕ → ℕ → Option Place → Option Place → Type 0
+IsMovedPlace pages victim target used old new = (place : Place) → new ≡ Some place
+    → ((old ≡ Some place) × (place.page / pages ≡ victim → ⊥)) ⊎ ((target * pages ≤ place.page) × (place.page < target * pages + used))
+
 -- The addresses that had a page in the victim have one of the first pages of the target, and the others have theirs.
 pub record AreMoved (pages victim target used : ℕ) (old new : List (Option Place)) : Type 0 where
-  pub count : length new ≡ length old
   pub stamps : (v : ℕ) → stamp_in_place (place_of new v) ≡ stamp_in_place (place_of old v)
-  pub each : (v : ℕ) (place : Place) → place_of new v ≡ Some place
-      → ((place_of old v ≡ Some place) × (place.page / pages ≡ victim → ⊥)) ⊎ ((target * pages ≤ place.page) × (place.page < target * pages + used))
+  pub each : (v : ℕ) → IsMovedPlace pages victim target used (place_of old v) (place_of new v)
 
 -- the page shows what one of these places shows
 abbrev pub IsCopy : List (Option Place) → Image → Page → Type 0

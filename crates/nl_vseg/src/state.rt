@@ -24,6 +24,12 @@ pub struct State {
     pub buf: PageBuf,
 }
 
+fn no_marks(alloc: Global, count: usize) -> Result<Vec<bool>, Memory>
+    ensures { IfOk result (λ v. v.items ≡ replicate count false) }
+{
+    Ok(vec![in alloc; false; count]?)
+}
+
 impl State {
     pub fn new(alloc: Global, shape: &Shape) -> Result<State, Memory>
         requires legal { IsTrue (is_legal shape.now.blocks shape.now.pages) }
@@ -35,7 +41,7 @@ impl State {
             places: no_places(alloc, shape.vaddrs)?,
             copies: no_places(alloc, shape.vaddrs)?,
             blocks: Blocks::new(alloc, 0, shape.vblocks, shape.pages)?,
-            soiled: vec![in alloc; false; shape.vblocks as usize]?,
+            soiled: no_marks(alloc, shape.vblocks as usize)?,
             active: 0,
             used: shape.pages,
             buf: PageBuf::new(alloc)?,

@@ -1,8 +1,8 @@
 // Which block is cleaned.
-ghost use Rattle.std.specs.Prelude.{◌≡◌, ◌⊎◌, ℕ, ◌+◌, ◌*◌, ◌/◌, ◌<◌, ◌≤◌, length, true, false};
+ghost use Rattle.std.specs.Prelude.{◌≡◌, ◌⊎◌, ℕ, ◌+◌, ◌*◌, ◌/◌, ◌<◌, ◌≤◌, length, true, false, IfSome};
 ghost use Rattle.nl_blocks.specs.Table.{block_at, dead_count, free_count, is_sealed, page_at};
 ghost use Rattle.nl_vseg.specs.Segment.{AreApart, AreBelow, IsUnmapped, block_is_free};
-ghost use Rattle.nl_vseg.specs.Copying.{mapped_in, SameUse, IsSettled, SameStates};
+ghost use Rattle.nl_vseg.specs.Copying.{mapped_in, IsMarked, IsSettled, SameStates, SameUse};
 
 use crate::place::Place;
 use nl_blocks::{BlockState, Blocks, PageState};
@@ -45,6 +45,21 @@ fn mark_dead(blocks: &mut Blocks)
     }
 }
 
+/// The page of this place is Live.
+fn mark_place(blocks: &mut Blocks, place: Option<Place>)
+    requires first { blocks.old.first ≡ 0 }
+    requires some { 0 < blocks.old.size }
+    requires rows { (block : ℕ) → block < length blocks.old.blocks → length (block_at blocks.old block).pages ≡ blocks.old.size }
+    requires below { IfSome place (λ p. p.page < length blocks.old.blocks * blocks.old.size) }
+    requires dead { IfSome place (λ p. (page_at blocks.old p.page).state ≡ PageState.Dead) }
+    ensures { IsMarked place blocks.old blocks.new }
+{
+    let Some(place) = place else {
+        return;
+    };
+    blocks.mark_live(place.page);
+}
+
 /// The page of each address is Live.
 fn mark_live(blocks: &mut Blocks, places: &Vec<Option<Place>>)
     requires first { blocks.old.first ≡ 0 }
@@ -56,9 +71,7 @@ fn mark_live(blocks: &mut Blocks, places: &Vec<Option<Place>>)
 {
     let _ = blocks.count();
     for v in 0..places.len() {
-        if let Some(place) = places[v] {
-            blocks.mark_live(place.page);
-        }
+        mark_place(blocks, places[v]);
     }
 }
 

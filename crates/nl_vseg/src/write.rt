@@ -56,11 +56,13 @@ impl State {
         let wear = self.blocks.wear(self.active);
         self.used += 1;
         self.buf.copy_from(from);
-        let answer = program_page(media, page, &mut self.buf, vaddr, stamp, wear);
-        if answer == WriteAnswer::Done {
-            self.places[vaddr as usize] = Some(Place { page, stamp });
+        match program_page(media, page, &mut self.buf, vaddr, stamp, wear) {
+            WriteAnswer::Failed => WriteAnswer::Failed,
+            WriteAnswer::Done => {
+                self.places[vaddr as usize] = Some(Place { page, stamp });
+                WriteAnswer::Done
+            }
         }
-        answer
     }
 
     pub fn write<M: Nand>(
