@@ -123,4 +123,3 @@ module _ {M : Type 0} {clock : M → ℕ} {contents : M → Image} {left : M →
       at_end : (m : ℕ) (c : Image) → c ≡ contents new → (a : WriteAnswer) → answer ≡ a → Leaves low high value (contents old) a (contents new) → Turns finished (clock new) B A m c
       at_end m c is write.Done done e = inr (subst A (sym is) (after done))
       at_end m c is write.Failed failed e = ⊎_elim (λ b. inl ((λ f. absurd (cc (is_done f, failed))), subst B (sym is) b)) (λ a. inr (subst A (sym is) a)) (by (contents new) e)
-

@@ -143,3 +143,16 @@ changed_keeps {M} {clock} {contents} {left} {old} {new} pages count block places
   crash = weaken (λ m c. ChangedIn pages block places (contents old) c) (λ m c. Keeps pages (count * pages) (map_of places (contents old)) (contents old) c) crash
       (λ m c from to is. keeps_changed pages (count * pages) places (contents old) holds below block (block_below block count pages within) unmapped c is);
 }
+
+-- places below a bound are below a greater one
+pub widen : {pages below active used : ℕ} {places : List (Option Place)} (wide : ℕ) → below ≤ wide → ArePlaces pages below active used places → ArePlaces pages wide active used places
+widen wide le are = record {
+  each = λ v place named. let is = are.each v place named in record { within = omega (arith, is.within, le); behind = is.behind; spelled = is.spelled };
+  apart = are.apart;
+}
+
+-- a block of which no page is used is erased
+pub next_blank : (seg : Segment) (image : Image) → IsSegment seg → seg.used ≡ 0 → IsSegmentOf image seg → ErasedWithin image (seg.active * seg.table.size) (seg.active * seg.table.size + seg.table.size)
+next_blank seg image is begins seg_is p from below =
+    let e = block_below seg.active (length seg.table.blocks) seg.table.size is.active_is in
+    seg_is.blank p (omega (arith, e, below), inl (omega (arith, from, begins), below))

@@ -9,4 +9,5 @@ pub mod ReadPlaces
 pub mod Records
 pub mod Segments
 pub mod Shapes
+pub mod Standing
 pub mod Writing

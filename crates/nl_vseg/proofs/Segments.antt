@@ -239,3 +239,37 @@ started_segment old block image blank seg = record {
       (λ free. seg.blank p (taken.0, inr free))
       taken.1;
 }
+
+-- the same blocks are Free
+module _ (seg : Segment) (table : Table) (use_is : SameUse seg.table table) where
+  pub same_use_segment : IsSegment seg → IsSegment (record seg { table = table })
+  same_use_segment is = record {
+    first = use_is.numbers.same_first ∙ is.first;
+    some = subst (λ n. 0 < n) (sym use_is.numbers.same_size) is.some;
+    numbers = subst (λ n. n < 2 ^ 32) (sym bound_same) is.numbers;
+    marks = is.marks ∙ sym use_is.numbers.same_count;
+    few = subst (λ n. length seg.places + 4 * n ≤ length table.blocks * table.size) (sym use_is.numbers.same_size) (subst (λ n. length seg.places + 4 * seg.table.size ≤ n) (sym bound_same) is.few);
+    active_is = subst (λ n. seg.active < n) (sym use_is.numbers.same_count) is.active_is;
+    used_fits = subst (λ n. seg.used ≤ n) (sym use_is.numbers.same_size) is.used_fits;
+    taken = λ lt. use_is.free seg.active ∙ is.taken (subst (λ n. seg.used < n) use_is.numbers.same_size lt);
+    places_are = subst (λ n. ArePlaces table.size n seg.active seg.used seg.places) (sym bound_same)
+        (subst (λ n. ArePlaces n (bound seg) seg.active seg.used seg.places) (sym use_is.numbers.same_size) is.places_are);
+    in_use = λ v place named. use_is.free (place.page / table.size) ∙ subst (λ n. block_is_free seg.table (place.page / n) ≡ false) (sym use_is.numbers.same_size) (is.in_use v place named);
+  }
+    where
+      bound_same : length table.blocks * table.size ≡ length seg.table.blocks * seg.table.size
+      bound_same i = use_is.numbers.same_count i * use_is.numbers.same_size i
+
+  pub same_use_image : (image : Image) → IsSegmentOf image seg → IsSegmentOf image (record seg { table = table })
+  same_use_image image seg_is = record {
+    holds = seg_is.holds;
+    blank = λ p taken.
+        let n = taken_cases (record seg { table = table }) seg.table.size (length seg.table.blocks) use_is.numbers.same_size use_is.numbers.same_count p taken in
+        seg_is.blank p (n.0, ⊎_elim (λ next. inl next) (λ free. inr (sym (use_is.free (p / seg.table.size)) ∙ free.0, free.1)) n.1);
+  }
+
+-- the same, where the numbers are given by other names
+pub keeps_as : {M : Type 0} {clock : M → ℕ} {contents : M → Image} {left : M → ℕ → Image → Type 0} {pages bounds more_pages more_bounds : ℕ} {m0 m1 : ℕ → Option (ℕ × List ℕ)} {a b : M}
+    → pages ≡ more_pages → bounds ≡ more_bounds → KeepsMap clock contents left pages bounds m0 m1 a b → KeepsMap clock contents left more_pages more_bounds m0 m1 a b
+keeps_as {M} {clock} {contents} {left} {pages} {bounds} {more_pages} {more_bounds} {m0} {m1} {a} {b} p q k =
+    subst (λ n. KeepsMap clock contents left n more_bounds m0 m1 a b) p (subst (λ n. KeepsMap clock contents left pages n m0 m1 a b) q k)

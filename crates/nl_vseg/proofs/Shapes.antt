@@ -1,5 +1,5 @@
 -- The numbers of a shape that a segment rests on.
-use Rattle.std.proofs.Common.{◌≡◌, ℕ, zero, suc, ◌+◌, ◌*◌, ◌/◌, ◌%◌, ◌^◌, ◌<◌, ◌≤◌, false, Option, None, length, replicate, refl, sym, ◌∙◌, subst, arith, IsTrue, nat_le, ◌&&◌, count_by, cond}
+use Rattle.std.proofs.Common.{◌≡◌, inl, inr, ℕ, zero, suc, ◌+◌, ◌*◌, ◌/◌, ◌%◌, ◌^◌, ◌<◌, ◌≤◌, false, Option, None, length, replicate, refl, sym, ◌∙◌, subst, arith, IsTrue, nat_le, ◌&&◌, count_by, cond}
 use Rattle.std.specs.Int.{div_ceil}
 use Rattle.std.proofs.lemmas.Bool.{and_parts, leb-true}
 use Rattle.std.proofs.lemmas.Grind.{div_ceil_times}
@@ -9,6 +9,8 @@ use Rattle.nl_field.specs.declared.shape.Shape.{Shape}
 use Rattle.std.proofs.lemmas.List.{length-replicate}
 use Rattle.std.proofs.lemmas.Option.{none-some}
 use Rattle.nl_blocks.specs.Table.{is_free, new_row, new_table}
+use Rattle.nl_nand.specs.declared.geometry.Geometry.{Geometry}
+use Rattle.nl_nand.specs.Nand.{IsLegal}
 use Rattle.nl_vseg.specs.Segment.{IsSegment}
 use Rattle.nl_vseg.specs.declared.place.Place.{Place}
 use Rattle.nl_vseg.proofs.Places.{all_none}
@@ -70,3 +72,8 @@ new_segment shape room =
       };
       in_use = λ v place named. absurd (none-some place (sym (all_none shape.vaddrs v) ∙ named));
     }
+
+-- the pages of a medium are counted by a `u32`
+pub medium_fits : (geometry : Geometry) → IsLegal geometry → geometry.blocks * geometry.pages < 2 ^ 32
+medium_fits geometry (inl legal) = let p = legal_parts geometry.blocks geometry.pages legal in omega (arith, p.4)
+medium_fits geometry (inr none) = subst (λ (n : Geometry). n.blocks * n.pages < 2 ^ 32) (sym none) (omega arith)

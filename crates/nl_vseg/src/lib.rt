@@ -2,6 +2,7 @@
 #![tactic(auto)]
 
 mod copy;
+pub mod laws;
 mod open;
 mod pages;
 mod place;

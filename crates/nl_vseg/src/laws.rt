@@ -1,0 +1,22 @@
+ghost use Rattle.std.specs.Prelude.{ℕ, List, Option, ◌∷◌};
+ghost use Rattle.nl_field.specs.Page.{Image};
+ghost use Rattle.nl_vseg.specs.Effects.{Keeps, Takes};
+ghost use Rattle.nl_vseg.specs.Maps.{IsAbove, Map, StandsFor, with_at};
+ghost use Rattle.nl_vseg.specs.Pages.{Fact};
+
+/// An image that keeps a map stands for it, where the image before did. So each image that a stop within a write leaves stands
+/// for the map before it, or for the map with the new value.
+pub fn kept()
+    ensures { (pages bound count : ℕ) (map : Map) (failed : List Fact) (old c : Image) → StandsFor bound count old map failed → Keeps pages bound map old c → StandsFor bound count c map failed }
+{}
+
+/// An image that takes a value under a number above those of its address stands for the map with that value.
+pub fn taken()
+    ensures { (pages bound count v s : ℕ) (main : List ℕ) (map : Map) (failed : List Fact) (old c : Image) → StandsFor bound count old map failed → IsAbove bound old v s → Takes pages bound map v s main old c → StandsFor bound count c (with_at map v (s, main)) failed }
+{}
+
+/// After a write that failed the image stands for the map as it was, but for that write.
+pub fn failed()
+    ensures takes { (pages bound count v s : ℕ) (main : List ℕ) (map : Map) (failed : List Fact) (old c : Image) → StandsFor bound count old map failed → Takes pages bound map v s main old c → StandsFor bound count c map ((v, s, main) ∷ failed) }
+    ensures keeps { (pages bound count v s : ℕ) (main : List ℕ) (map : Map) (failed : List Fact) (old c : Image) → StandsFor bound count old map failed → Keeps pages bound map old c → StandsFor bound count c map ((v, s, main) ∷ failed) }
+{}
