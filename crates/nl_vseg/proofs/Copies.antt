@@ -1,6 +1,6 @@
 -- A cleaning copies the pages of a block one by one.
-use Rattle.std.proofs.Common.{◌≡◌, ◌⊎◌, inl, inr, ⊎_elim, ℕ, ◌+◌, ◌*◌, ◌/◌, ◌<◌, ◌≤◌, Option, Some, None, List, length, set, cond, refl, sym, ◌∙◌, ap, subst, arith, eq-eqb, ne_eqb, ◌==◌, Bool, true, false, length-set, IsTrue}
-use Rattle.std.proofs.lemmas.Bool.{cases_eq, true≢false}
+use Rattle.std.proofs.Common.{◌≡◌, ◌⊎◌, inl, inr, ⊎_elim, ℕ, ◌+◌, ◌-◌, ◌*◌, ◌/◌, ◌<◌, ◌≤◌, nat_le, Option, Some, None, List, length, set, cond, refl, sym, ◌∙◌, ap, subst, arith, eq-eqb, ne_eqb, ◌==◌, Bool, true, false, length-set, IsTrue}
+use Rattle.std.proofs.lemmas.Bool.{cases_eq, cases_lt, cond-false, lt-leb, true≢false}
 use Rattle.std.proofs.lemmas.List.Sums.{sum_by-set}
 use Rattle.nl_field.specs.CrashStates.{LeavesOnly}
 use Rattle.nl_field.specs.Page.{Page, erased, written, Image, page_at}
@@ -8,13 +8,15 @@ use Rattle.nl_nand.specs.Nand.{Cut, CanProgram, ErasedWithin, Filled}
 use Rattle.nl_nand.specs.ImageLaws.{filled_cut}
 use Rattle.nl_nand.proofs.Crashes.{weaken, outside}
 use Rattle.nl_vseg.specs.Pages.{fact_of, main_of, IsBeside}
-use Rattle.nl_vseg.specs.Segment.{Segment, bound, place_of, value_at, map_of, stamp_in_place, block_is_free, AreBelow, ArePlaces, IsPlace, Holds, IsUnmapped, IsSegment, IsSegmentOf, TakenAsErased}
+use Rattle.nl_vseg.specs.Segment.{Segment, bound, place_of, value_at, map_of, stamp_in_place, block_is_free, AreBelow, ArePlaces, IsPlace, Holds, IsUnmapped, IsSegment, IsSegmentOf, KeepsSpare, SameSize, TakenAsErased, room}
 use Rattle.nl_vseg.specs.Copying.{is_in, mapped_in, copy_of, ChangedIn, AreMoved, IsMovedPlace}
 use Rattle.nl_vseg.specs.Effects.{Keeps, KeepsMap}
 use Rattle.nl_vseg.specs.declared.place.Place.{Place}
 use Rattle.nl_vseg.proofs.Places.{block_of, block_below, not_beside, beside_of, place_here, place_other, set_place, used_more}
 use Rattle.nl_vseg.proofs.Images.{shows_nothing, keeps_changed, changed_more}
-use Rattle.nl_vseg.proofs.Segments.{below_of, holds_same, map_same}
+use Rattle.nl_blocks.specs.Table.{free_count}
+use Rattle.nl_vseg.proofs.Blocks.{some_free}
+use Rattle.nl_vseg.proofs.Segments.{free_unmapped, holds_same, map_same}
 
 abbrev num : Bool → ℕ
 num b = cond b 1 0
@@ -156,3 +158,57 @@ pub next_blank : (seg : Segment) (image : Image) → IsSegment seg → seg.used 
 next_blank seg image is begins seg_is p from below =
     let e = block_below seg.active (length seg.table.blocks) seg.table.size is.active_is in
     seg_is.blank p (omega (arith, e, below), inl (omega (arith, from, begins), below))
+
+-- more pages of the active block are used
+pub used_segment : (seg : Segment) (used : ℕ) → IsSegment seg → seg.used < seg.table.size → seg.used ≤ used → used ≤ seg.table.size → IsSegment (record seg { used = used })
+used_segment seg used is room more fits = record {
+  first = is.first;
+  some = is.some;
+  numbers = is.numbers;
+  marks = is.marks;
+  few = is.few;
+  active_is = is.active_is;
+  used_fits = fits;
+  taken = λ lt. is.taken room;
+  places_are = used_more used more is.places_are;
+  in_use = is.in_use;
+}
+
+-- all pages of the active block count as used
+pub closed_segment : (seg : Segment) (used : ℕ) → IsSegment seg → used ≡ seg.table.size → IsSegment (record seg { used = used })
+closed_segment seg used is full = record {
+  first = is.first;
+  some = is.some;
+  numbers = is.numbers;
+  marks = is.marks;
+  few = is.few;
+  active_is = is.active_is;
+  used_fits = omega (arith, full);
+  taken = λ lt. absurd (omega (arith, full, lt));
+  places_are = used_more used (omega (arith, full, is.used_fits)) is.places_are;
+  in_use = is.in_use;
+}
+
+-- what is taken as erased beside the active block, whatever is used of that
+pub taken_beside : (seg : Segment) (used : ℕ) (p : ℕ) → TakenAsErased (record seg { used = used }) p → (p / seg.table.size ≡ seg.active → ⊥) → TakenAsErased seg p
+taken_beside seg used p taken ne = (taken.0, ⊎_elim (λ next. absurd (ne (block_of p seg.table.size seg.active (omega (arith, next.0)) next.1))) (λ free. inr free) taken.1)
+
+-- where a block is Free, some block holds no page of the map
+pub free_spare : (seg : Segment) → IsSegment seg → 1 ≤ free_count seg.table → KeepsSpare seg
+free_spare seg is some =
+    let free = some_free seg.table is.first some in
+    record { block = free.0; within = free.1; unmapped = free_unmapped seg is free.0 free.2 }
+
+-- where there is room, a block is Free
+pub room_free : (seg : Segment) → 0 < room seg → 1 ≤ free_count seg.table
+room_free seg some = elim (cases_lt 0 (free_count seg.table)) [
+  | inl lt ↦ omega (arith, lt)
+  | inr none ↦
+      let no : nat_le 1 (free_count seg.table) ≡ false = lt-leb 1 (free_count seg.table) (omega (arith, none)) in
+      let zero : room seg ≡ 0 = cond-false (nat_le 1 (free_count seg.table)) ((seg.table.size - seg.used) + (free_count seg.table - 1) * seg.table.size) 0 no in
+      absurd (omega (arith, zero, some))
+]
+
+-- with these numbers for those
+pub resized : (P : ℕ → ℕ → Type 0) (old new : Segment) → SameSize old new → P new.table.size (bound new) → P old.table.size (bound old)
+resized P old new same is = subst (λ n. P n (bound old)) same.pages (subst (P new.table.size) (λ i. same.blocks i * same.pages i) is)

@@ -119,3 +119,9 @@ module _ {M : Type 0} {clock : M → ℕ} {contents : M → Image} {left : M →
   keeps_no_turn {m0} {m1} {v} {s} {main} {a} {d} finished not first =
       weaken (λ m c. Keeps pages bound m0 (contents a) c) (Turns finished (clock d) (λ c. Keeps pages bound m0 (contents a) c) (λ c. Takes pages bound m0 v s main (contents a) c)) first.crash
       (λ m c from to k. inl ((λ f. absurd (not f)), k))
+
+-- the turn by another name of what is finished
+pub turns_as : {M I : Type 0} {clock : M → ℕ} {left : M → ℕ → I → Type 0} {old new : M} {now : ℕ} {B A : I → Type 0} (F G : Type 0) → (G → F)
+    → LeavesOnly clock left old new (Turns F now B A) → LeavesOnly clock left old new (Turns G now B A)
+turns_as {M} {I} {clock} {left} {old} {new} {now} {B} {A} F G to leaves = weaken (Turns F now B A) (Turns G now B A) leaves
+    (λ m c from until is. ⊎_elim (λ b. inl ((λ g. b.0 (to g)), b.1)) (λ a. inr a) is)

@@ -4,6 +4,8 @@ pub mod Counting
 pub mod Counts
 pub mod Images
 pub mod Marks
+pub mod Members
+pub mod Newest
 pub mod Places
 pub mod ReadPlaces
 pub mod Records

@@ -1,17 +1,17 @@
 -- The numbers of a shape that a segment rests on.
-use Rattle.std.proofs.Common.{◌≡◌, inl, inr, ℕ, zero, suc, ◌+◌, ◌*◌, ◌/◌, ◌%◌, ◌^◌, ◌<◌, ◌≤◌, false, Option, None, length, replicate, refl, sym, ◌∙◌, subst, arith, IsTrue, nat_le, ◌&&◌, count_by, cond}
+use Rattle.std.proofs.Common.{◌≡◌, inl, inr, ℕ, zero, suc, ◌+◌, ◌-◌, ◌*◌, ◌/◌, ◌%◌, ◌^◌, ◌<◌, ◌≤◌, true, false, Option, None, length, replicate, refl, sym, ◌∙◌, ap, subst, arith, IsTrue, nat_le, ◌&&◌, count_by, cond}
 use Rattle.std.specs.Int.{div_ceil}
-use Rattle.std.proofs.lemmas.Bool.{and_parts, leb-true}
+use Rattle.std.proofs.lemmas.Bool.{and_parts, cond-true, leb-true, le-leb}
 use Rattle.std.proofs.lemmas.Grind.{div_ceil_times}
 use Rattle.std.proofs.lemmas.List.Sums.{sum_by-cons}
 use Rattle.nl_field.specs.Numbers.{is_legal, shape_for}
 use Rattle.nl_field.specs.declared.shape.Shape.{Shape}
 use Rattle.std.proofs.lemmas.List.{length-replicate}
 use Rattle.std.proofs.lemmas.Option.{none-some}
-use Rattle.nl_blocks.specs.Table.{is_free, new_row, new_table}
+use Rattle.nl_blocks.specs.Table.{free_count, is_free, new_row, new_table}
 use Rattle.nl_nand.specs.declared.geometry.Geometry.{Geometry}
 use Rattle.nl_nand.specs.Nand.{IsLegal}
-use Rattle.nl_vseg.specs.Segment.{IsSegment}
+use Rattle.nl_vseg.specs.Segment.{IsSegment, KeepsSpare, room}
 use Rattle.nl_vseg.specs.declared.place.Place.{Place}
 use Rattle.nl_vseg.proofs.Places.{all_none}
 
@@ -77,3 +77,25 @@ new_segment shape room =
 pub medium_fits : (geometry : Geometry) → IsLegal geometry → geometry.blocks * geometry.pages < 2 ^ 32
 medium_fits geometry (inl legal) = let p = legal_parts geometry.blocks geometry.pages legal in omega (arith, p.4)
 medium_fits geometry (inr none) = subst (λ (n : Geometry). n.blocks * n.pages < 2 ^ 32) (sym none) (omega arith)
+
+pub new_spare : (shape : Shape) → HasRoom shape → KeepsSpare (record { places = replicate shape.vaddrs None; table = new_table 0 shape.vblocks shape.pages; soiled = replicate shape.vblocks false; active = 0; used = shape.pages })
+new_spare shape roomy =
+    let blocks : length (replicate shape.vblocks (new_row shape.pages)) ≡ shape.vblocks = length-replicate shape.vblocks (new_row shape.pages) in
+    let more = roomy.blocks in
+    record { block = 0; within = omega (arith, blocks, more); unmapped = λ v place named. absurd (none-some place (sym (all_none shape.vaddrs v) ∙ named)) }
+
+one_less : (n p : ℕ) → 1 ≤ n → (n - 1) * p + p ≡ n * p
+one_less zero p some = absurd (omega (arith, some))
+one_less (suc n) p some = omega arith
+
+pub new_room : (shape : Shape) → HasRoom shape
+    → room (record { places = replicate shape.vaddrs None; table = new_table 0 shape.vblocks shape.pages; soiled = replicate shape.vblocks false; active = 0; used = shape.pages }) + shape.pages ≡ shape.vblocks * shape.pages
+new_room shape roomy =
+    let free : free_count (new_table 0 shape.vblocks shape.pages) ≡ shape.vblocks = all_free shape.vblocks shape.pages in
+    let more = roomy.blocks in
+    let yes : nat_le 1 (free_count (new_table 0 shape.vblocks shape.pages)) ≡ true = le-leb 1 (free_count (new_table 0 shape.vblocks shape.pages)) (omega (arith, free, more)) in
+    let e : cond (nat_le 1 (free_count (new_table 0 shape.vblocks shape.pages))) ((shape.pages - shape.pages) + (free_count (new_table 0 shape.vblocks shape.pages) - 1) * shape.pages) 0
+        ≡ (shape.pages - shape.pages) + (free_count (new_table 0 shape.vblocks shape.pages) - 1) * shape.pages =
+    cond-true (nat_le 1 (free_count (new_table 0 shape.vblocks shape.pages))) ((shape.pages - shape.pages) + (free_count (new_table 0 shape.vblocks shape.pages) - 1) * shape.pages) 0 yes in
+    let e2 = subst (λ n. (shape.pages - shape.pages) + (n - 1) * shape.pages + shape.pages ≡ shape.vblocks * shape.pages) (sym free) (omega (arith, one_less shape.vblocks shape.pages (omega (arith, more)))) in
+    ap (λ n. n + shape.pages) e ∙ e2

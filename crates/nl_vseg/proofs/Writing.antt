@@ -148,8 +148,8 @@ module _ (seg : Segment) (is : IsSegment seg) (room : seg.used < seg.table.size)
               ∙ sym (cond-false (u == v) (Some (s, main)) (map_of seg.places image u) (ne_eqb u v ne)))
         ]
 
-        pub programmed : Programmed seg.table.size (bound seg) v s w main image c
-        programmed = record { page = page; below = page_below; has = new_is; others = λ p ne. inl (other p ne) }
+        pub programmed : Programmed seg.table.size (bound seg) seg.active v s w main image c
+        programmed = record { page = page; below = page_below; in_block = page_block; has = new_is; others = λ p ne. inl (other p ne) }
 
 -- what a program of the next page leaves, whole or cut short
 module _ (seg : Segment) (is : IsSegment seg) (room : seg.used < seg.table.size) (page : ℕ) (at : page ≡ seg.active * seg.table.size + seg.used) (image : Image) (seg_is : IsSegmentOf image seg)

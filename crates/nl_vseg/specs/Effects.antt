@@ -37,10 +37,11 @@ pub record Counted {M : Type 0} (clock read_faults write_faults : M → ℕ) (ol
   pub cause : failed → Rose (read_faults old) (read_faults new) ⊎ Rose (write_faults old) (write_faults new)
   pub stays : (failed → ⊥) → (read_faults new ≡ read_faults old) × (write_faults new ≡ write_faults old)
 
--- One page was programmed, which was erased or is in a block that was erased first: it has these bytes. Other pages have
--- changed only in that block, and are erased there.
-pub record Programmed (pages bound : ℕ) (v s wear : ℕ) (main : List ℕ) (old new : Image) : Type 0 where
+-- One page of the block was programmed: it has these bytes. Other pages have changed only in that block, where it was erased
+-- first, and are erased there.
+pub record Programmed (pages bound block : ℕ) (v s wear : ℕ) (main : List ℕ) (old new : Image) : Type 0 where
   pub page : ℕ
   pub below : page < bound
+  pub in_block : page / pages ≡ block
   pub has : page_at new page ≡ written (page_with main v s wear)
-  pub others : (p : ℕ) → (p ≡ page → ⊥) → (page_at new p ≡ page_at old p) ⊎ ((p / pages ≡ page / pages) × (page_at new p ≡ erased))
+  pub others : (p : ℕ) → (p ≡ page → ⊥) → (page_at new p ≡ page_at old p) ⊎ ((p / pages ≡ block) × (page_at new p ≡ erased))

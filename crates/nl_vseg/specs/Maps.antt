@@ -1,6 +1,9 @@
 -- The map of addresses, and the images that stand for one.
-use Rattle.std.specs.Prelude.{◌≡◌, ◌⊎◌, ℕ, ◌<◌, ◌==◌, if◌then◌else◌, List, [], ◌∷◌, Option, Some, None}
+use Rattle.std.specs.Prelude.{◌≡◌, ◌⊎◌, ℕ, ◌<◌, ◌==◌, if◌then◌else◌, List, [], ◌∷◌, Option, Some, None, unwrap_or}
+use Rattle.nl_field.specs.Bytes.{zeros}
 use Rattle.nl_field.specs.Page.{Image}
+use Rattle.nl_field.specs.Virtual.{is_inode_address}
+use Rattle.nl_field.specs.declared.shape.Shape.{Shape}
 use Rattle.nl_vseg.specs.Pages.{Fact, Shows}
 
 -- the write sequence number and the main bytes of each address that was written
@@ -30,3 +33,7 @@ pub record StandsFor (bound count : ℕ) (image : Image) (map : ℕ → Option (
 -- what the image shows of the address is older than this number
 pub record IsAbove (bound : ℕ) (image : Image) (v stamp : ℕ) : Type 0 where
   pub older : (t : ℕ) (n : List ℕ) → Shows bound image v t n → t < stamp
+
+-- what a virtual address holds whose bytes are these, if any: an inode page that was never written is zeros
+abbrev pub bytes_of_value : Shape → ℕ → Option (List ℕ) → Option (List ℕ)
+bytes_of_value shape v value = if is_inode_address shape v then Some (unwrap_or value (zeros 4096)) else value

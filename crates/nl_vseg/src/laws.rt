@@ -1,7 +1,9 @@
-ghost use Rattle.std.specs.Prelude.{ℕ, List, Option, ◌∷◌};
+ghost use Rattle.std.specs.Prelude.{◌≡◌, ℕ, ◌<◌, List, [], ◌∷◌, option_map};
+ghost use Rattle.nl_field.specs.Medium.{first_physical, shape_of_image};
 ghost use Rattle.nl_field.specs.Page.{Image};
+ghost use Rattle.nl_field.specs.Virtual.{virtual_bytes};
 ghost use Rattle.nl_vseg.specs.Effects.{Keeps, Takes};
-ghost use Rattle.nl_vseg.specs.Maps.{IsAbove, Map, StandsFor, with_at};
+ghost use Rattle.nl_vseg.specs.Maps.{IsAbove, Map, StandsFor, bytes_of_value, with_at};
 ghost use Rattle.nl_vseg.specs.Pages.{Fact};
 
 /// An image that keeps a map stands for it, where the image before did. So each image that a stop within a write leaves stands
@@ -19,4 +21,10 @@ pub fn taken()
 pub fn failed()
     ensures takes { (pages bound count v s : ℕ) (main : List ℕ) (map : Map) (failed : List Fact) (old c : Image) → StandsFor bound count old map failed → Takes pages bound map v s main old c → StandsFor bound count c map ((v, s, main) ∷ failed) }
     ensures keeps { (pages bound count v s : ℕ) (main : List ℕ) (map : Map) (failed : List Fact) (old c : Image) → StandsFor bound count old map failed → Keeps pages bound map old c → StandsFor bound count c map ((v, s, main) ∷ failed) }
+{}
+
+/// Where an image stands for a map, each virtual address has the bytes that the map gives it.
+pub fn stood()
+    ensures { (image : Image) (map : Map) (v : ℕ) → v < (shape_of_image image).vaddrs → StandsFor (first_physical (shape_of_image image)) (shape_of_image image).vaddrs image map []
+        → virtual_bytes image v ≡ bytes_of_value (shape_of_image image) v (option_map (λ (x : ℕ × List ℕ). x.1) (map v)) }
 {}

@@ -127,7 +127,7 @@ impl VSeg {
         ensures either { M.tells → Keeps self.old.table.size (bound self.old) (map_of self.old.places (M.contents media.old)) (M.contents media.old) (M.contents media.new)
             ⊎ Takes self.old.table.size (bound self.old) (map_of self.old.places (M.contents media.old)) vaddr stamp from.now.main (M.contents media.old) (M.contents media.new) }
         ensures unused { M.tells → (result ≡ VirtualWrite.Done → ⊥) → (Rose (M.write_faults media.old) (M.write_faults media.new) → ⊥) → Keeps self.old.table.size (bound self.old) (map_of self.old.places (M.contents media.old)) (M.contents media.old) (M.contents media.new) }
-        ensures programmed { M.tells → 0 < room self.old → result ≡ VirtualWrite.Done → (wear : ℕ) × Programmed self.old.table.size (bound self.old) vaddr stamp wear from.now.main (M.contents media.old) (M.contents media.new) }
+        ensures programmed { M.tells → 0 < room self.old → result ≡ VirtualWrite.Done → (block : ℕ) × (wear : ℕ) × Programmed self.old.table.size (bound self.old) block vaddr stamp wear from.now.main (M.contents media.old) (M.contents media.new) }
         ensures crash { M.tells → LeavesOnly M.clock M.left media.old media.new (Turns (result ≡ VirtualWrite.Done) (M.clock media.new)
             (λ c. Keeps self.old.table.size (bound self.old) (map_of self.old.places (M.contents media.old)) (M.contents media.old) c)
             (λ c. Takes self.old.table.size (bound self.old) (map_of self.old.places (M.contents media.old)) vaddr stamp from.now.main (M.contents media.old) c)) }

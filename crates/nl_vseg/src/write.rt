@@ -43,7 +43,7 @@ impl State {
         ensures takes { M.tells → result ≡ WriteAnswer.Done → Takes self.old.blocks.size (bound (seen self.old)) (map_of self.old.places.items (M.contents media.old)) vaddr stamp from.now.main (M.contents media.old) (M.contents media.new) }
         ensures either { M.tells → Keeps self.old.blocks.size (bound (seen self.old)) (map_of self.old.places.items (M.contents media.old)) (M.contents media.old) (M.contents media.new)
             ⊎ Takes self.old.blocks.size (bound (seen self.old)) (map_of self.old.places.items (M.contents media.old)) vaddr stamp from.now.main (M.contents media.old) (M.contents media.new) }
-        ensures programmed { M.tells → result ≡ WriteAnswer.Done → Programmed self.old.blocks.size (bound (seen self.old)) vaddr stamp (block_at self.new.blocks self.new.active).wear from.now.main (M.contents media.old) (M.contents media.new) }
+        ensures programmed { M.tells → result ≡ WriteAnswer.Done → Programmed self.old.blocks.size (bound (seen self.old)) self.old.active vaddr stamp (block_at self.new.blocks self.new.active).wear from.now.main (M.contents media.old) (M.contents media.new) }
         ensures crash { M.tells → LeavesOnly M.clock M.left media.old media.new (Turns (result ≡ WriteAnswer.Done) (M.clock media.new)
             (λ c. Keeps self.old.blocks.size (bound (seen self.old)) (map_of self.old.places.items (M.contents media.old)) (M.contents media.old) c)
             (λ c. Takes self.old.blocks.size (bound (seen self.old)) (map_of self.old.places.items (M.contents media.old)) vaddr stamp from.now.main (M.contents media.old) c)) }
@@ -91,7 +91,7 @@ impl State {
         ensures either { M.tells → Keeps self.old.blocks.size (bound (seen self.old)) (map_of self.old.places.items (M.contents media.old)) (M.contents media.old) (M.contents media.new)
             ⊎ Takes self.old.blocks.size (bound (seen self.old)) (map_of self.old.places.items (M.contents media.old)) vaddr stamp from.now.main (M.contents media.old) (M.contents media.new) }
         ensures unused { M.tells → (result ≡ VirtualWrite.Done → ⊥) → (Rose (M.write_faults media.old) (M.write_faults media.new) → ⊥) → Keeps self.old.blocks.size (bound (seen self.old)) (map_of self.old.places.items (M.contents media.old)) (M.contents media.old) (M.contents media.new) }
-        ensures programmed { M.tells → 0 < room (seen self.old) → result ≡ VirtualWrite.Done → (wear : ℕ) × Programmed self.old.blocks.size (bound (seen self.old)) vaddr stamp wear from.now.main (M.contents media.old) (M.contents media.new) }
+        ensures programmed { M.tells → 0 < room (seen self.old) → result ≡ VirtualWrite.Done → (block : ℕ) × (wear : ℕ) × Programmed self.old.blocks.size (bound (seen self.old)) block vaddr stamp wear from.now.main (M.contents media.old) (M.contents media.new) }
         ensures crash { M.tells → LeavesOnly M.clock M.left media.old media.new (Turns (result ≡ VirtualWrite.Done) (M.clock media.new)
             (λ c. Keeps self.old.blocks.size (bound (seen self.old)) (map_of self.old.places.items (M.contents media.old)) (M.contents media.old) c)
             (λ c. Takes self.old.blocks.size (bound (seen self.old)) (map_of self.old.places.items (M.contents media.old)) vaddr stamp from.now.main (M.contents media.old) c)) }
