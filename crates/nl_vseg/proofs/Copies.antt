@@ -204,8 +204,8 @@ pub room_free : (seg : Segment) → 0 < room seg → 1 ≤ free_count seg.table
 room_free seg some = elim (cases_lt 0 (free_count seg.table)) [
   | inl lt ↦ omega (arith, lt)
   | inr none ↦
-      let no : nat_le 1 (free_count seg.table) ≡ false = lt-leb 1 (free_count seg.table) (omega (arith, none)) in
-      let zero : room seg ≡ 0 = cond-false (nat_le 1 (free_count seg.table)) ((seg.table.size - seg.used) + (free_count seg.table - 1) * seg.table.size) 0 no in
+      let none_is : nat_le 1 (free_count seg.table) ≡ false = lt-leb 1 (free_count seg.table) (omega (arith, none)) in
+      let zero : room seg ≡ 0 = cond-false (nat_le 1 (free_count seg.table)) ((seg.table.size - seg.used) + (free_count seg.table - 1) * seg.table.size) 0 none_is in
       absurd (omega (arith, zero, some))
 ]
 

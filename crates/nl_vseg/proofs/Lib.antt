@@ -11,5 +11,6 @@ pub mod ReadPlaces
 pub mod Records
 pub mod Segments
 pub mod Shapes
+pub mod Spares
 pub mod Standing
 pub mod Writing

@@ -21,8 +21,8 @@ pub filter_from : {A : Type 0} (p : A → Bool) (x : A) (xs : List A) → In x x
 filter_from p x [] is passes = is
 filter_from p x (y ∷ ys) (inl same) passes = subst (In x) (sym (cond-true (p y) (y ∷ filter p ys) (filter p ys) (ap p same ∙ passes))) (inl same)
 filter_from p x (y ∷ ys) (inr rest) passes = elim (cases_Bool (p y)) [
-  | inl yes ↦ subst (In x) (sym (cond-true (p y) (y ∷ filter p ys) (filter p ys) yes)) (inr (filter_from p x ys rest passes))
-  | inr no ↦ subst (In x) (sym (cond-false (p y) (y ∷ filter p ys) (filter p ys) no)) (filter_from p x ys rest passes)
+  | inl holds ↦ subst (In x) (sym (cond-true (p y) (y ∷ filter p ys) (filter p ys) holds)) (inr (filter_from p x ys rest passes))
+  | inr fails ↦ subst (In x) (sym (cond-false (p y) (y ∷ filter p ys) (filter p ys) fails)) (filter_from p x ys rest passes)
 ]
 
 map_step : {A B : Type 0} (h : A → Option B) (y : B) (x : A) (xs : List A) (kept : List B) (o : Option B) → h x ≡ o → (In y kept → (a : A) × In a xs × (h a ≡ Some y)) → In y (cons_option o kept)
@@ -60,8 +60,8 @@ pub any_from : {A : Type 0} (p : A → Bool) (x : A) (xs : List A) → In x xs �
 any_from p x [] is passes = absurd is
 any_from p x (y ∷ ys) (inl same) passes = ap (λ b. b || list_any p ys) (ap p same ∙ passes)
 any_from p x (y ∷ ys) (inr rest) passes = elim (cases_Bool (p y)) [
-  | inl yes ↦ ap (λ b. b || list_any p ys) yes
-  | inr no ↦ ap (λ b. b || list_any p ys) no ∙ any_from p x ys rest passes
+  | inl holds ↦ ap (λ b. b || list_any p ys) holds
+  | inr fails ↦ ap (λ b. b || list_any p ys) fails ∙ any_from p x ys rest passes
 ]
 
 any_step : {A : Type 0} (p : A → Bool) (y : A) (ys : List A) (b : Bool) → p y ≡ b → (list_any p ys ≡ true → (x : A) × In x ys × (p x ≡ true)) → (b || list_any p ys) ≡ true → (x : A) × In x (y ∷ ys) × (p x ≡ true)

@@ -65,8 +65,8 @@ from_pages image r is =
     let at : page_at image r.page ≡ m.0.1 = ap (λ k. get_or image.contents k erased) (omega (arith, shown.0, e.1)) ∙ e.2 erased in
     (shown.1, (r.page, ltb-true r.page (first_physical shape) parts.0, ap fact_of at ∙ shown.2))
 
-pub to_pages : (image : Image) (v t : ℕ) (n : List ℕ) → v < (shape_of_image image).vaddrs → Shows (first_physical (shape_of_image image)) image v t n
-    → (r : Readable) × In r (virtual_pages image) × (address_on r ≡ v) × (stamp_on r ≡ t) × (r.main ≡ n)
+pub to_pages : (image : Image) (v t : ℕ) (n : List ℕ) → v < (shape_of_image image).vaddrs → (shows : Shows (first_physical (shape_of_image image)) image v t n)
+    → (r : Readable) × In r (virtual_pages image) × (address_on r ≡ v) × (stamp_on r ≡ t) × (r.main ≡ n) × (r.page ≡ shows.0)
 unfolding virtual_pages readable_pages
 to_pages image v t n below shows =
     let shape = shape_of_image image in
@@ -75,9 +75,15 @@ to_pages image v t n below shows =
     let listed : In (0 + shows.0, page_at image shows.0) (enumerate_from 0 image.contents) = enumerate_from_at 0 shows.0 erased image.contents there in
     let zero : 0 + shows.0 ≡ shows.0 = omega arith in
     let listed_at : In (shows.0, page_at image shows.0) (enumerate_from 0 image.contents) = subst (λ k. In (k, page_at image shows.0) (enumerate_from 0 image.contents)) zero listed in
-    let passes = and_from (nat_lt found.0.page (first_physical shape)) (is_virtual_rec shape found.0.rec) (lt-ltb found.0.page (first_physical shape) (omega (arith, found.2, shows.1))) found.3 in
-    (found.0, filter_from (λ (q : Readable). nat_lt q.page (first_physical shape) && is_virtual_rec shape q.rec) found.0 (readable_pages image)
-    (filter_map_from readable (shows.0, page_at image shows.0) found.0 (enumerate_from 0 image.contents) listed_at found.1) passes, found.4, found.5, found.6)
+    let passes = and_from (nat_lt found.0.page (first_physical shape)) (is_virtual_rec shape found.0.rec) (lt-ltb found.0.page (first_physical shape) (omega (arith, found.2, shows.1))) found.3 in (
+      found.0,
+      filter_from (λ (q : Readable). nat_lt q.page (first_physical shape) && is_virtual_rec shape q.rec) found.0 (readable_pages image)
+          (filter_map_from readable (shows.0, page_at image shows.0) found.0 (enumerate_from 0 image.contents) listed_at found.1) passes,
+      found.4,
+      found.5,
+      found.6,
+      found.2,
+    )
   where
     within : (image : Image) (p : ℕ) (f : Fact) → fact_of (page_at image p) ≡ Some f → p < length image.contents
     within image p f shows = elim (cases_lt p (length image.contents)) [
@@ -103,9 +109,9 @@ module _ (image : Image) (map : ℕ → Option (ℕ × List ℕ)) (stands : Stan
 
   is_greatest : (s : ℕ) (main : List ℕ) (r : Readable) → map v ≡ Some (s, main) → address_on r ≡ v → stamp_on r ≡ s → has_greatest_stamp (virtual_pages image) r ≡ true
   is_greatest s main r value at stamp = elim (cases_Bool (list_any (λ q. address_on q == address_on r && nat_lt (stamp_on r) (stamp_on q)) (virtual_pages image))) [
-    | inr no ↦ ap not no
-    | inl yes ↦
-        let q = any_to (λ q. address_on q == address_on r && nat_lt (stamp_on r) (stamp_on q)) (virtual_pages image) yes in
+    | inr fails ↦ ap not fails
+    | inl holds ↦
+        let q = any_to (λ q. address_on q == address_on r && nat_lt (stamp_on r) (stamp_on q)) (virtual_pages image) holds in
         let parts = and_parts (address_on q.0 == address_on r) (nat_lt (stamp_on r) (stamp_on q.0)) q.2 in
         let less = ltb-true (stamp_on r) (stamp_on q.0) parts.1 in
         let d = subst (λ x. Dominated x (stamp_on q.0) q.0.main) value (dominated q.0 q.1 (eqb-true (address_on q.0) (address_on r) parts.0 ∙ at)) in

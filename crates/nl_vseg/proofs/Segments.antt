@@ -171,10 +171,16 @@ sealed_taken old table block restated p taken = cases n.1
     cases : ((old.active * old.table.size + old.used ≤ p) × (p < old.active * old.table.size + old.table.size))
         ⊎ ((block_is_free table (p / old.table.size) ≡ true) × (is_soiled old (p / old.table.size) ≡ false)) → TakenAsErased old p
     cases (inl x) = (n.0, inl x)
-    cases (inr x) = (n.0, inr (⊎_elim
-        (λ is. absurd (true≢false (sym x.0 ∙ (ap (block_is_free table) is ∙ restated.here))))
-        (λ ne. sym (restated.others (p / old.table.size) ne) ∙ x.0)
-        (cases_eq (p / old.table.size) block), x.1))
+    cases (inr x) = (
+      n.0,
+      inr (
+        ⊎_elim
+            (λ is. absurd (true≢false (sym x.0 ∙ (ap (block_is_free table) is ∙ restated.here))))
+            (λ ne. sym (restated.others (p / old.table.size) ne) ∙ x.0)
+            (cases_eq (p / old.table.size) block),
+        x.1,
+      ),
+    )
 
 -- an address got a page of a block that is in use now, and is not written to
 pub loaded : (old : Segment) (table : Table) (block v : ℕ) (new : Place) → IsSegment old → Restated block false old.table table → new.page / old.table.size ≡ block → new.page < bound old → IsTrue (is_stamp new.stamp)

@@ -86,16 +86,18 @@ new_spare shape roomy =
 
 one_less : (n p : ℕ) → 1 ≤ n → (n - 1) * p + p ≡ n * p
 one_less zero p some = absurd (omega (arith, some))
-one_less (suc n) p some = omega arith
+one_less (suc n) p some =
+    let e : suc n - 1 ≡ n = omega arith in
+    subst (λ k. k * p + p ≡ suc n * p) (sym e) (omega arith)
 
 pub new_room : (shape : Shape) → HasRoom shape
     → room (record { places = replicate shape.vaddrs None; table = new_table 0 shape.vblocks shape.pages; soiled = replicate shape.vblocks false; active = 0; used = shape.pages }) + shape.pages ≡ shape.vblocks * shape.pages
 new_room shape roomy =
     let free : free_count (new_table 0 shape.vblocks shape.pages) ≡ shape.vblocks = all_free shape.vblocks shape.pages in
     let more = roomy.blocks in
-    let yes : nat_le 1 (free_count (new_table 0 shape.vblocks shape.pages)) ≡ true = le-leb 1 (free_count (new_table 0 shape.vblocks shape.pages)) (omega (arith, free, more)) in
+    let some_is : nat_le 1 (free_count (new_table 0 shape.vblocks shape.pages)) ≡ true = le-leb 1 (free_count (new_table 0 shape.vblocks shape.pages)) (omega (arith, free, more)) in
     let e : cond (nat_le 1 (free_count (new_table 0 shape.vblocks shape.pages))) ((shape.pages - shape.pages) + (free_count (new_table 0 shape.vblocks shape.pages) - 1) * shape.pages) 0
-        ≡ (shape.pages - shape.pages) + (free_count (new_table 0 shape.vblocks shape.pages) - 1) * shape.pages =
-    cond-true (nat_le 1 (free_count (new_table 0 shape.vblocks shape.pages))) ((shape.pages - shape.pages) + (free_count (new_table 0 shape.vblocks shape.pages) - 1) * shape.pages) 0 yes in
+    ≡ (shape.pages - shape.pages) + (free_count (new_table 0 shape.vblocks shape.pages) - 1) * shape.pages =
+    cond-true (nat_le 1 (free_count (new_table 0 shape.vblocks shape.pages))) ((shape.pages - shape.pages) + (free_count (new_table 0 shape.vblocks shape.pages) - 1) * shape.pages) 0 some_is in
     let e2 = subst (λ n. (shape.pages - shape.pages) + (n - 1) * shape.pages + shape.pages ≡ shape.vblocks * shape.pages) (sym free) (omega (arith, one_less shape.vblocks shape.pages (omega (arith, more)))) in
     ap (λ n. n + shape.pages) e ∙ e2

@@ -63,7 +63,6 @@ module _ (seg : Segment) (is : IsSegment seg) (room : seg.used < seg.table.size)
     spare_kept = record { block = block; within = block_in; unmapped = free_unmapped seg is block free }
 
   module _ (v s : ℕ) (within : v < length seg.places) (spelled : IsTrue (is_stamp s)) where
-
     pub put_segment : IsSegment (record seg { places = set seg.places v (Some (record { page = page; stamp = s })); used = seg.used + 1 })
     put_segment = record {
       first = is.first;

@@ -3,5 +3,6 @@ pub mod Copying
 pub mod Effects
 pub mod Maps
 pub mod Pages
+pub mod Rig
 pub mod Seen
 pub mod Segment

@@ -1,6 +1,7 @@
-ghost use Rattle.std.specs.Prelude.{◌≡◌, ℕ, ◌<◌, List, [], ◌∷◌, option_map};
+ghost use Rattle.std.specs.Prelude.{◌≡◌, ℕ, ◌<◌, List, [], ◌∷◌, None, option_map};
 ghost use Rattle.nl_field.specs.Medium.{first_physical, shape_of_image};
 ghost use Rattle.nl_field.specs.Page.{Image};
+ghost use Rattle.nl_field.specs.Space.{virtual_spare};
 ghost use Rattle.nl_field.specs.Virtual.{virtual_bytes};
 ghost use Rattle.nl_vseg.specs.Effects.{Keeps, Takes};
 ghost use Rattle.nl_vseg.specs.Maps.{IsAbove, Map, StandsFor, bytes_of_value, with_at};
@@ -27,4 +28,10 @@ pub fn failed()
 pub fn stood()
     ensures { (image : Image) (map : Map) (v : ℕ) → v < (shape_of_image image).vaddrs → StandsFor (first_physical (shape_of_image image)) (shape_of_image image).vaddrs image map []
         → virtual_bytes image v ≡ bytes_of_value (shape_of_image image) v (option_map (λ (x : ℕ × List ℕ). x.1) (map v)) }
+{}
+
+/// Where such an image stands for its map, it has a block that can be erased next.
+pub fn spared()
+    ensures keeps { (map : Map) (old c : Image) → 0 < c.pages → StandsFor (first_physical (shape_of_image c)) (shape_of_image c).vaddrs c map [] → Keeps c.pages (first_physical (shape_of_image c)) map old c → virtual_spare c ≡ None → ⊥ }
+    ensures takes { (v s : ℕ) (main : List ℕ) (map : Map) (old c : Image) → 0 < c.pages → StandsFor (first_physical (shape_of_image c)) (shape_of_image c).vaddrs c (with_at map v (s, main)) [] → Takes c.pages (first_physical (shape_of_image c)) map v s main old c → virtual_spare c ≡ None → ⊥ }
 {}

@@ -9,11 +9,10 @@ mod place;
 mod read;
 mod room;
 mod state;
+#[cfg(test)]
+mod tests;
 mod victim;
 mod vseg;
 mod write;
-
-#[cfg(test)]
-mod tests;
 
 pub use vseg::VSeg;

@@ -1,5 +1,6 @@
 ghost use Rattle.std.specs.Prelude.{◌≡◌, ◌⊎◌, ℕ, ◌*◌, ◌/◌, ◌^◌, ◌<◌, length, slice_set, None, Some, IsTrue};
 ghost use Rattle.nl_field.specs.Spelling.{is_stamp};
+ghost use Rattle.nl_blocks.specs.Table.{block_at};
 ghost use Rattle.nl_vseg.specs.Segment.{AreBeside, SameSize, TakenAsErased, bound, place_of};
 ghost use Rattle.nl_vseg.specs.Seen.{seen, IsFormed};
 
@@ -32,6 +33,7 @@ impl State {
         ensures formed { IsFormed self.new }
         ensures places { self.new.places.items ≡ self.old.places.items }
         ensures numbers { SameSize (seen self.old) (seen self.new) }
+        ensures wear { (block_at self.new.blocks block).wear ≡ wear }
         ensures erased { (p : ℕ) → TakenAsErased (seen self.new) p → TakenAsErased (seen self.old) p × (p / self.old.blocks.size ≡ block → ⊥) }
     {
         self.close(block);

@@ -1,7 +1,7 @@
 // Sees to it that a page can be programmed, and that one block holds no page of the map.
 ghost use Rattle.std.specs.Prelude.{◌≡◌, ◌⊎◌, ℕ, ◌+◌, ◌*◌, ◌/◌, ◌<◌, ◌≤◌, length, true, false, IfNone, IfSome, IsNone};
 ghost use Rattle.nl_field.specs.Page.{erased, page_at};
-ghost use Rattle.nl_blocks.specs.Table.{free_count};
+ghost use Rattle.nl_blocks.specs.Table.{block_at, free_count};
 ghost use Rattle.nl_vseg.specs.Segment.{IsSegmentOf, IsUnmapped, KeepsSpare, SameSize, TakenAsErased, block_is_free, bound, is_soiled, map_of, room, stamp_for};
 ghost use Rattle.nl_vseg.specs.Seen.{seen, IsFormed, Fits};
 ghost use Rattle.nl_vseg.specs.Copying.{mapped_in, Restated, SameUse, StaysOrErased};
@@ -46,7 +46,8 @@ fn is_free(blocks: &Blocks, block: u32) -> bool
 pub fn set_wear(blocks: &mut Blocks, block: u32, wear: u32)
     requires first { blocks.old.first ≡ 0 }
     requires within { block < length blocks.old.blocks }
-    ensures { SameUse blocks.old blocks.new }
+    ensures states { SameUse blocks.old blocks.new }
+    ensures wear { (block_at blocks.new block).wear ≡ wear }
 {
     if is_free(blocks, block) {
         blocks.found(block, wear, 0);

@@ -3,6 +3,7 @@ ghost use Rattle.nl_field.specs.CrashStates.{Earlier, LeavesOnly, Rose, Turns};
 ghost use Rattle.nl_field.specs.Numbers.{is_legal, shape_for};
 ghost use Rattle.nl_field.specs.Spelling.{is_stamp};
 ghost use Rattle.nl_nand.specs.Nand.{FaultsCounted, SameLeft};
+ghost use Rattle.nl_blocks.specs.Table.{block_at};
 ghost use Rattle.nl_vseg.specs.Maps.{with_at};
 ghost use Rattle.nl_vseg.specs.Segment.{AreBeside, IsSegmentOf, KeepsSpare, SameSize, TakenAsErased, bound, map_of, place_of, room, stamp_for};
 ghost use Rattle.nl_vseg.specs.Seen.{Fits};
@@ -72,6 +73,7 @@ impl VSeg {
         requires within { block < length self.old.table.blocks }
         ensures places { self.new.places ≡ self.old.places }
         ensures numbers { SameSize self.old self.new }
+        ensures wear { (block_at self.new.table block).wear ≡ wear }
         ensures erased { (p : ℕ) → TakenAsErased self.new p → TakenAsErased self.old p × (p / self.old.table.size ≡ block → ⊥) }
     {
         self.state.soil(block, wear);
@@ -127,7 +129,7 @@ impl VSeg {
         ensures either { M.tells → Keeps self.old.table.size (bound self.old) (map_of self.old.places (M.contents media.old)) (M.contents media.old) (M.contents media.new)
             ⊎ Takes self.old.table.size (bound self.old) (map_of self.old.places (M.contents media.old)) vaddr stamp from.now.main (M.contents media.old) (M.contents media.new) }
         ensures unused { M.tells → (result ≡ VirtualWrite.Done → ⊥) → (Rose (M.write_faults media.old) (M.write_faults media.new) → ⊥) → Keeps self.old.table.size (bound self.old) (map_of self.old.places (M.contents media.old)) (M.contents media.old) (M.contents media.new) }
-        ensures programmed { M.tells → 0 < room self.old → result ≡ VirtualWrite.Done → (block : ℕ) × (wear : ℕ) × Programmed self.old.table.size (bound self.old) block vaddr stamp wear from.now.main (M.contents media.old) (M.contents media.new) }
+        ensures programmed { M.tells → 0 < room self.old → result ≡ VirtualWrite.Done → (block : ℕ) × Programmed self.old.table.size (bound self.old) block vaddr stamp (block_at self.new.table block).wear from.now.main (M.contents media.old) (M.contents media.new) }
         ensures crash { M.tells → LeavesOnly M.clock M.left media.old media.new (Turns (result ≡ VirtualWrite.Done) (M.clock media.new)
             (λ c. Keeps self.old.table.size (bound self.old) (map_of self.old.places (M.contents media.old)) (M.contents media.old) c)
             (λ c. Takes self.old.table.size (bound self.old) (map_of self.old.places (M.contents media.old)) vaddr stamp from.now.main (M.contents media.old) c)) }

@@ -16,13 +16,7 @@ use nl_nand::{Nand, WriteAnswer};
 
 impl State {
     /// Programs the next page of the active block as that of an address.
-    fn put<M: Nand>(
-        &mut self,
-        media: &mut M,
-        vaddr: u32,
-        from: &PageBuf,
-        stamp: u64,
-    ) -> WriteAnswer
+    fn put<M: Nand>(&mut self, media: &mut M, vaddr: u32, from: &PageBuf, stamp: u64) -> WriteAnswer
         requires formed { IsFormed self.old }
         requires fits { Fits (M.geometry media.old) (seen self.old) }
         requires vaddr { vaddr < length self.old.places.items }
@@ -43,7 +37,7 @@ impl State {
         ensures takes { M.tells → result ≡ WriteAnswer.Done → Takes self.old.blocks.size (bound (seen self.old)) (map_of self.old.places.items (M.contents media.old)) vaddr stamp from.now.main (M.contents media.old) (M.contents media.new) }
         ensures either { M.tells → Keeps self.old.blocks.size (bound (seen self.old)) (map_of self.old.places.items (M.contents media.old)) (M.contents media.old) (M.contents media.new)
             ⊎ Takes self.old.blocks.size (bound (seen self.old)) (map_of self.old.places.items (M.contents media.old)) vaddr stamp from.now.main (M.contents media.old) (M.contents media.new) }
-        ensures programmed { M.tells → result ≡ WriteAnswer.Done → Programmed self.old.blocks.size (bound (seen self.old)) self.old.active vaddr stamp (block_at self.new.blocks self.new.active).wear from.now.main (M.contents media.old) (M.contents media.new) }
+        ensures programmed { M.tells → result ≡ WriteAnswer.Done → Programmed self.old.blocks.size (bound (seen self.old)) self.old.active vaddr stamp (block_at self.new.blocks self.old.active).wear from.now.main (M.contents media.old) (M.contents media.new) }
         ensures crash { M.tells → LeavesOnly M.clock M.left media.old media.new (Turns (result ≡ WriteAnswer.Done) (M.clock media.new)
             (λ c. Keeps self.old.blocks.size (bound (seen self.old)) (map_of self.old.places.items (M.contents media.old)) (M.contents media.old) c)
             (λ c. Takes self.old.blocks.size (bound (seen self.old)) (map_of self.old.places.items (M.contents media.old)) vaddr stamp from.now.main (M.contents media.old) c)) }
@@ -91,7 +85,7 @@ impl State {
         ensures either { M.tells → Keeps self.old.blocks.size (bound (seen self.old)) (map_of self.old.places.items (M.contents media.old)) (M.contents media.old) (M.contents media.new)
             ⊎ Takes self.old.blocks.size (bound (seen self.old)) (map_of self.old.places.items (M.contents media.old)) vaddr stamp from.now.main (M.contents media.old) (M.contents media.new) }
         ensures unused { M.tells → (result ≡ VirtualWrite.Done → ⊥) → (Rose (M.write_faults media.old) (M.write_faults media.new) → ⊥) → Keeps self.old.blocks.size (bound (seen self.old)) (map_of self.old.places.items (M.contents media.old)) (M.contents media.old) (M.contents media.new) }
-        ensures programmed { M.tells → 0 < room (seen self.old) → result ≡ VirtualWrite.Done → (block : ℕ) × (wear : ℕ) × Programmed self.old.blocks.size (bound (seen self.old)) block vaddr stamp wear from.now.main (M.contents media.old) (M.contents media.new) }
+        ensures programmed { M.tells → 0 < room (seen self.old) → result ≡ VirtualWrite.Done → (block : ℕ) × Programmed self.old.blocks.size (bound (seen self.old)) block vaddr stamp (block_at self.new.blocks block).wear from.now.main (M.contents media.old) (M.contents media.new) }
         ensures crash { M.tells → LeavesOnly M.clock M.left media.old media.new (Turns (result ≡ VirtualWrite.Done) (M.clock media.new)
             (λ c. Keeps self.old.blocks.size (bound (seen self.old)) (map_of self.old.places.items (M.contents media.old)) (M.contents media.old) c)
             (λ c. Takes self.old.blocks.size (bound (seen self.old)) (map_of self.old.places.items (M.contents media.old)) vaddr stamp from.now.main (M.contents media.old) c)) }

@@ -11,7 +11,7 @@ unreachable-requires c =
     let t = c.settle.new.blocks in
     let first = s.numbers.same_first ∙ c.requires.first in
     let few = subst (λ n. length c.args.places.now.items + 4 * n ≤ length t.blocks * n) (sym s.numbers.same_size)
-        (subst (λ n. length c.args.places.now.items + 4 * c.args.blocks.now.size ≤ n * c.args.blocks.now.size) (sym s.numbers.same_count) c.requires.few) in
+    (subst (λ n. length c.args.places.now.items + 4 * c.args.blocks.now.size ≤ n * c.args.blocks.now.size) (sym s.numbers.same_count) c.requires.few) in
     some_dead t c.args.places.now.items first (subst (λ n. 0 < n) (sym s.numbers.same_size) c.requires.some) (subst (λ n. n ≤ 1) (sym s.total) c.requires.free) few c.settle.ensures.settled
     (λ block within sealed. c.in-None.ensures.none block (has_block t block first within, sealed))
 

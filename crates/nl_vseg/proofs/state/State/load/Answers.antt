@@ -43,6 +43,6 @@ returns-clause-erased c p taken =
     subst (Restated block false closed.table) (sym c.seal.ensures) (restated closed.table block (in_state (block_at closed.table block) Sealed) is.first within) in
     let new : Segment = record { places = set closed.places c.args.vaddr (Some (record { page = c.args.page; stamp = c.args.stamp })); table = c.seal.new.self; soiled = closed.soiled; active = closed.active; used = closed.used } in
     let out = taken_without closed new block restated_is.numbers refl refl
-        (λ b free clean. let ne : b ≡ block → ⊥ = (λ at. true≢false (sym free ∙ (ap (block_is_free c.seal.new.self) at ∙ restated_is.here))) in (ne, sym (restated_is.others b ne) ∙ free, clean))
-        c.close.ensures.idle p taken in
+    (λ b free clean. let ne : b ≡ block → ⊥ = (λ at. true≢false (sym free ∙ (ap (block_is_free c.seal.new.self) at ∙ restated_is.here))) in (ne, sym (restated_is.others b ne) ∙ free, clean))
+    c.close.ensures.idle p taken in
     (c.close.ensures.erased p out.0, λ at. out.1 (ap (λ n. p / n) size ∙ (at ∙ ap (λ n. c.args.page / n) (sym c.pages.ensures))))

@@ -103,8 +103,8 @@ returns-in-Done-clause-programmed g c t done =
     let seg = seen c.args.self.now in
     let filled = c.in-Done.ensures.effect t in
     let is = programmed seg c.requires.formed.segment c.requires.room (seg.active * c.pages.result + seg.used) (ap (λ n. seg.active * n + seg.used) c.pages.ensures) (g.M.Nand.contents c.args.media.now) (c.requires.segment t)
-        (written (page_with c.copy_from.new.self.main c.args.vaddr c.args.stamp c.wear-wear.result)) (g.M.Nand.contents c.program_page.new.media) (filled_cut filled)
-        c.args.vaddr c.args.stamp c.wear-wear.result c.copy_from.new.self.main c.requires.vaddr (filled.inside (seg.active * c.pages.result + seg.used) (omega arith) (omega arith)) c.program_page.ensures.shows in
+    (written (page_with c.copy_from.new.self.main c.args.vaddr c.args.stamp c.wear-wear.result)) (g.M.Nand.contents c.program_page.new.media) (filled_cut filled)
+    c.args.vaddr c.args.stamp c.wear-wear.result c.copy_from.new.self.main c.requires.vaddr (filled.inside (seg.active * c.pages.result + seg.used) (omega arith) (omega arith)) c.program_page.ensures.shows in
     subst (λ w. Programmed seg.table.size (bound seg) seg.active c.args.vaddr c.args.stamp w c.args.from.now.main (g.M.Nand.contents c.args.media.now) (g.M.Nand.contents c.program_page.new.media)) c.wear-wear.ensures
     (subst (λ (b : PageBytes). Programmed seg.table.size (bound seg) seg.active c.args.vaddr c.args.stamp c.wear-wear.result b.main (g.M.Nand.contents c.args.media.now) (g.M.Nand.contents c.program_page.new.media)) c.copy_from.ensures is)
 

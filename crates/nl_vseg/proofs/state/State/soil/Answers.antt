@@ -15,9 +15,9 @@ returns-clause-erased c p taken =
     let size = ap (λ (t : Table). t.size) c.close.ensures.table in
     let within : block < length closed.soiled = subst (λ n. block < n) (sym (is.marks ∙ ap (λ (t : Table). length t.blocks) c.close.ensures.table)) c.requires.within in
     let new : Segment = record { places = closed.places; table = c.set_wear.new.blocks; soiled = set closed.soiled block true; active = closed.active; used = closed.used } in
-    let out = taken_without closed new block c.set_wear.ensures.numbers refl refl
-        (λ b free clean.
-        let ne : b ≡ block → ⊥ = (λ at. true≢false (sym (get_or-set_same closed.soiled block true false within) ∙ (ap (is_soiled new) (sym at) ∙ clean))) in
-        (ne, sym (c.set_wear.ensures.free b) ∙ free, sym (get_or-set_other closed.soiled block b true false ne) ∙ clean))
-        c.close.ensures.idle p taken in
+    let out = taken_without closed new block c.set_wear.ensures.states.numbers refl refl
+    (λ b free clean.
+    let ne : b ≡ block → ⊥ = (λ at. true≢false (sym (get_or-set_same closed.soiled block true false within) ∙ (ap (is_soiled new) (sym at) ∙ clean))) in
+    (ne, sym (c.set_wear.ensures.states.free b) ∙ free, sym (get_or-set_other closed.soiled block b true false ne) ∙ clean))
+    c.close.ensures.idle p taken in
     (c.close.ensures.erased p out.0, λ at. out.1 (ap (λ n. p / n) size ∙ at))

@@ -35,22 +35,25 @@ returns-in-Done-put-clause-programmed g c t room done =
     let old = g.M.Nand.contents c.args.media.now in
     let was = g.M.Nand.contents c.make_room.new.media in
     let new = g.M.Nand.contents c.put.new.media in
-    let wear = (block_at c.put.new.self.blocks c.put.new.self.active).wear in
+    let wear = (block_at c.put.new.self.blocks mid.active).wear in
     let p = resized (λ n b. Programmed n b mid.active c.args.vaddr c.args.stamp wear c.args.from.now.main was new) seg mid c.make_room.ensures.numbers (c.put.ensures.programmed t c.in-Done-put.is) in
-    let stays = c.make_room.ensures.others t room c.in-Done.is in
-    (mid.active, wear, record {
-      page = p.page;
-      below = p.below;
-      in_block = p.in_block;
-      has = p.has;
-      others = λ q ne. ⊎_elim
-          (λ same. ⊎_elim
-          (λ still. inl (same ∙ still))
-          (λ blank. inr (blank.0, same ∙ blank.1))
-          (stays q))
-          (λ blank. inr blank)
-          (p.others q ne);
-    })
+    let stays = c.make_room.ensures.others t room c.in-Done.is in (
+      mid.active,
+      wear,
+      record {
+        page = p.page;
+        below = p.below;
+        in_block = p.in_block;
+        has = p.has;
+        others = λ q ne. ⊎_elim
+            (λ same. ⊎_elim
+            (λ still. inl (same ∙ still))
+            (λ blank. inr (blank.0, same ∙ blank.1))
+            (stays q))
+            (λ blank. inr blank)
+            (p.others q ne);
+      },
+    )
 
 pub returns-in-Done-put-clause-crash : goal.returns-in-Done-put-clause-crash
 returns-in-Done-put-clause-crash g c t =
