@@ -44,10 +44,6 @@ or_right false b is = is
 
 module _ (image : Image) (map : ℕ → Option (ℕ × List ℕ)) (stands : StandsFor (first_physical (shape_of_image image)) (shape_of_image image).vaddrs image map []) (spare : ℕ) (some : 0 < image.pages)
     (there : (v s : ℕ) (main : List ℕ) → map v ≡ Some (s, main) → ShowsBeside image.pages spare (first_physical (shape_of_image image)) image v s main) where
-  newer : Readable → Readable → Bool
-  unfolding newer
-  newer r q = address_on q == address_on r && nat_lt (stamp_on r) (stamp_on q)
-
   copied_at : (r : Readable) → In r (virtual_pages image) → has_greatest_stamp (virtual_pages image) r ≡ true → (x : Option (ℕ × List ℕ)) → map (address_on r) ≡ x → Dominated x (stamp_on r) r.main
       → (q : Readable) × In q (virtual_pages image) × (address_on q ≡ address_on r) × (stamp_on q ≡ stamp_on r) × (q.page / image.pages ≡ spare → ⊥)
   copied_at r is greatest None value d = absurd d

@@ -39,7 +39,6 @@ returns-in-Done-put-clause-programmed g c t room done =
     let p = resized (λ n b. Programmed n b mid.active c.args.vaddr c.args.stamp wear c.args.from.now.main was new) seg mid c.make_room.ensures.numbers (c.put.ensures.programmed t c.in-Done-put.is) in
     let stays = c.make_room.ensures.others t room c.in-Done.is in (
       mid.active,
-      wear,
       record {
         page = p.page;
         below = p.below;
