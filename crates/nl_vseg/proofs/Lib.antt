@@ -1,0 +1,16 @@
+pub mod Blocks
+pub mod Copies
+pub mod Counting
+pub mod Counts
+pub mod Images
+pub mod Marks
+pub mod Members
+pub mod Newest
+pub mod Places
+pub mod ReadPlaces
+pub mod Records
+pub mod Segments
+pub mod Shapes
+pub mod Spares
+pub mod Standing
+pub mod Writing

@@ -1,0 +1,103 @@
+-- The numbers of a shape that a segment rests on.
+use Rattle.std.proofs.Common.{◌≡◌, inl, inr, ℕ, zero, suc, ◌+◌, ◌-◌, ◌*◌, ◌/◌, ◌%◌, ◌^◌, ◌<◌, ◌≤◌, true, false, Option, None, length, replicate, refl, sym, ◌∙◌, ap, subst, arith, IsTrue, nat_le, ◌&&◌, count_by, cond}
+use Rattle.std.specs.Int.{div_ceil}
+use Rattle.std.proofs.lemmas.Bool.{and_parts, cond-true, leb-true, le-leb}
+use Rattle.std.proofs.lemmas.Grind.{div_ceil_times}
+use Rattle.std.proofs.lemmas.List.Sums.{sum_by-cons}
+use Rattle.nl_field.specs.Numbers.{is_legal, shape_for}
+use Rattle.nl_field.specs.declared.shape.Shape.{Shape}
+use Rattle.std.proofs.lemmas.List.{length-replicate}
+use Rattle.std.proofs.lemmas.Option.{none-some}
+use Rattle.nl_blocks.specs.Table.{free_count, is_free, new_row, new_table}
+use Rattle.nl_nand.specs.declared.geometry.Geometry.{Geometry}
+use Rattle.nl_nand.specs.Nand.{IsLegal}
+use Rattle.nl_vseg.specs.Segment.{IsSegment, KeepsSpare, room}
+use Rattle.nl_vseg.specs.declared.place.Place.{Place}
+use Rattle.nl_vseg.proofs.Places.{all_none}
+
+pub record HasRoom (shape : Shape) : Type 0 where
+  pub some : 0 < shape.pages
+  pub blocks : 4 ≤ shape.vblocks
+  pub few : shape.vaddrs + 4 * shape.pages ≤ shape.vblocks * shape.pages
+  pub numbers : shape.vblocks * shape.pages < 2 ^ 32
+
+pub legal_parts : (blocks pages : ℕ) → IsTrue (is_legal blocks pages) → (32 ≤ blocks) × (blocks ≤ 4096) × (32 ≤ pages) × (pages ≤ 256) × (blocks * pages ≤ 262144)
+legal_parts blocks pages legal =
+    let a = and_parts (nat_le 32 blocks && nat_le blocks 4096 && nat_le 32 pages && nat_le pages 256) (nat_le (blocks * pages) 262144) legal in
+    let b = and_parts (nat_le 32 blocks && nat_le blocks 4096 && nat_le 32 pages) (nat_le pages 256) a.0 in
+    let d = and_parts (nat_le 32 blocks && nat_le blocks 4096) (nat_le 32 pages) b.0 in
+    let e = and_parts (nat_le 32 blocks) (nat_le blocks 4096) d.0 in
+    (leb-true 32 blocks e.0, leb-true blocks 4096 e.1, leb-true 32 pages d.1, leb-true pages 256 b.1, leb-true (blocks * pages) 262144 a.1)
+
+pub has_room : (blocks pages : ℕ) → IsTrue (is_legal blocks pages) → HasRoom (shape_for blocks pages)
+unfolding shape_for
+has_room blocks pages legal =
+    let p = legal_parts blocks pages legal in
+    let inodes = div_ceil_times (blocks * pages / 16) 16 (omega arith) in
+    let vaddrs = 67 + div_ceil (blocks * pages / 16) 16 + blocks * pages / 32 in
+    let parts = div_ceil_times vaddrs pages (omega (arith, p.2)) in
+    record {
+      some = omega (arith, p.2);
+      blocks = omega arith;
+      few = omega (arith, parts.0);
+      numbers = omega (arith, parts.1, inodes.1, p.3, p.4);
+    }
+
+pub all_free : (count size : ℕ) → count_by is_free (replicate count (new_row size)) ≡ count
+all_free zero size = refl
+all_free (suc count) size =
+    let rest : count_by is_free (replicate count (new_row size)) ≡ count = all_free count size in
+    let e : count_by is_free (replicate (suc count) (new_row size)) ≡ 1 + count_by is_free (replicate count (new_row size)) = sum_by-cons (λ x. cond (is_free x) 1 0) (new_row size) (replicate count (new_row size)) in
+    omega (arith, e, rest)
+
+-- a segment of a shape, of which no address was written
+pub new_segment : (shape : Shape) → HasRoom shape → IsSegment (record { places = replicate shape.vaddrs None; table = new_table 0 shape.vblocks shape.pages; soiled = replicate shape.vblocks false; active = 0; used = shape.pages })
+new_segment shape room =
+    let places : length {A = Option Place} (replicate shape.vaddrs None) ≡ shape.vaddrs = length-replicate shape.vaddrs None in
+    let blocks : length (replicate shape.vblocks (new_row shape.pages)) ≡ shape.vblocks = length-replicate shape.vblocks (new_row shape.pages) in
+    let soiled : length (replicate shape.vblocks false) ≡ shape.vblocks = length-replicate shape.vblocks false in
+    let more = room.blocks in
+    record {
+      first = refl;
+      some = room.some;
+      numbers = subst (λ n. n * shape.pages < 2 ^ 32) (sym blocks) room.numbers;
+      marks = soiled ∙ sym blocks;
+      few = subst (λ n. length {A = Option Place} (replicate shape.vaddrs None) + 4 * shape.pages ≤ n * shape.pages) (sym blocks) (subst (λ n. n + 4 * shape.pages ≤ shape.vblocks * shape.pages) (sym places) room.few);
+      active_is = omega (arith, blocks, more);
+      used_fits = omega arith;
+      taken = λ lt. absurd (omega (arith, lt));
+      places_are = record {
+        each = λ v place named. absurd (none-some place (sym (all_none shape.vaddrs v) ∙ named));
+        apart = λ u v a b at_u at_v same. absurd (none-some a (sym (all_none shape.vaddrs u) ∙ at_u));
+      };
+      in_use = λ v place named. absurd (none-some place (sym (all_none shape.vaddrs v) ∙ named));
+    }
+
+-- the pages of a medium are counted by a `u32`
+pub medium_fits : (geometry : Geometry) → IsLegal geometry → geometry.blocks * geometry.pages < 2 ^ 32
+medium_fits geometry (inl legal) = let p = legal_parts geometry.blocks geometry.pages legal in omega (arith, p.4)
+medium_fits geometry (inr none) = subst (λ (n : Geometry). n.blocks * n.pages < 2 ^ 32) (sym none) (omega arith)
+
+pub new_spare : (shape : Shape) → HasRoom shape → KeepsSpare (record { places = replicate shape.vaddrs None; table = new_table 0 shape.vblocks shape.pages; soiled = replicate shape.vblocks false; active = 0; used = shape.pages })
+new_spare shape roomy =
+    let blocks : length (replicate shape.vblocks (new_row shape.pages)) ≡ shape.vblocks = length-replicate shape.vblocks (new_row shape.pages) in
+    let more = roomy.blocks in
+    record { block = 0; within = omega (arith, blocks, more); unmapped = λ v place named. absurd (none-some place (sym (all_none shape.vaddrs v) ∙ named)) }
+
+one_less : (n p : ℕ) → 1 ≤ n → (n - 1) * p + p ≡ n * p
+one_less zero p some = absurd (omega (arith, some))
+one_less (suc n) p some =
+    let e : suc n - 1 ≡ n = omega arith in
+    subst (λ k. k * p + p ≡ suc n * p) (sym e) (omega arith)
+
+pub new_room : (shape : Shape) → HasRoom shape
+    → room (record { places = replicate shape.vaddrs None; table = new_table 0 shape.vblocks shape.pages; soiled = replicate shape.vblocks false; active = 0; used = shape.pages }) + shape.pages ≡ shape.vblocks * shape.pages
+new_room shape roomy =
+    let free : free_count (new_table 0 shape.vblocks shape.pages) ≡ shape.vblocks = all_free shape.vblocks shape.pages in
+    let more = roomy.blocks in
+    let some_is : nat_le 1 (free_count (new_table 0 shape.vblocks shape.pages)) ≡ true = le-leb 1 (free_count (new_table 0 shape.vblocks shape.pages)) (omega (arith, free, more)) in
+    let e : cond (nat_le 1 (free_count (new_table 0 shape.vblocks shape.pages))) ((shape.pages - shape.pages) + (free_count (new_table 0 shape.vblocks shape.pages) - 1) * shape.pages) 0
+    ≡ (shape.pages - shape.pages) + (free_count (new_table 0 shape.vblocks shape.pages) - 1) * shape.pages =
+    cond-true (nat_le 1 (free_count (new_table 0 shape.vblocks shape.pages))) ((shape.pages - shape.pages) + (free_count (new_table 0 shape.vblocks shape.pages) - 1) * shape.pages) 0 some_is in
+    let e2 = subst (λ n. (shape.pages - shape.pages) + (n - 1) * shape.pages + shape.pages ≡ shape.vblocks * shape.pages) (sym free) (omega (arith, one_less shape.vblocks shape.pages (omega (arith, more)))) in
+    ap (λ n. n + shape.pages) e ∙ e2

@@ -1,0 +1,24 @@
+use Rattle.std.proofs.Common.{◌≡◌, ℕ, ◌+◌, ◌*◌, ◌<◌, ◌≤◌, length}
+use Rattle.nl_field.specs.CrashStates.{LeavesOnly}
+use Rattle.nl_nand.specs.Nand.{ErasedWithin}
+use Rattle.nl_vseg.specs.Segment.{ArePlaces, Holds, map_of, place_of, stamp_in_place}
+use Rattle.nl_vseg.specs.Copying.{mapped_in, ChangedIn, IsMovedPlace}
+use Rattle.nl_vseg.specs.Effects.{Counted}
+use Rattle.nl_vseg.proofs.copy.copy_block.Given as goal
+
+abbrev pub invariant-loop-v : goal.invariant-loop-v
+invariant-loop-v g l = record {
+  places : ArePlaces l.fn.pages ((g.M.Nand.geometry l.initial.media).blocks * l.fn.pages) l.fn.target l.used l.copies.items;
+  count : length l.copies.items ≡ length l.initial.copies.items;
+  stamps : (u : ℕ) → stamp_in_place (place_of l.copies.items u) ≡ stamp_in_place (place_of l.initial.copies.items u);
+  behind : (u : ℕ) → l.v ≤ u → place_of l.copies.items u ≡ place_of l.initial.copies.items u;
+  moved : (u : ℕ) → u < l.v → IsMovedPlace l.fn.pages l.fn.victim l.fn.target l.used (place_of l.initial.copies.items u) (place_of l.copies.items u);
+  fits : l.used + mapped_in l.fn.pages l.fn.victim l.copies.items ≡ mapped_in l.fn.pages l.fn.victim l.initial.copies.items;
+  holds : g.M.Nand.tells → Holds (g.M.Nand.contents l.media) l.copies.items;
+  erased : g.M.Nand.tells → ErasedWithin (g.M.Nand.contents l.media) (l.fn.target * l.fn.pages + l.used) (l.fn.target * l.fn.pages + l.fn.pages);
+  map : g.M.Nand.tells → (u : ℕ) → map_of l.copies.items (g.M.Nand.contents l.media) u ≡ map_of l.initial.copies.items (g.M.Nand.contents l.initial.media) u;
+  changed : g.M.Nand.tells → ChangedIn l.fn.pages l.fn.target l.initial.copies.items (g.M.Nand.contents l.initial.media) (g.M.Nand.contents l.media);
+  crash : g.M.Nand.tells → LeavesOnly g.M.Nand.clock g.M.Nand.left l.initial.media l.media (λ m c. ChangedIn l.fn.pages l.fn.target l.initial.copies.items (g.M.Nand.contents l.initial.media) c);
+  geometry : g.M.Nand.geometry l.media ≡ g.M.Nand.geometry l.initial.media;
+  counts : Counted g.M.Nand.clock g.M.Nand.read_faults g.M.Nand.write_faults l.initial.media l.media ⊥;
+}

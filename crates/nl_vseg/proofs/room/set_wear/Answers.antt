@@ -1,0 +1,37 @@
+use Rattle.std.proofs.Common.{◌≡◌, ◌<◌, true, false, refl, sym, ◌∙◌, ap, subst}
+use Rattle.nl_blocks.specs.declared.states.BlockState.TheVariants.{Free, Sealed}
+use Rattle.nl_blocks.specs.Table.{BlockRow, Table, block_at, in_state, erased_row}
+use Rattle.nl_blocks.proofs.TableLaws.{block_at-with_block_same}
+use Rattle.nl_vseg.specs.Copying.{Restated}
+use Rattle.nl_vseg.proofs.Blocks.{has_block, restated, restated_again, restated_same}
+use Rattle.nl_vseg.proofs.room.set_wear.Goals as goal
+
+pub returns-clause-states : goal.returns-clause-states
+returns-clause-states c =
+    let old = c.args.blocks.now in
+    let one = subst (Restated c.args.block true old) (sym c.erased.ensures) (restated old c.args.block (erased_row (block_at old c.args.block) 0) c.requires.first c.requires.within) in
+    let first_1 = one.numbers.same_first ∙ c.requires.first in
+    let within_1 = subst (λ n. c.args.block < n) (sym one.numbers.same_count) c.requires.within in
+    let two = subst (Restated c.args.block true c.erased.new.self) (sym c.found-2.ensures)
+    (restated c.erased.new.self c.args.block (record { state = Free; wear = c.args.wear; pages = (block_at c.erased.new.self c.args.block).pages }) first_1 within_1) in
+    let first_2 = two.numbers.same_first ∙ first_1 in
+    let within_2 = subst (λ n. c.args.block < n) (sym two.numbers.same_count) within_1 in
+    let three = subst (Restated c.args.block false c.found-2.new.self) (sym c.seal.ensures)
+    (restated c.found-2.new.self c.args.block (in_state (block_at c.found-2.new.self c.args.block) Sealed) first_2 within_2) in
+    restated_same (sym c.is_free.ensures ∙ c.if-is_free.false) (restated_again (restated_again one two) three)
+
+pub returns-clause-wear : goal.returns-clause-wear
+returns-clause-wear c =
+    let old = c.args.blocks.now in
+    let one = subst (Restated c.args.block true old) (sym c.erased.ensures) (restated old c.args.block (erased_row (block_at old c.args.block) 0) c.requires.first c.requires.within) in
+    let first_1 = one.numbers.same_first ∙ c.requires.first in
+    let within_1 = subst (λ n. c.args.block < n) (sym one.numbers.same_count) c.requires.within in
+    let two = subst (Restated c.args.block true c.erased.new.self) (sym c.found-2.ensures)
+    (restated c.erased.new.self c.args.block (record { state = Free; wear = c.args.wear; pages = (block_at c.erased.new.self c.args.block).pages }) first_1 within_1) in
+    let first_2 = two.numbers.same_first ∙ first_1 in
+    let within_2 = subst (λ n. c.args.block < n) (sym two.numbers.same_count) within_1 in
+    let found = ap (λ (t : Table). block_at t c.args.block) c.found-2.ensures
+    ∙ block_at-with_block_same c.erased.new.self c.args.block (record { state = Free; wear = c.args.wear; pages = (block_at c.erased.new.self c.args.block).pages }) (has_block c.erased.new.self c.args.block first_1 within_1) in
+    let sealed = ap (λ (t : Table). block_at t c.args.block) c.seal.ensures
+    ∙ block_at-with_block_same c.found-2.new.self c.args.block (in_state (block_at c.found-2.new.self c.args.block) Sealed) (has_block c.found-2.new.self c.args.block first_2 within_2) in
+    ap (λ (r : BlockRow). r.wear) sealed ∙ ap (λ (r : BlockRow). r.wear) found

@@ -1,0 +1,20 @@
+use Rattle.std.proofs.Common.{◌+◌, ◌*◌, ◌^◌, ◌<◌, length, sym, ◌∙◌, ap, subst, arith}
+use Rattle.nl_vseg.specs.Segment.{IsSegment}
+use Rattle.nl_vseg.proofs.Shapes.{HasRoom, has_room, new_segment}
+use Rattle.nl_vseg.proofs.state.State.new.Goals as goal
+
+pub new-requires-clause-numbers : goal.new-requires-clause-numbers
+new-requires-clause-numbers c =
+    let room = subst HasRoom (sym c.requires.numbers) (has_room c.args.shape.now.blocks c.args.shape.now.pages c.requires.legal) in
+    omega (arith, room.numbers)
+
+pub returns-clause-formed : goal.returns-clause-formed
+returns-clause-formed c =
+    let room = subst HasRoom (sym c.requires.numbers) (has_room c.args.shape.now.blocks c.args.shape.now.pages c.requires.legal) in
+    let places = c.in_ok-no_places.ensures in
+    let table = c.in_ok-new.ensures in
+    let soiled = c.in_ok-no_marks.ensures in
+    record {
+      segment = subst IsSegment (λ i. record { places = sym places i; table = sym table i; soiled = sym soiled i; active = 0; used = c.args.shape.now.pages }) (new_segment c.args.shape.now room);
+      copies = ap length c.in_ok-no_places-2.ensures ∙ ap length (sym places);
+    }

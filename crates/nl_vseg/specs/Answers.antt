@@ -1,0 +1,42 @@
+-- When the calls answer what.
+use Rattle.std.specs.Prelude.{◌≡◌, ℕ, ⊤, List, Option, Some, None}
+use Rattle.nl_field.specs.Page.{PageBytes, Page, written}
+use Rattle.nl_field.specs.declared.answers.VirtualRead.{VirtualRead}
+use Rattle.nl_field.specs.declared.answers.VirtualRead.TheVariants as read
+use Rattle.nl_field.specs.declared.answers.VirtualWrite.{VirtualWrite}
+use Rattle.nl_field.specs.declared.answers.VirtualWrite.TheVariants as write
+use Rattle.nl_vseg.specs.Pages.{stamp_found, stamp_at}
+use Rattle.nl_vseg.specs.Segment.{Segment, stamp_for}
+
+-- what the read of a page answers that is to hold this number, and what the buffer then has
+abbrev pub ReadsPage : Page → ℕ → PageBytes → VirtualRead → Type 0
+ReadsPage page wanted buf read.Done = page ≡ written buf
+ReadsPage page wanted buf read.Unmapped = ⊥
+ReadsPage page wanted buf (read.Lost w f) = stamp_at page ≡ f
+ReadsPage page wanted buf read.Fault = ⊤
+
+-- What the read of an address answers that has this number: Unmapped exactly where it has none, and Lost with the number that
+-- is wanted and another one that was found.
+abbrev pub ReadsStamp : Option ℕ → PageBytes → VirtualRead → Type 0
+ReadsStamp stamp buf read.Done = stamp ≡ Some (stamp_found buf)
+ReadsStamp stamp buf read.Unmapped = stamp ≡ None
+ReadsStamp stamp buf (read.Lost w f) = (stamp ≡ Some w) × (f ≡ w → ⊥)
+ReadsStamp stamp buf read.Fault = stamp ≡ None → ⊥
+
+-- What the read of an address answers that has this value: the value, and never Lost.
+abbrev pub ReadsValue : Option (ℕ × List ℕ) → PageBytes → VirtualRead → Type 0
+ReadsValue value buf read.Done = value ≡ Some (stamp_found buf, buf.main)
+ReadsValue value buf read.Unmapped = value ≡ None
+ReadsValue value buf (read.Lost w f) = ⊥
+ReadsValue value buf read.Fault = ⊤
+
+-- Lost tells the number of an address, and another one that was found.
+abbrev pub LosesStamp : Segment → VirtualWrite → Type 0
+LosesStamp seg write.Done = ⊤
+LosesStamp seg (write.Lost w f) = ((v : ℕ) × (stamp_for seg v ≡ Some w)) × (f ≡ w → ⊥)
+LosesStamp seg write.Fault = ⊤
+
+abbrev pub IsLost : VirtualWrite → Type 0
+IsLost write.Done = ⊥
+IsLost (write.Lost w f) = ⊤
+IsLost write.Fault = ⊥

@@ -1,0 +1,163 @@
+// Copies the pages of one block that addresses have.
+ghost use Rattle.std.specs.Prelude.{◌≡◌, ◌⊎◌, ℕ, ◌+◌, ◌*◌, ◌^◌, ◌<◌, ◌≤◌, List, Option, length, Some, IsTrue};
+ghost use Rattle.nl_field.specs.CrashStates.{LeavesOnly};
+ghost use Rattle.nl_field.specs.Page.{Image, page_at};
+ghost use Rattle.nl_field.specs.Spelling.{is_stamp};
+ghost use Rattle.nl_nand.specs.Nand.{CanProgram, Cut, ErasedWithin, Filled};
+ghost use Rattle.nl_vseg.specs.Pages.{fact_of, main_of};
+ghost use Rattle.nl_vseg.specs.Segment.{ArePlaces, Holds, IsUnmapped, map_of, place_of, stamp_in_place};
+ghost use Rattle.nl_vseg.specs.Copying.{mapped_in, copy_of, AreMoved, ChangedIn, IsMovedPlace};
+ghost use Rattle.nl_vseg.specs.Effects.{Counted};
+ghost use Rattle.nl_vseg.specs.Answers.{IsLost};
+ghost use Rattle.nl_vseg.specs.declared.place.Place.{Place as PlaceOf};
+
+use crate::pages::{program_page, read_page};
+use crate::place::Place;
+use nl_field::{PageBuf, VirtualRead, VirtualWrite};
+use nl_nand::{Nand, WriteAnswer};
+
+/// Copies the page of an address to another page.
+fn copy_page<M: Nand>(
+    media: &mut M,
+    buf: &mut PageBuf,
+    vaddr: u32,
+    place: Place,
+    to: u32,
+    wear: u32,
+) -> VirtualWrite
+    requires within { place.page < (M.geometry media.old).blocks * (M.geometry media.old).pages }
+    requires to { to < (M.geometry media.old).blocks * (M.geometry media.old).pages }
+    requires spelled { IsTrue (is_stamp place.stamp) }
+    requires shows { M.tells → fact_of (page_at (M.contents media.old) place.page) ≡ Some (vaddr, place.stamp, main_of (page_at (M.contents media.old) place.page)) }
+    requires erased { M.tells → CanProgram (M.contents media.old) to }
+    ensures filled { M.tells → result ≡ VirtualWrite.Done → Filled to (to + 1) (copy_of (page_at (M.contents media.old) place.page) vaddr place.stamp wear) (M.contents media.old) (M.contents media.new) }
+    ensures cut { M.tells → Cut to (to + 1) (copy_of (page_at (M.contents media.old) place.page) vaddr place.stamp wear) (M.contents media.old) (M.contents media.new) }
+    ensures crash { M.tells → LeavesOnly M.clock M.left media.old media.new (λ m c. Cut to (to + 1) (copy_of (page_at (M.contents media.old) place.page) vaddr place.stamp wear) (M.contents media.old) c) }
+    ensures copied { M.tells → fact_of (copy_of (page_at (M.contents media.old) place.page) vaddr place.stamp wear) ≡ fact_of (page_at (M.contents media.old) place.page) }
+    ensures lost { (w f : ℕ) → result ≡ VirtualWrite.Lost w f → (w ≡ place.stamp) × (f ≡ place.stamp → ⊥) }
+    ensures kept { M.tells → IsLost result → ⊥ }
+    ensures geometry { M.geometry media.new ≡ M.geometry media.old }
+    ensures counts { Counted M.clock M.read_faults M.write_faults media.old media.new (result ≡ VirtualWrite.Fault) }
+{
+    match read_page(media, place.page, place.stamp, buf) {
+        VirtualRead::Done => {}
+        VirtualRead::Lost { wanted, found } => return VirtualWrite::Lost { wanted, found },
+        VirtualRead::Fault => return VirtualWrite::Fault,
+        VirtualRead::Unmapped => unreachable!(),
+    }
+    match program_page(media, to, buf, vaddr, place.stamp, wear) {
+        WriteAnswer::Done => VirtualWrite::Done,
+        WriteAnswer::Failed => VirtualWrite::Fault,
+    }
+}
+
+/// Copies the page of an address to the next page of the target, where it is in the victim.
+fn copy_one<M: Nand>(
+    media: &mut M,
+    buf: &mut PageBuf,
+    copies: &mut Vec<Option<Place>>,
+    v: usize,
+    victim: u32,
+    pages: u32,
+    target: u32,
+    wear: u32,
+    used: &mut u32,
+) -> VirtualWrite
+    requires pages { (M.geometry media.old).pages ≡ pages }
+    requires some { 0 < pages }
+    requires blocks { target < (M.geometry media.old).blocks }
+    requires numbers { (M.geometry media.old).blocks * pages < 2 ^ 32 }
+    requires few { length copies.old.items < 2 ^ 32 }
+    requires vaddr { v < length copies.old.items }
+    requires places { ArePlaces pages ((M.geometry media.old).blocks * pages) target used.old copies.old.items }
+    requires other { target ≡ victim → ⊥ }
+    requires room { used.old + mapped_in pages victim copies.old.items < pages }
+    requires holds { M.tells → Holds (M.contents media.old) copies.old.items }
+    requires erased { M.tells → ErasedWithin (M.contents media.old) (target * pages + used.old) (target * pages + pages) }
+    ensures used { used.new < pages }
+    ensures more { used.old ≤ used.new }
+    ensures places { result ≡ VirtualWrite.Done → ArePlaces pages ((M.geometry media.old).blocks * pages) target used.new copies.new.items }
+    ensures count { length copies.new.items ≡ length copies.old.items }
+    ensures stamps { (u : ℕ) → stamp_in_place (place_of copies.new.items u) ≡ stamp_in_place (place_of copies.old.items u) }
+    ensures same { (u : ℕ) → (u ≡ v → ⊥) → place_of copies.new.items u ≡ place_of copies.old.items u }
+    ensures moved { result ≡ VirtualWrite.Done → IsMovedPlace pages victim target used.new (place_of copies.old.items v) (place_of copies.new.items v) }
+    ensures fits { result ≡ VirtualWrite.Done → used.new + mapped_in pages victim copies.new.items ≡ used.old + mapped_in pages victim copies.old.items }
+    ensures holds { M.tells → result ≡ VirtualWrite.Done → Holds (M.contents media.new) copies.new.items }
+    ensures erased { M.tells → result ≡ VirtualWrite.Done → ErasedWithin (M.contents media.new) (target * pages + used.new) (target * pages + pages) }
+    ensures map { M.tells → result ≡ VirtualWrite.Done → (u : ℕ) → map_of copies.new.items (M.contents media.new) u ≡ map_of copies.old.items (M.contents media.old) u }
+    ensures changed { M.tells → (first : List (Option PlaceOf)) (image : Image) → place_of first v ≡ place_of copies.old.items v → IsUnmapped pages first target → ChangedIn pages target first image (M.contents media.old) → ChangedIn pages target first image (M.contents media.new) }
+    ensures crash { M.tells → (first : List (Option PlaceOf)) (image : Image) → place_of first v ≡ place_of copies.old.items v → IsUnmapped pages first target → ChangedIn pages target first image (M.contents media.old) → LeavesOnly M.clock M.left media.old media.new (λ m c. ChangedIn pages target first image c) }
+    ensures lost { (w f : ℕ) → result ≡ VirtualWrite.Lost w f → (stamp_in_place (place_of copies.old.items v) ≡ Some w) × (f ≡ w → ⊥) }
+    ensures kept { M.tells → IsLost result → ⊥ }
+    ensures geometry { M.geometry media.new ≡ M.geometry media.old }
+    ensures counts { Counted M.clock M.read_faults M.write_faults media.old media.new (result ≡ VirtualWrite.Fault) }
+{
+    let Some(place) = copies[v] else {
+        return VirtualWrite::Done;
+    };
+    if place.page / pages != victim {
+        return VirtualWrite::Done;
+    }
+    let to = target * pages + *used;
+    *used += 1;
+    match copy_page(media, buf, v as u32, place, to, wear) {
+        VirtualWrite::Lost { wanted, found } => VirtualWrite::Lost { wanted, found },
+        VirtualWrite::Fault => VirtualWrite::Fault,
+        VirtualWrite::Done => {
+            copies[v] = Some(Place {
+                page: to,
+                stamp: place.stamp,
+            });
+            VirtualWrite::Done
+        }
+    }
+}
+
+/// Copies each page of the victim that an address has to the next page of the target. The map of copies then has those.
+pub fn copy_block<M: Nand>(
+    media: &mut M,
+    buf: &mut PageBuf,
+    copies: &mut Vec<Option<Place>>,
+    victim: u32,
+    pages: u32,
+    target: u32,
+    wear: u32,
+    used: &mut u32,
+) -> VirtualWrite
+    requires pages { (M.geometry media.old).pages ≡ pages }
+    requires some { 0 < pages }
+    requires blocks { target < (M.geometry media.old).blocks }
+    requires numbers { (M.geometry media.old).blocks * pages < 2 ^ 32 }
+    requires few { length copies.old.items < 2 ^ 32 }
+    requires places { ArePlaces pages ((M.geometry media.old).blocks * pages) target used.old copies.old.items }
+    requires unmapped { IsUnmapped pages copies.old.items target }
+    requires begins { used.old ≡ 0 }
+    requires other { target ≡ victim → ⊥ }
+    requires room { mapped_in pages victim copies.old.items < pages }
+    requires holds { M.tells → Holds (M.contents media.old) copies.old.items }
+    requires erased { M.tells → ErasedWithin (M.contents media.old) (target * pages) (target * pages + pages) }
+    ensures used { used.new < pages }
+    ensures places { result ≡ VirtualWrite.Done → ArePlaces pages ((M.geometry media.old).blocks * pages) target used.new copies.new.items }
+    ensures count { length copies.new.items ≡ length copies.old.items }
+    ensures moved { result ≡ VirtualWrite.Done → AreMoved pages victim target used.new copies.old.items copies.new.items }
+    ensures holds { M.tells → result ≡ VirtualWrite.Done → Holds (M.contents media.new) copies.new.items }
+    ensures erased { M.tells → result ≡ VirtualWrite.Done → ErasedWithin (M.contents media.new) (target * pages + used.new) (target * pages + pages) }
+    ensures map { M.tells → result ≡ VirtualWrite.Done → (v : ℕ) → map_of copies.new.items (M.contents media.new) v ≡ map_of copies.old.items (M.contents media.old) v }
+    ensures changed { M.tells → ChangedIn pages target copies.old.items (M.contents media.old) (M.contents media.new) }
+    ensures crash { M.tells → LeavesOnly M.clock M.left media.old media.new (λ m c. ChangedIn pages target copies.old.items (M.contents media.old) c) }
+    ensures lost { (w f : ℕ) → result ≡ VirtualWrite.Lost w f → ((v : ℕ) × (stamp_in_place (place_of copies.old.items v) ≡ Some w)) × (f ≡ w → ⊥) }
+    ensures kept { M.tells → IsLost result → ⊥ }
+    ensures geometry { M.geometry media.new ≡ M.geometry media.old }
+    ensures counts { Counted M.clock M.read_faults M.write_faults media.old media.new (result ≡ VirtualWrite.Fault) }
+{
+    for v in 0..copies.len() {
+        match copy_one(media, buf, copies, v, victim, pages, target, wear, used) {
+            VirtualWrite::Done => {}
+            VirtualWrite::Lost { wanted, found } => {
+                return VirtualWrite::Lost { wanted, found };
+            }
+            VirtualWrite::Fault => return VirtualWrite::Fault,
+        }
+    }
+    VirtualWrite::Done
+}

@@ -1,0 +1,32 @@
+ghost use Rattle.std.specs.Prelude.{◌≡◌, ◌<◌, length};
+ghost use Rattle.nl_nand.specs.Nand.{FaultsCounted, SameLeft};
+ghost use Rattle.nl_vseg.specs.Segment.{IsSegmentOf, map_of, stamp_for};
+ghost use Rattle.nl_vseg.specs.Seen.{seen, IsFormed, Fits};
+ghost use Rattle.nl_vseg.specs.Answers.{ReadsStamp, ReadsValue};
+
+use crate::pages::read_page;
+use crate::state::State;
+use nl_field::{PageBuf, VirtualRead};
+use nl_nand::Nand;
+
+impl State {
+    pub fn read<M: Nand>(&self, media: &mut M, vaddr: u32, buf: &mut PageBuf) -> VirtualRead
+        requires formed { IsFormed self.now }
+        requires fits { Fits (M.geometry media.old) (seen self.now) }
+        requires vaddr { vaddr < length self.now.places.items }
+        requires segment { M.tells → IsSegmentOf (M.contents media.old) (seen self.now) }
+        ensures answer { ReadsStamp (stamp_for (seen self.now) vaddr) buf.new result }
+        ensures value { M.tells → ReadsValue (map_of self.now.places.items (M.contents media.old) vaddr) buf.new result }
+        ensures geometry { M.geometry media.new ≡ M.geometry media.old }
+        ensures contents { M.contents media.new ≡ M.contents media.old }
+        ensures left { SameLeft M.left media.old media.new }
+        ensures clock { M.clock media.new ≡ M.clock media.old }
+        ensures write_faults { M.write_faults media.new ≡ M.write_faults media.old }
+        ensures read_faults { FaultsCounted (M.read_faults media.old) (M.read_faults media.new) (result ≡ VirtualRead.Fault) }
+    {
+        match self.places[vaddr as usize] {
+            None => VirtualRead::Unmapped,
+            Some(place) => read_page(media, place.page, place.stamp, buf),
+        }
+    }
+}

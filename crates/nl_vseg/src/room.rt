@@ -1,0 +1,362 @@
+// Sees to it that a page can be programmed, and that one block holds no page of the map.
+ghost use Rattle.std.specs.Prelude.{◌≡◌, ◌⊎◌, ℕ, ◌+◌, ◌*◌, ◌/◌, ◌<◌, ◌≤◌, length, true, false, IfNone, IfSome, IsNone};
+ghost use Rattle.nl_field.specs.Page.{erased, page_at};
+ghost use Rattle.nl_blocks.specs.Table.{block_at, free_count};
+ghost use Rattle.nl_vseg.specs.Segment.{IsSegmentOf, IsUnmapped, KeepsSpare, SameSize, TakenAsErased, block_is_free, bound, is_soiled, map_of, room, stamp_for};
+ghost use Rattle.nl_vseg.specs.Seen.{seen, IsFormed, Fits};
+ghost use Rattle.nl_vseg.specs.Copying.{mapped_in, Restated, SameUse, StaysOrErased};
+ghost use Rattle.nl_vseg.specs.Effects.{Counted, KeepsMap};
+ghost use Rattle.nl_vseg.specs.Answers.{IsLost, LosesStamp};
+
+use crate::copy::copy_block;
+use crate::state::State;
+use crate::victim::choose;
+use nl_blocks::{BlockState, Blocks};
+use nl_field::VirtualWrite;
+use nl_nand::{Nand, WriteAnswer};
+
+/// Gives out the least worn Free block. There is one.
+fn take(blocks: &mut Blocks) -> u32
+    requires first { blocks.old.first ≡ 0 }
+    requires free { 1 ≤ free_count blocks.old }
+    ensures within { result < length blocks.old.blocks }
+    ensures was_free { block_is_free blocks.old result ≡ true }
+    ensures taken { Restated result false blocks.old blocks.new }
+{
+    let taken = if blocks.free() < 2 {
+        blocks.take_reserve()
+    } else {
+        blocks.take_free()
+    };
+    match taken {
+        Some(block) => block,
+        None => unreachable!(),
+    }
+}
+
+fn is_free(blocks: &Blocks, block: u32) -> bool
+    requires first { blocks.now.first ≡ 0 }
+    requires within { block < length blocks.now.blocks }
+    ensures { result ≡ block_is_free blocks.now block }
+{
+    matches!(blocks.state(block), BlockState::Free)
+}
+
+/// Sets the wear of a block.
+pub fn set_wear(blocks: &mut Blocks, block: u32, wear: u32)
+    requires first { blocks.old.first ≡ 0 }
+    requires within { block < length blocks.old.blocks }
+    ensures states { SameUse blocks.old blocks.new }
+    ensures wear { (block_at blocks.new block).wear ≡ wear }
+{
+    if is_free(blocks, block) {
+        blocks.found(block, wear, 0);
+        return;
+    }
+    blocks.erased(block, 0);
+    blocks.found(block, wear, 0);
+    blocks.seal(block);
+}
+
+impl State {
+    /// A block that holds no page of the map is Free, and erased before use where it is soiled.
+    fn set_free(&mut self, block: u32, soiled: bool)
+        requires formed { IsFormed self.old }
+        requires within { block < length self.old.blocks.blocks }
+        requires unmapped { IsUnmapped self.old.blocks.size self.old.places.items block }
+        requires idle { self.old.used < self.old.blocks.size → block ≡ self.old.active → ⊥ }
+        ensures formed { IsFormed self.new }
+        ensures places { self.new.places.items ≡ self.old.places.items }
+        ensures used { self.new.used ≡ self.old.used }
+        ensures active { self.new.active ≡ self.old.active }
+        ensures states { Restated block true self.old.blocks self.new.blocks }
+        ensures soiled { is_soiled (seen self.new) block ≡ soiled }
+        ensures erased { (p : ℕ) → TakenAsErased (seen self.new) p → (p / self.old.blocks.size ≡ block → soiled ≡ false) × ((p / self.old.blocks.size ≡ block → ⊥) → TakenAsErased (seen self.old) p) }
+    {
+        self.blocks.erased(block, 0);
+        self.soiled[block as usize] = soiled;
+    }
+
+    /// Erases a block that holds no page of the map. It is Free.
+    fn erase<M: Nand>(&mut self, media: &mut M, block: u32) -> WriteAnswer
+        requires formed { IsFormed self.old }
+        requires fits { Fits (M.geometry media.old) (seen self.old) }
+        requires within { block < length self.old.blocks.blocks }
+        requires unmapped { IsUnmapped self.old.blocks.size self.old.places.items block }
+        requires idle { self.old.used < self.old.blocks.size → block ≡ self.old.active → ⊥ }
+        requires segment { M.tells → IsSegmentOf (M.contents media.old) (seen self.old) }
+        ensures formed { IsFormed self.new }
+        ensures places { self.new.places.items ≡ self.old.places.items }
+        ensures used { self.new.used ≡ self.old.used }
+        ensures active { self.new.active ≡ self.old.active }
+        ensures states { Restated block true self.old.blocks self.new.blocks }
+        ensures segment { M.tells → IsSegmentOf (M.contents media.new) (seen self.new) }
+        ensures blank { M.tells → result ≡ WriteAnswer.Done → (p : ℕ) → p / self.old.blocks.size ≡ block → page_at (M.contents media.new) p ≡ erased }
+        ensures others { M.tells → (p : ℕ) → (p / self.old.blocks.size ≡ block → ⊥) → page_at (M.contents media.new) p ≡ page_at (M.contents media.old) p }
+        ensures map { M.tells → KeepsMap M.clock M.contents M.left self.old.blocks.size (bound (seen self.old)) (map_of self.old.places.items (M.contents media.old)) (map_of self.new.places.items (M.contents media.new)) media.old media.new }
+        ensures geometry { M.geometry media.new ≡ M.geometry media.old }
+        ensures counts { Counted M.clock M.read_faults M.write_faults media.old media.new (result ≡ WriteAnswer.Failed) }
+    {
+        match media.erase(block) {
+            WriteAnswer::Done => {
+                self.set_free(block, false);
+                WriteAnswer::Done
+            }
+            WriteAnswer::Failed => {
+                self.set_free(block, true);
+                WriteAnswer::Failed
+            }
+        }
+    }
+
+    /// Takes a Free block, and erases it first where it is soiled. None where that failed.
+    fn take_erased<M: Nand>(&mut self, media: &mut M) -> Option<u32>
+        requires formed { IsFormed self.old }
+        requires fits { Fits (M.geometry media.old) (seen self.old) }
+        requires closed { self.old.used ≡ self.old.blocks.size }
+        requires free { 1 ≤ free_count self.old.blocks }
+        requires segment { M.tells → IsSegmentOf (M.contents media.old) (seen self.old) }
+        ensures formed { IsFormed self.new }
+        ensures places { self.new.places.items ≡ self.old.places.items }
+        ensures used { self.new.used ≡ self.old.used }
+        ensures none { IfNone result (SameUse self.old.blocks self.new.blocks) }
+        ensures some { IfSome result (λ block. block < length self.old.blocks.blocks) }
+        ensures was_free { IfSome result (λ block. block_is_free self.old.blocks block ≡ true) }
+        ensures taken { IfSome result (λ block. Restated block false self.old.blocks self.new.blocks) }
+        ensures segment { M.tells → IsSegmentOf (M.contents media.new) (seen self.new) }
+        ensures blank { M.tells → IfSome result (λ block. (p : ℕ) → p / self.old.blocks.size ≡ block → page_at (M.contents media.new) p ≡ erased) }
+        ensures others { M.tells → IfSome result (λ block. (p : ℕ) → (p / self.old.blocks.size ≡ block → ⊥) → page_at (M.contents media.new) p ≡ page_at (M.contents media.old) p) }
+        ensures map { M.tells → KeepsMap M.clock M.contents M.left self.old.blocks.size (bound (seen self.old)) (map_of self.old.places.items (M.contents media.old)) (map_of self.new.places.items (M.contents media.new)) media.old media.new }
+        ensures geometry { M.geometry media.new ≡ M.geometry media.old }
+        ensures counts { Counted M.clock M.read_faults M.write_faults media.old media.new (IsNone result) }
+    {
+        let block = take(&mut self.blocks);
+        if !self.soiled[block as usize] {
+            return Some(block);
+        }
+        match self.erase(media, block) {
+            WriteAnswer::Failed => None,
+            WriteAnswer::Done => {
+                self.blocks.seal(block);
+                Some(block)
+            }
+        }
+    }
+
+    /// Makes a Free block the active one, and erases it first where it is soiled.
+    fn start<M: Nand>(&mut self, media: &mut M) -> WriteAnswer
+        requires formed { IsFormed self.old }
+        requires fits { Fits (M.geometry media.old) (seen self.old) }
+        requires closed { self.old.used ≡ self.old.blocks.size }
+        requires free { 1 ≤ free_count self.old.blocks }
+        requires segment { M.tells → IsSegmentOf (M.contents media.old) (seen self.old) }
+        ensures formed { IsFormed self.new }
+        ensures places { self.new.places.items ≡ self.old.places.items }
+        ensures same { result ≡ WriteAnswer.Failed → SameUse self.old.blocks self.new.blocks }
+        ensures closed { result ≡ WriteAnswer.Failed → self.new.used ≡ self.new.blocks.size }
+        ensures taken { result ≡ WriteAnswer.Done → Restated self.new.active false self.old.blocks self.new.blocks }
+        ensures begins { result ≡ WriteAnswer.Done → self.new.used ≡ 0 }
+        ensures was_free { result ≡ WriteAnswer.Done → block_is_free self.old.blocks self.new.active ≡ true }
+        ensures segment { M.tells → IsSegmentOf (M.contents media.new) (seen self.new) }
+        ensures others { M.tells → result ≡ WriteAnswer.Done → StaysOrErased self.old.blocks.size self.new.active (M.contents media.old) (M.contents media.new) }
+        ensures map { M.tells → KeepsMap M.clock M.contents M.left self.old.blocks.size (bound (seen self.old)) (map_of self.old.places.items (M.contents media.old)) (map_of self.new.places.items (M.contents media.new)) media.old media.new }
+        ensures geometry { M.geometry media.new ≡ M.geometry media.old }
+        ensures counts { Counted M.clock M.read_faults M.write_faults media.old media.new (result ≡ WriteAnswer.Failed) }
+    {
+        match self.take_erased(media) {
+            None => WriteAnswer::Failed,
+            Some(block) => {
+                self.active = block;
+                self.used = 0;
+                WriteAnswer::Done
+            }
+        }
+    }
+
+    /// Leaves the active block, which holds no page of the map. It is Free, and erased before use.
+    fn give_back(&mut self)
+        requires formed { IsFormed self.old }
+        requires unmapped { IsUnmapped self.old.blocks.size self.old.places.items self.old.active }
+        ensures formed { IsFormed self.new }
+        ensures places { self.new.places.items ≡ self.old.places.items }
+        ensures closed { self.new.used ≡ self.new.blocks.size }
+        ensures states { Restated self.old.active true self.old.blocks self.new.blocks }
+        ensures erased { (p : ℕ) → TakenAsErased (seen self.new) p → TakenAsErased (seen self.old) p × (p / self.old.blocks.size ≡ self.old.active → ⊥) }
+    {
+        let block = self.active;
+        let wear = self.blocks.wear(block);
+        self.close(block);
+        self.set_free(block, true);
+        set_wear(&mut self.blocks, block, wear);
+    }
+
+    /// Nothing more is programmed in this block before it is erased.
+    pub fn close(&mut self, block: u32)
+        requires { IsFormed self.old }
+        ensures formed { IsFormed self.new }
+        ensures places { self.new.places.items ≡ self.old.places.items }
+        ensures table { self.new.blocks ≡ self.old.blocks }
+        ensures soiled { self.new.soiled.items ≡ self.old.soiled.items }
+        ensures active { self.new.active ≡ self.old.active }
+        ensures used { self.new.active ≡ block → self.new.used ≡ self.new.blocks.size }
+        ensures idle { self.new.used < self.new.blocks.size → block ≡ self.new.active → ⊥ }
+        ensures erased { (p : ℕ) → TakenAsErased (seen self.new) p → TakenAsErased (seen self.old) p }
+    {
+        if block == self.active {
+            self.used = self.blocks.pages();
+        }
+    }
+
+    /// Copies the pages of the victim that addresses have to the active block. The map has the copies once all are made.
+    fn move_pages<M: Nand>(&mut self, media: &mut M, victim: u32) -> VirtualWrite
+        requires formed { IsFormed self.old }
+        requires fits { Fits (M.geometry media.old) (seen self.old) }
+        requires begins { self.old.used ≡ 0 }
+        requires unmapped { IsUnmapped self.old.blocks.size self.old.places.items self.old.active }
+        requires other { self.old.active ≡ victim → ⊥ }
+        requires room { mapped_in self.old.blocks.size victim self.old.places.items < self.old.blocks.size }
+        requires segment { M.tells → IsSegmentOf (M.contents media.old) (seen self.old) }
+        ensures formed { IsFormed self.new }
+        ensures moved { result ≡ VirtualWrite.Done → IsUnmapped self.new.blocks.size self.new.places.items victim }
+        ensures stamps { (v : ℕ) → stamp_for (seen self.new) v ≡ stamp_for (seen self.old) v }
+        ensures table { result ≡ VirtualWrite.Done → self.new.blocks ≡ self.old.blocks }
+        ensures active { result ≡ VirtualWrite.Done → self.new.active ≡ self.old.active }
+        ensures used { result ≡ VirtualWrite.Done → self.new.used < self.new.blocks.size }
+        ensures count { length self.new.places.items ≡ length self.old.places.items }
+        ensures kept_places { (result ≡ VirtualWrite.Done → ⊥) → self.new.places.items ≡ self.old.places.items }
+        ensures closed { (result ≡ VirtualWrite.Done → ⊥) → self.new.used ≡ self.new.blocks.size }
+        ensures given { (result ≡ VirtualWrite.Done → ⊥) → Restated self.old.active true self.old.blocks self.new.blocks }
+        ensures segment { M.tells → IsSegmentOf (M.contents media.new) (seen self.new) }
+        ensures map { M.tells → KeepsMap M.clock M.contents M.left self.old.blocks.size (bound (seen self.old)) (map_of self.old.places.items (M.contents media.old)) (map_of self.new.places.items (M.contents media.new)) media.old media.new }
+        ensures lost { LosesStamp (seen self.old) result }
+        ensures kept { M.tells → IsLost result → ⊥ }
+        ensures geometry { M.geometry media.new ≡ M.geometry media.old }
+        ensures counts { Counted M.clock M.read_faults M.write_faults media.old media.new (result ≡ VirtualWrite.Fault) }
+    {
+        let wear = self.blocks.wear(self.active);
+        let pages = self.blocks.pages();
+        self.copies.copy_from_slice(&self.places);
+        match copy_block(
+            media,
+            &mut self.buf,
+            &mut self.copies,
+            victim,
+            pages,
+            self.active,
+            wear,
+            &mut self.used,
+        ) {
+            VirtualWrite::Done => {
+                std::mem::swap(&mut self.places, &mut self.copies);
+                VirtualWrite::Done
+            }
+            VirtualWrite::Lost { wanted, found } => {
+                self.give_back();
+                VirtualWrite::Lost { wanted, found }
+            }
+            VirtualWrite::Fault => {
+                self.give_back();
+                VirtualWrite::Fault
+            }
+        }
+    }
+
+    /// Cleans the block with the most pages that no address has. One block is Free.
+    fn clean<M: Nand>(&mut self, media: &mut M) -> VirtualWrite
+        requires formed { IsFormed self.old }
+        requires fits { Fits (M.geometry media.old) (seen self.old) }
+        requires closed { self.old.used ≡ self.old.blocks.size }
+        requires free { free_count self.old.blocks ≡ 1 }
+        requires segment { M.tells → IsSegmentOf (M.contents media.old) (seen self.old) }
+        ensures formed { IsFormed self.new }
+        ensures spare { 1 ≤ free_count self.new.blocks }
+        ensures room { result ≡ VirtualWrite.Done → self.new.used < self.new.blocks.size }
+        ensures stamps { (v : ℕ) → stamp_for (seen self.new) v ≡ stamp_for (seen self.old) v }
+        ensures numbers { SameSize (seen self.old) (seen self.new) }
+        ensures segment { M.tells → IsSegmentOf (M.contents media.new) (seen self.new) }
+        ensures map { M.tells → KeepsMap M.clock M.contents M.left self.old.blocks.size (bound (seen self.old)) (map_of self.old.places.items (M.contents media.old)) (map_of self.new.places.items (M.contents media.new)) media.old media.new }
+        ensures lost { LosesStamp (seen self.old) result }
+        ensures kept { M.tells → IsLost result → ⊥ }
+        ensures geometry { M.geometry media.new ≡ M.geometry media.old }
+        ensures counts { Counted M.clock M.read_faults M.write_faults media.old media.new (result ≡ VirtualWrite.Fault) }
+    {
+        let victim = choose(&mut self.blocks, &self.places);
+        match self.start(media) {
+            WriteAnswer::Done => {}
+            WriteAnswer::Failed => return VirtualWrite::Fault,
+        }
+        match self.move_pages(media, victim) {
+            VirtualWrite::Done => {}
+            VirtualWrite::Lost { wanted, found } => return VirtualWrite::Lost { wanted, found },
+            VirtualWrite::Fault => return VirtualWrite::Fault,
+        }
+        match self.erase(media, victim) {
+            WriteAnswer::Done => VirtualWrite::Done,
+            WriteAnswer::Failed => VirtualWrite::Fault,
+        }
+    }
+
+    /// Sees to it that a block is Free. Where none is, some block in use holds no page of the map.
+    fn free_one<M: Nand>(&mut self, media: &mut M) -> WriteAnswer
+        requires formed { IsFormed self.old }
+        requires fits { Fits (M.geometry media.old) (seen self.old) }
+        requires closed { self.old.used ≡ self.old.blocks.size }
+        requires spare { KeepsSpare (seen self.old) }
+        requires segment { M.tells → IsSegmentOf (M.contents media.old) (seen self.old) }
+        ensures formed { IsFormed self.new }
+        ensures places { self.new.places.items ≡ self.old.places.items }
+        ensures closed { self.new.used ≡ self.new.blocks.size }
+        ensures free { 1 ≤ free_count self.new.blocks }
+        ensures same { 1 ≤ free_count self.old.blocks → seen self.new ≡ seen self.old }
+        ensures still { 1 ≤ free_count self.old.blocks → M.contents media.new ≡ M.contents media.old }
+        ensures numbers { SameSize (seen self.old) (seen self.new) }
+        ensures segment { M.tells → IsSegmentOf (M.contents media.new) (seen self.new) }
+        ensures map { M.tells → KeepsMap M.clock M.contents M.left self.old.blocks.size (bound (seen self.old)) (map_of self.old.places.items (M.contents media.old)) (map_of self.new.places.items (M.contents media.new)) media.old media.new }
+        ensures geometry { M.geometry media.new ≡ M.geometry media.old }
+        ensures counts { Counted M.clock M.read_faults M.write_faults media.old media.new (result ≡ WriteAnswer.Failed) }
+    {
+        if self.blocks.free() > 0 {
+            return WriteAnswer::Done;
+        }
+        let block = choose(&mut self.blocks, &self.places);
+        self.erase(media, block)
+    }
+
+    /// Sees to it that the active block has a page that is not used, and another block is Free.
+    pub fn make_room<M: Nand>(&mut self, media: &mut M) -> VirtualWrite
+        requires formed { IsFormed self.old }
+        requires fits { Fits (M.geometry media.old) (seen self.old) }
+        requires spare { KeepsSpare (seen self.old) }
+        requires segment { M.tells → IsSegmentOf (M.contents media.old) (seen self.old) }
+        ensures formed { IsFormed self.new }
+        ensures spare { KeepsSpare (seen self.new) }
+        ensures room { result ≡ VirtualWrite.Done → (self.new.used < self.new.blocks.size) × (1 ≤ free_count self.new.blocks) }
+        ensures stamps { (v : ℕ) → stamp_for (seen self.new) v ≡ stamp_for (seen self.old) v }
+        ensures numbers { SameSize (seen self.old) (seen self.new) }
+        ensures direct { 0 < room (seen self.old) → result ≡ VirtualWrite.Done → (room (seen self.new) ≡ room (seen self.old)) × (self.new.places.items ≡ self.old.places.items) }
+        ensures others { M.tells → 0 < room (seen self.old) → result ≡ VirtualWrite.Done → StaysOrErased self.old.blocks.size self.new.active (M.contents media.old) (M.contents media.new) }
+        ensures segment { M.tells → IsSegmentOf (M.contents media.new) (seen self.new) }
+        ensures map { M.tells → KeepsMap M.clock M.contents M.left self.old.blocks.size (bound (seen self.old)) (map_of self.old.places.items (M.contents media.old)) (map_of self.new.places.items (M.contents media.new)) media.old media.new }
+        ensures lost { LosesStamp (seen self.old) result }
+        ensures kept { M.tells → IsLost result → ⊥ }
+        ensures geometry { M.geometry media.new ≡ M.geometry media.old }
+        ensures counts { Counted M.clock M.read_faults M.write_faults media.old media.new (result ≡ VirtualWrite.Fault) }
+    {
+        let pages = self.blocks.pages();
+        if self.used < pages && self.blocks.free() > 0 {
+            return VirtualWrite::Done;
+        }
+        self.used = pages;
+        match self.free_one(media) {
+            WriteAnswer::Done => {}
+            WriteAnswer::Failed => return VirtualWrite::Fault,
+        }
+        if self.blocks.free() < 2 {
+            return self.clean(media);
+        }
+        match self.start(media) {
+            WriteAnswer::Done => VirtualWrite::Done,
+            WriteAnswer::Failed => VirtualWrite::Fault,
+        }
+    }
+}

@@ -1,0 +1,50 @@
+ghost use Rattle.std.specs.Prelude.{◌≡◌, ◌<◌, IfOk, IsTrue, length, replicate, false, None};
+ghost use Rattle.nl_field.specs.Numbers.{is_legal, shape_for};
+ghost use Rattle.nl_blocks.specs.Table.{new_table};
+ghost use Rattle.nl_vseg.specs.Segment.{IsSegment};
+ghost use Rattle.nl_vseg.specs.Seen.{seen, IsFormed};
+
+use crate::place::{Place, no_places};
+use nl_blocks::Blocks;
+use nl_field::{Memory, PageBuf, Shape};
+use std::alloc::Global;
+
+/// What a segment keeps. `copies` is the map that a cleaning makes, until it takes the place of `places`.
+#[derive(Drop)]
+pub struct State {
+    pub places: Vec<Option<Place>>,
+    pub copies: Vec<Option<Place>>,
+    pub blocks: Blocks,
+    /// Blocks that are erased before use where they are Free.
+    pub soiled: Vec<bool>,
+    /// The block that is written to.
+    pub active: u32,
+    /// How many of its pages are used.
+    pub used: u32,
+    pub buf: PageBuf,
+}
+
+fn no_marks(alloc: Global, count: usize) -> Result<Vec<bool>, Memory>
+    ensures { IfOk result (λ v. v.items ≡ replicate count false) }
+{
+    Ok(vec![in alloc; false; count]?)
+}
+
+impl State {
+    pub fn new(alloc: Global, shape: &Shape) -> Result<State, Memory>
+        requires legal { IsTrue (is_legal shape.now.blocks shape.now.pages) }
+        requires numbers { shape.now ≡ shape_for shape.now.blocks shape.now.pages }
+        ensures formed { IfOk result IsFormed }
+        ensures seen { IfOk result (λ s. seen s ≡ record { places = replicate shape.now.vaddrs None; table = new_table 0 shape.now.vblocks shape.now.pages; soiled = replicate shape.now.vblocks false; active = 0; used = shape.now.pages }) }
+    {
+        Ok(State {
+            places: no_places(alloc, shape.vaddrs)?,
+            copies: no_places(alloc, shape.vaddrs)?,
+            blocks: Blocks::new(alloc, 0, shape.vblocks, shape.pages)?,
+            soiled: no_marks(alloc, shape.vblocks as usize)?,
+            active: 0,
+            used: shape.pages,
+            buf: PageBuf::new(alloc)?,
+        })
+    }
+}

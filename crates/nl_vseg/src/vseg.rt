@@ -1,0 +1,144 @@
+ghost use Rattle.std.specs.Prelude.{◌≡◌, ◌⊎◌, ℕ, ◌+◌, ◌*◌, ◌/◌, ◌<◌, ◌≤◌, ◌==◌, length, slice_set, replicate, if◌then◌else◌, None, Some, IsTrue, IfOk};
+ghost use Rattle.nl_field.specs.CrashStates.{Earlier, LeavesOnly, Rose, Turns};
+ghost use Rattle.nl_field.specs.Numbers.{is_legal, shape_for};
+ghost use Rattle.nl_field.specs.Spelling.{is_stamp};
+ghost use Rattle.nl_nand.specs.Nand.{FaultsCounted, SameLeft};
+ghost use Rattle.nl_blocks.specs.Table.{block_at};
+ghost use Rattle.nl_vseg.specs.Maps.{with_at};
+ghost use Rattle.nl_vseg.specs.Segment.{AreBeside, IsSegmentOf, KeepsSpare, SameSize, TakenAsErased, bound, map_of, place_of, room, stamp_for};
+ghost use Rattle.nl_vseg.specs.Seen.{Fits};
+ghost use Rattle.nl_vseg.specs.Effects.{Counted, Keeps, Programmed, Takes};
+ghost use Rattle.nl_vseg.specs.Answers.{IsLost, LosesStamp, ReadsStamp, ReadsValue};
+
+use crate::state::State;
+use nl_field::{Memory, PageBuf, Shape, VirtualRead, VirtualWrite};
+use nl_nand::Nand;
+use std::alloc::Global;
+use std::marker::Model;
+
+/// Pages by virtual address, in the first blocks of a medium. A write goes to an erased page, and the address has the old page
+/// until the new one is programmed. One block holds no page of the map, so that the segment can always clean.
+#[derive(Drop)]
+pub struct VSeg {
+    state: State,
+}
+
+impl Model for VSeg {
+    ghost use Rattle.nl_vseg.specs.Segment.{Segment};
+
+    ghost Value = { Segment };
+
+    ghost use Rattle.nl_vseg.specs.Seen.{seen, IsFormed};
+
+    ghost view = { λ s. seen s.state };
+
+    ghost invariant = { λ s. IsFormed s.state };
+}
+
+impl VSeg {
+    /// No address was written, and every page of the segment is taken as erased.
+    pub fn new(alloc: Global, shape: &Shape) -> Result<VSeg, Memory>
+        requires legal { IsTrue (is_legal shape.now.blocks shape.now.pages) }
+        requires numbers { shape.now ≡ shape_for shape.now.blocks shape.now.pages }
+        ensures places { IfOk result (λ s. s.places ≡ replicate shape.now.vaddrs None) }
+        ensures pages { IfOk result (λ s. s.table.size ≡ shape.now.pages) }
+        ensures blocks { IfOk result (λ s. length s.table.blocks ≡ shape.now.vblocks) }
+        ensures erased { IfOk result (λ s. (p : ℕ) → p < bound s → TakenAsErased s p) }
+        ensures spare { IfOk result KeepsSpare }
+        ensures room { IfOk result (λ s. room s + shape.now.pages ≡ shape.now.vblocks * shape.now.pages) }
+    {
+        Ok(VSeg {
+            state: State::new(alloc, shape)?,
+        })
+    }
+
+    /// Serves an opening: gives an address without a page this one, which is that of no address. Nothing more is programmed in
+    /// its block before that is erased.
+    pub fn load(&mut self, page: u32, vaddr: u32, stamp: u64)
+        requires page { page < bound self.old }
+        requires vaddr { vaddr < length self.old.places }
+        requires unmapped { place_of self.old.places vaddr ≡ None }
+        requires other { AreBeside page self.old.places }
+        requires stamp { IsTrue (is_stamp stamp) }
+        ensures places { self.new.places ≡ slice_set self.old.places vaddr (Some (record { page = page; stamp = stamp })) }
+        ensures numbers { SameSize self.old self.new }
+        ensures erased { (p : ℕ) → TakenAsErased self.new p → TakenAsErased self.old p × (p / self.old.table.size ≡ page / self.old.table.size → ⊥) }
+    {
+        self.state.load(page, vaddr, stamp);
+    }
+
+    /// Serves an opening: the pages of this block, which was erased so often, do not all read as erased. Where it holds no
+    /// page of the map, it is erased before use.
+    pub fn soiled(&mut self, block: u32, wear: u32)
+        requires within { block < length self.old.table.blocks }
+        ensures places { self.new.places ≡ self.old.places }
+        ensures numbers { SameSize self.old self.new }
+        ensures wear { (block_at self.new.table block).wear ≡ wear }
+        ensures erased { (p : ℕ) → TakenAsErased self.new p → TakenAsErased self.old p × (p / self.old.table.size ≡ block → ⊥) }
+    {
+        self.state.soil(block, wear);
+    }
+
+    /// Reads the page of an address. It answers `Unmapped` exactly where the address was never written, and `Lost` only where
+    /// the page does not hold the number that the address was written under.
+    pub fn virtual_read<M: Nand>(
+        &mut self,
+        media: &mut M,
+        vaddr: u32,
+        buf: &mut PageBuf,
+    ) -> VirtualRead
+        requires fits { Fits (M.geometry media.old) self.old }
+        requires vaddr { vaddr < length self.old.places }
+        requires segment { M.tells → IsSegmentOf (M.contents media.old) self.old }
+        ensures segment { self.new ≡ self.old }
+        ensures answer { ReadsStamp (stamp_for self.old vaddr) buf.new result }
+        ensures value { M.tells → ReadsValue (map_of self.old.places (M.contents media.old) vaddr) buf.new result }
+        ensures geometry { M.geometry media.new ≡ M.geometry media.old }
+        ensures contents { M.contents media.new ≡ M.contents media.old }
+        ensures left { SameLeft M.left media.old media.new }
+        ensures clock { M.clock media.new ≡ M.clock media.old }
+        ensures write_faults { M.write_faults media.new ≡ M.write_faults media.old }
+        ensures read_faults { FaultsCounted (M.read_faults media.old) (M.read_faults media.new) (result ≡ VirtualRead.Fault) }
+    {
+        self.state.read(media, vaddr, buf)
+    }
+
+    /// Gives an address these main bytes under a write sequence number from 1 and below 2^63. Cleans a block first where no
+    /// page can be programmed. After `Fault` and `Lost` the segment has the map that it had.
+    pub fn virtual_write<M: Nand>(
+        &mut self,
+        media: &mut M,
+        vaddr: u32,
+        from: &PageBuf,
+        stamp: u64,
+    ) -> VirtualWrite
+        requires fits { Fits (M.geometry media.old) self.old }
+        requires vaddr { vaddr < length self.old.places }
+        requires stamp { IsTrue (is_stamp stamp) }
+        requires spare { KeepsSpare self.old }
+        requires segment { M.tells → IsSegmentOf (M.contents media.old) self.old }
+        ensures spare { KeepsSpare self.new }
+        ensures numbers { SameSize self.old self.new }
+        ensures done { result ≡ VirtualWrite.Done → (v : ℕ) → stamp_for self.new v ≡ (if v == vaddr then Some stamp else stamp_for self.old v) }
+        ensures failed { (result ≡ VirtualWrite.Done → ⊥) → (v : ℕ) → stamp_for self.new v ≡ stamp_for self.old v }
+        ensures room { 0 < room self.old → result ≡ VirtualWrite.Done → room self.new + 1 ≡ room self.old }
+        ensures segment { M.tells → IsSegmentOf (M.contents media.new) self.new }
+        ensures map { M.tells → result ≡ VirtualWrite.Done → (v : ℕ) → map_of self.new.places (M.contents media.new) v ≡ with_at (map_of self.old.places (M.contents media.old)) vaddr (stamp, from.now.main) v }
+        ensures same { M.tells → (result ≡ VirtualWrite.Done → ⊥) → (v : ℕ) → map_of self.new.places (M.contents media.new) v ≡ map_of self.old.places (M.contents media.old) v }
+        ensures takes { M.tells → result ≡ VirtualWrite.Done → Takes self.old.table.size (bound self.old) (map_of self.old.places (M.contents media.old)) vaddr stamp from.now.main (M.contents media.old) (M.contents media.new) }
+        ensures either { M.tells → Keeps self.old.table.size (bound self.old) (map_of self.old.places (M.contents media.old)) (M.contents media.old) (M.contents media.new)
+            ⊎ Takes self.old.table.size (bound self.old) (map_of self.old.places (M.contents media.old)) vaddr stamp from.now.main (M.contents media.old) (M.contents media.new) }
+        ensures unused { M.tells → (result ≡ VirtualWrite.Done → ⊥) → (Rose (M.write_faults media.old) (M.write_faults media.new) → ⊥) → Keeps self.old.table.size (bound self.old) (map_of self.old.places (M.contents media.old)) (M.contents media.old) (M.contents media.new) }
+        ensures programmed { M.tells → 0 < room self.old → result ≡ VirtualWrite.Done → (block : ℕ) × Programmed self.old.table.size (bound self.old) block vaddr stamp (block_at self.new.table block).wear from.now.main (M.contents media.old) (M.contents media.new) }
+        ensures crash { M.tells → LeavesOnly M.clock M.left media.old media.new (Turns (result ≡ VirtualWrite.Done) (M.clock media.new)
+            (λ c. Keeps self.old.table.size (bound self.old) (map_of self.old.places (M.contents media.old)) (M.contents media.old) c)
+            (λ c. Takes self.old.table.size (bound self.old) (map_of self.old.places (M.contents media.old)) vaddr stamp from.now.main (M.contents media.old) c)) }
+        ensures lost { LosesStamp self.old result }
+        ensures kept { M.tells → IsLost result → ⊥ }
+        ensures geometry { M.geometry media.new ≡ M.geometry media.old }
+        ensures ticks { result ≡ VirtualWrite.Done → Earlier (M.clock media.old) (M.clock media.new) }
+        ensures counts { Counted M.clock M.read_faults M.write_faults media.old media.new (result ≡ VirtualWrite.Fault) }
+    {
+        self.state.write(media, vaddr, from, stamp)
+    }
+}
