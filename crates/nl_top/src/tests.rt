@@ -57,7 +57,9 @@ fn answer<Rt: Threads + Wait + Sync>(
 ) -> Result<(u8, MemSink, MemNand, u32), Memory> {
     let mut words = Words::new(alloc);
     for word in line.split(|b| *b == b' ') {
-        words.push(word)?;
+        if words.len() < 9 {
+            words.push(word)?;
+        }
     }
     let mut source = MemSource::new(Text::of(alloc, script)?, list_of(alloc, failing.source)?);
     let mut sink = MemSink::new(alloc, 100_000, list_of(alloc, failing.sink)?)?;
@@ -142,12 +144,14 @@ fn only_a_new_volume_is_run(rt: HostRuntime) -> Result<(), Fail> {
     let script = b"0 create /a\n0 write /a 0 61\n".as_slice();
     let media = medium(alloc, NOTHING)?;
     let (status, sink, media, _) = answer(&rt, alloc, b"run", script, NOTHING, media)?;
-    assert_eq!(rt; (status, sink.bytes()), (2, b"unbuilt\n".as_slice()));
+    assert_eq!(rt; status, 2);
+    assert_eq!(rt; sink.bytes(), b"unbuilt\n".as_slice());
     let (_, _, media, _) = answer(&rt, alloc, b"format 32 32", b"", NOTHING, media)?;
     let (status, _, media, _) = answer(&rt, alloc, b"run", script, NOTHING, media)?;
     assert_eq!(rt; status, 0);
     let (status, sink, media, _) = answer(&rt, alloc, b"run", script, NOTHING, media)?;
-    assert_eq!(rt; (status, sink.bytes()), (2, b"unbuilt\n".as_slice()));
+    assert_eq!(rt; status, 2);
+    assert_eq!(rt; sink.bytes(), b"unbuilt\n".as_slice());
     let (_, _, media, _) = answer(&rt, alloc, b"format 32 64", b"", NOTHING, media)?;
     let (status, _, _, _) = answer(&rt, alloc, b"run", script, NOTHING, media)?;
     assert_eq!(rt; status, 0);
