@@ -1,5 +1,5 @@
 -- The least volume, and a segment of it with its medium.
-use Rattle.std.proofs.Common.{◌≡◌, ◌≤◌, ℕ, None, get_or, length, replicate, refl, sym, ◌∙◌, ap, subst, arith, IsTrue, Option, List}
+use Rattle.std.proofs.Common.{◌≡◌, ◌≤◌, None, get_or, length, replicate, refl, sym, ◌∙◌, ap, subst, arith, IsTrue, Option, List}
 use Rattle.std.proofs.lemmas.List.{length-replicate}
 use Rattle.std.proofs.lemmas.Option.{none-some}
 use Rattle.nl_field.specs.Numbers.{is_legal, shape_for}
