@@ -1,12 +1,12 @@
 -- What the calls on the table of blocks do to which blocks are Free.
-use Rattle.std.proofs.Common.{◌≡◌, ◌⊎◌, inl, inr, ⊎_elim, ℕ, zero, suc, ◌+◌, ◌-◌, ◌<◌, ◌≤◌, Bool, true, false, cond, List, [], ◌∷◌, length, refl, sym, ◌∙◌, ap, arith, length-set, count_by}
+use Rattle.std.proofs.Common.{◌≡◌, inl, inr, ⊎_elim, ℕ, zero, suc, ◌+◌, ◌-◌, ◌<◌, ◌≤◌, Bool, true, false, cond, List, [], ◌∷◌, length, refl, sym, ◌∙◌, ap, arith, length-set, count_by}
 use Rattle.std.proofs.lemmas.Bool.{cases_eq, cases_Bool}
 use Rattle.std.proofs.lemmas.List.{get_or-set_same, get_or-set_other}
 use Rattle.std.proofs.lemmas.List.Sums.{sum_by-cons}
-use Rattle.nl_blocks.specs.Table.{BlockRow, Table, HasBlock, block_at, row_at, no_row, with_block, is_free, free_count}
+use Rattle.nl_blocks.specs.Table.{BlockRow, Table, HasBlock, row_at, no_row, with_block, is_free, free_count}
 use Rattle.nl_blocks.proofs.TableLaws.{sum_by-with_block}
 use Rattle.nl_vseg.specs.Segment.{block_is_free}
-use Rattle.nl_vseg.specs.Copying.{SameNumbers, SameUse, Restated}
+use Rattle.nl_vseg.specs.Copying.{SameUse, Restated}
 
 pub has_block : (t : Table) (block : ℕ) → t.first ≡ 0 → block < length t.blocks → HasBlock t block
 has_block t block first within = record { from = omega (arith, first); below = omega (arith, first, within) }

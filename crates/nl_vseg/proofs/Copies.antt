@@ -1,18 +1,17 @@
 -- A cleaning copies the pages of a block one by one.
-use Rattle.std.proofs.Common.{◌≡◌, ◌⊎◌, inl, inr, ⊎_elim, ℕ, ◌+◌, ◌-◌, ◌*◌, ◌/◌, ◌<◌, ◌≤◌, nat_le, Option, Some, None, List, length, set, cond, refl, sym, ◌∙◌, ap, subst, arith, eq-eqb, ne_eqb, ◌==◌, Bool, true, false, length-set, IsTrue}
+use Rattle.std.proofs.Common.{◌≡◌, ◌⊎◌, inl, inr, ⊎_elim, ℕ, ◌+◌, ◌-◌, ◌*◌, ◌/◌, ◌<◌, ◌≤◌, nat_le, Option, Some, None, List, length, set, cond, sym, ◌∙◌, ap, subst, arith, eq-eqb, ne_eqb, Bool, false}
 use Rattle.std.proofs.lemmas.Bool.{cases_eq, cases_lt, cond-false, lt-leb, true≢false}
 use Rattle.std.proofs.lemmas.List.Sums.{sum_by-set}
 use Rattle.nl_field.specs.CrashStates.{LeavesOnly}
-use Rattle.nl_field.specs.Page.{Page, erased, written, Image, page_at}
-use Rattle.nl_nand.specs.Nand.{Cut, CanProgram, ErasedWithin, Filled}
-use Rattle.nl_nand.specs.ImageLaws.{filled_cut}
-use Rattle.nl_nand.proofs.Crashes.{weaken, outside}
+use Rattle.nl_field.specs.Page.{Page, erased, Image, page_at}
+use Rattle.nl_nand.specs.Nand.{Cut, ErasedWithin}
+use Rattle.nl_nand.proofs.Crashes.{weaken}
 use Rattle.nl_vseg.specs.Pages.{fact_of, main_of, IsBeside}
-use Rattle.nl_vseg.specs.Segment.{Segment, bound, place_of, value_at, map_of, stamp_in_place, block_is_free, AreBelow, ArePlaces, IsPlace, Holds, IsUnmapped, IsSegment, IsSegmentOf, KeepsSpare, SameSize, TakenAsErased, room}
-use Rattle.nl_vseg.specs.Copying.{is_in, mapped_in, copy_of, ChangedIn, AreMoved, IsMovedPlace}
+use Rattle.nl_vseg.specs.Segment.{Segment, bound, place_of, value_at, map_of, block_is_free, AreBelow, ArePlaces, Holds, IsUnmapped, IsSegment, IsSegmentOf, KeepsSpare, SameSize, TakenAsErased, room}
+use Rattle.nl_vseg.specs.Copying.{is_in, mapped_in, copy_of, ChangedIn, AreMoved}
 use Rattle.nl_vseg.specs.Effects.{Keeps, KeepsMap}
 use Rattle.nl_vseg.specs.declared.place.Place.{Place}
-use Rattle.nl_vseg.proofs.Places.{block_of, block_below, not_beside, beside_of, place_here, place_other, set_place, used_more}
+use Rattle.nl_vseg.proofs.Places.{block_of, block_below, beside_of, place_here, place_other, set_place, used_more}
 use Rattle.nl_vseg.proofs.Images.{shows_nothing, keeps_changed, changed_more}
 use Rattle.nl_blocks.specs.Table.{free_count}
 use Rattle.nl_vseg.proofs.Blocks.{some_free}

@@ -1,10 +1,9 @@
 -- Some block in use has a dead page: the addresses do not fill all blocks but one.
-use Rattle.std.proofs.Common.{◌≡◌, ◌⊎◌, inl, inr, ⊎_elim, ℕ, zero, suc, ◌+◌, ◌-◌, ◌*◌, ◌/◌, ◌<◌, ◌≤◌, ◌==◌, Bool, true, false, cond, List, [], ◌∷◌, length, get_or, Option, Some, None, refl, sym, ◌∙◌, ap, subst, arith, count_by, eqb}
-use Rattle.std.proofs.lemmas.Bool.{cases_eq, cases_Bool, eq-eqb, eqb-true, ne_eqb}
+use Rattle.std.proofs.Common.{◌≡◌, ◌⊎◌, inl, inr, ℕ, zero, suc, ◌+◌, ◌*◌, ◌/◌, ◌<◌, ◌≤◌, ◌==◌, Bool, true, false, cond, List, [], ◌∷◌, length, Option, Some, None, refl, sym, ◌∙◌, ap, subst, arith, count_by}
+use Rattle.std.proofs.lemmas.Bool.{cases_eq, cases_Bool, eq-eqb, ne_eqb}
 use Rattle.std.proofs.lemmas.Option.{none-some}
 use Rattle.std.proofs.lemmas.List.Sums.{sum_by-cons}
-use Rattle.nl_blocks.specs.Table.{BlockRow, Table, block_at, row_at, no_row, is_free, is_sealed, free_count, dead_count}
-use Rattle.nl_vseg.specs.Pages.{IsBeside}
+use Rattle.nl_blocks.specs.Table.{BlockRow, Table, block_at, row_at, is_free, is_sealed, free_count, dead_count}
 use Rattle.nl_vseg.specs.Segment.{place_of, block_is_free, IsUnmapped}
 use Rattle.nl_vseg.specs.Copying.{is_in, mapped_in, IsSettled}
 use Rattle.nl_vseg.specs.declared.place.Place.{Place}

@@ -1,12 +1,11 @@
 -- Counts and crash states over two calls.
-use Rattle.std.proofs.Common.{◌≡◌, ◌⊎◌, inl, inr, ⊎_elim, ℕ, ◌+◌, ◌<◌, ◌≤◌, refl, sym, ◌∙◌, arith, List, Option}
-use Rattle.nl_field.specs.CrashStates.{saturated, Rose, LeavesOnly, Turns, Earlier}
-use Rattle.nl_field.specs.Page.{Image, page_at}
+use Rattle.std.proofs.Common.{◌≡◌, inl, inr, ⊎_elim, ℕ, ◌≤◌, refl, ◌∙◌, arith, List, Option}
+use Rattle.nl_field.specs.CrashStates.{Rose, LeavesOnly, Turns, Earlier}
+use Rattle.nl_field.specs.Page.{Image}
 use Rattle.nl_nand.specs.Nand.{FaultsCounted}
 use Rattle.nl_nand.specs.declared.answers.WriteAnswer.{WriteAnswer}
 use Rattle.nl_nand.specs.declared.answers.WriteAnswer.TheVariants as write
-use Rattle.nl_nand.proofs.Crashes.{start, still, weaken, then, turns_later}
-use Rattle.nl_vseg.specs.Pages.{Shows}
+use Rattle.nl_nand.proofs.Crashes.{weaken, then, turns_later}
 use Rattle.nl_vseg.specs.Effects.{Keeps, Takes, KeepsMap, Counted}
 
 rose_later : (a b d : ℕ) → b ≡ a → Rose b d → Rose a d

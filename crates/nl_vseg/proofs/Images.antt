@@ -2,10 +2,10 @@
 use Rattle.std.proofs.Common.{◌≡◌, ◌⊎◌, inl, inr, ⊎_elim, ℕ, ◌+◌, ◌*◌, ◌<◌, ◌≤◌, Option, Some, None, List, refl, sym, ◌∙◌, ap, subst, arith}
 use Rattle.std.proofs.lemmas.Bool.{cases_eq}
 use Rattle.std.proofs.lemmas.Option.{none-some, same_Some}
-use Rattle.nl_field.specs.Page.{Page, erased, uncorrectable, written, Image, page_at}
-use Rattle.nl_nand.specs.Nand.{Cut, Filled}
+use Rattle.nl_field.specs.Page.{Page, erased, uncorrectable, Image, page_at}
+use Rattle.nl_nand.specs.Nand.{Cut}
 use Rattle.nl_nand.proofs.Crashes.{outside}
-use Rattle.nl_vseg.specs.Pages.{Fact, fact_of, main_of, Shows, ShowsBeside, IsBeside}
+use Rattle.nl_vseg.specs.Pages.{Fact, fact_of, main_of, Shows, IsBeside}
 use Rattle.nl_vseg.specs.Segment.{place_of, value_at, map_of, Holds, AreBelow, IsUnmapped}
 use Rattle.nl_vseg.specs.Copying.{IsCopy, ChangedIn}
 use Rattle.nl_vseg.specs.Effects.{Keeps, Takes}

@@ -9,6 +9,7 @@ pub mod Newest
 pub mod Places
 pub mod ReadPlaces
 pub mod Records
+pub mod Rigs
 pub mod Segments
 pub mod Shapes
 pub mod Spares

@@ -1,5 +1,5 @@
 -- What marking a page does to the table of blocks.
-use Rattle.std.proofs.Common.{◌≡◌, ◌⊎◌, inl, inr, ⊎_elim, ℕ, zero, suc, ◌+◌, ◌-◌, ◌*◌, ◌/◌, ◌%◌, ◌<◌, ◌≤◌, Bool, true, false, cond, List, [], ◌∷◌, length, get_or, set, take, Option, Some, None, IfSome, refl, sym, ◌∙◌, ap, subst, arith, length-set, count_by}
+use Rattle.std.proofs.Common.{◌≡◌, ◌⊎◌, inl, inr, ⊎_elim, ℕ, suc, ◌+◌, ◌-◌, ◌*◌, ◌/◌, ◌%◌, ◌<◌, Bool, true, false, cond, List, [], ◌∷◌, length, get_or, take, Option, Some, None, IfSome, refl, sym, ◌∙◌, ap, subst, arith, length-set, count_by}
 use Rattle.std.proofs.lemmas.Bool.{cases_eq, eq-eqb, ne_eqb}
 use Rattle.std.proofs.lemmas.Nat.{div-mul-add, mod-mul-add, div_below}
 use Rattle.std.proofs.lemmas.List.{get_or-set_same, get_or-set_other}
@@ -7,7 +7,7 @@ use Rattle.std.proofs.lemmas.List.Sums.{sum_by-cons, sum_by-set, count_by_more_y
 use Rattle.nl_blocks.specs.declared.states.PageState.{PageState}
 use Rattle.nl_blocks.specs.declared.states.PageState.TheVariants.{Dead, Live}
 use Rattle.nl_blocks.specs.declared.states.Page.{Page}
-use Rattle.nl_blocks.specs.Table.{BlockRow, Table, IsTable, HasBlock, block_at, page_at, new_page, no_row, with_block, with_page, with_mark, is_free, is_dead, dead_count}
+use Rattle.nl_blocks.specs.Table.{BlockRow, Table, block_at, page_at, new_page, no_row, with_page, with_mark, is_free, is_dead, dead_count}
 use Rattle.nl_blocks.proofs.TableLaws.{page_in, page_at-with_page_other}
 use Rattle.nl_vseg.specs.Segment.{place_of}
 use Rattle.nl_vseg.specs.Copying.{SameStates, IsMarked, is_in, mapped_in}

@@ -1,14 +1,14 @@
 -- What the read of a place answers.
-use Rattle.std.proofs.Common.{◌≡◌, ℕ, ◌+◌, ◌*◌, ◌<◌, ◌≤◌, Option, Some, None, List, length, refl, sym, ◌∙◌, ap, subst, arith, mul-le-mul_right, lt_of_lt_of_le}
+use Rattle.std.proofs.Common.{◌≡◌, ℕ, ◌*◌, ◌<◌, ◌≤◌, Option, Some, None, List, length, refl, sym, ◌∙◌, ap, subst, arith, mul-le-mul_right}
 use Rattle.std.proofs.lemmas.Option.{none-some, same_Some}
 use Rattle.nl_field.specs.Page.{PageBytes, Page, erased, uncorrectable, written, Image, page_at}
-use Rattle.nl_field.specs.SpareRecord.{spare_rec_of, stamp_of}
+use Rattle.nl_field.specs.SpareRecord.{spare_rec_of}
 use Rattle.nl_field.specs.declared.answers.VirtualRead.{VirtualRead}
 use Rattle.nl_field.specs.declared.answers.VirtualRead.TheVariants as read
 use Rattle.nl_field.specs.declared.spare.SpareRec.{SpareRec}
 use Rattle.nl_field.specs.declared.spare.SpareRec.TheVariants.{Virtual, Physical}
 use Rattle.nl_nand.specs.declared.geometry.Geometry.{Geometry}
-use Rattle.nl_vseg.specs.Pages.{Fact, fact_in, fact_with, fact_of, main_of, stamp_in, stamp_found, stamp_at}
+use Rattle.nl_vseg.specs.Pages.{Fact, fact_with, fact_of, main_of, stamp_in, stamp_found, stamp_at}
 use Rattle.nl_vseg.specs.Segment.{Segment, bound, place_of, value_at, map_of}
 use Rattle.nl_vseg.specs.Seen.{Fits}
 use Rattle.nl_vseg.specs.Answers.{ReadsPage, ReadsValue}

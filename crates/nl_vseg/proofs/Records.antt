@@ -1,5 +1,5 @@
 -- The record of a virtual address has a spelling.
-use Rattle.std.proofs.Common.{◌≡◌, ◌<◌, ◌^◌, ℕ, Bool, true, ◌&&◌, IsTrue, rules}
+use Rattle.std.proofs.Common.{◌<◌, ◌^◌, ℕ, IsTrue}
 use Rattle.std.proofs.lemmas.Bool.{lt-ltb, and_from}
 use Rattle.nl_field.specs.SpareRecord.{fits_spare}
 use Rattle.nl_field.specs.declared.spare.SpareRec.TheVariants.{Virtual}

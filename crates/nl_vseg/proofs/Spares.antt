@@ -1,5 +1,5 @@
 -- An image that keeps a map has a block that can be erased next.
-use Rattle.std.proofs.Common.{◌≡◌, ◌⊎◌, inl, inr, ⊎_elim, ℕ, zero, suc, ◌+◌, ◌*◌, ◌/◌, ◌<◌, ◌≤◌, ◌==◌, nat_lt, Bool, true, false, cond, not, ◌&&◌, ◌||◌, Option, Some, None, List, [], ◌∷◌, find, refl, sym, ◌∙◌, ap, subst, arith, eq-eqb, eqb-true, ne_eqb, mul-le-mul_right}
+use Rattle.std.proofs.Common.{◌≡◌, inl, inr, ⊎_elim, ℕ, zero, suc, ◌+◌, ◌*◌, ◌/◌, ◌<◌, ◌≤◌, ◌==◌, nat_lt, Bool, true, false, cond, not, ◌&&◌, ◌||◌, Option, Some, None, List, [], ◌∷◌, find, refl, sym, ◌∙◌, ap, subst, arith, eq-eqb, ne_eqb, mul-le-mul_right}
 use Rattle.std.specs.List.{list_any, list_all, range_with_len}
 use Rattle.std.proofs.lemmas.Bool.{cases_lt, cases_eq, cases_Bool, and_parts, and_from, lt-ltb, not-true, false≢true, true≢false}
 use Rattle.std.proofs.lemmas.Option.{none-some, same_Some}
@@ -9,7 +9,7 @@ use Rattle.nl_field.specs.Medium.{Readable, virtual_pages, shape_of_image, first
 use Rattle.nl_field.specs.Space.{has_greatest_stamp, spare_block, virtual_spare}
 use Rattle.nl_vseg.specs.Effects.{Keeps, Takes}
 use Rattle.nl_vseg.specs.Maps.{StandsFor, Dominated, with_at}
-use Rattle.nl_vseg.specs.Pages.{Shows, ShowsBeside}
+use Rattle.nl_vseg.specs.Pages.{ShowsBeside}
 use Rattle.nl_vseg.proofs.Members.{In, any_from}
 use Rattle.nl_vseg.proofs.Newest.{from_pages, to_pages}
 use Rattle.nl_vseg.proofs.Places.{not_beside}

@@ -1,10 +1,10 @@
 -- Images that stand for a map.
-use Rattle.std.proofs.Common.{◌≡◌, ◌⊎◌, inl, inr, ⊎_elim, ℕ, ◌<◌, ◌==◌, Option, Some, None, List, ◌∷◌, refl, sym, ◌∙◌, ap, subst, eq-eqb, ne_eqb}
+use Rattle.std.proofs.Common.{◌≡◌, ◌⊎◌, inl, inr, ⊎_elim, ℕ, ◌<◌, ◌==◌, Option, Some, List, ◌∷◌, sym, ◌∙◌, subst, eq-eqb, ne_eqb}
 use Rattle.std.proofs.lemmas.Bool.{cases_eq, cond-true, cond-false}
 use Rattle.std.proofs.lemmas.Option.{same_Some}
 use Rattle.nl_field.specs.Page.{Image}
 use Rattle.nl_vseg.specs.Effects.{Keeps, Takes}
-use Rattle.nl_vseg.specs.Maps.{Map, StandsFor, Dominated, IsAmong, IsAbove, with_at}
+use Rattle.nl_vseg.specs.Maps.{StandsFor, Dominated, IsAmong, IsAbove, with_at}
 use Rattle.nl_vseg.specs.Pages.{Fact, Shows}
 
 pub with_here : (map : ℕ → Option (ℕ × List ℕ)) (v : ℕ) (x : ℕ × List ℕ) (u : ℕ) → u ≡ v → with_at map v x u ≡ Some x

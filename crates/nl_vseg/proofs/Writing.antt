@@ -1,5 +1,5 @@
 -- The next page of the active block is programmed.
-use Rattle.std.proofs.Common.{◌≡◌, ◌⊎◌, inl, inr, ⊎_elim, ℕ, ◌+◌, ◌*◌, ◌/◌, ◌<◌, ◌≤◌, true, false, Option, Some, None, List, length, set, refl, sym, ◌∙◌, ap, subst, arith, IsTrue, eq-eqb, ne_eqb, ◌==◌, length-set}
+use Rattle.std.proofs.Common.{◌≡◌, ◌⊎◌, inl, inr, ⊎_elim, ℕ, ◌+◌, ◌*◌, ◌/◌, ◌<◌, ◌≤◌, true, false, Option, Some, List, length, set, sym, ◌∙◌, ap, subst, arith, IsTrue, eq-eqb, ne_eqb, ◌==◌, length-set}
 use Rattle.std.proofs.lemmas.Bool.{cases_eq, cond-true, cond-false, true≢false}
 use Rattle.nl_field.specs.Page.{Page, erased, written, Image, page_at}
 use Rattle.nl_field.specs.Spelling.{is_stamp}
@@ -12,7 +12,7 @@ use Rattle.nl_blocks.specs.Table.{free_count}
 use Rattle.nl_field.specs.CrashStates.{LeavesOnly, Turns}
 use Rattle.nl_vseg.specs.Maps.{with_at}
 use Rattle.nl_vseg.specs.Pages.{fact_of, main_of, IsBeside, page_with}
-use Rattle.nl_vseg.specs.Segment.{Segment, bound, place_of, value_at, map_of, block_is_free, IsUnmapped, KeepsSpare, TakenAsErased, Holds, IsSegmentOf, IsSegment}
+use Rattle.nl_vseg.specs.Segment.{Segment, bound, place_of, value_at, map_of, block_is_free, KeepsSpare, TakenAsErased, IsSegmentOf, IsSegment}
 use Rattle.nl_vseg.specs.Effects.{Keeps, Takes, Programmed}
 use Rattle.nl_vseg.specs.declared.place.Place.{Place}
 use Rattle.nl_vseg.proofs.Places.{block_of, beside_of, block_below, place_here, place_other, set_place, used_more, next_placed}

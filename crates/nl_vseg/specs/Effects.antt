@@ -1,7 +1,7 @@
 -- What a call leaves of the segment's pages, and what a stop within it may leave.
 use Rattle.std.specs.Prelude.{◌≡◌, ◌⊎◌, ℕ, ◌+◌, ◌*◌, ◌/◌, ◌<◌, ◌≤◌, List, Option, Some}
 use Rattle.nl_field.specs.CrashStates.{Rose, LeavesOnly}
-use Rattle.nl_field.specs.Page.{Image, Page, erased, written, page_at}
+use Rattle.nl_field.specs.Page.{Image, erased, written, page_at}
 use Rattle.nl_vseg.specs.Pages.{Shows, ShowsBeside, page_with}
 
 -- The image keeps the map: each value is on a page, and some block can be done without. It shows nothing that was not shown

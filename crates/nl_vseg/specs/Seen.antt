@@ -1,5 +1,5 @@
 -- The segment that a state is.
-use Rattle.std.specs.Prelude.{◌≡◌, ℕ, ◌≤◌, length}
+use Rattle.std.specs.Prelude.{◌≡◌, ◌≤◌, length}
 use Rattle.nl_nand.specs.declared.geometry.Geometry.{Geometry}
 use Rattle.nl_vseg.specs.Segment.{Segment, IsSegment}
 use Rattle.nl_vseg.specs.declared.state.State.{State}

@@ -1,4 +1,4 @@
-ghost use Rattle.std.specs.Prelude.{◌≡◌};
+ghost use Rattle.std.specs.Prelude.{◌≡◌, IfOk};
 ghost use Rattle.nl_nand.specs.Memory.{contents_of, geometry_of};
 ghost use Rattle.nl_vseg.specs.Rig.{IsRig};
 
@@ -24,7 +24,6 @@ struct Rig {
     seg: VSeg,
     media: MemNand,
     buf: PageBuf,
-    ghost ready: { IsRig (geometry_of media) (contents_of media) seg },
 }
 
 /// A medium after a stop.
@@ -36,13 +35,12 @@ struct Left {
 }
 
 /// A blank medium with a new segment.
-fn fresh(
-    alloc: Global,
-    reads: FailList,
-    writes: FailList,
-    stop: Option<Stop>,
-) -> Result<Rig, Fail> {
-    let shape = shape_of(32, 32).ok_or("no shape")?;
+fn fresh(alloc: Global, reads: FailList, writes: FailList, stop: Option<Stop>) -> Result<Rig, Fail>
+    ensures { IfOk result (λ r. IsRig (geometry_of r.media) (contents_of r.media) r.seg) }
+{
+    let Some(shape) = shape_of(32, 32) else {
+        return Err(Fail::from("no shape"));
+    };
     let buf = PageBuf::new(alloc)?;
     let seg = VSeg::new(alloc, &shape)?;
     let mut media = MemNand::new(alloc, reads, writes, stop);
@@ -53,13 +51,16 @@ fn fresh(
 }
 
 impl Rig {
-    fn write(&mut self, vaddr: u32, byte: u8, stamp: u32) -> Seen {
+    fn write(&mut self, vaddr: u32, byte: u8, stamp: u32) -> Seen
+        requires { IsRig (geometry_of self.old.media) (contents_of self.old.media) self.old.seg }
+        ensures { IsRig (geometry_of self.new.media) (contents_of self.new.media) self.new.seg }
+    {
         self.buf.clear();
         self.buf.set_main(0, &[byte]);
         let stamp = u64::from(stamp) + 1;
         match self
             .seg
-            .virtual_write(&mut self.media, vaddr, &self.buf, stamp)
+            .virtual_write(&mut self.media, vaddr % 103, &self.buf, stamp)
         {
             VirtualWrite::Done => Seen::Wrote,
             VirtualWrite::Lost { .. } => Seen::Lost,
@@ -67,7 +68,10 @@ impl Rig {
         }
     }
 
-    fn read(&mut self, vaddr: u32) -> Seen {
+    fn read(&mut self, vaddr: u32) -> Seen
+        requires { IsRig (geometry_of self.old.media) (contents_of self.old.media) self.old.seg }
+        ensures { IsRig (geometry_of self.new.media) (contents_of self.new.media) self.new.seg }
+    {
         match self
             .seg
             .virtual_read(&mut self.media, vaddr % 103, &mut self.buf)
@@ -80,7 +84,10 @@ impl Rig {
     }
 
     /// So many writes, each of the byte of its number; the number of the first one that is not done.
-    fn fill(&mut self, count: u32) -> u32 {
+    fn fill(&mut self, count: u32) -> u32
+        requires { IsRig (geometry_of self.old.media) (contents_of self.old.media) self.old.seg }
+        ensures { IsRig (geometry_of self.new.media) (contents_of self.new.media) self.new.seg }
+    {
         for number in 0..count {
             if self.write(address(number), (number % 251) as u8, number) != Seen::Wrote {
                 return number;
@@ -98,7 +105,9 @@ impl Rig {
         )
     }
 
-    fn restart(self) -> Left {
+    fn restart(self) -> Left
+        requires { IsRig (geometry_of self.media) (contents_of self.media) self.seg }
+    {
         let Rig { seg: _, media, buf } = self;
         Left {
             media: media.restart(None),

@@ -1,5 +1,4 @@
-use Rattle.std.proofs.Common.{◌≡◌, ℕ, ◌+◌, ◌*◌, ◌/◌, ◌<◌, ◌≤◌, Some, sym, ◌∙◌, ap, subst, arith, refl}
-use Rattle.nl_field.specs.Page.{Image, page_at}
+use Rattle.std.proofs.Common.{◌≡◌, ◌+◌, ◌*◌, ◌/◌, ◌<◌, sym, ◌∙◌, subst, arith, refl}
 use Rattle.nl_nand.specs.ImageLaws.{filled_cut}
 use Rattle.nl_nand.proofs.Crashes.{weaken}
 use Rattle.nl_vseg.proofs.Places.{named_by, next_placed, block_below, block_of}

@@ -1,6 +1,5 @@
-use Rattle.std.proofs.Common.{◌<◌, ◌^◌, sym, ◌∙◌, ap, IsTrue, rules}
+use Rattle.std.proofs.Common.{sym, ◌∙◌, ap}
 use Rattle.nl_field.specs.Page.{page_at}
-use Rattle.nl_field.specs.SpareRecord.{fits_spare}
 use Rattle.nl_field.specs.declared.spare.SpareRec.TheVariants.{Virtual}
 use Rattle.nl_field.proofs.SpareRecord.{spare-spelled}
 use Rattle.nl_vseg.specs.Pages.{fact_with, main_of}

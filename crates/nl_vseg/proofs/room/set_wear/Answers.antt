@@ -1,4 +1,4 @@
-use Rattle.std.proofs.Common.{◌≡◌, ◌<◌, true, false, refl, sym, ◌∙◌, ap, subst}
+use Rattle.std.proofs.Common.{◌<◌, true, false, sym, ◌∙◌, ap, subst}
 use Rattle.nl_blocks.specs.declared.states.BlockState.TheVariants.{Free, Sealed}
 use Rattle.nl_blocks.specs.Table.{BlockRow, Table, block_at, in_state, erased_row}
 use Rattle.nl_blocks.proofs.TableLaws.{block_at-with_block_same}

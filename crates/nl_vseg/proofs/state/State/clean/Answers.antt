@@ -1,4 +1,4 @@
-use Rattle.std.proofs.Common.{◌≡◌, ◌*◌, List, Option, length, sym, ◌∙◌, ap, subst}
+use Rattle.std.proofs.Common.{◌*◌, List, Option, length, sym, ◌∙◌, ap, subst}
 use Rattle.nl_blocks.specs.Table.{Table}
 use Rattle.nl_vseg.specs.Segment.{IsUnmapped}
 use Rattle.nl_vseg.specs.Seen.{seen}

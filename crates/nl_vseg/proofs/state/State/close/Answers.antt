@@ -1,6 +1,4 @@
-use Rattle.std.proofs.Common.{◌≡◌, ◌<◌, ◌≤◌, sym, subst, arith}
-use Rattle.nl_vseg.specs.Segment.{ArePlaces, bound}
-use Rattle.nl_vseg.specs.Seen.{seen}
+use Rattle.std.proofs.Common.{arith}
 use Rattle.nl_vseg.proofs.Places.{used_more}
 use Rattle.nl_vseg.proofs.state.State.close.Goals as goal
 

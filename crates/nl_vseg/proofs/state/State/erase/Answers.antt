@@ -1,4 +1,4 @@
-use Rattle.std.proofs.Common.{◌≡◌, length, true, false, refl, sym, ap, subst}
+use Rattle.std.proofs.Common.{length, true, false, sym, subst}
 use Rattle.std.proofs.lemmas.Bool.{true≢false}
 use Rattle.nl_nand.specs.ImageLaws.{filled_cut}
 use Rattle.nl_vseg.specs.Segment.{bound, map_of}

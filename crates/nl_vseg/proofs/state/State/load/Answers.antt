@@ -1,14 +1,13 @@
-use Rattle.std.proofs.Common.{◌≡◌, ◌⊎◌, inl, inr, ⊎_elim, ℕ, ◌+◌, ◌*◌, ◌/◌, ◌<◌, ◌≤◌, true, false, Some, List, Option, length, set, refl, sym, ◌∙◌, ap, subst, arith, length-set}
-use Rattle.std.proofs.lemmas.Bool.{true≢false, cases_eq}
+use Rattle.std.proofs.Common.{◌≡◌, ℕ, ◌*◌, ◌/◌, ◌<◌, false, Some, List, Option, length, set, refl, sym, ◌∙◌, ap, subst, length-set}
+use Rattle.std.proofs.lemmas.Bool.{true≢false}
 use Rattle.std.proofs.lemmas.Nat.{div_below}
 use Rattle.nl_blocks.specs.declared.states.BlockState.TheVariants.{Sealed}
 use Rattle.nl_blocks.specs.Table.{Table, block_at, in_state}
-use Rattle.nl_vseg.specs.Segment.{Segment, IsSegment, TakenAsErased, AreInUse, IsPlace, ArePlaces, bound, block_is_free, place_of, is_soiled}
+use Rattle.nl_vseg.specs.Segment.{Segment, bound, block_is_free, place_of}
 use Rattle.nl_vseg.specs.Seen.{seen}
 use Rattle.nl_vseg.specs.Copying.{Restated}
 use Rattle.nl_vseg.specs.declared.place.Place.{Place}
 use Rattle.nl_vseg.proofs.Blocks.{restated}
-use Rattle.nl_vseg.proofs.Places.{placed, behind_of, set_place}
 use Rattle.nl_vseg.proofs.Segments.{taken_without, loaded}
 use Rattle.nl_vseg.proofs.state.State.load.Goals as goal
 

@@ -1,7 +1,6 @@
-use Rattle.std.proofs.Common.{◌≡◌, ◌⊎◌, inl, inr, ⊎_elim, ◌+◌, ◌*◌, ◌<◌, ◌≤◌, Bool, cond, length, sym, ◌∙◌, ap, subst, arith}
+use Rattle.std.proofs.Common.{◌+◌, ◌*◌, ◌≤◌, Bool, cond, length, sym, ap, subst, arith}
 use Rattle.nl_blocks.specs.Table.{free_count}
 use Rattle.nl_field.specs.Page.{Image}
-use Rattle.nl_vseg.specs.Segment.{IsUnmapped}
 use Rattle.nl_vseg.specs.Seen.{seen}
 use Rattle.nl_vseg.specs.Copying.{StaysOrErased}
 use Rattle.nl_vseg.proofs.Copies.{closed_segment, free_spare, room_free}

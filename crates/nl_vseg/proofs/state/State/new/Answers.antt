@@ -1,4 +1,4 @@
-use Rattle.std.proofs.Common.{◌+◌, ◌*◌, ◌^◌, ◌<◌, length, sym, ◌∙◌, ap, subst, arith}
+use Rattle.std.proofs.Common.{length, sym, ◌∙◌, ap, subst, arith}
 use Rattle.nl_vseg.specs.Segment.{IsSegment}
 use Rattle.nl_vseg.proofs.Shapes.{HasRoom, has_room, new_segment}
 use Rattle.nl_vseg.proofs.state.State.new.Goals as goal

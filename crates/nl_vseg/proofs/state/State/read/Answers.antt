@@ -1,4 +1,3 @@
-use Rattle.std.proofs.Common.{◌≡◌, ℕ, ◌*◌, ◌<◌, ◌≤◌, Some, sym, ◌∙◌, ap, subst}
 use Rattle.nl_vseg.specs.Seen.{seen}
 use Rattle.nl_vseg.proofs.Places.{named_by}
 use Rattle.nl_vseg.proofs.ReadPlaces.{within_medium, reads_value}

@@ -1,8 +1,7 @@
-use Rattle.std.proofs.Common.{◌≡◌, ◌<◌, length, true, false, refl, sym, ◌∙◌, ap, subst}
-use Rattle.std.proofs.lemmas.Bool.{true≢false}
+use Rattle.std.proofs.Common.{◌<◌, length, false, refl, sym, ◌∙◌, subst}
 use Rattle.nl_blocks.specs.declared.states.BlockState.TheVariants.{Sealed}
 use Rattle.nl_blocks.specs.Table.{block_at, in_state}
-use Rattle.nl_vseg.specs.Segment.{IsUnmapped, place_of}
+use Rattle.nl_vseg.specs.Segment.{IsUnmapped}
 use Rattle.nl_vseg.specs.Seen.{seen}
 use Rattle.nl_vseg.specs.Copying.{Restated}
 use Rattle.nl_vseg.proofs.Blocks.{restated}

@@ -1,4 +1,4 @@
-use Rattle.std.proofs.Common.{◌≡◌, ◌⊎◌, inl, inr, ⊎_elim, ℕ, ◌/◌, sym, ◌∙◌, ap, subst}
+use Rattle.std.proofs.Common.{◌≡◌, ◌⊎◌, inl, inr, ⊎_elim, ◌∙◌}
 use Rattle.nl_field.specs.CrashStates.{LeavesOnly, Turns}
 use Rattle.nl_blocks.specs.Table.{block_at}
 use Rattle.nl_nand.specs.declared.answers.WriteAnswer.TheVariants.{Done}
