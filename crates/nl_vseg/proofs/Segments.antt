@@ -278,3 +278,18 @@ pub keeps_as : {M : Type 0} {clock : M → ℕ} {contents : M → Image} {left :
     → pages ≡ more_pages → bounds ≡ more_bounds → KeepsMap clock contents left pages bounds m0 m1 a b → KeepsMap clock contents left more_pages more_bounds m0 m1 a b
 keeps_as {M} {clock} {contents} {left} {pages} {bounds} {more_pages} {more_bounds} {m0} {m1} {a} {b} p q k =
     subst (λ n. KeepsMap clock contents left n more_bounds m0 m1 a b) p (subst (λ n. KeepsMap clock contents left pages n m0 m1 a b) q k)
+
+-- beside one block, what was taken as erased still is
+pub taken_still : (old new : Segment) (block : ℕ) → SameNumbers old.table new.table → new.active ≡ old.active → ((old.active ≡ block → ⊥) → new.used ≡ old.used)
+    → ((b : ℕ) → (b ≡ block → ⊥) → block_is_free old.table b ≡ true → is_soiled old b ≡ false → (block_is_free new.table b ≡ true) × (is_soiled new b ≡ false))
+    → (p : ℕ) → TakenAsErased old p → (p / old.table.size ≡ block → ⊥) → TakenAsErased new p
+taken_still old new block numbers active_is used_is free p taken ne =
+    let P : ℕ → ℕ → Type 0 = λ s n. (p < n * s) × (((new.active * s + new.used ≤ p) × (p < new.active * s + s)) ⊎ ((block_is_free new.table (p / s) ≡ true) × (is_soiled new (p / s) ≡ false))) in
+    subst (P new.table.size) (sym numbers.same_count) (subst (λ s. P s (length old.table.blocks)) (sym numbers.same_size) (taken.0, cases taken.1))
+  where
+    cases : IsNext old p ⊎ ((block_is_free old.table (p / old.table.size) ≡ true) × (is_soiled old (p / old.table.size) ≡ false))
+        → ((new.active * old.table.size + new.used ≤ p) × (p < new.active * old.table.size + old.table.size)) ⊎ ((block_is_free new.table (p / old.table.size) ≡ true) × (is_soiled new (p / old.table.size) ≡ false))
+    cases (inl next) =
+        let same = used_is (λ is. ne (block_of p old.table.size old.active (omega (arith, next.0)) next.1 ∙ is)) in
+        inl (subst (λ a. a * old.table.size + new.used ≤ p) (sym active_is) (subst (λ u. old.active * old.table.size + u ≤ p) (sym same) next.0), subst (λ a. p < a * old.table.size + old.table.size) (sym active_is) next.1)
+    cases (inr x) = inr (free (p / old.table.size) ne x.0 x.1)

@@ -20,6 +20,7 @@ impl State {
         ensures places { self.new.places.items ≡ slice_set self.old.places.items vaddr (Some (record { page = page; stamp = stamp })) }
         ensures numbers { SameSize (seen self.old) (seen self.new) }
         ensures erased { (p : ℕ) → TakenAsErased (seen self.new) p → TakenAsErased (seen self.old) p × (p / self.old.blocks.size ≡ page / self.old.blocks.size → ⊥) }
+        ensures still { (p : ℕ) → TakenAsErased (seen self.old) p → (p / self.old.blocks.size ≡ page / self.old.blocks.size → ⊥) → TakenAsErased (seen self.new) p }
     {
         let block = page / self.blocks.pages();
         self.close(block);
@@ -35,6 +36,7 @@ impl State {
         ensures numbers { SameSize (seen self.old) (seen self.new) }
         ensures wear { (block_at self.new.blocks block).wear ≡ wear }
         ensures erased { (p : ℕ) → TakenAsErased (seen self.new) p → TakenAsErased (seen self.old) p × (p / self.old.blocks.size ≡ block → ⊥) }
+        ensures still { (p : ℕ) → TakenAsErased (seen self.old) p → (p / self.old.blocks.size ≡ block → ⊥) → TakenAsErased (seen self.new) p }
     {
         self.close(block);
         set_wear(&mut self.blocks, block, wear);

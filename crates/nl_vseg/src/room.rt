@@ -201,6 +201,7 @@ impl State {
         ensures used { self.new.active ≡ block → self.new.used ≡ self.new.blocks.size }
         ensures idle { self.new.used < self.new.blocks.size → block ≡ self.new.active → ⊥ }
         ensures erased { (p : ℕ) → TakenAsErased (seen self.new) p → TakenAsErased (seen self.old) p }
+        ensures still { (p : ℕ) → TakenAsErased (seen self.old) p → (p / self.old.blocks.size ≡ block → ⊥) → TakenAsErased (seen self.new) p }
     {
         if block == self.active {
             self.used = self.blocks.pages();

@@ -63,6 +63,7 @@ impl VSeg {
         ensures places { self.new.places ≡ slice_set self.old.places vaddr (Some (record { page = page; stamp = stamp })) }
         ensures numbers { SameSize self.old self.new }
         ensures erased { (p : ℕ) → TakenAsErased self.new p → TakenAsErased self.old p × (p / self.old.table.size ≡ page / self.old.table.size → ⊥) }
+        ensures still { (p : ℕ) → TakenAsErased self.old p → (p / self.old.table.size ≡ page / self.old.table.size → ⊥) → TakenAsErased self.new p }
     {
         self.state.load(page, vaddr, stamp);
     }
@@ -75,6 +76,7 @@ impl VSeg {
         ensures numbers { SameSize self.old self.new }
         ensures wear { (block_at self.new.table block).wear ≡ wear }
         ensures erased { (p : ℕ) → TakenAsErased self.new p → TakenAsErased self.old p × (p / self.old.table.size ≡ block → ⊥) }
+        ensures still { (p : ℕ) → TakenAsErased self.old p → (p / self.old.table.size ≡ block → ⊥) → TakenAsErased self.new p }
     {
         self.state.soil(block, wear);
     }

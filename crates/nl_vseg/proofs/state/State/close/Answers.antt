@@ -1,5 +1,8 @@
-use Rattle.std.proofs.Common.{arith}
+use Rattle.std.proofs.Common.{refl, sym, arith}
+use Rattle.nl_vseg.specs.Seen.{seen}
+use Rattle.nl_vseg.proofs.Blocks.{same_use}
 use Rattle.nl_vseg.proofs.Places.{used_more}
+use Rattle.nl_vseg.proofs.Segments.{taken_still}
 use Rattle.nl_vseg.proofs.state.State.close.Goals as goal
 
 pub returns-then-block-self-clause-formed : goal.returns-then-block-self-clause-formed
@@ -20,3 +23,8 @@ returns-then-block-self-clause-formed c =
       };
       copies = c.requires.copies;
     }
+
+pub returns-then-block-self-clause-still : goal.returns-then-block-self-clause-still
+returns-then-block-self-clause-still c =
+    let seg = seen c.args.self.now in
+    taken_still seg (record seg { used = c.pages-self.result }) c.args.block (same_use seg.table).numbers refl (λ ne. absurd (ne (sym c.if-block-self.true))) (λ b ne free clean. (free, clean))

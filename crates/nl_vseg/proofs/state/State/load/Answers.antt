@@ -8,7 +8,7 @@ use Rattle.nl_vseg.specs.Seen.{seen}
 use Rattle.nl_vseg.specs.Copying.{Restated}
 use Rattle.nl_vseg.specs.declared.place.Place.{Place}
 use Rattle.nl_vseg.proofs.Blocks.{restated}
-use Rattle.nl_vseg.proofs.Segments.{taken_without, loaded}
+use Rattle.nl_vseg.proofs.Segments.{taken_still, taken_without, loaded}
 use Rattle.nl_vseg.proofs.state.State.load.Goals as goal
 
 pub returns-clause-formed : goal.returns-clause-formed
@@ -45,3 +45,19 @@ returns-clause-erased c p taken =
     (λ b free clean. let ne : b ≡ block → ⊥ = (λ at. true≢false (sym free ∙ (ap (block_is_free c.seal.new.self) at ∙ restated_is.here))) in (ne, sym (restated_is.others b ne) ∙ free, clean))
     c.close.ensures.idle p taken in
     (c.close.ensures.erased p out.0, λ at. out.1 (ap (λ n. p / n) size ∙ (at ∙ ap (λ n. c.args.page / n) (sym c.pages.ensures))))
+
+pub returns-clause-still : goal.returns-clause-still
+returns-clause-still c p taken ne =
+    let closed = seen c.close.new.self in
+    let is = c.close.ensures.formed.segment in
+    let block = c.args.page / c.pages.result in
+    let size = ap (λ (t : Table). t.size) c.close.ensures.table in
+    let same_block : block ≡ c.args.page / closed.table.size = ap (λ n. c.args.page / n) (c.pages.ensures ∙ sym size) in
+    let page : c.args.page < bound closed = subst (λ (t : Table). c.args.page < length t.blocks * t.size) (sym c.close.ensures.table) c.requires.page in
+    let within : block < length closed.table.blocks = subst (λ b. b < length closed.table.blocks) (sym same_block) (div_below c.args.page closed.table.size (length closed.table.blocks) is.some page) in
+    let restated_is : Restated block false closed.table c.seal.new.self =
+    subst (Restated block false closed.table) (sym c.seal.ensures) (restated closed.table block (in_state (block_at closed.table block) Sealed) is.first within) in
+    let new : Segment = record { places = set closed.places c.args.vaddr (Some (record { page = c.args.page; stamp = c.args.stamp })); table = c.seal.new.self; soiled = closed.soiled; active = closed.active; used = closed.used } in
+    let apart : p / closed.table.size ≡ block → ⊥ = λ at. ne (ap (λ n. p / n) (sym size) ∙ (at ∙ ap (λ n. c.args.page / n) c.pages.ensures)) in
+    let apart_old = λ (at : p / c.args.self.now.blocks.size ≡ block). ne (at ∙ ap (λ n. c.args.page / n) c.pages.ensures) in
+    taken_still closed new block restated_is.numbers refl (λ _. refl) (λ b other free clean. (restated_is.others b other ∙ free, clean)) p (c.close.ensures.still p taken apart_old) apart

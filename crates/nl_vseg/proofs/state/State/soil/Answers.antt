@@ -4,7 +4,7 @@ use Rattle.std.proofs.lemmas.List.{get_or-set_same, get_or-set_other}
 use Rattle.nl_blocks.specs.Table.{Table}
 use Rattle.nl_vseg.specs.Segment.{Segment, is_soiled}
 use Rattle.nl_vseg.specs.Seen.{seen}
-use Rattle.nl_vseg.proofs.Segments.{taken_without}
+use Rattle.nl_vseg.proofs.Segments.{taken_still, taken_without}
 use Rattle.nl_vseg.proofs.state.State.soil.Goals as goal
 
 pub returns-clause-erased : goal.returns-clause-erased
@@ -21,3 +21,13 @@ returns-clause-erased c p taken =
     (ne, sym (c.set_wear.ensures.states.free b) ∙ free, sym (get_or-set_other closed.soiled block b true false ne) ∙ clean))
     c.close.ensures.idle p taken in
     (c.close.ensures.erased p out.0, λ at. out.1 (ap (λ n. p / n) size ∙ at))
+
+pub returns-clause-still : goal.returns-clause-still
+returns-clause-still c p taken ne =
+    let closed = seen c.close.new.self in
+    let block = c.args.block in
+    let size = ap (λ (t : Table). t.size) c.close.ensures.table in
+    let new : Segment = record { places = closed.places; table = c.set_wear.new.blocks; soiled = set closed.soiled block true; active = closed.active; used = closed.used } in
+    let apart : p / closed.table.size ≡ block → ⊥ = λ at. ne (ap (λ n. p / n) (sym size) ∙ at) in
+    taken_still closed new block c.set_wear.ensures.states.numbers refl (λ _. refl)
+    (λ b other free clean. (c.set_wear.ensures.states.free b ∙ free, get_or-set_other closed.soiled block b true false other ∙ clean)) p (c.close.ensures.still p taken ne) apart
