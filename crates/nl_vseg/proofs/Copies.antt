@@ -7,7 +7,8 @@ use Rattle.nl_field.specs.Page.{Page, erased, Image, page_at}
 use Rattle.nl_nand.specs.Nand.{Cut, ErasedWithin}
 use Rattle.nl_nand.proofs.Crashes.{weaken}
 use Rattle.nl_vseg.specs.Pages.{fact_of, main_of, IsBeside}
-use Rattle.nl_vseg.specs.Segment.{Segment, bound, place_of, value_at, map_of, block_is_free, AreBelow, ArePlaces, Holds, IsUnmapped, IsSegment, IsSegmentOf, KeepsSpare, SameSize, TakenAsErased, room}
+use Rattle.nl_vseg.specs.Places.{place_of, value_at, map_of, AreBelow, Holds, IsUnmapped}
+use Rattle.nl_vseg.specs.Layout.{Layout, bound, block_is_free, ArePlaces, IsLayout, IsLayoutOf, HasSpare, SameShape, TakenAsErased, room}
 use Rattle.nl_vseg.specs.Copying.{is_in, mapped_in, copy_of, ChangedIn, AreMoved}
 use Rattle.nl_vseg.specs.Effects.{Keeps, KeepsMap}
 use Rattle.nl_vseg.specs.declared.place.Place.{Place}
@@ -73,8 +74,8 @@ module _ (pages target used to v : ℕ) (place : Place) (copies : List (Option P
       changed_more to v place (copy_of (page_at old place.page) v place.stamp w) changed (same ∙ named) (unmapped v place (same ∙ named)) copied (omega (arith, at)) (omega (arith, at, room)) cut
 
 -- the copies take the place of the map
-pub moved_segment : (seg : Segment) (copies : List (Option Place)) (used victim wide : ℕ) → IsSegment seg → seg.used < seg.table.size → used ≤ seg.table.size → length copies ≡ length seg.places
-    → ArePlaces seg.table.size wide seg.active used copies → AreMoved seg.table.size victim seg.active used seg.places copies → IsSegment (record seg { places = copies; used = used })
+pub moved_segment : (seg : Layout) (copies : List (Option Place)) (used victim wide : ℕ) → IsLayout seg → seg.used < seg.table.size → used ≤ seg.table.size → length copies ≡ length seg.places
+    → ArePlaces seg.table.size wide seg.active used copies → AreMoved seg.table.size victim seg.active used seg.places copies → IsLayout (record seg { places = copies; used = used })
 moved_segment seg copies used victim wide is room fits count are moved = record {
   first = is.first;
   some = is.some;
@@ -111,9 +112,9 @@ moved_unmapped pages victim target used old new ne fits moved v place named = �
     (moved.each v place named)
 
 -- an image of the segment with the copies
-pub moved_image : (seg : Segment) (copies : List (Option Place)) (used : ℕ) (old c : Image) → IsSegment seg → seg.used < seg.table.size → IsSegmentOf old seg → Holds c copies
+pub moved_image : (seg : Layout) (copies : List (Option Place)) (used : ℕ) (old c : Image) → IsLayout seg → seg.used < seg.table.size → IsLayoutOf old seg → Holds c copies
     → ErasedWithin c (seg.active * seg.table.size + used) (seg.active * seg.table.size + seg.table.size)
-    → ((p : ℕ) → IsBeside seg.table.size seg.active p → page_at c p ≡ page_at old p) → IsSegmentOf c (record seg { places = copies; used = used })
+    → ((p : ℕ) → IsBeside seg.table.size seg.active p → page_at c p ≡ page_at old p) → IsLayoutOf c (record seg { places = copies; used = used })
 moved_image seg copies used old c is room seg_is holds blank same = record {
   holds = holds;
   blank = λ p taken. ⊎_elim
@@ -123,9 +124,9 @@ moved_image seg copies used old c is room seg_is holds blank same = record {
 }
 
 -- changes in a block without a page of the map, of which nothing is taken as erased
-pub given_image : (seg new : Segment) (old c : Image) → new.places ≡ seg.places → IsUnmapped seg.table.size seg.places seg.active → IsSegmentOf old seg
+pub given_image : (seg new : Layout) (old c : Image) → new.places ≡ seg.places → IsUnmapped seg.table.size seg.places seg.active → IsLayoutOf old seg
     → ((p : ℕ) → TakenAsErased new p → TakenAsErased seg p × (p / seg.table.size ≡ seg.active → ⊥))
-    → ((p : ℕ) → IsBeside seg.table.size seg.active p → page_at c p ≡ page_at old p) → IsSegmentOf c new
+    → ((p : ℕ) → IsBeside seg.table.size seg.active p → page_at c p ≡ page_at old p) → IsLayoutOf c new
 given_image seg new old c places unmapped seg_is taken same = record {
   holds = subst (Holds c) (sym places) (holds_same seg.places old c seg_is.holds (λ v place named. same place.page (unmapped v place named)));
   blank = λ p t. let e = taken p t in same p (beside_of p seg.table.size seg.active e.1) ∙ seg_is.blank p e.0;
@@ -153,13 +154,13 @@ widen wide le are = record {
 }
 
 -- a block of which no page is used is erased
-pub next_blank : (seg : Segment) (image : Image) → IsSegment seg → seg.used ≡ 0 → IsSegmentOf image seg → ErasedWithin image (seg.active * seg.table.size) (seg.active * seg.table.size + seg.table.size)
+pub next_blank : (seg : Layout) (image : Image) → IsLayout seg → seg.used ≡ 0 → IsLayoutOf image seg → ErasedWithin image (seg.active * seg.table.size) (seg.active * seg.table.size + seg.table.size)
 next_blank seg image is begins seg_is p from below =
     let e = block_below seg.active (length seg.table.blocks) seg.table.size is.active_is in
     seg_is.blank p (omega (arith, e, below), inl (omega (arith, from, begins), below))
 
 -- more pages of the active block are used
-pub used_segment : (seg : Segment) (used : ℕ) → IsSegment seg → seg.used < seg.table.size → seg.used ≤ used → used ≤ seg.table.size → IsSegment (record seg { used = used })
+pub used_segment : (seg : Layout) (used : ℕ) → IsLayout seg → seg.used < seg.table.size → seg.used ≤ used → used ≤ seg.table.size → IsLayout (record seg { used = used })
 used_segment seg used is room more fits = record {
   first = is.first;
   some = is.some;
@@ -174,7 +175,7 @@ used_segment seg used is room more fits = record {
 }
 
 -- all pages of the active block count as used
-pub closed_segment : (seg : Segment) (used : ℕ) → IsSegment seg → used ≡ seg.table.size → IsSegment (record seg { used = used })
+pub closed_segment : (seg : Layout) (used : ℕ) → IsLayout seg → used ≡ seg.table.size → IsLayout (record seg { used = used })
 closed_segment seg used is full = record {
   first = is.first;
   some = is.some;
@@ -189,17 +190,17 @@ closed_segment seg used is full = record {
 }
 
 -- what is taken as erased beside the active block, whatever is used of that
-pub taken_beside : (seg : Segment) (used : ℕ) (p : ℕ) → TakenAsErased (record seg { used = used }) p → (p / seg.table.size ≡ seg.active → ⊥) → TakenAsErased seg p
+pub taken_beside : (seg : Layout) (used : ℕ) (p : ℕ) → TakenAsErased (record seg { used = used }) p → (p / seg.table.size ≡ seg.active → ⊥) → TakenAsErased seg p
 taken_beside seg used p taken ne = (taken.0, ⊎_elim (λ next. absurd (ne (block_of p seg.table.size seg.active (omega (arith, next.0)) next.1))) (λ free. inr free) taken.1)
 
 -- where a block is Free, some block holds no page of the map
-pub free_spare : (seg : Segment) → IsSegment seg → 1 ≤ free_count seg.table → KeepsSpare seg
+pub free_spare : (seg : Layout) → IsLayout seg → 1 ≤ free_count seg.table → HasSpare seg
 free_spare seg is some =
     let free = some_free seg.table is.first some in
     record { block = free.0; within = free.1; unmapped = free_unmapped seg is free.0 free.2 }
 
 -- where there is room, a block is Free
-pub room_free : (seg : Segment) → 0 < room seg → 1 ≤ free_count seg.table
+pub room_free : (seg : Layout) → 0 < room seg → 1 ≤ free_count seg.table
 room_free seg some = elim (cases_lt 0 (free_count seg.table)) [
   | inl lt ↦ omega (arith, lt)
   | inr none ↦
@@ -209,5 +210,5 @@ room_free seg some = elim (cases_lt 0 (free_count seg.table)) [
 ]
 
 -- with these numbers for those
-pub resized : (P : ℕ → ℕ → Type 0) (old new : Segment) → SameSize old new → P new.table.size (bound new) → P old.table.size (bound old)
+pub resized : (P : ℕ → ℕ → Type 0) (old new : Layout) → SameShape old new → P new.table.size (bound new) → P old.table.size (bound old)
 resized P old new same is = subst (λ n. P n (bound old)) same.pages (subst (P new.table.size) (λ i. same.blocks i * same.pages i) is)

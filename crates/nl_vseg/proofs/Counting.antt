@@ -4,7 +4,8 @@ use Rattle.std.proofs.lemmas.Bool.{cases_eq, cases_Bool, eq-eqb, ne_eqb}
 use Rattle.std.proofs.lemmas.Option.{none-some}
 use Rattle.std.proofs.lemmas.List.Sums.{sum_by-cons}
 use Rattle.nl_blocks.specs.Table.{BlockRow, Table, block_at, row_at, is_free, is_sealed, free_count, dead_count}
-use Rattle.nl_vseg.specs.Segment.{place_of, block_is_free, IsUnmapped}
+use Rattle.nl_vseg.specs.Places.{place_of, IsUnmapped}
+use Rattle.nl_vseg.specs.Layout.{block_is_free}
 use Rattle.nl_vseg.specs.Copying.{is_in, mapped_in, IsSettled}
 use Rattle.nl_vseg.specs.declared.place.Place.{Place}
 use Rattle.nl_vseg.proofs.Places.{not_beside, beside_of}

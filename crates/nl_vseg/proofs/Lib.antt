@@ -14,4 +14,5 @@ pub mod Segments
 pub mod Shapes
 pub mod Spares
 pub mod Standing
+pub mod Views
 pub mod Writing

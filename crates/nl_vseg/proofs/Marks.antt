@@ -9,7 +9,7 @@ use Rattle.nl_blocks.specs.declared.states.PageState.TheVariants.{Dead, Live}
 use Rattle.nl_blocks.specs.declared.states.Page.{Page}
 use Rattle.nl_blocks.specs.Table.{BlockRow, Table, block_at, page_at, new_page, no_row, with_page, with_mark, is_free, is_dead, dead_count}
 use Rattle.nl_blocks.proofs.TableLaws.{page_in, page_at-with_page_other}
-use Rattle.nl_vseg.specs.Segment.{place_of}
+use Rattle.nl_vseg.specs.Places.{place_of}
 use Rattle.nl_vseg.specs.Copying.{SameStates, IsMarked, is_in, mapped_in}
 use Rattle.nl_vseg.specs.declared.place.Place.{Place}
 use Rattle.nl_vseg.proofs.Places.{block_below}

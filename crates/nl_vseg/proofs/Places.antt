@@ -6,7 +6,8 @@ use Rattle.std.proofs.lemmas.List.{get_or-set_same, get_or-set_other, get_or_rea
 use Rattle.std.proofs.lemmas.Option.{none-some, same_Some}
 use Rattle.nl_field.specs.Spelling.{is_stamp}
 use Rattle.nl_vseg.specs.Pages.{IsBeside}
-use Rattle.nl_vseg.specs.Segment.{place_of, IsPlace, ArePlaces}
+use Rattle.nl_vseg.specs.Places.{place_of}
+use Rattle.nl_vseg.specs.Layout.{IsPlace, ArePlaces}
 use Rattle.nl_vseg.specs.declared.place.Place.{Place}
 
 -- a page of the block with this number

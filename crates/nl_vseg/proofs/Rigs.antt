@@ -8,7 +8,7 @@ use Rattle.nl_field.specs.declared.shape.Shape.{Shape}
 use Rattle.nl_nand.specs.declared.geometry.Geometry.{Geometry}
 use Rattle.nl_nand.specs.Nand.{IsBlank}
 use Rattle.nl_vseg.specs.Rig.{IsRig}
-use Rattle.nl_vseg.specs.Segment.{Segment, SameSize, KeepsSpare, IsSegmentOf}
+use Rattle.nl_vseg.specs.Layout.{Layout, SameShape, HasSpare, IsLayoutOf}
 use Rattle.nl_vseg.specs.declared.place.Place.{Place}
 use Rattle.nl_vseg.proofs.Places.{all_none}
 
@@ -29,7 +29,7 @@ least shape is = record {
   pages = ap (λ (s : Shape). s.pages) is;
 }
 
-pub kept_rig : (old new : Geometry) (before after : Image) (seg next : Segment) → IsRig old before seg → new ≡ old → SameSize seg next → KeepsSpare next → IsSegmentOf after next → IsRig new after next
+pub kept_rig : (old new : Geometry) (before after : Image) (seg next : Layout) → IsRig old before seg → new ≡ old → SameShape seg next → HasSpare next → IsLayoutOf after next → IsRig new after next
 kept_rig old new before after seg next is same size spare segment = record {
   numbers = same ∙ is.numbers;
   addresses = size.addresses ∙ is.addresses;
@@ -41,8 +41,8 @@ kept_rig old new before after seg next is same size spare segment = record {
   segment = segment;
 }
 
-pub new_rig : (shape : Shape) (geometry : Geometry) (image : Image) (seg : Segment) → IsLeast shape → geometry ≡ record { blocks = 32; pages = 32 } → IsBlank image → seg.places ≡ replicate shape.vaddrs None → seg.table.size ≡ shape.pages
-    → length seg.table.blocks ≡ shape.vblocks → KeepsSpare seg → IsRig geometry image seg
+pub new_rig : (shape : Shape) (geometry : Geometry) (image : Image) (seg : Layout) → IsLeast shape → geometry ≡ record { blocks = 32; pages = 32 } → IsBlank image → seg.places ≡ replicate shape.vaddrs None → seg.table.size ≡ shape.pages
+    → length seg.table.blocks ≡ shape.vblocks → HasSpare seg → IsRig geometry image seg
 new_rig shape geometry image seg least_is numbers blank places pages blocks spare = record {
   numbers = numbers;
   addresses = ap (λ (l : List (Option Place)). length l) places ∙ (length-replicate shape.vaddrs None ∙ least_is.addresses);

@@ -5,7 +5,8 @@ use Rattle.nl_blocks.specs.declared.states.PageState.TheVariants.{Live}
 use Rattle.nl_blocks.specs.Table.{Table, block_at, dead_count, is_sealed, free_count}
 use Rattle.nl_blocks.specs.Table.{page_at as row_page}
 use Rattle.nl_vseg.specs.Pages.{IsBeside, fact_of, main_of, page_with}
-use Rattle.nl_vseg.specs.Segment.{block_is_free, place_of, stamp_in_place}
+use Rattle.nl_vseg.specs.Places.{place_of, stamp_in_place}
+use Rattle.nl_vseg.specs.Layout.{block_is_free}
 use Rattle.nl_vseg.specs.declared.place.Place.{Place}
 
 abbrev pub is_in : ℕ → ℕ → Option Place → Bool

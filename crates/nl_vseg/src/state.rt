@@ -1,7 +1,7 @@
 ghost use Rattle.std.specs.Prelude.{◌≡◌, ◌<◌, IfOk, IsTrue, length, replicate, false, None};
 ghost use Rattle.nl_field.specs.Numbers.{is_legal, shape_for};
 ghost use Rattle.nl_blocks.specs.Table.{new_table};
-ghost use Rattle.nl_vseg.specs.Segment.{IsSegment};
+ghost use Rattle.nl_vseg.specs.Layout.{IsLayout};
 ghost use Rattle.nl_vseg.specs.Seen.{seen, IsFormed};
 
 use crate::place::{Place, no_places};

@@ -1,7 +1,8 @@
 // Which block is cleaned.
 ghost use Rattle.std.specs.Prelude.{◌≡◌, ◌⊎◌, ℕ, ◌+◌, ◌*◌, ◌/◌, ◌<◌, ◌≤◌, length, true, false, IfSome};
 ghost use Rattle.nl_blocks.specs.Table.{block_at, dead_count, free_count, is_sealed, page_at};
-ghost use Rattle.nl_vseg.specs.Segment.{AreApart, AreBelow, IsUnmapped, block_is_free};
+ghost use Rattle.nl_vseg.specs.Places.{AreBelow, IsUnmapped};
+ghost use Rattle.nl_vseg.specs.Layout.{AreApart, block_is_free};
 ghost use Rattle.nl_vseg.specs.Copying.{mapped_in, IsMarked, IsSettled, SameStates, SameUse};
 
 use crate::place::Place;

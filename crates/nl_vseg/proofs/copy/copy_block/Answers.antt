@@ -2,7 +2,8 @@ use Rattle.std.proofs.Common.{inl, inr, ⊎_elim, ◌*◌, ◌≤◌, sym, ◌�
 use Rattle.std.proofs.lemmas.Bool.{cases_eq}
 use Rattle.nl_nand.specs.declared.geometry.Geometry.{Geometry}
 use Rattle.nl_nand.proofs.Crashes.{then}
-use Rattle.nl_vseg.specs.Segment.{place_of, ArePlaces}
+use Rattle.nl_vseg.specs.Places.{place_of}
+use Rattle.nl_vseg.specs.Layout.{ArePlaces}
 use Rattle.nl_vseg.proofs.Counts.{counted_as, counted_then}
 use Rattle.nl_vseg.proofs.Places.{named_within}
 use Rattle.nl_vseg.proofs.copy.copy_block.Goals as goal

@@ -1,7 +1,8 @@
 use Rattle.std.proofs.Common.{◌≡◌, ℕ, ◌+◌, ◌*◌, ◌<◌, ◌≤◌, length}
 use Rattle.nl_field.specs.CrashStates.{LeavesOnly}
 use Rattle.nl_nand.specs.Nand.{ErasedWithin}
-use Rattle.nl_vseg.specs.Segment.{ArePlaces, Holds, map_of, place_of, stamp_in_place}
+use Rattle.nl_vseg.specs.Places.{Holds, map_of, place_of, stamp_in_place}
+use Rattle.nl_vseg.specs.Layout.{ArePlaces}
 use Rattle.nl_vseg.specs.Copying.{mapped_in, ChangedIn, IsMovedPlace}
 use Rattle.nl_vseg.specs.Effects.{Counted}
 use Rattle.nl_vseg.proofs.copy.copy_block.Given as goal

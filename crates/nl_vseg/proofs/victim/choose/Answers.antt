@@ -1,5 +1,5 @@
 use Rattle.std.proofs.Common.{◌≡◌, ◌+◌, ◌*◌, ◌<◌, ◌≤◌, length, sym, ◌∙◌, subst, arith}
-use Rattle.nl_vseg.specs.Segment.{IsUnmapped}
+use Rattle.nl_vseg.specs.Places.{IsUnmapped}
 use Rattle.nl_vseg.specs.Copying.{mapped_in}
 use Rattle.nl_vseg.proofs.Blocks.{has_block, none_free}
 use Rattle.nl_vseg.proofs.Counting.{some_dead, mapped_zero, zero_unmapped}

@@ -2,7 +2,7 @@ use Rattle.std.proofs.Common.{◌≡◌, ⊎_elim, ℕ, ◌+◌, ◌*◌, ◌<�
 use Rattle.std.proofs.lemmas.List.{get_or_read}
 use Rattle.nl_blocks.specs.Table.{block_at, dead_count}
 use Rattle.nl_blocks.proofs.TableProofs.{row_size}
-use Rattle.nl_vseg.specs.Segment.{place_of}
+use Rattle.nl_vseg.specs.Places.{place_of}
 use Rattle.nl_vseg.specs.Copying.{is_in, mapped_in}
 use Rattle.nl_vseg.proofs.Blocks.{has_block}
 use Rattle.nl_vseg.proofs.Marks.{states_same, states_then, block_dead, mapped_more, place_below, place_dead, dead_not_live, page_in_bound}

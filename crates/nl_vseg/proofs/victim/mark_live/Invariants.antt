@@ -1,7 +1,7 @@
 use Rattle.std.proofs.Common.{◌≡◌, ℕ, ◌+◌, ◌*◌, ◌<◌, Some, length, take}
 use Rattle.nl_blocks.specs.declared.states.PageState.TheVariants.{Live}
 use Rattle.nl_blocks.specs.Table.{block_at, dead_count, page_at}
-use Rattle.nl_vseg.specs.Segment.{place_of}
+use Rattle.nl_vseg.specs.Places.{place_of}
 use Rattle.nl_vseg.specs.Copying.{SameStates, mapped_in}
 use Rattle.nl_vseg.specs.declared.place.Place.{Place}
 use Rattle.nl_vseg.proofs.victim.mark_live.Given as goal

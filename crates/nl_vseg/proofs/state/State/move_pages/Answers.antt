@@ -1,7 +1,8 @@
 use Rattle.std.proofs.Common.{◌≡◌, ◌+◌, ◌*◌, ◌<◌, ◌≤◌, List, Option, length, sym, ◌∙◌, ap, subst, arith, mul-le-mul_right}
 use Rattle.nl_field.specs.CrashStates.{LeavesOnly}
 use Rattle.nl_nand.specs.Nand.{ErasedWithin}
-use Rattle.nl_vseg.specs.Segment.{ArePlaces, IsSegment, IsSegmentOf, IsUnmapped, bound, map_of}
+use Rattle.nl_vseg.specs.Places.{IsUnmapped, map_of}
+use Rattle.nl_vseg.specs.Layout.{ArePlaces, IsLayout, IsLayoutOf, bound}
 use Rattle.nl_vseg.specs.Seen.{seen}
 use Rattle.nl_vseg.specs.Copying.{AreMoved, ChangedIn}
 use Rattle.nl_vseg.specs.Effects.{KeepsMap}
@@ -68,7 +69,7 @@ returns-in-Done-clause-formed g c =
     let blocks = (g.M.Nand.geometry c.args.media.now).blocks in
     let are = subst (λ n. ArePlaces n (blocks * n) seg.active c.copy_block.new.used c.copy_block.new.copies.items) pages (c.copy_block.ensures.places c.in-Done.is) in
     record {
-      segment = subst (λ (l : List (Option Place)). IsSegment (record seg { places = l; used = c.copy_block.new.used })) (sym swapped)
+      segment = subst (λ (l : List (Option Place)). IsLayout (record seg { places = l; used = c.copy_block.new.used })) (sym swapped)
           (moved_segment seg c.copy_block.new.copies.items c.copy_block.new.used c.args.victim (blocks * seg.table.size) is room fits count are moved);
       copies = ap length back ∙ (sym count ∙ ap length (sym swapped));
     }
@@ -100,7 +101,7 @@ returns-in-Done-clause-segment g c t =
     subst (λ n. ChangedIn n seg.active seg.places old new) pages (subst (λ (l : List (Option Place)). ChangedIn c.pages-pages.result seg.active l old new) copies (c.copy_block.ensures.changed t)) in
     let swapped : c.swap.new.x.items ≡ c.copy_block.new.copies.items = cc in
     let blank = subst (λ n. ErasedWithin new (seg.active * n + c.copy_block.new.used) (seg.active * n + n)) pages (c.copy_block.ensures.erased t c.in-Done.is) in
-    subst (λ (l : List (Option Place)). IsSegmentOf new (record seg { places = l; used = c.copy_block.new.used })) (sym swapped)
+    subst (λ (l : List (Option Place)). IsLayoutOf new (record seg { places = l; used = c.copy_block.new.used })) (sym swapped)
     (moved_image seg c.copy_block.new.copies.items c.copy_block.new.used old new is room (c.requires.segment t) (c.copy_block.ensures.holds t c.in-Done.is) blank changed.same)
 
 pub returns-in-Done-clause-map : goal.returns-in-Done-clause-map

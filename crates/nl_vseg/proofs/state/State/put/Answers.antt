@@ -3,7 +3,8 @@ use Rattle.nl_field.specs.Page.{PageBytes, written}
 use Rattle.nl_nand.specs.ImageLaws.{filled_cut}
 use Rattle.nl_vseg.specs.Maps.{with_at}
 use Rattle.nl_vseg.specs.Pages.{page_with}
-use Rattle.nl_vseg.specs.Segment.{bound, map_of}
+use Rattle.nl_vseg.specs.Places.{map_of}
+use Rattle.nl_vseg.specs.Layout.{bound}
 use Rattle.nl_vseg.specs.Seen.{seen}
 use Rattle.nl_vseg.specs.Effects.{Programmed}
 use Rattle.nl_vseg.proofs.Blocks.{some_free}

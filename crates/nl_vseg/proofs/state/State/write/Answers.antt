@@ -2,7 +2,7 @@ use Rattle.std.proofs.Common.{◌≡◌, ◌⊎◌, inl, inr, ⊎_elim, ◌∙�
 use Rattle.nl_field.specs.CrashStates.{LeavesOnly, Turns}
 use Rattle.nl_blocks.specs.Table.{block_at}
 use Rattle.nl_nand.specs.declared.answers.WriteAnswer.TheVariants.{Done}
-use Rattle.nl_vseg.specs.Segment.{map_of}
+use Rattle.nl_vseg.specs.Places.{map_of}
 use Rattle.nl_vseg.specs.Seen.{seen}
 use Rattle.nl_vseg.specs.Effects.{Keeps, Takes, Programmed}
 use Rattle.nl_vseg.proofs.Copies.{resized}
