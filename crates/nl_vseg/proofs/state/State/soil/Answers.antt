@@ -41,8 +41,9 @@ set_wear-requires-clause-within c =
 
 pub index_mut-requires : goal.index_mut-requires
 index_mut-requires c =
-    subst (λ n. c.args.block < n) (sym (c.close.ensures.formed.segment.marks ∙ ap (λ (t : Table). length t.blocks) c.close.ensures.table))
-    (block_within c.args.block (length c.args.self.now.blocks.blocks) c.args.self.now.blocks.size c.requires.formed.segment.some c.requires.within)
+    let within = block_within c.args.block (length c.args.self.now.blocks.blocks) c.args.self.now.blocks.size c.requires.formed.segment.some c.requires.within in
+    let marks = c.close.ensures.formed.segment.marks ∙ ap (λ (t : Table). length t.blocks) c.close.ensures.table in
+    omega (arith, within, marks)
 
 pub returns-clause-wear : goal.returns-clause-wear
 returns-clause-wear c =
