@@ -7,6 +7,7 @@ use Rattle.nl_blocks.specs.declared.states.BlockState.TheVariants.{Sealed}
 use Rattle.nl_blocks.specs.Table.{BlockRow, Table, HasBlock, block_at, in_state, row_at, no_row, with_block, is_free, free_count}
 use Rattle.nl_blocks.proofs.TableLaws.{sum_by-with_block}
 use Rattle.nl_vseg.specs.Layout.{block_is_free}
+use Rattle.nl_vseg.proofs.Passing.{some_passes}
 use Rattle.nl_vseg.specs.Copying.{SameUse, Restated}
 
 pub has_block : (t : Table) (block : ℕ) → t.first ≡ 0 → block < length t.blocks → HasBlock t block
@@ -84,21 +85,10 @@ restated_after {block} {free} {a} {b} {c} first second = record {
 abbrev num : Bool → ℕ
 num b = cond b 1 0
 
-some_row : (rows : List BlockRow) → 1 ≤ count_by is_free rows → (i : ℕ) × (i < length rows) × (is_free (row_at rows i) ≡ true)
-some_row [] some = absurd (omega (arith, some))
-some_row (row ∷ rows) some = elim (cases_Bool (is_free row)) [
-  | inl free ↦ (0, omega arith, free)
-  | inr used ↦
-      let e : count_by is_free (row ∷ rows) ≡ cond (is_free row) 1 0 + count_by is_free rows = sum_by-cons (λ r. cond (is_free r) 1 0) row rows in
-      let none : cond (is_free row) 1 0 ≡ 0 = ap num used in
-      let rest = some_row rows (omega (arith, some, e, none)) in
-      (suc rest.0, omega (arith, rest.1), rest.2)
-]
-
 -- some block is Free
 pub some_free : (t : Table) → t.first ≡ 0 → 1 ≤ free_count t → (block : ℕ) × (block < length t.blocks) × (block_is_free t block ≡ true)
 some_free t first some =
-    let row = some_row t.blocks some in
+    let row = some_passes is_free no_row t.blocks some in
     (row.0, row.1, ap (λ n. is_free (row_at t.blocks n)) (omega (arith, first)) ∙ row.2)
 
 none_row : (rows : List BlockRow) (i : ℕ) → count_by is_free rows ≡ 0 → i < length rows → is_free (row_at rows i) ≡ false

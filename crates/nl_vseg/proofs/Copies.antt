@@ -89,7 +89,6 @@ moved_segment seg copies used victim wide is room fits count are moved = record 
     each = λ v place named.
         let are_is = are.each v place named in
         record { within = below v place named (moved.each v place named); behind = are_is.behind; spelled = are_is.spelled };
-    apart = are.apart;
   };
   in_use = λ v place named. in_use v place (moved.each v place named);
 }
@@ -150,7 +149,6 @@ changed_keeps {M} {clock} {contents} {left} {old} {new} pages count block places
 pub widen : {pages below active used : ℕ} {places : List (Option Place)} (wide : ℕ) → below ≤ wide → ArePlaces pages below active used places → ArePlaces pages wide active used places
 widen wide le are = record {
   each = λ v place named. let is = are.each v place named in record { within = omega (arith, is.within, le); behind = is.behind; spelled = is.spelled };
-  apart = are.apart;
 }
 
 -- a block of which no page is used is erased

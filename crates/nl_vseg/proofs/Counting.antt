@@ -114,8 +114,7 @@ some_dead t places first some few fit settled none =
     each k less (inr is) =
         let counted = settled.counted k less in
         let nothing = none k less (settled.sealed k less is) in
-        let all : mapped_in t.size k places ≡ t.size = omega (arith, counted, nothing) in
-        omega (arith, all)
+        omega (arith, counted, nothing)
 
 -- no address has its page in a block that holds none, and the other way round
 pub mapped_zero : (pages block : ℕ) (places : List (Option Place)) → 0 < pages → IsUnmapped pages places block → mapped_in pages block places ≡ 0

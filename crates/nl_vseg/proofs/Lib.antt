@@ -6,6 +6,7 @@ pub mod Images
 pub mod Marks
 pub mod Members
 pub mod Newest
+pub mod Passing
 pub mod Places
 pub mod ReadPlaces
 pub mod Records

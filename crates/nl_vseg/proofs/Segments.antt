@@ -184,9 +184,9 @@ sealed_taken old table block restated p taken = cases n.1
 
 -- an address got a page of a block that is in use now, and is not written to
 pub loaded : (old : Layout) (table : Table) (block v : ℕ) (new : Place) → IsLayout old → Restated block false old.table table → new.page / old.table.size ≡ block → new.page < bound old → IsTrue (is_stamp new.stamp)
-    → v < length old.places → ((u : ℕ) (place : Place) → place_of old.places u ≡ Some place → place.page ≡ new.page → ⊥) → (old.used < old.table.size → block ≡ old.active → ⊥)
+    → v < length old.places → (old.used < old.table.size → block ≡ old.active → ⊥)
     → IsLayout (record old { places = set old.places v (Some new); table = table })
-loaded old table block v new is restated at below spelled within beside idle = record {
+loaded old table block v new is restated at below spelled within idle = record {
   first = restated.numbers.same_first ∙ is.first;
   some = subst (λ n. 0 < n) (sym restated.numbers.same_size) is.some;
   numbers = subst (λ n. n < 2 ^ 32) (sym bound_same) is.numbers;
@@ -202,7 +202,7 @@ loaded old table block v new is restated at below spelled within beside idle = r
   places_are = subst (λ n. ArePlaces table.size n old.active old.used (set old.places v (Some new))) (sym bound_same)
       (subst (λ n. ArePlaces n (bound old) old.active old.used (set old.places v (Some new))) (sym restated.numbers.same_size)
       (placed old.table.size (bound old) old.active old.used old.places v new within
-      (record { within = below; behind = behind_of old.table.size old.active old.used new.page block is.used_fits at idle; spelled = spelled }) beside is.places_are));
+      (record { within = below; behind = behind_of old.table.size old.active old.used new.page block is.used_fits at idle; spelled = spelled }) is.places_are));
   in_use = λ u place named. subst (λ n. block_is_free table (place.page / n) ≡ false) (sym restated.numbers.same_size) (in_use u place (set_place old.places v new within u place named));
 }
   where
@@ -232,7 +232,6 @@ started old block is within taken unmapped = record {
     each = λ v place named.
         let was = is.places_are.each v place named in
         record { within = was.within; behind = ⊎_elim (λ lt. inl (omega (arith, lt))) (λ ge. inr ge) (unmapped v place named); spelled = was.spelled };
-    apart = is.places_are.apart;
   };
   in_use = is.in_use;
 }

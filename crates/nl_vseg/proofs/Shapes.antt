@@ -70,7 +70,6 @@ new_segment shape room =
       taken = λ lt. absurd (omega (arith, lt));
       places_are = record {
         each = λ v place named. absurd (none-some place (sym (all_none shape.vaddrs v) ∙ named));
-        apart = λ u v a b at_u at_v same. absurd (none-some a (sym (all_none shape.vaddrs u) ∙ at_u));
       };
       in_use = λ v place named. absurd (none-some place (sym (all_none shape.vaddrs v) ∙ named));
     }

@@ -83,24 +83,15 @@ pub record IsLayoutOf (image : Image) (seg : Layout) : Type 0 where
   pub holds : Holds image seg.places
   pub blank : (p : ℕ) → TakenAsErased seg p → page_at image p ≡ erased
 
--- no page is that of two addresses
-abbrev pub AreApart : List (Option Place) → Type 0
-AreApart places = (u v : ℕ) (a b : Place) → place_of places u ≡ Some a → place_of places v ≡ Some b → a.page ≡ b.page → u ≡ v
-
--- the page is that of no address
-abbrev pub AreBeside : ℕ → List (Option Place) → Type 0
-AreBeside page places = (v : ℕ) (place : Place) → place_of places v ≡ Some place → place.page ≡ page → ⊥
-
 -- A place is below the bound, and not one of the next pages of the active block.
 pub record IsPlace (pages bound active used : ℕ) (place : Place) : Type 0 where
   pub within : place.page < bound
   pub behind : (place.page < active * pages + used) ⊎ (active * pages + pages ≤ place.page)
   pub spelled : IsTrue (is_stamp place.stamp)
 
--- each place is one, and they are apart
+-- each place is one
 pub record ArePlaces (pages bound active used : ℕ) (places : List (Option Place)) : Type 0 where
   pub each : (v : ℕ) (place : Place) → place_of places v ≡ Some place → IsPlace pages bound active used place
-  pub apart : AreApart places
 
 -- each place is in a block that is not Free
 abbrev pub AreInUse : Table → List (Option Place) → Type 0

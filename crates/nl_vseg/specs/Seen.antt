@@ -16,6 +16,7 @@ segment_of s = shown (seen s)
 pub record IsFormed (s : State) : Type 0 where
   pub segment : IsLayout (seen s)
   pub copies : length s.copies.items ≡ length s.places.items
+  pub targets : length s.targets.items ≡ s.blocks.size
 
 -- the medium has the pages of the segment's blocks, and at least as many blocks
 pub record FitsLayout (geometry : Geometry) (seg : Layout) : Type 0 where

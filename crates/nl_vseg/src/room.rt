@@ -5,7 +5,7 @@ ghost use Rattle.nl_blocks.specs.Table.{block_at, free_count};
 ghost use Rattle.nl_vseg.specs.Places.{IsUnmapped, map_of, stamp_for};
 ghost use Rattle.nl_vseg.specs.Layout.{IsLayoutOf, HasSpare, SameShape, TakenAsErased, block_is_free, bound, is_soiled, room};
 ghost use Rattle.nl_vseg.specs.Seen.{seen, IsFormed, FitsLayout};
-ghost use Rattle.nl_vseg.specs.Copying.{mapped_in, Restated, SameUse, StaysOrErased};
+ghost use Rattle.nl_vseg.specs.Copying.{HasHole, Restated, SameUse, StaysOrErased};
 ghost use Rattle.nl_vseg.specs.Effects.{Counted, KeepsMap};
 ghost use Rattle.nl_vseg.specs.Answers.{IsLost, LosesStamp};
 
@@ -217,7 +217,7 @@ impl State {
         requires begins { self.old.used ≡ 0 }
         requires unmapped { IsUnmapped self.old.blocks.size self.old.places.items self.old.active }
         requires other { self.old.active ≡ victim → ⊥ }
-        requires room { mapped_in self.old.blocks.size victim self.old.places.items < self.old.blocks.size }
+        requires hole { HasHole self.old.blocks.size victim self.old.places.items }
         requires segment { M.tells → IsLayoutOf (M.contents media.old) (seen self.old) }
         ensures formed { IsFormed self.new }
         ensures moved { result ≡ VirtualWrite.Done → IsUnmapped self.new.blocks.size self.new.places.items victim }
@@ -239,10 +239,12 @@ impl State {
         let wear = self.blocks.wear(self.active);
         let pages = self.blocks.pages();
         self.copies.copy_from_slice(&self.places);
+        self.targets.fill(None);
         match copy_block(
             media,
             &mut self.buf,
             &mut self.copies,
+            &mut self.targets,
             victim,
             pages,
             self.active,

@@ -26,9 +26,9 @@ returns-clause-formed c =
     subst (Restated block false closed.table) (sym c.seal.ensures) (restated closed.table block (in_state (block_at closed.table block) Sealed) is.first within) in
     record {
       segment = loaded closed c.seal.new.self block c.args.vaddr (record { page = c.args.page; stamp = c.args.stamp }) is restated_is (sym same_block) page c.requires.stamp
-          (subst (λ (l : List (Option Place)). c.args.vaddr < length l) (sym c.close.ensures.places) c.requires.vaddr)
-          (subst (λ (l : List (Option Place)). (v : ℕ) (place : Place) → place_of l v ≡ Some place → place.page ≡ c.args.page → ⊥) (sym c.close.ensures.places) c.requires.other) c.close.ensures.idle;
+          (subst (λ (l : List (Option Place)). c.args.vaddr < length l) (sym c.close.ensures.places) c.requires.vaddr) c.close.ensures.idle;
       copies = c.close.ensures.formed.copies ∙ sym (length-set c.close.new.self.places.items c.args.vaddr (Some (record { page = c.args.page; stamp = c.args.stamp })));
+      targets = c.close.ensures.formed.targets ∙ (ap (λ (t : Table). t.size) c.close.ensures.table ∙ TODO);
     }
 
 pub returns-clause-erased : goal.returns-clause-erased
