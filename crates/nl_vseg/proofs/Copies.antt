@@ -1,35 +1,138 @@
 -- A cleaning copies the pages of a block one by one.
-use Rattle.std.proofs.Common.{◌≡◌, ◌⊎◌, inl, inr, ⊎_elim, ℕ, ◌+◌, ◌-◌, ◌*◌, ◌/◌, ◌<◌, ◌≤◌, nat_le, Option, Some, None, List, length, set, cond, sym, ◌∙◌, ap, subst, arith, eq-eqb, ne_eqb, Bool, false}
+use Rattle.std.proofs.Common.{◌≡◌, ◌⊎◌, inl, inr, ⊎_elim, ℕ, zero, suc, ◌+◌, ◌-◌, ◌*◌, ◌/◌, ◌%◌, ◌<◌, ◌≤◌, nat_le, Option, Some, None, List, length, get_or, replicate, set, cond, refl, count_by, length-set, sym, ◌∙◌, ap, subst, arith, eq-eqb, ne_eqb, Bool, false}
 use Rattle.std.proofs.lemmas.Bool.{cases_eq, cases_lt, cond-false, lt-leb, true≢false}
-use Rattle.std.proofs.lemmas.List.Sums.{sum_by-set}
+use Rattle.std.proofs.lemmas.List.{get_or-set_same, get_or-set_other, get_or_read, length-replicate}
+use Rattle.std.proofs.lemmas.List.Sums.{sum_by-cons}
+use Rattle.std.proofs.lemmas.Option.{none-some, same_Some}
 use Rattle.nl_field.specs.CrashStates.{LeavesOnly}
 use Rattle.nl_field.specs.Page.{Page, erased, Image, page_at}
-use Rattle.nl_nand.specs.Nand.{Cut, ErasedWithin}
+use Rattle.nl_nand.specs.Nand.{CanProgram, Cut, ErasedWithin}
 use Rattle.nl_nand.proofs.Crashes.{weaken}
-use Rattle.nl_vseg.specs.Pages.{fact_of, main_of, IsBeside}
+use Rattle.nl_vseg.specs.Pages.{Fact, fact_of, main_of, IsBeside}
 use Rattle.nl_vseg.specs.Places.{place_of, value_at, map_of, AreBelow, Holds, IsUnmapped}
 use Rattle.nl_vseg.specs.Layout.{Layout, bound, block_is_free, ArePlaces, IsLayout, IsLayoutOf, HasSpare, SameShape, TakenAsErased, room}
-use Rattle.nl_vseg.specs.Copying.{is_in, mapped_in, copy_of, ChangedIn, AreMoved}
+use Rattle.nl_vseg.specs.Copying.{is_some, target_at, copy_of, AreTargets, ChangedIn, AreMoved, HasHole, IsAt, LeavesHole}
 use Rattle.nl_vseg.specs.Effects.{Keeps, KeepsMap}
 use Rattle.nl_vseg.specs.declared.place.Place.{Place}
-use Rattle.nl_vseg.proofs.Places.{block_of, block_below, beside_of, place_here, place_other, set_place, used_more}
+use Rattle.nl_vseg.proofs.Passing.{one_passes, not_all_pass}
+use Rattle.nl_vseg.proofs.Places.{same_page, block_of, block_below, beside_of, place_here, place_other, set_place, used_more}
 use Rattle.nl_vseg.proofs.Images.{shows_nothing, keeps_changed, changed_more}
 use Rattle.nl_blocks.specs.Table.{free_count}
 use Rattle.nl_vseg.proofs.Blocks.{some_free}
 use Rattle.nl_vseg.proofs.Segments.{free_unmapped, holds_same, map_same}
 
-abbrev num : Bool → ℕ
-num b = cond b 1 0
+-- what was read of the table of copies
+pub copied_at : (targets : List (Option ℕ)) (at : ℕ) (x : Option ℕ) (page : ℕ) → at < length targets → x ≡ get_or targets at x → x ≡ Some page → target_at targets at ≡ Some page
+copied_at targets at x page within read is = sym (get_or_read targets at x within read None) ∙ is
 
--- the count of the addresses in the victim falls by one
-pub fewer_mapped : (pages victim v : ℕ) (old new : Place) (copies : List (Option Place)) → v < length copies → place_of copies v ≡ Some old → old.page / pages ≡ victim → (new.page / pages ≡ victim → ⊥)
-    → mapped_in pages victim (set copies v (Some new)) + 1 ≡ mapped_in pages victim copies
-fewer_mapped pages victim v old new copies within named is ne =
-    let e : mapped_in pages victim (set copies v (Some new)) + cond (is_in pages victim (place_of copies v)) 1 0 ≡ mapped_in pages victim copies + cond (is_in pages victim (Some new)) 1 0 =
-    sum_by-set (λ x. cond (is_in pages victim x) 1 0) copies v (Some new) None within in
-    let was : num (is_in pages victim (place_of copies v)) ≡ 1 = ap (λ x. num (is_in pages victim x)) named ∙ ap num (eq-eqb (old.page / pages) victim is) in
-    let now : num (is_in pages victim (Some new)) ≡ 0 = ap num (ne_eqb (new.page / pages) victim ne) in
-    omega (arith, e, was, now)
+pub not_copied : (targets : List (Option ℕ)) (at : ℕ) (x : Option ℕ) → at < length targets → x ≡ get_or targets at x → x ≡ None → target_at targets at ≡ None
+not_copied targets at x within read is = sym (get_or_read targets at x within read None) ∙ is
+
+-- one copy more
+pub targets_more : {pages target used : ℕ} {targets : List (Option ℕ)} (at : ℕ) → at < pages → target_at targets at ≡ None → AreTargets pages target used targets
+    → AreTargets pages target (used + 1) (set targets at (Some (target * pages + used)))
+targets_more {pages} {target} {used} {targets} at within none are = record {
+  count = length-set targets at (Some (target * pages + used)) ∙ are.count;
+  as_many = one_passes is_some targets at (Some (target * pages + used)) None (omega (arith, within, are.count)) (ap is_some none) refl ∙ ap (λ n. n + 1) are.as_many;
+  inside = λ k page named. elim (cases_eq k at) [
+    | inl is ↦
+        let new : target * pages + used ≡ page = same_Some (target * pages + used) page
+        (sym (ap (target_at (set targets at (Some (target * pages + used)))) is ∙ get_or-set_same targets at (Some (target * pages + used)) None (omega (arith, within, are.count))) ∙ named) in
+        (omega (arith, new), omega (arith, new))
+    | inr ne ↦
+        let old = are.inside k page (sym (get_or-set_other targets at k (Some (target * pages + used)) None ne) ∙ named) in
+        (old.0, omega (arith, old.1))
+  ];
+}
+
+-- while a page of the victim was not copied, a page of the target is left
+pub used_below : {pages victim target used : ℕ} {x : Option Place} {targets : List (Option ℕ)} → AreTargets pages target used targets → LeavesHole pages victim x targets → used < pages
+used_below {targets = targets} are hole =
+    let short = not_all_pass is_some targets hole.at (Some 0) None (omega (arith, are.count, hole.within)) (ap is_some hole.not_copied) refl in
+    omega (arith, short, are.count, are.as_many)
+
+-- also after one copy more
+pub room_left : {pages victim target used : ℕ} {x : Option Place} {targets : List (Option ℕ)} (place : Place) → x ≡ Some place → place.page / pages ≡ victim → 0 < pages
+    → AreTargets pages target used targets → LeavesHole pages victim x targets → target_at targets (place.page % pages) ≡ None → used + 1 < pages
+room_left {pages} {victim} {target} {used} {x} {targets} place named in_victim some are hole none =
+    let within : place.page % pages < pages = omega (arith, some) in
+    let more = targets_more (place.page % pages) within none are in
+    let apart : hole.at ≡ place.page % pages → ⊥ = λ is. hole.other (record { found = place; named = named; in_victim = in_victim; offset = sym is }) in
+    let still : target_at (set targets (place.page % pages) (Some (target * pages + used))) hole.at ≡ None =
+    get_or-set_other targets (place.page % pages) hole.at (Some (target * pages + used)) None apart ∙ hole.not_copied in
+    let short = not_all_pass is_some (set targets (place.page % pages) (Some (target * pages + used))) hole.at (Some 0) None (omega (arith, more.count, hole.within)) (ap is_some still) refl in
+    omega (arith, short, more.count, more.as_many)
+
+-- the next page of the target can be programmed
+pub target_program : (target pages used : ℕ) (image : Image) → image.pages ≡ pages → used < pages → ErasedWithin image (target * pages + used) (target * pages + pages) → CanProgram image (target * pages + used)
+target_program target pages used image size room erased_is = record {
+  block = target;
+  from = subst (λ n. target * n ≤ target * pages + used) (sym size) (omega arith);
+  below = subst (λ n. target * pages + used < target * n + n) (sym size) (omega (arith, room));
+  rest_erased = subst (λ n. ErasedWithin image (target * pages + used) (target * n + n)) (sym size) erased_is;
+}
+
+-- which pages were copied, with one more
+pub targets_grown : (pages victim at to : ℕ) (place : Place) (x : Option Place) (targets : List (Option ℕ)) → x ≡ Some place → place.page / pages ≡ victim → place.page % pages ≡ at → at < length targets
+    → (k page : ℕ) → target_at (set targets at (Some to)) k ≡ Some page → (target_at targets k ≡ Some page) ⊎ IsAt pages victim k x
+targets_grown pages victim at to place x targets named in_victim offset within k page is = elim (cases_eq k at) [
+  | inl same ↦ inr (record { found = place; named = named; in_victim = in_victim; offset = offset ∙ sym same })
+  | inr ne ↦ inl (sym (get_or-set_other targets at k (Some to) None ne) ∙ is)
+]
+
+-- nothing was copied
+pub no_target : (n at page : ℕ) → target_at (replicate n None) at ≡ Some page → ⊥
+no_target zero at page is = none-some page is
+no_target (suc n) zero page is = none-some page is
+no_target (suc n) (suc at) page is = no_target n at page is
+
+pub none_at : (n at : ℕ) → target_at (replicate n None) at ≡ None
+none_at zero at = refl
+none_at (suc n) zero = refl
+none_at (suc n) (suc at) = none_at n at
+
+none_passes : (n : ℕ) → count_by is_some (replicate n None) ≡ 0
+none_passes zero = refl
+none_passes (suc n) =
+    let e : count_by is_some (replicate (suc n) None) ≡ 0 + count_by is_some (replicate n None) = sum_by-cons (λ x. cond (is_some x) 1 0) None (replicate n None) in
+    let rest : count_by is_some (replicate n None) ≡ 0 = none_passes n in
+    omega (arith, e, rest)
+
+pub new_targets : (pages target : ℕ) → AreTargets pages target 0 (replicate pages None)
+new_targets pages target = record {
+  count = length-replicate pages None;
+  as_many = none_passes pages;
+  inside = λ at page is. absurd (no_target pages at page is);
+}
+
+-- a page of the victim that no address has is left
+pub hole_left : {pages victim : ℕ} {targets : List (Option ℕ)} {first : List (Option Place)} (v n : ℕ) → 0 < pages → (hole : HasHole pages victim first)
+    → ((at page : ℕ) → target_at targets at ≡ Some page → (u : ℕ) × (u < n) × IsAt pages victim at (place_of first u)) → LeavesHole pages victim (place_of first v) targets
+hole_left {pages} {victim} {targets} {first} v n some hole sources = record {
+  at = hole.page % pages;
+  within = omega (arith, some);
+  not_copied = at_hole (target_at targets (hole.page % pages)) refl;
+  other = λ is. not_hole v is;
+}
+  where
+    not_hole : (u : ℕ) → IsAt pages victim (hole.page % pages) (place_of first u) → ⊥
+    not_hole u is = hole.beside u is.found is.named (same_page is.found.page hole.page pages (is.in_victim ∙ sym hole.inside) is.offset)
+
+    at_hole : (x : Option ℕ) → target_at targets (hole.page % pages) ≡ x → target_at targets (hole.page % pages) ≡ None
+    at_hole None is = is
+    at_hole (Some page) is = let s = sources (hole.page % pages) page is in absurd (not_hole s.0 s.2)
+
+-- a page that was copied is not that of another address
+pub fresh_page : (pages victim : ℕ) (targets : List (Option ℕ)) (first : List (Option Place)) (image : Image) (v : ℕ) → Holds image first
+    → ((at page : ℕ) → target_at targets at ≡ Some page → (u : ℕ) × (u < v) × IsAt pages victim at (place_of first u))
+    → (at page : ℕ) → target_at targets at ≡ Some page → IsAt pages victim at (place_of first v) → ⊥
+fresh_page pages victim targets first image v holds sources at page copied is =
+    let s = sources at page copied in
+    let other = s.2 in
+    let same : other.found.page ≡ is.found.page = same_page other.found.page is.found.page pages (other.in_victim ∙ sym is.in_victim) (other.offset ∙ sym is.offset) in
+    let e = sym (holds s.0 other.found other.named) ∙ (ap (λ n. fact_of (page_at image n)) same ∙ holds v is.found is.named) in
+    let u_is : s.0 ≡ v = ap (λ (x : Fact). x.0) (same_Some (s.0, other.found.stamp, main_of (page_at image other.found.page)) (v, is.found.stamp, main_of (page_at image is.found.page)) e) in
+    omega (arith, s.1, u_is)
 
 module _ (pages target used to v : ℕ) (place : Place) (copies : List (Option Place)) (old c : Image) (at : to ≡ target * pages + used) (room : used < pages) (within : v < length copies)
     (named : place_of copies v ≡ Some place) (holds : Holds old copies) (erased_is : ErasedWithin old (target * pages + used) (target * pages + pages)) (w : ℕ) where

@@ -23,6 +23,10 @@ block_of p pages block from below =
     let is : block * pages + (p - block * pages) ≡ p = omega arith in
     ap (λ n. n / pages) (sym is) ∙ div-mul-add block pages (p - block * pages) rest
 
+-- a page is told by its block and its offset in it
+pub same_page : (a b pages : ℕ) → a / pages ≡ b / pages → a % pages ≡ b % pages → a ≡ b
+same_page a b pages block offset = sym (div-add-mod' a pages) ∙ ((λ i. block i * pages + offset i) ∙ div-add-mod' b pages)
+
 pub not_beside : (p pages block : ℕ) → 0 < pages → IsBeside pages block p → p / pages ≡ block → ⊥
 not_beside p pages block some (inl lt) is = let at = in_block p pages block some is in omega (arith, at.0, lt)
 not_beside p pages block some (inr ge) is = let at = in_block p pages block some is in omega (arith, at.1, ge)
