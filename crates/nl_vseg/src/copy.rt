@@ -129,6 +129,13 @@ fn copy_one<M: Nand>(
     }
 }
 
+/// No page of the victim was copied yet.
+pub fn clear(targets: &mut Vec<Option<u32>>)
+    ensures { targets.new.items ≡ replicate (length targets.old.items) None }
+{
+    targets.fill(None);
+}
+
 /// Copies each page of the victim that an address has to the next page of the target, once where two addresses have it. The
 /// map of copies then has those.
 pub fn copy_block<M: Nand>(

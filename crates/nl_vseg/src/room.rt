@@ -9,7 +9,7 @@ ghost use Rattle.nl_vseg.specs.Copying.{HasHole, Restated, SameUse, StaysOrErase
 ghost use Rattle.nl_vseg.specs.Effects.{Counted, KeepsMap};
 ghost use Rattle.nl_vseg.specs.Answers.{IsLost, LosesStamp};
 
-use crate::copy::copy_block;
+use crate::copy::{clear, copy_block};
 use crate::state::State;
 use crate::victim::choose;
 use nl_blocks::{BlockState, Blocks};
@@ -239,7 +239,7 @@ impl State {
         let wear = self.blocks.wear(self.active);
         let pages = self.blocks.pages();
         self.copies.copy_from_slice(&self.places);
-        self.targets.fill(None);
+        clear(&mut self.targets);
         match copy_block(
             media,
             &mut self.buf,

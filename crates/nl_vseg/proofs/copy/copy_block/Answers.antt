@@ -5,7 +5,7 @@ use Rattle.nl_nand.proofs.Crashes.{then}
 use Rattle.nl_vseg.specs.Places.{place_of}
 use Rattle.nl_vseg.specs.Layout.{ArePlaces}
 use Rattle.nl_vseg.specs.Copying.{target_at, AreTargets, IsAt, LeavesHole}
-use Rattle.nl_vseg.proofs.Copies.{fresh_page, hole_left, new_targets, no_target}
+use Rattle.nl_vseg.proofs.Copies.{used_below, fresh_page, hole_left, new_targets, no_target}
 use Rattle.nl_vseg.proofs.Counts.{counted_as, counted_start, counted_then}
 use Rattle.nl_vseg.proofs.Images.{changed_none}
 use Rattle.nl_vseg.proofs.Places.{named_within}
@@ -89,3 +89,8 @@ returns-clause-moved g c done =
           let within = named_within c.loop-v.copies.items v place there in
           i.moved v (omega (arith, within, i.count, c.len-v-end.ensures, c.loop-v-test.false)) place there;
     }
+
+pub returns-clause-used : goal.returns-clause-used
+returns-clause-used g c =
+    let i = c.loop-v.invariant in
+    used_below i.targets (hole_left c.loop-v.v c.loop-v.v c.requires.some i.hole i.sources)

@@ -28,7 +28,7 @@ returns-clause-formed c =
       segment = loaded closed c.seal.new.self block c.args.vaddr (record { page = c.args.page; stamp = c.args.stamp }) is restated_is (sym same_block) page c.requires.stamp
           (subst (λ (l : List (Option Place)). c.args.vaddr < length l) (sym c.close.ensures.places) c.requires.vaddr) c.close.ensures.idle;
       copies = c.close.ensures.formed.copies ∙ sym (length-set c.close.new.self.places.items c.args.vaddr (Some (record { page = c.args.page; stamp = c.args.stamp })));
-      targets = c.close.ensures.formed.targets ∙ (ap (λ (t : Table). t.size) c.close.ensures.table ∙ TODO);
+      targets = c.close.ensures.formed.targets ∙ sym restated_is.numbers.same_size;
     }
 
 pub returns-clause-erased : goal.returns-clause-erased

@@ -1,4 +1,5 @@
-use Rattle.std.proofs.Common.{◌≡◌, ◌+◌, ◌*◌, ◌<◌, ◌≤◌, List, Option, length, sym, ◌∙◌, ap, subst, arith, mul-le-mul_right}
+use Rattle.std.proofs.lemmas.List.{length-replicate}
+use Rattle.std.proofs.Common.{None, replicate, ◌≡◌, ◌+◌, ◌*◌, ◌<◌, ◌≤◌, List, Option, length, sym, ◌∙◌, ap, subst, arith, mul-le-mul_right}
 use Rattle.nl_field.specs.CrashStates.{LeavesOnly}
 use Rattle.nl_nand.specs.Nand.{ErasedWithin}
 use Rattle.nl_vseg.specs.Places.{IsUnmapped, map_of}
@@ -20,6 +21,9 @@ copy_block-requires-clause-places g c =
     subst (λ n. ArePlaces n (blocks * n) seg.active seg.used c.copy_from_slice.new.self.items) (sym c.pages-pages.ensures)
     (subst (λ (l : List (Option Place)). ArePlaces seg.table.size (blocks * seg.table.size) seg.active seg.used l) (sym copies) (widen (blocks * seg.table.size) wide c.requires.formed.segment.places_are))
 
+pub copy_block-requires-clause-targets : goal.copy_block-requires-clause-targets
+copy_block-requires-clause-targets g c = c.clear.ensures ∙ ap (λ n. replicate n None) (c.requires.formed.targets ∙ sym c.pages-pages.ensures)
+
 pub copy_block-requires-clause-erased : goal.copy_block-requires-clause-erased
 copy_block-requires-clause-erased g c t p from below =
     let seg = seen c.args.self.now in
@@ -37,6 +41,7 @@ give_back-requires-clause-formed g c =
     record {
       segment = used_segment seg c.copy_block.new.used is room (omega (arith, c.requires.begins)) fits;
       copies = c.copy_block.ensures.count ∙ ap length copies;
+      targets = c.copy_block.ensures.size ∙ (ap length c.clear.ensures ∙ (length-replicate (length c.args.self.now.targets.items) None ∙ c.requires.formed.targets));
     }
 
 pub give_back-requires-in-Fault-clause-formed : goal.give_back-requires-in-Fault-clause-formed
@@ -50,6 +55,7 @@ give_back-requires-in-Fault-clause-formed g c =
     record {
       segment = used_segment seg c.copy_block.new.used is room (omega (arith, c.requires.begins)) fits;
       copies = c.copy_block.ensures.count ∙ ap length copies;
+      targets = c.copy_block.ensures.size ∙ (ap length c.clear.ensures ∙ (length-replicate (length c.args.self.now.targets.items) None ∙ c.requires.formed.targets));
     }
 
 pub returns-in-Done-clause-formed : goal.returns-in-Done-clause-formed
@@ -72,6 +78,7 @@ returns-in-Done-clause-formed g c =
       segment = subst (λ (l : List (Option Place)). IsLayout (record seg { places = l; used = c.copy_block.new.used })) (sym swapped)
           (moved_segment seg c.copy_block.new.copies.items c.copy_block.new.used c.args.victim (blocks * seg.table.size) is room fits count are moved);
       copies = ap length back ∙ (sym count ∙ ap length (sym swapped));
+      targets = c.copy_block.ensures.size ∙ (ap length c.clear.ensures ∙ (length-replicate (length c.args.self.now.targets.items) None ∙ c.requires.formed.targets));
     }
 
 pub returns-in-Done-clause-moved : goal.returns-in-Done-clause-moved

@@ -1,4 +1,6 @@
-use Rattle.std.proofs.Common.{length, sym, ◌∙◌, ap, subst, arith}
+use Rattle.std.proofs.lemmas.List.{length-replicate}
+use Rattle.nl_blocks.specs.Table.{Table}
+use Rattle.std.proofs.Common.{None, length, sym, ◌∙◌, ap, subst, arith}
 use Rattle.nl_vseg.specs.Layout.{IsLayout}
 use Rattle.nl_vseg.proofs.Shapes.{HasRoom, has_room, new_segment}
 use Rattle.nl_vseg.proofs.state.State.new.Goals as goal
@@ -17,4 +19,5 @@ returns-clause-formed c =
     record {
       segment = subst IsLayout (λ i. record { places = sym places i; table = sym table i; soiled = sym soiled i; active = 0; used = c.args.shape.now.pages }) (new_segment c.args.shape.now room);
       copies = ap length c.in_ok-no_places-2.ensures ∙ ap length (sym places);
+      targets = ap length c.in_ok-no_targets.ensures ∙ (length-replicate c.args.shape.now.pages None ∙ sym (ap (λ (t : Table). t.size) table));
     }

@@ -20,7 +20,7 @@ program_page-requires-clause-erased g c t =
 pub returns-in-Failed-clause-formed : goal.returns-in-Failed-clause-formed
 returns-in-Failed-clause-formed g c =
     let seg = seen c.args.self.now in
-    record { segment = more seg c.requires.formed.segment c.requires.room (seg.active * c.pages.result + seg.used) (ap (λ n. seg.active * n + seg.used) c.pages.ensures); copies = c.requires.formed.copies }
+    record { segment = more seg c.requires.formed.segment c.requires.room (seg.active * c.pages.result + seg.used) (ap (λ n. seg.active * n + seg.used) c.pages.ensures); copies = c.requires.formed.copies; targets = c.requires.formed.targets }
 
 pub returns-in-Failed-clause-spare : goal.returns-in-Failed-clause-spare
 returns-in-Failed-clause-spare g c =
@@ -60,6 +60,7 @@ returns-in-Done-clause-formed g c =
     record {
       segment = put_segment seg c.requires.formed.segment c.requires.room (seg.active * c.pages.result + seg.used) (ap (λ n. seg.active * n + seg.used) c.pages.ensures) c.args.vaddr c.args.stamp c.requires.vaddr c.requires.stamp;
       copies = c.requires.formed.copies ∙ sym (length-set c.args.self.now.places.items c.args.vaddr (Some (record { page = seg.active * c.pages.result + seg.used; stamp = c.args.stamp })));
+      targets = c.requires.formed.targets;
     }
 
 pub returns-in-Done-clause-spare : goal.returns-in-Done-clause-spare
