@@ -178,7 +178,9 @@ pub fn copy_block<M: Nand>(
     ensures counts { Counted M.clock M.read_faults M.write_faults media.old media.new (result ≡ VirtualWrite.Fault) }
 {
     for v in 0..copies.len() {
-        match copy_one(media, buf, copies, targets, v, victim, pages, target, wear, used) {
+        match copy_one(
+            media, buf, copies, targets, v, victim, pages, target, wear, used,
+        ) {
             VirtualWrite::Done => {}
             VirtualWrite::Lost { wanted, found } => {
                 return VirtualWrite::Lost { wanted, found };
