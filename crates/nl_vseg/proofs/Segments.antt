@@ -1,5 +1,5 @@
 -- How segments and their images go on.
-use Rattle.std.proofs.Common.{◌≡◌, ◌⊎◌, inl, inr, ⊎_elim, ℕ, ◌+◌, ◌*◌, ◌/◌, ◌<◌, ◌≤◌, Bool, true, false, Option, Some, None, List, length, get_or, set, refl, sym, ◌∙◌, ap, subst, arith, true≢false, ◌^◌, IsTrue, length-set}
+use Rattle.std.proofs.Common.{◌≡◌, ◌⊎◌, inl, inr, ⊎_elim, ℕ, ◌+◌, ◌-◌, ◌*◌, ◌/◌, ◌<◌, ◌≤◌, nat_le, cond, Bool, true, false, Option, Some, None, List, length, get_or, set, refl, sym, ◌∙◌, ap, subst, arith, true≢false, ◌^◌, IsTrue, length-set}
 use Rattle.std.proofs.lemmas.Bool.{cases_eq}
 use Rattle.std.proofs.lemmas.List.{get_or-set_same, get_or-set_other}
 use Rattle.nl_field.specs.Spelling.{is_stamp}
@@ -10,7 +10,7 @@ use Rattle.nl_nand.proofs.Crashes.{outside, operation, leaves_cut}
 use Rattle.nl_blocks.specs.Table.{Table}
 use Rattle.nl_vseg.specs.Pages.{fact_of, main_of, IsBeside}
 use Rattle.nl_vseg.specs.Places.{place_of, value_at, map_of, IsUnmapped, Holds, AreBelow}
-use Rattle.nl_vseg.specs.Layout.{Layout, bound, is_soiled, block_is_free, IsNext, TakenAsErased, IsLayoutOf, ArePlaces, IsLayout}
+use Rattle.nl_vseg.specs.Layout.{Layout, bound, is_soiled, block_is_free, IsNext, TakenAsErased, IsLayoutOf, ArePlaces, IsLayout, HasSpare, room}
 use Rattle.nl_vseg.specs.Copying.{SameNumbers, SameUse, Restated}
 use Rattle.nl_vseg.specs.Effects.{Keeps, KeepsMap}
 use Rattle.nl_vseg.specs.declared.place.Place.{Place}
@@ -245,6 +245,9 @@ started_segment old block image blank seg = record {
       taken.1;
 }
 
+abbrev room_of : ℕ → ℕ → ℕ → ℕ
+room_of size free used = cond (nat_le 1 free) ((size - used) + (free - 1) * size) 0
+
 -- the same blocks are Free
 module _ (seg : Layout) (table : Table) (use_is : SameUse seg.table table) where
   pub same_use_segment : IsLayout seg → IsLayout (record seg { table = table })
@@ -264,6 +267,16 @@ module _ (seg : Layout) (table : Table) (use_is : SameUse seg.table table) where
     where
       bound_same : length table.blocks * table.size ≡ length seg.table.blocks * seg.table.size
       bound_same i = use_is.numbers.same_count i * use_is.numbers.same_size i
+
+  pub same_use_spare : HasSpare seg → HasSpare (record seg { table = table })
+  same_use_spare is = record {
+    block = is.block;
+    within = subst (λ n. is.block < n) (sym use_is.numbers.same_count) is.within;
+    unmapped = subst (λ n. IsUnmapped n seg.places is.block) (sym use_is.numbers.same_size) is.unmapped;
+  }
+
+  pub same_use_room : room (record seg { table = table }) ≡ room seg
+  same_use_room i = room_of (use_is.numbers.same_size i) (use_is.total i) seg.used
 
   pub same_use_image : (image : Image) → IsLayoutOf image seg → IsLayoutOf image (record seg { table = table })
   same_use_image image seg_is = record {

@@ -11,11 +11,12 @@ use nl_blocks::{BlockState, Blocks, PageState};
 use nl_victim::most_dead;
 
 /// Seals the block where it is in use.
-fn seal_used(blocks: &mut Blocks, block: u32)
+pub fn seal_used(blocks: &mut Blocks, block: u32)
     requires first { blocks.old.first ≡ 0 }
     requires within { block < length blocks.old.blocks }
     ensures states { SameUse blocks.old blocks.new }
     ensures here { block_is_free blocks.new block ≡ false → is_sealed (block_at blocks.new block) ≡ true }
+    ensures wear { (other : ℕ) → (block_at blocks.new other).wear ≡ (block_at blocks.old other).wear }
     ensures others { (other : ℕ) → (other ≡ block → ⊥) → block_at blocks.new other ≡ block_at blocks.old other }
 {
     if matches!(blocks.state(block), BlockState::Free) {
@@ -24,7 +25,7 @@ fn seal_used(blocks: &mut Blocks, block: u32)
     blocks.seal(block);
 }
 
-/// Each block in use is Sealed.
+/// Each block in use is Sealed: also the active one, which is left where no other block is Free.
 fn seal_all(blocks: &mut Blocks)
     requires { blocks.old.first ≡ 0 }
     ensures states { SameUse blocks.old blocks.new }

@@ -9,7 +9,7 @@ use Rattle.nl_vseg.specs.Seen.{seen}
 use Rattle.nl_vseg.specs.Effects.{Programmed}
 use Rattle.nl_vseg.proofs.Blocks.{some_free}
 use Rattle.nl_vseg.proofs.Writing.{more, spare_kept, spare_put, put_segment, can_program, after_cut, map_stays, after_new, map_new, programmed, put_either, put_takes, put_leaves}
-use Rattle.nl_vseg.proofs.state.State.put.Goals as goal
+use Rattle.nl_vseg.proofs.state.State.program.Goals as goal
 
 pub program_page-requires-clause-erased : goal.program_page-requires-clause-erased
 program_page-requires-clause-erased g c t =
