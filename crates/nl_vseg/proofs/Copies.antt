@@ -1,5 +1,5 @@
 -- A cleaning copies the pages of a block one by one.
-use Rattle.std.proofs.Common.{◌≡◌, ◌⊎◌, inl, inr, ⊎_elim, ℕ, zero, suc, ◌+◌, ◌-◌, ◌*◌, ◌/◌, ◌%◌, ◌<◌, ◌≤◌, nat_le, Option, Some, None, List, length, get_or, replicate, set, cond, refl, count_by, length-set, sym, ◌∙◌, ap, subst, arith, eq-eqb, ne_eqb, Bool, false}
+use Rattle.std.proofs.Common.{◌≡◌, ◌⊎◌, inl, inr, ⊎_elim, ℕ, zero, suc, ◌+◌, ◌-◌, ◌*◌, ◌/◌, ◌%◌, ◌<◌, ◌≤◌, nat_le, Option, Some, None, List, length, get_or, replicate, set, cond, refl, count_by, length-set, sym, ◌∙◌, ap, subst, arith, false}
 use Rattle.std.proofs.lemmas.Bool.{cases_eq, cases_lt, cond-false, lt-leb, true≢false}
 use Rattle.std.proofs.lemmas.List.{get_or-set_same, get_or-set_other, get_or_read, length-replicate}
 use Rattle.std.proofs.lemmas.List.Sums.{sum_by-cons}
@@ -85,11 +85,6 @@ pub no_target : (n at page : ℕ) → target_at (replicate n None) at ≡ Some p
 no_target zero at page is = none-some page is
 no_target (suc n) zero page is = none-some page is
 no_target (suc n) (suc at) page is = no_target n at page is
-
-pub none_at : (n at : ℕ) → target_at (replicate n None) at ≡ None
-none_at zero at = refl
-none_at (suc n) zero = refl
-none_at (suc n) (suc at) = none_at n at
 
 none_passes : (n : ℕ) → count_by is_some (replicate n None) ≡ 0
 none_passes zero = refl

@@ -1,5 +1,5 @@
 -- What users see of a segment, and what it keeps.
-use Rattle.std.proofs.Common.{◌≡◌, ◌⊎◌, inl, inr, ⊎_elim, ℕ, ◌+◌, ◌*◌, ◌/◌, ◌<◌, ◌≤◌, nat_le, nat_lt, Bool, true, false, not, refl, ◌&&◌, ◌||◌, List, Option, Some, length, get_or, map, sym, ◌∙◌, ap, subst, arith, mul-le-mul_right}
+use Rattle.std.proofs.Common.{◌≡◌, inl, inr, ⊎_elim, ℕ, ◌+◌, ◌*◌, ◌/◌, ◌<◌, ◌≤◌, nat_le, nat_lt, Bool, true, false, not, refl, ◌&&◌, ◌||◌, length, get_or, map, sym, ◌∙◌, ap, subst, arith, mul-le-mul_right}
 use Rattle.std.specs.List.{range_with_len}
 use Rattle.std.proofs.Math.ListN.{get_or-map}
 use Rattle.std.proofs.lemmas.List.{get_or_past}
@@ -8,7 +8,7 @@ use Rattle.std.proofs.lemmas.Bool.{false≢true, and_parts, and_from, or_cases, 
 use Rattle.nl_field.specs.Page.{Image}
 use Rattle.nl_blocks.specs.Table.{Table, block_at, no_row, row_at, wear_of}
 use Rattle.nl_nand.specs.declared.geometry.Geometry.{Geometry}
-use Rattle.nl_vseg.specs.Layout.{Layout, bound, is_soiled, block_is_free, HasSpare, SameShape, IsNext, TakenAsErased, is_taken, blanks, wears_of, shown, IsLayoutOf}
+use Rattle.nl_vseg.specs.Layout.{Layout, bound, is_soiled, block_is_free, HasSpare, SameShape, TakenAsErased, is_taken, blanks, wears_of, shown, IsLayoutOf}
 use Rattle.nl_vseg.specs.Segment.{KeepsSpare, SameSize, Fits, IsSegmentOf}
 use Rattle.nl_vseg.specs.Seen.{FitsLayout}
 use Rattle.nl_vseg.proofs.Places.{block_below}

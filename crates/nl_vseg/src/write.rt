@@ -20,7 +20,13 @@ use nl_nand::{Nand, WriteAnswer};
 
 impl State {
     /// Programs the next page of the active block as that of an address.
-    fn program<M: Nand>(&mut self, media: &mut M, vaddr: u32, from: &PageBuf, stamp: u64) -> WriteAnswer
+    fn program<M: Nand>(
+        &mut self,
+        media: &mut M,
+        vaddr: u32,
+        from: &PageBuf,
+        stamp: u64,
+    ) -> WriteAnswer
         requires formed { IsFormed self.old }
         requires fits { FitsLayout (M.geometry media.old) (seen self.old) }
         requires vaddr { vaddr < length self.old.places.items }

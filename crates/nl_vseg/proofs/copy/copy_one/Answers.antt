@@ -1,4 +1,4 @@
-use Rattle.std.proofs.Common.{◌≡◌, inr, ◌+◌, ◌*◌, ◌%◌, ◌<◌, ◌≤◌, Some, sym, ◌∙◌, subst, arith, refl}
+use Rattle.std.proofs.Common.{inr, ◌+◌, ◌*◌, ◌%◌, ◌<◌, ◌≤◌, Some, sym, ◌∙◌, subst, arith, refl}
 use Rattle.std.proofs.lemmas.Option.{same_Some}
 use Rattle.nl_vseg.specs.Places.{place_of}
 use Rattle.nl_vseg.specs.declared.place.Place.{Place as PlaceOf}

@@ -1,4 +1,4 @@
-use Rattle.std.proofs.Common.{◌≡◌, ℕ, ◌+◌, ◌*◌, ◌<◌, ◌≤◌, Some, length, take}
+use Rattle.std.proofs.Common.{◌≡◌, ℕ, ◌+◌, ◌<◌, ◌≤◌, Some, length, take}
 use Rattle.nl_blocks.specs.declared.states.PageState.TheVariants.{Live}
 use Rattle.nl_blocks.specs.Table.{block_at, dead_count, page_at}
 use Rattle.nl_vseg.specs.Places.{place_of}

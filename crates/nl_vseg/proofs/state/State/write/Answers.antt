@@ -9,7 +9,7 @@ use Rattle.nl_vseg.specs.Pages.{page_with}
 use Rattle.nl_vseg.specs.Effects.{Keeps, Takes, Programmed}
 use Rattle.nl_vseg.proofs.Copies.{resized}
 use Rattle.nl_vseg.proofs.Counts.{counted_as, counted_then, keeps_from, takes_from, keeps_turns, keeps_no_turn, turns_as}
-use Rattle.nl_vseg.proofs.Views.{layout_of, segment_from, spare_of, spare_from, fits_of, wear_at}
+use Rattle.nl_vseg.proofs.Views.{layout_of, segment_from, spare_from, wear_at}
 use Rattle.nl_vseg.proofs.state.State.write.Goals as goal
 
 pub returns-in-Done-put-clause-takes : goal.returns-in-Done-put-clause-takes
