@@ -1,0 +1,56 @@
+// Sees to it that the block that is written to has a page that is not used.
+ghost use Rattle.std.specs.Prelude.{◌≡◌, ◌⊎◌, ℕ, ◌+◌, ◌*◌, ◌/◌, ◌<◌, ◌≤◌, ◌↔◌, IsTrue};
+ghost use Rattle.nl_nand.specs.Nand.{FaultsCounted};
+ghost use Rattle.nl_pseg.specs.Segment.{IsPhysicalOf, IsReady, room};
+ghost use Rattle.nl_pseg.specs.Seen.{seen, Fits, IsFormed};
+ghost use Rattle.nl_pseg.specs.Steps.{Opening, OpeningOn};
+
+use crate::state::State;
+use crate::table::{give_back, take};
+use nl_nand::{Nand, WriteAnswer};
+
+impl State {
+    /// Whether a page can be programmed for a new name.
+    pub fn has_room(&self) -> bool
+        requires formed { IsFormed self.now }
+        ensures { IsTrue result ↔ (0 < room (seen self.now)) }
+    {
+        self.used < self.blocks.pages() || self.blocks.free() >= 2
+    }
+
+    /// Sees to it that the block that is written to has a page that is not used: where it is full, takes a Free block, and erases
+    /// it first where it is soiled. Where that fails, the block is Free again.
+    pub fn start<M: Nand>(&mut self, media: &mut M) -> WriteAnswer
+        requires formed { IsFormed self.old }
+        requires fits { Fits (M.geometry media.old) (seen self.old) }
+        requires room { 0 < room (seen self.old) }
+        requires segment { M.tells → IsPhysicalOf (M.contents media.old) (seen self.old) }
+        ensures formed { IsFormed self.new }
+        ensures opening { Opening result (seen self.old) (seen self.new) }
+        ensures medium { M.tells → OpeningOn M.clock M.contents M.left result (seen self.old) (seen self.new) media.old media.new }
+        ensures geometry { M.geometry media.new ≡ M.geometry media.old }
+        ensures ready { IsReady (seen self.old) → (result ≡ WriteAnswer.Done) × (M.clock media.new ≡ M.clock media.old) }
+        ensures clock { (M.clock media.old ≤ M.clock media.new) × (M.clock media.new ≤ M.clock media.old + 1) }
+        ensures read_faults { M.read_faults media.new ≡ M.read_faults media.old }
+        ensures write_faults { FaultsCounted (M.write_faults media.old) (M.write_faults media.new) (result ≡ WriteAnswer.Failed) }
+    {
+        if self.used < self.blocks.pages() {
+            return WriteAnswer::Done;
+        }
+        let block = take(&mut self.blocks);
+        if self.soiled[block as usize].is_some() {
+            let wear = self.blocks.wear(block);
+            match media.erase(block) {
+                WriteAnswer::Done => {}
+                WriteAnswer::Failed => {
+                    give_back(&mut self.blocks, block, wear);
+                    return WriteAnswer::Failed;
+                }
+            }
+        }
+        self.soiled[block as usize] = None;
+        self.active = block;
+        self.used = 0;
+        WriteAnswer::Done
+    }
+}
