@@ -1,3 +1,4 @@
 pub mod Numbers
 pub mod Segments
+pub mod States
 pub mod Tables

@@ -5,8 +5,11 @@ use Rattle.std.proofs.lemmas.List.{get_or-set_same, get_or-set_other, get_or-map
 use Rattle.nl_blocks.specs.Table.{BlockRow, Table, HasBlock, block_at, no_row, with_block, is_free, free_count}
 use Rattle.nl_blocks.proofs.TableLaws.{sum_by-with_block}
 use Rattle.nl_pseg.specs.Segment.{Use, no_use, use_at}
-use Rattle.nl_pseg.specs.Seen.{is_kept_state, use_of, use_in}
+use Rattle.nl_pseg.specs.Seen.{is_kept_state, use_of, use_in, use_with}
 use Rattle.nl_pseg.specs.Steps.{SameNumbers, SameUse, Restated}
+
+abbrev num : Bool → ℕ
+num b = cond b 1 0
 
 -- the use of a block from the first on
 pub use_from : (first : ℕ) (uses : List Use) (block : ℕ) → first ≤ block → use_at first uses block ≡ get_or uses (block - first) no_use
@@ -39,7 +42,7 @@ pub row_here : (t : Table) (block : ℕ) (row : BlockRow) → HasBlock t block �
 row_here t block row has = get_or-set_same t.blocks (block - t.first) row no_row (omega (arith, has.from, has.below))
 
 -- the table is over one block
-pub restated : (t : Table) (block : ℕ) (row : BlockRow) (free : Bool) (wear : ℕ) → HasBlock t block → use_of row ≡ record { is_free = free; is_kept = free; wear = wear }
+pub restated : (t : Table) (block : ℕ) (row : BlockRow) (free : Bool) (wear : ℕ) → HasBlock t block → use_of row ≡ use_with free wear
     → Restated block free wear t (with_block t block row)
 restated t block row free wear has use_is = record {
   numbers = record { same_first = refl; same_size = refl; same_count = length-set t.blocks (block - t.first) row };
@@ -47,8 +50,8 @@ restated t block row free wear has use_is = record {
   others = λ other ne. use_other t block other row has ne;
   total =
       let sums = sum_by-with_block (λ r. cond (is_free r) 1 0) t block row has in
-      let was : cond (use_in t block).is_free 1 0 ≡ cond (is_free (block_at t block)) 1 0 = ap (λ (u : Use). cond u.is_free 1 0) (use_here t block has) in
-      let now : cond (is_free row) 1 0 ≡ cond free 1 0 = ap (λ (u : Use). cond u.is_free 1 0) use_is in
+      let was : num (use_in t block).is_free ≡ num (is_free (block_at t block)) = ap (λ (u : Use). num u.is_free) (use_here t block has) in
+      let now : num (is_free row) ≡ num free = ap (λ (u : Use). num u.is_free) use_is in
       omega (arith, sums, was, now);
 }
 
@@ -78,7 +81,7 @@ restated_again {block} {wear} {more} {was} {now} {a} {b} {c} first second = reco
 }
 
 -- a block that is again what it was
-pub restated_same : {block wear : ℕ} {free : Bool} {a b : Table} → use_in a block ≡ record { is_free = free; is_kept = free; wear = wear } → Restated block free wear a b → SameUse a b
+pub restated_same : {block wear : ℕ} {free : Bool} {a b : Table} → use_in a block ≡ use_with free wear → Restated block free wear a b → SameUse a b
 restated_same {block} {wear} {free} {a} {b} was r = record {
   numbers = r.numbers;
   uses = λ other. ⊎_elim
@@ -115,6 +118,6 @@ same_row t block row has use_is = record {
       (cases_eq other block);
   total =
       let sums = sum_by-with_block (λ r. cond (is_free r) 1 0) t block row has in
-      let now : cond (is_free row) 1 0 ≡ cond (is_free (block_at t block)) 1 0 = ap (λ (u : Use). cond u.is_free 1 0) use_is in
+      let now : num (is_free row) ≡ num (is_free (block_at t block)) = ap (λ (u : Use). num u.is_free) use_is in
       omega (arith, sums, now);
 }

@@ -20,6 +20,10 @@ is_kept_state (Retired names) = true
 abbrev pub use_of : BlockRow → Use
 use_of row = record { is_free = is_free row; is_kept = is_kept_state row.state; wear = row.wear }
 
+-- the use of a block that is Free, or else in use
+abbrev pub use_with : Bool → ℕ → Use
+use_with free wear = record { is_free = free; is_kept = free; wear = wear }
+
 -- what a block of the table is good for
 abbrev pub use_in : Table → ℕ → Use
 use_in table block = use_at table.first (map use_of table.blocks) block

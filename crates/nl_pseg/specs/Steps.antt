@@ -12,7 +12,7 @@ use Rattle.nl_pseg.specs.Answers.{IfPlaced, IsFault, IsPlaced}
 use Rattle.nl_pseg.specs.Effects.{Crashes, Keeps, Programmed}
 use Rattle.nl_pseg.specs.Pages.{page_with}
 use Rattle.nl_pseg.specs.Segment.{Physical, IsClean, IsDead, IsPhysicalOf, IsReady, IsSpent, IsUnspent, KeepsBlock, SamePages, is_free, is_soiled, use_at, wear}
-use Rattle.nl_pseg.specs.Seen.{use_in}
+use Rattle.nl_pseg.specs.Seen.{use_in, use_with}
 use Rattle.nl_pseg.specs.declared.held.Held.{Held}
 
 -- as many blocks, with the same numbers
@@ -30,7 +30,7 @@ pub record SameUse (old new : Table) : Type 0 where
 -- one block is Free now, or in use, and has this wear; the others are as before
 pub record Restated (block : ℕ) (free : Bool) (wear : ℕ) (old new : Table) : Type 0 where
   pub numbers : SameNumbers old new
-  pub here : use_in new block ≡ record { is_free = free; is_kept = free; wear = wear }
+  pub here : use_in new block ≡ use_with free wear
   pub others : (other : ℕ) → (other ≡ block → ⊥) → use_in new other ≡ use_in old other
   pub total : free_count new + cond (use_in old block).is_free 1 0 ≡ free_count old + cond free 1 0
 
