@@ -2,11 +2,11 @@
 use Rattle.std.proofs.Common.{◌≡◌, ◌⊎◌, inl, inr, ⊎_elim, ℕ, ◌+◌, ◌-◌, ◌*◌, ◌/◌, ◌<◌, ◌≤◌, nat_le, Bool, true, false, Option, Some, None, List, length, get_or, set, refl, sym, ◌∙◌, ap, subst, arith, IsTrue, IfSome, is_some}
 use Rattle.std.proofs.lemmas.Bool.{cases_eq, cases_Bool, cases_lt, leb-true, true≢false}
 use Rattle.std.proofs.lemmas.List.{get_or-set_same, get_or-set_other, get_or_past}
-use Rattle.std.proofs.lemmas.Option.{none-some}
+use Rattle.std.proofs.lemmas.Option.{none-some, same_Some}
 use Rattle.nl_field.specs.Spelling.{is_stamp}
-use Rattle.nl_pseg.specs.Segment.{Physical, Use, IsDead, IsNext, InSegment, IsUnspent, SamePages, TakenAsErased, held_at, is_free, is_soiled, no_use, use_at}
+use Rattle.nl_pseg.specs.Segment.{Physical, Use, IsDead, IsNext, InSegment, IsUnspent, SamePages, TakenAsErased, held_at, is_free, is_soiled, soiled, no_use, use_at}
 use Rattle.nl_pseg.specs.Seen.{ArePlaces, IsPlace}
-use Rattle.nl_pseg.specs.Steps.{IsUsed, IsOpened}
+use Rattle.nl_pseg.specs.Steps.{IsApart, IsUsed, IsOpened, SameRange}
 use Rattle.nl_pseg.specs.declared.held.Held.{Held}
 use Rattle.nl_pseg.proofs.Numbers.{in_block, block_of, block_below, block_from}
 use Rattle.nl_pseg.proofs.Tables.{use_from, use_before}
@@ -53,10 +53,13 @@ dead_next seg are p next = at (held_at seg p) refl
     at None is = is
     at (Some h) is = absurd ((are.each p h is).behind next)
 
-pub within_same : {old new : Physical} (p : ℕ) → SamePages old new → InSegment old p → InSegment new p
+pub range_of : {old new : Physical} → SamePages old new → SameRange old new
+range_of same = record { range_first = same.same_first; range_blocks = same.same_blocks; range_size = same.same_size }
+
+pub within_same : {old new : Physical} (p : ℕ) → SameRange old new → InSegment old p → InSegment new p
 within_same {old} {new} p same within =
-    let low : new.first * new.size ≡ old.first * old.size = (λ i. same.same_first i * same.same_size i) in
-    let high : new.blocks * new.size ≡ old.blocks * old.size = (λ i. same.same_blocks i * same.same_size i) in
+    let low : new.first * new.size ≡ old.first * old.size = (λ i. same.range_first i * same.range_size i) in
+    let high : new.blocks * new.size ≡ old.blocks * old.size = (λ i. same.range_blocks i * same.range_size i) in
     (omega (arith, low, within.0), omega (arith, high, within.1))
 
 pub pages_back : {old new : Physical} → SamePages old new → SamePages new old
@@ -71,10 +74,10 @@ pages_then first second = record {
 }
 
 -- a place stays one
-pub place_same : {old new : Physical} (p : ℕ) (h : Held) → SamePages old new → (is_free new (p / old.size) ≡ false) → (IsNext new p → ⊥) → IsPlace old p h → IsPlace new p h
+pub place_same : {old new : Physical} (p : ℕ) (h : Held) → SameRange old new → (is_free new (p / old.size) ≡ false) → (IsNext new p → ⊥) → IsPlace old p h → IsPlace new p h
 place_same {old} {new} p h same in_use behind is = record {
   within = within_same p same is.within;
-  in_use = ap (λ n. is_free new (p / n)) same.same_size ∙ in_use;
+  in_use = ap (λ n. is_free new (p / n)) same.range_size ∙ in_use;
   behind = behind;
   spelled = is.spelled;
 }
@@ -97,14 +100,14 @@ module _ {x : Option Held} {old new : Physical} (u : IsUsed x old new) where
 
       each : (p : ℕ) (h : Held) → ((p ≡ old.next) × (x ≡ Some h)) ⊎ ((p ≡ old.next → ⊥) × (held_at old p ≡ Some h)) → IsPlace new p h
       each p h (inl here) = record {
-        within = within_same p u.pages (subst (InSegment old) (sym here.0) segment);
+        within = within_same p (range_of u.pages) (subst (InSegment old) (sym here.0) segment);
         in_use = ap (λ n. is_free new (p / n)) u.pages.same_size ∙ stays (p / old.size) (ap (λ q. is_free old (q / old.size)) here.0 ∙ in_use);
         behind = λ next. (next_fewer p next).1 here.0;
         spelled = subst (λ (y : Option Held). IfSome y (λ k. IsTrue (is_stamp k.stamp))) here.1 spelled;
       }
       each p h (inr there) =
           let was = are.each p h there.1 in
-          place_same p h u.pages (stays (p / old.size) was.in_use) (λ next. was.behind (next_fewer p next).0) was
+          place_same p h (range_of u.pages) (stays (p / old.size) was.in_use) (λ next. was.behind (next_fewer p next).0) was
 
   -- what is taken as erased then, was before, and is not that page
   pub used_taken : is_free old (old.next / old.size) ≡ false → (p : ℕ) → TakenAsErased new p → TakenAsErased old p × (p ≡ old.next → ⊥)
@@ -124,7 +127,7 @@ module _ {block : ℕ} {old new : Physical} (o : IsOpened block old new) where
     each = λ p h is.
         let was = are.each p h (ap (λ (l : List (Option Held)). get_or l p None) (sym o.held) ∙ is) in
         let ne : p / old.size ≡ block → ⊥ = (λ at. true≢false (sym o.was_free ∙ (ap (is_free old) (sym at) ∙ was.in_use))) in
-        place_same p h o.pages (ap (λ (w : Use). w.is_free) (o.others (p / old.size) ne) ∙ was.in_use) (λ next. ne (opened_next some p next)) was;
+        place_same p h (range_of o.pages) (ap (λ (w : Use). w.is_free) (o.others (p / old.size) ne) ∙ was.in_use) (λ next. ne (opened_next some p next)) was;
   }
 
 -- a page died, and no page was given out
@@ -143,5 +146,38 @@ module _ {old new : Physical} (same : SamePages old new) (space : IsUnspent old 
   unspent_places back are = record {
     each = λ p h is.
         let was = are.each p h (back p h is) in
-        place_same p h same (space.same_free (p / old.size) ∙ was.in_use) (λ next. was.behind (next_back p next)) was;
+        place_same p h (range_of same) (space.same_free (p / old.size) ∙ was.in_use) (λ next. was.behind (next_back p next)) was;
   }
+
+-- a page of a block is live, and is not programmed next
+pub held_places : {old new : Physical} (page : ℕ) (h : Held) → SameRange old new → new.held ≡ set old.held page (Some h) → page < length old.held → IsPlace new page h
+    → ((b : ℕ) → is_free old b ≡ false → is_free new b ≡ false) → ((p : ℕ) → IsNext new p → IsNext old p) → ArePlaces old → ArePlaces new
+held_places {old} {new} page h range held within place free next are = record {
+  each = λ p k is. each p k (set_held old.held page (Some h) within p k (ap (λ (l : List (Option Held)). get_or l p None) (sym held) ∙ is));
+}
+  where
+    each : (p : ℕ) (k : Held) → ((p ≡ page) × (Some h ≡ Some k)) ⊎ ((p ≡ page → ⊥) × (held_at old p ≡ Some k)) → IsPlace new p k
+    each p k (inl here) = subst (λ n. IsPlace new n k) (sym here.0) (subst (IsPlace new page) (same_Some h k here.1) place)
+    each p k (inr there) =
+        let was = are.each p k there.1 in
+        place_same p k range (free (p / old.size) was.in_use) (λ n. was.behind (next p n)) was
+
+-- apart from one block
+module _ {block : ℕ} {old new : Physical} (apart : IsApart block old new) where
+  apart_next : (p : ℕ) → IsNext new p → IsNext old p
+  apart_next p next = let n = apart.next in let l = apart.left in (omega (arith, n, next.0), omega (arith, n, l, next.1))
+
+  pub apart_taken : (p : ℕ) → TakenAsErased new p → TakenAsErased old p × (p / old.size ≡ block → ⊥)
+  apart_taken p (inl next) = (inl (apart_next p next), apart.idle p (apart_next p next))
+  apart_taken p (inr free) =
+      let at : is_free new (p / old.size) ≡ true = ap (λ n. is_free new (p / n)) (sym apart.range.range_size) ∙ free.0 in
+      let clean : is_soiled new (p / old.size) ≡ false = ap (λ n. is_soiled new (p / n)) (sym apart.range.range_size) ∙ free.1 in
+      let ne : p / old.size ≡ block → ⊥ = (λ is. apart.gone (ap (is_free new) (sym is) ∙ at) (ap (is_soiled new) (sym is) ∙ clean)) in
+      (inr (sym (apart.others_free (p / old.size) ne) ∙ at, ap is_some (sym (apart.others_soiled (p / old.size) ne)) ∙ clean), ne)
+
+  pub apart_still : (p : ℕ) → TakenAsErased old p → (p / old.size ≡ block → ⊥) → TakenAsErased new p
+  apart_still p (inl next) ne = let n = apart.next in let l = apart.left in inl (omega (arith, n, next.0), omega (arith, n, l, next.1))
+  apart_still p (inr free) ne = inr (
+    ap (λ n. is_free new (p / n)) apart.range.range_size ∙ (apart.others_free (p / old.size) ne ∙ free.0),
+    ap (λ n. is_soiled new (p / n)) apart.range.range_size ∙ (ap is_some (apart.others_soiled (p / old.size) ne) ∙ free.1),
+  )

@@ -3,7 +3,7 @@ use Rattle.std.proofs.Common.{◌≡◌, inl, inr, ⊎_elim, ℕ, ◌+◌, ◌-�
 use Rattle.std.proofs.lemmas.Bool.{cases_eq, cases_Bool, le-leb, leb-true, cond-true, cond-false}
 use Rattle.std.proofs.lemmas.List.{get_or-set_same, get_or-set_other, get_or-map, map-set}
 use Rattle.nl_blocks.specs.Table.{BlockRow, Table, HasBlock, block_at, no_row, with_block, is_free, free_count}
-use Rattle.nl_blocks.proofs.TableLaws.{sum_by-with_block}
+use Rattle.nl_blocks.proofs.TableLaws.{sum_by-with_block, block_at-with_block_other}
 use Rattle.nl_pseg.specs.Segment.{Use, no_use, use_at}
 use Rattle.nl_pseg.specs.Seen.{is_kept_state, use_of, use_in, use_with}
 use Rattle.nl_pseg.specs.Steps.{SameNumbers, SameUse, Restated}
@@ -48,6 +48,7 @@ restated t block row free wear has use_is = record {
   numbers = record { same_first = refl; same_size = refl; same_count = length-set t.blocks (block - t.first) row };
   here = use_here (with_block t block row) block (with_has t block block row has) ∙ (ap use_of (row_here t block row has) ∙ use_is);
   others = λ other ne. use_other t block other row has ne;
+  states = λ other has_other ne. ap (λ (r : BlockRow). r.state) (block_at-with_block_other t block other row has has_other ne);
   total =
       let sums = sum_by-with_block (λ r. cond (is_free r) 1 0) t block row has in
       let was : num (use_in t block).is_free ≡ num (is_free (block_at t block)) = ap (λ (u : Use). num u.is_free) (use_here t block has) in
@@ -74,6 +75,7 @@ restated_again {block} {wear} {more} {was} {now} {a} {b} {c} first second = reco
   numbers = numbers_then first.numbers second.numbers;
   here = second.here;
   others = λ other ne. second.others other ne ∙ first.others other ne;
+  states = λ other has ne. second.states other (has_same other first.numbers has) ne ∙ first.states other has ne;
   total =
       let t1 = first.total in
       let t2 : free_count c + cond was 1 0 ≡ free_count b + cond now 1 0 = ap (λ (u : Use). free_count c + cond u.is_free 1 0) (sym first.here) ∙ second.total in
@@ -96,15 +98,6 @@ same_then first second = record {
   numbers = numbers_then first.numbers second.numbers;
   uses = λ block. second.uses block ∙ first.uses block;
   total = second.total ∙ first.total;
-}
-
--- a block was restated, and then all stays
-pub restated_then : {block wear : ℕ} {free : Bool} {a b c : Table} → Restated block free wear a b → SameUse b c → Restated block free wear a c
-restated_then {block} {wear} {free} {a} {b} {c} r s = record {
-  numbers = numbers_then r.numbers s.numbers;
-  here = s.uses block ∙ r.here;
-  others = λ other ne. s.uses other ∙ r.others other ne;
-  total = let t = r.total in omega (arith, t, s.total);
 }
 
 -- a row that is used as the one before it leaves all uses

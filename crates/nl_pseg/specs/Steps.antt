@@ -7,11 +7,11 @@ use Rattle.nl_field.specs.declared.pointer.Pointer.{Pointer}
 use Rattle.nl_field.specs.declared.pointer.Tag.{Tag}
 use Rattle.nl_nand.specs.declared.answers.WriteAnswer.{WriteAnswer}
 use Rattle.nl_nand.specs.declared.answers.WriteAnswer.TheVariants as wrote
-use Rattle.nl_blocks.specs.Table.{Table, free_count}
+use Rattle.nl_blocks.specs.Table.{Table, HasBlock, block_at, free_count}
 use Rattle.nl_pseg.specs.Answers.{IfPlaced, IsFault, IsPlaced}
 use Rattle.nl_pseg.specs.Effects.{Crashes, Keeps, Programmed}
 use Rattle.nl_pseg.specs.Pages.{page_with}
-use Rattle.nl_pseg.specs.Segment.{Physical, IsClean, IsDead, IsPhysicalOf, IsReady, IsSpent, IsUnspent, KeepsBlock, SamePages, is_free, is_soiled, use_at, wear}
+use Rattle.nl_pseg.specs.Segment.{Physical, IsClean, IsDead, IsNext, IsPhysicalOf, IsReady, IsSpent, IsUnspent, KeepsBlock, SamePages, is_free, is_soiled, soiled, use_at, wear}
 use Rattle.nl_pseg.specs.Seen.{use_in, use_with}
 use Rattle.nl_pseg.specs.declared.held.Held.{Held}
 
@@ -32,7 +32,24 @@ pub record Restated (block : ℕ) (free : Bool) (wear : ℕ) (old new : Table) :
   pub numbers : SameNumbers old new
   pub here : use_in new block ≡ use_with free wear
   pub others : (other : ℕ) → (other ≡ block → ⊥) → use_in new other ≡ use_in old other
+  pub states : (other : ℕ) → HasBlock old other → (other ≡ block → ⊥) → (block_at new other).state ≡ (block_at old other).state
   pub total : free_count new + cond (use_in old block).is_free 1 0 ≡ free_count old + cond free 1 0
+
+-- the same blocks and pages
+pub record SameRange (old new : Physical) : Type 0 where
+  pub range_first : new.first ≡ old.first
+  pub range_blocks : new.blocks ≡ old.blocks
+  pub range_size : new.size ≡ old.size
+
+-- Apart from one block, what is taken as erased stays. Nothing of that block is taken as erased then.
+pub record IsApart (block : ℕ) (old new : Physical) : Type 0 where
+  pub range : SameRange old new
+  pub next : new.next ≡ old.next
+  pub left : new.left ≡ old.left
+  pub idle : (p : ℕ) → IsNext old p → p / old.size ≡ block → ⊥
+  pub others_free : (other : ℕ) → (other ≡ block → ⊥) → is_free new other ≡ is_free old other
+  pub others_soiled : (other : ℕ) → (other ≡ block → ⊥) → soiled new other ≡ soiled old other
+  pub gone : is_free new block ≡ true → is_soiled new block ≡ false → ⊥
 
 -- the next page was used: it holds this
 pub record IsUsed (x : Option Held) (old new : Physical) : Type 0 where

@@ -6,7 +6,7 @@ ghost use Rattle.nl_pseg.specs.Seen.{seen, use_in, IsFormed};
 
 use crate::held::Held;
 use crate::state::State;
-use crate::table::{give_back, is_free, mark, shut};
+use crate::table::{mark, shut, tell};
 use nl_field::Tag;
 
 impl State {
@@ -24,6 +24,18 @@ impl State {
     {
         if block == self.active {
             self.used = self.blocks.pages();
+        }
+    }
+
+    /// How often a block was erased, where it is not erased before use.
+    fn wear(&self, block: u32) -> u32
+        requires has { HasBlock self.now.blocks block }
+        requires within { block < length self.now.soiled.items }
+        ensures { result ≡ unwrap_or (slice_index_or self.now.soiled.items block None) (use_in self.now.blocks block).wear }
+    {
+        match self.soiled[block as usize] {
+            Some(wear) => wear,
+            None => self.blocks.wear(block),
         }
     }
 
@@ -47,10 +59,7 @@ impl State {
     {
         let block = page / self.blocks.pages();
         self.close(block);
-        let wear = match self.soiled[block as usize] {
-            Some(wear) => wear,
-            None => self.blocks.wear(block),
-        };
+        let wear = self.wear(block);
         shut(&mut self.blocks, block, wear);
         mark(&mut self.blocks, page, true);
         self.held[page as usize] = Some(Held { tag, stamp });
@@ -74,11 +83,7 @@ impl State {
         ensures still { (p : ℕ) → TakenAsErased (seen self.old) p → (p / self.old.blocks.size ≡ block → ⊥) → TakenAsErased (seen self.new) p }
     {
         self.close(block);
-        if is_free(&self.blocks, block) {
-            give_back(&mut self.blocks, block, wear.saturating_add(1));
-        } else {
-            shut(&mut self.blocks, block, wear);
-        }
+        tell(&mut self.blocks, block, wear);
         self.soiled[block as usize] = Some(wear);
     }
 }

@@ -1,5 +1,5 @@
 // Steps on the table of blocks.
-ghost use Rattle.std.specs.Prelude.{◌≡◌, ◌/◌, ◌≤◌, ℕ, true, false};
+ghost use Rattle.std.specs.Prelude.{◌≡◌, ◌/◌, ◌≤◌, ◌+◌, ◌-◌, ◌^◌, ℕ, min, cond, true, false};
 ghost use Rattle.nl_blocks.specs.Table.{HasBlock, block_at, free_count};
 ghost use Rattle.nl_pseg.specs.Seen.{use_in};
 ghost use Rattle.nl_pseg.specs.Steps.{Restated, SameUse};
@@ -68,4 +68,16 @@ pub fn shut(blocks: &mut Blocks, block: u32, wear: u32)
 {
     give_back(blocks, block, wear);
     blocks.seal(block);
+}
+
+/// Tells the block that it was erased so often and is to be erased before use: a Free one has one more, and another is Sealed.
+pub fn tell(blocks: &mut Blocks, block: u32, wear: u32)
+    requires { HasBlock blocks.old block }
+    ensures { Restated block (use_in blocks.old block).is_free (cond (use_in blocks.old block).is_free (min (wear + 1) (2 ^ 32 - 1)) wear) blocks.old blocks.new }
+{
+    if is_free(blocks, block) {
+        give_back(blocks, block, wear.saturating_add(1));
+    } else {
+        shut(blocks, block, wear);
+    }
 }
