@@ -1,5 +1,6 @@
 -- How states go on.
 use Rattle.std.proofs.Common.{◌≡◌, ⊎_elim, ℕ, ◌+◌, ◌*◌, ◌/◌, ◌<◌, ◌≤◌, ◌-◌, ◌^◌, Bool, true, false, Option, Some, None, List, length, set, get_or, refl, sym, ◌∙◌, ap, subst, arith, length-set}
+use Rattle.std.specs.Vec.{with_item}
 use Rattle.std.proofs.lemmas.Bool.{cases_eq, true≢false}
 use Rattle.nl_blocks.specs.declared.states.BlockState.TheVariants.{Active}
 use Rattle.nl_blocks.specs.Table.{Table, HasBlock, block_at}
@@ -67,9 +68,34 @@ formed_restated s t block wear free is r idle dead = formed_table s is t r.numbe
     (cases_eq (p / s.blocks.size) block))
   where
     not_free : (b : Bool) → (b ≡ true → ⊥) → b ≡ false
-    not_free true no = absurd (no refl)
-    not_free false no = refl
+    not_free true never = absurd (never refl)
+    not_free false never = refl
 
 -- other blocks are told to be soiled
-pub formed_soiled : (s : State) (x : State) → IsFormed s → x.held ≡ s.held → x.blocks ≡ s.blocks → x.active ≡ s.active → x.used ≡ s.used → length x.soiled.items ≡ length s.soiled.items → IsFormed x
-formed_soiled s x is held blocks active used marks = ?
+pub formed_marks : (s : State) (block : ℕ) (told : Option ℕ) → IsFormed s → IsFormed (record s { soiled = with_item s.soiled block told })
+formed_marks s block told is = record {
+  some = is.some;
+  numbers = is.numbers;
+  pages = is.pages;
+  marks = length-set s.soiled.items block told ∙ is.marks;
+  active_in = is.active_in;
+  used_fits = is.used_fits;
+  taken = is.taken;
+  only_free = is.only_free;
+  places = record { each = λ p h named. let was = is.places.each p h named in record { within = was.within; in_use = was.in_use; behind = was.behind; spelled = was.spelled } };
+}
+
+-- what pages hold
+module _ (s : State) (is : IsFormed s) (page : ℕ) (x : Option Held) where
+  pub formed_held : ArePlaces (record (seen s) { held = set s.held.items page x }) → IsFormed (record s { held = with_item s.held page x })
+  formed_held places = record {
+    some = is.some;
+    numbers = is.numbers;
+    pages = length-set s.held.items page x ∙ is.pages;
+    marks = is.marks;
+    active_in = is.active_in;
+    used_fits = is.used_fits;
+    taken = is.taken;
+    only_free = is.only_free;
+    places = places;
+  }

@@ -1,7 +1,7 @@
 -- How segments go on.
 use Rattle.std.proofs.Common.{◌≡◌, ◌⊎◌, inl, inr, ⊎_elim, ℕ, ◌+◌, ◌-◌, ◌*◌, ◌/◌, ◌<◌, ◌≤◌, nat_le, Bool, true, false, Option, Some, None, List, length, get_or, set, refl, sym, ◌∙◌, ap, subst, arith, IsTrue, IfSome, is_some}
 use Rattle.std.proofs.lemmas.Bool.{cases_eq, cases_Bool, cases_lt, leb-true, true≢false}
-use Rattle.std.proofs.lemmas.List.{get_or-set_same, get_or-set_other, get_or_past}
+use Rattle.std.proofs.lemmas.List.{get_or-set_same, get_or-set_other, get_or_past, get_or_read}
 use Rattle.std.proofs.lemmas.Option.{none-some, same_Some}
 use Rattle.nl_field.specs.Spelling.{is_stamp}
 use Rattle.nl_pseg.specs.Segment.{Physical, Use, IsDead, IsNext, InSegment, IsUnspent, SamePages, TakenAsErased, held_at, is_free, is_soiled, soiled, no_use, use_at}
@@ -29,6 +29,10 @@ held_within held page h is = elim (cases_lt page (length held)) [
   | inl within ↦ within
   | inr past ↦ absurd (none-some h (sym (get_or_past held page None past) ∙ is))
 ]
+
+-- what was read of a list
+pub was_read : {X : Type 0} (xs : List X) (i : ℕ) (x y d : X) → i < length xs → x ≡ get_or xs i x → x ≡ y → get_or xs i d ≡ y
+was_read xs i x y d within read is = sym (get_or_read xs i x within read d) ∙ is
 
 -- what is on a page, where one page was set
 pub set_held : (held : List (Option Held)) (page : ℕ) (x : Option Held) → page < length held → (p : ℕ) (h : Held) → get_or (set held page x) p None ≡ Some h
