@@ -4,7 +4,7 @@ use Rattle.std.proofs.lemmas.Bool.{cases_eq, cases_Bool, cases_lt, leb-true, tru
 use Rattle.std.proofs.lemmas.List.{get_or-set_same, get_or-set_other, get_or_past, get_or_read}
 use Rattle.std.proofs.lemmas.Option.{none-some, same_Some}
 use Rattle.nl_field.specs.Spelling.{is_stamp}
-use Rattle.nl_pseg.specs.Segment.{Physical, Use, IsDead, IsNext, InSegment, IsUnspent, SamePages, TakenAsErased, held_at, is_free, is_soiled, soiled, no_use, use_at}
+use Rattle.nl_pseg.specs.Segment.{Physical, Use, IsDead, IsNext, InSegment, IsUnspent, SamePages, TakenAsErased, held_at, is_free, is_soiled, soiled, no_use, stamp_in, use_at}
 use Rattle.nl_pseg.specs.Seen.{ArePlaces, IsPlace}
 use Rattle.nl_pseg.specs.Steps.{IsApart, IsUsed, IsOpened, SameRange}
 use Rattle.nl_pseg.specs.declared.held.Held.{Held}
@@ -33,6 +33,10 @@ held_within held page h is = elim (cases_lt page (length held)) [
 -- what was read of a list
 pub was_read : {X : Type 0} (xs : List X) (i : ℕ) (x y d : X) → i < length xs → x ≡ get_or xs i x → x ≡ y → get_or xs i d ≡ y
 was_read xs i x y d within read is = sym (get_or_read xs i x within read d) ∙ is
+
+-- the number of what is live
+pub live_stamp : {x : Option Held} (h : Held) (stamp : ℕ) → x ≡ Some h → stamp_in x ≡ Some stamp → h.stamp ≡ stamp
+live_stamp h stamp is live = same_Some h.stamp stamp (ap stamp_in (sym is) ∙ live)
 
 -- what is on a page, where one page was set
 pub set_held : (held : List (Option Held)) (page : ℕ) (x : Option Held) → page < length held → (p : ℕ) (h : Held) → get_or (set held page x) p None ≡ Some h
@@ -185,3 +189,12 @@ module _ {block : ℕ} {old new : Physical} (apart : IsApart block old new) wher
     ap (λ n. is_free new (p / n)) apart.range.range_size ∙ (apart.others_free (p / old.size) ne ∙ free.0),
     ap (λ n. is_soiled new (p / n)) apart.range.range_size ∙ (ap is_some (apart.others_soiled (p / old.size) ne) ∙ free.1),
   )
+
+-- a live page died
+pub ended_places : (seg : Physical) (page : ℕ) → page < length seg.held → ArePlaces seg → ArePlaces (record seg { held = set seg.held page None })
+ended_places seg page within are = record {
+  each = λ p h is. ⊎_elim
+      (λ here. absurd (none-some h here.1))
+      (λ there. let was = are.each p h there.1 in record { within = was.within; in_use = was.in_use; behind = was.behind; spelled = was.spelled })
+      (set_held seg.held page None within p h is);
+}

@@ -1,5 +1,5 @@
 -- What the steps of a call do to the table of blocks and to the segment.
-use Rattle.std.specs.Prelude.{◌≡◌, ◌⊎◌, ℕ, ◌+◌, ◌*◌, ◌/◌, ◌<◌, Bool, true, false, cond, List, length, slice_set, Option, Some, None}
+use Rattle.std.specs.Prelude.{◌≡◌, ◌⊎◌, ℕ, ◌+◌, ◌*◌, ◌/◌, ◌<◌, ◌≤◌, Bool, true, false, cond, List, length, slice_set, Option, Some, None}
 use Rattle.nl_field.specs.CrashStates.{LeavesOnly}
 use Rattle.nl_field.specs.Page.{Image, erased, written, page_at}
 use Rattle.nl_field.specs.declared.answers.Named.{Named}
@@ -61,6 +61,10 @@ pub record IsUsed (x : Option Held) (old new : Physical) : Type 0 where
   pub uses : (block : ℕ) → use_at new.first new.uses block ≡ use_at old.first old.uses block
   pub soiled : new.soiled ≡ old.soiled
 
+-- the segment where this block is written to, and no page of it is used
+abbrev pub opened_at : Physical → ℕ → Physical
+opened_at seg block = record seg { next = block * seg.size; left = seg.size; soiled = slice_set seg.soiled block None }
+
 -- A Free block is written to now, where none was before.
 pub record IsOpened (block : ℕ) (old new : Physical) : Type 0 where
   pub pages : SamePages old new
@@ -70,6 +74,8 @@ pub record IsOpened (block : ℕ) (old new : Physical) : Type 0 where
   pub next : new.next ≡ block * old.size
   pub left : new.left ≡ old.size
   pub free : new.free + 1 ≡ old.free
+  pub some : 1 ≤ new.free
+  pub kept : KeepsBlock new
   pub here : is_free new block ≡ false
   pub others : (other : ℕ) → (other ≡ block → ⊥) → use_at new.first new.uses other ≡ use_at old.first old.uses other
   pub soiled : new.soiled ≡ slice_set old.soiled block None

@@ -35,7 +35,7 @@ impl State {
         let Some(place) = self.place_of(at) else {
             return NamedRead::NotLive;
         };
-        let Some(held) = self.held[place as usize] else {
+        let Some(held) = self.live_on(place) else {
             return NamedRead::NotLive;
         };
         match read_page(media, place, tag, at.stamp, buf) {
@@ -49,7 +49,9 @@ impl State {
                     }
                 }
             }
-            other => other,
+            NamedRead::Lost { wanted, found } => NamedRead::Lost { wanted, found },
+            NamedRead::Fault => NamedRead::Fault,
+            NamedRead::NotLive => unreachable!(),
         }
     }
 }

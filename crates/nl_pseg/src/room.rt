@@ -1,12 +1,15 @@
 // Sees to it that the block that is written to has a page that is not used.
-ghost use Rattle.std.specs.Prelude.{◌≡◌, ◌⊎◌, ℕ, ◌+◌, ◌*◌, ◌/◌, ◌<◌, ◌≤◌, ◌↔◌, IsTrue};
+ghost use Rattle.std.specs.Prelude.{◌≡◌, ◌⊎◌, ℕ, ◌+◌, ◌*◌, ◌/◌, ◌<◌, ◌≤◌, ◌↔◌, Some, IsTrue};
+ghost use Rattle.nl_blocks.specs.Table.{HasBlock, block_at};
 ghost use Rattle.nl_nand.specs.Nand.{FaultsCounted};
-ghost use Rattle.nl_pseg.specs.Segment.{IsPhysicalOf, IsReady, room};
+ghost use Rattle.nl_pseg.specs.Segment.{IsPhysicalOf, IsReady, held_at, room};
 ghost use Rattle.nl_pseg.specs.Seen.{seen, Fits, IsFormed};
-ghost use Rattle.nl_pseg.specs.Steps.{Opening, OpeningOn};
+ghost use Rattle.nl_pseg.specs.Steps.{Opening, OpeningOn, opened_at};
+ghost use Rattle.nl_pseg.specs.declared.held.Held.{Held as HeldOf};
 
 use crate::state::State;
 use crate::table::{give_back, take};
+use nl_blocks::BlockState;
 use nl_nand::{Nand, WriteAnswer};
 
 impl State {
@@ -16,6 +19,20 @@ impl State {
         ensures { IsTrue result ↔ (0 < room (seen self.now)) }
     {
         self.used < self.blocks.pages() || self.blocks.free() >= 2
+    }
+
+    /// This block is written to. No page of it is used.
+    fn begin(&mut self, block: u32)
+        requires formed { IsFormed self.old }
+        requires has { HasBlock self.old.blocks block }
+        requires active { (block_at self.old.blocks block).state ≡ BlockState.Active }
+        requires in_use { (p : ℕ) (h : HeldOf) → held_at (seen self.old) p ≡ Some h → p / self.old.blocks.size ≡ block → ⊥ }
+        ensures formed { IsFormed self.new }
+        ensures opened { seen self.new ≡ opened_at (seen self.old) block }
+    {
+        self.soiled[block as usize] = None;
+        self.active = block;
+        self.used = 0;
     }
 
     /// Sees to it that the block that is written to has a page that is not used: where it is full, takes a Free block, and erases
@@ -38,19 +55,20 @@ impl State {
             return WriteAnswer::Done;
         }
         let block = take(&mut self.blocks);
-        if self.soiled[block as usize].is_some() {
-            let wear = self.blocks.wear(block);
-            match media.erase(block) {
-                WriteAnswer::Done => {}
-                WriteAnswer::Failed => {
-                    give_back(&mut self.blocks, block, wear);
-                    return WriteAnswer::Failed;
-                }
+        if self.soiled[block as usize].is_none() {
+            self.begin(block);
+            return WriteAnswer::Done;
+        }
+        let wear = self.blocks.wear(block);
+        match media.erase(block) {
+            WriteAnswer::Done => {
+                self.begin(block);
+                WriteAnswer::Done
+            }
+            WriteAnswer::Failed => {
+                give_back(&mut self.blocks, block, wear);
+                WriteAnswer::Failed
             }
         }
-        self.soiled[block as usize] = None;
-        self.active = block;
-        self.used = 0;
-        WriteAnswer::Done
     }
 }

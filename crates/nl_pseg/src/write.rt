@@ -142,7 +142,8 @@ impl State {
                 self.end(place);
                 Named::Placed(at)
             }
-            other => other,
+            Named::Fault => Named::Fault,
+            Named::NotLive | Named::NoPage => unreachable!(),
         }
     }
 

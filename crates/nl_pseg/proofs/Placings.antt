@@ -1,0 +1,134 @@
+-- How a page is placed: a block is opened, and its next page is used.
+use Rattle.std.proofs.Common.{◌≡◌, ◌⊎◌, inl, inr, ⊎_elim, ℕ, ◌+◌, ◌-◌, ◌*◌, ◌/◌, ◌<◌, ◌≤◌, nat_le, true, false, cond, Option, Some, None, List, length, get_or, set, refl, sym, ◌∙◌, ap, subst, arith, is_some}
+use Rattle.std.proofs.lemmas.Bool.{cond-true, cond-false, le-leb}
+use Rattle.std.proofs.lemmas.List.{get_or-set_other, get_or-set_same, set-get_or}
+use Rattle.std.proofs.lemmas.Bool.{cases_eq, true≢false}
+use Rattle.nl_field.specs.CrashStates.{Earlier, LeavesOnly, Turns}
+use Rattle.nl_field.specs.Page.{Page, Image, erased, page_at, written}
+use Rattle.nl_field.specs.declared.answers.Named.{Named}
+use Rattle.nl_field.specs.declared.answers.Named.TheVariants as the
+use Rattle.nl_field.specs.declared.pointer.Pointer.{Pointer}
+use Rattle.nl_field.specs.declared.pointer.Tag.{Tag}
+use Rattle.nl_nand.proofs.Crashes.{turns_later, weaken}
+use Rattle.nl_pseg.specs.Answers.{IfPlaced, IsFault, IsPlaced, IsTried, Names}
+use Rattle.nl_pseg.specs.Effects.{Crashes, Keeps, Programmed, Takes}
+use Rattle.nl_pseg.specs.Pages.{page_with}
+use Rattle.nl_pseg.specs.Segment.{Physical, Use, IsClean, IsDead, IsReady, IsSpent, IsUnspent, KeepsBlock, SamePages, held_at, is_free, is_kept, is_soiled, room, wear}
+use Rattle.nl_pseg.specs.Steps.{IsOpened, IsUsed, Opening, OpeningOn, Placing, PlacingOn}
+use Rattle.nl_pseg.specs.declared.held.Held.{Held}
+use Rattle.nl_pseg.proofs.Images.{keeps_then, takes_then}
+use Rattle.nl_pseg.proofs.Segments.{pages_back, pages_then, range_of, within_same}
+
+pub if_placed : (answer : Named) {P Q : Pointer → Type 0} → ((at : Pointer) → P at → Q at) → IfPlaced answer P → IfPlaced answer Q
+if_placed (the.Placed at) by is = by at is
+if_placed the.NotLive by is = is
+if_placed the.NoPage by is = is
+if_placed the.Fault by is = is
+
+-- the next page was used
+module _ {x : Option Held} {seg new : Physical} (u : IsUsed x seg new) (some : 0 < seg.left) where
+  pub used_spent : IsSpent seg new
+  used_spent =
+      let blocks : (new.free - 1) * new.size ≡ (seg.free - 1) * seg.size = (λ i. (u.free i - 1) * u.pages.same_size i) in
+      let left = u.left in
+      let none : cond (nat_le 1 seg.left) 0 1 ≡ num_zero = cond-true (nat_le 1 seg.left) 0 1 (le-leb 1 seg.left some) in
+      let free = u.free in
+      record { room = omega (arith, blocks, left); taken = omega (arith, none, free) }
+    where
+      num_zero : ℕ
+      num_zero = 0
+
+  pub used_clean : IsClean seg → IsClean new
+  used_clean clean b free = ap (λ (l : List (Option ℕ)). is_some (get_or l b None)) u.soiled ∙ clean b (ap (λ (w : Use). w.is_free) (sym (u.uses b)) ∙ free)
+
+  pub used_kept : KeepsBlock seg → KeepsBlock new
+  used_kept k = record { block = k.block; kept = ap (λ (w : Use). w.is_kept) (u.uses k.block) ∙ k.kept }
+
+pub used_failed : {seg new : Physical} (stamp : ℕ) (now : Pointer → List (Option Held)) → IsUsed None seg new → 0 < seg.left → held_at seg seg.next ≡ None → Placing stamp now the.Fault seg new
+used_failed {seg} {new} stamp now u some dead = record {
+  pages = u.pages;
+  placed = tt;
+  held = tt;
+  same = λ not. u.held ∙ (ap (set seg.held seg.next) (sym dead) ∙ set-get_or seg.held seg.next None);
+  spent = λ placed. absurd placed;
+  failed = λ fault. inl (used_spent u some);
+  clean = used_clean u some;
+  kept = used_kept u some;
+}
+
+pub used_placed : {h : Held} {seg new : Physical} (page stamp : ℕ) → page ≡ seg.next → IsUsed (Some h) seg new → 0 < seg.left → IsDead seg page
+    → Placing stamp (λ at. set seg.held at.name (Some h)) (the.Placed (record { name = page; stamp = stamp })) seg new
+used_placed {h} {seg} {new} page stamp at u some dead = record {
+  pages = u.pages;
+  placed = (dead, refl);
+  held = u.held ∙ ap (λ n. set seg.held n (Some h)) (sym at);
+  same = λ not. absurd (not tt);
+  spent = λ placed. used_spent u some;
+  failed = λ fault. absurd (cc fault);
+  clean = used_clean u some;
+  kept = used_kept u some;
+}
+
+-- a Free block was opened before
+module _ {block : ℕ} {seg mid : Physical} (o : IsOpened block seg mid) where
+  pub opened_dead : (p : ℕ) → IsDead mid p → IsDead seg p
+  opened_dead p dead = record {
+    within = within_same p (range_of (pages_back o.pages)) dead.within;
+    dead = ap (λ (l : List (Option Held)). get_or l p None) (sym o.held) ∙ dead.dead;
+  }
+
+  opened_room : room mid ≡ room seg
+  opened_room =
+      let less : (mid.free - 1) * mid.size ≡ (seg.free - 1 - 1) * seg.size = (λ i. (less_free i) * o.pages.same_size i) in
+      let one : (seg.free - 1 - 1) * seg.size + seg.size ≡ (seg.free - 1) * seg.size = one_less (seg.free - 1) seg.size two in
+      let full = o.full in
+      let left = o.left in
+      omega (arith, less, one, full, left)
+    where
+      two : 1 ≤ seg.free - 1
+      two = let a = o.free in let b = o.some in omega (arith, a, b)
+
+      less_free : mid.free - 1 ≡ seg.free - 1 - 1
+      less_free = let a = o.free in omega (arith, a)
+
+      one_less : (n p : ℕ) → 1 ≤ n → (n - 1) * p + p ≡ n * p
+      one_less n p some =
+          let e : (n - 1) + 1 ≡ n = omega (arith, some) in
+          subst (λ k. (n - 1) * p + p ≡ k * p) e (omega arith)
+
+  pub opened_spent : {new : Physical} → 0 < seg.size → IsSpent mid new → IsSpent seg new
+  opened_spent {new} some spent =
+      let r = opened_room in
+      let a = spent.room in
+      let left = o.left in
+      let none : cond (nat_le 1 mid.left) 0 1 ≡ zero_of = cond-true (nat_le 1 mid.left) 0 1 (le-leb 1 mid.left (omega (arith, left, some))) in
+      let t = spent.taken in
+      let f = o.free in
+      let full = o.full in
+      let one : cond (nat_le 1 seg.left) 0 1 ≡ one_of = cond-false (nat_le 1 seg.left) 0 1 (ap (nat_le 1) full) in
+      record { room = omega (arith, r, a); taken = omega (arith, none, one, t, f) }
+    where
+      zero_of : ℕ
+      zero_of = 0
+
+      one_of : ℕ
+      one_of = 1
+
+  pub opened_clean : IsClean seg → IsClean mid
+  opened_clean clean b free = ⊎_elim
+      (λ is. absurd (true≢false (sym free ∙ (ap (is_free mid) is ∙ o.here))))
+      (λ ne. ap (λ (l : List (Option ℕ)). is_some (get_or l b None)) o.soiled ∙ (ap is_some (get_or-set_other seg.soiled block b None None ne) ∙ clean b (ap (λ (w : Use). w.is_free) (sym (o.others b ne)) ∙ free)))
+      (cases_eq b block)
+
+  pub opened_placing : {new : Physical} {answer : Named} {stamp : ℕ} {h : Held} → 0 < seg.size → IsTried answer → (IsFault answer → IsSpent mid new) → Placing stamp (λ at. set mid.held at.name (Some h)) answer mid new
+      → Placing stamp (λ at. set seg.held at.name (Some h)) answer seg new
+  opened_placing {new} {answer} {stamp} {h} some tried fault p = record {
+    pages = pages_then o.pages p.pages;
+    placed = if_placed answer (λ at is. (opened_dead at.name is.0, is.1)) p.placed;
+    held = if_placed answer (λ at is. is ∙ ap (λ (l : List (Option Held)). set l at.name (Some h)) o.held) p.held;
+    same = λ not. p.same not ∙ o.held;
+    spent = λ placed. opened_spent some (p.spent placed);
+    failed = λ failed. inl (opened_spent some (fault failed));
+    clean = λ clean. p.clean (opened_clean clean);
+    kept = λ k. p.kept o.kept;
+  }

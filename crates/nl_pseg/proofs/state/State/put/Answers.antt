@@ -1,0 +1,63 @@
+use Rattle.std.proofs.Common.{◌≡◌, ℕ, ◌+◌, ◌-◌, ◌*◌, ◌/◌, ◌<◌, Some, None, length, refl, sym, ◌∙◌, ap, subst, arith}
+use Rattle.nl_field.specs.Page.{PageBytes, page_at, written}
+use Rattle.nl_nand.specs.ImageLaws.{filled_cut}
+use Rattle.nl_nand.specs.Nand.{Cut}
+use Rattle.nl_nand.proofs.Crashes.{leaves_cut, operation_turns}
+use Rattle.nl_field.specs.declared.answers.Named.TheVariants.{Fault, Placed}
+use Rattle.nl_pseg.specs.Answers.{IsPlaced}
+use Rattle.nl_pseg.specs.Effects.{Keeps, Programmed, Takes}
+use Rattle.nl_pseg.specs.Pages.{page_with}
+use Rattle.nl_pseg.specs.Segment.{IsDead, Use, wear}
+use Rattle.nl_pseg.specs.Seen.{seen}
+use Rattle.nl_pseg.proofs.Images.{after_put, put_either, put_programmed, put_takes}
+use Rattle.nl_pseg.proofs.Placings.{used_failed, used_placed}
+use Rattle.nl_pseg.proofs.Segments.{dead_next}
+use Rattle.nl_pseg.proofs.States.{is_next, next_block, next_in_use, next_segment, within_length}
+use Rattle.nl_pseg.proofs.Tables.{use_here}
+use Rattle.nl_pseg.proofs.state.State.put.Goals as goal
+
+pub returns-in-Failed-clause-placing : goal.returns-in-Failed-clause-placing
+returns-in-Failed-clause-placing g c =
+    let s = c.args.self.now in
+    let is = c.requires.formed in
+    let room = c.requires.room in
+    used_failed c.args.stamp _ c.use_next.ensures.used (omega (arith, room)) (dead_next (seen s) is.places (seen s).next (is_next s is c.requires.room))
+
+pub returns-in-Failed-clause-segment : goal.returns-in-Failed-clause-segment
+returns-in-Failed-clause-segment g c t =
+    let s = c.args.self.now in
+    let is = c.requires.formed in
+    let next = is_next s is c.requires.room in
+    let at : s.active * c.pages.result + s.used ≡ (seen s).next = ap (λ n. s.active * n + s.used) c.pages.ensures in
+    after_put c.use_next.ensures.used (within_length s is (seen s).next (next_segment s is c.requires.room (seen s).next next)) (next_in_use s is c.requires.room (seen s).next next) (c.requires.segment t)
+    (subst (λ n. Cut n (n + 1) (written (page_with c.copy_from.new.self.main c.args.tag c.args.stamp c.wear-wear.result)) (g.M.Nand.contents c.args.media.now) (g.M.Nand.contents c.program_page.new.media)) at (c.in-Failed.ensures.effect t))
+    (λ h none. absurd (cc none))
+
+pub returns-in-Done-clause-placing : goal.returns-in-Done-clause-placing
+returns-in-Done-clause-placing g c =
+    let s = c.args.self.now in
+    let is = c.requires.formed in
+    let room = c.requires.room in
+    let at : s.active * c.pages.result + s.used ≡ (seen s).next = ap (λ n. s.active * n + s.used) c.pages.ensures in
+    let next = is_next s is c.requires.room in
+    let dead : IsDead (seen s) (seen s).next = record { within = next_segment s is c.requires.room (seen s).next next; dead = dead_next (seen s) is.places (seen s).next next } in
+    used_placed (s.active * c.pages.result + s.used) c.args.stamp at c.use_next-in-Done.ensures.used (omega (arith, room)) (subst (IsDead (seen s)) (sym at) dead)
+
+pub returns-in-Done-clause-segment : goal.returns-in-Done-clause-segment
+returns-in-Done-clause-segment g c t =
+    let s = c.args.self.now in
+    let is = c.requires.formed in
+    let next = is_next s is c.requires.room in
+    let at : s.active * c.pages.result + s.used ≡ (seen s).next = ap (λ n. s.active * n + s.used) c.pages.ensures in
+    let value = written (page_with c.copy_from.new.self.main c.args.tag c.args.stamp c.wear-wear.result) in
+    let filled = c.in-Done.ensures.effect t in
+    let has : page_at (g.M.Nand.contents c.program_page.new.media) (seen s).next ≡ value = subst (λ n. page_at (g.M.Nand.contents c.program_page.new.media) n ≡ value) at (filled.inside (s.active * c.pages.result + s.used) (omega arith) (omega arith)) in
+    after_put c.use_next-in-Done.ensures.used (within_length s is (seen s).next (next_segment s is c.requires.room (seen s).next next)) (next_in_use s is c.requires.room (seen s).next next) (c.requires.segment t)
+    (subst (λ n. Cut n (n + 1) value (g.M.Nand.contents c.args.media.now) (g.M.Nand.contents c.program_page.new.media)) at (filled_cut filled))
+    ?
+
+pub returns-in-Done-clause-medium : goal.returns-in-Done-clause-medium
+returns-in-Done-clause-medium g c t = ?
+
+pub returns-in-Failed-clause-medium : goal.returns-in-Failed-clause-medium
+returns-in-Failed-clause-medium g c t = ?
