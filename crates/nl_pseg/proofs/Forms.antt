@@ -4,7 +4,7 @@ use Rattle.std.specs.Vec.{with_item}
 use Rattle.std.proofs.lemmas.Bool.{cases_eq, true≢false}
 use Rattle.nl_blocks.specs.declared.states.BlockState.TheVariants.{Active}
 use Rattle.nl_blocks.specs.Table.{Table, HasBlock, block_at}
-use Rattle.nl_pseg.specs.Segment.{Use, IsNext, held_at, is_free, use_at}
+use Rattle.nl_pseg.specs.Segment.{Use, IsNext, IsUnspent, SamePages, held_at, is_free, use_at}
 use Rattle.nl_pseg.specs.Seen.{ArePlaces, IsFormed, IsPlace, seen, use_in, use_with}
 use Rattle.nl_pseg.specs.Steps.{SameNumbers, SameRange, SameUse, Restated}
 use Rattle.nl_pseg.specs.declared.held.Held.{Held}
@@ -98,4 +98,24 @@ module _ (s : State) (is : IsFormed s) (page : ℕ) (x : Option Held) where
     taken = is.taken;
     only_free = is.only_free;
     places = places;
+  }
+
+-- the segment keeps its pages, and no page is given out
+module _ (s : State) (t : Table) (same : SameUse s.blocks t) where
+  pub same_pages : SamePages (seen s) (seen (record s { blocks = t }))
+  same_pages = record {
+    same_first = same.numbers.same_first;
+    same_blocks = λ i. same.numbers.same_first i + same.numbers.same_count i;
+    same_size = same.numbers.same_size;
+    same_wear = λ b. ap (λ (u : Use). u.wear) (same.uses b);
+  }
+
+  pub same_unspent : IsUnspent (seen s) (seen (record s { blocks = t }))
+  same_unspent = record {
+    next = λ i. s.active * same.numbers.same_size i + s.used;
+    left = λ i. same.numbers.same_size i - s.used;
+    free = same.total;
+    same_free = λ b. ap (λ (u : Use). u.is_free) (same.uses b);
+    same_kept = λ b. ap (λ (u : Use). u.is_kept) (same.uses b);
+    same_soiled = λ b. refl;
   }

@@ -2,12 +2,19 @@
 use Rattle.std.proofs.Common.{◌≡◌, ◌⊎◌, inl, inr, ⊎_elim, ℕ, ◌+◌, ◌*◌, ◌/◌, ◌<◌, ◌≤◌, true, false, Option, Some, None, List, length, get_or, set, refl, sym, ◌∙◌, ap, subst, arith, is_some}
 use Rattle.std.proofs.lemmas.Bool.{cases_eq, true≢false}
 use Rattle.std.proofs.lemmas.List.{get_or-set_other}
-use Rattle.nl_field.specs.Page.{Page, erased, Image, page_at}
-use Rattle.nl_nand.specs.Nand.{Cut, Filled}
+use Rattle.std.proofs.lemmas.Option.{same_Some}
+use Rattle.nl_field.specs.Page.{Page, PageBytes, erased, written, Image, page_at}
+use Rattle.nl_field.specs.declared.answers.Named.{Named}
+use Rattle.nl_field.specs.declared.pointer.Tag.{Tag}
+use Rattle.nl_nand.specs.declared.answers.WriteAnswer.{WriteAnswer}
+use Rattle.nl_nand.specs.declared.answers.WriteAnswer.TheVariants as write
+use Rattle.nl_nand.specs.Nand.{CrashLeaves, Cut, Filled, Leaves, ticked}
+use Rattle.nl_nand.proofs.Crashes.{leaves_cut, leaves_done, operation_turns}
 use Rattle.nl_nand.specs.ImageLaws.{filled_cut}
-use Rattle.nl_pseg.specs.Effects.{Keeps, Takes, Programmed}
-use Rattle.nl_pseg.specs.Pages.{IsUnreadable, main_of, shown_by}
-use Rattle.nl_pseg.specs.Segment.{Physical, Use, IsDead, InSegment, IsPhysicalOf, IsUnspent, SamePages, TakenAsErased, held_at, is_free, is_soiled, soiled}
+use Rattle.nl_pseg.specs.Effects.{Crashes, Keeps, Takes, Programmed}
+use Rattle.nl_pseg.specs.Answers.{IsPlaced, Names}
+use Rattle.nl_pseg.specs.Pages.{IsUnreadable, main_of, page_with, shown_by}
+use Rattle.nl_pseg.specs.Segment.{Physical, Use, IsDead, InSegment, IsPhysicalOf, IsUnspent, SamePages, TakenAsErased, held_at, is_free, is_soiled, soiled, wear}
 use Rattle.nl_pseg.specs.Seen.{ArePlaces}
 use Rattle.nl_pseg.specs.Steps.{IsOpened, IsUsed}
 use Rattle.nl_pseg.specs.declared.held.Held.{Held}
@@ -80,16 +87,16 @@ pub keeps_nothing : (seg : Physical) (image : Image) → Keeps seg image image
 keeps_nothing seg image = record { each = λ p. inl refl }
 
 -- an image keeps the segment, and another one keeps what it then is
-module _ {seg mid : Physical} {a b c : Image} (dead : (p : ℕ) → IsDead mid p → IsDead seg p) (first : Keeps seg a b) where
-  after : (p : ℕ) → (page_at c p ≡ page_at b p) ⊎ (IsDead mid p × IsUnreadable (page_at c p)) → (page_at c p ≡ page_at a p) ⊎ (IsDead seg p × IsUnreadable (page_at c p))
-  after p (inl same) = ⊎_elim (λ still. inl (same ∙ still)) (λ gone. inr (gone.0, subst IsUnreadable (sym same) gone.1)) (first.each p)
-  after p (inr gone) = inr (dead p gone.0, gone.1)
+module _ {seg mid : Physical} {a b : Image} (dead : (p : ℕ) → IsDead mid p → IsDead seg p) (first : Keeps seg a b) where
+  after : (c : Image) (p : ℕ) → (page_at c p ≡ page_at b p) ⊎ (IsDead mid p × IsUnreadable (page_at c p)) → (page_at c p ≡ page_at a p) ⊎ (IsDead seg p × IsUnreadable (page_at c p))
+  after c p (inl same) = ⊎_elim (λ still. inl (same ∙ still)) (λ gone. inr (gone.0, subst IsUnreadable (sym same) gone.1)) (first.each p)
+  after c p (inr gone) = inr (dead p gone.0, gone.1)
 
-  pub keeps_then : Keeps mid b c → Keeps seg a c
-  keeps_then second = record { each = λ p. after p (second.each p) }
+  pub keeps_then : {c : Image} → Keeps mid b c → Keeps seg a c
+  keeps_then {c} second = record { each = λ p. after c p (second.each p) }
 
-  pub takes_then : {page : ℕ} {value : Page} → Takes mid page value b c → Takes seg page value a c
-  takes_then {page} second = record { dead = dead page second.dead; has = second.has; others = λ p ne. after p (second.others p ne) }
+  pub takes_then : {page : ℕ} {value : Page} {c : Image} → Takes mid page value b c → Takes seg page value a c
+  takes_then {page} {value} {c} second = record { dead = dead page second.dead; has = second.has; others = λ p ne. after c p (second.others p ne) }
 
 -- what a live page shows stays where the page does
 shows_same : (h : Held) {x y : Page} → y ≡ x → shown_by x ≡ Some (h.tag, h.stamp, main_of x) → shown_by y ≡ Some (h.tag, h.stamp, main_of y)
@@ -145,3 +152,31 @@ failed_segment {seg} {new} {old} {c} block same held space are is free dirty ful
     apart : (p : ℕ) → TakenAsErased seg p → p / seg.size ≡ block → ⊥
     apart p (inl next) at = omega (arith, full, next.0, next.1)
     apart p (inr x) at = true≢false (sym dirty ∙ (ap (is_soiled seg) (sym at) ∙ x.1))
+
+-- a page shows what it was programmed with
+pub shows_placed : (tag : Tag) (stamp : ℕ) (h : Held) (bytes : PageBytes) {page : Page} → page ≡ written bytes → shown_by (written bytes) ≡ Some (tag, stamp, bytes.main) → Some (record { tag = tag; stamp = stamp }) ≡ Some h
+    → shown_by page ≡ Some (h.tag, h.stamp, main_of page)
+shows_placed tag stamp h bytes {page} has shows some =
+    let held : record { tag = tag; stamp = stamp } ≡ h = same_Some _ h some in
+    subst (λ (q : Page). shown_by q ≡ Some (h.tag, h.stamp, main_of q)) (sym has) (shows ∙ ap (λ (k : Held). Some (k.tag, k.stamp, bytes.main)) held)
+
+-- one program, which was to place a page
+pub put_crashes : {M : Type 0} {clock : M → ℕ} {contents : M → Image} {left : M → ℕ → Image → Type 0} {old new : M} (seg : Physical) (page : ℕ) (tag : Tag) (stamp was : ℕ) (main from : List ℕ) (answer : WriteAnswer) (named : Named)
+    → IsDead seg page → Names page stamp named → (IsPlaced named → answer ≡ write.Done) → main ≡ from → was ≡ wear seg (page / seg.size)
+    → CrashLeaves clock contents left page (page + 1) (written (page_with main tag stamp was)) old new
+    → Leaves page (page + 1) (written (page_with main tag stamp was)) (contents old) answer (contents new)
+    → clock new ≡ ticked (clock old) answer → Crashes clock contents left seg tag stamp from old new named
+put_crashes {M} {clock} {contents} {left} {old} {new} seg page tag stamp was main from answer named dead names is_done main_is wear_is crash effect ticks = record {
+  page = page;
+  named = names;
+  either = ⊎_elim (λ k. inl k) (λ k. inr (subst (λ v. Takes seg page v (contents old) (contents new)) same k)) (put_either seg page dead (leaves_cut page (page + 1) value (contents old) answer (contents new) effect));
+  crash = operation_turns {contents = contents} (IsPlaced named) answer (λ c. Keeps seg (contents old) c) (λ c. Takes seg page (written (page_with from tag stamp (wear seg (page / seg.size)))) (contents old) c) is_done crash effect ticks
+      (λ c cut. ⊎_elim (λ k. inl k) (λ k. inr (subst (λ v. Takes seg page v (contents old) c) same k)) (put_either seg page dead cut))
+      (λ done. subst (λ v. Takes seg page v (contents old) (contents new)) same (put_takes seg page dead (leaves_done page (page + 1) value (contents old) answer (contents new) done effect)));
+}
+  where
+    value : Page
+    value = written (page_with main tag stamp was)
+
+    same : value ≡ written (page_with from tag stamp (wear seg (page / seg.size)))
+    same i = written (page_with (main_is i) tag stamp (wear_is i))

@@ -1,10 +1,11 @@
 -- How a block is opened.
 use Rattle.std.proofs.Common.{◌≡◌, ◌⊎◌, inl, inr, ⊎_elim, ℕ, zero, suc, ◌+◌, ◌-◌, ◌*◌, ◌/◌, ◌<◌, ◌≤◌, Bool, true, false, cond, Option, Some, None, List, [], ◌∷◌, length, get_or, set, refl, sym, ◌∙◌, ap, subst, arith, count_by}
-use Rattle.std.proofs.lemmas.Bool.{cases_Bool, cases_eq}
+use Rattle.std.proofs.lemmas.Bool.{cases_Bool, cases_eq, cases_lt}
+use Rattle.std.proofs.lemmas.List.{length-map}
 use Rattle.std.proofs.lemmas.List.Sums.{sum_by-cons}
 use Rattle.nl_blocks.specs.Table.{BlockRow, Table, HasBlock, row_at, is_free, free_count}
 use Rattle.nl_pseg.specs.Segment.{Physical, Use, KeepsBlock}
-use Rattle.nl_pseg.specs.Seen.{IsFormed, seen, use_in}
+use Rattle.nl_pseg.specs.Seen.{IsFormed, seen, use_in, use_of, use_with}
 use Rattle.nl_pseg.specs.Steps.{IsOpened, Restated, opened_at}
 use Rattle.nl_pseg.specs.declared.state.State.{State}
 use Rattle.nl_pseg.proofs.Numbers.{block_of}
@@ -68,3 +69,23 @@ opened s t block is full two r free formed =
 -- the page that is programmed next is the first one of the block
 pub opened_block : {block : ℕ} {old new : Physical} → IsOpened block old new → 0 < old.size → new.next / old.size ≡ block
 opened_block {block} {old} {new} o some = let n = o.next in block_of new.next old.size block (omega (arith, n)) (omega (arith, n, some))
+
+-- with no page left in the block that is written to, there is room in two Free blocks
+pub two_free : (size used free : ℕ) → size ≤ used → 0 < (size - used) + (free - 1) * size → 2 ≤ free
+two_free size used free full room = elim (cases_lt 1 free) [
+  | inl two ↦ two
+  | inr few ↦
+      let none : free - 1 ≡ 0 = omega (arith, few) in
+      let product : (free - 1) * size ≡ 0 * size = ap (λ n. n * size) none in
+      absurd (omega (arith, room, product, full))
+]
+
+-- a Free block is kept too
+pub free_use : (s : State) (block : ℕ) → IsFormed s → (use_in s.blocks block).is_free ≡ true → use_in s.blocks block ≡ use_with true (use_in s.blocks block).wear
+free_use s block is free =
+    let kept : (use_in s.blocks block).is_kept ≡ true = is.only_free block ∙ free in
+    (λ i. record { is_free = free i; is_kept = kept i; wear = (use_in s.blocks block).wear })
+
+-- the number behind the last block
+pub last_block : (s : State) → (seen s).blocks ≡ (seen s).first + length (seen s).uses
+last_block s = ap (λ n. s.blocks.first + n) (sym (length-map s.blocks.blocks use_of))

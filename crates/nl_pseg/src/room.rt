@@ -1,8 +1,8 @@
 // Sees to it that the block that is written to has a page that is not used.
-ghost use Rattle.std.specs.Prelude.{◌≡◌, ◌⊎◌, ℕ, ◌+◌, ◌*◌, ◌/◌, ◌<◌, ◌≤◌, ◌↔◌, Some, IsTrue};
+ghost use Rattle.std.specs.Prelude.{◌≡◌, ◌⊎◌, ℕ, ◌+◌, ◌*◌, ◌/◌, ◌<◌, ◌≤◌, ◌↔◌, Some, IsTrue, length};
 ghost use Rattle.nl_blocks.specs.Table.{HasBlock, block_at};
 ghost use Rattle.nl_nand.specs.Nand.{FaultsCounted};
-ghost use Rattle.nl_pseg.specs.Segment.{IsPhysicalOf, IsReady, held_at, room};
+ghost use Rattle.nl_pseg.specs.Segment.{IsPhysicalOf, IsReady, held_at, is_soiled, room};
 ghost use Rattle.nl_pseg.specs.Seen.{seen, Fits, IsFormed};
 ghost use Rattle.nl_pseg.specs.Steps.{Opening, OpeningOn, opened_at};
 ghost use Rattle.nl_pseg.specs.declared.held.Held.{Held as HeldOf};
@@ -19,6 +19,14 @@ impl State {
         ensures { IsTrue result ↔ (0 < room (seen self.now)) }
     {
         self.used < self.blocks.pages() || self.blocks.free() >= 2
+    }
+
+    /// Whether the block is erased before use.
+    fn is_soiled(&self, block: u32) -> bool
+        requires { block < length self.now.soiled.items }
+        ensures { result ≡ is_soiled (seen self.now) block }
+    {
+        self.soiled[block as usize].is_some()
     }
 
     /// This block is written to. No page of it is used.
@@ -55,7 +63,7 @@ impl State {
             return WriteAnswer::Done;
         }
         let block = take(&mut self.blocks);
-        if self.soiled[block as usize].is_none() {
+        if !self.is_soiled(block) {
             self.begin(block);
             return WriteAnswer::Done;
         }
