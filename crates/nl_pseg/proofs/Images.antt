@@ -11,17 +11,17 @@ use Rattle.nl_nand.specs.declared.answers.WriteAnswer.TheVariants as write
 use Rattle.nl_nand.specs.Nand.{CrashLeaves, Cut, Filled, Leaves, ticked}
 use Rattle.nl_nand.proofs.Crashes.{leaves_cut, leaves_done, operation_turns}
 use Rattle.nl_nand.specs.ImageLaws.{filled_cut}
-use Rattle.nl_pseg.specs.Effects.{Crashes, Keeps, Takes, Programmed}
+use Rattle.nl_pseg.specs.Effects.{Crashes, Keeps, Takes}
 use Rattle.nl_pseg.specs.Answers.{IsPlaced, Names}
 use Rattle.nl_pseg.specs.Pages.{IsUnreadable, main_of, page_with, shown_by}
 use Rattle.nl_pseg.specs.Segment.{Physical, Use, IsDead, InSegment, IsPhysicalOf, IsUnspent, SamePages, TakenAsErased, held_at, is_free, is_soiled, soiled, wear}
 use Rattle.nl_pseg.specs.Seen.{ArePlaces}
-use Rattle.nl_pseg.specs.Steps.{IsOpened, IsUsed}
+use Rattle.nl_pseg.specs.Steps.{IsAlone, IsOpened, IsUsed}
 use Rattle.nl_pseg.specs.declared.held.Held.{Held}
 use Rattle.nl_pseg.proofs.Numbers.{block_of, block_below, block_from}
 use Rattle.nl_pseg.proofs.Segments.{dead_free, free_within, opened_next, set_held, unspent_taken, used_taken}
 
--- a program leaves all other pages
+-- apart from its page
 program_others : {page : ℕ} {value : Page} {old c : Image} → Cut page (page + 1) value old c → (p : ℕ) → (p ≡ page → ⊥) → page_at c p ≡ page_at old p
 program_others cut p ne = ⊎_elim (λ same. same) (λ w. absurd (ne (omega (arith, w.0, w.1)))) (cut.each p)
 
@@ -50,12 +50,9 @@ module _ (seg : Physical) (page : ℕ) (dead : IsDead seg page) {value : Page} {
     others = λ p ne. inl (program_others (filled_cut filled) p ne);
   }
 
-  pub put_programmed : Filled page (page + 1) value old c → Programmed seg page value old c
-  put_programmed filled = record {
-    dead = dead;
-    has = filled.inside page (omega arith) (omega arith);
-    others = λ p ne. inl (program_others (filled_cut filled) p ne);
-  }
+-- a program leaves all other pages
+pub put_alone : {page : ℕ} {value : Page} {old c : Image} → Filled page (page + 1) value old c → IsAlone page value old c
+put_alone {page} filled = record { has = filled.inside page (omega arith) (omega arith); others = program_others (filled_cut filled) }
 
 -- an erase of a Free block
 pub erase_keeps : (seg : Physical) (block g : ℕ) {old c : Image} → g ≡ seg.size → seg.blocks ≡ seg.first + length seg.uses → ArePlaces seg → is_free seg block ≡ true

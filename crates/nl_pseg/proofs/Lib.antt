@@ -1,3 +1,4 @@
+pub mod Counts
 pub mod Forms
 pub mod Images
 pub mod Numbers

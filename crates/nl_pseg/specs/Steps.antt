@@ -1,7 +1,7 @@
 -- What the steps of a call do to the table of blocks and to the segment.
 use Rattle.std.specs.Prelude.{◌≡◌, ◌⊎◌, ℕ, ◌+◌, ◌*◌, ◌/◌, ◌<◌, ◌≤◌, Bool, true, false, cond, List, length, slice_set, Option, Some, None}
 use Rattle.nl_field.specs.CrashStates.{LeavesOnly}
-use Rattle.nl_field.specs.Page.{Image, erased, written, page_at}
+use Rattle.nl_field.specs.Page.{Image, Page, erased, written, page_at}
 use Rattle.nl_field.specs.declared.answers.Named.{Named}
 use Rattle.nl_field.specs.declared.pointer.Pointer.{Pointer}
 use Rattle.nl_field.specs.declared.pointer.Tag.{Tag}
@@ -105,6 +105,11 @@ pub record Placing (stamp : ℕ) (now : Pointer → List (Option Held)) (answer 
   pub failed : IsFault answer → IsSpent old new ⊎ (IsUnspent old new × (IsReady old → ⊥))
   pub clean : IsClean old → IsClean new
   pub kept : KeepsBlock old → KeepsBlock new
+
+-- one page was programmed, and no other changed
+pub record IsAlone (page : ℕ) (value : Page) (old new : Image) : Type 0 where
+  pub has : page_at new page ≡ value
+  pub others : (p : ℕ) → (p ≡ page → ⊥) → page_at new p ≡ page_at old p
 
 -- what it does to the medium
 pub record PlacingOn {M : Type 0} (clock : M → ℕ) (contents : M → Image) (left : M → ℕ → Image → Type 0) (tag : Tag) (stamp : ℕ) (main : List ℕ) (answer : Named) (seg : Physical) (old new : M) : Type 0 where

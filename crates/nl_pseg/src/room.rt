@@ -37,6 +37,8 @@ impl State {
         requires in_use { (p : ℕ) (h : HeldOf) → held_at (seen self.old) p ≡ Some h → p / self.old.blocks.size ≡ block → ⊥ }
         ensures formed { IsFormed self.new }
         ensures opened { seen self.new ≡ opened_at (seen self.old) block }
+        ensures used { self.new.used ≡ 0 }
+        ensures pages { self.new.blocks.size ≡ self.old.blocks.size }
     {
         self.soiled[block as usize] = None;
         self.active = block;
@@ -51,6 +53,7 @@ impl State {
         requires room { 0 < room (seen self.old) }
         requires segment { M.tells → IsPhysicalOf (M.contents media.old) (seen self.old) }
         ensures formed { IsFormed self.new }
+        ensures left { result ≡ WriteAnswer.Done → self.new.used < self.new.blocks.size }
         ensures opening { Opening result (seen self.old) (seen self.new) }
         ensures medium { M.tells → OpeningOn M.clock M.contents M.left result (seen self.old) (seen self.new) media.old media.new }
         ensures geometry { M.geometry media.new ≡ M.geometry media.old }

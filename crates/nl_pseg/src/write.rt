@@ -8,7 +8,7 @@ ghost use Rattle.nl_pseg.specs.Effects.{Counted, Crashes, Programmed};
 ghost use Rattle.nl_pseg.specs.Pages.{page_with};
 ghost use Rattle.nl_pseg.specs.Segment.{IsClean, IsDead, IsLive, IsPhysicalOf, IsReady, IsSpent, IsUnspent, KeepsBlock, SamePages, room, wear};
 ghost use Rattle.nl_pseg.specs.Seen.{seen, Fits, IsFormed};
-ghost use Rattle.nl_pseg.specs.Steps.{Placing, PlacingOn};
+ghost use Rattle.nl_pseg.specs.Steps.{IsAlone, Placing, PlacingOn};
 
 use crate::held::Held;
 use crate::pages::program_page;
@@ -34,7 +34,9 @@ impl State {
         ensures tried { IsTried result }
         ensures placing { Placing stamp (λ at. slice_set self.old.held.items at.name (Some (record { tag = tag; stamp = stamp }))) result (seen self.old) (seen self.new) }
         ensures segment { M.tells → IsPhysicalOf (M.contents media.new) (seen self.new) }
-        ensures medium { M.tells → PlacingOn M.clock M.contents M.left tag stamp from.now.main result (seen self.old) media.old media.new }
+        ensures next { IfPlaced result (λ at. at.name ≡ (seen self.old).next) }
+        ensures alone { M.tells → IfPlaced result (λ at. IsAlone at.name (written (page_with from.now.main tag stamp (wear (seen self.old) (at.name / self.old.blocks.size)))) (M.contents media.old) (M.contents media.new)) }
+        ensures crash { M.tells → Crashes M.clock M.contents M.left (seen self.old) tag stamp from.now.main media.old media.new result }
         ensures geometry { M.geometry media.new ≡ M.geometry media.old }
         ensures counts { Counted M.clock M.read_faults M.write_faults (IsReady (seen self.old)) media.old media.new result }
     {
