@@ -2,7 +2,7 @@
 use Rattle.std.proofs.Common.{◌≡◌, ◌⊎◌, inl, inr, ⊎_elim, ℕ, ◌+◌, ◌*◌, ◌/◌, ◌<◌, ◌≤◌, true, false, Option, Some, None, List, length, get_or, set, refl, sym, ◌∙◌, ap, subst, arith, is_some}
 use Rattle.std.proofs.lemmas.Bool.{cases_eq, true≢false}
 use Rattle.std.proofs.lemmas.List.{get_or-set_other}
-use Rattle.std.proofs.lemmas.Option.{same_Some}
+use Rattle.std.proofs.lemmas.Option.{none-some, same_Some}
 use Rattle.nl_field.specs.Page.{Page, PageBytes, erased, written, Image, page_at}
 use Rattle.nl_field.specs.declared.answers.Named.{Named}
 use Rattle.nl_field.specs.declared.pointer.Tag.{Tag}
@@ -132,6 +132,16 @@ opened_segment {block} {seg} {new} {old} {c} o some are is others here = record 
       where
         soiled_other : (b : ℕ) → (b ≡ block → ⊥) → soiled new b ≡ soiled seg b
         soiled_other b ne = ap (λ (l : List (Option ℕ)). get_or l b None) o.soiled ∙ get_or-set_other seg.soiled block b None None ne
+
+-- a live page died
+pub ended_segment : {seg new : Physical} {image : Image} (page : ℕ) → page < length seg.held → SamePages seg new → IsUnspent seg new → new.held ≡ set seg.held page None → IsPhysicalOf image seg → IsPhysicalOf image new
+ended_segment {seg} {new} {image} page within same space held is = record {
+  holds = λ p h named. ⊎_elim
+      (λ here. absurd (none-some h here.1))
+      (λ there. is.holds p h there.1)
+      (set_held seg.held page None within p h (ap (λ (l : List (Option Held)). get_or l p None) (sym held) ∙ named));
+  blank = λ p taken. is.blank p (unspent_taken same space p taken);
+}
 
 -- an erase of a block that was told to be soiled failed
 pub failed_segment : {seg new : Physical} {old c : Image} (block : ℕ) → SamePages seg new → new.held ≡ seg.held → IsUnspent seg new → ArePlaces seg → IsPhysicalOf old seg → is_free seg block ≡ true → is_soiled seg block ≡ true

@@ -220,3 +220,23 @@ failed_on {M} {clock} {contents} {left} {seg} {new} {a} {b} tag stamp main on = 
         (λ m c from to k. inl ((λ placed. absurd placed), k));
   };
 }
+
+-- and then a live page died
+pub ended_placing : {seg mid new : Physical} (stamp place at_place : ℕ) (h : Held) (at : Pointer) → place ≡ at_place → SamePages mid new → IsUnspent mid new → new.held ≡ set mid.held place None
+    → Placing stamp (λ p. set seg.held p.name (Some h)) (the.Placed at) seg mid → Placing stamp (λ p. set (set seg.held p.name (Some h)) at_place None) (the.Placed at) seg new
+ended_placing {seg} {mid} {new} stamp place at_place h at is pages space held p = record {
+  pages = pages_then p.pages pages;
+  placed = p.placed;
+  held = held ∙ (ap (λ (l : List (Option Held)). set l place None) p.held ∙ ap (λ n. set (set seg.held at.name (Some h)) n None) is);
+  same = λ not. absurd (not tt);
+  spent = λ placed.
+      let was = p.spent placed in
+      let room_is : room new ≡ room mid = (λ i. space.left i + (space.free i - 1) * pages.same_size i) in
+      let r = was.room in
+      let taken = was.taken in
+      let free = space.free in
+      record { room = omega (arith, room_is, r); taken = ap (λ n. n + cond (nat_le 1 seg.left) 0 1) free ∙ taken };
+  failed = λ fault. absurd (cc fault);
+  clean = λ clean b free. ap is_some (space.same_soiled b) ∙ p.clean clean b (sym (space.same_free b) ∙ free);
+  kept = λ k. let was = p.kept k in record { block = was.block; kept = space.same_kept was.block ∙ was.kept };
+}
