@@ -1,11 +1,11 @@
 -- How states go on.
-use Rattle.std.proofs.Common.{◌≡◌, ⊎_elim, ℕ, ◌+◌, ◌*◌, ◌/◌, ◌<◌, ◌≤◌, ◌-◌, ◌^◌, Bool, true, false, Option, Some, None, List, length, set, get_or, refl, sym, ◌∙◌, ap, subst, arith, length-set}
+use Rattle.std.proofs.Common.{◌≡◌, ⊎_elim, ℕ, ◌+◌, ◌*◌, ◌/◌, ◌<◌, ◌≤◌, ◌-◌, ◌^◌, Bool, true, false, Option, Some, length, set, refl, sym, ◌∙◌, ap, subst, arith, length-set}
 use Rattle.std.specs.Vec.{with_item}
-use Rattle.std.proofs.lemmas.Bool.{cases_eq, true≢false}
+use Rattle.std.proofs.lemmas.Bool.{cases_eq}
 use Rattle.nl_blocks.specs.declared.states.BlockState.TheVariants.{Active}
-use Rattle.nl_blocks.specs.Table.{Table, HasBlock, block_at}
-use Rattle.nl_pseg.specs.Segment.{Use, IsNext, IsUnspent, SamePages, held_at, is_free, use_at}
-use Rattle.nl_pseg.specs.Seen.{ArePlaces, IsFormed, IsPlace, seen, use_in, use_with}
+use Rattle.nl_blocks.specs.Table.{Table, block_at}
+use Rattle.nl_pseg.specs.Segment.{Use, IsNext, IsUnspent, SamePages, held_at}
+use Rattle.nl_pseg.specs.Seen.{ArePlaces, IsFormed, seen, use_in}
 use Rattle.nl_pseg.specs.Steps.{SameNumbers, SameRange, SameUse, Restated}
 use Rattle.nl_pseg.specs.declared.held.Held.{Held}
 use Rattle.nl_pseg.specs.declared.state.State.{State}

@@ -1,5 +1,5 @@
 -- A segment of which no page was used.
-use Rattle.std.proofs.Common.{◌≡◌, inl, inr, ℕ, zero, suc, ◌+◌, ◌-◌, ◌*◌, ◌/◌, ◌^◌, ◌<◌, ◌≤◌, nat_le, Bool, true, false, cond, Option, Some, None, List, length, map, get_or, replicate, refl, sym, ◌∙◌, ap, subst, arith, count_by, [], ◌∷◌, is_some}
+use Rattle.std.proofs.Common.{◌≡◌, inl, inr, ℕ, zero, suc, ◌+◌, ◌-◌, ◌*◌, ◌/◌, ◌^◌, ◌<◌, ◌≤◌, nat_le, true, false, cond, Option, None, List, length, map, get_or, replicate, refl, sym, ◌∙◌, ap, subst, arith, count_by, [], ◌∷◌, is_some}
 use Rattle.std.proofs.lemmas.Bool.{cases_Bool, cases_lt, leb-true}
 use Rattle.std.proofs.lemmas.List.{get_or-replicate, length-replicate}
 use Rattle.std.proofs.lemmas.List.Sums.{sum_by-cons}
@@ -7,11 +7,11 @@ use Rattle.std.proofs.lemmas.Nat.{div_below}
 use Rattle.std.proofs.lemmas.Option.{none-some}
 use Rattle.nl_field.specs.declared.shape.Shape.{Shape}
 use Rattle.nl_blocks.specs.Table.{Table, free_count, is_free, new_row, new_table}
-use Rattle.nl_pseg.specs.Segment.{Physical, Use, InSegment, KeepsBlock, TakenAsErased, no_use, room, use_at}
+use Rattle.nl_pseg.specs.Segment.{Use, InSegment, KeepsBlock, TakenAsErased, no_use, room, use_at}
 use Rattle.nl_pseg.specs.Seen.{IsFormed, new_segment, seen, use_in, use_of, use_with}
 use Rattle.nl_pseg.specs.declared.held.Held.{Held}
 use Rattle.nl_pseg.specs.declared.state.State.{State}
-use Rattle.nl_pseg.proofs.Numbers.{block_of, in_block, block_below}
+use Rattle.nl_pseg.proofs.Numbers.{in_block, block_below}
 use Rattle.nl_pseg.proofs.Shapes.{IsRoomy}
 use Rattle.nl_pseg.proofs.Tables.{use_before, use_from}
 

@@ -1,20 +1,20 @@
 -- How a page is placed: a block is opened, and its next page is used.
-use Rattle.std.proofs.Common.{◌≡◌, ◌⊎◌, inl, inr, ⊎_elim, ℕ, ◌+◌, ◌-◌, ◌*◌, ◌/◌, ◌<◌, ◌≤◌, nat_le, true, false, cond, Option, Some, None, List, length, get_or, set, refl, sym, ◌∙◌, ap, subst, arith, is_some}
+use Rattle.std.proofs.Common.{◌≡◌, inl, inr, ⊎_elim, ℕ, ◌+◌, ◌-◌, ◌*◌, ◌/◌, ◌<◌, ◌≤◌, nat_le, cond, Option, Some, None, List, get_or, set, refl, sym, ◌∙◌, ap, subst, arith, is_some}
 use Rattle.std.proofs.lemmas.Bool.{cond-true, cond-false, le-leb}
-use Rattle.std.proofs.lemmas.List.{get_or-set_other, get_or-set_same, set-get_or}
+use Rattle.std.proofs.lemmas.List.{get_or-set_other, set-get_or}
 use Rattle.std.proofs.lemmas.Bool.{cases_eq, true≢false}
-use Rattle.nl_field.specs.CrashStates.{Earlier, LeavesOnly, Turns}
-use Rattle.nl_field.specs.Page.{Page, Image, erased, page_at, written}
+use Rattle.nl_field.specs.CrashStates.{Earlier, Turns}
+use Rattle.nl_field.specs.Page.{Image, written}
 use Rattle.nl_field.specs.declared.answers.Named.{Named}
 use Rattle.nl_field.specs.declared.answers.Named.TheVariants as the
 use Rattle.nl_field.specs.declared.pointer.Pointer.{Pointer}
 use Rattle.nl_field.specs.declared.pointer.Tag.{Tag}
 use Rattle.nl_nand.specs.declared.answers.WriteAnswer.TheVariants as wrote
 use Rattle.nl_nand.proofs.Crashes.{turns_later, weaken}
-use Rattle.nl_pseg.specs.Answers.{IfPlaced, IsFault, IsPlaced}
+use Rattle.nl_pseg.specs.Answers.{IfPlaced, IsPlaced}
 use Rattle.nl_pseg.specs.Effects.{Crashes, Keeps, Programmed, Takes}
 use Rattle.nl_pseg.specs.Pages.{page_with}
-use Rattle.nl_pseg.specs.Segment.{Physical, Use, IsClean, IsDead, IsReady, IsSpent, IsUnspent, KeepsBlock, SamePages, held_at, is_free, is_kept, is_soiled, room, wear_of}
+use Rattle.nl_pseg.specs.Segment.{Physical, Use, IsClean, IsDead, IsSpent, IsUnspent, KeepsBlock, SamePages, held_at, is_free, is_soiled, room, wear_of}
 use Rattle.nl_pseg.specs.Steps.{IsAlone, IsOpened, IsUsed, Opening, OpeningOn, Placing, PlacingOn}
 use Rattle.nl_pseg.specs.declared.held.Held.{Held}
 use Rattle.nl_pseg.proofs.Images.{keeps_then, takes_then}

@@ -1,11 +1,11 @@
 -- What holds of a state.
-use Rattle.std.proofs.Common.{◌≡◌, inl, inr, ℕ, ◌+◌, ◌*◌, ◌/◌, ◌<◌, ◌≤◌, true, false, length, refl, sym, ◌∙◌, ap, subst, arith}
+use Rattle.std.proofs.Common.{◌≡◌, inl, inr, ℕ, ◌+◌, ◌*◌, ◌/◌, ◌<◌, ◌≤◌, false, length, refl, ◌∙◌, ap, arith}
 use Rattle.std.proofs.lemmas.Bool.{cases_lt}
 use Rattle.std.proofs.lemmas.Nat.{div_below}
 use Rattle.nl_blocks.specs.declared.states.BlockState.{BlockState}
-use Rattle.nl_blocks.specs.Table.{Table, HasBlock, block_at, is_free_state}
+use Rattle.nl_blocks.specs.Table.{HasBlock, is_free_state}
 use Rattle.nl_pseg.specs.Segment.{Use, IsNext, InSegment, is_free}
-use Rattle.nl_pseg.specs.Seen.{IsFormed, is_kept_state, seen, use_in, use_of}
+use Rattle.nl_pseg.specs.Seen.{IsFormed, seen}
 use Rattle.nl_pseg.specs.declared.state.State.{State}
 use Rattle.nl_pseg.proofs.Numbers.{in_block, block_of, block_below, block_from}
 use Rattle.nl_pseg.proofs.Tables.{use_here}

@@ -1,11 +1,11 @@
 -- What the calls on the table of blocks do to the uses of blocks.
-use Rattle.std.proofs.Common.{◌≡◌, inl, inr, ⊎_elim, ℕ, ◌+◌, ◌-◌, ◌/◌, ◌<◌, ◌≤◌, nat_le, Bool, true, false, cond, if◌then◌else◌, List, length, map, get_or, refl, sym, ◌∙◌, ap, subst, arith, length-set, set}
+use Rattle.std.proofs.Common.{◌≡◌, inl, inr, ⊎_elim, ℕ, ◌+◌, ◌-◌, ◌<◌, ◌≤◌, nat_le, Bool, false, cond, List, length, map, get_or, refl, sym, ◌∙◌, ap, subst, arith, length-set, set}
 use Rattle.std.proofs.lemmas.Bool.{cases_eq, cases_Bool, le-leb, leb-true, cond-true, cond-false}
 use Rattle.std.proofs.lemmas.List.{get_or-set_same, get_or-set_other, get_or-map, map-set}
 use Rattle.nl_blocks.specs.Table.{BlockRow, Table, HasBlock, block_at, no_row, with_block, is_free, free_count}
 use Rattle.nl_blocks.proofs.TableLaws.{sum_by-with_block, block_at-with_block_other}
 use Rattle.nl_pseg.specs.Segment.{Use, no_use, use_at}
-use Rattle.nl_pseg.specs.Seen.{is_kept_state, use_of, use_in, use_with}
+use Rattle.nl_pseg.specs.Seen.{use_of, use_in, use_with}
 use Rattle.nl_pseg.specs.Steps.{SameNumbers, SameUse, Restated}
 
 abbrev num : Bool → ℕ

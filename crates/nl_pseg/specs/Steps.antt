@@ -1,5 +1,5 @@
 -- What the steps of a call do to the table of blocks and to the segment.
-use Rattle.std.specs.Prelude.{◌≡◌, ◌⊎◌, ℕ, ◌+◌, ◌*◌, ◌/◌, ◌<◌, ◌≤◌, Bool, true, false, cond, List, length, slice_set, Option, Some, None}
+use Rattle.std.specs.Prelude.{◌≡◌, ◌⊎◌, ℕ, ◌+◌, ◌*◌, ◌/◌, ◌<◌, ◌≤◌, Bool, true, false, cond, List, length, slice_set, Option, None}
 use Rattle.nl_field.specs.CrashStates.{LeavesOnly}
 use Rattle.nl_field.specs.Page.{Image, Page, erased, written, page_at}
 use Rattle.nl_field.specs.declared.answers.Named.{Named}

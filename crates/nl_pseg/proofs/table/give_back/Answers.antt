@@ -1,4 +1,4 @@
-use Rattle.std.proofs.Common.{◌+◌, ◌-◌, ◌^◌, min, true, refl, sym, subst}
+use Rattle.std.proofs.Common.{true, refl, sym, subst}
 use Rattle.nl_blocks.specs.Table.{HasBlock, after_erase, block_at, erased_row}
 use Rattle.nl_pseg.specs.Steps.{Restated}
 use Rattle.nl_pseg.proofs.Tables.{has_same, restated, restated_again}

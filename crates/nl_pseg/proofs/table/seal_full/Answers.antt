@@ -1,7 +1,7 @@
-use Rattle.std.proofs.Common.{◌≡◌, sym, ap, subst}
+use Rattle.std.proofs.Common.{sym, ap, subst}
 use Rattle.nl_blocks.specs.declared.states.BlockState.{BlockState}
 use Rattle.nl_blocks.specs.declared.states.BlockState.TheVariants.{Sealed}
-use Rattle.nl_blocks.specs.Table.{BlockRow, block_at, in_state}
+use Rattle.nl_blocks.specs.Table.{block_at, in_state}
 use Rattle.nl_pseg.specs.Seen.{use_of}
 use Rattle.nl_pseg.specs.Steps.{SameUse}
 use Rattle.nl_pseg.proofs.Tables.{same_row}

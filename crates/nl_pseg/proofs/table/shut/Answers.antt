@@ -1,8 +1,8 @@
-use Rattle.std.proofs.Common.{◌≡◌, false, refl, sym, ◌∙◌, ap, subst}
+use Rattle.std.proofs.Common.{false, sym, ◌∙◌, ap, subst}
 use Rattle.nl_blocks.specs.declared.states.BlockState.TheVariants.{Sealed}
 use Rattle.nl_blocks.specs.Table.{HasBlock, block_at, in_state}
 use Rattle.nl_pseg.specs.Segment.{Use}
-use Rattle.nl_pseg.specs.Seen.{use_of, use_with}
+use Rattle.nl_pseg.specs.Seen.{use_with}
 use Rattle.nl_pseg.specs.Steps.{Restated}
 use Rattle.nl_pseg.proofs.Tables.{has_same, restated, restated_again, use_here}
 use Rattle.nl_pseg.proofs.table.shut.Goals as goal

@@ -1,4 +1,4 @@
-use Rattle.std.proofs.Common.{◌≡◌, ◌+◌, ◌-◌, ◌<◌, ◌≤◌, false, length, refl, sym, ◌∙◌, ap, subst}
+use Rattle.std.proofs.Common.{false, sym, ◌∙◌, ap, subst}
 use Rattle.nl_blocks.specs.declared.states.BlockState.TheVariants.{Active}
 use Rattle.nl_blocks.specs.Table.{block_at, taken}
 use Rattle.nl_pseg.specs.Segment.{Use}

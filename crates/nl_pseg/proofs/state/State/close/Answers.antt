@@ -1,4 +1,4 @@
-use Rattle.std.proofs.Common.{◌≡◌, ⊎_elim, inr, ◌<◌, sym, ◌∙◌, arith}
+use Rattle.std.proofs.Common.{⊎_elim, inr, ◌<◌, sym, ◌∙◌, arith}
 use Rattle.nl_pseg.proofs.States.{next_block}
 use Rattle.nl_pseg.proofs.state.State.close.Goals as goal
 

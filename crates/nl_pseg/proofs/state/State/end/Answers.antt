@@ -1,7 +1,5 @@
-use Rattle.std.proofs.Common.{◌≡◌, ℕ, Some, None, Option, List, get_or, set, refl, sym, ◌∙◌, ap, ⊎_elim}
-use Rattle.nl_pseg.specs.Segment.{held_at}
+use Rattle.std.proofs.Common.{None, ◌∙◌}
 use Rattle.nl_pseg.specs.Seen.{seen}
-use Rattle.nl_pseg.specs.declared.held.Held.{Held}
 use Rattle.nl_pseg.specs.declared.state.State.{State}
 use Rattle.nl_pseg.proofs.Forms.{formed_held, formed_same}
 use Rattle.nl_pseg.proofs.Segments.{ended_places}

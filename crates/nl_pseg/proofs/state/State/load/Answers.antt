@@ -1,9 +1,9 @@
-use Rattle.std.proofs.Common.{◌≡◌, ℕ, ◌+◌, ◌*◌, ◌/◌, ◌<◌, true, false, Some, None, Option, List, length, set, get_or, refl, sym, ◌∙◌, ap, subst, arith, is_some, unwrap_or}
+use Rattle.std.proofs.Common.{◌≡◌, ◌+◌, ◌*◌, ◌/◌, ◌<◌, false, Some, None, length, set, get_or, refl, sym, ◌∙◌, ap, subst, arith, unwrap_or}
 use Rattle.std.proofs.lemmas.Bool.{true≢false}
-use Rattle.nl_blocks.specs.Table.{HasBlock, Table}
-use Rattle.nl_pseg.specs.Segment.{Use, InSegment, IsNext, is_free}
-use Rattle.nl_pseg.specs.Seen.{IsFormed, IsPlace, seen, use_in}
-use Rattle.nl_pseg.specs.Steps.{IsApart, Restated}
+use Rattle.nl_blocks.specs.Table.{Table}
+use Rattle.nl_pseg.specs.Segment.{Use, InSegment, is_free}
+use Rattle.nl_pseg.specs.Seen.{IsPlace, seen, use_in}
+use Rattle.nl_pseg.specs.Steps.{IsApart}
 use Rattle.nl_pseg.specs.declared.held.Held.{Held}
 use Rattle.nl_pseg.specs.declared.state.State.{State}
 use Rattle.nl_pseg.proofs.Forms.{formed_held, formed_restated, formed_same, next_is, left_is}

@@ -1,4 +1,4 @@
-use Rattle.std.proofs.Common.{◌≡◌, ⊎_elim, ◌<◌, Some, None, List, Option, length, get_or, set, sym, ◌∙◌, ap, subst}
+use Rattle.std.proofs.Common.{⊎_elim, Some, set, subst}
 use Rattle.nl_field.specs.declared.pointer.Pointer.{Pointer}
 use Rattle.nl_pseg.specs.Effects.{Crashes}
 use Rattle.nl_pseg.specs.Seen.{seen}

@@ -1,17 +1,14 @@
-use Rattle.std.proofs.Common.{◌≡◌, ◌⊎◌, inl, inr, ⊎_elim, ℕ, ◌+◌, ◌-◌, ◌*◌, ◌/◌, ◌<◌, ◌≤◌, true, false, Some, None, length, refl, sym, ◌∙◌, ap, subst, arith}
+use Rattle.std.proofs.Common.{◌≡◌, inl, inr, ⊎_elim, ℕ, ◌+◌, ◌*◌, ◌/◌, ◌<◌, ◌≤◌, true, false, refl, sym, ◌∙◌, ap, subst, arith}
 use Rattle.std.proofs.lemmas.Bool.{cases_eq, true≢false}
-use Rattle.nl_field.specs.CrashStates.{LeavesOnly}
-use Rattle.nl_field.specs.Page.{Image, erased, page_at}
-use Rattle.nl_blocks.specs.Table.{HasBlock}
+use Rattle.nl_field.specs.Page.{Image, erased}
 use Rattle.nl_nand.specs.ImageLaws.{filled_cut}
 use Rattle.nl_nand.specs.Nand.{Cut}
 use Rattle.nl_nand.proofs.Crashes.{operation}
 use Rattle.nl_nand.proofs.Crashes as crashes
 use Rattle.nl_pseg.specs.Effects.{Keeps}
-use Rattle.nl_pseg.specs.Segment.{Physical, Use, IsPhysicalOf, is_free, is_soiled}
-use Rattle.nl_pseg.specs.Seen.{IsFormed, seen, use_in}
-use Rattle.nl_pseg.specs.Steps.{IsOpened, Restated, SameUse}
-use Rattle.nl_pseg.specs.declared.state.State.{State}
+use Rattle.nl_pseg.specs.Segment.{Use, is_free, is_soiled}
+use Rattle.nl_pseg.specs.Seen.{seen, use_in}
+use Rattle.nl_pseg.specs.Steps.{IsOpened, Restated}
 use Rattle.nl_pseg.proofs.Forms.{formed_restated, formed_same, same_pages, same_unspent}
 use Rattle.nl_pseg.proofs.Images.{erase_keeps, erase_others, failed_segment, keeps_nothing, opened_segment}
 use Rattle.nl_pseg.proofs.Numbers.{in_block}
