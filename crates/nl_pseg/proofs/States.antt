@@ -1,10 +1,11 @@
 -- What holds of a state.
-use Rattle.std.proofs.Common.{◌≡◌, inl, inr, ℕ, ◌+◌, ◌*◌, ◌/◌, ◌<◌, ◌≤◌, true, false, length, refl, sym, ◌∙◌, ap, subst, arith}
-use Rattle.std.proofs.lemmas.Bool.{cases_lt}
+use Rattle.std.proofs.Common.{◌≡◌, inl, inr, ℕ, ◌+◌, ◌*◌, ◌/◌, ◌-◌, ◌<◌, ◌≤◌, nat_le, true, false, List, get_or, map, length, refl, sym, ◌∙◌, ap, subst, arith}
+use Rattle.std.proofs.lemmas.Bool.{cases_lt, cond-false, cond-true, le-leb, lt-leb, true≢false}
+use Rattle.std.proofs.lemmas.List.{get_or_past, length-map}
 use Rattle.std.proofs.lemmas.Nat.{div_below}
 use Rattle.nl_blocks.specs.declared.states.BlockState.{BlockState}
 use Rattle.nl_blocks.specs.Table.{Table, HasBlock, block_at, is_free_state}
-use Rattle.nl_pseg.specs.Segment.{Use, IsNext, InSegment, is_free}
+use Rattle.nl_pseg.specs.Segment.{Use, IsNext, InSegment, TakenAsErased, is_free, no_use, use_at}
 use Rattle.nl_pseg.specs.Seen.{IsFormed, is_kept_state, seen, use_in, use_of}
 use Rattle.nl_pseg.specs.declared.state.State.{State}
 use Rattle.nl_pseg.proofs.Numbers.{in_block, block_of, block_below, block_from}
@@ -51,3 +52,22 @@ module _ (s : State) (is : IsFormed s) where
 
     pub next_in_use : (p : ℕ) → IsNext (seen s) p → is_free (seen s) (p / s.blocks.size) ≡ false
     next_in_use p next = ap (is_free (seen s)) (next_block p next) ∙ active_in_use
+
+use_within : (first block : ℕ) (uses : List Use) → (use_at first uses block).is_free ≡ true → (first ≤ block) × (block < first + length uses)
+unfolding use_at
+use_within first block uses free = elim (cases_lt block first) [
+  | inl lt ↦ absurd (true≢false (sym free ∙ ap (λ (u : Use). u.is_free) (cond-false (nat_le first block) (get_or uses (block - first) no_use) no_use (lt-leb first block lt))))
+  | inr ge ↦ elim (cases_lt (block - first) (length uses)) [
+    | inl lt ↦ (ge, omega (arith, ge, lt))
+    | inr past ↦ absurd (true≢false (sym free ∙ ap (λ (u : Use). u.is_free) (cond-true (nat_le first block) (get_or uses (block - first) no_use) no_use (le-leb first block ge) ∙ get_or_past uses (block - first) no_use past)))
+  ]
+]
+
+-- what is taken as erased lies in the segment
+pub taken_segment : (s : State) → IsFormed s → (p : ℕ) → TakenAsErased (seen s) p → InSegment (seen s) p
+taken_segment s is p (inl next) = block_segment s s.active p is.active_in (omega (arith, next.0)) (omega (arith, next.0, next.1, is.used_fits))
+taken_segment s is p (inr free) =
+    let b = use_within s.blocks.first (p / s.blocks.size) (map use_of s.blocks.blocks) free.0 in
+    let n = length-map s.blocks.blocks use_of in
+    let here = in_block p s.blocks.size (p / s.blocks.size) is.some refl in
+    block_segment s (p / s.blocks.size) p (record { from = b.0; below = omega (arith, b.1, n) }) here.0 here.1

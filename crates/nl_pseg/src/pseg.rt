@@ -196,6 +196,7 @@ impl PSeg {
         ensures failed { IsFault result → IsSpent self.old self.new ⊎ (IsUnspent self.old self.new × (IsReady self.old → ⊥)) }
         ensures clean { IsClean self.old → IsClean self.new }
         ensures kept { KeepsBlock self.old → KeepsBlock self.new }
+        ensures within { (p : ℕ) → TakenAsErased self.new p → InSegment self.new p }
         ensures segment { M.tells → IsPhysicalOf (M.contents media.new) self.new }
         ensures programmed { M.tells → IfPlaced result (λ at. Programmed self.old at.name (written (page_with from.now.main tag stamp (wear_of self.old (at.name / self.old.size)))) (M.contents media.old) (M.contents media.new)) }
         ensures crash { M.tells → Crashes M.clock M.contents M.left self.old tag stamp from.now.main media.old media.new result }
@@ -232,6 +233,7 @@ impl PSeg {
         ensures failed { IsFault result → IsSpent self.old self.new ⊎ (IsUnspent self.old self.new × (IsReady self.old → ⊥)) }
         ensures clean { IsClean self.old → IsClean self.new }
         ensures kept { KeepsBlock self.old → KeepsBlock self.new }
+        ensures within { (p : ℕ) → TakenAsErased self.new p → InSegment self.new p }
         ensures segment { M.tells → IsPhysicalOf (M.contents media.new) self.new }
         ensures programmed { M.tells → IfPlaced result (λ at. Programmed self.old at.name (written (page_with from.now.main tag stamp (wear_of self.old (at.name / self.old.size)))) (M.contents media.old) (M.contents media.new)) }
         ensures crash { M.tells → Crashes M.clock M.contents M.left self.old tag stamp from.now.main media.old media.new result }
