@@ -1,0 +1,11 @@
+pub mod Forms
+pub mod Kept
+pub mod Living
+pub mod Made
+pub mod Naming
+pub mod PhysicalPages
+pub mod Placing
+pub mod Showing
+pub mod Spacing
+pub mod VirtualPages
+pub mod Writes
