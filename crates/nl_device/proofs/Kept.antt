@@ -23,8 +23,16 @@ use Rattle.nl_device.proofs.Spacing.{space_is}
 
 pub named_segments : {geometry now : Geometry} {shape : Shape} {vseg : Segment} {old new : Physical} → HasSegments geometry shape vseg old → now ≡ geometry → SamePages old new → length new.held ≡ length old.held → HasSegments now shape vseg new
 named_segments {geometry} {now} {shape} {vseg} {old} {new} has is same held = subst (λ n. HasSegments n shape vseg new) (sym is) (record {
-  legal = has.legal; numbers = has.numbers; blocks = has.blocks; pages = has.pages; some = has.some; split = has.split; rest = has.rest;
-  virtual_pages = has.virtual_pages; virtual_bound = has.virtual_bound; addresses = has.addresses;
+  legal = has.legal;
+  numbers = has.numbers;
+  blocks = has.blocks;
+  pages = has.pages;
+  some = has.some;
+  split = has.split;
+  rest = has.rest;
+  virtual_pages = has.virtual_pages;
+  virtual_bound = has.virtual_bound;
+  addresses = has.addresses;
   physical_first = same.same_first ∙ has.physical_first;
   physical_blocks = same.same_blocks ∙ has.physical_blocks;
   physical_pages = same.same_size ∙ has.physical_pages;

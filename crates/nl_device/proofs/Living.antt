@@ -18,7 +18,7 @@ pub set_live : (held : List (Option Held)) (name : ℕ) (tag : Tag) (stamp : ℕ
     → live_page (get_or (set held name (Some (record { tag = tag; stamp = stamp }))) q None) ≡ with_page (λ p. live_page (get_or held p None)) name (record { tag = tag; stamp = stamp }) q
 set_live held name tag stamp below q = elim (cases_eq q name) [
   | inl is ↦ ap (λ n. live_page (get_or (set held name (Some (record { tag = tag; stamp = stamp }))) n None)) is ∙ (ap live_page (get_or-set_same held name (Some (record { tag = tag; stamp = stamp })) None below)
-    ∙ sym (cond-true (q == name) (Some (record { tag = tag; stamp = stamp })) (live_page (get_or held q None)) (eq-eqb q name is)))
+      ∙ sym (cond-true (q == name) (Some (record { tag = tag; stamp = stamp })) (live_page (get_or held q None)) (eq-eqb q name is)))
   | inr ne ↦ ap live_page (get_or-set_other held name q (Some (record { tag = tag; stamp = stamp })) None ne) ∙ sym (cond-false (q == name) (Some (record { tag = tag; stamp = stamp })) (live_page (get_or held q None)) (ne_eqb q name ne))
 ]
 
@@ -26,7 +26,7 @@ set_live held name tag stamp below q = elim (cases_eq q name) [
 pub clear_live : (held : List (Option Held)) (place : ℕ) → place < length held → (q : ℕ) → live_page (get_or (set held place None) q None) ≡ without_page (λ p. live_page (get_or held p None)) place q
 clear_live held place below q = elim (cases_eq q place) [
   | inl is ↦ ap (λ n. live_page (get_or (set held place None) n None)) is ∙ (ap live_page (get_or-set_same held place None None below)
-    ∙ sym (cond-true (q == place) None (live_page (get_or held q None)) (eq-eqb q place is)))
+      ∙ sym (cond-true (q == place) None (live_page (get_or held q None)) (eq-eqb q place is)))
   | inr ne ↦ ap live_page (get_or-set_other held place q None None ne) ∙ sym (cond-false (q == place) None (live_page (get_or held q None)) (ne_eqb q place ne))
 ]
 
@@ -40,9 +40,9 @@ swap_live held name place tag stamp below within apart q =
     clear_live (set held name x) place (subst (λ n. place < n) (sym (length-set held name x)) within) q
     ∙ elim (cases_eq q place) [
       | inl is ↦ cond-true (q == place) None (live_page (get_or (set held name x) q None)) (eq-eqb q place is)
-        ∙ sym (cond-false (q == name) (Some page) (without_page old place q) (ne_eqb q name (λ same. apart (sym same ∙ is))) ∙ cond-true (q == place) None (old q) (eq-eqb q place is))
+          ∙ sym (cond-false (q == name) (Some page) (without_page old place q) (ne_eqb q name (λ same. apart (sym same ∙ is))) ∙ cond-true (q == place) None (old q) (eq-eqb q place is))
       | inr ne ↦ cond-false (q == place) None (live_page (get_or (set held name x) q None)) (ne_eqb q place ne)
-        ∙ (set_live held name tag stamp below q ∙ ap (λ o. cond (q == name) (Some page) o) (sym (cond-false (q == place) None (old q) (ne_eqb q place ne))))
+          ∙ (set_live held name tag stamp below q ∙ ap (λ o. cond (q == name) (Some page) o) (sym (cond-false (q == place) None (old q) (ne_eqb q place ne))))
     ]
 
 -- what is held after a page more
@@ -71,13 +71,13 @@ live_more old new name next tag live same blank within below fresh is = record {
   blank_in = blank;
   differ = λ p q g h p_has q_has e. ⊎_elim
       (λ a. ⊎_elim
-        (λ b. a.0 ∙ sym b.0)
-        (λ b. let lt = fresh q h b.1 in let s = ap (λ (x : Held). x.stamp) a.1 in absurd (omega (arith, lt, s, e)))
-        (split q h q_has))
+      (λ b. a.0 ∙ sym b.0)
+      (λ b. let lt = fresh q h b.1 in let s = ap (λ (x : Held). x.stamp) a.1 in absurd (omega (arith, lt, s, e)))
+      (split q h q_has))
       (λ a. ⊎_elim
-        (λ b. let lt = fresh p g a.1 in let s = ap (λ (x : Held). x.stamp) b.1 in absurd (omega (arith, lt, s, e)))
-        (λ b. live.differ p q g h a.1 b.1 e)
-        (split q h q_has))
+      (λ b. let lt = fresh p g a.1 in let s = ap (λ (x : Held). x.stamp) b.1 in absurd (omega (arith, lt, s, e)))
+      (λ b. live.differ p q g h a.1 b.1 e)
+      (split q h q_has))
       (split p g p_has);
 }
   where

@@ -128,3 +128,7 @@ one_for_one held p q h x below within apart dead live =
     let more = one_more held p h below dead in
     let less = one_less (set held p (Some h)) q x (subst (λ n. q < n) (sym (length-set held p (Some h))) within) (get_or-set_other held p q (Some h) None apart ∙ live) in
     omega (arith, more, less)
+
+pub free_is : (seg : Physical) → (space_of seg).free ≡ seg.free
+unfolding space_of
+free_is seg = refl

@@ -5,6 +5,7 @@ mod counts;
 mod device;
 mod named_pages;
 mod stamps;
+mod told;
 mod virtual_pages;
 
 pub use device::Device;

@@ -30,14 +30,14 @@ returns-clause-formed g c =
     let place = resolve d.pseg.pairs c.args.at.name in
     ⊎_elim
     (λ (is : c.free.result ≡ true).
-      let h = held_from (held_at d.pseg place) c.args.at.stamp (e.found.0 is) in
-      let below = in_within f.segments place (f.live.in_segment place h.0 h.1) in
-      let held : new.held ≡ set d.pseg.held place None = OnTrue_at is e.freed in
-      let live = live_less d.pseg new place f.live e.pages (λ p taken. moved_in d.pseg new e.pages p (f.live.blank_in p (unspent_blank d.pseg new e.pages e.space p taken))) below held in
-      let count : length new.held ≡ length d.pseg.held = ap (λ (l : List (Option Held)). length l) held ∙ length-set d.pseg.held place None in
-      device_with f refl e.pages count live (unspent_free d.pseg new f.free e.pages e.space)
-      (OnTrue_at is e.pairs ∙ no_pair d.pseg.pairs place f.no_pairs) (omega arith)
-      (λ p x has. f.stamp.live p x (clear_held d.pseg.held place p x below (ap (λ (l : List (Option Held)). get_or l p None) (sym held) ∙ has)).1)
-      (λ t. medium_with f t refl e.pages count (g.met.M.Nand.contents_fit d.media t) live (λ p lt. refl) (e.segment (g.M.Nand.contents d.media) (f.medium t).physical_is) (omega arith)))
+    let h = held_from (held_at d.pseg place) c.args.at.stamp (e.found.0 is) in
+    let below = in_within f.segments place (f.live.in_segment place h.0 h.1) in
+    let held : new.held ≡ set d.pseg.held place None = OnTrue_at is e.freed in
+    let live = live_less d.pseg new place f.live e.pages (λ p taken. moved_in d.pseg new e.pages p (f.live.blank_in p (unspent_blank d.pseg new e.pages e.space p taken))) below held in
+    let count : length new.held ≡ length d.pseg.held = ap (λ (l : List (Option Held)). length l) held ∙ length-set d.pseg.held place None in
+    device_with f refl e.pages count live (unspent_free d.pseg new f.free e.pages e.space)
+    (OnTrue_at is e.pairs ∙ no_pair d.pseg.pairs place f.no_pairs) (omega arith)
+    (λ p x has. f.stamp.live p x (clear_held d.pseg.held place p x below (ap (λ (l : List (Option Held)). get_or l p None) (sym held) ∙ has)).1)
+    (λ t. medium_with f t refl e.pages count (g.met.M.Nand.contents_fit d.media t) live (λ p lt. refl) (e.segment (g.M.Nand.contents d.media) (f.medium t).physical_is) (omega arith)))
     (λ (is : c.free.result ≡ false). subst (λ s. IsDevice (g.M.Nand.geometry d.media) g.M.Nand.tells (g.M.Nand.contents d.media) d.shape d.vseg s d.next) (sym (OnFalse_at is e.kept)) f)
     (cases_Bool c.free.result)
