@@ -1,0 +1,6 @@
+pub mod Answers
+pub mod Effects
+pub mod Pages
+pub mod Segment
+pub mod Seen
+pub mod Steps
