@@ -1,0 +1,6 @@
+pub mod Forms
+pub mod Made
+pub mod PhysicalPages
+pub mod Showing
+pub mod VirtualPages
+pub mod Writes

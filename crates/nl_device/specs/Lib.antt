@@ -1,0 +1,5 @@
+pub mod Device
+pub mod Laws
+pub mod Shown
+pub mod Space
+pub mod Stamps

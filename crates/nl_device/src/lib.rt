@@ -1,0 +1,10 @@
+//! A device over a flash medium: pages by virtual address, and pages under names that the device picks.
+#![tactic(auto)]
+
+mod counts;
+mod device;
+mod named_pages;
+mod stamps;
+mod virtual_pages;
+
+pub use device::Device;
