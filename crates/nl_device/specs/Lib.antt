@@ -2,4 +2,5 @@ pub mod Device
 pub mod Laws
 pub mod Shown
 pub mod Space
+pub mod Spread
 pub mod Stamps
