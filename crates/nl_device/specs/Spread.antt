@@ -7,6 +7,11 @@ use Rattle.nl_field.specs.Space.{spare_block}
 use Rattle.nl_device.specs.declared.opening.spare.Spread.{Spread}
 use Rattle.nl_device.specs.declared.opening.spare.Spread.TheVariants.{Nowhere, In, Several}
 
+-- what the items of one key give, one after the other
+abbrev pub by_key : {X Y : Type 0} → (X → ℕ) → (Y → X → Y) → Y → ℕ → List X → Y
+by_key key step start k xs = fold (λ y x. if key x == k then step y x else y) start xs
+
+-- the spread of a group with one page more
 abbrev pub spread_more : Spread → ℕ → Spread
 spread_more Nowhere block = In block
 spread_more (In other) block = if other == block then In other else Several
