@@ -5,6 +5,7 @@ pub mod Made
 pub mod Naming
 pub mod PhysicalPages
 pub mod Placing
+pub mod Ranges
 pub mod Showing
 pub mod Spacing
 pub mod VirtualPages

@@ -3,4 +3,5 @@ pub mod Laws
 pub mod Medium
 pub mod Shown
 pub mod Space
+pub mod Spread
 pub mod Stamps

@@ -4,6 +4,7 @@
 mod counts;
 mod device;
 mod named_pages;
+mod opening;
 mod stamps;
 mod told;
 mod virtual_pages;

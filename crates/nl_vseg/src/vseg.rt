@@ -43,6 +43,7 @@ impl VSeg {
         ensures pages { IfOk result (λ s. s.pages ≡ shape.now.pages) }
         ensures bound { IfOk result (λ s. s.bound ≡ shape.now.vblocks * shape.now.pages) }
         ensures erased { IfOk result (λ s. (p : ℕ) → p < s.bound → is_blank s p ≡ true) }
+        ensures within { IfOk result (λ s. (p : ℕ) → is_blank s p ≡ true → p < s.bound) }
         ensures wear { IfOk result (λ s. (block : ℕ) → wear_of s block ≡ 0) }
         ensures spare { IfOk result KeepsSpare }
         ensures room { IfOk result (λ s. s.room + shape.now.pages ≡ shape.now.vblocks * shape.now.pages) }
