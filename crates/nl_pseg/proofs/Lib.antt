@@ -1,9 +1,11 @@
 pub mod Counts
 pub mod Forms
 pub mod Images
+pub mod News
 pub mod Numbers
 pub mod Openings
 pub mod Placings
 pub mod Segments
+pub mod Shapes
 pub mod States
 pub mod Tables

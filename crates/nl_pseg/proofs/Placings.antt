@@ -14,7 +14,7 @@ use Rattle.nl_nand.proofs.Crashes.{turns_later, weaken}
 use Rattle.nl_pseg.specs.Answers.{IfPlaced, IsFault, IsPlaced}
 use Rattle.nl_pseg.specs.Effects.{Crashes, Keeps, Programmed, Takes}
 use Rattle.nl_pseg.specs.Pages.{page_with}
-use Rattle.nl_pseg.specs.Segment.{Physical, Use, IsClean, IsDead, IsReady, IsSpent, IsUnspent, KeepsBlock, SamePages, held_at, is_free, is_kept, is_soiled, room, wear}
+use Rattle.nl_pseg.specs.Segment.{Physical, Use, IsClean, IsDead, IsReady, IsSpent, IsUnspent, KeepsBlock, SamePages, held_at, is_free, is_kept, is_soiled, room, wear_of}
 use Rattle.nl_pseg.specs.Steps.{IsAlone, IsOpened, IsUsed, Opening, OpeningOn, Placing, PlacingOn}
 use Rattle.nl_pseg.specs.declared.held.Held.{Held}
 use Rattle.nl_pseg.proofs.Images.{keeps_then, takes_then}
@@ -158,17 +158,17 @@ opening_dead (inl same) p dead = subst (λ (q : Physical). IsDead q p) same.1 de
 opening_dead (inr o) p dead = opened_dead o.1 p dead
 
 -- the same value on a page
-value : {seg mid : Physical} → Opening wrote.Done seg mid → (tag : Tag) (stamp : ℕ) (main : List ℕ) (page : ℕ) → written (page_with main tag stamp (wear mid (page / mid.size))) ≡ written (page_with main tag stamp (wear seg (page / seg.size)))
+value : {seg mid : Physical} → Opening wrote.Done seg mid → (tag : Tag) (stamp : ℕ) (main : List ℕ) (page : ℕ) → written (page_with main tag stamp (wear_of mid (page / mid.size))) ≡ written (page_with main tag stamp (wear_of seg (page / seg.size)))
 value {seg} {mid} opening tag stamp main page =
     let pages = opening_pages opening in
-    ap (λ w. written (page_with main tag stamp w)) (ap (λ n. wear mid (page / n)) pages.same_size ∙ pages.same_wear (page / seg.size))
+    ap (λ w. written (page_with main tag stamp w)) (ap (λ n. wear_of mid (page / n)) pages.same_size ∙ pages.same_wear (page / seg.size))
 
 -- what that does to the medium
 module _ {M : Type 0} {clock : M → ℕ} {contents : M → Image} {left : M → ℕ → Image → Type 0} {seg mid : Physical} {a b : M} (opening : Opening wrote.Done seg mid) (on : OpeningOn clock contents left wrote.Done seg mid a b)
     (tag : Tag) (stamp : ℕ) (main : List ℕ) (answer : Named) where
   pub programmed_then : (d : M) → IfPlaced answer (λ at. IsDead mid at.name) → IfPlaced answer (λ at. at.name ≡ mid.next)
-      → IfPlaced answer (λ at. IsAlone at.name (written (page_with main tag stamp (wear mid (at.name / mid.size)))) (contents b) (contents d))
-      → IfPlaced answer (λ at. Programmed seg at.name (written (page_with main tag stamp (wear seg (at.name / seg.size)))) (contents a) (contents d))
+      → IfPlaced answer (λ at. IsAlone at.name (written (page_with main tag stamp (wear_of mid (at.name / mid.size)))) (contents b) (contents d))
+      → IfPlaced answer (λ at. Programmed seg at.name (written (page_with main tag stamp (wear_of seg (at.name / seg.size)))) (contents a) (contents d))
   programmed_then d dead next alone = if_placed_three answer (λ at dead_is next_is alone_is. record {
     dead = opening_dead opening at.name dead_is;
     has = alone_is.has ∙ value opening tag stamp main at.name;
@@ -184,14 +184,14 @@ module _ {M : Type 0} {clock : M → ℕ} {contents : M → Image} {left : M →
     page = k.page;
     named = k.named;
     either = ⊎_elim (λ x. inl (keeps_then (opening_dead opening) on.keeps x)) (λ x. inr (takes_on (contents d) x)) k.either;
-    crash = turns_later (IsPlaced answer) (λ c. Keeps seg (contents a) c) (λ c. Takes seg k.page (written (page_with main tag stamp (wear seg (k.page / seg.size)))) (contents a) c) on.crash
-        (weaken (Turns (IsPlaced answer) (clock d) (λ c. Keeps mid (contents b) c) (λ c. Takes mid k.page (written (page_with main tag stamp (wear mid (k.page / mid.size)))) (contents b) c))
-        (Turns (IsPlaced answer) (clock d) (λ c. Keeps seg (contents a) c) (λ c. Takes seg k.page (written (page_with main tag stamp (wear seg (k.page / seg.size)))) (contents a) c)) k.crash
+    crash = turns_later (IsPlaced answer) (λ c. Keeps seg (contents a) c) (λ c. Takes seg k.page (written (page_with main tag stamp (wear_of seg (k.page / seg.size)))) (contents a) c) on.crash
+        (weaken (Turns (IsPlaced answer) (clock d) (λ c. Keeps mid (contents b) c) (λ c. Takes mid k.page (written (page_with main tag stamp (wear_of mid (k.page / mid.size)))) (contents b) c))
+        (Turns (IsPlaced answer) (clock d) (λ c. Keeps seg (contents a) c) (λ c. Takes seg k.page (written (page_with main tag stamp (wear_of seg (k.page / seg.size)))) (contents a) c)) k.crash
         (λ m c from to is. ⊎_elim (λ x. inl (x.0, keeps_then (opening_dead opening) on.keeps x.1)) (λ x. inr (takes_on c x)) is))
         strict;
   }
     where
-      takes_on : (c : Image) → Takes mid k.page (written (page_with main tag stamp (wear mid (k.page / mid.size)))) (contents b) c → Takes seg k.page (written (page_with main tag stamp (wear seg (k.page / seg.size)))) (contents a) c
+      takes_on : (c : Image) → Takes mid k.page (written (page_with main tag stamp (wear_of mid (k.page / mid.size)))) (contents b) c → Takes seg k.page (written (page_with main tag stamp (wear_of seg (k.page / seg.size)))) (contents a) c
       takes_on c x = subst (λ v. Takes seg k.page v (contents a) c) (value opening tag stamp main k.page) (takes_then (opening_dead opening) on.keeps x)
 
 -- an erase failed
@@ -216,7 +216,7 @@ failed_on {M} {clock} {contents} {left} {seg} {new} {a} {b} tag stamp main on = 
     page = 0;
     named = tt;
     either = inl on.keeps;
-    crash = weaken (λ m c. Keeps seg (contents a) c) (Turns (IsPlaced the.Fault) (clock b) (λ c. Keeps seg (contents a) c) (λ c. Takes seg 0 (written (page_with main tag stamp (wear seg (0 / seg.size)))) (contents a) c)) on.crash
+    crash = weaken (λ m c. Keeps seg (contents a) c) (Turns (IsPlaced the.Fault) (clock b) (λ c. Keeps seg (contents a) c) (λ c. Takes seg 0 (written (page_with main tag stamp (wear_of seg (0 / seg.size)))) (contents a) c)) on.crash
         (λ m c from to k. inl ((λ placed. absurd placed), k));
   };
 }

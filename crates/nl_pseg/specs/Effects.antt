@@ -6,7 +6,7 @@ use Rattle.nl_field.specs.declared.answers.Named.{Named}
 use Rattle.nl_field.specs.declared.pointer.Tag.{Tag}
 use Rattle.nl_pseg.specs.Answers.{IsPlaced, IsFault, Names}
 use Rattle.nl_pseg.specs.Pages.{IsUnreadable, page_with}
-use Rattle.nl_pseg.specs.Segment.{Physical, IsDead, is_free, is_soiled, wear}
+use Rattle.nl_pseg.specs.Segment.{Physical, IsDead, is_free, is_soiled, wear_of}
 
 -- The image keeps the segment: each page is as it was, or it is not live, and nothing is read from it. So each live page, and
 -- each page outside the segment, is as it was.
@@ -32,10 +32,10 @@ pub record Programmed (seg : Physical) (page : ℕ) (value : Page) (old new : Im
 pub record Crashes {M : Type 0} (clock : M → ℕ) (contents : M → Image) (left : M → ℕ → Image → Type 0) (seg : Physical) (tag : Tag) (stamp : ℕ) (main : List ℕ) (old new : M) (answer : Named) : Type 0 where
   pub page : ℕ
   pub named : Names page stamp answer
-  pub either : Keeps seg (contents old) (contents new) ⊎ Takes seg page (written (page_with main tag stamp (wear seg (page / seg.size)))) (contents old) (contents new)
+  pub either : Keeps seg (contents old) (contents new) ⊎ Takes seg page (written (page_with main tag stamp (wear_of seg (page / seg.size)))) (contents old) (contents new)
   pub crash : LeavesOnly clock left old new (Turns (IsPlaced answer) (clock new)
       (λ c. Keeps seg (contents old) c)
-      (λ c. Takes seg page (written (page_with main tag stamp (wear seg (page / seg.size)))) (contents old) c))
+      (λ c. Takes seg page (written (page_with main tag stamp (wear_of seg (page / seg.size)))) (contents old) c))
 
 -- The counts of a medium over a write. It is `ready` where the page is programmed with no erase before it: then the clock counts
 -- the page that was placed, and nothing else.

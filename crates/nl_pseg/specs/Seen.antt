@@ -1,6 +1,7 @@
 -- The segment that a state is.
-use Rattle.std.specs.Prelude.{◌≡◌, ◌⊎◌, ℕ, ◌+◌, ◌-◌, ◌*◌, ◌/◌, ◌^◌, ◌<◌, ◌≤◌, Bool, true, false, List, [], length, map, Option, Some, IsTrue}
+use Rattle.std.specs.Prelude.{◌≡◌, ◌⊎◌, ℕ, ◌+◌, ◌-◌, ◌*◌, ◌/◌, ◌^◌, ◌<◌, ◌≤◌, Bool, true, false, List, [], length, map, replicate, Option, Some, None, IsTrue}
 use Rattle.nl_field.specs.Spelling.{is_stamp}
+use Rattle.nl_field.specs.declared.shape.Shape.{Shape}
 use Rattle.nl_nand.specs.declared.geometry.Geometry.{Geometry}
 use Rattle.nl_blocks.specs.declared.states.BlockState.{BlockState}
 use Rattle.nl_blocks.specs.declared.states.BlockState.TheVariants.{Free, Active, Target, Sealed, Victim, Retired}
@@ -41,6 +42,22 @@ seen s = record {
   free = free_count s.blocks;
   uses = map use_of s.blocks.blocks;
   soiled = s.soiled.items;
+}
+
+-- the segment of a shape, of which no page was used
+abbrev pub new_segment : Shape → Physical
+new_segment shape = record {
+  first = shape.vblocks;
+  blocks = shape.blocks;
+  size = shape.pages;
+  held = replicate (shape.blocks * shape.pages) None;
+  pairs = [];
+  pair_room = 0;
+  next = shape.vblocks * shape.pages + shape.pages;
+  left = 0;
+  free = shape.pblocks;
+  uses = replicate shape.pblocks (use_with true 0);
+  soiled = replicate shape.blocks None;
 }
 
 -- A live page is one of the segment, in a block that is not Free, and not one of those that are programmed next.

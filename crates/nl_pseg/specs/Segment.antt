@@ -49,8 +49,8 @@ is_free seg block = (use_at seg.first seg.uses block).is_free
 abbrev pub is_kept : Physical → ℕ → Bool
 is_kept seg block = (use_at seg.first seg.uses block).is_kept
 
-abbrev pub wear : Physical → ℕ → ℕ
-wear seg block = (use_at seg.first seg.uses block).wear
+abbrev pub wear_of : Physical → ℕ → ℕ
+wear_of seg block = (use_at seg.first seg.uses block).wear
 
 -- how often the block was erased, where it was told not to read as erased and was not erased since
 abbrev pub soiled : Physical → ℕ → Option ℕ
@@ -134,7 +134,7 @@ pub record SamePages (old new : Physical) : Type 0 where
   pub same_first : new.first ≡ old.first
   pub same_blocks : new.blocks ≡ old.blocks
   pub same_size : new.size ≡ old.size
-  pub same_wear : (block : ℕ) → wear new block ≡ wear old block
+  pub same_wear : (block : ℕ) → wear_of new block ≡ wear_of old block
 
 -- One page was given out: from the block that is written to, or from a Free block where that one is full.
 pub record IsSpent (old new : Physical) : Type 0 where

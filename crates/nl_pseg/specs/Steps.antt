@@ -11,7 +11,7 @@ use Rattle.nl_blocks.specs.Table.{Table, HasBlock, block_at, free_count}
 use Rattle.nl_pseg.specs.Answers.{IfPlaced, IsFault, IsPlaced}
 use Rattle.nl_pseg.specs.Effects.{Crashes, Keeps, Programmed}
 use Rattle.nl_pseg.specs.Pages.{page_with}
-use Rattle.nl_pseg.specs.Segment.{Physical, IsClean, IsDead, IsNext, IsPhysicalOf, IsReady, IsSpent, IsUnspent, KeepsBlock, SamePages, is_free, is_soiled, soiled, use_at, wear}
+use Rattle.nl_pseg.specs.Segment.{Physical, IsClean, IsDead, IsNext, IsPhysicalOf, IsReady, IsSpent, IsUnspent, KeepsBlock, SamePages, is_free, is_soiled, soiled, use_at, wear_of}
 use Rattle.nl_pseg.specs.Seen.{use_in, use_with}
 use Rattle.nl_pseg.specs.declared.held.Held.{Held}
 
@@ -113,5 +113,5 @@ pub record IsAlone (page : ℕ) (value : Page) (old new : Image) : Type 0 where
 
 -- what it does to the medium
 pub record PlacingOn {M : Type 0} (clock : M → ℕ) (contents : M → Image) (left : M → ℕ → Image → Type 0) (tag : Tag) (stamp : ℕ) (main : List ℕ) (answer : Named) (seg : Physical) (old new : M) : Type 0 where
-  pub programmed : IfPlaced answer (λ at. Programmed seg at.name (written (page_with main tag stamp (wear seg (at.name / seg.size)))) (contents old) (contents new))
+  pub programmed : IfPlaced answer (λ at. Programmed seg at.name (written (page_with main tag stamp (wear_of seg (at.name / seg.size)))) (contents old) (contents new))
   pub crash : Crashes clock contents left seg tag stamp main old new answer

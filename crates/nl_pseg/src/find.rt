@@ -1,7 +1,9 @@
-ghost use Rattle.std.specs.Prelude.{◌≡◌, ◌↔◌, ◌<◌, [], slice_set, slice_index_or, None, IsSome, IfSome};
+ghost use Rattle.std.specs.Prelude.{◌≡◌, ◌↔◌, ◌<◌, [], slice_set, slice_index_or, None, IsSome, IfSome, IsTrue};
+ghost use Rattle.std.specs.Bool.{OnTrue, OnFalse};
 ghost use Rattle.nl_field.specs.Live.{resolve};
+ghost use Rattle.nl_field.specs.Page.{Image};
 ghost use Rattle.nl_blocks.specs.Table.{free_count};
-ghost use Rattle.nl_pseg.specs.Segment.{InSegment, IsLive, IsUnspent, SamePages};
+ghost use Rattle.nl_pseg.specs.Segment.{InSegment, IsLive, IsPhysicalOf, IsUnspent, SamePages};
 ghost use Rattle.nl_pseg.specs.Seen.{seen, IsFormed};
 
 use crate::held::Held;
@@ -71,5 +73,23 @@ impl State {
     {
         mark(&mut self.blocks, page, false);
         self.held[page as usize] = None;
+    }
+
+    /// The page to which the pointer leads is dead. False exactly where it leads to no live page of its number.
+    pub fn free(&mut self, at: Pointer) -> bool
+        requires formed { IsFormed self.old }
+        ensures formed { IsFormed self.new }
+        ensures found { IsTrue result ↔ IsLive (seen self.old) at }
+        ensures freed { OnTrue result (self.new.held.items ≡ slice_set self.old.held.items (resolve [] at.name) None) }
+        ensures pages { SamePages (seen self.old) (seen self.new) }
+        ensures space { IsUnspent (seen self.old) (seen self.new) }
+        ensures segment { (image : Image) → IsPhysicalOf image (seen self.old) → IsPhysicalOf image (seen self.new) }
+        ensures kept { OnFalse result (seen self.new ≡ seen self.old) }
+    {
+        let Some(place) = self.place_of(at) else {
+            return false;
+        };
+        self.end(place);
+        true
     }
 }

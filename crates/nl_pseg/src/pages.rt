@@ -18,7 +18,13 @@ fn look(buf: &PageBuf, tag: Tag, wanted: u64) -> Option<u64>
     let (found, same) = match spare_of(buf.spare()) {
         None => (0, false),
         Some(SpareRec::Virtual { stamp, .. }) => (stamp, false),
-        Some(SpareRec::Physical { tag: owner, stamp, .. }) => (stamp, owner == tag),
+        Some(
+            SpareRec::Physical {
+                tag: owner,
+                stamp,
+                ..
+            },
+        ) => (stamp, owner == tag),
     };
     if found != wanted {
         return Some(found);

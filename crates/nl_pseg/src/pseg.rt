@@ -8,7 +8,7 @@ ghost use Rattle.nl_nand.specs.Nand.{FaultsCounted, SameLeft};
 ghost use Rattle.nl_pseg.specs.Answers.{IfPlaced, IsFault, IsPlaced, ReadsHeld};
 ghost use Rattle.nl_pseg.specs.Effects.{Counted, Crashes, Programmed};
 ghost use Rattle.nl_pseg.specs.Pages.{page_with};
-ghost use Rattle.nl_pseg.specs.Segment.{CanLead, InSegment, IsClean, IsDead, IsLive, IsNewStamp, IsOldName, IsPhysicalOf, IsReady, IsSpent, IsUnspent, KeepsBlock, SamePages, TakenAsErased, held_at, is_free, is_kept, room, soiled, wear, without_target};
+ghost use Rattle.nl_pseg.specs.Segment.{CanLead, InSegment, IsClean, IsDead, IsLive, IsNewStamp, IsOldName, IsPhysicalOf, IsReady, IsSpent, IsUnspent, KeepsBlock, SamePages, TakenAsErased, held_at, is_free, is_kept, room, soiled, wear_of, without_target};
 ghost use Rattle.nl_pseg.specs.Seen.{Fits};
 ghost use Rattle.nl_pseg.specs.declared.held.Held.{Held as HeldOf};
 
@@ -52,7 +52,7 @@ impl PSeg {
         ensures each { IfOk result (λ s. (block : ℕ) → s.first ≤ block → block < s.blocks → is_free s block ≡ true) }
         ensures erased { IfOk result (λ s. (page : ℕ) → InSegment s page → TakenAsErased s page) }
         ensures clean { IfOk result IsClean }
-        ensures wear { IfOk result (λ s. (block : ℕ) → wear s block ≡ 0) }
+        ensures wear { IfOk result (λ s. (block : ℕ) → wear_of s block ≡ 0) }
         ensures room { IfOk result (λ s. room s + shape.now.pages ≡ shape.now.pblocks * shape.now.pages) }
         ensures kept { IfOk result KeepsBlock }
     {
@@ -80,8 +80,8 @@ impl PSeg {
         ensures free { self.new.free + cond (is_free self.old (page / self.old.size)) 1 0 ≡ self.old.free }
         ensures others { (block : ℕ) → (block ≡ page / self.old.size → ⊥) → (is_free self.new block ≡ is_free self.old block) × (is_kept self.new block ≡ is_kept self.old block) }
         ensures soiled { (block : ℕ) → soiled self.new block ≡ soiled self.old block }
-        ensures wear { wear self.new (page / self.old.size) ≡ unwrap_or (soiled self.old (page / self.old.size)) (wear self.old (page / self.old.size)) }
-        ensures wears { (block : ℕ) → (block ≡ page / self.old.size → ⊥) → wear self.new block ≡ wear self.old block }
+        ensures wear { wear_of self.new (page / self.old.size) ≡ unwrap_or (soiled self.old (page / self.old.size)) (wear_of self.old (page / self.old.size)) }
+        ensures wears { (block : ℕ) → (block ≡ page / self.old.size → ⊥) → wear_of self.new block ≡ wear_of self.old block }
         ensures erased { (p : ℕ) → TakenAsErased self.new p → TakenAsErased self.old p × (p / self.old.size ≡ page / self.old.size → ⊥) }
         ensures still { (p : ℕ) → TakenAsErased self.old p → (p / self.old.size ≡ page / self.old.size → ⊥) → TakenAsErased self.new p }
     {
@@ -102,8 +102,8 @@ impl PSeg {
         ensures same { (other : ℕ) → (is_free self.new other ≡ is_free self.old other) × (is_kept self.new other ≡ is_kept self.old other) }
         ensures soiled { soiled self.new block ≡ Some wear }
         ensures others { (other : ℕ) → (other ≡ block → ⊥) → soiled self.new other ≡ soiled self.old other }
-        ensures wear { wear self.new block ≡ cond (is_free self.old block) (min (wear + 1) (2 ^ 32 - 1)) wear }
-        ensures wears { (other : ℕ) → (other ≡ block → ⊥) → wear self.new other ≡ wear self.old other }
+        ensures wear { wear_of self.new block ≡ cond (is_free self.old block) (min (wear + 1) (2 ^ 32 - 1)) wear }
+        ensures wears { (other : ℕ) → (other ≡ block → ⊥) → wear_of self.new other ≡ wear_of self.old other }
         ensures erased { (p : ℕ) → TakenAsErased self.new p → TakenAsErased self.old p × (p / self.old.size ≡ block → ⊥) }
         ensures still { (p : ℕ) → TakenAsErased self.old p → (p / self.old.size ≡ block → ⊥) → TakenAsErased self.new p }
     {
@@ -197,7 +197,7 @@ impl PSeg {
         ensures clean { IsClean self.old → IsClean self.new }
         ensures kept { KeepsBlock self.old → KeepsBlock self.new }
         ensures segment { M.tells → IsPhysicalOf (M.contents media.new) self.new }
-        ensures programmed { M.tells → IfPlaced result (λ at. Programmed self.old at.name (written (page_with from.now.main tag stamp (wear self.old (at.name / self.old.size)))) (M.contents media.old) (M.contents media.new)) }
+        ensures programmed { M.tells → IfPlaced result (λ at. Programmed self.old at.name (written (page_with from.now.main tag stamp (wear_of self.old (at.name / self.old.size)))) (M.contents media.old) (M.contents media.new)) }
         ensures crash { M.tells → Crashes M.clock M.contents M.left self.old tag stamp from.now.main media.old media.new result }
         ensures geometry { M.geometry media.new ≡ M.geometry media.old }
         ensures counts { Counted M.clock M.read_faults M.write_faults (IsReady self.old) media.old media.new result }
@@ -233,7 +233,7 @@ impl PSeg {
         ensures clean { IsClean self.old → IsClean self.new }
         ensures kept { KeepsBlock self.old → KeepsBlock self.new }
         ensures segment { M.tells → IsPhysicalOf (M.contents media.new) self.new }
-        ensures programmed { M.tells → IfPlaced result (λ at. Programmed self.old at.name (written (page_with from.now.main tag stamp (wear self.old (at.name / self.old.size)))) (M.contents media.old) (M.contents media.new)) }
+        ensures programmed { M.tells → IfPlaced result (λ at. Programmed self.old at.name (written (page_with from.now.main tag stamp (wear_of self.old (at.name / self.old.size)))) (M.contents media.old) (M.contents media.new)) }
         ensures crash { M.tells → Crashes M.clock M.contents M.left self.old tag stamp from.now.main media.old media.new result }
         ensures geometry { M.geometry media.new ≡ M.geometry media.old }
         ensures counts { Counted M.clock M.read_faults M.write_faults (IsReady self.old) media.old media.new result }

@@ -1,8 +1,7 @@
-ghost use Rattle.std.specs.Prelude.{◌≡◌, ◌+◌, ◌*◌, ◌<◌, IfOk, IfSome, IsTrue, replicate, None};
+ghost use Rattle.std.specs.Prelude.{◌≡◌, ◌<◌, IfOk, IfSome, IsTrue};
 ghost use Rattle.nl_field.specs.Numbers.{is_legal, shape_for};
 ghost use Rattle.nl_field.specs.Spelling.{is_stamp};
-ghost use Rattle.nl_blocks.specs.Table.{new_table};
-ghost use Rattle.nl_pseg.specs.Seen.{seen, IsFormed};
+ghost use Rattle.nl_pseg.specs.Seen.{new_segment, seen, IsFormed};
 ghost use Rattle.nl_pseg.specs.Steps.{IsUsed};
 
 use crate::held::{Held, no_marks, no_pages};
@@ -32,11 +31,7 @@ impl State {
         requires legal { IsTrue (is_legal shape.now.blocks shape.now.pages) }
         requires numbers { shape.now ≡ shape_for shape.now.blocks shape.now.pages }
         ensures formed { IfOk result IsFormed }
-        ensures table { IfOk result (λ s. s.blocks ≡ new_table shape.now.vblocks shape.now.pblocks shape.now.pages) }
-        ensures held { IfOk result (λ s. s.held.items ≡ replicate (shape.now.blocks * shape.now.pages) None) }
-        ensures soiled { IfOk result (λ s. s.soiled.items ≡ replicate shape.now.blocks None) }
-        ensures used { IfOk result (λ s. s.used ≡ shape.now.pages) }
-        ensures blocks { shape.now.vblocks + shape.now.pblocks ≡ shape.now.blocks }
+        ensures seen { IfOk result (λ s. seen s ≡ new_segment shape.now) }
     {
         Ok(State {
             held: no_pages(alloc, shape.blocks * shape.pages)?,

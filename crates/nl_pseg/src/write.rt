@@ -1,12 +1,11 @@
 ghost use Rattle.std.specs.Prelude.{◌≡◌, ◌⊎◌, ◌*◌, ◌/◌, ◌<◌, ◌↔◌, [], slice_set, None, Some, IsTrue};
-ghost use Rattle.std.specs.Bool.{OnTrue, OnFalse};
 ghost use Rattle.nl_field.specs.Live.{resolve};
-ghost use Rattle.nl_field.specs.Page.{Image, written};
+ghost use Rattle.nl_field.specs.Page.{written};
 ghost use Rattle.nl_field.specs.Spelling.{is_stamp};
 ghost use Rattle.nl_pseg.specs.Answers.{IfPlaced, IsFault, IsPlaced, IsTried};
 ghost use Rattle.nl_pseg.specs.Effects.{Counted, Crashes, Programmed};
 ghost use Rattle.nl_pseg.specs.Pages.{page_with};
-ghost use Rattle.nl_pseg.specs.Segment.{IsClean, IsDead, IsLive, IsPhysicalOf, IsReady, IsSpent, IsUnspent, KeepsBlock, SamePages, room, wear};
+ghost use Rattle.nl_pseg.specs.Segment.{IsClean, IsDead, IsLive, IsPhysicalOf, IsReady, IsSpent, IsUnspent, KeepsBlock, SamePages, room, wear_of};
 ghost use Rattle.nl_pseg.specs.Seen.{seen, Fits, IsFormed};
 ghost use Rattle.nl_pseg.specs.Steps.{IsAlone, Placing, PlacingOn};
 
@@ -18,13 +17,7 @@ use nl_nand::{Nand, WriteAnswer};
 
 impl State {
     /// Programs the next page of the block that is written to.
-    fn put<M: Nand>(
-        &mut self,
-        media: &mut M,
-        tag: Tag,
-        from: &PageBuf,
-        stamp: u64,
-    ) -> Named
+    fn put<M: Nand>(&mut self, media: &mut M, tag: Tag, from: &PageBuf, stamp: u64) -> Named
         requires formed { IsFormed self.old }
         requires fits { Fits (M.geometry media.old) (seen self.old) }
         requires stamp { IsTrue (is_stamp stamp) }
@@ -35,7 +28,7 @@ impl State {
         ensures placing { Placing stamp (λ at. slice_set self.old.held.items at.name (Some (record { tag = tag; stamp = stamp }))) result (seen self.old) (seen self.new) }
         ensures segment { M.tells → IsPhysicalOf (M.contents media.new) (seen self.new) }
         ensures next { IfPlaced result (λ at. at.name ≡ (seen self.old).next) }
-        ensures alone { M.tells → IfPlaced result (λ at. IsAlone at.name (written (page_with from.now.main tag stamp (wear (seen self.old) (at.name / self.old.blocks.size)))) (M.contents media.old) (M.contents media.new)) }
+        ensures alone { M.tells → IfPlaced result (λ at. IsAlone at.name (written (page_with from.now.main tag stamp (wear_of (seen self.old) (at.name / self.old.blocks.size)))) (M.contents media.old) (M.contents media.new)) }
         ensures crash { M.tells → Crashes M.clock M.contents M.left (seen self.old) tag stamp from.now.main media.old media.new result }
         ensures geometry { M.geometry media.new ≡ M.geometry media.old }
         ensures counts { Counted M.clock M.read_faults M.write_faults (IsReady (seen self.old)) media.old media.new result }
@@ -56,13 +49,7 @@ impl State {
     }
 
     /// Programs a page for a new name, where there is room.
-    fn place<M: Nand>(
-        &mut self,
-        media: &mut M,
-        tag: Tag,
-        from: &PageBuf,
-        stamp: u64,
-    ) -> Named
+    fn place<M: Nand>(&mut self, media: &mut M, tag: Tag, from: &PageBuf, stamp: u64) -> Named
         requires formed { IsFormed self.old }
         requires fits { Fits (M.geometry media.old) (seen self.old) }
         requires stamp { IsTrue (is_stamp stamp) }
@@ -82,13 +69,7 @@ impl State {
         }
     }
 
-    pub fn write<M: Nand>(
-        &mut self,
-        media: &mut M,
-        tag: Tag,
-        from: &PageBuf,
-        stamp: u64,
-    ) -> Named
+    pub fn write<M: Nand>(&mut self, media: &mut M, tag: Tag, from: &PageBuf, stamp: u64) -> Named
         requires formed { IsFormed self.old }
         requires fits { Fits (M.geometry media.old) (seen self.old) }
         requires stamp { IsTrue (is_stamp stamp) }
@@ -99,7 +80,7 @@ impl State {
         ensures refused { result ≡ Named.NoPage → (seen self.new ≡ seen self.old) × (media.new ≡ media.old) }
         ensures placing { Placing stamp (λ at. slice_set self.old.held.items at.name (Some (record { tag = tag; stamp = stamp }))) result (seen self.old) (seen self.new) }
         ensures segment { M.tells → IsPhysicalOf (M.contents media.new) (seen self.new) }
-        ensures programmed { M.tells → IfPlaced result (λ at. Programmed (seen self.old) at.name (written (page_with from.now.main tag stamp (wear (seen self.old) (at.name / self.old.blocks.size)))) (M.contents media.old) (M.contents media.new)) }
+        ensures programmed { M.tells → IfPlaced result (λ at. Programmed (seen self.old) at.name (written (page_with from.now.main tag stamp (wear_of (seen self.old) (at.name / self.old.blocks.size)))) (M.contents media.old) (M.contents media.new)) }
         ensures crash { M.tells → Crashes M.clock M.contents M.left (seen self.old) tag stamp from.now.main media.old media.new result }
         ensures geometry { M.geometry media.new ≡ M.geometry media.old }
         ensures counts { Counted M.clock M.read_faults M.write_faults (IsReady (seen self.old)) media.old media.new result }
@@ -128,7 +109,7 @@ impl State {
         ensures refused { (result ≡ Named.NotLive) ⊎ (result ≡ Named.NoPage) → (seen self.new ≡ seen self.old) × (media.new ≡ media.old) }
         ensures placing { Placing stamp (λ at. slice_set (slice_set self.old.held.items at.name (Some (record { tag = tag; stamp = stamp }))) (resolve [] old.name) None) result (seen self.old) (seen self.new) }
         ensures segment { M.tells → IsPhysicalOf (M.contents media.new) (seen self.new) }
-        ensures programmed { M.tells → IfPlaced result (λ at. Programmed (seen self.old) at.name (written (page_with from.now.main tag stamp (wear (seen self.old) (at.name / self.old.blocks.size)))) (M.contents media.old) (M.contents media.new)) }
+        ensures programmed { M.tells → IfPlaced result (λ at. Programmed (seen self.old) at.name (written (page_with from.now.main tag stamp (wear_of (seen self.old) (at.name / self.old.blocks.size)))) (M.contents media.old) (M.contents media.new)) }
         ensures crash { M.tells → Crashes M.clock M.contents M.left (seen self.old) tag stamp from.now.main media.old media.new result }
         ensures geometry { M.geometry media.new ≡ M.geometry media.old }
         ensures counts { Counted M.clock M.read_faults M.write_faults (IsReady (seen self.old)) media.old media.new result }
@@ -147,23 +128,5 @@ impl State {
             Named::Fault => Named::Fault,
             Named::NotLive | Named::NoPage => unreachable!(),
         }
-    }
-
-    /// The page to which the pointer leads is dead. False exactly where it leads to no live page of its number.
-    pub fn free(&mut self, at: Pointer) -> bool
-        requires formed { IsFormed self.old }
-        ensures formed { IsFormed self.new }
-        ensures found { IsTrue result ↔ IsLive (seen self.old) at }
-        ensures freed { OnTrue result (self.new.held.items ≡ slice_set self.old.held.items (resolve [] at.name) None) }
-        ensures pages { SamePages (seen self.old) (seen self.new) }
-        ensures space { IsUnspent (seen self.old) (seen self.new) }
-        ensures segment { (image : Image) → IsPhysicalOf image (seen self.old) → IsPhysicalOf image (seen self.new) }
-        ensures kept { OnFalse result (seen self.new ≡ seen self.old) }
-    {
-        let Some(place) = self.place_of(at) else {
-            return false;
-        };
-        self.end(place);
-        true
     }
 }

@@ -48,8 +48,11 @@ returns-then-not-is_soiled-clause-opening g c =
     let s = c.args.self.now in
     let full : s.blocks.size ≤ s.used = (let f = c.if-self-pages.false in let e = c.pages.ensures in omega (arith, f, e)) in
     let formed = formed_restated s c.take-block.new.blocks c.take-block.result _ false c.requires.formed c.take-block.ensures.taken (λ room. absurd (omega (arith, room, full))) (λ yes. absurd (true≢false (sym yes))) in
-    inr (c.take-block.result, subst (IsOpened c.take-block.result (seen s)) (sym c.begin.ensures.opened)
-    (opened s c.take-block.new.blocks c.take-block.result c.requires.formed full (two_free _ s.used _ full c.requires.room) c.take-block.ensures.taken c.take-block.ensures.was_free formed))
+    inr (
+      c.take-block.result,
+      subst (IsOpened c.take-block.result (seen s)) (sym c.begin.ensures.opened)
+          (opened s c.take-block.new.blocks c.take-block.result c.requires.formed full (two_free _ s.used _ full c.requires.room) c.take-block.ensures.taken c.take-block.ensures.was_free formed),
+    )
 
 pub returns-then-not-is_soiled-clause-medium : goal.returns-then-not-is_soiled-clause-medium
 returns-then-not-is_soiled-clause-medium g c t =
@@ -75,8 +78,11 @@ returns-in-Done-clause-opening g c =
     let s = c.args.self.now in
     let full : s.blocks.size ≤ s.used = (let f = c.if-self-pages.false in let e = c.pages.ensures in omega (arith, f, e)) in
     let formed = formed_restated s c.take-block.new.blocks c.take-block.result _ false c.requires.formed c.take-block.ensures.taken (λ room. absurd (omega (arith, room, full))) (λ yes. absurd (true≢false (sym yes))) in
-    inr (c.take-block.result, subst (IsOpened c.take-block.result (seen s)) (sym c.begin-in-Done.ensures.opened)
-    (opened s c.take-block.new.blocks c.take-block.result c.requires.formed full (two_free _ s.used _ full c.requires.room) c.take-block.ensures.taken c.take-block.ensures.was_free formed))
+    inr (
+      c.take-block.result,
+      subst (IsOpened c.take-block.result (seen s)) (sym c.begin-in-Done.ensures.opened)
+          (opened s c.take-block.new.blocks c.take-block.result c.requires.formed full (two_free _ s.used _ full c.requires.room) c.take-block.ensures.taken c.take-block.ensures.was_free formed),
+    )
 
 pub returns-in-Done-clause-medium : goal.returns-in-Done-clause-medium
 returns-in-Done-clause-medium g c t =
@@ -129,11 +135,15 @@ returns-in-Failed-clause-opening g c =
     let worn : c.wear-wear.result ≡ (use_in s.blocks block).wear = c.wear-wear.ensures ∙ (sym (ap (λ (u : Use). u.wear) (use_here mid block has)) ∙ ap (λ (u : Use). u.wear) r.here) in
     let back : Restated block true (use_in s.blocks block).wear mid c.give_back.new.blocks = subst (λ n. Restated block true n mid c.give_back.new.blocks) worn c.give_back.ensures in
     let same = restated_same (free_use s block is c.take-block.ensures.was_free) (restated_again r back) in
-    let dirty : is_soiled (seen s) block ≡ true = sym c.is_soiled.ensures ∙ c.if-not-is_soiled.false in
-    (same_pages s c.give_back.new.blocks same, refl, same_unspent s c.give_back.new.blocks same, λ ready. ⊎_elim
-    (λ lt. let f = c.if-self-pages.false in let e = c.pages.ensures in omega (arith, lt, f, e))
-    (λ clean. true≢false (sym dirty ∙ clean block c.take-block.ensures.was_free))
-    ready)
+    let dirty : is_soiled (seen s) block ≡ true = sym c.is_soiled.ensures ∙ c.if-not-is_soiled.false in (
+      same_pages s c.give_back.new.blocks same,
+      refl,
+      same_unspent s c.give_back.new.blocks same,
+      λ ready. ⊎_elim
+          (λ lt. let f = c.if-self-pages.false in let e = c.pages.ensures in omega (arith, lt, f, e))
+          (λ clean. true≢false (sym dirty ∙ clean block c.take-block.ensures.was_free))
+          ready,
+    )
 
 pub returns-in-Failed-clause-medium : goal.returns-in-Failed-clause-medium
 returns-in-Failed-clause-medium g c t =

@@ -1,0 +1,17 @@
+use Rattle.std.proofs.Common.{◌≡◌, ◌⊎◌, subst}
+use Rattle.nl_pseg.specs.Answers.{IsFault}
+use Rattle.nl_pseg.specs.Effects.{Counted}
+use Rattle.nl_pseg.specs.Segment.{Physical, IsClean, IsReady, IsSpent, IsUnspent}
+use Rattle.nl_pseg.specs.Seen.{seen}
+use Rattle.nl_pseg.proofs.pseg.PSeg.nameless_overwrite.Goals as goal
+
+pub returns-clause-failed : goal.returns-clause-failed
+returns-clause-failed g c =
+    subst (λ (s : Physical). IsFault c.overwrite.result → IsSpent s (seen c.overwrite.new.self) ⊎ (IsUnspent s (seen c.overwrite.new.self) × (IsReady s → ⊥))) c.self.view_is c.overwrite.ensures.placing.failed
+
+pub returns-clause-clean : goal.returns-clause-clean
+returns-clause-clean g c = subst (λ (s : Physical). IsClean s → IsClean (seen c.overwrite.new.self)) c.self.view_is c.overwrite.ensures.placing.clean
+
+pub returns-clause-counts : goal.returns-clause-counts
+returns-clause-counts g c =
+    subst (λ (s : Physical). Counted g.M.Nand.clock g.M.Nand.read_faults g.M.Nand.write_faults (IsReady s) c.args.media.now c.overwrite.new.media c.overwrite.result) c.self.view_is c.overwrite.ensures.counts
