@@ -1,5 +1,7 @@
 pub mod Forms
+pub mod Gathered
 pub mod Made
+pub mod Noting
 pub mod PhysicalPages
 pub mod Showing
 pub mod VirtualPages

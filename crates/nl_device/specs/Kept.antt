@@ -1,5 +1,6 @@
 -- What is kept of a scan until the opening is done: the readable pages of the physical segment, and where the copies of a stamp lie.
-use Rattle.std.specs.Prelude.{◌≡◌, ℕ, ◌+◌, ◌*◌, ◌/◌, ◌<◌, ◌≤◌, ◌==◌, nat_le, Bool, not, ◌&&◌, ◌||◌, if◌then◌else◌, List, find, filter_map, All, Option, Some, None, option_map}
+use Rattle.std.specs.Prelude.{◌≡◌, ℕ, ◌+◌, ◌*◌, ◌/◌, ◌<◌, ◌≤◌, ◌==◌, nat_le, Bool, not, ◌&&◌, ◌||◌, if◌then◌else◌, List, find, filter_map, All, Option, Some, None, option_map, IsTrue}
+use Rattle.nl_field.specs.Spelling.{is_stamp}
 use Rattle.std.specs.List.{list_all, list_any, range_with_len, AllPairs}
 use Rattle.std.specs.Ordering.{nat_cmp}
 use Rattle.std.specs.BTreeMap.{BTreeMap, get}
@@ -49,10 +50,11 @@ copies_of size pages stamp = option_map (λ k. record { first = k.page; apart = 
 abbrev pub AreNoted : ℕ → List KeptPage → BTreeMap ℕ Copies → Type 0
 AreNoted size pages copies = (stamp : ℕ) → get nat_cmp copies stamp ≡ copies_of size pages stamp
 
--- a page of the segment
+-- a page of the segment, whose stamp has a spelling
 pub record IsOfSegment (first count size : ℕ) (k : KeptPage) : Type 0 where
   pub from_first : first ≤ k.page / size
   pub to_last : k.page / size < first + count
+  pub spelled : IsTrue (is_stamp k.stamp)
 
 -- what holds of what is kept
 pub record IsKept (kept : KeptPages) (copies : BTreeMap ℕ Copies) : Type 0 where
