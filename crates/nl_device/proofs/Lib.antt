@@ -1,8 +1,10 @@
 pub mod Forms
+pub mod Gathered
 pub mod Kept
 pub mod Living
 pub mod Made
 pub mod Naming
+pub mod Noting
 pub mod PhysicalPages
 pub mod Placing
 pub mod Ranges

@@ -1,4 +1,6 @@
+pub mod Copies
 pub mod Device
+pub mod Kept
 pub mod Laws
 pub mod Medium
 pub mod Shown

@@ -3,6 +3,7 @@
 
 mod counts;
 mod device;
+mod kept;
 mod named_pages;
 mod opening;
 mod stamps;

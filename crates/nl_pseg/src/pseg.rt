@@ -83,6 +83,7 @@ impl PSeg {
         ensures soiled { (block : ℕ) → soiled self.new block ≡ soiled self.old block }
         ensures wear { wear_of self.new (page / self.old.size) ≡ unwrap_or (soiled self.old (page / self.old.size)) (wear_of self.old (page / self.old.size)) }
         ensures wears { (block : ℕ) → (block ≡ page / self.old.size → ⊥) → wear_of self.new block ≡ wear_of self.old block }
+        ensures left { self.new.left ≤ self.old.left }
         ensures erased { (p : ℕ) → TakenAsErased self.new p → TakenAsErased self.old p × (p / self.old.size ≡ page / self.old.size → ⊥) }
         ensures still { (p : ℕ) → TakenAsErased self.old p → (p / self.old.size ≡ page / self.old.size → ⊥) → TakenAsErased self.new p }
     {
