@@ -1,6 +1,6 @@
+pub mod Calls
 pub mod Forms
 pub mod Gathered
-pub mod Kept
 pub mod Living
 pub mod Made
 pub mod Naming

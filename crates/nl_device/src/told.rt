@@ -16,6 +16,7 @@ impl<M: Nand> Device<M> {
             vseg: _,
             pseg: _,
             next: _,
+            kept: _,
         } = self;
         media
     }

@@ -6,7 +6,7 @@ use Rattle.nl_pseg.specs.Segment.{held_at}
 use Rattle.nl_pseg.specs.declared.held.Held.{Held}
 use Rattle.nl_device.specs.Device.{IsDevice}
 use Rattle.nl_device.specs.Space.{live_in}
-use Rattle.nl_device.proofs.Kept.{device_with, held_from, in_within, medium_with, no_pair}
+use Rattle.nl_device.proofs.Calls.{device_with, held_from, in_within, medium_with, no_pair}
 use Rattle.nl_device.proofs.Living.{clear_held, live_less, moved_in, unspent_blank}
 use Rattle.nl_device.proofs.Spacing.{freed, one_less, unspent_free}
 use Rattle.nl_device.proofs.named_pages.DeviceNamedPages.free.Goals as goal

@@ -19,7 +19,7 @@ use Rattle.nl_device.specs.Laws.{held_of}
 use Rattle.nl_device.specs.Shown.{bytes_at, live_page}
 use Rattle.nl_device.specs.Space.{live_in, space_of}
 use Rattle.nl_device.proofs.Forms.{begins, lift}
-use Rattle.nl_device.proofs.Kept.{device_with, held_from, in_within, is_leads, leads_is, live_or, medium_with, no_pair}
+use Rattle.nl_device.proofs.Calls.{device_with, held_from, in_within, is_leads, leads_is, live_or, medium_with, no_pair}
 use Rattle.nl_device.proofs.Living.{live_kept, live_swap, swap_held, swap_live}
 use Rattle.nl_device.proofs.Made.{bytes_from}
 use Rattle.nl_device.proofs.Naming.{either_live, either_low, in_block, leaves_names, leaves_new, live_bytes, map_same, placed_takes, shown_from, stray_same, to_takes}

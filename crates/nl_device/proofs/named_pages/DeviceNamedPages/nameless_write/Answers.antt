@@ -16,7 +16,7 @@ use Rattle.nl_device.specs.Laws.{held_of}
 use Rattle.nl_device.specs.Shown.{bytes_at, live_page}
 use Rattle.nl_device.specs.Space.{live_in, space_of}
 use Rattle.nl_device.proofs.Forms.{begins, lift}
-use Rattle.nl_device.proofs.Kept.{device_with, in_within, medium_with}
+use Rattle.nl_device.proofs.Calls.{device_with, in_within, medium_with}
 use Rattle.nl_device.proofs.Living.{live_kept, live_more, set_held, set_live}
 use Rattle.nl_device.proofs.Made.{bytes_from}
 use Rattle.nl_device.proofs.Naming.{either_live, either_low, in_block, leaves_names, leaves_new, live_bytes, map_same, placed_takes, shown_from, stray_same, to_takes}
