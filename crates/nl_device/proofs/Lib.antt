@@ -1,8 +1,13 @@
+pub mod Alone
 pub mod Forms
 pub mod Gathered
+pub mod Loading
+pub mod Lookups
 pub mod Made
 pub mod Noting
 pub mod PhysicalPages
+pub mod Places
+pub mod Ranges
 pub mod Showing
 pub mod VirtualPages
 pub mod Writes

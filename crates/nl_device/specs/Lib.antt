@@ -2,6 +2,8 @@ pub mod Copies
 pub mod Device
 pub mod Kept
 pub mod Laws
+pub mod Marks
+pub mod Retain
 pub mod Shown
 pub mod Space
 pub mod Stamps

@@ -1,5 +1,5 @@
 use Rattle.std.proofs.Common.{◌≡◌, ◌*◌, ◌∙◌, ℕ, List, ◌∷◌, ◌++◌, [], ap, refl, subst, sym}
-use Rattle.std.proofs.Common.{All, BTreeMap, Global, Vec, arith, length, nat_cmp, ◌+◌, ◌<◌}
+use Rattle.std.proofs.Common.{All, BTreeMap, Global, Vec, arith, length, nat_cmp, ◌+◌, ◌<◌, ◌^◌}
 use Rattle.std.specs.BTreeMap.{get}
 use Rattle.std.specs.List.{AllPairs}
 use Rattle.nl_scan.specs.Tables.{IsSeen}
@@ -47,6 +47,7 @@ pub invariant_of-result : goal.invariant_of-result
 invariant_of-result c =
     record {
       some = c.requires.some;
+      few = subst (λ n. c.args.shape.now.vblocks + n < 2 ^ 32) (sym (sym c.in_ok-vec.field-0.ok.0 ∙ c.in_ok-vec.ensures.len)) c.requires.few;
       rising = subst (AllPairs (λ a b. a.page < b.page)) (sym (gathered c)) (kept_rising (c.args.shape.now.vblocks * c.args.shape.now.pages) c.args.tables.now.seen c.requires.rising);
       within = subst (All (IsOfSegment c.args.shape.now.vblocks (length c.in_ok-vec.field-0.items) c.args.shape.now.pages)) (sym (gathered c))
           (kept_within c.args.shape.now.vblocks (length c.in_ok-vec.field-0.items) c.args.shape.now.pages c.args.tables.now.seen c.requires.some
