@@ -1,4 +1,5 @@
 pub mod Alone
+pub mod Counted
 pub mod Forms
 pub mod Gathered
 pub mod Loading
@@ -8,6 +9,7 @@ pub mod Noting
 pub mod PhysicalPages
 pub mod Places
 pub mod Ranges
+pub mod Retaining
 pub mod Showing
 pub mod VirtualPages
 pub mod Writes
