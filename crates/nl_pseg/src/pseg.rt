@@ -51,6 +51,7 @@ impl PSeg {
         ensures free { IfOk result (λ s. s.free ≡ shape.now.pblocks) }
         ensures each { IfOk result (λ s. (block : ℕ) → s.first ≤ block → block < s.blocks → is_free s block ≡ true) }
         ensures erased { IfOk result (λ s. (page : ℕ) → InSegment s page → TakenAsErased s page) }
+        ensures within { IfOk result (λ s. (page : ℕ) → TakenAsErased s page → InSegment s page) }
         ensures clean { IfOk result IsClean }
         ensures wear { IfOk result (λ s. (block : ℕ) → wear_of s block ≡ 0) }
         ensures room { IfOk result (λ s. room s + shape.now.pages ≡ shape.now.pblocks * shape.now.pages) }
@@ -100,6 +101,7 @@ impl PSeg {
         ensures blocks { self.new.blocks ≡ self.old.blocks }
         ensures pages { self.new.size ≡ self.old.size }
         ensures free { self.new.free ≡ self.old.free }
+        ensures left { self.new.left ≤ self.old.left }
         ensures same { (other : ℕ) → (is_free self.new other ≡ is_free self.old other) × (is_kept self.new other ≡ is_kept self.old other) }
         ensures soiled { soiled self.new block ≡ Some wear }
         ensures others { (other : ℕ) → (other ≡ block → ⊥) → soiled self.new other ≡ soiled self.old other }
@@ -197,6 +199,7 @@ impl PSeg {
         ensures failed { IsFault result → IsSpent self.old self.new ⊎ (IsUnspent self.old self.new × (IsReady self.old → ⊥)) }
         ensures clean { IsClean self.old → IsClean self.new }
         ensures kept { KeepsBlock self.old → KeepsBlock self.new }
+        ensures within { (p : ℕ) → TakenAsErased self.new p → InSegment self.new p }
         ensures segment { M.tells → IsPhysicalOf (M.contents media.new) self.new }
         ensures programmed { M.tells → IfPlaced result (λ at. Programmed self.old at.name (written (page_with from.now.main tag stamp (wear_of self.old (at.name / self.old.size)))) (M.contents media.old) (M.contents media.new)) }
         ensures crash { M.tells → Crashes M.clock M.contents M.left self.old tag stamp from.now.main media.old media.new result }
@@ -233,6 +236,7 @@ impl PSeg {
         ensures failed { IsFault result → IsSpent self.old self.new ⊎ (IsUnspent self.old self.new × (IsReady self.old → ⊥)) }
         ensures clean { IsClean self.old → IsClean self.new }
         ensures kept { KeepsBlock self.old → KeepsBlock self.new }
+        ensures within { (p : ℕ) → TakenAsErased self.new p → InSegment self.new p }
         ensures segment { M.tells → IsPhysicalOf (M.contents media.new) self.new }
         ensures programmed { M.tells → IfPlaced result (λ at. Programmed self.old at.name (written (page_with from.now.main tag stamp (wear_of self.old (at.name / self.old.size)))) (M.contents media.old) (M.contents media.new)) }
         ensures crash { M.tells → Crashes M.clock M.contents M.left self.old tag stamp from.now.main media.old media.new result }

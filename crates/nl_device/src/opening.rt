@@ -1,0 +1,2 @@
+//! What an opening takes from a scan.
+pub mod spare;
