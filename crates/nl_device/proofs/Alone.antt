@@ -96,11 +96,11 @@ a_page : (o : Option KeptPage) → not (is_some (option_map (λ k. k.page) o)) �
 a_page None is = absurd (true≢false is)
 a_page (Some k) is = (k, refl)
 
-or_false : (b : Bool) → (b || false) ≡ b
+pub or_false : (b : Bool) → (b || false) ≡ b
 or_false true = refl
 or_false false = refl
 
-or_true : (b : Bool) → (b || true) ≡ true
+pub or_true : (b : Bool) → (b || true) ≡ true
 or_true true = refl
 or_true false = refl
 

@@ -3,7 +3,8 @@ use Rattle.std.proofs.Common.{◌≡◌, ℕ, zero, suc, ◌+◌, ◌<◌, ◌�
 use Rattle.std.specs.Prelude.{find, sum_by}
 use Rattle.std.specs.List.{count_by, range_with_len}
 use Rattle.std.proofs.lemmas.Bool.{cases_Bool, cases_eq, cond-false, cond-true}
-use Rattle.std.proofs.lemmas.List.Sums.{sum_by-cons, sum_by-set}
+use Rattle.std.proofs.lemmas.List.Sums.{count_by-le-length, sum_by-cons, sum_by-set}
+use Rattle.std.proofs.lemmas.List.FromFn.{length-range_with_len}
 use Rattle.std.proofs.lemmas.Option.{none-some, same_Some}
 use Rattle.nl_pseg.specs.declared.held.Held.{Held}
 use Rattle.nl_device.specs.Space.{live_in}
@@ -38,20 +39,22 @@ count_less f g first (suc n) at low high same gone =
     omega (arith, count_next f first n, count_next g first n, now, rest))
     (cases_eq first at)
 
-pub count_all : (f : ℕ → Bool) (first n : ℕ) → ((x : ℕ) → first ≤ x → x < first + n → f x ≡ true) → count_by f (range_with_len first n) ≡ n
-count_all f first zero all = refl
-count_all f first (suc n) all =
-    let here : bit (f first) ≡ 1 = ap bit (all first (omega arith) (omega arith)) in
-    let rest = count_all f (first + 1) n (λ x low high. all x (omega (arith, low)) (omega (arith, high))) in
-    omega (arith, count_next f first n, here, rest)
+count_most : (f : ℕ → Bool) (first n : ℕ) → count_by f (range_with_len first n) ≤ n
+count_most f first n = let a = count_by-le-length f (range_with_len first n) in let b = length-range_with_len first n in omega (arith, a, b)
 
-pub count_some : (f : ℕ → Bool) (first n at : ℕ) → first ≤ at → at < first + n → f at ≡ true → 1 ≤ count_by f (range_with_len first n)
-count_some f first zero at low high is = absurd (omega (arith, low, high))
-count_some f first (suc n) at low high is =
+-- one of the numbers does not pass
+pub count_all_but : (f : ℕ → Bool) (first n at : ℕ) → first ≤ at → at < first + n → f at ≡ false → count_by f (range_with_len first n) + 1 ≤ n
+count_all_but f first zero at low high fails = absurd (omega (arith, low, high))
+count_all_but f first (suc n) at low high fails =
+    let most = count_most f (first + 1) n in
     ⊎_elim
-    (λ here. let one : bit (f first) ≡ 1 = ap bit (ap f here ∙ is) in omega (arith, count_next f first n, one))
-    (λ apart. let rest = count_some f (first + 1) n at (omega (arith, low, apart)) (omega (arith, high)) is in omega (arith, count_next f first n, rest))
+    (λ here. let none : bit (f first) ≡ 0 = ap bit (ap f here ∙ fails) in omega (arith, count_next f first n, none, most))
+    (λ apart. let rest = count_all_but f (first + 1) n at (omega (arith, low, apart)) (omega (arith, high)) fails in let small = bit_most (f first) in omega (arith, count_next f first n, rest, small))
     (cases_eq first at)
+  where
+    bit_most : (b : Bool) → bit b ≤ 1
+    bit_most true = omega arith
+    bit_most false = omega arith
 
 -- what is found is a number of the range
 pub found_between : (f : ℕ → Bool) (first n at : ℕ) → find f (range_with_len first n) ≡ Some at → (first ≤ at) × (at < first + n)

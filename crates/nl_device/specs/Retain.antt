@@ -1,6 +1,6 @@
 -- Which pointers are live after an opening, and where.
-use Rattle.std.specs.Prelude.{◌≡◌, ◌≢◌, ℕ, ◌+◌, ◌*◌, ◌/◌, ◌<◌, ◌≤◌, ◌==◌, not, Bool, true, false, cond, List, [], find, length, map, filter, slice_get, slice_set, All, Option, Some, None, IsSome, option_map, IsTrue}
-use Rattle.std.specs.List.{AllPairs, count_by, range_with_len}
+use Rattle.std.specs.Prelude.{◌≡◌, ◌≢◌, ℕ, ◌+◌, ◌*◌, ◌/◌, ◌<◌, ◌≤◌, ◌==◌, not, Bool, true, false, cond, List, [], find, length, map, take, filter, slice_get, slice_set, All, Option, Some, None, IsSome, option_map, IsTrue}
+use Rattle.std.specs.List.{AllPairs, count_by, list_any, range_with_len}
 use Rattle.nl_field.specs.Spelling.{is_stamp}
 use Rattle.nl_field.specs.declared.pointer.Pointer.{Pointer}
 use Rattle.nl_pseg.specs.Segment.{IsNewStamp, Physical, TakenAsErased, held_at, is_free, soiled}
@@ -27,13 +27,8 @@ pub record IsSegmentFor (kept : KeptPages) (seg : Physical) : Type 0 where
   pub blocks : seg.blocks ≡ kept.first + kept.count
   pub size : seg.size ≡ kept.size
 
--- how many blocks of the segment are Free
-abbrev pub count_free : Physical → ℕ → ℕ → ℕ
-count_free seg first count = count_by (λ block. is_free seg block) (range_with_len first count)
-
 -- Each block is Free, no page is live, and there is no pair.
 pub record IsFresh (seg : Physical) : Type 0 where
-  pub all_free : (block : ℕ) → seg.first ≤ block → block < seg.blocks → is_free seg block ≡ true
   pub count : seg.first + seg.free ≡ seg.blocks
   pub no_live : (page : ℕ) → held_at seg page ≡ None
   pub pages : length seg.held ≡ seg.blocks * seg.size
@@ -78,6 +73,10 @@ pub record Loads (kept : KeptPages) (p : Pointer) (old new : Physical) : Type 0 
   pub left : new.left ≤ old.left
   pub erased : (q : ℕ) → TakenAsErased new q → TakenAsErased old q
 
+-- a page of one of these names lies in the block
+abbrev pub is_taken : KeptPages → List Pointer → ℕ → Bool
+is_taken kept pointers block = list_any (λ p. p.name / kept.size == block) pointers
+
 -- the first pointers are loaded, so many of them
 pub record Retains (kept : KeptPages) (pointers : List Pointer) (at : ℕ) (old seg : Physical) : Type 0 where
   pub segment : IsSegmentFor kept seg
@@ -86,8 +85,8 @@ pub record Retains (kept : KeptPages) (pointers : List Pointer) (at : ℕ) (old 
   pub live : live_in seg.held ≡ at
   pub pages : length seg.held ≡ length old.held
   pub no_pairs : seg.pairs ≡ []
-  pub spare_free : (block : ℕ) → spare_for kept pointers ≡ Some block → is_free seg block ≡ true
-  pub counted : seg.free ≡ count_free seg kept.first kept.count
+  pub taken_busy : (block : ℕ) → is_taken kept (take at pointers) block ≡ true → is_free seg block ≡ false
+  pub counted : kept.count ≤ seg.free + count_by (is_taken kept (take at pointers)) (range_with_len kept.first kept.count)
   pub free_before : (block : ℕ) → is_free seg block ≡ true → is_free old block ≡ true
   pub same_soiled : (block : ℕ) → soiled seg block ≡ soiled old block
   pub left : seg.left ≤ old.left

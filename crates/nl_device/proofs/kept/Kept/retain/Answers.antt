@@ -5,7 +5,7 @@ use Rattle.nl_device.proofs.Retaining.{are_retained, can_load, one_free, retains
 use Rattle.nl_device.proofs.kept.Kept.retain.Goals as goal
 
 pub listed-init : goal.listed-init
-listed-init c = record { retains = retains_none c.args.self.now c.args.list.now.items c.args.pseg.now c.requires.segment c.requires.fresh c.requires.can }
+listed-init c = record { retains = retains_none c.args.self.now c.args.list.now.items c.args.pseg.now c.requires.segment c.requires.fresh }
 
 pub load-requires-clause-can : goal.load-requires-clause-can
 load-requires-clause-can c =
@@ -28,4 +28,6 @@ returns-clause-retained c =
     are_retained c.args.self.now c.self.inside.copies c.args.list.now.items c.listed.at c.args.pseg.now c.listed.pseg is c.requires.can c.listed.invariant.retains (omega (arith, c.listed-test.false, c.len-at-end.ensures.count))
 
 pub returns-clause-free : goal.returns-clause-free
-returns-clause-free c = one_free c.args.self.now c.args.list.now.items c.listed.at c.args.pseg.now c.listed.pseg c.requires.can c.listed.invariant.retains
+returns-clause-free c =
+    let is = subst (λ k. IsKept k c.self.inside.copies) c.self.view_is c.self.invariant in
+    one_free c.args.self.now c.self.inside.copies c.args.list.now.items c.listed.at c.args.pseg.now c.listed.pseg is c.requires.can c.listed.invariant.retains (omega (arith, c.listed-test.false, c.len-at-end.ensures.count))
