@@ -25,7 +25,7 @@ other_number : (n m : ℕ) → (n ≡ m → ⊥) → (n == m) ≡ false
 other_number n m apart = grind (arith, nat_tests)
 
 -- where none passes a test, none passes a stronger one
-none_stronger : {X : Type 0} (p q : X → Bool) (xs : List X) → find p xs ≡ None → find (λ x. p x && q x) xs ≡ None
+pub none_stronger : {X : Type 0} (p q : X → Bool) (xs : List X) → find p xs ≡ None → find (λ x. p x && q x) xs ≡ None
 none_stronger p q [] none = refl
 none_stronger {X} p q (x ∷ xs) none = by (p x) none (none_stronger p q xs)
   where

@@ -1,5 +1,5 @@
 -- What is kept of a scan until the opening is done: the readable pages of the physical segment, and where the copies of a stamp lie.
-use Rattle.std.specs.Prelude.{◌≡◌, ℕ, ◌+◌, ◌*◌, ◌/◌, ◌<◌, ◌≤◌, ◌==◌, nat_le, Bool, not, ◌&&◌, ◌||◌, if◌then◌else◌, List, find, filter_map, All, Option, Some, None, option_map, IsTrue}
+use Rattle.std.specs.Prelude.{◌≡◌, ℕ, ◌+◌, ◌*◌, ◌/◌, ◌^◌, ◌<◌, ◌≤◌, ◌==◌, nat_le, Bool, not, ◌&&◌, ◌||◌, if◌then◌else◌, List, find, filter_map, All, Option, Some, None, option_map, IsTrue}
 use Rattle.nl_field.specs.Spelling.{is_stamp}
 use Rattle.std.specs.List.{list_all, list_any, range_with_len, AllPairs}
 use Rattle.std.specs.Ordering.{nat_cmp}
@@ -59,6 +59,7 @@ pub record IsOfSegment (first count size : ℕ) (k : KeptPage) : Type 0 where
 -- what holds of what is kept
 pub record IsKept (kept : KeptPages) (copies : BTreeMap ℕ Copies) : Type 0 where
   pub some : 0 < kept.size
+  pub few : kept.first + kept.count < 2 ^ 32
   pub rising : AllPairs (λ a b. a.page < b.page) kept.pages
   pub within : All (IsOfSegment kept.first kept.count kept.size) kept.pages
   pub noted : AreNoted kept.size kept.pages copies
@@ -71,9 +72,13 @@ spare_among kept stamps =
     || list_any (λ q. not (q.page / kept.size == block) && q.stamp == r.stamp) kept.pages) kept.pages)
     (range_with_len kept.first kept.count)
 
+-- the page of its name has its stamp, and is outside the spare block
+abbrev pub is_at_name : KeptPages → Option ℕ → Pointer → Bool
+is_at_name kept spare p = has_stamp kept.pages p.name p.stamp && is_outside kept.size spare p.name
+
 -- The place of a pointer beside this spare block: its own name where that page has the stamp and is outside the block, and else the
 -- least page of that stamp outside it.
 unfoldable pub place_among : KeptPages → Option ℕ → Pointer → Option ℕ
 place_among kept spare p =
-    if has_stamp kept.pages p.name p.stamp && is_outside kept.size spare p.name then Some p.name
+    if is_at_name kept spare p then Some p.name
     else option_map (λ k. k.page) (find (λ k. k.stamp == p.stamp && is_outside kept.size spare k.page) kept.pages)

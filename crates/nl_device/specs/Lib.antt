@@ -2,7 +2,9 @@ pub mod Copies
 pub mod Device
 pub mod Kept
 pub mod Laws
+pub mod Marks
 pub mod Medium
+pub mod Retain
 pub mod Shown
 pub mod Space
 pub mod Spread

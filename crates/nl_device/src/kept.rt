@@ -1,4 +1,4 @@
-ghost use Rattle.std.specs.Prelude.{◌≡◌, ◌*◌, ◌+◌, ◌<◌, ◌++◌, ◌∷◌, [], All, IfOk, OnOk, Some, length};
+ghost use Rattle.std.specs.Prelude.{◌≡◌, ◌*◌, ◌+◌, ◌<◌, ◌^◌, ◌++◌, ◌∷◌, [], All, IfOk, OnOk, Some, length};
 ghost use Rattle.std.specs.List.{AllPairs};
 ghost use Rattle.std.specs.Ordering.{nat_cmp};
 ghost use Rattle.std.specs.BTreeMap.{get, Updates};
@@ -9,6 +9,9 @@ ghost use Rattle.nl_scan.specs.Tables.{IsSeen};
 
 mod copies;
 mod page;
+mod places;
+mod retain;
+mod spare;
 
 use copies::Copies;
 use nl_field::{Memory, Shape, SpareRec};
@@ -45,6 +48,7 @@ impl Kept {
     /// The pages of the physical segment that a scan saw.
     pub(crate) fn of(alloc: Global, tables: &ScanTables, shape: &Shape) -> Result<Kept, Memory>
         requires some { 0 < shape.now.pages }
+        requires few { shape.now.vblocks + shape.now.pblocks < 2 ^ 32 }
         requires rising { AllPairs (λ a b. a.page < b.page) tables.now.seen }
         requires within { All (IsSeen ((shape.now.vblocks + shape.now.pblocks) * shape.now.pages)) tables.now.seen }
         ensures { IfOk result (λ k. k ≡ record { first = shape.now.vblocks; count = shape.now.pblocks; size = shape.now.pages; pages = kept_pages (first_physical shape.now) tables.now.seen }) }
