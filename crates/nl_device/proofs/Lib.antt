@@ -1,7 +1,11 @@
 pub mod Forms
+pub mod Keys
 pub mod Made
+pub mod Owns
 pub mod PhysicalPages
+pub mod Picks
 pub mod Ranges
 pub mod Showing
+pub mod Spreads
 pub mod VirtualPages
 pub mod Writes

@@ -1,5 +1,6 @@
 pub mod Device
 pub mod Laws
+pub mod Opening
 pub mod Shown
 pub mod Space
 pub mod Spread
