@@ -94,11 +94,20 @@ lift media P Q leaves by = record {
 -- the two segments, after a write of the first
 pub kept_segments : {geometry now : Geometry} {shape : Shape} {old new : Segment} {pseg : Physical} → HasSegments geometry shape old pseg → now ≡ geometry → SameSize old new → HasSegments now shape new pseg
 kept_segments {geometry} {now} {shape} {old} {new} {pseg} has is same = subst (λ n. HasSegments n shape new pseg) (sym is) (record {
-  legal = has.legal; numbers = has.numbers; blocks = has.blocks; pages = has.pages; some = has.some; split = has.split;
+  legal = has.legal;
+  numbers = has.numbers;
+  blocks = has.blocks;
+  pages = has.pages;
+  some = has.some;
+  split = has.split;
+  rest = has.rest;
   virtual_pages = same.same_pages ∙ has.virtual_pages;
   virtual_bound = same.same_bound ∙ has.virtual_bound;
   addresses = same.addresses ∙ has.addresses;
-  physical_first = has.physical_first; physical_blocks = has.physical_blocks; physical_pages = has.physical_pages; physical_held = has.physical_held;
+  physical_first = has.physical_first;
+  physical_blocks = has.physical_blocks;
+  physical_pages = has.physical_pages;
+  physical_held = has.physical_held;
 })
 
 -- where the physical segment begins

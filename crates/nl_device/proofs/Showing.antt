@@ -41,19 +41,39 @@ some_greatest v (x ∷ xs) = by (cases_eq (address_on x) v) (some_greatest v xs)
     by : (address_on x ≡ v) ⊎ (address_on x ≡ v → ⊥) → ((q : Readable) → In q xs → address_on q ≡ v → ⊥) ⊎ ((r : Readable) × IsGreatest v xs r)
         → ((q : Readable) → In q (x ∷ xs) → address_on q ≡ v → ⊥) ⊎ ((r : Readable) × IsGreatest v (x ∷ xs) r)
     by (inr ne) (inl none) = inl (λ q is at. ⊎_elim (λ same. ne (ap address_on same ∙ at)) (λ rest. none q rest at) is)
-    by (inr ne) (inr r) = inr (r.0, record {
-      there = inr r.1.there; at = r.1.at;
-      most = λ q is at. ⊎_elim (λ same. absurd (ne (ap address_on same ∙ at))) (λ rest. r.1.most q rest at) is })
-    by (inl is) (inl none) = inr (x, record {
-      there = inl refl; at = is;
-      most = λ q there at. ⊎_elim (λ same. let e = ap stamp_on same in omega (arith, e)) (λ rest. absurd (none q rest at)) there })
+    by (inr ne) (inr r) = inr (
+      r.0,
+      record {
+        there = inr r.1.there;
+        at = r.1.at;
+        most = λ q is at. ⊎_elim (λ same. absurd (ne (ap address_on same ∙ at))) (λ rest. r.1.most q rest at) is;
+      },
+    )
+    by (inl is) (inl none) = inr (
+      x,
+      record {
+        there = inl refl;
+        at = is;
+        most = λ q there at. ⊎_elim (λ same. let e = ap stamp_on same in omega (arith, e)) (λ rest. absurd (none q rest at)) there;
+      },
+    )
     by (inl is) (inr r) = elim (cases_lt (stamp_on r.0) (stamp_on x)) [
-      | inl lt ↦ inr (x, record {
-        there = inl refl; at = is;
-        most = λ q there at. ⊎_elim (λ same. let e = ap stamp_on same in omega (arith, e)) (λ rest. let le = r.1.most q rest at in omega (arith, lt, le)) there })
-      | inr le ↦ inr (r.0, record {
-        there = inr r.1.there; at = r.1.at;
-        most = λ q there at. ⊎_elim (λ same. let e = ap stamp_on same in omega (arith, e, le)) (λ rest. r.1.most q rest at) there })
+      | inl lt ↦ inr (
+        x,
+        record {
+          there = inl refl;
+          at = is;
+          most = λ q there at. ⊎_elim (λ same. let e = ap stamp_on same in omega (arith, e)) (λ rest. let le = r.1.most q rest at in omega (arith, lt, le)) there;
+        },
+      )
+      | inr le ↦ inr (
+        r.0,
+        record {
+          there = inr r.1.there;
+          at = r.1.at;
+          most = λ q there at. ⊎_elim (λ same. let e = ap stamp_on same in omega (arith, e, le)) (λ rest. r.1.most q rest at) there;
+        },
+      )
     ]
 
 first_none : (xs : List Readable) (o : Option Readable) → or_first_in xs o ≡ None → (r : Readable) → In r xs → ⊥
@@ -86,12 +106,14 @@ module _ (image : Image) (v : ℕ) where
       let parts = and_parts (address_on r == v) (has_greatest_stamp (virtual_pages image) r) passes in
       let at = eqb-true (address_on r) v parts.0 in
       record {
-        there = there; at = at;
+        there = there;
+        at = at;
         most = λ q is same. elim (cases_lt (stamp_on r) (stamp_on q)) [
           | inr le ↦ le
           | inl lt ↦ absurd (false≢true (sym (not-true (list_any (λ q. address_on q == address_on r && nat_lt (stamp_on r) (stamp_on q)) (virtual_pages image)) parts.1)
-          ∙ any_from (λ q. address_on q == address_on r && nat_lt (stamp_on r) (stamp_on q)) q (virtual_pages image) is (and_from (address_on q == address_on r) (nat_lt (stamp_on r) (stamp_on q)) (eq-eqb (address_on q) (address_on r) (same ∙ sym at)) (lt-ltb (stamp_on r) (stamp_on q) lt))))
-        ] }
+              ∙ any_from (λ q. address_on q == address_on r && nat_lt (stamp_on r) (stamp_on q)) q (virtual_pages image) is (and_from (address_on q == address_on r) (nat_lt (stamp_on r) (stamp_on q)) (eq-eqb (address_on q) (address_on r) (same ∙ sym at)) (lt-ltb (stamp_on r) (stamp_on q) lt))))
+        ];
+      }
 
   newest_some : (r : Readable) → newest image v ≡ Some r → IsGreatest v (virtual_pages image) r
   unfolding newest
@@ -112,7 +134,6 @@ module _ (image : Image) (v : ℕ) where
 module _ (image : Image) (map : ℕ → Option Value) (failed : ℕ → Value → Type 0)
     (there : (v s : ℕ) (main : List ℕ) → map v ≡ Some (s, main) → Shows (first_physical (shape_of_image image)) image v s main)
     (each : (v t : ℕ) (n : List ℕ) → Shows (first_physical (shape_of_image image)) image v t n → Dominated (map v) t n ⊎ failed v (t, n)) where
-
   at_value : (v : ℕ) → v < (shape_of_image image).vaddrs → (o : Option Readable) → newest image v ≡ o → (x : Option Value) → map v ≡ x → (option_map value_on o ≡ x) ⊎ ((y : Value) × (option_map value_on o ≡ Some y) × failed v y)
   at_value v below None picked None value = inl refl
   at_value v below None picked (Some x) value =
@@ -132,9 +153,9 @@ module _ (image : Image) (map : ℕ → Option Value) (failed : ℕ → Value �
       let stamp = q.3 in
       ⊎_elim
       (λ d. ⊎_elim
-        (λ older. absurd (omega (arith, older, most, stamp)))
-        (λ same. inl (λ i. Some (same.0 i, same.1 i)))
-        (subst (λ o. Dominated o (stamp_on r) r.main) value d))
+      (λ older. absurd (omega (arith, older, most, stamp)))
+      (λ same. inl (λ i. Some (same.0 i, same.1 i)))
+      (subst (λ o. Dominated o (stamp_on r) r.main) value d))
       (λ fails. inr (value_on r, refl, fails))
       (each v (stamp_on r) r.main shown)
 

@@ -1,5 +1,5 @@
 -- What holds of the tables of a device, and of a medium that tells its contents.
-use Rattle.std.specs.Prelude.{◌≡◌, ℕ, ◌+◌, ◌*◌, ◌<◌, ◌≤◌, List, [], length, true, Some, IsTrue}
+use Rattle.std.specs.Prelude.{◌≡◌, ℕ, ◌+◌, ◌-◌, ◌*◌, ◌<◌, ◌≤◌, List, [], length, true, Some, IsTrue}
 use Rattle.nl_field.specs.Numbers.{is_legal, shape_for}
 use Rattle.nl_field.specs.Page.{Image}
 use Rattle.nl_field.specs.declared.shape.Shape.{Shape}
@@ -23,6 +23,7 @@ pub record HasSegments (geometry : Geometry) (shape : Shape) (vseg : Segment) (p
   pub pages : geometry.pages ≡ shape.pages
   pub some : 0 < shape.pages
   pub split : shape.vblocks + shape.pblocks ≡ shape.blocks
+  pub rest : shape.blocks - shape.vblocks ≡ shape.pblocks
   pub virtual_pages : vseg.pages ≡ shape.pages
   pub virtual_bound : vseg.bound ≡ shape.vblocks * shape.pages
   pub addresses : length vseg.places ≡ shape.vaddrs

@@ -1,5 +1,5 @@
 -- What holds of each device whose tables stand.
-use Rattle.std.proofs.Common.{rules, tt, ◌≡◌, ℕ, ◌*◌, ◌<◌, ◌≤◌, ◌∙◌, List, [], Option, Some, None, option_map, length, refl, sym, ap, subst}
+use Rattle.std.proofs.Common.{rules, ◌≡◌, ℕ, ◌*◌, ◌-◌, ◌<◌, ◌≤◌, ◌∙◌, List, [], Option, Some, None, option_map, length, refl, sym, ap, subst}
 use Rattle.std.proofs.lemmas.Option.{none-some, same_Some}
 use Rattle.nl_field.specs.Live.{LiveEntry}
 use Rattle.nl_field.specs.Page.{Image}
@@ -15,6 +15,7 @@ use Rattle.nl_vseg.specs.Segment.{Segment}
 use Rattle.nl_vseg.specs.declared.place.Place.{Place}
 use Rattle.nl_device.specs.Device.{HasLive, HasSegments, IsDevice}
 use Rattle.nl_device.specs.Shown.{live_page, names_of}
+use Rattle.nl_device.specs.Space.{space_of}
 
 stamp_of_value : (image : Image) (place : Option Place) → option_map (λ (x : Value). x.0) (value_at image place) ≡ stamp_in_place place
 stamp_of_value image None = refl
@@ -71,3 +72,16 @@ pub live_under : {geometry : Geometry} {tells : Type 0} {image : Image} {shape :
 live_under {geometry} {tells} {image} {shape} {vseg} {pseg} {next} f p page is =
     let h = held_of (held_at pseg p) page is in
     subst (λ n. n < next) h.2 (f.stamp.live p h.0 h.1)
+
+-- the numbers of the space are those of the volume
+pub space_block : {geometry : Geometry} {tells : Type 0} {image : Image} {shape : Shape} {vseg : Segment} {pseg : Physical} {next : ℕ} → IsDevice geometry tells image shape vseg pseg next → (space_of pseg).block ≡ shape.pages
+unfolding space_of
+space_block f = f.segments.physical_pages
+
+pub space_all : {geometry : Geometry} {tells : Type 0} {image : Image} {shape : Shape} {vseg : Segment} {pseg : Physical} {next : ℕ} → IsDevice geometry tells image shape vseg pseg next → (space_of pseg).all ≡ shape.pblocks * shape.pages
+unfolding space_of
+space_all {shape = shape} f = (λ i. (f.segments.physical_blocks i - f.segments.physical_first i) * f.segments.physical_pages i) ∙ ap (λ n. n * shape.pages) f.segments.rest
+
+pub space_pairs : (pseg : Physical) → (space_of pseg).pairs ≡ length pseg.pairs
+unfolding space_of
+space_pairs pseg = refl

@@ -1,9 +1,8 @@
 use crate::device::Device;
 use nl_iface::Counts;
 use nl_nand::Nand;
-use std::process::Abort;
 
-impl<M: Nand + Drop + Abort> Counts for Device<M> {
+impl<M: Nand> Counts for Device<M> {
     ghost clock = { λ d. M.clock d.media };
 
     ghost read_faults = { λ d. M.read_faults d.media };

@@ -1,3 +1,4 @@
+use crate::kept::Kept;
 use nl_field::Shape;
 use nl_nand::Nand;
 use nl_pseg::PSeg;
@@ -12,4 +13,6 @@ pub struct Device<M: Nand> {
     pub(crate) pseg: PSeg,
     /// The stamp of the next page.
     pub(crate) next: u64,
+    /// What the scan of its start saw in the physical segment.
+    pub(crate) kept: Kept,
 }

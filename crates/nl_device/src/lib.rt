@@ -3,9 +3,11 @@
 
 mod counts;
 mod device;
+mod kept;
 mod named_pages;
 mod opening;
 mod stamps;
+mod told;
 mod virtual_pages;
 
 pub use device::Device;

@@ -1,22 +1,21 @@
-ghost use Rattle.nl_device.specs.Laws.{live_from, live_to, live_under, state_is};
+ghost use Rattle.nl_device.specs.Laws.{live_from, live_to, live_under, space_all, space_block, space_pairs, state_is};
 
 use crate::device::Device;
 use crate::stamps::{is_tried, stamp_after};
 use nl_field::{Named, NamedRead, PageBuf, Pointer, Tag};
 use nl_iface::NamedPages;
 use nl_nand::Nand;
-use std::process::Abort;
 
-impl<M: Nand + Drop + Abort> NamedPages for Device<M> {
+impl<M: Nand> NamedPages for Device<M> {
     ghost state = { λ s f. state_is (Self.bytes s) (Self.map s) f };
 
     ghost space = { λ s f. f.space };
 
-    ghost block = { ? };
+    ghost block = { λ s f. space_block f };
 
-    ghost all = { ? };
+    ghost all = { λ s f. space_all f };
 
-    ghost pairs = { ? };
+    ghost pairs = { λ s f. space_pairs s.pseg };
 
     ghost from_first = { λ s p page f is. live_from f p page is };
 
@@ -47,10 +46,10 @@ impl<M: Nand + Drop + Abort> NamedPages for Device<M> {
     }
 
     fn free(&mut self, at: Pointer) -> bool {
-        self.pseg.free(&self.media, at)
+        self.pseg.free(at)
     }
 
     fn resolve(&self, name: u32) -> u32 {
-        self.pseg.resolve(&self.media, name)
+        self.pseg.resolve(name)
     }
 }

@@ -19,6 +19,7 @@ impl State {
         ensures soiled { self.new.soiled.items ≡ self.old.soiled.items }
         ensures active { self.new.active ≡ self.old.active }
         ensures used { self.old.used ≤ self.new.used }
+        ensures left { self.new.blocks.size - self.new.used ≤ self.old.blocks.size - self.old.used }
         ensures idle { self.new.used < self.new.blocks.size → block ≡ self.new.active → ⊥ }
         ensures erased { (p : ℕ) → TakenAsErased (seen self.new) p → TakenAsErased (seen self.old) p }
         ensures still { (p : ℕ) → TakenAsErased (seen self.old) p → (p / self.old.blocks.size ≡ block → ⊥) → TakenAsErased (seen self.new) p }
@@ -55,6 +56,7 @@ impl State {
         ensures soiled { self.new.soiled.items ≡ self.old.soiled.items }
         ensures wear { (use_in self.new.blocks (page / self.old.blocks.size)).wear ≡ unwrap_or (slice_index_or self.old.soiled.items (page / self.old.blocks.size) None) ((use_in self.old.blocks (page / self.old.blocks.size)).wear) }
         ensures wears { (block : ℕ) → (block ≡ page / self.old.blocks.size → ⊥) → (use_in self.new.blocks block).wear ≡ (use_in self.old.blocks block).wear }
+        ensures left { self.new.blocks.size - self.new.used ≤ self.old.blocks.size - self.old.used }
         ensures erased { (p : ℕ) → TakenAsErased (seen self.new) p → TakenAsErased (seen self.old) p × (p / self.old.blocks.size ≡ page / self.old.blocks.size → ⊥) }
         ensures still { (p : ℕ) → TakenAsErased (seen self.old) p → (p / self.old.blocks.size ≡ page / self.old.blocks.size → ⊥) → TakenAsErased (seen self.new) p }
     {

@@ -83,6 +83,7 @@ impl PSeg {
         ensures soiled { (block : ℕ) → soiled self.new block ≡ soiled self.old block }
         ensures wear { wear_of self.new (page / self.old.size) ≡ unwrap_or (soiled self.old (page / self.old.size)) (wear_of self.old (page / self.old.size)) }
         ensures wears { (block : ℕ) → (block ≡ page / self.old.size → ⊥) → wear_of self.new block ≡ wear_of self.old block }
+        ensures left { self.new.left ≤ self.old.left }
         ensures erased { (p : ℕ) → TakenAsErased self.new p → TakenAsErased self.old p × (p / self.old.size ≡ page / self.old.size → ⊥) }
         ensures still { (p : ℕ) → TakenAsErased self.old p → (p / self.old.size ≡ page / self.old.size → ⊥) → TakenAsErased self.new p }
     {
@@ -198,6 +199,7 @@ impl PSeg {
         ensures failed { IsFault result → IsSpent self.old self.new ⊎ (IsUnspent self.old self.new × (IsReady self.old → ⊥)) }
         ensures clean { IsClean self.old → IsClean self.new }
         ensures kept { KeepsBlock self.old → KeepsBlock self.new }
+        ensures within { (p : ℕ) → TakenAsErased self.new p → InSegment self.new p }
         ensures segment { M.tells → IsPhysicalOf (M.contents media.new) self.new }
         ensures programmed { M.tells → IfPlaced result (λ at. Programmed self.old at.name (written (page_with from.now.main tag stamp (wear_of self.old (at.name / self.old.size)))) (M.contents media.old) (M.contents media.new)) }
         ensures crash { M.tells → Crashes M.clock M.contents M.left self.old tag stamp from.now.main media.old media.new result }
@@ -234,6 +236,7 @@ impl PSeg {
         ensures failed { IsFault result → IsSpent self.old self.new ⊎ (IsUnspent self.old self.new × (IsReady self.old → ⊥)) }
         ensures clean { IsClean self.old → IsClean self.new }
         ensures kept { KeepsBlock self.old → KeepsBlock self.new }
+        ensures within { (p : ℕ) → TakenAsErased self.new p → InSegment self.new p }
         ensures segment { M.tells → IsPhysicalOf (M.contents media.new) self.new }
         ensures programmed { M.tells → IfPlaced result (λ at. Programmed self.old at.name (written (page_with from.now.main tag stamp (wear_of self.old (at.name / self.old.size)))) (M.contents media.old) (M.contents media.new)) }
         ensures crash { M.tells → Crashes M.clock M.contents M.left self.old tag stamp from.now.main media.old media.new result }

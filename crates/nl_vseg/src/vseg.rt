@@ -4,7 +4,7 @@ ghost use Rattle.nl_field.specs.Numbers.{is_legal, shape_for};
 ghost use Rattle.nl_field.specs.Spelling.{is_stamp};
 ghost use Rattle.nl_nand.specs.Nand.{FaultsCounted, SameLeft};
 ghost use Rattle.nl_vseg.specs.Maps.{with_at};
-ghost use Rattle.nl_vseg.specs.Places.{map_of, place_of, stamp_for};
+ghost use Rattle.nl_vseg.specs.Places.{AreBelow, map_of, place_of, stamp_for};
 ghost use Rattle.nl_vseg.specs.Segment.{Fits, IsSegmentOf, KeepsSpare, SameSize, is_blank, wear_of};
 ghost use Rattle.nl_vseg.specs.Effects.{Counted, Keeps, Programmed, Takes};
 ghost use Rattle.nl_vseg.specs.Answers.{IsLost, LosesStamp, ReadsStamp, ReadsValue};
@@ -123,6 +123,8 @@ impl VSeg {
         requires segment { M.tells → IsSegmentOf (M.contents media.old) self.old }
         ensures spare { KeepsSpare self.new }
         ensures numbers { SameSize self.old self.new }
+        ensures below { AreBelow self.new.bound self.new.places }
+        ensures within { (p : ℕ) → is_blank self.new p ≡ true → p < self.new.bound }
         ensures done { result ≡ VirtualWrite.Done → (v : ℕ) → stamp_for self.new.places v ≡ (if v == vaddr then Some stamp else stamp_for self.old.places v) }
         ensures failed { (result ≡ VirtualWrite.Done → ⊥) → (v : ℕ) → stamp_for self.new.places v ≡ stamp_for self.old.places v }
         ensures room { 0 < self.old.room → result ≡ VirtualWrite.Done → self.new.room + 1 ≡ self.old.room }

@@ -21,11 +21,11 @@ returns-clause-crash g c t =
     let map : ℕ → Option Value = λ u. map_of d.vseg.places old u in
     let old_is = shape_is f.segments (g.met.M.Nand.contents_fit d.media t) in
     lift (λ d. d.media) _ _ (e.crash t) (λ m image l turned.
-      let image_is = shape_is f.segments (subst (λ n. ImageOf n image) e.geometry (g.met.M.Nand.left_fits c.virtual_write-answer.new.media m image t l)) in
-      ⊎_elim
-      (λ was. inl (was.0, keeps_leaves d.shape d.vseg.pages c.args.vaddr d.next c.args.from.now.main map old image old_is image_is (subst (λ b. Keeps d.vseg.pages b map old image) f.segments.virtual_bound was.1)))
-      (λ new. inr (takes_leaves d.shape d.vseg.pages c.args.vaddr d.next c.args.from.now.main map old image old_is image_is (subst (λ b. Takes d.vseg.pages b map c.args.vaddr d.next c.args.from.now.main old image) f.segments.virtual_bound new) (f.medium t).below))
-      turned)
+    let image_is = shape_is f.segments (subst (λ n. ImageOf n image) e.geometry (g.met.M.Nand.left_fits c.virtual_write-answer.new.media m image t l)) in
+    ⊎_elim
+    (λ was. inl (was.0, keeps_leaves d.shape d.vseg.pages c.args.vaddr d.next c.args.from.now.main map old image old_is image_is (subst (λ b. Keeps d.vseg.pages b map old image) f.segments.virtual_bound was.1)))
+    (λ new. inr (takes_leaves d.shape d.vseg.pages c.args.vaddr d.next c.args.from.now.main map old image old_is image_is (subst (λ b. Takes d.vseg.pages b map c.args.vaddr d.next c.args.from.now.main old image) f.segments.virtual_bound new) (f.medium t).below))
+    turned)
 
 pub returns-clause-failed : goal.returns-clause-failed
 returns-clause-failed g c t v x stray =
@@ -43,15 +43,15 @@ returns-clause-failed g c t v x stray =
     ⊎_elim
     (λ done. inl (stray_done d.vseg.pages bound c.args.vaddr d.next main map now old new (f.medium t).below (to_takes (e.takes t done)) (e.map t done) v x stray))
     (λ undone. ⊎_elim
-      (λ rose. ⊎_elim
-        (λ k. inl (stray_kept d.vseg.pages bound c.args.vaddr d.next main map now old new (f.medium t).below (to_keeps k) (e.same t undone) v x stray))
-        (λ k. ⊎_elim
-          (λ was. inl was)
-          (λ here. inr (undone, rose, here.0, here.1))
-          (stray_failed d.vseg.pages bound c.args.vaddr d.next main map now old new (f.medium t).below (to_takes k) (e.same t undone) v x stray))
-        (e.either t))
-      (λ unrisen. inl (stray_kept d.vseg.pages bound c.args.vaddr d.next main map now old new (f.medium t).below (to_keeps (e.unused t undone unrisen)) (e.same t undone) v x stray))
-      (rose_or (g.M.Nand.write_faults d.media) (g.M.Nand.write_faults c.virtual_write-answer.new.media)))
+    (λ rose. ⊎_elim
+    (λ k. inl (stray_kept d.vseg.pages bound c.args.vaddr d.next main map now old new (f.medium t).below (to_keeps k) (e.same t undone) v x stray))
+    (λ k. ⊎_elim
+    (λ was. inl was)
+    (λ here. inr (undone, rose, here.0, here.1))
+    (stray_failed d.vseg.pages bound c.args.vaddr d.next main map now old new (f.medium t).below (to_takes k) (e.same t undone) v x stray))
+    (e.either t))
+    (λ unrisen. inl (stray_kept d.vseg.pages bound c.args.vaddr d.next main map now old new (f.medium t).below (to_keeps (e.unused t undone unrisen)) (e.same t undone) v x stray))
+    (rose_or (g.M.Nand.write_faults d.media) (g.M.Nand.write_faults c.virtual_write-answer.new.media)))
     (done_or c.virtual_write-answer.result)
 
 pub returns-clause-bytes : goal.returns-clause-bytes
@@ -106,20 +106,20 @@ returns-clause-formed g c =
           made_medium (kept_segments f.segments refl e.numbers) now_fits f.live (e.segment t)
           (physical_kept bound d.pseg old new f.live (begins f.segments) (λ p le. beyond_of (e.either t) p (subst (λ b. b ≤ p) (sym f.segments.virtual_bound) le)) on.physical_is)
           (λ v s n has. ⊎_elim
-                (λ done. with_there d.vseg.pages bound c.args.vaddr d.next main map old new (to_takes (e.takes t done)) v s n (sym (e.map t done v) ∙ has))
-                (λ undone. ⊎_elim
-                  (λ k. keeps_there d.vseg.pages bound c.args.vaddr d.next main map old new (to_keeps k) v s n (sym (e.same t undone v) ∙ has))
-                  (λ k. takes_there d.vseg.pages bound c.args.vaddr d.next main map old new (to_takes k) v s n (sym (e.same t undone v) ∙ has))
-                  (e.either t))
-                (done_or c.virtual_write-answer.result))
+          (λ done. with_there d.vseg.pages bound c.args.vaddr d.next main map old new (to_takes (e.takes t done)) v s n (sym (e.map t done v) ∙ has))
+          (λ undone. ⊎_elim
+          (λ k. keeps_there d.vseg.pages bound c.args.vaddr d.next main map old new (to_keeps k) v s n (sym (e.same t undone v) ∙ has))
+          (λ k. takes_there d.vseg.pages bound c.args.vaddr d.next main map old new (to_takes k) v s n (sym (e.same t undone v) ∙ has))
+          (e.either t))
+          (done_or c.virtual_write-answer.result))
           (⊎_elim
-                (λ done. takes_below d.next next (to_takes (e.takes t done)) on.below (more_done done))
-                (λ undone. ⊎_elim
-                  (λ rose. ⊎_elim
-                    (λ k. keeps_below d.next next (to_keeps k) on.below rises)
-                    (λ k. takes_below d.next next (to_takes k) on.below (more_rose rose))
-                    (e.either t))
-                  (λ unrisen. keeps_below d.next next (to_keeps (e.unused t undone unrisen)) on.below rises)
-                  (rose_or (g.M.Nand.write_faults d.media) (g.M.Nand.write_faults c.virtual_write-answer.new.media)))
-                (done_or c.virtual_write-answer.result));
+          (λ done. takes_below d.next next (to_takes (e.takes t done)) on.below (more_done done))
+          (λ undone. ⊎_elim
+          (λ rose. ⊎_elim
+          (λ k. keeps_below d.next next (to_keeps k) on.below rises)
+          (λ k. takes_below d.next next (to_takes k) on.below (more_rose rose))
+          (e.either t))
+          (λ unrisen. keeps_below d.next next (to_keeps (e.unused t undone unrisen)) on.below rises)
+          (rose_or (g.M.Nand.write_faults d.media) (g.M.Nand.write_faults c.virtual_write-answer.new.media)))
+          (done_or c.virtual_write-answer.result));
     }
