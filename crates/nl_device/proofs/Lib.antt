@@ -6,6 +6,7 @@ pub mod Living
 pub mod Made
 pub mod Naming
 pub mod Noting
+pub mod OpenedImage
 pub mod Owns
 pub mod PhysicalPages
 pub mod Picks
