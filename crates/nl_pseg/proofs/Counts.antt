@@ -18,6 +18,7 @@ module _ {M : Type 0} {clock read_faults write_faults : M → ℕ} where
     one = λ r placed. absurd placed;
     none = λ r not. still r;
     reads = reads;
+    more = writes.never_falls;
     failed = λ fault. writes.cause f;
     well = λ not. absurd (not refl);
   }
@@ -38,6 +39,7 @@ module _ {M : Type 0} {clock read_faults write_faults : M → ℕ} where
     one = λ is placed. c.one r placed ∙ ap (λ n. saturated (n + 1)) (still is);
     none = λ is not. c.none r not ∙ still is;
     reads = c.reads ∙ reads;
+    more = let a = writes.never_falls in let b = c.more in omega (arith, a, b);
     failed = λ fault. c.failed fault ∙ ap (λ n. saturated (n + 1)) (writes.stays well);
     well = λ not. c.well not ∙ writes.stays well;
   }

@@ -11,7 +11,7 @@ use Rattle.nl_nand.specs.declared.answers.WriteAnswer.TheVariants as write
 use Rattle.nl_nand.specs.Nand.{CrashLeaves, Cut, Filled, Leaves, ticked}
 use Rattle.nl_nand.proofs.Crashes.{leaves_cut, leaves_done, operation_turns}
 use Rattle.nl_nand.specs.ImageLaws.{filled_cut}
-use Rattle.nl_pseg.specs.Effects.{Crashes, Keeps, Takes}
+use Rattle.nl_pseg.specs.Effects.{Crashes, Keeps, Places, Takes}
 use Rattle.nl_pseg.specs.Answers.{IsPlaced, Names}
 use Rattle.nl_pseg.specs.Pages.{IsUnreadable, main_of, page_with, shown_by}
 use Rattle.nl_pseg.specs.Segment.{Physical, Use, IsDead, IsPhysicalOf, IsUnspent, SamePages, TakenAsErased, held_at, is_free, is_soiled, soiled, wear_of}
@@ -170,16 +170,17 @@ shows_placed tag stamp h bytes {page} has shows some =
 -- one program, which was to place a page
 pub put_crashes : {M : Type 0} {clock : M → ℕ} {contents : M → Image} {left : M → ℕ → Image → Type 0} {old new : M} (seg : Physical) (page : ℕ) (tag : Tag) (stamp was : ℕ) (main from : List ℕ) (answer : WriteAnswer) (named : Named)
     → IsDead seg page → Names page stamp named → (IsPlaced named → answer ≡ write.Done) → main ≡ from → was ≡ wear_of seg (page / seg.size)
+    → shown_by (written (page_with main tag stamp was)) ≡ Some (tag, stamp, main)
     → CrashLeaves clock contents left page (page + 1) (written (page_with main tag stamp was)) old new
     → Leaves page (page + 1) (written (page_with main tag stamp was)) (contents old) answer (contents new)
     → clock new ≡ ticked (clock old) answer → Crashes clock contents left seg tag stamp from old new named
-put_crashes {M} {clock} {contents} {left} {old} {new} seg page tag stamp was main from answer named dead names is_done main_is wear_is crash effect ticks = record {
+put_crashes {M} {clock} {contents} {left} {old} {new} seg page tag stamp was main from answer named dead names is_done main_is wear_is shows crash effect ticks = record {
   page = page;
   named = names;
-  either = ⊎_elim (λ k. inl k) (λ k. inr (subst (λ v. Takes seg page v (contents old) (contents new)) same k)) (put_either seg page dead (leaves_cut page (page + 1) value (contents old) answer (contents new) effect));
-  crash = operation_turns {contents = contents} (IsPlaced named) answer (λ c. Keeps seg (contents old) c) (λ c. Takes seg page (written (page_with from tag stamp (wear_of seg (page / seg.size)))) (contents old) c) is_done crash effect ticks
-      (λ c cut. ⊎_elim (λ k. inl k) (λ k. inr (subst (λ v. Takes seg page v (contents old) c) same k)) (put_either seg page dead cut))
-      (λ done. subst (λ v. Takes seg page v (contents old) (contents new)) same (put_takes seg page dead (leaves_done page (page + 1) value (contents old) answer (contents new) done effect)));
+  either = ⊎_elim (λ k. inl k) (λ k. inr (places (contents new) k)) (put_either seg page dead (leaves_cut page (page + 1) value (contents old) answer (contents new) effect));
+  crash = operation_turns {contents = contents} (IsPlaced named) answer (λ c. Keeps seg (contents old) c) (λ c. Places seg page tag stamp from (contents old) c) is_done crash effect ticks
+      (λ c cut. ⊎_elim (λ k. inl k) (λ k. inr (places c k)) (put_either seg page dead cut))
+      (λ done. places (contents new) (put_takes seg page dead (leaves_done page (page + 1) value (contents old) answer (contents new) done effect)));
 }
   where
     value : Page
@@ -187,3 +188,9 @@ put_crashes {M} {clock} {contents} {left} {old} {new} seg page tag stamp was mai
 
     same : value ≡ written (page_with from tag stamp (wear_of seg (page / seg.size)))
     same i = written (page_with (main_is i) tag stamp (wear_is i))
+
+    places : (c : Image) → Takes seg page value (contents old) c → Places seg page tag stamp from (contents old) c
+    places c k = record {
+      takes = subst (λ v. Takes seg page v (contents old) c) same k;
+      shows = sym (ap shown_by same) ∙ (shows ∙ ap (λ (m : List ℕ). Some (tag, stamp, m)) main_is);
+    }

@@ -11,10 +11,10 @@ use Rattle.nl_field.specs.declared.pointer.Pointer.{Pointer}
 use Rattle.nl_field.specs.declared.pointer.Tag.{Tag}
 use Rattle.nl_nand.specs.declared.answers.WriteAnswer.TheVariants as wrote
 use Rattle.nl_nand.proofs.Crashes.{turns_later, weaken}
-use Rattle.nl_pseg.specs.Answers.{IfPlaced, IsPlaced}
-use Rattle.nl_pseg.specs.Effects.{Crashes, Keeps, Programmed, Takes}
-use Rattle.nl_pseg.specs.Pages.{page_with}
-use Rattle.nl_pseg.specs.Segment.{Physical, Use, IsClean, IsDead, IsSpent, IsUnspent, KeepsBlock, SamePages, held_at, is_free, is_soiled, room, wear_of}
+use Rattle.nl_pseg.specs.Answers.{IfPlaced, IsFault, IsPlaced}
+use Rattle.nl_pseg.specs.Effects.{Crashes, Keeps, Places, Programmed, Takes}
+use Rattle.nl_pseg.specs.Pages.{page_with, shown_by}
+use Rattle.nl_pseg.specs.Segment.{Physical, Use, IsClean, IsDead, IsReady, IsSpent, IsUnspent, KeepsBlock, SamePages, held_at, is_free, is_kept, is_soiled, room, wear_of}
 use Rattle.nl_pseg.specs.Steps.{IsAlone, IsOpened, IsUsed, Opening, OpeningOn, Placing, PlacingOn}
 use Rattle.nl_pseg.specs.declared.held.Held.{Held}
 use Rattle.nl_pseg.proofs.Images.{keeps_then, takes_then}
@@ -184,15 +184,18 @@ module _ {M : Type 0} {clock : M → ℕ} {contents : M → Image} {left : M →
     page = k.page;
     named = k.named;
     either = ⊎_elim (λ x. inl (keeps_then (opening_dead opening) on.keeps x)) (λ x. inr (takes_on (contents d) x)) k.either;
-    crash = turns_later (IsPlaced answer) (λ c. Keeps seg (contents a) c) (λ c. Takes seg k.page (written (page_with main tag stamp (wear_of seg (k.page / seg.size)))) (contents a) c) on.crash
-        (weaken (Turns (IsPlaced answer) (clock d) (λ c. Keeps mid (contents b) c) (λ c. Takes mid k.page (written (page_with main tag stamp (wear_of mid (k.page / mid.size)))) (contents b) c))
-        (Turns (IsPlaced answer) (clock d) (λ c. Keeps seg (contents a) c) (λ c. Takes seg k.page (written (page_with main tag stamp (wear_of seg (k.page / seg.size)))) (contents a) c)) k.crash
+    crash = turns_later (IsPlaced answer) (λ c. Keeps seg (contents a) c) (λ c. Places seg k.page tag stamp main (contents a) c) on.crash
+        (weaken (Turns (IsPlaced answer) (clock d) (λ c. Keeps mid (contents b) c) (λ c. Places mid k.page tag stamp main (contents b) c))
+        (Turns (IsPlaced answer) (clock d) (λ c. Keeps seg (contents a) c) (λ c. Places seg k.page tag stamp main (contents a) c)) k.crash
         (λ m c from to is. ⊎_elim (λ x. inl (x.0, keeps_then (opening_dead opening) on.keeps x.1)) (λ x. inr (takes_on c x)) is))
         strict;
   }
     where
-      takes_on : (c : Image) → Takes mid k.page (written (page_with main tag stamp (wear_of mid (k.page / mid.size)))) (contents b) c → Takes seg k.page (written (page_with main tag stamp (wear_of seg (k.page / seg.size)))) (contents a) c
-      takes_on c x = subst (λ v. Takes seg k.page v (contents a) c) (value opening tag stamp main k.page) (takes_then (opening_dead opening) on.keeps x)
+      takes_on : (c : Image) → Places mid k.page tag stamp main (contents b) c → Places seg k.page tag stamp main (contents a) c
+      takes_on c x = record {
+        takes = subst (λ v. Takes seg k.page v (contents a) c) (value opening tag stamp main k.page) (takes_then (opening_dead opening) on.keeps x.takes);
+        shows = sym (ap shown_by (value opening tag stamp main k.page)) ∙ x.shows;
+      }
 
 -- an erase failed
 pub opening_failed : {seg new : Physical} (stamp : ℕ) (now : Pointer → List (Option Held)) → Opening wrote.Failed seg new → Placing stamp now the.Fault seg new
@@ -216,7 +219,7 @@ failed_on {M} {clock} {contents} {left} {seg} {new} {a} {b} tag stamp main on = 
     page = 0;
     named = tt;
     either = inl on.keeps;
-    crash = weaken (λ m c. Keeps seg (contents a) c) (Turns (IsPlaced the.Fault) (clock b) (λ c. Keeps seg (contents a) c) (λ c. Takes seg 0 (written (page_with main tag stamp (wear_of seg (0 / seg.size)))) (contents a) c)) on.crash
+    crash = weaken (λ m c. Keeps seg (contents a) c) (Turns (IsPlaced the.Fault) (clock b) (λ c. Keeps seg (contents a) c) (λ c. Places seg 0 tag stamp main (contents a) c)) on.crash
         (λ m c from to k. inl ((λ placed. absurd placed), k));
   };
 }

@@ -1,14 +1,15 @@
 -- What holds of a state.
-use Rattle.std.proofs.Common.{◌≡◌, inl, inr, ℕ, ◌+◌, ◌*◌, ◌/◌, ◌<◌, ◌≤◌, false, length, refl, ◌∙◌, ap, arith}
-use Rattle.std.proofs.lemmas.Bool.{cases_lt}
+use Rattle.std.proofs.Common.{◌≡◌, inl, inr, ℕ, ◌+◌, ◌-◌, ◌*◌, ◌/◌, ◌<◌, ◌≤◌, nat_le, true, false, List, length, map, refl, sym, ◌∙◌, ap, subst, arith}
+use Rattle.std.proofs.lemmas.Bool.{cases_Bool, cases_lt, false≢true, leb-true}
+use Rattle.std.proofs.lemmas.List.{get_or_past, length-map}
 use Rattle.std.proofs.lemmas.Nat.{div_below}
 use Rattle.nl_blocks.specs.declared.states.BlockState.{BlockState}
-use Rattle.nl_blocks.specs.Table.{HasBlock, is_free_state}
-use Rattle.nl_pseg.specs.Segment.{Use, IsNext, InSegment, is_free}
-use Rattle.nl_pseg.specs.Seen.{IsFormed, seen}
+use Rattle.nl_blocks.specs.Table.{Table, HasBlock, block_at, is_free_state}
+use Rattle.nl_pseg.specs.Segment.{Use, IsNext, InSegment, TakenAsErased, is_free, no_use, use_at}
+use Rattle.nl_pseg.specs.Seen.{IsFormed, is_kept_state, seen, use_in, use_of}
 use Rattle.nl_pseg.specs.declared.state.State.{State}
 use Rattle.nl_pseg.proofs.Numbers.{in_block, block_of, block_below, block_from}
-use Rattle.nl_pseg.proofs.Tables.{use_here}
+use Rattle.nl_pseg.proofs.Tables.{use_before, use_from, use_here}
 
 -- the pages of a block of the table are pages of the segment
 pub block_segment : (s : State) (block p : ℕ) → HasBlock s.blocks block → block * s.blocks.size ≤ p → p < block * s.blocks.size + s.blocks.size → InSegment (seen s) p
@@ -29,7 +30,33 @@ segment_block s p some within = record {
   below = div_below p s.blocks.size (s.blocks.first + length s.blocks.blocks) some within.1;
 }
 
+free_from : (first : ℕ) (uses : List Use) (block : ℕ) → (use_at first uses block).is_free ≡ true → (first ≤ block) × (block < first + length uses)
+free_from first uses block free = elim (cases_Bool (nat_le first block)) [
+  | inr before ↦ absurd (false≢true (sym (ap (λ (u : Use). u.is_free) (use_before first uses block before)) ∙ free))
+  | inl from_is ↦
+      let from = leb-true first block from_is in
+      elim (cases_lt (block - first) (length uses)) [
+        | inl lt ↦ (from, omega (arith, from, lt))
+        | inr past ↦
+            absurd (false≢true (sym (ap (λ (u : Use). u.is_free) (use_from first uses block from ∙ get_or_past uses (block - first) no_use past)) ∙ free))
+      ]
+]
+
+-- a block that is Free is one of the table
+pub free_block : (s : State) (block : ℕ) → is_free (seen s) block ≡ true → HasBlock s.blocks block
+free_block s block free =
+    let h = free_from s.blocks.first (map use_of s.blocks.blocks) block free in
+    let n : length (map use_of s.blocks.blocks) ≡ length s.blocks.blocks = length-map s.blocks.blocks use_of in
+    record { from = h.0; below = omega (arith, h.1, n) }
+
 module _ (s : State) (is : IsFormed s) where
+  -- what is taken as erased is a page of the segment
+  pub taken_segment : (p : ℕ) → TakenAsErased (seen s) p → InSegment (seen s) p
+  taken_segment p (inl next) = block_segment s s.active p is.active_in (omega (arith, next.0)) (let fits = is.used_fits in omega (arith, next.1, next.0, fits))
+  taken_segment p (inr free) =
+      let here = in_block p s.blocks.size (p / s.blocks.size) is.some refl in
+      block_segment s (p / s.blocks.size) p (free_block s (p / s.blocks.size) free.0) here.0 here.1
+
   pub within_length : (p : ℕ) → InSegment (seen s) p → p < length s.held.items
   within_length p within = let n = is.pages in omega (arith, n, within.1)
 

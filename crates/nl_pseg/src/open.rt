@@ -18,8 +18,9 @@ impl State {
         ensures table { self.new.blocks ≡ self.old.blocks }
         ensures soiled { self.new.soiled.items ≡ self.old.soiled.items }
         ensures active { self.new.active ≡ self.old.active }
-        ensures idle { self.new.used < self.new.blocks.size → block ≡ self.new.active → ⊥ }
         ensures used { self.old.used ≤ self.new.used }
+        ensures left { self.new.blocks.size - self.new.used ≤ self.old.blocks.size - self.old.used }
+        ensures idle { self.new.used < self.new.blocks.size → block ≡ self.new.active → ⊥ }
         ensures erased { (p : ℕ) → TakenAsErased (seen self.new) p → TakenAsErased (seen self.old) p }
         ensures still { (p : ℕ) → TakenAsErased (seen self.old) p → (p / self.old.blocks.size ≡ block → ⊥) → TakenAsErased (seen self.new) p }
     {
@@ -75,6 +76,7 @@ impl State {
         ensures first { self.new.blocks.first ≡ self.old.blocks.first }
         ensures blocks { self.new.blocks.first + length self.new.blocks.blocks ≡ self.old.blocks.first + length self.old.blocks.blocks }
         ensures pages { self.new.blocks.size ≡ self.old.blocks.size }
+        ensures used { self.old.used ≤ self.new.used }
         ensures free { free_count self.new.blocks ≡ free_count self.old.blocks }
         ensures left { (seen self.new).left ≤ (seen self.old).left }
         ensures same { (other : ℕ) → ((use_in self.new.blocks other).is_free ≡ (use_in self.old.blocks other).is_free) × ((use_in self.new.blocks other).is_kept ≡ (use_in self.old.blocks other).is_kept) }

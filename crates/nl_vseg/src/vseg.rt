@@ -4,7 +4,7 @@ ghost use Rattle.nl_field.specs.Numbers.{is_legal, shape_for};
 ghost use Rattle.nl_field.specs.Spelling.{is_stamp};
 ghost use Rattle.nl_nand.specs.Nand.{FaultsCounted, SameLeft};
 ghost use Rattle.nl_vseg.specs.Maps.{with_at};
-ghost use Rattle.nl_vseg.specs.Places.{map_of, place_of, stamp_for};
+ghost use Rattle.nl_vseg.specs.Places.{AreBelow, map_of, place_of, stamp_for};
 ghost use Rattle.nl_vseg.specs.Segment.{Fits, IsSegmentOf, KeepsSpare, SameSize, is_blank, wear_of};
 ghost use Rattle.nl_vseg.specs.Effects.{Counted, Keeps, Programmed, Takes};
 ghost use Rattle.nl_vseg.specs.Answers.{IsLost, LosesStamp, ReadsStamp, ReadsValue};
@@ -43,6 +43,7 @@ impl VSeg {
         ensures pages { IfOk result (λ s. s.pages ≡ shape.now.pages) }
         ensures bound { IfOk result (λ s. s.bound ≡ shape.now.vblocks * shape.now.pages) }
         ensures erased { IfOk result (λ s. (p : ℕ) → p < s.bound → is_blank s p ≡ true) }
+        ensures within { IfOk result (λ s. (p : ℕ) → is_blank s p ≡ true → p < s.bound) }
         ensures wear { IfOk result (λ s. (block : ℕ) → wear_of s block ≡ 0) }
         ensures spare { IfOk result KeepsSpare }
         ensures room { IfOk result (λ s. s.room + shape.now.pages ≡ shape.now.vblocks * shape.now.pages) }
@@ -122,6 +123,8 @@ impl VSeg {
         requires segment { M.tells → IsSegmentOf (M.contents media.old) self.old }
         ensures spare { KeepsSpare self.new }
         ensures numbers { SameSize self.old self.new }
+        ensures below { AreBelow self.new.bound self.new.places }
+        ensures within { (p : ℕ) → is_blank self.new p ≡ true → p < self.new.bound }
         ensures done { result ≡ VirtualWrite.Done → (v : ℕ) → stamp_for self.new.places v ≡ (if v == vaddr then Some stamp else stamp_for self.old.places v) }
         ensures failed { (result ≡ VirtualWrite.Done → ⊥) → (v : ℕ) → stamp_for self.new.places v ≡ stamp_for self.old.places v }
         ensures room { 0 < self.old.room → result ≡ VirtualWrite.Done → self.new.room + 1 ≡ self.old.room }

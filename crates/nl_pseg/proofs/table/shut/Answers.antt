@@ -1,4 +1,4 @@
-use Rattle.std.proofs.Common.{false, sym, ◌∙◌, ap, subst}
+use Rattle.std.proofs.Common.{false, sym, ◌∙◌, ap, subst, refl}
 use Rattle.nl_blocks.specs.declared.states.BlockState.TheVariants.{Sealed}
 use Rattle.nl_blocks.specs.Table.{HasBlock, block_at, in_state}
 use Rattle.nl_pseg.specs.Segment.{Use}
@@ -17,5 +17,5 @@ returns c =
     let wear_is = ap (λ (u : Use). u.wear) (sym (use_here mid c.args.block mid_has) ∙ first.here) in
     let second : Restated c.args.block false c.args.wear mid c.seal.new.self =
     subst (Restated c.args.block false c.args.wear mid) (sym c.seal.ensures)
-    (restated mid c.args.block (in_state (block_at mid c.args.block) Sealed) false c.args.wear mid_has (ap (use_with false) wear_is)) in
+    (restated mid c.args.block (in_state (block_at mid c.args.block) Sealed) false c.args.wear mid_has (ap (use_with false) wear_is) (λ k. refl)) in
     restated_again first second

@@ -3,7 +3,11 @@ use Rattle.nl_pseg.specs.Answers.{IsFault}
 use Rattle.nl_pseg.specs.Effects.{Counted}
 use Rattle.nl_pseg.specs.Segment.{Physical, IsClean, IsReady, IsSpent, IsUnspent}
 use Rattle.nl_pseg.specs.Seen.{seen}
+use Rattle.nl_pseg.proofs.States.{taken_segment}
 use Rattle.nl_pseg.proofs.pseg.PSeg.nameless_write.Goals as goal
+
+pub returns-clause-within : goal.returns-clause-within
+returns-clause-within g c p taken = taken_segment c.write.new.self c.write.ensures.formed p taken
 
 pub returns-clause-failed : goal.returns-clause-failed
 returns-clause-failed g c =

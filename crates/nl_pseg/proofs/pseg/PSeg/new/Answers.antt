@@ -2,6 +2,7 @@ use Rattle.std.proofs.Common.{◌≡◌, ℕ, ◌+◌, ◌*◌, ◌<◌, ◌≤�
 use Rattle.nl_pseg.specs.Segment.{Physical, Use, InSegment, IsClean, KeepsBlock, TakenAsErased, is_free, room, wear_of}
 use Rattle.nl_pseg.proofs.News.{new_clean, new_kept, new_room, new_taken, new_use, new_wear}
 use Rattle.nl_pseg.proofs.Shapes.{IsRoomy, is_roomy}
+use Rattle.nl_pseg.proofs.States.{taken_segment}
 use Rattle.nl_pseg.proofs.pseg.PSeg.new.Goals as goal
 
 pub returns-clause-each : goal.returns-clause-each
@@ -33,3 +34,6 @@ pub returns-clause-kept : goal.returns-clause-kept
 returns-clause-kept c =
     let roomy = subst IsRoomy (sym c.requires.numbers) (is_roomy c.args.shape.now.blocks c.args.shape.now.pages c.requires.legal) in
     subst KeepsBlock (sym c.in_ok-new.ensures.seen) (new_kept c.args.shape.now roomy)
+
+pub returns-clause-within : goal.returns-clause-within
+returns-clause-within c = taken_segment c.in_ok-new.field-0 c.in_ok-new.ensures.formed

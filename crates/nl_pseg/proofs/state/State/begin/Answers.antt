@@ -15,6 +15,7 @@ returns-clause-formed c =
       used_fits = omega arith;
       taken = λ lt. c.requires.active;
       only_free = is.only_free;
+      marked = is.marked;
       places = record {
         each = λ p h named.
             let was = is.places.each p h named in

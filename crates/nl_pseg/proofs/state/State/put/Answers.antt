@@ -75,7 +75,7 @@ returns-in-Done-clause-crash g c t =
     let dead : IsDead (seen s) page = record { within = next_segment s is c.requires.room page next; dead = dead_next (seen s) is.places page next } in
     let worn : c.wear-wear.result ≡ wear_of (seen s) (page / s.blocks.size) = c.wear-wear.ensures ∙ sym (ap (λ (b : ℕ). (use_in s.blocks b).wear) (next_block s is c.requires.room page next) ∙ ap (λ (u : Use). u.wear) (use_here s.blocks s.active is.active_in)) in
     put_crashes (seen s) page c.args.tag c.args.stamp c.wear-wear.result c.copy_from.new.self.main c.args.from.now.main c.program_page.result (Placed (record { name = page; stamp = c.args.stamp })) dead refl
-    (λ placed. c.in-Done.is) (ap (λ (b : PageBytes). b.main) c.copy_from.ensures) worn c.program_page.ensures.crash (c.program_page.ensures.effect t) c.program_page.ensures.clock
+    (λ placed. c.in-Done.is) (ap (λ (b : PageBytes). b.main) c.copy_from.ensures) worn c.program_page.ensures.shows c.program_page.ensures.crash (c.program_page.ensures.effect t) c.program_page.ensures.clock
 
 pub returns-in-Failed-clause-crash : goal.returns-in-Failed-clause-crash
 returns-in-Failed-clause-crash g c t =
@@ -87,4 +87,4 @@ returns-in-Failed-clause-crash g c t =
     let dead : IsDead (seen s) page = record { within = next_segment s is c.requires.room page next; dead = dead_next (seen s) is.places page next } in
     let worn : c.wear-wear.result ≡ wear_of (seen s) (page / s.blocks.size) = c.wear-wear.ensures ∙ sym (ap (λ (b : ℕ). (use_in s.blocks b).wear) (next_block s is c.requires.room page next) ∙ ap (λ (u : Use). u.wear) (use_here s.blocks s.active is.active_in)) in
     put_crashes (seen s) page c.args.tag c.args.stamp c.wear-wear.result c.copy_from.new.self.main c.args.from.now.main c.program_page.result Fault dead tt
-    (λ placed. absurd placed) (ap (λ (b : PageBytes). b.main) c.copy_from.ensures) worn c.program_page.ensures.crash (c.program_page.ensures.effect t) c.program_page.ensures.clock
+    (λ placed. absurd placed) (ap (λ (b : PageBytes). b.main) c.copy_from.ensures) worn c.program_page.ensures.shows c.program_page.ensures.crash (c.program_page.ensures.effect t) c.program_page.ensures.clock

@@ -119,7 +119,7 @@ returns-in-Failed-clause-formed g c =
     let worn : c.wear-wear.result ≡ (use_in s.blocks block).wear = c.wear-wear.ensures ∙ (sym (ap (λ (u : Use). u.wear) (use_here mid block has)) ∙ ap (λ (u : Use). u.wear) r.here) in
     let back : Restated block true (use_in s.blocks block).wear mid c.give_back.new.blocks = subst (λ n. Restated block true n mid c.give_back.new.blocks) worn c.give_back.ensures in
     let same = restated_same (free_use s block is c.take-block.ensures.was_free) (restated_again r back) in
-    formed_same s c.give_back.new.blocks is same (λ room. let f = c.if-self-pages.false in let e = c.pages.ensures in absurd (omega (arith, room, f, e)))
+    formed_same s c.give_back.new.blocks is same (restated_again r back).marks (λ room. let f = c.if-self-pages.false in let e = c.pages.ensures in absurd (omega (arith, room, f, e)))
 
 pub returns-in-Failed-clause-opening : goal.returns-in-Failed-clause-opening
 returns-in-Failed-clause-opening g c =

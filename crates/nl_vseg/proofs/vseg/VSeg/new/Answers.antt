@@ -1,8 +1,9 @@
 use Rattle.std.proofs.Common.{◌≡◌, ℕ, ◌+◌, ◌*◌, ◌<◌, true, sym, ◌∙◌, ap, subst}
 use Rattle.nl_vseg.specs.Layout.{Layout, bound, room, shown}
+use Rattle.nl_vseg.specs.Seen.{seen}
 use Rattle.nl_vseg.specs.Segment.{KeepsSpare, is_blank, wear_of}
 use Rattle.nl_vseg.proofs.Shapes.{HasRoom, has_room, new_bound, new_blank, new_spare, new_room, new_wear}
-use Rattle.nl_vseg.proofs.Views.{spare_from}
+use Rattle.nl_vseg.proofs.Views.{blank_taken, spare_from}
 use Rattle.nl_vseg.proofs.vseg.VSeg.new.Goals as goal
 
 pub returns-clause-bound : goal.returns-clause-bound
@@ -25,3 +26,6 @@ pub returns-clause-room : goal.returns-clause-room
 returns-clause-room c =
     let roomy = subst HasRoom (sym c.requires.numbers) (has_room c.args.shape.now.blocks c.args.shape.now.pages c.requires.legal) in
     subst (λ (s : Layout). room s + c.args.shape.now.pages ≡ c.args.shape.now.vblocks * c.args.shape.now.pages) (sym c.in_ok-new.ensures.seen) (new_room c.args.shape.now roomy)
+
+pub returns-clause-within : goal.returns-clause-within
+returns-clause-within c p is = (blank_taken (seen c.in_ok-new.field-0) p is).0

@@ -4,7 +4,15 @@ use Rattle.nl_field.specs.declared.answers.VirtualWrite.TheVariants.{Done}
 use Rattle.nl_vseg.specs.Places.{map_of}
 use Rattle.nl_vseg.specs.Segment.{Segment}
 use Rattle.nl_vseg.specs.Effects.{Keeps, Takes}
+use Rattle.nl_vseg.specs.Seen.{seen}
+use Rattle.nl_vseg.proofs.Views.{blank_taken}
 use Rattle.nl_vseg.proofs.vseg.VSeg.virtual_write.Goals as goal
+
+pub returns-clause-below : goal.returns-clause-below
+returns-clause-below g c v place named = (c.write.ensures.formed.segment.places_are.each v place named).within
+
+pub returns-clause-within : goal.returns-clause-within
+returns-clause-within g c p is = (blank_taken (seen c.write.new.self) p is).0
 
 pub returns-clause-crash : goal.returns-clause-crash
 returns-clause-crash g c t =
