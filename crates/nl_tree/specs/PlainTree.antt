@@ -1,5 +1,5 @@
 -- What the plain tree as a program keeps beside the tree.
-use Rattle.std.specs.Prelude.{◌≡◌, ℕ, suc, ◌+◌, ◌-◌, ◌*◌, ◌++◌, take, min, ◌==◌, ◌&&◌, ◌≤◌, ◌<◌, ◌^◌, is_none, Option, Some, None, nat_le, nat_lt, count_by, Bool, false, if◌then◌else◌, List, [], ◌∷◌, length}
+use Rattle.std.specs.Prelude.{◌≡◌, ℕ, suc, ◌+◌, ◌-◌, ◌*◌, ◌++◌, take, drop, min, ◌==◌, ◌&&◌, ◌≤◌, ◌<◌, ◌^◌, is_none, Option, Some, None, nat_le, nat_lt, count_by, Bool, false, if◌then◌else◌, List, [], ◌∷◌, length}
 use Rattle.std.specs.declared.cmp.Ordering.{Ordering}
 use Rattle.std.specs.Ordering.{is_gt, eq_by_cmp}
 use Rattle.std.specs.List.{AllByRecursion, list_any, range_with_len}
@@ -38,6 +38,10 @@ place_in R key (e ∷ entries) = if is_gt (R key e.0) then suc (place_in R key e
 abbrev pub is_first : {K X : Type 0} → (K → K → Ordering) → K → List (K × X) → Bool
 is_first R key [] = false
 is_first R key (e ∷ entries) = eq_by_cmp R key e.0
+
+-- the entries behind the first one, where that is at the key
+abbrev pub behind_first : {K X : Type 0} → (K → K → Ordering) → K → List (K × X) → List (K × X)
+behind_first R key entries = if is_first R key entries then drop 1 entries else entries
 
 -- the second path is that of an entry of the first
 abbrev pub is_entry_of : List (List ℕ) → List (List ℕ) → Bool

@@ -13,6 +13,7 @@ mod entries;
 mod file_buf;
 mod file_ops;
 mod listing;
+mod merge;
 mod names;
 mod pages;
 mod refusals;

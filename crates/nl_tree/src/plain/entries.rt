@@ -42,8 +42,9 @@ pub(crate) fn put(tree: &mut Vec<Entry>, path: SharedPath, node: SharedNode) -> 
 }
 
 /// How many entries stand before a path.
-fn place_of(tree: &Vec<Entry>, path: &SharedPath) -> usize
-    ensures { result ≡ place_in path_cmp path.now tree.now.items }
+pub(crate) fn place_of(tree: &[Entry], path: &SharedPath) -> usize
+    ensures place { result ≡ place_in path_cmp path.now tree.now }
+    ensures bound { result ≤ length tree.now }
 {
     let names = path.names();
     let mut at = 0;
@@ -54,8 +55,8 @@ fn place_of(tree: &Vec<Entry>, path: &SharedPath) -> usize
 }
 
 /// Whether the entry at a position is that of the path.
-fn is_at(tree: &Vec<Entry>, at: usize, path: &SharedPath) -> bool
-    ensures { result ≡ is_first path_cmp path.now (drop at tree.now.items) }
+pub(crate) fn is_at(tree: &[Entry], at: usize, path: &SharedPath) -> bool
+    ensures { result ≡ is_first path_cmp path.now (drop at tree.now) }
 {
     at < tree.len() && are_equal(path.names(), tree[at].0.names())
 }

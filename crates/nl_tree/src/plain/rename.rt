@@ -1,9 +1,10 @@
 //! The tree after a rename.
-ghost use Rattle.std.specs.Prelude.{◌≡◌, ◌<◌, ◌&&◌, ◌++◌, ◌∷◌, not, length, drop, map, if◌then◌else◌, IfOk, OnOk};
-ghost use Rattle.std.specs.FinMap.Entries.{put as with_entry, where_key};
-ghost use Rattle.nl_tree.specs.Tree.{path_cmp, is_at_or_under, with_all, with_renamed};
+ghost use Rattle.std.specs.Prelude.{◌≡◌, ◌++◌, [], ◌∷◌, length, drop, map, if◌then◌else◌, IfOk, OnOk};
+ghost use Rattle.std.specs.FinMap.Entries.{where_key};
+ghost use Rattle.nl_tree.specs.Tree.{path_cmp, is_at_or_under, with_renamed};
 
-use super::entries::{Entry, put, staying};
+use super::entries::{Entry, staying};
+use super::merge::put_all;
 use super::names::is_under;
 use super::shared::SharedPath;
 use crate::Path;
@@ -20,43 +21,43 @@ pub(crate) fn renamed(
 ) -> Result<Vec<Entry>, Memory>
     ensures { IfOk result (λ v. v.items ≡ with_renamed tree.now from.now to.now) }
 {
-    let mut kept = staying(alloc, tree, from, to)?;
-    put_all_renamed(alloc, &mut kept, tree, from, to)?;
-    Ok(kept)
+    let kept = staying(alloc, tree, from, to)?;
+    let moved = all_moved(alloc, tree, from, to)?;
+    put_all(alloc, kept, &moved)
 }
 
-fn put_all_renamed(
+/// The entries at or under one path, as they stand under the other.
+fn all_moved(
     alloc: Global,
-    kept: &mut Vec<Entry>,
     tree: &[Entry],
     from: &[Text],
     to: &[Text],
-) -> Result<(), Memory>
-    ensures { OnOk result (kept.new.items ≡ with_all kept.old.items (map (λ e. (to.now ++ drop (length from.now) e.0, e.1)) (where_key path_cmp (is_at_or_under from.now) tree.now))) }
+) -> Result<Vec<Entry>, Memory>
+    ensures { IfOk result (λ v. v.items ≡ map (λ e. (to.now ++ drop (length from.now) e.0, e.1)) (where_key path_cmp (is_at_or_under from.now) tree.now)) }
 {
-    let mut at = tree.len();
-    'entries: while at > 0 {
-        at -= 1;
-        put_renamed(alloc, kept, &tree[at], from, to)?;
+    let mut moved = Vec::new(alloc);
+    'entries: for entry in tree {
+        push_moved(alloc, &mut moved, entry, from, to)?;
     }
-    Ok(())
+    Ok(moved)
 }
 
-fn put_renamed(
+fn push_moved(
     alloc: Global,
-    kept: &mut Vec<Entry>,
+    moved: &mut Vec<Entry>,
     entry: &Entry,
     from: &[Text],
     to: &[Text],
 ) -> Result<(), Memory>
-    ensures { OnOk result (kept.new.items ≡ (if is_at_or_under from.now entry.now.0 then with_entry path_cmp (to.now ++ drop (length from.now) entry.now.0) entry.now.1 kept.old.items else kept.old.items)) }
+    ensures { OnOk result (moved.new.items ≡ moved.old.items ++ (if is_at_or_under from.now entry.now.0 then (to.now ++ drop (length from.now) entry.now.0, entry.now.1) ∷ [] else [])) }
 {
     let names = entry.0.names();
     if !is_under(from, names) {
         return Ok(());
     }
     let path = joined(alloc, to, behind(from, names))?;
-    put(kept, path, entry.1.share()?)
+    moved.push((path, entry.1.share()?))?;
+    Ok(())
 }
 
 /// The names behind the first ones.
