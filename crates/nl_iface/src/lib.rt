@@ -1,7 +1,15 @@
 //! What a device shows to the file system above it.
 #![tactic(auto)]
 
+mod counts;
+mod named_pages;
+pub mod rows;
+mod virtual_pages;
+
+pub use counts::Counts;
+pub use named_pages::NamedPages;
 use nl_field::Tag;
+pub use virtual_pages::VirtualPages;
 
 /// The notice that the device has moved a page: its number, the name of the page before and after, its tag and its
 /// write sequence number, which the move leaves as they were.
