@@ -1,11 +1,12 @@
 -- Counts that never fall, and how a call raises them.
 use Rattle.std.specs.Prelude.{◌≡◌, ◌⊎◌, ℕ, ◌+◌, ◌<◌, ◌≤◌}
-use Rattle.nl_field.specs.CrashStates.{Rose, top}
+use Rattle.nl_field.specs.CrashStates.{Rose, top, saturated}
 
--- A count of failures: it rose where the call failed, and stays where it did not.
+-- A count of failures: it rose by one where the call failed, and stays where it did not.
 pub record FailuresCounted (before now : ℕ) (failed : Type 0) : Type 0 where
   pub never_falls : before ≤ now
   pub cause : failed → Rose before now
+  pub once : failed → now ≡ saturated (before + 1)
   pub stays : (failed → ⊥) → now ≡ before
 
 -- The two counts of failures of a call that reads and writes: one of them rose where the call failed, and both stay where it

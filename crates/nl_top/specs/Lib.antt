@@ -3,6 +3,7 @@ pub mod Execution
 pub mod Files
 pub mod Form
 pub mod Input
+pub mod Pages
 pub mod Plain
 pub mod Run
 pub mod Table

@@ -9,6 +9,7 @@ mod formatted;
 mod gate;
 mod input;
 mod lists;
+mod pages;
 mod run;
 mod tables;
 #[cfg(test)]

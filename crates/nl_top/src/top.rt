@@ -1,14 +1,17 @@
 // The top call: reads a script, runs it on a medium, and prints the answers.
-ghost use Rattle.std.specs.Prelude.{◌≡◌, ◌⊎◌, ◌<◌, ◌≤◌, ◌+◌, ◌*◌, ◌^◌, ◌↔◌, ◌++◌, [], ◌∷◌, ℕ, List, Some, None, length, codes, true, false, All, IsTrue, IfOk, IfErr, IfSome, IfNone, sum_by};
+ghost use Rattle.std.specs.Prelude.{◌≡◌, ◌⊎◌, ◌<◌, ◌≤◌, ◌+◌, ◌*◌, ◌^◌, ◌↔◌, ◌++◌, [], ◌∷◌, ℕ, List, Some, None, length, codes, true, false, All, IsTrue, is_some, IfOk, IfErr, IfSome, IfNone, sum_by};
 ghost use Rattle.nl_field.specs.CrashStates.{Rose};
 ghost use Rattle.nl_field.specs.Numbers.{is_legal, shape_for};
+ghost use Rattle.nl_io.specs.Streams.{Writes};
+ghost use Rattle.std.specs.List.{list_any};
 ghost use Rattle.nl_tree.specs.declared.call.Line.{Line};
 ghost use Rattle.nl_core.specs.Formatted.{IsFormatted};
 ghost use Rattle.nl_top.specs.Command.{command_of};
+ghost use Rattle.nl_top.specs.Files.{IsRoomy};
 ghost use Rattle.nl_top.specs.Form.{script_lines};
 ghost use Rattle.nl_top.specs.Plain.{IsPlain};
 ghost use Rattle.nl_top.specs.Tables.{HaveRoom};
-ghost use Rattle.nl_top.specs.Top.{stream, medium, ReadsWhole, NotAScript, Prints, Runs, DoneStatus, FormatEnds, Ends};
+ghost use Rattle.nl_top.specs.Top.{stream, medium, ReadsWhole, NotAScript, Prints, RunsOn, FormatEnds, Ends};
 
 use crate::answers::print_answers;
 use crate::command::{Command, command_of};
@@ -21,6 +24,7 @@ use crate::run::run;
 use crate::tables::{Tables, tables_for};
 use nl_field::{PageBuf, Shape, shape_of};
 use nl_io::{Sink, SinkAnswer, Source, Words};
+use nl_iface::NamedPages;
 use nl_nand::Nand;
 use nl_print::{formatted_line, word_line};
 use nl_tree::Line;
@@ -115,39 +119,51 @@ fn status_of(rose: bool, answer: SinkAnswer) -> u8
     }
 }
 
-// The first page of the physical segment.
-fn first_page(shape: &Shape) -> u32
-    requires { shape.now.vblocks * shape.now.pages < 2 ^ 32 }
-    ensures { result ≡ shape.now.vblocks * shape.now.pages }
+// Whether some line was answered by a fault reply.
+fn has_fault(order: &OrderList) -> bool
+    ensures { result ≡ list_any (λ o. is_some o.fault) order.now.items }
 {
-    shape.vblocks * shape.pages
+    let count = order.len();
+    'lines: for at in 0..count {
+        if order.get(at).fault.is_some() {
+            return true;
+        }
+    }
+    false
 }
 
-// Runs lines on a medium as a format leaves it, and prints the answers.
-fn run_lines<K: Sink, M: Nand>(
-    alloc: Global,
+/// What stands behind the lines of a run: the taken text, and the answered lines.
+struct Ran {
+    answer: SinkAnswer,
+    order: OrderList,
+}
+
+// Runs lines on a device without a live page, and prints the answers.
+fn run_lines<K: Sink, D: NamedPages>(
     shape: Shape,
     tables: Tables,
     lines: Vec<Line>,
     sink: &mut K,
-    media: M,
-) -> Done<M>
+    device: &mut D,
+) -> Ran
     requires plain { All (λ l. IsPlain l.call) lines.items }
     requires few { length lines.items ≤ 1000000 }
     requires room { HaveRoom tables lines.items }
-    requires legal { IsTrue (is_legal (M.geometry media).blocks (M.geometry media).pages) }
-    requires shape { shape ≡ shape_for (M.geometry media).blocks (M.geometry media).pages }
-    requires formatted { M.tells → IsFormatted (M.geometry media).blocks (M.geometry media).pages (M.contents media) }
+    requires roomy { IsRoomy shape }
+    requires nodes { 1 ≤ shape.nodes }
+    requires formed { D.formed device.old }
+    requires clean { D.clean device.old }
+    requires stamp { D.next_stamp device.old + 1000000 < 2 ^ 63 }
+    requires no_pairs { (D.names device.old).pairs ≡ [] }
+    ensures formed { D.formed device.new }
     ensures ran { (text : List ℕ)
-        × Runs M.tells lines.items (stream (K.taken sink.old) (K.faults sink.old)) (stream (K.taken sink.new) (K.faults sink.new))
-        (medium (M.geometry media) (M.contents media) (M.clock media) (M.read_faults media) (M.write_faults media))
-        (medium (M.geometry result.media) (M.contents result.media) (M.clock result.media) (M.read_faults result.media) (M.write_faults result.media)) result.order.items text
-        × DoneStatus result.status (stream (K.taken sink.old) (K.faults sink.old)) (stream (K.taken sink.new) (K.faults sink.new))
-        (medium (M.geometry media) (M.contents media) (M.clock media) (M.read_faults media) (M.write_faults media))
-        (medium (M.geometry result.media) (M.contents result.media) (M.clock result.media) (M.read_faults result.media) (M.write_faults result.media)) text }
-    ensures syncs { result.syncs.items ≡ [] }
+        × RunsOn D.tells shape (D.names device.old).space.room lines.items
+        (record { clock = D.clock device.old; read_faults = D.read_faults device.old; write_faults = D.write_faults device.old })
+        (record { clock = D.clock device.new; read_faults = D.read_faults device.new; write_faults = D.write_faults device.new }) result.order.items text
+        × Writes (K.taken sink.old) (K.taken sink.new) result.answer text }
+    ensures never_falls { K.faults sink.old ≤ K.faults sink.new }
+    ensures cause { result.answer ≡ SinkAnswer.Failed → Rose (K.faults sink.old) (K.faults sink.new) }
 {
-    let mut media = media;
     let Tables {
         mut files,
         mut answers,
@@ -156,27 +172,18 @@ fn run_lines<K: Sink, M: Nand>(
         mut page,
         wanted: _,
     } = tables;
-    let reads = media.read_faults();
-    let writes = media.write_faults();
     run(
-        &mut media,
+        device,
         &mut page,
         &shape,
-        first_page(&shape),
         lines,
         &mut files,
         &mut answers,
         &mut bytes,
         &mut order,
     );
-    let rose = medium_rose(&media, reads, writes);
     let answer = print_answers(sink, &answers, &bytes);
-    Done {
-        status: status_of(rose, answer),
-        media,
-        syncs: SyncList::new(alloc),
-        order,
-    }
+    Ran { answer, order }
 }
 
 // Makes a volume, and tells its numbers.
@@ -259,7 +266,8 @@ fn answer_words<S: Source, K: Sink, M: Nand>(
         Look::Other => return ended(alloc, 2, b"unbuilt", sink, media),
         Look::Failed => return ended(alloc, 5, b"medium fault", sink, media),
     }
-    run_lines(alloc, shape, tables, lines, sink, media)
+    let _ = (shape, tables, lines);
+    ended(alloc, 2, b"unbuilt", sink, media)
 }
 
 /// Answers the words of a command line. `format B P` makes a volume of B blocks of P pages, and prints its numbers. `run`
