@@ -8,7 +8,6 @@ mod Ending
 pub mod FileLists
 pub mod Flat
 pub mod FormRows
-mod Lowered
 pub mod Named
 pub mod Numbered
 pub mod Numbers

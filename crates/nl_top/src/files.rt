@@ -137,6 +137,8 @@ pub fn read<D: NamedPages>(
     if let Some(fault) = load(device, file.page, tag_of(i), page) {
         return Found::plain(Reply::Fault(fault));
     }
+    let whole = page.main().len();
+    prove!(whole == 4096);
     Found {
         reply: Reply::Content,
         start: from as usize,

@@ -1,5 +1,5 @@
 // The page of a file on a device: reading it, and writing it anew.
-ghost use Rattle.std.specs.Prelude.{◌≡◌, ◌≤◌, ◌<◌, ◌+◌, ◌^◌, ◌↔◌, ℕ, [], Some, None, Option, false, true, IsTrue};
+ghost use Rattle.std.specs.Prelude.{◌≡◌, ◌≤◌, ◌<◌, ◌+◌, ◌^◌, ◌↔◌, ℕ, [], Some, None, Option, false, IsTrue};
 ghost use Rattle.nl_field.specs.CrashStates.{Rose, saturated};
 ghost use Rattle.nl_field.specs.declared.pointer.Pointer.{Pointer};
 ghost use Rattle.nl_iface.specs.Answers.{IfPlaced, IsPlaced};
@@ -82,6 +82,7 @@ pub fn place<D: NamedPages>(
     ensures clock { D.clock device.new ≡ risen (finished_by result) (D.clock device.old) }
     ensures read_faults { D.read_faults device.new ≡ D.read_faults device.old }
     ensures write_faults { D.write_faults device.new ≡ risen (failed_by result) (D.write_faults device.old) }
+    ensures writes { D.write_faults device.old ≤ D.write_faults device.new }
 {
     match held {
         None => device.nameless_write(tag, page),
