@@ -1,9 +1,8 @@
 // The top call: reads a script, runs it on a medium, and prints the answers.
-ghost use Rattle.std.specs.Prelude.{◌≡◌, ◌⊎◌, ◌<◌, ◌≤◌, ◌+◌, ◌*◌, ◌^◌, ◌↔◌, ◌++◌, [], ◌∷◌, ℕ, List, Some, None, length, codes, true, false, All, IsTrue, is_some, IfOk, IfErr, IfSome, IfNone, sum_by};
+ghost use Rattle.std.specs.Prelude.{◌≡◌, ◌⊎◌, ◌<◌, ◌≤◌, ◌+◌, ◌*◌, ◌^◌, ◌↔◌, ◌++◌, [], ◌∷◌, ℕ, List, Some, None, length, codes, true, false, All, IsTrue, IfOk, IfErr, IfSome, IfNone, sum_by};
 ghost use Rattle.nl_field.specs.CrashStates.{Rose};
 ghost use Rattle.nl_field.specs.Numbers.{is_legal, shape_for};
 ghost use Rattle.nl_io.specs.Streams.{Writes};
-ghost use Rattle.std.specs.List.{list_any};
 ghost use Rattle.nl_tree.specs.declared.call.Line.{Line};
 ghost use Rattle.nl_core.specs.Formatted.{IsFormatted};
 ghost use Rattle.nl_top.specs.Command.{command_of};
@@ -117,19 +116,6 @@ fn status_of(rose: bool, answer: SinkAnswer) -> u8
         SinkAnswer::Took => 0,
         SinkAnswer::Failed => 4,
     }
-}
-
-// Whether some line was answered by a fault reply.
-fn has_fault(order: &OrderList) -> bool
-    ensures { result ≡ list_any (λ o. is_some o.fault) order.now.items }
-{
-    let count = order.len();
-    'lines: for at in 0..count {
-        if order.get(at).fault.is_some() {
-            return true;
-        }
-    }
-    false
 }
 
 /// What stands behind the lines of a run: the taken text, and the answered lines.

@@ -1,5 +1,5 @@
-use Rattle.std.proofs.Common.{◌≡◌, ℕ, ◌-◌, List, [], ◌∷◌, ap, ◌∙◌, sym, subst, None, take, drop}
-use Rattle.nl_tree.specs.declared.call.Call.TheVariants.{Create, Read}
+use Rattle.std.proofs.Common.{◌≡◌, ℕ, ◌-◌, List, [], ◌∷◌, refl, ap, ◌∙◌, sym, subst, None, take, drop}
+use Rattle.nl_tree.specs.declared.call.Call.TheVariants.{Create, Write, Read}
 use Rattle.nl_top.specs.Files.{contents_of, Replies}
 use Rattle.nl_top.specs.Execution.{outcome_of, fault_of}
 use Rattle.nl_top.proofs.Named.{Contents}
@@ -36,3 +36,16 @@ returns-in-Read-clause-answer g c = λ tells capacity le.
     let answer = subst (λ (x : Contents). Replies (λ t. outcome_of c.args.shape.now capacity t (Read (c.bytes-in-Read.result.now ∷ []) c.in-Read.from c.in-Read.count) fault begun) x (contents_of pages' c.deref.result.now) found.reply bytes) (ap (contents_of pages) c.deref.ensures.value) there in
     let answer' = subst (λ (x : Contents). Replies (λ t. outcome_of c.args.shape.now capacity t (Read (c.bytes-in-Read.result.now ∷ []) c.in-Read.from c.in-Read.count) fault begun) (contents_of pages files) x found.reply bytes) (ap (contents_of pages') c.deref.ensures.value) answer in
     same_call c.args.shape.now capacity begun c.args.call (Read (c.bytes-in-Read.result.now ∷ []) c.in-Read.from c.in-Read.count) fault (contents_of pages files) (contents_of pages' files) found.reply bytes is answer'
+
+pub returns-in-Write-clause-answer : goal.returns-in-Write-clause-answer
+returns-in-Write-clause-answer g c = λ tells capacity le.
+    let begun = capacity - (g.D.VirtualPages.names c.args.device.now).space.room in
+    let before = contents_of (g.D.VirtualPages.bytes c.args.device.now) c.args.files.now.items in
+    let after = contents_of (g.D.VirtualPages.bytes c.write-reply.new.device) c.write-reply.new.files.items in
+    let name = c.bytes.result.now in
+    let bytes = c.bytes-in-Write-2.result.now in
+    let named : c.in-Write.path ≡ name ∷ [] = c.name_of-name.ensures.name ∙ ap (λ (n : List ℕ). n ∷ []) (sym c.bytes.ensures) in
+    let is : c.args.call ≡ Write (name ∷ []) c.in-Write.from bytes = c.in-Write.is ∙ (λ i. Write (named i) c.in-Write.from (sym c.bytes-in-Write-2.ensures i)) in
+    plainly c.args.shape.now capacity begun c.args.call (fault_of c.write-reply.result) before after c.write-reply.new.page.main c.plain-in-Write.result c.write-reply.result c.plain-in-Write.ensures refl
+    (same_call c.args.shape.now capacity begun c.args.call (Write (name ∷ []) c.in-Write.from bytes) (fault_of c.write-reply.result) before after c.write-reply.result [] is
+    (c.write-reply.ensures.answer tells capacity le))
