@@ -11,6 +11,7 @@ pub mod FormRows
 pub mod Named
 pub mod Numbered
 pub mod Numbers
+mod NewVolume
 pub mod OneMore
 mod Printing
 pub mod Replying

@@ -2,6 +2,7 @@ pub mod Command
 pub mod Execution
 pub mod Files
 pub mod Form
+pub mod Fresh
 pub mod Input
 pub mod Pages
 pub mod Plain

@@ -6,6 +6,7 @@ mod command;
 mod files;
 mod form;
 mod formatted;
+mod fresh;
 mod gate;
 mod input;
 mod lists;
