@@ -20,7 +20,7 @@ use Rattle.nl_top.specs.Form.{script_lines, max_script, lines_within, calls_of, 
 use Rattle.nl_top.specs.Execution.{Executed, IsFaultReply, sum_behind, FaultsNumbered, is_eio, is_damage}
 use Rattle.nl_top.specs.Run.{ordered, some_eio, some_damage}
 use Rattle.nl_top.proofs.Ending.{no_fault}
-use Rattle.nl_top.specs.Top.{Stream, Medium, MediumRose, AnsweredFault, Failed, RunsOn, NotAScript, Ends, faulty_words, source_fault, no_memory, medium_fault, unbuilt, ran, formats, format_fault, format_no_memory, formatted}
+use Rattle.nl_top.specs.Top.{Stream, Medium, MediumRose, AnsweredFault, Failed, RunsOn, DoneStatus, NotAScript, Ends, faulty_words, source_fault, no_memory, medium_fault, unbuilt, ran, formats, format_fault, format_no_memory, formatted}
 
 -- what was left, in two parts
 parts : (bytes read : List ℕ) (left : Option (List ℕ)) → Some bytes ≡ option_map (λ rest. read ++ rest) left → (rest : List ℕ) × (left ≡ Some rest) × (bytes ≡ read ++ rest)
@@ -84,7 +84,7 @@ some_eio_of sum (e ∷ xs) numbered whole some =
     first_eio sum e.fault (some_damage xs) (any_fault xs) (some_eio xs) numbered.0 whole some (λ w s. some_eio_of (sum_behind sum e.fault) xs numbered.1 w s)
 
 no_failure : (tells : Type 0) (shape : Shape) (room : ℕ) (lines : List Line) (medium medium' : Medium) (order : List Ordered) (text : List ℕ) → tells → RunsOn tells shape room lines medium.counts medium'.counts order text
-    → (MediumRose medium medium' → ⊥) → Failed order medium medium' → ⊥
+    → (MediumRose medium medium' → ⊥) → Failed order medium.counts medium'.counts → ⊥
 no_failure tells shape room lines medium medium' order text t run none (inl rose) = none rose
 no_failure tells shape room lines medium medium' order text t run none (inr fault) =
     none (run.executes.caused (some_eio_of (fault_sum medium.counts) run.executed run.executes.numbered (run.undamaged t) (subst AnsweredFault run.executes.listed fault)))
@@ -101,9 +101,12 @@ module _ (tells : Type 0) (words : List (List ℕ)) (source source' sink sink' :
   complete run bytes left lines script t legal form no_source no_sink no_medium (unbuilt is two (inl no_script) ends) = absurd (a_script source source' bytes lines left script no_script)
   complete run bytes left lines script t legal form no_source no_sink no_medium (unbuilt is two (inr (inl illegal)) ends) = absurd (not_both _ legal illegal)
   complete run bytes left lines script t legal form no_source no_sink no_medium (unbuilt is two (inr (inr other)) ends) = absurd (other t form)
-  complete run bytes left lines script t legal form no_source no_sink no_medium (ran is read whole all spelled numbers formed sound text runs (inl five)) = absurd (no_failure tells _ _ all medium medium' order text t runs.ran no_medium five.1)
-  complete run bytes left lines script t legal form no_source no_sink no_medium (ran is read whole all spelled numbers formed sound text runs (inr (inl four))) = absurd (no_sink four.2)
-  complete run bytes left lines script t legal form no_source no_sink no_medium (ran is read whole all spelled numbers formed sound text runs (inr (inr zero))) = inl zero.0
+  complete run bytes left lines script t legal form no_source no_sink no_medium (ran is read whole all spelled numbers formed sound runs) = done runs.done
+    where
+      done : DoneStatus status order sink sink' medium.counts medium'.counts runs.text → (status ≡ 0) ⊎ (status ≡ 6)
+      done (inl five) = absurd (no_failure tells _ _ all medium medium' order runs.text t runs.ran no_medium five.1)
+      done (inr (inl four)) = absurd (no_sink four.2)
+      done (inr (inr zero)) = inl zero.0
   complete run bytes left lines script t legal form no_source no_sink no_medium (formats blocks pages is same ends) = absurd (run_or_format (command_of words) blocks pages run is)
 
   pub completes : (blocks pages : ℕ) → command_of words ≡ Some (Format blocks pages) → (Rose sink.faults sink'.faults → ⊥) → (MediumRose medium medium' → ⊥)
@@ -113,7 +116,7 @@ module _ (tells : Type 0) (words : List (List ℕ)) (source source' sink sink' :
   completes blocks pages format no_sink no_medium (no_memory is six ends) = inr six
   completes blocks pages format no_sink no_medium (medium_fault is five rose ends) = absurd (no_medium (inl rose))
   completes blocks pages format no_sink no_medium (unbuilt is two cause ends) = absurd (run_or_format (command_of words) blocks pages is format)
-  completes blocks pages format no_sink no_medium (ran is read whole all spelled numbers formed sound text runs done) = absurd (run_or_format (command_of words) blocks pages is format)
+  completes blocks pages format no_sink no_medium (ran is read whole all spelled numbers formed sound runs) = absurd (run_or_format (command_of words) blocks pages is format)
   completes blocks pages format no_sink no_medium (formats b p is same (format_fault five rose prints none)) = absurd (no_medium (inr rose))
   completes blocks pages format no_sink no_medium (formats b p is same (format_no_memory six ends)) = inr six
   completes blocks pages format no_sink no_medium (formats b p is same (formatted text made (inl five))) = absurd (no_fault order (MediumRose medium medium') ⊥ made.no_lines no_medium five.1)

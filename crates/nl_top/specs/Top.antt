@@ -48,8 +48,12 @@ shape_of_medium m = shape_for m.geometry.blocks m.geometry.pages
 abbrev pub room_for_data : Shape → ℕ
 room_for_data shape = (shape.pblocks - 1) * shape.pages
 
+-- a count of faults rose
+abbrev pub CountsRose : Counts → Counts → Type 0
+CountsRose old new = Rose old.read_faults new.read_faults ⊎ Rose old.write_faults new.write_faults
+
 abbrev pub MediumRose : Medium → Medium → Type 0
-MediumRose old new = Rose old.counts.read_faults new.counts.read_faults ⊎ Rose old.counts.write_faults new.counts.write_faults
+MediumRose old new = CountsRose old.counts new.counts
 
 -- these bytes were read from the source, and nothing is left of it
 pub record ReadsWhole (old new : Stream) (bytes : List ℕ) : Type 0 where
@@ -106,11 +110,6 @@ pub record RunsOn (tells : Type 0) (shape : Shape) (room : ℕ) (lines : List Li
   pub answers : tells → text ≡ run_text 0 (answered_of executed (outcomes shape room empty_tree executed))
   pub undamaged : tells → some_damage executed ≡ false
 
--- The lines were run on a new volume, and their answers were printed.
-pub record Runs (tells : Type 0) (lines : List Line) (sink sink' : Stream) (medium medium' : Medium) (order : List Ordered) (text : List ℕ) : Type 0 where
-  pub ran : RunsOn tells (shape_of_medium medium) (room_for_data (shape_of_medium medium)) lines medium.counts medium'.counts order text
-  pub prints : Prints sink sink' text
-
 -- A volume of this geometry was made, whatever the medium held, and told. It opens as the tree with only the root, after no call.
 pub record Formats (tells : Type 0) (blocks pages : ℕ) (sink sink' : Stream) (medium' : Medium) (order : List Ordered) (text : List ℕ) : Type 0 where
   pub geometry : medium'.geometry ≡ record { blocks = blocks; pages = pages }
@@ -125,16 +124,23 @@ abbrev pub AnsweredFault : List Ordered → Type 0
 AnsweredFault order = IsTrue (list_any (λ o. is_some o.fault) order)
 
 -- the medium failed, or a printed answer is a fault reply
-abbrev pub Failed : List Ordered → Medium → Medium → Type 0
-Failed order medium medium' = MediumRose medium medium' ⊎ AnsweredFault order
+abbrev pub Failed : List Ordered → Counts → Counts → Type 0
+Failed order before now = CountsRose before now ⊎ AnsweredFault order
 
 -- the status of a command that was carried out: 5 exactly where a printed answer is a fault reply or a count of the medium rose, else 0 where the
 -- text was taken whole, and 4 where it was not
-abbrev pub DoneStatus : ℕ → List Ordered → Stream → Stream → Medium → Medium → List ℕ → Type 0
-DoneStatus status order sink sink' medium medium' text =
-    ((status ≡ 5) × Failed order medium medium')
-    ⊎ (((status ≡ 4) × (Failed order medium medium' → ⊥) × Rose sink.faults sink'.faults)
-    ⊎ ((status ≡ 0) × (Failed order medium medium' → ⊥) × PrintsWhole sink sink' text))
+abbrev pub DoneStatus : ℕ → List Ordered → Stream → Stream → Counts → Counts → List ℕ → Type 0
+DoneStatus status order sink sink' before now text =
+    ((status ≡ 5) × Failed order before now)
+    ⊎ (((status ≡ 4) × (Failed order before now → ⊥) × Rose sink.faults sink'.faults)
+    ⊎ ((status ≡ 0) × (Failed order before now → ⊥) × PrintsWhole sink sink' text))
+
+-- The lines were run on a device that is new, with room for so many programs of data, and their answers were printed.
+pub record RanOn (tells : Type 0) (shape : Shape) (room : ℕ) (lines : List Line) (sink sink' : Stream) (before now : Counts) (order : List Ordered) (status : ℕ) : Type 0 where
+  pub text : List ℕ
+  pub ran : RunsOn tells shape room lines before now order text
+  pub prints : Prints sink sink' text
+  pub done : DoneStatus status order sink sink' before now text
 
 -- How a format ends.
 pub data FormatEnds (tells : Type 0) (blocks pages : ℕ) (sink sink' : Stream) (medium medium' : Medium) (order : List Ordered) (status : ℕ) : Type 0 where
@@ -142,8 +148,19 @@ pub data FormatEnds (tells : Type 0) (blocks pages : ℕ) (sink sink' : Stream) 
       → FormatEnds tells blocks pages sink sink' medium medium' order status
   format_no_memory : status ≡ 6 → EndsBefore (codes "memory\n") sink sink' medium medium' order
       → FormatEnds tells blocks pages sink sink' medium medium' order status
-  formatted : (text : List ℕ) → Formats tells blocks pages sink sink' medium' order text → DoneStatus status order sink sink' medium medium' text
+  formatted : (text : List ℕ) → Formats tells blocks pages sink sink' medium' order text → DoneStatus status order sink sink' medium.counts medium'.counts text
       → FormatEnds tells blocks pages sink sink' medium medium' order status
+
+-- How a run of lines on a medium as a format leaves it ends.
+pub data RunEnds (tells : Type 0) (lines : List Line) (sink sink' : Stream) (medium medium' : Medium) (order : List Ordered) (status : ℕ) : Type 0 where
+  run_fault : status ≡ 5 → Rose medium.counts.read_faults medium'.counts.read_faults → EndsBefore (codes "medium fault\n") sink sink' medium medium' order
+      → RunEnds tells lines sink sink' medium medium' order status
+  run_no_memory : status ≡ 6 → EndsBefore (codes "memory\n") sink sink' medium medium' order
+      → RunEnds tells lines sink sink' medium medium' order status
+  run_unbuilt : status ≡ 2 → (tells → ⊥) → EndsBefore (codes "unbuilt\n") sink sink' medium medium' order
+      → RunEnds tells lines sink sink' medium medium' order status
+  run_ended : RanOn tells (shape_of_medium medium) (room_for_data (shape_of_medium medium)) lines sink sink' medium.counts medium'.counts order status
+      → RunEnds tells lines sink sink' medium medium' order status
 
 -- Each call ends in one of these ways, each with its cause, its status and its text.
 pub data Ends (tells : Type 0) (words : List (List ℕ)) (source source' sink sink' : Stream) (medium medium' : Medium) (order : List Ordered) (status : ℕ) : Type 0 where
@@ -160,7 +177,7 @@ pub data Ends (tells : Type 0) (words : List (List ℕ)) (source source' sink si
   ran : command_of words ≡ Some Run → (bytes : List ℕ) → ReadsWhole source source' bytes → (lines : List Line) → script_lines bytes ≡ Some lines
       → IsTrue (is_legal medium.geometry.blocks medium.geometry.pages) → (tells → IsFormatted medium.geometry.blocks medium.geometry.pages medium.contents)
       → (tells → SoundAs medium.contents 0 empty_tree)
-      → (text : List ℕ) → Runs tells lines sink sink' medium medium' order text → DoneStatus status order sink sink' medium medium' text
+      → RanOn tells (shape_of_medium medium) (room_for_data (shape_of_medium medium)) lines sink sink' medium.counts medium'.counts order status
       → Ends tells words source source' sink sink' medium medium' order status
   formats : (blocks pages : ℕ) → command_of words ≡ Some (Format blocks pages) → source' ≡ source → FormatEnds tells blocks pages sink sink' medium medium' order status
       → Ends tells words source source' sink sink' medium medium' order status

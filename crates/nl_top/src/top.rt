@@ -10,20 +10,22 @@ ghost use Rattle.nl_top.specs.Files.{IsRoomy};
 ghost use Rattle.nl_top.specs.Form.{script_lines};
 ghost use Rattle.nl_top.specs.Plain.{IsPlain};
 ghost use Rattle.nl_top.specs.Tables.{HaveRoom};
-ghost use Rattle.nl_top.specs.Top.{stream, medium, ReadsWhole, NotAScript, Prints, RunsOn, FormatEnds, Ends};
+ghost use Rattle.nl_top.specs.Top.{stream, medium, ReadsWhole, NotAScript, Prints, RunsOn, RanOn, RunEnds, FormatEnds, Ends};
 
 use crate::answers::print_answers;
 use crate::command::{Command, command_of};
 use crate::form::lines_of;
+use crate::fresh::is_fresh;
 use crate::formatted::{Look, Making, inspect, make};
 use crate::gate::Gate;
 use crate::input::{Input, read_all};
 use crate::lists::{OrderList, SyncList};
 use crate::run::run;
 use crate::tables::{Tables, tables_for};
-use nl_field::{PageBuf, Shape, shape_of};
+use nl_device::{Device, Started};
+use nl_field::{PageBuf, PointerList, Shape, shape_of};
 use nl_io::{Sink, SinkAnswer, Source, Words};
-use nl_iface::NamedPages;
+use nl_iface::{Counts, NamedPages, VirtualPages};
 use nl_nand::Nand;
 use nl_print::{formatted_line, word_line};
 use nl_tree::Line;
@@ -172,6 +174,78 @@ fn run_lines<K: Sink, D: NamedPages>(
     Ran { answer, order }
 }
 
+// Runs lines on a device that is new, and prints the answers. The device is then given up for its medium.
+fn run_device<K: Sink, M: Nand>(
+    alloc: Global,
+    shape: Shape,
+    tables: Tables,
+    lines: Vec<Line>,
+    sink: &mut K,
+    device: Device<M>,
+) -> Done<M>
+    requires plain { All (λ l. IsPlain l.call) lines.items }
+    requires few { length lines.items ≤ 1000000 }
+    requires room { HaveRoom tables lines.items }
+    requires roomy { IsRoomy shape }
+    requires nodes { 1 ≤ shape.nodes }
+    requires formed { ⟦<Device<M> as VirtualPages>⟧.formed device }
+    requires clean { ⟦<Device<M> as VirtualPages>⟧.clean device }
+    requires stamp { ⟦<Device<M> as VirtualPages>⟧.next_stamp device ≤ 2 ^ 62 }
+    requires no_pairs { (⟦<Device<M> as VirtualPages>⟧.names device).pairs ≡ [] }
+    ensures ran { RanOn M.tells shape (⟦<Device<M> as VirtualPages>⟧.names device).space.room lines.items (stream (K.taken sink.old) (K.faults sink.old)) (stream (K.taken sink.new) (K.faults sink.new))
+        (record { clock = ⟦<Device<M> as Counts>⟧.clock device; read_faults = ⟦<Device<M> as Counts>⟧.read_faults device; write_faults = ⟦<Device<M> as Counts>⟧.write_faults device })
+        (record { clock = M.clock result.media; read_faults = M.read_faults result.media; write_faults = M.write_faults result.media }) result.order.items result.status }
+    ensures syncs { result.syncs.items ≡ [] }
+{
+    let mut device = device;
+    let reads = device.read_faults();
+    let writes = device.write_faults();
+    device.retain(&PointerList::new(alloc));
+    let Ran { answer, order } = run_lines(shape, tables, lines, sink, &mut device);
+    let media = device.into_media();
+    let failed = medium_rose(&media, reads, writes) || order.has_fault();
+    Done {
+        status: status_of(failed, answer),
+        media,
+        syncs: SyncList::new(alloc),
+        order,
+    }
+}
+
+// Runs lines on a medium as a format leaves it, and prints the answers.
+fn run_volume<K: Sink, M: Nand>(
+    alloc: Global,
+    shape: Shape,
+    tables: Tables,
+    lines: Vec<Line>,
+    sink: &mut K,
+    media: M,
+) -> Done<M>
+    requires plain { All (λ l. IsPlain l.call) lines.items }
+    requires few { length lines.items ≤ 1000000 }
+    requires room { HaveRoom tables lines.items }
+    requires legal { IsTrue (is_legal (M.geometry media).blocks (M.geometry media).pages) }
+    requires shape { shape ≡ shape_for (M.geometry media).blocks (M.geometry media).pages }
+    requires formatted { M.tells → IsFormatted (M.geometry media).blocks (M.geometry media).pages (M.contents media) }
+    ensures ended { RunEnds M.tells lines.items (stream (K.taken sink.old) (K.faults sink.old)) (stream (K.taken sink.new) (K.faults sink.new))
+        (medium (M.geometry media) (M.contents media) (M.clock media) (M.read_faults media) (M.write_faults media))
+        (medium (M.geometry result.media) (M.contents result.media) (M.clock result.media) (M.read_faults result.media) (M.write_faults result.media))
+        result.order.items result.status }
+    ensures syncs { result.syncs.items ≡ [] }
+{
+    match Device::start(alloc, media) {
+        Started::Ready(device, found) => {
+            if is_fresh(&found, &shape) {
+                run_device(alloc, shape, tables, lines, sink, device)
+            } else {
+                ended(alloc, 2, b"unbuilt", sink, device.into_media())
+            }
+        }
+        Started::Fault(media) => ended(alloc, 5, b"medium fault", sink, media),
+        Started::Memory(media) => ended(alloc, 6, b"memory", sink, media),
+    }
+}
+
 // Makes a volume, and tells its numbers.
 fn format<K: Sink, M: Nand>(
     alloc: Global,
@@ -252,8 +326,7 @@ fn answer_words<S: Source, K: Sink, M: Nand>(
         Look::Other => return ended(alloc, 2, b"unbuilt", sink, media),
         Look::Failed => return ended(alloc, 5, b"medium fault", sink, media),
     }
-    let _ = (shape, tables, lines);
-    ended(alloc, 2, b"unbuilt", sink, media)
+    run_volume(alloc, shape, tables, lines, sink, media)
 }
 
 /// Answers the words of a command line. `format B P` makes a volume of B blocks of P pages, and prints its numbers. `run`
