@@ -1,5 +1,5 @@
 -- How the calls on files come by what their replies are proved from.
-use Rattle.std.proofs.Common.{◌≡◌, ◌<◌, ◌≤◌, ℕ, zero, suc, ◌+◌, ◌*◌, ◌==◌, true, false, List, [], ◌∷◌, ◌++◌, length, take, drop, position, slice_index_or, refl, sym, ap, subst, ◌∙◌, Option, Some, None, arith}
+use Rattle.std.proofs.Common.{◌≡◌, ◌<◌, ◌≤◌, ℕ, zero, suc, ◌==◌, true, false, List, position, refl, sym, subst, ◌∙◌, Option, arith}
 use Rattle.std.proofs.lemmas.Bool.{eqb-true, eqb-false}
 use Rattle.nl_tree.specs.Tree.{Tree}
 use Rattle.nl_tree.specs.Step.{Outcome}
@@ -32,4 +32,3 @@ all_taken n a b is same = omega arith
 
 pub one_left : (n a b : ℕ) → n ≤ a → b ≡ a → (n ≡ b → ⊥) → n < a
 one_left n a b le same other = omega arith
-

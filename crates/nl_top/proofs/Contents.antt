@@ -8,7 +8,7 @@ use Rattle.nl_field.specs.Bytes.{zeros}
 use Rattle.nl_field.specs.FileContent.{FileContent, page_bytes, byte_of, bytes_read, touched, overlaid, written_over}
 use Rattle.nl_field.specs.declared.pointer.Pointer.{Pointer}
 use Rattle.nl_top.specs.declared.files.FileEntry.{FileEntry}
-use Rattle.nl_top.specs.Files.{Held, page_bytes_of, content_of_entry, IsFile}
+use Rattle.nl_top.specs.Files.{Held, page_bytes_of, content_of_entry}
 
 -- ---- reading
 

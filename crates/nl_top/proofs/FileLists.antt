@@ -173,10 +173,13 @@ module _ (names after : Names) (files : List FileEntry) (i : ℕ) (d : FileEntry
       most a b x y = omega arith
 
   pub written_files : HasFilesOf after (slice_set files i changed)
-  written_files = record { no_pairs = no_pairs; each = λ j e l. elim (eqb j i) as (λ b. eqb j i ≡ b → IsFile after.live j (slice_index_or (slice_set files i changed) j e)) [
+  written_files = record {
+    no_pairs = no_pairs;
+    each = λ j e l. elim (eqb j i) as (λ b. eqb j i ≡ b → IsFile after.live j (slice_index_or (slice_set files i changed) j e)) [
       | true ↦ λ t. subst (IsFile after.live j) (sym (get_or-set_at files i j changed e (eqb-true j i t) lt)) (subst (λ (k : ℕ). IsFile after.live k changed) (sym (eqb-true j i t)) changed_is)
       | false ↦ λ t. subst (IsFile after.live j) (sym (get_or-set_other files i j changed e (eqb-false j i t))) (file_stays j (slice_index_or files j e) (eqb-false j i t) (has.each j e (omega (arith, length-set files i changed, l))))
-    ] refl }
+    ] refl;
+  }
 
 -- the live pages are the same
 pub same_files : (names after : Names) (files : List FileEntry) → HasFilesOf names files → after.pairs ≡ [] → ((q : ℕ) → after.live q ≡ names.live q) → HasFilesOf after files

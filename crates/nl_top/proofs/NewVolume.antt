@@ -1,5 +1,5 @@
 -- What a scan finds on a medium as a format leaves it.
-use Rattle.std.proofs.Common.{◌≡◌, ℕ, zero, suc, ◌+◌, ◌*◌, ◌≤◌, ◌<◌, max, List, [], ◌∷◌, slice_index_or, fold, filter_map, refl, sym, ap, subst, ◌∙◌, Option, Some, None, IsTrue, arith, mul-le-mul_right}
+use Rattle.std.proofs.Common.{◌≡◌, ℕ, zero, suc, ◌+◌, ◌*◌, ◌≤◌, max, List, [], ◌∷◌, slice_index_or, fold, filter_map, refl, sym, subst, ◌∙◌, Option, Some, None, IsTrue, arith, mul-le-mul_right}
 use Rattle.std.specs.Prelude.{⊤}
 use Rattle.std.specs.List.{cons_option, enumerate_from}
 use Rattle.nl_field.proofs.SpareRecord.{spare-spelled}
@@ -7,9 +7,8 @@ use Rattle.nl_field.specs.Medium.{Readable, readable, readable_pages, stamp_on}
 use Rattle.nl_field.specs.Numbers.{is_legal, shape_for}
 use Rattle.nl_field.specs.Page.{Page, erased, written, Image, page_at}
 use Rattle.nl_field.specs.Scan.{next_stamp_of}
-use Rattle.nl_field.specs.SpareRecord.{spare_bytes, spare_rec_of, fits_spare}
+use Rattle.nl_field.specs.SpareRecord.{fits_spare}
 use Rattle.nl_field.specs.declared.shape.Shape.{Shape}
-use Rattle.nl_field.specs.declared.spare.SpareRec.{SpareRec}
 use Rattle.nl_field.specs.declared.spare.SpareRec.TheVariants.{Virtual}
 use Rattle.nl_core.specs.Formatted.{formatted_root, formatted_super, IsFormatted}
 use Rattle.nl_nand.specs.Nand.{ImageOf}

@@ -1,5 +1,5 @@
 -- One more line of a run.
-use Rattle.std.proofs.Common.{◌≡◌, ℕ, zero, suc, ◌+◌, ◌-◌, ◌≤◌, List, [], ◌∷◌, ◌++◌, length, take, drop, map, sum_by, refl, sym, ◌∙◌, ap, subst, arith, zero-add, le_trans, inl, inr, Option, Some, None}
+use Rattle.std.proofs.Common.{◌≡◌, ℕ, zero, suc, ◌+◌, ◌-◌, ◌≤◌, List, [], ◌∷◌, ◌++◌, length, take, drop, map, sum_by, refl, sym, ◌∙◌, ap, subst, arith, zero-add, le_trans, inl, inr, Option}
 use Rattle.std.proofs.lemmas.List.{take-append-le, drop-append-le, take_all, length-drop, map-append}
 use Rattle.std.proofs.lemmas.List.Sums.{sum_by_push, sum_by-cons}
 use Rattle.nl_field.specs.CrashStates.{Rose, saturated}

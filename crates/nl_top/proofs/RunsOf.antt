@@ -11,7 +11,7 @@ use Rattle.nl_top.specs.declared.lists.Ordered.{Ordered}
 use Rattle.nl_top.specs.Execution.{CountsPrograms}
 use Rattle.nl_top.specs.Files.{Held}
 use Rattle.nl_top.specs.Run.{answers_in, HasRun}
-use Rattle.nl_top.specs.Top.{RunsOn}
+use Rattle.nl_top.specs.Top.{Stream, RunsOn, RanOn}
 
 pub runs_on : (tells : Type 0) (shape : Shape) (room : ℕ) (lines : List Line) (order : List Ordered) (before now : Counts) (pages : Held) (files : List FileEntry) (begun : ℕ) (answers : List Answer) (bytes : List ℕ) (text : List ℕ)
     → HasRun tells shape room lines order before now pages files begun answers bytes → text ≡ run_text 0 (answers_in answers bytes) → RunsOn tells shape room lines before now order text
@@ -25,3 +25,11 @@ runs_on tells shape room lines order before now pages files begun answers bytes 
   answers = λ t. is ∙ ap (run_text 0) (run.told t).answered;
   undamaged = λ t. (run.told t).undamaged;
 }
+
+-- the same run, told of the medium
+pub ran_as : (tells : Type 0) (shape shape' : Shape) (room room' : ℕ) (lines : List Line) (sink sink' : Stream) (before before' now : Counts) (order : List Ordered) (status : ℕ)
+    → shape ≡ shape' → room ≡ room' → before ≡ before' → RanOn tells shape room lines sink sink' before now order status → RanOn tells shape' room' lines sink sink' before' now order status
+ran_as tells shape shape' room room' lines sink sink' before before' now order status s r b ran =
+    subst (λ (x : Counts). RanOn tells shape' room' lines sink sink' x now order status) b
+    (subst (λ (x : ℕ). RanOn tells shape' x lines sink sink' before now order status) r
+    (subst (λ (x : Shape). RanOn tells x room lines sink sink' before now order status) s ran))

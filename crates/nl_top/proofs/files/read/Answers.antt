@@ -1,4 +1,4 @@
-use Rattle.std.proofs.Common.{◌≡◌, ◌-◌, ◌∷◌, [], take, drop, min, Some, None, position, ℕ, List, length, refl, sym, ap, subst, ◌∙◌, arith}
+use Rattle.std.proofs.Common.{◌≡◌, ◌-◌, ◌∷◌, [], take, drop, min, Some, position, ℕ, List, length, sym, ap, subst, ◌∙◌, arith}
 use Rattle.std.proofs.lemmas.List.Quantifiers.{position-Some}
 use Rattle.nl_field.specs.FileContent.{bytes_read}
 use Rattle.nl_tree.specs.declared.call.Call.TheVariants as call
@@ -6,10 +6,9 @@ use Rattle.nl_tree.specs.declared.reply.Reply.TheVariants.{Fault}
 use Rattle.nl_top.specs.declared.files.FileEntry.{FileEntry}
 use Rattle.nl_top.specs.declared.files.Found.{Found}
 use Rattle.nl_top.specs.Execution.{outcome_of, fault_of}
-use Rattle.nl_top.specs.Files.{Held, page_bytes_of, content_of_entry, contents_of, has_name, IsFile, Replies}
+use Rattle.nl_top.specs.Files.{Held, content_of_entry, contents_of, has_name, IsFile, Replies}
 use Rattle.nl_top.proofs.Answering.{replies_after}
 use Rattle.nl_top.proofs.Contents.{bytes_read-entry, bytes_read-none}
-use Rattle.nl_top.proofs.Named.{Contents}
 use Rattle.nl_top.proofs.Replying.{replies_fault, read_answer_missing, read_answer_there}
 use Rattle.nl_top.proofs.files.read.Goals.{then-count-eq0-via-then-count-eq0, then-count-eq0-via-else-count-eq0+then-from-file}
 use Rattle.nl_top.proofs.files.read.Goals as goal

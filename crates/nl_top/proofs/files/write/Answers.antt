@@ -1,14 +1,12 @@
-use Rattle.std.proofs.Common.{◌≡◌, ◌+◌, ◌-◌, ◌<◌, ◌≤◌, ◌∷◌, ◌++◌, [], ℕ, List, length, take, drop, Some, None, Option, position, slice_index_or, refl, ap, sym, subst, ◌∙◌, arith}
-use Rattle.std.proofs.lemmas.List.Quantifiers.{position-Some}
-use Rattle.nl_field.specs.declared.pointer.Pointer.{Pointer}
+use Rattle.std.proofs.Common.{◌≡◌, ◌+◌, ◌-◌, ◌∷◌, ◌++◌, [], ℕ, List, length, take, drop, Some, None, slice_index_or, refl, ap, sym, ◌∙◌, arith}
 use Rattle.nl_iface.specs.Names.{Names, LivePage}
 use Rattle.nl_tree.specs.declared.call.Call.TheVariants as call
 use Rattle.nl_tree.specs.declared.reply.FaultReply.TheVariants.{Eio}
-use Rattle.nl_tree.specs.declared.reply.Reply.TheVariants.{Fault, No}
+use Rattle.nl_tree.specs.declared.reply.Reply.TheVariants.{Fault}
 use Rattle.nl_top.specs.declared.files.FileEntry.{FileEntry}
-use Rattle.nl_top.specs.Files.{Held, has_name, page_bytes_of, contents_of}
+use Rattle.nl_top.specs.Files.{Held, page_bytes_of, contents_of}
 use Rattle.nl_top.proofs.Answering.{placed, replies_after, empty_bytes, some_bytes}
-use Rattle.nl_top.proofs.FileLists.{AreSameLive, all_live, contents_of-same, contents_of-written, written_files, same_files}
+use Rattle.nl_top.proofs.FileLists.{AreSameLive, all_live, contents_of-same, contents_of-written}
 use Rattle.nl_top.proofs.Replying.{replies_fault, write_answer_missing, write_answer_nothing, write_answer_no_page, write_answer_there}
 use Rattle.nl_top.proofs.files.write.Goals as goal
 

@@ -1,6 +1,5 @@
-use Rattle.std.proofs.Common.{◌≡◌, ℕ, List, ap, ◌∙◌, arith}
+use Rattle.std.proofs.Common.{◌≡◌, ap}
 use Rattle.nl_print.specs.Texts.{run_text}
-use Rattle.nl_top.specs.declared.answers.Answer.{Answer}
 use Rattle.nl_top.specs.Run.{answers_in}
 use Rattle.nl_top.proofs.RunsOf.{runs_on}
 use Rattle.nl_top.proofs.top.run_lines.Goals as goal
