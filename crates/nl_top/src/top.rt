@@ -330,11 +330,13 @@ fn answer_words<S: Source, K: Sink, M: Nand>(
 }
 
 /// Answers the words of a command line. `format B P` makes a volume of B blocks of P pages, and prints its numbers. `run`
-/// reads a script from the source, runs it on a medium as `format` leaves it, and prints the answers into the sink. All of
-/// it runs on the calling thread, and the gate is not asked.
+/// reads a script from the source, runs it on a medium as `format` leaves it, and prints the answers into the sink. Its
+/// pages go through the device, which picks their places: there is room for the programs of all physical blocks but one.
+/// All of it runs on the calling thread, and the gate is not asked.
 ///
 /// Statuses: 0; 2 for faulty words, and for a script or a medium that is not of the form (`unbuilt`); 3 where the source
-/// failed; 4 where the sink failed; 5 where the medium failed; 6 for want of memory, before the medium is touched.
+/// failed; 4 where the sink failed; 5 where the medium failed or an answer is a fault reply; 6 for want of memory, before
+/// the medium is written.
 pub fn nameless<Rt: Threads + Wait + Sync, S: Source, K: Sink, M: Nand + Send, G: Gate + Sync>(
     rt: &Rt,
     alloc: Global,

@@ -49,10 +49,10 @@ returns-else-is_fresh-clause-ended g c =
     run_unbuilt end.ensures.status is_new (record {
       prints = end.ensures.prints;
       untouched = record {
-        same_geometry = ap (λ m. g.M.Nand.geometry m) (end.ensures.media ∙ c.into_media.ensures.medium) ∙ c.in-Ready.ensures.geometry;
-        same_contents = ap (λ m. g.M.Nand.contents m) (end.ensures.media ∙ c.into_media.ensures.medium) ∙ c.in-Ready.ensures.contents;
-        same_clock = ap (λ m. g.M.Nand.clock m) end.ensures.media ∙ c.into_media.ensures.clock ∙ c.in-Ready.ensures.clock;
-        same_write_faults = ap (λ m. g.M.Nand.write_faults m) end.ensures.media ∙ c.into_media.ensures.write_faults ∙ c.in-Ready.ensures.write_faults;
+        same_geometry = ap (λ m. g.M.Nand.geometry m) (end.ensures.media ∙ c.into_media.ensures) ∙ c.in-Ready.ensures.geometry;
+        same_contents = ap (λ m. g.M.Nand.contents m) (end.ensures.media ∙ c.into_media.ensures) ∙ c.in-Ready.ensures.contents;
+        same_clock = ap (λ m. g.M.Nand.clock m) (end.ensures.media ∙ c.into_media.ensures) ∙ c.in-Ready.ensures.clock;
+        same_write_faults = ap (λ m. g.M.Nand.write_faults m) (end.ensures.media ∙ c.into_media.ensures) ∙ c.in-Ready.ensures.write_faults;
       };
       no_lines = end.ensures.order;
     })
