@@ -26,6 +26,11 @@ runs_on tells shape room lines order before now pages files begun answers bytes 
   undamaged = λ t. (run.told t).undamaged;
 }
 
+-- the same run, with the room told in another way
+pub runs_in : (tells : Type 0) (shape : Shape) (room room' : ℕ) (lines : List Line) (before now : Counts) (order : List Ordered) (text : List ℕ)
+    → room ≡ room' → RunsOn tells shape room lines before now order text → RunsOn tells shape room' lines before now order text
+runs_in tells shape room room' lines before now order text same ran = subst (λ (x : ℕ). RunsOn tells shape x lines before now order text) same ran
+
 -- the same run, told of the medium
 pub ran_as : (tells : Type 0) (shape shape' : Shape) (room room' : ℕ) (lines : List Line) (sink sink' : Stream) (before before' now : Counts) (order : List Ordered) (status : ℕ)
     → shape ≡ shape' → room ≡ room' → before ≡ before' → RanOn tells shape room lines sink sink' before now order status → RanOn tells shape' room' lines sink sink' before' now order status

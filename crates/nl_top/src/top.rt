@@ -10,7 +10,7 @@ ghost use Rattle.nl_top.specs.Files.{IsRoomy};
 ghost use Rattle.nl_top.specs.Form.{script_lines};
 ghost use Rattle.nl_top.specs.Plain.{IsPlain};
 ghost use Rattle.nl_top.specs.Tables.{HaveRoom};
-ghost use Rattle.nl_top.specs.Top.{stream, medium, ReadsWhole, NotAScript, Prints, RunsOn, RanOn, RunEnds, FormatEnds, Ends};
+ghost use Rattle.nl_top.specs.Top.{stream, medium, room_for_data, ReadsWhole, NotAScript, Prints, RunsOn, RanOn, RunEnds, FormatEnds, Ends};
 
 use crate::answers::print_answers;
 use crate::command::{Command, command_of};
@@ -143,9 +143,12 @@ fn run_lines<K: Sink, D: NamedPages>(
     requires clean { D.clean device.old }
     requires stamp { D.next_stamp device.old + 1000000 < 2 ^ 63 }
     requires no_pairs { (D.names device.old).pairs ≡ [] }
+    requires numbers { shape ≡ D.shape device.old }
+    requires some { 0 < shape.pages }
+    requires all_free { (D.names device.old).space.room + (D.names device.old).space.block ≡ (D.names device.old).space.all }
     ensures formed { D.formed device.new }
     ensures ran { (text : List ℕ)
-        × RunsOn D.tells shape (D.names device.old).space.room lines.items
+        × RunsOn D.tells shape (room_for_data shape) lines.items
         (record { clock = D.clock device.old; read_faults = D.read_faults device.old; write_faults = D.write_faults device.old })
         (record { clock = D.clock device.new; read_faults = D.read_faults device.new; write_faults = D.write_faults device.new }) result.order.items text
         × Writes (K.taken sink.old) (K.taken sink.new) result.answer text }
@@ -192,7 +195,10 @@ fn run_device<K: Sink, M: Nand>(
     requires clean { ⟦<Device<M> as VirtualPages>⟧.clean device }
     requires stamp { ⟦<Device<M> as VirtualPages>⟧.next_stamp device ≤ 2 ^ 62 }
     requires no_pairs { (⟦<Device<M> as VirtualPages>⟧.names device).pairs ≡ [] }
-    ensures ran { RanOn M.tells shape (⟦<Device<M> as VirtualPages>⟧.names device).space.room lines.items (stream (K.taken sink.old) (K.faults sink.old)) (stream (K.taken sink.new) (K.faults sink.new))
+    requires numbers { shape ≡ ⟦<Device<M> as VirtualPages>⟧.shape device }
+    requires some { 0 < shape.pages }
+    requires all_free { (⟦<Device<M> as VirtualPages>⟧.names device).space.room + (⟦<Device<M> as VirtualPages>⟧.names device).space.block ≡ (⟦<Device<M> as VirtualPages>⟧.names device).space.all }
+    ensures ran { RanOn M.tells shape (room_for_data shape) lines.items (stream (K.taken sink.old) (K.faults sink.old)) (stream (K.taken sink.new) (K.faults sink.new))
         (record { clock = ⟦<Device<M> as Counts>⟧.clock device; read_faults = ⟦<Device<M> as Counts>⟧.read_faults device; write_faults = ⟦<Device<M> as Counts>⟧.write_faults device })
         (record { clock = M.clock result.media; read_faults = M.read_faults result.media; write_faults = M.write_faults result.media }) result.order.items result.status }
     ensures syncs { result.syncs.items ≡ [] }

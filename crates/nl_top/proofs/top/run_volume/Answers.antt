@@ -1,11 +1,11 @@
-use Rattle.std.proofs.Common.{◌≡◌, ◌≤◌, ◌-◌, ◌*◌, ℕ, ap, sym, ◌∙◌, subst, arith, le_trans}
+use Rattle.std.proofs.Common.{◌≡◌, ◌≤◌, ◌<◌, ◌-◌, ◌*◌, ℕ, ap, sym, ◌∙◌, subst, arith, le_trans}
 use Rattle.nl_field.specs.Numbers.{shape_for}
 use Rattle.nl_field.specs.declared.shape.Shape.{Shape}
 use Rattle.nl_tree.specs.Causes.{Counts}
 use Rattle.nl_top.specs.Files.{IsRoomy}
 use Rattle.nl_top.specs.Fresh.{AreErased}
 use Rattle.nl_top.specs.Top.{stream, room_for_data, run_unbuilt, run_ended}
-use Rattle.nl_top.proofs.Numbers.{roomy, some_nodes, some_pages, shape_blocks, shape_pages, all_but_one}
+use Rattle.nl_top.proofs.Numbers.{roomy, some_nodes, some_pages, shape_blocks, shape_pages}
 use Rattle.nl_top.proofs.RunsOf.{ran_as}
 use Rattle.nl_top.proofs.NewVolume.{few_stamps, blocks_erased}
 use Rattle.nl_top.proofs.top.run_volume.Goals as goal
@@ -15,6 +15,11 @@ run_device-requires-clause-roomy g c = subst IsRoomy (sym c.requires.shape) (roo
 
 pub run_device-requires-clause-nodes : goal.run_device-requires-clause-nodes
 run_device-requires-clause-nodes g c = subst (λ (s : Shape). 1 ≤ s.nodes) (sym c.requires.shape) (some_nodes (g.M.Nand.geometry c.args.media).blocks (g.M.Nand.geometry c.args.media).pages c.requires.legal)
+
+pub run_device-requires-clause-some : goal.run_device-requires-clause-some
+run_device-requires-clause-some g c =
+    let geometry = g.M.Nand.geometry c.args.media in
+    subst (λ (n : ℕ). 0 < n) (sym (ap (λ (s : Shape). s.pages) c.requires.shape ∙ shape_pages geometry.blocks geometry.pages)) (some_pages geometry.blocks geometry.pages c.requires.legal)
 
 pub run_device-requires-clause-clean : goal.run_device-requires-clause-clean
 run_device-requires-clause-clean g c =
@@ -31,9 +36,7 @@ returns-then-is_fresh-clause-ended g c =
     let now : Counts = record { clock = g.M.Nand.clock done; read_faults = g.M.Nand.read_faults done; write_faults = g.M.Nand.write_faults done } in
     let sink = stream (g.K.Sink.taken c.args.sink.now) (g.K.Sink.faults c.args.sink.now) in
     let sink' = stream (g.K.Sink.taken c.run_device.new.sink) (g.K.Sink.faults c.run_device.new.sink) in
-    let pages : shape.pages ≡ geometry.pages = shape_pages geometry.blocks geometry.pages in
-    let room = all_but_one _ shape.pblocks geometry.pages (some_pages geometry.blocks geometry.pages c.requires.legal) c.in-Ready.ensures.room ∙ ap (λ (k : ℕ). (shape.pblocks - 1) * k) (sym pages) in
-    run_ended (ran_as g.M.Nand.tells c.args.shape shape _ (room_for_data shape) c.args.lines.items sink sink' _ before now c.run_device.result.order.items c.run_device.result.status c.requires.shape room
+    run_ended (ran_as g.M.Nand.tells c.args.shape shape (room_for_data c.args.shape) (room_for_data shape) c.args.lines.items sink sink' _ before now c.run_device.result.order.items c.run_device.result.status c.requires.shape (ap room_for_data c.requires.shape)
     (λ i. record { clock = c.in-Ready.ensures.clock i; read_faults = c.in-Ready.ensures.read_faults i; write_faults = c.in-Ready.ensures.write_faults i }) c.run_device.ensures.ran)
 
 pub returns-else-is_fresh-clause-ended : goal.returns-else-is_fresh-clause-ended
