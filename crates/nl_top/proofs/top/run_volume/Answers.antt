@@ -23,9 +23,8 @@ run_device-requires-clause-some g c =
 
 pub run_device-requires-clause-clean : goal.run_device-requires-clause-clean
 run_device-requires-clause-clean g c =
-    let geometry = g.M.Nand.geometry c.args.media in
-    let erased : AreErased (shape_for geometry.blocks geometry.pages) c.in-Ready.found.erased = subst (λ (s : Shape). AreErased s c.in-Ready.found.erased) c.requires.shape (c.is_fresh.ensures.erased c.if-is_fresh.true) in
-    c.in-Ready.ensures.clean (λ block low high. erased block low (omega (arith, high, shape_blocks geometry.blocks geometry.pages)))
+    let same = c.requires.shape ∙ sym c.in-Ready.ensures.shape in
+    c.in-Ready.ensures.clean (subst (λ (s : Shape). AreErased s c.in-Ready.found.erased) same (c.is_fresh.ensures.erased c.if-is_fresh.true))
 
 pub returns-then-is_fresh-clause-ended : goal.returns-then-is_fresh-clause-ended
 returns-then-is_fresh-clause-ended g c =
@@ -37,7 +36,7 @@ returns-then-is_fresh-clause-ended g c =
     let sink = stream (g.K.Sink.taken c.args.sink.now) (g.K.Sink.faults c.args.sink.now) in
     let sink' = stream (g.K.Sink.taken c.run_device.new.sink) (g.K.Sink.faults c.run_device.new.sink) in
     run_ended (ran_as g.M.Nand.tells c.args.shape shape (room_for_data c.args.shape) (room_for_data shape) c.args.lines.items sink sink' _ before now c.run_device.result.order.items c.run_device.result.status c.requires.shape (ap room_for_data c.requires.shape)
-    (λ i. record { clock = c.in-Ready.ensures.clock i; read_faults = c.in-Ready.ensures.read_faults i; write_faults = c.in-Ready.ensures.write_faults i }) c.run_device.ensures.ran)
+    (λ i. record { clock = c.in-Ready.ensures.counts.0 i; read_faults = c.in-Ready.ensures.counts.1 i; write_faults = c.in-Ready.ensures.counts.2 i }) c.run_device.ensures.ran)
 
 pub returns-else-is_fresh-clause-ended : goal.returns-else-is_fresh-clause-ended
 returns-else-is_fresh-clause-ended g c =
@@ -52,10 +51,10 @@ returns-else-is_fresh-clause-ended g c =
     run_unbuilt end.ensures.status is_new (record {
       prints = end.ensures.prints;
       untouched = record {
-        same_geometry = ap (λ m. g.M.Nand.geometry m) (end.ensures.media ∙ c.into_media.ensures) ∙ c.in-Ready.ensures.geometry;
-        same_contents = ap (λ m. g.M.Nand.contents m) (end.ensures.media ∙ c.into_media.ensures) ∙ c.in-Ready.ensures.contents;
-        same_clock = ap (λ m. g.M.Nand.clock m) (end.ensures.media ∙ c.into_media.ensures) ∙ c.in-Ready.ensures.clock;
-        same_write_faults = ap (λ m. g.M.Nand.write_faults m) (end.ensures.media ∙ c.into_media.ensures) ∙ c.in-Ready.ensures.write_faults;
+        same_geometry = ap (λ m. g.M.Nand.geometry m) (end.ensures.media ∙ c.into_media.ensures) ∙ c.in-Ready.ensures.kept.same_geometry;
+        same_contents = ap (λ m. g.M.Nand.contents m) (end.ensures.media ∙ c.into_media.ensures) ∙ c.in-Ready.ensures.kept.same_contents;
+        same_clock = ap (λ m. g.M.Nand.clock m) (end.ensures.media ∙ c.into_media.ensures) ∙ c.in-Ready.ensures.kept.same_clock;
+        same_write_faults = ap (λ m. g.M.Nand.write_faults m) (end.ensures.media ∙ c.into_media.ensures) ∙ c.in-Ready.ensures.kept.same_write_faults;
       };
       no_lines = end.ensures.order;
     })
