@@ -1,13 +1,14 @@
 -- What is read from a file within its first page, and what it holds after a write there.
 use Rattle.std.proofs.Common.{◌≡◌, ◌<◌, ◌≤◌, ℕ, zero, suc, ◌+◌, ◌-◌, ◌*◌, ◌/◌, ◌%◌, min, max, ◌==◌, false, if◌then◌else◌, List, [], ◌∷◌, ◌++◌, length, take, drop, map, fold, get_or, slice_index, unwrap_or, take_all, ne_eqb, refl, sym, ap, ◌∙◌, Option, Some, None, arith}
+use Rattle.std.specs.Prelude.{IfNone}
 use Rattle.std.specs.List.{range_with_len}
 use Rattle.std.specs.Ordering.{nat_cmp}
 use Rattle.std.specs.FinMap.{find as value_at, put as with_entry}
 use Rattle.nl_field.specs.Bytes.{zeros}
 use Rattle.nl_field.specs.FileContent.{FileContent, page_bytes, byte_of, bytes_read, touched, overlaid, written_over}
-use Rattle.nl_field.specs.Page.{Image}
+use Rattle.nl_field.specs.declared.pointer.Pointer.{Pointer}
 use Rattle.nl_top.specs.declared.files.FileEntry.{FileEntry}
-use Rattle.nl_top.specs.Files.{page_bytes_of, content_of_entry, HasPage, IsFile}
+use Rattle.nl_top.specs.Files.{Held, page_bytes_of, content_of_entry}
 
 -- ---- reading
 
@@ -59,20 +60,22 @@ bytes_read-empty content from len none = ap (λ n. map (byte_of content) (range_
     nothing : (a b c : ℕ) → b ≡ 0 → min a (b - c) ≡ 0
     nothing a b c e = omega arith
 
--- what is read of a file that is kept so
-pub bytes_read-entry : (image : Image) (next : ℕ) (f : FileEntry) (from len : ℕ) → IsFile next f → length (page_bytes_of image f.page) ≡ 4096
-    → bytes_read (content_of_entry image f) from len ≡ take (min len (f.size - from)) (drop from (page_bytes_of image f.page))
-bytes_read-entry image next f from len is whole = at f.page is.page whole
+-- what is read of a file that is kept so, where its page has these bytes
+pub bytes_read-entry : (pages : Held) (f : FileEntry) (from len : ℕ) (main : List ℕ) → f.size ≤ 4096 → IfNone f.page (f.size ≡ 0) → main ≡ page_bytes_of pages f.page → length main ≡ 4096
+    → bytes_read (content_of_entry pages f) from len ≡ take (min len (f.size - from)) (drop from main)
+bytes_read-entry pages f from len main short empty is whole = at f.page empty is
   where
-    at : (page : Option ℕ) → HasPage next f page → length (page_bytes_of image page) ≡ 4096
-        → bytes_read (content_of_entry image (record f { page = page })) from len ≡ take (min len (f.size - from)) (drop from (page_bytes_of image page))
-    at None empty whole =
-        bytes_read-empty (content_of_entry image (record f { page = None })) from len empty
-        ∙ ap (λ n. take n (drop from (zeros 4096))) (nothing len f.size from empty)
+    at : (page : Option Pointer) → IfNone page (f.size ≡ 0) → main ≡ page_bytes_of pages page
+        → bytes_read (content_of_entry pages (record f { page = page })) from len ≡ take (min len (f.size - from)) (drop from main)
+    at None empty is =
+        bytes_read-empty (content_of_entry pages (record f { page = None })) from len empty
+        ∙ ap (λ n. take n (drop from main)) (nothing len f.size from empty)
       where
         nothing : (a b c : ℕ) → b ≡ 0 → 0 ≡ min a (b - c)
         nothing a b c e = omega arith
-    at (Some q) lt whole = bytes_read-page f.size (page_bytes_of image (Some q)) from len is.size whole
+    at (Some q) empty is =
+        bytes_read-page f.size (pages q.name) from len short (ap (λ (m : List ℕ). length m) (sym is) ∙ whole)
+        ∙ ap (λ (m : List ℕ). take (min len (f.size - from)) (drop from m)) (sym is)
 
 -- ---- writing
 
@@ -119,12 +122,12 @@ unfolding page_bytes
 written_over-new size from bytes some fits = written_over-first (record { size = size; pages = [] }) from bytes some fits
 
 -- what a file holds that is kept so
-pub written_over-entry : (image : Image) (f : FileEntry) (from : ℕ) (bytes : List ℕ) → 0 < length bytes → from + length bytes ≤ 4096
-    → written_over (content_of_entry image f) from bytes
-    ≡ record { size = max f.size (from + length bytes); pages = (0, take from (page_bytes_of image f.page) ++ bytes ++ drop (from + length bytes) (page_bytes_of image f.page)) ∷ [] }
-written_over-entry image f from bytes some fits = at f.page
+pub written_over-entry : (pages : Held) (f : FileEntry) (from : ℕ) (bytes : List ℕ) → 0 < length bytes → from + length bytes ≤ 4096
+    → written_over (content_of_entry pages f) from bytes
+    ≡ record { size = max f.size (from + length bytes); pages = (0, take from (page_bytes_of pages f.page) ++ bytes ++ drop (from + length bytes) (page_bytes_of pages f.page)) ∷ [] }
+written_over-entry pages f from bytes some fits = at f.page
   where
-    at : (page : Option ℕ) → written_over (content_of_entry image (record f { page = page })) from bytes
-        ≡ record { size = max f.size (from + length bytes); pages = (0, take from (page_bytes_of image page) ++ bytes ++ drop (from + length bytes) (page_bytes_of image page)) ∷ [] }
+    at : (page : Option Pointer) → written_over (content_of_entry pages (record f { page = page })) from bytes
+        ≡ record { size = max f.size (from + length bytes); pages = (0, take from (page_bytes_of pages page) ++ bytes ++ drop (from + length bytes) (page_bytes_of pages page)) ∷ [] }
     at None = written_over-new f.size from bytes some fits
-    at (Some q) = written_over-page f.size (page_bytes_of image (Some q)) from bytes some fits
+    at (Some q) = written_over-page f.size (page_bytes_of pages (Some q)) from bytes some fits

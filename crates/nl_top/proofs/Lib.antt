@@ -8,10 +8,10 @@ mod Ending
 pub mod FileLists
 pub mod Flat
 pub mod FormRows
-mod Lowered
 pub mod Named
 pub mod Numbered
 pub mod Numbers
+mod NewVolume
 pub mod OneMore
 mod Printing
 pub mod Replying

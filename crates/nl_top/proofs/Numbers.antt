@@ -1,5 +1,5 @@
 -- Each legal geometry has data pages for as many files as it has nodes.
-use Rattle.std.proofs.Common.{◌≡◌, ◌<◌, ◌≤◌, ℕ, ◌+◌, ◌-◌, ◌*◌, ◌/◌, IsTrue, mul-le-mul_right, le_of_mul-le-mul_right, add-mul, ap, sym, subst, ◌∙◌, arith}
+use Rattle.std.proofs.Common.{◌≡◌, ◌<◌, ◌≤◌, ℕ, zero, suc, refl, ◌+◌, ◌-◌, ◌*◌, ◌/◌, IsTrue, mul-le-mul_right, le_of_mul-le-mul_right, add-mul, ap, sym, subst, ◌∙◌, arith}
 use Rattle.std.specs.Int.{div_ceil}
 use Rattle.std.proofs.lemmas.Bool.Decides.{nat_tests}
 use Rattle.std.proofs.lemmas.Grind.{div_ceil_times}
@@ -79,3 +79,32 @@ segments blocks pages is =
 -- there are few pages
 pub few_pages : (blocks pages : ℕ) → IsTrue (is_legal blocks pages) → blocks * pages ≤ 262144
 few_pages blocks pages is = grind (arith, nat_tests)
+
+-- ---- the room for data
+
+pub shape_blocks : (blocks pages : ℕ) → (shape_for blocks pages).blocks ≡ blocks
+unfolding shape_for
+shape_blocks blocks pages = refl
+
+pub shape_pages : (blocks pages : ℕ) → (shape_for blocks pages).pages ≡ pages
+unfolding shape_for
+shape_pages blocks pages = refl
+
+pub some_pages : (blocks pages : ℕ) → IsTrue (is_legal blocks pages) → 0 < pages
+some_pages blocks pages is = omega (arith, (legal blocks pages is).pages_there)
+
+-- the pages of all blocks but one
+pub all_but_one : (room blocks pages : ℕ) → 0 < pages → room + pages ≡ blocks * pages → room ≡ (blocks - 1) * pages
+all_but_one room zero pages some is = absurd (omega (arith, some, is))
+all_but_one room (suc n) pages some is =
+    let sum : (n + 1) * pages ≡ n * pages + 1 * pages = add-mul n 1 pages in
+    let same : suc n * pages ≡ (n + 1) * pages = ap (λ (k : ℕ). k * pages) (one_more n) in
+    let less : suc n - 1 ≡ n = back n in
+    let here : room ≡ n * pages = omega (arith, is, sum, same) in
+    here ∙ ap (λ (k : ℕ). k * pages) (sym less)
+  where
+    one_more : (n : ℕ) → suc n ≡ n + 1
+    one_more n = omega arith
+
+    back : (n : ℕ) → suc n - 1 ≡ n
+    back n = omega arith

@@ -1,9 +1,10 @@
 -- One more line of a run.
-use Rattle.std.proofs.Common.{◌≡◌, ℕ, zero, suc, ◌+◌, ◌-◌, ◌≤◌, List, [], ◌∷◌, ◌++◌, length, take, drop, map, sum_by, refl, sym, ◌∙◌, ap, subst, arith, zero-add, Option, Some, None}
+use Rattle.std.proofs.Common.{◌≡◌, ℕ, zero, suc, ◌+◌, ◌-◌, ◌≤◌, List, [], ◌∷◌, ◌++◌, length, take, drop, map, sum_by, refl, sym, ◌∙◌, ap, subst, arith, zero-add, le_trans, inl, inr, Option}
 use Rattle.std.proofs.lemmas.List.{take-append-le, drop-append-le, take_all, length-drop, map-append}
 use Rattle.std.proofs.lemmas.List.Sums.{sum_by_push, sum_by-cons}
-use Rattle.nl_field.specs.CrashStates.{saturated}
-use Rattle.nl_field.specs.Page.{Image}
+use Rattle.nl_field.specs.CrashStates.{Rose, saturated}
+use Rattle.std.specs.Prelude.{Bool, IsTrue, true, false, ◌||◌, ◌⊎◌}
+use Rattle.std.proofs.lemmas.List.Folds.{list_any-append}
 use Rattle.nl_field.specs.declared.shape.Shape.{Shape}
 use Rattle.nl_tree.specs.Causes.{Counts, fault_sum}
 use Rattle.nl_tree.specs.Tree.{Tree, empty_tree}
@@ -17,9 +18,9 @@ use Rattle.nl_print.specs.Texts.{Answered}
 use Rattle.nl_top.specs.declared.answers.Answer.{Answer}
 use Rattle.nl_top.specs.declared.files.FileEntry.{FileEntry}
 use Rattle.nl_top.specs.declared.lists.Ordered.{Ordered}
-use Rattle.nl_top.specs.Execution.{Executed, risen, programs_of, outcome_of, outcome_at, outcomes, tree_after, Begins, CountsPrograms, FaultsNumbered, sum_after, fault_of, answered_of}
-use Rattle.nl_top.specs.Files.{HasFiles, contents_of, Replies}
-use Rattle.nl_top.specs.Run.{answers_in, ordered, Executes, finished_in, AnswersAll, HasRun}
+use Rattle.nl_top.specs.Execution.{Executed, risen, programs_of, outcome_of, outcome_at, outcomes, tree_after, Begins, CountsPrograms, IsFaultReply, sum_behind, is_eio, is_damage, FaultsNumbered, sum_after, fault_of, answered_of}
+use Rattle.nl_top.specs.Files.{Held, HasFiles, contents_of, Replies}
+use Rattle.nl_top.specs.Run.{answers_in, ordered, some_eio, Executes, finished_in, AnswersAll, HasRun}
 
 -- ---- one more at the end of each list
 
@@ -45,15 +46,13 @@ counts-push s c t begun mid n [] e so_far at begins = (at ∙ sym so_far, (n, be
 counts-push s c t begun mid n (x ∷ xs) e so_far at begins =
     (so_far.0, (so_far.1.0, so_far.1.1, counts-push s c (outcome_at s c t x).tree (begun + so_far.1.0) mid n xs e so_far.1.2 at begins))
 
-numbered-push : (sum : ℕ) (fs : List (Option FaultReply)) (f : Option FaultReply) → FaultsNumbered sum fs → FaultsNumbered (sum_after sum fs) (f ∷ []) → FaultsNumbered sum (fs ++ f ∷ [])
-numbered-push sum [] f so_far one = one
-numbered-push sum (None ∷ fs) f so_far one = numbered-push sum fs f so_far one
-numbered-push sum (Some g ∷ fs) f so_far one = (so_far.0, numbered-push (saturated (sum + 1)) fs f so_far.1 one)
+numbered-push : (sum : ℕ) (fs : List (Option FaultReply)) (f : Option FaultReply) → FaultsNumbered sum fs → IsFaultReply (sum_after sum fs) f → FaultsNumbered sum (fs ++ f ∷ [])
+numbered-push sum [] f so_far one = (one, tt)
+numbered-push sum (g ∷ fs) f so_far one = (so_far.0, numbered-push (sum_behind sum g) fs f so_far.1 one)
 
-sum_after-push : (sum : ℕ) (fs : List (Option FaultReply)) (f : Option FaultReply) → sum_after sum (fs ++ f ∷ []) ≡ sum_after (sum_after sum fs) (f ∷ [])
+sum_after-push : (sum : ℕ) (fs : List (Option FaultReply)) (f : Option FaultReply) → sum_after sum (fs ++ f ∷ []) ≡ sum_behind (sum_after sum fs) f
 sum_after-push sum [] f = refl
-sum_after-push sum (None ∷ fs) f = sum_after-push sum fs f
-sum_after-push sum (Some g ∷ fs) f = sum_after-push (saturated (sum + 1)) fs f
+sum_after-push sum (g ∷ fs) f = sum_after-push (sum_behind sum g) fs f
 
 answered_of-push : (xs : List Executed) (os : List Outcome) (e : Executed) (o : Outcome) → length os ≡ length xs → answered_of (xs ++ e ∷ []) (os ++ o ∷ []) ≡ answered_of xs os ++ (e.line.line, o.reply, o.bytes) ∷ []
 answered_of-push [] [] e o same = refl
@@ -90,49 +89,91 @@ at_least call (Synced upto moment) n begins = omega arith
 at_least call (No refusal) n begins = omega arith
 at_least call (Fault fault) n begins = omega arith
 
+-- ---- counts of faults
+
+or_true : (a b : Bool) → IsTrue (a || b) → IsTrue a ⊎ IsTrue b
+or_true true b h = inl refl
+or_true false b h = inr h
+
+or_false : (a b : Bool) → a ≡ false → b ≡ false → (a || b) ≡ false
+or_false a b x y = λ i. x i || y i
+
+rose_before : (first before now : ℕ) → first ≤ before → Rose before now → Rose first now
+rose_before first before now le rose = omega (arith, le, rose)
+
+rose_after : (first before now : ℕ) → Rose first before → before ≤ now → Rose first now
+rose_after first before now rose le = omega (arith, rose, le)
+
 -- ---- one more line
 
 -- what the call of a line left
-pub record AnswersLine (tells : Type 0) (shape : Shape) (capacity : ℕ) (line : Line) (before now : Counts) (image image' : Image) (files files' : List FileEntry) (next n : ℕ) (reply : Reply) (piece : List ℕ) : Type 0 where
-  pub answer : tells → Replies (λ tree. outcome_of shape capacity tree line.call (fault_of reply) next) (contents_of image files) (contents_of image' files') reply piece
+pub record AnswersLine (tells : Type 0) (shape : Shape) (capacity : ℕ) (line : Line) (before now : Counts) (pages pages' : Held) (files files' : List FileEntry) (begun n : ℕ) (reply : Reply) (piece : List ℕ) : Type 0 where
+  pub answer : tells → Replies (λ tree. outcome_of shape capacity tree line.call (fault_of reply) begun) (contents_of pages files) (contents_of pages' files') reply piece
   pub begins : Begins line.call reply n
   pub clock : now.clock ≡ risen (programs_of reply) before.clock
   pub write_faults : now.write_faults ≡ risen (n - programs_of reply) before.write_faults
-  pub numbered : FaultsNumbered (fault_sum before) (fault_of reply ∷ [])
-  pub sum : fault_sum now ≡ sum_after (fault_sum before) (fault_of reply ∷ [])
+  pub numbered : IsFaultReply (fault_sum before) (fault_of reply)
+  pub sum : fault_sum now ≡ sum_behind (fault_sum before) (fault_of reply)
+  pub reads : before.read_faults ≤ now.read_faults
+  pub writes : before.write_faults ≤ now.write_faults
+  pub caused : IsTrue (is_eio (fault_of reply)) → Rose before.read_faults now.read_faults ⊎ Rose before.write_faults now.write_faults
+  pub undamaged : tells → is_damage (fault_of reply) ≡ false
 
-module _ (tells : Type 0) (shape : Shape) (capacity : ℕ) (done : List Line) (order : List Ordered) (first before now : Counts) (image image' : Image) (files files' : List FileEntry) (start next n : ℕ) (answers : List Answer) (bytes piece : List ℕ) (line : Line) (a : Answer) where
+module _ (tells : Type 0) (shape : Shape) (capacity : ℕ) (done : List Line) (order : List Ordered) (first before now : Counts) (pages pages' : Held) (files files' : List FileEntry) (begun n : ℕ) (answers : List Answer) (bytes piece : List ℕ) (line : Line) (a : Answer) where
   e : Executed
-  e = record { line = line; fault = fault_of a.reply; begun = next }
+  e = record { line = line; fault = fault_of a.reply; begun = begun }
 
-  executes_more : (xs : List Executed) (finished failed : ℕ) → Executes done order first before xs finished failed
-      → AnswersLine tells shape capacity line before now image image' files files' next n a.reply piece
+  abbrev Line' : Type 0
+  Line' = AnswersLine tells shape capacity line before now pages pages' files files' begun n a.reply piece
+
+  caused_more : (xs : List Executed) (finished failed : ℕ) → Executes done order first before xs finished failed → Line' → IsTrue (some_eio (xs ++ e ∷ []))
+      → Rose first.read_faults now.read_faults ⊎ Rose first.write_faults now.write_faults
+  unfolding e
+  caused_more xs finished failed so_far one some =
+      elim (or_true _ _ (subst (λ (b : Bool). IsTrue b) (list_any-append (λ x. is_eio x.fault) xs (e ∷ [])) some)) [
+        | inl earlier ↦ elim (so_far.caused earlier) [
+          | inl r ↦ inl (rose_after _ _ _ r one.reads)
+          | inr w ↦ inr (rose_after _ _ _ w one.writes)
+        ]
+        | inr last ↦ elim (one.caused (elim (or_true _ _ last) [ inl h ↦ h | inr h ↦ absurd (not_so h) ])) [
+          | inl r ↦ inl (rose_before _ _ _ so_far.reads r)
+          | inr w ↦ inr (rose_before _ _ _ so_far.writes w)
+        ]
+      ]
+    where
+      not_so : IsTrue false → ⊥
+      not_so h = cc
+
+  executes_more : (xs : List Executed) (finished failed : ℕ) → Executes done order first before xs finished failed → Line'
       → Executes (done ++ line ∷ []) (order ++ record { line = line.line; fault = fault_of a.reply } ∷ []) first now (xs ++ e ∷ []) (finished + programs_of a.reply) (failed + (n - programs_of a.reply))
   unfolding e
   executes_more xs finished failed so_far one = record {
     each_line = map-append (λ x. x.line) xs (e ∷ []) ∙ ap (λ (ls : List Line). ls ++ line ∷ []) so_far.each_line;
     listed = ap (λ (os : List Ordered). os ++ record { line = line.line; fault = fault_of a.reply } ∷ []) so_far.listed ∙ sym (map-append ordered xs (e ∷ []));
     numbered = subst (FaultsNumbered (fault_sum first)) (sym (map-append (λ x. x.fault) xs (e ∷ [])))
-        (numbered-push (fault_sum first) (map (λ x. x.fault) xs) (fault_of a.reply) so_far.numbered (subst (λ (s : ℕ). FaultsNumbered s (fault_of a.reply ∷ [])) so_far.sum one.numbered));
-    sum = one.sum ∙ ap (λ (s : ℕ). sum_after s (fault_of a.reply ∷ [])) so_far.sum
+        (numbered-push (fault_sum first) (map (λ x. x.fault) xs) (fault_of a.reply) so_far.numbered (subst (λ (s : ℕ). IsFaultReply s (fault_of a.reply)) so_far.sum one.numbered));
+    sum = one.sum ∙ ap (λ (s : ℕ). sum_behind s (fault_of a.reply)) so_far.sum
         ∙ sym (ap (sum_after (fault_sum first)) (map-append (λ x. x.fault) xs (e ∷ [])) ∙ sum_after-push (fault_sum first) (map (λ x. x.fault) xs) (fault_of a.reply));
     clock = one.clock ∙ ap (risen (programs_of a.reply)) so_far.clock ∙ sym (risen-add finished (programs_of a.reply) first.clock);
     write_faults = one.write_faults ∙ ap (risen (n - programs_of a.reply)) so_far.write_faults ∙ sym (risen-add failed (n - programs_of a.reply) first.write_faults);
+    reads = le_trans so_far.reads one.reads;
+    writes = le_trans so_far.writes one.writes;
+    caused = caused_more xs finished failed so_far one;
   }
 
-  answers_more : (xs : List Executed) (finished : ℕ) → AnswersAll shape capacity start image files next answers bytes xs finished
-      → Replies (λ tree. outcome_of shape capacity tree line.call (fault_of a.reply) next) (contents_of image files) (contents_of image' files') a.reply piece
-      → Begins line.call a.reply n → sum_by (λ x. x.len) answers ≡ length bytes → a.len ≡ length piece → a.line ≡ line.line
-      → AnswersAll shape capacity start image' files' (next + n) (answers ++ a ∷ []) (bytes ++ piece) (xs ++ e ∷ []) (finished + programs_of a.reply)
+  answers_more : (xs : List Executed) (finished : ℕ) → AnswersAll shape capacity pages files begun answers bytes xs finished
+      → Replies (λ tree. outcome_of shape capacity tree line.call (fault_of a.reply) begun) (contents_of pages files) (contents_of pages' files') a.reply piece
+      → Begins line.call a.reply n → is_damage (fault_of a.reply) ≡ false → sum_by (λ x. x.len) answers ≡ length bytes → a.len ≡ length piece → a.line ≡ line.line
+      → AnswersAll shape capacity pages' files' (begun + n) (answers ++ a ∷ []) (bytes ++ piece) (xs ++ e ∷ []) (finished + programs_of a.reply)
   unfolding e
-  answers_more xs finished so_far one begins all len number =
+  answers_more xs finished so_far one begins whole all len number =
       let t : Tree = tree_after shape capacity empty_tree xs in
       let o : Outcome = outcome_at shape capacity t e in
       let reply : o.reply ≡ a.reply = one.reply_is t so_far.tree in
       let bytes_are : o.bytes ≡ piece = one.bytes_are t so_far.tree in
       record {
-        tree = subst (HasFiles (contents_of image' files')) (sym (tree_after-push shape capacity empty_tree xs e)) (one.files_after t so_far.tree);
-        counted = counts-push shape capacity empty_tree start next n xs e so_far.counted refl (subst (λ (r : Reply). Begins line.call r n) (sym reply) begins);
+        tree = subst (HasFiles (contents_of pages' files')) (sym (tree_after-push shape capacity empty_tree xs e)) (one.files_after t so_far.tree);
+        counted = counts-push shape capacity empty_tree 0 begun n xs e so_far.counted refl (subst (λ (r : Reply). Begins line.call r n) (sym reply) begins);
         finished_is = ap (λ (k : ℕ). k + programs_of a.reply) so_far.finished_is
             ∙ ap (λ (r : Reply). finished_in shape capacity xs + programs_of r) (sym reply)
             ∙ sym (sum_by_push (λ (x : Outcome). programs_of x.reply) (outcomes shape capacity empty_tree xs) o)
@@ -142,39 +183,42 @@ module _ (tells : Type 0) (shape : Shape) (capacity : ℕ) (done : List Line) (o
             ∙ (λ i. answered_of xs (outcomes shape capacity empty_tree xs) ++ (number i, sym reply i, sym bytes_are i) ∷ [])
             ∙ sym (answered_of-push xs (outcomes shape capacity empty_tree xs) e o (length-outcomes shape capacity empty_tree xs))
             ∙ sym (ap (answered_of (xs ++ e ∷ [])) (outcomes-push shape capacity empty_tree xs e));
+        undamaged = list_any-append (λ x. is_damage x.fault) xs (e ∷ []) ∙ or_false _ _ so_far.undamaged (or_false _ _ whole refl);
       }
 
-  pub has_run_more : HasRun tells shape capacity start done order first before image files next answers bytes
-      → AnswersLine tells shape capacity line before now image image' files files' next n a.reply piece
+  pub has_run_more : HasRun tells shape capacity done order first before pages files begun answers bytes → Line'
       → sum_by (λ x. x.len) answers ≡ length bytes → a.len ≡ length piece → a.line ≡ line.line
-      → HasRun tells shape capacity start (done ++ line ∷ []) (order ++ record { line = line.line; fault = fault_of a.reply } ∷ []) first now image' files' (next + n) (answers ++ a ∷ []) (bytes ++ piece)
+      → HasRun tells shape capacity (done ++ line ∷ []) (order ++ record { line = line.line; fault = fault_of a.reply } ∷ []) first now pages' files' (begun + n) (answers ++ a ∷ []) (bytes ++ piece)
   has_run_more run one all len number = record {
     executed = run.executed ++ e ∷ [];
     finished = run.finished + programs_of a.reply;
     failed = run.failed + (n - programs_of a.reply);
     executes = executes_more run.executed run.finished run.failed run.executes one;
     programs = omega (arith, run.programs, at_least line.call a.reply n one.begins);
-    told = λ t. answers_more run.executed run.finished (run.told t) (one.answer t) one.begins all len number;
+    told = λ t. answers_more run.executed run.finished (run.told t) (one.answer t) one.begins (one.undamaged t) all len number;
   }
 
 -- no line yet
-pub has_run_none : (tells : Type 0) (shape : Shape) (capacity start : ℕ) (first : Counts) (image : Image) → HasFiles [] empty_tree → HasRun tells shape capacity start [] [] first first image [] start [] []
+pub has_run_none : (tells : Type 0) (shape : Shape) (capacity : ℕ) (first : Counts) (pages : Held) → HasFiles [] empty_tree → HasRun tells shape capacity [] [] first first pages [] 0 [] []
 unfolding outcomes tree_after
-has_run_none tells shape capacity start first image none = record {
+has_run_none tells shape capacity first pages none = record {
   executed = [];
   finished = 0;
   failed = 0;
-  executes = record { each_line = refl; listed = refl; numbered = _; sum = refl; clock = refl; write_faults = refl };
+  executes = record { each_line = refl; listed = refl; numbered = _; sum = refl; clock = refl; write_faults = refl; reads = omega arith; writes = omega arith; caused = λ h. absurd (not_so h) };
   programs = omega arith;
-  told = λ t. record { tree = none; counted = refl; finished_is = refl; answered = refl };
+  told = λ t. record { tree = none; counted = refl; finished_is = refl; answered = refl; undamaged = refl };
 }
+  where
+    not_so : IsTrue false → ⊥
+    not_so h = cc
 
 -- the same lists, written in another way
-pub has_run_at : (tells : Type 0) (shape : Shape) (capacity start : ℕ) (lines : List Line) (order order' : List Ordered) (first now : Counts) (image : Image) (files : List FileEntry) (next next' : ℕ) (answers answers' : List Answer) (bytes bytes' : List ℕ)
-    → order' ≡ order → next' ≡ next → answers' ≡ answers → bytes' ≡ bytes
-    → HasRun tells shape capacity start lines order first now image files next answers bytes → HasRun tells shape capacity start lines order' first now image files next' answers' bytes'
-has_run_at tells shape capacity start lines order order' first now image files next next' answers answers' bytes bytes' o n a b run =
-    subst (λ (x : List ℕ). HasRun tells shape capacity start lines order' first now image files next' answers' x) (sym b)
-    (subst (λ (x : List Answer). HasRun tells shape capacity start lines order' first now image files next' x bytes) (sym a)
-    (subst (λ (x : ℕ). HasRun tells shape capacity start lines order' first now image files x answers bytes) (sym n)
-    (subst (λ (x : List Ordered). HasRun tells shape capacity start lines x first now image files next answers bytes) (sym o) run)))
+pub has_run_at : (tells : Type 0) (shape : Shape) (capacity : ℕ) (lines : List Line) (order order' : List Ordered) (first now : Counts) (pages : Held) (files : List FileEntry) (begun begun' : ℕ) (answers answers' : List Answer) (bytes bytes' : List ℕ)
+    → order' ≡ order → begun' ≡ begun → answers' ≡ answers → bytes' ≡ bytes
+    → HasRun tells shape capacity lines order first now pages files begun answers bytes → HasRun tells shape capacity lines order' first now pages files begun' answers' bytes'
+has_run_at tells shape capacity lines order order' first now pages files begun begun' answers answers' bytes bytes' o n a b run =
+    subst (λ (x : List ℕ). HasRun tells shape capacity lines order' first now pages files begun' answers' x) (sym b)
+    (subst (λ (x : List Answer). HasRun tells shape capacity lines order' first now pages files begun' x bytes) (sym a)
+    (subst (λ (x : ℕ). HasRun tells shape capacity lines order' first now pages files x answers bytes) (sym n)
+    (subst (λ (x : List Ordered). HasRun tells shape capacity lines x first now pages files begun answers bytes) (sym o) run)))

@@ -1,45 +1,40 @@
--- A run on the pages of the physical segment, told by the programs that were begun there.
-use Rattle.std.proofs.Common.{◌≡◌, ℕ, ◌+◌, List, map, sum_by, sym, ◌∙◌, ap, subst, arith}
-use Rattle.nl_field.specs.Page.{Image}
+-- What a run leaves, told without the files that it kept.
+use Rattle.std.proofs.Common.{◌≡◌, ℕ, List, ◌∙◌, ap, subst}
 use Rattle.nl_field.specs.declared.shape.Shape.{Shape}
+use Rattle.nl_tree.specs.Causes.{Counts}
 use Rattle.nl_tree.specs.Tree.{empty_tree}
-use Rattle.nl_tree.specs.Step.{Outcome}
 use Rattle.nl_tree.specs.declared.call.Line.{Line}
 use Rattle.nl_print.specs.Texts.{run_text}
 use Rattle.nl_top.specs.declared.answers.Answer.{Answer}
 use Rattle.nl_top.specs.declared.files.FileEntry.{FileEntry}
 use Rattle.nl_top.specs.declared.lists.Ordered.{Ordered}
-use Rattle.nl_top.specs.Execution.{outcomes, programs_of, answered_of, CountsPrograms}
+use Rattle.nl_top.specs.Execution.{CountsPrograms}
+use Rattle.nl_top.specs.Files.{Held}
 use Rattle.nl_top.specs.Run.{answers_in, HasRun}
-use Rattle.nl_top.specs.Top.{Stream, Medium, shape_of_medium, physical_pages, Prints, Runs}
-use Rattle.nl_top.proofs.Lowered.{lowered, counts, same_outcomes, same_answered, executes}
+use Rattle.nl_top.specs.Top.{Stream, RunsOn, RanOn}
 
-module _ (tells : Type 0) (first : ℕ) (lines : List Line) (order : List Ordered) (sink sink' : Stream) (before after : Medium) (image : Image) (files : List FileEntry) (next : ℕ) (answers : List Answer) (bytes text : List ℕ) where
-  pub runs_of : HasRun tells (shape_of_medium before) (first + physical_pages (shape_of_medium before)) first lines order before.counts after.counts image files next answers bytes
-      → text ≡ run_text 0 (answers_in answers bytes) → Prints sink sink' text → Runs tells lines sink sink' before after order text
-  runs_of run is prints = record {
-    executed = map (lowered first) run.executed;
-    finished = run.finished;
-    failed = run.failed;
-    executes = executes first lines order before.counts after.counts run.executed run.finished run.failed run.executes;
-    counted = λ t. counts shape first capacity empty_tree 0 (run.finished + run.failed) run.executed (counted t);
-    finished_is = λ t. (run.told t).finished_is ∙ ap (λ (os : List Outcome). sum_by (λ o. programs_of o.reply) os) (same t);
-    answers = λ t. is ∙ ap (run_text 0) ((run.told t).answered ∙ ap (answered_of run.executed) (same t) ∙ sym (same_answered first run.executed (outcomes shape capacity empty_tree (map (lowered first) run.executed))));
-    prints = prints;
-  }
-    where
-      shape : Shape
-      shape = shape_of_medium before
+pub runs_on : (tells : Type 0) (shape : Shape) (room : ℕ) (lines : List Line) (order : List Ordered) (before now : Counts) (pages : Held) (files : List FileEntry) (begun : ℕ) (answers : List Answer) (bytes : List ℕ) (text : List ℕ)
+    → HasRun tells shape room lines order before now pages files begun answers bytes → text ≡ run_text 0 (answers_in answers bytes) → RunsOn tells shape room lines before now order text
+runs_on tells shape room lines order before now pages files begun answers bytes text run is = record {
+  executed = run.executed;
+  finished = run.finished;
+  failed = run.failed;
+  executes = run.executes;
+  counted = λ t. subst (λ (k : ℕ). CountsPrograms shape room empty_tree 0 run.executed k) run.programs (run.told t).counted;
+  finished_is = λ t. (run.told t).finished_is;
+  answers = λ t. is ∙ ap (run_text 0) (run.told t).answered;
+  undamaged = λ t. (run.told t).undamaged;
+}
 
-      capacity : ℕ
-      capacity = physical_pages (shape_of_medium before)
+-- the same run, with the room told in another way
+pub runs_in : (tells : Type 0) (shape : Shape) (room room' : ℕ) (lines : List Line) (before now : Counts) (order : List Ordered) (text : List ℕ)
+    → room ≡ room' → RunsOn tells shape room lines before now order text → RunsOn tells shape room' lines before now order text
+runs_in tells shape room room' lines before now order text same ran = subst (λ (x : ℕ). RunsOn tells shape x lines before now order text) same ran
 
-      at_zero : first ≡ first + 0
-      at_zero = omega arith
-
-      counted : tells → CountsPrograms shape (first + capacity) empty_tree (first + 0) run.executed (first + (run.finished + run.failed))
-      counted t = subst (λ (k : ℕ). CountsPrograms shape (first + capacity) empty_tree k run.executed (first + (run.finished + run.failed))) at_zero
-          (subst (λ (k : ℕ). CountsPrograms shape (first + capacity) empty_tree first run.executed k) run.programs (run.told t).counted)
-
-      same : tells → outcomes shape (first + capacity) empty_tree run.executed ≡ outcomes shape capacity empty_tree (map (lowered first) run.executed)
-      same t = same_outcomes shape first capacity empty_tree 0 (run.finished + run.failed) run.executed (counted t)
+-- the same run, told of the medium
+pub ran_as : (tells : Type 0) (shape shape' : Shape) (room room' : ℕ) (lines : List Line) (sink sink' : Stream) (before before' now : Counts) (order : List Ordered) (status : ℕ)
+    → shape ≡ shape' → room ≡ room' → before ≡ before' → RanOn tells shape room lines sink sink' before now order status → RanOn tells shape' room' lines sink sink' before' now order status
+ran_as tells shape shape' room room' lines sink sink' before before' now order status s r b ran =
+    subst (λ (x : Counts). RanOn tells shape' room' lines sink sink' x now order status) b
+    (subst (λ (x : ℕ). RanOn tells shape' x lines sink sink' before now order status) r
+    (subst (λ (x : Shape). RanOn tells x room lines sink sink' before now order status) s ran))

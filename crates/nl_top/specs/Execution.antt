@@ -1,5 +1,5 @@
--- The sequential execution of a script on a medium on which each write of at least a byte programs one further page.
-use Rattle.std.specs.Prelude.{◌≡◌, ℕ, zero, suc, ◌+◌, ◌≤◌, min, nat_le, nat_lt, ◌&&◌, if◌then◌else◌, List, [], ◌∷◌, length, Option, Some, None, ⊤}
+-- The sequential execution of a script on a volume on which each write of at least a byte programs one further page.
+use Rattle.std.specs.Prelude.{◌≡◌, ℕ, zero, suc, ◌+◌, ◌≤◌, min, nat_le, nat_lt, Bool, true, false, ◌&&◌, if◌then◌else◌, List, [], ◌∷◌, length, Option, Some, None, ⊤}
 use Rattle.nl_field.specs.CrashStates.{saturated}
 use Rattle.nl_field.specs.declared.shape.Shape.{Shape}
 use Rattle.nl_tree.specs.Tree.{Tree}
@@ -9,7 +9,7 @@ use Rattle.nl_tree.specs.declared.call.Call.{Call}
 use Rattle.nl_tree.specs.declared.call.Call.TheVariants.{Write, Read}
 use Rattle.nl_tree.specs.declared.call.Line.{Line}
 use Rattle.nl_tree.specs.declared.reply.FaultReply.{FaultReply}
-use Rattle.nl_tree.specs.declared.reply.FaultReply.TheVariants.{Eio}
+use Rattle.nl_tree.specs.declared.reply.FaultReply.TheVariants.{Eio, Erofs, Eworn, Edamaged}
 use Rattle.nl_tree.specs.declared.reply.Refusal.TheVariants.{Enospc}
 use Rattle.nl_tree.specs.declared.reply.Reply.{Reply}
 use Rattle.nl_tree.specs.declared.reply.Reply.TheVariants.{Count, No, Fault}
@@ -32,8 +32,8 @@ abbrev pub programs_of : Reply → ℕ
 programs_of (Count n) = min n 1
 programs_of _ = 0
 
--- What a call answers, under a fault reply or none, where so many programs were begun on a medium of so many pages: what the plain tree
--- replies, unless that would program a further page and all were begun.
+-- What a call answers, under a fault reply or none, where so many programs were begun of so many for which there is room: what the plain
+-- tree replies, unless that would program a further page and all were begun.
 unfoldable pub outcome_of : Shape → ℕ → Tree → Call → Option FaultReply → ℕ → Outcome
 outcome_of shape capacity tree call fault begun =
     let due = step_marked shape tree (call, fault) in
@@ -73,17 +73,45 @@ CountsPrograms shape capacity tree begun (e ∷ rest) all =
     let outcome = outcome_at shape capacity tree e in
     (e.begun ≡ begun) × ((n : ℕ) × Begins e.line.call outcome.reply n × CountsPrograms shape capacity outcome.tree (begun + n) rest all)
 
--- The only fault reply is EIO. Its number is the sum of both fault counts, which each failed line raises by one.
+-- The fault reply that a line may get where the sum of both fault counts was this before it: EIO with the sum after it, which is one more, or
+-- EDAMAGED with the stamp that was wanted and another one that was found.
+abbrev pub IsFaultReply : ℕ → Option FaultReply → Type 0
+IsFaultReply sum None = ⊤
+IsFaultReply sum (Some (Eio n)) = n ≡ saturated (sum + 1)
+IsFaultReply sum (Some (Erofs n)) = ⊥
+IsFaultReply sum (Some Eworn) = ⊥
+IsFaultReply sum (Some (Edamaged wanted found)) = found ≡ wanted → ⊥
+
+-- the sum behind a line: only EIO raised it
+abbrev pub sum_behind : ℕ → Option FaultReply → ℕ
+sum_behind sum None = sum
+sum_behind sum (Some (Eio n)) = saturated (sum + 1)
+sum_behind sum (Some (Erofs n)) = sum
+sum_behind sum (Some Eworn) = sum
+sum_behind sum (Some (Edamaged wanted found)) = sum
+
 abbrev pub FaultsNumbered : ℕ → List (Option FaultReply) → Type 0
 FaultsNumbered sum [] = ⊤
-FaultsNumbered sum (None ∷ rest) = FaultsNumbered sum rest
-FaultsNumbered sum (Some fault ∷ rest) = (fault ≡ Eio (saturated (sum + 1))) × FaultsNumbered (saturated (sum + 1)) rest
+FaultsNumbered sum (fault ∷ rest) = IsFaultReply sum fault × FaultsNumbered (sum_behind sum fault) rest
 
 -- the sum of both fault counts behind these lines
 abbrev pub sum_after : ℕ → List (Option FaultReply) → ℕ
 sum_after sum [] = sum
-sum_after sum (None ∷ rest) = sum_after sum rest
-sum_after sum (Some fault ∷ rest) = sum_after (saturated (sum + 1)) rest
+sum_after sum (fault ∷ rest) = sum_after (sum_behind sum fault) rest
+
+abbrev pub is_eio : Option FaultReply → Bool
+is_eio None = false
+is_eio (Some (Eio n)) = true
+is_eio (Some (Erofs n)) = false
+is_eio (Some Eworn) = false
+is_eio (Some (Edamaged wanted found)) = false
+
+abbrev pub is_damage : Option FaultReply → Bool
+is_damage None = false
+is_damage (Some (Eio n)) = false
+is_damage (Some (Erofs n)) = false
+is_damage (Some Eworn) = false
+is_damage (Some (Edamaged wanted found)) = true
 
 -- the fault reply that a reply is, if it is one
 abbrev pub fault_of : Reply → Option FaultReply

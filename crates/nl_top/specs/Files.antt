@@ -1,9 +1,12 @@
--- The files of the root that a run keeps in memory, each with at most one page of the medium, and the tree for which they stand.
-use Rattle.std.specs.Prelude.{◌≡◌, ◌<◌, ◌≤◌, ℕ, ◌+◌, List, [], ◌∷◌, map, length, find, bytes_eq, Bool, Option, Some, None, option_map}
+-- The files of the root that a run keeps in memory, each with at most one page of the device, and the tree for which they stand.
+use Rattle.std.specs.Prelude.{◌≡◌, ◌<◌, ◌≤◌, ℕ, ◌+◌, List, [], ◌∷◌, map, length, find, bytes_eq, Bool, Option, Some, None, option_map, IfNone, ⊤, slice_index_or}
 use Rattle.std.specs.List.{AllByRecursion}
 use Rattle.nl_field.specs.Bytes.{zeros}
 use Rattle.nl_field.specs.FileContent.{FileContent}
-use Rattle.nl_field.specs.Page.{Page, erased, uncorrectable, written, Image, page_at}
+use Rattle.nl_field.specs.Page.{erased, Image, page_at}
+use Rattle.nl_field.specs.declared.pointer.Pointer.{Pointer}
+use Rattle.nl_field.specs.declared.pointer.Tag.{Tag}
+use Rattle.nl_iface.specs.Names.{LivePage, Names}
 use Rattle.nl_tree.specs.Tree.{Tree, Node, directory, file, node_at}
 use Rattle.nl_tree.specs.TreeLaws.{IsInOrder}
 use Rattle.nl_tree.specs.Step.{Outcome}
@@ -11,27 +14,25 @@ use Rattle.nl_tree.specs.declared.reply.Reply.{Reply}
 use Rattle.nl_field.specs.declared.shape.Shape.{Shape}
 use Rattle.nl_top.specs.declared.files.FileEntry.{FileEntry}
 
--- the main bytes of a page; one that does not read as written counts as zeros
-abbrev pub main_of : Page → List ℕ
-main_of (written bytes) = bytes.main
-main_of erased = zeros 4096
-main_of uncorrectable = zeros 4096
+-- the main bytes of the pages that names lead to
+abbrev pub Held : Type 0
+Held = ℕ → List ℕ
 
 -- the bytes of a file's one page, zeros where it has none
-abbrev pub page_bytes_of : Image → Option ℕ → List ℕ
-page_bytes_of image None = zeros 4096
-page_bytes_of image (Some page) = main_of (page_at image page)
+abbrev pub page_bytes_of : Held → Option Pointer → List ℕ
+page_bytes_of pages None = zeros 4096
+page_bytes_of pages (Some at) = pages at.name
 
-abbrev pub pages_of : Image → Option ℕ → List (ℕ × List ℕ)
-pages_of image None = []
-pages_of image (Some page) = (0, main_of (page_at image page)) ∷ []
+abbrev pub pages_of : Held → Option Pointer → List (ℕ × List ℕ)
+pages_of pages None = []
+pages_of pages (Some at) = (0, pages at.name) ∷ []
 
-abbrev pub content_of_entry : Image → FileEntry → FileContent
-content_of_entry image f = record { size = f.size; pages = pages_of image f.page }
+abbrev pub content_of_entry : Held → FileEntry → FileContent
+content_of_entry pages f = record { size = f.size; pages = pages_of pages f.page }
 
 -- the names of the files with what they hold
-abbrev pub contents_of : Image → List FileEntry → List (List ℕ × FileContent)
-contents_of image files = map (λ f. (f.name, content_of_entry image f)) files
+abbrev pub contents_of : Held → List FileEntry → List (List ℕ × FileContent)
+contents_of pages files = map (λ f. (f.name, content_of_entry pages f)) files
 
 abbrev pub has_name : List ℕ → FileEntry → Bool
 has_name name f = bytes_eq name f.name
@@ -63,14 +64,26 @@ pub record HasFiles (contents : List (List ℕ × FileContent)) (tree : Tree) : 
   pub named : (name : List ℕ) → node_at tree (name ∷ []) ≡ option_map (λ entry. file entry.1) (find (is_named name) contents)
   pub count : length tree ≡ length contents + 1
 
--- what holds of each file while so many pages were begun: it is short, its page was begun, and without a page it is empty
-abbrev pub HasPage : ℕ → FileEntry → Option ℕ → Type 0
-HasPage next f None = f.size ≡ 0
-HasPage next f (Some page) = page < next
+-- The tag of the page of the file at a place from 0. The root is node 0, and each file took the least free node as it was created, which
+-- made its generation 1.
+abbrev pub tag_at : ℕ → Tag
+tag_at i = record { ino = i + 1; generation = 1; index = 0 }
 
-pub record IsFile (next : ℕ) (f : FileEntry) : Type 0 where
+-- the pointer, where there is one, is that of a live page under this tag
+abbrev pub IsLiveAs : (ℕ → Option LivePage) → Tag → Option Pointer → Type 0
+IsLiveAs live tag None = ⊤
+IsLiveAs live tag (Some at) = live at.name ≡ Some (record { tag = tag; stamp = at.stamp })
+
+-- what holds of the file at a place: it is short, its page is live under its tag, and without a page it is empty
+pub record IsFile (live : ℕ → Option LivePage) (i : ℕ) (f : FileEntry) : Type 0 where
   pub size : f.size ≤ 4096
-  pub page : HasPage next f f.page
+  pub page : IsLiveAs live (tag_at i) f.page
+  pub empty : IfNone f.page (f.size ≡ 0)
+
+-- each file, on a device whose names lead to themselves
+pub record HasFilesOf (names : Names) (files : List FileEntry) : Type 0 where
+  pub no_pairs : names.pairs ≡ []
+  pub each : (i : ℕ) (d : FileEntry) → i < length files → IsFile names.live i (slice_index_or files i d)
 
 -- the pages from next on are erased
 abbrev pub IsErasedFrom : ℕ → Image → Type 0

@@ -2,7 +2,9 @@ pub mod Command
 pub mod Execution
 pub mod Files
 pub mod Form
+pub mod Fresh
 pub mod Input
+pub mod Pages
 pub mod Plain
 pub mod Run
 pub mod Table

@@ -1,23 +1,23 @@
-// The files of the root, each with at most one page of the medium, and the calls on them.
-ghost use Rattle.std.specs.Prelude.{◌≡◌, ◌<◌, ◌≤◌, ◌+◌, ◌-◌, ◌*◌, ℕ, min, max, position, slice_index_or, slice_set, [], ◌∷◌, ◌++◌, List, length, take, drop, IsTrue, IsFalse, Some, None, Option, vec_len, vec_capacity, All};
-ghost use Rattle.std.specs.Option.{ForSome};
-ghost use Rattle.nl_field.specs.CrashStates.{saturated};
-ghost use Rattle.nl_field.specs.Page.{Image, page_at, written};
-ghost use Rattle.nl_nand.specs.Nand.{FaultsCounted};
+// The files of the root, each with at most one page of the device, and the calls on them.
+ghost use Rattle.std.specs.Prelude.{◌≡◌, ◌⊎◌, ◌<◌, ◌≤◌, ◌+◌, ◌-◌, ◌^◌, ℕ, max, position, slice_index_or, slice_set, [], ◌∷◌, length, take, drop, IsTrue, false, Some, None, vec_len, vec_capacity};
+ghost use Rattle.nl_field.specs.CrashStates.{Rose, saturated};
+ghost use Rattle.nl_field.specs.declared.pointer.Pointer.{Pointer};
+ghost use Rattle.nl_iface.specs.Names.{Names};
 ghost use Rattle.nl_tree.specs.declared.call.Call.TheVariants as call;
-ghost use Rattle.nl_top.specs.Execution.{outcome_of, programs_of, risen, fault_of, FaultsNumbered, sum_after, Begins};
-ghost use Rattle.nl_top.specs.Files.{has_name, page_bytes_of, contents_of, IsFile, IsErasedFrom, IsRoomy, Fits, Replies};
+ghost use Rattle.nl_top.specs.Execution.{outcome_of, programs_of, risen, fault_of, IsFaultReply, sum_behind, is_eio, is_damage, Begins};
+ghost use Rattle.nl_top.specs.Files.{Held, has_name, tag_at, contents_of, HasFilesOf, IsRoomy, Fits, Replies};
 
-use nl_field::{PageBuf, Shape, Text};
-use nl_nand::{Nand, ReadAnswer, WriteAnswer};
+use crate::pages::{load, place, sum_of_faults};
+use nl_field::{Named, PageBuf, Pointer, Shape, Tag, Text};
+use nl_iface::NamedPages;
 use nl_tree::{FaultReply, Refusal, Reply, Space};
 
-/// A file of the root: its name, its size in bytes, and the page of the medium that holds its bytes, where it has one.
+/// A file of the root: its name, its size in bytes, and the pointer of the page that holds its bytes, where it has one.
 #[derive(Debug, Drop)]
 pub struct FileEntry {
     pub name: Text,
     pub size: u64,
-    pub page: Option<u32>,
+    pub page: Option<Pointer>,
 }
 
 // The place of the file of a name.
@@ -33,12 +33,12 @@ pub fn create(files: &mut Vec<FileEntry>, shape: &Shape, name: Text) -> Reply
     requires roomy { IsRoomy shape.now }
     requires fits { Fits shape.now (length files.old.items) }
     requires short { length name ≤ 55 }
-    ensures answer { (image : Image) (capacity begun : ℕ) → Replies (λ tree. outcome_of shape.now capacity tree (call.Create (name ∷ [])) None begun) (contents_of image files.old.items) (contents_of image files.new.items) result [] }
+    ensures answer { (pages : Held) (capacity begun : ℕ) → Replies (λ tree. outcome_of shape.now capacity tree (call.Create (name ∷ [])) None begun) (contents_of pages files.old.items) (contents_of pages files.new.items) result [] }
     ensures unmarked { fault_of result ≡ None }
     ensures no_program { programs_of result ≡ 0 }
     ensures begins { Begins (call.Create (name ∷ [])) result 0 }
     ensures fits { Fits shape.now (length files.new.items) }
-    ensures each { (next : ℕ) → All (IsFile next) files.old.items → All (IsFile next) files.new.items }
+    ensures each { (names : Names) → HasFilesOf names files.old.items → HasFilesOf names files.new.items }
     ensures capacity { vec_capacity files.old ≤ vec_capacity files.new }
     ensures len { vec_len files.new ≤ vec_len files.old + 1 }
 {
@@ -59,59 +59,6 @@ pub fn create(files: &mut Vec<FileEntry>, shape: &Shape, name: Text) -> Reply
             Reply::Done
         }
     }
-}
-
-// Puts a page of a file into the buffer, zeros where it has none. False where the read fails.
-fn load<M: Nand>(media: &mut M, at: Option<u32>, page: &mut PageBuf) -> bool
-    requires { ForSome at (λ p. p < (M.geometry media.old).blocks * (M.geometry media.old).pages) }
-    ensures page { M.tells → IsTrue result → page.new.main ≡ page_bytes_of (M.contents media.old) at }
-    ensures contents { M.contents media.new ≡ M.contents media.old }
-    ensures geometry { M.geometry media.new ≡ M.geometry media.old }
-    ensures clock { M.clock media.new ≡ M.clock media.old }
-    ensures write_faults { M.write_faults media.new ≡ M.write_faults media.old }
-    ensures read_faults { FaultsCounted (M.read_faults media.old) (M.read_faults media.new) (IsFalse result) }
-{
-    page.clear();
-    match at {
-        None => true,
-        Some(at) => match media.read(at, page) {
-            ReadAnswer::Written => true,
-            ReadAnswer::Failed => false,
-            ReadAnswer::Erased | ReadAnswer::Uncorrectable => {
-                page.clear();
-                true
-            }
-        },
-    }
-}
-
-/// Programs the next page. False where the program fails.
-pub fn program_next<M: Nand>(media: &mut M, next: &mut u32, page: &PageBuf) -> bool
-    requires range { next.old < (M.geometry media.old).blocks * (M.geometry media.old).pages }
-    requires erased { M.tells → IsErasedFrom next.old (M.contents media.old) }
-    ensures programmed { M.tells → IsTrue result → page_at (M.contents media.new) next.old ≡ written page.now }
-    ensures others { M.tells → (q : ℕ) → (q ≡ next.old → ⊥) → page_at (M.contents media.new) q ≡ page_at (M.contents media.old) q }
-    ensures next { next.new ≡ next.old + 1 }
-    ensures geometry { M.geometry media.new ≡ M.geometry media.old }
-    ensures finished { IsTrue result → M.clock media.new ≡ saturated (M.clock media.old + 1) }
-    ensures unfinished { IsFalse result → M.clock media.new ≡ M.clock media.old }
-    ensures read_faults { M.read_faults media.new ≡ M.read_faults media.old }
-    ensures write_faults { FaultsCounted (M.write_faults media.old) (M.write_faults media.new) (IsFalse result) }
-{
-    let at = *next;
-    let done = match media.program(at, page) {
-        WriteAnswer::Done => true,
-        WriteAnswer::Failed => false,
-    };
-    *next = at + 1;
-    done
-}
-
-/// The sum of both counts of faults.
-pub fn sum_of_faults<M: Nand>(media: &M) -> u64
-    ensures { result ≡ saturated (M.read_faults media.now + M.write_faults media.now) }
-{
-    media.read_faults().saturating_add(media.write_faults())
 }
 
 /// A reply, and where its bytes stand in the main bytes of the page buffer.
@@ -135,35 +82,50 @@ impl Found {
     }
 }
 
+// The tag of the page of the file at a place: its node, of the first generation, and the first page.
+fn tag_of(place: usize) -> Tag
+    requires { place < 1024 }
+    ensures { result ≡ tag_at place }
+{
+    Tag {
+        ino: place as u32 + 1,
+        generation: 1,
+        index: 0,
+    }
+}
+
 /// Reads bytes of a file into the page buffer.
-pub fn read<M: Nand>(
-    media: &mut M,
+pub fn read<D: NamedPages>(
+    device: &mut D,
     files: &[FileEntry],
-    next: u32,
     page: &mut PageBuf,
     shape: &Shape,
     name: &[u8],
     from: u64,
     count: u32,
 ) -> Found
-    requires each { All (IsFile next) files.now }
-    requires range { next ≤ (M.geometry media.old).blocks * (M.geometry media.old).pages }
+    requires formed { D.formed device.old }
+    requires each { HasFilesOf (D.names device.old) files.now }
     requires roomy { IsRoomy shape.now }
     requires fits { Fits shape.now (length files.now) }
     requires short { length name.now ≤ 55 }
-    ensures answer { M.tells → (capacity : ℕ) → Replies (λ tree. outcome_of shape.now capacity tree (call.Read (name.now ∷ []) from count) (fault_of result.reply) next)
-        (contents_of (M.contents media.old) files.now) (contents_of (M.contents media.old) files.now) result.reply (take result.len (drop result.start page.new.main)) }
+    ensures formed { D.formed device.new }
+    ensures answer { D.tells → (capacity begun : ℕ) → Replies (λ tree. outcome_of shape.now capacity tree (call.Read (name.now ∷ []) from count) (fault_of result.reply) begun)
+        (contents_of (D.bytes device.old) files.now) (contents_of (D.bytes device.new) files.now) result.reply (take result.len (drop result.start page.new.main)) }
     ensures inside { result.start + result.len ≤ 4096 }
     ensures few { result.len ≤ count }
     ensures no_program { programs_of result.reply ≡ 0 }
     ensures begins { Begins (call.Read (name.now ∷ []) from count) result.reply 0 }
-    ensures contents { M.contents media.new ≡ M.contents media.old }
-    ensures geometry { M.geometry media.new ≡ M.geometry media.old }
-    ensures clock { M.clock media.new ≡ M.clock media.old }
-    ensures write_faults { M.write_faults media.new ≡ M.write_faults media.old }
-    ensures reads { M.read_faults media.old ≤ M.read_faults media.new }
-    ensures numbered { FaultsNumbered (saturated (M.read_faults media.old + M.write_faults media.old)) (fault_of result.reply ∷ []) }
-    ensures sum { saturated (M.read_faults media.new + M.write_faults media.new) ≡ sum_after (saturated (M.read_faults media.old + M.write_faults media.old)) (fault_of result.reply ∷ []) }
+    ensures undamaged { D.tells → is_damage (fault_of result.reply) ≡ false }
+    ensures numbered { IsFaultReply (saturated (D.read_faults device.old + D.write_faults device.old)) (fault_of result.reply) }
+    ensures sum { saturated (D.read_faults device.new + D.write_faults device.new) ≡ sum_behind (saturated (D.read_faults device.old + D.write_faults device.old)) (fault_of result.reply) }
+    ensures caused { IsTrue (is_eio (fault_of result.reply)) → Rose (D.read_faults device.old) (D.read_faults device.new) }
+    ensures reads { D.read_faults device.old ≤ D.read_faults device.new }
+    ensures write_faults { D.write_faults device.new ≡ D.write_faults device.old }
+    ensures names { D.names device.new ≡ D.names device.old }
+    ensures clean { D.clean device.old → D.clean device.new }
+    ensures next_stamp { D.next_stamp device.new ≡ D.next_stamp device.old }
+    ensures clock { D.clock device.new ≡ D.clock device.old }
 {
     let Some(i) = file_at(files, name) else {
         return Found::plain(Reply::No(Refusal::Enoent));
@@ -172,9 +134,11 @@ pub fn read<M: Nand>(
     if count == 0 || from >= file.size {
         return Found::plain(Reply::Content);
     }
-    if !load(media, file.page, page) {
-        return Found::plain(Reply::Fault(FaultReply::Eio(sum_of_faults(media))));
+    if let Some(fault) = load(device, file.page, tag_of(i), page) {
+        return Found::plain(Reply::Fault(fault));
     }
+    let whole = page.main().len();
+    prove!(whole == 4096);
     Found {
         reply: Reply::Content,
         start: from as usize,
@@ -183,7 +147,7 @@ pub fn read<M: Nand>(
 }
 
 // Gives a file this page and at least this size.
-fn put_page(files: &mut Vec<FileEntry>, i: usize, end: u64, page: u32)
+fn put_page(files: &mut Vec<FileEntry>, i: usize, end: u64, page: Pointer)
     requires { i < vec_len files.old }
     ensures items { (d : FileEntry) → files.new.items ≡ slice_set files.old.items i (record { name = (slice_index_or files.old.items i d).name; size = max (slice_index_or files.old.items i d).size end; page = Some page }) }
     ensures len { vec_len files.new ≡ vec_len files.old }
@@ -194,11 +158,10 @@ fn put_page(files: &mut Vec<FileEntry>, i: usize, end: u64, page: u32)
     file.page = Some(page);
 }
 
-/// Writes bytes into a file's page, by a program of the next page.
-pub fn write<M: Nand>(
-    media: &mut M,
+/// Writes bytes into a file's page, by a program of a page that the device picks.
+pub fn write<D: NamedPages>(
+    device: &mut D,
     files: &mut Vec<FileEntry>,
-    next: &mut u32,
     page: &mut PageBuf,
     shape: &Shape,
     name: &[u8],
@@ -206,26 +169,29 @@ pub fn write<M: Nand>(
     bytes: &[u8],
 ) -> Reply
     requires inside { from + length bytes.now ≤ 4096 }
-    requires each { All (IsFile next.old) files.old.items }
-    requires range { next.old ≤ (M.geometry media.old).blocks * (M.geometry media.old).pages }
-    requires erased { M.tells → IsErasedFrom next.old (M.contents media.old) }
+    requires formed { D.formed device.old }
+    requires clean { D.clean device.old }
+    requires stamp { D.next_stamp device.old < 2 ^ 63 }
+    requires each { HasFilesOf (D.names device.old) files.old.items }
     requires roomy { IsRoomy shape.now }
     requires fits { Fits shape.now (length files.old.items) }
     requires short { length name.now ≤ 55 }
-    ensures answer { M.tells → Replies (λ tree. outcome_of shape.now ((M.geometry media.old).blocks * (M.geometry media.old).pages) tree (call.Write (name.now ∷ []) from bytes.now) (fault_of result) next.old)
-        (contents_of (M.contents media.old) files.old.items) (contents_of (M.contents media.new) files.new.items) result [] }
-    ensures begins { (n : ℕ) × (next.new ≡ next.old + n) × Begins (call.Write (name.now ∷ []) from bytes.now) result n × (M.write_faults media.new ≡ risen (n - programs_of result) (M.write_faults media.old)) }
-    ensures range { next.new ≤ (M.geometry media.old).blocks * (M.geometry media.old).pages }
-    ensures each { All (IsFile next.new) files.new.items }
-    ensures erased { M.tells → IsErasedFrom next.new (M.contents media.new) }
+    ensures formed { D.formed device.new }
+    ensures clean { D.clean device.new }
+    ensures answer { D.tells → (capacity : ℕ) → (D.names device.old).space.room ≤ capacity → Replies (λ tree. outcome_of shape.now capacity tree (call.Write (name.now ∷ []) from bytes.now) (fault_of result) (capacity - (D.names device.old).space.room))
+        (contents_of (D.bytes device.old) files.old.items) (contents_of (D.bytes device.new) files.new.items) result [] }
+    ensures begins { (n : ℕ) × ((D.names device.new).space.room + n ≡ (D.names device.old).space.room) × Begins (call.Write (name.now ∷ []) from bytes.now) result n × (D.write_faults device.new ≡ risen (n - programs_of result) (D.write_faults device.old)) }
+    ensures each { HasFilesOf (D.names device.new) files.new.items }
     ensures len { vec_len files.new ≡ vec_len files.old }
     ensures capacity { vec_capacity files.new ≡ vec_capacity files.old }
-    ensures geometry { M.geometry media.new ≡ M.geometry media.old }
-    ensures clock { M.clock media.new ≡ risen (programs_of result) (M.clock media.old) }
-    ensures reads { M.read_faults media.old ≤ M.read_faults media.new }
-    ensures writes { M.write_faults media.old ≤ M.write_faults media.new }
-    ensures numbered { FaultsNumbered (saturated (M.read_faults media.old + M.write_faults media.old)) (fault_of result ∷ []) }
-    ensures sum { saturated (M.read_faults media.new + M.write_faults media.new) ≡ sum_after (saturated (M.read_faults media.old + M.write_faults media.old)) (fault_of result ∷ []) }
+    ensures undamaged { D.tells → is_damage (fault_of result) ≡ false }
+    ensures numbered { IsFaultReply (saturated (D.read_faults device.old + D.write_faults device.old)) (fault_of result) }
+    ensures sum { saturated (D.read_faults device.new + D.write_faults device.new) ≡ sum_behind (saturated (D.read_faults device.old + D.write_faults device.old)) (fault_of result) }
+    ensures caused { IsTrue (is_eio (fault_of result)) → Rose (D.read_faults device.old) (D.read_faults device.new) ⊎ Rose (D.write_faults device.old) (D.write_faults device.new) }
+    ensures reads { D.read_faults device.old ≤ D.read_faults device.new }
+    ensures writes { D.write_faults device.old ≤ D.write_faults device.new }
+    ensures next_stamp { D.next_stamp device.new ≤ D.next_stamp device.old + 1 }
+    ensures clock { D.clock device.new ≡ risen (programs_of result) (D.clock device.old) }
 {
     let Some(i) = file_at(files, name) else {
         return Reply::No(Refusal::Enoent);
@@ -233,19 +199,19 @@ pub fn write<M: Nand>(
     if bytes.is_empty() {
         return Reply::Count(0);
     }
-    let geometry = media.geometry();
-    if *next == geometry.blocks * geometry.pages {
-        return Reply::No(Refusal::Enospc(Space::Pages));
-    }
+    let tag = tag_of(i);
     let held = files[i].page;
-    if !load(media, held, page) {
-        return Reply::Fault(FaultReply::Eio(sum_of_faults(media)));
+    if let Some(fault) = load(device, held, tag, page) {
+        return Reply::Fault(fault);
     }
     page.set_main(from as usize, bytes);
-    let fresh = *next;
-    if !program_next(media, next, page) {
-        return Reply::Fault(FaultReply::Eio(sum_of_faults(media)));
+    match place(device, held, tag, page) {
+        Named::Placed(at) => {
+            put_page(files, i, from + bytes.len() as u64, at);
+            Reply::Count(bytes.len() as u64)
+        }
+        Named::NoPage => Reply::No(Refusal::Enospc(Space::Pages)),
+        Named::Fault => Reply::Fault(FaultReply::Eio(sum_of_faults(device))),
+        Named::NotLive => unreachable!(),
     }
-    put_page(files, i, from + bytes.len() as u64, fresh);
-    Reply::Count(bytes.len() as u64)
 }

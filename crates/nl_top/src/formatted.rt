@@ -1,15 +1,16 @@
 // A medium as a format leaves it: making one, and a look whether a medium is one.
-ghost use Rattle.std.specs.Prelude.{◌≡◌, ◌≤◌, ◌<◌, ◌*◌, ◌↔◌, ℕ, IsTrue};
-ghost use Rattle.nl_field.specs.CrashStates.{Rose};
+ghost use Rattle.std.specs.Prelude.{◌≡◌, ◌≤◌, ◌<◌, ◌+◌, ◌*◌, ◌↔◌, ℕ, IsTrue, IsFalse};
+ghost use Rattle.nl_field.specs.CrashStates.{Rose, saturated};
 ghost use Rattle.nl_field.specs.Numbers.{is_legal};
 ghost use Rattle.nl_field.specs.Page.{page_at, erased, written};
 ghost use Rattle.nl_field.specs.SpareRecord.{spare_bytes};
 ghost use Rattle.nl_field.specs.declared.spare.SpareRec.TheVariants.{Virtual};
+ghost use Rattle.nl_nand.specs.Nand.{FaultsCounted};
+ghost use Rattle.nl_top.specs.Files.{IsErasedFrom};
 ghost use Rattle.nl_core.specs.Formatted.{formatted_root, formatted_super, IsFormatted};
 
-use crate::files::program_next;
 use nl_field::{InodeRec, Kind, PageBuf, Pointer, SpareRec, SuperRec, spare_into};
-use nl_nand::{FormAnswer, Nand, ReadAnswer};
+use nl_nand::{FormAnswer, Nand, ReadAnswer, WriteAnswer};
 
 // Makes the page that of a virtual address under a stamp, written in a block that was never erased.
 fn put_spare(page: &mut PageBuf, vaddr: u32, stamp: u64)
@@ -59,6 +60,28 @@ pub fn put_super(page: &mut PageBuf, blocks: u32, pages: u32)
     }
     .into_page(page, 0);
     put_spare(page, 0, 2);
+}
+
+// Programs the next page. False where the program fails.
+fn program_next<M: Nand>(media: &mut M, next: &mut u32, page: &PageBuf) -> bool
+    requires range { next.old < (M.geometry media.old).blocks * (M.geometry media.old).pages }
+    requires erased { M.tells → IsErasedFrom next.old (M.contents media.old) }
+    ensures programmed { M.tells → IsTrue result → page_at (M.contents media.new) next.old ≡ written page.now }
+    ensures others { M.tells → (q : ℕ) → (q ≡ next.old → ⊥) → page_at (M.contents media.new) q ≡ page_at (M.contents media.old) q }
+    ensures next { next.new ≡ next.old + 1 }
+    ensures geometry { M.geometry media.new ≡ M.geometry media.old }
+    ensures finished { IsTrue result → M.clock media.new ≡ saturated (M.clock media.old + 1) }
+    ensures unfinished { IsFalse result → M.clock media.new ≡ M.clock media.old }
+    ensures read_faults { M.read_faults media.new ≡ M.read_faults media.old }
+    ensures write_faults { FaultsCounted (M.write_faults media.old) (M.write_faults media.new) (IsFalse result) }
+{
+    let at = *next;
+    let done = match media.program(at, page) {
+        WriteAnswer::Done => true,
+        WriteAnswer::Failed => false,
+    };
+    *next = at + 1;
+    done
 }
 
 /// How the making of a volume ended.

@@ -6,9 +6,11 @@ mod command;
 mod files;
 mod form;
 mod formatted;
+mod fresh;
 mod gate;
 mod input;
 mod lists;
+mod pages;
 mod run;
 mod tables;
 #[cfg(test)]

@@ -1,5 +1,6 @@
 // The lists that a call of the store hands out.
-ghost use Rattle.std.specs.Prelude.{◌≡◌, ◌<◌, ◌≤◌, ◌+◌, ◌^◌, [], ◌∷◌, ◌++◌, Some, length, slice_get, IsOk, OnOk, OnErr};
+ghost use Rattle.std.specs.Prelude.{◌≡◌, ◌<◌, ◌≤◌, ◌+◌, ◌^◌, [], ◌∷◌, ◌++◌, Some, length, slice_get, is_some, IsOk, OnOk, OnErr};
+ghost use Rattle.std.specs.List.{list_any};
 
 use nl_field::Memory;
 use nl_tree::FaultReply;
@@ -73,6 +74,13 @@ impl OrderList {
         ensures { result ≡ length self.now.items }
     {
         self.items.len() as u32
+    }
+
+    /// Whether some line was answered by a fault reply.
+    pub(crate) fn has_fault(&self) -> bool
+        ensures { result ≡ list_any (λ o. is_some o.fault) self.now.items }
+    {
+        self.items.iter().any(|line| line.fault.is_some())
     }
 
     pub fn get(&self, at: u32) -> &Ordered

@@ -1,9 +1,9 @@
 // Answers the lines of a script, one after the other.
-ghost use Rattle.std.specs.Prelude.{◌≡◌, ◌<◌, ◌≤◌, ◌+◌, ◌-◌, ◌*◌, ◌^◌, ◌++◌, [], ◌∷◌, ℕ, List, All, length, take, drop, Option, vec_len, vec_capacity, sum_by};
-ghost use Rattle.nl_field.specs.CrashStates.{saturated};
+ghost use Rattle.std.specs.Prelude.{◌≡◌, ◌⊎◌, ◌<◌, ◌≤◌, ◌+◌, ◌-◌, ◌^◌, ◌++◌, [], ◌∷◌, ℕ, All, IsTrue, false, length, take, drop, vec_len, vec_capacity, sum_by};
+ghost use Rattle.nl_field.specs.CrashStates.{Rose, saturated};
 ghost use Rattle.nl_tree.specs.declared.call.Line.{Line};
-ghost use Rattle.nl_top.specs.Execution.{outcome_of, programs_of, fault_of, most_bytes, risen, FaultsNumbered, sum_after, Begins};
-ghost use Rattle.nl_top.specs.Files.{contents_of, IsFile, IsErasedFrom, IsRoomy, Fits, Replies};
+ghost use Rattle.nl_top.specs.Execution.{outcome_of, programs_of, fault_of, most_bytes, risen, IsFaultReply, sum_behind, is_eio, is_damage, Begins};
+ghost use Rattle.nl_top.specs.Files.{contents_of, HasFilesOf, IsRoomy, Fits, Replies};
 ghost use Rattle.nl_top.specs.Run.{HasRun};
 ghost use Rattle.nl_top.specs.Plain.{IsPlain, IsOneName, IsShortName};
 
@@ -11,7 +11,7 @@ use crate::answers::Answer;
 use crate::files::{FileEntry, Found, create, read, write};
 use crate::lists::{OrderList, Ordered};
 use nl_field::{PageBuf, Shape, Text};
-use nl_nand::Nand;
+use nl_iface::NamedPages;
 use nl_tree::{Call, FaultReply, Line, Path, Reply};
 
 // The one name of a path.
@@ -38,38 +38,40 @@ pub fn fault_of(reply: Reply) -> Option<FaultReply>
 }
 
 /// Answers a call. Its bytes then stand in the page buffer.
-pub fn apply<M: Nand>(
-    media: &mut M,
+pub fn apply<D: NamedPages>(
+    device: &mut D,
     files: &mut Vec<FileEntry>,
-    next: &mut u32,
     page: &mut PageBuf,
     shape: &Shape,
     call: Call,
 ) -> Found
     requires plain { IsPlain call }
     requires room { vec_len files.old < vec_capacity files.old }
-    requires each { All (IsFile next.old) files.old.items }
-    requires range { next.old ≤ (M.geometry media.old).blocks * (M.geometry media.old).pages }
-    requires erased { M.tells → IsErasedFrom next.old (M.contents media.old) }
+    requires formed { D.formed device.old }
+    requires clean { D.clean device.old }
+    requires stamp { D.next_stamp device.old < 2 ^ 63 }
+    requires each { HasFilesOf (D.names device.old) files.old.items }
     requires roomy { IsRoomy shape.now }
     requires fits { Fits shape.now (length files.old.items) }
-    ensures answer { M.tells → Replies (λ tree. outcome_of shape.now ((M.geometry media.old).blocks * (M.geometry media.old).pages) tree call (fault_of result.reply) next.old)
-        (contents_of (M.contents media.old) files.old.items) (contents_of (M.contents media.new) files.new.items) result.reply (take result.len (drop result.start page.new.main)) }
+    ensures formed { D.formed device.new }
+    ensures clean { D.clean device.new }
+    ensures answer { D.tells → (capacity : ℕ) → (D.names device.old).space.room ≤ capacity → Replies (λ tree. outcome_of shape.now capacity tree call (fault_of result.reply) (capacity - (D.names device.old).space.room))
+        (contents_of (D.bytes device.old) files.old.items) (contents_of (D.bytes device.new) files.new.items) result.reply (take result.len (drop result.start page.new.main)) }
     ensures inside { result.start + result.len ≤ 4096 }
     ensures few { result.len ≤ most_bytes call }
-    ensures begins { (n : ℕ) × (next.new ≡ next.old + n) × Begins call result.reply n × (M.write_faults media.new ≡ risen (n - programs_of result.reply) (M.write_faults media.old)) }
-    ensures range { next.new ≤ (M.geometry media.old).blocks * (M.geometry media.old).pages }
-    ensures each { All (IsFile next.new) files.new.items }
-    ensures erased { M.tells → IsErasedFrom next.new (M.contents media.new) }
+    ensures begins { (n : ℕ) × ((D.names device.new).space.room + n ≡ (D.names device.old).space.room) × Begins call result.reply n × (D.write_faults device.new ≡ risen (n - programs_of result.reply) (D.write_faults device.old)) }
+    ensures each { HasFilesOf (D.names device.new) files.new.items }
     ensures fits { Fits shape.now (length files.new.items) }
     ensures capacity { vec_capacity files.old ≤ vec_capacity files.new }
     ensures len { vec_len files.new ≤ vec_len files.old + 1 }
-    ensures geometry { M.geometry media.new ≡ M.geometry media.old }
-    ensures clock { M.clock media.new ≡ risen (programs_of result.reply) (M.clock media.old) }
-    ensures reads { M.read_faults media.old ≤ M.read_faults media.new }
-    ensures writes { M.write_faults media.old ≤ M.write_faults media.new }
-    ensures numbered { FaultsNumbered (saturated (M.read_faults media.old + M.write_faults media.old)) (fault_of result.reply ∷ []) }
-    ensures sum { saturated (M.read_faults media.new + M.write_faults media.new) ≡ sum_after (saturated (M.read_faults media.old + M.write_faults media.old)) (fault_of result.reply ∷ []) }
+    ensures clock { D.clock device.new ≡ risen (programs_of result.reply) (D.clock device.old) }
+    ensures reads { D.read_faults device.old ≤ D.read_faults device.new }
+    ensures writes { D.write_faults device.old ≤ D.write_faults device.new }
+    ensures next_stamp { D.next_stamp device.new ≤ D.next_stamp device.old + 1 }
+    ensures undamaged { D.tells → is_damage (fault_of result.reply) ≡ false }
+    ensures numbered { IsFaultReply (saturated (D.read_faults device.old + D.write_faults device.old)) (fault_of result.reply) }
+    ensures sum { saturated (D.read_faults device.new + D.write_faults device.new) ≡ sum_behind (saturated (D.read_faults device.old + D.write_faults device.old)) (fault_of result.reply) }
+    ensures caused { IsTrue (is_eio (fault_of result.reply)) → Rose (D.read_faults device.old) (D.read_faults device.new) ⊎ Rose (D.write_faults device.old) (D.write_faults device.new) }
 {
     match call {
         Call::Create(path) => {
@@ -79,9 +81,8 @@ pub fn apply<M: Nand>(
         Call::Write(path, from, bytes) => {
             let name = name_of(path);
             let reply = write(
-                media,
+                device,
                 files,
-                next,
                 page,
                 shape,
                 name.bytes(),
@@ -92,18 +93,17 @@ pub fn apply<M: Nand>(
         }
         Call::Read(path, from, count) => {
             let name = name_of(path);
-            read(media, files, *next, page, shape, name.bytes(), from, count)
+            read(device, files, page, shape, name.bytes(), from, count)
         }
         _ => unreachable!(),
     }
 }
 
-/// Answers the lines in their order, and keeps the answers with their bytes. Programs go to the pages from `first` on.
-pub fn run<M: Nand>(
-    media: &mut M,
+/// Answers the lines in their order, and keeps the answers with their bytes.
+pub fn run<D: NamedPages>(
+    device: &mut D,
     page: &mut PageBuf,
     shape: &Shape,
-    first: u32,
     lines: Vec<Line>,
     files: &mut Vec<FileEntry>,
     answers: &mut Vec<Answer>,
@@ -116,21 +116,20 @@ pub fn run<M: Nand>(
     requires answers { (answers.old.items ≡ []) × (length lines.items ≤ vec_capacity answers.old) }
     requires bytes { (bytes.old.items ≡ []) × (sum_by (λ l. most_bytes l.call) lines.items ≤ vec_capacity bytes.old) }
     requires order { (order.old.items ≡ []) × (length lines.items ≤ order.old.room) }
-    requires range { first ≤ (M.geometry media.old).blocks * (M.geometry media.old).pages }
-    requires erased { M.tells → IsErasedFrom first (M.contents media.old) }
+    requires formed { D.formed device.old }
+    requires clean { D.clean device.old }
+    requires stamp { D.next_stamp device.old + length lines.items < 2 ^ 63 }
+    requires no_pairs { (D.names device.old).pairs ≡ [] }
     requires roomy { IsRoomy shape.now }
     requires nodes { 1 ≤ shape.now.nodes }
-    ensures ran { (next : ℕ) × HasRun M.tells shape.now ((M.geometry media.old).blocks * (M.geometry media.old).pages) first lines.items order.new.items
-        (record { clock = M.clock media.old; read_faults = M.read_faults media.old; write_faults = M.write_faults media.old })
-        (record { clock = M.clock media.new; read_faults = M.read_faults media.new; write_faults = M.write_faults media.new })
-        (M.contents media.new) files.new.items next answers.new.items bytes.new.items }
+    ensures formed { D.formed device.new }
+    ensures ran { (begun : ℕ) × HasRun D.tells shape.now (D.names device.old).space.room lines.items order.new.items
+        (record { clock = D.clock device.old; read_faults = D.read_faults device.old; write_faults = D.write_faults device.old })
+        (record { clock = D.clock device.new; read_faults = D.read_faults device.new; write_faults = D.write_faults device.new })
+        (D.bytes device.new) files.new.items begun answers.new.items bytes.new.items }
     ensures whole { sum_by (λ a. a.len) answers.new.items ≡ length bytes.new.items }
     ensures few { length answers.new.items ≡ length lines.items }
-    ensures geometry { M.geometry media.new ≡ M.geometry media.old }
-    ensures reads { M.read_faults media.old ≤ M.read_faults media.new }
-    ensures writes { M.write_faults media.old ≤ M.write_faults media.new }
 {
-    let mut next = first;
     'script: for line in lines {
         let Line {
             line: number,
@@ -138,7 +137,7 @@ pub fn run<M: Nand>(
             worker: _,
             call,
         } = line;
-        let found = apply(media, files, &mut next, page, shape, call);
+        let found = apply(device, files, page, shape, call);
         let piece = &page.main()[found.start..found.start + found.len];
         push_bytes(bytes, piece);
         answers.push_reserved(Answer {

@@ -195,14 +195,14 @@ fn a_full_medium_is_told(rt: HostRuntime) -> Result<(), Fail> {
     let alloc = rt.alloc();
     let mut script = Vec::new(alloc);
     script.extend_from_slice(b"0 create /a\n")?;
-    for _ in 0..769 {
+    for _ in 0..737 {
         script.extend_from_slice(b"0 write /a 0 61\n")?;
     }
     script.extend_from_slice(b"0 read /a 0 1\n")?;
     let (status, sink, lines) = run_on(&rt, alloc, &script, NOTHING)?;
     assert_eq!(rt; status, 0);
-    assert_eq!(rt; lines, 771);
-    let end = b"\n769 @769 ok 1\n770 @770 ENOSPC data\n771 @771 ok 61\n".as_slice();
+    assert_eq!(rt; lines, 739);
+    let end = b"\n737 @737 ok 1\n738 @738 ENOSPC data\n739 @739 ok 61\n".as_slice();
     assert!(rt; sink.bytes().ends_with(end));
     Ok(())
 }
@@ -212,8 +212,9 @@ fn faults_are_told(rt: HostRuntime) -> Result<(), Fail> {
     let alloc = rt.alloc();
     let script =
         b"0 create /a\n0 write /a 0 61\n0 write /a 0 62\n0 read /a 0 1\n0 read /a 0 1\n".as_slice();
-    // The format programs two pages, and the look at the medium reads its 1024 pages. The second write of the script reads the page of the first.
-    let rows: [(Failing, u8, &[u8], u32); 6] = [
+    // The format programs two pages. The look at the medium reads its 1024 pages, and so does the opening. The second write of the script reads
+    // the page of the first.
+    let rows: [(Failing, u8, &[u8], u32); 7] = [
         (
             Failing {
                 source: 1,
@@ -227,6 +228,15 @@ fn faults_are_told(rt: HostRuntime) -> Result<(), Fail> {
         (Failing { read: 3, ..NOTHING }, 5, b"medium fault\n", 0),
         (
             Failing {
+                read: 1025,
+                ..NOTHING
+            },
+            5,
+            b"medium fault\n",
+            0,
+        ),
+        (
+            Failing {
                 write: 4,
                 ..NOTHING
             },
@@ -236,7 +246,7 @@ fn faults_are_told(rt: HostRuntime) -> Result<(), Fail> {
         ),
         (
             Failing {
-                read: 1025,
+                read: 2049,
                 ..NOTHING
             },
             5,
@@ -245,7 +255,7 @@ fn faults_are_told(rt: HostRuntime) -> Result<(), Fail> {
         ),
         (
             Failing {
-                read: 1026,
+                read: 2050,
                 ..NOTHING
             },
             5,

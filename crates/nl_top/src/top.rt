@@ -2,24 +2,29 @@
 ghost use Rattle.std.specs.Prelude.{◌≡◌, ◌⊎◌, ◌<◌, ◌≤◌, ◌+◌, ◌*◌, ◌^◌, ◌↔◌, ◌++◌, [], ◌∷◌, ℕ, List, Some, None, length, codes, true, false, All, IsTrue, IfOk, IfErr, IfSome, IfNone, sum_by};
 ghost use Rattle.nl_field.specs.CrashStates.{Rose};
 ghost use Rattle.nl_field.specs.Numbers.{is_legal, shape_for};
+ghost use Rattle.nl_io.specs.Streams.{Writes};
 ghost use Rattle.nl_tree.specs.declared.call.Line.{Line};
 ghost use Rattle.nl_core.specs.Formatted.{IsFormatted};
 ghost use Rattle.nl_top.specs.Command.{command_of};
+ghost use Rattle.nl_top.specs.Files.{IsRoomy};
 ghost use Rattle.nl_top.specs.Form.{script_lines};
 ghost use Rattle.nl_top.specs.Plain.{IsPlain};
 ghost use Rattle.nl_top.specs.Tables.{HaveRoom};
-ghost use Rattle.nl_top.specs.Top.{stream, medium, ReadsWhole, NotAScript, Prints, Runs, DoneStatus, FormatEnds, Ends};
+ghost use Rattle.nl_top.specs.Top.{stream, medium, room_for_data, ReadsWhole, NotAScript, Prints, RunsOn, RanOn, RunEnds, FormatEnds, Ends};
 
 use crate::answers::print_answers;
 use crate::command::{Command, command_of};
 use crate::form::lines_of;
 use crate::formatted::{Look, Making, inspect, make};
+use crate::fresh::is_fresh;
 use crate::gate::Gate;
 use crate::input::{Input, read_all};
 use crate::lists::{OrderList, SyncList};
 use crate::run::run;
 use crate::tables::{Tables, tables_for};
-use nl_field::{PageBuf, Shape, shape_of};
+use nl_device::{Device, Started};
+use nl_field::{PageBuf, PointerList, Shape, shape_of};
+use nl_iface::{Counts, NamedPages, VirtualPages};
 use nl_io::{Sink, SinkAnswer, Source, Words};
 use nl_nand::Nand;
 use nl_print::{formatted_line, word_line};
@@ -115,16 +120,106 @@ fn status_of(rose: bool, answer: SinkAnswer) -> u8
     }
 }
 
-// The first page of the physical segment.
-fn first_page(shape: &Shape) -> u32
-    requires { shape.now.vblocks * shape.now.pages < 2 ^ 32 }
-    ensures { result ≡ shape.now.vblocks * shape.now.pages }
+/// What stands behind the lines of a run: the taken text, and the answered lines.
+struct Ran {
+    answer: SinkAnswer,
+    order: OrderList,
+}
+
+// Runs lines on a device without a live page, and prints the answers.
+fn run_lines<K: Sink, D: NamedPages>(
+    shape: Shape,
+    tables: Tables,
+    lines: Vec<Line>,
+    sink: &mut K,
+    device: &mut D,
+) -> Ran
+    requires plain { All (λ l. IsPlain l.call) lines.items }
+    requires few { length lines.items ≤ 1000000 }
+    requires room { HaveRoom tables lines.items }
+    requires roomy { IsRoomy shape }
+    requires nodes { 1 ≤ shape.nodes }
+    requires formed { D.formed device.old }
+    requires clean { D.clean device.old }
+    requires stamp { D.next_stamp device.old + 1000000 < 2 ^ 63 }
+    requires no_pairs { (D.names device.old).pairs ≡ [] }
+    requires numbers { shape ≡ D.shape device.old }
+    requires some { 0 < shape.pages }
+    requires all_free { (D.names device.old).space.room + (D.names device.old).space.block ≡ (D.names device.old).space.all }
+    ensures formed { D.formed device.new }
+    ensures ran { (text : List ℕ)
+        × RunsOn D.tells shape (room_for_data shape) lines.items
+        (record { clock = D.clock device.old; read_faults = D.read_faults device.old; write_faults = D.write_faults device.old })
+        (record { clock = D.clock device.new; read_faults = D.read_faults device.new; write_faults = D.write_faults device.new }) result.order.items text
+        × Writes (K.taken sink.old) (K.taken sink.new) result.answer text }
+    ensures never_falls { K.faults sink.old ≤ K.faults sink.new }
+    ensures cause { result.answer ≡ SinkAnswer.Failed → Rose (K.faults sink.old) (K.faults sink.new) }
 {
-    shape.vblocks * shape.pages
+    let Tables {
+        mut files,
+        mut answers,
+        mut bytes,
+        mut order,
+        mut page,
+        wanted: _,
+    } = tables;
+    run(
+        device,
+        &mut page,
+        &shape,
+        lines,
+        &mut files,
+        &mut answers,
+        &mut bytes,
+        &mut order,
+    );
+    let answer = print_answers(sink, &answers, &bytes);
+    Ran { answer, order }
+}
+
+// Runs lines on a device that is new, and prints the answers. The device is then given up for its medium.
+fn run_device<K: Sink, M: Nand>(
+    alloc: Global,
+    shape: Shape,
+    tables: Tables,
+    lines: Vec<Line>,
+    sink: &mut K,
+    device: Device<M>,
+) -> Done<M>
+    requires plain { All (λ l. IsPlain l.call) lines.items }
+    requires few { length lines.items ≤ 1000000 }
+    requires room { HaveRoom tables lines.items }
+    requires roomy { IsRoomy shape }
+    requires nodes { 1 ≤ shape.nodes }
+    requires formed { ⟦<Device<M> as VirtualPages>⟧.formed device }
+    requires clean { ⟦<Device<M> as VirtualPages>⟧.clean device }
+    requires stamp { ⟦<Device<M> as VirtualPages>⟧.next_stamp device ≤ 2 ^ 62 }
+    requires no_pairs { (⟦<Device<M> as VirtualPages>⟧.names device).pairs ≡ [] }
+    requires numbers { shape ≡ ⟦<Device<M> as VirtualPages>⟧.shape device }
+    requires some { 0 < shape.pages }
+    requires all_free { (⟦<Device<M> as VirtualPages>⟧.names device).space.room + (⟦<Device<M> as VirtualPages>⟧.names device).space.block ≡ (⟦<Device<M> as VirtualPages>⟧.names device).space.all }
+    ensures ran { RanOn M.tells shape (room_for_data shape) lines.items (stream (K.taken sink.old) (K.faults sink.old)) (stream (K.taken sink.new) (K.faults sink.new))
+        (record { clock = ⟦<Device<M> as Counts>⟧.clock device; read_faults = ⟦<Device<M> as Counts>⟧.read_faults device; write_faults = ⟦<Device<M> as Counts>⟧.write_faults device })
+        (record { clock = M.clock result.media; read_faults = M.read_faults result.media; write_faults = M.write_faults result.media }) result.order.items result.status }
+    ensures syncs { result.syncs.items ≡ [] }
+{
+    let mut device = device;
+    let reads = device.read_faults();
+    let writes = device.write_faults();
+    device.retain(&PointerList::new(alloc));
+    let Ran { answer, order } = run_lines(shape, tables, lines, sink, &mut device);
+    let media = device.into_media();
+    let failed = medium_rose(&media, reads, writes) || order.has_fault();
+    Done {
+        status: status_of(failed, answer),
+        media,
+        syncs: SyncList::new(alloc),
+        order,
+    }
 }
 
 // Runs lines on a medium as a format leaves it, and prints the answers.
-fn run_lines<K: Sink, M: Nand>(
+fn run_volume<K: Sink, M: Nand>(
     alloc: Global,
     shape: Shape,
     tables: Tables,
@@ -138,44 +233,22 @@ fn run_lines<K: Sink, M: Nand>(
     requires legal { IsTrue (is_legal (M.geometry media).blocks (M.geometry media).pages) }
     requires shape { shape ≡ shape_for (M.geometry media).blocks (M.geometry media).pages }
     requires formatted { M.tells → IsFormatted (M.geometry media).blocks (M.geometry media).pages (M.contents media) }
-    ensures ran { (text : List ℕ)
-        × Runs M.tells lines.items (stream (K.taken sink.old) (K.faults sink.old)) (stream (K.taken sink.new) (K.faults sink.new))
+    ensures ended { RunEnds M.tells lines.items (stream (K.taken sink.old) (K.faults sink.old)) (stream (K.taken sink.new) (K.faults sink.new))
         (medium (M.geometry media) (M.contents media) (M.clock media) (M.read_faults media) (M.write_faults media))
-        (medium (M.geometry result.media) (M.contents result.media) (M.clock result.media) (M.read_faults result.media) (M.write_faults result.media)) result.order.items text
-        × DoneStatus result.status (stream (K.taken sink.old) (K.faults sink.old)) (stream (K.taken sink.new) (K.faults sink.new))
-        (medium (M.geometry media) (M.contents media) (M.clock media) (M.read_faults media) (M.write_faults media))
-        (medium (M.geometry result.media) (M.contents result.media) (M.clock result.media) (M.read_faults result.media) (M.write_faults result.media)) text }
+        (medium (M.geometry result.media) (M.contents result.media) (M.clock result.media) (M.read_faults result.media) (M.write_faults result.media))
+        result.order.items result.status }
     ensures syncs { result.syncs.items ≡ [] }
 {
-    let mut media = media;
-    let Tables {
-        mut files,
-        mut answers,
-        mut bytes,
-        mut order,
-        mut page,
-        wanted: _,
-    } = tables;
-    let reads = media.read_faults();
-    let writes = media.write_faults();
-    run(
-        &mut media,
-        &mut page,
-        &shape,
-        first_page(&shape),
-        lines,
-        &mut files,
-        &mut answers,
-        &mut bytes,
-        &mut order,
-    );
-    let rose = medium_rose(&media, reads, writes);
-    let answer = print_answers(sink, &answers, &bytes);
-    Done {
-        status: status_of(rose, answer),
-        media,
-        syncs: SyncList::new(alloc),
-        order,
+    match Device::start(alloc, media) {
+        Started::Ready(device, found) => {
+            if is_fresh(&found, &shape) {
+                run_device(alloc, shape, tables, lines, sink, device)
+            } else {
+                ended(alloc, 2, b"unbuilt", sink, device.into_media())
+            }
+        }
+        Started::Fault(media) => ended(alloc, 5, b"medium fault", sink, media),
+        Started::Memory(media) => ended(alloc, 6, b"memory", sink, media),
     }
 }
 
@@ -259,15 +332,17 @@ fn answer_words<S: Source, K: Sink, M: Nand>(
         Look::Other => return ended(alloc, 2, b"unbuilt", sink, media),
         Look::Failed => return ended(alloc, 5, b"medium fault", sink, media),
     }
-    run_lines(alloc, shape, tables, lines, sink, media)
+    run_volume(alloc, shape, tables, lines, sink, media)
 }
 
 /// Answers the words of a command line. `format B P` makes a volume of B blocks of P pages, and prints its numbers. `run`
-/// reads a script from the source, runs it on a medium as `format` leaves it, and prints the answers into the sink. All of
-/// it runs on the calling thread, and the gate is not asked.
+/// reads a script from the source, runs it on a medium as `format` leaves it, and prints the answers into the sink. Its
+/// pages go through the device, which picks their places: there is room for the programs of all physical blocks but one.
+/// All of it runs on the calling thread, and the gate is not asked.
 ///
 /// Statuses: 0; 2 for faulty words, and for a script or a medium that is not of the form (`unbuilt`); 3 where the source
-/// failed; 4 where the sink failed; 5 where the medium failed; 6 for want of memory, before the medium is touched.
+/// failed; 4 where the sink failed; 5 where the medium failed or an answer is a fault reply; 6 for want of memory, before
+/// the medium is written.
 pub fn nameless<Rt: Threads + Wait + Sync, S: Source, K: Sink, M: Nand + Send, G: Gate + Sync>(
     rt: &Rt,
     alloc: Global,

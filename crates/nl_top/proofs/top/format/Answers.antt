@@ -1,8 +1,8 @@
-use Rattle.std.proofs.Common.{◌⊎◌, ℕ, IsTrue, refl, ap, sym, subst}
+use Rattle.std.proofs.Common.{◌⊎◌, ℕ, IsTrue, refl, ap, sym, subst, inl}
 use Rattle.nl_field.specs.CrashStates.{Rose}
 use Rattle.nl_print.specs.Texts.{formatted_text}
 use Rattle.nl_top.specs.Top.{stream, medium, MediumRose, Formats, formatted}
-use Rattle.nl_top.proofs.Ending.{done_status}
+use Rattle.nl_top.proofs.Ending.{no_fault, done_status}
 use Rattle.nl_top.proofs.SoundMedium.{sound_medium}
 use Rattle.nl_top.proofs.top.format.Goals as goal
 
@@ -29,4 +29,4 @@ returns-clause-ended g c =
       prints = record { answer = c.formatted_line-answer.result; taken = c.formatted_line-answer.ensures.text; never_falls = c.formatted_line-answer.ensures.never_falls; cause = c.formatted_line-answer.ensures.cause };
       no_lines = c.new-3.ensures;
     } in
-    formatted text formats (done_status c.status_of.result c.medium_rose-rose.result c.formatted_line-answer.result sink sink' before after text yes no c.formatted_line-answer.ensures.text c.formatted_line-answer.ensures.cause c.status_of.ensures.five c.status_of.ensures.four c.status_of.ensures.zero)
+    formatted text formats (done_status c.status_of.result c.medium_rose-rose.result c.formatted_line-answer.result c.new-3.result.items sink sink' before.counts after.counts text (λ h. inl (yes h)) (no_fault _ _ _ c.new-3.ensures no) c.formatted_line-answer.ensures.text c.formatted_line-answer.ensures.cause c.status_of.ensures.five c.status_of.ensures.four c.status_of.ensures.zero)

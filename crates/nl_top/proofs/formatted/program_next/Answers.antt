@@ -1,5 +1,5 @@
 use Rattle.nl_top.proofs.Blocks.{can_program}
-use Rattle.nl_top.proofs.files.program_next.Goals as goal
+use Rattle.nl_top.proofs.formatted.program_next.Goals as goal
 
 pub program-requires-clause-erased : goal.program-requires-clause-erased
 program-requires-clause-erased g c tells =
