@@ -1,6 +1,7 @@
 pub mod Forms
 pub mod Keys
 pub mod Made
+pub mod Opened
 pub mod Owns
 pub mod PhysicalPages
 pub mod Picks

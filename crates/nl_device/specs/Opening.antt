@@ -1,5 +1,5 @@
 -- What an opening takes from the readable pages that a scan saw.
-use Rattle.std.specs.Prelude.{◌≡◌, ℕ, ◌+◌, ◌*◌, ◌/◌, ◌<◌, ◌≤◌, ◌==◌, nat_lt, max, Bool, true, false, ◌&&◌, if◌then◌else◌, List, [], length, filter, filter_map, find, slice_index_or, Option, Some, None, option_map, IsTrue}
+use Rattle.std.specs.Prelude.{◌≡◌, ℕ, ◌+◌, ◌*◌, ◌/◌, ◌<◌, ◌≤◌, ◌==◌, nat_lt, max, Bool, true, false, ◌&&◌, if◌then◌else◌, List, [], length, filter, filter_map, find, slice_index_or, Option, Some, None, option_map, replicate, IsTrue}
 use Rattle.nl_field.specs.Medium.{first_physical}
 use Rattle.nl_field.specs.Space.{is_outside}
 use Rattle.nl_field.specs.Spelling.{is_stamp}
@@ -7,15 +7,15 @@ use Rattle.nl_field.specs.SpareRecord.{wear_of}
 use Rattle.nl_field.specs.declared.shape.Shape.{Shape}
 use Rattle.nl_field.specs.declared.spare.SpareRec.{SpareRec}
 use Rattle.nl_field.specs.declared.spare.SpareRec.TheVariants.{Virtual, Physical}
-use Rattle.nl_scan.specs.Tables.{Table}
+use Rattle.nl_scan.specs.Tables.{FitsMedium, Table}
 use Rattle.nl_scan.specs.declared.seen.Seen.{Seen}
 use Rattle.nl_device.specs.Spread.{by_key, spare_of, spread_more}
 use Rattle.nl_device.specs.declared.opening.own.Own.{Own}
 use Rattle.nl_device.specs.declared.opening.spare.Spread.{Spread}
 use Rattle.nl_device.specs.declared.opening.spare.Spread.TheVariants.{Nowhere}
-use Rattle.nl_pseg.specs.Segment.{Physical as Segment, is_free, is_kept, soiled}
+use Rattle.nl_pseg.specs.Segment.{InSegment, IsClean, Physical as Segment, TakenAsErased, is_free}
 use Rattle.nl_vseg.specs.Places.{place_of}
-use Rattle.nl_vseg.specs.Segment.{KeepsSpare, SameSize, Segment as Virtuals, is_blank}
+use Rattle.nl_vseg.specs.Segment.{SameSize, Segment as Virtuals, is_blank}
 use Rattle.nl_vseg.specs.declared.place.Place.{Place}
 
 -- so many values, each of them the one for its number
@@ -115,3 +115,21 @@ pub record IsOpenedVirtual (shape : Shape) (t : Table) (vseg : Virtuals) : Type 
   pub are_spreads : Tabulates shape.vaddrs Nowhere (spread_in shape.pages (needed_of shape t.seen)) spreads
   pub places : (v : ℕ) → v < shape.vaddrs → place_of vseg.places v ≡ option_map place_on (pick_of shape.pages (spare_of 0 shape.vblocks spreads) (needed_of shape t.seen) v)
   pub blank : (p : ℕ) → is_blank vseg p ≡ true → (p < vseg.bound) × SaysErased t (p / shape.pages)
+
+-- The physical segment after a scan: no page is live, each block is Free, and only pages of blocks that read as erased are taken
+-- as erased.
+pub record IsOpenedPhysical (shape : Shape) (t : Table) (pseg : Segment) : Type 0 where
+  pub first_is : pseg.first ≡ shape.vblocks
+  pub blocks_is : pseg.blocks ≡ shape.blocks
+  pub size_is : pseg.size ≡ shape.pages
+  pub none_held : pseg.held ≡ replicate (shape.blocks * shape.pages) None
+  pub no_pairs : pseg.pairs ≡ []
+  pub free_is : pseg.free ≡ shape.pblocks
+  pub left_is : pseg.left ≡ 0
+  pub within : (p : ℕ) → TakenAsErased pseg p → InSegment pseg p
+  pub erased : (p : ℕ) → TakenAsErased pseg p → SaysErased t (p / shape.pages)
+  pub clean : ((block : ℕ) → shape.vblocks ≤ block → block < shape.blocks → SaysErased t block) → IsClean pseg
+
+-- the tables are of a medium with the numbers of the volume
+abbrev pub FitsShape : Shape → Table → Type 0
+FitsShape shape t = FitsMedium (record { blocks = shape.blocks; pages = shape.pages }) t

@@ -1,5 +1,5 @@
 // The page that each address takes.
-ghost use Rattle.std.specs.Prelude.{◌≡◌, ◌<◌, ◌^◌, ℕ, length, slice_index_or, slice_set, option_map, All, None, true, IfOk, IfSome};
+ghost use Rattle.std.specs.Prelude.{◌≡◌, ◌<◌, ◌^◌, ℕ, length, slice_index_or, slice_set, option_map, replicate, All, None, true, IfOk, IfSome};
 ghost use Rattle.nl_field.specs.Space.{is_outside};
 ghost use Rattle.nl_device.specs.Opening.{CanLoad, IsLoaded, Tabulates, filled, pick_of, place_on, with_pick};
 ghost use Rattle.nl_device.specs.declared.opening.own.Own.{Own as OwnOf};
@@ -44,6 +44,16 @@ fn fill(picks: &mut Vec<Option<Own>>, needed: &Vec<Own>, pages: u32, spare: Opti
     }
 }
 
+fn no_picks(alloc: Global, count: u32) -> Result<Vec<Option<Own>>, Memory>
+    ensures { IfOk result (λ v. v.items ≡ replicate count None) }
+{
+    let mut picks = Vec::with_capacity(alloc, count as usize)?;
+    for _ in 0..count {
+        picks.push(None)?;
+    }
+    Ok(picks)
+}
+
 /// Each address takes the first of these pages outside the spare block, else the first.
 pub fn picks(
     alloc: Global,
@@ -56,7 +66,7 @@ pub fn picks(
     requires below { All (λ (o : OwnOf). o.vaddr < count) needed.now.items }
     ensures { IfOk result (λ p. Tabulates count None (pick_of pages spare needed.now.items) p.items) }
 {
-    let mut picks = vec![in alloc; None; count as usize]?;
+    let mut picks = no_picks(alloc, count)?;
     fill(&mut picks, needed, pages, spare);
     fill(&mut picks, needed, pages, None);
     Ok(picks)

@@ -1,9 +1,7 @@
 // Both segments as they are after a scan.
-ghost use Rattle.std.specs.Prelude.{◌≡◌, ◌*◌, ◌<◌, ℕ, All, IfOk, IsTrue};
+ghost use Rattle.std.specs.Prelude.{◌≡◌, length, IfOk, IsTrue};
 ghost use Rattle.nl_field.specs.Numbers.{is_legal, shape_for};
-ghost use Rattle.nl_scan.specs.Tables.{FitsMedium};
-ghost use Rattle.nl_nand.specs.declared.geometry.Geometry.{Geometry as GeometryOf};
-ghost use Rattle.nl_device.specs.Opening.{IsOpenedPhysical, IsOpenedVirtual};
+ghost use Rattle.nl_device.specs.Opening.{FitsShape, IsOpenedPhysical, IsOpenedVirtual};
 
 use crate::opening::fill::{load, picks};
 use crate::opening::own::{greatest, needed, owns, spreads};
@@ -22,6 +20,11 @@ pub fn open_virtual(
     tables: &ScanTables,
     wears: &Vec<u32>,
 ) -> Result<VSeg, Memory>
+    requires legal { IsTrue (is_legal shape.now.blocks shape.now.pages) }
+    requires numbers { shape.now ≡ shape_for shape.now.blocks shape.now.pages }
+    requires fits { FitsShape shape.now tables.now }
+    requires wears { length wears.now.items ≡ shape.now.blocks }
+    ensures { IfOk result (IsOpenedVirtual shape.now tables.now) }
 {
     let owns = owns(alloc, tables, shape)?;
     let greatest = greatest(alloc, &owns, shape.vaddrs)?;
@@ -42,8 +45,34 @@ pub fn open_physical(
     tables: &ScanTables,
     wears: &Vec<u32>,
 ) -> Result<PSeg, Memory>
+    requires legal { IsTrue (is_legal shape.now.blocks shape.now.pages) }
+    requires numbers { shape.now ≡ shape_for shape.now.blocks shape.now.pages }
+    requires fits { FitsShape shape.now tables.now }
+    requires wears { length wears.now.items ≡ shape.now.blocks }
+    ensures { IfOk result (IsOpenedPhysical shape.now tables.now) }
 {
     let mut pseg = PSeg::new(alloc, shape)?;
     soil_physical(&mut pseg, tables, wears, shape.vblocks, shape.blocks);
     Ok(pseg)
+}
+
+/// Both segments.
+#[derive(Drop)]
+pub struct Opened {
+    pub vseg: VSeg,
+    pub pseg: PSeg,
+}
+
+/// Both segments after a scan.
+pub fn open(alloc: Global, shape: &Shape, tables: &ScanTables) -> Result<Opened, Memory>
+    requires legal { IsTrue (is_legal shape.now.blocks shape.now.pages) }
+    requires numbers { shape.now ≡ shape_for shape.now.blocks shape.now.pages }
+    requires fits { FitsShape shape.now tables.now }
+    ensures virtuals { IfOk result (λ o. IsOpenedVirtual shape.now tables.now o.vseg) }
+    ensures physicals { IfOk result (λ o. IsOpenedPhysical shape.now tables.now o.pseg) }
+{
+    let wears = wears(alloc, tables, shape.pages, shape.blocks)?;
+    let vseg = open_virtual(alloc, shape, tables, &wears)?;
+    let pseg = open_physical(alloc, shape, tables, &wears)?;
+    Ok(Opened { vseg, pseg })
 }
