@@ -10,6 +10,7 @@ pub mod Lookups
 pub mod Made
 pub mod Naming
 pub mod Noting
+pub mod Opened
 pub mod OpenedImage
 pub mod Owns
 pub mod PhysicalPages
