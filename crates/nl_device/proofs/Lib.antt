@@ -13,6 +13,7 @@ pub mod PhysicalPages
 pub mod Places
 pub mod Placing
 pub mod Ranges
+pub mod Retained
 pub mod Retaining
 pub mod Showing
 pub mod Spacing
