@@ -18,6 +18,7 @@ pub mod Picks
 pub mod Places
 pub mod Placing
 pub mod Ranges
+pub mod Retained
 pub mod Retaining
 pub mod Showing
 pub mod Spacing

@@ -6,6 +6,7 @@ mod device;
 mod kept;
 mod named_pages;
 mod opening;
+mod retain;
 mod stamps;
 mod told;
 mod virtual_pages;
