@@ -188,7 +188,7 @@ either : (xs : List Readable) (o : Option Readable) → or_else (option_map own_
 either xs None = refl
 either xs (Some r) = refl
 
-pages_is : (image : Image) → (shape_of_image image).pages ≡ image.pages
+pub pages_is : (image : Image) → (shape_of_image image).pages ≡ image.pages
 unfolding shape_for
 pages_is image = refl
 
