@@ -7,6 +7,7 @@ pub mod Made
 pub mod Naming
 pub mod Noting
 pub mod OpenedImage
+pub mod OpenedMedium
 pub mod OpenedSpare
 pub mod Owns
 pub mod PhysicalPages
