@@ -7,6 +7,7 @@ pub mod Made
 pub mod Naming
 pub mod Noting
 pub mod OpenedImage
+pub mod OpenedKeeps
 pub mod OpenedMedium
 pub mod OpenedSpare
 pub mod Owns
