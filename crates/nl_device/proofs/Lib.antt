@@ -9,6 +9,7 @@ pub mod Noting
 pub mod OpenedImage
 pub mod OpenedKeeps
 pub mod OpenedMedium
+pub mod OpenedNames
 pub mod OpenedSpare
 pub mod Owns
 pub mod PhysicalPages

@@ -1,20 +1,20 @@
 -- After an opening the map of the virtual segment is what the image stores.
-use Rattle.std.proofs.Common.{◌≡◌, ◌⊎◌, inl, inr, ⊎_elim, ℕ, ◌+◌, ◌*◌, ◌/◌, ◌<◌, ◌≤◌, ◌==◌, ◌∙◌, nat_lt, Bool, true, false, ◌&&◌, max, List, [], ◌∷◌, length, get_or, filter, find, fold, option_map, Option, Some, None, refl, sym, ap, subst, arith, eqb-true}
+use Rattle.std.proofs.Common.{◌≡◌, inl, inr, ℕ, ◌+◌, ◌*◌, ◌/◌, ◌<◌, ◌≤◌, ◌==◌, ◌∙◌, nat_lt, Bool, true, ◌&&◌, max, List, [], ◌∷◌, length, get_or, filter, find, option_map, Option, Some, None, refl, sym, ap, subst, arith, eqb-true}
 use Rattle.std.specs.List.{enumerate_from}
 use Rattle.std.proofs.lemmas.Bool.{and_parts, cases_lt, false≢true, ltb-true}
 use Rattle.std.proofs.lemmas.List.{get_or_past}
 use Rattle.std.proofs.lemmas.Nat.{div_below}
 use Rattle.std.proofs.lemmas.Option.{none-some, same_Some}
 use Rattle.nl_field.specs.Page.{Page, erased, uncorrectable, written, Image, page_at}
-use Rattle.nl_field.specs.Medium.{Readable, address_of, address_on, first_physical, is_virtual_rec, readable, readable_pages, shape_of_image, stamp_on, virtual_pages}
+use Rattle.nl_field.specs.Medium.{Readable, address_on, first_physical, is_virtual_rec, readable, readable_pages, shape_of_image, stamp_on, virtual_pages}
 use Rattle.nl_field.specs.Scan.{next_stamp_of}
 use Rattle.nl_field.specs.Space.{has_greatest_stamp, is_outside, virtual_spare}
-use Rattle.nl_field.specs.SpareRecord.{spare_rec_of, stamp_of}
+use Rattle.nl_field.specs.SpareRecord.{spare_rec_of}
 use Rattle.nl_field.specs.Virtual.{newest, or_first_in}
 use Rattle.nl_field.specs.declared.shape.Shape.{Shape}
 use Rattle.nl_field.specs.declared.spare.SpareRec.{SpareRec}
 use Rattle.nl_field.specs.declared.spare.SpareRec.TheVariants.{Virtual, Physical}
-use Rattle.nl_iface.specs.Stored.{Value, value_on}
+use Rattle.nl_iface.specs.Stored.{value_on}
 use Rattle.nl_nand.specs.Nand.{ImageOf}
 use Rattle.nl_nand.specs.declared.geometry.Geometry.{Geometry}
 use Rattle.nl_pseg.specs.Segment.{IsPhysicalOf, Physical as Named}
@@ -26,8 +26,7 @@ use Rattle.nl_vseg.specs.Places.{Holds, map_of, place_of, value_at}
 use Rattle.nl_vseg.specs.Segment.{IsSegmentOf, Segment, is_blank}
 use Rattle.nl_vseg.specs.declared.place.Place.{Place}
 use Rattle.nl_device.specs.Device.{HasLive, HasSegments, IsOnMedium}
-use Rattle.nl_device.specs.Opening.{IsOpenedVirtual, needed_of, pick_of, place_on}
-use Rattle.nl_device.specs.Spread.{spare_of}
+use Rattle.nl_device.specs.Opening.{IsOpenedVirtual, SaysErased, needed_of, pick_of, place_on}
 use Rattle.nl_device.proofs.Forms.{shape_is}
 use Rattle.nl_device.proofs.Made.{made_medium}
 use Rattle.nl_device.proofs.OpenedImage.{fold_has, own_on, pages_is, pick_is}
@@ -144,6 +143,14 @@ from_placed : (o : Option Readable) (place : Place) → option_map place_for o �
 from_placed None place is = absurd (none-some place is)
 from_placed (Some r) place is = (r, refl, same_Some (place_for r) place is)
 
+-- the pages of a block that the table says is erased
+pub erased_in : (image : Image) (t : Table) → IsTableOf image t → 0 < (shape_of_image image).pages → (p : ℕ) → p / (shape_of_image image).pages < image.blocks → SaysErased t (p / (shape_of_image image).pages) → page_at image p ≡ erased
+erased_in image t is some p within says =
+    let size = (shape_of_image image).pages in
+    let at = in_block p size (p / size) some refl in
+    let same = pages_is image in
+    (is.each_block (p / size) within).0 says p (subst (λ n. p / size * n ≤ p) same at.0) (subst (λ n. p < p / size * n + n) same at.1)
+
 module _ (image : Image) (t : Table) (vseg : Segment) (is : IsTableOf image t) (opened : IsOpenedVirtual (shape_of_image image) t vseg) where
   -- the place of an address is that of its newest page
   pub opened_place : (v : ℕ) → v < (shape_of_image image).vaddrs → place_of vseg.places v ≡ option_map place_for (newest image v)
@@ -177,11 +184,8 @@ module _ (image : Image) (t : Table) (vseg : Segment) (is : IsTableOf image t) (
   opened_erased some few p blank =
       let shape = shape_of_image image in
       let b = opened.blank p blank in
-      let block = p / shape.pages in
-      let within : block < shape.vblocks = div_below p shape.pages shape.vblocks some (subst (λ n. p < n) opened.same_bound b.0) in
-      let at = in_block p shape.pages block some refl in
-      let same = pages_is image in
-      (is.each_block block (omega (arith, within, few))).0 b.1 p (subst (λ n. block * n ≤ p) same at.0) (subst (λ n. p < block * n + n) same at.1)
+      let within : p / shape.pages < shape.vblocks = div_below p shape.pages shape.vblocks some (subst (λ n. p < n) opened.same_bound b.0) in
+      erased_in image t is some p (omega (arith, within, few)) b.1
 
   pub opened_segment : 0 < (shape_of_image image).pages → (shape_of_image image).vblocks ≤ image.blocks → IsSegmentOf image vseg
   opened_segment some few = record { holds = opened_holds; erased_is = opened_erased some few }

@@ -1,5 +1,5 @@
 -- The spare block that an opening finds is that of the image.
-use Rattle.std.proofs.Common.{◌≡◌, ◌⊎◌, inl, inr, ⊎_elim, ℕ, ◌+◌, ◌*◌, ◌/◌, ◌<◌, ◌≤◌, ◌==◌, ◌∙◌, nat_lt, Bool, true, false, not, ◌&&◌, cond, List, [], ◌∷◌, map, length, get_or, filter, Option, Some, None, refl, sym, ap, subst, arith, eq-eqb, eqb-true}
+use Rattle.std.proofs.Common.{◌≡◌, inl, inr, ℕ, ◌/◌, ◌<◌, ◌≤◌, ◌==◌, ◌∙◌, nat_lt, Bool, true, not, ◌&&◌, cond, List, map, filter, Option, Some, None, sym, ap, subst, arith, eq-eqb, eqb-true}
 use Rattle.std.specs.List.{list_any}
 use Rattle.std.proofs.lemmas.Bool.{and_from, and_parts, cases_Bool, cases_lt, cond-true, cond-false, false≢true, lt-ltb, not-true}
 use Rattle.std.proofs.lemmas.Option.{none-some, same_Some}
@@ -10,7 +10,7 @@ use Rattle.nl_scan.specs.Tables.{IsTableOf, Table}
 use Rattle.nl_vseg.proofs.Members.{In, any_from, filter_from, filter_to}
 use Rattle.nl_vseg.proofs.Newest.{from_pages}
 use Rattle.nl_device.specs.Opening.{Tabulates, needed_of, spread_in}
-use Rattle.nl_device.specs.Spread.{AreGrouped, GroupLiesIn, IsOneOf, IsSpread, by_key, spare_of, spread_at, spread_more}
+use Rattle.nl_device.specs.Spread.{AreGrouped, GroupLiesIn, IsSpread, by_key, spare_of, spread_more}
 use Rattle.nl_device.specs.declared.opening.own.Own.{Own}
 use Rattle.nl_device.specs.declared.opening.spare.Spread.{Spread}
 use Rattle.nl_device.specs.declared.opening.spare.Spread.TheVariants.{Nowhere}
