@@ -12,6 +12,10 @@ pub mod Naming
 pub mod Noting
 pub mod Opened
 pub mod OpenedImage
+pub mod OpenedKeeps
+pub mod OpenedMedium
+pub mod OpenedNames
+pub mod OpenedSpare
 pub mod Owns
 pub mod PhysicalPages
 pub mod Picks
