@@ -1,15 +1,15 @@
 -- After an opening no page of the physical segment is live, and what it takes as erased is erased.
-use Rattle.std.proofs.Common.{◌≡◌, inl, inr, ℕ, ◌*◌, ◌/◌, ◌<◌, ◌∙◌, List, length, get_or, replicate, Option, Some, None, refl, sym, ap, subst, arith}
+use Rattle.std.proofs.Common.{◌≡◌, inl, inr, ℕ, ◌*◌, ◌/◌, ◌<◌, ◌∙◌, List, get_or, replicate, Option, None, refl, sym, ap, subst, arith}
 use Rattle.std.proofs.lemmas.Bool.{cases_lt}
 use Rattle.std.proofs.lemmas.List.{get_or-replicate, get_or_past, length-replicate}
 use Rattle.std.proofs.lemmas.Nat.{div_below}
 use Rattle.std.proofs.lemmas.Option.{none-some}
 use Rattle.nl_field.specs.Numbers.{shape_for}
-use Rattle.nl_field.specs.Page.{Image, erased, page_at}
+use Rattle.nl_field.specs.Page.{Image}
 use Rattle.nl_field.specs.Medium.{shape_of_image}
 use Rattle.nl_field.specs.declared.shape.Shape.{Shape}
 use Rattle.nl_scan.specs.Tables.{IsTableOf, Table}
-use Rattle.nl_pseg.specs.Segment.{IsPhysicalOf, Physical, TakenAsErased, held_at}
+use Rattle.nl_pseg.specs.Segment.{IsPhysicalOf, Physical, held_at}
 use Rattle.nl_pseg.specs.declared.held.Held.{Held}
 use Rattle.nl_device.specs.Device.{HasLive}
 use Rattle.nl_device.specs.Opening.{IsOpenedPhysical}
