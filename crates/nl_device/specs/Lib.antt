@@ -4,6 +4,7 @@ pub mod Kept
 pub mod Laws
 pub mod Marks
 pub mod Medium
+pub mod Opening
 pub mod Retain
 pub mod Shown
 pub mod Space

@@ -1,11 +1,10 @@
 -- The counts of a medium over two calls.
-use Rattle.std.proofs.Common.{◌≡◌, inl, inr, ℕ, ◌+◌, ◌<◌, ◌≤◌, refl, ◌∙◌, ap, subst, arith}
+use Rattle.std.proofs.Common.{◌≡◌, inl, inr, ℕ, ◌+◌, ◌≤◌, refl, ◌∙◌, ap, arith}
 use Rattle.std.proofs.lemmas.Bool.{cases_lt}
 use Rattle.nl_field.specs.CrashStates.{Earlier, saturated, top}
 use Rattle.nl_field.specs.declared.answers.Named.{Named}
 use Rattle.nl_field.specs.declared.answers.Named.TheVariants as the
 use Rattle.nl_nand.specs.Nand.{FaultsCounted}
-use Rattle.nl_pseg.specs.Answers.{IsPlaced}
 use Rattle.nl_pseg.specs.Effects.{Counted}
 
 module _ {M : Type 0} {clock read_faults write_faults : M → ℕ} where

@@ -14,7 +14,7 @@ use Rattle.nl_nand.specs.ImageLaws.{filled_cut}
 use Rattle.nl_pseg.specs.Effects.{Crashes, Keeps, Places, Takes}
 use Rattle.nl_pseg.specs.Answers.{IsPlaced, Names}
 use Rattle.nl_pseg.specs.Pages.{IsUnreadable, main_of, page_with, shown_by}
-use Rattle.nl_pseg.specs.Segment.{Physical, Use, IsDead, InSegment, IsPhysicalOf, IsUnspent, SamePages, TakenAsErased, held_at, is_free, is_soiled, soiled, wear_of}
+use Rattle.nl_pseg.specs.Segment.{Physical, Use, IsDead, IsPhysicalOf, IsUnspent, SamePages, TakenAsErased, held_at, is_free, is_soiled, soiled, wear_of}
 use Rattle.nl_pseg.specs.Seen.{ArePlaces}
 use Rattle.nl_pseg.specs.Steps.{IsAlone, IsOpened, IsUsed}
 use Rattle.nl_pseg.specs.declared.held.Held.{Held}

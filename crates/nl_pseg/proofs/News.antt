@@ -1,17 +1,18 @@
 -- A segment of which no page was used.
-use Rattle.std.proofs.Common.{◌≡◌, inl, inr, ℕ, zero, suc, ◌+◌, ◌-◌, ◌*◌, ◌/◌, ◌^◌, ◌<◌, ◌≤◌, nat_le, Bool, true, false, cond, Option, Some, None, List, length, map, get_or, replicate, refl, sym, ◌∙◌, ap, subst, arith, count_by, [], ◌∷◌, is_some}
+use Rattle.std.proofs.Common.{◌≡◌, inl, inr, ℕ, zero, suc, ◌+◌, ◌-◌, ◌*◌, ◌/◌, ◌^◌, ◌<◌, ◌≤◌, nat_le, true, false, cond, Option, None, List, length, map, get_or, replicate, refl, sym, ◌∙◌, ap, subst, arith, count_by, [], ◌∷◌, is_some, ◌%◌}
 use Rattle.std.proofs.lemmas.Bool.{cases_Bool, cases_lt, leb-true}
 use Rattle.std.proofs.lemmas.List.{get_or-replicate, length-replicate}
 use Rattle.std.proofs.lemmas.List.Sums.{sum_by-cons}
 use Rattle.std.proofs.lemmas.Nat.{div_below}
 use Rattle.std.proofs.lemmas.Option.{none-some}
 use Rattle.nl_field.specs.declared.shape.Shape.{Shape}
-use Rattle.nl_blocks.specs.Table.{Table, free_count, is_free, new_row, new_table}
-use Rattle.nl_pseg.specs.Segment.{Physical, Use, InSegment, KeepsBlock, TakenAsErased, no_use, room, use_at}
-use Rattle.nl_pseg.specs.Seen.{IsFormed, new_segment, seen, use_in, use_of, use_with}
+use Rattle.nl_blocks.specs.declared.states.Page.{Page}
+use Rattle.nl_blocks.specs.Table.{Table, free_count, is_free, new_row, new_table, new_page, no_row, page_at}
+use Rattle.nl_pseg.specs.Segment.{Use, InSegment, KeepsBlock, TakenAsErased, no_use, room, use_at}
+use Rattle.nl_pseg.specs.Seen.{IsFormed, new_segment, seen, use_in, use_of, use_with, state_for}
 use Rattle.nl_pseg.specs.declared.held.Held.{Held}
 use Rattle.nl_pseg.specs.declared.state.State.{State}
-use Rattle.nl_pseg.proofs.Numbers.{block_of, in_block, block_below}
+use Rattle.nl_pseg.proofs.Numbers.{in_block, block_below}
 use Rattle.nl_pseg.proofs.Shapes.{IsRoomy}
 use Rattle.nl_pseg.proofs.Tables.{use_before, use_from}
 
@@ -45,6 +46,17 @@ pub all_none : (n v : ℕ) → get_or {A = Option Held} (replicate n None) v Non
 all_none zero v = refl
 all_none (suc n) zero = refl
 all_none (suc n) (suc v) = all_none n v
+
+rest_pages : (size k : ℕ) → get_or (replicate size new_page) k new_page ≡ new_page
+rest_pages zero k = refl
+rest_pages (suc size) zero = refl
+rest_pages (suc size) (suc k) = rest_pages size k
+
+-- no page of a new table is live
+new_pages : (count size i k : ℕ) → get_or (get_or (replicate count (new_row size)) i no_row).pages k new_page ≡ new_page
+new_pages zero size i k = refl
+new_pages (suc count) size zero k = rest_pages size k
+new_pages (suc count) size (suc i) k = new_pages count size i k
 
 -- a state with these is that segment
 module _ (shape : Shape) (roomy : IsRoomy shape) (s : State) (table : s.blocks ≡ new_table shape.vblocks shape.pblocks shape.pages) (held : s.held.items ≡ replicate (shape.blocks * shape.pages) None)
@@ -97,6 +109,10 @@ module _ (shape : Shape) (roomy : IsRoomy shape) (s : State) (table : s.blocks �
         active_in = record { from = omega (arith, first, active); below = omega (arith, active, end, many, all) };
         used_fits = omega (arith, size, used);
         taken = λ lt. absurd (omega (arith, lt, size, used));
+        marked = record {
+          each = λ p has. ap (λ (t : Table). (page_at t p).state) table ∙ (ap (λ (q : Page). q.state) (new_pages shape.pblocks shape.pages (p / shape.pages - shape.vblocks) (p % shape.pages))
+              ∙ sym (ap state_for (ap (λ (l : List (Option Held)). get_or l p None) held ∙ all_none (shape.blocks * shape.pages) p)));
+        };
         only_free = λ b. subst (λ (t : Table). (use_in t b).is_kept ≡ (use_in t b).is_free) (sym table) (only_new shape.vblocks shape.pblocks shape.pages b);
         places = record { each = λ p h named. absurd (none-some h (sym (all_none (shape.blocks * shape.pages) p) ∙ (ap (λ (l : List (Option Held)). get_or l p None) (sym held) ∙ named))) };
       }

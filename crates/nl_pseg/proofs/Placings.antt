@@ -1,10 +1,10 @@
 -- How a page is placed: a block is opened, and its next page is used.
-use Rattle.std.proofs.Common.{◌≡◌, ◌⊎◌, inl, inr, ⊎_elim, ℕ, ◌+◌, ◌-◌, ◌*◌, ◌/◌, ◌<◌, ◌≤◌, nat_le, true, false, cond, Option, Some, None, List, length, get_or, set, refl, sym, ◌∙◌, ap, subst, arith, is_some}
+use Rattle.std.proofs.Common.{◌≡◌, inl, inr, ⊎_elim, ℕ, ◌+◌, ◌-◌, ◌*◌, ◌/◌, ◌<◌, ◌≤◌, nat_le, cond, Option, Some, None, List, get_or, set, refl, sym, ◌∙◌, ap, subst, arith, is_some}
 use Rattle.std.proofs.lemmas.Bool.{cond-true, cond-false, le-leb}
-use Rattle.std.proofs.lemmas.List.{get_or-set_other, get_or-set_same, set-get_or}
+use Rattle.std.proofs.lemmas.List.{get_or-set_other, set-get_or}
 use Rattle.std.proofs.lemmas.Bool.{cases_eq, true≢false}
-use Rattle.nl_field.specs.CrashStates.{Earlier, LeavesOnly, Turns}
-use Rattle.nl_field.specs.Page.{Page, Image, erased, page_at, written}
+use Rattle.nl_field.specs.CrashStates.{Earlier, Turns}
+use Rattle.nl_field.specs.Page.{Image, written}
 use Rattle.nl_field.specs.declared.answers.Named.{Named}
 use Rattle.nl_field.specs.declared.answers.Named.TheVariants as the
 use Rattle.nl_field.specs.declared.pointer.Pointer.{Pointer}

@@ -1,14 +1,14 @@
 -- How segments go on.
-use Rattle.std.proofs.Common.{◌≡◌, ◌⊎◌, inl, inr, ⊎_elim, ℕ, ◌+◌, ◌-◌, ◌*◌, ◌/◌, ◌<◌, ◌≤◌, nat_le, Bool, true, false, Option, Some, None, List, length, get_or, set, refl, sym, ◌∙◌, ap, subst, arith, IsTrue, IfSome, is_some}
+use Rattle.std.proofs.Common.{◌≡◌, ◌⊎◌, inl, inr, ⊎_elim, ℕ, ◌+◌, ◌-◌, ◌*◌, ◌/◌, ◌<◌, ◌≤◌, nat_le, true, false, Option, Some, None, List, length, get_or, set, refl, sym, ◌∙◌, ap, subst, arith, IsTrue, IfSome, is_some}
 use Rattle.std.proofs.lemmas.Bool.{cases_eq, cases_Bool, cases_lt, leb-true, true≢false}
 use Rattle.std.proofs.lemmas.List.{get_or-set_same, get_or-set_other, get_or_past, get_or_read}
 use Rattle.std.proofs.lemmas.Option.{none-some, same_Some}
 use Rattle.nl_field.specs.Spelling.{is_stamp}
-use Rattle.nl_pseg.specs.Segment.{Physical, Use, IsDead, IsNext, InSegment, IsUnspent, SamePages, TakenAsErased, held_at, is_free, is_soiled, soiled, no_use, stamp_in, use_at}
+use Rattle.nl_pseg.specs.Segment.{Physical, Use, IsNext, InSegment, IsUnspent, SamePages, TakenAsErased, held_at, is_free, is_soiled, no_use, stamp_in, use_at}
 use Rattle.nl_pseg.specs.Seen.{ArePlaces, IsPlace}
 use Rattle.nl_pseg.specs.Steps.{IsApart, IsUsed, IsOpened, SameRange}
 use Rattle.nl_pseg.specs.declared.held.Held.{Held}
-use Rattle.nl_pseg.proofs.Numbers.{in_block, block_of, block_below, block_from}
+use Rattle.nl_pseg.proofs.Numbers.{block_of}
 use Rattle.nl_pseg.proofs.Tables.{use_from, use_before}
 
 -- a Free block is one of the segment

@@ -1,6 +1,6 @@
 -- When the calls answer what.
-use Rattle.std.specs.Prelude.{◌≡◌, ℕ, ⊤, Option, Some, None}
-use Rattle.nl_field.specs.Page.{PageBytes, written, Page}
+use Rattle.std.specs.Prelude.{◌≡◌, ℕ, ⊤, Option, Some}
+use Rattle.nl_field.specs.Page.{PageBytes, written}
 use Rattle.nl_field.specs.declared.answers.Named.{Named}
 use Rattle.nl_field.specs.declared.answers.Named.TheVariants as write
 use Rattle.nl_field.specs.declared.answers.NamedRead.{NamedRead}

@@ -1,7 +1,7 @@
 -- What the pages of files hold: their owner, their write sequence number and their bytes.
-use Rattle.std.specs.Prelude.{◌≡◌, ◌⊎◌, ℕ, ◌==◌, List, [], Option, Some, None}
+use Rattle.std.specs.Prelude.{◌≡◌, ◌⊎◌, ℕ, List, [], Option, Some, None}
 use Rattle.nl_field.specs.Page.{PageBytes, Page, erased, uncorrectable, written}
-use Rattle.nl_field.specs.SpareRecord.{spare_bytes, spare_rec_of, stamp_of}
+use Rattle.nl_field.specs.SpareRecord.{spare_bytes, spare_rec_of}
 use Rattle.nl_field.specs.declared.pointer.Tag.{Tag}
 use Rattle.nl_field.specs.declared.spare.SpareRec.{SpareRec}
 use Rattle.nl_field.specs.declared.spare.SpareRec.TheVariants.{Virtual, Physical}

@@ -3,7 +3,6 @@ use Rattle.std.specs.Prelude.{◌≡◌}
 use Rattle.nl_field.specs.Page.{Image}
 use Rattle.nl_nand.specs.declared.geometry.Geometry.{Geometry}
 use Rattle.nl_pseg.specs.Segment.{Physical, IsPhysicalOf}
-use Rattle.nl_pseg.specs.Seen.{Fits}
 
 pub record IsRig (geometry : Geometry) (image : Image) (seg : Physical) : Type 0 where
   pub numbers : geometry ≡ record { blocks = 32; pages = 32 }

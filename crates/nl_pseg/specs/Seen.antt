@@ -1,11 +1,13 @@
 -- The segment that a state is.
-use Rattle.std.specs.Prelude.{◌≡◌, ◌⊎◌, ℕ, ◌+◌, ◌-◌, ◌*◌, ◌/◌, ◌^◌, ◌<◌, ◌≤◌, Bool, true, false, List, [], length, map, replicate, Option, Some, None, IsTrue}
+use Rattle.std.specs.Prelude.{◌≡◌, ℕ, ◌+◌, ◌-◌, ◌*◌, ◌/◌, ◌^◌, ◌<◌, ◌≤◌, Bool, true, false, [], length, map, replicate, slice_index_or, Some, None, IsTrue, Option, List}
 use Rattle.nl_field.specs.Spelling.{is_stamp}
 use Rattle.nl_field.specs.declared.shape.Shape.{Shape}
 use Rattle.nl_nand.specs.declared.geometry.Geometry.{Geometry}
 use Rattle.nl_blocks.specs.declared.states.BlockState.{BlockState}
 use Rattle.nl_blocks.specs.declared.states.BlockState.TheVariants.{Free, Active, Target, Sealed, Victim, Retired}
-use Rattle.nl_blocks.specs.Table.{BlockRow, Table, HasBlock, block_at, is_free, free_count}
+use Rattle.nl_blocks.specs.declared.states.PageState.{PageState}
+use Rattle.nl_blocks.specs.declared.states.PageState.TheVariants.{Dead, Live}
+use Rattle.nl_blocks.specs.Table.{BlockRow, Table, HasBlock, block_at, is_free, free_count, HasPage, page_at}
 use Rattle.nl_pseg.specs.Segment.{Physical, Use, InSegment, IsNext, held_at, use_at}
 use Rattle.nl_pseg.specs.declared.held.Held.{Held}
 use Rattle.nl_pseg.specs.declared.state.State.{State}
@@ -70,6 +72,14 @@ pub record IsPlace (seg : Physical) (page : ℕ) (h : Held) : Type 0 where
 pub record ArePlaces (seg : Physical) : Type 0 where
   pub each : (page : ℕ) (h : Held) → held_at seg page ≡ Some h → IsPlace seg page h
 
+abbrev pub state_for : Option Held → PageState
+state_for None = Dead
+state_for (Some h) = Live
+
+-- each page is marked as it is: live, or dead
+pub record AreMarked (table : Table) (held : List (Option Held)) : Type 0 where
+  pub each : (page : ℕ) → HasPage table page → (page_at table page).state ≡ state_for (slice_index_or held page None)
+
 -- what holds of every state
 pub record IsFormed (s : State) : Type 0 where
   pub some : 0 < s.blocks.size
@@ -81,6 +91,7 @@ pub record IsFormed (s : State) : Type 0 where
   pub taken : s.used < s.blocks.size → (block_at s.blocks s.active).state ≡ Active
   pub only_free : (block : ℕ) → (use_in s.blocks block).is_kept ≡ (use_in s.blocks block).is_free
   pub places : ArePlaces (seen s)
+  pub marked : AreMarked s.blocks s.held.items
 
 -- the medium has the pages of the segment's blocks, and at least as many blocks
 pub record Fits (geometry : Geometry) (seg : Physical) : Type 0 where

@@ -1,5 +1,5 @@
 -- A physical segment: which pages are live, where names lead, and which pages can be programmed next.
-use Rattle.std.specs.Prelude.{◌≡◌, ◌⊎◌, ℕ, ◌+◌, ◌-◌, ◌*◌, ◌/◌, ◌<◌, ◌≤◌, ◌==◌, not, nat_le, if◌then◌else◌, Bool, true, false, cond, List, length, filter, slice_index_or, Contains, Option, Some, None, is_some, option_map}
+use Rattle.std.specs.Prelude.{◌≡◌, ◌⊎◌, ℕ, ◌+◌, ◌-◌, ◌*◌, ◌/◌, ◌<◌, ◌≤◌, ◌==◌, not, nat_le, if◌then◌else◌, Bool, true, false, cond, List, filter, slice_index_or, Contains, Option, Some, None, is_some, option_map}
 use Rattle.nl_field.specs.Live.{resolve}
 use Rattle.nl_field.specs.Page.{Image, erased, page_at}
 use Rattle.nl_field.specs.declared.pointer.Pointer.{Pointer}

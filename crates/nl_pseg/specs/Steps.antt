@@ -1,5 +1,5 @@
 -- What the steps of a call do to the table of blocks and to the segment.
-use Rattle.std.specs.Prelude.{◌≡◌, ◌⊎◌, ℕ, ◌+◌, ◌*◌, ◌/◌, ◌<◌, ◌≤◌, Bool, true, false, cond, List, length, slice_set, Option, Some, None}
+use Rattle.std.specs.Prelude.{◌≡◌, ◌⊎◌, ℕ, ◌+◌, ◌*◌, ◌/◌, ◌<◌, ◌≤◌, Bool, true, false, cond, List, length, slice_set, Option, None}
 use Rattle.nl_field.specs.CrashStates.{LeavesOnly}
 use Rattle.nl_field.specs.Page.{Image, Page, erased, written, page_at}
 use Rattle.nl_field.specs.declared.answers.Named.{Named}
@@ -7,7 +7,9 @@ use Rattle.nl_field.specs.declared.pointer.Pointer.{Pointer}
 use Rattle.nl_field.specs.declared.pointer.Tag.{Tag}
 use Rattle.nl_nand.specs.declared.answers.WriteAnswer.{WriteAnswer}
 use Rattle.nl_nand.specs.declared.answers.WriteAnswer.TheVariants as wrote
-use Rattle.nl_blocks.specs.Table.{Table, HasBlock, block_at, free_count}
+use Rattle.nl_blocks.specs.declared.states.PageState.{PageState}
+use Rattle.nl_blocks.specs.Table.{Table, HasBlock, block_at, free_count, HasPage}
+use Rattle.nl_blocks.specs.Table.{page_at as page_in}
 use Rattle.nl_pseg.specs.Answers.{IfPlaced, IsFault, IsPlaced}
 use Rattle.nl_pseg.specs.Effects.{Crashes, Keeps, Programmed}
 use Rattle.nl_pseg.specs.Pages.{page_with}
@@ -27,6 +29,15 @@ pub record SameUse (old new : Table) : Type 0 where
   pub uses : (block : ℕ) → use_in new block ≡ use_in old block
   pub total : free_count new ≡ free_count old
 
+-- each page is as live as it was
+pub record SameMarks (old new : Table) : Type 0 where
+  pub same : (page : ℕ) → HasPage old page → (page_in new page).state ≡ (page_in old page).state
+
+-- one page is live now, or not, and the others are as before
+pub record IsMarked (page : ℕ) (state : PageState) (old new : Table) : Type 0 where
+  pub here : (page_in new page).state ≡ state
+  pub others : (other : ℕ) → HasPage old other → (other ≡ page → ⊥) → (page_in new other).state ≡ (page_in old other).state
+
 -- one block is Free now, or in use, and has this wear; the others are as before
 pub record Restated (block : ℕ) (free : Bool) (wear : ℕ) (old new : Table) : Type 0 where
   pub numbers : SameNumbers old new
@@ -34,6 +45,7 @@ pub record Restated (block : ℕ) (free : Bool) (wear : ℕ) (old new : Table) :
   pub others : (other : ℕ) → (other ≡ block → ⊥) → use_in new other ≡ use_in old other
   pub states : (other : ℕ) → HasBlock old other → (other ≡ block → ⊥) → (block_at new other).state ≡ (block_at old other).state
   pub total : free_count new + cond (use_in old block).is_free 1 0 ≡ free_count old + cond free 1 0
+  pub marks : SameMarks old new
 
 -- the same blocks and pages
 pub record SameRange (old new : Physical) : Type 0 where

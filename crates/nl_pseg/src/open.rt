@@ -53,10 +53,10 @@ impl State {
         ensures here { (use_in self.new.blocks (page / self.old.blocks.size)).is_free ≡ false }
         ensures free { free_count self.new.blocks + cond ((use_in self.old.blocks (page / self.old.blocks.size)).is_free) 1 0 ≡ free_count self.old.blocks }
         ensures others { (block : ℕ) → (block ≡ page / self.old.blocks.size → ⊥) → ((use_in self.new.blocks block).is_free ≡ (use_in self.old.blocks block).is_free) × ((use_in self.new.blocks block).is_kept ≡ (use_in self.old.blocks block).is_kept) }
+        ensures left { (seen self.new).left ≤ (seen self.old).left }
         ensures soiled { self.new.soiled.items ≡ self.old.soiled.items }
         ensures wear { (use_in self.new.blocks (page / self.old.blocks.size)).wear ≡ unwrap_or (slice_index_or self.old.soiled.items (page / self.old.blocks.size) None) ((use_in self.old.blocks (page / self.old.blocks.size)).wear) }
         ensures wears { (block : ℕ) → (block ≡ page / self.old.blocks.size → ⊥) → (use_in self.new.blocks block).wear ≡ (use_in self.old.blocks block).wear }
-        ensures left { self.new.blocks.size - self.new.used ≤ self.old.blocks.size - self.old.used }
         ensures erased { (p : ℕ) → TakenAsErased (seen self.new) p → TakenAsErased (seen self.old) p × (p / self.old.blocks.size ≡ page / self.old.blocks.size → ⊥) }
         ensures still { (p : ℕ) → TakenAsErased (seen self.old) p → (p / self.old.blocks.size ≡ page / self.old.blocks.size → ⊥) → TakenAsErased (seen self.new) p }
     {
@@ -78,6 +78,7 @@ impl State {
         ensures pages { self.new.blocks.size ≡ self.old.blocks.size }
         ensures used { self.old.used ≤ self.new.used }
         ensures free { free_count self.new.blocks ≡ free_count self.old.blocks }
+        ensures left { (seen self.new).left ≤ (seen self.old).left }
         ensures same { (other : ℕ) → ((use_in self.new.blocks other).is_free ≡ (use_in self.old.blocks other).is_free) × ((use_in self.new.blocks other).is_kept ≡ (use_in self.old.blocks other).is_kept) }
         ensures soiled { slice_index_or self.new.soiled.items block None ≡ Some wear }
         ensures others { (other : ℕ) → (other ≡ block → ⊥) → slice_index_or self.new.soiled.items other None ≡ slice_index_or self.old.soiled.items other None }

@@ -49,6 +49,7 @@ impl PSeg {
         ensures live { IfOk result (λ s. s.held ≡ replicate (shape.now.blocks * shape.now.pages) None) }
         ensures pairs { IfOk result (λ s. s.pairs ≡ []) }
         ensures free { IfOk result (λ s. s.free ≡ shape.now.pblocks) }
+        ensures left { IfOk result (λ s. s.left ≡ 0) }
         ensures each { IfOk result (λ s. (block : ℕ) → s.first ≤ block → block < s.blocks → is_free s block ≡ true) }
         ensures erased { IfOk result (λ s. (page : ℕ) → InSegment s page → TakenAsErased s page) }
         ensures within { IfOk result (λ s. (page : ℕ) → TakenAsErased s page → InSegment s page) }
@@ -79,11 +80,11 @@ impl PSeg {
         ensures pages { self.new.size ≡ self.old.size }
         ensures here { is_free self.new (page / self.old.size) ≡ false }
         ensures free { self.new.free + cond (is_free self.old (page / self.old.size)) 1 0 ≡ self.old.free }
+        ensures left { self.new.left ≤ self.old.left }
         ensures others { (block : ℕ) → (block ≡ page / self.old.size → ⊥) → (is_free self.new block ≡ is_free self.old block) × (is_kept self.new block ≡ is_kept self.old block) }
         ensures soiled { (block : ℕ) → soiled self.new block ≡ soiled self.old block }
         ensures wear { wear_of self.new (page / self.old.size) ≡ unwrap_or (soiled self.old (page / self.old.size)) (wear_of self.old (page / self.old.size)) }
         ensures wears { (block : ℕ) → (block ≡ page / self.old.size → ⊥) → wear_of self.new block ≡ wear_of self.old block }
-        ensures left { self.new.left ≤ self.old.left }
         ensures erased { (p : ℕ) → TakenAsErased self.new p → TakenAsErased self.old p × (p / self.old.size ≡ page / self.old.size → ⊥) }
         ensures still { (p : ℕ) → TakenAsErased self.old p → (p / self.old.size ≡ page / self.old.size → ⊥) → TakenAsErased self.new p }
     {

@@ -2,9 +2,9 @@
 ghost use Rattle.std.specs.Prelude.{◌≡◌, ◌/◌, ◌≤◌, ◌+◌, ◌-◌, ◌^◌, ℕ, min, cond, true, false};
 ghost use Rattle.nl_blocks.specs.Table.{HasBlock, block_at, free_count};
 ghost use Rattle.nl_pseg.specs.Seen.{use_in};
-ghost use Rattle.nl_pseg.specs.Steps.{Restated, SameUse};
+ghost use Rattle.nl_pseg.specs.Steps.{IsMarked, Restated, SameMarks, SameUse};
 
-use nl_blocks::{BlockState, Blocks};
+use nl_blocks::{BlockState, Blocks, PageState};
 
 pub fn is_free(blocks: &Blocks, block: u32) -> bool
     requires { HasBlock blocks.now block }
@@ -32,7 +32,9 @@ pub fn mark(blocks: &mut Blocks, page: u32, live: bool)
     requires { HasBlock blocks.old (page / blocks.old.size) }
     ensures same { SameUse blocks.old blocks.new }
     ensures states { (block : ℕ) → (block_at blocks.new block).state ≡ (block_at blocks.old block).state }
+    ensures marked { IsMarked page (cond live PageState.Live PageState.Dead) blocks.old blocks.new }
 {
+    let _ = blocks.count();
     if live {
         blocks.mark_live(page);
     } else {
@@ -45,6 +47,7 @@ pub fn seal_full(blocks: &mut Blocks, block: u32, full: bool)
     requires has { HasBlock blocks.old block }
     requires active { (block_at blocks.old block).state ≡ BlockState.Active }
     ensures same { SameUse blocks.old blocks.new }
+    ensures marks { SameMarks blocks.old blocks.new }
     ensures more { full ≡ false → (block_at blocks.new block).state ≡ BlockState.Active }
 {
     if full {

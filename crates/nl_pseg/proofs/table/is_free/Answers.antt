@@ -1,7 +1,7 @@
-use Rattle.std.proofs.Common.{◌≡◌, true, false, refl, sym, ◌∙◌, ap}
+use Rattle.std.proofs.Common.{◌≡◌, false, refl, sym, ◌∙◌, ap}
 use Rattle.nl_blocks.specs.declared.states.BlockState.{BlockState}
 use Rattle.nl_blocks.specs.declared.states.BlockState.TheVariants as the
-use Rattle.nl_blocks.specs.Table.{HasBlock, block_at, is_free_state}
+use Rattle.nl_blocks.specs.Table.{HasBlock, is_free_state}
 use Rattle.nl_pseg.specs.Segment.{Use}
 use Rattle.nl_pseg.proofs.Tables.{use_here}
 use Rattle.nl_pseg.proofs.table.is_free.Goals as goal

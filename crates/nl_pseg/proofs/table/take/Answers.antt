@@ -1,6 +1,8 @@
-use Rattle.std.proofs.Common.{◌≡◌, ◌+◌, ◌-◌, ◌<◌, ◌≤◌, false, length, refl, sym, ◌∙◌, ap, subst}
+use Rattle.std.proofs.Common.{false, sym, ◌∙◌, ap, subst}
 use Rattle.nl_blocks.specs.declared.states.BlockState.TheVariants.{Active}
-use Rattle.nl_blocks.specs.Table.{block_at, taken}
+use Rattle.std.proofs.Math.ListN.{get_or-map}
+use Rattle.nl_blocks.specs.declared.states.Page.{Page}
+use Rattle.nl_blocks.specs.Table.{new_page, unmarked, block_at, taken}
 use Rattle.nl_pseg.specs.Segment.{Use}
 use Rattle.nl_pseg.specs.Seen.{use_in, use_with}
 use Rattle.nl_pseg.specs.Steps.{Restated}
@@ -18,4 +20,5 @@ returns-clause-taken c =
     let block = c.in-Some.block in
     let has = c.in-Some.ensures.chosen.has in
     subst (Restated block false (use_in t block).wear t) (sym c.in-Some.ensures.taken)
-    (restated t block (taken (block_at t block) Active) false (use_in t block).wear has (ap (λ (u : Use). use_with false u.wear) (sym (use_here t block has))))
+    (restated t block (taken (block_at t block) Active) false (use_in t block).wear has (ap (λ (u : Use). use_with false u.wear) (sym (use_here t block has)))
+    (λ k. ap (λ (p : Page). p.state) (get_or-map unmarked (block_at t block).pages k new_page)))

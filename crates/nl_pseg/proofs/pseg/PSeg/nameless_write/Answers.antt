@@ -1,4 +1,4 @@
-use Rattle.std.proofs.Common.{◌≡◌, ◌⊎◌, subst}
+use Rattle.std.proofs.Common.{◌⊎◌, subst}
 use Rattle.nl_pseg.specs.Answers.{IsFault}
 use Rattle.nl_pseg.specs.Effects.{Counted}
 use Rattle.nl_pseg.specs.Segment.{Physical, IsClean, IsReady, IsSpent, IsUnspent}

@@ -1,5 +1,4 @@
-use Rattle.std.proofs.Common.{◌≡◌, ℕ, ◌+◌, ◌-◌, ◌*◌, ◌/◌, ◌<◌, Some, None, length, set, refl, sym, ◌∙◌, ap, subst, arith, length-set}
-use Rattle.nl_pseg.specs.Seen.{seen}
+use Rattle.std.proofs.Common.{None, ◌∙◌, arith, length-set}
 use Rattle.nl_pseg.proofs.Numbers.{block_of}
 use Rattle.nl_pseg.proofs.state.State.begin.Goals as goal
 
@@ -16,6 +15,7 @@ returns-clause-formed c =
       used_fits = omega arith;
       taken = λ lt. c.requires.active;
       only_free = is.only_free;
+      marked = is.marked;
       places = record {
         each = λ p h named.
             let was = is.places.each p h named in

@@ -1,4 +1,4 @@
-use Rattle.std.proofs.Common.{◌≡◌, ⊎_elim, inr, ◌<◌, sym, ◌∙◌, arith}
+use Rattle.std.proofs.Common.{⊎_elim, inr, ◌<◌, sym, ◌∙◌, arith}
 use Rattle.nl_pseg.proofs.States.{next_block}
 use Rattle.nl_pseg.proofs.state.State.close.Goals as goal
 
@@ -14,6 +14,7 @@ returns-then-block-self-clause-formed c =
       used_fits = omega (arith, e);
       taken = λ lt. absurd (omega (arith, e, lt));
       only_free = c.requires.only_free;
+      marked = c.requires.marked;
       places = record {
         each = λ p h named.
             let was = c.requires.places.each p h named in

@@ -1,14 +1,15 @@
-use Rattle.std.proofs.Common.{◌≡◌, ℕ, ◌+◌, ◌*◌, ◌/◌, ◌<◌, true, false, Some, None, Option, List, length, set, get_or, refl, sym, ◌∙◌, ap, subst, arith, is_some, unwrap_or}
+use Rattle.std.proofs.Common.{◌≡◌, ◌+◌, ◌*◌, ◌/◌, ◌<◌, false, Some, None, length, set, get_or, refl, sym, ◌∙◌, ap, subst, arith, unwrap_or}
 use Rattle.std.proofs.lemmas.Bool.{true≢false}
-use Rattle.nl_blocks.specs.Table.{HasBlock, Table}
-use Rattle.nl_pseg.specs.Segment.{Use, InSegment, IsNext, is_free}
-use Rattle.nl_pseg.specs.Seen.{IsFormed, IsPlace, seen, use_in}
-use Rattle.nl_pseg.specs.Steps.{IsApart, Restated}
+use Rattle.nl_blocks.specs.Table.{Table}
+use Rattle.nl_pseg.specs.Segment.{Use, InSegment, is_free}
+use Rattle.nl_pseg.specs.Seen.{IsPlace, seen, use_in}
+use Rattle.nl_pseg.specs.Steps.{IsApart}
 use Rattle.nl_pseg.specs.declared.held.Held.{Held}
 use Rattle.nl_pseg.specs.declared.state.State.{State}
-use Rattle.nl_pseg.proofs.Forms.{formed_held, formed_restated, formed_same, next_is, left_is}
+use Rattle.nl_pseg.proofs.Forms.{formed_page, formed_restated, use_places, next_is, left_is}
+use Rattle.nl_pseg.proofs.Numbers.{block_of}
 use Rattle.nl_pseg.proofs.Segments.{apart_taken, held_places}
-use Rattle.nl_pseg.proofs.States.{next_block, within_length}
+use Rattle.nl_pseg.proofs.States.{next_block}
 use Rattle.nl_pseg.proofs.Tables.{numbers_then}
 use Rattle.nl_pseg.proofs.state.State.load.Goals as goal
 
@@ -20,7 +21,8 @@ returns-clause-formed c =
     let t = c.mark.new.blocks in
     let first = formed_restated s c.shut.new.blocks block c.wear-wear.result false is c.shut.ensures c.close.ensures.idle (λ yes. absurd (true≢false (sym yes))) in
     let mid : State = record s { blocks = c.shut.new.blocks } in
-    let second = formed_same mid t first c.mark.ensures.same (λ room. c.mark.ensures.states s.active ∙ first.taken room) in
+    let same = c.mark.ensures.same in
+    let active = λ (room : s.used < c.shut.new.blocks.size). c.mark.ensures.states s.active ∙ first.taken room in
     let x : State = record s { blocks = t } in
     let h : Held = record { tag = c.args.tag; stamp = c.args.stamp } in
     let n = numbers_then c.shut.ensures.numbers c.mark.ensures.same.numbers in
@@ -37,11 +39,14 @@ returns-clause-formed c =
       in_use = ap (λ b. (use_in t b).is_free) same_block ∙ free;
       behind = λ next.
           let room : s.used < t.size = omega (arith, next.0, next.1) in
-          c.close.ensures.idle (subst (λ k. s.used < k) n.same_size room) (sym same_block ∙ next_block x second room c.args.page next);
+          c.close.ensures.idle (subst (λ k. s.used < k) n.same_size room) (sym same_block ∙ block_of c.args.page t.size s.active (omega (arith, next.0)) (omega (arith, next.1, room)));
       spelled = c.requires.stamp;
     } in
-    formed_held x second c.args.page (Some h) (held_places c.args.page h (record { range_first = refl; range_blocks = refl; range_size = refl }) refl (within_length x second c.args.page within) place
-    (λ b was. was) (λ p next. next) second.places)
+    let pages = is.pages in
+    let bound : (s.blocks.first + length s.blocks.blocks) * s.blocks.size ≡ (c.args.self.now.blocks.first + length c.args.self.now.blocks.blocks) * c.args.self.now.blocks.size = ap (λ (k : Table). (k.first + length k.blocks) * k.size) c.close.ensures.table in
+    let below : c.args.page < length s.held.items = omega (arith, pages, bound, c.requires.dead.within.1) in
+    formed_page mid first t same c.args.page (Some h) c.mark.ensures.marked below active
+    (held_places c.args.page h (record { range_first = refl; range_blocks = refl; range_size = refl }) refl below place (λ b was. was) (λ p next. next) (use_places mid t first same))
 
 pub returns-clause-wear : goal.returns-clause-wear
 returns-clause-wear c =

@@ -1,4 +1,4 @@
-use Rattle.std.proofs.Common.{◌≡◌, ◌+◌, ◌*◌, ◌^◌, ◌<◌, refl, sym, ap, subst}
+use Rattle.std.proofs.Common.{◌*◌, ◌^◌, ◌<◌, refl, sym, subst}
 use Rattle.nl_pseg.specs.declared.state.State.{State}
 use Rattle.nl_pseg.proofs.News.{new_formed, new_seen}
 use Rattle.nl_pseg.proofs.Shapes.{IsRoomy, is_roomy}

@@ -1,4 +1,4 @@
-use Rattle.std.proofs.Common.{◌≡◌, ⊎_elim, ◌<◌, Some, None, List, Option, length, get_or, set, sym, ◌∙◌, ap, subst}
+use Rattle.std.proofs.Common.{⊎_elim, Some, set, subst}
 use Rattle.nl_field.specs.declared.pointer.Pointer.{Pointer}
 use Rattle.nl_pseg.specs.Effects.{Crashes}
 use Rattle.nl_pseg.specs.Seen.{seen}
@@ -32,3 +32,6 @@ returns-in-Fault-clause-refused g c x = ⊎_elim (λ e. absurd (cc e)) (λ e. ab
 pub returns-in-Fault-clause-crash : goal.returns-in-Fault-clause-crash
 returns-in-Fault-clause-crash g c t =
     subst (λ a. Crashes g.M.Nand.clock g.M.Nand.contents g.M.Nand.left (seen c.args.self.now) c.args.tag c.args.stamp c.args.from.now.main c.args.media.now c.place.new.media a) c.in-Fault.is (c.place.ensures.medium t).crash
+
+pub returns-in-Placed-clause-refused : goal.returns-in-Placed-clause-refused
+returns-in-Placed-clause-refused g c x = ⊎_elim (λ e. absurd (cc e)) (λ e. absurd (cc e)) x

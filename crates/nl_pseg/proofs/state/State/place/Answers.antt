@@ -1,5 +1,4 @@
-use Rattle.std.proofs.Common.{◌≡◌, inl, ◌<◌, ◌-◌, ⊎_elim, ◌+◌, ◌/◌, Some, sym, subst, arith}
-use Rattle.nl_nand.specs.declared.answers.WriteAnswer.TheVariants.{Done, Failed}
+use Rattle.std.proofs.Common.{inl, subst, arith}
 use Rattle.nl_pseg.specs.Seen.{seen}
 use Rattle.nl_pseg.specs.Steps.{Opening, OpeningOn}
 use Rattle.nl_pseg.proofs.Counts.{counted_failed, counted_then}

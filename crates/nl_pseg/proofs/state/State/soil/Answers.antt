@@ -1,11 +1,11 @@
-use Rattle.std.proofs.Common.{◌≡◌, ℕ, ◌+◌, ◌/◌, ◌<◌, true, false, Some, None, Option, List, length, set, refl, sym, ◌∙◌, ap, subst, arith, is_some}
+use Rattle.std.proofs.Common.{◌+◌, ◌/◌, ◌<◌, Some, None, length, set, sym, ◌∙◌, ap, subst, arith, is_some}
 use Rattle.std.proofs.lemmas.Bool.{true≢false}
 use Rattle.std.proofs.lemmas.List.{get_or-set_same, get_or-set_other}
 use Rattle.nl_blocks.specs.Table.{HasBlock, Table}
 use Rattle.nl_pseg.specs.Segment.{Use, is_free}
 use Rattle.nl_pseg.specs.Seen.{seen}
 use Rattle.nl_pseg.specs.Steps.{IsApart}
-use Rattle.nl_pseg.proofs.Forms.{formed_marks, formed_restated, range_is, next_is, left_is}
+use Rattle.nl_pseg.proofs.Forms.{formed_marks, formed_restated, next_is, left_is}
 use Rattle.nl_pseg.proofs.Segments.{apart_taken}
 use Rattle.nl_pseg.proofs.States.{next_block}
 use Rattle.nl_pseg.proofs.state.State.soil.Goals as goal

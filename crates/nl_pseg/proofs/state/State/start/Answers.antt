@@ -1,17 +1,14 @@
-use Rattle.std.proofs.Common.{◌≡◌, ◌⊎◌, inl, inr, ⊎_elim, ℕ, ◌+◌, ◌-◌, ◌*◌, ◌/◌, ◌<◌, ◌≤◌, true, false, Some, None, length, refl, sym, ◌∙◌, ap, subst, arith}
+use Rattle.std.proofs.Common.{◌≡◌, inl, inr, ⊎_elim, ℕ, ◌+◌, ◌*◌, ◌/◌, ◌<◌, ◌≤◌, true, false, refl, sym, ◌∙◌, ap, subst, arith}
 use Rattle.std.proofs.lemmas.Bool.{cases_eq, true≢false}
-use Rattle.nl_field.specs.CrashStates.{LeavesOnly}
-use Rattle.nl_field.specs.Page.{Image, erased, page_at}
-use Rattle.nl_blocks.specs.Table.{HasBlock}
+use Rattle.nl_field.specs.Page.{Image, erased}
 use Rattle.nl_nand.specs.ImageLaws.{filled_cut}
 use Rattle.nl_nand.specs.Nand.{Cut}
 use Rattle.nl_nand.proofs.Crashes.{operation}
 use Rattle.nl_nand.proofs.Crashes as crashes
 use Rattle.nl_pseg.specs.Effects.{Keeps}
-use Rattle.nl_pseg.specs.Segment.{Physical, Use, IsPhysicalOf, is_free, is_soiled}
-use Rattle.nl_pseg.specs.Seen.{IsFormed, seen, use_in}
-use Rattle.nl_pseg.specs.Steps.{IsOpened, Restated, SameUse}
-use Rattle.nl_pseg.specs.declared.state.State.{State}
+use Rattle.nl_pseg.specs.Segment.{Use, is_free, is_soiled}
+use Rattle.nl_pseg.specs.Seen.{seen, use_in}
+use Rattle.nl_pseg.specs.Steps.{IsOpened, Restated}
 use Rattle.nl_pseg.proofs.Forms.{formed_restated, formed_same, same_pages, same_unspent}
 use Rattle.nl_pseg.proofs.Images.{erase_keeps, erase_others, failed_segment, keeps_nothing, opened_segment}
 use Rattle.nl_pseg.proofs.Numbers.{in_block}
@@ -122,7 +119,7 @@ returns-in-Failed-clause-formed g c =
     let worn : c.wear-wear.result ≡ (use_in s.blocks block).wear = c.wear-wear.ensures ∙ (sym (ap (λ (u : Use). u.wear) (use_here mid block has)) ∙ ap (λ (u : Use). u.wear) r.here) in
     let back : Restated block true (use_in s.blocks block).wear mid c.give_back.new.blocks = subst (λ n. Restated block true n mid c.give_back.new.blocks) worn c.give_back.ensures in
     let same = restated_same (free_use s block is c.take-block.ensures.was_free) (restated_again r back) in
-    formed_same s c.give_back.new.blocks is same (λ room. let f = c.if-self-pages.false in let e = c.pages.ensures in absurd (omega (arith, room, f, e)))
+    formed_same s c.give_back.new.blocks is same (restated_again r back).marks (λ room. let f = c.if-self-pages.false in let e = c.pages.ensures in absurd (omega (arith, room, f, e)))
 
 pub returns-in-Failed-clause-opening : goal.returns-in-Failed-clause-opening
 returns-in-Failed-clause-opening g c =

@@ -1,12 +1,19 @@
-use Rattle.std.proofs.Common.{◌≡◌, ℕ, ◌+◌, ◌-◌, ◌*◌, ◌<◌, ◌^◌, length, set, refl, sym, ◌∙◌, ap, subst, arith, length-set, ne_eqb}
+use Rattle.std.proofs.Common.{◌≡◌, ◌+◌, ◌*◌, ◌<◌, ◌^◌, length, set, refl, sym, ◌∙◌, ap, subst, arith, length-set, ne_eqb, cond, is_some, Option, Some, None}
 use Rattle.std.specs.Vec.{with_item}
 use Rattle.nl_pseg.specs.Segment.{Use}
-use Rattle.nl_pseg.specs.Seen.{seen}
-use Rattle.nl_pseg.specs.Steps.{IsUsed}
+use Rattle.nl_pseg.specs.Seen.{seen, state_for}
+use Rattle.nl_pseg.specs.Steps.{IsMarked, IsUsed}
+use Rattle.nl_blocks.specs.declared.states.PageState.TheVariants.{Dead, Live}
+use Rattle.nl_pseg.specs.declared.held.Held.{Held}
+use Rattle.nl_pseg.proofs.Forms.{marked_are}
 use Rattle.nl_pseg.proofs.Segments.{used_places}
 use Rattle.nl_pseg.proofs.States.{within_length, next_segment, is_next, next_in_use}
-use Rattle.nl_pseg.proofs.Tables.{has_same, same_then}
+use Rattle.nl_pseg.proofs.Tables.{has_same, page_back, same_then}
 use Rattle.nl_pseg.proofs.state.State.use_next.Goals as goal
+
+state_is : (x : Option Held) → cond (is_some x) Live Dead ≡ state_for x
+state_is None = refl
+state_is (Some h) = refl
 
 pub returns-clause-formed : goal.returns-clause-formed
 returns-clause-formed c =
@@ -33,7 +40,12 @@ returns-clause-formed c =
     } in
     let next = is_next s is c.requires.room in
     let segment = next_segment s is c.requires.room (s.active * s.blocks.size + s.used) next in
+    let page = s.active * c.pages-pages.result + s.used in
+    let within : page < length s.held.items = subst (λ k. k < length s.held.items) (sym at) (within_length s is (s.active * s.blocks.size + s.used) segment) in
+    let made = marked_are s is c.mark.new.blocks c.mark.ensures.same page c.args.held
+    (subst (λ y. IsMarked page y s.blocks c.mark.new.blocks) (ap (λ b. cond b Live Dead) c.is_some.ensures ∙ state_is c.args.held) c.mark.ensures.marked) within in
     record {
+      marked = record { each = λ p has. let back = page_back p c.seal_full.ensures.same.numbers has in c.seal_full.ensures.marks.same p back ∙ made.each p back };
       some = subst (λ k. 0 < k) (sym n.same_size) is.some;
       numbers = subst (λ k. k < 2 ^ 32) (sym bound) is.numbers;
       pages = length-set s.held.items (s.active * c.pages-pages.result + s.used) c.args.held ∙ (is.pages ∙ sym bound);

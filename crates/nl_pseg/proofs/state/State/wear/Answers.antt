@@ -1,4 +1,4 @@
-use Rattle.std.proofs.Common.{◌≡◌, ℕ, None, Option, sym, ◌∙◌, ap, unwrap_or}
+use Rattle.std.proofs.Common.{ℕ, None, Option, sym, ◌∙◌, ap, unwrap_or}
 use Rattle.nl_pseg.specs.Segment.{Use}
 use Rattle.nl_pseg.specs.Seen.{use_in}
 use Rattle.nl_pseg.proofs.Segments.{was_read}
