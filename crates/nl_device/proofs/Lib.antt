@@ -2,6 +2,8 @@ pub mod Alone
 pub mod Calls
 pub mod Counted
 pub mod Forms
+pub mod Found
+pub mod FoundStored
 pub mod Gathered
 pub mod Keys
 pub mod Living

@@ -1,6 +1,6 @@
 -- The device once the listed pointers are live.
 use Rattle.std.proofs.Common.{◌≡◌, ℕ, ◌+◌, ◌*◌, ◌<◌, ◌≤◌, List, [], Option, Some, None, length, refl, sym, ◌∙◌, ap, subst, arith}
-use Rattle.std.specs.Prelude.{◌==◌, All, find, option_map, slice_get}
+use Rattle.std.specs.Prelude.{All, ◌==◌, find, option_map}
 use Rattle.std.proofs.lemmas.Option.{none-some, same_Some}
 use Rattle.nl_field.specs.Page.{Image, page_at}
 use Rattle.nl_field.specs.declared.pointer.Pointer.{Pointer}
@@ -8,21 +8,24 @@ use Rattle.nl_field.specs.declared.pointer.Tag.{Tag}
 use Rattle.nl_field.specs.declared.shape.Shape.{Shape}
 use Rattle.nl_nand.specs.Nand.{ImageOf}
 use Rattle.nl_nand.specs.declared.geometry.Geometry.{Geometry}
-use Rattle.nl_iface.specs.Names.{HoldsLive, LivePage, Names}
-use Rattle.nl_iface.specs.Space.{Space}
+use Rattle.nl_iface.specs.Names.{HoldsLive, LivePage}
 use Rattle.nl_iface.specs.Stored.{NamedPage, stored_in}
 use Rattle.nl_pseg.specs.Pages.{main_of, shown_by}
 use Rattle.nl_pseg.specs.Segment.{InSegment, IsPhysicalOf, Physical, TakenAsErased, held_at}
 use Rattle.nl_pseg.specs.declared.held.Held.{Held}
+use Rattle.nl_field.specs.Medium.{first_physical}
+use Rattle.nl_scan.specs.Tables.{greatest_stamp}
+use Rattle.nl_scan.specs.declared.seen.Seen.{Seen}
 use Rattle.nl_vseg.specs.Segment.{Segment}
 use Rattle.nl_device.specs.Device.{HasFound, HasFree, HasLive, HasSegments, IsDevice}
-use Rattle.nl_device.specs.Kept.{KeptPages}
+use Rattle.nl_device.specs.Kept.{KeptPages, kept_pages}
 use Rattle.nl_device.specs.Laws.{held_of}
-use Rattle.nl_device.specs.Retain.{AreRetained, IsFoundIn, IsFresh, IsSegmentFor, LiveAre, place_for}
-use Rattle.nl_device.specs.Shown.{bytes_at, found_in, found_on, live_page, names_of}
+use Rattle.nl_device.specs.Retain.{AreRetained, IsFoundIn, IsFresh, IsSegmentFor, LiveAre}
+use Rattle.nl_device.specs.Shown.{bytes_at, found_in, live_page, names_of}
 use Rattle.nl_device.specs.Space.{live_in, space_of}
 use Rattle.nl_device.specs.declared.kept.page.KeptPage.{KeptPage}
 use Rattle.nl_device.proofs.Alone.{found_passes}
+use Rattle.nl_device.proofs.Found.{kept_below}
 use Rattle.nl_device.proofs.Forms.{begins, named_from, shape_is}
 use Rattle.nl_device.proofs.Made.{bytes_from, made_medium}
 use Rattle.nl_device.proofs.PhysicalPages.{named_of}
@@ -137,4 +140,13 @@ pub live_are : (kept : KeptPages) (pointers : List Pointer) (seg : Physical) →
 live_are kept pointers seg are = record {
   listed = λ at page p here place. ap live_page (are.listed at page p here place);
   only = λ page l live. let h = held_of (held_at seg page) l live in are.only page h.0 h.1;
+}
+
+-- what is kept of a scan at the start of a device
+pub has_found : (shape : Shape) (kept : KeptPages) (seen : List Seen) → kept ≡ record { first = shape.vblocks; count = shape.pblocks; size = shape.pages; pages = kept_pages (first_physical shape) seen } → HasFound shape kept (1 + greatest_stamp seen)
+has_found shape kept seen is = record {
+  first = ap (λ (k : KeptPages). k.first) is;
+  count = ap (λ (k : KeptPages). k.count) is;
+  size = ap (λ (k : KeptPages). k.size) is;
+  below = subst (λ (k : KeptPages). All (λ x. x.stamp < 1 + greatest_stamp seen) k.pages) (sym is) (kept_below (first_physical shape) seen);
 }

@@ -1,7 +1,6 @@
 -- Which pointers are live after an opening, and where.
-use Rattle.std.specs.Prelude.{◌≡◌, ◌≢◌, ℕ, ◌+◌, ◌*◌, ◌/◌, ◌<◌, ◌≤◌, ◌==◌, not, Bool, true, false, cond, List, [], find, length, map, take, filter, slice_get, slice_set, All, Option, Some, None, IsSome, option_map, IsTrue}
+use Rattle.std.specs.Prelude.{◌≡◌, ◌≢◌, ℕ, ◌+◌, ◌*◌, ◌/◌, ◌<◌, ◌≤◌, ◌==◌, not, Bool, true, false, cond, List, [], find, length, map, take, filter, slice_get, slice_set, All, Option, Some, None, IsSome, option_map}
 use Rattle.std.specs.List.{AllPairs, count_by, list_any, range_with_len}
-use Rattle.nl_field.specs.Spelling.{is_stamp}
 use Rattle.nl_field.specs.declared.pointer.Pointer.{Pointer}
 use Rattle.nl_pseg.specs.Segment.{InSegment, IsNewStamp, Physical, TakenAsErased, held_at, is_free, soiled}
 use Rattle.nl_pseg.specs.declared.held.Held.{Held}
@@ -10,7 +9,6 @@ use Rattle.nl_device.specs.Shown.{live_page}
 use Rattle.nl_device.specs.declared.device.Device.{Device}
 use Rattle.nl_device.specs.Kept.{KeptPages, is_at_name, place_among, spare_among}
 use Rattle.nl_device.specs.Space.{live_in}
-use Rattle.nl_device.specs.declared.kept.page.KeptPage.{KeptPage}
 
 -- the spare block of the segment for the stamps of these pointers
 abbrev pub spare_for : KeptPages → List Pointer → Option ℕ

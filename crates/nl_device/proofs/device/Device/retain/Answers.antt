@@ -1,6 +1,6 @@
-use Rattle.std.proofs.Common.{◌≡◌, ◌∙◌, ap, refl, subst, sym}
+use Rattle.std.proofs.Common.{◌∙◌, subst, sym}
 use Rattle.nl_device.specs.Device.{IsDevice}
-use Rattle.nl_device.proofs.Retained.{is_fresh, live_is, retained_device, segment_for}
+use Rattle.nl_device.proofs.Retained.{is_fresh, live_is, retained_device}
 use Rattle.nl_device.proofs.device.Device.retain.Goals as goal
 
 pub retain-requires-clause-fresh : goal.retain-requires-clause-fresh

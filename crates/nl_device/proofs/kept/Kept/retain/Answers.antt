@@ -1,4 +1,4 @@
-use Rattle.std.proofs.Common.{◌≡◌, arith, ap, subst, sym, ◌∙◌}
+use Rattle.std.proofs.Common.{arith, subst, sym}
 use Rattle.nl_device.specs.Kept.{IsKept}
 use Rattle.nl_device.specs.Retain.{CanLoad, Loads}
 use Rattle.nl_device.proofs.Retaining.{are_retained, can_load, found_in, live_differ, one_free, retains_more, retains_none}
