@@ -6,6 +6,8 @@ mod device;
 mod named_pages;
 mod opening;
 mod stamps;
+mod start;
 mod virtual_pages;
 
 pub use device::Device;
+pub use start::Started;
