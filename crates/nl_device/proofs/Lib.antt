@@ -8,5 +8,7 @@ pub mod Picks
 pub mod Ranges
 pub mod Showing
 pub mod Spreads
+pub mod Started
+pub mod Starting
 pub mod VirtualPages
 pub mod Writes
