@@ -29,5 +29,7 @@ pub mod Retaining
 pub mod Showing
 pub mod Spacing
 pub mod Spreads
+pub mod Started
+pub mod Starting
 pub mod VirtualPages
 pub mod Writes
