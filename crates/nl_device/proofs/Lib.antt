@@ -24,12 +24,12 @@ pub mod Picks
 pub mod Places
 pub mod Placing
 pub mod Ranges
+pub mod Ready
 pub mod Retained
 pub mod Retaining
 pub mod Showing
 pub mod Spacing
 pub mod Spreads
-pub mod Started
 pub mod Starting
 pub mod VirtualPages
 pub mod Writes

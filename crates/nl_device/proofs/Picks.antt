@@ -37,10 +37,10 @@ module _ (size : ℕ) (spare : Option ℕ) (v : ℕ) where
   step_left o fails = elim (cases_Bool (o.vaddr == v)) [
     | inr other ↦ cond-false (o.vaddr == v) (with_pick size spare None o) None other
     | inl here ↦ elim (cases_Bool (is_outside size spare o.page)) [
-        | inl outside ↦ cond-true (o.vaddr == v) (with_pick size spare None o) None here ∙ (cond-true (is_outside size spare o.page) (Some o) None outside
+      | inl outside ↦ cond-true (o.vaddr == v) (with_pick size spare None o) None here ∙ (cond-true (is_outside size spare o.page) (Some o) None outside
           ∙ absurd (differ (sym fails ∙ and_from (o.vaddr == v) (is_outside size spare o.page) here outside)))
-        | inr inside ↦ cond-true (o.vaddr == v) (with_pick size spare None o) None here ∙ cond-false (is_outside size spare o.page) (Some o) None inside
-      ]
+      | inr inside ↦ cond-true (o.vaddr == v) (with_pick size spare None o) None here ∙ cond-false (is_outside size spare o.page) (Some o) None inside
+    ]
   ]
     where
       differ : false ≡ true → ⊥

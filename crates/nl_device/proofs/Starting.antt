@@ -22,6 +22,9 @@ use Rattle.nl_vseg.specs.Segment.{Segment}
 use Rattle.nl_vseg.specs.declared.place.Place.{Place}
 use Rattle.nl_device.specs.Device.{HasFree, HasLive, HasMapped, HasSegments, IsDevice, IsNextStamp, IsOnMedium}
 use Rattle.nl_device.specs.Opening.{FitsShape, IsOpenedPhysical, IsOpenedVirtual, needed_of, owns_of, pick_of, place_on}
+use Rattle.nl_field.specs.Medium.{first_physical}
+use Rattle.nl_device.specs.Kept.{KeptPages, kept_pages}
+use Rattle.nl_device.proofs.Retained.{has_found}
 use Rattle.nl_device.specs.Space.{space_of}
 use Rattle.nl_device.specs.Spread.{spare_of}
 use Rattle.nl_device.specs.declared.opening.own.Own.{Own}
@@ -150,10 +153,11 @@ module _ (shape : Shape) (t : Table) (pseg : Physical) (p : IsOpenedPhysical sha
       }
 
 -- the device of a scan, beside what its medium holds
-pub opened_device : (geometry : Geometry) (shape : Shape) (t : Table) (vseg : Segment) (pseg : Physical) (tells : Type 0) (image : Image) → IsTrue (is_legal geometry.blocks geometry.pages) → shape ≡ shape_for geometry.blocks geometry.pages → FitsShape shape t
+pub opened_device : (geometry : Geometry) (shape : Shape) (t : Table) (vseg : Segment) (pseg : Physical) (kept : KeptPages) (tells : Type 0) (image : Image) → IsTrue (is_legal geometry.blocks geometry.pages) → shape ≡ shape_for geometry.blocks geometry.pages → FitsShape shape t
     → IsOpenedVirtual shape t vseg → IsOpenedPhysical shape t pseg → (HasSegments geometry shape vseg pseg → HasLive pseg → tells → IsOnMedium shape (1 + greatest_stamp t.seen) image vseg pseg)
-    → IsDevice geometry tells image shape vseg pseg (1 + greatest_stamp t.seen)
-opened_device geometry shape t vseg pseg tells image legal e fits o p medium =
+    → kept ≡ record { first = shape.vblocks; count = shape.pblocks; size = shape.pages; pages = kept_pages (first_physical shape) t.seen }
+    → IsDevice geometry tells image shape vseg pseg kept (1 + greatest_stamp t.seen)
+opened_device geometry shape t vseg pseg kept tells image legal e fits o p medium found =
     let x = for_shape shape geometry.blocks geometry.pages e in
     let roomy : IsRoomy shape = subst IsRoomy (sym e) (is_roomy geometry.blocks geometry.pages legal) in
     let segments : HasSegments geometry shape vseg pseg = record {
@@ -163,6 +167,7 @@ opened_device geometry shape t vseg pseg tells image legal e fits o p medium =
       pages = sym x.1;
       some = roomy.some;
       split = roomy.all;
+      rest = let a = roomy.all in omega (arith, a);
       virtual_pages = o.same_pages;
       virtual_bound = o.same_bound;
       addresses = o.addresses;
@@ -179,6 +184,7 @@ opened_device geometry shape t vseg pseg tells image legal e fits o p medium =
       free = free_some shape t pseg p roomy;
       no_pairs = p.no_pairs;
       stamp = next_is shape t vseg o pseg p;
+      found = has_found shape kept t.seen found;
       space = is_space shape t pseg p roomy;
       medium = λ tell. medium segments live tell;
     }

@@ -1,4 +1,4 @@
-ghost use Rattle.std.specs.Prelude.{◌≡◌, ◌+◌, ◌<◌, ◌≤◌, ℕ, [], None, Some, option_map, IsTrue};
+ghost use Rattle.std.specs.Prelude.{◌≡◌, ◌+◌, ◌<◌, ◌≤◌, ℕ, [], None, Some, option_map, IfOk, IsTrue};
 ghost use Rattle.nl_field.specs.CrashStates.{Rose};
 ghost use Rattle.nl_field.specs.Numbers.{is_legal, shape_for};
 ghost use Rattle.nl_field.specs.Space.{virtual_spare};
@@ -6,18 +6,25 @@ ghost use Rattle.nl_field.specs.Virtual.{newest};
 ghost use Rattle.nl_iface.specs.Stored.{stored_in, value_on};
 ghost use Rattle.nl_nand.specs.Nand.{SameLeft};
 ghost use Rattle.nl_scan.specs.Tables.{FitsMedium, IsTableOf, greatest_stamp};
-ghost use Rattle.nl_device.specs.Opening.{SaysErased};
+ghost use Rattle.nl_field.specs.Medium.{first_physical};
+ghost use Rattle.nl_iface.specs.Names.{HoldsLive};
+ghost use Rattle.nl_device.specs.Kept.{kept_pages};
+ghost use Rattle.nl_device.specs.Medium.{medium_of};
+ghost use Rattle.nl_device.specs.Opening.{FitsShape, IsOpenedPhysical, IsOpenedVirtual, SaysErased};
+ghost use Rattle.nl_device.specs.Retain.{CanRetain, kept_of};
 ghost use Rattle.nl_device.specs.Shown.{StoredOn};
 ghost use Rattle.nl_device.specs.Started.{IfFault, IfMemory, IfReady, KeptMedium};
 
 use crate::device::Device;
+use crate::kept::Kept;
 use crate::opening::segments::{Opened, open};
 use nl_field::{Memory, Shape, shape_of};
 use nl_iface::{Counts, NamedPages, VirtualPages};
 use nl_nand::{Geometry, Nand};
+use nl_pseg::PSeg;
 use nl_scan::{ScanTables, Scanned, scan};
+use nl_vseg::VSeg;
 use std::alloc::Global;
-use std::process::Abort;
 
 /// What a start answers: the device with the tables of its scan, or the medium where a read failed or memory was refused.
 #[derive(Drop)]
@@ -37,7 +44,28 @@ fn legal_shape(geometry: Geometry) -> Shape
     }
 }
 
-impl<M: Nand + Drop + Abort> Device<M> {
+/// What a device has beside its medium after a scan.
+#[derive(Drop)]
+struct Parts {
+    vseg: VSeg,
+    pseg: PSeg,
+    kept: Kept,
+}
+
+fn after_scan(alloc: Global, shape: &Shape, tables: &ScanTables) -> Result<Parts, Memory>
+    requires legal { IsTrue (is_legal shape.now.blocks shape.now.pages) }
+    requires numbers { shape.now ≡ shape_for shape.now.blocks shape.now.pages }
+    requires fits { FitsShape shape.now tables.now }
+    ensures virtuals { IfOk result (λ p. IsOpenedVirtual shape.now tables.now p.vseg) }
+    ensures physicals { IfOk result (λ p. IsOpenedPhysical shape.now tables.now p.pseg) }
+    ensures kept { IfOk result (λ p. p.kept ≡ record { first = shape.now.vblocks; count = shape.now.pblocks; size = shape.now.pages; pages = kept_pages (first_physical shape.now) tables.now.seen }) }
+{
+    let Opened { vseg, pseg } = open(alloc, shape, tables)?;
+    let kept = Kept::of(alloc, tables, shape)?;
+    Ok(Parts { vseg, pseg, kept })
+}
+
+impl<M: Nand> Device<M> {
     /// Reads each page of a formed medium once, and loads for each virtual address the least of its readable pages with the
     /// greatest write sequence number, outside the spare block of the virtual segment where there is one. No page of the
     /// physical segment is live.
@@ -57,14 +85,18 @@ impl<M: Nand + Drop + Abort> Device<M> {
         ensures fits { IfReady result (λ d t. FitsMedium (M.geometry media) t) }
         ensures counts { IfReady result (λ d t. (⟦<Device<M> as Counts>⟧.clock d ≡ M.clock media) × (⟦<Device<M> as Counts>⟧.read_faults d ≡ M.read_faults media) × (⟦<Device<M> as Counts>⟧.write_faults d ≡ M.write_faults media)) }
         ensures stored { IfReady result (λ d t. ⟦<Device<M> as VirtualPages>⟧.stored d ≡ stored_in (M.contents media)) }
+        ensures kept { IfReady result (λ d t. KeptMedium M.geometry M.contents M.clock M.write_faults M.left media (medium_of d)) }
+        ensures scanned { IfReady result (λ d t. (kept_of d).pages ≡ kept_pages (first_physical (⟦<Device<M> as VirtualPages>⟧.shape d)) t.seen) }
+        ensures found { M.tells → IfReady result (λ d t. HoldsLive (⟦<Device<M> as VirtualPages>⟧.found d) (⟦<Device<M> as VirtualPages>⟧.bytes d) (⟦<Device<M> as VirtualPages>⟧.stored d)) }
+        ensures nothing { IfReady result (λ d t. CanRetain (kept_of d) []) }
         ensures fault { IfFault result (λ m. Rose (M.read_faults media) (M.read_faults m) × KeptMedium M.geometry M.contents M.clock M.write_faults M.left media m) }
         ensures memory { IfMemory result (λ m. (M.read_faults m ≡ M.read_faults media) × KeptMedium M.geometry M.contents M.clock M.write_faults M.left media m) }
     {
         let mut media = media;
         let shape = legal_shape(media.geometry());
         match scan(alloc, &mut media) {
-            Scanned::Tables(tables) => match open(alloc, &shape, &tables) {
-                Ok(Opened { vseg, pseg }) => {
+            Scanned::Tables(tables) => match after_scan(alloc, &shape, &tables) {
+                Ok(Parts { vseg, pseg, kept }) => {
                     let next = tables.next_stamp();
                     Started::Ready(
                         Device {
@@ -73,6 +105,7 @@ impl<M: Nand + Drop + Abort> Device<M> {
                             vseg,
                             pseg,
                             next,
+                            kept,
                         },
                         tables,
                     )

@@ -26,7 +26,7 @@ load-requires-clause-picks c v =
     let bound = c.soil_virtual.ensures.numbers.same_bound ∙ c.in_ok-vseg.ensures.bound in
     elim (cases_lt v shape.vaddrs) [
       | inl below ↦ loads shape c.args.tables.now c.requires.fits shape.pages c.in_ok-spare.spare c.in_ok-needed.needed.items v c.soil_virtual.new.vseg.bound needed bound
-        (get_or c.in_ok-picks.picks.items v None) (sym (c.in_ok-picks.ensures.each v below))
+          (get_or c.in_ok-picks.picks.items v None) (sym (c.in_ok-picks.ensures.each v below))
       | inr past ↦
           let count = c.in_ok-picks.ensures.count_is in
           let end : length c.in_ok-picks.picks.items ≤ v = omega (arith, count, past) in
