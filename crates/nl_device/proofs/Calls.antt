@@ -15,7 +15,8 @@ use Rattle.nl_pseg.specs.Segment.{InSegment, IsLive, IsPhysicalOf, Physical, Sam
 use Rattle.nl_pseg.specs.declared.held.Held.{Held}
 use Rattle.nl_vseg.specs.Pages.{Shows}
 use Rattle.nl_vseg.specs.Segment.{Segment}
-use Rattle.nl_device.specs.Device.{HasFree, HasLive, HasSegments, IsDevice, IsOnMedium}
+use Rattle.nl_device.specs.Kept.{KeptPages}
+use Rattle.nl_device.specs.Device.{HasFound, HasFree, HasLive, HasSegments, IsDevice, IsOnMedium}
 use Rattle.nl_device.proofs.Forms.{begins}
 use Rattle.nl_device.proofs.Made.{made_medium}
 use Rattle.nl_device.proofs.Naming.{map_same, shows_same, shows_still, virtual_kept}
@@ -39,9 +40,13 @@ named_segments {geometry} {now} {shape} {vseg} {old} {new} has is same held = su
   physical_held = held ∙ has.physical_held;
 })
 
-pub device_with : {geometry now : Geometry} {tells : Type 0} {image c : Image} {shape : Shape} {vseg : Segment} {old new : Physical} {next after : ℕ} → IsDevice geometry tells image shape vseg old next
+-- what the scan found stays below a next stamp that rises
+pub found_still : {shape : Shape} {kept : KeptPages} {next after : ℕ} → HasFound shape kept next → next ≤ after → HasFound shape kept after
+found_still f rises = record { first = f.first; count = f.count; size = f.size; below = λ i d within. let lt = f.below i d within in omega (arith, lt, rises) }
+
+pub device_with : {geometry now : Geometry} {tells : Type 0} {image c : Image} {shape : Shape} {vseg : Segment} {old new : Physical} {kept : KeptPages} {next after : ℕ} → IsDevice geometry tells image shape vseg old kept next
     → now ≡ geometry → SamePages old new → length new.held ≡ length old.held → HasLive new → HasFree new → new.pairs ≡ old.pairs → next ≤ after → ((p : ℕ) (h : Held) → held_at new p ≡ Some h → h.stamp < after)
-    → (tells → IsOnMedium shape after c vseg new) → IsDevice now tells c shape vseg new after
+    → (tells → IsOnMedium shape after c vseg new) → IsDevice now tells c shape vseg new kept after
 device_with f is same held live free pairs rises stamps medium = record {
   segments = named_segments f.segments is same held;
   mapped = f.mapped;
@@ -53,15 +58,16 @@ device_with f is same held live free pairs rises stamps medium = record {
     addresses = λ v t has. let lt = f.stamp.addresses v t has in omega (arith, lt, rises);
     live = stamps;
   };
+  found = found_still f.found rises;
   space = space_is _ free (pairs ∙ f.no_pairs);
   medium = medium;
 }
 
 -- the medium, where the pages of the virtual segment are as before
-pub medium_with : {geometry now : Geometry} {image c : Image} {shape : Shape} {vseg : Segment} {old new : Physical} {next after : ℕ} {tells : Type 0} → IsDevice geometry tells image shape vseg old next → tells
+pub medium_with : {geometry now : Geometry} {image c : Image} {shape : Shape} {vseg : Segment} {old new : Physical} {kept : KeptPages} {next after : ℕ} {tells : Type 0} → IsDevice geometry tells image shape vseg old kept next → tells
     → now ≡ geometry → SamePages old new → length new.held ≡ length old.held → ImageOf now c → HasLive new → ((p : ℕ) → p < old.first * old.size → page_at c p ≡ page_at image p) → IsPhysicalOf c new → next ≤ after
     → IsOnMedium shape after c vseg new
-medium_with {geometry} {now} {image} {c} {shape} {vseg} {old} {new} {next} {after} f t is same held fits live low physical rises =
+medium_with {geometry} {now} {image} {c} {shape} {vseg} {old} {new} {kept} {next} {after} f t is same held fits live low physical rises =
     let below : (p : ℕ) → p < shape.vblocks * shape.pages → page_at c p ≡ page_at image p = λ p lt. low p (subst (λ n. p < n) (sym (begins f.segments)) lt) in
     let under : (p : ℕ) → p < vseg.bound → page_at c p ≡ page_at image p = λ p lt. below p (subst (λ n. p < n) f.segments.virtual_bound lt) in
     made_medium (named_segments f.segments is same held) fits live

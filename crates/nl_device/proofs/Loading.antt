@@ -1,11 +1,9 @@
 -- A pointer whose page is that of its name.
-use Rattle.std.proofs.Common.{◌≡◌, ℕ, ◌+◌, ◌*◌, ◌/◌, ◌<◌, ◌≤◌, Bool, true, false, ◌&&◌, List, Option, Some, None, refl, sym, ◌∙◌, ap, subst, arith}
+use Rattle.std.proofs.Common.{◌≡◌, ℕ, ◌+◌, ◌*◌, ◌<◌, ◌≤◌, true, Option, Some, None, refl, sym, ◌∙◌, subst}
 use Rattle.std.specs.Prelude.{◌==◌, find}
-use Rattle.std.specs.List.{list_any}
 use Rattle.std.specs.BTreeMap.{BTreeMap}
 use Rattle.std.proofs.Math.Nat.{div-lt_iff_lt-mul, le-div_iff_mul-le}
 use Rattle.std.proofs.lemmas.Bool.{cond-true, true≢false}
-use Rattle.std.proofs.lemmas.Option.{none-some, same_Some}
 use Rattle.nl_field.specs.Space.{is_outside}
 use Rattle.nl_field.specs.declared.pointer.Pointer.{Pointer}
 use Rattle.nl_pseg.specs.Segment.{InSegment, Physical}
@@ -50,6 +48,7 @@ place_is kept spare p at = cond-true (is_at_name kept spare p) (Some p.name) (le
 pub in_segment : (kept : KeptPages) (copies : BTreeMap ℕ Copies) (spare : Option ℕ) (p : Pointer) (seg : Physical) → IsKept kept copies → IsSegmentFor kept seg → IsThere kept spare p → InSegment seg p.name
 in_segment kept copies spare p seg is same t =
     let low : kept.first * kept.size ≤ t.kept_page.page = (le-div_iff_mul-le {k = kept.size} {x = kept.first} {y = t.kept_page.page} is.some).0 t.of.from_first in
-    let high : t.kept_page.page < (kept.first + kept.count) * kept.size = (div-lt_iff_lt-mul {k = kept.size} {x = t.kept_page.page} {y = kept.first + kept.count} is.some).0 t.of.to_last in
-    (subst (λ n. n ≤ p.name) (sym (λ i. same.first i * same.size i)) (subst (λ n. kept.first * kept.size ≤ n) t.page low),
-    subst (λ n. p.name < n) (sym (λ i. same.blocks i * same.size i)) (subst (λ n. n < (kept.first + kept.count) * kept.size) t.page high))
+    let high : t.kept_page.page < (kept.first + kept.count) * kept.size = (div-lt_iff_lt-mul {k = kept.size} {x = t.kept_page.page} {y = kept.first + kept.count} is.some).0 t.of.to_last in (
+      subst (λ n. n ≤ p.name) (sym (λ i. same.first i * same.size i)) (subst (λ n. kept.first * kept.size ≤ n) t.page low),
+      subst (λ n. p.name < n) (sym (λ i. same.blocks i * same.size i)) (subst (λ n. n < (kept.first + kept.count) * kept.size) t.page high),
+    )

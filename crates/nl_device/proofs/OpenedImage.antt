@@ -1,8 +1,7 @@
 -- The needed pages that an opening takes from a scan are those of the image, and the page of an address is its newest one.
-use Rattle.std.proofs.Common.{◌≡◌, ◌⊎◌, inl, inr, ⊎_elim, ℕ, zero, suc, ◌+◌, ◌*◌, ◌/◌, ◌<◌, ◌≤◌, ◌==◌, ◌∙◌, nat_lt, Bool, true, false, not, ◌&&◌, cond, max, List, [], ◌∷◌, map, length, get_or, filter, filter_map, find, fold, option_map, Option, Some, None, refl, sym, ap, subst, arith, eq-eqb, ne_eqb, eqb-true}
+use Rattle.std.proofs.Common.{◌≡◌, ◌⊎◌, inl, inr, ⊎_elim, ℕ, ◌≤◌, ◌==◌, ◌∙◌, nat_lt, Bool, true, false, ◌&&◌, cond, max, List, [], ◌∷◌, map, filter, find, fold, option_map, Option, Some, None, refl, sym, ap, subst, arith, eq-eqb, ne_eqb, eqb-true}
 use Rattle.std.specs.List.{cons_option, list_any}
-use Rattle.std.proofs.lemmas.Bool.{and_from, and_parts, cases_Bool, cases_lt, cond-true, cond-false, false≢true, lt-ltb, ltb-true, not_from_false, not_from_true, not-true}
-use Rattle.std.proofs.lemmas.Option.{none-some, same_Some}
+use Rattle.std.proofs.lemmas.Bool.{and_from, and_parts, cases_Bool, cases_lt, cond-true, cond-false, false≢true, lt-ltb, ltb-true, not_from_false, not_from_true}
 use Rattle.nl_field.specs.Page.{Image}
 use Rattle.nl_field.specs.Numbers.{shape_for}
 use Rattle.nl_field.specs.Medium.{Readable, address_on, first_physical, is_virtual_rec, readable_pages, shape_of_image, stamp_on, virtual_pages}
@@ -13,7 +12,7 @@ use Rattle.nl_field.specs.declared.spare.SpareRec.{SpareRec}
 use Rattle.nl_field.specs.declared.spare.SpareRec.TheVariants.{Virtual, Physical}
 use Rattle.nl_scan.specs.Tables.{IsTableOf, Table, seen_of}
 use Rattle.nl_vseg.proofs.Members.{In, any_from, any_to}
-use Rattle.nl_device.specs.Opening.{greatest_of, needed_of, newest_of, or_else, own_in, own_of, owns_of, pick_of}
+use Rattle.nl_device.specs.Opening.{greatest_of, needed_of, newest_of, or_else, own_in, owns_of, pick_of}
 use Rattle.nl_device.specs.declared.opening.own.Own.{Own}
 
 -- a readable page, as the page of a virtual address
@@ -188,7 +187,7 @@ either : (xs : List Readable) (o : Option Readable) → or_else (option_map own_
 either xs None = refl
 either xs (Some r) = refl
 
-pages_is : (image : Image) → (shape_of_image image).pages ≡ image.pages
+pub pages_is : (image : Image) → (shape_of_image image).pages ≡ image.pages
 unfolding shape_for
 pages_is image = refl
 

@@ -37,10 +37,10 @@ module _ (size : ℕ) (spare : Option ℕ) (v : ℕ) where
   step_left o fails = elim (cases_Bool (o.vaddr == v)) [
     | inr other ↦ cond-false (o.vaddr == v) (with_pick size spare None o) None other
     | inl here ↦ elim (cases_Bool (is_outside size spare o.page)) [
-        | inl outside ↦ cond-true (o.vaddr == v) (with_pick size spare None o) None here ∙ (cond-true (is_outside size spare o.page) (Some o) None outside
+      | inl outside ↦ cond-true (o.vaddr == v) (with_pick size spare None o) None here ∙ (cond-true (is_outside size spare o.page) (Some o) None outside
           ∙ absurd (differ (sym fails ∙ and_from (o.vaddr == v) (is_outside size spare o.page) here outside)))
-        | inr inside ↦ cond-true (o.vaddr == v) (with_pick size spare None o) None here ∙ cond-false (is_outside size spare o.page) (Some o) None inside
-      ]
+      | inr inside ↦ cond-true (o.vaddr == v) (with_pick size spare None o) None here ∙ cond-false (is_outside size spare o.page) (Some o) None inside
+    ]
   ]
     where
       differ : false ≡ true → ⊥
@@ -66,7 +66,7 @@ pub picked : (size : ℕ) (spare : Option ℕ) (needed : List Own) (v : ℕ) →
 unfolding pick_of
 picked size spare needed v = filled_is size None needed (filled size spare needed None v) v ∙ ap (λ o. or_else o (first_outside size None needed v)) (filled_is size spare needed None v)
 
-find_passes : {X : Type 0} (p : X → Bool) (xs : List X) (x : X) → find p xs ≡ Some x → p x ≡ true
+pub find_passes : {X : Type 0} (p : X → Bool) (xs : List X) (x : X) → find p xs ≡ Some x → p x ≡ true
 find_passes p [] x is = absurd (none-some x is)
 find_passes p (y ∷ ys) x is = elim (cases_Bool (p y)) [
   | inl holds ↦ ap p (sym (same_Some y x (sym (cond-true (p y) (Some y) (find p ys) holds) ∙ is))) ∙ holds

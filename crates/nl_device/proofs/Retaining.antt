@@ -1,26 +1,25 @@
 -- One pointer more is live, and all of them.
-use Rattle.std.proofs.Common.{◌≡◌, ◌≢◌, ◌++◌, ◌||◌, take, ℕ, zero, suc, ◌+◌, ◌*◌, ◌/◌, ◌<◌, ◌≤◌, Bool, true, false, not, ◌&&◌, cond, List, [], ◌∷◌, length, get_or, set, Option, Some, None, is_some, option_map, refl, sym, ◌∙◌, ap, subst, arith, ⊎_elim}
+use Rattle.std.proofs.Common.{◌≡◌, ◌++◌, ◌||◌, take, ℕ, zero, suc, ◌+◌, ◌/◌, ◌<◌, ◌≤◌, Bool, true, false, not, List, [], ◌∷◌, length, get_or, set, Option, Some, None, option_map, refl, sym, ◌∙◌, ap, subst, arith, ⊎_elim}
 use Rattle.std.specs.Prelude.{◌==◌, IsSome, filter, find, slice_get}
-use Rattle.std.specs.List.{AllPairs, count_by, list_any, range_with_len}
+use Rattle.std.specs.List.{count_by, list_any, range_with_len}
 use Rattle.std.specs.BTreeMap.{BTreeMap}
 use Rattle.std.proofs.lemmas.Bool.{cases_Bool, cases_eq, cases_lt, cond-false, cond-true, true≢false}
 use Rattle.std.proofs.lemmas.List.{get_or-set_other, get_or-set_same, length-set, take_all, take_more}
 use Rattle.std.proofs.lemmas.List.Folds.{list_any-append}
-use Rattle.std.proofs.lemmas.Nat.{div_below}
 use Rattle.std.proofs.lemmas.Option.{get_or_from_slice_get, none-some, same_Some, slice_get_within}
 use Rattle.nl_field.specs.Space.{is_outside}
 use Rattle.nl_field.specs.declared.pointer.Pointer.{Pointer}
-use Rattle.nl_pseg.specs.Segment.{IsClean, Physical, held_at, is_free, is_soiled, soiled}
+use Rattle.nl_pseg.specs.Segment.{InSegment, Physical, held_at, is_free}
 use Rattle.nl_pseg.specs.declared.held.Held.{Held}
 use Rattle.nl_device.specs.Kept.{IsKept, KeptPages, is_at_name, spare_among}
-use Rattle.nl_device.specs.Retain.{AreRetained, CanLoad, CanRetain, IsFresh, IsSegmentFor, Loads, Retains, held_for, is_taken, place_for, spare_for}
+use Rattle.nl_device.specs.Retain.{AreRetained, CanLoad, CanRetain, IsFoundIn, IsFresh, IsSegmentFor, Loads, Retains, held_for, is_taken, spare_for}
 use Rattle.nl_device.specs.declared.kept.copies.Copies.{Copies}
 use Rattle.nl_device.specs.declared.kept.page.KeptPage.{KeptPage}
 use Rattle.nl_device.specs.Space.{live_in}
 use Rattle.nl_device.proofs.Alone.{or_false, or_true}
 use Rattle.nl_device.proofs.Counted.{bit, count_all_but, count_less, count_same, found_between, live_more, live_none}
 use Rattle.nl_device.proofs.Loading.{IsThere, in_segment, place_is, there}
-use Rattle.nl_device.proofs.Lookups.{is_number, number_is, other_number}
+use Rattle.nl_device.proofs.Lookups.{is_number, other_number}
 
 -- none of a list of which none is kept by a filter passes
 all_fail : (p : Pointer → Bool) (xs : List Pointer) (at : ℕ) (x : Pointer) → length (filter p xs) ≤ 0 → slice_get xs at ≡ Some x → p x ≡ false
@@ -224,3 +223,33 @@ one_free kept copies pointers at old seg is can retains past = by (spare_for kep
         ∙ spare_untaken kept pointers pointers block (λ i p here. ap (λ o. is_outside kept.size o p.name) (sym found) ∙ (there kept copies (spare_for kept pointers) p is (at_name kept pointers i p can here)).outside) in
         let all = count_all_but (is_taken kept (take at pointers)) kept.first kept.count block within.0 within.1 untaken in
         omega (arith, all, retains.counted)
+
+-- what is live was found on its page
+pub found_in : (kept : KeptPages) (copies : BTreeMap ℕ Copies) (pointers : List Pointer) (at : ℕ) (old seg : Physical) → IsKept kept copies → CanRetain kept pointers → Retains kept pointers at old seg
+    → (page : ℕ) (h : Held) → held_at seg page ≡ Some h → IsFoundIn kept seg page h
+found_in kept copies pointers at old seg is can retains page h held =
+    let one = retains.only page h held in
+    let t = there kept copies (spare_for kept pointers) one.1 is (at_name kept pointers one.0 one.1 can one.3) in
+    let value : held_for kept one.1.name one.1 ≡ Some (record { tag = t.kept_page.tag; stamp = one.1.stamp }) = ap (option_map {U = Held} (λ (k : KeptPage). record { tag = k.tag; stamp = one.1.stamp })) t.found in
+    let e : record { tag = t.kept_page.tag; stamp = one.1.stamp } ≡ h =
+    same_Some (record { tag = t.kept_page.tag; stamp = one.1.stamp }) h (sym value ∙ sym (retains.listed one.0 one.1 one.2 one.3) ∙ ap (held_at seg) one.4 ∙ held) in
+    record {
+      within = subst (InSegment seg) one.4 (in_segment kept copies (spare_for kept pointers) one.1 seg is retains.segment t);
+      found = ap (λ n. find (λ (k : KeptPage). k.page == n) kept.pages) (sym one.4) ∙ t.found
+          ∙ (λ i. Some (record { page = (t.page ∙ one.4) i; stamp = (t.stamp ∙ ap (λ (x : Held). x.stamp) e) i; tag = ap (λ (x : Held). x.tag) e i }));
+    }
+
+-- no two live pages share a stamp
+pub live_differ : (kept : KeptPages) (pointers : List Pointer) (at : ℕ) (old seg : Physical) → CanRetain kept pointers → Retains kept pointers at old seg
+    → (p q : ℕ) (g h : Held) → held_at seg p ≡ Some g → held_at seg q ≡ Some h → g.stamp ≡ h.stamp → p ≡ q
+live_differ kept pointers at old seg can retains p q g h p_held q_held same =
+    let a = retains.only p g p_held in
+    let b = retains.only q h q_held in
+    let e : a.1.stamp ≡ b.1.stamp = sym a.5 ∙ same ∙ b.5 in
+    ⊎_elim
+    (λ less. absurd (stamps_differ kept pointers a.0 b.0 a.1 b.1 can less a.3 b.3 e))
+    (λ past. ⊎_elim
+    (λ one. let x : a.1 ≡ b.1 = same_Some a.1 b.1 (sym a.3 ∙ ap (slice_get pointers) one ∙ b.3) in sym a.4 ∙ ap (λ (r : Pointer). r.name) x ∙ b.4)
+    (λ apart. absurd (stamps_differ kept pointers b.0 a.0 b.1 a.1 can (omega (arith, past, apart)) b.3 a.3 (sym e)))
+    (cases_eq a.0 b.0))
+    (cases_lt a.0 b.0)

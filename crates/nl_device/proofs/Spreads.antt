@@ -121,7 +121,7 @@ module _ (size : ℕ) (pages : List Readable) (is_needed : Readable → Bool) (i
       let needed = g.only_needed r.0 m.0 r.1 r.2 in
       let at = and_from (r.0.page / size == block) (is_needed r.0) (eq-eqb (r.0.page / size) block r.3) needed in
       let some : list_any (elsewhere r.0) pages ≡ true = ⊎_elim (λ none. absurd (false≢true (sym (not_from_true (here r.0) at) ∙ none))) (λ any. any)
-          (or_cases (not (here r.0)) (list_any (elsewhere r.0) pages) (all_at test r.0 pages r.1 all)) in
+      (or_cases (not (here r.0)) (list_any (elsewhere r.0) pages) (all_at test r.0 pages r.1 all)) in
       let q = any_to (elsewhere r.0) pages some in
       let parts = and_parts (not (q.0.page / size == block)) (is_copy q.0 r.0) q.2 in
       let same = g.copies q.0 r.0 (from_in q.0 pages q.1) r.1 needed parts.1 in
@@ -146,7 +146,7 @@ module _ (size : ℕ) (pages : List Readable) (is_needed : Readable → Bool) (i
           (and_from (not (q.0.page / size == block)) (is_copy q.0 r) (not_from_false (q.0.page / size == block) (differs (q.0.page / size) (λ e. other.1 (sym q.3 ∙ e)))) (g.copied q.0 r k q.1 is q.2 group))
         where
           differs : (n : ℕ) → (n ≡ block → ⊥) → (n == block) ≡ false
-          differs n ne = elim (cases_Bool (n == block)) [ | inl same ↦ absurd (ne (eqb-true n block same)) | inr other ↦ other ]
+          differs n ne = elim (cases_Bool (n == block)) [ inl same ↦ absurd (ne (eqb-true n block same)) | inr other ↦ other ]
 
   passes : list_any (is_alone_in block) spreads ≡ false → (r : Readable) → IsOneOf r pages → test r ≡ true
   passes none r is = elim (cases_Bool (here r)) [
@@ -157,9 +157,9 @@ module _ (size : ℕ) (pages : List Readable) (is_needed : Readable → Bool) (i
   pub same_block : list_all test pages ≡ not (list_any (is_alone_in block) spreads)
   same_block = elim (cases_Bool (list_any (is_alone_in block) spreads)) [
     | inl any ↦ elim (cases_Bool (list_all test pages)) [
-        | inl all ↦ absurd (alone_fails any all)
-        | inr fails ↦ fails ∙ sym (not_from_true (list_any (is_alone_in block) spreads) any)
-      ]
+      | inl all ↦ absurd (alone_fails any all)
+      | inr fails ↦ fails ∙ sym (not_from_true (list_any (is_alone_in block) spreads) any)
+    ]
     | inr none ↦ all_from test pages (passes none) ∙ sym (not_from_false (list_any (is_alone_in block) spreads) none)
   ]
 

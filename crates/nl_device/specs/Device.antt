@@ -1,11 +1,12 @@
 -- What holds of the tables of a device, and of a medium that tells its contents.
-use Rattle.std.specs.Prelude.{◌≡◌, ℕ, ◌+◌, ◌-◌, ◌*◌, ◌<◌, ◌≤◌, List, [], length, true, Some, IsTrue}
+use Rattle.std.specs.Prelude.{◌≡◌, ℕ, ◌+◌, ◌-◌, ◌*◌, ◌<◌, ◌≤◌, List, [], length, true, Some, IsTrue, All}
 use Rattle.nl_field.specs.Numbers.{is_legal, shape_for}
 use Rattle.nl_field.specs.Page.{Image}
 use Rattle.nl_field.specs.declared.shape.Shape.{Shape}
 use Rattle.nl_iface.specs.Names.{HoldsLive}
 use Rattle.nl_iface.specs.Space.{IsSpace}
 use Rattle.nl_iface.specs.Stored.{Shows as StoresMap, stored_in}
+use Rattle.nl_device.specs.Kept.{KeptPages}
 use Rattle.nl_device.specs.Shown.{IsStray, bytes_at, names_of}
 use Rattle.nl_device.specs.Space.{space_of}
 use Rattle.nl_nand.specs.declared.geometry.Geometry.{Geometry}
@@ -64,12 +65,20 @@ pub record IsOnMedium (shape : Shape) (next : ℕ) (image : Image) (vseg : Segme
   pub shown : StoresMap shape.vaddrs (λ v. map_of vseg.places image v) (λ v x. IsStray (shape.vblocks * shape.pages) image (λ u. map_of vseg.places image u) v x) (stored_in image)
   pub holds : HoldsLive (names_of pseg).live (λ p. bytes_at (shape.vblocks * shape.pages) image p) (stored_in image)
 
-pub record IsDevice (geometry : Geometry) (tells : Type 0) (image : Image) (shape : Shape) (vseg : Segment) (pseg : Physical) (next : ℕ) : Type 0 where
+-- The pages that the scan found are those of the physical segment, and their stamps are below the next one.
+pub record HasFound (shape : Shape) (kept : KeptPages) (next : ℕ) : Type 0 where
+  pub first : kept.first ≡ shape.vblocks
+  pub count : kept.count ≡ shape.pblocks
+  pub size : kept.size ≡ shape.pages
+  pub below : All (λ k. k.stamp < next) kept.pages
+
+pub record IsDevice (geometry : Geometry) (tells : Type 0) (image : Image) (shape : Shape) (vseg : Segment) (pseg : Physical) (kept : KeptPages) (next : ℕ) : Type 0 where
   pub segments : HasSegments geometry shape vseg pseg
   pub mapped : HasMapped vseg
   pub live : HasLive pseg
   pub free : HasFree pseg
   pub no_pairs : pseg.pairs ≡ []
   pub stamp : IsNextStamp next vseg pseg
+  pub found : HasFound shape kept next
   pub space : IsSpace (space_of pseg)
   pub medium : tells → IsOnMedium shape next image vseg pseg

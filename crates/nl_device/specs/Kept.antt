@@ -1,13 +1,11 @@
 -- What is kept of a scan until the opening is done: the readable pages of the physical segment, and where the copies of a stamp lie.
-use Rattle.std.specs.Prelude.{◌≡◌, ℕ, ◌+◌, ◌*◌, ◌/◌, ◌^◌, ◌<◌, ◌≤◌, ◌==◌, nat_le, Bool, not, ◌&&◌, ◌||◌, if◌then◌else◌, List, find, filter_map, All, Option, Some, None, option_map, IsTrue}
+use Rattle.std.specs.Prelude.{◌≡◌, ℕ, ◌+◌, ◌/◌, ◌^◌, ◌<◌, ◌≤◌, ◌==◌, nat_le, Bool, not, ◌&&◌, ◌||◌, if◌then◌else◌, List, find, filter_map, All, Option, Some, None, option_map, IsTrue}
 use Rattle.nl_field.specs.Spelling.{is_stamp}
 use Rattle.std.specs.List.{list_all, list_any, range_with_len, AllPairs}
 use Rattle.std.specs.Ordering.{nat_cmp}
 use Rattle.std.specs.BTreeMap.{BTreeMap, get}
-use Rattle.nl_field.specs.Medium.{first_physical}
 use Rattle.nl_field.specs.Space.{is_outside}
 use Rattle.nl_field.specs.declared.pointer.Pointer.{Pointer}
-use Rattle.nl_field.specs.declared.shape.Shape.{Shape}
 use Rattle.nl_field.specs.declared.spare.SpareRec.{SpareRec}
 use Rattle.nl_field.specs.declared.spare.SpareRec.TheVariants.{Virtual, Physical}
 use Rattle.nl_scan.specs.declared.seen.Seen.{Seen}

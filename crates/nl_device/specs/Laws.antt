@@ -14,6 +14,7 @@ use Rattle.nl_vseg.specs.Places.{map_of, place_of, stamp_for, stamp_in_place, va
 use Rattle.nl_vseg.specs.Segment.{Segment}
 use Rattle.nl_vseg.specs.declared.place.Place.{Place}
 use Rattle.nl_device.specs.Device.{HasLive, HasSegments, IsDevice}
+use Rattle.nl_device.specs.Kept.{KeptPages}
 use Rattle.nl_device.specs.Shown.{live_page, names_of}
 use Rattle.nl_device.specs.Space.{space_of}
 
@@ -50,35 +51,35 @@ no_pairs_state pages pseg bytes map next pairs is live = subst (λ ps. IsDeviceS
   few_pairs = search rules;
 })
 
-pub state_is : {geometry : Geometry} {tells : Type 0} {image : Image} {shape : Shape} {vseg : Segment} {pseg : Physical} {next : ℕ} (bytes : ℕ → List ℕ) (map : ℕ → Option Value) → IsDevice geometry tells image shape vseg pseg next
+pub state_is : {geometry : Geometry} {tells : Type 0} {image : Image} {shape : Shape} {vseg : Segment} {pseg : Physical} {kept : KeptPages} {next : ℕ} (bytes : ℕ → List ℕ) (map : ℕ → Option Value) → IsDevice geometry tells image shape vseg pseg kept next
     → IsDeviceState shape.pages (state_of (names_of pseg) bytes map next)
-state_is {geometry} {tells} {image} {shape} {vseg} {pseg} {next} bytes map f = no_pairs_state shape.pages pseg bytes map next pseg.pairs (sym f.no_pairs) f.live
+state_is {geometry} {tells} {image} {shape} {vseg} {pseg} {kept} {next} bytes map f = no_pairs_state shape.pages pseg bytes map next pseg.pairs (sym f.no_pairs) f.live
 
 -- a live page lies in the physical segment, and has a stamp below the next
-pub live_from : {geometry : Geometry} {tells : Type 0} {image : Image} {shape : Shape} {vseg : Segment} {pseg : Physical} {next : ℕ} → IsDevice geometry tells image shape vseg pseg next → (p : ℕ) (page : LivePage)
+pub live_from : {geometry : Geometry} {tells : Type 0} {image : Image} {shape : Shape} {vseg : Segment} {pseg : Physical} {kept : KeptPages} {next : ℕ} → IsDevice geometry tells image shape vseg pseg kept next → (p : ℕ) (page : LivePage)
     → (names_of pseg).live p ≡ Some page → shape.vblocks * shape.pages ≤ p
 live_from {geometry} {tells} {image} {shape} {vseg} {pseg} f p page is =
     let h = held_of (held_at pseg p) page is in
     subst (λ n. n ≤ p) (λ i. f.segments.physical_first i * f.segments.physical_pages i) (f.live.in_segment p h.0 h.1).0
 
-pub live_to : {geometry : Geometry} {tells : Type 0} {image : Image} {shape : Shape} {vseg : Segment} {pseg : Physical} {next : ℕ} → IsDevice geometry tells image shape vseg pseg next → (p : ℕ) (page : LivePage)
+pub live_to : {geometry : Geometry} {tells : Type 0} {image : Image} {shape : Shape} {vseg : Segment} {pseg : Physical} {kept : KeptPages} {next : ℕ} → IsDevice geometry tells image shape vseg pseg kept next → (p : ℕ) (page : LivePage)
     → (names_of pseg).live p ≡ Some page → p < shape.blocks * shape.pages
 live_to {geometry} {tells} {image} {shape} {vseg} {pseg} f p page is =
     let h = held_of (held_at pseg p) page is in
     subst (λ n. p < n) (λ i. f.segments.physical_blocks i * f.segments.physical_pages i) (f.live.in_segment p h.0 h.1).1
 
-pub live_under : {geometry : Geometry} {tells : Type 0} {image : Image} {shape : Shape} {vseg : Segment} {pseg : Physical} {next : ℕ} → IsDevice geometry tells image shape vseg pseg next → (p : ℕ) (page : LivePage)
+pub live_under : {geometry : Geometry} {tells : Type 0} {image : Image} {shape : Shape} {vseg : Segment} {pseg : Physical} {kept : KeptPages} {next : ℕ} → IsDevice geometry tells image shape vseg pseg kept next → (p : ℕ) (page : LivePage)
     → (names_of pseg).live p ≡ Some page → page.stamp < next
-live_under {geometry} {tells} {image} {shape} {vseg} {pseg} {next} f p page is =
+live_under {geometry} {tells} {image} {shape} {vseg} {pseg} {kept} {next} f p page is =
     let h = held_of (held_at pseg p) page is in
     subst (λ n. n < next) h.2 (f.stamp.live p h.0 h.1)
 
 -- the numbers of the space are those of the volume
-pub space_block : {geometry : Geometry} {tells : Type 0} {image : Image} {shape : Shape} {vseg : Segment} {pseg : Physical} {next : ℕ} → IsDevice geometry tells image shape vseg pseg next → (space_of pseg).block ≡ shape.pages
+pub space_block : {geometry : Geometry} {tells : Type 0} {image : Image} {shape : Shape} {vseg : Segment} {pseg : Physical} {kept : KeptPages} {next : ℕ} → IsDevice geometry tells image shape vseg pseg kept next → (space_of pseg).block ≡ shape.pages
 unfolding space_of
 space_block f = f.segments.physical_pages
 
-pub space_all : {geometry : Geometry} {tells : Type 0} {image : Image} {shape : Shape} {vseg : Segment} {pseg : Physical} {next : ℕ} → IsDevice geometry tells image shape vseg pseg next → (space_of pseg).all ≡ shape.pblocks * shape.pages
+pub space_all : {geometry : Geometry} {tells : Type 0} {image : Image} {shape : Shape} {vseg : Segment} {pseg : Physical} {kept : KeptPages} {next : ℕ} → IsDevice geometry tells image shape vseg pseg kept next → (space_of pseg).all ≡ shape.pblocks * shape.pages
 unfolding space_of
 space_all {shape = shape} f = (λ i. (f.segments.physical_blocks i - f.segments.physical_first i) * f.segments.physical_pages i) ∙ ap (λ n. n * shape.pages) f.segments.rest
 

@@ -10,3 +10,4 @@ pub mod Shown
 pub mod Space
 pub mod Spread
 pub mod Stamps
+pub mod Started

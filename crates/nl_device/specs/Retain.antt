@@ -1,13 +1,14 @@
 -- Which pointers are live after an opening, and where.
-use Rattle.std.specs.Prelude.{◌≡◌, ◌≢◌, ℕ, ◌+◌, ◌*◌, ◌/◌, ◌<◌, ◌≤◌, ◌==◌, not, Bool, true, false, cond, List, [], find, length, map, take, filter, slice_get, slice_set, All, Option, Some, None, IsSome, option_map, IsTrue}
+use Rattle.std.specs.Prelude.{◌≡◌, ◌≢◌, ℕ, ◌+◌, ◌*◌, ◌/◌, ◌<◌, ◌≤◌, ◌==◌, not, Bool, true, false, cond, List, [], find, length, map, take, filter, slice_get, slice_set, All, Option, Some, None, IsSome, option_map}
 use Rattle.std.specs.List.{AllPairs, count_by, list_any, range_with_len}
-use Rattle.nl_field.specs.Spelling.{is_stamp}
 use Rattle.nl_field.specs.declared.pointer.Pointer.{Pointer}
-use Rattle.nl_pseg.specs.Segment.{IsNewStamp, Physical, TakenAsErased, held_at, is_free, soiled}
+use Rattle.nl_pseg.specs.Segment.{InSegment, IsNewStamp, Physical, TakenAsErased, held_at, is_free, soiled}
 use Rattle.nl_pseg.specs.declared.held.Held.{Held}
+use Rattle.nl_iface.specs.Names.{LivePage}
+use Rattle.nl_device.specs.Shown.{live_page}
+use Rattle.nl_device.specs.declared.device.Device.{Device}
 use Rattle.nl_device.specs.Kept.{KeptPages, is_at_name, place_among, spare_among}
 use Rattle.nl_device.specs.Space.{live_in}
-use Rattle.nl_device.specs.declared.kept.page.KeptPage.{KeptPage}
 
 -- the spare block of the segment for the stamps of these pointers
 abbrev pub spare_for : KeptPages → List Pointer → Option ℕ
@@ -51,6 +52,11 @@ pub record AreRetained (kept : KeptPages) (pointers : List Pointer) (seg : Physi
   pub listed : (at page : ℕ) (p : Pointer) → slice_get pointers at ≡ Some p → place_for kept pointers p ≡ Some page → held_at seg page ≡ held_for kept page p
   pub only : (page : ℕ) (h : Held) → held_at seg page ≡ Some h → (at : ℕ) × (p : Pointer) × (slice_get pointers at ≡ Some p) × (place_for kept pointers p ≡ Some page)
 
+-- what is live on a page was found there
+pub record IsFoundIn (kept : KeptPages) (seg : Physical) (page : ℕ) (h : Held) : Type 0 where
+  pub within : InSegment seg page
+  pub found : find (λ k. k.page == page) kept.pages ≡ Some (record { page = page; stamp = h.stamp; tag = h.tag })
+
 -- One pointer can be loaded: the page of its name has its stamp and is outside the spare block, and neither that page nor that stamp
 -- is live.
 pub record CanLoad (kept : KeptPages) (spare : Option ℕ) (p : Pointer) (seg : Physical) : Type 0 where
@@ -92,3 +98,12 @@ pub record Retains (kept : KeptPages) (pointers : List Pointer) (at : ℕ) (old 
   pub left : seg.left ≤ old.left
   pub erased : (q : ℕ) → TakenAsErased seg q → TakenAsErased old q
   pub unchanged : at ≡ 0 → seg ≡ old
+
+-- what a device keeps of the scan of its start
+abbrev pub kept_of : {M : Type 0} → Device M → KeptPages
+kept_of d = d.kept
+
+-- exactly these pointers are live, each at its place, under its stamp and the owner that was found there
+pub record LiveAre (kept : KeptPages) (pointers : List Pointer) (live : ℕ → Option LivePage) : Type 0 where
+  pub listed : (at page : ℕ) (p : Pointer) → slice_get pointers at ≡ Some p → place_for kept pointers p ≡ Some page → live page ≡ live_page (held_for kept page p)
+  pub only : (page : ℕ) (l : LivePage) → live page ≡ Some l → (at : ℕ) × (p : Pointer) × (slice_get pointers at ≡ Some p) × (place_for kept pointers p ≡ Some page)

@@ -6,8 +6,11 @@ mod device;
 mod kept;
 mod named_pages;
 mod opening;
+mod retain;
 mod stamps;
+mod start;
 mod told;
 mod virtual_pages;
 
 pub use device::Device;
+pub use start::Started;

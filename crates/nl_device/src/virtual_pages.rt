@@ -16,7 +16,7 @@ use nl_nand::Nand;
 impl<M: Nand> VirtualPages for Device<M> {
     ghost tells = { M.tells };
 
-    ghost formed = { λ d. IsDevice (M.geometry d.media) M.tells (M.contents d.media) d.shape d.vseg d.pseg d.next };
+    ghost formed = { λ d. IsDevice (M.geometry d.media) M.tells (M.contents d.media) d.shape d.vseg d.pseg d.kept d.next };
 
     ghost shape = { λ d. d.shape };
 

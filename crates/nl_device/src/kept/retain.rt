@@ -1,7 +1,8 @@
 ghost use Rattle.std.specs.Prelude.{◌≡◌, ◌≤◌, ℕ, [], length, Some};
-ghost use Rattle.nl_device.specs.Retain.{AreRetained, CanLoad, CanRetain, IsFresh, IsSegmentFor, Loads, Retains};
+ghost use Rattle.nl_device.specs.Retain.{AreRetained, CanLoad, CanRetain, IsFoundIn, IsFresh, IsSegmentFor, Loads, Retains};
 ghost use Rattle.nl_device.specs.Space.{live_in};
-ghost use Rattle.nl_pseg.specs.Segment.{IsClean, TakenAsErased};
+ghost use Rattle.nl_pseg.specs.Segment.{IsClean, TakenAsErased, held_at};
+ghost use Rattle.nl_pseg.specs.declared.held.Held.{Held};
 
 use super::Kept;
 use nl_field::{Pointer, PointerList};
@@ -30,6 +31,8 @@ impl Kept {
         requires fresh { IsFresh pseg.old }
         requires can { CanRetain self.old list.now.items }
         ensures retained { AreRetained self.old list.now.items pseg.new }
+        ensures from { (page : ℕ) (h : Held) → held_at pseg.new page ≡ Some h → IsFoundIn self.old pseg.new page h }
+        ensures differ { (p q : ℕ) (g h : Held) → held_at pseg.new p ≡ Some g → held_at pseg.new q ≡ Some h → g.stamp ≡ h.stamp → p ≡ q }
         ensures live { live_in pseg.new.held ≡ length list.now.items }
         ensures segment { IsSegmentFor self.old pseg.new }
         ensures pages { length pseg.new.held ≡ length pseg.old.held }

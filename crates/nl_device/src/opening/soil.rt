@@ -30,12 +30,7 @@ fn raise(wears: &mut Vec<u32>, block: u32, wear: u32)
 }
 
 /// The greatest wear on the readable pages of each block, 0 where it has none.
-pub fn wears(
-    alloc: Global,
-    tables: &ScanTables,
-    pages: u32,
-    count: u32,
-) -> Result<Vec<u32>, Memory>
+pub fn wears(alloc: Global, tables: &ScanTables, pages: u32, count: u32) -> Result<Vec<u32>, Memory>
     requires some { 0 < pages }
     requires below { All (λ (s : SeenOf). s.page < count * pages) tables.now.seen }
     ensures { IfOk result (λ w. Tabulates count 0 (wear_in pages tables.now.seen) w.items) }

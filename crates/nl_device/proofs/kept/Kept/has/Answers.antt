@@ -1,4 +1,4 @@
-use Rattle.std.proofs.Common.{◌≡◌, ap, subst, sym, ◌∙◌}
+use Rattle.std.proofs.Common.{subst, sym, ◌∙◌}
 use Rattle.nl_device.specs.Kept.{KeptPages, has_stamp}
 use Rattle.nl_device.proofs.Lookups.{AreRising, stamp_of_found, stamp_of_none}
 use Rattle.nl_device.proofs.kept.Kept.has.Goals as goal

@@ -1,4 +1,4 @@
-use Rattle.std.proofs.Common.{◌≡◌, Some, ap, sym, ◌∙◌}
+use Rattle.std.proofs.Common.{ap, sym, ◌∙◌}
 use Rattle.nl_field.specs.Space.{is_outside}
 use Rattle.nl_device.specs.Kept.{KeptPages}
 use Rattle.nl_device.proofs.Places.{least_apart, least_first, least_none}

@@ -1,4 +1,4 @@
-use Rattle.std.proofs.Common.{◌≡◌, ◌/◌, ℕ, Option, Some, None, ap, refl, set, subst, sym, ◌∙◌, true, false, cond, ◌+◌}
+use Rattle.std.proofs.Common.{◌≡◌, ◌/◌, Some, ap, set, subst, sym, ◌∙◌, false, cond, ◌+◌}
 use Rattle.std.specs.Prelude.{◌==◌, find, option_map}
 use Rattle.std.proofs.lemmas.Option.{none-some, same_Some}
 use Rattle.nl_field.specs.Spelling.{is_stamp}
@@ -7,7 +7,7 @@ use Rattle.nl_pseg.specs.Segment.{IsDead, is_free}
 use Rattle.nl_pseg.specs.declared.held.Held.{Held}
 use Rattle.nl_device.specs.Kept.{IsKept}
 use Rattle.nl_device.specs.declared.kept.page.KeptPage.{KeptPage}
-use Rattle.nl_device.proofs.Loading.{IsThere, in_segment, place_is, there}
+use Rattle.nl_device.proofs.Loading.{in_segment, place_is, there}
 use Rattle.nl_device.proofs.kept.Kept.load.Goals as goal
 
 pub returns-in_default : goal.returns-in_default

@@ -1,5 +1,5 @@
-use Rattle.std.proofs.Common.{◌≡◌, ◌*◌, ◌∙◌, ℕ, List, ◌∷◌, ◌++◌, [], ap, refl, subst, sym}
-use Rattle.std.proofs.Common.{All, BTreeMap, Global, Vec, arith, length, nat_cmp, ◌+◌, ◌<◌, ◌^◌}
+use Rattle.std.proofs.Common.{◌≡◌, ◌*◌, ◌∙◌, ◌∷◌, ◌++◌, [], ap, refl, subst, sym}
+use Rattle.std.proofs.Common.{All, Global, Vec, arith, length, nat_cmp, ◌+◌, ◌<◌, ◌^◌}
 use Rattle.std.specs.BTreeMap.{get}
 use Rattle.std.specs.List.{AllPairs}
 use Rattle.nl_scan.specs.Tables.{IsSeen}
@@ -21,23 +21,23 @@ seen-init c =
 pub seen-preserved : goal.seen-preserved
 seen-preserved c = elim c.match-kept_from.branch [
   | in-Some+in_ok-note-in-Some+in_ok-push-in-Some w ↦
-    let items : c.match-kept_from.pages.items ≡ c.seen.pages.items ++ w.in-Some.page ∷ [] = ap (λ (v : Vec KeptPage Global). v.items) w.pages-is ∙ w.in_ok-push-in-Some.ensures.items in
-    record {
-      low_is = refl;
-      gathered = items ∙ kept_push (c.args.shape.now.vblocks * c.args.shape.now.pages) c.seen.at c.args.tables.now.seen c.get.result.now w.in-Some.page c.seen.pages.items
-          c.get.ensures (sym c.kept_from.ensures ∙ w.in-Some.is) c.seen.invariant.gathered;
-      are_noted = λ stamp. ap (λ m. get nat_cmp m stamp) w.copies-is
-          ∙ noted_more c.args.shape.now.pages c.seen.pages.items w.in-Some.page c.seen.copies w.note.new.copies c.seen.invariant.are_noted w.in_ok-note-in-Some.ensures stamp
-          ∙ ap (λ l. copies_of c.args.shape.now.pages l stamp) (sym items);
-    }
+      let items : c.match-kept_from.pages.items ≡ c.seen.pages.items ++ w.in-Some.page ∷ [] = ap (λ (v : Vec KeptPage Global). v.items) w.pages-is ∙ w.in_ok-push-in-Some.ensures.items in
+      record {
+        low_is = refl;
+        gathered = items ∙ kept_push (c.args.shape.now.vblocks * c.args.shape.now.pages) c.seen.at c.args.tables.now.seen c.get.result.now w.in-Some.page c.seen.pages.items
+            c.get.ensures (sym c.kept_from.ensures ∙ w.in-Some.is) c.seen.invariant.gathered;
+        are_noted = λ stamp. ap (λ m. get nat_cmp m stamp) w.copies-is
+            ∙ noted_more c.args.shape.now.pages c.seen.pages.items w.in-Some.page c.seen.copies w.note.new.copies c.seen.invariant.are_noted w.in_ok-note-in-Some.ensures stamp
+            ∙ ap (λ l. copies_of c.args.shape.now.pages l stamp) (sym items);
+      }
   | in-None w ↦
-    record {
-      low_is = refl;
-      gathered = ap (λ (v : Vec KeptPage Global). v.items) w.pages-is
-          ∙ kept_skip (c.args.shape.now.vblocks * c.args.shape.now.pages) c.seen.at c.args.tables.now.seen c.get.result.now c.seen.pages.items
-          c.get.ensures (sym c.kept_from.ensures ∙ w.in-None.is) c.seen.invariant.gathered;
-      are_noted = λ stamp. ap (λ m. get nat_cmp m stamp) w.copies-is ∙ c.seen.invariant.are_noted stamp ∙ ap (λ (v : Vec KeptPage Global). copies_of c.args.shape.now.pages v.items stamp) (sym w.pages-is);
-    }
+      record {
+        low_is = refl;
+        gathered = ap (λ (v : Vec KeptPage Global). v.items) w.pages-is
+            ∙ kept_skip (c.args.shape.now.vblocks * c.args.shape.now.pages) c.seen.at c.args.tables.now.seen c.get.result.now c.seen.pages.items
+            c.get.ensures (sym c.kept_from.ensures ∙ w.in-None.is) c.seen.invariant.gathered;
+        are_noted = λ stamp. ap (λ m. get nat_cmp m stamp) w.copies-is ∙ c.seen.invariant.are_noted stamp ∙ ap (λ (v : Vec KeptPage Global). copies_of c.args.shape.now.pages v.items stamp) (sym w.pages-is);
+      }
 ]
 
 gathered : (c : goal.In_ok-vec) → c.seen.pages.items ≡ kept_pages (c.args.shape.now.vblocks * c.args.shape.now.pages) c.args.tables.now.seen

@@ -1,4 +1,4 @@
-use Rattle.std.proofs.Common.{◌≡◌, Option, Some, ℕ, sym, ◌∙◌}
+use Rattle.std.proofs.Common.{Some, sym, ◌∙◌}
 use Rattle.std.proofs.lemmas.Bool.{cond-false, cond-true}
 use Rattle.nl_device.specs.Kept.{is_at_name, place_among}
 use Rattle.nl_device.proofs.Places.{least}

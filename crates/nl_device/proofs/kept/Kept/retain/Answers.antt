@@ -1,7 +1,7 @@
-use Rattle.std.proofs.Common.{◌≡◌, arith, ap, subst, sym, ◌∙◌}
+use Rattle.std.proofs.Common.{arith, subst, sym}
 use Rattle.nl_device.specs.Kept.{IsKept}
 use Rattle.nl_device.specs.Retain.{CanLoad, Loads}
-use Rattle.nl_device.proofs.Retaining.{are_retained, can_load, one_free, retains_more, retains_none}
+use Rattle.nl_device.proofs.Retaining.{are_retained, can_load, found_in, live_differ, one_free, retains_more, retains_none}
 use Rattle.nl_device.proofs.kept.Kept.retain.Goals as goal
 
 pub listed-init : goal.listed-init
@@ -31,3 +31,11 @@ pub returns-clause-free : goal.returns-clause-free
 returns-clause-free c =
     let is = subst (λ k. IsKept k c.self.inside.copies) c.self.view_is c.self.invariant in
     one_free c.args.self.now c.self.inside.copies c.args.list.now.items c.listed.at c.args.pseg.now c.listed.pseg is c.requires.can c.listed.invariant.retains (omega (arith, c.listed-test.false, c.len-at-end.ensures.count))
+
+pub returns-clause-from : goal.returns-clause-from
+returns-clause-from c =
+    let is = subst (λ k. IsKept k c.self.inside.copies) c.self.view_is c.self.invariant in
+    found_in c.args.self.now c.self.inside.copies c.args.list.now.items c.listed.at c.args.pseg.now c.listed.pseg is c.requires.can c.listed.invariant.retains
+
+pub returns-clause-differ : goal.returns-clause-differ
+returns-clause-differ c = live_differ c.args.self.now c.args.list.now.items c.listed.at c.args.pseg.now c.listed.pseg c.requires.can c.listed.invariant.retains

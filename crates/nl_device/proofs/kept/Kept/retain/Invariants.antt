@@ -1,4 +1,3 @@
-use Rattle.std.proofs.Common.{◌≡◌}
 use Rattle.nl_device.specs.Retain.{Retains}
 use Rattle.nl_device.proofs.kept.Kept.retain.Given as goal
 

@@ -1,4 +1,4 @@
-use Rattle.std.proofs.Common.{◌≡◌, BTreeMap, arith, ap, length, map, refl, subst, sym, take, ◌∙◌}
+use Rattle.std.proofs.Common.{◌≡◌, arith, ap, length, map, refl, subst, sym, ◌∙◌}
 use Rattle.std.proofs.lemmas.List.{length-map, take_all}
 use Rattle.nl_field.specs.declared.pointer.Pointer.{Pointer}
 use Rattle.nl_device.specs.Kept.{IsKept, KeptPages}

@@ -39,5 +39,5 @@ returns-clause-formed g c =
     (OnTrue_at is e.pairs ∙ no_pair d.pseg.pairs place f.no_pairs) (omega arith)
     (λ p x has. f.stamp.live p x (clear_held d.pseg.held place p x below (ap (λ (l : List (Option Held)). get_or l p None) (sym held) ∙ has)).1)
     (λ t. medium_with f t refl e.pages count (g.met.M.Nand.contents_fit d.media t) live (λ p lt. refl) (e.segment (g.M.Nand.contents d.media) (f.medium t).physical_is) (omega arith)))
-    (λ (is : c.free.result ≡ false). subst (λ s. IsDevice (g.M.Nand.geometry d.media) g.M.Nand.tells (g.M.Nand.contents d.media) d.shape d.vseg s d.next) (sym (OnFalse_at is e.kept)) f)
+    (λ (is : c.free.result ≡ false). subst (λ s. IsDevice (g.M.Nand.geometry d.media) g.M.Nand.tells (g.M.Nand.contents d.media) d.shape d.vseg s d.kept d.next) (sym (OnFalse_at is e.kept)) f)
     (cases_Bool c.free.result)

@@ -7,6 +7,7 @@ use Rattle.nl_nand.specs.Nand.{ImageOf}
 use Rattle.nl_vseg.specs.Effects.{Keeps, Takes}
 use Rattle.nl_vseg.specs.Pages.{Shows}
 use Rattle.nl_vseg.specs.Places.{map_of, stamp_for}
+use Rattle.nl_device.proofs.Calls.{found_still}
 use Rattle.nl_device.proofs.Made.{made_medium}
 use Rattle.nl_device.proofs.Forms.{begins, kept_segments, lift, same_from, shape_is}
 use Rattle.nl_device.proofs.Writes.{beyond_of, bytes_same, done_or, keeps_below, keeps_leaves, keeps_there, next_rises, next_taken, physical_kept, rose_or, stamps_done, stray_done, stray_failed, stray_kept, takes_below, takes_leaves, takes_there, with_there}
@@ -92,6 +93,7 @@ returns-clause-formed g c =
       free = f.free;
       no_pairs = f.no_pairs;
       space = f.space;
+      found = found_still f.found rises;
       stamp = record {
         some = let some = f.stamp.some in omega (arith, some, rises);
         addresses = λ v t has. ⊎_elim
