@@ -9,6 +9,8 @@ mod opening;
 mod retain;
 mod stamps;
 mod start;
+#[cfg(test)]
+mod tests;
 mod told;
 mod virtual_pages;
 
