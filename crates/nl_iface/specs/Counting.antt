@@ -1,6 +1,6 @@
 -- Counts that never fall, and how a call raises them.
 use Rattle.std.specs.Prelude.{◌≡◌, ◌⊎◌, ℕ, ◌+◌, ◌<◌, ◌≤◌}
-use Rattle.nl_field.specs.CrashStates.{Rose, top, saturated}
+use Rattle.nl_field.specs.CrashStates.{Rose, saturated, top}
 
 -- A count of failures: it rose by one where the call failed, and stays where it did not.
 pub record FailuresCounted (before now : ℕ) (failed : Type 0) : Type 0 where

@@ -3,13 +3,19 @@ use Rattle.std.proofs.Common.{◌≡◌, inl, inr, ⊎_elim, ℕ, zero, suc, ◌
 use Rattle.std.proofs.lemmas.Bool.{cases_eq, cases_Bool}
 use Rattle.std.proofs.lemmas.List.{get_or-set_same, get_or-set_other}
 use Rattle.std.proofs.lemmas.List.Sums.{sum_by-cons}
-use Rattle.nl_blocks.specs.Table.{BlockRow, Table, HasBlock, row_at, no_row, with_block, is_free, free_count}
+use Rattle.nl_blocks.specs.declared.states.BlockState.TheVariants.{Sealed}
+use Rattle.nl_blocks.specs.Table.{BlockRow, Table, HasBlock, block_at, in_state, row_at, no_row, with_block, is_free, free_count}
 use Rattle.nl_blocks.proofs.TableLaws.{sum_by-with_block}
-use Rattle.nl_vseg.specs.Segment.{block_is_free}
+use Rattle.nl_vseg.specs.Layout.{block_is_free}
+use Rattle.nl_vseg.proofs.Passing.{some_passes}
 use Rattle.nl_vseg.specs.Copying.{SameUse, Restated}
 
 pub has_block : (t : Table) (block : ℕ) → t.first ≡ 0 → block < length t.blocks → HasBlock t block
 has_block t block first within = record { from = omega (arith, first); below = omega (arith, first, within) }
+
+-- the other blocks are as before
+pub other_row : (t : Table) (block other : ℕ) (row : BlockRow) → t.first ≡ 0 → (other ≡ block → ⊥) → block_at (with_block t block row) other ≡ block_at t other
+other_row t block other row first ne = get_or-set_other t.blocks (block - t.first) (other - t.first) row no_row (λ same. ne (omega (arith, same, first)))
 
 -- the table is over one block
 pub restated : (t : Table) (block : ℕ) (row : BlockRow) → t.first ≡ 0 → block < length t.blocks → Restated block (is_free row) t (with_block t block row)
@@ -79,21 +85,10 @@ restated_after {block} {free} {a} {b} {c} first second = record {
 abbrev num : Bool → ℕ
 num b = cond b 1 0
 
-some_row : (rows : List BlockRow) → 1 ≤ count_by is_free rows → (i : ℕ) × (i < length rows) × (is_free (row_at rows i) ≡ true)
-some_row [] some = absurd (omega (arith, some))
-some_row (row ∷ rows) some = elim (cases_Bool (is_free row)) [
-  | inl free ↦ (0, omega arith, free)
-  | inr used ↦
-      let e : count_by is_free (row ∷ rows) ≡ cond (is_free row) 1 0 + count_by is_free rows = sum_by-cons (λ r. cond (is_free r) 1 0) row rows in
-      let none : cond (is_free row) 1 0 ≡ 0 = ap num used in
-      let rest = some_row rows (omega (arith, some, e, none)) in
-      (suc rest.0, omega (arith, rest.1), rest.2)
-]
-
 -- some block is Free
 pub some_free : (t : Table) → t.first ≡ 0 → 1 ≤ free_count t → (block : ℕ) × (block < length t.blocks) × (block_is_free t block ≡ true)
 some_free t first some =
-    let row = some_row t.blocks some in
+    let row = some_passes is_free no_row t.blocks some in
     (row.0, row.1, ap (λ n. is_free (row_at t.blocks n)) (omega (arith, first)) ∙ row.2)
 
 none_row : (rows : List BlockRow) (i : ℕ) → count_by is_free rows ≡ 0 → i < length rows → is_free (row_at rows i) ≡ false
@@ -112,3 +107,11 @@ none_row (row ∷ rows) (suc i) none within =
 -- no block is Free
 pub none_free : (t : Table) → t.first ≡ 0 → free_count t ≡ 0 → (block : ℕ) → block < length t.blocks → block_is_free t block ≡ false
 none_free t first none block within = ap (λ n. is_free (row_at t.blocks n)) (omega (arith, first)) ∙ none_row t.blocks block none within
+
+-- the wear of each block stays where one is sealed
+pub sealed_wear : (t : Table) (block other : ℕ) → t.first ≡ 0 → block < length t.blocks → (block_at (with_block t block (in_state (block_at t block) Sealed)) other).wear ≡ (block_at t other).wear
+sealed_wear t block other first within = ⊎_elim
+    (λ is. ap (λ n. (block_at (with_block t block (in_state (block_at t block) Sealed)) n).wear) is
+    ∙ (ap (λ (r : BlockRow). r.wear) (get_or-set_same t.blocks (block - t.first) (in_state (block_at t block) Sealed) no_row (omega (arith, first, within))) ∙ ap (λ n. (block_at t n).wear) (sym is)))
+    (λ ne. ap (λ (r : BlockRow). r.wear) (other_row t block other (in_state (block_at t block) Sealed) first ne))
+    (cases_eq other block)

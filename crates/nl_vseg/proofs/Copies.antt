@@ -1,34 +1,133 @@
 -- A cleaning copies the pages of a block one by one.
-use Rattle.std.proofs.Common.{◌≡◌, ◌⊎◌, inl, inr, ⊎_elim, ℕ, ◌+◌, ◌-◌, ◌*◌, ◌/◌, ◌<◌, ◌≤◌, nat_le, Option, Some, None, List, length, set, cond, sym, ◌∙◌, ap, subst, arith, eq-eqb, ne_eqb, Bool, false}
+use Rattle.std.proofs.Common.{◌≡◌, ◌⊎◌, inl, inr, ⊎_elim, ℕ, zero, suc, ◌+◌, ◌-◌, ◌*◌, ◌/◌, ◌%◌, ◌<◌, ◌≤◌, nat_le, Option, Some, None, List, length, get_or, replicate, set, cond, refl, count_by, length-set, sym, ◌∙◌, ap, subst, arith, false}
 use Rattle.std.proofs.lemmas.Bool.{cases_eq, cases_lt, cond-false, lt-leb, true≢false}
-use Rattle.std.proofs.lemmas.List.Sums.{sum_by-set}
+use Rattle.std.proofs.lemmas.List.{get_or-set_same, get_or-set_other, get_or_read, length-replicate}
+use Rattle.std.proofs.lemmas.List.Sums.{sum_by-cons}
+use Rattle.std.proofs.lemmas.Option.{none-some, same_Some}
 use Rattle.nl_field.specs.CrashStates.{LeavesOnly}
 use Rattle.nl_field.specs.Page.{Page, erased, Image, page_at}
-use Rattle.nl_nand.specs.Nand.{Cut, ErasedWithin}
+use Rattle.nl_nand.specs.Nand.{CanProgram, Cut, ErasedWithin}
 use Rattle.nl_nand.proofs.Crashes.{weaken}
-use Rattle.nl_vseg.specs.Pages.{fact_of, main_of, IsBeside}
-use Rattle.nl_vseg.specs.Segment.{Segment, bound, place_of, value_at, map_of, block_is_free, AreBelow, ArePlaces, Holds, IsUnmapped, IsSegment, IsSegmentOf, KeepsSpare, SameSize, TakenAsErased, room}
-use Rattle.nl_vseg.specs.Copying.{is_in, mapped_in, copy_of, ChangedIn, AreMoved}
+use Rattle.nl_vseg.specs.Pages.{Fact, fact_of, main_of, IsBeside}
+use Rattle.nl_vseg.specs.Places.{place_of, value_at, map_of, AreBelow, Holds, IsUnmapped}
+use Rattle.nl_vseg.specs.Layout.{Layout, bound, block_is_free, ArePlaces, IsLayout, IsLayoutOf, HasSpare, SameShape, TakenAsErased, room}
+use Rattle.nl_vseg.specs.Copying.{is_some, target_at, copy_of, AreTargets, ChangedIn, AreMoved, HasHole, IsAt, LeavesHole}
 use Rattle.nl_vseg.specs.Effects.{Keeps, KeepsMap}
 use Rattle.nl_vseg.specs.declared.place.Place.{Place}
-use Rattle.nl_vseg.proofs.Places.{block_of, block_below, beside_of, place_here, place_other, set_place, used_more}
+use Rattle.nl_vseg.proofs.Passing.{one_passes, not_all_pass}
+use Rattle.nl_vseg.proofs.Places.{same_page, block_of, block_below, beside_of, place_here, place_other, set_place, used_more}
 use Rattle.nl_vseg.proofs.Images.{shows_nothing, keeps_changed, changed_more}
 use Rattle.nl_blocks.specs.Table.{free_count}
 use Rattle.nl_vseg.proofs.Blocks.{some_free}
 use Rattle.nl_vseg.proofs.Segments.{free_unmapped, holds_same, map_same}
 
-abbrev num : Bool → ℕ
-num b = cond b 1 0
+-- what was read of the table of copies
+pub copied_at : (targets : List (Option ℕ)) (at : ℕ) (x : Option ℕ) (page : ℕ) → at < length targets → x ≡ get_or targets at x → x ≡ Some page → target_at targets at ≡ Some page
+copied_at targets at x page within read is = sym (get_or_read targets at x within read None) ∙ is
 
--- the count of the addresses in the victim falls by one
-pub fewer_mapped : (pages victim v : ℕ) (old new : Place) (copies : List (Option Place)) → v < length copies → place_of copies v ≡ Some old → old.page / pages ≡ victim → (new.page / pages ≡ victim → ⊥)
-    → mapped_in pages victim (set copies v (Some new)) + 1 ≡ mapped_in pages victim copies
-fewer_mapped pages victim v old new copies within named is ne =
-    let e : mapped_in pages victim (set copies v (Some new)) + cond (is_in pages victim (place_of copies v)) 1 0 ≡ mapped_in pages victim copies + cond (is_in pages victim (Some new)) 1 0 =
-    sum_by-set (λ x. cond (is_in pages victim x) 1 0) copies v (Some new) None within in
-    let was : num (is_in pages victim (place_of copies v)) ≡ 1 = ap (λ x. num (is_in pages victim x)) named ∙ ap num (eq-eqb (old.page / pages) victim is) in
-    let now : num (is_in pages victim (Some new)) ≡ 0 = ap num (ne_eqb (new.page / pages) victim ne) in
-    omega (arith, e, was, now)
+pub not_copied : (targets : List (Option ℕ)) (at : ℕ) (x : Option ℕ) → at < length targets → x ≡ get_or targets at x → x ≡ None → target_at targets at ≡ None
+not_copied targets at x within read is = sym (get_or_read targets at x within read None) ∙ is
+
+-- one copy more
+pub targets_more : {pages target used : ℕ} {targets : List (Option ℕ)} (at : ℕ) → at < pages → target_at targets at ≡ None → AreTargets pages target used targets
+    → AreTargets pages target (used + 1) (set targets at (Some (target * pages + used)))
+targets_more {pages} {target} {used} {targets} at within none are = record {
+  count = length-set targets at (Some (target * pages + used)) ∙ are.count;
+  as_many = one_passes is_some targets at (Some (target * pages + used)) None (omega (arith, within, are.count)) (ap is_some none) refl ∙ ap (λ n. n + 1) are.as_many;
+  inside = λ k page named. elim (cases_eq k at) [
+    | inl is ↦
+        let new : target * pages + used ≡ page = same_Some (target * pages + used) page
+        (sym (ap (target_at (set targets at (Some (target * pages + used)))) is ∙ get_or-set_same targets at (Some (target * pages + used)) None (omega (arith, within, are.count))) ∙ named) in
+        (omega (arith, new), omega (arith, new))
+    | inr ne ↦
+        let old = are.inside k page (sym (get_or-set_other targets at k (Some (target * pages + used)) None ne) ∙ named) in
+        (old.0, omega (arith, old.1))
+  ];
+}
+
+-- while a page of the victim was not copied, a page of the target is left
+pub used_below : {pages victim target used : ℕ} {x : Option Place} {targets : List (Option ℕ)} → AreTargets pages target used targets → LeavesHole pages victim x targets → used < pages
+used_below {targets = targets} are hole =
+    let short = not_all_pass is_some targets hole.at (Some 0) None (omega (arith, are.count, hole.within)) (ap is_some hole.not_copied) refl in
+    omega (arith, short, are.count, are.as_many)
+
+-- also after one copy more
+pub room_left : {pages victim target used : ℕ} {x : Option Place} {targets : List (Option ℕ)} (place : Place) → x ≡ Some place → place.page / pages ≡ victim → 0 < pages
+    → AreTargets pages target used targets → LeavesHole pages victim x targets → target_at targets (place.page % pages) ≡ None → used + 1 < pages
+room_left {pages} {victim} {target} {used} {x} {targets} place named in_victim some are hole none =
+    let within : place.page % pages < pages = omega (arith, some) in
+    let more = targets_more (place.page % pages) within none are in
+    let apart : hole.at ≡ place.page % pages → ⊥ = λ is. hole.other (record { found = place; named = named; in_victim = in_victim; offset = sym is }) in
+    let still : target_at (set targets (place.page % pages) (Some (target * pages + used))) hole.at ≡ None =
+    get_or-set_other targets (place.page % pages) hole.at (Some (target * pages + used)) None apart ∙ hole.not_copied in
+    let short = not_all_pass is_some (set targets (place.page % pages) (Some (target * pages + used))) hole.at (Some 0) None (omega (arith, more.count, hole.within)) (ap is_some still) refl in
+    omega (arith, short, more.count, more.as_many)
+
+-- the next page of the target can be programmed
+pub target_program : (target pages used : ℕ) (image : Image) → image.pages ≡ pages → used < pages → ErasedWithin image (target * pages + used) (target * pages + pages) → CanProgram image (target * pages + used)
+target_program target pages used image size room erased_is = record {
+  block = target;
+  from = subst (λ n. target * n ≤ target * pages + used) (sym size) (omega arith);
+  below = subst (λ n. target * pages + used < target * n + n) (sym size) (omega (arith, room));
+  rest_erased = subst (λ n. ErasedWithin image (target * pages + used) (target * n + n)) (sym size) erased_is;
+}
+
+-- which pages were copied, with one more
+pub targets_grown : (pages victim at to : ℕ) (place : Place) (x : Option Place) (targets : List (Option ℕ)) → x ≡ Some place → place.page / pages ≡ victim → place.page % pages ≡ at → at < length targets
+    → (k page : ℕ) → target_at (set targets at (Some to)) k ≡ Some page → (target_at targets k ≡ Some page) ⊎ IsAt pages victim k x
+targets_grown pages victim at to place x targets named in_victim offset within k page is = elim (cases_eq k at) [
+  | inl same ↦ inr (record { found = place; named = named; in_victim = in_victim; offset = offset ∙ sym same })
+  | inr ne ↦ inl (sym (get_or-set_other targets at k (Some to) None ne) ∙ is)
+]
+
+-- nothing was copied
+pub no_target : (n at page : ℕ) → target_at (replicate n None) at ≡ Some page → ⊥
+no_target zero at page is = none-some page is
+no_target (suc n) zero page is = none-some page is
+no_target (suc n) (suc at) page is = no_target n at page is
+
+none_passes : (n : ℕ) → count_by is_some (replicate n None) ≡ 0
+none_passes zero = refl
+none_passes (suc n) =
+    let e : count_by is_some (replicate (suc n) None) ≡ 0 + count_by is_some (replicate n None) = sum_by-cons (λ x. cond (is_some x) 1 0) None (replicate n None) in
+    let rest : count_by is_some (replicate n None) ≡ 0 = none_passes n in
+    omega (arith, e, rest)
+
+pub new_targets : (pages target : ℕ) → AreTargets pages target 0 (replicate pages None)
+new_targets pages target = record {
+  count = length-replicate pages None;
+  as_many = none_passes pages;
+  inside = λ at page is. absurd (no_target pages at page is);
+}
+
+-- a page of the victim that no address has is left
+pub hole_left : {pages victim : ℕ} {targets : List (Option ℕ)} {first : List (Option Place)} (v n : ℕ) → 0 < pages → (hole : HasHole pages victim first)
+    → ((at page : ℕ) → target_at targets at ≡ Some page → (u : ℕ) × (u < n) × IsAt pages victim at (place_of first u)) → LeavesHole pages victim (place_of first v) targets
+hole_left {pages} {victim} {targets} {first} v n some hole sources = record {
+  at = hole.page % pages;
+  within = omega (arith, some);
+  not_copied = at_hole (target_at targets (hole.page % pages)) refl;
+  other = λ is. not_hole v is;
+}
+  where
+    not_hole : (u : ℕ) → IsAt pages victim (hole.page % pages) (place_of first u) → ⊥
+    not_hole u is = hole.beside u is.found is.named (same_page is.found.page hole.page pages (is.in_victim ∙ sym hole.inside) is.offset)
+
+    at_hole : (x : Option ℕ) → target_at targets (hole.page % pages) ≡ x → target_at targets (hole.page % pages) ≡ None
+    at_hole None is = is
+    at_hole (Some page) is = let s = sources (hole.page % pages) page is in absurd (not_hole s.0 s.2)
+
+-- a page that was copied is not that of another address
+pub fresh_page : (pages victim : ℕ) (targets : List (Option ℕ)) (first : List (Option Place)) (image : Image) (v : ℕ) → Holds image first
+    → ((at page : ℕ) → target_at targets at ≡ Some page → (u : ℕ) × (u < v) × IsAt pages victim at (place_of first u))
+    → (at page : ℕ) → target_at targets at ≡ Some page → IsAt pages victim at (place_of first v) → ⊥
+fresh_page pages victim targets first image v holds sources at page copied is =
+    let s = sources at page copied in
+    let other = s.2 in
+    let same : other.found.page ≡ is.found.page = same_page other.found.page is.found.page pages (other.in_victim ∙ sym is.in_victim) (other.offset ∙ sym is.offset) in
+    let e = sym (holds s.0 other.found other.named) ∙ (ap (λ n. fact_of (page_at image n)) same ∙ holds v is.found is.named) in
+    let u_is : s.0 ≡ v = ap (λ (x : Fact). x.0) (same_Some (s.0, other.found.stamp, main_of (page_at image other.found.page)) (v, is.found.stamp, main_of (page_at image is.found.page)) e) in
+    omega (arith, s.1, u_is)
 
 module _ (pages target used to v : ℕ) (place : Place) (copies : List (Option Place)) (old c : Image) (at : to ≡ target * pages + used) (room : used < pages) (within : v < length copies)
     (named : place_of copies v ≡ Some place) (holds : Holds old copies) (erased_is : ErasedWithin old (target * pages + used) (target * pages + pages)) (w : ℕ) where
@@ -73,8 +172,8 @@ module _ (pages target used to v : ℕ) (place : Place) (copies : List (Option P
       changed_more to v place (copy_of (page_at old place.page) v place.stamp w) changed (same ∙ named) (unmapped v place (same ∙ named)) copied (omega (arith, at)) (omega (arith, at, room)) cut
 
 -- the copies take the place of the map
-pub moved_segment : (seg : Segment) (copies : List (Option Place)) (used victim wide : ℕ) → IsSegment seg → seg.used < seg.table.size → used ≤ seg.table.size → length copies ≡ length seg.places
-    → ArePlaces seg.table.size wide seg.active used copies → AreMoved seg.table.size victim seg.active used seg.places copies → IsSegment (record seg { places = copies; used = used })
+pub moved_segment : (seg : Layout) (copies : List (Option Place)) (used victim wide : ℕ) → IsLayout seg → seg.used < seg.table.size → used ≤ seg.table.size → length copies ≡ length seg.places
+    → ArePlaces seg.table.size wide seg.active used copies → AreMoved seg.table.size victim seg.active used seg.places copies → IsLayout (record seg { places = copies; used = used })
 moved_segment seg copies used victim wide is room fits count are moved = record {
   first = is.first;
   some = is.some;
@@ -88,7 +187,6 @@ moved_segment seg copies used victim wide is room fits count are moved = record 
     each = λ v place named.
         let are_is = are.each v place named in
         record { within = below v place named (moved.each v place named); behind = are_is.behind; spelled = are_is.spelled };
-    apart = are.apart;
   };
   in_use = λ v place named. in_use v place (moved.each v place named);
 }
@@ -111,9 +209,9 @@ moved_unmapped pages victim target used old new ne fits moved v place named = �
     (moved.each v place named)
 
 -- an image of the segment with the copies
-pub moved_image : (seg : Segment) (copies : List (Option Place)) (used : ℕ) (old c : Image) → IsSegment seg → seg.used < seg.table.size → IsSegmentOf old seg → Holds c copies
+pub moved_image : (seg : Layout) (copies : List (Option Place)) (used : ℕ) (old c : Image) → IsLayout seg → seg.used < seg.table.size → IsLayoutOf old seg → Holds c copies
     → ErasedWithin c (seg.active * seg.table.size + used) (seg.active * seg.table.size + seg.table.size)
-    → ((p : ℕ) → IsBeside seg.table.size seg.active p → page_at c p ≡ page_at old p) → IsSegmentOf c (record seg { places = copies; used = used })
+    → ((p : ℕ) → IsBeside seg.table.size seg.active p → page_at c p ≡ page_at old p) → IsLayoutOf c (record seg { places = copies; used = used })
 moved_image seg copies used old c is room seg_is holds blank same = record {
   holds = holds;
   blank = λ p taken. ⊎_elim
@@ -123,9 +221,9 @@ moved_image seg copies used old c is room seg_is holds blank same = record {
 }
 
 -- changes in a block without a page of the map, of which nothing is taken as erased
-pub given_image : (seg new : Segment) (old c : Image) → new.places ≡ seg.places → IsUnmapped seg.table.size seg.places seg.active → IsSegmentOf old seg
+pub given_image : (seg new : Layout) (old c : Image) → new.places ≡ seg.places → IsUnmapped seg.table.size seg.places seg.active → IsLayoutOf old seg
     → ((p : ℕ) → TakenAsErased new p → TakenAsErased seg p × (p / seg.table.size ≡ seg.active → ⊥))
-    → ((p : ℕ) → IsBeside seg.table.size seg.active p → page_at c p ≡ page_at old p) → IsSegmentOf c new
+    → ((p : ℕ) → IsBeside seg.table.size seg.active p → page_at c p ≡ page_at old p) → IsLayoutOf c new
 given_image seg new old c places unmapped seg_is taken same = record {
   holds = subst (Holds c) (sym places) (holds_same seg.places old c seg_is.holds (λ v place named. same place.page (unmapped v place named)));
   blank = λ p t. let e = taken p t in same p (beside_of p seg.table.size seg.active e.1) ∙ seg_is.blank p e.0;
@@ -149,17 +247,16 @@ changed_keeps {M} {clock} {contents} {left} {old} {new} pages count block places
 pub widen : {pages below active used : ℕ} {places : List (Option Place)} (wide : ℕ) → below ≤ wide → ArePlaces pages below active used places → ArePlaces pages wide active used places
 widen wide le are = record {
   each = λ v place named. let is = are.each v place named in record { within = omega (arith, is.within, le); behind = is.behind; spelled = is.spelled };
-  apart = are.apart;
 }
 
 -- a block of which no page is used is erased
-pub next_blank : (seg : Segment) (image : Image) → IsSegment seg → seg.used ≡ 0 → IsSegmentOf image seg → ErasedWithin image (seg.active * seg.table.size) (seg.active * seg.table.size + seg.table.size)
+pub next_blank : (seg : Layout) (image : Image) → IsLayout seg → seg.used ≡ 0 → IsLayoutOf image seg → ErasedWithin image (seg.active * seg.table.size) (seg.active * seg.table.size + seg.table.size)
 next_blank seg image is begins seg_is p from below =
     let e = block_below seg.active (length seg.table.blocks) seg.table.size is.active_is in
     seg_is.blank p (omega (arith, e, below), inl (omega (arith, from, begins), below))
 
 -- more pages of the active block are used
-pub used_segment : (seg : Segment) (used : ℕ) → IsSegment seg → seg.used < seg.table.size → seg.used ≤ used → used ≤ seg.table.size → IsSegment (record seg { used = used })
+pub used_segment : (seg : Layout) (used : ℕ) → IsLayout seg → seg.used < seg.table.size → seg.used ≤ used → used ≤ seg.table.size → IsLayout (record seg { used = used })
 used_segment seg used is room more fits = record {
   first = is.first;
   some = is.some;
@@ -174,7 +271,7 @@ used_segment seg used is room more fits = record {
 }
 
 -- all pages of the active block count as used
-pub closed_segment : (seg : Segment) (used : ℕ) → IsSegment seg → used ≡ seg.table.size → IsSegment (record seg { used = used })
+pub closed_segment : (seg : Layout) (used : ℕ) → IsLayout seg → used ≡ seg.table.size → IsLayout (record seg { used = used })
 closed_segment seg used is full = record {
   first = is.first;
   some = is.some;
@@ -189,17 +286,17 @@ closed_segment seg used is full = record {
 }
 
 -- what is taken as erased beside the active block, whatever is used of that
-pub taken_beside : (seg : Segment) (used : ℕ) (p : ℕ) → TakenAsErased (record seg { used = used }) p → (p / seg.table.size ≡ seg.active → ⊥) → TakenAsErased seg p
+pub taken_beside : (seg : Layout) (used : ℕ) (p : ℕ) → TakenAsErased (record seg { used = used }) p → (p / seg.table.size ≡ seg.active → ⊥) → TakenAsErased seg p
 taken_beside seg used p taken ne = (taken.0, ⊎_elim (λ next. absurd (ne (block_of p seg.table.size seg.active (omega (arith, next.0)) next.1))) (λ free. inr free) taken.1)
 
 -- where a block is Free, some block holds no page of the map
-pub free_spare : (seg : Segment) → IsSegment seg → 1 ≤ free_count seg.table → KeepsSpare seg
+pub free_spare : (seg : Layout) → IsLayout seg → 1 ≤ free_count seg.table → HasSpare seg
 free_spare seg is some =
     let free = some_free seg.table is.first some in
     record { block = free.0; within = free.1; unmapped = free_unmapped seg is free.0 free.2 }
 
 -- where there is room, a block is Free
-pub room_free : (seg : Segment) → 0 < room seg → 1 ≤ free_count seg.table
+pub room_free : (seg : Layout) → 0 < room seg → 1 ≤ free_count seg.table
 room_free seg some = elim (cases_lt 0 (free_count seg.table)) [
   | inl lt ↦ omega (arith, lt)
   | inr none ↦
@@ -209,5 +306,5 @@ room_free seg some = elim (cases_lt 0 (free_count seg.table)) [
 ]
 
 -- with these numbers for those
-pub resized : (P : ℕ → ℕ → Type 0) (old new : Segment) → SameSize old new → P new.table.size (bound new) → P old.table.size (bound old)
+pub resized : (P : ℕ → ℕ → Type 0) (old new : Layout) → SameShape old new → P new.table.size (bound new) → P old.table.size (bound old)
 resized P old new same is = subst (λ n. P n (bound old)) same.pages (subst (P new.table.size) (λ i. same.blocks i * same.pages i) is)

@@ -1,13 +1,13 @@
 -- Some block in use has a dead page: the addresses do not fill all blocks but one.
 use Rattle.std.proofs.Common.{◌≡◌, ◌⊎◌, inl, inr, ℕ, zero, suc, ◌+◌, ◌*◌, ◌/◌, ◌<◌, ◌≤◌, ◌==◌, Bool, true, false, cond, List, [], ◌∷◌, length, Option, Some, None, refl, sym, ◌∙◌, ap, subst, arith, count_by}
 use Rattle.std.proofs.lemmas.Bool.{cases_eq, cases_Bool, eq-eqb, ne_eqb}
-use Rattle.std.proofs.lemmas.Option.{none-some}
 use Rattle.std.proofs.lemmas.List.Sums.{sum_by-cons}
 use Rattle.nl_blocks.specs.Table.{BlockRow, Table, block_at, row_at, is_free, is_sealed, free_count, dead_count}
-use Rattle.nl_vseg.specs.Segment.{place_of, block_is_free, IsUnmapped}
+use Rattle.nl_vseg.specs.Places.{IsUnmapped}
+use Rattle.nl_vseg.specs.Layout.{block_is_free}
 use Rattle.nl_vseg.specs.Copying.{is_in, mapped_in, IsSettled}
 use Rattle.nl_vseg.specs.declared.place.Place.{Place}
-use Rattle.nl_vseg.proofs.Places.{not_beside, beside_of}
+use Rattle.nl_vseg.proofs.Places.{not_beside}
 
 abbrev num : Bool → ℕ
 num b = cond b 1 0
@@ -113,10 +113,9 @@ some_dead t places first some few fit settled none =
     each k less (inr is) =
         let counted = settled.counted k less in
         let nothing = none k less (settled.sealed k less is) in
-        let all : mapped_in t.size k places ≡ t.size = omega (arith, counted, nothing) in
-        omega (arith, all)
+        omega (arith, counted, nothing)
 
--- no address has its page in a block that holds none, and the other way round
+-- no address has its page in a block that holds none
 pub mapped_zero : (pages block : ℕ) (places : List (Option Place)) → 0 < pages → IsUnmapped pages places block → mapped_in pages block places ≡ 0
 mapped_zero pages block [] some unmapped = refl
 mapped_zero pages block (None ∷ places) some unmapped =
@@ -128,29 +127,3 @@ mapped_zero pages block (Some place ∷ places) some unmapped =
     let here : cond (is_in pages block (Some place)) 1 0 ≡ 0 = ap num (ne_eqb (place.page / pages) block (not_beside place.page pages block some (unmapped 0 place refl))) in
     let e : mapped_in pages block (Some place ∷ places) ≡ cond (is_in pages block (Some place)) 1 0 + mapped_in pages block places = sum_by-cons (λ x. cond (is_in pages block x) 1 0) (Some place) places in
     omega (arith, e, here, rest)
-
-pub zero_unmapped : (pages block : ℕ) (places : List (Option Place)) → mapped_in pages block places ≡ 0 → IsUnmapped pages places block
-zero_unmapped pages block places zero_is v place named = beside_of place.page pages block (λ is. counted places zero_is v named is)
-  where
-    counted : (list : List (Option Place)) → mapped_in pages block list ≡ 0 → (v : ℕ) → place_of list v ≡ Some place → place.page / pages ≡ block → ⊥
-    counted [] none v there is = none-some place there
-    counted (x ∷ list) none zero there is =
-        let e : mapped_in pages block (x ∷ list) ≡ cond (is_in pages block x) 1 0 + mapped_in pages block list = sum_by-cons (λ y. cond (is_in pages block y) 1 0) x list in
-        let one : cond (is_in pages block x) 1 0 ≡ 1 = ap (λ y. cond (is_in pages block y) 1 0) there ∙ ap num (eq-eqb (place.page / pages) block is) in
-        omega (arith, none, e, one)
-    counted (x ∷ list) none (suc v) there is =
-        let e : mapped_in pages block (x ∷ list) ≡ cond (is_in pages block x) 1 0 + mapped_in pages block list = sum_by-cons (λ y. cond (is_in pages block y) 1 0) x list in
-        let rest : mapped_in pages block list ≡ 0 = omega (arith, none, e) in
-        counted list rest v there is
-
--- an address that has its page in the block is counted
-pub mapped_some : (pages block v : ℕ) (place : Place) (places : List (Option Place)) → place_of places v ≡ Some place → place.page / pages ≡ block → 1 ≤ mapped_in pages block places
-mapped_some pages block v place [] named is = absurd (none-some place named)
-mapped_some pages block zero place (x ∷ places) named is =
-    let e : mapped_in pages block (x ∷ places) ≡ cond (is_in pages block x) 1 0 + mapped_in pages block places = sum_by-cons (λ y. cond (is_in pages block y) 1 0) x places in
-    let one : cond (is_in pages block x) 1 0 ≡ 1 = ap (λ y. cond (is_in pages block y) 1 0) named ∙ ap num (eq-eqb (place.page / pages) block is) in
-    omega (arith, e, one)
-mapped_some pages block (suc v) place (x ∷ places) named is =
-    let e : mapped_in pages block (x ∷ places) ≡ cond (is_in pages block x) 1 0 + mapped_in pages block places = sum_by-cons (λ y. cond (is_in pages block y) 1 0) x places in
-    let rest : 1 ≤ mapped_in pages block places = mapped_some pages block v place places named is in
-    omega (arith, e, rest)

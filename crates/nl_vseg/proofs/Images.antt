@@ -6,7 +6,7 @@ use Rattle.nl_field.specs.Page.{Page, erased, uncorrectable, Image, page_at}
 use Rattle.nl_nand.specs.Nand.{Cut}
 use Rattle.nl_nand.proofs.Crashes.{outside}
 use Rattle.nl_vseg.specs.Pages.{Fact, fact_of, main_of, Shows, IsBeside}
-use Rattle.nl_vseg.specs.Segment.{place_of, value_at, map_of, Holds, AreBelow, IsUnmapped}
+use Rattle.nl_vseg.specs.Places.{place_of, value_at, map_of, Holds, AreBelow, IsUnmapped}
 use Rattle.nl_vseg.specs.Copying.{IsCopy, ChangedIn}
 use Rattle.nl_vseg.specs.Effects.{Keeps, Takes}
 use Rattle.nl_vseg.specs.declared.place.Place.{Place}

@@ -6,6 +6,7 @@ pub mod Images
 pub mod Marks
 pub mod Members
 pub mod Newest
+pub mod Passing
 pub mod Places
 pub mod ReadPlaces
 pub mod Records
@@ -14,4 +15,5 @@ pub mod Segments
 pub mod Shapes
 pub mod Spares
 pub mod Standing
+pub mod Views
 pub mod Writing

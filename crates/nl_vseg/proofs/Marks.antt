@@ -1,6 +1,6 @@
 -- What marking a page does to the table of blocks.
-use Rattle.std.proofs.Common.{◌≡◌, ◌⊎◌, inl, inr, ⊎_elim, ℕ, suc, ◌+◌, ◌-◌, ◌*◌, ◌/◌, ◌%◌, ◌<◌, Bool, true, false, cond, List, [], ◌∷◌, length, get_or, take, Option, Some, None, IfSome, refl, sym, ◌∙◌, ap, subst, arith, length-set, count_by}
-use Rattle.std.proofs.lemmas.Bool.{cases_eq, eq-eqb, ne_eqb}
+use Rattle.std.proofs.Common.{◌≡◌, inl, inr, ⊎_elim, ℕ, suc, ◌+◌, ◌-◌, ◌*◌, ◌/◌, ◌%◌, ◌<◌, ◌≤◌, Bool, true, false, cond, List, [], ◌∷◌, length, get_or, take, Option, Some, None, IfSome, refl, sym, ◌∙◌, ap, subst, arith, length-set, count_by}
+use Rattle.std.proofs.lemmas.Bool.{true≢false, cases_eq, eq-eqb}
 use Rattle.std.proofs.lemmas.Nat.{div-mul-add, mod-mul-add, div_below}
 use Rattle.std.proofs.lemmas.List.{get_or-set_same, get_or-set_other}
 use Rattle.std.proofs.lemmas.List.Sums.{sum_by-cons, sum_by-set, count_by_more_yes, count_by_more_no}
@@ -9,10 +9,12 @@ use Rattle.nl_blocks.specs.declared.states.PageState.TheVariants.{Dead, Live}
 use Rattle.nl_blocks.specs.declared.states.Page.{Page}
 use Rattle.nl_blocks.specs.Table.{BlockRow, Table, block_at, page_at, new_page, no_row, with_page, with_mark, is_free, is_dead, dead_count}
 use Rattle.nl_blocks.proofs.TableLaws.{page_in, page_at-with_page_other}
-use Rattle.nl_vseg.specs.Segment.{place_of}
-use Rattle.nl_vseg.specs.Copying.{SameStates, IsMarked, is_in, mapped_in}
+use Rattle.nl_vseg.specs.Places.{place_of, IsUnmapped}
+use Rattle.nl_vseg.specs.Copying.{SameStates, IsMarked, IsSettled, HasHole, is_in, mapped_in}
 use Rattle.nl_vseg.specs.declared.place.Place.{Place}
-use Rattle.nl_vseg.proofs.Places.{block_below}
+use Rattle.std.proofs.lemmas.Option.{none-some, same_Some}
+use Rattle.nl_vseg.proofs.Passing.{some_passes, not_all_pass}
+use Rattle.nl_vseg.proofs.Places.{block_below, beside_of}
 use Rattle.nl_vseg.proofs.Blocks.{has_block, restated, restated_same, same_use, same_then}
 
 pub states_same : (t : Table) → SameStates t t
@@ -63,10 +65,6 @@ module _ (t : Table) (page : ℕ) (state : PageState) (first : t.first ≡ 0) (w
 abbrev num : Bool → ℕ
 num b = cond b 1 0
 
-pub dead_or_live : (s : PageState) → (s ≡ Dead) ⊎ (s ≡ Live)
-dead_or_live Dead = inl refl
-dead_or_live Live = inr refl
-
 dead_is : (p : Page) → p.state ≡ Dead → is_dead p ≡ true
 dead_is p is = rw is refl
 
@@ -78,37 +76,43 @@ all_dead (p ∷ pages) each =
     let rest : count_by is_dead pages ≡ length pages = all_dead pages (λ k below. each (suc k) (omega arith)) in
     rw (sum_by-cons (λ x. cond (is_dead x) 1 0) p pages, here) (omega arith)
 
+-- the page at an offset of a block
+pub page_of : (t : Table) (block k : ℕ) → k < t.size → page_at t (block * t.size + k) ≡ get_or (block_at t block).pages k new_page
+page_of t block k less = page_in t (block * t.size + k) block (div-mul-add block t.size k less) ∙ ap (λ n. get_or (block_at t block).pages n new_page) (mod-mul-add block t.size k less)
+
 -- a block of which each page is dead
 pub block_dead : (t : Table) (block : ℕ) → length (block_at t block).pages ≡ t.size → ((k : ℕ) → k < t.size → (page_at t (block * t.size + k)).state ≡ Dead) → dead_count (block_at t block) ≡ t.size
 block_dead t block rows each = all_dead (block_at t block).pages (λ k below.
     let less : k < t.size = omega (arith, below, rows) in
-    let same : page_at t (block * t.size + k) ≡ get_or (block_at t block).pages k new_page =
-    page_in t (block * t.size + k) block (div-mul-add block t.size k less) ∙ ap (λ n. get_or (block_at t block).pages n new_page) (mod-mul-add block t.size k less) in
-    sym (ap (λ (p : Page). p.state) same) ∙ each k less) ∙ rows
+    sym (ap (λ (p : Page). p.state) (page_of t block k less)) ∙ each k less) ∙ rows
 
 pub one_unmarked : (t : Table) → IsMarked None t t
-one_unmarked t = record { states = states_same t; rows = λ block. refl; dead = λ block. omega arith; live = λ page below live. inl live }
+one_unmarked t = record { states = states_same t; rows = λ block. refl; dead = λ block. omega arith; live = λ page below live. live; here = λ p is. absurd (none-some p is) }
+
+at_most_one : (b : Bool) → cond b 1 0 ≤ 1
+at_most_one true = omega arith
+at_most_one false = omega arith
 
 pub one_marked : (t : Table) (place : Place) → t.first ≡ 0 → 0 < t.size → place.page < length t.blocks * t.size → ((block : ℕ) → block < length t.blocks → length (block_at t block).pages ≡ t.size)
-    → (page_at t place.page).state ≡ Dead → IsMarked (Some place) t (with_page t place.page Live)
-one_marked t place first some below rows dead = record {
+    → IsMarked (Some place) t (with_page t place.page Live)
+one_marked t place first some below rows = record {
   states = marked_states t place.page Live first within;
   rows = marked_rows t place.page Live first within;
   dead = λ block. elim (cases_eq (place.page / t.size) block) [
     | inl is ↦
         let counted = marked_dead t place.page Live first within inside in
-        let was : cond (is_dead (page_at t place.page)) 1 0 ≡ 1 = ap num (dead_is (page_at t place.page) dead) in
+        let was : cond (is_dead (page_at t place.page)) 1 0 ≤ 1 = at_most_one (is_dead (page_at t place.page)) in
         let here : cond (is_in t.size block (Some place)) 1 0 ≡ 1 = ap num (eq-eqb (place.page / t.size) block is) in
-        subst (λ b. dead_count (block_at (with_page t place.page Live) b) + cond (is_in t.size block (Some place)) 1 0 ≡ dead_count (block_at t b)) is (omega (arith, counted, was, here))
+        subst (λ b. dead_count (block_at t b) ≤ dead_count (block_at (with_page t place.page Live) b) + cond (is_in t.size block (Some place)) 1 0) is (omega (arith, counted, was, here))
     | inr ne ↦
         let same = marked_others t place.page Live first within block (λ e. ne (sym e)) in
-        let here : cond (is_in t.size block (Some place)) 1 0 ≡ 0 = ap num (ne_eqb (place.page / t.size) block ne) in
-        omega (arith, same, here)
+        omega (arith, same)
   ];
   live = λ page page_below live. elim (cases_eq page place.page) [
-    | inl is ↦ inr (place, refl, sym is)
-    | inr ne ↦ inl (sym (ap (λ (p : Page). p.state) (marked_other t place.page Live first within page (div_below page t.size (length t.blocks) some page_below) ne)) ∙ live)
+    | inl is ↦ ap (λ n. (page_at (with_page t place.page Live) n).state) is ∙ now
+    | inr ne ↦ ap (λ (p : Page). p.state) (marked_other t place.page Live first within page (div_below page t.size (length t.blocks) some page_below) ne) ∙ live
   ];
+  here = λ p is. subst (λ (q : Place). (page_at (with_page t place.page Live) q.page).state ≡ Live) (same_Some place p is) now;
 }
   where
     within : place.page / t.size < length t.blocks
@@ -116,6 +120,9 @@ one_marked t place first some below rows dead = record {
 
     inside : place.page % t.size < length (block_at t (place.page / t.size)).pages
     inside = let all = rows (place.page / t.size) within in omega (arith, all, some)
+
+    now : (page_at (with_page t place.page Live) place.page).state ≡ Live
+    now = ap (λ (p : Page). p.state) (marked_same t place.page Live first within inside)
 
 -- the number of addresses in a block, with one address more
 pub mapped_more : (pages block v : ℕ) (places : List (Option Place)) → v < length places
@@ -126,12 +133,6 @@ mapped_more pages block v places within = at (is_in pages block (place_of places
     at true is = count_by_more_yes (is_in pages block) places v None within is
     at false is = let e = count_by_more_no (is_in pages block) places v None within is in omega (arith, e)
 
-pub dead_not_live : {s : PageState} → s ≡ Dead → s ≡ Live → ⊥
-dead_not_live dead live = differ (sym dead ∙ live)
-  where
-    differ : ◌≡◌ {A = PageState} Dead Live → ⊥
-    differ e = cc
-
 pub page_in_bound : (block count size k : ℕ) → block < count → k < size → block * size + k < count * size
 page_in_bound block count size k within less = let e = block_below block count size within in omega (arith, e, less)
 
@@ -140,15 +141,28 @@ pub place_below : (places : List (Option Place)) (v bound : ℕ) (x : Option Pla
 place_below places v bound None named below = tt
 place_below places v bound (Some place) named below = below v place named
 
-pub place_dead : (t : Table) (places : List (Option Place)) (v bound : ℕ) (x : Option Place) → place_of places v ≡ x
-    → ((u : ℕ) (place : Place) → place_of places u ≡ Some place → place.page < bound)
-    → ((u w : ℕ) (a b : Place) → place_of places u ≡ Some a → place_of places w ≡ Some b → a.page ≡ b.page → u ≡ w)
-    → ((page : ℕ) → page < bound → (page_at t page).state ≡ Live → (u : ℕ) × (place : Place) × (u < v) × (place_of places u ≡ Some place) × (place.page ≡ page))
-    → IfSome x (λ p. (page_at t p.page).state ≡ Dead)
-place_dead t places v bound None named below apart owned = tt
-place_dead t places v bound (Some place) named below apart owned = elim (dead_or_live (page_at t place.page).state) [
-  | inl dead ↦ dead
-  | inr live ↦
-      let o = owned place.page (below v place named) live in
-      absurd (omega (arith, o.2, apart o.0 v o.1 place o.3 named o.4))
-]
+live_is : (p : Page) → p.state ≡ Live → is_dead p ≡ false
+live_is p is = rw is refl
+
+module _ (places : List (Option Place)) (t : Table) (settled : IsSettled places t) (block : ℕ) (within : block < length t.blocks) where
+  -- a dead page is that of no address
+  pub has_hole : 0 < dead_count (block_at t block) → HasHole t.size block places
+  has_hole some =
+      let dead = some_passes is_dead new_page (block_at t block).pages some in
+      let less : dead.0 < t.size = omega (arith, dead.1, settled.rows block within) in
+      record {
+        page = block * t.size + dead.0;
+        inside = div-mul-add block t.size dead.0 less;
+        beside = λ v place named at.
+            let is : page_at t place.page ≡ get_or (block_at t block).pages dead.0 new_page = ap (page_at t) at ∙ page_of t block dead.0 less in
+            true≢false (sym dead.2 ∙ (ap is_dead (sym is) ∙ live_is (page_at t place.page) (settled.live v place named)));
+      }
+
+  -- a block of dead pages has no page of the map
+  pub all_dead_unmapped : 0 < t.size → t.size ≤ dead_count (block_at t block) → IsUnmapped t.size places block
+  all_dead_unmapped some all v place named = beside_of place.page t.size block (λ at.
+      let less : place.page % t.size < length (block_at t block).pages = omega (arith, settled.rows block within, some) in
+      let here : is_dead (get_or (block_at t block).pages (place.page % t.size) new_page) ≡ false =
+      subst (λ b. is_dead (get_or (block_at t b).pages (place.page % t.size) new_page) ≡ false) at (live_is (page_at t place.page) (settled.live v place named)) in
+      let short = not_all_pass is_dead (block_at t block).pages (place.page % t.size) new_page new_page less here refl in
+      omega (arith, short, all, settled.rows block within))

@@ -6,7 +6,8 @@ use Rattle.std.proofs.lemmas.List.{get_or-set_same, get_or-set_other, get_or_rea
 use Rattle.std.proofs.lemmas.Option.{none-some, same_Some}
 use Rattle.nl_field.specs.Spelling.{is_stamp}
 use Rattle.nl_vseg.specs.Pages.{IsBeside}
-use Rattle.nl_vseg.specs.Segment.{place_of, IsPlace, ArePlaces}
+use Rattle.nl_vseg.specs.Places.{place_of}
+use Rattle.nl_vseg.specs.Layout.{IsPlace, ArePlaces}
 use Rattle.nl_vseg.specs.declared.place.Place.{Place}
 
 -- a page of the block with this number
@@ -21,6 +22,10 @@ block_of p pages block from below =
     let rest : p - block * pages < pages = omega arith in
     let is : block * pages + (p - block * pages) ≡ p = omega arith in
     ap (λ n. n / pages) (sym is) ∙ div-mul-add block pages (p - block * pages) rest
+
+-- a page is told by its block and its offset in it
+pub same_page : (a b pages : ℕ) → a / pages ≡ b / pages → a % pages ≡ b % pages → a ≡ b
+same_page a b pages block offset = sym (div-add-mod' a pages) ∙ ((λ i. block i * pages + offset i) ∙ div-add-mod' b pages)
 
 pub not_beside : (p pages block : ℕ) → 0 < pages → IsBeside pages block p → p / pages ≡ block → ⊥
 not_beside p pages block some (inl lt) is = let at = in_block p pages block some is in omega (arith, at.0, lt)
@@ -86,16 +91,24 @@ module _ {pages bound active used : ℕ} {places : List (Option Place)} where
     each = λ v place named.
         let is = are.each v place named in
         record { within = is.within; behind = ⊎_elim (λ lt. inl (omega (arith, lt, le))) (λ ge. inr ge) is.behind; spelled = is.spelled };
-    apart = are.apart;
   }
+
+  -- an address gets one of the used pages
+  pub used_placed : (v : ℕ) (new : Place) → v < length places → active * pages ≤ new.page → new.page < active * pages + used → new.page < bound → IsTrue (is_stamp new.stamp)
+      → ArePlaces pages bound active used places → ArePlaces pages bound active used (set places v (Some new))
+  used_placed v new within from is below spelled are = record { each = λ u place named. each u place (set_place places v new within u place named) }
+    where
+      fits_new : IsPlace pages bound active used new
+      fits_new = record { within = below; behind = inl (omega (arith, is)); spelled = spelled }
+
+      each : (u : ℕ) (place : Place) → ((u ≡ v) × (new ≡ place)) ⊎ ((u ≡ v → ⊥) × (place_of places u ≡ Some place)) → IsPlace pages bound active used place
+      each u place (inl here) = subst (IsPlace pages bound active used) here.1 fits_new
+      each u place (inr there) = are.each u place there.1
 
   -- an address gets the next page
   pub next_placed : (v : ℕ) (new : Place) → v < length places → used < pages → new.page ≡ active * pages + used → new.page < bound → IsTrue (is_stamp new.stamp)
       → ArePlaces pages bound active used places → ArePlaces pages bound active (used + 1) (set places v (Some new))
-  next_placed v new within room is below spelled are = record {
-    each = λ u place named. each u place (set_place places v new within u place named);
-    apart = λ u w a b at_u at_w same. apart u w a b same (set_place places v new within u a at_u) (set_place places v new within w b at_w);
-  }
+  next_placed v new within room is below spelled are = record { each = λ u place named. each u place (set_place places v new within u place named) }
     where
       fits_new : IsPlace pages bound active (used + 1) new
       fits_new = record { within = below; behind = inl (omega (arith, is)); spelled = spelled }
@@ -106,35 +119,14 @@ module _ {pages bound active used : ℕ} {places : List (Option Place)} where
           let was = are.each u place there.1 in
           record { within = was.within; behind = ⊎_elim (λ lt. inl (omega (arith, lt))) (λ ge. inr ge) was.behind; spelled = was.spelled }
 
-      not_new : (u : ℕ) (a : Place) → place_of places u ≡ Some a → a.page ≡ new.page → ⊥
-      not_new u a named same = ⊎_elim (λ lt. omega (arith, lt, same, is)) (λ ge. omega (arith, ge, same, is, room)) (are.each u a named).behind
-
-      apart : (u w : ℕ) (a b : Place) → a.page ≡ b.page → ((u ≡ v) × (new ≡ a)) ⊎ ((u ≡ v → ⊥) × (place_of places u ≡ Some a))
-          → ((w ≡ v) × (new ≡ b)) ⊎ ((w ≡ v → ⊥) × (place_of places w ≡ Some b)) → u ≡ w
-      apart u w a b same (inl x) (inl y) = x.0 ∙ sym y.0
-      apart u w a b same (inl x) (inr y) = absurd (not_new w b y.1 (sym same ∙ sym (ap (λ (q : Place). q.page) x.1)))
-      apart u w a b same (inr x) (inl y) = absurd (not_new u a x.1 (same ∙ sym (ap (λ (q : Place). q.page) y.1)))
-      apart u w a b same (inr x) (inr y) = are.apart u w a b x.1 y.1 same
-
--- an address gets a page that is that of no address
+-- an address gets another page
 pub placed : (pages bound active used : ℕ) (places : List (Option Place)) (v : ℕ) (new : Place) → v < length places → IsPlace pages bound active used new
-    → ((u : ℕ) (place : Place) → place_of places u ≡ Some place → place.page ≡ new.page → ⊥)
     → ArePlaces pages bound active used places → ArePlaces pages bound active used (set places v (Some new))
-placed pages bound active used places v new within is beside are = record {
-  each = λ u place named. each u place (set_place places v new within u place named);
-  apart = λ u w a b at_u at_w same. apart u w a b same (set_place places v new within u a at_u) (set_place places v new within w b at_w);
-}
+placed pages bound active used places v new within is are = record { each = λ u place named. each u place (set_place places v new within u place named) }
   where
     each : (u : ℕ) (place : Place) → ((u ≡ v) × (new ≡ place)) ⊎ ((u ≡ v → ⊥) × (place_of places u ≡ Some place)) → IsPlace pages bound active used place
     each u place (inl here) = subst (IsPlace pages bound active used) here.1 is
     each u place (inr there) = are.each u place there.1
-
-    apart : (u w : ℕ) (a b : Place) → a.page ≡ b.page → ((u ≡ v) × (new ≡ a)) ⊎ ((u ≡ v → ⊥) × (place_of places u ≡ Some a))
-        → ((w ≡ v) × (new ≡ b)) ⊎ ((w ≡ v → ⊥) × (place_of places w ≡ Some b)) → u ≡ w
-    apart u w a b same (inl x) (inl y) = x.0 ∙ sym y.0
-    apart u w a b same (inl x) (inr y) = absurd (beside w b y.1 (sym same ∙ sym (ap (λ (q : Place). q.page) x.1)))
-    apart u w a b same (inr x) (inl y) = absurd (beside u a x.1 (same ∙ sym (ap (λ (q : Place). q.page) y.1)))
-    apart u w a b same (inr x) (inr y) = are.apart u w a b x.1 y.1 same
 
 -- a page of a block in use is not one of the next pages, where that block is not written to
 pub behind_of : (pages active used p block : ℕ) → used ≤ pages → p / pages ≡ block → (used < pages → block ≡ active → ⊥) → (p < active * pages + used) ⊎ (active * pages + pages ≤ p)

@@ -9,8 +9,9 @@ use Rattle.nl_field.specs.declared.spare.SpareRec.{SpareRec}
 use Rattle.nl_field.specs.declared.spare.SpareRec.TheVariants.{Virtual, Physical}
 use Rattle.nl_nand.specs.declared.geometry.Geometry.{Geometry}
 use Rattle.nl_vseg.specs.Pages.{Fact, fact_with, fact_of, main_of, stamp_in, stamp_found, stamp_at}
-use Rattle.nl_vseg.specs.Segment.{Segment, bound, place_of, value_at, map_of}
-use Rattle.nl_vseg.specs.Seen.{Fits}
+use Rattle.nl_vseg.specs.Places.{place_of, value_at, map_of}
+use Rattle.nl_vseg.specs.Layout.{Layout, bound}
+use Rattle.nl_vseg.specs.Seen.{FitsLayout}
 use Rattle.nl_vseg.specs.Answers.{ReadsPage, ReadsValue}
 use Rattle.nl_vseg.specs.declared.place.Place.{Place}
 
@@ -18,7 +19,7 @@ times_le : (a b n : ℕ) → a ≤ b → a * n ≤ b * n
 times_le a b n le = mul-le-mul_right n le
 
 -- a page of the segment is one of the medium
-pub within_medium : (geometry : Geometry) (seg : Segment) → Fits geometry seg → (p : ℕ) → p < bound seg → p < geometry.blocks * geometry.pages
+pub within_medium : (geometry : Geometry) (seg : Layout) → FitsLayout geometry seg → (p : ℕ) → p < bound seg → p < geometry.blocks * geometry.pages
 within_medium geometry seg fits p below =
     let le : length seg.table.blocks * seg.table.size ≤ geometry.blocks * seg.table.size = times_le (length seg.table.blocks) geometry.blocks seg.table.size fits.blocks in
     subst (λ n. p < geometry.blocks * n) (sym fits.pages) (omega (arith, below, le))

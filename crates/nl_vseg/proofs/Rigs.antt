@@ -1,5 +1,5 @@
 -- The least volume, and a segment of it with its medium.
-use Rattle.std.proofs.Common.{◌≡◌, ◌≤◌, None, get_or, length, replicate, refl, sym, ◌∙◌, ap, subst, arith, IsTrue, Option, List}
+use Rattle.std.proofs.Common.{◌≡◌, ◌*◌, ◌≤◌, None, get_or, length, replicate, refl, sym, ◌∙◌, ap, subst, arith, IsTrue, Option, List}
 use Rattle.std.proofs.lemmas.List.{length-replicate}
 use Rattle.std.proofs.lemmas.Option.{none-some}
 use Rattle.nl_field.specs.Numbers.{is_legal, shape_for}
@@ -34,25 +34,25 @@ kept_rig old new before after seg next is same size spare segment = record {
   numbers = same ∙ is.numbers;
   addresses = size.addresses ∙ is.addresses;
   fits = record {
-    pages = ap (λ (g : Geometry). g.pages) same ∙ (is.fits.pages ∙ sym size.pages);
-    blocks = subst (λ n. n ≤ new.blocks) (sym size.blocks) (subst (λ (g : Geometry). length seg.table.blocks ≤ g.blocks) (sym same) is.fits.blocks);
+    same_pages = ap (λ (g : Geometry). g.pages) same ∙ (is.fits.same_pages ∙ sym size.same_pages);
+    within = subst (λ n. n ≤ new.blocks * new.pages) (sym size.same_bound) (subst (λ (g : Geometry). seg.bound ≤ g.blocks * g.pages) (sym same) is.fits.within);
   };
   spare = spare;
   segment = segment;
 }
 
-pub new_rig : (shape : Shape) (geometry : Geometry) (image : Image) (seg : Segment) → IsLeast shape → geometry ≡ record { blocks = 32; pages = 32 } → IsBlank image → seg.places ≡ replicate shape.vaddrs None → seg.table.size ≡ shape.pages
-    → length seg.table.blocks ≡ shape.vblocks → KeepsSpare seg → IsRig geometry image seg
-new_rig shape geometry image seg least_is numbers blank places pages blocks spare = record {
+pub new_rig : (shape : Shape) (geometry : Geometry) (image : Image) (seg : Segment) → IsLeast shape → geometry ≡ record { blocks = 32; pages = 32 } → IsBlank image → seg.places ≡ replicate shape.vaddrs None → seg.pages ≡ shape.pages
+    → seg.bound ≡ shape.vblocks * shape.pages → KeepsSpare seg → IsRig geometry image seg
+new_rig shape geometry image seg least_is numbers blank places pages bound spare = record {
   numbers = numbers;
   addresses = ap (λ (l : List (Option Place)). length l) places ∙ (length-replicate shape.vaddrs None ∙ least_is.addresses);
   fits = record {
-    pages = ap (λ (g : Geometry). g.pages) numbers ∙ sym (pages ∙ least_is.pages);
-    blocks = subst (λ (g : Geometry). length seg.table.blocks ≤ g.blocks) (sym numbers) (omega (arith, blocks, least_is.blocks));
+    same_pages = ap (λ (g : Geometry). g.pages) numbers ∙ sym (pages ∙ least_is.pages);
+    within = subst (λ (g : Geometry). seg.bound ≤ g.blocks * g.pages) (sym numbers) (subst (λ n. n ≤ 32 * 32) (sym (bound ∙ (λ i. least_is.blocks i * least_is.pages i))) (omega arith));
   };
   spare = spare;
   segment = record {
     holds = λ v place named. absurd (none-some place (sym (ap (λ (l : List (Option Place)). get_or l v None) places ∙ all_none shape.vaddrs v) ∙ named));
-    blank = λ p taken. blank p;
+    erased_is = λ p taken. blank p;
   };
 }

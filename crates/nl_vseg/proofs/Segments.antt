@@ -1,5 +1,5 @@
 -- How segments and their images go on.
-use Rattle.std.proofs.Common.{◌≡◌, ◌⊎◌, inl, inr, ⊎_elim, ℕ, ◌+◌, ◌*◌, ◌/◌, ◌<◌, ◌≤◌, Bool, true, false, Option, Some, None, List, length, get_or, set, refl, sym, ◌∙◌, ap, subst, arith, true≢false, ◌^◌, IsTrue, length-set}
+use Rattle.std.proofs.Common.{◌≡◌, ◌⊎◌, inl, inr, ⊎_elim, ℕ, ◌+◌, ◌-◌, ◌*◌, ◌/◌, ◌<◌, ◌≤◌, nat_le, cond, Bool, true, false, Option, Some, None, List, length, get_or, set, refl, sym, ◌∙◌, ap, subst, arith, true≢false, ◌^◌, IsTrue, length-set}
 use Rattle.std.proofs.lemmas.Bool.{cases_eq}
 use Rattle.std.proofs.lemmas.List.{get_or-set_same, get_or-set_other}
 use Rattle.nl_field.specs.Spelling.{is_stamp}
@@ -9,7 +9,8 @@ use Rattle.nl_nand.specs.Nand.{Cut, Filled, Leaves, CrashLeaves}
 use Rattle.nl_nand.proofs.Crashes.{outside, operation, leaves_cut}
 use Rattle.nl_blocks.specs.Table.{Table}
 use Rattle.nl_vseg.specs.Pages.{fact_of, main_of, IsBeside}
-use Rattle.nl_vseg.specs.Segment.{Segment, bound, place_of, value_at, map_of, is_soiled, block_is_free, IsUnmapped, IsNext, TakenAsErased, Holds, IsSegmentOf, AreBelow, ArePlaces, IsSegment}
+use Rattle.nl_vseg.specs.Places.{place_of, value_at, map_of, IsUnmapped, Holds, AreBelow}
+use Rattle.nl_vseg.specs.Layout.{Layout, bound, is_soiled, block_is_free, IsNext, TakenAsErased, IsLayoutOf, ArePlaces, IsLayout, HasSpare, room}
 use Rattle.nl_vseg.specs.Copying.{SameNumbers, SameUse, Restated}
 use Rattle.nl_vseg.specs.Effects.{Keeps, KeepsMap}
 use Rattle.nl_vseg.specs.declared.place.Place.{Place}
@@ -17,14 +18,14 @@ use Rattle.nl_vseg.proofs.Places.{in_block, block_of, beside_of, block_below, be
 use Rattle.nl_vseg.proofs.Images.{keeps_erase, keeps_same}
 
 -- what a segment takes as erased, in the numbers of another one
-pub taken_cases : (seg : Segment) (pages count : ℕ) → seg.table.size ≡ pages → length seg.table.blocks ≡ count → (p : ℕ) → TakenAsErased seg p
+pub taken_cases : (seg : Layout) (pages count : ℕ) → seg.table.size ≡ pages → length seg.table.blocks ≡ count → (p : ℕ) → TakenAsErased seg p
     → (p < count * pages) × (((seg.active * pages + seg.used ≤ p) × (p < seg.active * pages + pages)) ⊎ ((block_is_free seg.table (p / pages) ≡ true) × (is_soiled seg (p / pages) ≡ false)))
 taken_cases seg pages count size_is count_is p taken =
     let P : ℕ → ℕ → Type 0 = λ s n. (p < n * s) × (((seg.active * s + seg.used ≤ p) × (p < seg.active * s + s)) ⊎ ((block_is_free seg.table (p / s) ≡ true) × (is_soiled seg (p / s) ≡ false))) in
     subst (λ s. P s count) size_is (subst (P seg.table.size) count_is taken)
 
 -- a block became Free
-pub freed_taken : (old new : Segment) (block : ℕ) (soiled : Bool) → 0 < old.table.size → length old.soiled ≡ length old.table.blocks → Restated block true old.table new.table
+pub freed_taken : (old new : Layout) (block : ℕ) (soiled : Bool) → 0 < old.table.size → length old.soiled ≡ length old.table.blocks → Restated block true old.table new.table
     → new.soiled ≡ set old.soiled block soiled → new.active ≡ old.active → new.used ≡ old.used → block < length old.table.blocks
     → (old.used < old.table.size → block ≡ old.active → ⊥) → (p : ℕ) → TakenAsErased new p
     → (p / old.table.size ≡ block → soiled ≡ false) × ((p / old.table.size ≡ block → ⊥) → TakenAsErased old p)
@@ -103,20 +104,20 @@ keeps_nothing {M} {clock} {contents} {left} s block pages count places within ho
   crash = record { later = omega arith; each = λ m c l. inl l };
 }
 
-pub below_of : (seg : Segment) → IsSegment seg → AreBelow (bound seg) seg.places
+pub below_of : (seg : Layout) → IsLayout seg → AreBelow (bound seg) seg.places
 below_of seg is v place named = (is.places_are.each v place named).within
 
 -- a Free block has no page of the map
-pub free_unmapped : (seg : Segment) → IsSegment seg → (block : ℕ) → block_is_free seg.table block ≡ true → IsUnmapped seg.table.size seg.places block
+pub free_unmapped : (seg : Layout) → IsLayout seg → (block : ℕ) → block_is_free seg.table block ≡ true → IsUnmapped seg.table.size seg.places block
 free_unmapped seg is block free v place named = beside_of place.page seg.table.size block
     (λ at. true≢false (sym free ∙ (ap (block_is_free seg.table) (sym at) ∙ is.in_use v place named)))
 
 -- an erase of a block without a page of the map leaves an image of the segment
-pub erase_segment : (old new : Segment) (block g : ℕ) (soiled : Bool) (before after : Image) → 0 < old.table.size → g ≡ old.table.size → new.places ≡ old.places
+pub erase_segment : (old new : Layout) (block g : ℕ) (soiled : Bool) (before after : Image) → 0 < old.table.size → g ≡ old.table.size → new.places ≡ old.places
     → IsUnmapped old.table.size old.places block → Cut (block * g) (block * g + g) erased before after
     → (soiled ≡ false → Filled (block * g) (block * g + g) erased before after)
     → ((p : ℕ) → TakenAsErased new p → (p / old.table.size ≡ block → soiled ≡ false) × ((p / old.table.size ≡ block → ⊥) → TakenAsErased old p))
-    → IsSegmentOf before old → IsSegmentOf after new
+    → IsLayoutOf before old → IsLayoutOf after new
 erase_segment old new block g soiled before after some is places unmapped cut done taken seg = record {
   holds = subst (Holds after) (sym places) (holds_same old.places before after seg.holds (λ v place named. erased_outside block g old.table.size is cut place.page (unmapped v place named)));
   blank = λ p t. blank p (taken p t) (cases_eq (p / old.table.size) block);
@@ -128,14 +129,14 @@ erase_segment old new block g soiled before after some is places unmapped cut do
     blank p e (inr ne) = erased_outside block g old.table.size is cut p (beside_of p old.table.size block ne) ∙ seg.blank p (e.1 ne)
 
 -- the same image, where less is taken as erased
-pub segment_fewer : (old new : Segment) (image : Image) → new.places ≡ old.places → ((p : ℕ) → TakenAsErased new p → TakenAsErased old p) → IsSegmentOf image old → IsSegmentOf image new
+pub segment_fewer : (old new : Layout) (image : Image) → new.places ≡ old.places → ((p : ℕ) → TakenAsErased new p → TakenAsErased old p) → IsLayoutOf image old → IsLayoutOf image new
 segment_fewer old new image places fewer seg = record {
   holds = subst (Holds image) (sym places) seg.holds;
   blank = λ p taken. seg.blank p (fewer p taken);
 }
 
 -- a block is out of what is taken as erased
-pub taken_without : (old new : Segment) (block : ℕ) → SameNumbers old.table new.table → new.active ≡ old.active → new.used ≡ old.used
+pub taken_without : (old new : Layout) (block : ℕ) → SameNumbers old.table new.table → new.active ≡ old.active → new.used ≡ old.used
     → ((b : ℕ) → block_is_free new.table b ≡ true → is_soiled new b ≡ false → (b ≡ block → ⊥) × (block_is_free old.table b ≡ true) × (is_soiled old b ≡ false))
     → (old.used < old.table.size → block ≡ old.active → ⊥)
     → (p : ℕ) → TakenAsErased new p → TakenAsErased old p × (p / old.table.size ≡ block → ⊥)
@@ -160,7 +161,7 @@ taken_without old new block numbers active_is used_is free idle p taken = cases 
         ((n.0, inr (f.1, f.2)), f.0)
 
 -- a Free block is in use now
-pub sealed_taken : (old : Segment) (table : Table) (block : ℕ) → Restated block false old.table table → (p : ℕ) → TakenAsErased (record old { table = table }) p → TakenAsErased old p
+pub sealed_taken : (old : Layout) (table : Table) (block : ℕ) → Restated block false old.table table → (p : ℕ) → TakenAsErased (record old { table = table }) p → TakenAsErased old p
 sealed_taken old table block restated p taken = cases n.1
   where
     n : (p < length old.table.blocks * old.table.size) × (((old.active * old.table.size + old.used ≤ p) × (p < old.active * old.table.size + old.table.size))
@@ -182,10 +183,10 @@ sealed_taken old table block restated p taken = cases n.1
     )
 
 -- an address got a page of a block that is in use now, and is not written to
-pub loaded : (old : Segment) (table : Table) (block v : ℕ) (new : Place) → IsSegment old → Restated block false old.table table → new.page / old.table.size ≡ block → new.page < bound old → IsTrue (is_stamp new.stamp)
-    → v < length old.places → ((u : ℕ) (place : Place) → place_of old.places u ≡ Some place → place.page ≡ new.page → ⊥) → (old.used < old.table.size → block ≡ old.active → ⊥)
-    → IsSegment (record old { places = set old.places v (Some new); table = table })
-loaded old table block v new is restated at below spelled within beside idle = record {
+pub loaded : (old : Layout) (table : Table) (block v : ℕ) (new : Place) → IsLayout old → Restated block false old.table table → new.page / old.table.size ≡ block → new.page < bound old → IsTrue (is_stamp new.stamp)
+    → v < length old.places → (old.used < old.table.size → block ≡ old.active → ⊥)
+    → IsLayout (record old { places = set old.places v (Some new); table = table })
+loaded old table block v new is restated at below spelled within idle = record {
   first = restated.numbers.same_first ∙ is.first;
   some = subst (λ n. 0 < n) (sym restated.numbers.same_size) is.some;
   numbers = subst (λ n. n < 2 ^ 32) (sym bound_same) is.numbers;
@@ -201,7 +202,7 @@ loaded old table block v new is restated at below spelled within beside idle = r
   places_are = subst (λ n. ArePlaces table.size n old.active old.used (set old.places v (Some new))) (sym bound_same)
       (subst (λ n. ArePlaces n (bound old) old.active old.used (set old.places v (Some new))) (sym restated.numbers.same_size)
       (placed old.table.size (bound old) old.active old.used old.places v new within
-      (record { within = below; behind = behind_of old.table.size old.active old.used new.page block is.used_fits at idle; spelled = spelled }) beside is.places_are));
+      (record { within = below; behind = behind_of old.table.size old.active old.used new.page block is.used_fits at idle; spelled = spelled }) is.places_are));
   in_use = λ u place named. subst (λ n. block_is_free table (place.page / n) ≡ false) (sym restated.numbers.same_size) (in_use u place (set_place old.places v new within u place named));
 }
   where
@@ -216,8 +217,8 @@ loaded old table block v new is restated at below spelled within beside idle = r
     in_use u place (inr there) = used_at (place.page / old.table.size) (is.in_use u place there.1)
 
 -- a block is the active one now, and none of its pages is used
-pub started : (old : Segment) (block : ℕ) → IsSegment old → block < length old.table.blocks → block_is_free old.table block ≡ false → IsUnmapped old.table.size old.places block
-    → IsSegment (record old { active = block; used = 0 })
+pub started : (old : Layout) (block : ℕ) → IsLayout old → block < length old.table.blocks → block_is_free old.table block ≡ false → IsUnmapped old.table.size old.places block
+    → IsLayout (record old { active = block; used = 0 })
 started old block is within taken unmapped = record {
   first = is.first;
   some = is.some;
@@ -231,12 +232,11 @@ started old block is within taken unmapped = record {
     each = λ v place named.
         let was = is.places_are.each v place named in
         record { within = was.within; behind = ⊎_elim (λ lt. inl (omega (arith, lt))) (λ ge. inr ge) (unmapped v place named); spelled = was.spelled };
-    apart = is.places_are.apart;
   };
   in_use = is.in_use;
 }
 
-pub started_segment : (old : Segment) (block : ℕ) (image : Image) → ((p : ℕ) → p / old.table.size ≡ block → page_at image p ≡ erased) → IsSegmentOf image old → IsSegmentOf image (record old { active = block; used = 0 })
+pub started_segment : (old : Layout) (block : ℕ) (image : Image) → ((p : ℕ) → p / old.table.size ≡ block → page_at image p ≡ erased) → IsLayoutOf image old → IsLayoutOf image (record old { active = block; used = 0 })
 started_segment old block image blank seg = record {
   holds = seg.holds;
   blank = λ p taken. ⊎_elim
@@ -245,9 +245,12 @@ started_segment old block image blank seg = record {
       taken.1;
 }
 
+abbrev room_of : ℕ → ℕ → ℕ → ℕ
+room_of size free used = cond (nat_le 1 free) ((size - used) + (free - 1) * size) 0
+
 -- the same blocks are Free
-module _ (seg : Segment) (table : Table) (use_is : SameUse seg.table table) where
-  pub same_use_segment : IsSegment seg → IsSegment (record seg { table = table })
+module _ (seg : Layout) (table : Table) (use_is : SameUse seg.table table) where
+  pub same_use_segment : IsLayout seg → IsLayout (record seg { table = table })
   same_use_segment is = record {
     first = use_is.numbers.same_first ∙ is.first;
     some = subst (λ n. 0 < n) (sym use_is.numbers.same_size) is.some;
@@ -265,7 +268,17 @@ module _ (seg : Segment) (table : Table) (use_is : SameUse seg.table table) wher
       bound_same : length table.blocks * table.size ≡ length seg.table.blocks * seg.table.size
       bound_same i = use_is.numbers.same_count i * use_is.numbers.same_size i
 
-  pub same_use_image : (image : Image) → IsSegmentOf image seg → IsSegmentOf image (record seg { table = table })
+  pub same_use_spare : HasSpare seg → HasSpare (record seg { table = table })
+  same_use_spare is = record {
+    block = is.block;
+    within = subst (λ n. is.block < n) (sym use_is.numbers.same_count) is.within;
+    unmapped = subst (λ n. IsUnmapped n seg.places is.block) (sym use_is.numbers.same_size) is.unmapped;
+  }
+
+  pub same_use_room : room (record seg { table = table }) ≡ room seg
+  same_use_room i = room_of (use_is.numbers.same_size i) (use_is.total i) seg.used
+
+  pub same_use_image : (image : Image) → IsLayoutOf image seg → IsLayoutOf image (record seg { table = table })
   same_use_image image seg_is = record {
     holds = seg_is.holds;
     blank = λ p taken.
@@ -280,7 +293,7 @@ keeps_as {M} {clock} {contents} {left} {pages} {bounds} {more_pages} {more_bound
     subst (λ n. KeepsMap clock contents left n more_bounds m0 m1 a b) p (subst (λ n. KeepsMap clock contents left pages n m0 m1 a b) q k)
 
 -- beside one block, what was taken as erased still is
-pub taken_still : (old new : Segment) (block : ℕ) → SameNumbers old.table new.table → new.active ≡ old.active → ((old.active ≡ block → ⊥) → new.used ≡ old.used)
+pub taken_still : (old new : Layout) (block : ℕ) → SameNumbers old.table new.table → new.active ≡ old.active → ((old.active ≡ block → ⊥) → new.used ≡ old.used)
     → ((b : ℕ) → (b ≡ block → ⊥) → block_is_free old.table b ≡ true → is_soiled old b ≡ false → (block_is_free new.table b ≡ true) × (is_soiled new b ≡ false))
     → (p : ℕ) → TakenAsErased old p → (p / old.table.size ≡ block → ⊥) → TakenAsErased new p
 taken_still old new block numbers active_is used_is free p taken ne =

@@ -1,5 +1,5 @@
 -- The numbers of a shape that a segment rests on.
-use Rattle.std.proofs.Common.{◌≡◌, inl, inr, ℕ, zero, suc, ◌+◌, ◌-◌, ◌*◌, ◌/◌, ◌^◌, ◌<◌, ◌≤◌, true, false, Option, None, length, replicate, refl, sym, ◌∙◌, ap, subst, arith, IsTrue, nat_le, ◌&&◌, count_by, cond}
+use Rattle.std.proofs.Common.{◌≡◌, inl, inr, ℕ, zero, suc, ◌+◌, ◌-◌, ◌*◌, ◌/◌, ◌^◌, ◌<◌, ◌≤◌, true, false, Option, None, length, replicate, refl, sym, ◌∙◌, ap, subst, arith, IsTrue, nat_le, ◌&&◌, count_by, cond, get_or}
 use Rattle.std.specs.Int.{div_ceil}
 use Rattle.std.proofs.lemmas.Bool.{and_parts, cond-true, leb-true, le-leb}
 use Rattle.std.proofs.lemmas.Grind.{div_ceil_times}
@@ -8,12 +8,14 @@ use Rattle.nl_field.specs.Numbers.{is_legal, shape_for}
 use Rattle.nl_field.specs.declared.shape.Shape.{Shape}
 use Rattle.std.proofs.lemmas.List.{length-replicate}
 use Rattle.std.proofs.lemmas.Option.{none-some}
-use Rattle.nl_blocks.specs.Table.{free_count, is_free, new_row, new_table}
+use Rattle.nl_blocks.specs.Table.{free_count, is_free, new_row, new_table, row_at}
 use Rattle.nl_nand.specs.declared.geometry.Geometry.{Geometry}
 use Rattle.nl_nand.specs.Nand.{IsLegal}
-use Rattle.nl_vseg.specs.Segment.{IsSegment, KeepsSpare, room}
+use Rattle.nl_vseg.specs.Layout.{IsLayout, HasSpare, block_is_free, bound, room, shown}
+use Rattle.nl_vseg.specs.Segment.{is_blank, wear_of}
 use Rattle.nl_vseg.specs.declared.place.Place.{Place}
 use Rattle.nl_vseg.proofs.Places.{all_none}
+use Rattle.nl_vseg.proofs.Views.{taken_blank, wear_at}
 
 pub record HasRoom (shape : Shape) : Type 0 where
   pub some : 0 < shape.pages
@@ -51,7 +53,7 @@ all_free (suc count) size =
     omega (arith, e, rest)
 
 -- a segment of a shape, of which no address was written
-pub new_segment : (shape : Shape) → HasRoom shape → IsSegment (record { places = replicate shape.vaddrs None; table = new_table 0 shape.vblocks shape.pages; soiled = replicate shape.vblocks false; active = 0; used = shape.pages })
+pub new_segment : (shape : Shape) → HasRoom shape → IsLayout (record { places = replicate shape.vaddrs None; table = new_table 0 shape.vblocks shape.pages; soiled = replicate shape.vblocks false; active = 0; used = shape.pages })
 new_segment shape room =
     let places : length {A = Option Place} (replicate shape.vaddrs None) ≡ shape.vaddrs = length-replicate shape.vaddrs None in
     let blocks : length (replicate shape.vblocks (new_row shape.pages)) ≡ shape.vblocks = length-replicate shape.vblocks (new_row shape.pages) in
@@ -68,7 +70,6 @@ new_segment shape room =
       taken = λ lt. absurd (omega (arith, lt));
       places_are = record {
         each = λ v place named. absurd (none-some place (sym (all_none shape.vaddrs v) ∙ named));
-        apart = λ u v a b at_u at_v same. absurd (none-some a (sym (all_none shape.vaddrs u) ∙ at_u));
       };
       in_use = λ v place named. absurd (none-some place (sym (all_none shape.vaddrs v) ∙ named));
     }
@@ -78,7 +79,7 @@ pub medium_fits : (geometry : Geometry) → IsLegal geometry → geometry.blocks
 medium_fits geometry (inl legal) = let p = legal_parts geometry.blocks geometry.pages legal in omega (arith, p.4)
 medium_fits geometry (inr none) = subst (λ (n : Geometry). n.blocks * n.pages < 2 ^ 32) (sym none) (omega arith)
 
-pub new_spare : (shape : Shape) → HasRoom shape → KeepsSpare (record { places = replicate shape.vaddrs None; table = new_table 0 shape.vblocks shape.pages; soiled = replicate shape.vblocks false; active = 0; used = shape.pages })
+pub new_spare : (shape : Shape) → HasRoom shape → HasSpare (record { places = replicate shape.vaddrs None; table = new_table 0 shape.vblocks shape.pages; soiled = replicate shape.vblocks false; active = 0; used = shape.pages })
 new_spare shape roomy =
     let blocks : length (replicate shape.vblocks (new_row shape.pages)) ≡ shape.vblocks = length-replicate shape.vblocks (new_row shape.pages) in
     let more = roomy.blocks in
@@ -101,3 +102,37 @@ new_room shape roomy =
     cond-true (nat_le 1 (free_count (new_table 0 shape.vblocks shape.pages))) ((shape.pages - shape.pages) + (free_count (new_table 0 shape.vblocks shape.pages) - 1) * shape.pages) 0 some_is in
     let e2 = subst (λ n. (shape.pages - shape.pages) + (n - 1) * shape.pages + shape.pages ≡ shape.vblocks * shape.pages) (sym free) (omega (arith, one_less shape.vblocks shape.pages (omega (arith, more)))) in
     ap (λ n. n + shape.pages) e ∙ e2
+
+pub new_bound : (shape : Shape) → bound (record { places = replicate shape.vaddrs None; table = new_table 0 shape.vblocks shape.pages; soiled = replicate shape.vblocks false; active = 0; used = shape.pages }) ≡ shape.vblocks * shape.pages
+new_bound shape = ap (λ n. n * shape.pages) (length-replicate shape.vblocks (new_row shape.pages))
+
+new_free : (shape : Shape) (block : ℕ) → block_is_free (new_table 0 shape.vblocks shape.pages) block ≡ true
+new_free shape block = at shape.vblocks (block - 0)
+  where
+    at : (n k : ℕ) → is_free (row_at (replicate n (new_row shape.pages)) k) ≡ true
+    at zero k = refl
+    at (suc n) zero = refl
+    at (suc n) (suc k) = at n k
+
+new_clean : (count block : ℕ) → get_or (replicate count false) block false ≡ false
+new_clean zero block = refl
+new_clean (suc count) zero = refl
+new_clean (suc count) (suc block) = new_clean count block
+
+-- all its pages are taken as erased
+pub new_blank : (shape : Shape) → HasRoom shape → (p : ℕ)
+    → p < bound (record { places = replicate shape.vaddrs None; table = new_table 0 shape.vblocks shape.pages; soiled = replicate shape.vblocks false; active = 0; used = shape.pages })
+    → is_blank (shown (record { places = replicate shape.vaddrs None; table = new_table 0 shape.vblocks shape.pages; soiled = replicate shape.vblocks false; active = 0; used = shape.pages })) p ≡ true
+new_blank shape room p below =
+    taken_blank (record { places = replicate shape.vaddrs None; table = new_table 0 shape.vblocks shape.pages; soiled = replicate shape.vblocks false; active = 0; used = shape.pages }) p
+    (below, inr (new_free shape (p / shape.pages), new_clean shape.vblocks (p / shape.pages)))
+
+-- and no block was erased
+pub new_wear : (shape : Shape) (block : ℕ)
+    → wear_of (shown (record { places = replicate shape.vaddrs None; table = new_table 0 shape.vblocks shape.pages; soiled = replicate shape.vblocks false; active = 0; used = shape.pages })) block ≡ 0
+new_wear shape block = wear_at (new_table 0 shape.vblocks shape.pages) block refl ∙ at shape.vblocks (block - 0)
+  where
+    at : (n k : ℕ) → (row_at (replicate n (new_row shape.pages)) k).wear ≡ 0
+    at zero k = refl
+    at (suc n) zero = refl
+    at (suc n) (suc k) = at n k

@@ -12,7 +12,8 @@ use Rattle.nl_blocks.specs.Table.{free_count}
 use Rattle.nl_field.specs.CrashStates.{LeavesOnly, Turns}
 use Rattle.nl_vseg.specs.Maps.{with_at}
 use Rattle.nl_vseg.specs.Pages.{fact_of, main_of, IsBeside, page_with}
-use Rattle.nl_vseg.specs.Segment.{Segment, bound, place_of, value_at, map_of, block_is_free, KeepsSpare, TakenAsErased, IsSegmentOf, IsSegment}
+use Rattle.nl_vseg.specs.Places.{place_of, value_at, map_of}
+use Rattle.nl_vseg.specs.Layout.{Layout, bound, block_is_free, HasSpare, TakenAsErased, IsLayoutOf, IsLayout}
 use Rattle.nl_vseg.specs.Effects.{Keeps, Takes, Programmed}
 use Rattle.nl_vseg.specs.declared.place.Place.{Place}
 use Rattle.nl_vseg.proofs.Places.{block_of, beside_of, block_below, place_here, place_other, set_place, used_more, next_placed}
@@ -20,7 +21,7 @@ use Rattle.nl_vseg.proofs.Images.{apart_from_erased, keeps_or_takes, takes_new}
 use Rattle.nl_vseg.proofs.Blocks.{some_free}
 use Rattle.nl_vseg.proofs.Segments.{below_of, free_unmapped, holds_same, map_same}
 
-module _ (seg : Segment) (is : IsSegment seg) (room : seg.used < seg.table.size) (page : ℕ) (at : page ≡ seg.active * seg.table.size + seg.used) where
+module _ (seg : Layout) (is : IsLayout seg) (room : seg.used < seg.table.size) (page : ℕ) (at : page ≡ seg.active * seg.table.size + seg.used) where
   pub page_end : page < seg.active * seg.table.size + seg.table.size
   page_end = omega (arith, at, room)
 
@@ -34,7 +35,7 @@ module _ (seg : Segment) (is : IsSegment seg) (room : seg.used < seg.table.size)
   in_use = is.taken room
 
   -- one page more is used
-  pub more : IsSegment (record seg { used = seg.used + 1 })
+  pub more : IsLayout (record seg { used = seg.used + 1 })
   more = record {
     first = is.first;
     some = is.some;
@@ -59,11 +60,11 @@ module _ (seg : Segment) (is : IsSegment seg) (room : seg.used < seg.table.size)
     pub page_beside : IsBeside seg.table.size block page
     page_beside = beside_of page seg.table.size block (λ here. true≢false (sym free ∙ (ap (block_is_free seg.table) (sym here ∙ page_block) ∙ in_use)))
 
-    pub spare_kept : KeepsSpare (record seg { used = seg.used + 1 })
+    pub spare_kept : HasSpare (record seg { used = seg.used + 1 })
     spare_kept = record { block = block; within = block_in; unmapped = free_unmapped seg is block free }
 
   module _ (v s : ℕ) (within : v < length seg.places) (spelled : IsTrue (is_stamp s)) where
-    pub put_segment : IsSegment (record seg { places = set seg.places v (Some (record { page = page; stamp = s })); used = seg.used + 1 })
+    pub put_segment : IsLayout (record seg { places = set seg.places v (Some (record { page = page; stamp = s })); used = seg.used + 1 })
     put_segment = record {
       first = is.first;
       some = is.some;
@@ -80,7 +81,7 @@ module _ (seg : Segment) (is : IsSegment seg) (room : seg.used < seg.table.size)
           (set_place seg.places v (record { page = page; stamp = s }) within u place named);
     }
 
-    pub spare_put : (block : ℕ) → block < length seg.table.blocks → block_is_free seg.table block ≡ true → KeepsSpare (record seg { places = set seg.places v (Some (record { page = page; stamp = s })); used = seg.used + 1 })
+    pub spare_put : (block : ℕ) → block < length seg.table.blocks → block_is_free seg.table block ≡ true → HasSpare (record seg { places = set seg.places v (Some (record { page = page; stamp = s })); used = seg.used + 1 })
     spare_put block block_in free = record {
       block = block;
       within = block_in;
@@ -90,7 +91,7 @@ module _ (seg : Segment) (is : IsSegment seg) (room : seg.used < seg.table.size)
           (set_place seg.places v (record { page = page; stamp = s }) within u place named);
     }
 
-  module _ (image : Image) (seg_is : IsSegmentOf image seg) where
+  module _ (image : Image) (seg_is : IsLayoutOf image seg) where
     pub page_blank : page_at image page ≡ erased
     page_blank = seg_is.blank page (page_below, inl (omega (arith, at), page_end))
 
@@ -113,7 +114,7 @@ module _ (seg : Segment) (is : IsSegment seg) (room : seg.used < seg.table.size)
       places_stay u place named = other place.page (apart_from_erased seg.table.size (bound seg) seg.places image seg_is.holds (below_of seg is) page page_blank u place named)
 
       -- the map stays where the page is not that of an address
-      pub after_cut : IsSegmentOf c (record seg { used = seg.used + 1 })
+      pub after_cut : IsLayoutOf c (record seg { used = seg.used + 1 })
       after_cut = record {
         holds = holds_same seg.places image c seg_is.holds places_stay;
         blank = λ p taken. let t = taken_more seg.places p taken in other p t.1 ∙ seg_is.blank p t.0;
@@ -123,7 +124,7 @@ module _ (seg : Segment) (is : IsSegment seg) (room : seg.used < seg.table.size)
       map_stays = map_same seg.places image c places_stay
 
       module _ (v s w : ℕ) (main : List ℕ) (within : v < length seg.places) (new_is : page_at c page ≡ written (page_with main v s w)) (shows : fact_of (written (page_with main v s w)) ≡ Some (v, s, main)) where
-        pub after_new : IsSegmentOf c (record seg { places = set seg.places v (Some (record { page = page; stamp = s })); used = seg.used + 1 })
+        pub after_new : IsLayoutOf c (record seg { places = set seg.places v (Some (record { page = page; stamp = s })); used = seg.used + 1 })
         after_new = record {
           holds = λ u place named. holds u place (set_place seg.places v (record { page = page; stamp = s }) within u place named);
           blank = λ p taken. let t = taken_more (set seg.places v (Some (record { page = page; stamp = s }))) p taken in other p t.1 ∙ seg_is.blank p t.0;
@@ -151,7 +152,7 @@ module _ (seg : Segment) (is : IsSegment seg) (room : seg.used < seg.table.size)
         programmed = record { page = page; below = page_below; in_block = page_block; has = new_is; others = λ p ne. inl (other p ne) }
 
 -- what a program of the next page leaves, whole or cut short
-module _ (seg : Segment) (is : IsSegment seg) (room : seg.used < seg.table.size) (page : ℕ) (at : page ≡ seg.active * seg.table.size + seg.used) (image : Image) (seg_is : IsSegmentOf image seg)
+module _ (seg : Layout) (is : IsLayout seg) (room : seg.used < seg.table.size) (page : ℕ) (at : page ≡ seg.active * seg.table.size + seg.used) (image : Image) (seg_is : IsLayoutOf image seg)
     (free : 1 ≤ free_count seg.table) (v s w : ℕ) (main given : List ℕ) (same : main ≡ given) (shows : fact_of (written (page_with main v s w)) ≡ Some (v, s, main)) where
   block : (b : ℕ) × (b < length seg.table.blocks) × (block_is_free seg.table b ≡ true)
   block = some_free seg.table is.first free
@@ -169,8 +170,8 @@ module _ (seg : Segment) (is : IsSegment seg) (room : seg.used < seg.table.size)
       (page_blank seg is room page at image seg_is) (page_below seg is room page at) (page_beside seg is room page at block.0 block.1 block.2)
       (block_below block.0 (length seg.table.blocks) seg.table.size block.1) (free_unmapped seg is block.0 block.2) shows c (filled_cut filled) (filled.inside page (omega arith) (omega arith)))
 
-pub put_leaves : {M : Type 0} {clock : M → ℕ} {contents : M → Image} {left : M → ℕ → Image → Type 0} {old new : M} (seg : Segment) (is : IsSegment seg) (room : seg.used < seg.table.size) (page : ℕ)
-    (at : page ≡ seg.active * seg.table.size + seg.used) (seg_is : IsSegmentOf (contents old) seg) (free : 1 ≤ free_count seg.table) (v s w : ℕ) (main given : List ℕ) (same : main ≡ given)
+pub put_leaves : {M : Type 0} {clock : M → ℕ} {contents : M → Image} {left : M → ℕ → Image → Type 0} {old new : M} (seg : Layout) (is : IsLayout seg) (room : seg.used < seg.table.size) (page : ℕ)
+    (at : page ≡ seg.active * seg.table.size + seg.used) (seg_is : IsLayoutOf (contents old) seg) (free : 1 ≤ free_count seg.table) (v s w : ℕ) (main given : List ℕ) (same : main ≡ given)
     (shows : fact_of (written (page_with main v s w)) ≡ Some (v, s, main)) (finished : Type 0) (answer : WriteAnswer) → (finished → answer ≡ write.Done)
     → CrashLeaves clock contents left page (page + 1) (written (page_with main v s w)) old new
     → Leaves page (page + 1) (written (page_with main v s w)) (contents old) answer (contents new)

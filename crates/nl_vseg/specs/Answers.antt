@@ -6,7 +6,8 @@ use Rattle.nl_field.specs.declared.answers.VirtualRead.TheVariants as read
 use Rattle.nl_field.specs.declared.answers.VirtualWrite.{VirtualWrite}
 use Rattle.nl_field.specs.declared.answers.VirtualWrite.TheVariants as write
 use Rattle.nl_vseg.specs.Pages.{stamp_found, stamp_at}
-use Rattle.nl_vseg.specs.Segment.{Segment, stamp_for}
+use Rattle.nl_vseg.specs.Places.{stamp_for}
+use Rattle.nl_vseg.specs.declared.place.Place.{Place}
 
 -- what the read of a page answers that is to hold this number, and what the buffer then has
 abbrev pub ReadsPage : Page → ℕ → PageBytes → VirtualRead → Type 0
@@ -31,10 +32,10 @@ ReadsValue value buf (read.Lost w f) = ⊥
 ReadsValue value buf read.Fault = ⊤
 
 -- Lost tells the number of an address, and another one that was found.
-abbrev pub LosesStamp : Segment → VirtualWrite → Type 0
-LosesStamp seg write.Done = ⊤
-LosesStamp seg (write.Lost w f) = ((v : ℕ) × (stamp_for seg v ≡ Some w)) × (f ≡ w → ⊥)
-LosesStamp seg write.Fault = ⊤
+abbrev pub LosesStamp : List (Option Place) → VirtualWrite → Type 0
+LosesStamp places write.Done = ⊤
+LosesStamp places (write.Lost w f) = ((v : ℕ) × (stamp_for places v ≡ Some w)) × (f ≡ w → ⊥)
+LosesStamp places write.Fault = ⊤
 
 abbrev pub IsLost : VirtualWrite → Type 0
 IsLost write.Done = ⊥

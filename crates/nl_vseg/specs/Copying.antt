@@ -1,11 +1,12 @@
 -- What the steps of a cleaning do to the table of blocks, to the places and to the pages.
-use Rattle.std.specs.Prelude.{◌≡◌, ◌⊎◌, ℕ, ◌+◌, ◌*◌, ◌/◌, ◌<◌, ◌≤◌, ◌==◌, Bool, true, false, cond, List, length, count_by, Option, Some, None}
+use Rattle.std.specs.Prelude.{◌≡◌, ◌⊎◌, ℕ, ◌+◌, ◌*◌, ◌/◌, ◌%◌, ◌<◌, ◌≤◌, ◌==◌, Bool, true, false, cond, List, length, slice_index_or, count_by, Option, Some, None}
 use Rattle.nl_field.specs.Page.{Image, Page, written, erased, page_at}
 use Rattle.nl_blocks.specs.declared.states.PageState.TheVariants.{Live}
 use Rattle.nl_blocks.specs.Table.{Table, block_at, dead_count, is_sealed, free_count}
 use Rattle.nl_blocks.specs.Table.{page_at as row_page}
 use Rattle.nl_vseg.specs.Pages.{IsBeside, fact_of, main_of, page_with}
-use Rattle.nl_vseg.specs.Segment.{block_is_free, place_of, stamp_in_place}
+use Rattle.nl_vseg.specs.Places.{place_of, stamp_in_place}
+use Rattle.nl_vseg.specs.Layout.{block_is_free}
 use Rattle.nl_vseg.specs.declared.place.Place.{Place}
 
 abbrev pub is_in : ℕ → ℕ → Option Place → Bool
@@ -37,8 +38,9 @@ pub record SameStates (old new : Table) : Type 0 where
 pub record IsMarked (place : Option Place) (old new : Table) : Type 0 where
   pub states : SameStates old new
   pub rows : (block : ℕ) → length (block_at new block).pages ≡ length (block_at old block).pages
-  pub dead : (block : ℕ) → dead_count (block_at new block) + cond (is_in old.size block place) 1 0 ≡ dead_count (block_at old block)
-  pub live : (page : ℕ) → page < length old.blocks * old.size → (row_page new page).state ≡ Live → ((row_page old page).state ≡ Live) ⊎ ((p : Place) × (place ≡ Some p) × (p.page ≡ page))
+  pub dead : (block : ℕ) → dead_count (block_at old block) ≤ dead_count (block_at new block) + cond (is_in old.size block place) 1 0
+  pub live : (page : ℕ) → page < length old.blocks * old.size → (row_page old page).state ≡ Live → (row_page new page).state ≡ Live
+  pub here : (p : Place) → place ≡ Some p → (row_page new p.page).state ≡ Live
 
 -- one block is Free now, or not, and the others are as before
 pub record Restated (block : ℕ) (free : Bool) (old new : Table) : Type 0 where
@@ -47,10 +49,51 @@ pub record Restated (block : ℕ) (free : Bool) (old new : Table) : Type 0 where
   pub others : (other : ℕ) → (other ≡ block → ⊥) → block_is_free new other ≡ block_is_free old other
   pub total : free_count new + cond (block_is_free old block) 1 0 ≡ free_count old + cond free 1 0
 
--- Each block that is not Free is Sealed, and the pages of a block that no address has are dead.
+-- Each block that is not Free is Sealed. The page of each address is Live, and each page beside those is Dead: a block has at
+-- least as many dead pages as are left over by the addresses in it, since two of them may have one page.
 pub record IsSettled (places : List (Option Place)) (table : Table) : Type 0 where
   pub sealed : (block : ℕ) → block < length table.blocks → block_is_free table block ≡ false → is_sealed (block_at table block) ≡ true
-  pub counted : (block : ℕ) → block < length table.blocks → mapped_in table.size block places + dead_count (block_at table block) ≡ table.size
+  pub rows : (block : ℕ) → block < length table.blocks → length (block_at table block).pages ≡ table.size
+  pub counted : (block : ℕ) → block < length table.blocks → table.size ≤ mapped_in table.size block places + dead_count (block_at table block)
+  pub live : (v : ℕ) (place : Place) → place_of places v ≡ Some place → (row_page table place.page).state ≡ Live
+
+-- the page is that of no address
+abbrev pub AreBeside : ℕ → List (Option Place) → Type 0
+AreBeside page places = (v : ℕ) (place : Place) → place_of places v ≡ Some place → place.page ≡ page → ⊥
+
+-- some page of the block is that of no address
+pub record HasHole (pages block : ℕ) (places : List (Option Place)) : Type 0 where
+  pub page : ℕ
+  pub inside : page / pages ≡ block
+  pub beside : AreBeside page places
+
+abbrev pub is_some : Option ℕ → Bool
+is_some None = false
+is_some (Some page) = true
+
+-- where the copy of the page at this offset of the victim is, None where it was not copied
+abbrev pub target_at : List (Option ℕ) → ℕ → Option ℕ
+target_at targets at = slice_index_or targets at None
+
+-- each copy is one of the first pages of the target, and there are as many copies as pages are used
+pub record AreTargets (pages target used : ℕ) (targets : List (Option ℕ)) : Type 0 where
+  pub count : length targets ≡ pages
+  pub as_many : count_by is_some targets ≡ used
+  pub inside : (at page : ℕ) → target_at targets at ≡ Some page → (target * pages ≤ page) × (page < target * pages + used)
+
+-- The place has the page at this offset of the victim.
+pub record IsAt (pages victim at : ℕ) (place : Option Place) : Type 0 where
+  pub found : Place
+  pub named : place ≡ Some found
+  pub in_victim : found.page / pages ≡ victim
+  pub offset : found.page % pages ≡ at
+
+-- some page of the victim was not copied, and is not that of this place
+pub record LeavesHole (pages victim : ℕ) (place : Option Place) (targets : List (Option ℕ)) : Type 0 where
+  pub at : ℕ
+  pub within : at < pages
+  pub not_copied : target_at targets at ≡ None
+  pub other : IsAt pages victim at place → ⊥
 
 -- a place was not in the victim, and is as it was, or it is one of the first pages of the target
 abbrev pub IsMovedPlace : ℕ → ℕ → ℕ → ℕ → Option Place → Option Place → Type 0

@@ -1,8 +1,10 @@
 pub mod Answers
 pub mod Copying
 pub mod Effects
+pub mod Layout
 pub mod Maps
 pub mod Pages
+pub mod Places
 pub mod Rig
 pub mod Seen
 pub mod Segment

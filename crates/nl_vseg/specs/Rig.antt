@@ -2,8 +2,7 @@
 use Rattle.std.specs.Prelude.{◌≡◌, length}
 use Rattle.nl_field.specs.Page.{Image}
 use Rattle.nl_nand.specs.declared.geometry.Geometry.{Geometry}
-use Rattle.nl_vseg.specs.Segment.{Segment, IsSegmentOf, KeepsSpare}
-use Rattle.nl_vseg.specs.Seen.{Fits}
+use Rattle.nl_vseg.specs.Segment.{Segment, Fits, IsSegmentOf, KeepsSpare}
 
 pub record IsRig (geometry : Geometry) (image : Image) (seg : Segment) : Type 0 where
   pub numbers : geometry ≡ record { blocks = 32; pages = 32 }

@@ -1,12 +1,13 @@
 // Copies the pages of one block that addresses have.
-ghost use Rattle.std.specs.Prelude.{◌≡◌, ◌⊎◌, ℕ, ◌+◌, ◌*◌, ◌^◌, ◌<◌, ◌≤◌, List, Option, length, Some, IsTrue};
+ghost use Rattle.std.specs.Prelude.{◌≡◌, ◌⊎◌, ℕ, ◌+◌, ◌*◌, ◌^◌, ◌<◌, ◌≤◌, List, Option, length, replicate, None, Some, IsTrue};
 ghost use Rattle.nl_field.specs.CrashStates.{LeavesOnly};
 ghost use Rattle.nl_field.specs.Page.{Image, page_at};
 ghost use Rattle.nl_field.specs.Spelling.{is_stamp};
 ghost use Rattle.nl_nand.specs.Nand.{CanProgram, Cut, ErasedWithin, Filled};
 ghost use Rattle.nl_vseg.specs.Pages.{fact_of, main_of};
-ghost use Rattle.nl_vseg.specs.Segment.{ArePlaces, Holds, IsUnmapped, map_of, place_of, stamp_in_place};
-ghost use Rattle.nl_vseg.specs.Copying.{mapped_in, copy_of, AreMoved, ChangedIn, IsMovedPlace};
+ghost use Rattle.nl_vseg.specs.Places.{Holds, IsUnmapped, map_of, place_of, stamp_in_place};
+ghost use Rattle.nl_vseg.specs.Layout.{ArePlaces};
+ghost use Rattle.nl_vseg.specs.Copying.{copy_of, target_at, AreMoved, AreTargets, ChangedIn, HasHole, IsAt, IsMovedPlace, LeavesHole};
 ghost use Rattle.nl_vseg.specs.Effects.{Counted};
 ghost use Rattle.nl_vseg.specs.Answers.{IsLost};
 ghost use Rattle.nl_vseg.specs.declared.place.Place.{Place as PlaceOf};
@@ -51,11 +52,13 @@ fn copy_page<M: Nand>(
     }
 }
 
-/// Copies the page of an address to the next page of the target, where it is in the victim.
+/// Copies the page of an address to the next page of the target, where it is in the victim and was not copied yet. The address
+/// then has the copy.
 fn copy_one<M: Nand>(
     media: &mut M,
     buf: &mut PageBuf,
     copies: &mut Vec<Option<Place>>,
+    targets: &mut Vec<Option<u32>>,
     v: usize,
     victim: u32,
     pages: u32,
@@ -71,7 +74,9 @@ fn copy_one<M: Nand>(
     requires vaddr { v < length copies.old.items }
     requires places { ArePlaces pages ((M.geometry media.old).blocks * pages) target used.old copies.old.items }
     requires other { target ≡ victim → ⊥ }
-    requires room { used.old + mapped_in pages victim copies.old.items < pages }
+    requires targets { AreTargets pages target used.old targets.old.items }
+    requires hole { LeavesHole pages victim (place_of copies.old.items v) targets.old.items }
+    requires fresh { M.tells → (at page : ℕ) → target_at targets.old.items at ≡ Some page → IsAt pages victim at (place_of copies.old.items v) → ⊥ }
     requires holds { M.tells → Holds (M.contents media.old) copies.old.items }
     requires erased { M.tells → ErasedWithin (M.contents media.old) (target * pages + used.old) (target * pages + pages) }
     ensures used { used.new < pages }
@@ -81,7 +86,9 @@ fn copy_one<M: Nand>(
     ensures stamps { (u : ℕ) → stamp_in_place (place_of copies.new.items u) ≡ stamp_in_place (place_of copies.old.items u) }
     ensures same { (u : ℕ) → (u ≡ v → ⊥) → place_of copies.new.items u ≡ place_of copies.old.items u }
     ensures moved { result ≡ VirtualWrite.Done → IsMovedPlace pages victim target used.new (place_of copies.old.items v) (place_of copies.new.items v) }
-    ensures fits { result ≡ VirtualWrite.Done → used.new + mapped_in pages victim copies.new.items ≡ used.old + mapped_in pages victim copies.old.items }
+    ensures targets { result ≡ VirtualWrite.Done → AreTargets pages target used.new targets.new.items }
+    ensures size { length targets.new.items ≡ length targets.old.items }
+    ensures grown { (at page : ℕ) → target_at targets.new.items at ≡ Some page → (target_at targets.old.items at ≡ Some page) ⊎ IsAt pages victim at (place_of copies.old.items v) }
     ensures holds { M.tells → result ≡ VirtualWrite.Done → Holds (M.contents media.new) copies.new.items }
     ensures erased { M.tells → result ≡ VirtualWrite.Done → ErasedWithin (M.contents media.new) (target * pages + used.new) (target * pages + pages) }
     ensures map { M.tells → result ≡ VirtualWrite.Done → (u : ℕ) → map_of copies.new.items (M.contents media.new) u ≡ map_of copies.old.items (M.contents media.old) u }
@@ -98,12 +105,21 @@ fn copy_one<M: Nand>(
     if place.page / pages != victim {
         return VirtualWrite::Done;
     }
+    let at = (place.page % pages) as usize;
+    if let Some(page) = targets[at] {
+        copies[v] = Some(Place {
+            page,
+            stamp: place.stamp,
+        });
+        return VirtualWrite::Done;
+    }
     let to = target * pages + *used;
     *used += 1;
     match copy_page(media, buf, v as u32, place, to, wear) {
         VirtualWrite::Lost { wanted, found } => VirtualWrite::Lost { wanted, found },
         VirtualWrite::Fault => VirtualWrite::Fault,
         VirtualWrite::Done => {
+            targets[at] = Some(to);
             copies[v] = Some(Place {
                 page: to,
                 stamp: place.stamp,
@@ -113,11 +129,20 @@ fn copy_one<M: Nand>(
     }
 }
 
-/// Copies each page of the victim that an address has to the next page of the target. The map of copies then has those.
+/// No page of the victim was copied yet.
+pub fn clear(targets: &mut Vec<Option<u32>>)
+    ensures { targets.new.items ≡ replicate (length targets.old.items) None }
+{
+    targets.fill(None);
+}
+
+/// Copies each page of the victim that an address has to the next page of the target, once where two addresses have it. The
+/// map of copies then has those.
 pub fn copy_block<M: Nand>(
     media: &mut M,
     buf: &mut PageBuf,
     copies: &mut Vec<Option<Place>>,
+    targets: &mut Vec<Option<u32>>,
     victim: u32,
     pages: u32,
     target: u32,
@@ -133,12 +158,14 @@ pub fn copy_block<M: Nand>(
     requires unmapped { IsUnmapped pages copies.old.items target }
     requires begins { used.old ≡ 0 }
     requires other { target ≡ victim → ⊥ }
-    requires room { mapped_in pages victim copies.old.items < pages }
+    requires targets { targets.old.items ≡ replicate pages None }
+    requires hole { HasHole pages victim copies.old.items }
     requires holds { M.tells → Holds (M.contents media.old) copies.old.items }
     requires erased { M.tells → ErasedWithin (M.contents media.old) (target * pages) (target * pages + pages) }
     ensures used { used.new < pages }
     ensures places { result ≡ VirtualWrite.Done → ArePlaces pages ((M.geometry media.old).blocks * pages) target used.new copies.new.items }
     ensures count { length copies.new.items ≡ length copies.old.items }
+    ensures size { length targets.new.items ≡ length targets.old.items }
     ensures moved { result ≡ VirtualWrite.Done → AreMoved pages victim target used.new copies.old.items copies.new.items }
     ensures holds { M.tells → result ≡ VirtualWrite.Done → Holds (M.contents media.new) copies.new.items }
     ensures erased { M.tells → result ≡ VirtualWrite.Done → ErasedWithin (M.contents media.new) (target * pages + used.new) (target * pages + pages) }
@@ -151,7 +178,9 @@ pub fn copy_block<M: Nand>(
     ensures counts { Counted M.clock M.read_faults M.write_faults media.old media.new (result ≡ VirtualWrite.Fault) }
 {
     for v in 0..copies.len() {
-        match copy_one(media, buf, copies, v, victim, pages, target, wear, used) {
+        match copy_one(
+            media, buf, copies, targets, v, victim, pages, target, wear, used,
+        ) {
             VirtualWrite::Done => {}
             VirtualWrite::Lost { wanted, found } => {
                 return VirtualWrite::Lost { wanted, found };

@@ -1,8 +1,9 @@
-ghost use Rattle.std.specs.Prelude.{◌≡◌, ◌⊎◌, ℕ, ◌*◌, ◌/◌, ◌^◌, ◌<◌, length, slice_set, None, Some, IsTrue};
+ghost use Rattle.std.specs.Prelude.{◌≡◌, ◌⊎◌, ℕ, ◌+◌, ◌*◌, ◌/◌, ◌^◌, ◌<◌, ◌≤◌, true, length, slice_set, None, Some, IsTrue};
 ghost use Rattle.nl_field.specs.Spelling.{is_stamp};
-ghost use Rattle.nl_blocks.specs.Table.{block_at};
-ghost use Rattle.nl_vseg.specs.Segment.{AreBeside, SameSize, TakenAsErased, bound, place_of};
-ghost use Rattle.nl_vseg.specs.Seen.{seen, IsFormed};
+ghost use Rattle.nl_vseg.specs.Places.{place_of};
+ghost use Rattle.nl_vseg.specs.Layout.{bound};
+ghost use Rattle.nl_vseg.specs.Segment.{SameSize, is_blank, wear_of};
+ghost use Rattle.nl_vseg.specs.Seen.{seen, segment_of, IsFormed};
 
 use crate::place::Place;
 use crate::room::set_wear;
@@ -14,13 +15,13 @@ impl State {
         requires page { page < bound (seen self.old) }
         requires vaddr { vaddr < length self.old.places.items }
         requires unmapped { place_of self.old.places.items vaddr ≡ None }
-        requires other { AreBeside page self.old.places.items }
         requires stamp { IsTrue (is_stamp stamp) }
         ensures formed { IsFormed self.new }
         ensures places { self.new.places.items ≡ slice_set self.old.places.items vaddr (Some (record { page = page; stamp = stamp })) }
-        ensures numbers { SameSize (seen self.old) (seen self.new) }
-        ensures erased { (p : ℕ) → TakenAsErased (seen self.new) p → TakenAsErased (seen self.old) p × (p / self.old.blocks.size ≡ page / self.old.blocks.size → ⊥) }
-        ensures still { (p : ℕ) → TakenAsErased (seen self.old) p → (p / self.old.blocks.size ≡ page / self.old.blocks.size → ⊥) → TakenAsErased (seen self.new) p }
+        ensures numbers { SameSize (segment_of self.old) (segment_of self.new) }
+        ensures erased { (p : ℕ) → is_blank (segment_of self.new) p ≡ true → (is_blank (segment_of self.old) p ≡ true) × (p / self.old.blocks.size ≡ page / self.old.blocks.size → ⊥) }
+        ensures still { (p : ℕ) → is_blank (segment_of self.old) p ≡ true → (p / self.old.blocks.size ≡ page / self.old.blocks.size → ⊥) → is_blank (segment_of self.new) p ≡ true }
+        ensures wear { (block : ℕ) → wear_of (segment_of self.new) block ≡ wear_of (segment_of self.old) block }
     {
         let block = page / self.blocks.pages();
         self.close(block);
@@ -30,13 +31,14 @@ impl State {
 
     pub fn soil(&mut self, block: u32, wear: u32)
         requires formed { IsFormed self.old }
-        requires within { block < length self.old.blocks.blocks }
+        requires within { block * self.old.blocks.size + self.old.blocks.size ≤ bound (seen self.old) }
         ensures formed { IsFormed self.new }
         ensures places { self.new.places.items ≡ self.old.places.items }
-        ensures numbers { SameSize (seen self.old) (seen self.new) }
-        ensures wear { (block_at self.new.blocks block).wear ≡ wear }
-        ensures erased { (p : ℕ) → TakenAsErased (seen self.new) p → TakenAsErased (seen self.old) p × (p / self.old.blocks.size ≡ block → ⊥) }
-        ensures still { (p : ℕ) → TakenAsErased (seen self.old) p → (p / self.old.blocks.size ≡ block → ⊥) → TakenAsErased (seen self.new) p }
+        ensures numbers { SameSize (segment_of self.old) (segment_of self.new) }
+        ensures wear { wear_of (segment_of self.new) block ≡ wear }
+        ensures others { (other : ℕ) → (other ≡ block → ⊥) → wear_of (segment_of self.new) other ≡ wear_of (segment_of self.old) other }
+        ensures erased { (p : ℕ) → is_blank (segment_of self.new) p ≡ true → (is_blank (segment_of self.old) p ≡ true) × (p / self.old.blocks.size ≡ block → ⊥) }
+        ensures still { (p : ℕ) → is_blank (segment_of self.old) p ≡ true → (p / self.old.blocks.size ≡ block → ⊥) → is_blank (segment_of self.new) p ≡ true }
     {
         self.close(block);
         set_wear(&mut self.blocks, block, wear);

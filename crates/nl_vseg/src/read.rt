@@ -1,7 +1,8 @@
 ghost use Rattle.std.specs.Prelude.{◌≡◌, ◌<◌, length};
 ghost use Rattle.nl_nand.specs.Nand.{FaultsCounted, SameLeft};
-ghost use Rattle.nl_vseg.specs.Segment.{IsSegmentOf, map_of, stamp_for};
-ghost use Rattle.nl_vseg.specs.Seen.{seen, IsFormed, Fits};
+ghost use Rattle.nl_vseg.specs.Places.{map_of, stamp_for};
+ghost use Rattle.nl_vseg.specs.Segment.{Fits, IsSegmentOf};
+ghost use Rattle.nl_vseg.specs.Seen.{segment_of, IsFormed};
 ghost use Rattle.nl_vseg.specs.Answers.{ReadsStamp, ReadsValue};
 
 use crate::pages::read_page;
@@ -12,10 +13,10 @@ use nl_nand::Nand;
 impl State {
     pub fn read<M: Nand>(&self, media: &mut M, vaddr: u32, buf: &mut PageBuf) -> VirtualRead
         requires formed { IsFormed self.now }
-        requires fits { Fits (M.geometry media.old) (seen self.now) }
+        requires fits { Fits (M.geometry media.old) (segment_of self.now) }
         requires vaddr { vaddr < length self.now.places.items }
-        requires segment { M.tells → IsSegmentOf (M.contents media.old) (seen self.now) }
-        ensures answer { ReadsStamp (stamp_for (seen self.now) vaddr) buf.new result }
+        requires segment { M.tells → IsSegmentOf (M.contents media.old) (segment_of self.now) }
+        ensures answer { ReadsStamp (stamp_for self.now.places.items vaddr) buf.new result }
         ensures value { M.tells → ReadsValue (map_of self.now.places.items (M.contents media.old) vaddr) buf.new result }
         ensures geometry { M.geometry media.new ≡ M.geometry media.old }
         ensures contents { M.contents media.new ≡ M.contents media.old }

@@ -2,13 +2,14 @@
 ghost use Rattle.std.specs.Prelude.{◌≡◌, ◌⊎◌, ℕ, ◌+◌, ◌*◌, ◌/◌, ◌<◌, ◌≤◌, length, true, false, IfNone, IfSome, IsNone};
 ghost use Rattle.nl_field.specs.Page.{erased, page_at};
 ghost use Rattle.nl_blocks.specs.Table.{block_at, free_count};
-ghost use Rattle.nl_vseg.specs.Segment.{IsSegmentOf, IsUnmapped, KeepsSpare, SameSize, TakenAsErased, block_is_free, bound, is_soiled, map_of, room, stamp_for};
-ghost use Rattle.nl_vseg.specs.Seen.{seen, IsFormed, Fits};
-ghost use Rattle.nl_vseg.specs.Copying.{mapped_in, Restated, SameUse, StaysOrErased};
+ghost use Rattle.nl_vseg.specs.Places.{IsUnmapped, map_of, stamp_for};
+ghost use Rattle.nl_vseg.specs.Layout.{IsLayoutOf, HasSpare, SameShape, TakenAsErased, block_is_free, bound, is_soiled, room};
+ghost use Rattle.nl_vseg.specs.Seen.{seen, IsFormed, FitsLayout};
+ghost use Rattle.nl_vseg.specs.Copying.{HasHole, Restated, SameUse, StaysOrErased};
 ghost use Rattle.nl_vseg.specs.Effects.{Counted, KeepsMap};
 ghost use Rattle.nl_vseg.specs.Answers.{IsLost, LosesStamp};
 
-use crate::copy::copy_block;
+use crate::copy::{clear, copy_block};
 use crate::state::State;
 use crate::victim::choose;
 use nl_blocks::{BlockState, Blocks};
@@ -48,6 +49,7 @@ pub fn set_wear(blocks: &mut Blocks, block: u32, wear: u32)
     requires within { block < length blocks.old.blocks }
     ensures states { SameUse blocks.old blocks.new }
     ensures wear { (block_at blocks.new block).wear ≡ wear }
+    ensures others { (other : ℕ) → (other ≡ block → ⊥) → (block_at blocks.new other).wear ≡ (block_at blocks.old other).wear }
 {
     if is_free(blocks, block) {
         blocks.found(block, wear, 0);
@@ -80,17 +82,17 @@ impl State {
     /// Erases a block that holds no page of the map. It is Free.
     fn erase<M: Nand>(&mut self, media: &mut M, block: u32) -> WriteAnswer
         requires formed { IsFormed self.old }
-        requires fits { Fits (M.geometry media.old) (seen self.old) }
+        requires fits { FitsLayout (M.geometry media.old) (seen self.old) }
         requires within { block < length self.old.blocks.blocks }
         requires unmapped { IsUnmapped self.old.blocks.size self.old.places.items block }
         requires idle { self.old.used < self.old.blocks.size → block ≡ self.old.active → ⊥ }
-        requires segment { M.tells → IsSegmentOf (M.contents media.old) (seen self.old) }
+        requires segment { M.tells → IsLayoutOf (M.contents media.old) (seen self.old) }
         ensures formed { IsFormed self.new }
         ensures places { self.new.places.items ≡ self.old.places.items }
         ensures used { self.new.used ≡ self.old.used }
         ensures active { self.new.active ≡ self.old.active }
         ensures states { Restated block true self.old.blocks self.new.blocks }
-        ensures segment { M.tells → IsSegmentOf (M.contents media.new) (seen self.new) }
+        ensures segment { M.tells → IsLayoutOf (M.contents media.new) (seen self.new) }
         ensures blank { M.tells → result ≡ WriteAnswer.Done → (p : ℕ) → p / self.old.blocks.size ≡ block → page_at (M.contents media.new) p ≡ erased }
         ensures others { M.tells → (p : ℕ) → (p / self.old.blocks.size ≡ block → ⊥) → page_at (M.contents media.new) p ≡ page_at (M.contents media.old) p }
         ensures map { M.tells → KeepsMap M.clock M.contents M.left self.old.blocks.size (bound (seen self.old)) (map_of self.old.places.items (M.contents media.old)) (map_of self.new.places.items (M.contents media.new)) media.old media.new }
@@ -112,10 +114,10 @@ impl State {
     /// Takes a Free block, and erases it first where it is soiled. None where that failed.
     fn take_erased<M: Nand>(&mut self, media: &mut M) -> Option<u32>
         requires formed { IsFormed self.old }
-        requires fits { Fits (M.geometry media.old) (seen self.old) }
+        requires fits { FitsLayout (M.geometry media.old) (seen self.old) }
         requires closed { self.old.used ≡ self.old.blocks.size }
         requires free { 1 ≤ free_count self.old.blocks }
-        requires segment { M.tells → IsSegmentOf (M.contents media.old) (seen self.old) }
+        requires segment { M.tells → IsLayoutOf (M.contents media.old) (seen self.old) }
         ensures formed { IsFormed self.new }
         ensures places { self.new.places.items ≡ self.old.places.items }
         ensures used { self.new.used ≡ self.old.used }
@@ -123,7 +125,7 @@ impl State {
         ensures some { IfSome result (λ block. block < length self.old.blocks.blocks) }
         ensures was_free { IfSome result (λ block. block_is_free self.old.blocks block ≡ true) }
         ensures taken { IfSome result (λ block. Restated block false self.old.blocks self.new.blocks) }
-        ensures segment { M.tells → IsSegmentOf (M.contents media.new) (seen self.new) }
+        ensures segment { M.tells → IsLayoutOf (M.contents media.new) (seen self.new) }
         ensures blank { M.tells → IfSome result (λ block. (p : ℕ) → p / self.old.blocks.size ≡ block → page_at (M.contents media.new) p ≡ erased) }
         ensures others { M.tells → IfSome result (λ block. (p : ℕ) → (p / self.old.blocks.size ≡ block → ⊥) → page_at (M.contents media.new) p ≡ page_at (M.contents media.old) p) }
         ensures map { M.tells → KeepsMap M.clock M.contents M.left self.old.blocks.size (bound (seen self.old)) (map_of self.old.places.items (M.contents media.old)) (map_of self.new.places.items (M.contents media.new)) media.old media.new }
@@ -146,10 +148,10 @@ impl State {
     /// Makes a Free block the active one, and erases it first where it is soiled.
     fn start<M: Nand>(&mut self, media: &mut M) -> WriteAnswer
         requires formed { IsFormed self.old }
-        requires fits { Fits (M.geometry media.old) (seen self.old) }
+        requires fits { FitsLayout (M.geometry media.old) (seen self.old) }
         requires closed { self.old.used ≡ self.old.blocks.size }
         requires free { 1 ≤ free_count self.old.blocks }
-        requires segment { M.tells → IsSegmentOf (M.contents media.old) (seen self.old) }
+        requires segment { M.tells → IsLayoutOf (M.contents media.old) (seen self.old) }
         ensures formed { IsFormed self.new }
         ensures places { self.new.places.items ≡ self.old.places.items }
         ensures same { result ≡ WriteAnswer.Failed → SameUse self.old.blocks self.new.blocks }
@@ -157,7 +159,7 @@ impl State {
         ensures taken { result ≡ WriteAnswer.Done → Restated self.new.active false self.old.blocks self.new.blocks }
         ensures begins { result ≡ WriteAnswer.Done → self.new.used ≡ 0 }
         ensures was_free { result ≡ WriteAnswer.Done → block_is_free self.old.blocks self.new.active ≡ true }
-        ensures segment { M.tells → IsSegmentOf (M.contents media.new) (seen self.new) }
+        ensures segment { M.tells → IsLayoutOf (M.contents media.new) (seen self.new) }
         ensures others { M.tells → result ≡ WriteAnswer.Done → StaysOrErased self.old.blocks.size self.new.active (M.contents media.old) (M.contents media.new) }
         ensures map { M.tells → KeepsMap M.clock M.contents M.left self.old.blocks.size (bound (seen self.old)) (map_of self.old.places.items (M.contents media.old)) (map_of self.new.places.items (M.contents media.new)) media.old media.new }
         ensures geometry { M.geometry media.new ≡ M.geometry media.old }
@@ -211,15 +213,15 @@ impl State {
     /// Copies the pages of the victim that addresses have to the active block. The map has the copies once all are made.
     fn move_pages<M: Nand>(&mut self, media: &mut M, victim: u32) -> VirtualWrite
         requires formed { IsFormed self.old }
-        requires fits { Fits (M.geometry media.old) (seen self.old) }
+        requires fits { FitsLayout (M.geometry media.old) (seen self.old) }
         requires begins { self.old.used ≡ 0 }
         requires unmapped { IsUnmapped self.old.blocks.size self.old.places.items self.old.active }
         requires other { self.old.active ≡ victim → ⊥ }
-        requires room { mapped_in self.old.blocks.size victim self.old.places.items < self.old.blocks.size }
-        requires segment { M.tells → IsSegmentOf (M.contents media.old) (seen self.old) }
+        requires hole { HasHole self.old.blocks.size victim self.old.places.items }
+        requires segment { M.tells → IsLayoutOf (M.contents media.old) (seen self.old) }
         ensures formed { IsFormed self.new }
         ensures moved { result ≡ VirtualWrite.Done → IsUnmapped self.new.blocks.size self.new.places.items victim }
-        ensures stamps { (v : ℕ) → stamp_for (seen self.new) v ≡ stamp_for (seen self.old) v }
+        ensures stamps { (v : ℕ) → stamp_for self.new.places.items v ≡ stamp_for self.old.places.items v }
         ensures table { result ≡ VirtualWrite.Done → self.new.blocks ≡ self.old.blocks }
         ensures active { result ≡ VirtualWrite.Done → self.new.active ≡ self.old.active }
         ensures used { result ≡ VirtualWrite.Done → self.new.used < self.new.blocks.size }
@@ -227,9 +229,9 @@ impl State {
         ensures kept_places { (result ≡ VirtualWrite.Done → ⊥) → self.new.places.items ≡ self.old.places.items }
         ensures closed { (result ≡ VirtualWrite.Done → ⊥) → self.new.used ≡ self.new.blocks.size }
         ensures given { (result ≡ VirtualWrite.Done → ⊥) → Restated self.old.active true self.old.blocks self.new.blocks }
-        ensures segment { M.tells → IsSegmentOf (M.contents media.new) (seen self.new) }
+        ensures segment { M.tells → IsLayoutOf (M.contents media.new) (seen self.new) }
         ensures map { M.tells → KeepsMap M.clock M.contents M.left self.old.blocks.size (bound (seen self.old)) (map_of self.old.places.items (M.contents media.old)) (map_of self.new.places.items (M.contents media.new)) media.old media.new }
-        ensures lost { LosesStamp (seen self.old) result }
+        ensures lost { LosesStamp self.old.places.items result }
         ensures kept { M.tells → IsLost result → ⊥ }
         ensures geometry { M.geometry media.new ≡ M.geometry media.old }
         ensures counts { Counted M.clock M.read_faults M.write_faults media.old media.new (result ≡ VirtualWrite.Fault) }
@@ -237,10 +239,12 @@ impl State {
         let wear = self.blocks.wear(self.active);
         let pages = self.blocks.pages();
         self.copies.copy_from_slice(&self.places);
+        clear(&mut self.targets);
         match copy_block(
             media,
             &mut self.buf,
             &mut self.copies,
+            &mut self.targets,
             victim,
             pages,
             self.active,
@@ -265,18 +269,18 @@ impl State {
     /// Cleans the block with the most pages that no address has. One block is Free.
     fn clean<M: Nand>(&mut self, media: &mut M) -> VirtualWrite
         requires formed { IsFormed self.old }
-        requires fits { Fits (M.geometry media.old) (seen self.old) }
+        requires fits { FitsLayout (M.geometry media.old) (seen self.old) }
         requires closed { self.old.used ≡ self.old.blocks.size }
         requires free { free_count self.old.blocks ≡ 1 }
-        requires segment { M.tells → IsSegmentOf (M.contents media.old) (seen self.old) }
+        requires segment { M.tells → IsLayoutOf (M.contents media.old) (seen self.old) }
         ensures formed { IsFormed self.new }
         ensures spare { 1 ≤ free_count self.new.blocks }
         ensures room { result ≡ VirtualWrite.Done → self.new.used < self.new.blocks.size }
-        ensures stamps { (v : ℕ) → stamp_for (seen self.new) v ≡ stamp_for (seen self.old) v }
-        ensures numbers { SameSize (seen self.old) (seen self.new) }
-        ensures segment { M.tells → IsSegmentOf (M.contents media.new) (seen self.new) }
+        ensures stamps { (v : ℕ) → stamp_for self.new.places.items v ≡ stamp_for self.old.places.items v }
+        ensures numbers { SameShape (seen self.old) (seen self.new) }
+        ensures segment { M.tells → IsLayoutOf (M.contents media.new) (seen self.new) }
         ensures map { M.tells → KeepsMap M.clock M.contents M.left self.old.blocks.size (bound (seen self.old)) (map_of self.old.places.items (M.contents media.old)) (map_of self.new.places.items (M.contents media.new)) media.old media.new }
-        ensures lost { LosesStamp (seen self.old) result }
+        ensures lost { LosesStamp self.old.places.items result }
         ensures kept { M.tells → IsLost result → ⊥ }
         ensures geometry { M.geometry media.new ≡ M.geometry media.old }
         ensures counts { Counted M.clock M.read_faults M.write_faults media.old media.new (result ≡ VirtualWrite.Fault) }
@@ -300,18 +304,18 @@ impl State {
     /// Sees to it that a block is Free. Where none is, some block in use holds no page of the map.
     fn free_one<M: Nand>(&mut self, media: &mut M) -> WriteAnswer
         requires formed { IsFormed self.old }
-        requires fits { Fits (M.geometry media.old) (seen self.old) }
+        requires fits { FitsLayout (M.geometry media.old) (seen self.old) }
         requires closed { self.old.used ≡ self.old.blocks.size }
-        requires spare { KeepsSpare (seen self.old) }
-        requires segment { M.tells → IsSegmentOf (M.contents media.old) (seen self.old) }
+        requires spare { HasSpare (seen self.old) }
+        requires segment { M.tells → IsLayoutOf (M.contents media.old) (seen self.old) }
         ensures formed { IsFormed self.new }
         ensures places { self.new.places.items ≡ self.old.places.items }
         ensures closed { self.new.used ≡ self.new.blocks.size }
         ensures free { 1 ≤ free_count self.new.blocks }
         ensures same { 1 ≤ free_count self.old.blocks → seen self.new ≡ seen self.old }
         ensures still { 1 ≤ free_count self.old.blocks → M.contents media.new ≡ M.contents media.old }
-        ensures numbers { SameSize (seen self.old) (seen self.new) }
-        ensures segment { M.tells → IsSegmentOf (M.contents media.new) (seen self.new) }
+        ensures numbers { SameShape (seen self.old) (seen self.new) }
+        ensures segment { M.tells → IsLayoutOf (M.contents media.new) (seen self.new) }
         ensures map { M.tells → KeepsMap M.clock M.contents M.left self.old.blocks.size (bound (seen self.old)) (map_of self.old.places.items (M.contents media.old)) (map_of self.new.places.items (M.contents media.new)) media.old media.new }
         ensures geometry { M.geometry media.new ≡ M.geometry media.old }
         ensures counts { Counted M.clock M.read_faults M.write_faults media.old media.new (result ≡ WriteAnswer.Failed) }
@@ -326,19 +330,19 @@ impl State {
     /// Sees to it that the active block has a page that is not used, and another block is Free.
     pub fn make_room<M: Nand>(&mut self, media: &mut M) -> VirtualWrite
         requires formed { IsFormed self.old }
-        requires fits { Fits (M.geometry media.old) (seen self.old) }
-        requires spare { KeepsSpare (seen self.old) }
-        requires segment { M.tells → IsSegmentOf (M.contents media.old) (seen self.old) }
+        requires fits { FitsLayout (M.geometry media.old) (seen self.old) }
+        requires spare { HasSpare (seen self.old) }
+        requires segment { M.tells → IsLayoutOf (M.contents media.old) (seen self.old) }
         ensures formed { IsFormed self.new }
-        ensures spare { KeepsSpare (seen self.new) }
+        ensures spare { HasSpare (seen self.new) }
         ensures room { result ≡ VirtualWrite.Done → (self.new.used < self.new.blocks.size) × (1 ≤ free_count self.new.blocks) }
-        ensures stamps { (v : ℕ) → stamp_for (seen self.new) v ≡ stamp_for (seen self.old) v }
-        ensures numbers { SameSize (seen self.old) (seen self.new) }
+        ensures stamps { (v : ℕ) → stamp_for self.new.places.items v ≡ stamp_for self.old.places.items v }
+        ensures numbers { SameShape (seen self.old) (seen self.new) }
         ensures direct { 0 < room (seen self.old) → result ≡ VirtualWrite.Done → (room (seen self.new) ≡ room (seen self.old)) × (self.new.places.items ≡ self.old.places.items) }
         ensures others { M.tells → 0 < room (seen self.old) → result ≡ VirtualWrite.Done → StaysOrErased self.old.blocks.size self.new.active (M.contents media.old) (M.contents media.new) }
-        ensures segment { M.tells → IsSegmentOf (M.contents media.new) (seen self.new) }
+        ensures segment { M.tells → IsLayoutOf (M.contents media.new) (seen self.new) }
         ensures map { M.tells → KeepsMap M.clock M.contents M.left self.old.blocks.size (bound (seen self.old)) (map_of self.old.places.items (M.contents media.old)) (map_of self.new.places.items (M.contents media.new)) media.old media.new }
-        ensures lost { LosesStamp (seen self.old) result }
+        ensures lost { LosesStamp self.old.places.items result }
         ensures kept { M.tells → IsLost result → ⊥ }
         ensures geometry { M.geometry media.new ≡ M.geometry media.old }
         ensures counts { Counted M.clock M.read_faults M.write_faults media.old media.new (result ≡ VirtualWrite.Fault) }

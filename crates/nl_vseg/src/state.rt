@@ -1,7 +1,7 @@
 ghost use Rattle.std.specs.Prelude.{◌≡◌, ◌<◌, IfOk, IsTrue, length, replicate, false, None};
 ghost use Rattle.nl_field.specs.Numbers.{is_legal, shape_for};
 ghost use Rattle.nl_blocks.specs.Table.{new_table};
-ghost use Rattle.nl_vseg.specs.Segment.{IsSegment};
+ghost use Rattle.nl_vseg.specs.Layout.{IsLayout};
 ghost use Rattle.nl_vseg.specs.Seen.{seen, IsFormed};
 
 use crate::place::{Place, no_places};
@@ -15,6 +15,8 @@ pub struct State {
     pub places: Vec<Option<Place>>,
     pub copies: Vec<Option<Place>>,
     pub blocks: Blocks,
+    /// Where a cleaning has copied each page of its victim to.
+    pub targets: Vec<Option<u32>>,
     /// Blocks that are erased before use where they are Free.
     pub soiled: Vec<bool>,
     /// The block that is written to.
@@ -30,6 +32,12 @@ fn no_marks(alloc: Global, count: usize) -> Result<Vec<bool>, Memory>
     Ok(vec![in alloc; false; count]?)
 }
 
+fn no_targets(alloc: Global, count: usize) -> Result<Vec<Option<u32>>, Memory>
+    ensures { IfOk result (λ v. v.items ≡ replicate count None) }
+{
+    Ok(vec![in alloc; None; count]?)
+}
+
 impl State {
     pub fn new(alloc: Global, shape: &Shape) -> Result<State, Memory>
         requires legal { IsTrue (is_legal shape.now.blocks shape.now.pages) }
@@ -40,6 +48,7 @@ impl State {
         Ok(State {
             places: no_places(alloc, shape.vaddrs)?,
             copies: no_places(alloc, shape.vaddrs)?,
+            targets: no_targets(alloc, shape.pages as usize)?,
             blocks: Blocks::new(alloc, 0, shape.vblocks, shape.pages)?,
             soiled: no_marks(alloc, shape.vblocks as usize)?,
             active: 0,

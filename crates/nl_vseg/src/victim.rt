@@ -1,19 +1,22 @@
 // Which block is cleaned.
-ghost use Rattle.std.specs.Prelude.{◌≡◌, ◌⊎◌, ℕ, ◌+◌, ◌*◌, ◌/◌, ◌<◌, ◌≤◌, length, true, false, IfSome};
+ghost use Rattle.std.specs.Prelude.{◌≡◌, ◌⊎◌, ℕ, ◌+◌, ◌*◌, ◌/◌, ◌<◌, ◌≤◌, length, true, false, Some, IfSome};
 ghost use Rattle.nl_blocks.specs.Table.{block_at, dead_count, free_count, is_sealed, page_at};
-ghost use Rattle.nl_vseg.specs.Segment.{AreApart, AreBelow, IsUnmapped, block_is_free};
-ghost use Rattle.nl_vseg.specs.Copying.{mapped_in, IsMarked, IsSettled, SameStates, SameUse};
+ghost use Rattle.nl_vseg.specs.Places.{AreBelow, IsUnmapped, place_of};
+ghost use Rattle.nl_vseg.specs.declared.place.Place.{Place as PlaceOf};
+ghost use Rattle.nl_vseg.specs.Layout.{block_is_free};
+ghost use Rattle.nl_vseg.specs.Copying.{mapped_in, HasHole, IsMarked, IsSettled, SameStates, SameUse};
 
 use crate::place::Place;
 use nl_blocks::{BlockState, Blocks, PageState};
 use nl_victim::most_dead;
 
 /// Seals the block where it is in use.
-fn seal_used(blocks: &mut Blocks, block: u32)
+pub fn seal_used(blocks: &mut Blocks, block: u32)
     requires first { blocks.old.first ≡ 0 }
     requires within { block < length blocks.old.blocks }
     ensures states { SameUse blocks.old blocks.new }
     ensures here { block_is_free blocks.new block ≡ false → is_sealed (block_at blocks.new block) ≡ true }
+    ensures wear { (other : ℕ) → (block_at blocks.new other).wear ≡ (block_at blocks.old other).wear }
     ensures others { (other : ℕ) → (other ≡ block → ⊥) → block_at blocks.new other ≡ block_at blocks.old other }
 {
     if matches!(blocks.state(block), BlockState::Free) {
@@ -22,7 +25,7 @@ fn seal_used(blocks: &mut Blocks, block: u32)
     blocks.seal(block);
 }
 
-/// Each block in use is Sealed.
+/// Each block in use is Sealed: also the active one, which is left where no other block is Free.
 fn seal_all(blocks: &mut Blocks)
     requires { blocks.old.first ≡ 0 }
     ensures states { SameUse blocks.old blocks.new }
@@ -51,7 +54,6 @@ fn mark_place(blocks: &mut Blocks, place: Option<Place>)
     requires some { 0 < blocks.old.size }
     requires rows { (block : ℕ) → block < length blocks.old.blocks → length (block_at blocks.old block).pages ≡ blocks.old.size }
     requires below { IfSome place (λ p. p.page < length blocks.old.blocks * blocks.old.size) }
-    requires dead { IfSome place (λ p. (page_at blocks.old p.page).state ≡ PageState.Dead) }
     ensures { IsMarked place blocks.old blocks.new }
 {
     let Some(place) = place else {
@@ -64,10 +66,11 @@ fn mark_place(blocks: &mut Blocks, place: Option<Place>)
 fn mark_live(blocks: &mut Blocks, places: &Vec<Option<Place>>)
     requires first { blocks.old.first ≡ 0 }
     requires below { AreBelow (length blocks.old.blocks * blocks.old.size) places.now.items }
-    requires apart { AreApart places.now.items }
     requires pages { (page : ℕ) → page < length blocks.old.blocks * blocks.old.size → (page_at blocks.old page).state ≡ PageState.Dead }
     ensures states { SameStates blocks.old blocks.new }
-    ensures counted { (block : ℕ) → block < length blocks.new.blocks → mapped_in blocks.new.size block places.now.items + dead_count (block_at blocks.new block) ≡ blocks.new.size }
+    ensures rows { (block : ℕ) → block < length blocks.new.blocks → length (block_at blocks.new block).pages ≡ blocks.new.size }
+    ensures counted { (block : ℕ) → block < length blocks.new.blocks → blocks.new.size ≤ mapped_in blocks.new.size block places.now.items + dead_count (block_at blocks.new block) }
+    ensures live { (v : ℕ) (place : PlaceOf) → place_of places.now.items v ≡ Some place → (page_at blocks.new place.page).state ≡ PageState.Live }
 {
     let _ = blocks.count();
     for v in 0..places.len() {
@@ -79,7 +82,6 @@ fn mark_live(blocks: &mut Blocks, places: &Vec<Option<Place>>)
 fn settle(blocks: &mut Blocks, places: &Vec<Option<Place>>)
     requires first { blocks.old.first ≡ 0 }
     requires below { AreBelow (length blocks.old.blocks * blocks.old.size) places.now.items }
-    requires apart { AreApart places.now.items }
     ensures states { SameUse blocks.old blocks.new }
     ensures settled { IsSettled places.now.items blocks.new }
 {
@@ -88,18 +90,17 @@ fn settle(blocks: &mut Blocks, places: &Vec<Option<Place>>)
     mark_live(blocks, places);
 }
 
-/// The block with the most pages that no address has, of those in use. At most one block is Free.
+/// The block with the most pages that no address has, of those in use: it has one. At most one block is Free.
 pub fn choose(blocks: &mut Blocks, places: &Vec<Option<Place>>) -> u32
     requires some { 0 < blocks.old.size }
     requires first { blocks.old.first ≡ 0 }
     requires below { AreBelow (length blocks.old.blocks * blocks.old.size) places.now.items }
-    requires apart { AreApart places.now.items }
     requires few { length places.now.items + 4 * blocks.old.size ≤ length blocks.old.blocks * blocks.old.size }
     requires free { free_count blocks.old ≤ 1 }
     ensures states { SameUse blocks.old blocks.new }
     ensures within { result < length blocks.old.blocks }
     ensures in_use { block_is_free blocks.old result ≡ false }
-    ensures dead { mapped_in blocks.old.size result places.now.items < blocks.old.size }
+    ensures hole { HasHole blocks.old.size result places.now.items }
     ensures unmapped { free_count blocks.old ≡ 0 → (block : ℕ) → block < length blocks.old.blocks → IsUnmapped blocks.old.size places.now.items block → IsUnmapped blocks.old.size places.now.items result }
 {
     settle(blocks, places);

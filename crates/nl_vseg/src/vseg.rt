@@ -1,12 +1,11 @@
-ghost use Rattle.std.specs.Prelude.{◌≡◌, ◌⊎◌, ℕ, ◌+◌, ◌*◌, ◌/◌, ◌<◌, ◌≤◌, ◌==◌, length, slice_set, replicate, if◌then◌else◌, None, Some, IsTrue, IfOk};
+ghost use Rattle.std.specs.Prelude.{◌≡◌, ◌⊎◌, ℕ, ◌+◌, ◌*◌, ◌/◌, ◌<◌, ◌≤◌, ◌==◌, length, slice_set, replicate, true, if◌then◌else◌, None, Some, IsTrue, IfOk};
 ghost use Rattle.nl_field.specs.CrashStates.{Earlier, LeavesOnly, Rose, Turns};
 ghost use Rattle.nl_field.specs.Numbers.{is_legal, shape_for};
 ghost use Rattle.nl_field.specs.Spelling.{is_stamp};
 ghost use Rattle.nl_nand.specs.Nand.{FaultsCounted, SameLeft};
-ghost use Rattle.nl_blocks.specs.Table.{block_at};
 ghost use Rattle.nl_vseg.specs.Maps.{with_at};
-ghost use Rattle.nl_vseg.specs.Segment.{AreBeside, IsSegmentOf, KeepsSpare, SameSize, TakenAsErased, bound, map_of, place_of, room, stamp_for};
-ghost use Rattle.nl_vseg.specs.Seen.{Fits};
+ghost use Rattle.nl_vseg.specs.Places.{AreBelow, map_of, place_of, stamp_for};
+ghost use Rattle.nl_vseg.specs.Segment.{Fits, IsSegmentOf, KeepsSpare, SameSize, is_blank, wear_of};
 ghost use Rattle.nl_vseg.specs.Effects.{Counted, Keeps, Programmed, Takes};
 ghost use Rattle.nl_vseg.specs.Answers.{IsLost, LosesStamp, ReadsStamp, ReadsValue};
 
@@ -28,9 +27,9 @@ impl Model for VSeg {
 
     ghost Value = { Segment };
 
-    ghost use Rattle.nl_vseg.specs.Seen.{seen, IsFormed};
+    ghost use Rattle.nl_vseg.specs.Seen.{segment_of, IsFormed};
 
-    ghost view = { λ s. seen s.state };
+    ghost view = { λ s. segment_of s.state };
 
     ghost invariant = { λ s. IsFormed s.state };
 }
@@ -41,29 +40,31 @@ impl VSeg {
         requires legal { IsTrue (is_legal shape.now.blocks shape.now.pages) }
         requires numbers { shape.now ≡ shape_for shape.now.blocks shape.now.pages }
         ensures places { IfOk result (λ s. s.places ≡ replicate shape.now.vaddrs None) }
-        ensures pages { IfOk result (λ s. s.table.size ≡ shape.now.pages) }
-        ensures blocks { IfOk result (λ s. length s.table.blocks ≡ shape.now.vblocks) }
-        ensures erased { IfOk result (λ s. (p : ℕ) → p < bound s → TakenAsErased s p) }
+        ensures pages { IfOk result (λ s. s.pages ≡ shape.now.pages) }
+        ensures bound { IfOk result (λ s. s.bound ≡ shape.now.vblocks * shape.now.pages) }
+        ensures erased { IfOk result (λ s. (p : ℕ) → p < s.bound → is_blank s p ≡ true) }
+        ensures within { IfOk result (λ s. (p : ℕ) → is_blank s p ≡ true → p < s.bound) }
+        ensures wear { IfOk result (λ s. (block : ℕ) → wear_of s block ≡ 0) }
         ensures spare { IfOk result KeepsSpare }
-        ensures room { IfOk result (λ s. room s + shape.now.pages ≡ shape.now.vblocks * shape.now.pages) }
+        ensures room { IfOk result (λ s. s.room + shape.now.pages ≡ shape.now.vblocks * shape.now.pages) }
     {
         Ok(VSeg {
             state: State::new(alloc, shape)?,
         })
     }
 
-    /// Serves an opening: gives an address without a page this one, which is that of no address. Nothing more is programmed in
-    /// its block before that is erased.
+    /// Serves an opening: gives an address without a page this one. Nothing more is programmed in its block before that is
+    /// erased.
     pub fn load(&mut self, page: u32, vaddr: u32, stamp: u64)
-        requires page { page < bound self.old }
+        requires page { page < self.old.bound }
         requires vaddr { vaddr < length self.old.places }
         requires unmapped { place_of self.old.places vaddr ≡ None }
-        requires other { AreBeside page self.old.places }
         requires stamp { IsTrue (is_stamp stamp) }
         ensures places { self.new.places ≡ slice_set self.old.places vaddr (Some (record { page = page; stamp = stamp })) }
         ensures numbers { SameSize self.old self.new }
-        ensures erased { (p : ℕ) → TakenAsErased self.new p → TakenAsErased self.old p × (p / self.old.table.size ≡ page / self.old.table.size → ⊥) }
-        ensures still { (p : ℕ) → TakenAsErased self.old p → (p / self.old.table.size ≡ page / self.old.table.size → ⊥) → TakenAsErased self.new p }
+        ensures erased { (p : ℕ) → is_blank self.new p ≡ true → (is_blank self.old p ≡ true) × (p / self.old.pages ≡ page / self.old.pages → ⊥) }
+        ensures still { (p : ℕ) → is_blank self.old p ≡ true → (p / self.old.pages ≡ page / self.old.pages → ⊥) → is_blank self.new p ≡ true }
+        ensures wear { (block : ℕ) → wear_of self.new block ≡ wear_of self.old block }
     {
         self.state.load(page, vaddr, stamp);
     }
@@ -71,12 +72,13 @@ impl VSeg {
     /// Serves an opening: the pages of this block, which was erased so often, do not all read as erased. Where it holds no
     /// page of the map, it is erased before use.
     pub fn soiled(&mut self, block: u32, wear: u32)
-        requires within { block < length self.old.table.blocks }
+        requires within { block * self.old.pages + self.old.pages ≤ self.old.bound }
         ensures places { self.new.places ≡ self.old.places }
         ensures numbers { SameSize self.old self.new }
-        ensures wear { (block_at self.new.table block).wear ≡ wear }
-        ensures erased { (p : ℕ) → TakenAsErased self.new p → TakenAsErased self.old p × (p / self.old.table.size ≡ block → ⊥) }
-        ensures still { (p : ℕ) → TakenAsErased self.old p → (p / self.old.table.size ≡ block → ⊥) → TakenAsErased self.new p }
+        ensures wear { wear_of self.new block ≡ wear }
+        ensures others { (other : ℕ) → (other ≡ block → ⊥) → wear_of self.new other ≡ wear_of self.old other }
+        ensures erased { (p : ℕ) → is_blank self.new p ≡ true → (is_blank self.old p ≡ true) × (p / self.old.pages ≡ block → ⊥) }
+        ensures still { (p : ℕ) → is_blank self.old p ≡ true → (p / self.old.pages ≡ block → ⊥) → is_blank self.new p ≡ true }
     {
         self.state.soil(block, wear);
     }
@@ -93,7 +95,7 @@ impl VSeg {
         requires vaddr { vaddr < length self.old.places }
         requires segment { M.tells → IsSegmentOf (M.contents media.old) self.old }
         ensures segment { self.new ≡ self.old }
-        ensures answer { ReadsStamp (stamp_for self.old vaddr) buf.new result }
+        ensures answer { ReadsStamp (stamp_for self.old.places vaddr) buf.new result }
         ensures value { M.tells → ReadsValue (map_of self.old.places (M.contents media.old) vaddr) buf.new result }
         ensures geometry { M.geometry media.new ≡ M.geometry media.old }
         ensures contents { M.contents media.new ≡ M.contents media.old }
@@ -121,21 +123,23 @@ impl VSeg {
         requires segment { M.tells → IsSegmentOf (M.contents media.old) self.old }
         ensures spare { KeepsSpare self.new }
         ensures numbers { SameSize self.old self.new }
-        ensures done { result ≡ VirtualWrite.Done → (v : ℕ) → stamp_for self.new v ≡ (if v == vaddr then Some stamp else stamp_for self.old v) }
-        ensures failed { (result ≡ VirtualWrite.Done → ⊥) → (v : ℕ) → stamp_for self.new v ≡ stamp_for self.old v }
-        ensures room { 0 < room self.old → result ≡ VirtualWrite.Done → room self.new + 1 ≡ room self.old }
+        ensures below { AreBelow self.new.bound self.new.places }
+        ensures within { (p : ℕ) → is_blank self.new p ≡ true → p < self.new.bound }
+        ensures done { result ≡ VirtualWrite.Done → (v : ℕ) → stamp_for self.new.places v ≡ (if v == vaddr then Some stamp else stamp_for self.old.places v) }
+        ensures failed { (result ≡ VirtualWrite.Done → ⊥) → (v : ℕ) → stamp_for self.new.places v ≡ stamp_for self.old.places v }
+        ensures room { 0 < self.old.room → result ≡ VirtualWrite.Done → self.new.room + 1 ≡ self.old.room }
         ensures segment { M.tells → IsSegmentOf (M.contents media.new) self.new }
         ensures map { M.tells → result ≡ VirtualWrite.Done → (v : ℕ) → map_of self.new.places (M.contents media.new) v ≡ with_at (map_of self.old.places (M.contents media.old)) vaddr (stamp, from.now.main) v }
         ensures same { M.tells → (result ≡ VirtualWrite.Done → ⊥) → (v : ℕ) → map_of self.new.places (M.contents media.new) v ≡ map_of self.old.places (M.contents media.old) v }
-        ensures takes { M.tells → result ≡ VirtualWrite.Done → Takes self.old.table.size (bound self.old) (map_of self.old.places (M.contents media.old)) vaddr stamp from.now.main (M.contents media.old) (M.contents media.new) }
-        ensures either { M.tells → Keeps self.old.table.size (bound self.old) (map_of self.old.places (M.contents media.old)) (M.contents media.old) (M.contents media.new)
-            ⊎ Takes self.old.table.size (bound self.old) (map_of self.old.places (M.contents media.old)) vaddr stamp from.now.main (M.contents media.old) (M.contents media.new) }
-        ensures unused { M.tells → (result ≡ VirtualWrite.Done → ⊥) → (Rose (M.write_faults media.old) (M.write_faults media.new) → ⊥) → Keeps self.old.table.size (bound self.old) (map_of self.old.places (M.contents media.old)) (M.contents media.old) (M.contents media.new) }
-        ensures programmed { M.tells → 0 < room self.old → result ≡ VirtualWrite.Done → (block : ℕ) × Programmed self.old.table.size (bound self.old) block vaddr stamp (block_at self.new.table block).wear from.now.main (M.contents media.old) (M.contents media.new) }
+        ensures takes { M.tells → result ≡ VirtualWrite.Done → Takes self.old.pages self.old.bound (map_of self.old.places (M.contents media.old)) vaddr stamp from.now.main (M.contents media.old) (M.contents media.new) }
+        ensures either { M.tells → Keeps self.old.pages self.old.bound (map_of self.old.places (M.contents media.old)) (M.contents media.old) (M.contents media.new)
+            ⊎ Takes self.old.pages self.old.bound (map_of self.old.places (M.contents media.old)) vaddr stamp from.now.main (M.contents media.old) (M.contents media.new) }
+        ensures unused { M.tells → (result ≡ VirtualWrite.Done → ⊥) → (Rose (M.write_faults media.old) (M.write_faults media.new) → ⊥) → Keeps self.old.pages self.old.bound (map_of self.old.places (M.contents media.old)) (M.contents media.old) (M.contents media.new) }
+        ensures programmed { M.tells → 0 < self.old.room → result ≡ VirtualWrite.Done → (block : ℕ) × Programmed self.old.pages self.old.bound block vaddr stamp (wear_of self.new block) from.now.main (M.contents media.old) (M.contents media.new) }
         ensures crash { M.tells → LeavesOnly M.clock M.left media.old media.new (Turns (result ≡ VirtualWrite.Done) (M.clock media.new)
-            (λ c. Keeps self.old.table.size (bound self.old) (map_of self.old.places (M.contents media.old)) (M.contents media.old) c)
-            (λ c. Takes self.old.table.size (bound self.old) (map_of self.old.places (M.contents media.old)) vaddr stamp from.now.main (M.contents media.old) c)) }
-        ensures lost { LosesStamp self.old result }
+            (λ c. Keeps self.old.pages self.old.bound (map_of self.old.places (M.contents media.old)) (M.contents media.old) c)
+            (λ c. Takes self.old.pages self.old.bound (map_of self.old.places (M.contents media.old)) vaddr stamp from.now.main (M.contents media.old) c)) }
+        ensures lost { LosesStamp self.old.places result }
         ensures kept { M.tells → IsLost result → ⊥ }
         ensures geometry { M.geometry media.new ≡ M.geometry media.old }
         ensures ticks { result ≡ VirtualWrite.Done → Earlier (M.clock media.old) (M.clock media.new) }

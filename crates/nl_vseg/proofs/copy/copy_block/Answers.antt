@@ -1,11 +1,48 @@
-use Rattle.std.proofs.Common.{inl, inr, ⊎_elim, ◌*◌, ◌≤◌, sym, ◌∙◌, ap, subst, arith}
+use Rattle.std.proofs.Common.{◌≡◌, refl, Some, inl, inr, ⊎_elim, ◌*◌, ◌≤◌, sym, ◌∙◌, ap, subst, arith}
 use Rattle.std.proofs.lemmas.Bool.{cases_eq}
 use Rattle.nl_nand.specs.declared.geometry.Geometry.{Geometry}
 use Rattle.nl_nand.proofs.Crashes.{then}
-use Rattle.nl_vseg.specs.Segment.{place_of, ArePlaces}
-use Rattle.nl_vseg.proofs.Counts.{counted_as, counted_then}
+use Rattle.nl_vseg.specs.Places.{place_of}
+use Rattle.nl_vseg.specs.Layout.{ArePlaces}
+use Rattle.nl_vseg.specs.Copying.{target_at, AreTargets, IsAt, LeavesHole}
+use Rattle.nl_vseg.proofs.Copies.{used_below, fresh_page, hole_left, new_targets, no_target}
+use Rattle.nl_vseg.proofs.Counts.{counted_as, counted_start, counted_then}
+use Rattle.nl_vseg.proofs.Images.{changed_none}
 use Rattle.nl_vseg.proofs.Places.{named_within}
 use Rattle.nl_vseg.proofs.copy.copy_block.Goals as goal
+
+pub loop-v-init : goal.loop-v-init
+loop-v-init g c = record {
+  places = c.requires.places;
+  count = refl;
+  stamps = λ u. refl;
+  behind = λ u from. refl;
+  moved = λ u less. absurd (omega (arith, less));
+  targets = subst (λ n. AreTargets c.args.pages c.args.target n c.args.targets.now.items) (sym c.requires.begins)
+      (subst (AreTargets c.args.pages c.args.target 0) (sym c.requires.targets) (new_targets c.args.pages c.args.target));
+  sources = λ at page is. absurd (no_target c.args.pages at page (subst (λ l. target_at l at ≡ Some page) c.requires.targets is));
+  hole = c.requires.hole;
+  holds = c.requires.holds;
+  erased = λ t p from below. c.requires.erased t p (omega (arith, from)) below;
+  map = λ t u. refl;
+  changed = λ t. changed_none c.args.pages c.args.target c.args.copies.now.items (g.M.Nand.contents c.args.media.now);
+  crash = λ t. record { later = omega arith; each = λ m img l. inl l };
+  geometry = refl;
+  counts = counted_start c.args.media.now (λ b. b);
+}
+
+pub copy_one-requires-clause-hole : goal.copy_one-requires-clause-hole
+copy_one-requires-clause-hole g c =
+    let i = c.loop-v.invariant in
+    let here : c.loop-v.v ≤ c.loop-v.v = omega arith in
+    subst (λ x. LeavesHole c.args.pages c.args.victim x c.loop-v.targets.items) (sym (i.behind c.loop-v.v here)) (hole_left c.loop-v.v c.loop-v.v c.requires.some i.hole i.sources)
+
+pub copy_one-requires-clause-fresh : goal.copy_one-requires-clause-fresh
+copy_one-requires-clause-fresh g c t at page copied is =
+    let i = c.loop-v.invariant in
+    let here : c.loop-v.v ≤ c.loop-v.v = omega arith in
+    fresh_page c.args.pages c.args.victim c.loop-v.targets.items c.args.copies.now.items (g.M.Nand.contents c.args.media.now) c.loop-v.v (c.requires.holds t) i.sources at page copied
+    (subst (IsAt c.args.pages c.args.victim at) (i.behind c.loop-v.v here) is)
 
 pub loop-v-preserved : goal.loop-v-preserved
 loop-v-preserved g c =
@@ -28,7 +65,12 @@ loop-v-preserved g c =
             (λ now. inr (now.0, omega (arith, now.1, e.more)))
             (i.moved u (omega (arith, below, ne)) place (sym (e.same u ne) ∙ there))
       ];
-      fits = e.fits done ∙ i.fits;
+      targets = e.targets done;
+      sources = λ at page is. ⊎_elim
+          (λ was. let s = i.sources at page was in (s.0, omega (arith, s.1), s.2))
+          (λ now. (c.loop-v.v, omega arith, subst (IsAt c.args.pages c.args.victim at) (i.behind c.loop-v.v here) now))
+          (e.grown at page is);
+      hole = i.hole;
       holds = λ t. e.holds t done;
       erased = λ t. e.erased t done;
       map = λ t u. e.map t done u ∙ i.map t u;
@@ -47,3 +89,8 @@ returns-clause-moved g c done =
           let within = named_within c.loop-v.copies.items v place there in
           i.moved v (omega (arith, within, i.count, c.len-v-end.ensures, c.loop-v-test.false)) place there;
     }
+
+pub returns-clause-used : goal.returns-clause-used
+returns-clause-used g c =
+    let i = c.loop-v.invariant in
+    used_below i.targets (hole_left c.loop-v.v c.loop-v.v c.requires.some i.hole i.sources)

@@ -1,8 +1,9 @@
-use Rattle.std.proofs.Common.{◌≡◌, ℕ, ◌+◌, ◌*◌, ◌<◌, ◌≤◌, length}
+use Rattle.std.proofs.Common.{◌≡◌, ℕ, ◌+◌, ◌*◌, ◌<◌, ◌≤◌, Some, length}
 use Rattle.nl_field.specs.CrashStates.{LeavesOnly}
 use Rattle.nl_nand.specs.Nand.{ErasedWithin}
-use Rattle.nl_vseg.specs.Segment.{ArePlaces, Holds, map_of, place_of, stamp_in_place}
-use Rattle.nl_vseg.specs.Copying.{mapped_in, ChangedIn, IsMovedPlace}
+use Rattle.nl_vseg.specs.Places.{Holds, map_of, place_of, stamp_in_place}
+use Rattle.nl_vseg.specs.Layout.{ArePlaces}
+use Rattle.nl_vseg.specs.Copying.{target_at, AreTargets, ChangedIn, HasHole, IsAt, IsMovedPlace}
 use Rattle.nl_vseg.specs.Effects.{Counted}
 use Rattle.nl_vseg.proofs.copy.copy_block.Given as goal
 
@@ -13,7 +14,9 @@ invariant-loop-v g l = record {
   stamps : (u : ℕ) → stamp_in_place (place_of l.copies.items u) ≡ stamp_in_place (place_of l.initial.copies.items u);
   behind : (u : ℕ) → l.v ≤ u → place_of l.copies.items u ≡ place_of l.initial.copies.items u;
   moved : (u : ℕ) → u < l.v → IsMovedPlace l.fn.pages l.fn.victim l.fn.target l.used (place_of l.initial.copies.items u) (place_of l.copies.items u);
-  fits : l.used + mapped_in l.fn.pages l.fn.victim l.copies.items ≡ mapped_in l.fn.pages l.fn.victim l.initial.copies.items;
+  targets : AreTargets l.fn.pages l.fn.target l.used l.targets.items;
+  sources : (at page : ℕ) → target_at l.targets.items at ≡ Some page → (u : ℕ) × (u < l.v) × IsAt l.fn.pages l.fn.victim at (place_of l.initial.copies.items u);
+  hole : HasHole l.fn.pages l.fn.victim l.initial.copies.items;
   holds : g.M.Nand.tells → Holds (g.M.Nand.contents l.media) l.copies.items;
   erased : g.M.Nand.tells → ErasedWithin (g.M.Nand.contents l.media) (l.fn.target * l.fn.pages + l.used) (l.fn.target * l.fn.pages + l.fn.pages);
   map : g.M.Nand.tells → (u : ℕ) → map_of l.copies.items (g.M.Nand.contents l.media) u ≡ map_of l.initial.copies.items (g.M.Nand.contents l.initial.media) u;

@@ -3,7 +3,7 @@ use Rattle.nl_blocks.specs.declared.states.BlockState.TheVariants.{Free, Sealed}
 use Rattle.nl_blocks.specs.Table.{BlockRow, Table, block_at, in_state, erased_row}
 use Rattle.nl_blocks.proofs.TableLaws.{block_at-with_block_same}
 use Rattle.nl_vseg.specs.Copying.{Restated}
-use Rattle.nl_vseg.proofs.Blocks.{has_block, restated, restated_again, restated_same}
+use Rattle.nl_vseg.proofs.Blocks.{has_block, other_row, restated, restated_again, restated_same}
 use Rattle.nl_vseg.proofs.room.set_wear.Goals as goal
 
 pub returns-clause-states : goal.returns-clause-states
@@ -35,3 +35,16 @@ returns-clause-wear c =
     let sealed = ap (λ (t : Table). block_at t c.args.block) c.seal.ensures
     ∙ block_at-with_block_same c.found-2.new.self c.args.block (in_state (block_at c.found-2.new.self c.args.block) Sealed) (has_block c.found-2.new.self c.args.block first_2 within_2) in
     ap (λ (r : BlockRow). r.wear) sealed ∙ ap (λ (r : BlockRow). r.wear) found
+
+pub returns-clause-others : goal.returns-clause-others
+returns-clause-others c other ne =
+    let old = c.args.blocks.now in
+    let block = c.args.block in
+    let one = subst (Restated block true old) (sym c.erased.ensures) (restated old block (erased_row (block_at old block) 0) c.requires.first c.requires.within) in
+    let first_1 = one.numbers.same_first ∙ c.requires.first in
+    let row_2 : BlockRow = record { state = Free; wear = c.args.wear; pages = (block_at c.erased.new.self block).pages } in
+    let first_2 = ap (λ (t : Table). t.first) c.found-2.ensures ∙ first_1 in
+    ap (λ (r : BlockRow). r.wear)
+    (ap (λ (t : Table). block_at t other) c.seal.ensures ∙ (other_row c.found-2.new.self block other (in_state (block_at c.found-2.new.self block) Sealed) first_2 ne
+    ∙ (ap (λ (t : Table). block_at t other) c.found-2.ensures ∙ (other_row c.erased.new.self block other row_2 first_1 ne
+    ∙ (ap (λ (t : Table). block_at t other) c.erased.ensures ∙ other_row old block other (erased_row (block_at old block) 0) c.requires.first ne)))))

@@ -9,4 +9,4 @@ new-requires-2-clause-numbers c = (least c.in-Some.shape c.in-Some.ensures.numbe
 
 pub returns-in-Done : goal.returns-in-Done
 returns-in-Done c =
-    new_rig c.in-Some.shape _ _ c.in_ok-seg.seg (least c.in-Some.shape c.in-Some.ensures.numbers) (c.form.ensures.done c.in-Done.is) (c.form.ensures.erased c.in-Done.is) c.in_ok-seg.ensures.places c.in_ok-seg.ensures.pages c.in_ok-seg.ensures.blocks c.in_ok-seg.ensures.spare
+    new_rig c.in-Some.shape _ _ c.in_ok-seg.seg (least c.in-Some.shape c.in-Some.ensures.numbers) (c.form.ensures.done c.in-Done.is) (c.form.ensures.erased c.in-Done.is) c.in_ok-seg.ensures.places c.in_ok-seg.ensures.pages c.in_ok-seg.ensures.bound c.in_ok-seg.ensures.spare

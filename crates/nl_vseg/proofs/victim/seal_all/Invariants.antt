@@ -1,6 +1,6 @@
 use Rattle.std.proofs.Common.{◌≡◌, ℕ, ◌<◌, true, false}
 use Rattle.nl_blocks.specs.Table.{block_at, is_sealed}
-use Rattle.nl_vseg.specs.Segment.{block_is_free}
+use Rattle.nl_vseg.specs.Layout.{block_is_free}
 use Rattle.nl_vseg.specs.Copying.{SameUse}
 use Rattle.nl_vseg.proofs.victim.seal_all.Given as goal
 

@@ -1,6 +1,6 @@
 use Rattle.std.proofs.Common.{◌*◌, List, Option, length, sym, ◌∙◌, ap, subst}
 use Rattle.nl_blocks.specs.Table.{Table}
-use Rattle.nl_vseg.specs.Segment.{IsUnmapped}
+use Rattle.nl_vseg.specs.Places.{IsUnmapped}
 use Rattle.nl_vseg.specs.Seen.{seen}
 use Rattle.nl_vseg.specs.declared.place.Place.{Place}
 use Rattle.nl_vseg.proofs.Counts.{keeps_then}

@@ -22,6 +22,7 @@ returns-then-block-self-clause-formed c =
         in_use = is.in_use;
       };
       copies = c.requires.copies;
+      targets = c.requires.targets;
     }
 
 pub returns-then-block-self-clause-still : goal.returns-then-block-self-clause-still

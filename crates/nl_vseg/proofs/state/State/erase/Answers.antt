@@ -1,7 +1,8 @@
 use Rattle.std.proofs.Common.{length, true, false, sym, subst}
 use Rattle.std.proofs.lemmas.Bool.{true≢false}
 use Rattle.nl_nand.specs.ImageLaws.{filled_cut}
-use Rattle.nl_vseg.specs.Segment.{bound, map_of}
+use Rattle.nl_vseg.specs.Places.{map_of}
+use Rattle.nl_vseg.specs.Layout.{bound}
 use Rattle.nl_vseg.specs.Seen.{seen}
 use Rattle.nl_vseg.specs.Effects.{KeepsMap}
 use Rattle.nl_vseg.proofs.Places.{beside_of}

@@ -1,6 +1,6 @@
 use Rattle.std.proofs.Common.{◌≡◌, length, sym, subst, arith}
 use Rattle.nl_blocks.specs.Table.{free_count}
-use Rattle.nl_vseg.specs.Segment.{IsUnmapped}
+use Rattle.nl_vseg.specs.Places.{IsUnmapped}
 use Rattle.nl_vseg.specs.Seen.{seen}
 use Rattle.nl_vseg.proofs.Segments.{below_of, keeps_nothing}
 use Rattle.nl_vseg.proofs.state.State.free_one.Goals as goal

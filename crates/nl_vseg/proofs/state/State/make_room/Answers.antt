@@ -15,7 +15,7 @@ returns-then-free-gt0-clause-map g c t =
     keeps_nothing c.args.media.now spare.block seg.table.size (length seg.table.blocks) seg.places spare.within (c.requires.segment t).holds (below_of seg c.requires.formed.segment) spare.unmapped
 
 pub free_one-requires-clause-formed : goal.free_one-requires-clause-formed
-free_one-requires-clause-formed g c = record { segment = closed_segment (seen c.args.self.now) c.pages-pages.result c.requires.formed.segment c.pages-pages.ensures; copies = c.requires.formed.copies }
+free_one-requires-clause-formed g c = record { segment = closed_segment (seen c.args.self.now) c.pages-pages.result c.requires.formed.segment c.pages-pages.ensures; copies = c.requires.formed.copies; targets = c.requires.formed.targets }
 
 pub returns-then-free-lt2-clause-spare : goal.returns-then-free-lt2-clause-spare
 returns-then-free-lt2-clause-spare g c = free_spare (seen c.clean.new.self) c.clean.ensures.formed.segment c.clean.ensures.spare
@@ -52,3 +52,6 @@ pub returns-in-Failed-start-clause-map : goal.returns-in-Failed-start-clause-map
 returns-in-Failed-start-clause-map g c t =
     let n = c.free_one.ensures.numbers in
     keeps_then (c.free_one.ensures.map t) (keeps_as n.pages (λ i. n.blocks i * n.pages i) (c.start.ensures.map t))
+
+pub returns-in-Failed-clause-spare : goal.returns-in-Failed-clause-spare
+returns-in-Failed-clause-spare g c = free_spare (seen c.free_one.new.self) c.free_one.ensures.formed.segment c.free_one.ensures.free

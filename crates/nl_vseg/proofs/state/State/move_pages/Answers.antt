@@ -1,7 +1,9 @@
-use Rattle.std.proofs.Common.{◌≡◌, ◌+◌, ◌*◌, ◌<◌, ◌≤◌, List, Option, length, sym, ◌∙◌, ap, subst, arith, mul-le-mul_right}
+use Rattle.std.proofs.lemmas.List.{length-replicate}
+use Rattle.std.proofs.Common.{None, replicate, ◌≡◌, ◌+◌, ◌*◌, ◌<◌, ◌≤◌, List, Option, length, sym, ◌∙◌, ap, subst, arith, mul-le-mul_right}
 use Rattle.nl_field.specs.CrashStates.{LeavesOnly}
 use Rattle.nl_nand.specs.Nand.{ErasedWithin}
-use Rattle.nl_vseg.specs.Segment.{ArePlaces, IsSegment, IsSegmentOf, IsUnmapped, bound, map_of}
+use Rattle.nl_vseg.specs.Places.{IsUnmapped, map_of}
+use Rattle.nl_vseg.specs.Layout.{ArePlaces, IsLayout, IsLayoutOf, bound}
 use Rattle.nl_vseg.specs.Seen.{seen}
 use Rattle.nl_vseg.specs.Copying.{AreMoved, ChangedIn}
 use Rattle.nl_vseg.specs.Effects.{KeepsMap}
@@ -18,6 +20,9 @@ copy_block-requires-clause-places g c =
     let wide : bound seg ≤ blocks * seg.table.size = mul-le-mul_right seg.table.size c.requires.fits.blocks in
     subst (λ n. ArePlaces n (blocks * n) seg.active seg.used c.copy_from_slice.new.self.items) (sym c.pages-pages.ensures)
     (subst (λ (l : List (Option Place)). ArePlaces seg.table.size (blocks * seg.table.size) seg.active seg.used l) (sym copies) (widen (blocks * seg.table.size) wide c.requires.formed.segment.places_are))
+
+pub copy_block-requires-clause-targets : goal.copy_block-requires-clause-targets
+copy_block-requires-clause-targets g c = c.clear.ensures ∙ ap (λ n. replicate n None) (c.requires.formed.targets ∙ sym c.pages-pages.ensures)
 
 pub copy_block-requires-clause-erased : goal.copy_block-requires-clause-erased
 copy_block-requires-clause-erased g c t p from below =
@@ -36,6 +41,7 @@ give_back-requires-clause-formed g c =
     record {
       segment = used_segment seg c.copy_block.new.used is room (omega (arith, c.requires.begins)) fits;
       copies = c.copy_block.ensures.count ∙ ap length copies;
+      targets = c.copy_block.ensures.size ∙ (ap length c.clear.ensures ∙ (length-replicate (length c.args.self.now.targets.items) None ∙ c.requires.formed.targets));
     }
 
 pub give_back-requires-in-Fault-clause-formed : goal.give_back-requires-in-Fault-clause-formed
@@ -49,6 +55,7 @@ give_back-requires-in-Fault-clause-formed g c =
     record {
       segment = used_segment seg c.copy_block.new.used is room (omega (arith, c.requires.begins)) fits;
       copies = c.copy_block.ensures.count ∙ ap length copies;
+      targets = c.copy_block.ensures.size ∙ (ap length c.clear.ensures ∙ (length-replicate (length c.args.self.now.targets.items) None ∙ c.requires.formed.targets));
     }
 
 pub returns-in-Done-clause-formed : goal.returns-in-Done-clause-formed
@@ -68,9 +75,10 @@ returns-in-Done-clause-formed g c =
     let blocks = (g.M.Nand.geometry c.args.media.now).blocks in
     let are = subst (λ n. ArePlaces n (blocks * n) seg.active c.copy_block.new.used c.copy_block.new.copies.items) pages (c.copy_block.ensures.places c.in-Done.is) in
     record {
-      segment = subst (λ (l : List (Option Place)). IsSegment (record seg { places = l; used = c.copy_block.new.used })) (sym swapped)
+      segment = subst (λ (l : List (Option Place)). IsLayout (record seg { places = l; used = c.copy_block.new.used })) (sym swapped)
           (moved_segment seg c.copy_block.new.copies.items c.copy_block.new.used c.args.victim (blocks * seg.table.size) is room fits count are moved);
       copies = ap length back ∙ (sym count ∙ ap length (sym swapped));
+      targets = c.copy_block.ensures.size ∙ (ap length c.clear.ensures ∙ (length-replicate (length c.args.self.now.targets.items) None ∙ c.requires.formed.targets));
     }
 
 pub returns-in-Done-clause-moved : goal.returns-in-Done-clause-moved
@@ -100,7 +108,7 @@ returns-in-Done-clause-segment g c t =
     subst (λ n. ChangedIn n seg.active seg.places old new) pages (subst (λ (l : List (Option Place)). ChangedIn c.pages-pages.result seg.active l old new) copies (c.copy_block.ensures.changed t)) in
     let swapped : c.swap.new.x.items ≡ c.copy_block.new.copies.items = cc in
     let blank = subst (λ n. ErasedWithin new (seg.active * n + c.copy_block.new.used) (seg.active * n + n)) pages (c.copy_block.ensures.erased t c.in-Done.is) in
-    subst (λ (l : List (Option Place)). IsSegmentOf new (record seg { places = l; used = c.copy_block.new.used })) (sym swapped)
+    subst (λ (l : List (Option Place)). IsLayoutOf new (record seg { places = l; used = c.copy_block.new.used })) (sym swapped)
     (moved_image seg c.copy_block.new.copies.items c.copy_block.new.used old new is room (c.requires.segment t) (c.copy_block.ensures.holds t c.in-Done.is) blank changed.same)
 
 pub returns-in-Done-clause-map : goal.returns-in-Done-clause-map

@@ -1,5 +1,7 @@
-use Rattle.std.proofs.Common.{length, sym, ◌∙◌, ap, subst, arith}
-use Rattle.nl_vseg.specs.Segment.{IsSegment}
+use Rattle.std.proofs.lemmas.List.{length-replicate}
+use Rattle.nl_blocks.specs.Table.{Table}
+use Rattle.std.proofs.Common.{None, length, sym, ◌∙◌, ap, subst, arith}
+use Rattle.nl_vseg.specs.Layout.{IsLayout}
 use Rattle.nl_vseg.proofs.Shapes.{HasRoom, has_room, new_segment}
 use Rattle.nl_vseg.proofs.state.State.new.Goals as goal
 
@@ -15,6 +17,7 @@ returns-clause-formed c =
     let table = c.in_ok-new.ensures in
     let soiled = c.in_ok-no_marks.ensures in
     record {
-      segment = subst IsSegment (λ i. record { places = sym places i; table = sym table i; soiled = sym soiled i; active = 0; used = c.args.shape.now.pages }) (new_segment c.args.shape.now room);
+      segment = subst IsLayout (λ i. record { places = sym places i; table = sym table i; soiled = sym soiled i; active = 0; used = c.args.shape.now.pages }) (new_segment c.args.shape.now room);
       copies = ap length c.in_ok-no_places-2.ensures ∙ ap length (sym places);
+      targets = ap length c.in_ok-no_targets.ensures ∙ (length-replicate c.args.shape.now.pages None ∙ sym (ap (λ (t : Table). t.size) table));
     }

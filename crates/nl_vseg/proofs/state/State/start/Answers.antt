@@ -1,5 +1,5 @@
 use Rattle.std.proofs.Common.{◌/◌, ◌<◌, List, Option, sym, ◌∙◌, ap, subst}
-use Rattle.nl_vseg.specs.Segment.{IsUnmapped}
+use Rattle.nl_vseg.specs.Places.{IsUnmapped}
 use Rattle.nl_vseg.specs.Seen.{seen}
 use Rattle.nl_vseg.specs.declared.place.Place.{Place}
 use Rattle.nl_vseg.proofs.Segments.{free_unmapped, started, started_segment}
@@ -13,6 +13,7 @@ returns-in-Some-clause-formed g c =
           (subst (λ n. IsUnmapped n c.take_erased.new.self.places.items c.in-Some.block) (sym e.taken.numbers.same_size)
           (subst (λ (l : List (Option Place)). IsUnmapped c.args.self.now.blocks.size l c.in-Some.block) (sym e.places) (free_unmapped (seen c.args.self.now) c.requires.formed.segment c.in-Some.block e.was_free)));
       copies = e.formed.copies;
+      targets = e.formed.targets;
     }
 
 pub returns-in-Some-clause-segment : goal.returns-in-Some-clause-segment

@@ -1,7 +1,7 @@
 use Rattle.std.proofs.Common.{◌<◌, length, false, refl, sym, ◌∙◌, subst}
 use Rattle.nl_blocks.specs.declared.states.BlockState.TheVariants.{Sealed}
 use Rattle.nl_blocks.specs.Table.{block_at, in_state}
-use Rattle.nl_vseg.specs.Segment.{IsUnmapped}
+use Rattle.nl_vseg.specs.Places.{IsUnmapped}
 use Rattle.nl_vseg.specs.Seen.{seen}
 use Rattle.nl_vseg.specs.Copying.{Restated}
 use Rattle.nl_vseg.proofs.Blocks.{restated}

@@ -1,12 +1,15 @@
-use Rattle.std.proofs.Common.{◌≡◌, ◌⊎◌, inl, inr, ⊎_elim, ◌∙◌}
+use Rattle.std.proofs.Common.{◌≡◌, ◌⊎◌, inl, inr, ⊎_elim, ◌∙◌, sym, subst}
 use Rattle.nl_field.specs.CrashStates.{LeavesOnly, Turns}
+use Rattle.nl_field.specs.Page.{page_at, written}
 use Rattle.nl_blocks.specs.Table.{block_at}
 use Rattle.nl_nand.specs.declared.answers.WriteAnswer.TheVariants.{Done}
-use Rattle.nl_vseg.specs.Segment.{map_of}
+use Rattle.nl_vseg.specs.Places.{map_of}
 use Rattle.nl_vseg.specs.Seen.{seen}
+use Rattle.nl_vseg.specs.Pages.{page_with}
 use Rattle.nl_vseg.specs.Effects.{Keeps, Takes, Programmed}
 use Rattle.nl_vseg.proofs.Copies.{resized}
-use Rattle.nl_vseg.proofs.Counts.{counted_as, counted_then, keeps_from, takes_from, keeps_turns, turns_as}
+use Rattle.nl_vseg.proofs.Counts.{counted_as, counted_then, keeps_from, takes_from, keeps_turns, keeps_no_turn, turns_as}
+use Rattle.nl_vseg.proofs.Views.{layout_of, segment_from, spare_from, wear_at}
 use Rattle.nl_vseg.proofs.state.State.write.Goals as goal
 
 pub returns-in-Done-put-clause-takes : goal.returns-in-Done-put-clause-takes
@@ -43,7 +46,7 @@ returns-in-Done-put-clause-programmed g c t room done =
         page = p.page;
         below = p.below;
         in_block = p.in_block;
-        has = p.has;
+        has = subst (λ n. page_at new p.page ≡ written (page_with c.args.from.now.main c.args.vaddr c.args.stamp n)) (sym (wear_at c.put.new.self.blocks mid.active c.put.ensures.formed.segment.first)) p.has;
         others = λ q ne. ⊎_elim
             (λ same. ⊎_elim
             (λ still. inl (same ∙ still))
@@ -87,3 +90,30 @@ returns-in-Failed-clause-crash g c t =
     (resized (λ n b. LeavesOnly g.M.Nand.clock g.M.Nand.left c.make_room.new.media c.put.new.media (Turns (c.put.result ≡ Done) (g.M.Nand.clock c.put.new.media)
     (λ img. Keeps n b (map_of mid.places was) was img) (λ img. Takes n b (map_of mid.places was) c.args.vaddr c.args.stamp c.args.from.now.main was img)))
     seg mid c.make_room.ensures.numbers (c.put.ensures.crash t)) c.put.ensures.ticks)
+
+pub make_room-requires-clause-segment : goal.make_room-requires-clause-segment
+make_room-requires-clause-segment g c t = layout_of (c.requires.segment t)
+
+pub returns-in-Lost-clause-spare : goal.returns-in-Lost-clause-spare
+returns-in-Lost-clause-spare g c = spare_from c.make_room.ensures.spare
+
+pub returns-in-Fault-clause-spare : goal.returns-in-Fault-clause-spare
+returns-in-Fault-clause-spare g c = spare_from c.make_room.ensures.spare
+
+pub returns-in-Fault-clause-segment : goal.returns-in-Fault-clause-segment
+returns-in-Fault-clause-segment g c t = segment_from (c.make_room.ensures.segment t)
+
+pub returns-in-Fault-clause-crash : goal.returns-in-Fault-clause-crash
+returns-in-Fault-clause-crash g c t = keeps_no_turn _ (λ f. absurd (cc f)) (c.make_room.ensures.map t)
+
+pub returns-in-Done-put-clause-spare : goal.returns-in-Done-put-clause-spare
+returns-in-Done-put-clause-spare g c = spare_from c.put.ensures.spare
+
+pub returns-in-Done-put-clause-segment : goal.returns-in-Done-put-clause-segment
+returns-in-Done-put-clause-segment g c t = segment_from (c.put.ensures.segment t)
+
+pub returns-in-Failed-clause-spare : goal.returns-in-Failed-clause-spare
+returns-in-Failed-clause-spare g c = spare_from c.put.ensures.spare
+
+pub returns-in-Failed-clause-segment : goal.returns-in-Failed-clause-segment
+returns-in-Failed-clause-segment g c t = segment_from (c.put.ensures.segment t)

@@ -3,12 +3,13 @@ use Rattle.nl_field.specs.Page.{PageBytes, written}
 use Rattle.nl_nand.specs.ImageLaws.{filled_cut}
 use Rattle.nl_vseg.specs.Maps.{with_at}
 use Rattle.nl_vseg.specs.Pages.{page_with}
-use Rattle.nl_vseg.specs.Segment.{bound, map_of}
+use Rattle.nl_vseg.specs.Places.{map_of}
+use Rattle.nl_vseg.specs.Layout.{bound}
 use Rattle.nl_vseg.specs.Seen.{seen}
 use Rattle.nl_vseg.specs.Effects.{Programmed}
 use Rattle.nl_vseg.proofs.Blocks.{some_free}
 use Rattle.nl_vseg.proofs.Writing.{more, spare_kept, spare_put, put_segment, can_program, after_cut, map_stays, after_new, map_new, programmed, put_either, put_takes, put_leaves}
-use Rattle.nl_vseg.proofs.state.State.put.Goals as goal
+use Rattle.nl_vseg.proofs.state.State.program.Goals as goal
 
 pub program_page-requires-clause-erased : goal.program_page-requires-clause-erased
 program_page-requires-clause-erased g c t =
@@ -19,7 +20,7 @@ program_page-requires-clause-erased g c t =
 pub returns-in-Failed-clause-formed : goal.returns-in-Failed-clause-formed
 returns-in-Failed-clause-formed g c =
     let seg = seen c.args.self.now in
-    record { segment = more seg c.requires.formed.segment c.requires.room (seg.active * c.pages.result + seg.used) (ap (λ n. seg.active * n + seg.used) c.pages.ensures); copies = c.requires.formed.copies }
+    record { segment = more seg c.requires.formed.segment c.requires.room (seg.active * c.pages.result + seg.used) (ap (λ n. seg.active * n + seg.used) c.pages.ensures); copies = c.requires.formed.copies; targets = c.requires.formed.targets }
 
 pub returns-in-Failed-clause-spare : goal.returns-in-Failed-clause-spare
 returns-in-Failed-clause-spare g c =
@@ -59,6 +60,7 @@ returns-in-Done-clause-formed g c =
     record {
       segment = put_segment seg c.requires.formed.segment c.requires.room (seg.active * c.pages.result + seg.used) (ap (λ n. seg.active * n + seg.used) c.pages.ensures) c.args.vaddr c.args.stamp c.requires.vaddr c.requires.stamp;
       copies = c.requires.formed.copies ∙ sym (length-set c.args.self.now.places.items c.args.vaddr (Some (record { page = seg.active * c.pages.result + seg.used; stamp = c.args.stamp })));
+      targets = c.requires.formed.targets;
     }
 
 pub returns-in-Done-clause-spare : goal.returns-in-Done-clause-spare

@@ -1,0 +1,107 @@
+-- The device after a call of the physical segment.
+use Rattle.std.proofs.Common.{◌≡◌, ◌⊎◌, inl, inr, ⊎_elim, ℕ, ◌+◌, ◌*◌, ◌<◌, ◌≤◌, ◌==◌, Bool, true, false, cond, List, [], Option, Some, None, option_map, length, get_or, set, filter, refl, sym, ◌∙◌, ap, subst, arith, eq-eqb, eqb-true}
+use Rattle.std.proofs.lemmas.Bool.{cases_Bool, false≢true}
+use Rattle.std.proofs.lemmas.List.{length-set}
+use Rattle.std.proofs.lemmas.Option.{same_Some, none-some}
+use Rattle.nl_field.specs.Page.{Image, page_at}
+use Rattle.nl_field.specs.Live.{resolve}
+use Rattle.nl_field.specs.declared.pointer.Pointer.{Pointer}
+use Rattle.nl_field.specs.declared.shape.Shape.{Shape}
+use Rattle.nl_nand.specs.Nand.{ImageOf}
+use Rattle.nl_nand.specs.declared.geometry.Geometry.{Geometry}
+use Rattle.nl_iface.specs.Names.{has_stamp, leads}
+use Rattle.nl_device.specs.Shown.{live_page, names_of}
+use Rattle.nl_pseg.specs.Segment.{InSegment, IsLive, IsPhysicalOf, Physical, SamePages, held_at, stamp_in, without_target}
+use Rattle.nl_pseg.specs.declared.held.Held.{Held}
+use Rattle.nl_vseg.specs.Pages.{Shows}
+use Rattle.nl_vseg.specs.Segment.{Segment}
+use Rattle.nl_device.specs.Kept.{KeptPages}
+use Rattle.nl_device.specs.Device.{HasFound, HasFree, HasLive, HasSegments, IsDevice, IsOnMedium}
+use Rattle.nl_device.proofs.Forms.{begins}
+use Rattle.nl_device.proofs.Made.{made_medium}
+use Rattle.nl_device.proofs.Naming.{map_same, shows_same, shows_still, virtual_kept}
+use Rattle.nl_device.proofs.Spacing.{space_is}
+
+pub named_segments : {geometry now : Geometry} {shape : Shape} {vseg : Segment} {old new : Physical} → HasSegments geometry shape vseg old → now ≡ geometry → SamePages old new → length new.held ≡ length old.held → HasSegments now shape vseg new
+named_segments {geometry} {now} {shape} {vseg} {old} {new} has is same held = subst (λ n. HasSegments n shape vseg new) (sym is) (record {
+  legal = has.legal;
+  numbers = has.numbers;
+  blocks = has.blocks;
+  pages = has.pages;
+  some = has.some;
+  split = has.split;
+  rest = has.rest;
+  virtual_pages = has.virtual_pages;
+  virtual_bound = has.virtual_bound;
+  addresses = has.addresses;
+  physical_first = same.same_first ∙ has.physical_first;
+  physical_blocks = same.same_blocks ∙ has.physical_blocks;
+  physical_pages = same.same_size ∙ has.physical_pages;
+  physical_held = held ∙ has.physical_held;
+})
+
+-- what the scan found stays below a next stamp that rises
+pub found_still : {shape : Shape} {kept : KeptPages} {next after : ℕ} → HasFound shape kept next → next ≤ after → HasFound shape kept after
+found_still f rises = record { first = f.first; count = f.count; size = f.size; below = λ i d within. let lt = f.below i d within in omega (arith, lt, rises) }
+
+pub device_with : {geometry now : Geometry} {tells : Type 0} {image c : Image} {shape : Shape} {vseg : Segment} {old new : Physical} {kept : KeptPages} {next after : ℕ} → IsDevice geometry tells image shape vseg old kept next
+    → now ≡ geometry → SamePages old new → length new.held ≡ length old.held → HasLive new → HasFree new → new.pairs ≡ old.pairs → next ≤ after → ((p : ℕ) (h : Held) → held_at new p ≡ Some h → h.stamp < after)
+    → (tells → IsOnMedium shape after c vseg new) → IsDevice now tells c shape vseg new kept after
+device_with f is same held live free pairs rises stamps medium = record {
+  segments = named_segments f.segments is same held;
+  mapped = f.mapped;
+  live = live;
+  free = free;
+  no_pairs = pairs ∙ f.no_pairs;
+  stamp = record {
+    some = let s = f.stamp.some in omega (arith, s, rises);
+    addresses = λ v t has. let lt = f.stamp.addresses v t has in omega (arith, lt, rises);
+    live = stamps;
+  };
+  found = found_still f.found rises;
+  space = space_is _ free (pairs ∙ f.no_pairs);
+  medium = medium;
+}
+
+-- the medium, where the pages of the virtual segment are as before
+pub medium_with : {geometry now : Geometry} {image c : Image} {shape : Shape} {vseg : Segment} {old new : Physical} {kept : KeptPages} {next after : ℕ} {tells : Type 0} → IsDevice geometry tells image shape vseg old kept next → tells
+    → now ≡ geometry → SamePages old new → length new.held ≡ length old.held → ImageOf now c → HasLive new → ((p : ℕ) → p < old.first * old.size → page_at c p ≡ page_at image p) → IsPhysicalOf c new → next ≤ after
+    → IsOnMedium shape after c vseg new
+medium_with {geometry} {now} {image} {c} {shape} {vseg} {old} {new} {kept} {next} {after} f t is same held fits live low physical rises =
+    let below : (p : ℕ) → p < shape.vblocks * shape.pages → page_at c p ≡ page_at image p = λ p lt. low p (subst (λ n. p < n) (sym (begins f.segments)) lt) in
+    let under : (p : ℕ) → p < vseg.bound → page_at c p ≡ page_at image p = λ p lt. below p (subst (λ n. p < n) f.segments.virtual_bound lt) in
+    made_medium (named_segments f.segments is same held) fits live
+    (virtual_kept image c vseg f.mapped under (f.medium t).virtual_is) physical
+    (λ v s main has. shows_still (shape.vblocks * shape.pages) image c below v s main ((f.medium t).there v s main (sym (map_same image c vseg f.mapped under v) ∙ has)))
+    (λ v s main shows. let lt = (f.medium t).below v s main (shows_same (shape.vblocks * shape.pages) image c below v s main shows) in omega (arith, lt, rises))
+
+-- what is held where a pointer leads
+pub held_from : (o : Option Held) (s : ℕ) → stamp_in o ≡ Some s → (h : Held) × (o ≡ Some h) × (h.stamp ≡ s)
+held_from None s is = absurd (none-some s is)
+held_from (Some h) s is = (h, refl, same_Some h.stamp s is)
+
+-- pages of the segment are below the end of the medium
+pub in_within : {geometry : Geometry} {shape : Shape} {vseg : Segment} {pseg : Physical} → HasSegments geometry shape vseg pseg → (p : ℕ) → InSegment pseg p → p < length pseg.held
+in_within has p is = subst (λ n. p < n) ((λ i. has.physical_blocks i * has.physical_pages i) ∙ sym has.physical_held) is.1
+
+-- without a pair none leads to a page
+pub no_pair : (pairs : List (ℕ × ℕ)) (place : ℕ) → pairs ≡ [] → without_target place pairs ≡ pairs
+no_pair pairs place none = ap (without_target place) none ∙ sym none
+
+leads_from : (o : Option Held) (s : ℕ) → has_stamp (live_page o) s ≡ true → stamp_in o ≡ Some s
+leads_from None s is = absurd (false≢true is)
+leads_from (Some h) s is = ap (λ n. Some n) (eqb-true h.stamp s is)
+
+leads_to : (o : Option Held) (s : ℕ) → stamp_in o ≡ Some s → has_stamp (live_page o) s ≡ true
+leads_to None s is = absurd (none-some s is)
+leads_to (Some h) s is = eq-eqb h.stamp s (same_Some h.stamp s is)
+
+-- a pointer leads where it is live
+pub leads_is : (seg : Physical) (at : Pointer) → leads (names_of seg) at ≡ true → IsLive seg at
+leads_is seg at is = leads_from (held_at seg (resolve seg.pairs at.name)) at.stamp is
+
+pub is_leads : (seg : Physical) (at : Pointer) → IsLive seg at → leads (names_of seg) at ≡ true
+is_leads seg at is = leads_to (held_at seg (resolve seg.pairs at.name)) at.stamp is
+
+pub live_or : (seg : Physical) (at : Pointer) → IsLive seg at ⊎ (IsLive seg at → ⊥)
+live_or seg at = ⊎_elim (λ is. inl (leads_is seg at is)) (λ fails. inr (λ is. false≢true (sym fails ∙ is_leads seg at is))) (cases_Bool (leads (names_of seg) at))

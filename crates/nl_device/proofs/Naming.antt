@@ -1,0 +1,161 @@
+-- What a write under a new name leaves of the medium.
+use Rattle.std.proofs.Common.{◌≡◌, ◌⊎◌, inl, inr, ⊎_elim, ℕ, ◌+◌, ◌*◌, ◌/◌, ◌<◌, ◌≤◌, nat_lt, cond, true, List, [], Option, Some, None, refl, sym, ◌∙◌, ap, subst, arith}
+use Rattle.std.proofs.lemmas.Bool.{cases_lt, cases_eq}
+use Rattle.std.proofs.lemmas.Option.{same_Some, none-some}
+use Rattle.nl_field.specs.Page.{Image, Page, PageBytes, erased, uncorrectable, written, page_at}
+use Rattle.nl_field.specs.Live.{resolve}
+use Rattle.nl_field.specs.SpareRecord.{spare_rec_of, spare_bytes}
+use Rattle.nl_field.specs.Medium.{shape_of_image}
+use Rattle.nl_field.specs.declared.pointer.Tag.{Tag}
+use Rattle.nl_field.specs.declared.shape.Shape.{Shape}
+use Rattle.nl_nand.specs.Nand.{ImageOf}
+use Rattle.nl_nand.specs.declared.geometry.Geometry.{Geometry}
+use Rattle.nl_iface.specs.Names.{ChangesInBlock, HoldsLive, IsNew, LeavesNames, LeavesNewPage, LivePage}
+use Rattle.nl_iface.specs.Stored.{NamedPage, Stored, Value, stored_in}
+use Rattle.nl_pseg.specs.Effects.{Keeps, Places, Programmed, Takes}
+use Rattle.nl_pseg.specs.Pages.{IsUnreadable, main_of, page_with, shown_by}
+use Rattle.nl_pseg.specs.Segment.{InSegment, IsDead, IsPhysicalOf, Physical, held_at, wear_of}
+use Rattle.nl_pseg.specs.declared.held.Held.{Held}
+use Rattle.nl_vseg.specs.Maps.{Dominated}
+use Rattle.nl_vseg.specs.Pages.{Shows, fact_of}
+use Rattle.nl_vseg.specs.Pages as virtual
+use Rattle.nl_vseg.specs.Places.{AreBelow, map_of, place_of, value_at}
+use Rattle.nl_vseg.specs.Segment.{IsSegmentOf, Segment, is_blank}
+use Rattle.nl_vseg.specs.declared.place.Place.{Place}
+use Rattle.nl_device.specs.Device.{HasLive, HasMapped, HasSegments}
+use Rattle.nl_device.specs.Laws.{held_of}
+use Rattle.nl_device.specs.Shown.{IsStray, bytes_at, live_page, names_of}
+use Rattle.nl_device.proofs.Forms.{begins, named_below, named_from, same_below, same_form, shape_is}
+use Rattle.nl_device.proofs.Made.{bytes_from, live_held}
+use Rattle.nl_device.proofs.PhysicalPages.{named_of}
+
+unread : (page : Page) → IsUnreadable page → named_of (shown_by page) ≡ None
+unread page (inl is) = ap (λ p. named_of (shown_by p)) is
+unread page (inr is) = ap (λ p. named_of (shown_by p)) is
+
+-- whichever of the two, a page is as it was, or it was not live and nothing is read from it, or it is the new one
+pub either_each : {seg : Physical} {page : ℕ} {value : Page} {old c : Image} → Keeps seg old c ⊎ Takes seg page value old c → (p : ℕ) → (page_at c p ≡ page_at old p) ⊎ IsDead seg p
+either_each (inl k) p = ⊎_elim (λ same. inl same) (λ dead. inr dead.0) (k.each p)
+either_each {seg} {page} (inr k) p = ⊎_elim (λ is. inr (subst (IsDead seg) (sym is) k.dead)) (λ ne. ⊎_elim (λ same. inl same) (λ dead. inr dead.0) (k.others p ne)) (cases_eq p page)
+
+-- with or without what the page shows
+pub to_takes : {seg : Physical} {page stamp : ℕ} {tag : Tag} {main : List ℕ} {old c : Image} → Keeps seg old c ⊎ Places seg page tag stamp main old c → Keeps seg old c ⊎ Takes seg page (written (page_with main tag stamp (wear_of seg (page / seg.size)))) old c
+to_takes (inl k) = inl k
+to_takes (inr k) = inr k.takes
+
+-- what a page shows that was programmed
+pub shown_from : (tag : Tag) (stamp wear : ℕ) (main : List ℕ) (page : Page) → page ≡ written (page_with main tag stamp wear) → shown_by page ≡ Some (tag, stamp, main_of page) → shown_by (written (page_with main tag stamp wear)) ≡ Some (tag, stamp, main)
+shown_from tag stamp wear main page is shows = subst (λ (p : Page). shown_by p ≡ Some (tag, stamp, main_of p)) is shows
+
+as_keeps : {seg : Physical} {old c : Image} → Keeps seg old c → Keeps seg old c ⊎ Takes seg 0 erased old c
+as_keeps k = inl k
+
+as_takes : {seg : Physical} {page : ℕ} {value : Page} {old c : Image} → Takes seg page value old c → Keeps seg old c ⊎ Takes seg page value old c
+as_takes k = inr k
+
+-- so a page of the virtual segment is as it was
+pub either_low : {seg : Physical} {page : ℕ} {value : Page} {old c : Image} → Keeps seg old c ⊎ Takes seg page value old c → (p : ℕ) → p < seg.first * seg.size → page_at c p ≡ page_at old p
+either_low k p below = ⊎_elim (λ same. same) (λ dead. let from = dead.within.0 in absurd (omega (arith, below, from))) (either_each k p)
+
+-- and a live page is
+pub either_live : {seg : Physical} {page : ℕ} {value : Page} {old c : Image} → Keeps seg old c ⊎ Takes seg page value old c → (p : ℕ) (h : Held) → held_at seg p ≡ Some h → page_at c p ≡ page_at old p
+either_live k p h has = ⊎_elim (λ same. same) (λ dead. absurd (none-some h (sym dead.dead ∙ has))) (either_each k p)
+
+-- once the page was programmed it is there, and what else changed is what may
+pub placed_takes : {seg : Physical} {page name : ℕ} {value : Page} {old c : Image} → Keeps seg old c ⊎ Takes seg page value old c → page ≡ name → Programmed seg name value old c → Takes seg name value old c
+placed_takes (inl k) is p = record { dead = p.dead; has = p.has; others = λ q ne. k.each q }
+placed_takes {seg} {page} {name} {value} {old} {c} (inr k) is p = subst (λ n. Takes seg n value old c) is k
+
+pub live_bytes : (first : ℕ) (old c : Image) (p : ℕ) → page_at c p ≡ page_at old p → bytes_at first c p ≡ bytes_at first old p
+live_bytes first old c p same = ap (λ page. cond (nat_lt p first) [] (main_of page)) same
+
+-- ---- the virtual segment
+
+value_same : (old c : Image) (bound : ℕ) (place : Option Place) → ((p : Place) → place ≡ Some p → p.page < bound) → ((p : ℕ) → p < bound → page_at c p ≡ page_at old p) → value_at c place ≡ value_at old place
+value_same old c bound None within same = refl
+value_same old c bound (Some p) within same = ap (λ page. Some (p.stamp, virtual.main_of page)) (same p.page (within p refl))
+
+pub map_same : (old c : Image) (vseg : Segment) → HasMapped vseg → ((p : ℕ) → p < vseg.bound → page_at c p ≡ page_at old p) → (v : ℕ) → map_of vseg.places c v ≡ map_of vseg.places old v
+map_same old c vseg has same v = value_same old c vseg.bound (place_of vseg.places v) (λ p is. has.places_in v p is) same
+
+pub virtual_kept : (old c : Image) (vseg : Segment) → HasMapped vseg → ((p : ℕ) → p < vseg.bound → page_at c p ≡ page_at old p) → IsSegmentOf old vseg → IsSegmentOf c vseg
+virtual_kept old c vseg has same is = record {
+  holds = λ v place named.
+      let e : page_at c place.page ≡ page_at old place.page = same place.page (has.places_in v place named) in
+      ap fact_of e ∙ (is.holds v place named ∙ ap (λ page. Some (v, place.stamp, virtual.main_of page)) (sym e));
+  erased_is = λ p blank. same p (has.blank_in p blank) ∙ is.erased_is p blank;
+}
+
+pub shows_same : (bound : ℕ) (old c : Image) → ((p : ℕ) → p < bound → page_at c p ≡ page_at old p) → (v t : ℕ) (n : List ℕ) → Shows bound c v t n → Shows bound old v t n
+shows_same bound old c same v t n shows = (shows.0, shows.1, ap fact_of (sym (same shows.0 shows.1)) ∙ shows.2)
+
+pub shows_still : (bound : ℕ) (old c : Image) → ((p : ℕ) → p < bound → page_at c p ≡ page_at old p) → (v t : ℕ) (n : List ℕ) → Shows bound old v t n → Shows bound c v t n
+shows_still bound old c same v t n shows = (shows.0, shows.1, ap fact_of (same shows.0 shows.1) ∙ shows.2)
+
+pub stray_same : (bound : ℕ) (old c : Image) (map now : ℕ → Option Value) → ((p : ℕ) → p < bound → page_at c p ≡ page_at old p) → ((v : ℕ) → now v ≡ map v) → (v : ℕ) (x : Value) → IsStray bound c now v x → IsStray bound old map v x
+stray_same bound old c map now same is v x stray = record {
+  shown = shows_same bound old c same v x.0 x.1 stray.shown;
+  newer = λ d. stray.newer (subst (λ o. Dominated o x.0 x.1) (sym (is v)) d);
+}
+
+-- ---- what a stop leaves
+
+module _ (geometry : Geometry) (shape : Shape) (vseg : Segment) (seg : Physical) (old c : Image) (segments : HasSegments geometry shape vseg seg) (old_fits : ImageOf geometry old) (c_fits : ImageOf geometry c) (live : HasLive seg) (is : IsPhysicalOf old seg) where
+  first_is : seg.first * seg.size ≡ shape.vblocks * shape.pages
+  first_is = begins segments
+
+  -- a page that is as it was
+  named_same : (p : ℕ) → page_at c p ≡ page_at old p → (stored_in c).named p ≡ (stored_in old).named p
+  named_same p same = ⊎_elim
+      (λ lt. named_below shape c (shape_is segments c_fits) p lt ∙ sym (named_below shape old (shape_is segments old_fits) p lt))
+      (λ le. named_from shape c (shape_is segments c_fits) p le ∙ (ap (λ page. named_of (shown_by page)) same ∙ sym (named_from shape old (shape_is segments old_fits) p le)))
+      (cases_lt p (shape.vblocks * shape.pages))
+
+  -- a page of the segment from which nothing is read
+  named_none : (p : ℕ) → IsUnreadable (page_at c p) → (stored_in c).named p ≡ None
+  named_none p un = ⊎_elim
+      (λ lt. named_below shape c (shape_is segments c_fits) p lt)
+      (λ le. named_from shape c (shape_is segments c_fits) p le ∙ unread (page_at c p) un)
+      (cases_lt p (shape.vblocks * shape.pages))
+
+  addresses_same : ((p : ℕ) → p < seg.first * seg.size → page_at c p ≡ page_at old p) → (v : ℕ) → (stored_in c).virtual v ≡ (stored_in old).virtual v
+  addresses_same same = same_below shape old c (shape_is segments old_fits) (same_form old c old_fits c_fits) (subst (λ n. (p : ℕ) → p < n → page_at c p ≡ page_at old p) first_is same)
+
+  holds_live : ((p : ℕ) (h : Held) → held_at seg p ≡ Some h → page_at c p ≡ page_at old p) → HoldsLive (names_of seg).live (λ p. bytes_at (shape.vblocks * shape.pages) old p) (stored_in c)
+  holds_live same p page has =
+      let h = held_of (held_at seg p) page has in
+      named_same p (same p h.0 h.1) ∙ live_held segments old_fits live is p page has
+
+  dead_live : (p : ℕ) → IsDead seg p → (names_of seg).live p ≡ None
+  dead_live p dead = ap live_page dead.dead
+
+  pub leaves_names : Keeps seg old c → LeavesNames (names_of seg).live (λ p. bytes_at (shape.vblocks * shape.pages) old p) (stored_in old) (stored_in c)
+  leaves_names k = record {
+    same_virtual = addresses_same (either_low (as_keeps k));
+    holds = holds_live (either_live (as_keeps k));
+    others = λ p. ⊎_elim (λ same. inl (named_same p same)) (λ dead. inr (dead_live p dead.0, named_none p dead.1)) (k.each p);
+  }
+
+  pub leaves_new : (IsName : ℕ → Type 0) (page : ℕ) (tag : Tag) (stamp wear : ℕ) (main : List ℕ) → shown_by (written (page_with main tag stamp wear)) ≡ Some (tag, stamp, main) → seg.pairs ≡ [] → IsName page
+      → Takes seg page (written (page_with main tag stamp wear)) old c
+      → LeavesNewPage shape IsName (record { tag = tag; stamp = stamp; bytes = main }) (names_of seg) (λ p. bytes_at (shape.vblocks * shape.pages) old p) (stored_in old) (stored_in c)
+  leaves_new IsName page tag stamp wear main shows none is_name k = record {
+    name = page;
+    is_name = is_name;
+    is_new = record {
+      low = subst (λ n. n ≤ page) first_is k.dead.within.0;
+      high = subst (λ n. page < n) (λ i. segments.physical_blocks i * segments.physical_pages i) k.dead.within.1;
+      dead = dead_live page k.dead;
+      own = ap (λ ps. resolve ps page) none;
+    };
+    programmed = named_from shape c (shape_is segments c_fits) page (subst (λ n. n ≤ page) first_is k.dead.within.0) ∙ (ap (λ p. named_of (shown_by p)) k.has ∙ ap named_of shows);
+    same_virtual = addresses_same (either_low (as_takes k));
+    holds = holds_live (either_live (as_takes k));
+    others = λ p ne. ⊎_elim (λ same. inl (named_same p same)) (λ dead. inr (dead_live p dead.0, named_none p dead.1)) (k.others p ne);
+  }
+
+  pub in_block : (name : ℕ) (value : Page) → Programmed seg name value old c → ChangesInBlock shape.pages name (stored_in old) (stored_in c)
+  in_block name value k p ne = ⊎_elim
+      (λ same. inl (named_same p same))
+      (λ wiped. inr (subst (λ n. p / n ≡ name / n) segments.physical_pages wiped.0, named_none p (inl wiped.3)))
+      (k.others p ne)

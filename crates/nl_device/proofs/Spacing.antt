@@ -1,0 +1,134 @@
+-- The numbers of the space after a call.
+use Rattle.std.proofs.Common.{◌≡◌, ◌⊎◌, inl, inr, ⊎_elim, ℕ, zero, suc, ◌+◌, ◌-◌, ◌*◌, ◌<◌, ◌≤◌, nat_le, Bool, true, false, cond, List, [], Option, Some, None, is_some, length, sum_by, get_or, set, take, drop, ◌/◌, refl, sym, ◌∙◌, ap, subst, arith, mul-le-mul_right, add-mul}
+use Rattle.std.proofs.lemmas.Bool.{cases_lt, le-leb, lt-leb, cond-true, cond-false}
+use Rattle.std.proofs.lemmas.List.{get_or-set_other, length-set}
+use Rattle.std.proofs.lemmas.List.Sums.{sum_by-set}
+use Rattle.nl_iface.specs.Space.{Freed, IsSpace, WriteFailed, Wrote}
+use Rattle.nl_pseg.specs.Segment.{IsSpent, IsUnspent, Physical, SamePages, held_at, room}
+use Rattle.nl_pseg.specs.declared.held.Held.{Held}
+use Rattle.nl_device.specs.Device.{HasFree}
+use Rattle.nl_device.specs.Space.{all_pages, live_in, open_live, open_pages, space_of}
+
+-- One page of the block that is written to, or of a Free block: a block is Free still.
+spent_numbers : (s left free left' free' : ℕ) → 1 ≤ free → left ≤ s → left' + (free' - 1) * s + 1 ≡ left + (free - 1) * s → free' + cond (nat_le 1 left) 0 1 ≡ free → (1 ≤ free') × (left' ≤ s)
+spent_numbers s left free left' free' some fits room taken = by (cases_lt 0 left)
+  where
+    opened : (k : ℕ) → free' ≡ k → left ≡ 0 → free' + 1 ≡ free → (1 ≤ free') × (left' ≤ s)
+    opened zero none empty more =
+        let e : (free - 1) * s ≡ 0 * s = ap (λ n. n * s) (omega (arith, none, more)) in
+        let f : (free' - 1) * s ≡ 0 * s = ap (λ n. n * s) (omega (arith, none)) in
+        absurd (omega (arith, room, empty, e, f))
+    opened (suc k) is empty more =
+        let e : (free - 1) * s ≡ (k + 1) * s = ap (λ n. n * s) (omega (arith, is, more)) in
+        let f : (free' - 1) * s ≡ k * s = ap (λ n. n * s) (omega (arith, is)) in
+        let m : (k + 1) * s ≡ k * s + 1 * s = add-mul k 1 s in
+        (omega (arith, is), omega (arith, room, empty, e, f, m))
+
+    by : (0 < left) ⊎ (left ≤ 0) → (1 ≤ free') × (left' ≤ s)
+    by (inl more) =
+        let same : free' ≡ free = let e = ap (λ b. free' + cond b 0 1) (le-leb 1 left (omega (arith, more))) in omega (arith, e, taken) in
+        let f : (free' - 1) * s ≡ (free - 1) * s = ap (λ n. (n - 1) * s) same in
+        (omega (arith, same, some), omega (arith, room, fits, f))
+    by (inr none) =
+        let more : free' + 1 ≡ free = let e = ap (λ b. free' + cond b 0 1) (lt-leb 1 left (omega (arith, none))) in omega (arith, e, taken) in
+        opened free' refl (omega (arith, none)) more
+
+pub spent_free : (old new : Physical) → HasFree old → SamePages old new → IsSpent old new → HasFree new
+spent_free old new has same is =
+    let size = same.same_size in
+    let e : new.left + (new.free - 1) * old.size + 1 ≡ old.left + (old.free - 1) * old.size = ap (λ n. new.left + (new.free - 1) * n + 1) (sym size) ∙ is.room in
+    let r = spent_numbers old.size old.left old.free new.left new.free has.kept has.left e is.taken in
+    record { kept = r.0; left = subst (λ n. new.left ≤ n) (sym size) r.1 }
+
+pub unspent_free : (old new : Physical) → HasFree old → SamePages old new → IsUnspent old new → HasFree new
+unspent_free old new has same is = record {
+  kept = subst (λ n. 1 ≤ n) (sym is.free) has.kept;
+  left = let a = is.left in let b = same.same_size in let c = has.left in omega (arith, a, b, c);
+}
+
+open_small : (left size : ℕ) → cond (nat_le 1 left) size 0 ≤ size
+open_small left size = by (nat_le 1 left)
+  where
+    by : (b : Bool) → cond b size 0 ≤ size
+    by true = omega arith
+    by false = omega arith
+
+pub space_is : (seg : Physical) → HasFree seg → seg.pairs ≡ [] → IsSpace (space_of seg)
+unfolding space_of
+space_is seg has none = record {
+  pairs = let e = ap (λ (ps : List (ℕ × ℕ)). length ps) none in omega (arith, e);
+  victim = omega arith;
+  waiting = omega arith;
+  kept = let k = has.kept in omega (arith, k);
+  low = let m = mul-le-mul_right seg.size has.kept in omega (arith, m);
+  high = λ v few w. let m = mul-le-mul_right seg.size few in omega (arith, m);
+  dead = λ p v few.
+      let m : seg.free * seg.size ≤ 1 * seg.size = mul-le-mul_right seg.size few in
+      let o = open_small seg.left seg.size in
+      omega (arith, m, o);
+  room = omega arith;
+  room_ends = let l = has.left in omega (arith, l);
+}
+
+-- a page is live now
+pub one_more : (held : List (Option Held)) (p : ℕ) (h : Held) → p < length held → get_or held p None ≡ None → live_in (set held p (Some h)) ≡ live_in held + 1
+one_more held p h below dead =
+    let weight : Option Held → ℕ = λ h. cond (is_some h) 1 0 in
+    let e = sum_by-set weight held p (Some h) None below in
+    let z : weight (get_or held p None) ≡ 0 = ap weight dead in
+    omega (arith, e, z)
+
+-- a page is live no longer
+pub one_less : (held : List (Option Held)) (p : ℕ) (h : Held) → p < length held → get_or held p None ≡ Some h → live_in (set held p None) + 1 ≡ live_in held
+one_less held p h below live =
+    let weight : Option Held → ℕ = λ h. cond (is_some h) 1 0 in
+    let e = sum_by-set weight held p None None below in
+    let z : weight (get_or held p None) ≡ 1 = ap weight live in
+    omega (arith, e, z)
+
+pub wrote : (gone : ℕ) (old new : Physical) → SamePages old new → IsSpent old new → live_in new.held + gone ≡ live_in old.held + 1 → Wrote gone (space_of old) (space_of new)
+unfolding space_of
+wrote gone old new same is live = record {
+  same = record { block = same.same_size; all = λ i. (same.same_blocks i - same.same_first i) * same.same_size i };
+  cleaning = record { victim = refl; waiting = refl };
+  live = live;
+  left = omega arith;
+  left_most = omega arith;
+  room = is.room;
+}
+
+pub write_failed : (old new : Physical) → SamePages old new → IsSpent old new ⊎ IsUnspent old new → new.held ≡ old.held → new.pairs ≡ old.pairs → WriteFailed (space_of old) (space_of new)
+unfolding space_of
+write_failed old new same spent held pairs = record {
+  same = record { block = same.same_size; all = λ i. (same.same_blocks i - same.same_first i) * same.same_size i };
+  cleaning = record { victim = refl; waiting = refl };
+  pairs = ap (λ (ps : List (ℕ × ℕ)). length ps) pairs;
+  live = ap live_in held;
+  left = refl;
+  room = ⊎_elim (λ is. let r = is.room in omega (arith, r)) (λ is. let r = unspent_room old new same is in omega (arith, r)) spent;
+  room_most = ⊎_elim (λ is. let r = is.room in omega (arith, r)) (λ is. let r = unspent_room old new same is in omega (arith, r)) spent;
+}
+  where
+    unspent_room : (old new : Physical) → SamePages old new → IsUnspent old new → room new ≡ room old
+    unspent_room old new same is = λ i. is.left i + (is.free i - 1) * same.same_size i
+
+pub freed : (old new : Physical) → SamePages old new → IsUnspent old new → live_in new.held + 1 ≡ live_in old.held → Freed (space_of old) (space_of new)
+unfolding space_of
+freed old new same is live = record {
+  same = record { block = same.same_size; all = λ i. (same.same_blocks i - same.same_first i) * same.same_size i };
+  cleaning = record { victim = refl; waiting = refl };
+  live = live;
+  reach = let e : new.free * new.size ≡ old.free * old.size = (λ i. is.free i * same.same_size i) in omega (arith, e);
+  room = λ i. is.left i + (is.free i - 1) * same.same_size i;
+}
+
+-- a page is live in place of another one
+pub one_for_one : (held : List (Option Held)) (p q : ℕ) (h x : Held) → p < length held → q < length held → (q ≡ p → ⊥) → get_or held p None ≡ None → get_or held q None ≡ Some x → live_in (set (set held p (Some h)) q None) + 1 ≡ live_in held + 1
+one_for_one held p q h x below within apart dead live =
+    let more = one_more held p h below dead in
+    let less = one_less (set held p (Some h)) q x (subst (λ n. q < n) (sym (length-set held p (Some h))) within) (get_or-set_other held p q (Some h) None apart ∙ live) in
+    omega (arith, more, less)
+
+pub free_is : (seg : Physical) → (space_of seg).free ≡ seg.free
+unfolding space_of
+free_is seg = refl

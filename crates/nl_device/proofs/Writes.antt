@@ -1,0 +1,152 @@
+-- What a write by a virtual address leaves.
+use Rattle.std.proofs.Common.{◌≡◌, ◌⊎◌, inl, inr, ⊎_elim, ℕ, ◌+◌, ◌*◌, ◌<◌, ◌≤◌, ◌==◌, if◌then◌else◌, nat_lt, List, [], Option, Some, None, cond, Bool, true, false, refl, sym, ◌∙◌, ap, subst, arith, eq-eqb, ne_eqb}
+use Rattle.std.proofs.lemmas.Bool.{cases_eq, cases_lt, cond-true, cond-false, lt-ltb}
+use Rattle.std.proofs.lemmas.Option.{same_Some, none-some}
+use Rattle.nl_field.specs.Page.{Image, page_at}
+use Rattle.nl_field.specs.Medium.{shape_of_image}
+use Rattle.nl_field.specs.CrashStates.{Rose, saturated}
+use Rattle.nl_field.specs.declared.answers.VirtualWrite.{VirtualWrite}
+use Rattle.nl_field.specs.declared.answers.VirtualWrite.TheVariants as write
+use Rattle.nl_field.specs.declared.shape.Shape.{Shape}
+use Rattle.nl_iface.specs.Stored.{LeavesMap, Stored, Value, stored_in, with_value}
+use Rattle.nl_vseg.specs.Effects.{Keeps, Takes}
+use Rattle.nl_vseg.specs.Maps.{Dominated}
+use Rattle.nl_vseg.specs.Pages.{Shows}
+use Rattle.nl_pseg.specs.Segment.{InSegment, IsPhysicalOf, Physical, TakenAsErased, held_at}
+use Rattle.nl_pseg.specs.Pages.{main_of, shown_by}
+use Rattle.nl_pseg.specs.declared.held.Held.{Held}
+use Rattle.nl_device.specs.Device.{HasLive}
+use Rattle.nl_device.specs.Shown.{IsStray, bytes_at}
+use Rattle.nl_device.proofs.Forms.{same_from, stores_map}
+use Rattle.nl_device.proofs.Showing.{dominated_or}
+
+pub with_here : (map : ℕ → Option Value) (v : ℕ) (x : Value) (u : ℕ) → u ≡ v → with_value map v x u ≡ Some x
+with_here map v x u is = cond-true (u == v) (Some x) (map u) (eq-eqb u v is)
+
+pub with_other : (map : ℕ → Option Value) (v : ℕ) (x : Value) (u : ℕ) → (u ≡ v → ⊥) → with_value map v x u ≡ map u
+with_other map v x u ne = cond-false (u == v) (Some x) (map u) (ne_eqb u v ne)
+
+-- what an image shows is the map's value, or older, or stray
+pub each_or : (bound : ℕ) (image : Image) (map : ℕ → Option Value) (v t : ℕ) (n : List ℕ) → Shows bound image v t n → Dominated (map v) t n ⊎ IsStray bound image map v (t, n)
+each_or bound image map v t n shows = ⊎_elim (λ d. inl d) (λ fails. inr (record { shown = shows; newer = fails })) (dominated_or (map v) t n)
+
+module _ (pages bound v next : ℕ) (main : List ℕ) (map : ℕ → Option Value) (old c : Image) where
+  -- with the new value, where what was shown is older
+  pub with_there : Takes pages bound map v next main old c → (u t : ℕ) (n : List ℕ) → with_value map v (next, main) u ≡ Some (t, n) → Shows bound c u t n
+  with_there k u t n is = by (cases_eq u v)
+    where
+      by : (u ≡ v) ⊎ (u ≡ v → ⊥) → Shows bound c u t n
+      by (inl same) =
+          let e = same_Some (next, main) (t, n) (sym (with_here map v (next, main) u same) ∙ is) in
+          let P : ℕ × List ℕ → Type 0 = λ x. Shows bound c u x.0 x.1 in
+          subst P e (subst (λ w. Shows bound c w next main) (sym same) (k.new.0, k.new.1, k.new.3))
+      by (inr ne) = let e = k.there u t n (sym (with_other map v (next, main) u ne) ∙ is) in (e.0, e.1, e.3)
+
+  pub takes_each : Takes pages bound map v next main old c → ((u t : ℕ) (n : List ℕ) → Shows bound old u t n → t < next) → (u t : ℕ) (n : List ℕ) → Shows bound c u t n
+      → Dominated (with_value map v (next, main) u) t n ⊎ IsStray bound old map u (t, n)
+  takes_each k below u t n shows = by (cases_eq u v) (k.no_more u t n shows)
+    where
+      by : (u ≡ v) ⊎ (u ≡ v → ⊥) → Shows bound old u t n ⊎ ((u ≡ v) × (t ≡ next) × (n ≡ main)) → Dominated (with_value map v (next, main) u) t n ⊎ IsStray bound old map u (t, n)
+      by (inl same) (inl was) = inl (subst (λ x. Dominated x t n) (sym (with_here map v (next, main) u same)) (inl (below u t n was)))
+      by (inl same) (inr new) = inl (subst (λ x. Dominated x t n) (sym (with_here map v (next, main) u same)) (inr (new.1, new.2)))
+      by (inr ne) (inl was) = subst (λ x. Dominated x t n ⊎ IsStray bound old map u (t, n)) (sym (with_other map v (next, main) u ne)) (each_or bound old map u t n was)
+      by (inr ne) (inr new) = absurd (ne new.0)
+
+  pub keeps_each : Keeps pages bound map old c → (u t : ℕ) (n : List ℕ) → Shows bound c u t n → Dominated (map u) t n ⊎ IsStray bound old map u (t, n)
+  keeps_each k u t n shows = each_or bound old map u t n (k.no_more u t n shows)
+
+  pub keeps_there : Keeps pages bound map old c → (u t : ℕ) (n : List ℕ) → map u ≡ Some (t, n) → Shows bound c u t n
+  keeps_there k u t n is = let e = k.there u t n is in (e.0, e.1, e.3)
+
+  pub takes_there : Takes pages bound map v next main old c → (u t : ℕ) (n : List ℕ) → map u ≡ Some (t, n) → Shows bound c u t n
+  takes_there k u t n is = let e = k.there u t n is in (e.0, e.1, e.3)
+
+-- what a stop leaves within it
+module _ (shape : Shape) (pages v next : ℕ) (main : List ℕ) (map : ℕ → Option Value) (old c : Image) (old_is : shape_of_image old ≡ shape) (c_is : shape_of_image c ≡ shape) where
+  pub keeps_leaves : Keeps pages (shape.vblocks * shape.pages) map old c → LeavesMap shape.vaddrs map (λ u x. IsStray (shape.vblocks * shape.pages) old map u x) (stored_in old) (stored_in c)
+  keeps_leaves k = record {
+    shows = stores_map shape c c_is map (λ u x. IsStray (shape.vblocks * shape.pages) old map u x) (keeps_there pages (shape.vblocks * shape.pages) v next main map old c k) (keeps_each pages (shape.vblocks * shape.pages) v next main map old c k);
+    named = same_from shape old c old_is c_is k.beyond;
+  }
+
+  pub takes_leaves : Takes pages (shape.vblocks * shape.pages) map v next main old c → ((u t : ℕ) (n : List ℕ) → Shows (shape.vblocks * shape.pages) old u t n → t < next)
+      → LeavesMap shape.vaddrs (with_value map v (next, main)) (λ u x. IsStray (shape.vblocks * shape.pages) old map u x) (stored_in old) (stored_in c)
+  takes_leaves k below = record {
+    shows = stores_map shape c c_is (with_value map v (next, main)) (λ u x. IsStray (shape.vblocks * shape.pages) old map u x) (with_there pages (shape.vblocks * shape.pages) v next main map old c k) (takes_each pages (shape.vblocks * shape.pages) v next main map old c k below);
+    named = same_from shape old c old_is c_is k.beyond;
+  }
+
+pub rose_or : (before now : ℕ) → Rose before now ⊎ (Rose before now → ⊥)
+rose_or before now = ⊎_elim (λ lt. inr (λ le. omega (arith, lt, le))) (λ le. inl le) (cases_lt now (saturated (before + 1)))
+
+-- the pages from the bound on are as before
+pub beyond_of : {pages bound v next : ℕ} {main : List ℕ} {map : ℕ → Option Value} {old c : Image} → Keeps pages bound map old c ⊎ Takes pages bound map v next main old c → (p : ℕ) → bound ≤ p → page_at c p ≡ page_at old p
+beyond_of (inl k) = k.beyond
+beyond_of (inr k) = k.beyond
+
+-- so the physical segment is that of the image still
+pub physical_kept : (bound : ℕ) (seg : Physical) (old c : Image) → HasLive seg → seg.first * seg.size ≡ bound → ((p : ℕ) → bound ≤ p → page_at c p ≡ page_at old p) → IsPhysicalOf old seg → IsPhysicalOf c seg
+physical_kept bound seg old c live first same is = record {
+  holds = λ p h held.
+      let within = live.in_segment p h held in
+      let e : page_at c p ≡ page_at old p = same p (subst (λ n. n ≤ p) first within.0) in
+      ap shown_by e ∙ (is.holds p h held ∙ ap (λ page. Some (h.tag, h.stamp, main_of page)) (sym e));
+  blank = λ p taken. let within = live.blank_in p taken in same p (subst (λ n. n ≤ p) first within.0) ∙ is.blank p taken;
+}
+
+-- What failed before, or failed now: where nothing was placed, a value that is newer than the map's was newer before, or it is the
+-- value of this write.
+module _ (pages bound v next : ℕ) (main : List ℕ) (map now : ℕ → Option Value) (old c : Image) (below : (u t : ℕ) (n : List ℕ) → Shows bound old u t n → t < next) where
+  pub stray_done : Takes pages bound map v next main old c → ((u : ℕ) → now u ≡ with_value map v (next, main) u) → (u : ℕ) (x : Value) → IsStray bound c now u x → IsStray bound old map u x
+  stray_done k is u x stray = ⊎_elim
+      (λ d. absurd (stray.newer (subst (λ o. Dominated o x.0 x.1) (sym (is u)) d)))
+      (λ was. record { shown = was.shown; newer = was.newer })
+      (takes_each pages bound v next main map old c k below u x.0 x.1 stray.shown)
+
+  pub stray_kept : Keeps pages bound map old c → ((u : ℕ) → now u ≡ map u) → (u : ℕ) (x : Value) → IsStray bound c now u x → IsStray bound old map u x
+  stray_kept k is u x stray = record { shown = k.no_more u x.0 x.1 stray.shown; newer = λ d. stray.newer (subst (λ o. Dominated o x.0 x.1) (sym (is u)) d) }
+
+  pub stray_failed : Takes pages bound map v next main old c → ((u : ℕ) → now u ≡ map u) → (u : ℕ) (x : Value) → IsStray bound c now u x → IsStray bound old map u x ⊎ ((u ≡ v) × (x ≡ (next, main)))
+  stray_failed k is u x stray = ⊎_elim
+      (λ was. inl (record { shown = was; newer = λ d. stray.newer (subst (λ o. Dominated o x.0 x.1) (sym (is u)) d) }))
+      (λ new. inr (new.0, λ i. (new.1 i, new.2 i)))
+      (k.no_more u x.0 x.1 stray.shown)
+
+-- the bytes of the physical segment are as before
+pub bytes_same : (first : ℕ) (old c : Image) → ((p : ℕ) → first ≤ p → page_at c p ≡ page_at old p) → (p : ℕ) → bytes_at first c p ≡ bytes_at first old p
+bytes_same first old c same p = elim (cases_lt p first) [
+  | inl lt ↦ cond-true (nat_lt p first) [] (main_of (page_at c p)) (lt-ltb p first lt) ∙ sym (cond-true (nat_lt p first) [] (main_of (page_at old p)) (lt-ltb p first lt))
+  | inr le ↦ ap (λ page. cond (nat_lt p first) [] (main_of page)) (same p le)
+]
+
+-- the next stamp
+pub next_taken : (taken : Bool) (now next : ℕ) → now ≡ next + cond taken 1 0 → taken ≡ true → now ≡ next + 1
+next_taken taken now next is yes_taken = is ∙ ap (λ b. next + cond b 1 0) yes_taken
+
+pub next_rises : (taken : Bool) (now next : ℕ) → now ≡ next + cond taken 1 0 → next ≤ now
+next_rises taken now next is = omega (arith, is)
+
+pub done_or : (answer : VirtualWrite) → (answer ≡ write.Done) ⊎ (answer ≡ write.Done → ⊥)
+done_or write.Done = inl refl
+done_or (write.Lost w f) = inr (λ e. cc)
+done_or write.Fault = inr (λ e. cc)
+
+stamp_at : (b : Bool) (next : ℕ) (o : Option ℕ) (t now : ℕ) → cond b (Some next) o ≡ Some t → (o ≡ Some t → t < now) → next < now → t < now
+stamp_at true next o t now is old less = let e = same_Some next t is in omega (arith, e, less)
+stamp_at false next o t now is old less = old is
+
+-- the stamps of the addresses stay below the next one
+pub stamps_done : (v next now : ℕ) (old new : ℕ → Option ℕ) → ((u : ℕ) → new u ≡ (if u == v then Some next else old u)) → ((u t : ℕ) → old u ≡ Some t → t < next) → now ≡ next + 1 → (u t : ℕ) → new u ≡ Some t → t < now
+stamps_done v next now old new is below more u t has =
+    stamp_at (u == v) next (old u) t now (sym (is u) ∙ has) (λ h. let lt = below u t h in omega (arith, lt, more)) (omega (arith, more))
+
+-- what is shown stays below it
+pub keeps_below : {pages bound : ℕ} {map : ℕ → Option Value} {old c : Image} (next now : ℕ) → Keeps pages bound map old c → ((u t : ℕ) (n : List ℕ) → Shows bound old u t n → t < next) → next ≤ now → (u t : ℕ) (n : List ℕ) → Shows bound c u t n → t < now
+keeps_below next now k below le u t n shows = let lt = below u t n (k.no_more u t n shows) in omega (arith, lt, le)
+
+pub takes_below : {pages bound v : ℕ} {main : List ℕ} {map : ℕ → Option Value} {old c : Image} (next now : ℕ) → Takes pages bound map v next main old c → ((u t : ℕ) (n : List ℕ) → Shows bound old u t n → t < next) → now ≡ next + 1
+    → (u t : ℕ) (n : List ℕ) → Shows bound c u t n → t < now
+takes_below next now k below more u t n shows = ⊎_elim
+    (λ was. let lt = below u t n was in omega (arith, lt, more))
+    (λ new. let e = new.1 in omega (arith, e, more))
+    (k.no_more u t n shows)

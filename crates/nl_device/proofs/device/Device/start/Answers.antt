@@ -1,0 +1,117 @@
+use Rattle.std.proofs.Common.{◌≡◌, ◌+◌, ◌<◌, ◌≤◌, ℕ, ◌∙◌, sym, ap, subst, IsTrue, option_map, Option, Some, arith}
+use Rattle.nl_field.specs.Numbers.{is_legal, shape_for}
+use Rattle.nl_field.specs.Page.{Image}
+use Rattle.nl_field.specs.Medium.{shape_of_image}
+use Rattle.nl_field.specs.Virtual.{newest}
+use Rattle.nl_field.specs.declared.shape.Shape.{Shape}
+use Rattle.nl_nand.specs.declared.geometry.Geometry.{Geometry}
+use Rattle.nl_pseg.proofs.Shapes.{IsRoomy, is_roomy}
+use Rattle.nl_nand.specs.Nand.{ImageOf}
+use Rattle.nl_scan.specs.Tables.{FitsMedium, IsTableOf, Table, greatest_stamp}
+use Rattle.nl_iface.specs.Stored.{value_on}
+use Rattle.nl_vseg.specs.Places.{map_of}
+use Rattle.nl_device.specs.Device.{IsDevice}
+use Rattle.nl_device.specs.Kept.{KeptPages}
+use Rattle.nl_device.specs.Opening.{FitsShape, IsOpenedPhysical, IsOpenedVirtual}
+use Rattle.nl_device.proofs.Forms.{shape_is}
+use Rattle.nl_device.proofs.OpenedKeeps.{opened_keeps}
+use Rattle.nl_device.proofs.OpenedMedium.{opened_map, opened_on}
+use Rattle.nl_device.proofs.OpenedNames.{opened_names}
+use Rattle.nl_device.proofs.Ready.{can_none, found_holds}
+use Rattle.nl_device.proofs.Starting.{for_shape, free_space, opened_device, room_space}
+use Rattle.nl_device.proofs.device.Device.start.Goals as goal
+
+-- the numbers of the volume are those of the medium
+numbers_of : (shape : Shape) (seen before : Geometry) → shape ≡ shape_for seen.blocks seen.pages → seen ≡ before → before ≡ record { blocks = shape.blocks; pages = shape.pages }
+numbers_of shape seen before e same = let x = for_shape shape seen.blocks seen.pages e in sym same ∙ (λ i. record { blocks = sym x.0 i; pages = sym x.1 i })
+
+legal_of : (shape : Shape) (seen before : Geometry) → shape ≡ shape_for seen.blocks seen.pages → seen ≡ before → IsTrue (is_legal before.blocks before.pages) → IsTrue (is_legal shape.blocks shape.pages)
+legal_of shape seen before e same legal = subst (λ (n : Geometry). IsTrue (is_legal n.blocks n.pages)) (numbers_of shape seen before e same) legal
+
+fits_of : (shape : Shape) (seen before : Geometry) (t : Table) → shape ≡ shape_for seen.blocks seen.pages → seen ≡ before → FitsMedium before t → FitsShape shape t
+fits_of shape seen before t e same fits = subst (λ (n : Geometry). FitsMedium n t) (numbers_of shape seen before e same) fits
+
+roomy_of : (shape : Shape) (seen before : Geometry) → shape ≡ shape_for seen.blocks seen.pages → seen ≡ before → IsTrue (is_legal before.blocks before.pages) → IsRoomy shape
+roomy_of shape seen before e same legal = subst IsRoomy (sym e) (is_roomy seen.blocks seen.pages (subst (λ (n : Geometry). IsTrue (is_legal n.blocks n.pages)) (sym same) legal))
+
+pub after_scan-requires-clause-legal : goal.after_scan-requires-clause-legal
+after_scan-requires-clause-legal g c = legal_of c.legal_shape-shape.result c.geometry.result (g.M.Nand.geometry c.args.media) c.legal_shape-shape.ensures c.geometry.ensures c.requires.formed
+
+pub after_scan-requires-clause-numbers : goal.after_scan-requires-clause-numbers
+after_scan-requires-clause-numbers g c = (for_shape c.legal_shape-shape.result c.geometry.result.blocks c.geometry.result.pages c.legal_shape-shape.ensures).2
+
+pub after_scan-requires-clause-fits : goal.after_scan-requires-clause-fits
+after_scan-requires-clause-fits g c = fits_of c.legal_shape-shape.result c.geometry.result (g.M.Nand.geometry c.args.media) c.in-Tables.tables c.legal_shape-shape.ensures c.geometry.ensures c.in-Tables.ensures.fits
+
+pub returns-in-Ok-clause-room : goal.returns-in-Ok-clause-room
+returns-in-Ok-clause-room g c = room_space c.legal_shape-shape.result c.in-Tables.tables c.in-Ok.field-0.pseg c.in-Ok.ensures.physicals (roomy_of c.legal_shape-shape.result c.geometry.result (g.M.Nand.geometry c.args.media) c.legal_shape-shape.ensures c.geometry.ensures c.requires.formed)
+
+pub returns-in-Ok-clause-free : goal.returns-in-Ok-clause-free
+returns-in-Ok-clause-free g c = free_space c.legal_shape-shape.result c.in-Tables.tables c.in-Ok.field-0.pseg c.in-Ok.ensures.physicals (roomy_of c.legal_shape-shape.result c.geometry.result (g.M.Nand.geometry c.args.media) c.legal_shape-shape.ensures c.geometry.ensures c.requires.formed)
+
+pub returns-in-Ok-clause-nothing : goal.returns-in-Ok-clause-nothing
+returns-in-Ok-clause-nothing g c =
+    let shape = c.legal_shape-shape.result in
+    let roomy = roomy_of shape c.geometry.result (g.M.Nand.geometry c.args.media) c.legal_shape-shape.ensures c.geometry.ensures c.requires.formed in
+    let two = roomy.blocks in
+    can_none c.in-Ok.field-0.kept shape.pblocks (ap (λ (k : KeptPages). k.count) c.in-Ok.ensures.kept) (omega (arith, two))
+
+-- the tables are of the medium as it is after the scan
+module _ (image before : Image) (t : Table) where
+  table_now : image ≡ before → IsTableOf before t → IsTableOf image t
+  table_now same is = subst (λ (i : Image). IsTableOf i t) (sym same) is
+
+pub returns-in-Ok-clause-formed : goal.returns-in-Ok-clause-formed
+returns-in-Ok-clause-formed g c =
+    let shape = c.legal_shape-shape.result in
+    let media = c.scan.new.media in
+    let t = c.in-Tables.tables in
+    let vseg = c.in-Ok.field-0.vseg in
+    let pseg = c.in-Ok.field-0.pseg in
+    let image = g.M.Nand.contents media in
+    let geometry = g.M.Nand.geometry media in
+    let same = c.scan.ensures.geometry in
+    let legal = subst (λ (n : Geometry). IsTrue (is_legal n.blocks n.pages)) (sym same) c.requires.formed in
+    let fits = fits_of shape c.geometry.result (g.M.Nand.geometry c.args.media) t c.legal_shape-shape.ensures c.geometry.ensures c.in-Tables.ensures.fits in
+    subst (λ next. IsDevice geometry g.M.Nand.tells image shape vseg pseg c.in-Ok.field-0.kept next) (sym c.next_stamp-next.ensures)
+    (opened_device geometry shape t vseg pseg c.in-Ok.field-0.kept g.M.Nand.tells image legal
+    (c.legal_shape-shape.ensures ∙ ap (λ (n : Geometry). shape_for n.blocks n.pages) (c.geometry.ensures ∙ sym same))
+    fits c.in-Ok.ensures.virtuals c.in-Ok.ensures.physicals
+    (λ segments live tell.
+    let fit = g.met.M.Nand.contents_fit media tell in
+    let is = table_now image (g.M.Nand.contents c.args.media) t c.scan.ensures.contents (c.in-Tables.ensures.tables tell) in
+    let e = shape_is segments fit in
+    let physical = opened_names image t pseg is (subst (λ s. IsOpenedPhysical s t pseg) (sym e) c.in-Ok.ensures.physicals) (subst (λ (s : Shape). 0 < s.pages) (sym e) segments.some) in
+    opened_on t segments fit live physical is c.in-Ok.ensures.virtuals)
+    c.in-Ok.ensures.kept)
+
+-- the image before the scan has the numbers of the volume
+image_shape : (shape : Shape) (seen before : Geometry) (image : Image) → shape ≡ shape_for seen.blocks seen.pages → seen ≡ before → ImageOf before image → shape_of_image image ≡ shape
+image_shape shape seen before image e same fit = (λ i. shape_for (fit.blocks i) (fit.pages i)) ∙ (ap (λ (n : Geometry). shape_for n.blocks n.pages) (sym same) ∙ sym e)
+
+pub returns-in-Ok-clause-map : goal.returns-in-Ok-clause-map
+returns-in-Ok-clause-map g c tell v below =
+    let shape = c.legal_shape-shape.result in
+    let t = c.in-Tables.tables in
+    let before = g.M.Nand.contents c.args.media in
+    let e = image_shape shape c.geometry.result (g.M.Nand.geometry c.args.media) before c.legal_shape-shape.ensures c.geometry.ensures (g.met.M.Nand.contents_fit c.args.media tell) in
+    ap (λ (i : Image). map_of c.in-Ok.field-0.vseg.places i v) c.scan.ensures.contents
+    ∙ opened_map before t c.in-Ok.field-0.vseg (c.in-Tables.ensures.tables tell) (subst (λ s. IsOpenedVirtual s t c.in-Ok.field-0.vseg) (sym e) c.in-Ok.ensures.virtuals) v (subst (λ (s : Shape). v < s.vaddrs) (sym e) below)
+
+pub returns-in-Ok-clause-spare : goal.returns-in-Ok-clause-spare
+returns-in-Ok-clause-spare g c tell block spare =
+    let shape = c.legal_shape-shape.result in
+    let t = c.in-Tables.tables in
+    let before = g.M.Nand.contents c.args.media in
+    let e = image_shape shape c.geometry.result (g.M.Nand.geometry c.args.media) before c.legal_shape-shape.ensures c.geometry.ensures (g.met.M.Nand.contents_fit c.args.media tell) in
+    opened_keeps before t c.in-Ok.field-0.vseg block (c.in-Tables.ensures.tables tell) (subst (λ s. IsOpenedVirtual s t c.in-Ok.field-0.vseg) (sym e) c.in-Ok.ensures.virtuals) spare
+
+pub returns-in-Ok-clause-found : goal.returns-in-Ok-clause-found
+returns-in-Ok-clause-found g c tell =
+    let shape = c.legal_shape-shape.result in
+    let media = c.scan.new.media in
+    let t = c.in-Tables.tables in
+    let image = g.M.Nand.contents media in
+    let fit = g.met.M.Nand.contents_fit media tell in
+    let e = image_shape shape c.geometry.result (g.M.Nand.geometry media) image c.legal_shape-shape.ensures (c.geometry.ensures ∙ sym c.scan.ensures.geometry) fit in
+    found_holds shape image t c.in-Ok.field-0.kept e (table_now image (g.M.Nand.contents c.args.media) t c.scan.ensures.contents (c.in-Tables.ensures.tables tell)) c.in-Ok.ensures.kept

@@ -1,0 +1,88 @@
+-- What holds of each device whose tables stand.
+use Rattle.std.proofs.Common.{rules, ◌≡◌, ℕ, ◌*◌, ◌-◌, ◌<◌, ◌≤◌, ◌∙◌, List, [], Option, Some, None, option_map, length, refl, sym, ap, subst}
+use Rattle.std.proofs.lemmas.Option.{none-some, same_Some}
+use Rattle.nl_field.specs.Live.{LiveEntry}
+use Rattle.nl_field.specs.Page.{Image}
+use Rattle.nl_field.specs.declared.shape.Shape.{Shape}
+use Rattle.nl_nand.specs.declared.geometry.Geometry.{Geometry}
+use Rattle.nl_iface.specs.Device.{IsDeviceState, entry_with, state_of}
+use Rattle.nl_iface.specs.Names.{LivePage, Names}
+use Rattle.nl_iface.specs.Stored.{Value}
+use Rattle.nl_pseg.specs.Segment.{Physical, held_at}
+use Rattle.nl_pseg.specs.declared.held.Held.{Held}
+use Rattle.nl_vseg.specs.Places.{map_of, place_of, stamp_for, stamp_in_place, value_at}
+use Rattle.nl_vseg.specs.Segment.{Segment}
+use Rattle.nl_vseg.specs.declared.place.Place.{Place}
+use Rattle.nl_device.specs.Device.{HasLive, HasSegments, IsDevice}
+use Rattle.nl_device.specs.Kept.{KeptPages}
+use Rattle.nl_device.specs.Shown.{live_page, names_of}
+use Rattle.nl_device.specs.Space.{space_of}
+
+stamp_of_value : (image : Image) (place : Option Place) → option_map (λ (x : Value). x.0) (value_at image place) ≡ stamp_in_place place
+stamp_of_value image None = refl
+stamp_of_value image (Some place) = refl
+
+pub stamp_in_map : (places : List (Option Place)) (image : Image) (v : ℕ) → option_map (λ (x : Value). x.0) (map_of places image v) ≡ stamp_for places v
+stamp_in_map places image v = stamp_of_value image (place_of places v)
+
+-- a live page is one that is held
+pub held_of : (o : Option Held) (page : LivePage) → live_page o ≡ Some page → (h : Held) × (o ≡ Some h) × (h.stamp ≡ page.stamp) × (h.tag ≡ page.tag)
+held_of None page is = absurd (none-some page is)
+held_of (Some h) page is = let e = same_Some (record { tag = h.tag; stamp = h.stamp }) page is in (h, refl, ap (λ (l : LivePage). l.stamp) e, ap (λ (l : LivePage). l.tag) e)
+
+entry_of : (p : ℕ) (bytes : List ℕ) (o : Option LivePage) (e : LiveEntry) → entry_with p bytes o ≡ Some e → (page : LivePage) × (o ≡ Some page) × (e.place ≡ p) × (page.stamp ≡ e.stamp)
+entry_of p bytes None e is = absurd (none-some e is)
+entry_of p bytes (Some page) e is =
+    let same = same_Some (record { tag = page.tag; stamp = page.stamp; bytes = bytes; place = p }) e is in
+    (page, refl, sym (ap (λ (x : LiveEntry). x.place) same), ap (λ (x : LiveEntry). x.stamp) same)
+
+no_pairs_state : (pages : ℕ) (pseg : Physical) (bytes : ℕ → List ℕ) (map : ℕ → Option Value) (next : ℕ) (pairs : List (ℕ × ℕ)) → [] ≡ pairs → HasLive pseg → IsDeviceState pages (state_of (record (names_of pseg) { pairs = pairs }) bytes map next)
+no_pairs_state pages pseg bytes map next pairs is live = subst (λ ps. IsDeviceState pages (state_of (record (names_of pseg) { pairs = ps }) bytes map next)) is (record {
+  in_place = λ p e has. (entry_of p (bytes p) (live_page (held_at pseg p)) e has).2;
+  stamps_differ = λ p q d e p_has q_has same.
+      let a = entry_of p (bytes p) (live_page (held_at pseg p)) d p_has in
+      let b = entry_of q (bytes q) (live_page (held_at pseg q)) e q_has in
+      let x = held_of (held_at pseg p) a.0 a.1 in
+      let y = held_of (held_at pseg q) b.0 b.1 in
+      live.differ p q x.0 y.0 x.1 y.1 (x.2 ∙ (a.3 ∙ (same ∙ (sym b.3 ∙ sym y.2))));
+  old_names_differ = search rules;
+  no_chain = tt;
+  one_callback = tt;
+  few_pairs = search rules;
+})
+
+pub state_is : {geometry : Geometry} {tells : Type 0} {image : Image} {shape : Shape} {vseg : Segment} {pseg : Physical} {kept : KeptPages} {next : ℕ} (bytes : ℕ → List ℕ) (map : ℕ → Option Value) → IsDevice geometry tells image shape vseg pseg kept next
+    → IsDeviceState shape.pages (state_of (names_of pseg) bytes map next)
+state_is {geometry} {tells} {image} {shape} {vseg} {pseg} {kept} {next} bytes map f = no_pairs_state shape.pages pseg bytes map next pseg.pairs (sym f.no_pairs) f.live
+
+-- a live page lies in the physical segment, and has a stamp below the next
+pub live_from : {geometry : Geometry} {tells : Type 0} {image : Image} {shape : Shape} {vseg : Segment} {pseg : Physical} {kept : KeptPages} {next : ℕ} → IsDevice geometry tells image shape vseg pseg kept next → (p : ℕ) (page : LivePage)
+    → (names_of pseg).live p ≡ Some page → shape.vblocks * shape.pages ≤ p
+live_from {geometry} {tells} {image} {shape} {vseg} {pseg} f p page is =
+    let h = held_of (held_at pseg p) page is in
+    subst (λ n. n ≤ p) (λ i. f.segments.physical_first i * f.segments.physical_pages i) (f.live.in_segment p h.0 h.1).0
+
+pub live_to : {geometry : Geometry} {tells : Type 0} {image : Image} {shape : Shape} {vseg : Segment} {pseg : Physical} {kept : KeptPages} {next : ℕ} → IsDevice geometry tells image shape vseg pseg kept next → (p : ℕ) (page : LivePage)
+    → (names_of pseg).live p ≡ Some page → p < shape.blocks * shape.pages
+live_to {geometry} {tells} {image} {shape} {vseg} {pseg} f p page is =
+    let h = held_of (held_at pseg p) page is in
+    subst (λ n. p < n) (λ i. f.segments.physical_blocks i * f.segments.physical_pages i) (f.live.in_segment p h.0 h.1).1
+
+pub live_under : {geometry : Geometry} {tells : Type 0} {image : Image} {shape : Shape} {vseg : Segment} {pseg : Physical} {kept : KeptPages} {next : ℕ} → IsDevice geometry tells image shape vseg pseg kept next → (p : ℕ) (page : LivePage)
+    → (names_of pseg).live p ≡ Some page → page.stamp < next
+live_under {geometry} {tells} {image} {shape} {vseg} {pseg} {kept} {next} f p page is =
+    let h = held_of (held_at pseg p) page is in
+    subst (λ n. n < next) h.2 (f.stamp.live p h.0 h.1)
+
+-- the numbers of the space are those of the volume
+pub space_block : {geometry : Geometry} {tells : Type 0} {image : Image} {shape : Shape} {vseg : Segment} {pseg : Physical} {kept : KeptPages} {next : ℕ} → IsDevice geometry tells image shape vseg pseg kept next → (space_of pseg).block ≡ shape.pages
+unfolding space_of
+space_block f = f.segments.physical_pages
+
+pub space_all : {geometry : Geometry} {tells : Type 0} {image : Image} {shape : Shape} {vseg : Segment} {pseg : Physical} {kept : KeptPages} {next : ℕ} → IsDevice geometry tells image shape vseg pseg kept next → (space_of pseg).all ≡ shape.pblocks * shape.pages
+unfolding space_of
+space_all {shape = shape} f = (λ i. (f.segments.physical_blocks i - f.segments.physical_first i) * f.segments.physical_pages i) ∙ ap (λ n. n * shape.pages) f.segments.rest
+
+pub space_pairs : (pseg : Physical) → (space_of pseg).pairs ≡ length pseg.pairs
+unfolding space_of
+space_pairs pseg = refl

@@ -1,0 +1,13 @@
+pub mod Copies
+pub mod Device
+pub mod Kept
+pub mod Laws
+pub mod Marks
+pub mod Medium
+pub mod Opening
+pub mod Retain
+pub mod Shown
+pub mod Space
+pub mod Spread
+pub mod Stamps
+pub mod Started

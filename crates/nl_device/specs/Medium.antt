@@ -1,0 +1,5 @@
+-- The medium of a device.
+use Rattle.nl_device.specs.declared.device.Device.{Device}
+
+abbrev pub medium_of : {M : Type 0} → Device M → M
+medium_of d = d.media

@@ -1,0 +1,109 @@
+-- Which pointers are live after an opening, and where.
+use Rattle.std.specs.Prelude.{◌≡◌, ◌≢◌, ℕ, ◌+◌, ◌*◌, ◌/◌, ◌<◌, ◌≤◌, ◌==◌, not, Bool, true, false, cond, List, [], find, length, map, take, filter, slice_get, slice_set, All, Option, Some, None, IsSome, option_map}
+use Rattle.std.specs.List.{AllPairs, count_by, list_any, range_with_len}
+use Rattle.nl_field.specs.declared.pointer.Pointer.{Pointer}
+use Rattle.nl_pseg.specs.Segment.{InSegment, IsNewStamp, Physical, TakenAsErased, held_at, is_free, soiled}
+use Rattle.nl_pseg.specs.declared.held.Held.{Held}
+use Rattle.nl_iface.specs.Names.{LivePage}
+use Rattle.nl_device.specs.Shown.{live_page}
+use Rattle.nl_device.specs.declared.device.Device.{Device}
+use Rattle.nl_device.specs.Kept.{KeptPages, is_at_name, place_among, spare_among}
+use Rattle.nl_device.specs.Space.{live_in}
+
+-- the spare block of the segment for the stamps of these pointers
+abbrev pub spare_for : KeptPages → List Pointer → Option ℕ
+spare_for kept pointers = spare_among kept (map (λ p. p.stamp) pointers)
+
+-- the place of a pointer beside the spare block for the stamps of all of them
+abbrev pub place_for : KeptPages → List Pointer → Pointer → Option ℕ
+place_for kept pointers p = place_among kept (spare_for kept pointers) p
+
+-- what is live for a pointer on a page: the owner that the page has, and the pointer's stamp
+abbrev pub held_for : KeptPages → ℕ → Pointer → Option Held
+held_for kept page p = option_map (λ k. record { tag = k.tag; stamp = p.stamp }) (find (λ k. k.page == page) kept.pages)
+
+-- the blocks and pages that were seen are those of the segment
+pub record IsSegmentFor (kept : KeptPages) (seg : Physical) : Type 0 where
+  pub first : seg.first ≡ kept.first
+  pub blocks : seg.blocks ≡ kept.first + kept.count
+  pub size : seg.size ≡ kept.size
+
+-- Each block is Free, no page is live, and there is no pair.
+pub record IsFresh (seg : Physical) : Type 0 where
+  pub count : seg.first + seg.free ≡ seg.blocks
+  pub no_live : (page : ℕ) → held_at seg page ≡ None
+  pub pages : length seg.held ≡ seg.blocks * seg.size
+  pub no_pairs : seg.pairs ≡ []
+
+-- for how many pairs there is room: there is no table of pairs yet
+abbrev pub pair_room : ℕ
+pair_room = 0
+
+-- The pointers have a spare block, each has a place, and no two share a stamp. Where the place is not the name, there is room for
+-- a pair.
+pub record CanRetain (kept : KeptPages) (pointers : List Pointer) : Type 0 where
+  pub spare : IsSome (spare_for kept pointers)
+  pub placed : All (λ p. IsSome (place_for kept pointers p)) pointers
+  pub differ : AllPairs (λ p q. p.stamp ≢ q.stamp) pointers
+  pub room : length (filter (λ p. not (is_at_name kept (spare_for kept pointers) p)) pointers) ≤ pair_room
+
+-- Exactly these pointers are live, each at its place, under its stamp and the owner that the page has.
+pub record AreRetained (kept : KeptPages) (pointers : List Pointer) (seg : Physical) : Type 0 where
+  pub listed : (at page : ℕ) (p : Pointer) → slice_get pointers at ≡ Some p → place_for kept pointers p ≡ Some page → held_at seg page ≡ held_for kept page p
+  pub only : (page : ℕ) (h : Held) → held_at seg page ≡ Some h → (at : ℕ) × (p : Pointer) × (slice_get pointers at ≡ Some p) × (place_for kept pointers p ≡ Some page)
+
+-- what is live on a page was found there
+pub record IsFoundIn (kept : KeptPages) (seg : Physical) (page : ℕ) (h : Held) : Type 0 where
+  pub within : InSegment seg page
+  pub found : find (λ k. k.page == page) kept.pages ≡ Some (record { page = page; stamp = h.stamp; tag = h.tag })
+
+-- One pointer can be loaded: the page of its name has its stamp and is outside the spare block, and neither that page nor that stamp
+-- is live.
+pub record CanLoad (kept : KeptPages) (spare : Option ℕ) (p : Pointer) (seg : Physical) : Type 0 where
+  pub at_name : is_at_name kept spare p ≡ true
+  pub dead : held_at seg p.name ≡ None
+  pub new_stamp : IsNewStamp seg p.stamp
+  pub no_pairs : seg.pairs ≡ []
+
+-- what a loaded pointer leaves
+pub record Loads (kept : KeptPages) (p : Pointer) (old new : Physical) : Type 0 where
+  pub live : new.held ≡ slice_set old.held p.name (held_for kept p.name p)
+  pub pairs : new.pairs ≡ old.pairs
+  pub same_first : new.first ≡ old.first
+  pub same_blocks : new.blocks ≡ old.blocks
+  pub same_size : new.size ≡ old.size
+  pub here : is_free new (p.name / old.size) ≡ false
+  pub free : new.free + cond (is_free old (p.name / old.size)) 1 0 ≡ old.free
+  pub others : (block : ℕ) → (block ≡ p.name / old.size → ⊥) → is_free new block ≡ is_free old block
+  pub same_soiled : (block : ℕ) → soiled new block ≡ soiled old block
+  pub left : new.left ≤ old.left
+  pub erased : (q : ℕ) → TakenAsErased new q → TakenAsErased old q
+
+-- a page of one of these names lies in the block
+abbrev pub is_taken : KeptPages → List Pointer → ℕ → Bool
+is_taken kept pointers block = list_any (λ p. p.name / kept.size == block) pointers
+
+-- the first pointers are loaded, so many of them
+pub record Retains (kept : KeptPages) (pointers : List Pointer) (at : ℕ) (old seg : Physical) : Type 0 where
+  pub segment : IsSegmentFor kept seg
+  pub listed : (i : ℕ) (p : Pointer) → i < at → slice_get pointers i ≡ Some p → held_at seg p.name ≡ held_for kept p.name p
+  pub only : (page : ℕ) (h : Held) → held_at seg page ≡ Some h → (i : ℕ) × (p : Pointer) × (i < at) × (slice_get pointers i ≡ Some p) × (p.name ≡ page) × (h.stamp ≡ p.stamp)
+  pub live : live_in seg.held ≡ at
+  pub pages : length seg.held ≡ length old.held
+  pub no_pairs : seg.pairs ≡ []
+  pub taken_busy : (block : ℕ) → is_taken kept (take at pointers) block ≡ true → is_free seg block ≡ false
+  pub counted : kept.count ≤ seg.free + count_by (is_taken kept (take at pointers)) (range_with_len kept.first kept.count)
+  pub free_before : (block : ℕ) → is_free seg block ≡ true → is_free old block ≡ true
+  pub same_soiled : (block : ℕ) → soiled seg block ≡ soiled old block
+  pub left : seg.left ≤ old.left
+  pub erased : (q : ℕ) → TakenAsErased seg q → TakenAsErased old q
+  pub unchanged : at ≡ 0 → seg ≡ old
+
+-- what a device keeps of the scan of its start
+abbrev pub kept_of : {M : Type 0} → Device M → KeptPages
+kept_of d = d.kept
+
+-- exactly these pointers are live, each at its place, under its stamp and the owner that was found there
+pub record LiveAre (kept : KeptPages) (pointers : List Pointer) (live : ℕ → Option LivePage) : Type 0 where
+  pub listed : (at page : ℕ) (p : Pointer) → slice_get pointers at ≡ Some p → place_for kept pointers p ≡ Some page → live page ≡ live_page (held_for kept page p)
+  pub only : (page : ℕ) (l : LivePage) → live page ≡ Some l → (at : ℕ) × (p : Pointer) × (slice_get pointers at ≡ Some p) × (place_for kept pointers p ≡ Some page)

@@ -1,0 +1,18 @@
+use crate::kept::Kept;
+use nl_field::Shape;
+use nl_nand::Nand;
+use nl_pseg::PSeg;
+use nl_vseg::VSeg;
+
+/// A flash medium with its two segments: pages by virtual address in the first blocks, and pages under names in the last.
+#[derive(Drop)]
+pub struct Device<M: Nand> {
+    pub(crate) media: M,
+    pub(crate) shape: Shape,
+    pub(crate) vseg: VSeg,
+    pub(crate) pseg: PSeg,
+    /// The stamp of the next page.
+    pub(crate) next: u64,
+    /// What the scan of its start saw in the physical segment.
+    pub(crate) kept: Kept,
+}

@@ -1,0 +1,53 @@
+ghost use Rattle.std.specs.Prelude.{◌≡◌, ◌≤◌, ℕ, [], length, Some};
+ghost use Rattle.nl_device.specs.Retain.{AreRetained, CanLoad, CanRetain, IsFoundIn, IsFresh, IsSegmentFor, Loads, Retains};
+ghost use Rattle.nl_device.specs.Space.{live_in};
+ghost use Rattle.nl_pseg.specs.Segment.{IsClean, TakenAsErased, held_at};
+ghost use Rattle.nl_pseg.specs.declared.held.Held.{Held};
+
+use super::Kept;
+use nl_field::{Pointer, PointerList};
+use nl_pseg::PSeg;
+
+impl Kept {
+    /// The place of a pointer is live. It is its name.
+    fn load(&self, pseg: &mut PSeg, spare: Option<u32>, at: &Pointer)
+        requires segment { IsSegmentFor self.now pseg.old }
+        requires can { CanLoad self.now spare at.now pseg.old }
+        ensures { Loads self.now at.now pseg.old pseg.new }
+    {
+        let _ = &self.first;
+        let Some(page) = self.place(spare, at) else {
+            return;
+        };
+        let Some(kept) = self.page(page) else {
+            return;
+        };
+        pseg.load(page, *at, kept.tag);
+    }
+
+    /// Exactly the listed pointers are live afterwards, each at its place.
+    pub(crate) fn retain(&mut self, pseg: &mut PSeg, list: &PointerList)
+        requires segment { IsSegmentFor self.old pseg.old }
+        requires fresh { IsFresh pseg.old }
+        requires can { CanRetain self.old list.now.items }
+        ensures retained { AreRetained self.old list.now.items pseg.new }
+        ensures from { (page : ℕ) (h : Held) → held_at pseg.new page ≡ Some h → IsFoundIn self.old pseg.new page h }
+        ensures differ { (p q : ℕ) (g h : Held) → held_at pseg.new p ≡ Some g → held_at pseg.new q ≡ Some h → g.stamp ≡ h.stamp → p ≡ q }
+        ensures live { live_in pseg.new.held ≡ length list.now.items }
+        ensures segment { IsSegmentFor self.old pseg.new }
+        ensures pages { length pseg.new.held ≡ length pseg.old.held }
+        ensures pairs { pseg.new.pairs ≡ [] }
+        ensures free { 1 ≤ pseg.new.free }
+        ensures left { pseg.new.left ≤ pseg.old.left }
+        ensures erased { (p : ℕ) → TakenAsErased pseg.new p → TakenAsErased pseg.old p }
+        ensures clean { IsClean pseg.old → IsClean pseg.new }
+        ensures none { list.now.items ≡ [] → pseg.new ≡ pseg.old }
+        ensures same { self.new ≡ self.old }
+    {
+        let _ = &self.first;
+        let spare = self.spare(list);
+        'listed: for at in 0..list.len() {
+            self.load(pseg, spare, list.get(at));
+        }
+    }
+}

@@ -1,0 +1,16 @@
+//! A device over a flash medium: pages by virtual address, and pages under names that the device picks.
+#![tactic(auto)]
+
+mod counts;
+mod device;
+mod kept;
+mod named_pages;
+mod opening;
+mod retain;
+mod stamps;
+mod start;
+mod told;
+mod virtual_pages;
+
+pub use device::Device;
+pub use start::Started;

@@ -1,0 +1,119 @@
+ghost use Rattle.std.specs.Prelude.{◌≡◌, ◌+◌, ◌<◌, ◌≤◌, ℕ, [], None, Some, option_map, IfOk, IsTrue};
+ghost use Rattle.nl_field.specs.CrashStates.{Rose};
+ghost use Rattle.nl_field.specs.Numbers.{is_legal, shape_for};
+ghost use Rattle.nl_field.specs.Space.{virtual_spare};
+ghost use Rattle.nl_field.specs.Virtual.{newest};
+ghost use Rattle.nl_iface.specs.Stored.{stored_in, value_on};
+ghost use Rattle.nl_nand.specs.Nand.{SameLeft};
+ghost use Rattle.nl_scan.specs.Tables.{FitsMedium, IsTableOf, greatest_stamp};
+ghost use Rattle.nl_field.specs.Medium.{first_physical};
+ghost use Rattle.nl_iface.specs.Names.{HoldsLive};
+ghost use Rattle.nl_device.specs.Kept.{kept_pages};
+ghost use Rattle.nl_device.specs.Medium.{medium_of};
+ghost use Rattle.nl_device.specs.Opening.{FitsShape, IsOpenedPhysical, IsOpenedVirtual, SaysErased};
+ghost use Rattle.nl_device.specs.Retain.{CanRetain, kept_of};
+ghost use Rattle.nl_device.specs.Shown.{StoredOn};
+ghost use Rattle.nl_device.specs.Started.{IfFault, IfMemory, IfReady, KeptMedium};
+
+use crate::device::Device;
+use crate::kept::Kept;
+use crate::opening::segments::{Opened, open};
+use nl_field::{Memory, Shape, shape_of};
+use nl_iface::{Counts, NamedPages, VirtualPages};
+use nl_nand::{Geometry, Nand};
+use nl_pseg::PSeg;
+use nl_scan::{ScanTables, Scanned, scan};
+use nl_vseg::VSeg;
+use std::alloc::Global;
+
+/// What a start answers: the device with the tables of its scan, or the medium where a read failed or memory was refused.
+#[derive(Drop)]
+pub enum Started<M: Nand> {
+    Ready(Device<M>, ScanTables),
+    Fault(M),
+    Memory(M),
+}
+
+fn legal_shape(geometry: Geometry) -> Shape
+    requires { IsTrue (is_legal geometry.blocks geometry.pages) }
+    ensures { result ≡ shape_for geometry.blocks geometry.pages }
+{
+    match shape_of(geometry.blocks, geometry.pages) {
+        Some(shape) => shape,
+        None => unreachable!(),
+    }
+}
+
+/// What a device has beside its medium after a scan.
+#[derive(Drop)]
+struct Parts {
+    vseg: VSeg,
+    pseg: PSeg,
+    kept: Kept,
+}
+
+fn after_scan(alloc: Global, shape: &Shape, tables: &ScanTables) -> Result<Parts, Memory>
+    requires legal { IsTrue (is_legal shape.now.blocks shape.now.pages) }
+    requires numbers { shape.now ≡ shape_for shape.now.blocks shape.now.pages }
+    requires fits { FitsShape shape.now tables.now }
+    ensures virtuals { IfOk result (λ p. IsOpenedVirtual shape.now tables.now p.vseg) }
+    ensures physicals { IfOk result (λ p. IsOpenedPhysical shape.now tables.now p.pseg) }
+    ensures kept { IfOk result (λ p. p.kept ≡ record { first = shape.now.vblocks; count = shape.now.pblocks; size = shape.now.pages; pages = kept_pages (first_physical shape.now) tables.now.seen }) }
+{
+    let Opened { vseg, pseg } = open(alloc, shape, tables)?;
+    let kept = Kept::of(alloc, tables, shape)?;
+    Ok(Parts { vseg, pseg, kept })
+}
+
+impl<M: Nand> Device<M> {
+    /// Reads each page of a formed medium once, and loads for each virtual address the least of its readable pages with the
+    /// greatest write sequence number, outside the spare block of the virtual segment where there is one. No page of the
+    /// physical segment is live.
+    pub fn start(alloc: Global, media: M) -> Started<M>
+        requires formed { IsTrue (is_legal (M.geometry media).blocks (M.geometry media).pages) }
+        ensures formed { IfReady result (λ d t. ⟦<Device<M> as VirtualPages>⟧.formed d) }
+        ensures shape { IfReady result (λ d t. ⟦<Device<M> as VirtualPages>⟧.shape d ≡ shape_for (M.geometry media).blocks (M.geometry media).pages) }
+        ensures live { IfReady result (λ d t. (p : ℕ) → (⟦<Device<M> as VirtualPages>⟧.names d).live p ≡ None) }
+        ensures pairs { IfReady result (λ d t. (⟦<Device<M> as VirtualPages>⟧.names d).pairs ≡ []) }
+        ensures room { IfReady result (λ d t. let space = (⟦<Device<M> as VirtualPages>⟧.names d).space in space.room + space.block ≡ space.all) }
+        ensures free { IfReady result (λ d t. (⟦<Device<M> as VirtualPages>⟧.names d).space.free ≡ (⟦<Device<M> as VirtualPages>⟧.shape d).pblocks) }
+        ensures next { IfReady result (λ d t. ⟦<Device<M> as VirtualPages>⟧.next_stamp d ≡ 1 + greatest_stamp t.seen) }
+        ensures clean { IfReady result (λ d t. let shape = ⟦<Device<M> as VirtualPages>⟧.shape d in ((block : ℕ) → shape.vblocks ≤ block → block < shape.blocks → SaysErased t block) → ⟦<Device<M> as VirtualPages>⟧.clean d) }
+        ensures map { M.tells → IfReady result (λ d t. (v : ℕ) → v < (⟦<Device<M> as VirtualPages>⟧.shape d).vaddrs → ⟦<Device<M> as VirtualPages>⟧.map d v ≡ option_map value_on (newest (M.contents media) v)) }
+        ensures spare { M.tells → IfReady result (λ d t. (block : ℕ) → virtual_spare (M.contents media) ≡ Some block → ⟦<Device<M> as VirtualPages>⟧.keeps_spare d) }
+        ensures tables { M.tells → IfReady result (λ d t. IsTableOf (M.contents media) t) }
+        ensures fits { IfReady result (λ d t. FitsMedium (M.geometry media) t) }
+        ensures counts { IfReady result (λ d t. (⟦<Device<M> as Counts>⟧.clock d ≡ M.clock media) × (⟦<Device<M> as Counts>⟧.read_faults d ≡ M.read_faults media) × (⟦<Device<M> as Counts>⟧.write_faults d ≡ M.write_faults media)) }
+        ensures stored { IfReady result (λ d t. ⟦<Device<M> as VirtualPages>⟧.stored d ≡ stored_in (M.contents media)) }
+        ensures kept { IfReady result (λ d t. KeptMedium M.geometry M.contents M.clock M.write_faults M.left media (medium_of d)) }
+        ensures scanned { IfReady result (λ d t. (kept_of d).pages ≡ kept_pages (first_physical (⟦<Device<M> as VirtualPages>⟧.shape d)) t.seen) }
+        ensures found { M.tells → IfReady result (λ d t. HoldsLive (⟦<Device<M> as VirtualPages>⟧.found d) (⟦<Device<M> as VirtualPages>⟧.bytes d) (⟦<Device<M> as VirtualPages>⟧.stored d)) }
+        ensures nothing { IfReady result (λ d t. CanRetain (kept_of d) []) }
+        ensures fault { IfFault result (λ m. Rose (M.read_faults media) (M.read_faults m) × KeptMedium M.geometry M.contents M.clock M.write_faults M.left media m) }
+        ensures memory { IfMemory result (λ m. (M.read_faults m ≡ M.read_faults media) × KeptMedium M.geometry M.contents M.clock M.write_faults M.left media m) }
+    {
+        let mut media = media;
+        let shape = legal_shape(media.geometry());
+        match scan(alloc, &mut media) {
+            Scanned::Tables(tables) => match after_scan(alloc, &shape, &tables) {
+                Ok(Parts { vseg, pseg, kept }) => {
+                    let next = tables.next_stamp();
+                    Started::Ready(
+                        Device {
+                            media,
+                            shape,
+                            vseg,
+                            pseg,
+                            next,
+                            kept,
+                        },
+                        tables,
+                    )
+                }
+                Err(Memory) => Started::Memory(media),
+            },
+            Scanned::Fault => Started::Fault(media),
+            Scanned::Memory => Started::Memory(media),
+        }
+    }
+}

@@ -1,0 +1,37 @@
+ghost use Rattle.std.specs.Prelude.{◌≡◌};
+ghost use Rattle.nl_device.specs.Medium.{medium_of};
+
+use crate::device::Device;
+use nl_iface::{Counts, NamedPages, VirtualPages};
+use nl_nand::Nand;
+
+impl<M: Nand> Device<M> {
+    /// Gives the medium back.
+    pub fn into_media(self) -> M
+        ensures { result ≡ medium_of self }
+    {
+        let Device {
+            media,
+            shape: _,
+            vseg: _,
+            pseg: _,
+            next: _,
+            kept: _,
+        } = self;
+        media
+    }
+
+    /// The stamp of the next page.
+    pub fn next_stamp(&self) -> u64
+        ensures { result ≡ ⟦<Device<M> as VirtualPages>⟧.next_stamp self.now }
+    {
+        self.next
+    }
+
+    /// The Free blocks of the physical segment.
+    pub fn free_blocks(&self) -> u32
+        ensures { result ≡ (⟦<Device<M> as VirtualPages>⟧.names self.now).space.free }
+    {
+        self.pseg.free_blocks()
+    }
+}

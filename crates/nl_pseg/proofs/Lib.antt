@@ -1,0 +1,12 @@
+pub mod Counts
+pub mod Forms
+pub mod Images
+pub mod News
+pub mod Numbers
+pub mod Openings
+pub mod Placings
+pub mod Rigs
+pub mod Segments
+pub mod Shapes
+pub mod States
+pub mod Tables

@@ -1,0 +1,91 @@
+-- How a block is opened.
+use Rattle.std.proofs.Common.{◌≡◌, inl, inr, ⊎_elim, ℕ, suc, ◌+◌, ◌-◌, ◌*◌, ◌/◌, ◌<◌, ◌≤◌, Bool, true, false, cond, List, [], ◌∷◌, length, refl, sym, ◌∙◌, ap, arith, count_by}
+use Rattle.std.proofs.lemmas.Bool.{cases_Bool, cases_eq, cases_lt}
+use Rattle.std.proofs.lemmas.List.{length-map}
+use Rattle.std.proofs.lemmas.List.Sums.{sum_by-cons}
+use Rattle.nl_blocks.specs.Table.{BlockRow, Table, HasBlock, row_at, is_free, free_count}
+use Rattle.nl_pseg.specs.Segment.{Physical, Use, KeepsBlock}
+use Rattle.nl_pseg.specs.Seen.{IsFormed, seen, use_in, use_of, use_with}
+use Rattle.nl_pseg.specs.Steps.{IsOpened, Restated, opened_at}
+use Rattle.nl_pseg.specs.declared.state.State.{State}
+use Rattle.nl_pseg.proofs.Numbers.{block_of}
+use Rattle.nl_pseg.proofs.Tables.{use_here}
+
+abbrev num : Bool → ℕ
+num b = cond b 1 0
+
+some_row : (rows : List BlockRow) → 1 ≤ count_by is_free rows → (i : ℕ) × (i < length rows) × (is_free (row_at rows i) ≡ true)
+some_row [] some = absurd (omega (arith, some))
+some_row (row ∷ rows) some = elim (cases_Bool (is_free row)) [
+  | inl free ↦ (0, omega arith, free)
+  | inr used ↦
+      let e : count_by is_free (row ∷ rows) ≡ cond (is_free row) 1 0 + count_by is_free rows = sum_by-cons (λ r. cond (is_free r) 1 0) row rows in
+      let none : num (is_free row) ≡ 0 = ap num used in
+      let rest = some_row rows (omega (arith, some, e, none)) in
+      (suc rest.0, omega (arith, rest.1), rest.2)
+]
+
+-- some block is Free
+pub some_free : (t : Table) → 1 ≤ free_count t → (block : ℕ) × ((use_in t block).is_free ≡ true)
+some_free t some =
+    let row = some_row t.blocks some in
+    let has : HasBlock t (t.first + row.0) = record { from = omega arith; below = omega (arith, row.1) } in
+    (t.first + row.0, ap (λ (u : Use). u.is_free) (use_here t (t.first + row.0) has) ∙ (ap (λ n. is_free (row_at t.blocks n)) (omega arith) ∙ row.2))
+
+pub some_kept : (s : State) → IsFormed s → 1 ≤ free_count s.blocks → KeepsBlock (seen s)
+some_kept s is some = let free = some_free s.blocks some in record { block = free.0; kept = is.only_free free.0 ∙ free.1 }
+
+-- a block that was taken is opened
+pub opened : (s : State) (t : Table) (block : ℕ) → IsFormed s → s.blocks.size ≤ s.used → 2 ≤ free_count s.blocks → Restated block false (use_in s.blocks block).wear s.blocks t → (use_in s.blocks block).is_free ≡ true
+    → IsFormed (record s { blocks = t }) → IsOpened block (seen s) (opened_at (seen (record s { blocks = t })) block)
+opened s t block is full two r free formed =
+    let was : num (use_in s.blocks block).is_free ≡ 1 = ap num free in
+    let total = r.total in
+    let fewer : free_count t + 1 ≡ free_count s.blocks = omega (arith, was, total) in
+    let kept = some_kept (record s { blocks = t }) formed (omega (arith, fewer, two)) in
+    record {
+      pages = record {
+        same_first = r.numbers.same_first;
+        same_blocks = λ i. r.numbers.same_first i + r.numbers.same_count i;
+        same_size = r.numbers.same_size;
+        same_wear = λ b. ⊎_elim
+            (λ at. ap (λ n. (use_in t n).wear) at ∙ (ap (λ (u : Use). u.wear) r.here ∙ ap (λ n. (use_in s.blocks n).wear) (sym at)))
+            (λ ne. ap (λ (u : Use). u.wear) (r.others b ne))
+            (cases_eq b block);
+      };
+      held = refl;
+      full = omega (arith, full);
+      was_free = free;
+      next = ap (λ n. block * n) r.numbers.same_size;
+      left = r.numbers.same_size;
+      free = fewer;
+      some = omega (arith, fewer, two);
+      kept = record { block = kept.block; kept = kept.kept };
+      here = ap (λ (u : Use). u.is_free) r.here;
+      others = λ b ne. r.others b ne;
+      soiled = refl;
+    }
+
+-- the page that is programmed next is the first one of the block
+pub opened_block : {block : ℕ} {old new : Physical} → IsOpened block old new → 0 < old.size → new.next / old.size ≡ block
+opened_block {block} {old} {new} o some = let n = o.next in block_of new.next old.size block (omega (arith, n)) (omega (arith, n, some))
+
+-- with no page left in the block that is written to, there is room in two Free blocks
+pub two_free : (size used free : ℕ) → size ≤ used → 0 < (size - used) + (free - 1) * size → 2 ≤ free
+two_free size used free full room = elim (cases_lt 1 free) [
+  | inl two ↦ two
+  | inr few ↦
+      let none : free - 1 ≡ 0 = omega (arith, few) in
+      let product : (free - 1) * size ≡ 0 * size = ap (λ n. n * size) none in
+      absurd (omega (arith, room, product, full))
+]
+
+-- a Free block is kept too
+pub free_use : (s : State) (block : ℕ) → IsFormed s → (use_in s.blocks block).is_free ≡ true → use_in s.blocks block ≡ use_with true (use_in s.blocks block).wear
+free_use s block is free =
+    let kept : (use_in s.blocks block).is_kept ≡ true = is.only_free block ∙ free in
+    (λ i. record { is_free = free i; is_kept = kept i; wear = (use_in s.blocks block).wear })
+
+-- the number behind the last block
+pub last_block : (s : State) → (seen s).blocks ≡ (seen s).first + length (seen s).uses
+last_block s = ap (λ n. s.blocks.first + n) (sym (length-map s.blocks.blocks use_of))

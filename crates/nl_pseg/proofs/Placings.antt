@@ -1,0 +1,245 @@
+-- How a page is placed: a block is opened, and its next page is used.
+use Rattle.std.proofs.Common.{◌≡◌, inl, inr, ⊎_elim, ℕ, ◌+◌, ◌-◌, ◌*◌, ◌/◌, ◌<◌, ◌≤◌, nat_le, cond, Option, Some, None, List, get_or, set, refl, sym, ◌∙◌, ap, subst, arith, is_some}
+use Rattle.std.proofs.lemmas.Bool.{cond-true, cond-false, le-leb}
+use Rattle.std.proofs.lemmas.List.{get_or-set_other, set-get_or}
+use Rattle.std.proofs.lemmas.Bool.{cases_eq, true≢false}
+use Rattle.nl_field.specs.CrashStates.{Earlier, Turns}
+use Rattle.nl_field.specs.Page.{Image, written}
+use Rattle.nl_field.specs.declared.answers.Named.{Named}
+use Rattle.nl_field.specs.declared.answers.Named.TheVariants as the
+use Rattle.nl_field.specs.declared.pointer.Pointer.{Pointer}
+use Rattle.nl_field.specs.declared.pointer.Tag.{Tag}
+use Rattle.nl_nand.specs.declared.answers.WriteAnswer.TheVariants as wrote
+use Rattle.nl_nand.proofs.Crashes.{turns_later, weaken}
+use Rattle.nl_pseg.specs.Answers.{IfPlaced, IsFault, IsPlaced}
+use Rattle.nl_pseg.specs.Effects.{Crashes, Keeps, Places, Programmed, Takes}
+use Rattle.nl_pseg.specs.Pages.{page_with, shown_by}
+use Rattle.nl_pseg.specs.Segment.{Physical, Use, IsClean, IsDead, IsReady, IsSpent, IsUnspent, KeepsBlock, SamePages, held_at, is_free, is_kept, is_soiled, room, wear_of}
+use Rattle.nl_pseg.specs.Steps.{IsAlone, IsOpened, IsUsed, Opening, OpeningOn, Placing, PlacingOn}
+use Rattle.nl_pseg.specs.declared.held.Held.{Held}
+use Rattle.nl_pseg.proofs.Images.{keeps_then, takes_then}
+use Rattle.nl_pseg.proofs.Segments.{pages_back, pages_then, range_of, within_same}
+
+pub if_placed : (answer : Named) {P Q : Pointer → Type 0} → ((at : Pointer) → P at → Q at) → IfPlaced answer P → IfPlaced answer Q
+if_placed (the.Placed at) by is = by at is
+if_placed the.NotLive by is = is
+if_placed the.NoPage by is = is
+if_placed the.Fault by is = is
+
+pub if_placed_three : (answer : Named) {P Q R S : Pointer → Type 0} → ((at : Pointer) → P at → Q at → R at → S at) → IfPlaced answer P → IfPlaced answer Q → IfPlaced answer R → IfPlaced answer S
+if_placed_three (the.Placed at) by p q r = by at p q r
+if_placed_three the.NotLive by p q r = p
+if_placed_three the.NoPage by p q r = p
+if_placed_three the.Fault by p q r = p
+
+-- the next page was used
+module _ {x : Option Held} {seg new : Physical} (u : IsUsed x seg new) (some : 0 < seg.left) where
+  pub used_spent : IsSpent seg new
+  used_spent =
+      let blocks : (new.free - 1) * new.size ≡ (seg.free - 1) * seg.size = (λ i. (u.free i - 1) * u.pages.same_size i) in
+      let left = u.left in
+      let none : cond (nat_le 1 seg.left) 0 1 ≡ num_zero = cond-true (nat_le 1 seg.left) 0 1 (le-leb 1 seg.left some) in
+      let free = u.free in
+      record { room = omega (arith, blocks, left); taken = omega (arith, none, free) }
+    where
+      num_zero : ℕ
+      num_zero = 0
+
+  pub used_clean : IsClean seg → IsClean new
+  used_clean clean b free = ap (λ (l : List (Option ℕ)). is_some (get_or l b None)) u.soiled ∙ clean b (ap (λ (w : Use). w.is_free) (sym (u.uses b)) ∙ free)
+
+  pub used_kept : KeepsBlock seg → KeepsBlock new
+  used_kept k = record { block = k.block; kept = ap (λ (w : Use). w.is_kept) (u.uses k.block) ∙ k.kept }
+
+pub used_failed : {seg new : Physical} (stamp : ℕ) (now : Pointer → List (Option Held)) → IsUsed None seg new → 0 < seg.left → held_at seg seg.next ≡ None → Placing stamp now the.Fault seg new
+used_failed {seg} {new} stamp now u some dead = record {
+  pages = u.pages;
+  placed = tt;
+  held = tt;
+  same = λ not. u.held ∙ (ap (set seg.held seg.next) (sym dead) ∙ set-get_or seg.held seg.next None);
+  spent = λ placed. absurd placed;
+  failed = λ fault. inl (used_spent u some);
+  clean = used_clean u some;
+  kept = used_kept u some;
+}
+
+pub used_placed : {h : Held} {seg new : Physical} (page stamp : ℕ) → page ≡ seg.next → IsUsed (Some h) seg new → 0 < seg.left → IsDead seg page
+    → Placing stamp (λ at. set seg.held at.name (Some h)) (the.Placed (record { name = page; stamp = stamp })) seg new
+used_placed {h} {seg} {new} page stamp at u some dead = record {
+  pages = u.pages;
+  placed = (dead, refl);
+  held = u.held ∙ ap (λ n. set seg.held n (Some h)) (sym at);
+  same = λ not. absurd (not tt);
+  spent = λ placed. used_spent u some;
+  failed = λ fault. absurd (cc fault);
+  clean = used_clean u some;
+  kept = used_kept u some;
+}
+
+-- a Free block was opened before
+module _ {block : ℕ} {seg mid : Physical} (o : IsOpened block seg mid) where
+  pub opened_dead : (p : ℕ) → IsDead mid p → IsDead seg p
+  opened_dead p dead = record {
+    within = within_same p (range_of (pages_back o.pages)) dead.within;
+    dead = ap (λ (l : List (Option Held)). get_or l p None) (sym o.held) ∙ dead.dead;
+  }
+
+  opened_room : room mid ≡ room seg
+  opened_room =
+      let less : (mid.free - 1) * mid.size ≡ (seg.free - 1 - 1) * seg.size = (λ i. (less_free i) * o.pages.same_size i) in
+      let one : (seg.free - 1 - 1) * seg.size + seg.size ≡ (seg.free - 1) * seg.size = one_less (seg.free - 1) seg.size two in
+      let full = o.full in
+      let left = o.left in
+      omega (arith, less, one, full, left)
+    where
+      two : 1 ≤ seg.free - 1
+      two = let a = o.free in let b = o.some in omega (arith, a, b)
+
+      less_free : mid.free - 1 ≡ seg.free - 1 - 1
+      less_free = let a = o.free in omega (arith, a)
+
+      one_less : (n p : ℕ) → 1 ≤ n → (n - 1) * p + p ≡ n * p
+      one_less n p some =
+          let e : (n - 1) + 1 ≡ n = omega (arith, some) in
+          subst (λ k. (n - 1) * p + p ≡ k * p) e (omega arith)
+
+  pub opened_spent : {new : Physical} → 0 < seg.size → IsSpent mid new → IsSpent seg new
+  opened_spent {new} some spent =
+      let r = opened_room in
+      let a = spent.room in
+      let left = o.left in
+      let none : cond (nat_le 1 mid.left) 0 1 ≡ zero_of = cond-true (nat_le 1 mid.left) 0 1 (le-leb 1 mid.left (omega (arith, left, some))) in
+      let t = spent.taken in
+      let f = o.free in
+      let full = o.full in
+      let one : cond (nat_le 1 seg.left) 0 1 ≡ one_of = cond-false (nat_le 1 seg.left) 0 1 (ap (nat_le 1) full) in
+      record { room = omega (arith, r, a); taken = omega (arith, none, one, t, f) }
+    where
+      zero_of : ℕ
+      zero_of = 0
+
+      one_of : ℕ
+      one_of = 1
+
+  pub opened_clean : IsClean seg → IsClean mid
+  opened_clean clean b free = ⊎_elim
+      (λ is. absurd (true≢false (sym free ∙ (ap (is_free mid) is ∙ o.here))))
+      (λ ne. ap (λ (l : List (Option ℕ)). is_some (get_or l b None)) o.soiled ∙ (ap is_some (get_or-set_other seg.soiled block b None None ne) ∙ clean b (ap (λ (w : Use). w.is_free) (sym (o.others b ne)) ∙ free)))
+      (cases_eq b block)
+
+  pub opened_placing : {new : Physical} {answer : Named} (stamp : ℕ) (h : Held) → 0 < seg.size → Placing stamp (λ at. set mid.held at.name (Some h)) answer mid new
+      → Placing stamp (λ at. set seg.held at.name (Some h)) answer seg new
+  opened_placing {new} {answer} stamp h some p = record {
+    pages = pages_then o.pages p.pages;
+    placed = if_placed answer (λ at is. (opened_dead at.name is.0, is.1)) p.placed;
+    held = if_placed answer (λ at is. is ∙ ap (λ (l : List (Option Held)). set l at.name (Some h)) o.held) p.held;
+    same = λ not. p.same not ∙ o.held;
+    spent = λ placed. opened_spent some (p.spent placed);
+    failed = λ failed. inl (opened_spent some (⊎_elim (λ spent. spent) (λ x. absurd (x.1 (inl ready))) (p.failed failed)));
+    clean = λ clean. p.clean (opened_clean clean);
+    kept = λ k. p.kept o.kept;
+  }
+    where
+      ready : 0 < mid.left
+      ready = let left = o.left in omega (arith, left, some)
+
+-- the page was placed after a block was opened, or in the one that is written to
+pub placing_then : {seg mid new : Physical} {answer : Named} (stamp : ℕ) (h : Held) → 0 < seg.size → Opening wrote.Done seg mid → Placing stamp (λ at. set mid.held at.name (Some h)) answer mid new
+    → Placing stamp (λ at. set seg.held at.name (Some h)) answer seg new
+placing_then {seg} {mid} {new} {answer} stamp h some (inl same) p = subst (λ (q : Physical). Placing stamp (λ at. set q.held at.name (Some h)) answer q new) same.1 p
+placing_then {seg} {mid} {new} {answer} stamp h some (inr o) p = opened_placing o.1 stamp h some p
+
+pub opening_pages : {seg mid : Physical} → Opening wrote.Done seg mid → SamePages seg mid
+opening_pages {seg} {mid} (inl same) = subst (SamePages seg) (sym same.1) (record { same_first = refl; same_blocks = refl; same_size = refl; same_wear = λ b. refl })
+opening_pages (inr o) = o.1.pages
+
+pub opening_dead : {seg mid : Physical} → Opening wrote.Done seg mid → (p : ℕ) → IsDead mid p → IsDead seg p
+opening_dead (inl same) p dead = subst (λ (q : Physical). IsDead q p) same.1 dead
+opening_dead (inr o) p dead = opened_dead o.1 p dead
+
+-- the same value on a page
+value : {seg mid : Physical} → Opening wrote.Done seg mid → (tag : Tag) (stamp : ℕ) (main : List ℕ) (page : ℕ) → written (page_with main tag stamp (wear_of mid (page / mid.size))) ≡ written (page_with main tag stamp (wear_of seg (page / seg.size)))
+value {seg} {mid} opening tag stamp main page =
+    let pages = opening_pages opening in
+    ap (λ w. written (page_with main tag stamp w)) (ap (λ n. wear_of mid (page / n)) pages.same_size ∙ pages.same_wear (page / seg.size))
+
+-- what that does to the medium
+module _ {M : Type 0} {clock : M → ℕ} {contents : M → Image} {left : M → ℕ → Image → Type 0} {seg mid : Physical} {a b : M} (opening : Opening wrote.Done seg mid) (on : OpeningOn clock contents left wrote.Done seg mid a b)
+    (tag : Tag) (stamp : ℕ) (main : List ℕ) (answer : Named) where
+  pub programmed_then : (d : M) → IfPlaced answer (λ at. IsDead mid at.name) → IfPlaced answer (λ at. at.name ≡ mid.next)
+      → IfPlaced answer (λ at. IsAlone at.name (written (page_with main tag stamp (wear_of mid (at.name / mid.size)))) (contents b) (contents d))
+      → IfPlaced answer (λ at. Programmed seg at.name (written (page_with main tag stamp (wear_of seg (at.name / seg.size)))) (contents a) (contents d))
+  programmed_then d dead next alone = if_placed_three answer (λ at dead_is next_is alone_is. record {
+    dead = opening_dead opening at.name dead_is;
+    has = alone_is.has ∙ value opening tag stamp main at.name;
+    others = λ p ne. ⊎_elim
+        (λ same. inl (alone_is.others p ne ∙ same))
+        (λ x. let here : mid.next / seg.size ≡ at.name / seg.size = ap (λ n. n / seg.size) (sym next_is) in
+        inr (x.0 ∙ here, ap (is_free seg) (sym here) ∙ x.1, ap (is_soiled seg) (sym here) ∙ x.2, alone_is.others p ne ∙ x.3))
+        (on.others refl p);
+  }) dead next alone
+
+  pub crashes_then : {d : M} → (IsPlaced answer → Earlier (clock b) (clock d)) → Crashes clock contents left mid tag stamp main b d answer → Crashes clock contents left seg tag stamp main a d answer
+  crashes_then {d} strict k = record {
+    page = k.page;
+    named = k.named;
+    either = ⊎_elim (λ x. inl (keeps_then (opening_dead opening) on.keeps x)) (λ x. inr (takes_on (contents d) x)) k.either;
+    crash = turns_later (IsPlaced answer) (λ c. Keeps seg (contents a) c) (λ c. Places seg k.page tag stamp main (contents a) c) on.crash
+        (weaken (Turns (IsPlaced answer) (clock d) (λ c. Keeps mid (contents b) c) (λ c. Places mid k.page tag stamp main (contents b) c))
+        (Turns (IsPlaced answer) (clock d) (λ c. Keeps seg (contents a) c) (λ c. Places seg k.page tag stamp main (contents a) c)) k.crash
+        (λ m c from to is. ⊎_elim (λ x. inl (x.0, keeps_then (opening_dead opening) on.keeps x.1)) (λ x. inr (takes_on c x)) is))
+        strict;
+  }
+    where
+      takes_on : (c : Image) → Places mid k.page tag stamp main (contents b) c → Places seg k.page tag stamp main (contents a) c
+      takes_on c x = record {
+        takes = subst (λ v. Takes seg k.page v (contents a) c) (value opening tag stamp main k.page) (takes_then (opening_dead opening) on.keeps x.takes);
+        shows = sym (ap shown_by (value opening tag stamp main k.page)) ∙ x.shows;
+      }
+
+-- an erase failed
+pub opening_failed : {seg new : Physical} (stamp : ℕ) (now : Pointer → List (Option Held)) → Opening wrote.Failed seg new → Placing stamp now the.Fault seg new
+opening_failed stamp now x = record {
+  pages = x.0;
+  placed = tt;
+  held = tt;
+  same = λ not. x.1;
+  spent = λ placed. absurd placed;
+  failed = λ fault. inr (x.2, x.3);
+  clean = λ clean b free. ap is_some (x.2.same_soiled b) ∙ clean b (sym (x.2.same_free b) ∙ free);
+  kept = λ k. record { block = k.block; kept = x.2.same_kept k.block ∙ k.kept };
+}
+
+-- what it leaves of the medium
+pub failed_on : {M : Type 0} {clock : M → ℕ} {contents : M → Image} {left : M → ℕ → Image → Type 0} {seg new : Physical} {a b : M} (tag : Tag) (stamp : ℕ) (main : List ℕ) → OpeningOn clock contents left wrote.Failed seg new a b
+    → PlacingOn clock contents left tag stamp main the.Fault seg a b
+failed_on {M} {clock} {contents} {left} {seg} {new} {a} {b} tag stamp main on = record {
+  programmed = tt;
+  crash = record {
+    page = 0;
+    named = tt;
+    either = inl on.keeps;
+    crash = weaken (λ m c. Keeps seg (contents a) c) (Turns (IsPlaced the.Fault) (clock b) (λ c. Keeps seg (contents a) c) (λ c. Places seg 0 tag stamp main (contents a) c)) on.crash
+        (λ m c from to k. inl ((λ placed. absurd placed), k));
+  };
+}
+
+-- and then a live page died
+pub ended_placing : {seg mid new : Physical} (stamp place at_place : ℕ) (h : Held) (at : Pointer) → place ≡ at_place → SamePages mid new → IsUnspent mid new → new.held ≡ set mid.held place None
+    → Placing stamp (λ p. set seg.held p.name (Some h)) (the.Placed at) seg mid → Placing stamp (λ p. set (set seg.held p.name (Some h)) at_place None) (the.Placed at) seg new
+ended_placing {seg} {mid} {new} stamp place at_place h at is pages space held p = record {
+  pages = pages_then p.pages pages;
+  placed = p.placed;
+  held = held ∙ (ap (λ (l : List (Option Held)). set l place None) p.held ∙ ap (λ n. set (set seg.held at.name (Some h)) n None) is);
+  same = λ not. absurd (not tt);
+  spent = λ placed.
+      let was = p.spent placed in
+      let room_is : room new ≡ room mid = (λ i. space.left i + (space.free i - 1) * pages.same_size i) in
+      let r = was.room in
+      let taken = was.taken in
+      let free = space.free in
+      record { room = omega (arith, room_is, r); taken = ap (λ n. n + cond (nat_le 1 seg.left) 0 1) free ∙ taken };
+  failed = λ fault. absurd (cc fault);
+  clean = λ clean b free. ap is_some (space.same_soiled b) ∙ p.clean clean b (sym (space.same_free b) ∙ free);
+  kept = λ k. let was = p.kept k in record { block = was.block; kept = space.same_kept was.block ∙ was.kept };
+}

@@ -1,0 +1,143 @@
+-- What the calls on the table of blocks do to the uses of blocks.
+use Rattle.std.proofs.Common.{◌≡◌, inl, inr, ⊎_elim, ℕ, ◌+◌, ◌-◌, ◌/◌, ◌%◌, ◌<◌, ◌≤◌, nat_le, Bool, false, cond, List, length, map, get_or, refl, sym, ◌∙◌, ap, subst, arith, length-set, set}
+use Rattle.std.proofs.lemmas.Bool.{cases_eq, cases_Bool, le-leb, leb-true, cond-true, cond-false}
+use Rattle.std.proofs.lemmas.List.{get_or-set_same, get_or-set_other, get_or-map, map-set}
+use Rattle.nl_blocks.specs.declared.states.Page.{Page}
+use Rattle.nl_blocks.specs.Table.{BlockRow, Table, HasBlock, HasPage, block_at, new_page, no_row, page_at, with_block, is_free, free_count}
+use Rattle.nl_blocks.proofs.TableLaws.{sum_by-with_block, block_at-with_block_other}
+use Rattle.nl_pseg.specs.Segment.{Use, no_use, use_at}
+use Rattle.nl_pseg.specs.Seen.{use_of, use_in, use_with}
+use Rattle.nl_pseg.specs.Steps.{SameMarks, SameNumbers, SameUse, Restated}
+
+abbrev num : Bool → ℕ
+num b = cond b 1 0
+
+-- the use of a block from the first on
+pub use_from : (first : ℕ) (uses : List Use) (block : ℕ) → first ≤ block → use_at first uses block ≡ get_or uses (block - first) no_use
+unfolding use_at
+use_from first uses block from = cond-true (nat_le first block) (get_or uses (block - first) no_use) no_use (le-leb first block from)
+
+-- a block before the first has none
+pub use_before : (first : ℕ) (uses : List Use) (block : ℕ) → nat_le first block ≡ false → use_at first uses block ≡ no_use
+unfolding use_at
+use_before first uses block before = cond-false (nat_le first block) (get_or uses (block - first) no_use) no_use before
+
+pub use_here : (t : Table) (block : ℕ) → HasBlock t block → use_in t block ≡ use_of (block_at t block)
+use_here t block has = use_from t.first (map use_of t.blocks) block has.from ∙ get_or-map use_of t.blocks (block - t.first) no_row no_use (omega (arith, has.from, has.below))
+
+pub use_other : (t : Table) (block other : ℕ) (row : BlockRow) → HasBlock t block → (other ≡ block → ⊥) → use_in (with_block t block row) other ≡ use_in t other
+use_other t block other row has ne = elim (cases_Bool (nat_le t.first other)) [
+  | inl from_is ↦
+      let from : t.first ≤ other = leb-true t.first other from_is in
+      use_from t.first (map use_of (set t.blocks (block - t.first) row)) other from
+      ∙ (ap (λ (us : List Use). get_or us (other - t.first) no_use) (map-set use_of t.blocks (block - t.first) row)
+      ∙ (get_or-set_other (map use_of t.blocks) (block - t.first) (other - t.first) (use_of row) no_use (λ same. ne (omega (arith, same, from, has.from)))
+      ∙ sym (use_from t.first (map use_of t.blocks) other from)))
+  | inr before ↦ use_before t.first (map use_of (set t.blocks (block - t.first) row)) other before ∙ sym (use_before t.first (map use_of t.blocks) other before)
+]
+
+pub with_has : (t : Table) (block other : ℕ) (row : BlockRow) → HasBlock t other → HasBlock (with_block t block row) other
+with_has t block other row has = record { from = has.from; below = subst (λ n. other < t.first + n) (sym (length-set t.blocks (block - t.first) row)) has.below }
+
+pub row_here : (t : Table) (block : ℕ) (row : BlockRow) → HasBlock t block → block_at (with_block t block row) block ≡ row
+row_here t block row has = get_or-set_same t.blocks (block - t.first) row no_row (omega (arith, has.from, has.below))
+
+pub numbers_then : {a b c : Table} → SameNumbers a b → SameNumbers b c → SameNumbers a c
+numbers_then first second = record {
+  same_first = second.same_first ∙ first.same_first;
+  same_size = second.same_size ∙ first.same_size;
+  same_count = second.same_count ∙ first.same_count;
+}
+
+pub has_same : {a b : Table} (block : ℕ) → SameNumbers a b → HasBlock a block → HasBlock b block
+has_same {a} {b} block numbers has = record {
+  from = subst (λ n. n ≤ block) (sym numbers.same_first) has.from;
+  below = subst (λ n. block < n + length b.blocks) (sym numbers.same_first) (subst (λ n. block < a.first + n) (sym numbers.same_count) has.below);
+}
+
+pub page_back : {a b : Table} (page : ℕ) → SameNumbers a b → HasPage b page → HasPage a page
+page_back {a} {b} page numbers has =
+    let back : SameNumbers b a = record { same_first = sym numbers.same_first; same_size = sym numbers.same_size; same_count = sym numbers.same_count } in
+    subst (λ n. HasBlock a (page / n)) numbers.same_size (has_same (page / b.size) back has)
+
+-- a page by the number of its block
+page_here : (t : Table) (page block : ℕ) → page / t.size ≡ block → page_at t page ≡ get_or (block_at t block).pages (page % t.size) new_page
+page_here t page block e = ap (λ (b : ℕ). get_or (block_at t b).pages (page % t.size) new_page) e
+
+-- a block whose pages stay as live as they were
+pub same_marks : (t : Table) (block : ℕ) (row : BlockRow) → HasBlock t block → ((k : ℕ) → (get_or row.pages k new_page).state ≡ (get_or (block_at t block).pages k new_page).state) → SameMarks t (with_block t block row)
+same_marks t block row has same = record {
+  same = λ page has_page. ⊎_elim
+      (λ here. ap (λ (p : Page). p.state) (page_here (with_block t block row) page block here) ∙ (ap (λ (r : BlockRow). (get_or r.pages (page % t.size) new_page).state) (row_here t block row has)
+      ∙ (same (page % t.size) ∙ sym (ap (λ (p : Page). p.state) (page_here t page block here)))))
+      (λ ne. ap (λ (r : BlockRow). (get_or r.pages (page % t.size) new_page).state) (block_at-with_block_other t block (page / t.size) row has has_page ne))
+      (cases_eq (page / t.size) block);
+}
+
+pub marks_then : {a b c : Table} → b.size ≡ a.size → SameNumbers a b → SameMarks a b → SameMarks b c → SameMarks a c
+marks_then {a} {b} {c} size numbers first second = record {
+  same = λ page has. second.same page (subst (λ n. HasBlock b (page / n)) (sym size) (has_same (page / a.size) numbers has)) ∙ first.same page has;
+}
+
+-- the table is over one block
+pub restated : (t : Table) (block : ℕ) (row : BlockRow) (free : Bool) (wear : ℕ) → HasBlock t block → use_of row ≡ use_with free wear → ((k : ℕ) → (get_or row.pages k new_page).state ≡ (get_or (block_at t block).pages k new_page).state)
+    → Restated block free wear t (with_block t block row)
+restated t block row free wear has use_is same = record {
+  marks = same_marks t block row has same;
+  numbers = record { same_first = refl; same_size = refl; same_count = length-set t.blocks (block - t.first) row };
+  here = use_here (with_block t block row) block (with_has t block block row has) ∙ (ap use_of (row_here t block row has) ∙ use_is);
+  others = λ other ne. use_other t block other row has ne;
+  states = λ other has_other ne. ap (λ (r : BlockRow). r.state) (block_at-with_block_other t block other row has has_other ne);
+  total =
+      let sums = sum_by-with_block (λ r. cond (is_free r) 1 0) t block row has in
+      let was : num (use_in t block).is_free ≡ num (is_free (block_at t block)) = ap (λ (u : Use). num u.is_free) (use_here t block has) in
+      let now : num (is_free row) ≡ num free = ap (λ (u : Use). num u.is_free) use_is in
+      omega (arith, sums, was, now);
+}
+
+-- what was done to one block, twice
+pub restated_again : {block wear more : ℕ} {was now : Bool} {a b c : Table} → Restated block was wear a b → Restated block now more b c → Restated block now more a c
+restated_again {block} {wear} {more} {was} {now} {a} {b} {c} first second = record {
+  numbers = numbers_then first.numbers second.numbers;
+  here = second.here;
+  others = λ other ne. second.others other ne ∙ first.others other ne;
+  marks = marks_then first.numbers.same_size first.numbers first.marks second.marks;
+  states = λ other has ne. second.states other (has_same other first.numbers has) ne ∙ first.states other has ne;
+  total =
+      let t1 = first.total in
+      let t2 : free_count c + cond was 1 0 ≡ free_count b + cond now 1 0 = ap (λ (u : Use). free_count c + cond u.is_free 1 0) (sym first.here) ∙ second.total in
+      omega (arith, t1, t2);
+}
+
+-- a block that is again what it was
+pub restated_same : {block wear : ℕ} {free : Bool} {a b : Table} → use_in a block ≡ use_with free wear → Restated block free wear a b → SameUse a b
+restated_same {block} {wear} {free} {a} {b} was r = record {
+  numbers = r.numbers;
+  uses = λ other. ⊎_elim
+      (λ is. ap (use_in b) is ∙ (r.here ∙ (sym was ∙ ap (use_in a) (sym is))))
+      (λ ne. r.others other ne)
+      (cases_eq other block);
+  total = let t : free_count b + cond free 1 0 ≡ free_count a + cond free 1 0 = ap (λ (u : Use). free_count b + cond u.is_free 1 0) (sym was) ∙ r.total in omega (arith, t);
+}
+
+pub same_then : {a b c : Table} → SameUse a b → SameUse b c → SameUse a c
+same_then first second = record {
+  numbers = numbers_then first.numbers second.numbers;
+  uses = λ block. second.uses block ∙ first.uses block;
+  total = second.total ∙ first.total;
+}
+
+-- a row that is used as the one before it leaves all uses
+pub same_row : (t : Table) (block : ℕ) (row : BlockRow) → HasBlock t block → use_of row ≡ use_of (block_at t block) → SameUse t (with_block t block row)
+same_row t block row has use_is = record {
+  numbers = record { same_first = refl; same_size = refl; same_count = length-set t.blocks (block - t.first) row };
+  uses = λ other. ⊎_elim
+      (λ is. ap (use_in (with_block t block row)) is ∙ (use_here (with_block t block row) block (with_has t block block row has) ∙ (ap use_of (row_here t block row has)
+      ∙ (use_is ∙ (sym (use_here t block has) ∙ ap (use_in t) (sym is))))))
+      (λ ne. use_other t block other row has ne)
+      (cases_eq other block);
+  total =
+      let sums = sum_by-with_block (λ r. cond (is_free r) 1 0) t block row has in
+      let now : num (is_free row) ≡ num (is_free (block_at t block)) = ap (λ (u : Use). num u.is_free) use_is in
+      omega (arith, sums, now);
+}

@@ -1,0 +1,21 @@
+use Rattle.std.proofs.Common.{◌*◌, ◌^◌, ◌<◌, refl, sym, subst}
+use Rattle.nl_pseg.specs.declared.state.State.{State}
+use Rattle.nl_pseg.proofs.News.{new_formed, new_seen}
+use Rattle.nl_pseg.proofs.Shapes.{IsRoomy, is_roomy}
+use Rattle.nl_pseg.proofs.state.State.new.Goals as goal
+
+pub new-requires-clause-numbers : goal.new-requires-clause-numbers
+new-requires-clause-numbers c =
+    let roomy = subst IsRoomy (sym c.requires.numbers) (is_roomy c.args.shape.now.blocks c.args.shape.now.pages c.requires.legal) in
+    subst (λ n. n * c.args.shape.now.pages < 2 ^ 32) (sym roomy.all) roomy.numbers
+
+pub returns-clause-formed : goal.returns-clause-formed
+returns-clause-formed c =
+    let roomy = subst IsRoomy (sym c.requires.numbers) (is_roomy c.args.shape.now.blocks c.args.shape.now.pages c.requires.legal) in
+    new_formed c.args.shape.now roomy _ c.in_ok-new.ensures c.in_ok-no_pages.ensures c.in_ok-no_marks.ensures refl refl
+
+pub returns-clause-seen : goal.returns-clause-seen
+returns-clause-seen c =
+    let roomy = subst IsRoomy (sym c.requires.numbers) (is_roomy c.args.shape.now.blocks c.args.shape.now.pages c.requires.legal) in
+    let x : State = record { held = c.in_ok-no_pages.field-0; blocks = c.in_ok-new.field-0; soiled = c.in_ok-no_marks.field-0; active = c.args.shape.now.vblocks; used = c.args.shape.now.pages; buf = c.in_ok-new-2.field-0 } in
+    new_seen c.args.shape.now roomy x c.in_ok-new.ensures c.in_ok-no_pages.ensures c.in_ok-no_marks.ensures refl refl

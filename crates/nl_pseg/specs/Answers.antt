@@ -1,0 +1,46 @@
+-- When the calls answer what.
+use Rattle.std.specs.Prelude.{◌≡◌, ℕ, ⊤, Option, Some}
+use Rattle.nl_field.specs.Page.{PageBytes, written}
+use Rattle.nl_field.specs.declared.answers.Named.{Named}
+use Rattle.nl_field.specs.declared.answers.Named.TheVariants as write
+use Rattle.nl_field.specs.declared.answers.NamedRead.{NamedRead}
+use Rattle.nl_field.specs.declared.answers.NamedRead.TheVariants as read
+use Rattle.nl_field.specs.declared.pointer.Pointer.{Pointer}
+use Rattle.nl_field.specs.declared.pointer.Tag.{Tag}
+use Rattle.nl_pseg.specs.Pages.{shown_by}
+use Rattle.nl_pseg.specs.declared.held.Held.{Held}
+
+abbrev pub IfPlaced : Named → (Pointer → Type 0) → Type 0
+IfPlaced (write.Placed at) P = P at
+IfPlaced write.NotLive P = ⊤
+IfPlaced write.NoPage P = ⊤
+IfPlaced write.Fault P = ⊤
+
+abbrev pub IsPlaced : Named → Type 0
+IsPlaced (write.Placed at) = ⊤
+IsPlaced write.NotLive = ⊥
+IsPlaced write.NoPage = ⊥
+IsPlaced write.Fault = ⊥
+
+abbrev pub IsFault : Named → Type 0
+IsFault answer = answer ≡ write.Fault
+
+-- it placed a page, or the medium failed
+abbrev pub IsTried : Named → Type 0
+IsTried (write.Placed at) = ⊤
+IsTried write.NotLive = ⊥
+IsTried write.NoPage = ⊥
+IsTried write.Fault = ⊤
+
+-- where it placed a page, it named this one, under this write sequence number
+abbrev pub Names : ℕ → ℕ → Named → Type 0
+Names page stamp answer = IfPlaced answer (λ at. at ≡ record { name = page; stamp = stamp })
+
+-- What a read answers of a page that holds this, and what the buffer then has: NotLive exactly where nothing of that number is
+-- live. Done where the page read has the owner and the number that were asked for, and the live page has that owner. Lost with
+-- the number that is wanted and another one that was found.
+abbrev pub ReadsHeld : Option Held → Tag → ℕ → PageBytes → NamedRead → Type 0
+ReadsHeld held tag stamp buf read.Done = (held ≡ Some (record { tag = tag; stamp = stamp })) × (shown_by (written buf) ≡ Some (tag, stamp, buf.main))
+ReadsHeld held tag stamp buf read.NotLive = (h : Held) → held ≡ Some h → h.stamp ≡ stamp → ⊥
+ReadsHeld held tag stamp buf (read.Lost w f) = ((h : Held) × (held ≡ Some h) × (h.stamp ≡ stamp)) × (w ≡ stamp) × (f ≡ w → ⊥)
+ReadsHeld held tag stamp buf read.Fault = (h : Held) × (held ≡ Some h) × (h.stamp ≡ stamp)

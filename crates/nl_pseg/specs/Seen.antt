@@ -1,0 +1,99 @@
+-- The segment that a state is.
+use Rattle.std.specs.Prelude.{◌≡◌, ℕ, ◌+◌, ◌-◌, ◌*◌, ◌/◌, ◌^◌, ◌<◌, ◌≤◌, Bool, true, false, [], length, map, replicate, slice_index_or, Some, None, IsTrue, Option, List}
+use Rattle.nl_field.specs.Spelling.{is_stamp}
+use Rattle.nl_field.specs.declared.shape.Shape.{Shape}
+use Rattle.nl_nand.specs.declared.geometry.Geometry.{Geometry}
+use Rattle.nl_blocks.specs.declared.states.BlockState.{BlockState}
+use Rattle.nl_blocks.specs.declared.states.BlockState.TheVariants.{Free, Active, Target, Sealed, Victim, Retired}
+use Rattle.nl_blocks.specs.declared.states.PageState.{PageState}
+use Rattle.nl_blocks.specs.declared.states.PageState.TheVariants.{Dead, Live}
+use Rattle.nl_blocks.specs.Table.{BlockRow, Table, HasBlock, block_at, is_free, free_count, HasPage, page_at}
+use Rattle.nl_pseg.specs.Segment.{Physical, Use, InSegment, IsNext, held_at, use_at}
+use Rattle.nl_pseg.specs.declared.held.Held.{Held}
+use Rattle.nl_pseg.specs.declared.state.State.{State}
+
+abbrev pub is_kept_state : BlockState → Bool
+is_kept_state Free = true
+is_kept_state Active = false
+is_kept_state Target = false
+is_kept_state Sealed = false
+is_kept_state Victim = true
+is_kept_state (Retired names) = true
+
+abbrev pub use_of : BlockRow → Use
+use_of row = record { is_free = is_free row; is_kept = is_kept_state row.state; wear = row.wear }
+
+-- the use of a block that is Free, or else in use
+abbrev pub use_with : Bool → ℕ → Use
+use_with free wear = record { is_free = free; is_kept = free; wear = wear }
+
+-- what a block of the table is good for
+abbrev pub use_in : Table → ℕ → Use
+use_in table block = use_at table.first (map use_of table.blocks) block
+
+abbrev pub seen : State → Physical
+seen s = record {
+  first = s.blocks.first;
+  blocks = s.blocks.first + length s.blocks.blocks;
+  size = s.blocks.size;
+  held = s.held.items;
+  pairs = [];
+  pair_room = 0;
+  next = s.active * s.blocks.size + s.used;
+  left = s.blocks.size - s.used;
+  free = free_count s.blocks;
+  uses = map use_of s.blocks.blocks;
+  soiled = s.soiled.items;
+}
+
+-- the segment of a shape, of which no page was used
+abbrev pub new_segment : Shape → Physical
+new_segment shape = record {
+  first = shape.vblocks;
+  blocks = shape.blocks;
+  size = shape.pages;
+  held = replicate (shape.blocks * shape.pages) None;
+  pairs = [];
+  pair_room = 0;
+  next = shape.vblocks * shape.pages + shape.pages;
+  left = 0;
+  free = shape.pblocks;
+  uses = replicate shape.pblocks (use_with true 0);
+  soiled = replicate shape.blocks None;
+}
+
+-- A live page is one of the segment, in a block that is not Free, and not one of those that are programmed next.
+pub record IsPlace (seg : Physical) (page : ℕ) (h : Held) : Type 0 where
+  pub within : InSegment seg page
+  pub in_use : (use_at seg.first seg.uses (page / seg.size)).is_free ≡ false
+  pub behind : IsNext seg page → ⊥
+  pub spelled : IsTrue (is_stamp h.stamp)
+
+pub record ArePlaces (seg : Physical) : Type 0 where
+  pub each : (page : ℕ) (h : Held) → held_at seg page ≡ Some h → IsPlace seg page h
+
+abbrev pub state_for : Option Held → PageState
+state_for None = Dead
+state_for (Some h) = Live
+
+-- each page is marked as it is: live, or dead
+pub record AreMarked (table : Table) (held : List (Option Held)) : Type 0 where
+  pub each : (page : ℕ) → HasPage table page → (page_at table page).state ≡ state_for (slice_index_or held page None)
+
+-- what holds of every state
+pub record IsFormed (s : State) : Type 0 where
+  pub some : 0 < s.blocks.size
+  pub numbers : (s.blocks.first + length s.blocks.blocks) * s.blocks.size < 2 ^ 32
+  pub pages : length s.held.items ≡ (s.blocks.first + length s.blocks.blocks) * s.blocks.size
+  pub marks : length s.soiled.items ≡ s.blocks.first + length s.blocks.blocks
+  pub active_in : HasBlock s.blocks s.active
+  pub used_fits : s.used ≤ s.blocks.size
+  pub taken : s.used < s.blocks.size → (block_at s.blocks s.active).state ≡ Active
+  pub only_free : (block : ℕ) → (use_in s.blocks block).is_kept ≡ (use_in s.blocks block).is_free
+  pub places : ArePlaces (seen s)
+  pub marked : AreMarked s.blocks s.held.items
+
+-- the medium has the pages of the segment's blocks, and at least as many blocks
+pub record Fits (geometry : Geometry) (seg : Physical) : Type 0 where
+  pub pages : geometry.pages ≡ seg.size
+  pub blocks : seg.blocks ≤ geometry.blocks

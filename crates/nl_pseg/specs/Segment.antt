@@ -1,0 +1,151 @@
+-- A physical segment: which pages are live, where names lead, and which pages can be programmed next.
+use Rattle.std.specs.Prelude.{◌≡◌, ◌⊎◌, ℕ, ◌+◌, ◌-◌, ◌*◌, ◌/◌, ◌<◌, ◌≤◌, ◌==◌, not, nat_le, if◌then◌else◌, Bool, true, false, cond, List, filter, slice_index_or, Contains, Option, Some, None, is_some, option_map}
+use Rattle.nl_field.specs.Live.{resolve}
+use Rattle.nl_field.specs.Page.{Image, erased, page_at}
+use Rattle.nl_field.specs.declared.pointer.Pointer.{Pointer}
+use Rattle.nl_pseg.specs.Pages.{shown_by, main_of}
+use Rattle.nl_pseg.specs.declared.held.Held.{Held}
+
+-- What a block is good for: whether it is Free, whether it is kept for the cleaner, as it is Free or will be, and how often it was
+-- erased as a page of it is programmed next.
+pub record Use : Type 0 where
+  pub is_free : Bool
+  pub is_kept : Bool
+  pub wear : ℕ
+
+-- The blocks of the segment go from `first` on, and `blocks` is the number behind the last one. Pages go by their numbers on
+-- the medium.
+pub record Physical : Type 0 where
+  pub first : ℕ
+  pub blocks : ℕ
+  -- the pages of a block
+  pub size : ℕ
+  -- what each page of the medium holds that is live
+  pub held : List (Option Held)
+  -- old names, each with the page that it leads to
+  pub pairs : List (ℕ × ℕ)
+  -- for how many more pairs there is room
+  pub pair_room : ℕ
+  -- the page that is programmed next, and how many pages from it on are not used in its block
+  pub next : ℕ
+  pub left : ℕ
+  -- how many blocks are Free
+  pub free : ℕ
+  -- what each block of the segment is good for
+  pub uses : List Use
+  -- for each block of the medium, how often it was erased, where it was told not to read as erased and was not erased since
+  pub soiled : List (Option ℕ)
+
+abbrev pub no_use : Use
+no_use = record { is_free = false; is_kept = false; wear = 0 }
+
+-- the use of a block, where the list begins with that of block `first`
+unfoldable pub use_at : ℕ → List Use → ℕ → Use
+use_at first uses block = if nat_le first block then slice_index_or uses (block - first) no_use else no_use
+
+abbrev pub is_free : Physical → ℕ → Bool
+is_free seg block = (use_at seg.first seg.uses block).is_free
+
+abbrev pub is_kept : Physical → ℕ → Bool
+is_kept seg block = (use_at seg.first seg.uses block).is_kept
+
+abbrev pub wear_of : Physical → ℕ → ℕ
+wear_of seg block = (use_at seg.first seg.uses block).wear
+
+-- how often the block was erased, where it was told not to read as erased and was not erased since
+abbrev pub soiled : Physical → ℕ → Option ℕ
+soiled seg block = slice_index_or seg.soiled block None
+
+-- what is live on a page
+abbrev pub held_at : Physical → ℕ → Option Held
+held_at seg page = slice_index_or seg.held page None
+
+abbrev pub stamp_in : Option Held → Option ℕ
+stamp_in held = option_map (λ h. h.stamp) held
+
+-- the name leads to a live page of this write sequence number
+abbrev pub IsLive : Physical → Pointer → Type 0
+IsLive seg at = stamp_in (held_at seg (resolve seg.pairs at.name)) ≡ Some at.stamp
+
+-- the page is one of the segment
+abbrev pub InSegment : Physical → ℕ → Type 0
+InSegment seg page = (seg.first * seg.size ≤ page) × (page < seg.blocks * seg.size)
+
+-- the page is one of the segment, and not live
+pub record IsDead (seg : Physical) (page : ℕ) : Type 0 where
+  pub within : InSegment seg page
+  pub dead : held_at seg page ≡ None
+
+-- no live page has this write sequence number
+abbrev pub IsNewStamp : Physical → ℕ → Type 0
+IsNewStamp seg stamp = (page : ℕ) (h : Held) → held_at seg page ≡ Some h → h.stamp ≡ stamp → ⊥
+
+-- the name is the old name of a pair
+abbrev pub IsOldName : Physical → ℕ → Type 0
+IsOldName seg name = (target : ℕ) × Contains seg.pairs (name, target)
+
+-- A pair can be added under this name: there is room, and the name is neither a live page nor an old name.
+pub record CanLead (seg : Physical) (name : ℕ) : Type 0 where
+  pub room : 0 < seg.pair_room
+  pub dead : held_at seg name ≡ None
+  pub fresh : IsOldName seg name → ⊥
+
+-- the pairs but those that lead to this page
+abbrev pub without_target : ℕ → List (ℕ × ℕ) → List (ℕ × ℕ)
+without_target page pairs = filter (λ (pair : ℕ × ℕ). not (pair.1 == page)) pairs
+
+-- How many pages can be programmed for new names: those that are not used in the block that is written to, and those of the
+-- Free blocks but one.
+abbrev pub room : Physical → ℕ
+room seg = seg.left + (seg.free - 1) * seg.size
+
+-- a block is kept for the cleaner
+pub record KeepsBlock (seg : Physical) : Type 0 where
+  pub block : ℕ
+  pub kept : is_kept seg block ≡ true
+
+-- the block was told not to read as erased, and was not erased since
+abbrev pub is_soiled : Physical → ℕ → Bool
+is_soiled seg block = is_some (soiled seg block)
+
+-- no Free block has to be erased before use
+abbrev pub IsClean : Physical → Type 0
+IsClean seg = (block : ℕ) → is_free seg block ≡ true → is_soiled seg block ≡ false
+
+-- the page for the next new name is programmed with no erase before it
+abbrev pub IsReady : Physical → Type 0
+IsReady seg = (0 < seg.left) ⊎ IsClean seg
+
+-- the page is one of those that are programmed next
+abbrev pub IsNext : Physical → ℕ → Type 0
+IsNext seg page = (seg.next ≤ page) × (page < seg.next + seg.left)
+
+-- the segment takes the page as erased
+abbrev pub TakenAsErased : Physical → ℕ → Type 0
+TakenAsErased seg page = IsNext seg page ⊎ ((is_free seg (page / seg.size) ≡ true) × (is_soiled seg (page / seg.size) ≡ false))
+
+-- The image is one of this segment: each live page holds its owner and its number, and what the segment takes as erased is erased.
+pub record IsPhysicalOf (image : Image) (seg : Physical) : Type 0 where
+  pub holds : (page : ℕ) (h : Held) → held_at seg page ≡ Some h → shown_by (page_at image page) ≡ Some (h.tag, h.stamp, main_of (page_at image page))
+  pub blank : (page : ℕ) → TakenAsErased seg page → page_at image page ≡ erased
+
+-- the same blocks and pages
+pub record SamePages (old new : Physical) : Type 0 where
+  pub same_first : new.first ≡ old.first
+  pub same_blocks : new.blocks ≡ old.blocks
+  pub same_size : new.size ≡ old.size
+  pub same_wear : (block : ℕ) → wear_of new block ≡ wear_of old block
+
+-- One page was given out: from the block that is written to, or from a Free block where that one is full.
+pub record IsSpent (old new : Physical) : Type 0 where
+  pub room : room new + 1 ≡ room old
+  pub taken : new.free + cond (nat_le 1 old.left) 0 1 ≡ old.free
+
+-- no page was given out
+pub record IsUnspent (old new : Physical) : Type 0 where
+  pub next : new.next ≡ old.next
+  pub left : new.left ≡ old.left
+  pub free : new.free ≡ old.free
+  pub same_free : (block : ℕ) → is_free new block ≡ is_free old block
+  pub same_kept : (block : ℕ) → is_kept new block ≡ is_kept old block
+  pub same_soiled : (block : ℕ) → soiled new block ≡ soiled old block

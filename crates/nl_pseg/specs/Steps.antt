@@ -1,0 +1,129 @@
+-- What the steps of a call do to the table of blocks and to the segment.
+use Rattle.std.specs.Prelude.{◌≡◌, ◌⊎◌, ℕ, ◌+◌, ◌*◌, ◌/◌, ◌<◌, ◌≤◌, Bool, true, false, cond, List, length, slice_set, Option, None}
+use Rattle.nl_field.specs.CrashStates.{LeavesOnly}
+use Rattle.nl_field.specs.Page.{Image, Page, erased, written, page_at}
+use Rattle.nl_field.specs.declared.answers.Named.{Named}
+use Rattle.nl_field.specs.declared.pointer.Pointer.{Pointer}
+use Rattle.nl_field.specs.declared.pointer.Tag.{Tag}
+use Rattle.nl_nand.specs.declared.answers.WriteAnswer.{WriteAnswer}
+use Rattle.nl_nand.specs.declared.answers.WriteAnswer.TheVariants as wrote
+use Rattle.nl_blocks.specs.declared.states.PageState.{PageState}
+use Rattle.nl_blocks.specs.Table.{Table, HasBlock, block_at, free_count, HasPage}
+use Rattle.nl_blocks.specs.Table.{page_at as page_in}
+use Rattle.nl_pseg.specs.Answers.{IfPlaced, IsFault, IsPlaced}
+use Rattle.nl_pseg.specs.Effects.{Crashes, Keeps, Programmed}
+use Rattle.nl_pseg.specs.Pages.{page_with}
+use Rattle.nl_pseg.specs.Segment.{Physical, IsClean, IsDead, IsNext, IsPhysicalOf, IsReady, IsSpent, IsUnspent, KeepsBlock, SamePages, is_free, is_soiled, soiled, use_at, wear_of}
+use Rattle.nl_pseg.specs.Seen.{use_in, use_with}
+use Rattle.nl_pseg.specs.declared.held.Held.{Held}
+
+-- as many blocks, with the same numbers
+pub record SameNumbers (old new : Table) : Type 0 where
+  pub same_first : new.first ≡ old.first
+  pub same_size : new.size ≡ old.size
+  pub same_count : length new.blocks ≡ length old.blocks
+
+-- each block has the same use
+pub record SameUse (old new : Table) : Type 0 where
+  pub numbers : SameNumbers old new
+  pub uses : (block : ℕ) → use_in new block ≡ use_in old block
+  pub total : free_count new ≡ free_count old
+
+-- each page is as live as it was
+pub record SameMarks (old new : Table) : Type 0 where
+  pub same : (page : ℕ) → HasPage old page → (page_in new page).state ≡ (page_in old page).state
+
+-- one page is live now, or not, and the others are as before
+pub record IsMarked (page : ℕ) (state : PageState) (old new : Table) : Type 0 where
+  pub here : (page_in new page).state ≡ state
+  pub others : (other : ℕ) → HasPage old other → (other ≡ page → ⊥) → (page_in new other).state ≡ (page_in old other).state
+
+-- one block is Free now, or in use, and has this wear; the others are as before
+pub record Restated (block : ℕ) (free : Bool) (wear : ℕ) (old new : Table) : Type 0 where
+  pub numbers : SameNumbers old new
+  pub here : use_in new block ≡ use_with free wear
+  pub others : (other : ℕ) → (other ≡ block → ⊥) → use_in new other ≡ use_in old other
+  pub states : (other : ℕ) → HasBlock old other → (other ≡ block → ⊥) → (block_at new other).state ≡ (block_at old other).state
+  pub total : free_count new + cond (use_in old block).is_free 1 0 ≡ free_count old + cond free 1 0
+  pub marks : SameMarks old new
+
+-- the same blocks and pages
+pub record SameRange (old new : Physical) : Type 0 where
+  pub range_first : new.first ≡ old.first
+  pub range_blocks : new.blocks ≡ old.blocks
+  pub range_size : new.size ≡ old.size
+
+-- Apart from one block, what is taken as erased stays. Nothing of that block is taken as erased then.
+pub record IsApart (block : ℕ) (old new : Physical) : Type 0 where
+  pub range : SameRange old new
+  pub next : new.next ≡ old.next
+  pub left : new.left ≡ old.left
+  pub idle : (p : ℕ) → IsNext old p → p / old.size ≡ block → ⊥
+  pub others_free : (other : ℕ) → (other ≡ block → ⊥) → is_free new other ≡ is_free old other
+  pub others_soiled : (other : ℕ) → (other ≡ block → ⊥) → soiled new other ≡ soiled old other
+  pub gone : is_free new block ≡ true → is_soiled new block ≡ false → ⊥
+
+-- the next page was used: it holds this
+pub record IsUsed (x : Option Held) (old new : Physical) : Type 0 where
+  pub pages : SamePages old new
+  pub held : new.held ≡ slice_set old.held old.next x
+  pub next : new.next ≡ old.next + 1
+  pub left : new.left + 1 ≡ old.left
+  pub free : new.free ≡ old.free
+  pub uses : (block : ℕ) → use_at new.first new.uses block ≡ use_at old.first old.uses block
+  pub soiled : new.soiled ≡ old.soiled
+
+-- the segment where this block is written to, and no page of it is used
+abbrev pub opened_at : Physical → ℕ → Physical
+opened_at seg block = record seg { next = block * seg.size; left = seg.size; soiled = slice_set seg.soiled block None }
+
+-- A Free block is written to now, where none was before.
+pub record IsOpened (block : ℕ) (old new : Physical) : Type 0 where
+  pub pages : SamePages old new
+  pub held : new.held ≡ old.held
+  pub full : old.left ≡ 0
+  pub was_free : is_free old block ≡ true
+  pub next : new.next ≡ block * old.size
+  pub left : new.left ≡ old.size
+  pub free : new.free + 1 ≡ old.free
+  pub some : 1 ≤ new.free
+  pub kept : KeepsBlock new
+  pub here : is_free new block ≡ false
+  pub others : (other : ℕ) → (other ≡ block → ⊥) → use_at new.first new.uses other ≡ use_at old.first old.uses other
+  pub soiled : new.soiled ≡ slice_set old.soiled block None
+
+-- What was done to have a page to program: nothing where there was one, else a Free block is written to. Where it failed, no page
+-- was given out.
+abbrev pub Opening : WriteAnswer → Physical → Physical → Type 0
+Opening wrote.Done old new = ((0 < old.left) × (new ≡ old)) ⊎ ((block : ℕ) × IsOpened block old new)
+Opening wrote.Failed old new = SamePages old new × (new.held ≡ old.held) × IsUnspent old new × (IsReady old → ⊥)
+
+-- and to the medium: the page that is programmed next is erased, and only pages of its block have changed, where that had to be
+-- erased
+pub record OpeningOn {M : Type 0} (clock : M → ℕ) (contents : M → Image) (left : M → ℕ → Image → Type 0) (answer : WriteAnswer) (seg seg_new : Physical) (old new : M) : Type 0 where
+  pub segment : IsPhysicalOf (contents new) seg_new
+  pub keeps : Keeps seg (contents old) (contents new)
+  pub crash : LeavesOnly clock left old new (λ m c. Keeps seg (contents old) c)
+  pub others : answer ≡ wrote.Done → (p : ℕ) → (page_at (contents new) p ≡ page_at (contents old) p)
+      ⊎ ((p / seg.size ≡ seg_new.next / seg.size) × (is_free seg (seg_new.next / seg.size) ≡ true) × (is_soiled seg (seg_new.next / seg.size) ≡ true) × (page_at (contents new) p ≡ erased))
+
+-- what placing a page does to the segment, where it then has these live pages
+pub record Placing (stamp : ℕ) (now : Pointer → List (Option Held)) (answer : Named) (old new : Physical) : Type 0 where
+  pub pages : SamePages old new
+  pub placed : IfPlaced answer (λ at. IsDead old at.name × (at.stamp ≡ stamp))
+  pub held : IfPlaced answer (λ at. new.held ≡ now at)
+  pub same : (IsPlaced answer → ⊥) → new.held ≡ old.held
+  pub spent : IsPlaced answer → IsSpent old new
+  pub failed : IsFault answer → IsSpent old new ⊎ (IsUnspent old new × (IsReady old → ⊥))
+  pub clean : IsClean old → IsClean new
+  pub kept : KeepsBlock old → KeepsBlock new
+
+-- one page was programmed, and no other changed
+pub record IsAlone (page : ℕ) (value : Page) (old new : Image) : Type 0 where
+  pub has : page_at new page ≡ value
+  pub others : (p : ℕ) → (p ≡ page → ⊥) → page_at new p ≡ page_at old p
+
+-- what it does to the medium
+pub record PlacingOn {M : Type 0} (clock : M → ℕ) (contents : M → Image) (left : M → ℕ → Image → Type 0) (tag : Tag) (stamp : ℕ) (main : List ℕ) (answer : Named) (seg : Physical) (old new : M) : Type 0 where
+  pub programmed : IfPlaced answer (λ at. Programmed seg at.name (written (page_with main tag stamp (wear_of seg (at.name / seg.size)))) (contents old) (contents new))
+  pub crash : Crashes clock contents left seg tag stamp main old new answer

@@ -1,0 +1,95 @@
+ghost use Rattle.std.specs.Prelude.{◌≡◌, ◌↔◌, ◌<◌, [], slice_set, slice_index_or, None, IsSome, IfSome, IsTrue};
+ghost use Rattle.std.specs.Bool.{OnTrue, OnFalse};
+ghost use Rattle.nl_field.specs.Live.{resolve};
+ghost use Rattle.nl_field.specs.Page.{Image};
+ghost use Rattle.nl_blocks.specs.Table.{free_count};
+ghost use Rattle.nl_pseg.specs.Segment.{InSegment, IsLive, IsPhysicalOf, IsUnspent, SamePages};
+ghost use Rattle.nl_pseg.specs.Seen.{seen, IsFormed};
+
+use crate::held::Held;
+use crate::state::State;
+use crate::table::mark;
+use nl_field::Pointer;
+
+impl State {
+    /// The page to which the name leads.
+    pub fn resolve(&self, name: u32) -> u32
+        ensures { result ≡ resolve [] name }
+    {
+        name
+    }
+
+    pub fn free_blocks(&self) -> u32
+        ensures { result ≡ free_count self.now.blocks }
+    {
+        self.blocks.free()
+    }
+
+    /// The number of pairs.
+    pub fn pairs(&self) -> u32
+        ensures { result ≡ 0 }
+    {
+        0
+    }
+
+    /// What is live on a page.
+    pub fn live_on(&self, page: u32) -> Option<Held>
+        ensures { result ≡ slice_index_or self.now.held.items page None }
+    {
+        if page as usize >= self.held.len() {
+            return None;
+        }
+        self.held[page as usize]
+    }
+
+    /// The page to which the pointer leads, where it is live under the pointer's number.
+    pub fn place_of(&self, at: Pointer) -> Option<u32>
+        requires { IsFormed self.now }
+        ensures some { IfSome result (λ place. place ≡ resolve [] at.name) }
+        ensures within { IfSome result (λ place. InSegment (seen self.now) place) }
+        ensures live { IsSome result ↔ IsLive (seen self.now) at }
+    {
+        let place = self.resolve(at.name);
+        match self.live_on(place) {
+            None => None,
+            Some(held) => {
+                if held.stamp == at.stamp {
+                    Some(place)
+                } else {
+                    None
+                }
+            }
+        }
+    }
+
+    /// A live page is dead.
+    pub fn end(&mut self, page: u32)
+        requires formed { IsFormed self.old }
+        requires within { InSegment (seen self.old) page }
+        ensures formed { IsFormed self.new }
+        ensures held { self.new.held.items ≡ slice_set self.old.held.items page None }
+        ensures pages { SamePages (seen self.old) (seen self.new) }
+        ensures space { IsUnspent (seen self.old) (seen self.new) }
+    {
+        mark(&mut self.blocks, page, false);
+        self.held[page as usize] = None;
+    }
+
+    /// The page to which the pointer leads is dead. False exactly where it leads to no live page of its number.
+    pub fn free(&mut self, at: Pointer) -> bool
+        requires formed { IsFormed self.old }
+        ensures formed { IsFormed self.new }
+        ensures found { IsTrue result ↔ IsLive (seen self.old) at }
+        ensures freed { OnTrue result (self.new.held.items ≡ slice_set self.old.held.items (resolve [] at.name) None) }
+        ensures pages { SamePages (seen self.old) (seen self.new) }
+        ensures space { IsUnspent (seen self.old) (seen self.new) }
+        ensures segment { (image : Image) → IsPhysicalOf image (seen self.old) → IsPhysicalOf image (seen self.new) }
+        ensures kept { OnFalse result (seen self.new ≡ seen self.old) }
+    {
+        let Some(place) = self.place_of(at) else {
+            return false;
+        };
+        self.end(place);
+        true
+    }
+}

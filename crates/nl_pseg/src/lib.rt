@@ -1,0 +1,19 @@
+//! Pages whose place the device picks: each is named by the page that was programmed, and read by its name and its write
+//! sequence number.
+#![tactic(auto)]
+
+mod find;
+mod held;
+mod open;
+mod pages;
+mod pseg;
+mod read;
+mod room;
+mod state;
+mod table;
+#[cfg(test)]
+mod tests;
+mod write;
+
+pub use held::Held;
+pub use pseg::PSeg;

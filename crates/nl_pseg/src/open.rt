@@ -1,0 +1,94 @@
+ghost use Rattle.std.specs.Prelude.{◌≡◌, ◌⊎◌, ℕ, ◌+◌, ◌*◌, ◌/◌, ◌<◌, ◌≤◌, ◌^◌, min, cond, ◌-◌, true, false, length, slice_set, slice_index_or, None, Some, unwrap_or, IsTrue};
+ghost use Rattle.nl_field.specs.Spelling.{is_stamp};
+ghost use Rattle.nl_blocks.specs.Table.{HasBlock, free_count};
+ghost use Rattle.nl_pseg.specs.Segment.{IsDead, TakenAsErased};
+ghost use Rattle.nl_pseg.specs.Seen.{seen, use_in, IsFormed};
+
+use crate::held::Held;
+use crate::state::State;
+use crate::table::{mark, shut, tell};
+use nl_field::Tag;
+
+impl State {
+    /// Nothing more is programmed in this block before it is erased.
+    fn close(&mut self, block: u32)
+        requires { IsFormed self.old }
+        ensures formed { IsFormed self.new }
+        ensures held { self.new.held.items ≡ self.old.held.items }
+        ensures table { self.new.blocks ≡ self.old.blocks }
+        ensures soiled { self.new.soiled.items ≡ self.old.soiled.items }
+        ensures active { self.new.active ≡ self.old.active }
+        ensures used { self.old.used ≤ self.new.used }
+        ensures left { self.new.blocks.size - self.new.used ≤ self.old.blocks.size - self.old.used }
+        ensures idle { self.new.used < self.new.blocks.size → block ≡ self.new.active → ⊥ }
+        ensures erased { (p : ℕ) → TakenAsErased (seen self.new) p → TakenAsErased (seen self.old) p }
+        ensures still { (p : ℕ) → TakenAsErased (seen self.old) p → (p / self.old.blocks.size ≡ block → ⊥) → TakenAsErased (seen self.new) p }
+    {
+        if block == self.active {
+            self.used = self.blocks.pages();
+        }
+    }
+
+    /// How often a block was erased, where it is not erased before use.
+    fn wear(&self, block: u32) -> u32
+        requires has { HasBlock self.now.blocks block }
+        requires within { block < length self.now.soiled.items }
+        ensures { result ≡ unwrap_or (slice_index_or self.now.soiled.items block None) (use_in self.now.blocks block).wear }
+    {
+        match self.soiled[block as usize] {
+            Some(wear) => wear,
+            None => self.blocks.wear(block),
+        }
+    }
+
+    pub fn load(&mut self, page: u32, stamp: u64, tag: Tag)
+        requires formed { IsFormed self.old }
+        requires dead { IsDead (seen self.old) page }
+        requires stamp { IsTrue (is_stamp stamp) }
+        ensures formed { IsFormed self.new }
+        ensures held { self.new.held.items ≡ slice_set self.old.held.items page (Some (record { tag = tag; stamp = stamp })) }
+        ensures first { self.new.blocks.first ≡ self.old.blocks.first }
+        ensures blocks { self.new.blocks.first + length self.new.blocks.blocks ≡ self.old.blocks.first + length self.old.blocks.blocks }
+        ensures pages { self.new.blocks.size ≡ self.old.blocks.size }
+        ensures here { (use_in self.new.blocks (page / self.old.blocks.size)).is_free ≡ false }
+        ensures free { free_count self.new.blocks + cond ((use_in self.old.blocks (page / self.old.blocks.size)).is_free) 1 0 ≡ free_count self.old.blocks }
+        ensures others { (block : ℕ) → (block ≡ page / self.old.blocks.size → ⊥) → ((use_in self.new.blocks block).is_free ≡ (use_in self.old.blocks block).is_free) × ((use_in self.new.blocks block).is_kept ≡ (use_in self.old.blocks block).is_kept) }
+        ensures left { (seen self.new).left ≤ (seen self.old).left }
+        ensures soiled { self.new.soiled.items ≡ self.old.soiled.items }
+        ensures wear { (use_in self.new.blocks (page / self.old.blocks.size)).wear ≡ unwrap_or (slice_index_or self.old.soiled.items (page / self.old.blocks.size) None) ((use_in self.old.blocks (page / self.old.blocks.size)).wear) }
+        ensures wears { (block : ℕ) → (block ≡ page / self.old.blocks.size → ⊥) → (use_in self.new.blocks block).wear ≡ (use_in self.old.blocks block).wear }
+        ensures erased { (p : ℕ) → TakenAsErased (seen self.new) p → TakenAsErased (seen self.old) p × (p / self.old.blocks.size ≡ page / self.old.blocks.size → ⊥) }
+        ensures still { (p : ℕ) → TakenAsErased (seen self.old) p → (p / self.old.blocks.size ≡ page / self.old.blocks.size → ⊥) → TakenAsErased (seen self.new) p }
+    {
+        let block = page / self.blocks.pages();
+        self.close(block);
+        let wear = self.wear(block);
+        shut(&mut self.blocks, block, wear);
+        mark(&mut self.blocks, page, true);
+        self.held[page as usize] = Some(Held { tag, stamp });
+    }
+
+    pub fn soil(&mut self, block: u32, wear: u32)
+        requires formed { IsFormed self.old }
+        requires within { HasBlock self.old.blocks block }
+        ensures formed { IsFormed self.new }
+        ensures held { self.new.held.items ≡ self.old.held.items }
+        ensures first { self.new.blocks.first ≡ self.old.blocks.first }
+        ensures blocks { self.new.blocks.first + length self.new.blocks.blocks ≡ self.old.blocks.first + length self.old.blocks.blocks }
+        ensures pages { self.new.blocks.size ≡ self.old.blocks.size }
+        ensures used { self.old.used ≤ self.new.used }
+        ensures free { free_count self.new.blocks ≡ free_count self.old.blocks }
+        ensures left { (seen self.new).left ≤ (seen self.old).left }
+        ensures same { (other : ℕ) → ((use_in self.new.blocks other).is_free ≡ (use_in self.old.blocks other).is_free) × ((use_in self.new.blocks other).is_kept ≡ (use_in self.old.blocks other).is_kept) }
+        ensures soiled { slice_index_or self.new.soiled.items block None ≡ Some wear }
+        ensures others { (other : ℕ) → (other ≡ block → ⊥) → slice_index_or self.new.soiled.items other None ≡ slice_index_or self.old.soiled.items other None }
+        ensures wear { (use_in self.new.blocks block).wear ≡ cond ((use_in self.old.blocks block).is_free) (min (wear + 1) (2 ^ 32 - 1)) wear }
+        ensures wears { (other : ℕ) → (other ≡ block → ⊥) → (use_in self.new.blocks other).wear ≡ (use_in self.old.blocks other).wear }
+        ensures erased { (p : ℕ) → TakenAsErased (seen self.new) p → TakenAsErased (seen self.old) p × (p / self.old.blocks.size ≡ block → ⊥) }
+        ensures still { (p : ℕ) → TakenAsErased (seen self.old) p → (p / self.old.blocks.size ≡ block → ⊥) → TakenAsErased (seen self.new) p }
+    {
+        self.close(block);
+        tell(&mut self.blocks, block, wear);
+        self.soiled[block as usize] = Some(wear);
+    }
+}

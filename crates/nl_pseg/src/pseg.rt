@@ -1,0 +1,249 @@
+ghost use Rattle.std.specs.Prelude.{◌≡◌, ◌⊎◌, ℕ, ◌+◌, ◌-◌, ◌*◌, ◌/◌, ◌<◌, ◌≤◌, ◌↔◌, Bool, true, false, cond, min, ◌^◌, [], length, slice_set, replicate, None, Some, unwrap_or, IsTrue, IfOk};
+ghost use Rattle.std.specs.Bool.{OnTrue, OnFalse};
+ghost use Rattle.nl_field.specs.Live.{resolve};
+ghost use Rattle.nl_field.specs.Numbers.{is_legal, shape_for};
+ghost use Rattle.nl_field.specs.Page.{Image, page_at, written};
+ghost use Rattle.nl_field.specs.Spelling.{is_stamp};
+ghost use Rattle.nl_nand.specs.Nand.{FaultsCounted, SameLeft};
+ghost use Rattle.nl_pseg.specs.Answers.{IfPlaced, IsFault, IsPlaced, ReadsHeld};
+ghost use Rattle.nl_pseg.specs.Effects.{Counted, Crashes, Programmed};
+ghost use Rattle.nl_pseg.specs.Pages.{page_with};
+ghost use Rattle.nl_pseg.specs.Segment.{CanLead, InSegment, IsClean, IsDead, IsLive, IsNewStamp, IsOldName, IsPhysicalOf, IsReady, IsSpent, IsUnspent, KeepsBlock, SamePages, TakenAsErased, held_at, is_free, is_kept, room, soiled, wear_of, without_target};
+ghost use Rattle.nl_pseg.specs.Seen.{Fits};
+ghost use Rattle.nl_pseg.specs.declared.held.Held.{Held as HeldOf};
+
+use crate::state::State;
+use nl_field::{Memory, Named, NamedRead, PageBuf, Pointer, Shape, Tag};
+use nl_nand::Nand;
+use std::alloc::Global;
+use std::marker::Model;
+
+/// Pages of files, in the last blocks of a medium. The segment picks the place of a new page, and the page's number is its name.
+/// A name and a write sequence number lead to the page until it is freed or written over. One block is kept for the cleaner.
+/// No call but `new` takes memory.
+#[derive(Drop)]
+pub struct PSeg {
+    state: State,
+}
+
+impl Model for PSeg {
+    ghost use Rattle.nl_pseg.specs.Segment.{Physical};
+
+    ghost Value = { Physical };
+
+    ghost use Rattle.nl_pseg.specs.Seen.{seen, IsFormed};
+
+    ghost view = { λ s. seen s.state };
+
+    ghost invariant = { λ s. IsFormed s.state };
+}
+
+impl PSeg {
+    /// Every block is Free, no page is live, there is no pair, and every page is taken as erased.
+    pub fn new(alloc: Global, shape: &Shape) -> Result<PSeg, Memory>
+        requires legal { IsTrue (is_legal shape.now.blocks shape.now.pages) }
+        requires numbers { shape.now ≡ shape_for shape.now.blocks shape.now.pages }
+        ensures first { IfOk result (λ s. s.first ≡ shape.now.vblocks) }
+        ensures blocks { IfOk result (λ s. s.blocks ≡ shape.now.blocks) }
+        ensures pages { IfOk result (λ s. s.size ≡ shape.now.pages) }
+        ensures live { IfOk result (λ s. s.held ≡ replicate (shape.now.blocks * shape.now.pages) None) }
+        ensures pairs { IfOk result (λ s. s.pairs ≡ []) }
+        ensures free { IfOk result (λ s. s.free ≡ shape.now.pblocks) }
+        ensures left { IfOk result (λ s. s.left ≡ 0) }
+        ensures each { IfOk result (λ s. (block : ℕ) → s.first ≤ block → block < s.blocks → is_free s block ≡ true) }
+        ensures erased { IfOk result (λ s. (page : ℕ) → InSegment s page → TakenAsErased s page) }
+        ensures within { IfOk result (λ s. (page : ℕ) → TakenAsErased s page → InSegment s page) }
+        ensures clean { IfOk result IsClean }
+        ensures wear { IfOk result (λ s. (block : ℕ) → wear_of s block ≡ 0) }
+        ensures room { IfOk result (λ s. room s + shape.now.pages ≡ shape.now.pblocks * shape.now.pages) }
+        ensures kept { IfOk result KeepsBlock }
+    {
+        Ok(PSeg {
+            state: State::new(alloc, shape)?,
+        })
+    }
+
+    /// Serves an opening: this page holds what the pointer and the owner say. Nothing more is programmed in its block before
+    /// that is erased.
+    pub fn load(&mut self, page: u32, at: Pointer, tag: Tag)
+        requires dead { IsDead self.old page }
+        requires fresh { IsOldName self.old page → ⊥ }
+        requires stamp { IsTrue (is_stamp at.stamp) }
+        requires new_stamp { IsNewStamp self.old at.stamp }
+        requires away { (at.name ≡ page → ⊥) → CanLead self.old at.name }
+        ensures live { self.new.held ≡ slice_set self.old.held page (Some (record { tag = tag; stamp = at.stamp })) }
+        ensures leads { resolve self.new.pairs at.name ≡ page }
+        ensures names { (name : ℕ) → (name ≡ at.name → ⊥) → resolve self.new.pairs name ≡ resolve self.old.pairs name }
+        ensures pairs { at.name ≡ page → self.new.pairs ≡ self.old.pairs }
+        ensures first { self.new.first ≡ self.old.first }
+        ensures blocks { self.new.blocks ≡ self.old.blocks }
+        ensures pages { self.new.size ≡ self.old.size }
+        ensures here { is_free self.new (page / self.old.size) ≡ false }
+        ensures free { self.new.free + cond (is_free self.old (page / self.old.size)) 1 0 ≡ self.old.free }
+        ensures left { self.new.left ≤ self.old.left }
+        ensures others { (block : ℕ) → (block ≡ page / self.old.size → ⊥) → (is_free self.new block ≡ is_free self.old block) × (is_kept self.new block ≡ is_kept self.old block) }
+        ensures soiled { (block : ℕ) → soiled self.new block ≡ soiled self.old block }
+        ensures wear { wear_of self.new (page / self.old.size) ≡ unwrap_or (soiled self.old (page / self.old.size)) (wear_of self.old (page / self.old.size)) }
+        ensures wears { (block : ℕ) → (block ≡ page / self.old.size → ⊥) → wear_of self.new block ≡ wear_of self.old block }
+        ensures erased { (p : ℕ) → TakenAsErased self.new p → TakenAsErased self.old p × (p / self.old.size ≡ page / self.old.size → ⊥) }
+        ensures still { (p : ℕ) → TakenAsErased self.old p → (p / self.old.size ≡ page / self.old.size → ⊥) → TakenAsErased self.new p }
+    {
+        self.state.load(page, at.stamp, tag);
+    }
+
+    /// Serves an opening: the pages of this block, which was erased so often, do not all read as erased. Where no page of it is
+    /// live, it is erased before use.
+    pub fn soiled(&mut self, block: u32, wear: u32)
+        requires from { self.old.first ≤ block }
+        requires below { block < self.old.blocks }
+        ensures live { self.new.held ≡ self.old.held }
+        ensures pairs { self.new.pairs ≡ self.old.pairs }
+        ensures first { self.new.first ≡ self.old.first }
+        ensures blocks { self.new.blocks ≡ self.old.blocks }
+        ensures pages { self.new.size ≡ self.old.size }
+        ensures free { self.new.free ≡ self.old.free }
+        ensures left { self.new.left ≤ self.old.left }
+        ensures same { (other : ℕ) → (is_free self.new other ≡ is_free self.old other) × (is_kept self.new other ≡ is_kept self.old other) }
+        ensures soiled { soiled self.new block ≡ Some wear }
+        ensures others { (other : ℕ) → (other ≡ block → ⊥) → soiled self.new other ≡ soiled self.old other }
+        ensures wear { wear_of self.new block ≡ cond (is_free self.old block) (min (wear + 1) (2 ^ 32 - 1)) wear }
+        ensures wears { (other : ℕ) → (other ≡ block → ⊥) → wear_of self.new other ≡ wear_of self.old other }
+        ensures erased { (p : ℕ) → TakenAsErased self.new p → TakenAsErased self.old p × (p / self.old.size ≡ block → ⊥) }
+        ensures still { (p : ℕ) → TakenAsErased self.old p → (p / self.old.size ≡ block → ⊥) → TakenAsErased self.new p }
+    {
+        self.state.soil(block, wear);
+    }
+
+    /// The page to which the name leads: the target of the pair of that old name, else the name itself.
+    pub fn resolve(&self, name: u32) -> u32
+        ensures { result ≡ resolve self.now.pairs name }
+    {
+        self.state.resolve(name)
+    }
+
+    /// The number of Free blocks.
+    pub fn free_blocks(&self) -> u32
+        ensures { result ≡ self.now.free }
+    {
+        self.state.free_blocks()
+    }
+
+    /// The number of pairs.
+    pub fn pairs(&self) -> u32
+        ensures { result ≡ length self.now.pairs }
+    {
+        self.state.pairs()
+    }
+
+    /// The page to which the pointer leads is dead, and every pair to it is gone. False exactly where it leads to no live page of
+    /// its write sequence number, and then nothing changes.
+    pub fn free(&mut self, at: Pointer) -> bool
+        ensures found { IsTrue result ↔ IsLive self.old at }
+        ensures freed { OnTrue result (self.new.held ≡ slice_set self.old.held (resolve self.old.pairs at.name) None) }
+        ensures pairs { OnTrue result (self.new.pairs ≡ without_target (resolve self.old.pairs at.name) self.old.pairs) }
+        ensures pages { SamePages self.old self.new }
+        ensures space { IsUnspent self.old self.new }
+        ensures segment { (image : Image) → IsPhysicalOf image self.old → IsPhysicalOf image self.new }
+        ensures kept { OnFalse result (self.new ≡ self.old) }
+    {
+        self.state.free(at)
+    }
+
+    /// Reads the page to which the pointer leads, for an owner. It answers `NotLive` exactly where the pointer leads to no live
+    /// page of its write sequence number. It answers `Lost` only where the page read is not that of the owner and the number, or
+    /// the live page has another owner: found is then another number, 0 where the page has none.
+    pub fn physical_read<M: Nand>(
+        &mut self,
+        media: &mut M,
+        at: Pointer,
+        tag: Tag,
+        buf: &mut PageBuf,
+    ) -> NamedRead
+        requires fits { Fits (M.geometry media.old) self.old }
+        requires segment { M.tells → IsPhysicalOf (M.contents media.old) self.old }
+        ensures segment { self.new ≡ self.old }
+        ensures answer { ReadsHeld (held_at self.old (resolve self.old.pairs at.name)) tag at.stamp buf.new result }
+        ensures value { M.tells → result ≡ NamedRead.Done → page_at (M.contents media.old) (resolve self.old.pairs at.name) ≡ written buf.new }
+        ensures kept { M.tells → held_at self.old (resolve self.old.pairs at.name) ≡ Some (record { tag = tag; stamp = at.stamp }) → (result ≡ NamedRead.Done) ⊎ (result ≡ NamedRead.Fault) }
+        ensures geometry { M.geometry media.new ≡ M.geometry media.old }
+        ensures contents { M.contents media.new ≡ M.contents media.old }
+        ensures left { SameLeft M.left media.old media.new }
+        ensures clock { M.clock media.new ≡ M.clock media.old }
+        ensures write_faults { M.write_faults media.new ≡ M.write_faults media.old }
+        ensures read_faults { FaultsCounted (M.read_faults media.old) (M.read_faults media.new) (result ≡ NamedRead.Fault) }
+    {
+        self.state.read(media, at, tag, buf)
+    }
+
+    /// Programs a page for an owner under a write sequence number from 1 and below 2^63, and names it. It answers `NoPage`
+    /// exactly where neither the block that is written to nor a Free block beyond the one kept for the cleaner has room, and
+    /// `Fault` only where the medium failed; the page whose program failed is not given out again before its block is erased.
+    pub fn nameless_write<M: Nand>(
+        &mut self,
+        media: &mut M,
+        tag: Tag,
+        from: &PageBuf,
+        stamp: u64,
+    ) -> Named
+        requires fits { Fits (M.geometry media.old) self.old }
+        requires stamp { IsTrue (is_stamp stamp) }
+        requires segment { M.tells → IsPhysicalOf (M.contents media.old) self.old }
+        ensures live { result ≡ Named.NotLive → ⊥ }
+        ensures full { result ≡ Named.NoPage ↔ room self.old ≡ 0 }
+        ensures refused { result ≡ Named.NoPage → (self.new ≡ self.old) × (media.new ≡ media.old) }
+        ensures placed { IfPlaced result (λ at. IsDead self.old at.name × (at.stamp ≡ stamp)) }
+        ensures held { IfPlaced result (λ at. self.new.held ≡ slice_set self.old.held at.name (Some (record { tag = tag; stamp = stamp }))) }
+        ensures same { (IsPlaced result → ⊥) → self.new.held ≡ self.old.held }
+        ensures pairs { self.new.pairs ≡ self.old.pairs }
+        ensures pages { SamePages self.old self.new }
+        ensures spent { IsPlaced result → IsSpent self.old self.new }
+        ensures failed { IsFault result → IsSpent self.old self.new ⊎ (IsUnspent self.old self.new × (IsReady self.old → ⊥)) }
+        ensures clean { IsClean self.old → IsClean self.new }
+        ensures kept { KeepsBlock self.old → KeepsBlock self.new }
+        ensures within { (p : ℕ) → TakenAsErased self.new p → InSegment self.new p }
+        ensures segment { M.tells → IsPhysicalOf (M.contents media.new) self.new }
+        ensures programmed { M.tells → IfPlaced result (λ at. Programmed self.old at.name (written (page_with from.now.main tag stamp (wear_of self.old (at.name / self.old.size)))) (M.contents media.old) (M.contents media.new)) }
+        ensures crash { M.tells → Crashes M.clock M.contents M.left self.old tag stamp from.now.main media.old media.new result }
+        ensures geometry { M.geometry media.new ≡ M.geometry media.old }
+        ensures counts { Counted M.clock M.read_faults M.write_faults (IsReady self.old) media.old media.new result }
+    {
+        self.state.write(media, tag, from, stamp)
+    }
+
+    /// As `nameless_write`, in place of the page to which a pointer leads: that is dead once the new one is placed, and only then.
+    /// It answers `NotLive` exactly where the pointer leads to no live page of its write sequence number, and that before
+    /// `NoPage`.
+    pub fn nameless_overwrite<M: Nand>(
+        &mut self,
+        media: &mut M,
+        old: Pointer,
+        tag: Tag,
+        from: &PageBuf,
+        stamp: u64,
+    ) -> Named
+        requires fits { Fits (M.geometry media.old) self.old }
+        requires stamp { IsTrue (is_stamp stamp) }
+        requires segment { M.tells → IsPhysicalOf (M.contents media.old) self.old }
+        ensures live { result ≡ Named.NotLive ↔ (IsLive self.old old → ⊥) }
+        ensures full { result ≡ Named.NoPage ↔ (IsLive self.old old × (room self.old ≡ 0)) }
+        ensures refused { (result ≡ Named.NotLive) ⊎ (result ≡ Named.NoPage) → (self.new ≡ self.old) × (media.new ≡ media.old) }
+        ensures placed { IfPlaced result (λ at. IsDead self.old at.name × (at.stamp ≡ stamp)) }
+        ensures held { IfPlaced result (λ at. self.new.held ≡ slice_set (slice_set self.old.held at.name (Some (record { tag = tag; stamp = stamp }))) (resolve self.old.pairs old.name) None) }
+        ensures same { (IsPlaced result → ⊥) → self.new.held ≡ self.old.held }
+        ensures pairs { IsPlaced result → self.new.pairs ≡ without_target (resolve self.old.pairs old.name) self.old.pairs }
+        ensures same_pairs { (IsPlaced result → ⊥) → self.new.pairs ≡ self.old.pairs }
+        ensures pages { SamePages self.old self.new }
+        ensures spent { IsPlaced result → IsSpent self.old self.new }
+        ensures failed { IsFault result → IsSpent self.old self.new ⊎ (IsUnspent self.old self.new × (IsReady self.old → ⊥)) }
+        ensures clean { IsClean self.old → IsClean self.new }
+        ensures kept { KeepsBlock self.old → KeepsBlock self.new }
+        ensures within { (p : ℕ) → TakenAsErased self.new p → InSegment self.new p }
+        ensures segment { M.tells → IsPhysicalOf (M.contents media.new) self.new }
+        ensures programmed { M.tells → IfPlaced result (λ at. Programmed self.old at.name (written (page_with from.now.main tag stamp (wear_of self.old (at.name / self.old.size)))) (M.contents media.old) (M.contents media.new)) }
+        ensures crash { M.tells → Crashes M.clock M.contents M.left self.old tag stamp from.now.main media.old media.new result }
+        ensures geometry { M.geometry media.new ≡ M.geometry media.old }
+        ensures counts { Counted M.clock M.read_faults M.write_faults (IsReady self.old) media.old media.new result }
+    {
+        self.state.overwrite(media, old, tag, from, stamp)
+    }
+}

@@ -1,0 +1,57 @@
+ghost use Rattle.std.specs.Prelude.{◌≡◌, ◌⊎◌, [], Some};
+ghost use Rattle.nl_field.specs.Live.{resolve};
+ghost use Rattle.nl_field.specs.Page.{page_at, written};
+ghost use Rattle.nl_nand.specs.Nand.{FaultsCounted, SameLeft};
+ghost use Rattle.nl_pseg.specs.Answers.{ReadsHeld};
+ghost use Rattle.nl_pseg.specs.Segment.{IsPhysicalOf, held_at};
+ghost use Rattle.nl_pseg.specs.Seen.{seen, Fits, IsFormed};
+
+use crate::pages::read_page;
+use crate::state::State;
+use nl_field::{NamedRead, PageBuf, Pointer, Tag};
+use nl_nand::Nand;
+
+impl State {
+    pub fn read<M: Nand>(
+        &self,
+        media: &mut M,
+        at: Pointer,
+        tag: Tag,
+        buf: &mut PageBuf,
+    ) -> NamedRead
+        requires formed { IsFormed self.now }
+        requires fits { Fits (M.geometry media.old) (seen self.now) }
+        requires segment { M.tells → IsPhysicalOf (M.contents media.old) (seen self.now) }
+        ensures answer { ReadsHeld (held_at (seen self.now) (resolve [] at.name)) tag at.stamp buf.new result }
+        ensures value { M.tells → result ≡ NamedRead.Done → page_at (M.contents media.old) (resolve [] at.name) ≡ written buf.new }
+        ensures kept { M.tells → held_at (seen self.now) (resolve [] at.name) ≡ Some (record { tag = tag; stamp = at.stamp }) → (result ≡ NamedRead.Done) ⊎ (result ≡ NamedRead.Fault) }
+        ensures geometry { M.geometry media.new ≡ M.geometry media.old }
+        ensures contents { M.contents media.new ≡ M.contents media.old }
+        ensures left { SameLeft M.left media.old media.new }
+        ensures clock { M.clock media.new ≡ M.clock media.old }
+        ensures write_faults { M.write_faults media.new ≡ M.write_faults media.old }
+        ensures read_faults { FaultsCounted (M.read_faults media.old) (M.read_faults media.new) (result ≡ NamedRead.Fault) }
+    {
+        let Some(place) = self.place_of(at) else {
+            return NamedRead::NotLive;
+        };
+        let Some(held) = self.live_on(place) else {
+            return NamedRead::NotLive;
+        };
+        match read_page(media, place, tag, at.stamp, buf) {
+            NamedRead::Done => {
+                if held.tag == tag {
+                    NamedRead::Done
+                } else {
+                    NamedRead::Lost {
+                        wanted: at.stamp,
+                        found: 0,
+                    }
+                }
+            }
+            NamedRead::Lost { wanted, found } => NamedRead::Lost { wanted, found },
+            NamedRead::Fault => NamedRead::Fault,
+            NamedRead::NotLive => unreachable!(),
+        }
+    }
+}

@@ -1,0 +1,86 @@
+// Steps on the table of blocks.
+ghost use Rattle.std.specs.Prelude.{◌≡◌, ◌/◌, ◌≤◌, ◌+◌, ◌-◌, ◌^◌, ℕ, min, cond, true, false};
+ghost use Rattle.nl_blocks.specs.Table.{HasBlock, block_at, free_count};
+ghost use Rattle.nl_pseg.specs.Seen.{use_in};
+ghost use Rattle.nl_pseg.specs.Steps.{IsMarked, Restated, SameMarks, SameUse};
+
+use nl_blocks::{BlockState, Blocks, PageState};
+
+pub fn is_free(blocks: &Blocks, block: u32) -> bool
+    requires { HasBlock blocks.now block }
+    ensures { result ≡ (use_in blocks.now block).is_free }
+{
+    matches!(blocks.state(block), BlockState::Free)
+}
+
+/// Takes the least worn Free block. Another one stays Free.
+pub fn take(blocks: &mut Blocks) -> u32
+    requires { 2 ≤ free_count blocks.old }
+    ensures has { HasBlock blocks.old result }
+    ensures was_free { (use_in blocks.old result).is_free ≡ true }
+    ensures active { (block_at blocks.new result).state ≡ BlockState.Active }
+    ensures taken { Restated result false (use_in blocks.old result).wear blocks.old blocks.new }
+{
+    match blocks.take_free() {
+        Some(block) => block,
+        None => unreachable!(),
+    }
+}
+
+/// Marks a page live or dead.
+pub fn mark(blocks: &mut Blocks, page: u32, live: bool)
+    requires { HasBlock blocks.old (page / blocks.old.size) }
+    ensures same { SameUse blocks.old blocks.new }
+    ensures states { (block : ℕ) → (block_at blocks.new block).state ≡ (block_at blocks.old block).state }
+    ensures marked { IsMarked page (cond live PageState.Live PageState.Dead) blocks.old blocks.new }
+{
+    let _ = blocks.count();
+    if live {
+        blocks.mark_live(page);
+    } else {
+        blocks.mark_dead(page);
+    }
+}
+
+/// Seals a block that is in use, where it is full.
+pub fn seal_full(blocks: &mut Blocks, block: u32, full: bool)
+    requires has { HasBlock blocks.old block }
+    requires active { (block_at blocks.old block).state ≡ BlockState.Active }
+    ensures same { SameUse blocks.old blocks.new }
+    ensures marks { SameMarks blocks.old blocks.new }
+    ensures more { full ≡ false → (block_at blocks.new block).state ≡ BlockState.Active }
+{
+    if full {
+        blocks.seal(block);
+    }
+}
+
+/// The block is Free, with this wear.
+pub fn give_back(blocks: &mut Blocks, block: u32, wear: u32)
+    requires { HasBlock blocks.old block }
+    ensures { Restated block true wear blocks.old blocks.new }
+{
+    blocks.erased(block, 0);
+    blocks.found(block, wear, 0);
+}
+
+/// The block is Sealed, with this wear.
+pub fn shut(blocks: &mut Blocks, block: u32, wear: u32)
+    requires { HasBlock blocks.old block }
+    ensures { Restated block false wear blocks.old blocks.new }
+{
+    give_back(blocks, block, wear);
+    blocks.seal(block);
+}
+
+/// Tells the block that it was erased so often and is to be erased before use: a Free one has one more, and another is Sealed.
+pub fn tell(blocks: &mut Blocks, block: u32, wear: u32)
+    requires { HasBlock blocks.old block }
+    ensures { Restated block (use_in blocks.old block).is_free (cond (use_in blocks.old block).is_free (min (wear + 1) (2 ^ 32 - 1)) wear) blocks.old blocks.new }
+{
+    if is_free(blocks, block) {
+        give_back(blocks, block, wear.saturating_add(1));
+    } else {
+        shut(blocks, block, wear);
+    }
+}
