@@ -31,6 +31,12 @@ pub runs_in : (tells : Type 0) (shape : Shape) (room room' : ℕ) (lines : List 
     → room ≡ room' → RunsOn tells shape room lines before now order text → RunsOn tells shape room' lines before now order text
 runs_in tells shape room room' lines before now order text same ran = subst (λ (x : ℕ). RunsOn tells shape x lines before now order text) same ran
 
+-- the same run, with the counts told in another way
+pub runs_between : (tells : Type 0) (shape : Shape) (room : ℕ) (lines : List Line) (before before' now now' : Counts) (order : List Ordered) (text : List ℕ)
+    → before ≡ before' → now ≡ now' → RunsOn tells shape room lines before now order text → RunsOn tells shape room lines before' now' order text
+runs_between tells shape room lines before before' now now' order text b n ran =
+    subst (λ (x : Counts). RunsOn tells shape room lines x now' order text) b (subst (λ (x : Counts). RunsOn tells shape room lines before x order text) n ran)
+
 -- the same run, told of the medium
 pub ran_as : (tells : Type 0) (shape shape' : Shape) (room room' : ℕ) (lines : List Line) (sink sink' : Stream) (before before' now : Counts) (order : List Ordered) (status : ℕ)
     → shape ≡ shape' → room ≡ room' → before ≡ before' → RanOn tells shape room lines sink sink' before now order status → RanOn tells shape' room' lines sink sink' before' now order status

@@ -1,10 +1,12 @@
 // The top call: reads a script, runs it on a medium, and prints the answers.
-ghost use Rattle.std.specs.Prelude.{◌≡◌, ◌⊎◌, ◌<◌, ◌≤◌, ◌+◌, ◌*◌, ◌^◌, ◌↔◌, ◌++◌, [], ◌∷◌, ℕ, List, Some, None, length, codes, true, false, All, IsTrue, IfOk, IfErr, IfSome, IfNone, sum_by};
+ghost use Rattle.std.specs.Prelude.{◌≡◌, ◌⊎◌, ◌||◌, ◌<◌, ◌≤◌, ◌+◌, ◌*◌, ◌^◌, ◌↔◌, ◌++◌, [], ◌∷◌, ℕ, List, Some, None, length, codes, true, false, All, IsTrue, IfOk, IfErr, IfSome, IfNone, sum_by};
 ghost use Rattle.nl_field.specs.CrashStates.{Rose};
 ghost use Rattle.nl_field.specs.Numbers.{is_legal, shape_for};
 ghost use Rattle.nl_io.specs.Streams.{Writes};
 ghost use Rattle.nl_tree.specs.declared.call.Line.{Line};
 ghost use Rattle.nl_core.specs.Formatted.{IsFormatted};
+ghost use Rattle.nl_device.specs.Retain.{CanRetain, kept_of};
+ghost use Rattle.nl_iface.specs.Names.{HoldsLive};
 ghost use Rattle.nl_top.specs.Command.{command_of};
 ghost use Rattle.nl_top.specs.Files.{IsRoomy};
 ghost use Rattle.nl_top.specs.Form.{script_lines};
@@ -105,13 +107,19 @@ fn medium_rose<M: Nand>(media: &M, reads: u64, writes: u64) -> bool
     has_risen(reads, media.read_faults()) || has_risen(writes, media.write_faults())
 }
 
-// The status of a command that was carried out and whose text was printed.
-fn status_of(rose: bool, answer: SinkAnswer) -> u8
-    ensures five { IsTrue rose → result ≡ 5 }
-    ensures four { rose ≡ false → answer ≡ SinkAnswer.Failed → result ≡ 4 }
-    ensures zero { rose ≡ false → answer ≡ SinkAnswer.Took → result ≡ 0 }
+fn either(rose: bool, faulty: bool) -> bool
+    ensures { result ≡ (rose || faulty) }
 {
-    if rose {
+    rose || faulty
+}
+
+// The status of a command that was carried out and whose text was printed.
+fn status_of(failed: bool, answer: SinkAnswer) -> u8
+    ensures five { IsTrue failed → result ≡ 5 }
+    ensures four { failed ≡ false → answer ≡ SinkAnswer.Failed → result ≡ 4 }
+    ensures zero { failed ≡ false → answer ≡ SinkAnswer.Took → result ≡ 0 }
+{
+    if failed {
         return 5;
     }
     match answer {
@@ -195,6 +203,10 @@ fn run_device<K: Sink, M: Nand>(
     requires clean { ⟦<Device<M> as VirtualPages>⟧.clean device }
     requires stamp { ⟦<Device<M> as VirtualPages>⟧.next_stamp device ≤ 2 ^ 62 }
     requires no_pairs { (⟦<Device<M> as VirtualPages>⟧.names device).pairs ≡ [] }
+    requires no_live { (p : ℕ) → (⟦<Device<M> as VirtualPages>⟧.names device).live p ≡ None }
+    requires free { (⟦<Device<M> as VirtualPages>⟧.names device).space.free ≡ (⟦<Device<M> as VirtualPages>⟧.shape device).pblocks }
+    requires nothing { CanRetain (kept_of device) [] }
+    requires found { M.tells → HoldsLive (⟦<Device<M> as VirtualPages>⟧.found device) (⟦<Device<M> as VirtualPages>⟧.bytes device) (⟦<Device<M> as VirtualPages>⟧.stored device) }
     requires numbers { shape ≡ ⟦<Device<M> as VirtualPages>⟧.shape device }
     requires some { 0 < shape.pages }
     requires all_free { (⟦<Device<M> as VirtualPages>⟧.names device).space.room + (⟦<Device<M> as VirtualPages>⟧.names device).space.block ≡ (⟦<Device<M> as VirtualPages>⟧.names device).space.all }
@@ -209,9 +221,10 @@ fn run_device<K: Sink, M: Nand>(
     device.retain(&PointerList::new(alloc));
     let Ran { answer, order } = run_lines(shape, tables, lines, sink, &mut device);
     let media = device.into_media();
-    let failed = medium_rose(&media, reads, writes) || order.has_fault();
+    let rose = medium_rose(&media, reads, writes);
+    let faulty = order.has_fault();
     Done {
-        status: status_of(failed, answer),
+        status: status_of(either(rose, faulty), answer),
         media,
         syncs: SyncList::new(alloc),
         order,

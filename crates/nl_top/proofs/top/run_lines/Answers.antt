@@ -1,8 +1,8 @@
-use Rattle.std.proofs.Common.{◌≡◌, ◌+◌, ◌-◌, ◌*◌, ℕ, List, ap, sym, subst, ◌∙◌, arith}
+use Rattle.std.proofs.Common.{◌≡◌, ◌+◌, ◌*◌, ℕ, ap, sym, ◌∙◌}
 use Rattle.nl_field.specs.declared.shape.Shape.{Shape}
 use Rattle.nl_print.specs.Texts.{run_text}
 use Rattle.nl_top.specs.Run.{answers_in}
-use Rattle.nl_top.specs.Top.{room_for_data, RunsOn}
+use Rattle.nl_top.specs.Top.{room_for_data}
 use Rattle.nl_top.proofs.Numbers.{all_but_one}
 use Rattle.nl_top.proofs.RunsOf.{runs_on, runs_in}
 use Rattle.nl_top.proofs.top.run_lines.Goals as goal

@@ -1,4 +1,4 @@
-use Rattle.std.proofs.Common.{◌≡◌, ◌≤◌, ◌<◌, ◌-◌, ◌*◌, ℕ, ap, sym, ◌∙◌, subst, arith, le_trans}
+use Rattle.std.proofs.Common.{◌≤◌, ◌<◌, ℕ, ap, sym, ◌∙◌, subst, arith, le_trans}
 use Rattle.nl_field.specs.Numbers.{shape_for}
 use Rattle.nl_field.specs.declared.shape.Shape.{Shape}
 use Rattle.nl_tree.specs.Causes.{Counts}
@@ -58,3 +58,6 @@ returns-else-is_fresh-clause-ended g c =
       };
       no_lines = end.ensures.order;
     })
+
+pub run_device-requires-clause-found : goal.run_device-requires-clause-found
+run_device-requires-clause-found g c = c.in-Ready.ensures.found
