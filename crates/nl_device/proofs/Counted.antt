@@ -22,6 +22,14 @@ count_same f g first (suc n) same =
     let rest = count_same f g (first + 1) n (λ x low high. same x (omega (arith, low)) (omega (arith, high))) in
     omega (arith, count_next f first n, count_next g first n, here, rest)
 
+-- none of the numbers passes
+pub count_none : (f : ℕ → Bool) (first n : ℕ) → ((x : ℕ) → f x ≡ false) → count_by f (range_with_len first n) ≡ 0
+count_none f first zero none = refl
+count_none f first (suc n) none =
+    let here : bit (f first) ≡ 0 = ap bit (none first) in
+    let rest = count_none f (first + 1) n none in
+    omega (arith, count_next f first n, here, rest)
+
 -- one of the numbers passes no longer
 pub count_less : (f g : ℕ → Bool) (first n at : ℕ) → first ≤ at → at < first + n → ((x : ℕ) → (x ≡ at → ⊥) → g x ≡ f x) → g at ≡ false
     → count_by g (range_with_len first n) + bit (f at) ≡ count_by f (range_with_len first n)
@@ -67,14 +75,7 @@ found_between f first (suc n) at is =
     (omega (arith, rest.0), omega (arith, rest.1)))
     (cases_Bool (f first))
 
--- one page more is live
-pub live_more : (held : List (Option Held)) (page : ℕ) (h : Held) → page < length held → get_or held page None ≡ None → live_in (set held page (Some h)) ≡ live_in held + 1
-live_more held page h within dead =
-    let weight : Option Held → ℕ = λ o. bit (is_some o) in
-    let e = sum_by-set weight held page (Some h) None within in
-    let z : weight (get_or held page None) ≡ 0 = ap weight dead in
-    omega (arith, e, z)
-
+-- no page is live
 pub live_none : (held : List (Option Held)) → ((page : ℕ) → get_or held page None ≡ None) → live_in held ≡ 0
 live_none [] none = refl
 live_none (o ∷ held) none =

@@ -1,5 +1,5 @@
 -- The device once the listed pointers are live.
-use Rattle.std.proofs.Common.{◌≡◌, ℕ, ◌+◌, ◌*◌, ◌<◌, ◌≤◌, List, [], Option, Some, None, length, refl, sym, ◌∙◌, ap, subst, arith}
+use Rattle.std.proofs.Common.{◌≡◌, ℕ, ◌+◌, ◌-◌, ◌*◌, ◌<◌, ◌≤◌, true, List, [], Option, Some, None, get_or, length, refl, sym, ◌∙◌, ap, subst, arith, add-mul}
 use Rattle.std.specs.Prelude.{All, ◌==◌, find, option_map}
 use Rattle.std.proofs.lemmas.Option.{none-some, same_Some}
 use Rattle.nl_field.specs.Page.{Image, page_at}
@@ -11,7 +11,7 @@ use Rattle.nl_nand.specs.declared.geometry.Geometry.{Geometry}
 use Rattle.nl_iface.specs.Names.{HoldsLive, LivePage}
 use Rattle.nl_iface.specs.Stored.{NamedPage, stored_in}
 use Rattle.nl_pseg.specs.Pages.{main_of, shown_by}
-use Rattle.nl_pseg.specs.Segment.{InSegment, IsPhysicalOf, Physical, TakenAsErased, held_at}
+use Rattle.nl_pseg.specs.Segment.{InSegment, IsPhysicalOf, Physical, TakenAsErased, held_at, is_free}
 use Rattle.nl_pseg.specs.declared.held.Held.{Held}
 use Rattle.nl_field.specs.Medium.{first_physical}
 use Rattle.nl_scan.specs.Tables.{greatest_stamp}
@@ -29,7 +29,7 @@ use Rattle.nl_device.proofs.Found.{kept_below}
 use Rattle.nl_device.proofs.Forms.{begins, named_from, shape_is}
 use Rattle.nl_device.proofs.Made.{bytes_from, made_medium}
 use Rattle.nl_device.proofs.PhysicalPages.{named_of}
-use Rattle.nl_device.proofs.Spacing.{space_is}
+use Rattle.nl_device.proofs.Spacing.{free_is, space_is}
 
 pub segment_for : {geometry : Geometry} {shape : Shape} {vseg : Segment} {pseg : Physical} {kept : KeptPages} {next : ℕ} → HasSegments geometry shape vseg pseg → HasFound shape kept next → IsSegmentFor kept pseg
 segment_for has found = record {
@@ -42,21 +42,35 @@ not_live : (o : Option Held) → live_page o ≡ None → o ≡ None
 not_live None is = refl
 not_live (Some h) is = absurd (none-some (record { tag = h.tag; stamp = h.stamp }) (sym is))
 
-free_is : (pseg : Physical) → (space_of pseg).free ≡ pseg.free
-unfolding space_of
-free_is pseg = refl
-
 pub live_is : (pseg : Physical) → (space_of pseg).live ≡ live_in pseg.held
 unfolding space_of
 live_is pseg = refl
 
-pub is_fresh : {geometry : Geometry} {shape : Shape} {vseg : Segment} {pseg : Physical} → HasSegments geometry shape vseg pseg → pseg.pairs ≡ [] → ((p : ℕ) → (names_of pseg).live p ≡ None) → (space_of pseg).free ≡ shape.pblocks → IsFresh pseg
-is_fresh {pseg = pseg} has pairs dead free = record {
-  count = (λ i. has.physical_first i + (sym (free_is pseg) ∙ free) i) ∙ has.split ∙ sym has.physical_blocks;
-  no_live = λ page. not_live (held_at pseg page) (dead page);
-  pages = has.physical_held ∙ (λ i. sym has.physical_blocks i * sym has.physical_pages i);
-  no_pairs = pairs;
+pub none_held : (pseg : Physical) → ((p : ℕ) → (names_of pseg).live p ≡ None) → (page : ℕ) → held_at pseg page ≡ None
+none_held pseg dead page = not_live (held_at pseg page) (dead page)
+
+-- every block is Free where the numbers say so
+pub all_free : {geometry : Geometry} {shape : Shape} {vseg : Segment} {pseg : Physical} → HasSegments geometry shape vseg pseg → (space_of pseg).free ≡ shape.pblocks → pseg.first + pseg.free ≡ pseg.blocks
+all_free {pseg = pseg} has free = (λ i. has.physical_first i + (sym (free_is pseg) ∙ free) i) ∙ has.split ∙ sym has.physical_blocks
+
+pub is_fresh : {geometry : Geometry} {shape : Shape} {vseg : Segment} {old new : Physical} → HasSegments geometry shape vseg old → old.pairs ≡ [] → ((p : ℕ) → (names_of old).live p ≡ None) → new.held ≡ old.held → new.pairs ≡ old.pairs → new.blocks ≡ old.blocks
+    → new.size ≡ old.size → new.first + new.free ≡ new.blocks → ((block : ℕ) → new.first ≤ block → block < new.blocks → is_free new block ≡ true) → new.left ≡ 0 → IsFresh new
+is_fresh {old = old} has none dead held pairs blocks size count each left = record {
+  count = count;
+  each = each;
+  none_left = left;
+  no_live = λ page. ap (λ (h : List (Option Held)). get_or h page None) held ∙ none_held old dead page;
+  pages = ap length held ∙ has.physical_held ∙ (λ i. sym (blocks ∙ has.physical_blocks) i * sym (size ∙ has.physical_pages) i);
+  no_pairs = pairs ∙ none;
 }
+
+-- no block is written to
+pub room_is : (seg : Physical) → 1 ≤ seg.free → seg.left ≡ 0 → (space_of seg).room + (space_of seg).block ≡ (space_of seg).free * (space_of seg).block
+unfolding space_of
+room_is seg some left =
+    let e : (seg.free - 1) * seg.size + 1 * seg.size ≡ (seg.free - 1 + 1) * seg.size = sym (add-mul (seg.free - 1) 1 seg.size) in
+    let f : (seg.free - 1 + 1) * seg.size ≡ seg.free * seg.size = ap (λ n. n * seg.size) (omega (arith, some)) in
+    omega (arith, e, f, left)
 
 named_back : (o : Option (Tag × ℕ × List ℕ)) (n : NamedPage) → named_of o ≡ Some n → o ≡ Some (n.tag, n.stamp, n.bytes)
 named_back None n is = absurd (none-some n is)

@@ -12,14 +12,15 @@ use Rattle.nl_field.specs.declared.pointer.Pointer.{Pointer}
 use Rattle.nl_pseg.specs.Segment.{InSegment, Physical, held_at, is_free}
 use Rattle.nl_pseg.specs.declared.held.Held.{Held}
 use Rattle.nl_device.specs.Kept.{IsKept, KeptPages, is_at_name, spare_among}
-use Rattle.nl_device.specs.Retain.{AreRetained, CanLoad, CanRetain, IsFoundIn, IsFresh, IsSegmentFor, Loads, Retains, held_for, is_taken, spare_for}
+use Rattle.nl_device.specs.Retain.{AreRetained, CanLoad, CanRetain, IsFoundIn, IsFresh, IsSegmentFor, Loads, Retains, held_for, is_needed, is_taken, lies_in, needed_blocks, place_for, spare_for}
 use Rattle.nl_device.specs.declared.kept.copies.Copies.{Copies}
 use Rattle.nl_device.specs.declared.kept.page.KeptPage.{KeptPage}
 use Rattle.nl_device.specs.Space.{live_in}
 use Rattle.nl_device.proofs.Alone.{or_false, or_true}
-use Rattle.nl_device.proofs.Counted.{bit, count_all_but, count_less, count_same, found_between, live_more, live_none}
+use Rattle.nl_device.proofs.Counted.{bit, count_all_but, count_less, count_none, count_same, found_between, live_none}
 use Rattle.nl_device.proofs.Loading.{IsThere, in_segment, place_is, there}
 use Rattle.nl_device.proofs.Lookups.{is_number, other_number}
+use Rattle.nl_device.proofs.Spacing.{one_more}
 
 -- none of a list of which none is kept by a filter passes
 all_fail : (p : Pointer → Bool) (xs : List Pointer) (at : ℕ) (x : Pointer) → length (filter p xs) ≤ 0 → slice_get xs at ≡ Some x → p x ≡ false
@@ -82,8 +83,8 @@ retains_none kept pointers seg same fresh = record {
   live = live_none seg.held fresh.no_live;
   pages = refl;
   no_pairs = fresh.no_pairs;
-  taken_busy = λ block taken. absurd (true≢false (sym taken));
-  counted = omega (arith, fresh.count, same.first, same.blocks);
+  busy = λ block from below. fresh.each block (omega (arith, from, same.first)) (omega (arith, below, same.blocks));
+  counted = omega (arith, fresh.count, same.first, same.blocks, count_none (is_taken kept (take 0 pointers)) kept.first kept.count (λ block. refl));
   free_before = λ block free. free;
   same_soiled = λ block. refl;
   left = omega arith;
@@ -102,22 +103,23 @@ taken_more kept pointers at p block here =
 outside_is : (size block page : ℕ) → is_outside size (Some block) page ≡ true → block ≡ page / size → ⊥
 outside_is size block page outside same = true≢false (sym outside ∙ ap not (is_number (page / size) block (sym same)))
 
-busy_more : (kept : KeptPages) (pointers : List Pointer) (at : ℕ) (p : Pointer) (seg new : Physical) → slice_get pointers at ≡ Some p → seg.size ≡ kept.size → Loads kept p seg new
-    → ((block : ℕ) → is_taken kept (take at pointers) block ≡ true → is_free seg block ≡ false) → (block : ℕ) → is_taken kept (take (at + 1) pointers) block ≡ true → is_free new block ≡ false
-busy_more kept pointers at p seg new here size loads busy block taken =
+busy_more : (kept : KeptPages) (pointers : List Pointer) (at : ℕ) (p : Pointer) (seg new : Physical) (block : ℕ) → slice_get pointers at ≡ Some p → seg.size ≡ kept.size → Loads kept p seg new
+    → is_free seg block ≡ not (is_taken kept (take at pointers) block) → is_free new block ≡ not (is_taken kept (take (at + 1) pointers) block)
+busy_more kept pointers at p seg new block here size loads busy =
+    let more = taken_more kept pointers at p block here in
     ⊎_elim
-    (λ same. ap (λ k. is_free new k) same ∙ loads.here)
+    (λ same.
+    let b : p.name / kept.size ≡ block = ap (λ n. p.name / n) (sym size) ∙ sym same in
+    ap (is_free new) same ∙ loads.here ∙ sym (ap not (more ∙ (λ i. is_taken kept (take at pointers) block || is_number (p.name / kept.size) block b i) ∙ or_true (is_taken kept (take at pointers) block))))
     (λ other.
-    loads.others block other
-    ∙ busy block (sym (or_false (is_taken kept (take at pointers) block))
-    ∙ ap (λ b. is_taken kept (take at pointers) block || b) (sym (other_number (p.name / kept.size) block (λ e. other (sym e ∙ ap (λ n. p.name / n) (sym size)))))
-    ∙ sym (taken_more kept pointers at p block here) ∙ taken))
+    loads.others block other ∙ busy
+    ∙ sym (ap not (more ∙ (λ i. is_taken kept (take at pointers) block || other_number (p.name / kept.size) block (λ e. other (sym e ∙ ap (λ n. p.name / n) (sym size))) i) ∙ or_false (is_taken kept (take at pointers) block))))
     (cases_eq block (p.name / seg.size))
 
 count_more : (kept : KeptPages) (pointers : List Pointer) (at : ℕ) (p : Pointer) (seg new : Physical) → slice_get pointers at ≡ Some p → seg.size ≡ kept.size → Loads kept p seg new
     → kept.first ≤ p.name / kept.size → p.name / kept.size < kept.first + kept.count
-    → ((block : ℕ) → is_taken kept (take at pointers) block ≡ true → is_free seg block ≡ false) → kept.count ≤ seg.free + count_by (is_taken kept (take at pointers)) (range_with_len kept.first kept.count)
-    → kept.count ≤ new.free + count_by (is_taken kept (take (at + 1) pointers)) (range_with_len kept.first kept.count)
+    → is_free seg (p.name / kept.size) ≡ not (is_taken kept (take at pointers) (p.name / kept.size)) → kept.count ≡ seg.free + count_by (is_taken kept (take at pointers)) (range_with_len kept.first kept.count)
+    → kept.count ≡ new.free + count_by (is_taken kept (take (at + 1) pointers)) (range_with_len kept.first kept.count)
 count_more kept pointers at p seg new here size loads low high busy counted =
     let b = p.name / kept.size in
     let free : new.free + bit (is_free seg b) ≡ seg.free = subst (λ n. new.free + bit (is_free seg (p.name / n)) ≡ seg.free) size loads.free in
@@ -127,19 +129,15 @@ count_more kept pointers at p seg new here size loads low high busy counted =
     let same = count_same (is_taken kept (take at pointers)) (is_taken kept (take (at + 1) pointers)) kept.first kept.count
     (λ x l h. more x here ∙ ⊎_elim (λ at_x. (λ i. is_taken kept (take at pointers) x || is_number b x at_x i) ∙ or_true (is_taken kept (take at pointers) x) ∙ sym (ap (is_taken kept (take at pointers)) (sym at_x) ∙ yes))
     (λ other. (λ i. is_taken kept (take at pointers) x || other_number b x other i) ∙ or_false (is_taken kept (take at pointers) x)) (cases_eq b x)) in
-    let none : bit (is_free seg b) ≡ 0 = ap bit (busy b yes) in
+    let none : bit (is_free seg b) ≡ 0 = ap bit (busy ∙ ap not yes) in
     omega (arith, same, none, free, counted))
     (λ not_yet.
     let less = count_less (is_taken kept (take (at + 1) pointers)) (is_taken kept (take at pointers)) kept.first kept.count b low high
     (λ x other. sym (more x here ∙ (λ i. is_taken kept (take at pointers) x || other_number b x (λ e. other (sym e)) i) ∙ or_false (is_taken kept (take at pointers) x))) not_yet in
     let one : bit (is_taken kept (take (at + 1) pointers) b) ≡ 1 = ap bit (more b here ∙ (λ i. is_taken kept (take at pointers) b || is_number b b refl i) ∙ or_true (is_taken kept (take at pointers) b)) in
-    let few = bit_small (is_free seg b) in
-    omega (arith, less, one, few, free, counted))
+    let was : bit (is_free seg b) ≡ 1 = ap bit (busy ∙ ap not not_yet) in
+    omega (arith, less, one, was, free, counted))
     (cases_Bool (is_taken kept (take at pointers) b))
-  where
-    bit_small : (x : Bool) → bit x ≤ 1
-    bit_small true = omega arith
-    bit_small false = omega arith
 
 pub retains_more : (kept : KeptPages) (copies : BTreeMap ℕ Copies) (pointers : List Pointer) (at : ℕ) (p : Pointer) (old seg new : Physical) → IsKept kept copies → CanRetain kept pointers → IsFresh old → IsSegmentFor kept old
     → Retains kept pointers at old seg → slice_get pointers at ≡ Some p → Loads kept p seg new → Retains kept pointers (at + 1) old new
@@ -170,14 +168,14 @@ retains_more kept copies pointers at p old seg new is can fresh first retains he
           (λ same. (at, p, omega arith, here, sym same, ap (λ (x : Held). x.stamp) (sym (same_Some h g (sym here_now ∙ ap (λ n. held_at new n) (sym same) ∙ held)))))
           (λ other. let one = retains.only page g (sym (there_still page other) ∙ held) in (one.0, one.1, omega (arith, one.2), one.3, one.4, one.5))
           (cases_eq page p.name);
-      live = ap live_in put ∙ live_more seg.held p.name h inside able.dead ∙ ap (λ n. n + 1) retains.live;
+      live = ap live_in put ∙ one_more seg.held p.name h inside able.dead ∙ ap (λ n. n + 1) retains.live;
       pages = ap length put ∙ length-set seg.held p.name (Some h) ∙ retains.pages;
       no_pairs = loads.pairs ∙ retains.no_pairs;
-      taken_busy = busy_more kept pointers at p seg new here size loads retains.taken_busy;
+      busy = λ b from below. busy_more kept pointers at p seg new b here size loads (retains.busy b from below);
       counted =
           let low : kept.first ≤ p.name / kept.size = subst (λ n. kept.first ≤ n / kept.size) t.page t.of.from_first in
           let high : p.name / kept.size < kept.first + kept.count = subst (λ n. n / kept.size < kept.first + kept.count) t.page t.of.to_last in
-          count_more kept pointers at p seg new here size loads low high retains.taken_busy retains.counted;
+          count_more kept pointers at p seg new here size loads low high (retains.busy (p.name / kept.size) low high) retains.counted;
       free_before = λ b free. retains.free_before b (still b free);
       same_soiled = λ b. loads.same_soiled b ∙ retains.same_soiled b;
       left = omega (arith, loads.left, retains.left);
@@ -223,6 +221,24 @@ one_free kept copies pointers at old seg is can retains past = by (spare_for kep
         ∙ spare_untaken kept pointers pointers block (λ i p here. ap (λ o. is_outside kept.size o p.name) (sym found) ∙ (there kept copies (spare_for kept pointers) p is (at_name kept pointers i p can here)).outside) in
         let all = count_all_but (is_taken kept (take at pointers)) kept.first kept.count block within.0 within.1 untaken in
         omega (arith, all, retains.counted)
+
+-- where each place is the name, the blocks of places are those of names
+needed_is : (kept : KeptPages) (pointers rest : List Pointer) (block : ℕ) → ((i : ℕ) (p : Pointer) → slice_get rest i ≡ Some p → place_for kept pointers p ≡ Some p.name)
+    → list_any (λ p. lies_in kept.size block (place_for kept pointers p)) rest ≡ is_taken kept rest block
+needed_is kept pointers [] block all = refl
+needed_is kept pointers (p ∷ rest) block all =
+    let here : lies_in kept.size block (place_for kept pointers p) ≡ (p.name / kept.size == block) = ap (lies_in kept.size block) (all zero p refl) in
+    λ i. here i || needed_is kept pointers rest block (λ j. all (suc j)) i
+
+-- each block without a place is Free
+pub free_blocks : (kept : KeptPages) (copies : BTreeMap ℕ Copies) (pointers : List Pointer) (at : ℕ) (old seg : Physical) → IsKept kept copies → CanRetain kept pointers → Retains kept pointers at old seg → length pointers ≤ at
+    → seg.free + needed_blocks kept pointers ≡ kept.count
+unfolding needed_blocks
+free_blocks kept copies pointers at old seg is can retains past =
+    let same = count_same (is_taken kept (take at pointers)) (is_needed kept pointers) kept.first kept.count
+    (λ block low high. needed_is kept pointers pointers block (λ i p here. place_is kept (spare_for kept pointers) p (at_name kept pointers i p can here)) ∙ ap (λ (l : List Pointer). is_taken kept l block) (sym (take_all at pointers past))) in
+    let counted = retains.counted in
+    omega (arith, same, counted)
 
 -- what is live was found on its page
 pub found_in : (kept : KeptPages) (copies : BTreeMap ℕ Copies) (pointers : List Pointer) (at : ℕ) (old seg : Physical) → IsKept kept copies → CanRetain kept pointers → Retains kept pointers at old seg

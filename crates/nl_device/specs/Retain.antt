@@ -2,9 +2,10 @@
 use Rattle.std.specs.Prelude.{◌≡◌, ◌≢◌, ℕ, ◌+◌, ◌*◌, ◌/◌, ◌<◌, ◌≤◌, ◌==◌, not, Bool, true, false, cond, List, [], find, length, map, take, filter, slice_get, slice_set, All, Option, Some, None, IsSome, option_map}
 use Rattle.std.specs.List.{AllPairs, count_by, list_any, range_with_len}
 use Rattle.nl_field.specs.declared.pointer.Pointer.{Pointer}
+use Rattle.nl_field.specs.declared.shape.Shape.{Shape}
 use Rattle.nl_pseg.specs.Segment.{InSegment, IsNewStamp, Physical, TakenAsErased, held_at, is_free, soiled}
 use Rattle.nl_pseg.specs.declared.held.Held.{Held}
-use Rattle.nl_iface.specs.Names.{LivePage}
+use Rattle.nl_iface.specs.Names.{LivePage, Names}
 use Rattle.nl_device.specs.Shown.{live_page}
 use Rattle.nl_device.specs.declared.device.Device.{Device}
 use Rattle.nl_device.specs.Kept.{KeptPages, is_at_name, place_among, spare_among}
@@ -18,6 +19,19 @@ spare_for kept pointers = spare_among kept (map (λ p. p.stamp) pointers)
 abbrev pub place_for : KeptPages → List Pointer → Pointer → Option ℕ
 place_for kept pointers p = place_among kept (spare_for kept pointers) p
 
+-- the page is one of the block
+abbrev pub lies_in : ℕ → ℕ → Option ℕ → Bool
+lies_in size block None = false
+lies_in size block (Some page) = page / size == block
+
+-- a pointer has its place in the block
+abbrev pub is_needed : KeptPages → List Pointer → ℕ → Bool
+is_needed kept pointers block = list_any (λ p. lies_in kept.size block (place_for kept pointers p)) pointers
+
+-- in how many blocks of the segment pointers have their places
+unfoldable pub needed_blocks : KeptPages → List Pointer → ℕ
+needed_blocks kept pointers = count_by (is_needed kept pointers) (range_with_len kept.first kept.count)
+
 -- what is live for a pointer on a page: the owner that the page has, and the pointer's stamp
 abbrev pub held_for : KeptPages → ℕ → Pointer → Option Held
 held_for kept page p = option_map (λ k. record { tag = k.tag; stamp = p.stamp }) (find (λ k. k.page == page) kept.pages)
@@ -28,9 +42,11 @@ pub record IsSegmentFor (kept : KeptPages) (seg : Physical) : Type 0 where
   pub blocks : seg.blocks ≡ kept.first + kept.count
   pub size : seg.size ≡ kept.size
 
--- Each block is Free, no page is live, and there is no pair.
+-- Each block is Free, so none is written to. No page is live, and there is no pair.
 pub record IsFresh (seg : Physical) : Type 0 where
   pub count : seg.first + seg.free ≡ seg.blocks
+  pub each : (block : ℕ) → seg.first ≤ block → block < seg.blocks → is_free seg block ≡ true
+  pub none_left : seg.left ≡ 0
   pub no_live : (page : ℕ) → held_at seg page ≡ None
   pub pages : length seg.held ≡ seg.blocks * seg.size
   pub no_pairs : seg.pairs ≡ []
@@ -91,13 +107,17 @@ pub record Retains (kept : KeptPages) (pointers : List Pointer) (at : ℕ) (old 
   pub live : live_in seg.held ≡ at
   pub pages : length seg.held ≡ length old.held
   pub no_pairs : seg.pairs ≡ []
-  pub taken_busy : (block : ℕ) → is_taken kept (take at pointers) block ≡ true → is_free seg block ≡ false
-  pub counted : kept.count ≤ seg.free + count_by (is_taken kept (take at pointers)) (range_with_len kept.first kept.count)
+  pub busy : (block : ℕ) → kept.first ≤ block → block < kept.first + kept.count → is_free seg block ≡ not (is_taken kept (take at pointers) block)
+  pub counted : kept.count ≡ seg.free + count_by (is_taken kept (take at pointers)) (range_with_len kept.first kept.count)
   pub free_before : (block : ℕ) → is_free seg block ≡ true → is_free old block ≡ true
   pub same_soiled : (block : ℕ) → soiled seg block ≡ soiled old block
   pub left : seg.left ≤ old.left
   pub erased : (q : ℕ) → TakenAsErased seg q → TakenAsErased old q
   pub unchanged : at ≡ 0 → seg ≡ old
+
+-- every block of the segment is Free
+abbrev pub HasAllFree : Shape → Names → Type 0
+HasAllFree shape names = names.space.free ≡ shape.pblocks
 
 -- what a device keeps of the scan of its start
 abbrev pub kept_of : {M : Type 0} → Device M → KeptPages

@@ -4,6 +4,7 @@
 mod counts;
 mod device;
 mod kept;
+mod marks;
 mod named_pages;
 mod opening;
 mod retain;

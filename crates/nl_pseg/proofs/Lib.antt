@@ -1,5 +1,6 @@
 pub mod Counts
 pub mod Forms
+pub mod GivenBack
 pub mod Images
 pub mod News
 pub mod Numbers

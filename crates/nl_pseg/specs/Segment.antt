@@ -1,5 +1,5 @@
 -- A physical segment: which pages are live, where names lead, and which pages can be programmed next.
-use Rattle.std.specs.Prelude.{◌≡◌, ◌⊎◌, ℕ, ◌+◌, ◌-◌, ◌*◌, ◌/◌, ◌<◌, ◌≤◌, ◌==◌, not, nat_le, if◌then◌else◌, Bool, true, false, cond, List, filter, slice_index_or, Contains, Option, Some, None, is_some, option_map}
+use Rattle.std.specs.Prelude.{◌≡◌, ◌⊎◌, ℕ, ◌+◌, ◌-◌, ◌*◌, ◌/◌, ◌<◌, ◌≤◌, ◌==◌, not, nat_le, if◌then◌else◌, Bool, true, false, cond, List, filter, slice_index_or, Contains, Option, Some, None, is_some, option_map, unwrap_or}
 use Rattle.nl_field.specs.Live.{resolve}
 use Rattle.nl_field.specs.Page.{Image, erased, page_at}
 use Rattle.nl_field.specs.declared.pointer.Pointer.{Pointer}
@@ -55,6 +55,10 @@ wear_of seg block = (use_at seg.first seg.uses block).wear
 -- how often the block was erased, where it was told not to read as erased and was not erased since
 abbrev pub soiled : Physical → ℕ → Option ℕ
 soiled seg block = slice_index_or seg.soiled block None
+
+-- how often the block was erased
+abbrev pub erasures : Physical → ℕ → ℕ
+erasures seg block = unwrap_or (soiled seg block) (wear_of seg block)
 
 -- what is live on a page
 abbrev pub held_at : Physical → ℕ → Option Held

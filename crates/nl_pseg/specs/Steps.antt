@@ -1,5 +1,5 @@
 -- What the steps of a call do to the table of blocks and to the segment.
-use Rattle.std.specs.Prelude.{◌≡◌, ◌⊎◌, ℕ, ◌+◌, ◌*◌, ◌/◌, ◌<◌, ◌≤◌, Bool, true, false, cond, List, length, slice_set, Option, None}
+use Rattle.std.specs.Prelude.{◌≡◌, ◌⊎◌, ℕ, ◌+◌, ◌-◌, ◌*◌, ◌/◌, ◌^◌, ◌<◌, ◌≤◌, min, Bool, true, false, cond, List, length, slice_set, Option, Some, None}
 use Rattle.nl_field.specs.CrashStates.{LeavesOnly}
 use Rattle.nl_field.specs.Page.{Image, Page, erased, written, page_at}
 use Rattle.nl_field.specs.declared.answers.Named.{Named}
@@ -13,7 +13,7 @@ use Rattle.nl_blocks.specs.Table.{page_at as page_in}
 use Rattle.nl_pseg.specs.Answers.{IfPlaced, IsFault, IsPlaced}
 use Rattle.nl_pseg.specs.Effects.{Crashes, Keeps, Programmed}
 use Rattle.nl_pseg.specs.Pages.{page_with}
-use Rattle.nl_pseg.specs.Segment.{Physical, IsClean, IsDead, IsNext, IsPhysicalOf, IsReady, IsSpent, IsUnspent, KeepsBlock, SamePages, is_free, is_soiled, soiled, use_at, wear_of}
+use Rattle.nl_pseg.specs.Segment.{Physical, IsClean, IsDead, IsNext, IsPhysicalOf, IsReady, IsSpent, IsUnspent, KeepsBlock, SamePages, TakenAsErased, erasures, is_free, is_soiled, soiled, use_at, wear_of}
 use Rattle.nl_pseg.specs.Seen.{use_in, use_with}
 use Rattle.nl_pseg.specs.declared.held.Held.{Held}
 
@@ -62,6 +62,37 @@ pub record IsApart (block : ℕ) (old new : Physical) : Type 0 where
   pub others_free : (other : ℕ) → (other ≡ block → ⊥) → is_free new other ≡ is_free old other
   pub others_soiled : (other : ℕ) → (other ≡ block → ⊥) → soiled new other ≡ soiled old other
   pub gone : is_free new block ≡ true → is_soiled new block ≡ false → ⊥
+
+-- A block is Free, and no page is given out. Where it was in use, it is erased before use.
+pub record IsGivenBack (block : ℕ) (old new : Physical) : Type 0 where
+  pub range : SameRange old new
+  pub held : new.held ≡ old.held
+  pub left : new.left ≤ old.left
+  pub here : is_free new block ≡ true
+  pub told : is_free old block ≡ false → soiled new block ≡ Some (erasures old block)
+  pub wear : is_free old block ≡ false → wear_of new block ≡ min (erasures old block + 1) (2 ^ 32 - 1)
+  pub others : (other : ℕ) → (other ≡ block → ⊥) → use_at new.first new.uses other ≡ use_at old.first old.uses other
+  pub others_soiled : (other : ℕ) → (other ≡ block → ⊥) → soiled new other ≡ soiled old other
+  pub erased : (p : ℕ) → TakenAsErased new p → TakenAsErased old p
+  pub same : is_free old block ≡ true → new ≡ old
+
+-- every block is Free
+abbrev pub AllFree : Physical → Type 0
+AllFree seg = (block : ℕ) → seg.first ≤ block → block < seg.blocks → is_free seg block ≡ true
+
+-- the same of each block below the end
+pub record AreGivenBack (end : ℕ) (old new : Physical) : Type 0 where
+  pub range : SameRange old new
+  pub held : new.held ≡ old.held
+  pub left : new.left ≤ old.left
+  pub each : (block : ℕ) → old.first ≤ block → block < end → is_free new block ≡ true
+  pub told : (block : ℕ) → old.first ≤ block → block < end → is_free old block ≡ false → soiled new block ≡ Some (erasures old block)
+  pub wears : (block : ℕ) → old.first ≤ block → block < end → is_free old block ≡ false → wear_of new block ≡ min (erasures old block + 1) (2 ^ 32 - 1)
+  pub later : (block : ℕ) → end ≤ block → use_at new.first new.uses block ≡ use_at old.first old.uses block
+  pub later_soiled : (block : ℕ) → end ≤ block → soiled new block ≡ soiled old block
+  pub free_before : (block : ℕ) → is_free old block ≡ true → (soiled new block ≡ soiled old block) × (wear_of new block ≡ wear_of old block)
+  pub erased : (p : ℕ) → TakenAsErased new p → TakenAsErased old p
+  pub same : AllFree old → new ≡ old
 
 -- the next page was used: it holds this
 pub record IsUsed (x : Option Held) (old new : Physical) : Type 0 where

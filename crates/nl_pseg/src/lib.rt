@@ -3,6 +3,7 @@
 #![tactic(auto)]
 
 mod find;
+mod give_back;
 mod held;
 mod open;
 mod pages;

@@ -11,7 +11,7 @@ use nl_field::Tag;
 
 impl State {
     /// Nothing more is programmed in this block before it is erased.
-    fn close(&mut self, block: u32)
+    pub fn close(&mut self, block: u32)
         requires { IsFormed self.old }
         ensures formed { IsFormed self.new }
         ensures held { self.new.held.items ≡ self.old.held.items }
@@ -30,7 +30,7 @@ impl State {
     }
 
     /// How often a block was erased, where it is not erased before use.
-    fn wear(&self, block: u32) -> u32
+    pub fn wear(&self, block: u32) -> u32
         requires has { HasBlock self.now.blocks block }
         requires within { block < length self.now.soiled.items }
         ensures { result ≡ unwrap_or (slice_index_or self.now.soiled.items block None) (use_in self.now.blocks block).wear }

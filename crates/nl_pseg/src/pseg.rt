@@ -8,7 +8,7 @@ ghost use Rattle.nl_nand.specs.Nand.{FaultsCounted, SameLeft};
 ghost use Rattle.nl_pseg.specs.Answers.{IfPlaced, IsFault, IsPlaced, ReadsHeld};
 ghost use Rattle.nl_pseg.specs.Effects.{Counted, Crashes, Programmed};
 ghost use Rattle.nl_pseg.specs.Pages.{page_with};
-ghost use Rattle.nl_pseg.specs.Segment.{CanLead, InSegment, IsClean, IsDead, IsLive, IsNewStamp, IsOldName, IsPhysicalOf, IsReady, IsSpent, IsUnspent, KeepsBlock, SamePages, TakenAsErased, held_at, is_free, is_kept, room, soiled, wear_of, without_target};
+ghost use Rattle.nl_pseg.specs.Segment.{CanLead, InSegment, IsClean, IsDead, IsLive, IsNewStamp, IsOldName, IsPhysicalOf, IsReady, IsSpent, IsUnspent, KeepsBlock, SamePages, TakenAsErased, erasures, held_at, is_free, is_kept, room, soiled, wear_of, without_target};
 ghost use Rattle.nl_pseg.specs.Seen.{Fits};
 ghost use Rattle.nl_pseg.specs.declared.held.Held.{Held as HeldOf};
 
@@ -112,6 +112,27 @@ impl PSeg {
         ensures still { (p : ℕ) → TakenAsErased self.old p → (p / self.old.size ≡ block → ⊥) → TakenAsErased self.new p }
     {
         self.state.soil(block, wear);
+    }
+
+    /// Serves an opening, while no page is live: every block is Free. One that was in use is erased before use. Where every
+    /// block was Free, nothing changes.
+    pub fn give_back(&mut self)
+        requires none { (page : ℕ) → held_at self.old page ≡ None }
+        ensures live { self.new.held ≡ self.old.held }
+        ensures pairs { self.new.pairs ≡ self.old.pairs }
+        ensures first { self.new.first ≡ self.old.first }
+        ensures blocks { self.new.blocks ≡ self.old.blocks }
+        ensures pages { self.new.size ≡ self.old.size }
+        ensures free { self.new.first + self.new.free ≡ self.new.blocks }
+        ensures left { self.new.left ≡ 0 }
+        ensures each { (block : ℕ) → self.old.first ≤ block → block < self.old.blocks → (is_free self.new block ≡ true) × (is_kept self.new block ≡ true) }
+        ensures soiled { (block : ℕ) → self.old.first ≤ block → block < self.old.blocks → is_free self.old block ≡ false → soiled self.new block ≡ Some (erasures self.old block) }
+        ensures wear { (block : ℕ) → self.old.first ≤ block → block < self.old.blocks → is_free self.old block ≡ false → wear_of self.new block ≡ min (erasures self.old block + 1) (2 ^ 32 - 1) }
+        ensures others { (block : ℕ) → is_free self.old block ≡ true → (soiled self.new block ≡ soiled self.old block) × (wear_of self.new block ≡ wear_of self.old block) }
+        ensures erased { (p : ℕ) → TakenAsErased self.new p → TakenAsErased self.old p }
+        ensures same { self.old.first + self.old.free ≡ self.old.blocks → self.new ≡ self.old }
+    {
+        self.state.give_back_all();
     }
 
     /// The page to which the name leads: the target of the pair of that old name, else the name itself.

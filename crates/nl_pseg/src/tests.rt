@@ -1,6 +1,7 @@
-ghost use Rattle.std.specs.Prelude.{◌≡◌};
+ghost use Rattle.std.specs.Prelude.{◌≡◌, ℕ, IfOk, IsTrue, None};
 ghost use Rattle.nl_nand.specs.Memory.{contents_of, geometry_of};
 ghost use Rattle.nl_pseg.specs.Rig.{IsRig};
+ghost use Rattle.nl_pseg.specs.Segment.{held_at};
 
 use crate::PSeg;
 use nl_field::{FailList, Named, NamedRead, PageBuf, Pointer, SpareRec, Tag, shape_of, spare_of};
@@ -49,7 +50,9 @@ fn owner(index: u32) -> Tag {
 }
 
 /// A blank medium with a new segment.
-fn fresh(alloc: Global, reads: FailList, writes: FailList) -> Result<Rig, Fail> {
+fn fresh(alloc: Global, reads: FailList, writes: FailList) -> Result<Rig, Fail>
+    ensures { IfOk result (λ rig. (page : ℕ) → held_at rig.seg page ≡ None) }
+{
     let Some(shape) = shape_of(32, 32) else {
         return Err(Fail::from("no shape"));
     };
@@ -125,6 +128,23 @@ impl Rig {
             Step::Free(name, stamp) => self.free(pointer(name, stamp)),
             Step::FreeBlocks => Seen::Number(self.seg.free_blocks()),
         }
+    }
+
+    /// Whether a program fails. Then what is live stays.
+    fn write_fails(&mut self) -> bool
+        ensures { IsTrue result → self.new.seg.held ≡ self.old.seg.held }
+    {
+        matches!(
+            self.seg
+                .nameless_write(&mut self.media, owner(7), &self.buf, 1),
+            Named::Fault
+        )
+    }
+
+    fn give_back(&mut self)
+        requires { (page : ℕ) → held_at self.old.seg page ≡ None }
+    {
+        self.seg.give_back();
     }
 
     /// Tells of each block that it was never erased, and does not read as erased.
@@ -256,6 +276,23 @@ fn soiled_blocks_are_erased(rt: HostRuntime) -> Result<(), Fail> {
         wear: 1,
     };
     assert_eq!(rt; rig.record(257), Some(want));
+    Ok(())
+}
+
+// The first program fails, and no page is live. Its block is given back; as it is to be erased, another one is used first.
+#[test]
+fn blocks_are_given_back(rt: HostRuntime) -> Result<(), Fail> {
+    let alloc = rt.alloc();
+    let mut writes = FailList::new(alloc);
+    writes.push(1)?;
+    let mut rig = fresh(alloc, FailList::new(alloc), writes)?;
+    if !rig.write_fails() {
+        return Err(Fail::from("placed"));
+    }
+    rig.give_back();
+    assert_eq!(rt; rig.step(Step::FreeBlocks), Seen::Number(24));
+    assert_eq!(rt; rig.write(7, 0), Seen::Placed(288, 1));
+    assert_eq!(rt; rig.counts(), (1, 0, 1));
     Ok(())
 }
 

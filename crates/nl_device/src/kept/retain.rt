@@ -1,5 +1,5 @@
-ghost use Rattle.std.specs.Prelude.{◌≡◌, ◌≤◌, ℕ, [], length, Some};
-ghost use Rattle.nl_device.specs.Retain.{AreRetained, CanLoad, CanRetain, IsFoundIn, IsFresh, IsSegmentFor, Loads, Retains};
+ghost use Rattle.std.specs.Prelude.{◌≡◌, ◌≤◌, ◌+◌, ℕ, [], length, Some};
+ghost use Rattle.nl_device.specs.Retain.{AreRetained, CanLoad, CanRetain, IsFoundIn, IsFresh, IsSegmentFor, Loads, Retains, needed_blocks};
 ghost use Rattle.nl_device.specs.Space.{live_in};
 ghost use Rattle.nl_pseg.specs.Segment.{IsClean, TakenAsErased, held_at};
 ghost use Rattle.nl_pseg.specs.declared.held.Held.{Held};
@@ -37,7 +37,8 @@ impl Kept {
         ensures segment { IsSegmentFor self.old pseg.new }
         ensures pages { length pseg.new.held ≡ length pseg.old.held }
         ensures pairs { pseg.new.pairs ≡ [] }
-        ensures free { 1 ≤ pseg.new.free }
+        ensures some_free { 1 ≤ pseg.new.free }
+        ensures free { pseg.new.free + needed_blocks self.old list.now.items ≡ self.old.count }
         ensures left { pseg.new.left ≤ pseg.old.left }
         ensures erased { (p : ℕ) → TakenAsErased pseg.new p → TakenAsErased pseg.old p }
         ensures clean { IsClean pseg.old → IsClean pseg.new }

@@ -7,6 +7,7 @@ ghost use Rattle.nl_device.specs.Marks.{marked};
 
 use super::Kept;
 use super::copies::Copies;
+use crate::marks::first_unmarked;
 use nl_field::PointerList;
 use std::collections::BTreeMap;
 
@@ -31,19 +32,6 @@ fn mark(alone: &mut Vec<bool>, copies: &BTreeMap<u64, Copies>, stamp: u64, first
             alone[(copies.first / size - first) as usize] = true;
         }
     }
-}
-
-/// The first block that is not marked.
-fn first_unmarked(alone: &Vec<bool>, first: u32) -> Option<u32>
-    requires { first + length alone.now.items < 2 ^ 32 }
-    ensures { result ≡ find (λ block. not (slice_index_or alone.now.items (block - first) false)) (range_with_len first (length alone.now.items)) }
-{
-    for at in 0..alone.len() {
-        if !alone[at] {
-            return Some(first + at as u32);
-        }
-    }
-    None
 }
 
 impl Kept {

@@ -3,6 +3,7 @@ ghost use Rattle.std.specs.Prelude.{◌≡◌, ◌||◌, ℕ, ◌+◌, ◌-◌, 
 ghost use Rattle.std.specs.List.{range_with_len};
 ghost use Rattle.nl_device.specs.Spread.{is_alone_in, spare_of, spread_more};
 
+use crate::marks::first_unmarked;
 use nl_field::Memory;
 use std::alloc::Global;
 
@@ -59,19 +60,6 @@ fn mark(held: &mut Vec<bool>, spread: Spread, first: u32)
     }
 }
 
-/// The first block that is not marked.
-fn first_left(held: &Vec<bool>, first: u32) -> Option<u32>
-    requires { first + length held.now.items < 2 ^ 32 }
-    ensures { result ≡ find (λ block. not (slice_index_or held.now.items (block - first) false)) (range_with_len first (length held.now.items)) }
-{
-    for at in 0..held.len() {
-        if !held[at] {
-            return Some(first + at as u32);
-        }
-    }
-    None
-}
-
 /// The least of the blocks from the first on, so many of them, that holds no group alone.
 pub fn least_spare(
     alloc: Global,
@@ -86,5 +74,5 @@ pub fn least_spare(
     for at in 0..spreads.len() {
         mark(&mut held, spreads[at], first);
     }
-    Ok(first_left(&held, first))
+    Ok(first_unmarked(&held, first))
 }

@@ -11,7 +11,7 @@ pub run_lines-answer-requires-clause-numbers : goal.run_lines-answer-requires-cl
 run_lines-answer-requires-clause-numbers g c = c.requires.numbers ∙ sym c.retain-2.ensures.addresses.same_shape
 
 pub run_lines-answer-requires-clause-clean : goal.run_lines-answer-requires-clause-clean
-run_lines-answer-requires-clause-clean g c = c.retain-2.ensures.clean c.requires.clean
+run_lines-answer-requires-clause-clean g c = c.retain-2.ensures.clean c.requires.free c.requires.clean
 
 pub returns-clause-ran : goal.returns-clause-ran
 returns-clause-ran g c =

@@ -1,7 +1,7 @@
 use Rattle.std.proofs.Common.{arith, subst, sym}
 use Rattle.nl_device.specs.Kept.{IsKept}
 use Rattle.nl_device.specs.Retain.{CanLoad, Loads}
-use Rattle.nl_device.proofs.Retaining.{are_retained, can_load, found_in, live_differ, one_free, retains_more, retains_none}
+use Rattle.nl_device.proofs.Retaining.{are_retained, can_load, found_in, free_blocks, live_differ, one_free, retains_more, retains_none}
 use Rattle.nl_device.proofs.kept.Kept.retain.Goals as goal
 
 pub listed-init : goal.listed-init
@@ -27,10 +27,15 @@ returns-clause-retained c =
     let is = subst (λ k. IsKept k c.self.inside.copies) c.self.view_is c.self.invariant in
     are_retained c.args.self.now c.self.inside.copies c.args.list.now.items c.listed.at c.args.pseg.now c.listed.pseg is c.requires.can c.listed.invariant.retains (omega (arith, c.listed-test.false, c.len-at-end.ensures.count))
 
+pub returns-clause-some_free : goal.returns-clause-some_free
+returns-clause-some_free c =
+    let is = subst (λ k. IsKept k c.self.inside.copies) c.self.view_is c.self.invariant in
+    one_free c.args.self.now c.self.inside.copies c.args.list.now.items c.listed.at c.args.pseg.now c.listed.pseg is c.requires.can c.listed.invariant.retains (omega (arith, c.listed-test.false, c.len-at-end.ensures.count))
+
 pub returns-clause-free : goal.returns-clause-free
 returns-clause-free c =
     let is = subst (λ k. IsKept k c.self.inside.copies) c.self.view_is c.self.invariant in
-    one_free c.args.self.now c.self.inside.copies c.args.list.now.items c.listed.at c.args.pseg.now c.listed.pseg is c.requires.can c.listed.invariant.retains (omega (arith, c.listed-test.false, c.len-at-end.ensures.count))
+    free_blocks c.args.self.now c.self.inside.copies c.args.list.now.items c.listed.at c.args.pseg.now c.listed.pseg is c.requires.can c.listed.invariant.retains (omega (arith, c.listed-test.false, c.len-at-end.ensures.count))
 
 pub returns-clause-from : goal.returns-clause-from
 returns-clause-from c =

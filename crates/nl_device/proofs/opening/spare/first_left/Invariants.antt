@@ -1,6 +1,0 @@
-use Rattle.std.proofs.Common.{◌≡◌, ℕ, ◌<◌, true, false}
-use Rattle.std.specs.Prelude.{slice_index_or}
-use Rattle.nl_device.proofs.opening.spare.first_left.Given as goal
-
-abbrev pub invariant-loop-at : goal.invariant-loop-at
-invariant-loop-at l = (i : ℕ) → i < l.at → slice_index_or l.held.items i false ≡ true

@@ -1,0 +1,41 @@
+// Serves an opening: gives blocks back that are in use while no page is live.
+ghost use Rattle.std.specs.Prelude.{◌≡◌, ◌/◌, ℕ, length, None, Some};
+ghost use Rattle.nl_blocks.specs.Table.{HasBlock};
+ghost use Rattle.nl_pseg.specs.Segment.{held_at};
+ghost use Rattle.nl_pseg.specs.Seen.{seen, IsFormed};
+ghost use Rattle.nl_pseg.specs.Steps.{AreGivenBack, IsGivenBack};
+
+use crate::state::State;
+use crate::table::{give_back, is_free};
+
+impl State {
+    /// The block is Free. Where it was in use, it is erased before use.
+    fn give_back(&mut self, block: u32)
+        requires formed { IsFormed self.old }
+        requires within { HasBlock self.old.blocks block }
+        requires none { (page : ℕ) → held_at (seen self.old) page ≡ None }
+        ensures formed { IsFormed self.new }
+        ensures given { IsGivenBack block (seen self.old) (seen self.new) }
+    {
+        if is_free(&self.blocks, block) {
+            return;
+        }
+        let wear = self.wear(block);
+        self.close(block);
+        give_back(&mut self.blocks, block, wear.saturating_add(1));
+        self.soiled[block as usize] = Some(wear);
+    }
+
+    /// Every block is Free. One that was in use is erased before use.
+    pub fn give_back_all(&mut self)
+        requires formed { IsFormed self.old }
+        requires none { (page : ℕ) → held_at (seen self.old) page ≡ None }
+        ensures formed { IsFormed self.new }
+        ensures given { AreGivenBack (seen self.old).blocks (seen self.old) (seen self.new) }
+    {
+        let first = self.blocks.first();
+        for block in first..first + self.blocks.count() {
+            self.give_back(block);
+        }
+    }
+}
