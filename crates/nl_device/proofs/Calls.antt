@@ -1,7 +1,6 @@
 -- The device after a call of the physical segment.
-use Rattle.std.proofs.Common.{◌≡◌, ◌⊎◌, inl, inr, ⊎_elim, ℕ, ◌+◌, ◌*◌, ◌<◌, ◌≤◌, ◌==◌, Bool, true, false, cond, List, [], Option, Some, None, option_map, length, get_or, set, filter, refl, sym, ◌∙◌, ap, subst, arith, eq-eqb, eqb-true}
+use Rattle.std.proofs.Common.{◌≡◌, ◌⊎◌, inl, inr, ⊎_elim, ℕ, ◌*◌, ◌<◌, ◌≤◌, true, List, [], Option, Some, None, length, refl, sym, ◌∙◌, ap, subst, arith, eq-eqb, eqb-true}
 use Rattle.std.proofs.lemmas.Bool.{cases_Bool, false≢true}
-use Rattle.std.proofs.lemmas.List.{length-set}
 use Rattle.std.proofs.lemmas.Option.{same_Some, none-some}
 use Rattle.nl_field.specs.Page.{Image, page_at}
 use Rattle.nl_field.specs.Live.{resolve}
@@ -13,7 +12,6 @@ use Rattle.nl_iface.specs.Names.{has_stamp, leads}
 use Rattle.nl_device.specs.Shown.{live_page, names_of}
 use Rattle.nl_pseg.specs.Segment.{InSegment, IsLive, IsPhysicalOf, Physical, SamePages, held_at, stamp_in, without_target}
 use Rattle.nl_pseg.specs.declared.held.Held.{Held}
-use Rattle.nl_vseg.specs.Pages.{Shows}
 use Rattle.nl_vseg.specs.Segment.{Segment}
 use Rattle.nl_device.specs.Kept.{KeptPages}
 use Rattle.nl_device.specs.Device.{HasFound, HasFree, HasLive, HasSegments, IsDevice, IsOnMedium}

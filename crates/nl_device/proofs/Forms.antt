@@ -1,5 +1,5 @@
 -- Images of the device's medium, in the numbers of the volume.
-use Rattle.std.proofs.Common.{◌≡◌, ◌⊎◌, inl, inr, ⊎_elim, ℕ, ◌+◌, ◌*◌, ◌<◌, ◌≤◌, ◌==◌, ◌&&◌, List, Option, Some, None, length, refl, sym, ◌∙◌, ap, subst, arith, eqb-true, mul-le-mul_right, true}
+use Rattle.std.proofs.Common.{◌≡◌, ◌⊎◌, inl, inr, ⊎_elim, ℕ, ◌*◌, ◌<◌, ◌≤◌, ◌==◌, List, Option, Some, None, length, sym, ◌∙◌, ap, subst, arith, eqb-true, mul-le-mul_right, true}
 use Rattle.std.specs.List.{list_all}
 use Rattle.std.proofs.lemmas.Bool.{and_parts, cases_lt}
 use Rattle.nl_field.specs.Numbers.{shape_for}

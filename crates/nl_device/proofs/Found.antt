@@ -1,5 +1,5 @@
 -- What is kept of a scan of an image: its physical pages, with their spare block and their places.
-use Rattle.std.proofs.Common.{◌≡◌, ℕ, ◌+◌, ◌*◌, ◌/◌, ◌<◌, ◌≤◌, Bool, true, false, nat_le, not, ◌&&◌, ◌||◌, cond, List, [], ◌∷◌, length, map, max, Option, Some, None, option_map, refl, sym, ◌∙◌, ap, subst, arith}
+use Rattle.std.proofs.Common.{◌≡◌, ℕ, ◌+◌, ◌/◌, ◌<◌, ◌≤◌, Bool, true, false, nat_le, not, ◌&&◌, ◌||◌, cond, List, [], ◌∷◌, map, max, Option, Some, None, option_map, refl, ◌∙◌, ap, arith}
 use Rattle.std.specs.Prelude.{◌==◌, All, filter, filter_map, find, fold}
 use Rattle.std.specs.List.{cons_option, list_all, list_any, range_with_len}
 use Rattle.std.proofs.lemmas.List.Elements.{All-cons, All-nil}
@@ -8,12 +8,11 @@ use Rattle.nl_field.specs.Page.{Image}
 use Rattle.nl_field.specs.Space.{holds_stamp, is_outside, physical_spare, place_outside, spare_block}
 use Rattle.nl_field.specs.SpareRecord.{stamp_of}
 use Rattle.nl_field.specs.declared.pointer.Pointer.{Pointer}
-use Rattle.nl_field.specs.declared.shape.Shape.{Shape}
 use Rattle.nl_field.specs.declared.spare.SpareRec.{SpareRec}
 use Rattle.nl_field.specs.declared.spare.SpareRec.TheVariants.{Virtual, Physical}
 use Rattle.nl_scan.specs.Tables.{IsTableOf, Table, greatest_stamp, seen_of}
 use Rattle.nl_scan.specs.declared.seen.Seen.{Seen}
-use Rattle.nl_device.specs.Kept.{KeptPages, has_stamp, is_at_name, kept_from, kept_pages, place_among, spare_among, with_record}
+use Rattle.nl_device.specs.Kept.{KeptPages, has_stamp, kept_from, kept_pages, place_among, spare_among, with_record}
 use Rattle.nl_device.specs.declared.kept.page.KeptPage.{KeptPage}
 use Rattle.nl_device.proofs.Gathered.{all_kept}
 

@@ -1,6 +1,6 @@
 -- What is found on an image is what it stores.
-use Rattle.std.proofs.Common.{◌≡◌, ℕ, ◌+◌, ◌*◌, ◌<◌, ◌≤◌, Bool, true, false, nat_le, not, ◌&&◌, cond, List, [], ◌∷◌, map, Option, Some, None, option_map, refl, sym, ◌∙◌, ap, subst, arith}
-use Rattle.std.specs.Prelude.{◌==◌, All, filter, filter_map, find}
+use Rattle.std.proofs.Common.{◌≡◌, ℕ, Bool, true, false, nat_le, ◌&&◌, cond, List, [], ◌∷◌, map, Option, Some, None, option_map, refl, sym, ◌∙◌, ap}
+use Rattle.std.specs.Prelude.{◌==◌, filter, filter_map, find}
 use Rattle.std.specs.List.{cons_option}
 use Rattle.std.proofs.lemmas.Option.{none-some, same_Some}
 use Rattle.nl_field.specs.Medium.{Readable, first_physical, is_physical_rec, physical_page_at, physical_pages, readable_pages, shape_of_image}

@@ -1,8 +1,7 @@
 -- A table with one entry for each key, one item more.
-use Rattle.std.proofs.Common.{◌≡◌, inl, inr, ⊎_elim, ℕ, ◌+◌, ◌<◌, ◌≤◌, ◌==◌, ◌∙◌, Bool, true, false, cond, List, [], ◌∷◌, length, length-set, take, set, get_or, refl, sym, ap, subst, arith}
-use Rattle.std.specs.Prelude.{fold, replicate}
+use Rattle.std.proofs.Common.{◌≡◌, ⊎_elim, ℕ, ◌+◌, ◌<◌, ◌≤◌, ◌==◌, ◌∙◌, cond, List, length, length-set, take, set, get_or, sym, ap, subst}
 use Rattle.std.proofs.lemmas.Bool.{cases_eq, cond-true, cond-false, eq-eqb, ne_eqb}
-use Rattle.std.proofs.lemmas.List.{get_or-replicate, get_or-set_same, get_or-set_other, length-replicate, take_all}
+use Rattle.std.proofs.lemmas.List.{get_or-set_same, get_or-set_other, take_all}
 use Rattle.std.proofs.lemmas.List.Sums.{fold_more}
 use Rattle.nl_device.specs.Opening.{Tabulates}
 use Rattle.nl_device.specs.Spread.{by_key}

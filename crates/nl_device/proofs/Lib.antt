@@ -1,4 +1,5 @@
 pub mod Alone
+pub mod Blanks
 pub mod Calls
 pub mod Counted
 pub mod Forms

@@ -1,13 +1,13 @@
 -- An image of both segments stores what the device shows.
-use Rattle.std.proofs.Common.{◌≡◌, ℕ, ◌*◌, ◌<◌, ◌≤◌, ◌∙◌, nat_lt, cond, List, [], Option, Some, None, refl, sym, ap, subst}
+use Rattle.std.proofs.Common.{◌≡◌, ℕ, ◌*◌, ◌<◌, ◌≤◌, ◌∙◌, nat_lt, List, [], Some, sym, ap, subst}
 use Rattle.std.proofs.lemmas.Bool.{cond-false, le-ltb}
 use Rattle.nl_field.specs.Page.{Image, page_at}
 use Rattle.nl_field.specs.declared.shape.Shape.{Shape}
 use Rattle.nl_nand.specs.Nand.{ImageOf}
 use Rattle.nl_nand.specs.declared.geometry.Geometry.{Geometry}
-use Rattle.nl_iface.specs.Names.{HoldsLive, LivePage}
-use Rattle.nl_iface.specs.Stored.{NamedPage, stored_in}
-use Rattle.nl_pseg.specs.Pages.{main_of, shown_by}
+use Rattle.nl_iface.specs.Names.{HoldsLive}
+use Rattle.nl_iface.specs.Stored.{stored_in}
+use Rattle.nl_pseg.specs.Pages.{main_of}
 use Rattle.nl_pseg.specs.Segment.{IsPhysicalOf, Physical, held_at}
 use Rattle.nl_vseg.specs.Pages.{Shows}
 use Rattle.nl_vseg.specs.Places.{map_of}

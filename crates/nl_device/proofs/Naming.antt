@@ -1,32 +1,30 @@
 -- What a write under a new name leaves of the medium.
-use Rattle.std.proofs.Common.{◌≡◌, ◌⊎◌, inl, inr, ⊎_elim, ℕ, ◌+◌, ◌*◌, ◌/◌, ◌<◌, ◌≤◌, nat_lt, cond, true, List, [], Option, Some, None, refl, sym, ◌∙◌, ap, subst, arith}
+use Rattle.std.proofs.Common.{◌≡◌, ◌⊎◌, inl, inr, ⊎_elim, ℕ, ◌*◌, ◌/◌, ◌<◌, ◌≤◌, nat_lt, cond, List, [], Option, Some, None, refl, sym, ◌∙◌, ap, subst, arith}
 use Rattle.std.proofs.lemmas.Bool.{cases_lt, cases_eq}
-use Rattle.std.proofs.lemmas.Option.{same_Some, none-some}
-use Rattle.nl_field.specs.Page.{Image, Page, PageBytes, erased, uncorrectable, written, page_at}
+use Rattle.std.proofs.lemmas.Option.{none-some}
+use Rattle.nl_field.specs.Page.{Image, Page, erased, written, page_at}
 use Rattle.nl_field.specs.Live.{resolve}
-use Rattle.nl_field.specs.SpareRecord.{spare_rec_of, spare_bytes}
-use Rattle.nl_field.specs.Medium.{shape_of_image}
 use Rattle.nl_field.specs.declared.pointer.Tag.{Tag}
 use Rattle.nl_field.specs.declared.shape.Shape.{Shape}
 use Rattle.nl_nand.specs.Nand.{ImageOf}
 use Rattle.nl_nand.specs.declared.geometry.Geometry.{Geometry}
-use Rattle.nl_iface.specs.Names.{ChangesInBlock, HoldsLive, IsNew, LeavesNames, LeavesNewPage, LivePage}
-use Rattle.nl_iface.specs.Stored.{NamedPage, Stored, Value, stored_in}
+use Rattle.nl_iface.specs.Names.{ChangesInBlock, HoldsLive, LeavesNames, LeavesNewPage}
+use Rattle.nl_iface.specs.Stored.{Value, stored_in}
 use Rattle.nl_pseg.specs.Effects.{Keeps, Places, Programmed, Takes}
 use Rattle.nl_pseg.specs.Pages.{IsUnreadable, main_of, page_with, shown_by}
-use Rattle.nl_pseg.specs.Segment.{InSegment, IsDead, IsPhysicalOf, Physical, held_at, wear_of}
+use Rattle.nl_pseg.specs.Segment.{IsDead, IsPhysicalOf, Physical, held_at, wear_of}
 use Rattle.nl_pseg.specs.declared.held.Held.{Held}
 use Rattle.nl_vseg.specs.Maps.{Dominated}
 use Rattle.nl_vseg.specs.Pages.{Shows, fact_of}
 use Rattle.nl_vseg.specs.Pages as virtual
-use Rattle.nl_vseg.specs.Places.{AreBelow, map_of, place_of, value_at}
-use Rattle.nl_vseg.specs.Segment.{IsSegmentOf, Segment, is_blank}
+use Rattle.nl_vseg.specs.Places.{map_of, place_of, value_at}
+use Rattle.nl_vseg.specs.Segment.{IsSegmentOf, Segment}
 use Rattle.nl_vseg.specs.declared.place.Place.{Place}
 use Rattle.nl_device.specs.Device.{HasLive, HasMapped, HasSegments}
 use Rattle.nl_device.specs.Laws.{held_of}
 use Rattle.nl_device.specs.Shown.{IsStray, bytes_at, live_page, names_of}
 use Rattle.nl_device.proofs.Forms.{begins, named_below, named_from, same_below, same_form, shape_is}
-use Rattle.nl_device.proofs.Made.{bytes_from, live_held}
+use Rattle.nl_device.proofs.Made.{live_held}
 use Rattle.nl_device.proofs.PhysicalPages.{named_of}
 
 unread : (page : Page) → IsUnreadable page → named_of (shown_by page) ≡ None

@@ -1,10 +1,6 @@
 -- The segments after a scan.
-use Rattle.std.proofs.Common.{◌≡◌, ◌⊎◌, inl, inr, ⊎_elim, ℕ, zero, suc, ◌+◌, ◌-◌, ◌*◌, ◌/◌, ◌<◌, ◌≤◌, ◌==◌, ◌∙◌, List, [], ◌∷◌, length, get_or, Option, Some, None, refl, sym, ap, subst, arith, IsTrue}
+use Rattle.std.proofs.Common.{◌≡◌, inl, inr, ℕ, suc, ◌+◌, ◌-◌, ◌*◌, ◌<◌, ◌≤◌, ◌∙◌, List, [], ◌∷◌, Option, Some, None, sym, ap, subst, arith, IsTrue}
 use Rattle.std.specs.Prelude.{All, IfSome, filter}
-use Rattle.std.proofs.lemmas.Bool.{cases_lt}
-use Rattle.std.proofs.lemmas.List.{get_or_past}
-use Rattle.nl_field.specs.Medium.{first_physical}
-use Rattle.nl_field.specs.SpareRecord.{is_spare, stamp_of}
 use Rattle.nl_field.specs.Spelling.{is_stamp}
 use Rattle.nl_field.specs.declared.shape.Shape.{Shape}
 use Rattle.nl_scan.specs.Tables.{IsSeen, Table}

@@ -1,6 +1,6 @@
 -- The readable pages of the virtual segment.
-use Rattle.std.proofs.Common.{◌≡◌, ◌⊎◌, inl, inr, ⊎_elim, ℕ, zero, suc, ◌+◌, ◌*◌, ◌<◌, ◌==◌, ◌∙◌, nat_lt, Bool, true, false, cond, List, [], ◌∷◌, ◌++◌, length, take, get_or, Option, Some, None, refl, sym, ap, subst, arith}
-use Rattle.std.specs.Prelude.{All, filter, filter_map, slice_get}
+use Rattle.std.proofs.Common.{◌≡◌, inl, inr, ℕ, zero, suc, ◌+◌, ◌<◌, ◌==◌, ◌∙◌, nat_lt, Bool, true, cond, List, [], ◌∷◌, ◌++◌, take, get_or, Some, None, refl, sym, ap, subst, arith}
+use Rattle.std.specs.Prelude.{All, filter, slice_get}
 use Rattle.std.specs.List.{cons_option}
 use Rattle.std.proofs.lemmas.Bool.{cases_Bool, cond-true, cond-false, ltb-true}
 use Rattle.std.proofs.lemmas.List.{take_more}
@@ -13,7 +13,7 @@ use Rattle.nl_field.specs.declared.spare.SpareRec.{SpareRec}
 use Rattle.nl_field.specs.declared.spare.SpareRec.TheVariants.{Virtual, Physical}
 use Rattle.nl_scan.specs.declared.seen.Seen.{Seen}
 use Rattle.nl_vseg.proofs.Members.{In, filter_to, filter_map_to}
-use Rattle.nl_device.specs.Opening.{greatest_of, newest_of, needed_of, own_in, own_of, owns_of}
+use Rattle.nl_device.specs.Opening.{greatest_of, newest_of, own_in, own_of, owns_of}
 use Rattle.nl_device.specs.declared.opening.own.Own.{Own}
 
 -- the page of the virtual segment that a seen page is

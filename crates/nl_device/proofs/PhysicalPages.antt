@@ -1,5 +1,5 @@
 -- What an image stores in the physical segment, page by page.
-use Rattle.std.proofs.Common.{◌≡◌, ◌⊎◌, inl, inr, ⊎_elim, ℕ, zero, suc, ◌+◌, ◌<◌, ◌≤◌, ◌==◌, nat_le, Bool, true, false, cond, ◌&&◌, Option, Some, None, List, [], ◌∷◌, get_or, filter, filter_map, find, option_map, refl, sym, ◌∙◌, ap, subst, arith, eq-eqb, ne_eqb}
+use Rattle.std.proofs.Common.{◌≡◌, ◌⊎◌, inl, inr, ⊎_elim, ℕ, zero, suc, ◌+◌, ◌<◌, ◌≤◌, ◌==◌, nat_le, Bool, true, false, cond, ◌&&◌, Option, Some, None, List, [], ◌∷◌, get_or, filter, filter_map, find, option_map, refl, sym, ◌∙◌, ap, arith, eq-eqb, ne_eqb}
 use Rattle.std.specs.List.{enumerate_from, cons_option}
 use Rattle.std.proofs.lemmas.Bool.{cases_eq, le-leb, lt-leb}
 use Rattle.std.proofs.lemmas.Option.{none-some, same_Some}

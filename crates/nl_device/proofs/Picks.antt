@@ -1,12 +1,11 @@
 -- The page that an address takes is its first one outside the spare block, else its first.
-use Rattle.std.proofs.Common.{◌≡◌, ◌⊎◌, inl, inr, ⊎_elim, ℕ, ◌+◌, ◌<◌, ◌==◌, ◌∙◌, Bool, true, false, ◌&&◌, cond, List, [], ◌∷◌, length, get_or, Option, Some, None, refl, sym, ap, subst, arith}
+use Rattle.std.proofs.Common.{◌≡◌, ◌⊎◌, inl, inr, ℕ, ◌==◌, ◌∙◌, Bool, true, false, ◌&&◌, cond, List, [], ◌∷◌, Option, Some, None, refl, sym, ap}
 use Rattle.std.specs.Prelude.{find, fold}
-use Rattle.std.proofs.lemmas.Bool.{and_from, and_left, and_parts, and_right, cases_Bool, cond-true, cond-false, eqb-true}
+use Rattle.std.proofs.lemmas.Bool.{and_from, and_parts, cases_Bool, cond-true, cond-false, eqb-true}
 use Rattle.std.proofs.lemmas.Option.{none-some, same_Some}
 use Rattle.nl_field.specs.Space.{is_outside}
-use Rattle.nl_vseg.proofs.Members.{In, any_to, find_in}
+use Rattle.nl_vseg.proofs.Members.{In, find_in}
 use Rattle.nl_device.specs.Opening.{filled, first_outside, or_else, pick_of, with_pick}
-use Rattle.nl_device.specs.Spread.{by_key}
 use Rattle.nl_device.specs.declared.opening.own.Own.{Own}
 
 or_none : {X : Type 0} (o : Option X) → or_else o None ≡ o

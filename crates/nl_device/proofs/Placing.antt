@@ -1,17 +1,14 @@
 -- The answers of a write under a new name.
-use Rattle.std.proofs.Common.{◌≡◌, ◌⊎◌, inl, inr, ⊎_elim, ℕ, ◌+◌, ◌-◌, ◌*◌, ◌/◌, ◌<◌, ◌≤◌, Bool, true, false, cond, List, [], Option, Some, None, length, get_or, set, refl, sym, ◌∙◌, ap, subst, arith}
-use Rattle.std.proofs.lemmas.List.{length-set}
-use Rattle.nl_field.specs.CrashStates.{Rose, saturated}
+use Rattle.std.proofs.Common.{◌≡◌, ◌⊎◌, inl, inr, ⊎_elim, ℕ, ◌+◌, ◌≤◌, true, cond, refl, sym, ◌∙◌, ap, subst, arith}
+use Rattle.nl_field.specs.CrashStates.{saturated}
 use Rattle.nl_field.specs.declared.answers.Named.{Named}
 use Rattle.nl_field.specs.declared.answers.Named.TheVariants as named
 use Rattle.nl_field.specs.declared.pointer.Pointer.{Pointer}
-use Rattle.nl_field.specs.declared.pointer.Tag.{Tag}
 use Rattle.nl_iface.specs.Answers as shown
 use Rattle.nl_iface.specs.Counting.{FailuresCounted}
-use Rattle.nl_iface.specs.Space.{WriteFailed, Wrote}
+use Rattle.nl_iface.specs.Space.{WriteFailed}
 use Rattle.nl_pseg.specs.Answers.{IfPlaced, IsFault, IsPlaced, Names}
-use Rattle.nl_pseg.specs.Segment.{IsClean, IsDead, IsReady, IsSpent, IsUnspent, Physical, SamePages, held_at, room}
-use Rattle.nl_pseg.specs.declared.held.Held.{Held}
+use Rattle.nl_pseg.specs.Segment.{IsClean, IsReady, IsSpent, IsUnspent, Physical, SamePages, room}
 use Rattle.nl_device.specs.Device.{HasFree}
 use Rattle.nl_device.specs.Space.{space_of}
 use Rattle.nl_device.specs.Stamps.{is_tried}

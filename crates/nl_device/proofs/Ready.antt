@@ -1,5 +1,5 @@
 -- What a started device shows of its medium.
-use Rattle.std.proofs.Common.{rules, ◌≡◌, ◌⊎◌, inl, inr, ⊎_elim, ℕ, zero, suc, ◌+◌, ◌*◌, ◌/◌, ◌<◌, ◌≤◌, ◌==◌, not, ◌&&◌, ◌||◌, cond, Bool, true, false, List, [], ◌∷◌, map, filter, find, Option, Some, None, is_some, IsSome, length, option_map, refl, sym, ◌∙◌, ap, subst, arith}
+use Rattle.std.proofs.Common.{rules, ◌≡◌, inl, inr, ℕ, zero, suc, ◌+◌, ◌*◌, ◌/◌, ◌<◌, ◌==◌, not, ◌&&◌, ◌||◌, cond, Bool, true, false, List, [], ◌∷◌, find, Option, Some, None, is_some, IsSome, refl, sym, ◌∙◌, ap, arith}
 use Rattle.std.specs.List.{list_all, list_any, range_with_len}
 use Rattle.std.proofs.lemmas.Bool.{cases_lt}
 use Rattle.std.proofs.lemmas.List.Elements.{All-nil}
@@ -8,15 +8,14 @@ use Rattle.nl_field.specs.Page.{Image, Page, erased, uncorrectable, written, pag
 use Rattle.nl_field.specs.Medium.{first_physical, shape_of_image}
 use Rattle.nl_field.specs.Numbers.{shape_for}
 use Rattle.nl_field.specs.SpareRecord.{spare_rec_of}
-use Rattle.nl_field.specs.declared.pointer.Pointer.{Pointer}
 use Rattle.nl_field.specs.declared.shape.Shape.{Shape}
 use Rattle.nl_field.specs.declared.spare.SpareRec.{SpareRec}
 use Rattle.nl_field.specs.declared.spare.SpareRec.TheVariants.{Virtual, Physical}
-use Rattle.nl_iface.specs.Names.{HoldsLive, LivePage}
+use Rattle.nl_iface.specs.Names.{HoldsLive}
 use Rattle.nl_iface.specs.Stored.{NamedPage, stored_in}
-use Rattle.nl_pseg.specs.Pages.{Shown, main_of, shown_by, shown_in, shown_with}
+use Rattle.nl_pseg.specs.Pages.{main_of, shown_by, shown_with}
 use Rattle.nl_scan.specs.Tables.{IsTableOf, Table}
-use Rattle.nl_device.specs.Kept.{KeptPages, is_at_name, kept_pages, spare_among}
+use Rattle.nl_device.specs.Kept.{KeptPages, kept_pages, spare_among}
 use Rattle.nl_device.specs.Retain.{CanRetain, spare_for}
 use Rattle.nl_device.specs.Shown.{bytes_at, found_in}
 use Rattle.nl_device.specs.declared.kept.page.KeptPage.{KeptPage}

@@ -1,5 +1,5 @@
 -- What an image stores at the addresses, where its pages show a map.
-use Rattle.std.proofs.Common.{◌≡◌, ◌⊎◌, inl, inr, ⊎_elim, ℕ, ◌+◌, ◌*◌, ◌<◌, ◌≤◌, ◌==◌, nat_lt, Bool, true, false, not, ◌&&◌, Option, Some, None, List, [], ◌∷◌, filter, find, option_map, bytes_eq, refl, sym, ◌∙◌, ap, subst, arith, eq-eqb, eqb-true}
+use Rattle.std.proofs.Common.{◌≡◌, ◌⊎◌, inl, inr, ⊎_elim, ℕ, ◌<◌, ◌≤◌, ◌==◌, nat_lt, Bool, true, not, ◌&&◌, Option, Some, None, List, [], ◌∷◌, filter, find, option_map, bytes_eq, refl, sym, ◌∙◌, ap, subst, arith, eq-eqb, eqb-true}
 use Rattle.std.specs.List.{list_any}
 use Rattle.std.proofs.lemmas.Bool.{cases_lt, cases_eq, cases_Bool, and_parts, and_from, lt-ltb, ltb-true, not-true, false≢true}
 use Rattle.std.proofs.lemmas.Option.{none-some, same_Some}
@@ -8,7 +8,7 @@ use Rattle.nl_field.specs.Page.{Image}
 use Rattle.nl_field.specs.Medium.{Readable, virtual_pages, shape_of_image, first_physical, address_on, stamp_on}
 use Rattle.nl_field.specs.Space.{has_greatest_stamp, virtual_spare, is_outside}
 use Rattle.nl_field.specs.Virtual.{or_first_in, newest}
-use Rattle.nl_iface.specs.Stored.{Value, Shows as StoresMap, Stored, stored_in, value_on}
+use Rattle.nl_iface.specs.Stored.{Value, Shows as StoresMap, stored_in, value_on}
 use Rattle.nl_vseg.specs.Maps.{Dominated}
 use Rattle.nl_vseg.specs.Pages.{Shows}
 use Rattle.nl_vseg.proofs.Members.{In, filter_to, filter_from, any_from, any_to, find_in}

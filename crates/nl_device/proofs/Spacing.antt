@@ -1,13 +1,13 @@
 -- The numbers of the space after a call.
-use Rattle.std.proofs.Common.{◌≡◌, ◌⊎◌, inl, inr, ⊎_elim, ℕ, zero, suc, ◌+◌, ◌-◌, ◌*◌, ◌<◌, ◌≤◌, nat_le, Bool, true, false, cond, List, [], Option, Some, None, is_some, length, sum_by, get_or, set, take, drop, ◌/◌, refl, sym, ◌∙◌, ap, subst, arith, mul-le-mul_right, add-mul}
-use Rattle.std.proofs.lemmas.Bool.{cases_lt, le-leb, lt-leb, cond-true, cond-false}
+use Rattle.std.proofs.Common.{◌≡◌, ◌⊎◌, inl, inr, ⊎_elim, ℕ, zero, suc, ◌+◌, ◌-◌, ◌*◌, ◌<◌, ◌≤◌, nat_le, Bool, true, false, cond, List, [], Option, Some, None, is_some, length, get_or, set, refl, sym, ◌∙◌, ap, subst, arith, mul-le-mul_right, add-mul}
+use Rattle.std.proofs.lemmas.Bool.{cases_lt, le-leb, lt-leb}
 use Rattle.std.proofs.lemmas.List.{get_or-set_other, length-set}
 use Rattle.std.proofs.lemmas.List.Sums.{sum_by-set}
 use Rattle.nl_iface.specs.Space.{Freed, IsSpace, WriteFailed, Wrote}
-use Rattle.nl_pseg.specs.Segment.{IsSpent, IsUnspent, Physical, SamePages, held_at, room}
+use Rattle.nl_pseg.specs.Segment.{IsSpent, IsUnspent, Physical, SamePages, room}
 use Rattle.nl_pseg.specs.declared.held.Held.{Held}
 use Rattle.nl_device.specs.Device.{HasFree}
-use Rattle.nl_device.specs.Space.{all_pages, live_in, open_live, open_pages, space_of}
+use Rattle.nl_device.specs.Space.{live_in, space_of}
 
 -- One page of the block that is written to, or of a Free block: a block is Free still.
 spent_numbers : (s left free left' free' : ℕ) → 1 ≤ free → left ≤ s → left' + (free' - 1) * s + 1 ≡ left + (free - 1) * s → free' + cond (nat_le 1 left) 0 1 ≡ free → (1 ≤ free') × (left' ≤ s)

@@ -1,5 +1,5 @@
 -- The tables of a device after a scan.
-use Rattle.std.proofs.Common.{◌≡◌, ◌⊎◌, inl, inr, ⊎_elim, ℕ, ◌+◌, ◌-◌, ◌*◌, ◌<◌, ◌≤◌, ◌∙◌, List, [], ◌∷◌, length, replicate, get_or, max, Option, Some, None, option_map, refl, sym, ap, subst, arith, IsTrue}
+use Rattle.std.proofs.Common.{◌≡◌, inl, inr, ⊎_elim, ℕ, ◌+◌, ◌-◌, ◌*◌, ◌<◌, ◌≤◌, ◌∙◌, List, [], ◌∷◌, length, replicate, get_or, max, Option, Some, None, option_map, refl, sym, ap, subst, arith, IsTrue}
 use Rattle.std.specs.Prelude.{fold}
 use Rattle.std.proofs.lemmas.Bool.{cases_lt}
 use Rattle.std.proofs.lemmas.List.{get_or-replicate, get_or_past, length-replicate}
@@ -12,12 +12,12 @@ use Rattle.nl_iface.specs.Space.{IsSpace}
 use Rattle.nl_nand.specs.declared.geometry.Geometry.{Geometry}
 use Rattle.nl_pseg.proofs.Numbers.{block_from}
 use Rattle.nl_pseg.proofs.Shapes.{IsRoomy, is_roomy}
-use Rattle.nl_pseg.specs.Segment.{Physical, held_at}
+use Rattle.nl_pseg.specs.Segment.{Physical}
 use Rattle.nl_pseg.specs.declared.held.Held.{Held}
 use Rattle.nl_scan.specs.Tables.{Table, greatest_stamp}
 use Rattle.nl_scan.specs.declared.seen.Seen.{Seen}
 use Rattle.nl_vseg.proofs.Members.{In}
-use Rattle.nl_vseg.specs.Places.{place_of, stamp_for, stamp_in_place}
+use Rattle.nl_vseg.specs.Places.{place_of, stamp_in_place}
 use Rattle.nl_vseg.specs.Segment.{Segment}
 use Rattle.nl_vseg.specs.declared.place.Place.{Place}
 use Rattle.nl_device.specs.Device.{HasFree, HasLive, HasMapped, HasSegments, IsDevice, IsNextStamp, IsOnMedium}

@@ -1,9 +1,8 @@
 -- What an image stores of the virtual addresses depends on the pages of their segment alone.
-use Rattle.std.proofs.Common.{◌≡◌, ◌⊎◌, inl, inr, ⊎_elim, ℕ, zero, suc, ◌+◌, ◌<◌, ◌≤◌, ◌==◌, nat_lt, Bool, true, false, cond, not, ◌&&◌, ◌||◌, ◌/◌, Option, Some, None, List, [], ◌∷◌, length, get_or, filter, filter_map, find, option_map, refl, sym, ◌∙◌, ap, subst, arith}
+use Rattle.std.proofs.Common.{◌≡◌, ⊎_elim, ℕ, suc, ◌+◌, ◌<◌, ◌≤◌, ◌==◌, nat_lt, Bool, false, cond, not, ◌&&◌, ◌||◌, ◌/◌, Option, Some, None, List, [], ◌∷◌, length, get_or, filter, filter_map, find, option_map, refl, sym, ◌∙◌, ap, arith}
 use Rattle.std.specs.List.{enumerate_from, cons_option, list_all, list_any, range_with_len}
-use Rattle.std.proofs.lemmas.Bool.{cases_lt, ltb-false, le-ltb}
-use Rattle.std.proofs.lemmas.Option.{none-some, same_Some}
-use Rattle.nl_field.specs.Page.{Page, erased, uncorrectable, written, Image, page_at}
+use Rattle.std.proofs.lemmas.Bool.{cases_lt, le-ltb}
+use Rattle.nl_field.specs.Page.{Page, erased, Image, page_at}
 use Rattle.nl_field.specs.Numbers.{shape_for}
 use Rattle.nl_field.specs.Medium.{Readable, readable, readable_pages, virtual_pages, first_physical, shape_of_image, is_virtual_rec, address_on, stamp_on}
 use Rattle.nl_field.specs.Space.{has_greatest_stamp, is_outside, spare_block, virtual_spare}

@@ -1,20 +1,19 @@
 -- What a write by a virtual address leaves.
-use Rattle.std.proofs.Common.{◌≡◌, ◌⊎◌, inl, inr, ⊎_elim, ℕ, ◌+◌, ◌*◌, ◌<◌, ◌≤◌, ◌==◌, if◌then◌else◌, nat_lt, List, [], Option, Some, None, cond, Bool, true, false, refl, sym, ◌∙◌, ap, subst, arith, eq-eqb, ne_eqb}
+use Rattle.std.proofs.Common.{◌≡◌, ◌⊎◌, inl, inr, ⊎_elim, ℕ, ◌+◌, ◌*◌, ◌<◌, ◌≤◌, ◌==◌, if◌then◌else◌, nat_lt, List, [], Option, Some, cond, Bool, true, false, refl, sym, ◌∙◌, ap, subst, arith, eq-eqb, ne_eqb}
 use Rattle.std.proofs.lemmas.Bool.{cases_eq, cases_lt, cond-true, cond-false, lt-ltb}
-use Rattle.std.proofs.lemmas.Option.{same_Some, none-some}
+use Rattle.std.proofs.lemmas.Option.{same_Some}
 use Rattle.nl_field.specs.Page.{Image, page_at}
 use Rattle.nl_field.specs.Medium.{shape_of_image}
 use Rattle.nl_field.specs.CrashStates.{Rose, saturated}
 use Rattle.nl_field.specs.declared.answers.VirtualWrite.{VirtualWrite}
 use Rattle.nl_field.specs.declared.answers.VirtualWrite.TheVariants as write
 use Rattle.nl_field.specs.declared.shape.Shape.{Shape}
-use Rattle.nl_iface.specs.Stored.{LeavesMap, Stored, Value, stored_in, with_value}
+use Rattle.nl_iface.specs.Stored.{LeavesMap, Value, stored_in, with_value}
 use Rattle.nl_vseg.specs.Effects.{Keeps, Takes}
 use Rattle.nl_vseg.specs.Maps.{Dominated}
 use Rattle.nl_vseg.specs.Pages.{Shows}
-use Rattle.nl_pseg.specs.Segment.{InSegment, IsPhysicalOf, Physical, TakenAsErased, held_at}
+use Rattle.nl_pseg.specs.Segment.{IsPhysicalOf, Physical}
 use Rattle.nl_pseg.specs.Pages.{main_of, shown_by}
-use Rattle.nl_pseg.specs.declared.held.Held.{Held}
 use Rattle.nl_device.specs.Device.{HasLive}
 use Rattle.nl_device.specs.Shown.{IsStray, bytes_at}
 use Rattle.nl_device.proofs.Forms.{same_from, stores_map}

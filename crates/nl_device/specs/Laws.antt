@@ -6,14 +6,14 @@ use Rattle.nl_field.specs.Page.{Image}
 use Rattle.nl_field.specs.declared.shape.Shape.{Shape}
 use Rattle.nl_nand.specs.declared.geometry.Geometry.{Geometry}
 use Rattle.nl_iface.specs.Device.{IsDeviceState, entry_with, state_of}
-use Rattle.nl_iface.specs.Names.{LivePage, Names}
+use Rattle.nl_iface.specs.Names.{LivePage}
 use Rattle.nl_iface.specs.Stored.{Value}
 use Rattle.nl_pseg.specs.Segment.{Physical, held_at}
 use Rattle.nl_pseg.specs.declared.held.Held.{Held}
 use Rattle.nl_vseg.specs.Places.{map_of, place_of, stamp_for, stamp_in_place, value_at}
 use Rattle.nl_vseg.specs.Segment.{Segment}
 use Rattle.nl_vseg.specs.declared.place.Place.{Place}
-use Rattle.nl_device.specs.Device.{HasLive, HasSegments, IsDevice}
+use Rattle.nl_device.specs.Device.{HasLive, IsDevice}
 use Rattle.nl_device.specs.Kept.{KeptPages}
 use Rattle.nl_device.specs.Shown.{live_page, names_of}
 use Rattle.nl_device.specs.Space.{space_of}

@@ -1,5 +1,5 @@
 -- What an opening takes from the readable pages that a scan saw.
-use Rattle.std.specs.Prelude.{◌≡◌, ℕ, ◌+◌, ◌*◌, ◌/◌, ◌<◌, ◌≤◌, ◌==◌, nat_lt, max, Bool, true, false, ◌&&◌, if◌then◌else◌, List, [], length, filter, filter_map, find, slice_index_or, Option, Some, None, option_map, replicate, IsTrue}
+use Rattle.std.specs.Prelude.{◌≡◌, ℕ, ◌*◌, ◌/◌, ◌<◌, ◌≤◌, ◌==◌, nat_lt, max, Bool, true, false, ◌&&◌, if◌then◌else◌, List, [], length, filter, filter_map, find, slice_index_or, Option, Some, None, option_map, replicate, IsTrue}
 use Rattle.nl_field.specs.Medium.{first_physical}
 use Rattle.nl_field.specs.Space.{is_outside}
 use Rattle.nl_field.specs.Spelling.{is_stamp}

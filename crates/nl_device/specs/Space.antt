@@ -1,5 +1,5 @@
 -- The numbers of a physical segment's space.
-use Rattle.std.specs.Prelude.{ℕ, ◌+◌, ◌-◌, ◌*◌, nat_le, cond, List, length, sum_by, take, drop, ◌/◌, Option, is_some}
+use Rattle.std.specs.Prelude.{ℕ, ◌-◌, ◌*◌, nat_le, cond, List, length, sum_by, take, drop, ◌/◌, Option, is_some}
 use Rattle.nl_iface.specs.Space.{Space}
 use Rattle.nl_pseg.specs.Segment.{Physical, room}
 use Rattle.nl_pseg.specs.declared.held.Held.{Held}

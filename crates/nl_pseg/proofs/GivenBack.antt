@@ -3,10 +3,10 @@ use Rattle.std.proofs.Common.{◌≡◌, inl, inr, ⊎_elim, ℕ, zero, suc, ◌
 use Rattle.std.proofs.lemmas.Bool.{cases_Bool, cases_eq, cases_lt, true≢false}
 use Rattle.std.proofs.lemmas.List.Sums.{count_by-le-length, sum_by-cons}
 use Rattle.nl_blocks.specs.declared.states.BlockState.{BlockState}
-use Rattle.nl_blocks.specs.Table.{BlockRow, Table, HasBlock, block_at, free_count, is_free_state, row_at}
+use Rattle.nl_blocks.specs.Table.{BlockRow, HasBlock, is_free_state, row_at}
 use Rattle.nl_blocks.specs.Table.{is_free as is_free_row}
 use Rattle.nl_pseg.specs.Segment.{Physical, Use, erasures, is_free, soiled, wear_of}
-use Rattle.nl_pseg.specs.Seen.{IsFormed, seen, use_in}
+use Rattle.nl_pseg.specs.Seen.{IsFormed, seen}
 use Rattle.nl_pseg.specs.Steps.{AllFree, AreGivenBack, IsGivenBack}
 use Rattle.nl_pseg.specs.declared.state.State.{State}
 use Rattle.nl_pseg.proofs.Tables.{use_here}

@@ -1,12 +1,12 @@
 -- What holds of a state.
-use Rattle.std.proofs.Common.{◌≡◌, inl, inr, ℕ, ◌+◌, ◌-◌, ◌*◌, ◌/◌, ◌<◌, ◌≤◌, nat_le, true, false, List, length, map, refl, sym, ◌∙◌, ap, subst, arith}
+use Rattle.std.proofs.Common.{◌≡◌, inl, inr, ℕ, ◌+◌, ◌-◌, ◌*◌, ◌/◌, ◌<◌, ◌≤◌, nat_le, true, false, List, length, map, refl, sym, ◌∙◌, ap, arith}
 use Rattle.std.proofs.lemmas.Bool.{cases_Bool, cases_lt, false≢true, leb-true}
 use Rattle.std.proofs.lemmas.List.{get_or_past, length-map}
 use Rattle.std.proofs.lemmas.Nat.{div_below}
 use Rattle.nl_blocks.specs.declared.states.BlockState.{BlockState}
-use Rattle.nl_blocks.specs.Table.{Table, HasBlock, block_at, is_free_state}
+use Rattle.nl_blocks.specs.Table.{HasBlock, is_free_state}
 use Rattle.nl_pseg.specs.Segment.{Use, IsNext, InSegment, TakenAsErased, is_free, no_use, use_at}
-use Rattle.nl_pseg.specs.Seen.{IsFormed, is_kept_state, seen, use_in, use_of}
+use Rattle.nl_pseg.specs.Seen.{IsFormed, seen, use_of}
 use Rattle.nl_pseg.specs.declared.state.State.{State}
 use Rattle.nl_pseg.proofs.Numbers.{in_block, block_of, block_below, block_from}
 use Rattle.nl_pseg.proofs.Tables.{use_before, use_from, use_here}

@@ -1,6 +1,6 @@
 -- What a write leaves of the segment's pages, and what a stop within it may leave.
 use Rattle.std.specs.Prelude.{◌≡◌, ◌⊎◌, ℕ, ◌+◌, ◌/◌, ◌≤◌, List, true, Some}
-use Rattle.nl_field.specs.CrashStates.{Earlier, LeavesOnly, Rose, Turns, saturated}
+use Rattle.nl_field.specs.CrashStates.{Earlier, LeavesOnly, Turns, saturated}
 use Rattle.nl_field.specs.Page.{Image, Page, erased, written, page_at}
 use Rattle.nl_field.specs.declared.answers.Named.{Named}
 use Rattle.nl_field.specs.declared.pointer.Tag.{Tag}

@@ -1,4 +1,4 @@
-use Rattle.std.proofs.Common.{◌≡◌, ◌+◌, ◌*◌, sym, ap, subst, All}
+use Rattle.std.proofs.Common.{◌*◌, sym, subst, All}
 use Rattle.nl_pseg.proofs.Shapes.{IsRoomy, is_roomy}
 use Rattle.nl_scan.specs.Tables.{IsSeen}
 use Rattle.nl_device.proofs.start.after_scan.Goals as goal

@@ -1,4 +1,4 @@
-use Rattle.std.proofs.Common.{◌≡◌, sym, ◌∙◌}
+use Rattle.std.proofs.Common.{sym, ◌∙◌}
 use Rattle.nl_device.proofs.Spacing.{free_is}
 use Rattle.nl_device.proofs.device.Device.free_blocks.Goals as goal
 

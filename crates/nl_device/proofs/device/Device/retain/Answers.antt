@@ -1,4 +1,4 @@
-use Rattle.std.proofs.Common.{◌≡◌, ◌+◌, ◌∙◌, ap, arith, length, subst, sym}
+use Rattle.std.proofs.Common.{◌+◌, ◌∙◌, ap, arith, length, subst, sym}
 use Rattle.nl_pseg.specs.Segment.{IsClean}
 use Rattle.nl_device.specs.Device.{IsDevice}
 use Rattle.nl_device.specs.Retain.{IsSegmentFor, needed_blocks}

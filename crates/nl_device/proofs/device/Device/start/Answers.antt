@@ -1,14 +1,12 @@
-use Rattle.std.proofs.Common.{◌≡◌, ◌+◌, ◌<◌, ◌≤◌, ℕ, ◌∙◌, sym, ap, subst, IsTrue, option_map, Option, Some, arith}
+use Rattle.std.proofs.Common.{◌≡◌, ◌<◌, ◌∙◌, sym, ap, subst, IsTrue, arith}
 use Rattle.nl_field.specs.Numbers.{is_legal, shape_for}
 use Rattle.nl_field.specs.Page.{Image}
 use Rattle.nl_field.specs.Medium.{shape_of_image}
-use Rattle.nl_field.specs.Virtual.{newest}
 use Rattle.nl_field.specs.declared.shape.Shape.{Shape}
 use Rattle.nl_nand.specs.declared.geometry.Geometry.{Geometry}
 use Rattle.nl_pseg.proofs.Shapes.{IsRoomy, is_roomy}
 use Rattle.nl_nand.specs.Nand.{ImageOf}
-use Rattle.nl_scan.specs.Tables.{FitsMedium, IsTableOf, Table, greatest_stamp}
-use Rattle.nl_iface.specs.Stored.{value_on}
+use Rattle.nl_scan.specs.Tables.{FitsMedium, IsTableOf, Table}
 use Rattle.nl_vseg.specs.Places.{map_of}
 use Rattle.nl_device.specs.Device.{IsDevice}
 use Rattle.nl_device.specs.Kept.{KeptPages}

@@ -1,4 +1,4 @@
-use Rattle.std.proofs.Common.{◌≡◌, ◌+◌, inl, inr, ⊎_elim, true, false, refl, sym, ap, ◌∙◌, subst, ℕ, ◌≤◌, ◌<◌, arith, length, get_or, set, List, Option, Some, None}
+use Rattle.std.proofs.Common.{◌≡◌, ◌+◌, ⊎_elim, true, false, refl, sym, ap, ◌∙◌, subst, arith, length, get_or, set, List, Option, None}
 use Rattle.std.proofs.lemmas.Bool.{OnFalse_at, OnTrue_at, cases_Bool}
 use Rattle.std.proofs.lemmas.List.{length-set}
 use Rattle.nl_field.specs.Live.{resolve}

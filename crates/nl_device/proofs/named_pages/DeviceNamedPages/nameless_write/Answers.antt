@@ -1,26 +1,23 @@
-use Rattle.std.proofs.Common.{◌≡◌, ◌⊎◌, inl, inr, ⊎_elim, true, false, refl, sym, ap, ◌∙◌, subst, ℕ, ◌+◌, ◌*◌, ◌/◌, ◌≤◌, ◌<◌, arith, length, get_or, set, cond, List, Option, Some, None}
+use Rattle.std.proofs.Common.{◌≡◌, inl, inr, ⊎_elim, refl, sym, ap, ◌∙◌, subst, ℕ, ◌+◌, ◌*◌, ◌/◌, ◌≤◌, ◌<◌, arith, length, get_or, cond, List, Option, Some, None}
 use Rattle.std.proofs.lemmas.List.{get_or-set_same, length-set}
-use Rattle.nl_field.specs.Page.{Page, Image, written, page_at}
+use Rattle.nl_field.specs.Page.{Page, written, page_at}
 use Rattle.nl_field.specs.declared.answers.Named.TheVariants as named
 use Rattle.nl_field.specs.declared.pointer.Pointer.{Pointer}
 use Rattle.nl_nand.specs.Nand.{ImageOf}
 use Rattle.nl_iface.specs.Answers as shown
-use Rattle.nl_iface.specs.Names.{ChangesInBlock, with_page}
-use Rattle.nl_iface.specs.Space.{Wrote}
-use Rattle.nl_iface.specs.Stored.{stored_in}
-use Rattle.nl_pseg.specs.Effects.{Keeps, Programmed, Takes}
+use Rattle.nl_pseg.specs.Effects.{Programmed, Takes}
 use Rattle.nl_pseg.specs.Pages.{main_of, page_with, shown_by}
-use Rattle.nl_pseg.specs.Segment.{IsDead, held_at, wear_of}
+use Rattle.nl_pseg.specs.Segment.{held_at, wear_of}
 use Rattle.nl_pseg.specs.declared.held.Held.{Held}
 use Rattle.nl_device.specs.Laws.{held_of}
-use Rattle.nl_device.specs.Shown.{bytes_at, live_page}
-use Rattle.nl_device.specs.Space.{live_in, space_of}
+use Rattle.nl_device.specs.Shown.{live_page}
+use Rattle.nl_device.specs.Space.{live_in}
 use Rattle.nl_device.proofs.Forms.{begins, lift}
 use Rattle.nl_device.proofs.Calls.{device_with, in_within, medium_with}
 use Rattle.nl_device.proofs.Living.{live_kept, live_more, set_held, set_live}
 use Rattle.nl_device.proofs.Made.{bytes_from}
 use Rattle.nl_device.proofs.Naming.{either_live, either_low, in_block, leaves_names, leaves_new, live_bytes, map_same, placed_takes, shown_from, stray_same, to_takes}
-use Rattle.nl_device.proofs.Placing.{after_placed, after_rises, counted, fault_no, fault_room, fault_space, free_after, from_placed, names_page, placed_at, placed_both, placed_map, placed_or, placed_yes, room_is, to_placed}
+use Rattle.nl_device.proofs.Placing.{after_placed, after_rises, counted, fault_room, fault_space, free_after, names_page, placed_at, placed_both, placed_map, placed_or, placed_yes, room_is, to_placed}
 use Rattle.nl_device.proofs.Spacing.{one_more, wrote}
 use Rattle.nl_device.proofs.named_pages.DeviceNamedPages.nameless_write.Goals as goal
 

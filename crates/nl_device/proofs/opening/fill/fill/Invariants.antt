@@ -1,4 +1,4 @@
-use Rattle.std.proofs.Common.{ℕ, None, get_or, length, take}
+use Rattle.std.proofs.Common.{None, get_or, length, take}
 use Rattle.nl_device.specs.Opening.{Tabulates, with_pick}
 use Rattle.nl_device.specs.Spread.{by_key}
 use Rattle.nl_device.specs.declared.opening.own.Own.{Own}

@@ -1,4 +1,4 @@
-use Rattle.std.proofs.Common.{ℕ, take, max}
+use Rattle.std.proofs.Common.{take, max}
 use Rattle.nl_device.specs.Opening.{Tabulates}
 use Rattle.nl_device.specs.Spread.{by_key}
 use Rattle.nl_device.specs.declared.opening.own.Own.{Own}

@@ -1,4 +1,4 @@
-use Rattle.std.proofs.Common.{ℕ, ◌+◌, ◌/◌, List, get_or, set, take, sym, subst, arith}
+use Rattle.std.proofs.Common.{◌+◌, ◌/◌, List, get_or, set, take, sym, subst, arith}
 use Rattle.nl_device.specs.Opening.{Tabulates, spread_in}
 use Rattle.nl_device.specs.Spread.{by_key, spread_more}
 use Rattle.nl_device.specs.declared.opening.own.Own.{Own}

@@ -1,4 +1,4 @@
-use Rattle.std.proofs.Common.{ℕ, ◌/◌, take}
+use Rattle.std.proofs.Common.{◌/◌, take}
 use Rattle.nl_device.specs.Opening.{Tabulates}
 use Rattle.nl_device.specs.Spread.{by_key, spread_more}
 use Rattle.nl_device.specs.declared.opening.own.Own.{Own}

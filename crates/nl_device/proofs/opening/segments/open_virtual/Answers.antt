@@ -1,4 +1,4 @@
-use Rattle.std.proofs.Common.{◌≡◌, inl, inr, ℕ, ◌+◌, ◌*◌, ◌/◌, ◌<◌, ◌≤◌, ◌∙◌, List, None, Option, length, get_or, sym, ap, subst, refl, arith}
+use Rattle.std.proofs.Common.{inl, inr, ◌*◌, ◌/◌, ◌<◌, ◌≤◌, ◌∙◌, List, None, Option, length, get_or, sym, ap, subst, arith}
 use Rattle.std.specs.Prelude.{IfSome, option_map}
 use Rattle.std.proofs.lemmas.Bool.{cases_lt}
 use Rattle.std.proofs.lemmas.List.{get_or_past, length-replicate}
@@ -6,7 +6,6 @@ use Rattle.std.proofs.lemmas.Nat.{div_below}
 use Rattle.nl_pseg.proofs.Shapes.{IsRoomy, is_roomy}
 use Rattle.nl_vseg.specs.declared.place.Place.{Place}
 use Rattle.nl_device.specs.Opening.{CanLoad, SaysErased, Tabulates, pick_of, place_on, spread_in}
-use Rattle.nl_device.specs.declared.opening.own.Own.{Own}
 use Rattle.nl_device.specs.declared.opening.spare.Spread.TheVariants.{Nowhere}
 use Rattle.nl_device.proofs.Opened.{loads, needed_is}
 use Rattle.nl_device.proofs.opening.segments.open_virtual.Goals as goal

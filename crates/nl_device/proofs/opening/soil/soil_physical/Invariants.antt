@@ -1,4 +1,4 @@
-use Rattle.std.proofs.Common.{◌≡◌, ℕ, ◌/◌, ◌<◌, ◌≤◌, true}
+use Rattle.std.proofs.Common.{ℕ, ◌/◌, ◌<◌, ◌≤◌}
 use Rattle.nl_device.specs.Opening.{IsSoiled, SaysErased}
 use Rattle.nl_pseg.specs.Segment.{IsClean, TakenAsErased}
 use Rattle.nl_device.proofs.opening.soil.soil_physical.Given as goal

@@ -1,4 +1,4 @@
-use Rattle.std.proofs.Common.{ℕ, ◌/◌, max, take}
+use Rattle.std.proofs.Common.{◌/◌, max, take}
 use Rattle.nl_field.specs.SpareRecord.{wear_of}
 use Rattle.nl_scan.specs.declared.seen.Seen.{Seen}
 use Rattle.nl_device.specs.Opening.{Tabulates}

@@ -1,11 +1,9 @@
-use Rattle.std.proofs.Common.{◌≡◌, ◌⊎◌, inl, inr, ⊎_elim, ℕ, ◌+◌, ◌*◌, ◌<◌, ◌≤◌, Some, List, Option, refl, sym, ◌∙◌, ap, subst, arith, cond}
+use Rattle.std.proofs.Common.{◌≡◌, inl, inr, ⊎_elim, ℕ, ◌+◌, ◌*◌, ◌≤◌, Option, refl, sym, ◌∙◌, subst, arith}
 use Rattle.nl_field.specs.CrashStates.{Rose}
-use Rattle.nl_field.specs.Page.{Image}
 use Rattle.nl_field.specs.declared.answers.VirtualWrite.TheVariants as write
 use Rattle.nl_iface.specs.Stored.{Value}
 use Rattle.nl_nand.specs.Nand.{ImageOf}
 use Rattle.nl_vseg.specs.Effects.{Keeps, Takes}
-use Rattle.nl_vseg.specs.Pages.{Shows}
 use Rattle.nl_vseg.specs.Places.{map_of, stamp_for}
 use Rattle.nl_device.proofs.Calls.{found_still}
 use Rattle.nl_device.proofs.Made.{made_medium}
