@@ -8,12 +8,13 @@ use Rattle.nl_field.specs.declared.pointer.Pointer.{Pointer}
 use Rattle.nl_field.specs.declared.shape.Shape.{Shape}
 use Rattle.nl_nand.specs.Nand.{ImageOf}
 use Rattle.nl_nand.specs.declared.geometry.Geometry.{Geometry}
-use Rattle.nl_iface.specs.Names.{has_stamp, leads}
-use Rattle.nl_device.specs.Shown.{live_page, names_of}
+use Rattle.nl_iface.specs.Names.{HoldsLive, has_stamp, leads}
+use Rattle.nl_iface.specs.Stored.{Stored, stored_in}
+use Rattle.nl_device.specs.Shown.{bytes_at, found_in, live_page, names_of}
 use Rattle.nl_pseg.specs.Segment.{InSegment, IsLive, IsPhysicalOf, Physical, SamePages, held_at, stamp_in, without_target}
 use Rattle.nl_pseg.specs.declared.held.Held.{Held}
 use Rattle.nl_vseg.specs.Segment.{Segment}
-use Rattle.nl_device.specs.Kept.{KeptPages}
+use Rattle.nl_device.specs.Kept.{KeptPages, forgotten}
 use Rattle.nl_device.specs.Device.{HasFound, HasFree, HasLive, HasSegments, IsDevice, IsOnMedium}
 use Rattle.nl_device.proofs.Forms.{begins}
 use Rattle.nl_device.proofs.Made.{made_medium}
@@ -42,10 +43,24 @@ named_segments {geometry} {now} {shape} {vseg} {old} {new} has is same held = su
 pub found_still : {shape : Shape} {kept : KeptPages} {next after : ℕ} → HasFound shape kept next → next ≤ after → HasFound shape kept after
 found_still f rises = record { first = f.first; count = f.count; size = f.size; below = λ i d within. let lt = f.below i d within in omega (arith, lt, rises) }
 
-pub device_with : {geometry now : Geometry} {tells : Type 0} {image c : Image} {shape : Shape} {vseg : Segment} {old new : Physical} {kept : KeptPages} {next after : ℕ} → IsDevice geometry tells image shape vseg old kept next
-    → now ≡ geometry → SamePages old new → length new.held ≡ length old.held → HasLive new → HasFree new → new.pairs ≡ old.pairs → next ≤ after → ((p : ℕ) (h : Held) → held_at new p ≡ Some h → h.stamp < after)
-    → (tells → IsOnMedium shape after c vseg new) → IsDevice now tells c shape vseg new kept after
-device_with f is same held live free pairs rises stamps medium = record {
+-- nothing is kept of what it found
+module _ (kept left : KeptPages) (is : left ≡ forgotten kept) where
+  pub found_none : (shape : Shape) (next after : ℕ) → HasFound shape kept next → HasFound shape left after
+  found_none shape next after f = subst (λ k. HasFound shape k after) (sym is) (record { first = f.first; count = f.count; size = f.size; below = λ i d within. absurd (omega (arith, within)) })
+
+  pub none_stored : (bytes : ℕ → List ℕ) (c : Stored) → HoldsLive (found_in left) bytes c
+  unfolding found_in
+  none_stored bytes c p page has = absurd (none-some page (ap (λ k. found_in k p) (sym is) ∙ has))
+
+-- what was found is stored still, where the pages of the physical segment are as before
+pub found_beyond : (kept : KeptPages) (shape : Shape) (old new : Image) → ((p : ℕ) → (stored_in new).named p ≡ (stored_in old).named p) → ((p : ℕ) → bytes_at (shape.vblocks * shape.pages) new p ≡ bytes_at (shape.vblocks * shape.pages) old p)
+    → HoldsLive (found_in kept) (λ p. bytes_at (shape.vblocks * shape.pages) old p) (stored_in old) → HoldsLive (found_in kept) (λ p. bytes_at (shape.vblocks * shape.pages) new p) (stored_in new)
+found_beyond kept shape old new named bytes holds p page is = named p ∙ holds p page is ∙ (λ i. Some (record { tag = page.tag; stamp = page.stamp; bytes = sym (bytes p) i }))
+
+pub device_with : {geometry now : Geometry} {tells : Type 0} {image c : Image} {shape : Shape} {vseg : Segment} {old new : Physical} {kept left : KeptPages} {next after : ℕ} → IsDevice geometry tells image shape vseg old kept next
+    → HasFound shape left after → (tells → HoldsLive (found_in left) (λ p. bytes_at (shape.vblocks * shape.pages) c p) (stored_in c)) → now ≡ geometry → SamePages old new → length new.held ≡ length old.held → HasLive new → HasFree new → new.pairs ≡ old.pairs → next ≤ after → ((p : ℕ) (h : Held) → held_at new p ≡ Some h → h.stamp < after)
+    → (tells → IsOnMedium shape after c vseg new) → IsDevice now tells c shape vseg new left after
+device_with f found stored is same held live free pairs rises stamps medium = record {
   segments = named_segments f.segments is same held;
   mapped = f.mapped;
   live = live;
@@ -56,7 +71,8 @@ device_with f is same held live free pairs rises stamps medium = record {
     addresses = λ v t has. let lt = f.stamp.addresses v t has in omega (arith, lt, rises);
     live = stamps;
   };
-  found = found_still f.found rises;
+  found = found;
+  found_stored = stored;
   space = space_is _ free (pairs ∙ f.no_pairs);
   medium = medium;
 }

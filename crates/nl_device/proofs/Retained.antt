@@ -100,8 +100,8 @@ held_on {shape = shape} {kept = kept} {image = image} segments fit was holds fro
 pub retained_device : {geometry : Geometry} {tells : Type 0} {image : Image} {shape : Shape} {vseg : Segment} {old new : Physical} {kept : KeptPages} {next : ℕ} → IsDevice geometry tells image shape vseg old kept next
     → IsSegmentFor kept new → length new.held ≡ length old.held → new.pairs ≡ [] → 1 ≤ new.free → new.left ≤ old.left → ((page : ℕ) (h : Held) → held_at new page ≡ Some h → IsFoundIn kept new page h)
     → ((p q : ℕ) (g h : Held) → held_at new p ≡ Some g → held_at new q ≡ Some h → g.stamp ≡ h.stamp → p ≡ q) → ((p : ℕ) → TakenAsErased new p → TakenAsErased old p) → (tells → ImageOf geometry image)
-    → (tells → HoldsLive (found_in kept) (λ p. bytes_at (shape.vblocks * shape.pages) image p) (stored_in image)) → IsDevice geometry tells image shape vseg new kept next
-retained_device {geometry} {tells} {image} {shape} {vseg} {old} {new} {kept} {next} f same pages pairs some left from differ erased fit holds =
+    → IsDevice geometry tells image shape vseg new kept next
+retained_device {geometry} {tells} {image} {shape} {vseg} {old} {new} {kept} {next} f same pages pairs some left from differ erased fit =
     let first : new.first ≡ old.first = same.first ∙ f.found.first ∙ sym f.segments.physical_first in
     let blocks : new.blocks ≡ old.blocks = same.blocks ∙ (λ i. f.found.first i + f.found.count i) ∙ f.segments.split ∙ sym f.segments.physical_blocks in
     let size : new.size ≡ old.size = same.size ∙ f.found.size ∙ sym f.segments.physical_pages in
@@ -143,9 +143,10 @@ retained_device {geometry} {tells} {image} {shape} {vseg} {old} {new} {kept} {ne
             subst (λ (q : KeptPage). q.stamp < next) (one.is k) (f.found.below one.at k one.within);
       };
       found = f.found;
+      found_stored = f.found_stored;
       space = space_is new free pairs;
       medium = λ t. made_medium segments (fit t) live (f.medium t).virtual_is
-          (held_on {new = new} f.segments (fit t) (f.medium t).physical_is (holds t) from (λ page within. subst (λ n. n ≤ page) (begins segments) within.0) erased)
+          (held_on {new = new} f.segments (fit t) (f.medium t).physical_is (f.found_stored t) from (λ page within. subst (λ n. n ≤ page) (begins segments) within.0) erased)
           (f.medium t).there (f.medium t).below;
     }
 

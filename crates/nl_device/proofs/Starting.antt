@@ -8,7 +8,9 @@ use Rattle.nl_field.specs.Page.{Image}
 use Rattle.nl_field.specs.Numbers.{is_legal, shape_for}
 use Rattle.nl_field.specs.SpareRecord.{stamp_of}
 use Rattle.nl_field.specs.declared.shape.Shape.{Shape}
+use Rattle.nl_iface.specs.Names.{HoldsLive}
 use Rattle.nl_iface.specs.Space.{IsSpace}
+use Rattle.nl_iface.specs.Stored.{stored_in}
 use Rattle.nl_nand.specs.declared.geometry.Geometry.{Geometry}
 use Rattle.nl_pseg.proofs.Numbers.{block_from}
 use Rattle.nl_pseg.proofs.Shapes.{IsRoomy, is_roomy}
@@ -24,6 +26,7 @@ use Rattle.nl_device.specs.Device.{HasFree, HasLive, HasMapped, HasSegments, IsD
 use Rattle.nl_device.specs.Opening.{FitsShape, IsOpenedPhysical, IsOpenedVirtual, needed_of, owns_of, pick_of, place_on}
 use Rattle.nl_field.specs.Medium.{first_physical}
 use Rattle.nl_device.specs.Kept.{KeptPages, kept_pages}
+use Rattle.nl_device.specs.Shown.{bytes_at, found_in}
 use Rattle.nl_device.proofs.Retained.{has_found}
 use Rattle.nl_device.specs.Space.{space_of}
 use Rattle.nl_device.specs.Spread.{spare_of}
@@ -156,8 +159,9 @@ module _ (shape : Shape) (t : Table) (pseg : Physical) (p : IsOpenedPhysical sha
 pub opened_device : (geometry : Geometry) (shape : Shape) (t : Table) (vseg : Segment) (pseg : Physical) (kept : KeptPages) (tells : Type 0) (image : Image) → IsTrue (is_legal geometry.blocks geometry.pages) → shape ≡ shape_for geometry.blocks geometry.pages → FitsShape shape t
     → IsOpenedVirtual shape t vseg → IsOpenedPhysical shape t pseg → (HasSegments geometry shape vseg pseg → HasLive pseg → tells → IsOnMedium shape (1 + greatest_stamp t.seen) image vseg pseg)
     → kept ≡ record { first = shape.vblocks; count = shape.pblocks; size = shape.pages; pages = kept_pages (first_physical shape) t.seen }
+    → (tells → HoldsLive (found_in kept) (λ p. bytes_at (shape.vblocks * shape.pages) image p) (stored_in image))
     → IsDevice geometry tells image shape vseg pseg kept (1 + greatest_stamp t.seen)
-opened_device geometry shape t vseg pseg kept tells image legal e fits o p medium found =
+opened_device geometry shape t vseg pseg kept tells image legal e fits o p medium found stored =
     let x = for_shape shape geometry.blocks geometry.pages e in
     let roomy : IsRoomy shape = subst IsRoomy (sym e) (is_roomy geometry.blocks geometry.pages legal) in
     let segments : HasSegments geometry shape vseg pseg = record {
@@ -185,6 +189,7 @@ opened_device geometry shape t vseg pseg kept tells image legal e fits o p mediu
       no_pairs = p.no_pairs;
       stamp = next_is shape t vseg o pseg p;
       found = has_found shape kept t.seen found;
+      found_stored = stored;
       space = is_space shape t pseg p roomy;
       medium = λ tell. medium segments live tell;
     }

@@ -7,7 +7,7 @@ use Rattle.nl_iface.specs.Names.{HoldsLive}
 use Rattle.nl_iface.specs.Space.{IsSpace}
 use Rattle.nl_iface.specs.Stored.{Shows as StoresMap, stored_in}
 use Rattle.nl_device.specs.Kept.{KeptPages}
-use Rattle.nl_device.specs.Shown.{IsStray, bytes_at, names_of}
+use Rattle.nl_device.specs.Shown.{IsStray, bytes_at, found_in, names_of}
 use Rattle.nl_device.specs.Space.{space_of}
 use Rattle.nl_nand.specs.declared.geometry.Geometry.{Geometry}
 use Rattle.nl_pseg.specs.Segment.{InSegment, IsPhysicalOf, Physical, TakenAsErased, held_at}
@@ -72,6 +72,7 @@ pub record HasFound (shape : Shape) (kept : KeptPages) (next : ℕ) : Type 0 whe
   pub size : kept.size ≡ shape.pages
   pub below : All (λ k. k.stamp < next) kept.pages
 
+-- The tables stand for the medium. What the scan found, and was not forgotten since, is stored there.
 pub record IsDevice (geometry : Geometry) (tells : Type 0) (image : Image) (shape : Shape) (vseg : Segment) (pseg : Physical) (kept : KeptPages) (next : ℕ) : Type 0 where
   pub segments : HasSegments geometry shape vseg pseg
   pub mapped : HasMapped vseg
@@ -80,5 +81,6 @@ pub record IsDevice (geometry : Geometry) (tells : Type 0) (image : Image) (shap
   pub no_pairs : pseg.pairs ≡ []
   pub stamp : IsNextStamp next vseg pseg
   pub found : HasFound shape kept next
+  pub found_stored : tells → HoldsLive (found_in kept) (λ p. bytes_at (shape.vblocks * shape.pages) image p) (stored_in image)
   pub space : IsSpace (space_of pseg)
   pub medium : tells → IsOnMedium shape next image vseg pseg

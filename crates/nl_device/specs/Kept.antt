@@ -1,5 +1,5 @@
 -- What is kept of a scan until the opening is done: the readable pages of the physical segment, and where the copies of a stamp lie.
-use Rattle.std.specs.Prelude.{◌≡◌, ℕ, ◌+◌, ◌/◌, ◌^◌, ◌<◌, ◌≤◌, ◌==◌, nat_le, Bool, not, ◌&&◌, ◌||◌, if◌then◌else◌, List, find, filter_map, All, Option, Some, None, option_map, IsTrue}
+use Rattle.std.specs.Prelude.{◌≡◌, ℕ, ◌+◌, ◌/◌, ◌^◌, ◌<◌, ◌≤◌, ◌==◌, nat_le, Bool, not, ◌&&◌, ◌||◌, if◌then◌else◌, List, [], find, filter_map, All, Option, Some, None, option_map, IsTrue}
 use Rattle.nl_field.specs.Spelling.{is_stamp}
 use Rattle.std.specs.List.{list_all, list_any, range_with_len, AllPairs}
 use Rattle.std.specs.Ordering.{nat_cmp}
@@ -18,6 +18,10 @@ pub record KeptPages : Type 0 where
   pub count : ℕ
   pub size : ℕ
   pub pages : List KeptPage
+
+-- no page is kept
+abbrev pub forgotten : KeptPages → KeptPages
+forgotten kept = record { first = kept.first; count = kept.count; size = kept.size; pages = [] }
 
 -- a page with a record of the physical kind
 abbrev pub with_record : ℕ → SpareRec → Option KeptPage

@@ -13,6 +13,6 @@ pub struct Device<M: Nand> {
     pub(crate) pseg: PSeg,
     /// The stamp of the next page.
     pub(crate) next: u64,
-    /// What the scan of its start saw in the physical segment.
+    /// What the scan of its start saw in the physical segment, until a page is programmed there: a block may be erased then.
     pub(crate) kept: Kept,
 }

@@ -26,6 +26,7 @@ impl<M: Nand> NamedPages for Device<M> {
     ghost holds = { λ s t f. (f.medium t).holds };
 
     fn nameless_write(&mut self, tag: Tag, from: &PageBuf) -> Named {
+        self.kept.forget();
         let answer = self
             .pseg
             .nameless_write(&mut self.media, tag, from, self.next);
@@ -34,6 +35,7 @@ impl<M: Nand> NamedPages for Device<M> {
     }
 
     fn nameless_overwrite(&mut self, old: Pointer, tag: Tag, from: &PageBuf) -> Named {
+        self.kept.forget();
         let answer = self
             .pseg
             .nameless_overwrite(&mut self.media, old, tag, from, self.next);

@@ -1,6 +1,5 @@
 ghost use Rattle.std.specs.Prelude.{◌≡◌, ◌≤◌, ◌+◌, ◌*◌, ℕ, [], length, None, Some};
 ghost use Rattle.nl_iface.specs.Kept.{KeepsVirtual};
-ghost use Rattle.nl_iface.specs.Names.{HoldsLive};
 ghost use Rattle.nl_iface.specs.Stored.{Stored};
 ghost use Rattle.nl_device.specs.Retain.{CanRetain, HasAllFree, LiveAre, kept_of, needed_blocks};
 
@@ -19,7 +18,6 @@ impl<M: Nand> Device<M> {
         requires formed { ⟦<Device<M> as VirtualPages>⟧.formed self.old }
         requires no_live { (p : ℕ) → (⟦<Device<M> as VirtualPages>⟧.names self.old).live p ≡ None }
         requires can { CanRetain (kept_of self.old) kept.now.items }
-        requires found { M.tells → HoldsLive (⟦<Device<M> as VirtualPages>⟧.found self.old) (⟦<Device<M> as VirtualPages>⟧.bytes self.old) (⟦<Device<M> as VirtualPages>⟧.stored self.old) }
         ensures formed { ⟦<Device<M> as VirtualPages>⟧.formed self.new }
         ensures live { LiveAre (kept_of self.old) kept.now.items (⟦<Device<M> as VirtualPages>⟧.names self.new).live }
         ensures count { (⟦<Device<M> as VirtualPages>⟧.names self.new).space.live ≡ length kept.now.items }

@@ -1,6 +1,5 @@
 ghost use Rattle.std.specs.Prelude.{◌≡◌, ◌<◌, ℕ, [], ◌∷◌, IfOk, None, IsTrue};
 ghost use Rattle.nl_field.specs.Numbers.{is_legal};
-ghost use Rattle.nl_iface.specs.Names.{HoldsLive};
 ghost use Rattle.nl_nand.specs.Memory.{contents_of, geometry_of};
 ghost use Rattle.nl_nand.specs.Nand.{IsBlank};
 ghost use Rattle.nl_device.specs.Retain.{CanRetain, kept_of};
@@ -88,7 +87,6 @@ fn reopened(alloc: Global, media: MemNand) -> Result<Device<MemNand>, Fail>
     ensures formed { IfOk result (λ d. ⟦<Device<MemNand> as VirtualPages>⟧.formed d) }
     ensures live { IfOk result (λ d. (p : ℕ) → (⟦<Device<MemNand> as VirtualPages>⟧.names d).live p ≡ None) }
     ensures can { IfOk result (λ d. CanRetain (kept_of d) (record { name = 257; stamp = 2 } ∷ [])) }
-    ensures found { IfOk result (λ d. HoldsLive (⟦<Device<MemNand> as VirtualPages>⟧.found d) (⟦<Device<MemNand> as VirtualPages>⟧.bytes d) (⟦<Device<MemNand> as VirtualPages>⟧.stored d)) }
 {
     let geometry = media.geometry();
     if geometry.blocks != 32 || geometry.pages != 32 {

@@ -6,7 +6,6 @@ ghost use Rattle.nl_io.specs.Streams.{Writes};
 ghost use Rattle.nl_tree.specs.declared.call.Line.{Line};
 ghost use Rattle.nl_core.specs.Formatted.{IsFormatted};
 ghost use Rattle.nl_device.specs.Retain.{CanRetain, kept_of};
-ghost use Rattle.nl_iface.specs.Names.{HoldsLive};
 ghost use Rattle.nl_top.specs.Command.{command_of};
 ghost use Rattle.nl_top.specs.Files.{IsRoomy};
 ghost use Rattle.nl_top.specs.Form.{script_lines};
@@ -206,7 +205,6 @@ fn run_device<K: Sink, M: Nand>(
     requires no_live { (p : ℕ) → (⟦<Device<M> as VirtualPages>⟧.names device).live p ≡ None }
     requires free { (⟦<Device<M> as VirtualPages>⟧.names device).space.free ≡ (⟦<Device<M> as VirtualPages>⟧.shape device).pblocks }
     requires nothing { CanRetain (kept_of device) [] }
-    requires found { M.tells → HoldsLive (⟦<Device<M> as VirtualPages>⟧.found device) (⟦<Device<M> as VirtualPages>⟧.bytes device) (⟦<Device<M> as VirtualPages>⟧.stored device) }
     requires numbers { shape ≡ ⟦<Device<M> as VirtualPages>⟧.shape device }
     requires some { 0 < shape.pages }
     requires all_free { (⟦<Device<M> as VirtualPages>⟧.names device).space.room + (⟦<Device<M> as VirtualPages>⟧.names device).space.block ≡ (⟦<Device<M> as VirtualPages>⟧.names device).space.all }

@@ -1,5 +1,6 @@
 ghost use Rattle.std.specs.Prelude.{◌≡◌, ◌≤◌, ◌+◌, ℕ, [], length, Some};
 ghost use Rattle.nl_device.specs.Retain.{AreRetained, CanLoad, CanRetain, IsFoundIn, IsFresh, IsSegmentFor, Loads, Retains, needed_blocks};
+ghost use Rattle.nl_device.specs.Kept.{forgotten};
 ghost use Rattle.nl_device.specs.Space.{live_in};
 ghost use Rattle.nl_pseg.specs.Segment.{IsClean, TakenAsErased, held_at};
 ghost use Rattle.nl_pseg.specs.declared.held.Held.{Held};
@@ -9,6 +10,14 @@ use nl_field::{Pointer, PointerList};
 use nl_pseg::PSeg;
 
 impl Kept {
+    /// Keeps no page.
+    pub(crate) fn forget(&mut self)
+        ensures { self.new ≡ forgotten self.old }
+    {
+        self.pages.clear();
+        self.copies.clear();
+    }
+
     /// The place of a pointer is live. It is its name.
     fn load(&self, pseg: &mut PSeg, spare: Option<u32>, at: &Pointer)
         requires segment { IsSegmentFor self.now pseg.old }

@@ -15,6 +15,3 @@ returns-then-is_page-2-clause-can c =
     can_retain d.shape d.kept d.next c.in-Ready.tables.seen c.get.result.now c.get-then-is_page.result.now
     (c.in-Ready.ensures.shape ∙ (λ i. shape_for ((ap (λ (n : Geometry). n.blocks) (sym geometry) ∙ blocks) i) ((ap (λ (n : Geometry). n.pages) (sym geometry) ∙ pages) i)))
     c.in-Ready.ensures.formed.found c.in-Ready.ensures.scanned (omega (arith, c.if-len-eq2.true, c.len.ensures)) c.get.ensures c.get-then-is_page.ensures first second
-
-pub returns-then-is_page-2-clause-found : goal.returns-then-is_page-2-clause-found
-returns-then-is_page-2-clause-found c = c.in-Ready.ensures.found tt

@@ -58,6 +58,3 @@ returns-else-is_fresh-clause-ended g c =
       };
       no_lines = end.ensures.order;
     })
-
-pub run_device-requires-clause-found : goal.run_device-requires-clause-found
-run_device-requires-clause-found g c = c.in-Ready.ensures.found

@@ -29,7 +29,7 @@ returns-clause-formed g c =
     let e = c.retain.ensures in
     subst (λ k. IsDevice (g.M.Nand.geometry d.media) g.M.Nand.tells (g.M.Nand.contents d.media) d.shape d.vseg c.retain.new.pseg k d.next) (sym e.same)
     (retained_device c.requires.formed e.segment (e.pages ∙ ap length b.live) e.pairs e.some_free (let l = e.left in let z = b.left in omega (arith, l, z)) e.from e.differ (λ p taken. b.erased p (e.erased p taken))
-    (λ t. g.met.M.Nand.contents_fit d.media t) c.requires.found)
+    (λ t. g.met.M.Nand.contents_fit d.media t))
 
 pub returns-clause-count : goal.returns-clause-count
 returns-clause-count g c = live_is c.retain.new.pseg ∙ c.retain.ensures.live

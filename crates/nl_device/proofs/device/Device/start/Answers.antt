@@ -59,6 +59,10 @@ module _ (image before : Image) (t : Table) where
   table_now : image ≡ before → IsTableOf before t → IsTableOf image t
   table_now same is = subst (λ (i : Image). IsTableOf i t) (sym same) is
 
+-- the image has the numbers of the volume
+image_shape : (shape : Shape) (seen before : Geometry) (image : Image) → shape ≡ shape_for seen.blocks seen.pages → seen ≡ before → ImageOf before image → shape_of_image image ≡ shape
+image_shape shape seen before image e same fit = (λ i. shape_for (fit.blocks i) (fit.pages i)) ∙ (ap (λ (n : Geometry). shape_for n.blocks n.pages) (sym same) ∙ sym e)
+
 pub returns-in-Ok-clause-formed : goal.returns-in-Ok-clause-formed
 returns-in-Ok-clause-formed g c =
     let shape = c.legal_shape-shape.result in
@@ -81,11 +85,10 @@ returns-in-Ok-clause-formed g c =
     let e = shape_is segments fit in
     let physical = opened_names image t pseg is (subst (λ s. IsOpenedPhysical s t pseg) (sym e) c.in-Ok.ensures.physicals) (subst (λ (s : Shape). 0 < s.pages) (sym e) segments.some) in
     opened_on t segments fit live physical is c.in-Ok.ensures.virtuals)
-    c.in-Ok.ensures.kept)
-
--- the image before the scan has the numbers of the volume
-image_shape : (shape : Shape) (seen before : Geometry) (image : Image) → shape ≡ shape_for seen.blocks seen.pages → seen ≡ before → ImageOf before image → shape_of_image image ≡ shape
-image_shape shape seen before image e same fit = (λ i. shape_for (fit.blocks i) (fit.pages i)) ∙ (ap (λ (n : Geometry). shape_for n.blocks n.pages) (sym same) ∙ sym e)
+    c.in-Ok.ensures.kept
+    (λ tell.
+    found_holds shape image t c.in-Ok.field-0.kept (image_shape shape c.geometry.result geometry image c.legal_shape-shape.ensures (c.geometry.ensures ∙ sym same) (g.met.M.Nand.contents_fit media tell))
+    (table_now image (g.M.Nand.contents c.args.media) t c.scan.ensures.contents (c.in-Tables.ensures.tables tell)) c.in-Ok.ensures.kept))
 
 pub returns-in-Ok-clause-map : goal.returns-in-Ok-clause-map
 returns-in-Ok-clause-map g c tell v below =

@@ -35,7 +35,7 @@ returns-clause-formed g c =
     let held : new.held ≡ set d.pseg.held place None = OnTrue_at is e.freed in
     let live = live_less d.pseg new place f.live e.pages (λ p taken. moved_in d.pseg new e.pages p (f.live.blank_in p (unspent_blank d.pseg new e.pages e.space p taken))) below held in
     let count : length new.held ≡ length d.pseg.held = ap (λ (l : List (Option Held)). length l) held ∙ length-set d.pseg.held place None in
-    device_with f refl e.pages count live (unspent_free d.pseg new f.free e.pages e.space)
+    device_with f f.found f.found_stored refl e.pages count live (unspent_free d.pseg new f.free e.pages e.space)
     (OnTrue_at is e.pairs ∙ no_pair d.pseg.pairs place f.no_pairs) (omega arith)
     (λ p x has. f.stamp.live p x (clear_held d.pseg.held place p x below (ap (λ (l : List (Option Held)). get_or l p None) (sym held) ∙ has)).1)
     (λ t. medium_with f t refl e.pages count (g.met.M.Nand.contents_fit d.media t) live (λ p lt. refl) (e.segment (g.M.Nand.contents d.media) (f.medium t).physical_is) (omega arith)))

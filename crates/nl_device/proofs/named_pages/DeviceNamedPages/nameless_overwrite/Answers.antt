@@ -8,15 +8,18 @@ use Rattle.nl_field.specs.declared.answers.Named.TheVariants as named
 use Rattle.nl_field.specs.declared.pointer.Pointer.{Pointer}
 use Rattle.nl_nand.specs.Nand.{ImageOf}
 use Rattle.nl_iface.specs.Answers as shown
+use Rattle.nl_iface.specs.Names.{HoldsLive}
+use Rattle.nl_iface.specs.Stored.{stored_in}
 use Rattle.nl_pseg.specs.Effects.{Programmed, Takes}
 use Rattle.nl_pseg.specs.Pages.{main_of, page_with, shown_by}
 use Rattle.nl_pseg.specs.Segment.{IsLive, Physical, held_at, wear_of}
 use Rattle.nl_pseg.specs.declared.held.Held.{Held}
+use Rattle.nl_device.specs.Device.{HasFound}
 use Rattle.nl_device.specs.Laws.{held_of}
-use Rattle.nl_device.specs.Shown.{live_page}
+use Rattle.nl_device.specs.Shown.{bytes_at, found_in, live_page}
 use Rattle.nl_device.specs.Space.{live_in}
 use Rattle.nl_device.proofs.Forms.{begins, lift}
-use Rattle.nl_device.proofs.Calls.{device_with, held_from, in_within, is_leads, leads_is, live_or, medium_with, no_pair}
+use Rattle.nl_device.proofs.Calls.{device_with, found_none, held_from, in_within, is_leads, leads_is, live_or, medium_with, no_pair, none_stored}
 use Rattle.nl_device.proofs.Living.{live_kept, live_swap, swap_held, swap_live}
 use Rattle.nl_device.proofs.Made.{bytes_from}
 use Rattle.nl_device.proofs.Naming.{either_live, either_low, in_block, leaves_names, leaves_new, live_bytes, map_same, placed_takes, shown_from, stray_same, to_takes}
@@ -173,6 +176,10 @@ returns-clause-addresses g c =
 pub returns-clause-formed : goal.returns-clause-formed
 returns-clause-formed g c =
     let d = c.args.self.now in
+    let image = g.M.Nand.contents c.nameless_overwrite-answer.new.media in
+    let bytes : ℕ → List ℕ = λ p. bytes_at (d.shape.vblocks * d.shape.pages) image p in
+    let found : HasFound d.shape c.forget.new.self c.stamp_after-self.result = found_none d.kept c.forget.new.self c.forget.ensures d.shape d.next c.stamp_after-self.result c.requires.formed.found in
+    let stored : g.M.Nand.tells → HoldsLive (found_in c.forget.new.self) bytes (stored_in image) = λ t. none_stored d.kept c.forget.new.self c.forget.ensures bytes (stored_in image) in
     let f = c.requires.formed in
     let e = c.nameless_overwrite-answer.ensures in
     let seg = c.nameless_overwrite-answer.new.self in
@@ -191,7 +198,7 @@ returns-clause-formed g c =
     let live = live_swap d.pseg seg at.0.name place d.next c.args.tag f.live e.pages e.within dead.0.within below (in_within f.segments place (f.live.in_segment place h.0 h.1)) f.stamp.live held in
     let count = ap (λ (l : List (Option Held)). length l) held ∙ (length-set (set d.pseg.held at.0.name _) place None ∙ length-set d.pseg.held at.0.name _) in
     let more = after_placed answer d.next next is_next (placed_yes answer at.0 at.1) in
-    device_with f e.geometry e.pages count live free (e.pairs (placed_yes answer at.0 at.1) ∙ no_pair d.pseg.pairs place f.no_pairs) rises
+    device_with f found stored e.geometry e.pages count live free (e.pairs (placed_yes answer at.0 at.1) ∙ no_pair d.pseg.pairs place f.no_pairs) rises
     (λ p x has. ⊎_elim
     (λ here. let s = ap (λ (y : Held). y.stamp) here.1 in omega (arith, s, more))
     (λ was. let lt = f.stamp.live p x was.1 in omega (arith, lt, rises))
@@ -201,7 +208,7 @@ returns-clause-formed g c =
     let held = e.same un in
     let live = live_kept d.pseg seg f.live e.pages e.within held in
     let count = ap (λ (l : List (Option Held)). length l) held in
-    device_with f e.geometry e.pages count live free (e.same_pairs un) rises
+    device_with f found stored e.geometry e.pages count live free (e.same_pairs un) rises
     (λ p h has. let lt = f.stamp.live p h (ap (λ (l : List (Option Held)). get_or l p None) (sym held) ∙ has) in omega (arith, lt, rises))
     (λ t. medium_with f t e.geometry e.pages count (g.met.M.Nand.contents_fit c.nameless_overwrite-answer.new.media t) live (either_low (to_takes (e.crash t).either)) (e.segment t) rises))
     (placed_or answer)

@@ -5,7 +5,7 @@ use Rattle.nl_iface.specs.Stored.{Value}
 use Rattle.nl_nand.specs.Nand.{ImageOf}
 use Rattle.nl_vseg.specs.Effects.{Keeps, Takes}
 use Rattle.nl_vseg.specs.Places.{map_of, stamp_for}
-use Rattle.nl_device.proofs.Calls.{found_still}
+use Rattle.nl_device.proofs.Calls.{found_beyond, found_still}
 use Rattle.nl_device.proofs.Made.{made_medium}
 use Rattle.nl_device.proofs.Forms.{begins, kept_segments, lift, same_from, shape_is}
 use Rattle.nl_device.proofs.Writes.{beyond_of, bytes_same, done_or, keeps_below, keeps_leaves, keeps_there, next_rises, next_taken, physical_kept, rose_or, stamps_done, stray_done, stray_failed, stray_kept, takes_below, takes_leaves, takes_there, with_there}
@@ -92,6 +92,11 @@ returns-clause-formed g c =
       no_pairs = f.no_pairs;
       space = f.space;
       found = found_still f.found rises;
+      found_stored = λ t.
+          let beyond = λ (p : ℕ) (le : bound ≤ p). beyond_of (e.either t) p (subst (λ b. b ≤ p) (sym f.segments.virtual_bound) le) in
+          let old_is = shape_is f.segments (g.met.M.Nand.contents_fit d.media t) in
+          let new_is = shape_is f.segments (subst (λ n. ImageOf n new) e.geometry (g.met.M.Nand.contents_fit c.virtual_write-answer.new.media t)) in
+          found_beyond d.kept d.shape old new (same_from d.shape old new old_is new_is beyond) (bytes_same bound old new beyond) (f.found_stored t);
       stamp = record {
         some = let some = f.stamp.some in omega (arith, some, rises);
         addresses = λ v t has. ⊎_elim
