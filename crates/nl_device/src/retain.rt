@@ -12,8 +12,9 @@ impl<M: Nand> Device<M> {
     /// Serves an opening, while no page is live: exactly the listed pointers are live afterwards, each at its place. This is its
     /// name, where that page has its stamp and is outside the spare block of the segment, and else the least page of its stamp
     /// outside it. A block in which none has its place is Free, and is erased before use where it was in use. Needs a spare block
-    /// for the stamps of the pointers, a place of each, and that no two share a stamp. Where a place is not the name it needs room
-    /// for a pair. It takes no memory, and the medium is not touched.
+    /// for the stamps of the pointers, a place of each among the pages that the device keeps of its scan, and that no two share a
+    /// stamp. Those pages it keeps until a page is programmed. Where a place is not the name it needs room for a pair. It takes no
+    /// memory, and the medium is not touched.
     pub fn retain(&mut self, kept: &PointerList)
         requires formed { ⟦<Device<M> as VirtualPages>⟧.formed self.old }
         requires no_live { (p : ℕ) → (⟦<Device<M> as VirtualPages>⟧.names self.old).live p ≡ None }
@@ -29,7 +30,6 @@ impl<M: Nand> Device<M> {
         ensures clean { HasAllFree (⟦<Device<M> as VirtualPages>⟧.shape self.old) (⟦<Device<M> as VirtualPages>⟧.names self.old) → ⟦<Device<M> as VirtualPages>⟧.clean self.old → ⟦<Device<M> as VirtualPages>⟧.clean self.new }
         ensures addresses { KeepsVirtual M.tells ⟦<Device<M> as VirtualPages>⟧.shape ⟦<Device<M> as VirtualPages>⟧.stamps ⟦<Device<M> as VirtualPages>⟧.map ⟦<Device<M> as VirtualPages>⟧.failed ⟦<Device<M> as VirtualPages>⟧.keeps_spare self.old self.new }
         ensures next_stamp { ⟦<Device<M> as VirtualPages>⟧.next_stamp self.new ≡ ⟦<Device<M> as VirtualPages>⟧.next_stamp self.old }
-        ensures found { ⟦<Device<M> as VirtualPages>⟧.found self.new ≡ ⟦<Device<M> as VirtualPages>⟧.found self.old }
         ensures bytes { M.tells → (p : ℕ) → ⟦<Device<M> as VirtualPages>⟧.bytes self.new p ≡ ⟦<Device<M> as VirtualPages>⟧.bytes self.old p }
         ensures stored { M.tells → ⟦<Device<M> as VirtualPages>⟧.stored self.new ≡ ⟦<Device<M> as VirtualPages>⟧.stored self.old }
         ensures left { M.tells → (m : ℕ) (c : Stored) → ⟦<Device<M> as VirtualPages>⟧.left self.new m c → ⟦<Device<M> as VirtualPages>⟧.left self.old m c }

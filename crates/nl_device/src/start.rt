@@ -7,7 +7,6 @@ ghost use Rattle.nl_iface.specs.Stored.{stored_in, value_on};
 ghost use Rattle.nl_nand.specs.Nand.{SameLeft};
 ghost use Rattle.nl_scan.specs.Tables.{FitsMedium, IsTableOf, greatest_stamp};
 ghost use Rattle.nl_field.specs.Medium.{first_physical};
-ghost use Rattle.nl_iface.specs.Names.{HoldsLive};
 ghost use Rattle.nl_device.specs.Kept.{kept_pages};
 ghost use Rattle.nl_device.specs.Medium.{medium_of};
 ghost use Rattle.nl_device.specs.Opening.{FitsShape, IsOpenedPhysical, IsOpenedVirtual, SaysErased};
@@ -87,7 +86,6 @@ impl<M: Nand> Device<M> {
         ensures stored { IfReady result (λ d t. ⟦<Device<M> as VirtualPages>⟧.stored d ≡ stored_in (M.contents media)) }
         ensures kept { IfReady result (λ d t. KeptMedium M.geometry M.contents M.clock M.write_faults M.left media (medium_of d)) }
         ensures scanned { IfReady result (λ d t. (kept_of d).pages ≡ kept_pages (first_physical (⟦<Device<M> as VirtualPages>⟧.shape d)) t.seen) }
-        ensures found { M.tells → IfReady result (λ d t. HoldsLive (⟦<Device<M> as VirtualPages>⟧.found d) (⟦<Device<M> as VirtualPages>⟧.bytes d) (⟦<Device<M> as VirtualPages>⟧.stored d)) }
         ensures nothing { IfReady result (λ d t. CanRetain (kept_of d) []) }
         ensures fault { IfFault result (λ m. Rose (M.read_faults media) (M.read_faults m) × KeptMedium M.geometry M.contents M.clock M.write_faults M.left media m) }
         ensures memory { IfMemory result (λ m. (M.read_faults m ≡ M.read_faults media) × KeptMedium M.geometry M.contents M.clock M.write_faults M.left media m) }

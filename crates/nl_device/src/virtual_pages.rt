@@ -1,6 +1,6 @@
 ghost use Rattle.std.specs.Prelude.{◌≡◌, ◌*◌};
 ghost use Rattle.nl_device.specs.Device.{IsDevice};
-ghost use Rattle.nl_device.specs.Shown.{IsStray, StoredOn, bytes_at, found_in, names_of};
+ghost use Rattle.nl_device.specs.Shown.{IsStray, StoredOn, bytes_at, names_of};
 ghost use Rattle.nl_iface.specs.Stored.{stored_in};
 ghost use Rattle.nl_pseg.specs.Segment.{IsClean};
 ghost use Rattle.nl_vseg.specs.Places.{map_of, stamp_for};
@@ -35,8 +35,6 @@ impl<M: Nand> VirtualPages for Device<M> {
     ghost clean = { λ d. IsClean d.pseg };
 
     ghost bytes = { λ d p. bytes_at (d.shape.vblocks * d.shape.pages) (M.contents d.media) p };
-
-    ghost found = { λ d. found_in d.kept };
 
     ghost stored = { λ d. stored_in (M.contents d.media) };
 

@@ -112,7 +112,6 @@ pub trait NamedPages: VirtualPages {
         ensures next_stamp { Self.next_stamp self.new ≡ Self.next_stamp self.old }
         ensures names { Self.names self.new ≡ Self.names self.old }
         ensures clean { Self.clean self.old → Self.clean self.new }
-        ensures found { Self.found self.new ≡ Self.found self.old }
         ensures same_bytes { Self.tells → (p : ℕ) → Self.bytes self.new p ≡ Self.bytes self.old p }
         ensures stored { Self.tells → Self.stored self.new ≡ Self.stored self.old }
         ensures left { Self.tells → (m : ℕ) (c : Stored) → Self.left self.new m c → Self.left self.old m c }
@@ -134,7 +133,6 @@ pub trait NamedPages: VirtualPages {
         ensures clean { Self.clean self.old → Self.clean self.new }
         ensures addresses { KeepsVirtual Self.tells Self.shape Self.stamps Self.map Self.failed Self.keeps_spare self.old self.new }
         ensures next_stamp { Self.next_stamp self.new ≡ Self.next_stamp self.old }
-        ensures found { Self.found self.new ≡ Self.found self.old }
         ensures bytes { Self.tells → (p : ℕ) → Self.bytes self.new p ≡ Self.bytes self.old p }
         ensures stored { Self.tells → Self.stored self.new ≡ Self.stored self.old }
         ensures left { Self.tells → (m : ℕ) (c : Stored) → Self.left self.new m c → Self.left self.old m c }

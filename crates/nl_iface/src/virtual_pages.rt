@@ -4,7 +4,7 @@ ghost use Rattle.nl_field.specs.declared.shape.Shape.{Shape};
 ghost use Rattle.nl_iface.specs.Answers.{IsLost, LosesStamp, ReadsStamp, ReadsValue};
 ghost use Rattle.nl_iface.specs.Counting.{EitherCounted, FailuresCounted, StampRises};
 ghost use Rattle.nl_iface.specs.Kept.{KeepsVirtual};
-ghost use Rattle.nl_iface.specs.Names.{LivePage, Names};
+ghost use Rattle.nl_iface.specs.Names.{Names};
 ghost use Rattle.nl_iface.specs.Stored.{LeavesMap, Shows, Stored, Value, with_value};
 
 use crate::counts::Counts;
@@ -48,9 +48,6 @@ pub trait VirtualPages: Counts {
     /// The main bytes of each page of the physical segment.
     ghost bytes: { Self → ℕ → List ℕ };
 
-    /// What the device keeps of the scan of its start: the tag and the stamp of each page of the physical segment.
-    ghost found: { Self → ℕ → Option LivePage };
-
     /// What is stored now.
     ghost stored: { Self → Stored };
 
@@ -70,7 +67,6 @@ pub trait VirtualPages: Counts {
         ensures names { names self.new ≡ names self.old }
         ensures clean { clean self.old → clean self.new }
         ensures bytes { tells → (p : ℕ) → bytes self.new p ≡ bytes self.old p }
-        ensures found { found self.new ≡ found self.old }
         ensures stored { tells → stored self.new ≡ stored self.old }
         ensures left { tells → (m : ℕ) (c : Stored) → left self.new m c → left self.old m c }
         ensures clock { Self.clock self.new ≡ Self.clock self.old }
@@ -100,7 +96,6 @@ pub trait VirtualPages: Counts {
         ensures names { names self.new ≡ names self.old }
         ensures clean { clean self.old → clean self.new }
         ensures bytes { tells → (p : ℕ) → bytes self.new p ≡ bytes self.old p }
-        ensures found { found self.new ≡ found self.old }
         ensures named { tells → (p : ℕ) → (stored self.new).named p ≡ (stored self.old).named p }
         ensures next_done { result ≡ VirtualWrite.Done → next_stamp self.new ≡ next_stamp self.old + 1 }
         ensures next_stamp { StampRises (next_stamp self.old) (next_stamp self.new) (Self.clock self.old) (Self.clock self.new) (Self.write_faults self.old) (Self.write_faults self.new) }

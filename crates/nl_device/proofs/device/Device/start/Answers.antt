@@ -106,13 +106,3 @@ returns-in-Ok-clause-spare g c tell block spare =
     let before = g.M.Nand.contents c.args.media in
     let e = image_shape shape c.geometry.result (g.M.Nand.geometry c.args.media) before c.legal_shape-shape.ensures c.geometry.ensures (g.met.M.Nand.contents_fit c.args.media tell) in
     opened_keeps before t c.in-Ok.field-0.vseg block (c.in-Tables.ensures.tables tell) (subst (λ s. IsOpenedVirtual s t c.in-Ok.field-0.vseg) (sym e) c.in-Ok.ensures.virtuals) spare
-
-pub returns-in-Ok-clause-found : goal.returns-in-Ok-clause-found
-returns-in-Ok-clause-found g c tell =
-    let shape = c.legal_shape-shape.result in
-    let media = c.scan.new.media in
-    let t = c.in-Tables.tables in
-    let image = g.M.Nand.contents media in
-    let fit = g.met.M.Nand.contents_fit media tell in
-    let e = image_shape shape c.geometry.result (g.M.Nand.geometry media) image c.legal_shape-shape.ensures (c.geometry.ensures ∙ sym c.scan.ensures.geometry) fit in
-    found_holds shape image t c.in-Ok.field-0.kept e (table_now image (g.M.Nand.contents c.args.media) t c.scan.ensures.contents (c.in-Tables.ensures.tables tell)) c.in-Ok.ensures.kept
