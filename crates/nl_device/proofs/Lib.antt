@@ -1,3 +1,4 @@
+pub mod Agreed
 pub mod Alone
 pub mod Blanks
 pub mod Calls

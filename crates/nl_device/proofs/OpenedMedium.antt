@@ -101,7 +101,7 @@ shown_listed image p v s n shows =
       | inr past ↦ absurd (none-some (v, s, n) (sym (ap fact_of (get_or_past image.contents p erased past)) ∙ shows))
     ]
 
-below_next : (image : Image) (r : Readable) → In r (readable_pages image) → stamp_on r < next_stamp_of image
+pub below_next : (image : Image) (r : Readable) → In r (readable_pages image) → stamp_on r < next_stamp_of image
 unfolding next_stamp_of
 below_next image r is =
     let le = fold_has (λ (best : ℕ) (q : Readable). max best (stamp_on q)) (λ n q. omega arith) r (stamp_on r) (λ n. omega arith) (readable_pages image) 0 is in

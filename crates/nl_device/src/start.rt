@@ -1,9 +1,10 @@
-ghost use Rattle.std.specs.Prelude.{◌≡◌, ◌+◌, ◌<◌, ◌≤◌, ℕ, [], None, Some, option_map, IfOk, IsTrue};
+ghost use Rattle.std.specs.Prelude.{◌≡◌, ◌+◌, ◌<◌, ◌≤◌, ℕ, [], None, Some, option_map, true, IfOk, IsTrue};
+ghost use Rattle.std.specs.List.{list_all};
 ghost use Rattle.nl_field.specs.CrashStates.{Rose};
 ghost use Rattle.nl_field.specs.Numbers.{is_legal, shape_for};
 ghost use Rattle.nl_field.specs.Space.{virtual_spare};
 ghost use Rattle.nl_field.specs.Virtual.{newest};
-ghost use Rattle.nl_iface.specs.Stored.{stored_in, value_on};
+ghost use Rattle.nl_iface.specs.Stored.{Value, stored_in, value_on};
 ghost use Rattle.nl_nand.specs.Nand.{SameLeft};
 ghost use Rattle.nl_scan.specs.Tables.{FitsMedium, IsTableOf, greatest_stamp};
 ghost use Rattle.nl_field.specs.Medium.{first_physical};
@@ -66,8 +67,8 @@ fn after_scan(alloc: Global, shape: &Shape, tables: &ScanTables) -> Result<Parts
 
 impl<M: Nand> Device<M> {
     /// Reads each page of a formed medium once, and loads for each virtual address the least of its readable pages with the
-    /// greatest write sequence number, outside the spare block of the virtual segment where there is one. No page of the
-    /// physical segment is live.
+    /// greatest write sequence number, outside the spare block of the virtual segment where there is one. Where each page that was
+    /// seen agrees with those below it, no write counts as failed. No page of the physical segment is live.
     pub fn start(alloc: Global, media: M) -> Started<M>
         requires formed { IsTrue (is_legal (M.geometry media).blocks (M.geometry media).pages) }
         ensures formed { IfReady result (λ d t. ⟦<Device<M> as VirtualPages>⟧.formed d) }
@@ -79,6 +80,7 @@ impl<M: Nand> Device<M> {
         ensures next { IfReady result (λ d t. ⟦<Device<M> as VirtualPages>⟧.next_stamp d ≡ 1 + greatest_stamp t.seen) }
         ensures clean { IfReady result (λ d t. let shape = ⟦<Device<M> as VirtualPages>⟧.shape d in ((block : ℕ) → shape.vblocks ≤ block → block < shape.blocks → SaysErased t block) → ⟦<Device<M> as VirtualPages>⟧.clean d) }
         ensures map { M.tells → IfReady result (λ d t. (v : ℕ) → v < (⟦<Device<M> as VirtualPages>⟧.shape d).vaddrs → ⟦<Device<M> as VirtualPages>⟧.map d v ≡ option_map value_on (newest (M.contents media) v)) }
+        ensures agreed { M.tells → IfReady result (λ d t. list_all (λ s. s.agrees) t.seen ≡ true → (v : ℕ) (x : Value) → v < (⟦<Device<M> as VirtualPages>⟧.shape d).vaddrs → ⟦<Device<M> as VirtualPages>⟧.failed d v x → ⊥) }
         ensures spare { M.tells → IfReady result (λ d t. (block : ℕ) → virtual_spare (M.contents media) ≡ Some block → ⟦<Device<M> as VirtualPages>⟧.keeps_spare d) }
         ensures tables { M.tells → IfReady result (λ d t. IsTableOf (M.contents media) t) }
         ensures fits { IfReady result (λ d t. FitsMedium (M.geometry media) t) }

@@ -1,16 +1,18 @@
 use Rattle.std.proofs.Common.{◌≡◌, ◌<◌, ◌∙◌, sym, ap, subst, IsTrue, arith}
 use Rattle.nl_field.specs.Numbers.{is_legal, shape_for}
 use Rattle.nl_field.specs.Page.{Image}
-use Rattle.nl_field.specs.Medium.{shape_of_image}
+use Rattle.nl_field.specs.Medium.{first_physical, shape_of_image}
 use Rattle.nl_field.specs.declared.shape.Shape.{Shape}
 use Rattle.nl_nand.specs.declared.geometry.Geometry.{Geometry}
 use Rattle.nl_pseg.proofs.Shapes.{IsRoomy, is_roomy}
 use Rattle.nl_nand.specs.Nand.{ImageOf}
 use Rattle.nl_scan.specs.Tables.{FitsMedium, IsTableOf, Table}
+use Rattle.nl_vseg.specs.Pages.{Shows}
 use Rattle.nl_vseg.specs.Places.{map_of}
 use Rattle.nl_device.specs.Device.{IsDevice}
 use Rattle.nl_device.specs.Kept.{KeptPages}
 use Rattle.nl_device.specs.Opening.{FitsShape, IsOpenedPhysical, IsOpenedVirtual}
+use Rattle.nl_device.proofs.Agreed.{opened_agreed}
 use Rattle.nl_device.proofs.Forms.{shape_is}
 use Rattle.nl_device.proofs.OpenedKeeps.{opened_keeps}
 use Rattle.nl_device.proofs.OpenedMedium.{opened_map, opened_on}
@@ -106,3 +108,14 @@ returns-in-Ok-clause-spare g c tell block spare =
     let before = g.M.Nand.contents c.args.media in
     let e = image_shape shape c.geometry.result (g.M.Nand.geometry c.args.media) before c.legal_shape-shape.ensures c.geometry.ensures (g.met.M.Nand.contents_fit c.args.media tell) in
     opened_keeps before t c.in-Ok.field-0.vseg block (c.in-Tables.ensures.tables tell) (subst (λ s. IsOpenedVirtual s t c.in-Ok.field-0.vseg) (sym e) c.in-Ok.ensures.virtuals) spare
+
+pub returns-in-Ok-clause-agreed : goal.returns-in-Ok-clause-agreed
+returns-in-Ok-clause-agreed g c tell agree v x below stray =
+    let shape = c.legal_shape-shape.result in
+    let media = c.scan.new.media in
+    let t = c.in-Tables.tables in
+    let vseg = c.in-Ok.field-0.vseg in
+    let image = g.M.Nand.contents media in
+    let e = image_shape shape c.geometry.result (g.M.Nand.geometry media) image c.legal_shape-shape.ensures (c.geometry.ensures ∙ sym c.scan.ensures.geometry) (g.met.M.Nand.contents_fit media tell) in
+    stray.newer (opened_agreed image t (table_now image (g.M.Nand.contents c.args.media) t c.scan.ensures.contents (c.in-Tables.ensures.tables tell)) agree vseg (subst (λ s. IsOpenedVirtual s t vseg) (sym e) c.in-Ok.ensures.virtuals) v x.0 x.1
+    (subst (λ (s : Shape). v < s.vaddrs) (sym e) below) (subst (λ (s : Shape). Shows (first_physical s) image v x.0 x.1) (sym e) stray.shown))

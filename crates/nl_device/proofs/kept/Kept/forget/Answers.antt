@@ -1,4 +1,4 @@
-use Rattle.std.proofs.Common.{◌<◌, List, [], length, arith, subst, sym}
+use Rattle.std.proofs.Common.{List, length, arith, subst, sym}
 use Rattle.nl_device.specs.Kept.{IsKept}
 use Rattle.nl_device.specs.declared.kept.page.KeptPage.{KeptPage}
 use Rattle.nl_device.proofs.Noting.{noted_none}
