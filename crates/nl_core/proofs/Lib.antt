@@ -8,5 +8,6 @@ pub mod PagesOfFiles
 pub mod ReadableProofs
 pub mod SoundProofs
 pub mod SpareProofs
+pub mod StopsKept
 pub mod Sums
 pub mod TreeOfImage

@@ -1,23 +1,46 @@
--- What a stop at any moment leaves.
-use Rattle.std.specs.Prelude.{◌⊎◌, ℕ, ◌+◌, ◌-◌, ◌≤◌, List, length, take, Option}
-use Rattle.nl_field.specs.Page.{Image}
+-- What a stop leaves of a run: a prefix of its calls that holds every sync that was answered by then. An image is anything that opens as
+-- a tree after so many calls.
+use Rattle.std.specs.Prelude.{◌⊎◌, ℕ, ◌+◌, ◌-◌, ◌≤◌, List, ◌++◌, ◌∷◌, [], length, take, Option}
 use Rattle.nl_field.specs.declared.shape.Shape.{Shape}
 use Rattle.nl_tree.specs.Tree.{Tree}
 use Rattle.nl_tree.specs.Replay.{replay}
 use Rattle.nl_tree.specs.Order.{SyncPoint, durable_prefix}
 use Rattle.nl_tree.specs.declared.call.Call.{Call}
 use Rattle.nl_tree.specs.declared.reply.FaultReply.{FaultReply}
-use Rattle.nl_core.specs.Stands.{SoundAs}
 
--- the image opens as the tree after the first calls of the list, and as many of them as the syncs up to the moment made safe
-pub record OpensAsPrefix (shape : Shape) (count : ℕ) (tree : Tree) (calls : List (Call × Option FaultReply)) (syncs : List SyncPoint) (moment : ℕ) (image : Image) : Type 0 where
+-- where a run began, the calls of its effects, and its syncs
+pub record Run : Type 0 where
+  pub shape : Shape
+  pub count : ℕ
+  pub tree : Tree
+  pub calls : List (Call × Option FaultReply)
+  pub syncs : List SyncPoint
+
+abbrev pub with_call : Run → Call × Option FaultReply → Run
+with_call run x = record run { calls = run.calls ++ x ∷ [] }
+
+abbrev pub with_sync : Run → SyncPoint → Run
+with_sync run s = record run { syncs = run.syncs ++ s ∷ [] }
+
+-- the image opens as the tree after the first calls of the run, and as many of them as the syncs up to the moment made safe
+pub record OpensAsPrefix {I : Type 0} (opens : I → ℕ → Tree → Type 0) (run : Run) (moment : ℕ) (image : I) : Type 0 where
   pub prefix : ℕ
-  pub holds_synced : durable_prefix syncs count moment ≤ prefix
-  pub not_beyond : prefix ≤ count + length calls
-  pub sound : SoundAs image prefix (replay shape tree (take (prefix - count) calls))
+  pub holds_synced : durable_prefix run.syncs run.count moment ≤ prefix
+  pub not_beyond : prefix ≤ run.count + length run.calls
+  pub sound : opens image prefix (replay run.shape run.tree (take (prefix - run.count) run.calls))
 
--- Each image that a stop may leave was left before the opening, or opens so and is of a moment from the first to the last.
-abbrev pub StopsSafely : (ℕ → Image → Type 0) → (ℕ → Image → Type 0) → ℕ → ℕ → Shape → ℕ → Tree → List (Call × Option FaultReply) → List SyncPoint → Type 0
-StopsSafely before left first last shape count tree calls syncs =
-    (moment : ℕ) (image : Image) → left moment image
-    → before moment image ⊎ ((first ≤ moment) × (moment ≤ last) × OpensAsPrefix shape count tree calls syncs moment image)
+-- Each image that a stop may leave was left before the run, or opens so and is of a moment from the first to the last.
+pub record StopsSafely {I : Type 0} (opens : I → ℕ → Tree → Type 0) (before left : ℕ → I → Type 0) (first last : ℕ) (run : Run) : Type 0 where
+  pub each : (moment : ℕ) (image : I) → left moment image → before moment image ⊎ ((first ≤ moment) × (moment ≤ last) × OpensAsPrefix opens run moment image)
+
+-- What is kept from turn to turn: beside it, what there is now holds every sync of the run, and no sync made safe more than was called.
+pub record StopsStand {I : Type 0} (opens : I → ℕ → Tree → Type 0) (before left : ℕ → I → Type 0) (first now : ℕ) (contents : I) (run : Run) : Type 0 where
+  pub safely : StopsSafely opens before left first now run
+  pub current : (moment : ℕ) → OpensAsPrefix opens run moment contents
+  pub in_range : (moment : ℕ) → durable_prefix run.syncs run.count moment ≤ run.count + length run.calls
+
+-- What a turn from one moment to another leaves: what was left before it, or what opens as a prefix of the run; as does what there is then.
+pub record LeavesPrefixes {I : Type 0} (opens : I → ℕ → Tree → Type 0) (earlier left : ℕ → I → Type 0) (start end : ℕ) (contents : I) (run : Run) : Type 0 where
+  pub later : start ≤ end
+  pub each : (moment : ℕ) (image : I) → left moment image → earlier moment image ⊎ ((start ≤ moment) × (moment ≤ end) × OpensAsPrefix opens run moment image)
+  pub current : (moment : ℕ) → OpensAsPrefix opens run moment contents

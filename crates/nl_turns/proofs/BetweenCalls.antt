@@ -2,7 +2,7 @@
 use Rattle.std.proofs.Common.{◌≢◌, ⊎_elim, ◌≡◌, ℕ, ◌+◌, ◌<◌, true, false, List, [], ◌∷◌, refl, sym, ap, ◌∙◌, subst, true≢false, arith}
 use Rattle.std.specs.Prelude.{Contains}
 use Rattle.nl_turns.specs.Seat.{by_seat, passed_by}
-use Rattle.nl_turns.specs.View.{Role, idle, waits, enters, inside, leaves, hosts, spent, View}
+use Rattle.nl_turns.specs.View.{Role, blank, idle, waits, enters, inside, leaves, hosts, spent, View}
 use Rattle.nl_turns.specs.Rule.{HostFits}
 use Rattle.nl_turns.specs.Steps.{after_pass, after_join, IsTold, is_inside, IsBetweenCalls, IsSettled, view_of, IsSeat}
 use Rattle.nl_turns.specs.declared.entry.Entry.{Entry}
@@ -16,6 +16,7 @@ between_calls (v ∷ w ∷ vs) h = absurd h
 
 inside_of : (x : Role) → is_inside x ≡ true → (t : ℕ) × (x ≡ inside t)
 inside_of (inside t) e = (t, refl)
+inside_of blank e = absurd (true≢false (sym e))
 inside_of idle e = absurd (true≢false (sym e))
 inside_of (waits t) e = absurd (true≢false (sym e))
 inside_of (enters t) e = absurd (true≢false (sym e))
@@ -25,6 +26,7 @@ inside_of spent e = absurd (true≢false (sym e))
 
 idle_of : (x : Role) → is_inside x ≡ false → IsBetweenCalls x → x ≡ idle
 idle_of (inside t) e h = absurd (true≢false e)
+idle_of blank e h = absurd h
 idle_of idle e h = refl
 idle_of (waits t) e h = absurd h
 idle_of (enters t) e h = absurd h

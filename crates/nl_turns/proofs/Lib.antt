@@ -7,3 +7,4 @@ pub mod TurnSteps
 pub mod Ends
 pub mod Seating
 pub mod BetweenCalls
+pub mod Begins

@@ -10,7 +10,7 @@ use Rattle.atomic_table.proofs.Lists.{at_set, set_here, set_else}
 use Rattle.nl_turns.specs.History.{Opening}
 use Rattle.nl_turns.specs.Seat.{Passed}
 use Rattle.nl_turns.specs.View.{Role}
-use Rattle.nl_turns.specs.View.{idle, waits, enters, inside, leaves, hosts, spent}
+use Rattle.nl_turns.specs.View.{blank, idle, waits, enters, inside, leaves, hosts, spent}
 use Rattle.nl_turns.specs.View.{View}
 use Rattle.nl_turns.specs.Seat.{by_seat}
 use Rattle.nl_turns.specs.Rule.{HasTicket, has_any_ticket, is_living, IsTurn, spot_of, SlotFits, Truth, ViewFits, At, IsTicketLock}
@@ -24,6 +24,7 @@ pub turn_lives : (x : Role) (t : ℕ) → IsTurn x t → is_living x ≡ true
 turn_lives (enters u) t h = refl
 turn_lives (inside u) t h = refl
 turn_lives (leaves u) t h = refl
+turn_lives blank t h = absurd h
 turn_lives idle t h = absurd h
 turn_lives (waits u) t h = absurd h
 turn_lives (hosts n xs ys) t h = absurd h
@@ -33,6 +34,7 @@ pub turn_has : (x : Role) (t : ℕ) → IsTurn x t → HasTicket x t
 turn_has (enters u) t h = h
 turn_has (inside u) t h = h
 turn_has (leaves u) t h = h
+turn_has blank t h = absurd h
 turn_has idle t h = absurd h
 turn_has (waits u) t h = absurd h
 turn_has (hosts n xs ys) t h = absurd h
@@ -42,6 +44,7 @@ pub turn_spot : (x : Role) (t : ℕ) → IsTurn x t → 0 < spot_of x
 turn_spot (enters u) t h = omega arith
 turn_spot (inside u) t h = omega arith
 turn_spot (leaves u) t h = omega arith
+turn_spot blank t h = absurd h
 turn_spot idle t h = absurd h
 turn_spot (waits u) t h = absurd h
 turn_spot (hosts n xs ys) t h = absurd h
@@ -119,6 +122,7 @@ module _ {V : Type 0} (stands : Opening → List Passed → V → Type 0) (o : O
       (omega arith, omega arith)
     where
       fewer : (x : Role) → cond {A = ℕ} (has_any_ticket x) 1 0 ≤ cond {A = ℕ} (is_living x) 1 0
+      fewer blank = omega arith
       fewer idle = omega arith
       fewer (waits u) = omega arith
       fewer (enters u) = omega arith

@@ -1,13 +1,13 @@
 -- The rule of the lock. Word 0 counts the tickets drawn, word 1 the turns passed, and the one slot holds the value.
-use Rattle.std.specs.Prelude.{◌≡◌, ◌≢◌, ℕ, ◌+◌, ◌-◌, ◌%◌, ◌^◌, ◌<◌, ◌≤◌, Bool, true, false, List, [], ◌∷◌, length, count_by, Contains, Option, Some, None}
+use Rattle.std.specs.Prelude.{◌≡◌, ◌≢◌, ◌⊎◌, ℕ, ◌+◌, ◌-◌, ◌%◌, ◌^◌, ◌<◌, ◌≤◌, Bool, true, false, List, [], ◌∷◌, length, count_by, Contains, Option, Some, None}
 use mathlib.Core.Option.{some, none}
 use mathlib.Core.Option as maybe
 use mathlib.Core.List.{IsPrefix}
 use lib.ListN.{get_elem?}
-use Rattle.atomic_table.specs.Table.{State}
+use Rattle.atomic_table.specs.Table.{State, opening as at_start}
 use Rattle.nl_turns.specs.History.{Opening}
 use Rattle.nl_turns.specs.Seat.{Passed, entries, by_seat}
-use Rattle.nl_turns.specs.View.{Role, idle, waits, enters, inside, leaves, hosts, spent, View}
+use Rattle.nl_turns.specs.View.{Role, blank, idle, waits, enters, inside, leaves, hosts, spent, View, no_opening}
 use Rattle.nl_turns.specs.declared.entry.Entry.{Entry}
 
 -- a fact about entries, as one about entries with their seats
@@ -15,6 +15,7 @@ abbrev pub by_entries : {V : Type 0} → (Opening → List Entry → V → Type 
 by_entries stands opening history value = stands opening (entries history) value
 
 abbrev pub HasTicket : Role → ℕ → Type 0
+HasTicket blank t = ⊥
 HasTicket idle t = ⊥
 HasTicket (waits u) t = u ≡ t
 HasTicket (enters u) t = u ≡ t
@@ -24,6 +25,7 @@ HasTicket (hosts n xs ys) t = ⊥
 HasTicket spent t = ⊥
 
 abbrev pub has_any_ticket : Role → Bool
+has_any_ticket blank = false
 has_any_ticket idle = false
 has_any_ticket (waits u) = true
 has_any_ticket (enters u) = true
@@ -33,6 +35,7 @@ has_any_ticket (hosts n xs ys) = false
 has_any_ticket spent = false
 
 abbrev pub is_living : Role → Bool
+is_living blank = true
 is_living idle = true
 is_living (waits u) = true
 is_living (enters u) = true
@@ -58,6 +61,9 @@ spot_of _ = 0
 abbrev pub first_view : Opening → ℕ → View
 first_view opening seats = record { opening = opening; number = 0; seen = []; role = idle; places = seats - 1; next = 1; joined = [] }
 
+abbrev pub blank_view : ℕ → View
+blank_view seats = record (first_view no_opening seats) { role = blank }
+
 -- What the words and views only show in part: the true counts of tickets drawn and turns passed, of which the words have the
 -- lowest 64 bits; the whole history; where the slot is; the view that has a ticket, and the view that has a number; which numbers
 -- are in use; how many places the first seat has, and the next number that it gives.
@@ -77,12 +83,13 @@ abbrev pub joined_before : List ℕ → List ℕ
 joined_before [] = []
 joined_before (m ∷ ms) = ms
 
--- A seat that took in another, of another number, has what both had seen, with all entries of the other, of its own, and of those
+-- Once the opening is picked no view is blank. A seat that took in another, of another number, has what both had seen, with all entries of the other, of its own, and of those
 -- taken in before.
 abbrev pub HostFits : View → Role → Type 0
 HostFits v (hosts n xs ys) =
     IsPrefix ys v.seen × IsPrefix xs v.seen × (by_seat n v.seen ≡ by_seat n xs) × (by_seat v.number v.seen ≡ by_seat v.number ys)
     × ((j : ℕ) → Contains (joined_before v.joined) j → by_seat j v.seen ≡ by_seat j ys) × (n ≢ v.number)
+HostFits v blank = ⊥
 HostFits v _ = Unit {0}
 
 -- The rule on the living view j. Its number is in use, and its alone. It has seen a beginning of the history, with all of its own
@@ -126,3 +133,9 @@ pub record IsTicketLock {V : Type 0} (stands : Opening → List Passed → V →
   pub out : 0 < truth.spot → (v : View) × At s.views (truth.owner truth.passed) v × IsTurn v.role truth.passed
   pub fresh : (n : ℕ) → truth.next ≤ n → (truth.in_use n ≡ false) × (by_seat n truth.all ≡ [])
   pub held : (n : ℕ) → truth.in_use n ≡ true → (v : View) × At s.views (truth.holder n) v × (is_living v.role ≡ true) × (v.number ≡ n)
+
+-- The lock with its origin, the value that it was made with: untouched while the opening is still to be picked, and from then on under
+-- the rule for one opening.
+abbrev pub IsLock : {V : Type 0} → (Opening → List Passed → V → Type 0) → V → ℕ → State (Option V) View → Type 0
+IsLock stands origin seats s =
+    ((s ≡ at_start (0 ∷ 0 ∷ []) (Some origin ∷ []) (blank_view seats)) × (0 < seats) × (seats ≤ 10)) ⊎ ((o : Opening) × IsTicketLock stands o seats s)

@@ -24,10 +24,11 @@ by_seat number history = filter (λ p. p.seat == number) history
 abbrev pub longer : List Passed → List Passed → List Passed
 longer xs ys = if nat_le (length xs) (length ys) then ys else xs
 
--- a lock: which one it is, and how many seats it has in all
-pub record LockState : Type 0 where
+-- a lock: which one it is, how many seats it has in all, and the value that it was made with
+pub record LockState (V : Type 0) : Type 0 where
   pub name : TableId
   pub seats : ℕ
+  pub origin : V
 
 -- A seat: its lock and number, the opening, the beginning of the history that it has seen, and whether it has its turn. Only the
 -- first seat, of number 0, has places to give, the number of the next seat that it gives, and the numbers of those that it took back.

@@ -1,5 +1,5 @@
 -- What a value behind the lock does in one turn, and the entry of that turn.
-use Rattle.std.specs.Prelude.{◌≡◌, ◌≢◌, ◌⊎◌, ℕ, ◌+◌, ◌<◌, ◌++◌, [], ◌∷◌, Bool, true, false, List, Some, IfSome}
+use Rattle.std.specs.Prelude.{◌≡◌, ◌≢◌, ◌⊎◌, ℕ, ◌+◌, ◌<◌, ◌≤◌, ◌++◌, [], ◌∷◌, Bool, true, false, List, Some, IfSome}
 use Rattle.nl_field.specs.CrashStates.{saturated, Rose}
 use Rattle.nl_tree.specs.Causes.{Counts, HasCause}
 use Rattle.nl_tree.specs.Step.{Outcome}
@@ -47,17 +47,18 @@ pub record IsLineOf (opening : Opening) (worker line : ℕ) (call : Call) : Type
   pub numbered : 0 < line
   pub found : (l : Line) × (line_at opening.lines line ≡ Some l) × (l.worker ≡ worker) × (l.call ≡ call)
 
-module _ {V : Type 0} (stands : Opening → List Entry → V → Type 0) (value : V) where
+module _ {V : Type 0} (stands : V → Opening → List Entry → V → Type 0) (value : V) where
   abbrev pub StandsForSome : Type 0
-  StandsForSome = (opening : Opening) × (history : List Entry) × stands opening history value
+  StandsForSome = (origin : V) × (opening : Opening) × (history : List Entry) × stands origin opening history value
 
   abbrev pub StandsForSomeWithLine : ℕ → ℕ → Call → Type 0
-  StandsForSomeWithLine worker line call = (opening : Opening) × (history : List Entry) × stands opening history value × IsLineOf opening worker line call
+  StandsForSomeWithLine worker line call =
+      (origin : V) × (opening : Opening) × (history : List Entry) × stands origin opening history value × IsLineOf opening worker line call
 
-  -- P holds from each opening and history for which the value stands and which have the line
-  abbrev pub FromEachWithLine : ℕ → ℕ → Call → (Opening → List Entry → Type 0) → Type 0
+  -- P holds from each origin, opening and history for which the value stands and which have the line
+  abbrev pub FromEachWithLine : ℕ → ℕ → Call → (V → Opening → List Entry → Type 0) → Type 0
   FromEachWithLine worker line call P =
-      (opening : Opening) (history : List Entry) → stands opening history value → IsLineOf opening worker line call → P opening history
+      (origin : V) (opening : Opening) (history : List Entry) → stands origin opening history value → IsLineOf opening worker line call → P origin opening history
 
 -- the sum of the opening's count and of the effects with this one
 abbrev pub place_due : Opening → List Entry → ℕ → Reply → ℕ
@@ -79,3 +80,17 @@ FaultRose before now = Rose before.read_faults now.read_faults ⊎ Rose before.w
 -- a page did not hold the wanted stamp, which cannot be over a medium that tells its contents
 abbrev pub LostHasCause : Type 0 → ℕ → ℕ → Type 0
 LostHasCause tells wanted found = (tells → ⊥) × (wanted ≢ found)
+
+-- the clock and the counts of faults never fall
+pub record NeverFall (before now : Counts) : Type 0 where
+  pub clock : before.clock ≤ now.clock
+  pub read_faults : before.read_faults ≤ now.read_faults
+  pub write_faults : before.write_faults ≤ now.write_faults
+
+-- A stage leaves less to stage of its line where it staged, and no turn leaves more of a line of another worker.
+pub record StagesLess (before now : ℕ → ℕ → ℕ) (worker line : ℕ) (staged : Bool) : Type 0 where
+  pub falls : staged ≡ true → now worker line < before worker line
+  pub others : (w l : ℕ) → w ≢ worker → now w l ≤ before w l
+
+abbrev pub NoMoreToStage : (ℕ → ℕ → ℕ) → (ℕ → ℕ → ℕ) → Type 0
+NoMoreToStage before now = (w l : ℕ) → now w l ≤ before w l

@@ -5,7 +5,7 @@ use Rattle.atomic_table.specs.Table.{Step, Me, rest}
 use Rattle.atomic_table.specs.Seated.{TableId}
 use Rattle.nl_turns.specs.History.{Opening}
 use Rattle.nl_turns.specs.Seat.{Passed, passed_by, by_seat, longer, NoneBeyond, SeatState}
-use Rattle.nl_turns.specs.View.{Role, idle, waits, enters, inside, leaves, hosts, spent, View}
+use Rattle.nl_turns.specs.View.{Role, idle, waits, enters, inside, leaves, hosts, spent, View, no_opening}
 use Rattle.nl_turns.specs.Rule.{HostFits}
 use Rattle.nl_turns.specs.declared.entry.Entry.{Entry}
 
@@ -32,23 +32,15 @@ abbrev pub after_join : View → View → View
 after_join v w =
     record v { role = hosts w.number w.seen v.seen; seen = longer v.seen w.seen; places = v.places + 1; joined = w.number ∷ v.joined }
 
-abbrev pub no_opening : Opening
-no_opening =
-    record {
-      shape = record { blocks = 0; pages = 0; nodes = 0; inode_pages = 0; meta = 0; vaddrs = 0; vblocks = 0; pblocks = 0; cap = 0 };
-      count = 0;
-      tree = [];
-      clock = 0;
-      read_faults = 0;
-      write_faults = 0;
-      next_stamp = 0;
-      lines = [];
-    }
-
 abbrev pub spent_view : View
 spent_view = record { opening = no_opening; number = 0; seen = []; role = spent; places = 0; next = 0; joined = [] }
 
 -- ---- what a step tells
+
+-- what a value at home stands for, from the origin that the step was told
+abbrev pub from_origin : {V : Type 0} → (V → Opening → List Entry → V → Type 0) → Option V → Opening → List Entry → V → Type 0
+from_origin stands None opening history value = Unit {0}
+from_origin stands (Some origin) opening history value = stands origin opening history value
 
 -- the first seat knows of this history that no number in it is to come yet
 abbrev pub IsTold : View → List Passed → Type 0
@@ -62,6 +54,10 @@ pub record ComesTo (v : View) (all : List Passed) : Type 0 where
   pub told : IsTold v all
 
 module _ {V : Type 0} where
+  -- the opening is picked
+  abbrev pub begins : Opening → Step (Option V) → Me (Option V) View → ℕ → Me (Option V) View → Type 0
+  begins o st m n m' = m' ≡ (record m.0 { role = idle; opening = o }, m.1)
+
   abbrev pub draws : Step (Option V) → Me (Option V) View → ℕ → Me (Option V) View → Type 0
   draws st m n m' = (t : ℕ) × (m' ≡ (after_draw m.0 t, m.1)) × (n ≡ t % 2 ^ 64)
 

@@ -1,10 +1,12 @@
 -- What the rule of the lock knows of each seat.
-use Rattle.std.specs.Prelude.{ℕ, List}
+use Rattle.std.specs.Prelude.{ℕ, List, [], Bool, true, false}
 use Rattle.nl_turns.specs.History.{Opening}
 use Rattle.nl_turns.specs.Seat.{Passed}
 
 -- where a seat stands
 pub data Role : Type 0 where
+  -- of the first seat, as the lock is made: the opening is still to be picked
+  blank : Role
   idle : Role
   -- it has drawn this ticket
   waits : ℕ → Role
@@ -28,3 +30,20 @@ pub record View : Type 0 where
   pub places : ℕ
   pub next : ℕ
   pub joined : List ℕ
+
+abbrev pub is_blank : Role → Bool
+is_blank blank = true
+is_blank _ = false
+
+abbrev pub no_opening : Opening
+no_opening =
+    record {
+      shape = record { blocks = 0; pages = 0; nodes = 0; inode_pages = 0; meta = 0; vaddrs = 0; vblocks = 0; pblocks = 0; cap = 0 };
+      count = 0;
+      tree = [];
+      clock = 0;
+      read_faults = 0;
+      write_faults = 0;
+      next_stamp = 0;
+      lines = [];
+    }

@@ -12,7 +12,7 @@ mod table;
 mod turns;
 
 pub use entry::{Entry, FaultMark, SyncMark};
-pub use kept::Kept;
+pub use kept::{Kept, Opens};
 pub use seat::{Turn, TurnSeat};
 pub use served::Served;
 pub use turns::Turns;

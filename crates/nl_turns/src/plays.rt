@@ -1,8 +1,19 @@
 //! What each step on the table tells.
-use crate::kept::Kept;
+use crate::kept::{Kept, Opens};
 use crate::table::SeatView;
 use atomic_table::{Join, Play, Split};
 use std::marker::{Brand, PhantomData};
+
+/// Picks the opening.
+pub(crate) struct Begin<O> {
+    picked: PhantomData<O>,
+}
+
+impl<V, O: Opens> Play<Option<V>, SeatView> for Begin<O> {
+    ghost use Rattle.nl_turns.specs.Steps.{begins};
+
+    ghost then = { begins O.opening };
+}
 
 pub(crate) struct Draw;
 
@@ -12,13 +23,28 @@ impl<V> Play<Option<V>, SeatView> for Draw {
     ghost then = { draws };
 }
 
-pub(crate) struct Look;
+/// The origin of the lock. A step knows nothing of its table, so each call picks it.
+pub(crate) trait Origin<V> {
+    ghost use Rattle.std.specs.Prelude.{Option};
 
-impl<V: Kept> Play<Option<V>, SeatView> for Look {
+    ghost origin: { Option V };
+}
+
+impl<V> Origin<V> for Brand {
+    ghost use Rattle.std.specs.Prelude.{None};
+
+    ghost origin = { None };
+}
+
+pub(crate) struct Look<O> {
+    picked: PhantomData<O>,
+}
+
+impl<V: Kept, O: Origin<V>> Play<Option<V>, SeatView> for Look<O> {
     ghost use Rattle.nl_turns.specs.Rule.{by_entries};
-    ghost use Rattle.nl_turns.specs.Steps.{looks};
+    ghost use Rattle.nl_turns.specs.Steps.{looks, from_origin};
 
-    ghost then = { looks (by_entries V.stands) };
+    ghost then = { looks (by_entries (from_origin V.stands O.origin)) };
 }
 
 pub(crate) struct Park;

@@ -1,7 +1,7 @@
-ghost use Rattle.std.specs.Prelude.{◌≡◌, ℕ, List, ◌++◌, ◌∷◌, []};
+ghost use Rattle.std.specs.Prelude.{◌≡◌, ◌≢◌, ◌≤◌, ℕ, List, ◌++◌, ◌∷◌, []};
 ghost use Rattle.nl_tree.specs.Replay.{Answers};
-ghost use Rattle.nl_turns.specs.History.{Opening};
-ghost use Rattle.nl_turns.specs.Served.{stage_entry, effect_entry, duty_entry, StandsForSome, StandsForSomeWithLine, FromEachWithLine, place_due, outcome_due, FaultHasCause, FaultRose, LostHasCause};
+ghost use Rattle.nl_turns.specs.History.{Opening, opening_counts};
+ghost use Rattle.nl_turns.specs.Served.{stage_entry, effect_entry, duty_entry, StandsForSome, StandsForSomeWithLine, FromEachWithLine, place_due, outcome_due, FaultHasCause, FaultRose, LostHasCause, is_staged, NeverFall, StagesLess, NoMoreToStage};
 ghost use Rattle.nl_turns.specs.declared.entry.Entry.{Entry as TurnEntry};
 
 use crate::kept::Kept;
@@ -19,6 +19,9 @@ pub trait Served: Kept {
     /// The clock and the counts of faults of its medium.
     ghost counts: { Self → Counts };
 
+    /// How many pages a line of a worker has left to stage, counted by its range alone.
+    ghost to_stage: { Self → ℕ → ℕ → ℕ };
+
     /// The number of the last callback since the opening, or 0.
     ghost posted: { Self → ℕ };
 
@@ -28,22 +31,28 @@ pub trait Served: Kept {
     /// Stages one whole page of a line ahead of its effect: `Staged`, or why there was none.
     fn stage(&mut self, worker: u8, line: u32, call: &Call) -> Stage
         requires { StandsForSomeWithLine Self.stands self.old worker line call.now }
-        ensures stands { FromEachWithLine Self.stands self.old worker line call.now (λ o h. Self.stands o (h ++ stage_entry line result ∷ []) self.new) }
+        ensures stands { FromEachWithLine Self.stands self.old worker line call.now (λ v o h. Self.stands v o (h ++ stage_entry line result ∷ []) self.new) }
+        ensures counts { NeverFall (counts self.old) (counts self.new) }
+        ensures less { StagesLess (to_stage self.old) (to_stage self.new) worker line (is_staged result) }
         ensures fault { result ≡ Stage.Fault → FaultRose (counts self.old) (counts self.new) }
         ensures lost { (wanted : ℕ) (found : ℕ) → result ≡ Stage.Lost wanted found → LostHasCause tells wanted found };
 
     /// The effect of a line: its place in the order of all calls, and its reply, with the bytes that belong to it in the buffer.
     fn effect(&mut self, worker: u8, line: u32, call: &Call, out: &mut ReplyBuf) -> Answered
         requires { StandsForSomeWithLine Self.stands self.old worker line call.now }
-        ensures stands { FromEachWithLine Self.stands self.old worker line call.now (λ o h. Self.stands o (h ++ effect_entry line result.reply ∷ []) self.new) }
-        ensures place { FromEachWithLine Self.stands self.old worker line call.now (λ o h. result.place ≡ place_due o h line result.reply) }
-        ensures answer { tells → FromEachWithLine Self.stands self.old worker line call.now (λ o h. Answers (outcome_due o h call.now result.reply) result.reply out.new) }
-        ensures cause { FromEachWithLine Self.stands self.old worker line call.now (λ o h. FaultHasCause tells o (counts self.new) call.now result.reply) };
+        ensures stands { FromEachWithLine Self.stands self.old worker line call.now (λ v o h. Self.stands v o (h ++ effect_entry line result.reply ∷ []) self.new) }
+        ensures counts { NeverFall (counts self.old) (counts self.new) }
+        ensures less { (w : ℕ) (l : ℕ) → w ≢ worker → to_stage self.new w l ≤ to_stage self.old w l }
+        ensures place { FromEachWithLine Self.stands self.old worker line call.now (λ v o h. result.place ≡ place_due o h line result.reply) }
+        ensures answer { tells → FromEachWithLine Self.stands self.old worker line call.now (λ v o h. Answers (outcome_due o h call.now result.reply) result.reply out.new) }
+        ensures cause { FromEachWithLine Self.stands self.old worker line call.now (λ v o h. FaultHasCause tells o (counts self.new) call.now result.reply) };
 
     /// One background task.
     fn duty(&mut self, which: Duty) -> DutyAnswer
         requires { StandsForSome Self.stands self.old }
-        ensures stands { (o : Opening) (h : List TurnEntry) → Self.stands o h self.old → Self.stands o (h ++ duty_entry ∷ []) self.new }
+        ensures stands { (v : Self) (o : Opening) (h : List TurnEntry) → Self.stands v o h self.old → Self.stands v o (h ++ duty_entry ∷ []) self.new }
+        ensures counts { NeverFall (counts self.old) (counts self.new) }
+        ensures less { NoMoreToStage (to_stage self.old) (to_stage self.new) }
         ensures fault { result ≡ DutyAnswer.Fault → FaultRose (counts self.old) (counts self.new) }
         ensures lost { (wanted : ℕ) (found : ℕ) → result ≡ DutyAnswer.Lost wanted found → LostHasCause tells wanted found };
 
@@ -52,4 +61,7 @@ pub trait Served: Kept {
 
     fn free_blocks(&self) -> u32
         ensures { result ≡ free_blocks self.now };
+
+    /// The clock and the counts of faults have not fallen since the opening.
+    ghost since: { (v : Self) (w : Self) (o : Opening) (h : List TurnEntry) → Self.stands v o h w → NeverFall (opening_counts o) (counts w) };
 }

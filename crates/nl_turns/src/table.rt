@@ -1,7 +1,6 @@
 //! The table of the lock. Word 0 counts the tickets drawn, word 1 the turns passed, both modulo 2^64. The one slot holds the value.
 use crate::kept::Kept;
 use atomic_table::{Seat, Shared, Table, TableRule};
-use nl_tree::Lines;
 use std::alloc::Global;
 use std::marker::Model;
 use std::snapshot::Snapshot;
@@ -22,23 +21,21 @@ impl Model for SeatView {
     ghost view = { λ _. spent_view };
 }
 
-/// What the lock is told when it is made.
+/// What the lock is told when it is made: its origin, and how many seats it has.
 #[derive(Drop)]
 pub struct About<V> {
     pub value: Snapshot<V>,
-    pub lines: Snapshot<Lines>,
     pub seats: u32,
 }
 
 pub struct TicketLock;
 
 impl<V: Kept> TableRule<Option<V>, SeatView, About<V>> for TicketLock {
-    ghost use Rattle.nl_turns.specs.History.{with_lines};
-    ghost use Rattle.nl_turns.specs.Rule.{IsTicketLock, first_view, by_entries};
+    ghost use Rattle.nl_turns.specs.Rule.{IsLock, blank_view, by_entries};
 
-    ghost holds = { λ a. IsTicketLock (by_entries V.stands) (with_lines (V.opening a.value.value) a.lines.value) a.seats };
+    ghost holds = { λ a. IsLock (by_entries (V.stands a.value.value)) a.value.value a.seats };
 
-    ghost first = { λ a. first_view (with_lines (V.opening a.value.value) a.lines.value) a.seats };
+    ghost first = { λ a. blank_view a.seats };
 }
 
 pub type Board<V> = Table<Option<V>, SeatView, About<V>, TicketLock, Global>;

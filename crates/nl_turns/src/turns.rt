@@ -1,13 +1,12 @@
 ghost use Rattle.std.specs.Prelude.{◌≡◌, ℕ, ◌+◌, ◌-◌, ◌<◌, ◌≤◌, ◌∷◌, ◌++◌, [], true, false, Contains, IfOk, IfErr, IfSome, IfNone};
 ghost use mathlib.Core.List.{IsPrefix};
-ghost use Rattle.nl_turns.specs.History.{with_lines};
 ghost use Rattle.nl_turns.specs.Seat.{entries, by_seat, passed_by, longer, NoneBeyond, SeatState};
 
 use crate::entry::Entry;
-use crate::kept::Kept;
+use crate::kept::{Kept, Opens};
 use crate::plays::Seats;
 use crate::seat::{Turn, TurnSeat};
-use crate::steps::{add, close, open, put_home, reach, settle, take_out};
+use crate::steps::{add, begin, close, open, put_home, reach, settle, take_out};
 use crate::table::Board;
 use atomic_table::Badge;
 use nl_tree::Lines;
@@ -18,7 +17,7 @@ use std::sync::Wait;
 
 /// A ticket lock over one value, which threads share by reference. Turns come in the order of the tickets.
 ///
-/// Contracts see which lock it is, and how many seats it has in all. What a seat has seen is a beginning of one history, which has
+/// Contracts see which lock it is, how many seats it has in all, and its origin: the value with which it was made. What a seat has seen is a beginning of one history, which has
 /// an entry for each turn that was passed.
 pub struct Turns<V: Kept> {
     table: Board<V>,
@@ -28,29 +27,32 @@ impl<V: Kept> Model for Turns<V> {
     ghost use Rattle.std.specs.Prelude.{◌≡◌};
     ghost use Rattle.nl_turns.specs.Seat.{LockState};
 
-    ghost Value = { LockState };
+    ghost Value = { LockState V };
 
-    ghost view = { λ t. record { name = t.table.shared.table_id; seats = t.table.shared.key.seats } };
+    ghost view = { λ t. record { name = t.table.shared.table_id; seats = t.table.shared.key.seats; origin = t.table.shared.key.value.value } };
 
     ghost invariant = { λ t. (t.table.shared.table_id.words ≡ 2) × (t.table.shared.table_id.slots ≡ 1) };
 }
 
 impl<V: Kept> Turns<V> {
-    /// The lock, and its first seat, of number 0, which may give all others. The opening is what the value has now, with these
-    /// lines. The value comes back for want of memory.
-    pub fn new(
+    /// The lock, and its first seat, of number 0, which may give all others. The caller picks the opening, for which the value stands
+    /// before any turn. The value comes back for want of memory.
+    pub fn new<O: Opens>(
         alloc: Global,
         value: V,
         lines: &Lines,
         seats: u32,
     ) -> Result<(Turns<V>, TurnSeat), V>
         requires seats { (0 < seats) × (seats ≤ 10) }
-        requires stands { V.stands (with_lines (V.opening value) lines.now) [] value }
-        ensures lock { IfOk result (λ r. r.0.seats ≡ seats) }
-        ensures seat { IfOk result (λ r. r.1 ≡ record { lock = r.0.name; number = 0; opening = with_lines (V.opening value) lines.now; seen = []; has_turn = false; places = seats - 1; next = 1; joined = [] }) }
+        requires lines { O.opening.lines ≡ lines.now }
+        requires stands { V.stands value O.opening [] value }
+        ensures lock { IfOk result (λ r. (r.0.seats ≡ seats) × (r.0.origin ≡ value)) }
+        ensures seat { IfOk result (λ r. r.1 ≡ record { lock = r.0.name; number = 0; opening = O.opening; seen = []; has_turn = false; places = seats - 1; next = 1; joined = [] }) }
         ensures memory { IfErr result (λ v. v ≡ value) }
     {
-        let (table, place) = open(alloc, value, lines, seats)?;
+        let _ = lines;
+        let (table, mut place) = open(alloc, value, seats)?;
+        begin::<V, O>(&table.shared, &mut place);
         let seat = TurnSeat {
             badge: place.into_badge(),
             places: seats - 1,
@@ -69,11 +71,11 @@ impl<V: Kept> Turns<V> {
         ensures own { by_seat seat.old.number seat.new.seen ≡ by_seat seat.old.number seat.old.seen }
         ensures joined { (n : ℕ) → Contains seat.old.joined n → by_seat n seat.new.seen ≡ by_seat n seat.old.seen }
         ensures numbers { seat.old.number ≡ 0 → NoneBeyond seat.old.next seat.new.seen }
-        ensures stands { V.stands seat.old.opening (entries seat.new.seen) result.value }
+        ensures stands { V.stands self.now.origin seat.old.opening (entries seat.new.seen) result.value }
     {
         let top = &self.table.shared;
         let mut place = mem::replace(&mut seat.badge, Badge::blank()).into_seat();
-        reach(rt, top, &mut place);
+        reach::<V, Brand, R>(rt, top, &mut place);
         let value = top.exchange(&mut place, 0, None).unwrap();
         put_home(top, &mut place);
         seat.badge = place.into_badge();
@@ -84,7 +86,7 @@ impl<V: Kept> Turns<V> {
     pub fn pass(&self, seat: &mut TurnSeat, turn: Turn<V>, entry: Entry)
         requires lock { seat.old.lock ≡ self.now.name }
         requires turn { seat.old.has_turn ≡ true }
-        requires stands { V.stands seat.old.opening (entries seat.old.seen ++ entry ∷ []) turn.value }
+        requires stands { V.stands self.now.origin seat.old.opening (entries seat.old.seen ++ entry ∷ []) turn.value }
         ensures seat { seat.new ≡ record seat.old { seen = seat.old.seen ++ passed_by seat.old.number entry ∷ []; has_turn = false } }
         ensures joined { (n : ℕ) → Contains seat.old.joined n → by_seat n seat.new.seen ≡ by_seat n seat.old.seen }
         ensures numbers { seat.old.number ≡ 0 → NoneBeyond seat.old.next seat.new.seen }
@@ -151,7 +153,7 @@ impl<V: Kept> Turns<V> {
         requires lock { seat.lock ≡ self.name }
         requires idle { seat.has_turn ≡ false }
         requires first { (seat.number ≡ 0) × (seat.places + 1 ≡ self.seats) }
-        ensures { V.stands seat.opening (entries seat.seen) result }
+        ensures { V.stands self.origin seat.opening (entries seat.seen) result }
     {
         let Turns { table } = self;
         let TurnSeat { badge, places: _ } = seat;

@@ -8,7 +8,7 @@ pub fn close_with<V: Kept>(turns: Turns<V>, mut seat: TurnSeat, other: TurnSeat)
     requires lock { (seat.lock ≡ turns.name) × (other.lock ≡ turns.name) }
     requires idle { (seat.has_turn ≡ false) × (other.has_turn ≡ false) }
     requires last { (seat.number ≡ 0) × (seat.places + 2 ≡ turns.seats) }
-    ensures { V.stands seat.opening (entries (longer seat.seen other.seen)) result }
+    ensures { V.stands turns.origin seat.opening (entries (longer seat.seen other.seen)) result }
 {
     turns.join(&mut seat, other);
     turns.close(seat)

@@ -6,6 +6,7 @@ use crate::rounds::round;
 use nl_tree::{Lines, ReplyBuf};
 use nl_turns::Turns;
 use std::alloc::Global;
+use std::marker::Brand;
 use std::sync::Wait;
 use std::thread::Threads;
 
@@ -23,8 +24,12 @@ pub fn count_effects<R: Threads + Wait + Sync>(
     ensures { IfSome result (λ n. n ≡ workers * times) }
 {
     let outs = buffers(alloc, workers)?;
-    let Ok((turns, seat)) = Turns::new(alloc, FailingVolume::new(), lines, u32::from(workers) + 1)
-    else {
+    let Ok((turns, seat)) = Turns::new::<Brand>(
+        alloc,
+        FailingVolume::new(),
+        lines,
+        u32::from(workers) + 1,
+    ) else {
         return None;
     };
     let seat = round(rt, &turns, seat, lines, outs, times);

@@ -3,7 +3,7 @@ ghost use Rattle.std.specs.Prelude.{◌≡◌, ◌+◌, ⊤};
 use nl_tree::{Answered, Call, Duty, DutyAnswer, FaultReply, Reply, ReplyBuf, Stage};
 use nl_turns::{Kept, Served};
 
-const WORKERS: usize = 16;
+const WORKERS: usize = 256;
 
 /// A volume whose medium fails each read, so that no call succeeds. It stages one page of a line before each effect.
 #[derive(Drop)]
@@ -13,7 +13,7 @@ pub struct FailingVolume {
     /// The failed reads so far, at most 2^64 - 1.
     pub faults: u64,
     /// The line of which a page is staged, for each worker, or 0.
-    staged: [u32; 16],
+    staged: [u32; 256],
 }
 
 impl FailingVolume {
@@ -30,27 +30,28 @@ impl FailingVolume {
 }
 
 impl Kept for FailingVolume {
-    ghost use Rattle.nl_turns_tests.specs.Failing.{failing_opening, FailingStands};
+    ghost use Rattle.nl_turns_tests.specs.Failing.{FailingStands};
 
-    ghost opening = { λ v. failing_opening v.calls v.faults };
-
-    ghost stands = { λ o h v. FailingStands o h v.calls v.faults };
+    ghost stands = { λ _ o h v. FailingStands o h v.calls v.faults };
 }
 
 impl Served for FailingVolume {
     ghost use Rattle.std.specs.Prelude.{⊤};
-    ghost use Rattle.nl_turns_tests.specs.Failing.{failing_counts};
+    ghost use Rattle.nl_turns_tests.specs.Failing.{failing_since};
+    ghost use Rattle.nl_turns_tests.specs.Failing.{failing_counts, left_to_stage};
 
     ghost tells = { ⊤ };
 
     ghost counts = { λ v. failing_counts v.faults };
+
+    ghost to_stage = { λ v. left_to_stage v.staged };
 
     ghost posted = { λ _. 0 };
 
     ghost free_blocks = { λ _. 6 };
 
     fn stage(&mut self, worker: u8, line: u32, _call: &Call) -> Stage {
-        let at = usize::from(worker) % WORKERS;
+        let at = usize::from(worker);
         if self.staged[at] == line {
             return Stage::Whole;
         }
@@ -59,7 +60,7 @@ impl Served for FailingVolume {
     }
 
     fn effect(&mut self, worker: u8, _line: u32, _call: &Call, out: &mut ReplyBuf) -> Answered {
-        self.staged[usize::from(worker) % WORKERS] = 0;
+        self.staged[usize::from(worker)] = 0;
         self.calls = self.calls.saturating_add(1);
         self.faults = self.faults.saturating_add(1);
         out.clear();
@@ -80,4 +81,6 @@ impl Served for FailingVolume {
     fn free_blocks(&self) -> u32 {
         6
     }
+
+    ghost since = { λ v w o h s. failing_since o h w.calls w.faults s };
 }

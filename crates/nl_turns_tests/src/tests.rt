@@ -1,6 +1,7 @@
 use super::*;
 use nl_tree::{Answered, FaultReply, Reply, ReplyBuf};
 use nl_turns::Turns;
+use std::marker::Brand;
 use std::test::*;
 
 #[test]
@@ -23,7 +24,8 @@ fn nine_threads_with_two_hundred_turns_each(rt: HostRuntime) -> Result<(), Fail>
 fn a_line_is_staged_and_then_answered(rt: HostRuntime) -> Result<(), Fail> {
     let lines = sync_script(rt.alloc(), 1)?;
     let mut out = ReplyBuf::new(rt.alloc())?;
-    let Ok((turns, mut seat)) = Turns::new(rt.alloc(), FailingVolume::new(), &lines, 2) else {
+    let Ok((turns, mut seat)) = Turns::new::<Brand>(rt.alloc(), FailingVolume::new(), &lines, 2)
+    else {
         return Err("memory".into());
     };
     let Some(own) = turns.split(&mut seat) else {

@@ -1,7 +1,10 @@
 use Rattle.std.proofs.Common.{rules}
 use Rattle.nl_turns.specs.Rule.{by_entries}
-use Rattle.nl_turns.proofs.TurnSteps.{fetch_keeps}
+use Rattle.nl_turns.proofs.Begins.{lock_fetches}
 use Rattle.nl_turns.proofs.steps.take_out.Goals as goal
 
 pub load-requires : goal.load-requires
-load-requires g c = let t = c.requires.turn in (search rules, search rules, fetch_keeps (by_entries g.V.Kept.stands) _ _ _ _ _ _ t.1)
+load-requires g c =
+    let stands = by_entries (g.V.Kept.stands c.args.top.now.key.value.value) in
+    let t = c.requires.turn in
+    (search rules, search rules, lock_fetches stands _ _ _ _ _ _ t.1)

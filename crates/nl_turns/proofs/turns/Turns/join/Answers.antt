@@ -1,15 +1,16 @@
 use Rattle.std.specs.Prelude.{Contains}
 use Rattle.std.proofs.Common.{rules, ◌+◌, ◌≡◌, subst, List, [], ◌∷◌, false, sym, ap, ◌∙◌}
 use Rattle.nl_turns.specs.View.{View}
+use Rattle.nl_turns.proofs.Begins.{lock_joins}
 use Rattle.nl_turns.specs.Rule.{by_entries}
 use Rattle.nl_turns.specs.Seat.{SeatState, by_seat}
 use Rattle.nl_turns.specs.Steps.{is_inside, view_of, state_of, IsSeat}
 use Rattle.nl_turns.proofs.BetweenCalls.{at_rest, joined_stay, join_keeps_seat}
-use Rattle.nl_turns.proofs.Seating.{join_keeps}
 use Rattle.nl_turns.proofs.turns.Turns.join.Goals as goal
 
 pub join_seat-requires : goal.join_seat-requires
 join_seat-requires g c =
+    let stands = by_entries (g.V.Kept.stands c.self.inside.table.shared.key.value.value) in
     let vs : List View = c.seat.inside.badge.views in
     let v : View = c.into_seat-place.result.me.0 in
     let views : vs ≡ v ∷ [] = ap (λ b. b.views) (sym c.replace.ensures.value) ∙ c.into_seat-place.ensures.2 in
@@ -21,7 +22,7 @@ join_seat-requires g c =
     let w : View = c.into_seat.result.me.0 in
     let resting' : is_inside (view_of ws).role ≡ false = ap (λ (k : SeatState). k.has_turn) c.other.view_is ∙ c.requires.idle.1 in
     let rest' = at_rest ws w c.other.invariant.settled c.into_seat.ensures.2 resting' in
-    (search rules, search rules, c.into_seat.ensures.3, search rules, join_keeps (by_entries g.V.Kept.stands) _ _ _ _ _ _ rest first rest')
+    (search rules, search rules, c.into_seat.ensures.3, search rules, lock_joins stands _ _ _ _ _ _ rest first rest')
 
 pub settle-requires-clause-hosts : goal.settle-requires-clause-hosts
 settle-requires-clause-hosts g c = (_, _, _, ap (λ m. m.0.role) c.join_seat.ensures.2)

@@ -12,6 +12,7 @@ use Rattle.nl_turns.proofs.turns.Turns.pass.Goals as goal
 
 pub add-requires-clause-turn : goal.add-requires-clause-turn
 add-requires-clause-turn g c =
+    let origin = c.self.inside.table.shared.key.value.value in
     let vs : List View = c.seat.inside.badge.views in
     let v : View = c.into_seat-place.result.me.0 in
     let views : vs ≡ v ∷ [] = ap (λ b. b.views) (sym c.replace.ensures.value) ∙ c.into_seat-place.ensures.2 in
@@ -20,8 +21,9 @@ add-requires-clause-turn g c =
     let w = at_turn vs v views turn in
     let out = c.take_out.ensures.fetched w.0 w.1 in
     let now = c.exchange-found.ensures.3 in
-    let stood = subst (λ (k : SeatState). g.V.Kept.stands k.opening (entries k.seen ++ c.args.entry ∷ []) c.args.turn.value) (sym is) c.requires.stands in
-    let here = subst (λ (us : List View). g.V.Kept.stands (view_of us).opening (entries (view_of us).seen ++ c.args.entry ∷ []) c.args.turn.value) views stood in (
+    let told = subst (λ z. g.V.Kept.stands z c.args.seat.now.opening (entries c.args.seat.now.seen ++ c.args.entry ∷ []) c.args.turn.value) (ap (λ l. l.origin) (sym c.self.view_is)) c.requires.stands in
+    let stood = subst (λ (k : SeatState). g.V.Kept.stands origin k.opening (entries k.seen ++ c.args.entry ∷ []) c.args.turn.value) (sym is) told in
+    let here = subst (λ (us : List View). g.V.Kept.stands origin (view_of us).opening (entries (view_of us).seen ++ c.args.entry ∷ []) c.args.turn.value) views stood in (
       w.0,
       c.args.turn.value,
       ap (λ m. m.0.role) now ∙ ap (λ m. m.0.role) out,
