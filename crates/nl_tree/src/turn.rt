@@ -18,7 +18,10 @@ pub enum Stage {
 /// What a line's effect answered, and its place in the order of all calls.
 #[derive(Clone, Copy, Debug, PartialEq, Eq)]
 pub struct Answered {
+    /// The count of calls with this one. It stands at 2^64 - 1, so places alone do not always tell the order.
     pub place: u64,
+    /// The effects since the opening, this one included, at most 2^64 - 1.
+    pub ordinal: u64,
     pub reply: Reply,
 }
 

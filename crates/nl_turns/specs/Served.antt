@@ -64,6 +64,10 @@ module _ {V : Type 0} (stands : V → Opening → List Entry → V → Type 0) (
 abbrev pub place_due : Opening → List Entry → ℕ → Reply → ℕ
 place_due opening history line reply = saturated (opening.count + effects (history ++ effect_entry line reply ∷ []))
 
+-- the number of the effects with this one
+abbrev pub ordinal_due : List Entry → ℕ → Reply → ℕ
+ordinal_due history line reply = saturated (effects (history ++ effect_entry line reply ∷ []))
+
 -- what is due on the tree after the history, with the fault of the reply, if it is one
 abbrev pub outcome_due : Opening → List Entry → Call → Reply → Outcome
 outcome_due opening history call reply = step_marked opening.shape (tree_after opening history) (call, fault_of (fault_mark reply))

@@ -1,7 +1,7 @@
 ghost use Rattle.std.specs.Prelude.{◌≡◌, ◌≢◌, ◌≤◌, ℕ, List, ◌++◌, ◌∷◌, []};
 ghost use Rattle.nl_tree.specs.Replay.{Answers};
 ghost use Rattle.nl_turns.specs.History.{Opening, opening_counts};
-ghost use Rattle.nl_turns.specs.Served.{stage_entry, effect_entry, duty_entry, StandsForSome, StandsForSomeWithLine, FromEachWithLine, place_due, outcome_due, FaultHasCause, FaultRose, LostHasCause, is_staged, NeverFall, StagesLess, NoMoreToStage};
+ghost use Rattle.nl_turns.specs.Served.{stage_entry, effect_entry, duty_entry, StandsForSome, StandsForSomeWithLine, FromEachWithLine, place_due, ordinal_due, outcome_due, FaultHasCause, FaultRose, LostHasCause, is_staged, NeverFall, StagesLess, NoMoreToStage};
 ghost use Rattle.nl_turns.specs.declared.entry.Entry.{Entry as TurnEntry};
 
 use crate::kept::Kept;
@@ -44,6 +44,7 @@ pub trait Served: Kept {
         ensures counts { NeverFall (counts self.old) (counts self.new) }
         ensures less { (w : ℕ) (l : ℕ) → w ≢ worker → to_stage self.new w l ≤ to_stage self.old w l }
         ensures place { FromEachWithLine Self.stands self.old worker line call.now (λ v o h. result.place ≡ place_due o h line result.reply) }
+        ensures ordinal { FromEachWithLine Self.stands self.old worker line call.now (λ v o h. result.ordinal ≡ ordinal_due h line result.reply) }
         ensures answer { tells → FromEachWithLine Self.stands self.old worker line call.now (λ v o h. Answers (outcome_due o h call.now result.reply) result.reply out.new) }
         ensures cause { FromEachWithLine Self.stands self.old worker line call.now (λ v o h. FaultHasCause tells o (counts self.new) call.now result.reply) };
 

@@ -1,11 +1,10 @@
 -- For which opening and history a volume stands that answers each call with a failed read.
-use Rattle.std.specs.Prelude.{◌≡◌, ℕ, ◌+◌, ◌≤◌, ◌==◌, if◌then◌else◌, slice_index_or, List, []}
+use Rattle.std.specs.Prelude.{◌≡◌, ℕ, ◌+◌, ◌==◌, if◌then◌else◌, slice_index_or, List, []}
 use Rattle.nl_field.specs.CrashStates.{saturated}
 use Rattle.nl_tree.specs.Tree.{empty_tree}
 use Rattle.nl_tree.specs.Causes.{Counts}
 use Rattle.nl_turns.specs.History.{Opening, effects, opening_counts}
 use Rattle.nl_turns.specs.Served.{NeverFall}
-use Rattle.std.proofs.Common.{arith}
 use Rattle.nl_turns.specs.declared.entry.Entry.{Entry}
 
 -- of its counts of calls and of failed reads
@@ -25,20 +24,12 @@ failing_opening calls faults =
 abbrev pub failing_counts : ℕ → Counts
 failing_counts faults = record { clock = 0; read_faults = faults; write_faults = 0 }
 
--- it counts the effects, and its failed reads only grow
-pub record FailingStands (opening : Opening) (history : List Entry) (calls faults : ℕ) : Type 0 where
+-- it counts the calls and its effects, and its failed reads only grow
+pub record FailingStands (opening : Opening) (history : List Entry) (calls done faults : ℕ) : Type 0 where
   pub count : calls ≡ saturated (opening.count + effects history)
-  pub faults_grow : opening.read_faults ≤ faults
-  pub no_clock : opening.clock ≡ 0
-  pub no_write_fault : opening.write_faults ≡ 0
-  pub no_writes : opening.write_faults ≡ 0
+  pub done_is : done ≡ saturated (effects history)
+  pub since : NeverFall (opening_counts opening) (failing_counts faults)
 
 -- one page of each line, or none of the line that the worker has staged
 abbrev pub left_to_stage : List ℕ → ℕ → ℕ → ℕ
 left_to_stage staged worker line = if slice_index_or staged worker 0 == line then 0 else 1
-
-pub failing_since : (opening : Opening) (history : List Entry) (calls faults : ℕ) → FailingStands opening history calls faults → NeverFall (opening_counts opening) (failing_counts faults)
-failing_since opening history calls faults s =
-    let clock = s.no_clock in
-    let writes = s.no_write_fault in
-    record { clock = omega arith; read_faults = s.faults_grow; write_faults = omega arith }

@@ -8,8 +8,10 @@ const WORKERS: usize = 256;
 /// A volume whose medium fails each read, so that no call succeeds. It stages one page of a line before each effect.
 #[derive(Drop)]
 pub struct FailingVolume {
-    /// The effects so far, at most 2^64 - 1.
+    /// The count of calls, at most 2^64 - 1.
     pub calls: u64,
+    /// The effects so far, at most 2^64 - 1.
+    pub done: u64,
     /// The failed reads so far, at most 2^64 - 1.
     pub faults: u64,
     /// The line of which a page is staged, for each worker, or 0.
@@ -19,10 +21,12 @@ pub struct FailingVolume {
 impl FailingVolume {
     pub fn new() -> Self
         ensures calls { result.calls ≡ 0 }
+        ensures done { result.done ≡ 0 }
         ensures faults { result.faults ≡ 0 }
     {
         FailingVolume {
             calls: 0,
+            done: 0,
             faults: 0,
             staged: [0; WORKERS],
         }
@@ -32,12 +36,11 @@ impl FailingVolume {
 impl Kept for FailingVolume {
     ghost use Rattle.nl_turns_tests.specs.Failing.{FailingStands};
 
-    ghost stands = { λ _ o h v. FailingStands o h v.calls v.faults };
+    ghost stands = { λ _ o h v. FailingStands o h v.calls v.done v.faults };
 }
 
 impl Served for FailingVolume {
     ghost use Rattle.std.specs.Prelude.{⊤};
-    ghost use Rattle.nl_turns_tests.specs.Failing.{failing_since};
     ghost use Rattle.nl_turns_tests.specs.Failing.{failing_counts, left_to_stage};
 
     ghost tells = { ⊤ };
@@ -62,10 +65,12 @@ impl Served for FailingVolume {
     fn effect(&mut self, worker: u8, _line: u32, _call: &Call, out: &mut ReplyBuf) -> Answered {
         self.staged[usize::from(worker)] = 0;
         self.calls = self.calls.saturating_add(1);
+        self.done = self.done.saturating_add(1);
         self.faults = self.faults.saturating_add(1);
         out.clear();
         Answered {
             place: self.calls,
+            ordinal: self.done,
             reply: Reply::Fault(FaultReply::Eio(self.faults)),
         }
     }
@@ -82,5 +87,5 @@ impl Served for FailingVolume {
         6
     }
 
-    ghost since = { λ v w o h s. failing_since o h w.calls w.faults s };
+    ghost since = { λ v w o h s. s.since };
 }

@@ -38,6 +38,7 @@ fn a_line_is_staged_and_then_answered(rt: HostRuntime) -> Result<(), Fail> {
         answered,
         Answered {
             place: 1,
+            ordinal: 1,
             reply: failed
         }
     );
