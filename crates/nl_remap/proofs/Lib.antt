@@ -1,2 +1,3 @@
 pub mod LinksProofs
 pub mod TableProofs
+pub mod Ways

@@ -1,5 +1,6 @@
 -- The table of pairs of an old name and the page to which it leads.
-use Rattle.std.specs.Prelude.{◌≡◌, ℕ, ◌^◌, ◌<◌, ◌==◌, if◌then◌else◌, List, length, count_by, nat_lt}
+use Rattle.std.specs.Prelude.{◌≡◌, ℕ, ◌^◌, ◌<◌, ◌==◌, if◌then◌else◌, not, List, length, map, filter, count_by, nat_lt}
+use Rattle.nl_field.specs.Live.{resolve}
 use Rattle.nl_remap.specs.declared.links.Link.{Link}
 use Rattle.nl_remap.specs.Links.{link_at, HasLink, IsRising}
 
@@ -20,6 +21,18 @@ pub record IsRemap (pairs : List Link) : Type 0 where
   pub rising : (i j : ℕ) → i < j → j < length pairs → (link_at pairs i).from < (link_at pairs j).from
   pub fits : (i : ℕ) → i < length pairs → (link_at pairs i).to < 2 ^ 32
   pub one_step : (x : Link) → HasLink pairs x → IsOld pairs x.to → ⊥
+
+-- each old name with its target
+abbrev pub told : List Link → List (ℕ × ℕ)
+told pairs = map (λ p. (p.from, p.to)) pairs
+
+-- the page to which a name leads
+abbrev pub led : List Link → ℕ → ℕ
+led pairs name = resolve (told pairs) name
+
+-- the pairs that lead to another page
+abbrev pub beside : List Link → ℕ → List Link
+beside pairs target = filter (λ p. not (p.to == target)) pairs
 
 -- how many old names are below this one, which is its place
 abbrev pub place_of : List Link → ℕ → ℕ

@@ -1,7 +1,7 @@
-ghost use Rattle.std.specs.Prelude.{◌≡◌, ℕ, ◌+◌, ◌-◌, ◌<◌, ◌≤◌, ◌↔◌, [], length, map, insert, remove, slice_set, IsTrue, IfOk, IfSome, IfNone};
+ghost use Rattle.std.specs.Prelude.{◌≡◌, ℕ, ◌+◌, ◌-◌, ◌<◌, ◌≤◌, ◌↔◌, ◌==◌, if◌then◌else◌, [], length, map, insert, remove, slice_set, IsTrue, IfOk, IfSome, IfNone};
 ghost use Rattle.std.specs.Bool.{OnTrue, OnFalse};
 ghost use Rattle.nl_remap.specs.Links.{HasLink, link_at};
-ghost use Rattle.nl_remap.specs.Table.{IsOld, IsRemap, led_on, pair, place_of};
+ghost use Rattle.nl_remap.specs.Table.{IsOld, IsRemap, beside, led, led_on, pair, place_of};
 
 use crate::Memory;
 use crate::links::{Link, place};
@@ -33,7 +33,8 @@ impl Model for Remap {
 impl Remap {
     /// No pair, with room for so many.
     pub fn new(alloc: Global, room: u32) -> Result<Remap, Memory>
-        ensures { IfOk result (λ r. r ≡ record { pairs = []; room = room }) }
+        ensures empty { IfOk result (λ r. r ≡ record { pairs = []; room = room }) }
+        ensures table { IfOk result (λ r. IsRemap r.pairs) }
     {
         let by_old = Vec::with_capacity(alloc, room as usize)?;
         let by_target = Vec::with_capacity(alloc, room as usize)?;
@@ -62,6 +63,7 @@ impl Remap {
 
     /// The place to which the name leads: the target of the pair of that old name, else the name itself.
     pub fn resolve(&self, name: u32) -> u32
+        ensures value { result ≡ led self.now.pairs name }
         ensures moved { IsOld self.now.pairs name → HasLink self.now.pairs (pair name result) }
         ensures away { IsOld self.now.pairs name → result ≡ name → ⊥ }
         ensures own { (IsOld self.now.pairs name → ⊥) → result ≡ name }
@@ -79,6 +81,7 @@ impl Remap {
         ensures some { IfSome result (λ name. HasLink self.now.pairs (pair name target)) }
         ensures least { IfSome result (λ name. (other : ℕ) → HasLink self.now.pairs (pair other target) → name ≤ other) }
         ensures none { IfNone result ((name : ℕ) → HasLink self.now.pairs (pair name target) → ⊥) }
+        ensures beside { IfNone result (beside self.now.pairs target ≡ self.now.pairs) }
     {
         let at = place(&self.by_target, target, 0);
         if at == self.by_target.len() {
@@ -112,7 +115,8 @@ impl Remap {
         requires free { IsOld self.old.pairs new → ⊥ }
         requires other { old ≡ new → ⊥ }
         requires led { (name : ℕ) → HasLink self.old.pairs (pair name old) → ⊥ }
-        ensures { self.new ≡ record { pairs = insert self.old.pairs (place_of self.old.pairs old) (pair old new); room = self.old.room - 1 } }
+        ensures table { IsRemap self.new.pairs }
+        ensures put { self.new ≡ record { pairs = insert self.old.pairs (place_of self.old.pairs old) (pair old new); room = self.old.room - 1 } }
     {
         put_pair(&mut self.by_old, &mut self.by_target, old, new);
     }
@@ -124,8 +128,11 @@ impl Remap {
         requires fresh { IsOld self.old.pairs old → ⊥ }
         requires free { IsOld self.old.pairs new → ⊥ }
         requires other { old ≡ new → ⊥ }
-        ensures { let pairs = map (led_on old new) self.old.pairs in self.new ≡ record { pairs = insert pairs (place_of pairs old) (pair old new); room = self.old.room - 1 } }
+        ensures added { let pairs = map (led_on old new) self.old.pairs in self.new ≡ record { pairs = insert pairs (place_of pairs old) (pair old new); room = self.old.room - 1 } }
+        ensures table { IsRemap self.new.pairs }
+        ensures ways { (name : ℕ) → led self.new.pairs name ≡ (if led self.old.pairs name == old then new else led self.old.pairs name) }
     {
+        let _ = self.room();
         while let Some(name) = self.name_of(old) {
             self.lead_on(name, old, new);
         }
@@ -137,6 +144,9 @@ impl Remap {
         ensures found { IsTrue result ↔ IsOld self.old.pairs name }
         ensures dropped { OnTrue result (self.new ≡ record { pairs = remove self.old.pairs (place_of self.old.pairs name); room = self.old.room + 1 }) }
         ensures kept { OnFalse result (self.new ≡ self.old) }
+        ensures table { IsRemap self.new.pairs }
+        ensures ways { OnTrue result ((other : ℕ) → led self.new.pairs other ≡ (if other == name then name else led self.old.pairs other)) }
+        ensures beside { OnTrue result (let target = led self.old.pairs name in beside self.new.pairs target ≡ beside self.old.pairs target) }
     {
         let at = place(&self.by_old, name, 0);
         if at == self.by_old.len() || self.by_old[at].from != name {
