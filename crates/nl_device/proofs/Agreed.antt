@@ -15,8 +15,10 @@ use Rattle.nl_field.specs.declared.shape.Shape.{Shape}
 use Rattle.nl_field.specs.declared.spare.SpareRec.{SpareRec}
 use Rattle.nl_field.specs.declared.spare.SpareRec.TheVariants.{Virtual, Physical}
 use Rattle.nl_iface.specs.Stored.{value_on}
-use Rattle.nl_scan.specs.Tables.{IsTableOf, Table, seen_of}
-use Rattle.nl_scan.specs.declared.seen.Seen.{Seen}
+use Rattle.nl_scan.specs.Tables.{IsTableOf, Table}
+use Rattle.nl_field.specs.ScanList.{seen_of}
+use Rattle.nl_field.proofs.ScanLists.{each as list_of}
+use Rattle.nl_field.specs.declared.seen.Seen.{Seen}
 use Rattle.nl_vseg.proofs.Members.{In, any_from, any_to, enumerate_from_at, filter_from, filter_map_from, filter_to}
 use Rattle.nl_vseg.specs.Maps.{Dominated}
 use Rattle.nl_vseg.specs.Pages.{Fact, Shows, fact_of, fact_with, main_of}
@@ -118,7 +120,7 @@ module _ (image : Image) (t : Table) (is : IsTableOf image t) (agreed : list_all
   unfolding virtual_pages
   agrees r there =
       let seen = in_map (seen_of image) r (readable_pages image) (filter_to _ r (readable_pages image) there).0 in
-      all_at (λ (s : Seen). s.agrees) (seen_of image r) t.seen (from_in (seen_of image r) t.seen (subst (In (seen_of image r)) (sym is.each_page) seen)) agreed
+      all_at (λ (s : Seen). s.agrees) (seen_of image r) t.seen (from_in (seen_of image r) t.seen (subst (In (seen_of image r)) (sym (is.each_page ∙ list_of image)) seen)) agreed
 
   -- of two pages of one stamp the lower one has the bytes of the other
   same_bytes : (r m : Readable) → In r (virtual_pages image) → In m (virtual_pages image) → r.page < m.page → stamp_on r ≡ stamp_on m → r.main ≡ m.main

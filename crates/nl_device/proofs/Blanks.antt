@@ -11,7 +11,7 @@ use Rattle.nl_field.specs.declared.pointer.Tag.{Tag}
 use Rattle.nl_field.specs.declared.shape.Shape.{Shape}
 use Rattle.nl_field.specs.declared.spare.SpareRec.TheVariants.{Physical}
 use Rattle.nl_nand.specs.Nand.{IsBlank}
-use Rattle.nl_scan.specs.declared.seen.Seen.{Seen}
+use Rattle.nl_field.specs.declared.seen.Seen.{Seen}
 use Rattle.nl_device.specs.Device.{HasFound}
 use Rattle.nl_device.specs.Kept.{KeptPages, has_stamp, kept_from, kept_pages, place_among, spare_among}
 use Rattle.nl_device.specs.Retain.{CanRetain, place_for}

@@ -10,8 +10,10 @@ use Rattle.nl_field.specs.SpareRecord.{stamp_of}
 use Rattle.nl_field.specs.declared.pointer.Pointer.{Pointer}
 use Rattle.nl_field.specs.declared.spare.SpareRec.{SpareRec}
 use Rattle.nl_field.specs.declared.spare.SpareRec.TheVariants.{Virtual, Physical}
-use Rattle.nl_scan.specs.Tables.{IsTableOf, Table, greatest_stamp, seen_of}
-use Rattle.nl_scan.specs.declared.seen.Seen.{Seen}
+use Rattle.nl_scan.specs.Tables.{IsTableOf, Table, greatest_stamp}
+use Rattle.nl_field.specs.ScanList.{seen_of}
+use Rattle.nl_field.proofs.ScanLists.{each as listed}
+use Rattle.nl_field.specs.declared.seen.Seen.{Seen}
 use Rattle.nl_device.specs.Kept.{KeptPages, has_stamp, kept_from, kept_pages, place_among, spare_among, with_record}
 use Rattle.nl_device.specs.declared.kept.page.KeptPage.{KeptPage}
 use Rattle.nl_device.proofs.Gathered.{all_kept}
@@ -94,7 +96,7 @@ pub record IsOf (image : Image) (kept : KeptPages) : Type 0 where
 
 pub is_of : (image : Image) (t : Table) → IsTableOf image t → kept_pages (first_physical (shape_of_image image)) t.seen ≡ filter_map (kept_from (first_physical (shape_of_image image))) (map (seen_of image) (readable_pages image))
 unfolding kept_pages
-is_of image t is = ap (filter_map (kept_from (first_physical (shape_of_image image)))) is.each_page
+is_of image t is = ap (filter_map (kept_from (first_physical (shape_of_image image)))) (is.each_page ∙ listed image)
 
 pub any_of : (image : Image) (kept : KeptPages) (P : ℕ → ℕ → Bool) → IsOf image kept → list_any (λ k. P k.page k.stamp) kept.pages ≡ list_any (λ r. P r.page (stamp_on r)) (physical_pages image)
 unfolding physical_pages

@@ -8,7 +8,7 @@ use Rattle.nl_field.specs.Page.{Image}
 use Rattle.nl_field.specs.declared.pointer.Tag.{Tag}
 use Rattle.nl_field.specs.declared.spare.SpareRec.{SpareRec}
 use Rattle.nl_field.specs.declared.spare.SpareRec.TheVariants.{Virtual, Physical}
-use Rattle.nl_scan.specs.Tables.{seen_of}
+use Rattle.nl_field.specs.ScanList.{seen_of}
 use Rattle.nl_iface.specs.Names.{LivePage}
 use Rattle.nl_iface.specs.Stored.{NamedPage, named_in, stored_in}
 use Rattle.nl_device.specs.Kept.{KeptPages, kept_from, with_record}

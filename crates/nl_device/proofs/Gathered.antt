@@ -13,7 +13,7 @@ use Rattle.nl_field.specs.Spelling.{is_stamp}
 use Rattle.nl_field.specs.declared.spare.SpareRec.{SpareRec}
 use Rattle.nl_field.specs.declared.spare.SpareRec.TheVariants.{Virtual, Physical}
 use Rattle.nl_scan.specs.Tables.{IsSeen}
-use Rattle.nl_scan.specs.declared.seen.Seen.{Seen}
+use Rattle.nl_field.specs.declared.seen.Seen.{Seen}
 use Rattle.nl_device.specs.Kept.{IsOfSegment, kept_from, kept_pages, with_record}
 use Rattle.nl_device.specs.declared.kept.page.KeptPage.{KeptPage}
 

@@ -4,7 +4,7 @@ use Rattle.std.specs.Prelude.{All, IfSome, filter}
 use Rattle.nl_field.specs.Spelling.{is_stamp}
 use Rattle.nl_field.specs.declared.shape.Shape.{Shape}
 use Rattle.nl_scan.specs.Tables.{IsSeen, Table}
-use Rattle.nl_scan.specs.declared.seen.Seen.{Seen}
+use Rattle.nl_field.specs.declared.seen.Seen.{Seen}
 use Rattle.nl_vseg.proofs.Members.{In}
 use Rattle.nl_device.specs.Opening.{CanLoad, FitsShape, Tabulates, greatest_of, is_newest, needed_of, newest_of, owns_of, pick_of}
 use Rattle.nl_device.specs.declared.opening.own.Own.{Own}

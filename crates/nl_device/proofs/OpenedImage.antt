@@ -10,7 +10,9 @@ use Rattle.nl_field.specs.Virtual.{first_in, newest, or_first_in}
 use Rattle.nl_field.specs.declared.shape.Shape.{Shape}
 use Rattle.nl_field.specs.declared.spare.SpareRec.{SpareRec}
 use Rattle.nl_field.specs.declared.spare.SpareRec.TheVariants.{Virtual, Physical}
-use Rattle.nl_scan.specs.Tables.{IsTableOf, Table, seen_of}
+use Rattle.nl_scan.specs.Tables.{IsTableOf, Table}
+use Rattle.nl_field.specs.ScanList.{seen_of}
+use Rattle.nl_field.proofs.ScanLists.{each as listed}
 use Rattle.nl_vseg.proofs.Members.{In, any_from, any_to}
 use Rattle.nl_device.specs.Opening.{greatest_of, needed_of, newest_of, or_else, own_in, owns_of, pick_of}
 use Rattle.nl_device.specs.declared.opening.own.Own.{Own}
@@ -156,7 +158,7 @@ pub needed_are : (image : Image) (t : Table) → IsTableOf image t → needed_of
 unfolding virtual_pages
 needed_are image t is =
     let shape = shape_of_image image in
-    ap (λ seen. newest_of (owns_of shape seen)) is.each_page
+    ap (λ seen. newest_of (owns_of shape seen)) (is.each_page ∙ listed image)
     ∙ (ap newest_of (owns_are image shape (readable_pages image))
     ∙ newest_are (filter (λ r. nat_lt r.page (first_physical shape) && is_virtual_rec shape r.rec) (readable_pages image)))
 

@@ -11,7 +11,7 @@ use Rattle.nl_field.specs.SpareRecord.{stamp_of}
 use Rattle.nl_field.specs.declared.shape.Shape.{Shape}
 use Rattle.nl_field.specs.declared.spare.SpareRec.{SpareRec}
 use Rattle.nl_field.specs.declared.spare.SpareRec.TheVariants.{Virtual, Physical}
-use Rattle.nl_scan.specs.declared.seen.Seen.{Seen}
+use Rattle.nl_field.specs.declared.seen.Seen.{Seen}
 use Rattle.nl_vseg.proofs.Members.{In, filter_to, filter_map_to}
 use Rattle.nl_device.specs.Opening.{greatest_of, newest_of, own_in, own_of, owns_of}
 use Rattle.nl_device.specs.declared.opening.own.Own.{Own}

@@ -15,7 +15,7 @@ use Rattle.nl_pseg.specs.Segment.{InSegment, IsPhysicalOf, Physical, TakenAsEras
 use Rattle.nl_pseg.specs.declared.held.Held.{Held}
 use Rattle.nl_field.specs.Medium.{first_physical}
 use Rattle.nl_scan.specs.Tables.{greatest_stamp}
-use Rattle.nl_scan.specs.declared.seen.Seen.{Seen}
+use Rattle.nl_field.specs.declared.seen.Seen.{Seen}
 use Rattle.nl_vseg.specs.Segment.{Segment}
 use Rattle.nl_device.specs.Device.{HasFound, HasFree, HasLive, HasSegments, IsDevice}
 use Rattle.nl_device.specs.Kept.{KeptPages, kept_pages}

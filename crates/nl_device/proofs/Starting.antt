@@ -17,7 +17,7 @@ use Rattle.nl_pseg.proofs.Shapes.{IsRoomy, is_roomy}
 use Rattle.nl_pseg.specs.Segment.{Physical}
 use Rattle.nl_pseg.specs.declared.held.Held.{Held}
 use Rattle.nl_scan.specs.Tables.{Table, greatest_stamp}
-use Rattle.nl_scan.specs.declared.seen.Seen.{Seen}
+use Rattle.nl_field.specs.declared.seen.Seen.{Seen}
 use Rattle.nl_vseg.proofs.Members.{In}
 use Rattle.nl_vseg.specs.Places.{place_of, stamp_in_place}
 use Rattle.nl_vseg.specs.Segment.{Segment}

@@ -9,12 +9,14 @@ pub mod Inode
 pub mod Journal
 pub mod Live
 pub mod Medium
+pub mod Members
 pub mod Names
 pub mod Numbers
 pub mod Page
 pub mod PointerItems
 pub mod Pointers
 pub mod Scan
+pub mod ScanList
 pub mod Space
 pub mod SpareRecord
 pub mod Spelling

@@ -1,5 +1,5 @@
 -- The numbers of a volume, from its geometry, and the limits that no geometry changes.
-use Rattle.std.specs.Prelude.{ℕ, ◌+◌, ◌-◌, ◌*◌, ◌/◌, nat_le, Bool, ◌&&◌}
+use Rattle.std.specs.Prelude.{◌≡◌, ℕ, ◌≤◌, ◌+◌, ◌-◌, ◌*◌, ◌/◌, nat_le, Bool, ◌&&◌}
 use Rattle.std.specs.Int.{div_ceil}
 use Rattle.nl_field.specs.declared.shape.Shape.{Shape}
 
@@ -30,9 +30,35 @@ shape_for blocks pages =
       cap = (pblocks - 4) * pages - 160;
     }
 
+-- The bounds that the numbers of each legal volume keep.
+pub record ShapeBounds (shape : Shape) : Type 0 where
+  pub least_blocks : 32 ≤ shape.blocks
+  pub most_blocks : shape.blocks ≤ 4096
+  pub least_pages : 32 ≤ shape.pages
+  pub most_pages : shape.pages ≤ 256
+  pub all_pages : shape.blocks * shape.pages ≤ 262144
+  -- nodes, the pages that hold them, and the pages of the pool
+  pub some_nodes : 64 ≤ shape.nodes
+  pub places : shape.nodes ≤ 16 * shape.inode_pages
+  pub few_places : 16 * shape.inode_pages ≤ shape.nodes + 15
+  pub some_meta : 32 ≤ shape.meta
+  -- virtual addresses
+  pub addresses : shape.vaddrs ≡ 67 + shape.inode_pages + shape.meta
+  pub addresses_fit : shape.vaddrs + 4 * shape.pages ≤ shape.vblocks * shape.pages
+  -- the two segments make up the medium
+  pub some_blocks : 5 ≤ shape.vblocks
+  pub segments : shape.vblocks + shape.pblocks ≡ shape.blocks
+  -- pages of files
+  pub data_pages : shape.cap + 4 * shape.pages + 160 ≡ shape.pblocks * shape.pages
+  pub nodes_within_cap : shape.nodes ≤ shape.cap + 1
+
 -- the most bytes of a file: 8 pages with direct pointers, and 16 ranges of 256 pages
 abbrev pub max_file_size : ℕ
 max_file_size = 16809984
+
+-- the most bytes of one read, write or fill
+abbrev pub max_bytes : ℕ
+max_bytes = 65536
 
 -- the most entries of a directory: 16 pages of 64
 abbrev pub max_entries : ℕ

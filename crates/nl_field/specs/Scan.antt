@@ -20,11 +20,15 @@ agree r q = bytes_eq r.main q.main && bytes_eq (spare_bytes (without_wear r.rec)
 unfoldable pub differs_from_lower : List Readable → Readable → Bool
 differs_from_lower pages r = list_any (λ q. nat_lt q.page r.page && stamp_on q == stamp_on r && not (agree q r)) pages
 
+-- The page does not differ from a lower one of these pages of its segment. A page that is none of these differs from none.
+abbrev pub agrees_among : List Readable → List Readable → Readable → Bool
+agrees_among virtuals physicals r =
+    not (list_any (λ q. q.page == r.page && differs_from_lower virtuals q) virtuals)
+    && not (list_any (λ q. q.page == r.page && differs_from_lower physicals q) physicals)
+
 -- The page does not differ from a lower one of its segment. A page whose record is not of its segment differs from none.
 unfoldable pub agrees_below : Image → Readable → Bool
-agrees_below image r =
-    not (list_any (λ q. q.page == r.page && differs_from_lower (virtual_pages image) q) (virtual_pages image))
-    && not (list_any (λ q. q.page == r.page && differs_from_lower (physical_pages image) q) (physical_pages image))
+agrees_below image r = agrees_among (virtual_pages image) (physical_pages image) r
 
 -- one more than the greatest stamp of a readable page in either segment, or 1
 unfoldable pub next_stamp_of : Image → ℕ

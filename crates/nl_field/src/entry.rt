@@ -2,6 +2,7 @@ ghost use Rattle.std.specs.Prelude.{◌≡◌, ◌↔◌, ◌≤◌, ◌+◌, �
 ghost use Rattle.nl_field.specs.Spelling.{Reads};
 ghost use Rattle.nl_field.specs.EntryRecord.{entry_bytes, entry_of, entry_fields, is_entry, fits_entry};
 
+use crate::limits::MAX_NAME;
 use crate::numbers::{put_u32, u32_from};
 use crate::{Name, PageBuf};
 
@@ -83,7 +84,7 @@ fn fields(bytes: &[u8]) -> Option<EntryRec>
     ensures value { IfSome result (λ rec. rec ≡ entry_fields bytes.now) }
     ensures spelled { IsSome result ↔ IsTrue (is_entry (entry_fields bytes.now)) }
 {
-    let len = bytes[8].min(55) as usize;
+    let len = bytes[8].min(MAX_NAME as u8) as usize;
     let name = Name::of(&bytes[9..9 + len])?;
     Some(EntryRec {
         ino: u32_from(bytes, 0),

@@ -5,6 +5,7 @@ ghost use Rattle.nl_field.specs.Spelling.{Reads};
 ghost use Rattle.nl_field.specs.Pointers.{is_pointer, is_none_pointer};
 ghost use Rattle.nl_field.specs.Inode.{inode_bytes, inode_of, inode_fields, is_inode, is_inode_of_kind, fits_inode, are_filled, kind_byte, kind_of};
 
+use crate::limits::{MAX_ENTRIES, MAX_FILE_SIZE};
 use crate::numbers::{
     pointers_from, put_pointers, put_u32, put_u32s, put_u64, u32_from, u32s_from, u64_from,
 };
@@ -64,9 +65,9 @@ impl InodeRec {
             Kind::Unused => {
                 self.size == 0 && are_none(&self.direct) && are_zero(&self.addresses)
             }
-            Kind::File => self.size <= 16_809_984 && are_pointers(&self.direct),
+            Kind::File => self.size <= MAX_FILE_SIZE && are_pointers(&self.direct),
             Kind::Dir => {
-                self.size <= 1024
+                self.size <= u64::from(MAX_ENTRIES)
                     && are_none(&self.direct)
                     && have_filled(self.size.div_ceil(64) as usize, &self.addresses)
             }

@@ -1,3 +1,5 @@
+ghost use Rattle.nl_field.specs.ScanList.{ListsTell};
+ghost use Rattle.nl_field.specs.Virtual.{MapIsImage};
 ghost use Rattle.std.specs.Prelude.{◌≡◌, ◌≤◌, length, take};
 ghost use Rattle.byteorder.specs.Endian.{little_bytes, little_number};
 
@@ -6,4 +8,15 @@ ghost use Rattle.byteorder.specs.Endian.{little_bytes, little_number};
 pub fn written_back(bytes: &[u8], width: usize)
     requires { width ≤ length bytes.now }
     ensures { little_bytes width (little_number width bytes.now) ≡ take width bytes.now }
+{}
+
+/// The list that a scan of an image gives tells its spare blocks, which pointers are lost, which own their names, and the place of
+/// each.
+pub fn lists_tell()
+    ensures { ListsTell }
+{}
+
+/// The bytes of a device's addresses are those of an image with its values.
+pub fn map_is_image()
+    ensures { MapIsImage }
 {}

@@ -3,12 +3,13 @@ ghost use Rattle.nl_field.specs.Numbers.{max_name};
 ghost use Rattle.nl_field.specs.Names.{is_name, is_name_byte};
 ghost use Rattle.std.specs.List.{list_all};
 
+use crate::limits::MAX_NAME;
 use std::marker::Model;
 
 /// The bytes of a name of at most 55 bytes, held in itself.
 #[derive(Debug, Drop)]
 pub struct Name {
-    items: [u8; 55],
+    items: [u8; MAX_NAME],
     len: u8,
 }
 
@@ -30,10 +31,10 @@ impl Name {
         ensures value { IfSome result (λ name. name ≡ bytes.now) }
         ensures named { IsSome result ↔ IsTrue (is_name bytes.now && nat_le (length bytes.now) max_name) }
     {
-        if bytes.len() > 55 || !is_named(bytes) {
+        if bytes.len() > MAX_NAME || !is_named(bytes) {
             return None;
         }
-        let mut items = [0; 55];
+        let mut items = [0; MAX_NAME];
         items[..bytes.len()].copy_from_slice(bytes);
         Some(Name {
             items,

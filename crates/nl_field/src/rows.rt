@@ -8,9 +8,10 @@ ghost use Rattle.nl_field.specs.Inode.{inode_bytes, inode_of};
 ghost use Rattle.nl_field.specs.EntryRecord.{entry_bytes, entry_of};
 ghost use Rattle.nl_field.specs.Examples.{fresh_image, root_inode, two_supers, one_stamp_two_addresses, short_page, two_copies};
 ghost use Rattle.nl_field.specs.Medium.{stamp_on, readable_pages};
-ghost use Rattle.nl_field.specs.Virtual.{newest, virtual_bytes};
+ghost use Rattle.nl_field.specs.Virtual.{map_bytes, newest, virtual_bytes};
 ghost use Rattle.nl_field.specs.Page.{is_image};
 ghost use Rattle.nl_field.specs.Scan.{agrees_below, next_stamp_of, least_wear, greatest_wear, super_version, zeros_from};
+ghost use Rattle.nl_field.specs.ScanList.{is_lost_seen, owns_seen, place_seen, seen_in};
 ghost use Rattle.nl_field.specs.Space.{virtual_spare, physical_spare, place_outside};
 ghost use Rattle.nl_field.specs.declared.inode.Kind.{Kind};
 ghost use Rattle.nl_field.specs.declared.spare.SpareRec.TheVariants.{Physical};
@@ -113,4 +114,26 @@ pub fn scanned()
     ensures differs { option_map (agrees_below two_supers) (find (λ r. r.page == 33) (readable_pages two_supers)) ≡ Some false }
     ensures behind { zeros_from (0 ∷ 5 ∷ 0 ∷ 0 ∷ []) ≡ 2 }
     ensures all_zero { zeros_from (0 ∷ 0 ∷ []) ≡ 0 }
+{}
+
+// What a scan lists of two images, and what the list tells of pointers: a name is owned by the page of its stamp, or where no page
+// is readable.
+pub fn listed()
+    ensures lower { option_map (λ s. s.agrees) (find (λ s. s.page == 0) (seen_in two_supers)) ≡ Some true }
+    ensures differs { option_map (λ s. s.agrees) (find (λ s. s.page == 33) (seen_in two_supers)) ≡ Some false }
+    ensures zeros { option_map (λ s. s.zeros) (find (λ s. s.page == 288) (seen_in two_copies)) ≡ Some 5 }
+    ensures own { owns_seen (shape_for 32 32) (seen_in two_copies) (record { name = 256; stamp = 3 }) ≡ true }
+    ensures taken { owns_seen (shape_for 32 32) (seen_in two_copies) (record { name = 256; stamp = 4 }) ≡ false }
+    ensures empty { owns_seen (shape_for 32 32) (seen_in two_copies) (record { name = 300; stamp = 4 }) ≡ true }
+    ensures lost { is_lost_seen (shape_for 32 32) (seen_in two_copies) (record { name = 300; stamp = 4 }) ≡ true }
+    ensures place { place_seen (shape_for 32 32) (seen_in two_copies) (Some 8) (record { name = 256; stamp = 3 }) ≡ Some 288 }
+{}
+
+// A device's address reads as its value, an inode page as zeros where it has none, and one beyond the last as nothing.
+pub fn addresses_read()
+    ensures value { map_bytes (shape_for 32 32) (λ v. Some (1, codes "a")) 71 ≡ Some (codes "a") }
+    ensures unwritten { map_bytes (shape_for 32 32) (λ v. None) 70 ≡ Some (replicate 4096 0) }
+    ensures none { map_bytes (shape_for 32 32) (λ v. None) 71 ≡ None }
+    ensures last { map_bytes (shape_for 32 32) (λ v. Some (1, codes "a")) 102 ≡ Some (codes "a") }
+    ensures beyond { map_bytes (shape_for 32 32) (λ v. Some (1, codes "a")) 103 ≡ None }
 {}

@@ -1,5 +1,5 @@
 ghost use Rattle.std.specs.Prelude.{◌≡◌, ◌↔◌, IsTrue, IsSome, IfSome};
-ghost use Rattle.nl_field.specs.Numbers.{is_legal, shape_for};
+ghost use Rattle.nl_field.specs.Numbers.{ShapeBounds, is_legal, shape_for};
 
 /// The numbers of a volume.
 #[derive(Clone, Copy, Debug, PartialEq, Eq)]
@@ -28,6 +28,7 @@ pub struct Shape {
 pub fn shape_of(blocks: u32, pages: u32) -> Option<Shape>
     ensures legal { IsSome result ↔ IsTrue (is_legal blocks pages) }
     ensures numbers { IfSome result (λ shape. shape ≡ shape_for blocks pages) }
+    ensures bounds { IfSome result ShapeBounds }
 {
     if blocks < 32 || blocks > 4096 || pages < 32 || pages > 256 {
         return None;

@@ -16,9 +16,11 @@ use Rattle.nl_nand.specs.ImageLaws.{image_size}
 use Rattle.nl_nand.specs.declared.geometry.Geometry.{Geometry}
 use Rattle.nl_scan.specs.declared.firsts.First.{First}
 use Rattle.nl_scan.specs.declared.pass.Pass.{Pass}
-use Rattle.nl_scan.specs.declared.seen.Seen.{Seen}
+use Rattle.nl_field.specs.declared.seen.Seen.{Seen}
 use Rattle.nl_scan.specs.Supers.{no_super, super_after}
-use Rattle.nl_scan.specs.Tables.{IsSeen, IsKept, IsTableOf, FitsMedium, greatest_stamp, seen_of}
+use Rattle.nl_scan.specs.Tables.{IsSeen, IsKept, IsTableOf, FitsMedium, greatest_stamp}
+use Rattle.nl_field.specs.ScanList.{seen_of}
+use Rattle.nl_field.proofs.ScanLists.{each as listed}
 use Rattle.nl_scan.specs.Passes.{AreWithin, IsFresh, KnowsBlocks, Stands}
 use Rattle.nl_scan.proofs.Readables.{below_all, below_none}
 use Rattle.nl_scan.proofs.Supers.{version_found}
@@ -92,7 +94,7 @@ none_table geometry image fits none =
     let empty : readable_pages image ≡ [] = sym (below_all image 0 (omega arith)) ∙ below_none image in
     let no_blocks : image.blocks ≡ 0 = fits.blocks ∙ ap (λ (x : Geometry). x.blocks) none in
     record {
-      each_page = sym (ap (map (seen_of image)) empty);
+      each_page = sym (listed image ∙ ap (map (seen_of image)) empty);
       next = ap (λ (l : List Seen). 1 + greatest_stamp l) (sym (ap (map (seen_of image)) empty)) ∙ greatest_is image;
       each_block = λ block below. absurd (omega arith);
       super_page = sym (ap (λ (l : List Readable). (fold super_after no_super l).version) empty) ∙ version_found image (pages_spelled image);

@@ -18,7 +18,7 @@ use Rattle.nl_scan.specs.declared.pass.Pass.{Pass}
 use Rattle.nl_scan.specs.declared.super_seen.SuperSeen.{SuperSeen}
 use Rattle.nl_scan.specs.Firsts.{noted, first_of}
 use Rattle.nl_scan.specs.Supers.{no_super, super_after}
-use Rattle.nl_scan.specs.Tables.{seen_of}
+use Rattle.nl_field.specs.ScanList.{seen_of}
 use Rattle.nl_scan.specs.Passes.{is_own_virtual, is_own_physical, readable_below, Added, KnowsPages}
 use Rattle.nl_scan.proofs.Agreeing.{IsOn, differs_from, verdict, first_here, first_apart}
 use Rattle.nl_scan.proofs.Lists.{filter_all, weaken_all}

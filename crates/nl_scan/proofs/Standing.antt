@@ -17,7 +17,7 @@ use Rattle.nl_nand.specs.Nand.{ImageOf}
 use Rattle.nl_nand.specs.ImageLaws.{image_size}
 use Rattle.nl_nand.specs.declared.geometry.Geometry.{Geometry}
 use Rattle.nl_scan.specs.declared.pass.Pass.{Pass}
-use Rattle.nl_scan.specs.declared.seen.Seen.{Seen}
+use Rattle.nl_field.specs.declared.seen.Seen.{Seen}
 use Rattle.nl_scan.specs.Tables.{IsSeen, greatest_stamp}
 use Rattle.nl_scan.specs.Passes.{AreWithin, Added, KnowsPages, KnowsBlocks, ErasedBelow, Stands}
 use Rattle.nl_scan.proofs.Knowing.{knows_more, knows_same}

@@ -11,10 +11,12 @@ use Rattle.nl_field.specs.Medium.{Readable, readable, readable_pages}
 use Rattle.nl_field.specs.Scan.{next_stamp_of}
 use Rattle.nl_nand.specs.Nand.{ErasedWithin}
 use Rattle.nl_scan.specs.declared.pass.Pass.{Pass}
-use Rattle.nl_scan.specs.declared.seen.Seen.{Seen}
+use Rattle.nl_field.specs.declared.seen.Seen.{Seen}
 use Rattle.nl_scan.specs.declared.super_seen.SuperSeen.{SuperSeen}
 use Rattle.nl_scan.specs.Supers.{no_super, super_after}
-use Rattle.nl_scan.specs.Tables.{seen_of, greatest_stamp, IsTableOf}
+use Rattle.nl_scan.specs.Tables.{greatest_stamp, IsTableOf}
+use Rattle.nl_field.specs.ScanList.{seen_of}
+use Rattle.nl_field.proofs.ScanLists.{each as listed}
 use Rattle.nl_scan.specs.Passes.{readable_below, KnowsPages, ErasedBelow, KnowsBlocks}
 use Rattle.nl_scan.proofs.Lists.{weaken_all, same_some}
 use Rattle.nl_scan.proofs.Readables.{IsOneOf, below_all, below_on}
@@ -65,7 +67,7 @@ is_table image at pass all all' knows blocks =
     let pages = below_all image at all in
     let each = knows.each_page ∙ ap (map (seen_of image)) pages in
     record {
-      each_page = each;
+      each_page = each ∙ sym (listed image);
       next = ap (λ (l : List Seen). 1 + greatest_stamp l) each ∙ greatest_is image;
       each_block = λ block below. ((λ is. whole_block image at block all' below ((blocks.each_block block below).0 is)), (λ within. (blocks.each_block block below).1 (λ p low high end. within p low high)));
       super_page = ap (λ (n : SuperSeen). n.version) (knows.newest ∙ ap (fold super_after no_super) pages) ∙ version_found image (pages_spelled image);

@@ -11,7 +11,8 @@ use Rattle.nl_nand.specs.declared.geometry.Geometry.{Geometry}
 use Rattle.nl_field.specs.Scan.{zeros_from}
 use Rattle.nl_scan.specs.Firsts.{first_of, noted}
 use Rattle.nl_scan.specs.Supers.{no_super, super_after}
-use Rattle.nl_scan.specs.Tables.{IsSeen, greatest_stamp, seen_of}
+use Rattle.nl_field.specs.ScanList.{seen_of}
+use Rattle.nl_scan.specs.Tables.{IsSeen, greatest_stamp}
 use Rattle.nl_scan.specs.declared.firsts.First.{First}
 use Rattle.nl_scan.specs.declared.pass.Pass.{Pass}
 

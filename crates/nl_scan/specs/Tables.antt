@@ -1,22 +1,19 @@
 -- What a scan tells, and of which image.
-use Rattle.std.specs.Prelude.{◌≡◌, ◌↔◌, ℕ, ◌+◌, ◌*◌, ◌^◌, ◌<◌, ◌≤◌, Bool, false, IsTrue, List, length, map, fold, max, slice_index_or, All}
+use Rattle.std.specs.Prelude.{◌≡◌, ◌↔◌, ℕ, ◌+◌, ◌*◌, ◌^◌, ◌<◌, ◌≤◌, Bool, false, IsTrue, List, length, fold, max, slice_index_or, All}
 use Rattle.std.specs.List.{AllPairs}
 use Rattle.nl_field.specs.Page.{Image}
 use Rattle.nl_field.specs.SpareRecord.{is_spare, stamp_of}
-use Rattle.nl_field.specs.Medium.{Readable, readable_pages}
-use Rattle.nl_field.specs.Scan.{agrees_below, next_stamp_of, super_version, zeros_from}
+use Rattle.nl_field.specs.Scan.{next_stamp_of, super_version}
+use Rattle.nl_field.specs.ScanList.{seen_in}
 use Rattle.nl_nand.specs.Nand.{ErasedWithin}
 use Rattle.nl_nand.specs.declared.geometry.Geometry.{Geometry}
-use Rattle.nl_scan.specs.declared.seen.Seen.{Seen}
+use Rattle.nl_field.specs.declared.seen.Seen.{Seen}
 
 -- the readable pages in rising order, of each block whether all its pages read as erased, and the version on the super page
 pub record Table : Type 0 where
   pub seen : List Seen
   pub erased : List Bool
   pub version : ℕ
-
-abbrev pub seen_of : Image → Readable → Seen
-seen_of image r = record { page = r.page; rec = r.rec; zeros = zeros_from r.main; agrees = agrees_below image r }
 
 -- the greatest stamp of these pages, or 0
 unfoldable pub greatest_stamp : List Seen → ℕ
@@ -30,7 +27,7 @@ pub record IsKept (seen : List Seen) (greatest : ℕ) : Type 0 where
 
 -- a scan of this image tells this
 pub record IsTableOf (image : Image) (t : Table) : Type 0 where
-  pub each_page : t.seen ≡ map (seen_of image) (readable_pages image)
+  pub each_page : t.seen ≡ seen_in image
   pub next : 1 + greatest_stamp t.seen ≡ next_stamp_of image
   pub each_block : (block : ℕ) → block < image.blocks → IsTrue (slice_index_or t.erased block false) ↔ ErasedWithin image (block * image.pages) (block * image.pages + image.pages)
   pub super_page : t.version ≡ super_version image

@@ -11,7 +11,6 @@ ghost use Rattle.nl_scan.specs.Passes.{OnlyReads, Stands};
 mod alike;
 mod firsts;
 mod pass;
-mod seen;
 mod super_seen;
 mod tables;
 #[cfg(test)]
@@ -20,9 +19,9 @@ mod zeros;
 
 use crate::firsts::Stopped;
 use crate::pass::{Pass, step};
+pub use nl_field::Seen;
 use nl_field::{PageBuf, Shape, shape_of};
 use nl_nand::{Geometry, Nand};
-pub use seen::Seen;
 use std::alloc::Global;
 pub use tables::ScanTables;
 

@@ -6,10 +6,9 @@ ghost use Rattle.nl_nand.specs.Nand.{FaultsCounted};
 ghost use Rattle.nl_scan.specs.Passes.{OnlyReads, AreWithin, is_own_virtual, is_own_physical, Compared, Added, IsFresh, KnowsPages, KnowsBlocks, Stands};
 
 use crate::firsts::{First, Stopped, note, stamp_on};
-use crate::seen::Seen;
 use crate::super_seen::SuperSeen;
 use crate::zeros::zeros_of;
-use nl_field::{Memory, PageBuf, Shape, SpareRec, spare_of};
+use nl_field::{Memory, PageBuf, Seen, Shape, SpareRec, spare_of};
 use nl_nand::{Nand, ReadAnswer};
 use std::alloc::Global;
 use std::collections::BTreeMap;

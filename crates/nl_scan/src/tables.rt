@@ -1,7 +1,7 @@
 ghost use Rattle.std.specs.Prelude.{◌≡◌, ◌<◌, ◌+◌, length, slice_get, slice_index_or, Some, false};
 ghost use Rattle.nl_scan.specs.Tables.{IsKept, greatest_stamp};
 
-use crate::seen::Seen;
+use nl_field::Seen;
 use std::marker::Model;
 
 /// What a scan tells: the readable pages in rising order, of each block whether it is erased, and the version on the super

@@ -1,7 +1,7 @@
 // The blocks whose pages do not all read as erased, and how often they were erased.
 ghost use Rattle.std.specs.Prelude.{◌≡◌, ◌*◌, ◌/◌, ◌<◌, ◌≤◌, ℕ, length, max, slice_index_or, slice_set, true, All, IfOk};
 ghost use Rattle.nl_field.specs.SpareRecord.{wear_of};
-ghost use Rattle.nl_scan.specs.declared.seen.Seen.{Seen as SeenOf};
+ghost use Rattle.nl_field.specs.declared.seen.Seen.{Seen as SeenOf};
 ghost use Rattle.nl_device.specs.Opening.{IsSoiled, SaysErased, Tabulates, wear_in};
 ghost use Rattle.nl_pseg.specs.Segment.{IsClean, TakenAsErased};
 ghost use Rattle.nl_vseg.specs.Segment.{SameSize, is_blank};

@@ -3,7 +3,7 @@ use Rattle.std.proofs.lemmas.Bool.{false≢true}
 use Rattle.nl_nand.specs.Nand.{IsLegal}
 use Rattle.nl_nand.specs.declared.geometry.Geometry.{Geometry}
 use Rattle.nl_scan.specs.Tables.{IsTableOf, IsKept, FitsMedium}
-use Rattle.nl_scan.specs.declared.seen.Seen.{Seen}
+use Rattle.nl_field.specs.declared.seen.Seen.{Seen}
 use Rattle.nl_scan.proofs.Ends.{fits_medium, none_kept, not_formed, none_table}
 use Rattle.nl_scan.proofs.scan.Goals as goal
 

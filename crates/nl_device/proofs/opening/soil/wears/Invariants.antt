@@ -1,6 +1,6 @@
 use Rattle.std.proofs.Common.{◌/◌, max, take}
 use Rattle.nl_field.specs.SpareRecord.{wear_of}
-use Rattle.nl_scan.specs.declared.seen.Seen.{Seen}
+use Rattle.nl_field.specs.declared.seen.Seen.{Seen}
 use Rattle.nl_device.specs.Opening.{Tabulates}
 use Rattle.nl_device.specs.Spread.{by_key}
 use Rattle.nl_device.proofs.opening.soil.wears.Given as goal

@@ -1,4 +1,4 @@
-use nl_field::SpareRec;
+use crate::spare::SpareRec;
 
 /// A readable page: one whose spare bytes spell a record.
 #[derive(Clone, Copy, Debug, PartialEq, Eq)]
