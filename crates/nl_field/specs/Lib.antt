@@ -22,3 +22,4 @@ pub mod SpareRecord
 pub mod Spelling
 pub mod SuperPage
 pub mod Virtual
+pub mod FailNumbers

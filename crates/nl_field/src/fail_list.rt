@@ -1,4 +1,5 @@
-ghost use Rattle.std.specs.Prelude.{◌≡◌, ◌<◌, ◌↔◌, [], ◌∷◌, ◌++◌, All, Contains, IsTrue, OnOk, OnErr};
+ghost use Rattle.std.specs.Prelude.{◌≡◌, ◌<◌, ◌↔◌, [], ◌∷◌, ◌++◌, All, Contains, length, slice_get, Some, IsTrue, OnOk, OnErr};
+ghost use Rattle.nl_field.specs.FailNumbers.{AreRising};
 
 use crate::Memory;
 use std::alloc::Global;
@@ -12,10 +13,13 @@ pub struct FailList {
 
 impl Model for FailList {
     ghost use Rattle.std.specs.Prelude.{List, ℕ};
+    ghost use Rattle.nl_field.specs.FailNumbers.{AreRising};
 
     ghost Value = { List ℕ };
 
     ghost view = { λ f. f.numbers.items };
+
+    ghost invariant = { λ f. AreRising f.numbers.items };
 }
 
 impl FailList {
@@ -37,6 +41,23 @@ impl FailList {
     {
         self.numbers.push(number)?;
         Ok(())
+    }
+
+    /// How many numbers it has. They rise, from 1.
+    pub fn len(&self) -> usize
+        ensures count { result ≡ length self.now }
+        ensures rising { AreRising self.now }
+    {
+        self.numbers.len()
+    }
+
+    /// The number at a position from 0.
+    pub fn get(&self, at: usize) -> u64
+        requires { at < length self.now }
+        ensures number { slice_get self.now at ≡ Some result }
+        ensures first { 0 < result }
+    {
+        self.numbers[at]
     }
 
     /// Whether the call of this number fails.

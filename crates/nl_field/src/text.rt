@@ -1,4 +1,4 @@
-ghost use Rattle.std.specs.Prelude.{◌≡◌, [], ◌∷◌, ◌++◌, IfOk, OnOk, OnErr};
+ghost use Rattle.std.specs.Prelude.{◌≡◌, ◌<◌, [], ◌∷◌, ◌++◌, length, slice_get, Some, IfOk, OnOk, OnErr};
 
 use crate::Memory;
 use std::alloc::Global;
@@ -50,6 +50,36 @@ impl Text {
     {
         self.bytes.push(byte)?;
         Ok(())
+    }
+
+    /// The count of bytes.
+    pub fn len(&self) -> usize
+        ensures { result ≡ length self.now }
+    {
+        self.bytes.len()
+    }
+
+    /// The byte at a position from 0.
+    pub fn get(&self, at: usize) -> u8
+        requires { at < length self.now }
+        ensures { slice_get self.now at ≡ Some result }
+    {
+        self.bytes[at]
+    }
+
+    /// Takes room for so many further bytes. The bytes stay.
+    pub fn reserve(&mut self, more: u32) -> Result<(), Memory>
+        ensures { self.new ≡ self.old }
+    {
+        self.bytes.reserve(more as usize)?;
+        Ok(())
+    }
+
+    /// Drops all bytes.
+    pub fn clear(&mut self)
+        ensures { self.new ≡ [] }
+    {
+        self.bytes.clear();
     }
 
     pub fn bytes(&self) -> &[u8]

@@ -3,3 +3,4 @@ pub mod Splits
 pub mod Digits
 pub mod Placed
 pub mod Steps
+pub mod Bounded

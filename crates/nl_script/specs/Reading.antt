@@ -1,9 +1,9 @@
 -- A script that is read as far as some line.
-use Rattle.std.specs.Prelude.{ℕ, ◌+◌, ◌≤◌, List, ◌++◌, length, All, Result, Ok, Err}
+use Rattle.std.specs.Prelude.{◌≡◌, ℕ, ◌+◌, ◌≤◌, List, ◌++◌, length, All, Result, Ok, Err}
 use Rattle.nl_tree.specs.declared.call.Line.{Line}
 use Rattle.nl_script.specs.declared.refusal.ScriptRefusal.{ScriptRefusal}
 use Rattle.nl_script.specs.declared.reading.Place.{Place}
-use Rattle.nl_script.specs.Script.{lines_from, max_calls, max_total}
+use Rattle.nl_script.specs.Script.{lines_from, max_calls, max_total, read_total}
 
 -- these lines, and behind them what later lines give
 abbrev pub lines_before : List Line → Result (List Line) ScriptRefusal → Result (List Line) ScriptRefusal
@@ -20,3 +20,4 @@ pub record IsRead (at : Place) (lines : List Line) : Type 0 where
   pub rounds : at.round ≤ at.number
   pub calls : length lines ≤ max_calls
   pub total : at.total ≤ max_total
+  pub sum : at.total ≡ read_total lines

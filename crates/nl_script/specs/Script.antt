@@ -1,7 +1,7 @@
 -- A script's bytes as the list of its lines, or the first refusal.
-use Rattle.std.specs.Prelude.{ℕ, ◌+◌, nat_le, nat_lt, if◌then◌else◌, List, [], ◌∷◌, length, Result, Ok, Err}
+use Rattle.std.specs.Prelude.{ℕ, ◌+◌, nat_le, nat_lt, if◌then◌else◌, List, [], ◌∷◌, length, sum_by, Result, Ok, Err}
+use Rattle.nl_tree.specs.Calls.{read_length}
 use Rattle.nl_tree.specs.declared.call.Call.{Call}
-use Rattle.nl_tree.specs.declared.call.Call.TheVariants.{Read, List as ListCall}
 use Rattle.nl_tree.specs.declared.call.Line.{Line}
 use Rattle.nl_script.specs.declared.refusal.ScriptRefusal.{ScriptRefusal}
 use Rattle.nl_script.specs.declared.refusal.ScriptRefusal.TheVariants.{Refused}
@@ -9,19 +9,12 @@ use Rattle.nl_script.specs.declared.said.Said.TheVariants.{Nothing, Barrier, Cal
 use Rattle.nl_script.specs.declared.why.Why.{Why}
 use Rattle.nl_script.specs.declared.why.Why.TheVariants.{Size, Lines as LinesCause, Total}
 use Rattle.nl_script.specs.Grammar.{line_says}
-use Rattle.nl_script.specs.Spellings.{max_bytes}
 use Rattle.nl_script.specs.Words.{lines_of}
 
 -- a line before what the later lines give
 abbrev pub line_before : Line → Result (List Line) ScriptRefusal → Result (List Line) ScriptRefusal
 line_before line (Ok lines) = Ok (line ∷ lines)
 line_before line (Err refusal) = Err refusal
-
--- what a call adds to the sum of read lengths
-abbrev pub read_length : Call → ℕ
-read_length (Read path from count) = count
-read_length (ListCall path) = max_bytes
-read_length _ = 0
 
 abbrev pub max_script : ℕ
 max_script = 16777216
@@ -32,6 +25,10 @@ max_calls = 1000000
 -- the greatest sum of read lengths
 abbrev pub max_total : ℕ
 max_total = 268435456
+
+-- the sum of the read lengths of some lines
+abbrev pub read_total : List Line → ℕ
+read_total lines = sum_by (λ l. read_length l.call) lines
 
 -- the sum of the read lengths with one more call, behind so many calls with that sum, or why it is one too many
 unfoldable pub counted : ℕ → ℕ → Call → Result ℕ Why

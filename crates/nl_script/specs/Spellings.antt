@@ -10,6 +10,7 @@ use Rattle.nl_script.specs.declared.command.Command.{Command}
 use Rattle.nl_script.specs.declared.command.Command.TheVariants.{Mkdir, Rmdir, Create, Unlink, Stat, List as ListCommand, Rename, Write, Fill, Read, Truncate, Sync, Clean}
 use Rattle.nl_script.specs.declared.why.Why.{Why}
 use Rattle.nl_script.specs.declared.why.Why.TheVariants.{Long, Worker, Command as CommandCause, Path, Number, Hex}
+use Rattle.nl_tree.specs.Calls.{max_bytes}
 use Rattle.nl_script.specs.Words.{parts}
 
 -- the `?` of the grammar: what follows, where there is a value
@@ -64,10 +65,6 @@ digits_of word =
 
 abbrev pub number_of : List ℕ → Result ℕ Why
 number_of word = ok_or (digits_of word) Number
-
--- the most bytes of one write, fill or read
-abbrev pub max_bytes : ℕ
-max_bytes = 65536
 
 -- a number, and at most that many bytes
 unfoldable pub length_of : List ℕ → Result ℕ Why

@@ -1,5 +1,7 @@
 // Reads one line behind others.
 ghost use Rattle.std.specs.Prelude.{◌≡◌, ◌<◌, ◌≤◌, ◌+◌, ◌∷◌, ◌++◌, [], length, All, IfOk, IfErr, OnOk, ◌⊎◌, Err, List, ℕ};
+ghost use Rattle.nl_tree.specs.Calls as calls_of;
+ghost use Rattle.nl_tree.specs.Calls.{IsBounded};
 ghost use Rattle.nl_script.specs.Script as spec;
 ghost use Rattle.nl_script.specs.Script.{max_calls, max_total};
 ghost use Rattle.nl_script.specs.Reading.{read_on, IsRead};
@@ -26,7 +28,7 @@ pub(crate) struct Place {
 }
 
 fn read_length(call: &Call) -> u32
-    ensures { result ≡ spec.read_length call.now }
+    ensures { result ≡ calls_of.read_length call.now }
 {
     match call {
         Call::Read(_, _, count) => *count,
@@ -41,7 +43,7 @@ fn counted(calls: u32, total: u64, call: &Call) -> Result<u64, Why>
     requires { total ≤ max_total }
     ensures sum { result ≡ spec.counted calls total call.now }
     ensures calls { OnOk result (calls < max_calls) }
-    ensures total { IfOk result (λ sum. sum ≤ max_total) }
+    ensures total { IfOk result (λ sum. (sum ≤ max_total) × (sum ≡ total + calls_of.read_length call.now)) }
 {
     if calls >= MAX_CALLS {
         return Err(Why::Lines);
@@ -98,6 +100,7 @@ fn add_call(
     requires read { IsRead at lines.old }
     requires number { number ≡ at.number + 1 }
     requires worker { worker ≤ 7 }
+    requires bounded { IsBounded call }
     ensures counted { IfOk result (λ next. spec.counted (length lines.old) at.total call ≡ Ok next.total) }
     ensures place { IfOk result (λ next. (next.number ≡ number) × (next.round ≡ at.round)) }
     ensures added { OnOk result (lines.new ≡ lines.old ++ record { line = number; round = at.round; worker = worker; call = call } ∷ []) }

@@ -1,5 +1,5 @@
-ghost use Rattle.std.specs.Prelude.{◌≡◌, ◌<◌, ◌∷◌, length, IfOk, IfErr, ◌⊎◌, Ok, Err};
-ghost use Rattle.nl_script.specs.Script.{script};
+ghost use Rattle.std.specs.Prelude.{◌≡◌, ◌≤◌, ◌<◌, ◌∷◌, length, IfOk, IfErr, ◌⊎◌, Ok, Err};
+ghost use Rattle.nl_script.specs.Script.{script, max_calls, max_total, read_total};
 ghost use Rattle.nl_script.specs.Words.{lines_of};
 ghost use Rattle.nl_script.specs.declared.refusal.ScriptRefusal.TheVariants.{Memory as OutOfMemory};
 
@@ -24,10 +24,13 @@ fn first_line(rest: &[u8]) -> (&[u8], &[u8])
     }
 }
 
-/// The lines of a script. A refusal names the first line at fault with its column and cause. `Memory` is answered only
+/// The lines of a script: at most 1,000,000 calls, whose read lengths have a sum of at most 268,435,456, where each listing
+/// counts 65,536. A refusal names the first line at fault with its column and cause. `Memory` is answered only
 /// where memory runs out.
 pub fn script_of(alloc: Global, bytes: &[u8]) -> Result<Lines, ScriptRefusal>
     ensures lines { IfOk result (λ lines. script bytes.now ≡ Ok lines) }
+    ensures few { IfOk result (λ lines. length lines ≤ max_calls) }
+    ensures total { IfOk result (λ lines. read_total lines ≤ max_total) }
     ensures refusal { IfErr result (λ e. (e ≡ OutOfMemory) ⊎ (script bytes.now ≡ Err e)) }
 {
     if bytes.len() > MAX_SCRIPT {

@@ -21,3 +21,4 @@ pub mod ScriptCalls
 mod SoundMedium
 pub mod Splits
 pub mod Steps
+mod PlainCalls

@@ -1,5 +1,5 @@
 -- In which orders the lines of a script may be answered, and how many calls a sync has made safe.
-use Rattle.std.specs.Prelude.{◌≡◌, ℕ, ◌+◌, ◌<◌, ◌≤◌, max, nat_le, nat_lt, ◌==◌, Bool, ◌&&◌, ◌||◌, if◌then◌else◌, IsTrue, IsFalse, List, map, fold, filter_map, slice_get, IfSome, Option, Some, None, AllPairs, IsPermutation}
+use Rattle.std.specs.Prelude.{◌≡◌, ℕ, ◌+◌, ◌<◌, ◌≤◌, max, nat_le, nat_lt, ◌==◌, Bool, ◌&&◌, ◌||◌, if◌then◌else◌, IsTrue, IsFalse, List, map, fold, filter_map, slice_get, IfSome, Option, Some, None, option_map, AllPairs, IsPermutation}
 use Rattle.std.specs.List.{AllByRecursion}
 use Rattle.nl_tree.specs.declared.call.Line.{Line}
 use Rattle.nl_tree.specs.declared.reply.Reply.{Reply}
@@ -35,9 +35,17 @@ pub record IsSyncAt (count : ℕ) (answered : List Line) (i : ℕ) (line : Line)
   pub below_place : sync.upto < count + i + 1
   pub earlier_lines : (j : ℕ) → j < i → IfSome (slice_get answered j) (λ earlier. IsTrue (has_to_precede earlier line) → count + j + 1 ≤ sync.upto)
 
+-- a sync that was answered ok, with the number of its line
+pub record LineSync : Type 0 where
+  pub line : ℕ
+  pub sync : SyncPoint
+
+abbrev pub line_sync : Line × Reply → Option LineSync
+line_sync (line, reply) = option_map (λ s. record { line = line.line; sync = s }) (sync_answered reply)
+
 -- the syncs of answered lines, by place, where the medium's clock went from first to last
-pub record AreSyncs (count first last : ℕ) (answered : List (Line × Reply)) (syncs : List SyncPoint) : Type 0 where
-  pub listed : syncs ≡ filter_map (λ x. sync_answered x.1) answered
+pub record AreSyncs (count first last : ℕ) (answered : List (Line × Reply)) (syncs : List LineSync) : Type 0 where
+  pub listed : syncs ≡ filter_map line_sync answered
   pub numbers : (i : ℕ) → IfSome (slice_get answered i) (λ x. IfSome (sync_answered x.1) (IsSyncAt count (map (λ y. y.0) answered) i x.0))
-  pub moments : AllByRecursion (λ s. (first ≤ s.moment) × (s.moment ≤ last)) syncs
-  pub moments_rise : AllPairs (λ a b. a.moment ≤ b.moment) syncs
+  pub moments : AllByRecursion (λ s. (first ≤ s.sync.moment) × (s.sync.moment ≤ last)) syncs
+  pub moments_rise : AllPairs (λ a b. a.sync.moment ≤ b.sync.moment) syncs

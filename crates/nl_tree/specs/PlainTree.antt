@@ -9,7 +9,6 @@ use Rattle.nl_field.specs.Bytes.{zeros}
 use Rattle.nl_field.specs.FileContent.{FileContent}
 use Rattle.nl_tree.specs.Tree.{Node, file, Tree, is_at_or_under, entries_of, last_name, node_at}
 use Rattle.nl_tree.specs.declared.call.Call.{Call}
-use Rattle.nl_tree.specs.declared.call.Call.TheVariants.{Write, Fill, Read}
 use Rattle.nl_field.specs.declared.shape.Shape.{Shape}
 use Rattle.nl_tree.specs.declared.reply.Reply.{Reply}
 use Rattle.nl_tree.specs.declared.reply.Reply.TheVariants.{Synced}
@@ -59,13 +58,6 @@ meta_of_entry tree e = div_ceil (length (entries_of tree e.0)) 64 + ranges_of_no
 -- the data pages that one path takes
 abbrev pub data_of_entry : List (List ℕ) × Node → ℕ
 data_of_entry e = data_of_node e.1
-
--- the bounds of a call's data, which its writers keep
-abbrev pub IsBounded : Call → Type 0
-IsBounded (Write path from bytes) = length bytes ≤ 65536
-IsBounded (Fill path from len byte) = len ≤ 65536
-IsBounded (Read path from len) = len ≤ 65536
-IsBounded _ = Unit {0}
 
 -- a page lies in the range
 abbrev pub is_in_range : List (ℕ × List ℕ) → ℕ → Bool

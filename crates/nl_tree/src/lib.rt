@@ -4,6 +4,7 @@
 mod call;
 pub mod laws;
 mod lines;
+mod names;
 mod path;
 mod plain;
 mod reply;
@@ -12,11 +13,14 @@ pub mod rows;
 #[cfg(test)]
 mod tests;
 mod turn;
+mod walk_path;
 
 pub use call::{Call, Line};
 pub use lines::Lines;
+pub use names::Names;
 pub use path::Path;
 pub use plain::Plain;
 pub use reply::{FaultReply, Refusal, Reply, Space};
 pub use reply_buf::ReplyBuf;
 pub use turn::{Answered, Duty, DutyAnswer, Stage};
+pub use walk_path::WalkPath;

@@ -1,9 +1,13 @@
 ghost use Rattle.std.specs.Prelude.{◌≡◌, ◌<◌, ◌^◌, ◌+◌, ◌↔◌, [], ◌∷◌, ◌++◌, length, OnOk, OnErr, IsSome, slice_get, Some};
 ghost use Rattle.std.specs.Option.{option_to_list};
 
+use crate::Names;
 use nl_field::{Memory, Text};
 use std::alloc::Global;
 use std::marker::Model;
+
+/// The most names of a path.
+const MOST_NAMES: usize = 4_294_967_294;
 
 /// A path as the list of its names from the root on. The empty list is the root.
 #[derive(Debug, Drop)]
@@ -12,11 +16,13 @@ pub struct Path {
 }
 
 impl Model for Path {
-    ghost use Rattle.std.specs.Prelude.{List, ℕ};
+    ghost use Rattle.std.specs.Prelude.{List, ℕ, ◌+◌, ◌<◌, ◌^◌, length};
 
     ghost Value = { List (List ℕ) };
 
     ghost view = { λ p. p.names.items };
+
+    ghost invariant = { λ p. length p.names.items + 1 < 2 ^ 32 };
 }
 
 impl Path {
@@ -29,13 +35,31 @@ impl Path {
         }
     }
 
-    /// Adds a name at the end.
+    /// Adds a name at the end. There is no memory for more than 2^32 - 2 names.
     pub fn push(&mut self, name: Text) -> Result<(), Memory>
         ensures ok { OnOk result (self.new ≡ self.old ++ name ∷ []) }
         ensures err { OnErr result (self.new ≡ self.old) }
     {
+        if self.names.len() >= MOST_NAMES {
+            return Err(Memory);
+        }
         self.names.push(name)?;
         Ok(())
+    }
+
+    /// Takes room for so many further names. The names stay.
+    pub fn reserve(&mut self, more: u32) -> Result<(), Memory>
+        ensures { self.new ≡ self.old }
+    {
+        self.names.reserve(more as usize)?;
+        Ok(())
+    }
+
+    /// Becomes the root.
+    pub fn clear(&mut self)
+        ensures { self.new ≡ [] }
+    {
+        self.names.clear();
     }
 
     /// Takes the last name off.
@@ -48,8 +72,8 @@ impl Path {
 
     /// The count of names.
     pub fn len(&self) -> u32
-        requires small { length self.now < 2 ^ 32 }
-        ensures { result ≡ length self.now }
+        ensures count { result ≡ length self.now }
+        ensures small { length self.now + 1 < 2 ^ 32 }
     {
         self.names.len() as u32
     }
@@ -66,5 +90,17 @@ impl Path {
         ensures { result.now ≡ self.now }
     {
         &self.names
+    }
+}
+
+impl Names for Path {
+    ghost names = { λ p. p };
+
+    fn count(&self) -> u32 {
+        self.len()
+    }
+
+    fn name_at(&self, at: u32) -> &[u8] {
+        self.get(at).bytes()
     }
 }

@@ -5,7 +5,8 @@ ghost use Rattle.nl_field.specs.declared.shape.Shape.{Shape};
 ghost use Rattle.nl_tree.specs.Tree.{empty_tree};
 ghost use Rattle.nl_tree.specs.Step.{step, effect_of, space_refusal};
 ghost use Rattle.nl_tree.specs.TreeLaws.{IsInOrder};
-ghost use Rattle.nl_tree.specs.PlainTree.{PlainState, IsPlain, IsBounded, numbered, refusal_before};
+ghost use Rattle.nl_tree.specs.Calls.{HasFewBytes};
+ghost use Rattle.nl_tree.specs.PlainTree.{PlainState, IsPlain, numbered, refusal_before};
 ghost use Rattle.nl_tree.specs.KeptSums.{AreCharges, changed_path};
 
 mod after;
@@ -73,7 +74,7 @@ impl Plain {
 
     /// Answers a call, with the bytes of the reply in `out`. A sync is answered with the count of calls before it, and 0.
     pub fn step(&mut self, call: &Call, out: &mut ReplyBuf) -> Result<Reply, Memory>
-        requires { IsBounded call.now }
+        requires { HasFewBytes call.now }
         ensures reply { IfOk result (λ r. r ≡ numbered self.old.calls (step self.old.shape self.old.tree call.now).reply) }
         ensures bytes { OnOk result (out.new ≡ (step self.old.shape self.old.tree call.now).bytes) }
         ensures tree { OnOk result (self.new.tree ≡ (step self.old.shape self.old.tree call.now).tree) }
@@ -107,7 +108,7 @@ fn answer(
     call: &Call,
     out: &mut ReplyBuf,
 ) -> Result<Reply, Memory>
-    requires bounded { IsBounded call.now }
+    requires bounded { HasFewBytes call.now }
     requires plain { IsPlain shape tree.old.items }
     requires kept { AreCharges sums.old.pages sums.old.meta tree.old.items }
     requires empty { out.old ≡ [] }
@@ -126,7 +127,7 @@ fn answer(
 }
 
 fn before(tree: &Vec<Entry>, call: &Call) -> Option<Refusal>
-    requires { IsBounded call.now }
+    requires { HasFewBytes call.now }
     ensures { result ≡ refusal_before tree.now.items call.now }
 {
     refusals::before(tree, call)
@@ -142,7 +143,7 @@ fn perform(
     call: &Call,
     out: &mut ReplyBuf,
 ) -> Result<Reply, Memory>
-    requires bounded { IsBounded call.now }
+    requires bounded { HasFewBytes call.now }
     requires passes { None ≡ refusal_before tree.old.items call.now }
     requires plain { IsPlain shape tree.old.items }
     requires kept { AreCharges sums.old.pages sums.old.meta tree.old.items }
@@ -162,7 +163,7 @@ fn perform(
 }
 
 fn tree_after(alloc: Global, tree: &Vec<Entry>, call: &Call) -> Result<Option<Vec<Entry>>, Memory>
-    requires bounded { IsBounded call.now }
+    requires bounded { HasFewBytes call.now }
     requires passes { None ≡ refusal_before tree.now.items call.now }
     ensures changed { IfOk result (λ o. IfSome o (λ v. v.items ≡ (effect_of tree.now.items call.now).tree)) }
     ensures same { IfOk result (λ o. IfNone o (tree.now.items ≡ (effect_of tree.now.items call.now).tree)) }
@@ -179,7 +180,7 @@ fn stay(
     call: &Call,
     out: &mut ReplyBuf,
 ) -> Reply
-    requires bounded { IsBounded call.now }
+    requires bounded { HasFewBytes call.now }
     requires passes { None ≡ refusal_before tree.now.items call.now }
     requires plain { IsPlain shape tree.now.items }
     requires same { tree.now.items ≡ (effect_of tree.now.items call.now).tree }
@@ -202,7 +203,7 @@ fn settle(
     call: &Call,
     out: &mut ReplyBuf,
 ) -> Reply
-    requires bounded { IsBounded call.now }
+    requires bounded { HasFewBytes call.now }
     requires passes { None ≡ refusal_before tree.old.items call.now }
     requires plain { IsPlain shape tree.old.items }
     requires kept { AreCharges sums.old.pages sums.old.meta tree.old.items }
@@ -277,7 +278,7 @@ fn reply_in(
     call: &Call,
     out: &mut ReplyBuf,
 ) -> Reply
-    requires bounded { IsBounded call.now }
+    requires bounded { HasFewBytes call.now }
     requires passes { None ≡ refusal_before tree.now.items call.now }
     requires plain { IsPlain shape tree.now.items }
     requires empty { out.old ≡ [] }

@@ -1,6 +1,6 @@
 //! The worked examples on the plain tree as a program. Each expected answer is written by hand.
 ghost use Rattle.std.specs.Prelude.{IsTrue};
-ghost use Rattle.nl_tree.specs.PlainTree.{IsBounded};
+ghost use Rattle.nl_tree.specs.Calls.{HasFewBytes};
 
 use crate::{Call, Path, Plain, Refusal, Reply, ReplyBuf, Space};
 use nl_field::{Memory, Text, shape_of};
@@ -161,7 +161,7 @@ fn numbered(alloc: Global, directory: &[u8], number: u32) -> Result<Path, Memory
 }
 
 fn is_bounded(call: &Call) -> bool
-    ensures { IsTrue result → IsBounded call.now }
+    ensures { IsTrue result → HasFewBytes call.now }
 {
     match call {
         Call::Write(_, _, bytes) => bytes.bytes().len() <= 65536,

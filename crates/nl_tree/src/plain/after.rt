@@ -5,7 +5,7 @@ ghost use Rattle.nl_field.specs.Numbers.{max_file_size};
 ghost use Rattle.nl_field.specs.FileContent.{empty_file, written_over, cut_to};
 ghost use Rattle.nl_tree.specs.Tree.{Node, directory, file, node_at, with_new, with_content, without as tree_without, with_renamed, paths_eq, content_of};
 ghost use Rattle.nl_tree.specs.Step.{effect_of, own_refusal};
-ghost use Rattle.nl_tree.specs.PlainTree.{IsBounded};
+ghost use Rattle.nl_tree.specs.Calls.{HasFewBytes};
 
 use super::entries::{Entry, copy, find, put, without};
 use super::file_buf::FileBuf;
@@ -24,7 +24,7 @@ pub(crate) fn after(
     tree: &[Entry],
     call: &Call,
 ) -> Result<Option<Vec<Entry>>, Memory>
-    requires bounded { IsBounded call.now }
+    requires bounded { HasFewBytes call.now }
     requires passes { own_refusal tree.now call.now ≡ None }
     ensures changed { IfOk result (λ o. IfSome o (λ v. v.items ≡ (effect_of tree.now call.now).tree)) }
     ensures same { IfOk result (λ o. IfNone o (tree.now ≡ (effect_of tree.now call.now).tree)) }

@@ -3,7 +3,8 @@ ghost use Rattle.std.specs.Prelude.{◌≡◌, ◌<◌, ◌≤◌, ◌^◌, ◌&
 ghost use Rattle.std.specs.List.{list_any};
 ghost use Rattle.nl_tree.specs.Tree.{node_at, entries_of, is_root, is_file, is_directory, is_at_or_under, paths_eq};
 ghost use Rattle.nl_field.specs.Numbers.{max_file_size};
-ghost use Rattle.nl_tree.specs.PlainTree.{IsBounded, refusal_before};
+ghost use Rattle.nl_tree.specs.Calls.{HasFewBytes};
+ghost use Rattle.nl_tree.specs.PlainTree.{refusal_before};
 ghost use Rattle.nl_tree.specs.declared.reply.Refusal.TheVariants.{Efbig, Enotdir};
 ghost use Rattle.nl_tree.specs.Step as step;
 ghost use Rattle.nl_tree.specs.Step.{when, is_too_long, paths_of};
@@ -220,7 +221,7 @@ fn of_list(tree: &[Entry], path: &[Text]) -> Option<Refusal>
 /// The call's own refusals.
 #[tactic(auto, unfolding(crate::specs::Step::own_refusal))]
 pub(crate) fn of_call(tree: &[Entry], call: &Call) -> Option<Refusal>
-    requires { IsBounded call.now }
+    requires { HasFewBytes call.now }
     ensures { result ≡ step.own_refusal tree.now call.now }
 {
     match call {
@@ -281,7 +282,7 @@ pub(crate) fn has_long_path(call: &Call) -> bool
 
 /// What refuses a call before it is tried.
 pub(crate) fn before(tree: &[Entry], call: &Call) -> Option<Refusal>
-    requires { IsBounded call.now }
+    requires { HasFewBytes call.now }
     ensures { result ≡ refusal_before tree.now call.now }
 {
     first_of(&[

@@ -3,7 +3,8 @@ ghost use Rattle.std.specs.Prelude.{◌≡◌, ◌≤◌, ◌+◌, ◌++◌, [],
 ghost use Rattle.nl_field.specs.FileContent.{bytes_read};
 ghost use Rattle.nl_tree.specs.Tree.{node_at, entries_of, content_of};
 ghost use Rattle.nl_tree.specs.Step.{listing, status_of, effect_of, own_refusal};
-ghost use Rattle.nl_tree.specs.PlainTree.{IsBounded, IsRoomy, numbered};
+ghost use Rattle.nl_tree.specs.Calls.{HasFewBytes};
+ghost use Rattle.nl_tree.specs.PlainTree.{IsRoomy, numbered};
 ghost use Rattle.nl_tree.specs.declared.reply.Reply.TheVariants.{Names};
 
 use super::after::content_at;
@@ -24,7 +25,7 @@ pub(crate) fn reply_of(
     calls: u64,
     out: &mut ReplyBuf,
 ) -> Reply
-    requires bounded { IsBounded call.now }
+    requires bounded { HasFewBytes call.now }
     requires passes { own_refusal tree.now call.now ≡ None }
     requires roomy { IsRoomy tree.now }
     requires empty { out.old ≡ [] }

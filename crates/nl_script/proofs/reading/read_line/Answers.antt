@@ -2,6 +2,7 @@ use Rattle.std.proofs.Common.{◌≡◌, sym, ◌∙◌, inr, ap}
 use Rattle.std.specs.Prelude.{Ok}
 use Rattle.nl_script.specs.declared.said.Said.TheVariants.{CallOf}
 use Rattle.nl_script.specs.Grammar.{line_says}
+use Rattle.nl_script.proofs.Bounded.{said_bounded}
 use Rattle.nl_script.proofs.Steps.{on-fault, on-nothing, on-barrier, goes-on, ends}
 use Rattle.nl_script.proofs.reading.read_line.Goals as goal
 
@@ -23,3 +24,8 @@ pub returns-in-Ok-CallOf-clause-refusal : goal.returns-in-Ok-CallOf-clause-refus
 returns-in-Ok-CallOf-clause-refusal c =
     let said : line_says c.args.raw.now ≡ Ok (CallOf c.in-Ok-CallOf.worker c.in-Ok-CallOf.call) = sym c.in-Ok.ensures.said ∙ c.in-Ok-CallOf.is ∙ ap Ok c.in-Ok-CallOf.field-0-is in
     ends c.args.at c.args.lines.now c.args.raw.now c.in-Ok-CallOf.worker c.in-Ok-CallOf.call c.add_call.result said c.add_call.ensures.refusal
+
+pub add_call-requires-clause-bounded : goal.add_call-requires-clause-bounded
+add_call-requires-clause-bounded c =
+    let said : line_says c.args.raw.now ≡ Ok (CallOf c.in-Ok-CallOf.worker c.in-Ok-CallOf.call) = sym c.in-Ok.ensures.said ∙ c.in-Ok-CallOf.is ∙ ap Ok c.in-Ok-CallOf.field-0-is in
+    said_bounded c.args.raw.now c.in-Ok-CallOf.worker c.in-Ok-CallOf.call said
