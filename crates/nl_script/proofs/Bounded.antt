@@ -1,6 +1,6 @@
 -- Each call of a script is bounded: its names are names, and its texts and lengths are short.
 use Rattle.std.proofs.Common.{◌≡◌, ◌≤◌, ℕ, ◌+◌, Bool, true, false, cond, List, [], ◌∷◌, length, refl, sym, ◌∙◌, ap, subst, arith}
-use Rattle.std.specs.Prelude.{◌==◌, nat_le, nat_lt, ◌&&◌, not, IsTrue, Result, Ok, Err, Option, Some, None, position, bytes_eq, codes}
+use Rattle.std.specs.Prelude.{◌==◌, nat_le, nat_lt, ◌&&◌, IsTrue, Result, Ok, Err, Option, Some, None, position, bytes_eq, codes}
 use Rattle.std.specs.List.{AllByRecursion, list_all, slice_split, onto_first, position_from}
 use Rattle.std.proofs.lemmas.Bool.Decides.{nat_tests}
 use Rattle.std.proofs.lemmas.List.Elements.{All-from_recursion}
@@ -12,14 +12,13 @@ use Rattle.nl_tree.specs.declared.call.Call.{Call}
 use Rattle.nl_tree.specs.declared.call.Call.TheVariants as call
 use Rattle.nl_script.specs.declared.command.Command.{Command}
 use Rattle.nl_script.specs.declared.command.Command.TheVariants.{Mkdir, Rmdir, Create, Unlink, Stat, List as ListCommand, Rename, Write, Fill, Read, Truncate, Sync, Clean}
-use Rattle.nl_script.specs.declared.fault.Fault.{Fault}
 use Rattle.nl_script.specs.declared.said.Said.{Said}
 use Rattle.nl_script.specs.declared.said.Said.TheVariants.{Nothing, Barrier, CallOf}
 use Rattle.nl_script.specs.declared.why.Why.{Why}
 use Rattle.nl_script.specs.declared.why.Why.TheVariants.{Path, Long, Hex}
 use Rattle.nl_script.specs.Grammar.{read, others, no_more, lone_path, rename_of, write_of, fill_of, read_of, truncate_of, path_call, bare_call, call_of, worker_call, barrier, words_say, is_comment, is_control, control_or, max_line, bytes_say, line_says, at_column, refused}
 use Rattle.nl_script.specs.Spellings.{◌>>=◌, ok_or_cause, is_name, names_of, path_of, length_of, number_of, data_of, hex_data, hex_of, worker_of, command_of, byte_of}
-use Rattle.nl_script.specs.Words.{parts, Word, with_part, placed, words_from, without_return}
+use Rattle.nl_script.specs.Words.{parts, Word, placed, words_from, without_return}
 
 -- ---- what a choice of a value says
 
@@ -31,7 +30,7 @@ if_ok : {T : Type 0} (b : Bool) (value v : T) (why : Why) → ok_or_cause b valu
 if_ok true value v why e = (refl, cc e)
 if_ok false value v why e = absurd (cc e)
 
-same_ok : {E A : Type 0} (a b : A) → Ok {A = A} {E = E} a ≡ Ok b → a ≡ b
+same_ok : {E A : Type 0} (a b : A) → (let x : Result A E = Ok a in x) ≡ Ok b → a ≡ b
 same_ok a b e = cc e
 
 -- ---- the bytes of words
@@ -67,20 +66,21 @@ placed_all column ([] ∷ ps) h = placed_all (column + length {A = ℕ} [] + 1) 
 placed_all column ((c ∷ part) ∷ ps) h = (h.0, placed_all (column + length (c ∷ part) + 1) ps h.1)
 
 words_all : (column : ℕ) (bytes : List ℕ) → AllByRecursion IsByte bytes → AreWords (words_from column bytes)
-words_all column bytes h = placed_all column (parts 32 bytes) (split_all IsByte IsWordByte (λ c. c == 32) (λ b is no. (is, no)) bytes h)
+words_all column bytes h = placed_all column (parts 32 bytes) (split_all IsByte IsWordByte (λ c. c == 32) (λ b is other. (is, other)) bytes h)
 
 others_all : (words : List Word) → AreWords words → AreWords (others words)
 others_all [] h = tt
 others_all (w ∷ words) h = h.1
 
+none_first : (x : ℕ) (xs : List ℕ) (k : ℕ) (b : Bool) → is_control x ≡ b → (position_from is_control (k + 1) xs ≡ None → AllByRecursion IsByte xs)
+    → cond b (Some k) (position_from is_control (k + 1) xs) ≡ None → AllByRecursion IsByte (x ∷ xs)
+none_first x xs k true is rest none = absurd (cc none)
+none_first x xs k false is rest none = (is, rest none)
+
 -- no control byte
 none_from : (xs : List ℕ) (k : ℕ) → position_from is_control k xs ≡ None → AllByRecursion IsByte xs
 none_from [] k e = tt
-none_from (x ∷ xs) k e = by_test (is_control x) refl e
-  where
-    by_test : (b : Bool) → is_control x ≡ b → cond b (Some k) (position_from is_control (k + 1) xs) ≡ None → AllByRecursion IsByte (x ∷ xs)
-    by_test true is none = absurd (cc none)
-    by_test false is none = (is, none_from xs (k + 1) none)
+none_from (x ∷ xs) k e = none_first x xs k (is_control x) refl (none_from xs (k + 1)) e
 
 none_all : (xs : List ℕ) → position is_control xs ≡ None → AllByRecursion IsByte xs
 none_all xs e = none_from xs 0 (sym (position_from-zero is_control xs) ∙ e)
@@ -88,7 +88,7 @@ none_all xs e = none_from xs 0 (sym (position_from-zero is_control xs) ∙ e)
 -- ---- names
 
 name_byte : (b : ℕ) → IsWordByte b → (b == 47) ≡ false → is_name_byte b ≡ true
-name_byte b h no = grind (arith, nat_tests)
+name_byte b h other = grind (arith, nat_tests)
 
 all_name_bytes : (xs : List ℕ) → AllByRecursion (λ b. is_name_byte b ≡ true) xs → list_all is_name_byte xs ≡ true
 all_name_bytes [] h = refl
@@ -99,14 +99,15 @@ a_name : (name : List ℕ) → AllByRecursion (λ b. is_name_byte b ≡ true) na
 unfolding is_field_name
 a_name name bytes is = let each = all_name_bytes name bytes in grind (arith, nat_tests)
 
+both_names : (name : List ℕ) (names : List (List ℕ)) (a b : Bool) → is_name name ≡ a → list_all is_name names ≡ b → AllByRecursion (λ c. is_name_byte c ≡ true) name
+    → (list_all is_name names ≡ true → AllByRecursion (λ n. IsTrue (is_field_name n)) names) → (a && b) ≡ true → AllByRecursion (λ n. IsTrue (is_field_name n)) (name ∷ names)
+both_names name names true true here rest bytes others e = (a_name name bytes here, others rest)
+both_names name names true false here rest bytes others e = absurd (cc e)
+both_names name names false b here rest bytes others e = absurd (cc e)
+
 names_all : (names : List (List ℕ)) → AllByRecursion (λ name. AllByRecursion (λ b. is_name_byte b ≡ true) name) names → list_all is_name names ≡ true → AllByRecursion (λ name. IsTrue (is_field_name name)) names
 names_all [] bytes is = tt
-names_all (name ∷ names) bytes is = both (is_name name) (list_all is_name names) refl refl is
-  where
-    both : (a b : Bool) → is_name name ≡ a → list_all is_name names ≡ b → (a && b) ≡ true → AllByRecursion (λ n. IsTrue (is_field_name n)) (name ∷ names)
-    both true true here rest e = (a_name name bytes.0 here, names_all names bytes.1 rest)
-    both true false here rest e = absurd (cc e)
-    both false b here rest e = absurd (cc e)
+names_all (name ∷ names) bytes is = both_names name names (is_name name) (list_all is_name names) refl refl bytes.0 (names_all names bytes.1) is
 
 slash_parts : (bytes : List ℕ) → AllByRecursion IsWordByte bytes → AllByRecursion (λ name. AllByRecursion (λ b. is_name_byte b ≡ true) name) (parts 47 bytes)
 slash_parts bytes h = split_all IsWordByte (λ b. is_name_byte b ≡ true) (λ c. c == 47) name_byte bytes h
@@ -191,8 +192,8 @@ unfolding rename_of
 of_rename after words made h e =
     let from = bind_ok (read after path_of words) (λ p. lone_path after (others words) >>= (λ q. Ok (call.Rename p q))) made e in
     let to = bind_ok (lone_path after (others words)) (λ q. Ok (call.Rename from.0 q)) made from.2 in
-    let names = (read_path after words from.0 h from.1, lone_names after (others words) to.0 (others_all words h) to.1, tt) in
-    subst IsBounded (same_ok (call.Rename from.0 to.0) made to.2) (record { names = names; bytes = tt })
+    subst IsBounded (same_ok (call.Rename from.0 to.0) made to.2)
+    (record { names = (read_path after words from.0 h from.1, (lone_names after (others words) to.0 (others_all words h) to.1, tt)); bytes = tt })
 
 of_write : (after : ℕ) (words : List Word) (made : Call) → AreWords words → write_of after words ≡ Ok made → IsBounded made
 unfolding write_of
