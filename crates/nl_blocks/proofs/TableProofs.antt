@@ -7,7 +7,7 @@ use Rattle.std.proofs.lemmas.List.{length-set, get_or_default}
 use Rattle.std.proofs.lemmas.List.Sums.{count_by-le-length, sum_by-cons, sum_by-set}
 use Rattle.nl_blocks.specs.declared.states.Page.{Page}
 use Rattle.nl_blocks.specs.declared.states.PageState.TheVariants.{Live}
-use Rattle.nl_blocks.specs.Table.{BlockRow, Table, IsTable, HasBlock, block_at, page_at, new_page, row_at, no_row, is_dead, NonePass, BestOf}
+use Rattle.nl_blocks.specs.Table.{BlockRow, Table, IsTable, HasBlock, block_at, page_at, new_page, row_at, no_row, is_dead, is_free, NonePass, BestOf}
 
 -- the number of blocks is a u32
 pub count_fits : (t : Table) → IsTable t → t.first + length t.blocks < 2 ^ 32
@@ -64,3 +64,7 @@ not_full t is block has row row_is at below free all =
     let same : (page_at t (block * t.size + at)).marked ≡ (get_or row.pages at new_page).marked =
     rw (div-mul-add block t.size at within, mod-mul-add block t.size at within, here) refl in
     sym full ∙ (same ∙ free)
+
+-- the number of Free blocks is a u32
+pub free_fits : (t : Table) → IsTable t → count_by is_free t.blocks < 2 ^ 32
+free_fits t is = omega (arith, count_fits t is, count_by-le-length is_free t.blocks)

@@ -125,9 +125,21 @@ with_mark row at state = record { state = row.state; wear = row.wear; pages = sl
 abbrev pub taken : BlockRow → BlockState → BlockRow
 taken row state = record { state = state; wear = row.wear; pages = map unmarked row.pages }
 
--- the block after one more erase, with so many names in use; the wear stands at the end of its type
+-- the wear after one more erase; it stands at the end of its type
+abbrev pub worn : ℕ → ℕ
+worn wear = min (wear + 1) (2 ^ 32 - 1)
+
+-- the block after one more erase, with so many names in use
 abbrev pub erased_row : BlockRow → ℕ → BlockRow
-erased_row row names = record { state = after_erase names; wear = min (row.wear + 1) (2 ^ 32 - 1); pages = row.pages }
+erased_row row names = record { state = after_erase names; wear = worn row.wear; pages = row.pages }
+
+-- the block in use after one more erase
+abbrev pub worn_row : BlockRow → BlockRow
+worn_row row = record { state = row.state; wear = worn row.wear; pages = row.pages }
+
+-- each page before this one is marked
+abbrev pub AreMarkedBefore : List Page → ℕ → Type 0
+AreMarkedBefore pages next = (k : ℕ) → k < next → (slice_index_or pages k new_page).marked ≡ true
 
 -- the number of Free blocks
 abbrev pub free_count : Table → ℕ

@@ -1,5 +1,5 @@
-ghost use Rattle.std.specs.Prelude.{◌≡◌, ◌⊎◌, ℕ, ◌+◌, ◌-◌, ◌*◌, ◌/◌, ◌^◌, ◌<◌, ◌≤◌, ◌↔◌, length, true, IfOk, IfSome, IfNone, IsNone, IsSome};
-ghost use Rattle.nl_blocks.specs.Table.{BestOf, HasBlock, HasPage, IsLeastWornFree, IsNextPage, IsTable, after_erase, block_at, dead_count, erased_row, free_count, in_state, is_free, is_retired_state, is_sealed_state, is_free_state, names_of, new_table, page_at, taken, wear_of, with_block, with_page};
+ghost use Rattle.std.specs.Prelude.{◌≡◌, ◌⊎◌, ℕ, ◌+◌, ◌-◌, ◌*◌, ◌/◌, ◌^◌, ◌<◌, ◌≤◌, ◌↔◌, length, true, cond, IfOk, IfSome, IfNone, IsNone, IsSome, IsTrue};
+ghost use Rattle.nl_blocks.specs.Table.{BestOf, HasBlock, HasPage, IsLeastWornFree, IsNextPage, IsTable, after_erase, block_at, dead_count, erased_row, free_count, in_state, is_free, is_retired_state, is_sealed_state, is_free_state, names_of, new_table, page_at, taken, wear_of, with_block, with_page, worn_row};
 
 use crate::Memory;
 use crate::row::{Block, state_with};
@@ -14,16 +14,20 @@ pub struct Blocks {
     first: u32,
     size: u32,
     blocks: Vec<Block>,
+    /// The number of Free blocks.
+    free: usize,
 }
 
 impl Model for Blocks {
-    ghost use Rattle.nl_blocks.specs.Table.{Table, IsTable};
+    ghost use Rattle.std.specs.Prelude.{◌≡◌};
+    ghost use Rattle.nl_blocks.specs.Table.{Table, IsTable, free_count};
 
     ghost Value = { Table };
 
     ghost view = { λ b. record { first = b.first; size = b.size; blocks = b.blocks.items } };
 
-    ghost invariant = { λ b. IsTable (record { first = b.first; size = b.size; blocks = b.blocks.items }) };
+    ghost invariant = { λ b. IsTable (record { first = b.first; size = b.size; blocks = b.blocks.items })
+        × (b.free ≡ free_count (record { first = b.first; size = b.size; blocks = b.blocks.items })) };
 }
 
 impl Blocks {
@@ -42,6 +46,7 @@ impl Blocks {
             first,
             size: pages,
             blocks,
+            free: count as usize,
         })
     }
 
@@ -98,16 +103,11 @@ impl Blocks {
     }
 
     /// The number of Free blocks.
+    #[tactic(auto, using(crate::proofs::TableProofs::free_fits))]
     pub fn free(&self) -> u32
         ensures { result ≡ free_count self.now }
     {
-        let mut count = 0;
-        for i in 0..self.blocks.len() {
-            if matches!(self.blocks[i].state(), BlockState::Free) {
-                count += 1;
-            }
-        }
-        count
+        self.free as u32
     }
 
     /// The better of the best Free block so far and block `i`: the one with less wear.
@@ -155,6 +155,7 @@ impl Blocks {
         }
         let i = self.least_worn()?;
         self.blocks[i].take(BlockState::Active);
+        self.free -= 1;
         Some(self.first + i as u32)
     }
 
@@ -168,6 +169,7 @@ impl Blocks {
     {
         let i = self.least_worn()?;
         self.blocks[i].take(BlockState::Target);
+        self.free -= 1;
         Some(self.first + i as u32)
     }
 
@@ -205,11 +207,15 @@ impl Blocks {
     }
 
     /// The block is Sealed.
+    #[tactic(auto, using(crate::proofs::TableProofs::free_fits))]
     pub fn seal(&mut self, block: u32)
         requires { HasBlock self.old block }
         ensures { self.new ≡ with_block self.old block (in_state (block_at self.old block) BlockState.Sealed) }
     {
-        self.blocks[(block - self.first) as usize].set_state(BlockState::Sealed);
+        let i = (block - self.first) as usize;
+        let was = self.blocks[i].is_free();
+        self.blocks[i].set_state(BlockState::Sealed);
+        self.free = recounted(self.free, was, false);
     }
 
     /// Makes a Sealed block the Victim.
@@ -223,14 +229,40 @@ impl Blocks {
 
     /// The block was erased: it is Free where no name of its pages is in use, and else Retired with that many names.
     /// Its wear is one more. Its pages keep their states.
+    #[tactic(auto, using(crate::proofs::TableProofs::free_fits))]
     pub fn erased(&mut self, block: u32, names: u32)
         requires { HasBlock self.old block }
         ensures { self.new ≡ with_block self.old block (erased_row (block_at self.old block) names) }
     {
-        self.blocks[(block - self.first) as usize].erased(names);
+        let i = (block - self.first) as usize;
+        let was = self.blocks[i].is_free();
+        self.blocks[i].erased(names);
+        self.free = recounted(self.free, was, names == 0);
+    }
+
+    /// A block in use was erased again before its pages are used: its wear is one more, and its state and its pages stay.
+    pub fn reerased(&mut self, block: u32)
+        requires { HasBlock self.old block }
+        ensures { self.new ≡ with_block self.old block (worn_row (block_at self.old block)) }
+    {
+        self.blocks[(block - self.first) as usize].reerased();
+    }
+
+    /// Gives the block back as it is, without an erase: it is Free where no name of its pages is in use, and else Retired
+    /// with that many names. Its wear and its pages stay.
+    #[tactic(auto, using(crate::proofs::TableProofs::free_fits))]
+    pub fn freed(&mut self, block: u32, names: u32)
+        requires { HasBlock self.old block }
+        ensures { self.new ≡ with_block self.old block (in_state (block_at self.old block) (after_erase names)) }
+    {
+        let i = (block - self.first) as usize;
+        let was = self.blocks[i].is_free();
+        self.blocks[i].set_state(state_with(names));
+        self.free = recounted(self.free, was, names == 0);
     }
 
     /// Takes one name from a Retired block; on the last name it is Free.
+    #[tactic(auto, using(crate::proofs::TableProofs::free_fits))]
     pub fn name_gone(&mut self, block: u32)
         requires has { HasBlock self.old block }
         requires retired { is_retired_state (block_at self.old block).state ≡ true }
@@ -239,16 +271,31 @@ impl Blocks {
         let i = (block - self.first) as usize;
         if let BlockState::Retired(names) = self.blocks[i].state() {
             self.blocks[i].set_state(state_with(names.saturating_sub(1)));
+            self.free = recounted(self.free, false, names == 1);
         }
     }
 
     /// Serves an opening: sets the wear of a block that is Free or Retired, and leaves it Free where no name of its
     /// pages is in use, and else Retired with that many names.
+    #[tactic(auto, using(crate::proofs::TableProofs::free_fits))]
     pub fn found(&mut self, block: u32, wear: u32, names: u32)
         requires has { HasBlock self.old block }
         requires idle { (is_free_state (block_at self.old block).state ≡ true) ⊎ (is_retired_state (block_at self.old block).state ≡ true) }
         ensures { self.new ≡ with_block self.old block (record { state = after_erase names; wear = wear; pages = (block_at self.old block).pages }) }
     {
-        self.blocks[(block - self.first) as usize].found(wear, names);
+        let i = (block - self.first) as usize;
+        let was = self.blocks[i].is_free();
+        self.blocks[i].found(wear, names);
+        self.free = recounted(self.free, was, names == 0);
     }
+}
+
+/// The number of Free blocks, where one block was Free or not, and is Free now or not.
+fn recounted(free: usize, was: bool, is: bool) -> usize
+    requires some { IsTrue was → 1 ≤ free }
+    requires fits { free < 2 ^ 32 }
+    ensures { result + cond was 1 0 ≡ free + cond is 1 0 }
+{
+    let others = if was { free - 1 } else { free };
+    if is { others + 1 } else { others }
 }

@@ -1,5 +1,5 @@
 ghost use Rattle.std.specs.Prelude.{◌≡◌, ℕ, ◌^◌, ◌<◌, ◌≤◌, ◌↔◌, length, map, true, false, IfOk, IfSome, IsNone, slice_index_or};
-ghost use Rattle.nl_blocks.specs.Table.{after_erase, dead_count, erased_row, in_state, new_page, new_row, taken, unmarked, with_mark};
+ghost use Rattle.nl_blocks.specs.Table.{after_erase, dead_count, erased_row, in_state, is_free, new_page, new_row, taken, unmarked, with_mark, worn_row};
 
 use crate::Memory;
 use crate::states::{BlockState, Page, PageState};
@@ -13,18 +13,20 @@ pub struct Block {
     wear: u32,
     /// The number of its dead pages.
     dead: u32,
+    /// All pages before this one are marked.
+    next: u32,
     pages: Vec<Page>,
 }
 
 impl Model for Block {
-    ghost use Rattle.std.specs.Prelude.{◌≡◌, ◌<◌, ◌^◌, length, count_by};
-    ghost use Rattle.nl_blocks.specs.Table.{BlockRow, is_dead};
+    ghost use Rattle.std.specs.Prelude.{◌≡◌, ℕ, ◌<◌, ◌≤◌, ◌^◌, length, count_by};
+    ghost use Rattle.nl_blocks.specs.Table.{BlockRow, AreMarkedBefore, is_dead};
 
     ghost Value = { BlockRow };
 
     ghost view = { λ b. record { state = b.state; wear = b.wear; pages = b.pages.items } };
 
-    ghost invariant = { λ b. (b.dead ≡ count_by is_dead b.pages.items) × (length b.pages.items < 2 ^ 32) };
+    ghost invariant = { λ b. (b.dead ≡ count_by is_dead b.pages.items) × (length b.pages.items < 2 ^ 32) × (b.next ≤ length b.pages.items) × AreMarkedBefore b.pages.items b.next };
 }
 
 impl Block {
@@ -41,6 +43,7 @@ impl Block {
             state: BlockState::Free,
             wear: 0,
             dead: size,
+            next: 0,
             pages,
         })
     }
@@ -78,7 +81,7 @@ impl Block {
         ensures earlier { IfSome result (λ at. (k : ℕ) → k < at → (slice_index_or self.now.pages k new_page).marked ≡ true) }
         ensures none { IsNone result ↔ ((k : ℕ) → k < length self.now.pages → (slice_index_or self.now.pages k new_page).marked ≡ true) }
     {
-        for at in 0..self.pages.len() {
+        for at in self.next as usize..self.pages.len() {
             if !self.pages[at].marked {
                 return Some(at as u32);
             }
@@ -99,6 +102,12 @@ impl Block {
         self.state = state_with(names);
     }
 
+    pub fn is_free(&self) -> bool
+        ensures { result ≡ is_free self.now }
+    {
+        matches!(self.state, BlockState::Free)
+    }
+
     /// One more erase; the wear stands at the end of its type.
     pub fn erased(&mut self, names: u32)
         ensures { self.new ≡ erased_row self.old names }
@@ -107,11 +116,19 @@ impl Block {
         self.state = state_with(names);
     }
 
+    /// One more erase of a block in use.
+    pub fn reerased(&mut self)
+        ensures { self.new ≡ worn_row self.old }
+    {
+        self.wear = self.wear.saturating_add(1);
+    }
+
     /// Gives the block out with no page marked.
     pub fn take(&mut self, state: BlockState)
         ensures { self.new ≡ taken self.old state }
     {
         self.state = state;
+        self.next = 0;
         unmark(&mut self.pages);
     }
 
@@ -129,6 +146,9 @@ impl Block {
             state,
             marked: true,
         };
+        if at == self.next as usize {
+            self.next += 1;
+        }
     }
 }
 

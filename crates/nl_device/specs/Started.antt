@@ -1,8 +1,5 @@
 -- What a start answers.
-use Rattle.std.specs.Prelude.{◌≡◌, ℕ, ⊤}
-use Rattle.nl_field.specs.Page.{Image}
-use Rattle.nl_nand.specs.Nand.{SameLeft}
-use Rattle.nl_nand.specs.declared.geometry.Geometry.{Geometry}
+use Rattle.std.specs.Prelude.{⊤}
 use Rattle.nl_scan.specs.Tables.{Table}
 use Rattle.nl_device.specs.declared.device.Device.{Device}
 use Rattle.nl_device.specs.declared.start.Started.{Started}
@@ -23,11 +20,3 @@ abbrev pub IfMemory : {M : Type 0} → Started M → (M → Type 0) → Type 0
 IfMemory (Ready d t) P = ⊤
 IfMemory (Fault m) P = ⊤
 IfMemory (Memory m) P = P m
-
--- the medium is as it was, but for failed reads
-pub record KeptMedium {M : Type 0} (geometry : M → Geometry) (contents : M → Image) (clock write_faults : M → ℕ) (left : M → ℕ → Image → Type 0) (old new : M) : Type 0 where
-  pub same_geometry : geometry new ≡ geometry old
-  pub same_contents : contents new ≡ contents old
-  pub same_clock : clock new ≡ clock old
-  pub same_write_faults : write_faults new ≡ write_faults old
-  pub same_left : SameLeft left old new

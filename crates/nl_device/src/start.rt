@@ -5,7 +5,7 @@ ghost use Rattle.nl_field.specs.Numbers.{is_legal, shape_for};
 ghost use Rattle.nl_field.specs.Space.{virtual_spare};
 ghost use Rattle.nl_field.specs.Virtual.{newest};
 ghost use Rattle.nl_iface.specs.Stored.{Value, stored_in, value_on};
-ghost use Rattle.nl_nand.specs.Nand.{SameLeft};
+ghost use Rattle.nl_nand.specs.Nand.{OnlyReads};
 ghost use Rattle.nl_scan.specs.Tables.{FitsMedium, IsTableOf, greatest_stamp};
 ghost use Rattle.nl_field.specs.Medium.{first_physical};
 ghost use Rattle.nl_device.specs.Kept.{kept_pages};
@@ -13,7 +13,7 @@ ghost use Rattle.nl_device.specs.Medium.{medium_of};
 ghost use Rattle.nl_device.specs.Opening.{FitsShape, IsOpenedPhysical, IsOpenedVirtual, SaysErased};
 ghost use Rattle.nl_device.specs.Retain.{CanRetain, kept_of};
 ghost use Rattle.nl_device.specs.Shown.{StoredOn};
-ghost use Rattle.nl_device.specs.Started.{IfFault, IfMemory, IfReady, KeptMedium};
+ghost use Rattle.nl_device.specs.Started.{IfFault, IfMemory, IfReady};
 
 use crate::device::Device;
 use crate::kept::Kept;
@@ -86,11 +86,11 @@ impl<M: Nand> Device<M> {
         ensures fits { IfReady result (λ d t. FitsMedium (M.geometry media) t) }
         ensures counts { IfReady result (λ d t. (⟦<Device<M> as Counts>⟧.clock d ≡ M.clock media) × (⟦<Device<M> as Counts>⟧.read_faults d ≡ M.read_faults media) × (⟦<Device<M> as Counts>⟧.write_faults d ≡ M.write_faults media)) }
         ensures stored { IfReady result (λ d t. ⟦<Device<M> as VirtualPages>⟧.stored d ≡ stored_in (M.contents media)) }
-        ensures kept { IfReady result (λ d t. KeptMedium M.geometry M.contents M.clock M.write_faults M.left media (medium_of d)) }
+        ensures kept { IfReady result (λ d t. OnlyReads M.geometry M.contents M.clock M.write_faults M.left media (medium_of d)) }
         ensures scanned { IfReady result (λ d t. (kept_of d).pages ≡ kept_pages (first_physical (⟦<Device<M> as VirtualPages>⟧.shape d)) t.seen) }
         ensures nothing { IfReady result (λ d t. CanRetain (kept_of d) []) }
-        ensures fault { IfFault result (λ m. Rose (M.read_faults media) (M.read_faults m) × KeptMedium M.geometry M.contents M.clock M.write_faults M.left media m) }
-        ensures memory { IfMemory result (λ m. (M.read_faults m ≡ M.read_faults media) × KeptMedium M.geometry M.contents M.clock M.write_faults M.left media m) }
+        ensures fault { IfFault result (λ m. Rose (M.read_faults media) (M.read_faults m) × OnlyReads M.geometry M.contents M.clock M.write_faults M.left media m) }
+        ensures memory { IfMemory result (λ m. (M.read_faults m ≡ M.read_faults media) × OnlyReads M.geometry M.contents M.clock M.write_faults M.left media m) }
     {
         let mut media = media;
         let shape = legal_shape(media.geometry());

@@ -92,16 +92,13 @@ fn erase_pages(file: &File, buffer: &mut PageRecord, first: u32, count: u32) -> 
 
 impl FileNand {
     ghost use Rattle.std.specs.Prelude.{◌≡◌, ◌≤◌};
-    ghost use Rattle.nl_nand.specs.Nand.{ticked, FaultsCounted};
+    ghost use Rattle.nl_nand.specs.Nand.{OperationCounted};
     ghost use Rattle.nl_imgfile.specs.FileMedium.{geometry_of, clock_of, read_faults_of, write_faults_of, record_of};
 
     // Counts a program or an erase, and answers it.
     fn counted(&mut self, written: io::Result<()>) -> WriteAnswer
-        ensures geometry { geometry_of self.new ≡ geometry_of self.old }
-        ensures clock { clock_of self.new ≡ ticked (clock_of self.old) result }
+        ensures counted { OperationCounted geometry_of clock_of read_faults_of write_faults_of self.old self.new result }
         ensures never_falls { clock_of self.old ≤ clock_of self.new }
-        ensures read_faults { read_faults_of self.new ≡ read_faults_of self.old }
-        ensures write_faults { FaultsCounted (write_faults_of self.old) (write_faults_of self.new) (result ≡ WriteAnswer.Failed) }
         ensures record { record_of self.new ≡ record_of self.old }
     {
         match written {
@@ -121,7 +118,7 @@ impl Nand for FileNand {
     ghost use Rattle.std.specs.Prelude.{◌≡◌, ◌⊎◌, ◌+◌, ◌*◌, ◌<◌, ◌≤◌, IsTrue, refl};
     ghost use Rattle.nl_field.specs.Page.{erased, written};
     ghost use Rattle.nl_field.specs.Numbers.{is_legal};
-    ghost use Rattle.nl_nand.specs.Nand.{Reads, ticked, FaultsCounted, SameLeft, CrashLeaves};
+    ghost use Rattle.nl_nand.specs.Nand.{Reads, FaultsCounted, OnlyReads, OperationCounted, CrashLeaves, block_start, block_end};
     ghost use Rattle.nl_imgfile.specs.PageRecord.{erased_record, written_record, page_of};
     ghost use Rattle.nl_imgfile.specs.FileMedium.{geometry_of, clock_of, read_faults_of, write_faults_of, record_of, contents_of, left_of};
     ghost use Rattle.nl_nand.specs.RecordLaws as laws;
@@ -195,11 +192,7 @@ impl Nand for FileNand {
     fn read(&mut self, page: u32, buf: &mut PageBuf) -> ReadAnswer
         requires { page < (geometry_of self.old).blocks * (geometry_of self.old).pages }
         ensures told { (result ≡ ReadAnswer.Failed) ⊎ Reads (page_of (record_of self.new)) buf.new result }
-        ensures geometry { geometry_of self.new ≡ geometry_of self.old }
-        ensures contents { contents_of self.new ≡ contents_of self.old }
-        ensures left { SameLeft left_of self.old self.new }
-        ensures clock { clock_of self.new ≡ clock_of self.old }
-        ensures write_faults { write_faults_of self.new ≡ write_faults_of self.old }
+        ensures only_reads { OnlyReads geometry_of contents_of clock_of write_faults_of left_of self.old self.new }
         ensures read_faults { FaultsCounted (read_faults_of self.old) (read_faults_of self.new) (result ≡ ReadAnswer.Failed) }
     {
         match read_record(&self.file, position_of(page), &mut self.buffer, page) {
@@ -216,10 +209,7 @@ impl Nand for FileNand {
         requires { page < (geometry_of self.old).blocks * (geometry_of self.old).pages }
         ensures record { record_of self.new ≡ written_record from.now }
         ensures crash { CrashLeaves clock_of contents_of left_of page (page + 1) (written from.now) self.old self.new }
-        ensures geometry { geometry_of self.new ≡ geometry_of self.old }
-        ensures clock { clock_of self.new ≡ ticked (clock_of self.old) result }
-        ensures read_faults { read_faults_of self.new ≡ read_faults_of self.old }
-        ensures write_faults { FaultsCounted (write_faults_of self.old) (write_faults_of self.new) (result ≡ WriteAnswer.Failed) }
+        ensures counted { OperationCounted geometry_of clock_of read_faults_of write_faults_of self.old self.new result }
     {
         self.buffer.set_written(from);
         let written = write_page(&self.file, position_of(page), &self.buffer, page, from);
@@ -230,11 +220,8 @@ impl Nand for FileNand {
     fn erase(&mut self, block: u32) -> WriteAnswer
         requires { block < (geometry_of self.old).blocks }
         ensures record { record_of self.new ≡ erased_record }
-        ensures crash { CrashLeaves clock_of contents_of left_of (block * (geometry_of self.old).pages) (block * (geometry_of self.old).pages + (geometry_of self.old).pages) erased self.old self.new }
-        ensures geometry { geometry_of self.new ≡ geometry_of self.old }
-        ensures clock { clock_of self.new ≡ ticked (clock_of self.old) result }
-        ensures read_faults { read_faults_of self.new ≡ read_faults_of self.old }
-        ensures write_faults { FaultsCounted (write_faults_of self.old) (write_faults_of self.new) (result ≡ WriteAnswer.Failed) }
+        ensures crash { CrashLeaves clock_of contents_of left_of (block_start (geometry_of self.old) block) (block_end (geometry_of self.old) block) erased self.old self.new }
+        ensures counted { OperationCounted geometry_of clock_of read_faults_of write_faults_of self.old self.new result }
     {
         let pages = self.geometry.pages;
         let erased = erase_pages(&self.file, &mut self.buffer, block * pages, pages);

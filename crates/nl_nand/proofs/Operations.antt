@@ -81,10 +81,12 @@ module _ {m n : MemNand} {low high : ℕ} {value : Page} (noted : Noted (log_of 
     effect = subst (Cut low high value (contents_of m)) (sym contents) (nothing_cut (contents_of m));
     crash = crash;
     reached = λ _ c cut. noted_reached noted c cut;
-    same_geometry = geometry;
-    clock = clock;
-    same_read_faults = reads;
-    write_faults = record { never_falls = rises; cause = λ _. rose; stays = λ not. absurd (not refl) };
+    counted = record {
+      same_geometry = geometry;
+      same_read_faults = reads;
+      ticks = clock;
+      failures = record { never_falls = rises; cause = λ _. rose; stays = λ not. absurd (not refl) };
+    };
     exact = inr (record {
       runs = running;
       plan = plan;
@@ -103,10 +105,12 @@ module _ {m n : MemNand} {low high : ℕ} {value : Page} (noted : Noted (log_of 
     effect = filled;
     crash = crash;
     reached = λ _ c cut. noted_reached noted c cut;
-    same_geometry = geometry;
-    clock = clock;
-    same_read_faults = reads;
-    write_faults = record { never_falls = omega (arith, writes); cause = λ e. absurd cc; stays = λ _. writes };
+    counted = record {
+      same_geometry = geometry;
+      same_read_faults = reads;
+      ticks = clock;
+      failures = record { never_falls = omega (arith, writes); cause = λ e. absurd cc; stays = λ _. writes };
+    };
     exact = inr (record {
       runs = running;
       plan = plan;

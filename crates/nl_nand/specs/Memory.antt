@@ -2,7 +2,7 @@
 use Rattle.std.specs.Prelude.{◌≡◌, ◌⊎◌, ◌↔◌, ℕ, ◌+◌, ◌≤◌, List, IsSome, None}
 use Rattle.std.specs.Option.{option_map}
 use Rattle.nl_field.specs.Page.{Page, Image}
-use Rattle.nl_nand.specs.Nand.{Cut, Leaves, CrashLeaves, CrashReaches, FaultsCounted, SameLeft, ticked}
+use Rattle.nl_nand.specs.Nand.{Cut, Leaves, OperationCounted, CrashLeaves, CrashReaches, SameLeft}
 use Rattle.nl_nand.specs.Plan.{Plan, OperationFails, begun}
 use Rattle.nl_nand.specs.Stop.{CutShort}
 use Rattle.nl_nand.specs.Record.{image_of, logged, LeftBy, low_of_attempt, high_of_attempt, value_of_attempt}
@@ -10,6 +10,8 @@ use Rattle.nl_nand.specs.Room.{room_in}
 use Rattle.nl_nand.specs.declared.geometry.Geometry.{Geometry}
 use Rattle.nl_nand.specs.declared.interrupted.Interrupted.{Interrupted}
 use Rattle.nl_nand.specs.declared.record.Entry.{Entry}
+use Rattle.nl_nand.specs.declared.answers.FormAnswer.{FormAnswer}
+use Rattle.nl_nand.specs.declared.answers.FormAnswer.TheVariants as form
 use Rattle.nl_nand.specs.declared.answers.WriteAnswer.{WriteAnswer}
 use Rattle.nl_nand.specs.declared.answers.WriteAnswer.TheVariants as write
 use Rattle.nl_nand.specs.declared.mem_nand.MemNand.{MemNand}
@@ -54,6 +56,12 @@ plan_of m = record {
 abbrev pub room_of : MemNand → ℕ
 room_of m = room_in m.log
 
+-- the room after a forming: it is given back where the medium was formed
+abbrev pub room_formed : FormAnswer → ℕ → ℕ
+room_formed form.Done room = 0
+room_formed form.Failed room = room
+room_formed form.Memory room = room
+
 -- An operation was not begun: the stop has come, or memory was wanting and no room was reserved.
 pub record NotBegun (m n : MemNand) (answer : WriteAnswer) : Type 0 where
   pub why : IsSome (plan_of m).stopped ⊎ (room_of m ≡ 0)
@@ -78,10 +86,7 @@ pub record Operated (low high : ℕ) (value : Page) (m n : MemNand) (answer : Wr
   pub effect : Leaves low high value (contents_of m) answer (contents_of n)
   pub crash : CrashLeaves clock_of contents_of left_of low high value m n
   pub reached : CrashReaches clock_of contents_of left_of low high value m n answer
-  pub same_geometry : n.geometry ≡ m.geometry
-  pub clock : n.clock ≡ ticked m.clock answer
-  pub same_read_faults : n.read_faults ≡ m.read_faults
-  pub write_faults : FaultsCounted m.write_faults n.write_faults (answer ≡ write.Failed)
+  pub counted : OperationCounted geometry_of clock_of read_faults_of write_faults_of m n answer
   pub exact : NotBegun m n answer ⊎ Begun low high value m n answer
 
 -- nothing but the room changed

@@ -86,6 +86,29 @@ pub record Unchanged {M : Type 0} (geometry : M → Geometry) (contents : M → 
   pub same_contents : contents new ≡ contents old
   pub same_left : SameLeft left old new
 
+-- the medium was read, and nothing else was done to it
+pub record OnlyReads {M : Type 0} (geometry : M → Geometry) (contents : M → Image) (clock write_faults : M → ℕ) (left : M → ℕ → Image → Type 0) (old new : M) : Type 0 where
+  pub same_geometry : geometry new ≡ geometry old
+  pub same_contents : contents new ≡ contents old
+  pub same_left : SameLeft left old new
+  pub same_clock : clock new ≡ clock old
+  pub same_write_faults : write_faults new ≡ write_faults old
+
+-- A program or an erase was answered so: the clock counts it where it finished and the failed writes where it failed, and
+-- the geometry and the failed reads are as they were.
+pub record OperationCounted {M : Type 0} (geometry : M → Geometry) (clock read_faults write_faults : M → ℕ) (old new : M) (answer : WriteAnswer) : Type 0 where
+  pub same_geometry : geometry new ≡ geometry old
+  pub same_read_faults : read_faults new ≡ read_faults old
+  pub ticks : clock new ≡ ticked (clock old) answer
+  pub failures : FaultsCounted (write_faults old) (write_faults new) (answer ≡ write.Failed)
+
+-- the pages of a block: the first, and the one behind its last
+abbrev pub block_start : Geometry → ℕ → ℕ
+block_start geometry block = block * geometry.pages
+
+abbrev pub block_end : Geometry → ℕ → ℕ
+block_end geometry block = block_start geometry block + geometry.pages
+
 -- What a crash may have left since `old`, where one operation ran from `old` to `new`: at the moment before it what a cut
 -- one leaves, and at the moment after it what there is; and still all that it may have left before.
 pub record CrashLeaves {M : Type 0} (clock : M → ℕ) (contents : M → Image) (left : M → ℕ → Image → Type 0) (low high : ℕ) (value : Page) (old new : M) : Type 0 where

@@ -51,6 +51,7 @@ impl MemNand {
         ensures read_faults { read_faults_of result ≡ 0 }
         ensures write_faults { write_faults_of result ≡ 0 }
         ensures plan { plan_of result ≡ fresh reads writes stop }
+        ensures room { room_of result ≡ 0 }
     {
         MemNand {
             alloc,
@@ -84,6 +85,7 @@ impl MemNand {
         ensures read_faults { read_faults_of result ≡ 0 }
         ensures write_faults { write_faults_of result ≡ 0 }
         ensures plan { plan_of result ≡ fresh [] [] stop }
+        ensures room { room_of result ≡ 0 }
     {
         let alloc = self.alloc;
         let MemNand {
@@ -220,9 +222,9 @@ impl Nand for MemNand {
     ghost use Rattle.std.specs.Prelude.{◌≡◌, ◌⊎◌, ◌↔◌, ◌+◌, ◌*◌, ◌<◌, ◌≤◌, ℕ, IsTrue, IsSome, refl};
     ghost use Rattle.nl_field.specs.Page.{Image, page_at, erased, written};
     ghost use Rattle.nl_field.specs.Numbers.{is_legal};
-    ghost use Rattle.nl_nand.specs.Nand.{IsBlank, Reads, CanProgram, Leaves, ticked, FaultsCounted, SameLeft, Unchanged, CrashLeaves, CrashReaches};
+    ghost use Rattle.nl_nand.specs.Nand.{IsBlank, Reads, CanProgram, Leaves, FaultsCounted, Unchanged, OnlyReads, OperationCounted, CrashLeaves, CrashReaches, block_start, block_end};
     ghost use Rattle.nl_nand.specs.Plan.{ReadFails, after_read};
-    ghost use Rattle.nl_nand.specs.Memory.{geometry_of, contents_of, clock_of, read_faults_of, write_faults_of, left_of, log_of, plan_of, room_of, NotBegun, Begun};
+    ghost use Rattle.nl_nand.specs.Memory.{geometry_of, contents_of, clock_of, read_faults_of, write_faults_of, left_of, log_of, plan_of, room_of, room_formed, NotBegun, Begun};
     ghost use Rattle.nl_nand.specs.RecordLaws as laws;
 
     ghost tells = { Unit {0} };
@@ -278,6 +280,7 @@ impl Nand for MemNand {
         ensures read_faults { read_faults_of self.new ≡ read_faults_of self.old }
         ensures write_faults { FaultsCounted (write_faults_of self.old) (write_faults_of self.new) (result ≡ FormAnswer.Failed) }
         ensures plan { plan_of self.new ≡ plan_of self.old }
+        ensures room { room_of self.new ≡ room_formed result (room_of self.old) }
         ensures fails { (result ≡ FormAnswer.Failed) ↔ IsSome (plan_of self.old).stopped }
     {
         if self.stopped.is_some() {
@@ -299,11 +302,7 @@ impl Nand for MemNand {
     fn read(&mut self, page: u32, buf: &mut PageBuf) -> ReadAnswer
         requires { page < (geometry_of self.old).blocks * (geometry_of self.old).pages }
         ensures answer { Reads (page_at (contents_of self.old) page) buf.new result }
-        ensures geometry { geometry_of self.new ≡ geometry_of self.old }
-        ensures contents { contents_of self.new ≡ contents_of self.old }
-        ensures left { SameLeft left_of self.old self.new }
-        ensures clock { clock_of self.new ≡ clock_of self.old }
-        ensures write_faults { write_faults_of self.new ≡ write_faults_of self.old }
+        ensures only_reads { OnlyReads geometry_of contents_of clock_of write_faults_of left_of self.old self.new }
         ensures read_faults { FaultsCounted (read_faults_of self.old) (read_faults_of self.new) (result ≡ ReadAnswer.Failed) }
         ensures plan { plan_of self.new ≡ after_read (plan_of self.old) }
         ensures fails { (result ≡ ReadAnswer.Failed) ↔ ReadFails (plan_of self.old) }
@@ -331,10 +330,7 @@ impl Nand for MemNand {
         ensures effect { Leaves page (page + 1) (written from.now) (contents_of self.old) result (contents_of self.new) }
         ensures crash { CrashLeaves clock_of contents_of left_of page (page + 1) (written from.now) self.old self.new }
         ensures reached { CrashReaches clock_of contents_of left_of page (page + 1) (written from.now) self.old self.new result }
-        ensures geometry { geometry_of self.new ≡ geometry_of self.old }
-        ensures clock { clock_of self.new ≡ ticked (clock_of self.old) result }
-        ensures read_faults { read_faults_of self.new ≡ read_faults_of self.old }
-        ensures write_faults { FaultsCounted (write_faults_of self.old) (write_faults_of self.new) (result ≡ WriteAnswer.Failed) }
+        ensures counted { OperationCounted geometry_of clock_of read_faults_of write_faults_of self.old self.new result }
         ensures exact { NotBegun self.old self.new result ⊎ Begun page (page + 1) (written from.now) self.old self.new result }
     {
         self.run_program(page as usize, from)
@@ -343,14 +339,11 @@ impl Nand for MemNand {
     /// Erases a block. Once it is begun it fails exactly where its number is in the list or the stop comes within it.
     fn erase(&mut self, block: u32) -> WriteAnswer
         requires { block < (geometry_of self.old).blocks }
-        ensures effect { Leaves (block * (geometry_of self.old).pages) (block * (geometry_of self.old).pages + (geometry_of self.old).pages) erased (contents_of self.old) result (contents_of self.new) }
-        ensures crash { CrashLeaves clock_of contents_of left_of (block * (geometry_of self.old).pages) (block * (geometry_of self.old).pages + (geometry_of self.old).pages) erased self.old self.new }
-        ensures reached { CrashReaches clock_of contents_of left_of (block * (geometry_of self.old).pages) (block * (geometry_of self.old).pages + (geometry_of self.old).pages) erased self.old self.new result }
-        ensures geometry { geometry_of self.new ≡ geometry_of self.old }
-        ensures clock { clock_of self.new ≡ ticked (clock_of self.old) result }
-        ensures read_faults { read_faults_of self.new ≡ read_faults_of self.old }
-        ensures write_faults { FaultsCounted (write_faults_of self.old) (write_faults_of self.new) (result ≡ WriteAnswer.Failed) }
-        ensures exact { NotBegun self.old self.new result ⊎ Begun (block * (geometry_of self.old).pages) (block * (geometry_of self.old).pages + (geometry_of self.old).pages) erased self.old self.new result }
+        ensures effect { Leaves (block_start (geometry_of self.old) block) (block_end (geometry_of self.old) block) erased (contents_of self.old) result (contents_of self.new) }
+        ensures crash { CrashLeaves clock_of contents_of left_of (block_start (geometry_of self.old) block) (block_end (geometry_of self.old) block) erased self.old self.new }
+        ensures reached { CrashReaches clock_of contents_of left_of (block_start (geometry_of self.old) block) (block_end (geometry_of self.old) block) erased self.old self.new result }
+        ensures counted { OperationCounted geometry_of clock_of read_faults_of write_faults_of self.old self.new result }
+        ensures exact { NotBegun self.old self.new result ⊎ Begun (block_start (geometry_of self.old) block) (block_end (geometry_of self.old) block) erased self.old self.new result }
     {
         self.run_erase(block as usize * self.geometry.pages as usize)
     }

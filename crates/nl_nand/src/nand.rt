@@ -2,7 +2,7 @@ ghost use Rattle.std.specs.Prelude.{◌≡◌, ◌⊎◌, ◌<◌, ◌≤◌, �
 ghost use Rattle.nl_field.specs.Page.{Image, page_at, erased, written};
 ghost use Rattle.nl_field.specs.Numbers.{is_legal};
 ghost use Rattle.nl_nand.specs.declared.geometry.Geometry.{Geometry as Numbers};
-ghost use Rattle.nl_nand.specs.Nand.{IsLegal, ImageOf, IsBlank, Reads, CanProgram, Leaves, ticked, FaultsCounted, SameLeft, Unchanged, CrashLeaves, CrashReaches};
+ghost use Rattle.nl_nand.specs.Nand.{IsLegal, ImageOf, IsBlank, Reads, CanProgram, Leaves, FaultsCounted, Unchanged, OnlyReads, OperationCounted, CrashLeaves, CrashReaches, block_start, block_end};
 
 use crate::answers::{FormAnswer, ReadAnswer, WriteAnswer};
 use crate::geometry::Geometry;
@@ -63,11 +63,7 @@ pub trait Nand {
     fn read(&mut self, page: u32, buf: &mut PageBuf) -> ReadAnswer
         requires { page < (geometry self.old).blocks * (geometry self.old).pages }
         ensures answer { tells → Reads (page_at (contents self.old) page) buf.new result }
-        ensures geometry { geometry self.new ≡ geometry self.old }
-        ensures contents { contents self.new ≡ contents self.old }
-        ensures left { SameLeft left self.old self.new }
-        ensures clock { clock self.new ≡ clock self.old }
-        ensures write_faults { write_faults self.new ≡ write_faults self.old }
+        ensures only_reads { OnlyReads geometry contents clock write_faults left self.old self.new }
         ensures read_faults { FaultsCounted (read_faults self.old) (read_faults self.new) (result ≡ ReadAnswer.Failed) };
 
     /// Programs a page. The page and all later pages of its block are erased.
@@ -77,21 +73,15 @@ pub trait Nand {
         ensures effect { tells → Leaves page (page + 1) (written from.now) (contents self.old) result (contents self.new) }
         ensures crash { CrashLeaves clock contents left page (page + 1) (written from.now) self.old self.new }
         ensures reached { tells → CrashReaches clock contents left page (page + 1) (written from.now) self.old self.new result }
-        ensures geometry { geometry self.new ≡ geometry self.old }
-        ensures clock { clock self.new ≡ ticked (clock self.old) result }
-        ensures read_faults { read_faults self.new ≡ read_faults self.old }
-        ensures write_faults { FaultsCounted (write_faults self.old) (write_faults self.new) (result ≡ WriteAnswer.Failed) };
+        ensures counted { OperationCounted geometry clock read_faults write_faults self.old self.new result };
 
     /// Erases all pages of a block.
     fn erase(&mut self, block: u32) -> WriteAnswer
         requires { block < (geometry self.old).blocks }
-        ensures effect { tells → Leaves (block * (geometry self.old).pages) (block * (geometry self.old).pages + (geometry self.old).pages) erased (contents self.old) result (contents self.new) }
-        ensures crash { CrashLeaves clock contents left (block * (geometry self.old).pages) (block * (geometry self.old).pages + (geometry self.old).pages) erased self.old self.new }
-        ensures reached { tells → CrashReaches clock contents left (block * (geometry self.old).pages) (block * (geometry self.old).pages + (geometry self.old).pages) erased self.old self.new result }
-        ensures geometry { geometry self.new ≡ geometry self.old }
-        ensures clock { clock self.new ≡ ticked (clock self.old) result }
-        ensures read_faults { read_faults self.new ≡ read_faults self.old }
-        ensures write_faults { FaultsCounted (write_faults self.old) (write_faults self.new) (result ≡ WriteAnswer.Failed) };
+        ensures effect { tells → Leaves (block_start (geometry self.old) block) (block_end (geometry self.old) block) erased (contents self.old) result (contents self.new) }
+        ensures crash { CrashLeaves clock contents left (block_start (geometry self.old) block) (block_end (geometry self.old) block) erased self.old self.new }
+        ensures reached { tells → CrashReaches clock contents left (block_start (geometry self.old) block) (block_end (geometry self.old) block) erased self.old self.new result }
+        ensures counted { OperationCounted geometry clock read_faults write_faults self.old self.new result };
 
     /// The numbers are legal, or both 0.
     ghost legal: { (s : Self) → IsLegal (geometry s) };

@@ -6,7 +6,6 @@ use Rattle.std.specs.BTreeMap.{BTreeMap, get, Updates}
 use Rattle.nl_field.specs.Page.{Image, page_at, erased}
 use Rattle.nl_field.specs.Medium.{Readable, readable, stamp_on, is_virtual_rec, is_physical_rec, first_physical, shape_of_image}
 use Rattle.nl_field.specs.declared.shape.Shape.{Shape}
-use Rattle.nl_nand.specs.Nand.{Unchanged}
 use Rattle.nl_nand.specs.declared.geometry.Geometry.{Geometry}
 use Rattle.nl_field.specs.Scan.{zeros_from}
 use Rattle.nl_scan.specs.Firsts.{first_of, noted}
@@ -15,12 +14,6 @@ use Rattle.nl_field.specs.ScanList.{seen_of}
 use Rattle.nl_scan.specs.Tables.{IsSeen, greatest_stamp}
 use Rattle.nl_scan.specs.declared.firsts.First.{First}
 use Rattle.nl_scan.specs.declared.pass.Pass.{Pass}
-
--- the medium was read, and nothing else was done to it
-pub record OnlyReads {M : Type 0} (geometry : M → Geometry) (contents : M → Image) (clock write_faults : M → ℕ) (left : M → ℕ → Image → Type 0) (old new : M) : Type 0 where
-  pub same : Unchanged geometry contents left old new
-  pub same_clock : clock new ≡ clock old
-  pub same_write_faults : write_faults new ≡ write_faults old
 
 -- the first pages are among so many
 abbrev pub AreWithin : ℕ → BTreeMap ℕ First → Type 0

@@ -3,9 +3,9 @@ ghost use Rattle.std.specs.Ordering.{nat_cmp};
 ghost use Rattle.std.specs.BTreeMap.{get, Updates};
 ghost use Rattle.nl_field.specs.Page.{page_at};
 ghost use Rattle.nl_field.specs.SpareRecord.{is_spare, stamp_of};
-ghost use Rattle.nl_nand.specs.Nand.{FaultsCounted};
+ghost use Rattle.nl_nand.specs.Nand.{FaultsCounted, OnlyReads};
 ghost use Rattle.nl_scan.specs.Firsts.{is_alike, noted};
-ghost use Rattle.nl_scan.specs.Passes.{OnlyReads, AreWithin};
+ghost use Rattle.nl_scan.specs.Passes.{AreWithin};
 
 use crate::alike::are_alike;
 use nl_field::{PageBuf, SpareRec};

@@ -3,10 +3,10 @@
 
 ghost use Rattle.std.specs.Prelude.{◌≡◌, ◌*◌, IsTrue, IfOk, Err};
 ghost use Rattle.nl_field.specs.Numbers.{is_legal, shape_for};
-ghost use Rattle.nl_nand.specs.Nand.{FaultsCounted, SameLeft};
+ghost use Rattle.nl_nand.specs.Nand.{FaultsCounted, OnlyReads};
 ghost use Rattle.nl_scan.specs.Scans.{IfTables};
 ghost use Rattle.nl_scan.specs.Tables.{IsTableOf, IsKept, FitsMedium};
-ghost use Rattle.nl_scan.specs.Passes.{OnlyReads, Stands};
+ghost use Rattle.nl_scan.specs.Passes.{Stands};
 
 mod alike;
 mod firsts;
@@ -40,11 +40,7 @@ pub fn scan<M: Nand>(alloc: Global, media: &mut M) -> Scanned
     ensures tables { M.tells → IfTables result (IsTableOf (M.contents media.old)) }
     ensures fits { IfTables result (FitsMedium (M.geometry media.old)) }
     ensures faults { FaultsCounted (M.read_faults media.old) (M.read_faults media.new) (result ≡ Scanned.Fault) }
-    ensures geometry { M.geometry media.new ≡ M.geometry media.old }
-    ensures contents { M.contents media.new ≡ M.contents media.old }
-    ensures left { SameLeft M.left media.old media.new }
-    ensures clock { M.clock media.new ≡ M.clock media.old }
-    ensures write_faults { M.write_faults media.new ≡ M.write_faults media.old }
+    ensures only_reads { OnlyReads M.geometry M.contents M.clock M.write_faults M.left media.old media.new }
 {
     let geometry = media.geometry();
     match shape_of(geometry.blocks, geometry.pages) {

@@ -2,8 +2,8 @@ ghost use Rattle.std.specs.Prelude.{◌≡◌, ◌↔◌, ◌<◌, ◌≤◌, �
 ghost use Rattle.nl_field.specs.Page.{page_at, erased};
 ghost use Rattle.nl_field.specs.Medium.{first_physical, shape_of_image};
 ghost use Rattle.nl_field.specs.SpareRecord.{is_spare, stamp_of};
-ghost use Rattle.nl_nand.specs.Nand.{FaultsCounted};
-ghost use Rattle.nl_scan.specs.Passes.{OnlyReads, AreWithin, is_own_virtual, is_own_physical, Compared, Added, IsFresh, KnowsPages, KnowsBlocks, Stands};
+ghost use Rattle.nl_nand.specs.Nand.{FaultsCounted, OnlyReads};
+ghost use Rattle.nl_scan.specs.Passes.{AreWithin, is_own_virtual, is_own_physical, Compared, Added, IsFresh, KnowsPages, KnowsBlocks, Stands};
 
 use crate::firsts::{First, Stopped, note, stamp_on};
 use crate::super_seen::SuperSeen;

@@ -16,14 +16,14 @@ pages-init g c =
       knows = λ tells. knows_nothing image c.in-Ok.pass fresh.no_pages fresh.no_virtuals fresh.no_physicals fresh.no_newest;
       blocks = λ tells. fresh_blocks image c.args.geometry.blocks c.in-Ok.pass ((g.met.M.Nand.contents_fit c.args.media.now tells).blocks ∙ ap (λ (x : Geometry). x.blocks) (sym c.requires.geometry)) fresh;
       stands = subst (λ (x : Geometry). Stands x 0 c.in-Ok.pass) c.requires.geometry (fresh_stands c.args.geometry c.in-Ok.pass fresh);
-      reads = record { same = record { same_geometry = refl; same_contents = refl; same_left = record { no_more = λ m x l. l; no_fewer = λ m x l. l } }; same_clock = refl; same_write_faults = refl };
+      reads = record { same_geometry = refl; same_contents = refl; same_left = record { no_more = λ m x l. l; no_fewer = λ m x l. l }; same_clock = refl; same_write_faults = refl };
       faults = refl;
     }
 
 pub step-requires-clause-pages : goal.step-requires-clause-pages
 step-requires-clause-pages g c =
     ap (λ (s : Shape). s.pages) c.requires.shape ∙ pages_of c.args.geometry.blocks c.args.geometry.pages
-    ∙ ap (λ (x : Geometry). x.pages) (c.requires.geometry ∙ sym c.pages.invariant.reads.same.same_geometry)
+    ∙ ap (λ (x : Geometry). x.pages) (c.requires.geometry ∙ sym c.pages.invariant.reads.same_geometry)
 
 pub returns-clause-tables : goal.returns-clause-tables
 returns-clause-tables g c = λ tells.
@@ -34,8 +34,8 @@ returns-clause-tables g c = λ tells.
     is_table image c.pages.page c.pages.pass
     (far (c.args.geometry.blocks * c.args.geometry.pages) _ c.pages.page (ap (λ (x : Geometry). x.blocks * x.pages) c.requires.geometry ∙ sym (size_of (g.M.Nand.geometry c.args.media.now) image fits)) c.pages-test.false)
     (far (c.args.geometry.blocks * c.args.geometry.pages) _ c.pages.page size c.pages-test.false)
-    (subst (λ (x : Image). KnowsPages x c.pages.page c.pages.pass) c.pages.invariant.reads.same.same_contents (c.pages.invariant.knows tells))
-    (subst (λ (x : Image). KnowsBlocks x c.pages.page c.pages.pass.erased.items) c.pages.invariant.reads.same.same_contents (c.pages.invariant.blocks tells))
+    (subst (λ (x : Image). KnowsPages x c.pages.page c.pages.pass) c.pages.invariant.reads.same_contents (c.pages.invariant.knows tells))
+    (subst (λ (x : Image). KnowsBlocks x c.pages.page c.pages.pass.erased.items) c.pages.invariant.reads.same_contents (c.pages.invariant.blocks tells))
   where
     far : (count size at : ℕ) → count ≡ size → count ≤ at → size ≤ at
     far count size at same past = omega arith

@@ -1,5 +1,6 @@
 use Rattle.std.proofs.Common.{◌≡◌}
-use Rattle.nl_scan.specs.Passes.{OnlyReads, KnowsPages, KnowsBlocks, Stands}
+use Rattle.nl_nand.specs.Nand.{OnlyReads}
+use Rattle.nl_scan.specs.Passes.{KnowsPages, KnowsBlocks, Stands}
 use Rattle.nl_scan.proofs.pages.Given as goal
 
 -- what the pass knows of the pages so far, and that the medium was only read

@@ -25,5 +25,5 @@ pub returns-in_ok-add-in-Some-clause-knows : goal.returns-in_ok-add-in-Some-clau
 returns-in_ok-add-in-Some-clause-knows g c = λ tells.
     read_some (g.M.Nand.contents c.args.media.now) (g.M.Nand.contents c.read.new.self) c.args.shape.now c.args.page c.read.new.buf c.spare.result.now c.in-Some.rec c.args.pass.now c.add.new.pass
     (in_contents (g.M.Nand.geometry c.args.media.now) (g.M.Nand.contents c.args.media.now) c.args.page (g.met.M.Nand.contents_fit c.args.media.now tells) c.requires.page)
-    (c.in-Written.ensures.answer tells) c.spare.ensures c.in-Some.ensures.value c.read.ensures.contents (c.requires.shape tells) (c.requires.knows tells)
+    (c.in-Written.ensures.answer tells) c.spare.ensures c.in-Some.ensures.value c.read.ensures.only_reads.same_contents (c.requires.shape tells) (c.requires.knows tells)
     (c.in_ok-add-in-Some.ensures.told tells)

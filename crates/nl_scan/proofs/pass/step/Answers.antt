@@ -11,7 +11,7 @@ returns-then-not-is_erased-clause-blocks g c = λ tells.
     let image = g.M.Nand.contents c.args.media.now in
     let marks = c.args.pass.now.erased.items in
     let of_read = c.in_ok-is_erased.ensures in
-    subst (λ (x : Image). KnowsBlocks x (c.args.page + 1) c.mark.new.erased.items) (sym of_read.reads.same.same_contents)
+    subst (λ (x : Image). KnowsBlocks x (c.args.page + 1) c.mark.new.erased.items) (sym of_read.reads.same_contents)
     (subst (KnowsBlocks image (c.args.page + 1)) (sym (c.mark.ensures ∙ ap (λ (l : List Bool). set l (c.args.page / c.args.shape.now.pages) false) of_read.erased))
     (blocks_marked image c.args.page c.args.shape.now.pages marks
     (c.requires.pages ∙ sym fits.pages)

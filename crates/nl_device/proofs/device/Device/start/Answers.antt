@@ -74,7 +74,7 @@ returns-in-Ok-clause-formed g c =
     let pseg = c.in-Ok.field-0.pseg in
     let image = g.M.Nand.contents media in
     let geometry = g.M.Nand.geometry media in
-    let same = c.scan.ensures.geometry in
+    let same = c.scan.ensures.only_reads.same_geometry in
     let legal = subst (λ (n : Geometry). IsTrue (is_legal n.blocks n.pages)) (sym same) c.requires.formed in
     let fits = fits_of shape c.geometry.result (g.M.Nand.geometry c.args.media) t c.legal_shape-shape.ensures c.geometry.ensures c.in-Tables.ensures.fits in
     subst (λ next. IsDevice geometry g.M.Nand.tells image shape vseg pseg c.in-Ok.field-0.kept next) (sym c.next_stamp-next.ensures)
@@ -83,14 +83,14 @@ returns-in-Ok-clause-formed g c =
     fits c.in-Ok.ensures.virtuals c.in-Ok.ensures.physicals
     (λ segments live tell.
     let fit = g.met.M.Nand.contents_fit media tell in
-    let is = table_now image (g.M.Nand.contents c.args.media) t c.scan.ensures.contents (c.in-Tables.ensures.tables tell) in
+    let is = table_now image (g.M.Nand.contents c.args.media) t c.scan.ensures.only_reads.same_contents (c.in-Tables.ensures.tables tell) in
     let e = shape_is segments fit in
     let physical = opened_names image t pseg is (subst (λ s. IsOpenedPhysical s t pseg) (sym e) c.in-Ok.ensures.physicals) (subst (λ (s : Shape). 0 < s.pages) (sym e) segments.some) in
     opened_on t segments fit live physical is c.in-Ok.ensures.virtuals)
     c.in-Ok.ensures.kept
     (λ tell.
     found_holds shape image t c.in-Ok.field-0.kept (image_shape shape c.geometry.result geometry image c.legal_shape-shape.ensures (c.geometry.ensures ∙ sym same) (g.met.M.Nand.contents_fit media tell))
-    (table_now image (g.M.Nand.contents c.args.media) t c.scan.ensures.contents (c.in-Tables.ensures.tables tell)) c.in-Ok.ensures.kept))
+    (table_now image (g.M.Nand.contents c.args.media) t c.scan.ensures.only_reads.same_contents (c.in-Tables.ensures.tables tell)) c.in-Ok.ensures.kept))
 
 pub returns-in-Ok-clause-map : goal.returns-in-Ok-clause-map
 returns-in-Ok-clause-map g c tell v below =
@@ -98,7 +98,7 @@ returns-in-Ok-clause-map g c tell v below =
     let t = c.in-Tables.tables in
     let before = g.M.Nand.contents c.args.media in
     let e = image_shape shape c.geometry.result (g.M.Nand.geometry c.args.media) before c.legal_shape-shape.ensures c.geometry.ensures (g.met.M.Nand.contents_fit c.args.media tell) in
-    ap (λ (i : Image). map_of c.in-Ok.field-0.vseg.places i v) c.scan.ensures.contents
+    ap (λ (i : Image). map_of c.in-Ok.field-0.vseg.places i v) c.scan.ensures.only_reads.same_contents
     ∙ opened_map before t c.in-Ok.field-0.vseg (c.in-Tables.ensures.tables tell) (subst (λ s. IsOpenedVirtual s t c.in-Ok.field-0.vseg) (sym e) c.in-Ok.ensures.virtuals) v (subst (λ (s : Shape). v < s.vaddrs) (sym e) below)
 
 pub returns-in-Ok-clause-spare : goal.returns-in-Ok-clause-spare
@@ -116,6 +116,6 @@ returns-in-Ok-clause-agreed g c tell agree v x below stray =
     let t = c.in-Tables.tables in
     let vseg = c.in-Ok.field-0.vseg in
     let image = g.M.Nand.contents media in
-    let e = image_shape shape c.geometry.result (g.M.Nand.geometry media) image c.legal_shape-shape.ensures (c.geometry.ensures ∙ sym c.scan.ensures.geometry) (g.met.M.Nand.contents_fit media tell) in
-    stray.newer (opened_agreed image t (table_now image (g.M.Nand.contents c.args.media) t c.scan.ensures.contents (c.in-Tables.ensures.tables tell)) agree vseg (subst (λ s. IsOpenedVirtual s t vseg) (sym e) c.in-Ok.ensures.virtuals) v x.0 x.1
+    let e = image_shape shape c.geometry.result (g.M.Nand.geometry media) image c.legal_shape-shape.ensures (c.geometry.ensures ∙ sym c.scan.ensures.only_reads.same_geometry) (g.met.M.Nand.contents_fit media tell) in
+    stray.newer (opened_agreed image t (table_now image (g.M.Nand.contents c.args.media) t c.scan.ensures.only_reads.same_contents (c.in-Tables.ensures.tables tell)) agree vseg (subst (λ s. IsOpenedVirtual s t vseg) (sym e) c.in-Ok.ensures.virtuals) v x.0 x.1
     (subst (λ (s : Shape). v < s.vaddrs) (sym e) below) (subst (λ (s : Shape). Shows (first_physical s) image v x.0 x.1) (sym e) stray.shown))
