@@ -112,7 +112,7 @@ impl Block {
     pub fn erased(&mut self, names: u32)
         ensures { self.new ≡ erased_row self.old names }
     {
-        self.wear = self.wear.saturating_add(1);
+        self.reerased();
         self.state = state_with(names);
     }
 

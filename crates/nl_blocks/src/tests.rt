@@ -13,6 +13,8 @@ enum Step {
     Seal(u32),
     Choose(u32),
     Erased(u32, u32),
+    Reerased(u32),
+    Freed(u32, u32),
     NameGone(u32),
     Found(u32, u32, u32),
     State(u32),
@@ -88,6 +90,8 @@ fn change(blocks: &mut Blocks, step: Step) -> Answer {
             _ => return Answer::Unmet,
         },
         Step::Erased(block, names) if has(blocks, block) => blocks.erased(block, names),
+        Step::Reerased(block) if has(blocks, block) => blocks.reerased(block),
+        Step::Freed(block, names) if has(blocks, block) => blocks.freed(block, names),
         Step::NameGone(block) if has(blocks, block) => match blocks.state(block) {
             BlockState::Retired(_) => blocks.name_gone(block),
             _ => return Answer::Unmet,
@@ -164,6 +168,18 @@ fn blocks_go_round(rt: HostRuntime) {
         (Step::Erased(11, 0), Answer::Did),
         (Step::State(11), Answer::Block(BlockState::Free)),
         (Step::Wear(8), Answer::Number(5)),
+        // A block that was taken and had to be erased again; then it is given back without an erase.
+        (Step::Reerased(8), Answer::Did),
+        (Step::Wear(8), Answer::Number(6)),
+        (Step::State(8), Answer::Block(BlockState::Target)),
+        (Step::Free, Answer::Number(1)),
+        (Step::Freed(8, 0), Answer::Did),
+        (Step::Wear(8), Answer::Number(6)),
+        (Step::State(8), Answer::Block(BlockState::Free)),
+        (Step::Free, Answer::Number(2)),
+        (Step::Freed(8, 3), Answer::Did),
+        (Step::State(8), Answer::Block(BlockState::Retired(3))),
+        (Step::Free, Answer::Number(1)),
     ];
     for (i, (step, want)) in table.iter().enumerate() {
         assert_eq!(rt; run(&mut blocks, *step), *want, "at {i}: {step:?}");
