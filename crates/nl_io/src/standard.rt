@@ -1,13 +1,45 @@
 // Thin adapters over a reader and a writer of the system. They tell no bytes.
-ghost use Rattle.std.specs.Prelude.{◌≡◌, ◌≤◌, ◌+◌, None};
+ghost use Rattle.std.specs.Prelude.{◌≡◌, ◌≤◌, ◌+◌, ◌==◌, None, Some, if◌then◌else◌, IfOk, MatchResult};
 ghost use Rattle.nl_field.specs.CrashStates.{saturated};
 
 use crate::{Sink, SinkAnswer, Source, SourceAnswer};
-use std::io::{Read, Write};
+use std::io::{self, Read, Write};
 use std::marker::Model;
 
 /// The most bytes of one read.
 const PIECE: usize = 65536;
+
+// What a read tells: `Failed` exactly where its result is an error, and `End` where no byte came.
+fn answer_of_read(read: &io::Result<usize>) -> SourceAnswer
+    requires { IfOk read.now (λ count. count ≤ 65536) }
+    ensures { MatchResult read.now (λ count. result ≡ (if count == 0 then SourceAnswer.End else SourceAnswer.Got count)) (λ _. result ≡ SourceAnswer.Failed) }
+{
+    match read {
+        Ok(0) => SourceAnswer::End,
+        Ok(count) => SourceAnswer::Got(*count as u32),
+        Err(_) => SourceAnswer::Failed,
+    }
+}
+
+// How many bytes a write took: none exactly where its result is an error or 0.
+fn count_taken(written: &io::Result<usize>) -> Option<usize>
+    ensures { MatchResult written.now (λ count. result ≡ (if count == 0 then None else Some count)) (λ _. result ≡ None) }
+{
+    match written {
+        Ok(0) | Err(_) => None,
+        Ok(count) => Some(*count),
+    }
+}
+
+// What a flush tells: `Failed` exactly where its result is an error.
+fn answer_of_flush(flushed: &io::Result<()>) -> SinkAnswer
+    ensures { MatchResult flushed.now (λ _. result ≡ SinkAnswer.Took) (λ _. result ≡ SinkAnswer.Failed) }
+{
+    match flushed {
+        Ok(()) => SinkAnswer::Took,
+        Err(_) => SinkAnswer::Failed,
+    }
+}
 
 /// A source over a reader, as standard input. Each failed read counts as a fault.
 #[derive(Drop)]
@@ -41,14 +73,11 @@ impl<R: Read + Drop> Source for StdSource<R> {
 
     fn read(&mut self, out: &mut [u8]) -> SourceAnswer {
         let most = out.len().min(PIECE);
-        match self.inner.read(&mut out[..most]) {
-            Ok(0) => SourceAnswer::End,
-            Ok(count) => SourceAnswer::Got(count as u32),
-            Err(_) => {
-                self.faults = self.faults.saturating_add(1);
-                SourceAnswer::Failed
-            }
+        let answer = answer_of_read(&self.inner.read(&mut out[..most]));
+        if answer == SourceAnswer::Failed {
+            self.faults = self.faults.saturating_add(1);
         }
+        answer
     }
 
     fn faults(&self) -> u64 {
@@ -100,15 +129,15 @@ impl<W: Write + Drop> Sink for StdSink<W> {
     fn write(&mut self, bytes: &[u8]) -> SinkAnswer {
         let mut rest = bytes;
         while !rest.is_empty() {
-            match self.inner.write(rest) {
-                Ok(0) | Err(_) => return self.failed(),
-                Ok(count) => rest = &rest[count..],
+            match count_taken(&self.inner.write(rest)) {
+                Some(count) => rest = &rest[count..],
+                None => return self.failed(),
             }
         }
-        if self.inner.flush().is_err() {
-            return self.failed();
+        match answer_of_flush(&self.inner.flush()) {
+            SinkAnswer::Took => SinkAnswer::Took,
+            SinkAnswer::Failed => self.failed(),
         }
-        SinkAnswer::Took
     }
 
     fn faults(&self) -> u64 {

@@ -3,6 +3,7 @@ use crate::{
     MemSink, MemSource, Sink, SinkAnswer, Source, SourceAnswer, StdSink, StdSource, Words,
 };
 use nl_field::{FailList, Text};
+use std::io;
 use std::test::Fail;
 
 #[test]
@@ -58,5 +59,55 @@ fn a_reader_and_a_writer_serve_as_streams(rt: HostRuntime) -> Result<(), Fail> {
     let mut sink = StdSink::new(Vec::<u8>::new(alloc));
     assert_eq!(rt; sink.write(b"ab"), SinkAnswer::Took);
     assert_eq!(rt; sink.faults(), 0);
+    Ok(())
+}
+
+/// Reads and writes a byte at a call, and fails at the second.
+#[derive(Drop)]
+struct SecondFails {
+    calls: u8,
+}
+
+impl SecondFails {
+    fn turn(&mut self) -> io::Result<usize> {
+        self.calls = self.calls.saturating_add(1);
+        if self.calls == 2 {
+            return Err(io::Error::from(io::ErrorKind::Other));
+        }
+        Ok(1)
+    }
+}
+
+impl io::Read for SecondFails {
+    fn read(&mut self, out: &mut [u8]) -> io::Result<usize> {
+        let count = self.turn()?.min(out.len());
+        out[..count].fill(b'x');
+        Ok(count)
+    }
+}
+
+impl io::Write for SecondFails {
+    fn write(&mut self, bytes: &[u8]) -> io::Result<usize> {
+        Ok(self.turn()?.min(bytes.len()))
+    }
+
+    fn flush(&mut self) -> io::Result<()> {
+        Ok(())
+    }
+}
+
+#[test]
+fn a_call_that_fails_is_no_end(rt: HostRuntime) -> Result<(), Fail> {
+    let mut source = StdSource::new(SecondFails { calls: 0 });
+    let mut out = [0u8; 8];
+    assert_eq!(rt; source.read(&mut out), SourceAnswer::Got(1));
+    assert_eq!(rt; source.read(&mut out), SourceAnswer::Failed);
+    assert_eq!(rt; source.read(&mut out), SourceAnswer::Got(1));
+    assert_eq!(rt; source.faults(), 1);
+    // The second byte is not taken.
+    let mut sink = StdSink::new(SecondFails { calls: 0 });
+    assert_eq!(rt; sink.write(b"ab"), SinkAnswer::Failed);
+    assert_eq!(rt; sink.write(b"ab"), SinkAnswer::Took);
+    assert_eq!(rt; sink.faults(), 1);
     Ok(())
 }

@@ -7,7 +7,8 @@ use Rattle.std.proofs.lemmas.List.Elements.{All-from_recursion}
 use Rattle.hex.specs.Hex.{decode_of}
 use Rattle.std.proofs.lemmas.Iterator.Adapters.{position_from-zero}
 use Rattle.nl_field.specs.Names.{is_name_byte, is_name as is_field_name}
-use Rattle.nl_tree.specs.Calls.{AreNames, IsBounded, max_bytes}
+use Rattle.nl_field.specs.Numbers.{max_bytes}
+use Rattle.nl_tree.specs.Calls.{AreNames, IsBounded}
 use Rattle.nl_tree.specs.declared.call.Call.{Call}
 use Rattle.nl_tree.specs.declared.call.Call.TheVariants as call
 use Rattle.nl_script.specs.declared.command.Command.{Command}

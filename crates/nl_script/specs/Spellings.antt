@@ -4,13 +4,13 @@ use Rattle.std.specs.Char.{is_ascii_digit}
 use Rattle.std.specs.List.{list_all}
 use Rattle.std.specs.Option.{ok_or}
 use Rattle.std.specs.Str.Parse.{digits_value}
+use Rattle.nl_field.specs.Numbers.{max_bytes}
 use Rattle.hex.specs.declared.error.FromHexError.{FromHexError}
 use Rattle.hex.specs.Hex.{decode_of}
 use Rattle.nl_script.specs.declared.command.Command.{Command}
 use Rattle.nl_script.specs.declared.command.Command.TheVariants.{Mkdir, Rmdir, Create, Unlink, Stat, List as ListCommand, Rename, Write, Fill, Read, Truncate, Sync, Clean}
 use Rattle.nl_script.specs.declared.why.Why.{Why}
 use Rattle.nl_script.specs.declared.why.Why.TheVariants.{Long, Worker, Command as CommandCause, Path, Number, Hex}
-use Rattle.nl_tree.specs.Calls.{max_bytes}
 use Rattle.nl_script.specs.Words.{parts}
 
 -- the `?` of the grammar: what follows, where there is a value

@@ -2,14 +2,11 @@
 use Rattle.std.specs.Prelude.{ℕ, ◌<◌, ◌≤◌, IsTrue, List, length, All, AllPairs}
 use Rattle.std.specs.List.{AllByRecursion}
 use Rattle.nl_field.specs.Names.{is_name}
+use Rattle.nl_field.specs.Numbers.{max_bytes}
 use Rattle.nl_tree.specs.Step.{paths_of}
 use Rattle.nl_tree.specs.declared.call.Call.{Call}
 use Rattle.nl_tree.specs.declared.call.Call.TheVariants.{Write, Fill, Read, List as ListCall}
 use Rattle.nl_tree.specs.declared.call.Line.{Line}
-
--- the most bytes of one write, fill or read, and of a listing
-abbrev pub max_bytes : ℕ
-max_bytes = 65536
 
 -- what a call writes or reads is not too long
 abbrev pub HasFewBytes : Call → Type 0

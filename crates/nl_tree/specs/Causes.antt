@@ -52,7 +52,7 @@ abbrev pub max_stamp : ℕ
 max_stamp = 2 ^ 62
 
 -- of a call that changes something
-unfoldable pub fault_of_change : Option ℕ → ℕ → Option FaultReply
+abbrev pub fault_of_change : Option ℕ → ℕ → Option FaultReply
 fault_of_change (Some n) next_stamp = Some (Erofs n)
 fault_of_change None next_stamp = if nat_le max_stamp next_stamp then Some Eworn else None
 

@@ -8,6 +8,7 @@ ghost use Rattle.nl_tree.specs.GraphChanges.{GraphChanges};
 ghost use Rattle.nl_tree.specs.GraphTree.{GraphIsTree};
 ghost use Rattle.nl_tree.specs.NodeCharges.{NodeCharges};
 ghost use Rattle.nl_tree.specs.SumChanges.{SumChanges};
+ghost use Rattle.nl_tree.specs.FaultLaws.{FaultLaws};
 
 // What is at each path after a change of a tree.
 pub fn tree_changes()
@@ -52,4 +53,9 @@ pub fn node_charges()
 // Sums over nodes after a change.
 pub fn sum_changes()
     ensures { SumChanges }
+{}
+
+// A count of faults that rises gives each failed line a number of its own, below the top.
+pub fn fault_laws()
+    ensures { FaultLaws }
 {}

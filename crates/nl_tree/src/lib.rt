@@ -5,6 +5,7 @@ mod call;
 pub mod laws;
 mod lines;
 mod names;
+pub mod order_rows;
 mod path;
 mod plain;
 mod reply;

@@ -1,11 +1,9 @@
 ghost use Rattle.std.specs.Prelude.{◌≡◌, ◌<◌, ◌≤◌, ◌+◌, [], ◌∷◌, ◌++◌, length, IfOk, Some, slice_get};
+ghost use Rattle.nl_field.specs.Numbers.{max_bytes};
 
-use nl_field::Memory;
+use nl_field::{MAX_BYTES, Memory};
 use std::alloc::Global;
 use std::marker::Model;
-
-/// The most bytes of a reply.
-pub const REPLY_BYTES: usize = 65_536;
 
 /// Room for the bytes of a reply: the content that was read, or the names as they are printed. Only `new` takes memory.
 #[derive(Debug, Drop)]
@@ -15,12 +13,13 @@ pub struct ReplyBuf {
 
 impl Model for ReplyBuf {
     ghost use Rattle.std.specs.Prelude.{List, ℕ, ◌≤◌, vec_capacity, length};
+    ghost use Rattle.nl_field.specs.Numbers.{max_bytes};
 
     ghost Value = { List ℕ };
 
     ghost view = { λ b. b.bytes.items };
 
-    ghost invariant = { λ b. (length b.bytes.items ≤ 65536) × (65536 ≤ vec_capacity b.bytes) };
+    ghost invariant = { λ b. (length b.bytes.items ≤ max_bytes) × (max_bytes ≤ vec_capacity b.bytes) };
 }
 
 impl ReplyBuf {
@@ -29,13 +28,13 @@ impl ReplyBuf {
         ensures { IfOk result (λ b. b ≡ []) }
     {
         Ok(ReplyBuf {
-            bytes: Vec::with_capacity(alloc, REPLY_BYTES)?,
+            bytes: Vec::with_capacity(alloc, MAX_BYTES)?,
         })
     }
 
     pub fn len(&self) -> u32
         ensures count { result ≡ length self.now }
-        ensures room { length self.now ≤ 65536 }
+        ensures room { length self.now ≤ max_bytes }
     {
         self.bytes.len() as u32
     }
@@ -49,7 +48,7 @@ impl ReplyBuf {
 
     pub fn bytes(&self) -> &[u8]
         ensures bytes { result.now ≡ self.now }
-        ensures room { length self.now ≤ 65536 }
+        ensures room { length self.now ≤ max_bytes }
     {
         &self.bytes
     }
@@ -61,7 +60,7 @@ impl ReplyBuf {
     }
 
     pub fn push(&mut self, byte: u8)
-        requires { length self.old < 65536 }
+        requires { length self.old < max_bytes }
         ensures { self.new ≡ self.old ++ byte ∷ [] }
     {
         match self.bytes.push(byte) {
@@ -72,7 +71,7 @@ impl ReplyBuf {
 
     /// Adds these bytes behind the others.
     pub fn extend(&mut self, more: &[u8])
-        requires { length self.old + length more.now ≤ 65536 }
+        requires { length self.old + length more.now ≤ max_bytes }
         ensures { self.new ≡ self.old ++ more.now }
     {
         match self.bytes.extend_from_slice(more) {

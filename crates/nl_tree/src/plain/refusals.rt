@@ -12,13 +12,9 @@ ghost use Rattle.nl_tree.specs.Step.{when, is_too_long, paths_of};
 use super::entries::{Entry, count_entries, find};
 use super::names::{are_equal, is_under};
 use crate::{Call, Path, Refusal};
-use nl_field::Text;
-
-const MAX_NAME: usize = 55;
+use nl_field::{MAX_FILE_SIZE, MAX_NAME, Text};
 
 const MAX_PATH: usize = 1023;
-
-const MAX_FILE_SIZE: u64 = 16_809_984;
 
 /// The first that holds.
 pub(crate) fn first_of(refusals: &[Option<Refusal>]) -> Option<Refusal>

@@ -9,8 +9,7 @@ ghost use Rattle.nl_tree.specs.PlainTree.{meta_of_entry, data_of_entry};
 
 use super::entries::{Entry, run};
 use super::shared::SharedNode;
-
-pub(crate) const MAX_ENTRIES: usize = 1024;
+use nl_field::MAX_ENTRIES;
 
 /// How many entries the directory at a position has.
 fn entry_count(tree: &[Entry], at: usize) -> usize
@@ -27,7 +26,7 @@ fn is_overfull(tree: &[Entry], at: usize) -> bool
     requires there { at < length tree.now }
     ensures { (d : List (List ℕ) × Node) → result ≡ nat_lt max_entries (length (entries_of tree.now (slice_index_or tree.now at d).0)) }
 {
-    entry_count(tree, at) > MAX_ENTRIES
+    entry_count(tree, at) > MAX_ENTRIES as usize
 }
 
 pub(crate) fn has_full_directory(tree: &[Entry]) -> bool

@@ -11,9 +11,9 @@ ghost use Rattle.nl_tree.specs.KeptSums.{AreCharges, IsChangeAt, has_overfull, p
 use super::entries::{Entry, count_entries, find};
 use super::refusals::is_missing;
 use super::shared::SharedNode;
-use super::space::{MAX_ENTRIES, data_total, exceeds_nodes, has_full_directory, meta_total};
+use super::space::{data_total, exceeds_nodes, has_full_directory, meta_total};
 use crate::{Refusal, Space};
-use nl_field::{Shape, Text};
+use nl_field::{MAX_ENTRIES, Shape, Text};
 
 /// The data pages and the metadata pages of a tree.
 #[derive(Clone, Copy)]
@@ -63,7 +63,7 @@ fn is_overfull(count: Option<usize>) -> bool
     ensures { result ≡ nat_lt 0 (count_part overfull count) }
 {
     match count {
-        Some(count) => count > MAX_ENTRIES,
+        Some(count) => count > MAX_ENTRIES as usize,
         None => false,
     }
 }
