@@ -1,5 +1,5 @@
 -- A list of calls on a tree, each with the fault reply that it got in place of its own, if it got one.
-use Rattle.std.specs.Prelude.{◌≡◌, ℕ, suc, List, [], ◌∷◌, take, slice_get, Option, Some, None, option_map}
+use Rattle.std.specs.Prelude.{◌≡◌, ℕ, List, [], ◌∷◌, take, slice_get, Option, Some, None, option_map}
 use Rattle.nl_field.specs.declared.shape.Shape.{Shape}
 use Rattle.nl_tree.specs.Tree.{Tree}
 use Rattle.nl_tree.specs.Step.{Outcome, step}
