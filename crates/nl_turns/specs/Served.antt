@@ -1,7 +1,8 @@
 -- What a value behind the lock does in one turn, and the entry of that turn.
-use Rattle.std.specs.Prelude.{◌≡◌, ◌≢◌, ◌⊎◌, ℕ, ◌+◌, ◌<◌, ◌≤◌, ◌++◌, [], ◌∷◌, Bool, true, false, List, Some, IfSome}
+use Rattle.std.specs.Prelude.{◌≡◌, ◌≢◌, ℕ, ◌+◌, ◌<◌, ◌≤◌, ◌++◌, [], ◌∷◌, Bool, true, false, if◌then◌else◌, List, Option, Some, None, IfSome, IsSome}
 use Rattle.nl_field.specs.CrashStates.{saturated, Rose}
-use Rattle.nl_tree.specs.Causes.{Counts, HasCause}
+use Rattle.nl_tree.specs.Calls.{IsBounded}
+use Rattle.nl_tree.specs.Causes.{Counts, FaultState, HasCause, IsSumSince}
 use Rattle.nl_tree.specs.Step.{Outcome}
 use Rattle.nl_tree.specs.Replay.{step_marked}
 use Rattle.nl_tree.specs.declared.call.Call.{Call}
@@ -9,7 +10,7 @@ use Rattle.nl_tree.specs.declared.call.Line.{Line}
 use Rattle.nl_tree.specs.declared.reply.Reply.{Reply}
 use Rattle.nl_tree.specs.declared.reply.Reply.TheVariants.{Synced, Fault as FaultAnswer}
 use Rattle.nl_tree.specs.declared.turn.Stage.{Stage}
-use Rattle.nl_tree.specs.declared.turn.Stage.TheVariants.{Staged}
+use Rattle.nl_tree.specs.declared.turn.Stage.TheVariants.{Staged, Fault as StageFault}
 use Rattle.nl_turns.specs.History.{Opening, effects, fault_of, line_at, tree_after, opening_counts}
 use Rattle.nl_turns.specs.declared.entry.Entry.{Entry}
 use Rattle.nl_turns.specs.declared.entry.FaultMark.{FaultMark}
@@ -18,6 +19,10 @@ use Rattle.nl_turns.specs.declared.entry.SyncMark.{SyncMark}
 use Rattle.nl_turns.specs.declared.entry.SyncMark.TheVariants.{NoSync, At}
 
 -- ---- the entry of a turn
+
+abbrev pub is_fault : Stage → Bool
+is_fault StageFault = true
+is_fault _ = false
 
 abbrev pub is_staged : Stage → Bool
 is_staged Staged = true
@@ -42,9 +47,10 @@ duty_entry = record { line = 0; staged = 0; more = false; fault = NoFault; synce
 
 -- ---- what a call may be asked, and what it does
 
--- the opening has this line, of this worker and with this call
+-- the opening has this line, of this worker and with this call, which has what each call has by condition
 pub record IsLineOf (opening : Opening) (worker line : ℕ) (call : Call) : Type 0 where
   pub numbered : 0 < line
+  pub bounded : IsBounded call
   pub found : (l : Line) × (line_at opening.lines line ≡ Some l) × (l.worker ≡ worker) × (l.call ≡ call)
 
 module _ {V : Type 0} (stands : V → Opening → List Entry → V → Type 0) (value : V) where
@@ -77,19 +83,17 @@ abbrev pub FaultHasCause : Type 0 → Opening → Counts → Call → Reply → 
 FaultHasCause tells opening now call reply =
     IfSome (fault_of (fault_mark reply)) (HasCause tells (opening_counts opening) now opening.next_stamp call)
 
--- an operation of the medium failed, by its counts before and after
-abbrev pub FaultRose : Counts → Counts → Type 0
-FaultRose before now = Rose before.read_faults now.read_faults ⊎ Rose before.write_faults now.write_faults
+-- What refuses lines from one turn to the next: the number with which a volume became read-only stays, and it becomes so only where a
+-- program or an erase failed, with the sum of the counts after some failure of this turn.
+pub record StaysReadOnly (before now : Counts) (old new : Option ℕ) : Type 0 where
+  pub stays : (n : ℕ) → old ≡ Some n → new ≡ Some n
+  pub begins : (n : ℕ) → old ≡ None → new ≡ Some n → Rose before.write_faults now.write_faults × IsSumSince before now n
+  pub always : before.write_faults < now.write_faults → IsSome new
 
--- a page did not hold the wanted stamp, which cannot be over a medium that tells its contents
-abbrev pub LostHasCause : Type 0 → ℕ → ℕ → Type 0
-LostHasCause tells wanted found = (tells → ⊥) × (wanted ≢ found)
-
--- the clock and the counts of faults never fall
-pub record NeverFall (before now : Counts) : Type 0 where
-  pub clock : before.clock ≤ now.clock
-  pub read_faults : before.read_faults ≤ now.read_faults
-  pub write_faults : before.write_faults ≤ now.write_faults
+-- the number that a failed staging of a line leaves, and what it leaves of other workers' lines
+pub record KeepsStagedFaults (before now : ℕ → ℕ → FaultState) (worker line : ℕ) (failed : Bool) (sum : ℕ) : Type 0 where
+  pub here : (now worker line).staged ≡ (if failed then Some sum else (before worker line).staged)
+  pub others : (w l : ℕ) → w ≢ worker → (now w l).staged ≡ (before w l).staged
 
 -- A stage leaves less to stage of its line where it staged, and no turn leaves more of a line of another worker.
 pub record StagesLess (before now : ℕ → ℕ → ℕ) (worker line : ℕ) (staged : Bool) : Type 0 where

@@ -3,6 +3,7 @@ use Rattle.std.proofs.Common.{◌≡◌, ℕ, zero, suc, ◌+◌, ◌-◌, ◌*�
 use Rattle.std.specs.Prelude.{slice_get, IfSome}
 use Rattle.std.proofs.Math.Nat.{mul-le-mul_left, mul_comm, min-eq_left}
 use Rattle.nl_field.specs.CrashStates.{top, saturated}
+use Rattle.nl_tree.specs.Calls.{IsLine}
 use Rattle.nl_tree.specs.declared.call.Line.{Line}
 use Rattle.nl_turns.specs.History.{Opening, line_at, effects}
 use Rattle.nl_turns.specs.Seat.{SeatState, by_seat, entries, NoneBeyond}
@@ -19,9 +20,11 @@ script_lines opening lines count has script i = go (slice_get lines i) refl
     go None e = tt
     go (Some l) e =
         let at = get_at lines i l l e in
+        let is : IsLine l = subst IsLine at.1 (script.lines_are.each i l at.0) in
         record {
-          numbered = subst (λ (z : Line). 0 < z.line) at.1 (script.numbered i l at.0);
-          found = (l, ap (λ ls. line_at ls l.line) has ∙ line_found lines i l script.rising e, refl, refl);
+          numbered = is.number;
+          bounded = is.bounded;
+          found = (l, ap (λ ls. line_at ls l.line) has ∙ line_found lines i l (λ j k d below within. (script.lines_are.rising j k d below within).0) e, refl, refl);
         }
 
 get_there : (xs : List Line) (i : ℕ) → i < length xs → (l : Line) × (slice_get xs i ≡ Some l)
@@ -41,7 +44,7 @@ run_counts seat after lines workers times script ran next seen =
     each i below =
         let l = get_there lines (workers - 1 - i) (let c = script.count_is in omega arith) in
         let at = get_at lines (workers - 1 - i) l.0 l.0 l.1 in
-        let some : 0 < l.0.line = subst (λ (z : Line). 0 < z.line) at.1 (script.numbered (workers - 1 - i) l.0 at.0) in
+        let some : 0 < l.0.line = subst (λ (z : Line). 0 < z.line) at.1 (script.lines_are.each (workers - 1 - i) l.0 at.0).number in
         let did : lines_of (seat.next + i) after.seen ≡ replicate times l.0.line = subst (λ o. IfSome o (λ line. lines_of (seat.next + i) after.seen ≡ replicate times line.line)) l.1 (ran.each i below).1 in
         let here : lines_of (1 + i) after.seen ≡ replicate times l.0.line = subst (λ n. lines_of (n + i) after.seen ≡ replicate times l.0.line) next did in
         effects_of_line l.0.line times (entries_of (1 + i) after.seen) some here

@@ -1,10 +1,9 @@
 -- For which opening and history a volume stands that answers each call with a failed read.
-use Rattle.std.specs.Prelude.{◌≡◌, ℕ, ◌+◌, ◌==◌, if◌then◌else◌, slice_index_or, List, []}
+use Rattle.std.specs.Prelude.{None, ◌≡◌, ℕ, ◌+◌, ◌==◌, if◌then◌else◌, slice_index_or, List, []}
 use Rattle.nl_field.specs.CrashStates.{saturated}
 use Rattle.nl_tree.specs.Tree.{empty_tree}
-use Rattle.nl_tree.specs.Causes.{Counts}
+use Rattle.nl_tree.specs.Causes.{Counts, FaultState, NeverFall}
 use Rattle.nl_turns.specs.History.{Opening, effects, opening_counts}
-use Rattle.nl_turns.specs.Served.{NeverFall}
 use Rattle.nl_turns.specs.declared.entry.Entry.{Entry}
 
 -- of its counts of calls and of failed reads
@@ -33,3 +32,7 @@ pub record FailingStands (opening : Opening) (history : List Entry) (calls done 
 -- one page of each line, or none of the line that the worker has staged
 abbrev pub left_to_stage : List ℕ → ℕ → ℕ → ℕ
 left_to_stage staged worker line = if slice_index_or staged worker 0 == line then 0 else 1
+
+-- it refuses nothing before it is tried
+abbrev pub refuses_none : FaultState
+refuses_none = record { staged = None; read_only = None; next_stamp = 1 }

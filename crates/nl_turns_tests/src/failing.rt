@@ -41,11 +41,16 @@ impl Kept for FailingVolume {
 
 impl Served for FailingVolume {
     ghost use Rattle.std.specs.Prelude.{⊤};
-    ghost use Rattle.nl_turns_tests.specs.Failing.{failing_counts, left_to_stage};
+    ghost use Rattle.std.specs.Prelude.{None, refl};
+    ghost use Rattle.nl_turns_tests.specs.Failing.{failing_counts, left_to_stage, refuses_none};
 
     ghost tells = { ⊤ };
 
     ghost counts = { λ v. failing_counts v.faults };
+
+    ghost refusing = { λ _ _ _. refuses_none };
+
+    ghost read_only = { λ _. None };
 
     ghost to_stage = { λ v. left_to_stage v.staged };
 
@@ -88,4 +93,6 @@ impl Served for FailingVolume {
     }
 
     ghost since = { λ v w o h s. s.since };
+
+    ghost one_number = { λ v w l. refl };
 }
