@@ -1,7 +1,7 @@
 -- Why the volume that fails may answer a fault.
-use Rattle.std.proofs.Common.{◌≡◌, ℕ, Bool, true, false, Option, Some, None, refl, sym, subst}
+use Rattle.std.proofs.Common.{◌≡◌, ℕ, Bool, true, false, Option, None, refl, sym, subst}
 use Rattle.std.specs.Prelude.{if◌then◌else◌, ⊤, MatchOption, IfSome}
-use Rattle.nl_tree.specs.Causes.{Counts, FaultIsDue, FaultRose, FaultWithin, fault_due, fault_in, fault_of_change, fault_sum, is_changing}
+use Rattle.nl_tree.specs.Causes.{Counts, FaultIsDue, FaultRose, FaultWithin, fault_in, fault_of_change, fault_sum, is_changing}
 use Rattle.nl_tree.specs.declared.call.Call.{Call}
 use Rattle.nl_tree.specs.declared.reply.FaultReply.{FaultReply}
 use Rattle.nl_tree.specs.declared.reply.FaultReply.TheVariants.{Eio}
