@@ -10,4 +10,4 @@ run_line-own-requires-clause-line g c =
     let own = c.in-Some.own.opening in
     let has : own.lines ≡ c.in_ok-lines.lines = ap (λ (z : SeatState). z.opening.lines) c.in-Some.ensures.given ∙ ap (λ (z : SeatState). z.opening.lines) c.in-Ok.ensures.seat in
     let each = script_lines own c.in_ok-lines.lines 1 has c.in_ok-lines.ensures 0 in
-    subst (λ o. IfSome o (HasLine own)) c.get.ensures each
+    subst (λ o. IfSome o (HasLine own)) c.get.ensures.line each
