@@ -6,6 +6,7 @@ pub mod Images
 pub mod Marks
 pub mod Members
 pub mod Newest
+pub mod Operating
 pub mod Passing
 pub mod Places
 pub mod ReadPlaces
@@ -16,4 +17,5 @@ pub mod Shapes
 pub mod Spares
 pub mod Standing
 pub mod Views
+pub mod Wears
 pub mod Writing

@@ -15,13 +15,14 @@ use Rattle.nl_vseg.specs.declared.place.Place.{Place}
 use Rattle.std.proofs.lemmas.Option.{none-some, same_Some}
 use Rattle.nl_vseg.proofs.Passing.{some_passes, not_all_pass}
 use Rattle.nl_vseg.proofs.Places.{block_below, beside_of}
+use Rattle.nl_vseg.proofs.Wears.{wears_kept}
 use Rattle.nl_vseg.proofs.Blocks.{has_block, restated, restated_same, same_use, same_then}
 
 pub states_same : (t : Table) → SameStates t t
-states_same t = record { same = same_use t; states = λ block. refl }
+states_same t = record { same = same_use t; wears = refl; states = λ block. refl }
 
 pub states_then : {a b c : Table} → SameStates a b → SameStates b c → SameStates a c
-states_then first second = record { same = same_then first.same second.same; states = λ block. second.states block ∙ first.states block }
+states_then first second = record { same = same_then first.same second.same; wears = second.wears ∙ first.wears; states = λ block. second.states block ∙ first.states block }
 
 module _ (t : Table) (page : ℕ) (state : PageState) (first : t.first ≡ 0) (within : page / t.size < length t.blocks) where
   at_same : block_at (with_page t page state) (page / t.size) ≡ with_mark (block_at t (page / t.size)) (page % t.size) state
@@ -33,6 +34,7 @@ module _ (t : Table) (page : ℕ) (state : PageState) (first : t.first ≡ 0) (w
   pub marked_states : SameStates t (with_page t page state)
   marked_states = record {
     same = restated_same {free = is_free (block_at t (page / t.size))} refl (restated t (page / t.size) (with_mark (block_at t (page / t.size)) (page % t.size) state) first within);
+    wears = wears_kept t (page / t.size) (with_mark (block_at t (page / t.size)) (page % t.size) state) refl;
     states = λ block. ⊎_elim
         (λ is. ap (λ b. (block_at (with_page t page state) b).state) is ∙ (ap (λ (r : BlockRow). r.state) at_same ∙ ap (λ b. (block_at t b).state) (sym is)))
         (λ ne. ap (λ (r : BlockRow). r.state) (at_other block ne))

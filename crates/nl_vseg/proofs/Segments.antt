@@ -14,7 +14,7 @@ use Rattle.nl_vseg.specs.Layout.{Layout, bound, is_soiled, block_is_free, IsNext
 use Rattle.nl_vseg.specs.Copying.{SameNumbers, SameUse, Restated}
 use Rattle.nl_vseg.specs.Effects.{Keeps, KeepsMap}
 use Rattle.nl_vseg.specs.declared.place.Place.{Place}
-use Rattle.nl_vseg.proofs.Places.{in_block, block_of, beside_of, block_below, behind_of, placed, set_place}
+use Rattle.nl_vseg.proofs.Places.{in_block, block_of, beside_of, not_beside, block_below, behind_of, placed, set_place}
 use Rattle.nl_vseg.proofs.Images.{keeps_erase, keeps_same}
 
 -- what a segment takes as erased, in the numbers of another one
@@ -215,6 +215,29 @@ loaded old table block v new is restated at below spelled within idle = record {
     in_use : (u : ℕ) (place : Place) → ((u ≡ v) × (new ≡ place)) ⊎ ((u ≡ v → ⊥) × (place_of old.places u ≡ Some place)) → block_is_free table (place.page / old.table.size) ≡ false
     in_use u place (inl here) = ap (block_is_free table) (ap (λ (q : Place). q.page / old.table.size) (sym here.1) ∙ at) ∙ restated.here
     in_use u place (inr there) = used_at (place.page / old.table.size) (is.in_use u place there.1)
+
+-- a block is Free now that holds no page of the map and is not written to
+pub freed : (old : Layout) (table : Table) (soiled : List Bool) (block : ℕ) → IsLayout old → Restated block true old.table table → length soiled ≡ length old.soiled
+    → (old.used < old.table.size → block ≡ old.active → ⊥) → IsUnmapped old.table.size old.places block → IsLayout (record old { table = table; soiled = soiled })
+freed old table soiled block is restated marks idle unmapped = record {
+  first = restated.numbers.same_first ∙ is.first;
+  some = subst (λ n. 0 < n) (sym restated.numbers.same_size) is.some;
+  numbers = subst (λ n. n < 2 ^ 32) (sym bound_same) is.numbers;
+  marks = marks ∙ (is.marks ∙ sym restated.numbers.same_count);
+  few = subst (λ n. length old.places + 4 * n ≤ length table.blocks * table.size) (sym restated.numbers.same_size) (subst (λ n. length old.places + 4 * old.table.size ≤ n) (sym bound_same) is.few);
+  active_is = subst (λ n. old.active < n) (sym restated.numbers.same_count) is.active_is;
+  used_fits = subst (λ n. old.used ≤ n) (sym restated.numbers.same_size) is.used_fits;
+  taken = λ lt.
+      let more : old.used < old.table.size = subst (λ n. old.used < n) restated.numbers.same_size lt in
+      restated.others old.active (λ same. idle more (sym same)) ∙ is.taken more;
+  places_are = subst (λ n. ArePlaces table.size n old.active old.used old.places) (sym bound_same)
+      (subst (λ n. ArePlaces n (bound old) old.active old.used old.places) (sym restated.numbers.same_size) is.places_are);
+  in_use = λ v place named. subst (λ n. block_is_free table (place.page / n) ≡ false) (sym restated.numbers.same_size)
+      (restated.others (place.page / old.table.size) (not_beside place.page old.table.size block is.some (unmapped v place named)) ∙ is.in_use v place named);
+}
+  where
+    bound_same : length table.blocks * table.size ≡ length old.table.blocks * old.table.size
+    bound_same i = restated.numbers.same_count i * restated.numbers.same_size i
 
 -- a block is the active one now, and none of its pages is used
 pub started : (old : Layout) (block : ℕ) → IsLayout old → block < length old.table.blocks → block_is_free old.table block ≡ false → IsUnmapped old.table.size old.places block

@@ -6,7 +6,7 @@ use Rattle.nl_blocks.specs.Table.{Table, block_at, dead_count, is_sealed, free_c
 use Rattle.nl_blocks.specs.Table.{page_at as row_page}
 use Rattle.nl_vseg.specs.Pages.{IsBeside, fact_of, main_of, page_with}
 use Rattle.nl_vseg.specs.Places.{place_of, stamp_in_place}
-use Rattle.nl_vseg.specs.Layout.{block_is_free}
+use Rattle.nl_vseg.specs.Layout.{block_is_free, wears_of}
 use Rattle.nl_vseg.specs.declared.place.Place.{Place}
 
 abbrev pub is_in : ℕ → ℕ → Option Place → Bool
@@ -29,9 +29,10 @@ pub record SameUse (old new : Table) : Type 0 where
   pub free : (block : ℕ) → block_is_free new block ≡ block_is_free old block
   pub total : free_count new ≡ free_count old
 
--- each block is in the same state
+-- each block is in the same state, and was erased as often
 pub record SameStates (old new : Table) : Type 0 where
   pub same : SameUse old new
+  pub wears : wears_of new ≡ wears_of old
   pub states : (block : ℕ) → (block_at new block).state ≡ (block_at old block).state
 
 -- the page of a place was marked Live

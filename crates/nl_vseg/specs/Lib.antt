@@ -3,6 +3,7 @@ pub mod Copying
 pub mod Effects
 pub mod Layout
 pub mod Maps
+pub mod Operations
 pub mod Pages
 pub mod Places
 pub mod Rig

@@ -1,5 +1,5 @@
 // Copies the pages of one block that addresses have.
-ghost use Rattle.std.specs.Prelude.{◌≡◌, ◌⊎◌, ℕ, ◌+◌, ◌*◌, ◌^◌, ◌<◌, ◌≤◌, List, Option, length, replicate, None, Some, IsTrue};
+ghost use Rattle.std.specs.Prelude.{◌≡◌, ◌⊎◌, ℕ, ◌+◌, ◌*◌, ◌/◌, ◌^◌, ◌<◌, ◌≤◌, List, Option, length, replicate, None, Some, IsTrue};
 ghost use Rattle.nl_field.specs.CrashStates.{LeavesOnly};
 ghost use Rattle.nl_field.specs.Page.{Image, page_at};
 ghost use Rattle.nl_field.specs.Spelling.{is_stamp};
@@ -10,6 +10,7 @@ ghost use Rattle.nl_vseg.specs.Layout.{ArePlaces};
 ghost use Rattle.nl_vseg.specs.Copying.{copy_of, target_at, AreMoved, AreTargets, ChangedIn, HasHole, IsAt, IsMovedPlace, LeavesHole};
 ghost use Rattle.nl_vseg.specs.Effects.{Counted};
 ghost use Rattle.nl_vseg.specs.Answers.{IsLost};
+ghost use Rattle.nl_vseg.specs.Operations.{Operates, snapshot, wear_in};
 ghost use Rattle.nl_vseg.specs.declared.place.Place.{Place as PlaceOf};
 
 use crate::pages::{program_page, read_page};
@@ -37,6 +38,7 @@ fn copy_page<M: Nand>(
     ensures copied { M.tells → fact_of (copy_of (page_at (M.contents media.old) place.page) vaddr place.stamp wear) ≡ fact_of (page_at (M.contents media.old) place.page) }
     ensures lost { (w f : ℕ) → result ≡ VirtualWrite.Lost w f → (w ≡ place.stamp) × (f ≡ place.stamp → ⊥) }
     ensures kept { M.tells → IsLost result → ⊥ }
+    ensures operates { (pages : ℕ) (wears : List ℕ) → wear_in wears (to / pages) ≡ wear → Operates M.tells pages (snapshot wears (M.clock media.old) (M.contents media.old)) (snapshot wears (M.clock media.new) (M.contents media.new)) }
     ensures geometry { M.geometry media.new ≡ M.geometry media.old }
     ensures counts { Counted M.clock M.read_faults M.write_faults media.old media.new (result ≡ VirtualWrite.Fault) }
 {
@@ -96,6 +98,7 @@ fn copy_one<M: Nand>(
     ensures crash { M.tells → (first : List (Option PlaceOf)) (image : Image) → place_of first v ≡ place_of copies.old.items v → IsUnmapped pages first target → ChangedIn pages target first image (M.contents media.old) → LeavesOnly M.clock M.left media.old media.new (λ m c. ChangedIn pages target first image c) }
     ensures lost { (w f : ℕ) → result ≡ VirtualWrite.Lost w f → (stamp_in_place (place_of copies.old.items v) ≡ Some w) × (f ≡ w → ⊥) }
     ensures kept { M.tells → IsLost result → ⊥ }
+    ensures operates { (wears : List ℕ) → wear_in wears target ≡ wear → Operates M.tells pages (snapshot wears (M.clock media.old) (M.contents media.old)) (snapshot wears (M.clock media.new) (M.contents media.new)) }
     ensures geometry { M.geometry media.new ≡ M.geometry media.old }
     ensures counts { Counted M.clock M.read_faults M.write_faults media.old media.new (result ≡ VirtualWrite.Fault) }
 {
@@ -174,6 +177,7 @@ pub fn copy_block<M: Nand>(
     ensures crash { M.tells → LeavesOnly M.clock M.left media.old media.new (λ m c. ChangedIn pages target copies.old.items (M.contents media.old) c) }
     ensures lost { (w f : ℕ) → result ≡ VirtualWrite.Lost w f → ((v : ℕ) × (stamp_in_place (place_of copies.old.items v) ≡ Some w)) × (f ≡ w → ⊥) }
     ensures kept { M.tells → IsLost result → ⊥ }
+    ensures operates { (wears : List ℕ) → wear_in wears target ≡ wear → Operates M.tells pages (snapshot wears (M.clock media.old) (M.contents media.old)) (snapshot wears (M.clock media.new) (M.contents media.new)) }
     ensures geometry { M.geometry media.new ≡ M.geometry media.old }
     ensures counts { Counted M.clock M.read_faults M.write_faults media.old media.new (result ≡ VirtualWrite.Fault) }
 {

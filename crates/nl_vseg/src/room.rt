@@ -3,11 +3,12 @@ ghost use Rattle.std.specs.Prelude.{◌≡◌, ◌⊎◌, ℕ, ◌+◌, ◌*◌,
 ghost use Rattle.nl_field.specs.Page.{erased, page_at};
 ghost use Rattle.nl_blocks.specs.Table.{block_at, free_count};
 ghost use Rattle.nl_vseg.specs.Places.{IsUnmapped, map_of, stamp_for};
-ghost use Rattle.nl_vseg.specs.Layout.{IsLayoutOf, HasSpare, SameShape, TakenAsErased, block_is_free, bound, is_soiled, room};
+ghost use Rattle.nl_vseg.specs.Layout.{IsLayoutOf, HasSpare, SameShape, TakenAsErased, block_is_free, bound, is_soiled, room, wears_of};
 ghost use Rattle.nl_vseg.specs.Seen.{seen, IsFormed, FitsLayout};
 ghost use Rattle.nl_vseg.specs.Copying.{HasHole, Restated, SameUse, StaysOrErased};
 ghost use Rattle.nl_vseg.specs.Effects.{Counted, KeepsMap};
 ghost use Rattle.nl_vseg.specs.Answers.{IsLost, LosesStamp};
+ghost use Rattle.nl_vseg.specs.Operations.{Operates, snapshot, wears_after};
 
 use crate::copy::{clear, copy_block};
 use crate::state::State;
@@ -17,12 +18,14 @@ use nl_field::VirtualWrite;
 use nl_nand::{Nand, WriteAnswer};
 
 /// Gives out the least worn Free block. There is one.
+#[tactic(auto, using(crate::proofs::Wears::wears_kept))]
 fn take(blocks: &mut Blocks) -> u32
     requires first { blocks.old.first ≡ 0 }
     requires free { 1 ≤ free_count blocks.old }
     ensures within { result < length blocks.old.blocks }
     ensures was_free { block_is_free blocks.old result ≡ true }
     ensures taken { Restated result false blocks.old blocks.new }
+    ensures wears { wears_of blocks.new ≡ wears_of blocks.old }
 {
     let taken = if blocks.free() < 2 {
         blocks.take_reserve()
@@ -33,6 +36,21 @@ fn take(blocks: &mut Blocks) -> u32
         Some(block) => block,
         None => unreachable!(),
     }
+}
+
+/// The block is Free: it was erased, or it is soiled.
+fn free_block(blocks: &mut Blocks, block: u32, soiled: bool)
+    requires first { blocks.old.first ≡ 0 }
+    requires within { block < length blocks.old.blocks }
+    ensures states { Restated block true blocks.old blocks.new }
+    ensures kept { soiled ≡ true → wears_of blocks.new ≡ wears_of blocks.old }
+    ensures worn { soiled ≡ false → wears_of blocks.new ≡ wears_after WriteAnswer.Done block (wears_of blocks.old) }
+{
+    if soiled {
+        blocks.freed(block, 0);
+        return;
+    }
+    blocks.erased(block, 0);
 }
 
 fn is_free(blocks: &Blocks, block: u32) -> bool
@@ -61,7 +79,7 @@ pub fn set_wear(blocks: &mut Blocks, block: u32, wear: u32)
 }
 
 impl State {
-    /// A block that holds no page of the map is Free, and erased before use where it is soiled.
+    /// A block that holds no page of the map is Free. It was erased, or it is soiled and erased before use.
     fn set_free(&mut self, block: u32, soiled: bool)
         requires formed { IsFormed self.old }
         requires within { block < length self.old.blocks.blocks }
@@ -72,10 +90,12 @@ impl State {
         ensures used { self.new.used ≡ self.old.used }
         ensures active { self.new.active ≡ self.old.active }
         ensures states { Restated block true self.old.blocks self.new.blocks }
+        ensures kept { soiled ≡ true → wears_of self.new.blocks ≡ wears_of self.old.blocks }
+        ensures worn { soiled ≡ false → wears_of self.new.blocks ≡ wears_after WriteAnswer.Done block (wears_of self.old.blocks) }
         ensures soiled { is_soiled (seen self.new) block ≡ soiled }
         ensures erased { (p : ℕ) → TakenAsErased (seen self.new) p → (p / self.old.blocks.size ≡ block → soiled ≡ false) × ((p / self.old.blocks.size ≡ block → ⊥) → TakenAsErased (seen self.old) p) }
     {
-        self.blocks.erased(block, 0);
+        free_block(&mut self.blocks, block, soiled);
         self.soiled[block as usize] = soiled;
     }
 
@@ -96,6 +116,7 @@ impl State {
         ensures blank { M.tells → result ≡ WriteAnswer.Done → (p : ℕ) → p / self.old.blocks.size ≡ block → page_at (M.contents media.new) p ≡ erased }
         ensures others { M.tells → (p : ℕ) → (p / self.old.blocks.size ≡ block → ⊥) → page_at (M.contents media.new) p ≡ page_at (M.contents media.old) p }
         ensures map { M.tells → KeepsMap M.clock M.contents M.left self.old.blocks.size (bound (seen self.old)) (map_of self.old.places.items (M.contents media.old)) (map_of self.new.places.items (M.contents media.new)) media.old media.new }
+        ensures operates { Operates M.tells self.old.blocks.size (snapshot (wears_of self.old.blocks) (M.clock media.old) (M.contents media.old)) (snapshot (wears_of self.new.blocks) (M.clock media.new) (M.contents media.new)) }
         ensures geometry { M.geometry media.new ≡ M.geometry media.old }
         ensures counts { Counted M.clock M.read_faults M.write_faults media.old media.new (result ≡ WriteAnswer.Failed) }
     {
@@ -129,6 +150,7 @@ impl State {
         ensures blank { M.tells → IfSome result (λ block. (p : ℕ) → p / self.old.blocks.size ≡ block → page_at (M.contents media.new) p ≡ erased) }
         ensures others { M.tells → IfSome result (λ block. (p : ℕ) → (p / self.old.blocks.size ≡ block → ⊥) → page_at (M.contents media.new) p ≡ page_at (M.contents media.old) p) }
         ensures map { M.tells → KeepsMap M.clock M.contents M.left self.old.blocks.size (bound (seen self.old)) (map_of self.old.places.items (M.contents media.old)) (map_of self.new.places.items (M.contents media.new)) media.old media.new }
+        ensures operates { Operates M.tells self.old.blocks.size (snapshot (wears_of self.old.blocks) (M.clock media.old) (M.contents media.old)) (snapshot (wears_of self.new.blocks) (M.clock media.new) (M.contents media.new)) }
         ensures geometry { M.geometry media.new ≡ M.geometry media.old }
         ensures counts { Counted M.clock M.read_faults M.write_faults media.old media.new (IsNone result) }
     {
@@ -162,6 +184,7 @@ impl State {
         ensures segment { M.tells → IsLayoutOf (M.contents media.new) (seen self.new) }
         ensures others { M.tells → result ≡ WriteAnswer.Done → StaysOrErased self.old.blocks.size self.new.active (M.contents media.old) (M.contents media.new) }
         ensures map { M.tells → KeepsMap M.clock M.contents M.left self.old.blocks.size (bound (seen self.old)) (map_of self.old.places.items (M.contents media.old)) (map_of self.new.places.items (M.contents media.new)) media.old media.new }
+        ensures operates { Operates M.tells self.old.blocks.size (snapshot (wears_of self.old.blocks) (M.clock media.old) (M.contents media.old)) (snapshot (wears_of self.new.blocks) (M.clock media.new) (M.contents media.new)) }
         ensures geometry { M.geometry media.new ≡ M.geometry media.old }
         ensures counts { Counted M.clock M.read_faults M.write_faults media.old media.new (result ≡ WriteAnswer.Failed) }
     {
@@ -183,13 +206,12 @@ impl State {
         ensures places { self.new.places.items ≡ self.old.places.items }
         ensures closed { self.new.used ≡ self.new.blocks.size }
         ensures states { Restated self.old.active true self.old.blocks self.new.blocks }
+        ensures wears { wears_of self.new.blocks ≡ wears_of self.old.blocks }
         ensures erased { (p : ℕ) → TakenAsErased (seen self.new) p → TakenAsErased (seen self.old) p × (p / self.old.blocks.size ≡ self.old.active → ⊥) }
     {
         let block = self.active;
-        let wear = self.blocks.wear(block);
         self.close(block);
         self.set_free(block, true);
-        set_wear(&mut self.blocks, block, wear);
     }
 
     /// Nothing more is programmed in this block before it is erased.
@@ -233,6 +255,7 @@ impl State {
         ensures map { M.tells → KeepsMap M.clock M.contents M.left self.old.blocks.size (bound (seen self.old)) (map_of self.old.places.items (M.contents media.old)) (map_of self.new.places.items (M.contents media.new)) media.old media.new }
         ensures lost { LosesStamp self.old.places.items result }
         ensures kept { M.tells → IsLost result → ⊥ }
+        ensures operates { Operates M.tells self.old.blocks.size (snapshot (wears_of self.old.blocks) (M.clock media.old) (M.contents media.old)) (snapshot (wears_of self.new.blocks) (M.clock media.new) (M.contents media.new)) }
         ensures geometry { M.geometry media.new ≡ M.geometry media.old }
         ensures counts { Counted M.clock M.read_faults M.write_faults media.old media.new (result ≡ VirtualWrite.Fault) }
     {
@@ -282,6 +305,7 @@ impl State {
         ensures map { M.tells → KeepsMap M.clock M.contents M.left self.old.blocks.size (bound (seen self.old)) (map_of self.old.places.items (M.contents media.old)) (map_of self.new.places.items (M.contents media.new)) media.old media.new }
         ensures lost { LosesStamp self.old.places.items result }
         ensures kept { M.tells → IsLost result → ⊥ }
+        ensures operates { Operates M.tells self.old.blocks.size (snapshot (wears_of self.old.blocks) (M.clock media.old) (M.contents media.old)) (snapshot (wears_of self.new.blocks) (M.clock media.new) (M.contents media.new)) }
         ensures geometry { M.geometry media.new ≡ M.geometry media.old }
         ensures counts { Counted M.clock M.read_faults M.write_faults media.old media.new (result ≡ VirtualWrite.Fault) }
     {
@@ -317,6 +341,7 @@ impl State {
         ensures numbers { SameShape (seen self.old) (seen self.new) }
         ensures segment { M.tells → IsLayoutOf (M.contents media.new) (seen self.new) }
         ensures map { M.tells → KeepsMap M.clock M.contents M.left self.old.blocks.size (bound (seen self.old)) (map_of self.old.places.items (M.contents media.old)) (map_of self.new.places.items (M.contents media.new)) media.old media.new }
+        ensures operates { Operates M.tells self.old.blocks.size (snapshot (wears_of self.old.blocks) (M.clock media.old) (M.contents media.old)) (snapshot (wears_of self.new.blocks) (M.clock media.new) (M.contents media.new)) }
         ensures geometry { M.geometry media.new ≡ M.geometry media.old }
         ensures counts { Counted M.clock M.read_faults M.write_faults media.old media.new (result ≡ WriteAnswer.Failed) }
     {
@@ -344,6 +369,7 @@ impl State {
         ensures map { M.tells → KeepsMap M.clock M.contents M.left self.old.blocks.size (bound (seen self.old)) (map_of self.old.places.items (M.contents media.old)) (map_of self.new.places.items (M.contents media.new)) media.old media.new }
         ensures lost { LosesStamp self.old.places.items result }
         ensures kept { M.tells → IsLost result → ⊥ }
+        ensures operates { Operates M.tells self.old.blocks.size (snapshot (wears_of self.old.blocks) (M.clock media.old) (M.contents media.old)) (snapshot (wears_of self.new.blocks) (M.clock media.new) (M.contents media.new)) }
         ensures geometry { M.geometry media.new ≡ M.geometry media.old }
         ensures counts { Counted M.clock M.read_faults M.write_faults media.old media.new (result ≡ VirtualWrite.Fault) }
     {

@@ -3,7 +3,8 @@ ghost use Rattle.std.specs.Prelude.{◌≡◌, ◌⊎◌, ℕ, ◌+◌, ◌*◌,
 ghost use Rattle.nl_blocks.specs.Table.{block_at, dead_count, free_count, is_sealed, page_at};
 ghost use Rattle.nl_vseg.specs.Places.{AreBelow, IsUnmapped, place_of};
 ghost use Rattle.nl_vseg.specs.declared.place.Place.{Place as PlaceOf};
-ghost use Rattle.nl_vseg.specs.Layout.{block_is_free};
+ghost use Rattle.nl_vseg.specs.Layout.{block_is_free, wears_of};
+ghost use Rattle.nl_victim.specs.Victims.{IsMostDead};
 ghost use Rattle.nl_vseg.specs.Copying.{mapped_in, HasHole, IsMarked, IsSettled, SameStates, SameUse};
 
 use crate::place::Place;
@@ -17,6 +18,7 @@ pub fn seal_used(blocks: &mut Blocks, block: u32)
     ensures states { SameUse blocks.old blocks.new }
     ensures here { block_is_free blocks.new block ≡ false → is_sealed (block_at blocks.new block) ≡ true }
     ensures wear { (other : ℕ) → (block_at blocks.new other).wear ≡ (block_at blocks.old other).wear }
+    ensures wears { wears_of blocks.new ≡ wears_of blocks.old }
     ensures others { (other : ℕ) → (other ≡ block → ⊥) → block_at blocks.new other ≡ block_at blocks.old other }
 {
     if matches!(blocks.state(block), BlockState::Free) {
@@ -29,6 +31,7 @@ pub fn seal_used(blocks: &mut Blocks, block: u32)
 fn seal_all(blocks: &mut Blocks)
     requires { blocks.old.first ≡ 0 }
     ensures states { SameUse blocks.old blocks.new }
+    ensures wears { wears_of blocks.new ≡ wears_of blocks.old }
     ensures sealed { (block : ℕ) → block < length blocks.new.blocks → block_is_free blocks.new block ≡ false → is_sealed (block_at blocks.new block) ≡ true }
 {
     for block in 0..blocks.count() {
@@ -83,6 +86,7 @@ fn settle(blocks: &mut Blocks, places: &Vec<Option<Place>>)
     requires first { blocks.old.first ≡ 0 }
     requires below { AreBelow (length blocks.old.blocks * blocks.old.size) places.now.items }
     ensures states { SameUse blocks.old blocks.new }
+    ensures wears { wears_of blocks.new ≡ wears_of blocks.old }
     ensures settled { IsSettled places.now.items blocks.new }
 {
     seal_all(blocks);
@@ -90,7 +94,8 @@ fn settle(blocks: &mut Blocks, places: &Vec<Option<Place>>)
     mark_live(blocks, places);
 }
 
-/// The block with the most pages that no address has, of those in use: it has one. At most one block is Free.
+/// The block with the most dead pages of those in use, where a page is dead that no address has: it has one. At most one block
+/// is Free.
 pub fn choose(blocks: &mut Blocks, places: &Vec<Option<Place>>) -> u32
     requires some { 0 < blocks.old.size }
     requires first { blocks.old.first ≡ 0 }
@@ -98,6 +103,9 @@ pub fn choose(blocks: &mut Blocks, places: &Vec<Option<Place>>) -> u32
     requires few { length places.now.items + 4 * blocks.old.size ≤ length blocks.old.blocks * blocks.old.size }
     requires free { free_count blocks.old ≤ 1 }
     ensures states { SameUse blocks.old blocks.new }
+    ensures wears { wears_of blocks.new ≡ wears_of blocks.old }
+    ensures settled { IsSettled places.now.items blocks.new }
+    ensures most { IsMostDead blocks.new result }
     ensures within { result < length blocks.old.blocks }
     ensures in_use { block_is_free blocks.old result ≡ false }
     ensures hole { HasHole blocks.old.size result places.now.items }

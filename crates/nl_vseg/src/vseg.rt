@@ -7,6 +7,7 @@ ghost use Rattle.nl_vseg.specs.Maps.{with_at};
 ghost use Rattle.nl_vseg.specs.Places.{AreBelow, map_of, place_of, stamp_for};
 ghost use Rattle.nl_vseg.specs.Segment.{Fits, IsSegmentOf, KeepsSpare, SameSize, is_blank, wear_of};
 ghost use Rattle.nl_vseg.specs.Effects.{Counted, Keeps, Programmed, Takes};
+ghost use Rattle.nl_vseg.specs.Operations.{Operates, snapshot};
 ghost use Rattle.nl_vseg.specs.Answers.{IsLost, LosesStamp, ReadsStamp, ReadsValue};
 
 use crate::state::State;
@@ -141,6 +142,7 @@ impl VSeg {
             (λ c. Takes self.old.pages self.old.bound (map_of self.old.places (M.contents media.old)) vaddr stamp from.now.main (M.contents media.old) c)) }
         ensures lost { LosesStamp self.old.places result }
         ensures kept { M.tells → IsLost result → ⊥ }
+        ensures operates { Operates M.tells self.old.pages (snapshot self.old.wears (M.clock media.old) (M.contents media.old)) (snapshot self.new.wears (M.clock media.new) (M.contents media.new)) }
         ensures geometry { M.geometry media.new ≡ M.geometry media.old }
         ensures ticks { result ≡ VirtualWrite.Done → Earlier (M.clock media.old) (M.clock media.new) }
         ensures counts { Counted M.clock M.read_faults M.write_faults media.old media.new (result ≡ VirtualWrite.Fault) }

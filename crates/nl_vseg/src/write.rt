@@ -4,12 +4,13 @@ ghost use Rattle.nl_field.specs.Spelling.{is_stamp};
 ghost use Rattle.nl_blocks.specs.Table.{block_at, free_count, is_sealed};
 ghost use Rattle.nl_vseg.specs.Maps.{with_at};
 ghost use Rattle.nl_vseg.specs.Places.{map_of, stamp_for};
-ghost use Rattle.nl_vseg.specs.Layout.{IsLayoutOf, HasSpare, SameShape, bound, room};
+ghost use Rattle.nl_vseg.specs.Layout.{IsLayoutOf, HasSpare, SameShape, bound, room, wears_of};
 ghost use Rattle.nl_vseg.specs.Segment.{Fits, IsSegmentOf, KeepsSpare, SameSize, wear_of};
 ghost use Rattle.nl_vseg.specs.Seen.{seen, segment_of, FitsLayout, IsFormed};
 ghost use Rattle.nl_vseg.specs.Copying.{SameUse};
 ghost use Rattle.nl_vseg.specs.Effects.{Counted, Keeps, Programmed, Takes};
 ghost use Rattle.nl_vseg.specs.Answers.{IsLost, LosesStamp};
+ghost use Rattle.nl_vseg.specs.Operations.{Operates, snapshot};
 
 use crate::pages::program_page;
 use crate::place::Place;
@@ -52,6 +53,7 @@ impl State {
         ensures crash { M.tells → LeavesOnly M.clock M.left media.old media.new (Turns (result ≡ WriteAnswer.Done) (M.clock media.new)
             (λ c. Keeps self.old.blocks.size (bound (seen self.old)) (map_of self.old.places.items (M.contents media.old)) (M.contents media.old) c)
             (λ c. Takes self.old.blocks.size (bound (seen self.old)) (map_of self.old.places.items (M.contents media.old)) vaddr stamp from.now.main (M.contents media.old) c)) }
+        ensures operates { Operates M.tells self.old.blocks.size (snapshot (wears_of self.old.blocks) (M.clock media.old) (M.contents media.old)) (snapshot (wears_of self.new.blocks) (M.clock media.new) (M.contents media.new)) }
         ensures geometry { M.geometry media.new ≡ M.geometry media.old }
         ensures ticks { result ≡ WriteAnswer.Done → Earlier (M.clock media.old) (M.clock media.new) }
         ensures counts { Counted M.clock M.read_faults M.write_faults media.old media.new (result ≡ WriteAnswer.Failed) }
@@ -97,6 +99,7 @@ impl State {
         ensures crash { M.tells → LeavesOnly M.clock M.left media.old media.new (Turns (result ≡ WriteAnswer.Done) (M.clock media.new)
             (λ c. Keeps self.old.blocks.size (bound (seen self.old)) (map_of self.old.places.items (M.contents media.old)) (M.contents media.old) c)
             (λ c. Takes self.old.blocks.size (bound (seen self.old)) (map_of self.old.places.items (M.contents media.old)) vaddr stamp from.now.main (M.contents media.old) c)) }
+        ensures operates { Operates M.tells self.old.blocks.size (snapshot (wears_of self.old.blocks) (M.clock media.old) (M.contents media.old)) (snapshot (wears_of self.new.blocks) (M.clock media.new) (M.contents media.new)) }
         ensures geometry { M.geometry media.new ≡ M.geometry media.old }
         ensures ticks { result ≡ WriteAnswer.Done → Earlier (M.clock media.old) (M.clock media.new) }
         ensures counts { Counted M.clock M.read_faults M.write_faults media.old media.new (result ≡ WriteAnswer.Failed) }
@@ -141,6 +144,7 @@ impl State {
             (λ c. Takes self.old.blocks.size (bound (seen self.old)) (map_of self.old.places.items (M.contents media.old)) vaddr stamp from.now.main (M.contents media.old) c)) }
         ensures lost { LosesStamp self.old.places.items result }
         ensures kept { M.tells → IsLost result → ⊥ }
+        ensures operates { Operates M.tells self.old.blocks.size (snapshot (wears_of self.old.blocks) (M.clock media.old) (M.contents media.old)) (snapshot (wears_of self.new.blocks) (M.clock media.new) (M.contents media.new)) }
         ensures geometry { M.geometry media.new ≡ M.geometry media.old }
         ensures ticks { result ≡ VirtualWrite.Done → Earlier (M.clock media.old) (M.clock media.new) }
         ensures counts { Counted M.clock M.read_faults M.write_faults media.old media.new (result ≡ VirtualWrite.Fault) }

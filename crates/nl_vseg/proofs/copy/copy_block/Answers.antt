@@ -8,6 +8,7 @@ use Rattle.nl_vseg.specs.Copying.{target_at, AreTargets, IsAt, LeavesHole}
 use Rattle.nl_vseg.proofs.Copies.{used_below, fresh_page, hole_left, new_targets, no_target}
 use Rattle.nl_vseg.proofs.Counts.{counted_as, counted_start, counted_then}
 use Rattle.nl_vseg.proofs.Images.{changed_none}
+use Rattle.nl_vseg.proofs.Operating.{operates_both, operates_none}
 use Rattle.nl_vseg.proofs.Places.{named_within}
 use Rattle.nl_vseg.proofs.copy.copy_block.Goals as goal
 
@@ -27,6 +28,7 @@ loop-v-init g c = record {
   map = λ t u. refl;
   changed = λ t. changed_none c.args.pages c.args.target c.args.copies.now.items (g.M.Nand.contents c.args.media.now);
   crash = λ t. record { later = omega arith; each = λ m img l. inl l };
+  operates = λ wears is. operates_none refl;
   geometry = refl;
   counts = counted_start c.args.media.now (λ b. b);
 }
@@ -76,6 +78,7 @@ loop-v-preserved g c =
       map = λ t u. e.map t done u ∙ i.map t u;
       changed = λ t. e.changed t c.args.copies.now.items (g.M.Nand.contents c.args.media.now) (sym (i.behind c.loop-v.v here)) c.requires.unmapped (i.changed t);
       crash = λ t. then _ (i.crash t) (e.crash t c.args.copies.now.items (g.M.Nand.contents c.args.media.now) (sym (i.behind c.loop-v.v here)) c.requires.unmapped (i.changed t));
+      operates = λ wears is. operates_both (i.operates wears is) (e.operates wears is);
       geometry = e.geometry ∙ i.geometry;
       counts = counted_as (λ f. absurd (cc (f, done))) (λ b. absurd b) (counted_then (λ b. b) i.counts e.counts);
     }
@@ -94,3 +97,15 @@ pub returns-clause-used : goal.returns-clause-used
 returns-clause-used g c =
     let i = c.loop-v.invariant in
     used_below i.targets (hole_left c.loop-v.v c.loop-v.v c.requires.some i.hole i.sources)
+
+pub returns-in-Lost-clause-operates : goal.returns-in-Lost-clause-operates
+returns-in-Lost-clause-operates g c wears is = operates_both (c.loop-v.invariant.operates wears is) (c.copy_one.ensures.operates wears is)
+
+pub returns-in-Fault-clause-operates : goal.returns-in-Fault-clause-operates
+returns-in-Fault-clause-operates g c wears is = operates_both (c.loop-v.invariant.operates wears is) (c.copy_one.ensures.operates wears is)
+
+pub returns-in-Fault-clause-crash : goal.returns-in-Fault-clause-crash
+returns-in-Fault-clause-crash g c t =
+    let i = c.loop-v.invariant in
+    let here : c.loop-v.v ≤ c.loop-v.v = omega arith in
+    then _ (i.crash t) (c.copy_one.ensures.crash t c.args.copies.now.items (g.M.Nand.contents c.args.media.now) (sym (i.behind c.loop-v.v here)) c.requires.unmapped (i.changed t))

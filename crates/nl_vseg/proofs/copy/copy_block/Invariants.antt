@@ -1,10 +1,11 @@
-use Rattle.std.proofs.Common.{◌≡◌, ℕ, ◌+◌, ◌*◌, ◌<◌, ◌≤◌, Some, length}
+use Rattle.std.proofs.Common.{◌≡◌, ℕ, ◌+◌, ◌*◌, ◌<◌, ◌≤◌, Some, List, length}
 use Rattle.nl_field.specs.CrashStates.{LeavesOnly}
 use Rattle.nl_nand.specs.Nand.{ErasedWithin}
 use Rattle.nl_vseg.specs.Places.{Holds, map_of, place_of, stamp_in_place}
 use Rattle.nl_vseg.specs.Layout.{ArePlaces}
 use Rattle.nl_vseg.specs.Copying.{target_at, AreTargets, ChangedIn, HasHole, IsAt, IsMovedPlace}
 use Rattle.nl_vseg.specs.Effects.{Counted}
+use Rattle.nl_vseg.specs.Operations.{Operates, snapshot, wear_in}
 use Rattle.nl_vseg.proofs.copy.copy_block.Given as goal
 
 abbrev pub invariant-loop-v : goal.invariant-loop-v
@@ -22,6 +23,8 @@ invariant-loop-v g l = record {
   map : g.M.Nand.tells → (u : ℕ) → map_of l.copies.items (g.M.Nand.contents l.media) u ≡ map_of l.initial.copies.items (g.M.Nand.contents l.initial.media) u;
   changed : g.M.Nand.tells → ChangedIn l.fn.pages l.fn.target l.initial.copies.items (g.M.Nand.contents l.initial.media) (g.M.Nand.contents l.media);
   crash : g.M.Nand.tells → LeavesOnly g.M.Nand.clock g.M.Nand.left l.initial.media l.media (λ m c. ChangedIn l.fn.pages l.fn.target l.initial.copies.items (g.M.Nand.contents l.initial.media) c);
+  operates : (wears : List ℕ) → wear_in wears l.fn.target ≡ l.fn.wear
+      → Operates g.M.Nand.tells l.fn.pages (snapshot wears (g.M.Nand.clock l.initial.media) (g.M.Nand.contents l.initial.media)) (snapshot wears (g.M.Nand.clock l.media) (g.M.Nand.contents l.media));
   geometry : g.M.Nand.geometry l.media ≡ g.M.Nand.geometry l.initial.media;
   counts : Counted g.M.Nand.clock g.M.Nand.read_faults g.M.Nand.write_faults l.initial.media l.media ⊥;
 }

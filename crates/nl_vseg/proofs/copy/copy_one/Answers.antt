@@ -1,9 +1,11 @@
-use Rattle.std.proofs.Common.{inr, ◌+◌, ◌*◌, ◌%◌, ◌<◌, ◌≤◌, Some, sym, ◌∙◌, subst, arith, refl}
+use Rattle.std.proofs.Common.{inr, get_or, ap, ◌+◌, ◌*◌, ◌%◌, ◌<◌, ◌≤◌, Some, sym, ◌∙◌, subst, arith, refl}
 use Rattle.std.proofs.lemmas.Option.{same_Some}
 use Rattle.nl_vseg.specs.Places.{place_of}
 use Rattle.nl_vseg.specs.declared.place.Place.{Place as PlaceOf}
 use Rattle.nl_nand.specs.ImageLaws.{filled_cut}
 use Rattle.nl_nand.proofs.Crashes.{weaken}
+use Rattle.std.proofs.lemmas.Nat.{div-mul-add}
+use Rattle.nl_vseg.proofs.Operating.{operates_none}
 use Rattle.nl_vseg.proofs.Places.{named_by, next_placed, used_placed, place_here, block_below}
 use Rattle.nl_vseg.proofs.Copies.{used_below, target_program, not_copied, copied_at, room_left, targets_more, targets_grown, copied_holds, copied_map, copied_changed}
 use Rattle.nl_vseg.proofs.copy.copy_one.Goals as goal
@@ -156,3 +158,24 @@ returns-in-Done-clause-crash g c t first image same unmapped changed =
     weaken _ _ (c.copy_page.ensures.crash t) (λ m img from to cut.
     copied_changed c.args.pages c.args.target c.args.used.now (c.args.target * c.args.pages + c.args.used.now) c.args.v c.in-Some.place c.args.copies.now.items (g.M.Nand.contents c.args.media.now) img
     refl room c.requires.vaddr named (c.requires.holds t) (c.requires.erased t) c.args.wear first image same unmapped changed (c.copy_page.ensures.copied t) cut)
+
+pub returns-in_default-clause-operates : goal.returns-in_default-clause-operates
+returns-in_default-clause-operates g c wears is = operates_none refl
+
+pub returns-then-place-pages-clause-operates : goal.returns-then-place-pages-clause-operates
+returns-then-place-pages-clause-operates g c wears is = operates_none refl
+
+pub returns-in-Some-index-clause-operates : goal.returns-in-Some-index-clause-operates
+returns-in-Some-index-clause-operates g c wears is = operates_none refl
+
+pub returns-in-Lost-clause-operates : goal.returns-in-Lost-clause-operates
+returns-in-Lost-clause-operates g c wears is =
+    c.copy_page.ensures.operates c.args.pages wears (ap (λ n. get_or wears n 0) (div-mul-add c.args.target c.args.pages c.args.used.now (used_below c.requires.targets c.requires.hole)) ∙ is)
+
+pub returns-in-Fault-clause-operates : goal.returns-in-Fault-clause-operates
+returns-in-Fault-clause-operates g c wears is =
+    c.copy_page.ensures.operates c.args.pages wears (ap (λ n. get_or wears n 0) (div-mul-add c.args.target c.args.pages c.args.used.now (used_below c.requires.targets c.requires.hole)) ∙ is)
+
+pub returns-in-Done-clause-operates : goal.returns-in-Done-clause-operates
+returns-in-Done-clause-operates g c wears is =
+    c.copy_page.ensures.operates c.args.pages wears (ap (λ n. get_or wears n 0) (div-mul-add c.args.target c.args.pages c.args.used.now (used_below c.requires.targets c.requires.hole)) ∙ is)

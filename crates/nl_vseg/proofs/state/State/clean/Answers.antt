@@ -1,9 +1,10 @@
-use Rattle.std.proofs.Common.{◌*◌, List, Option, length, sym, ◌∙◌, ap, subst}
+use Rattle.std.proofs.Common.{◌*◌, List, Option, length, refl, sym, ◌∙◌, ap, subst}
 use Rattle.nl_blocks.specs.Table.{Table}
 use Rattle.nl_vseg.specs.Places.{IsUnmapped}
 use Rattle.nl_vseg.specs.Seen.{seen}
 use Rattle.nl_vseg.specs.declared.place.Place.{Place}
 use Rattle.nl_vseg.proofs.Counts.{keeps_then}
+use Rattle.nl_vseg.proofs.Operating.{operates_as, operates_both, operates_still}
 use Rattle.nl_vseg.proofs.Segments.{below_of, free_unmapped, keeps_as}
 use Rattle.nl_vseg.proofs.state.State.clean.Goals as goal
 
@@ -20,6 +21,36 @@ move_pages-requires-clause-unmapped g c =
     subst (λ n. IsUnmapped n c.start.new.self.places.items c.start.new.self.active) (sym size)
     (subst (λ (l : List (Option Place)). IsUnmapped seg.table.size l c.start.new.self.active) (sym e.places)
     (free_unmapped seg c.requires.formed.segment c.start.new.self.active (sym (s.free c.start.new.self.active) ∙ e.was_free done)))
+
+pub returns-in-Lost-clause-operates : goal.returns-in-Lost-clause-operates
+returns-in-Lost-clause-operates g c =
+    let s = c.choose-victim.ensures.states.numbers in
+    let n = (c.start.ensures.taken c.in-Done.is).numbers in
+    operates_both (operates_both (operates_still _ _ _ _ _ _ c.choose-victim.ensures.wears refl refl) (operates_as s.same_size c.start.ensures.operates)) (operates_as (n.same_size ∙ s.same_size) c.move_pages.ensures.operates)
+
+pub returns-in-Fault-clause-operates : goal.returns-in-Fault-clause-operates
+returns-in-Fault-clause-operates g c =
+    let s = c.choose-victim.ensures.states.numbers in
+    let n = (c.start.ensures.taken c.in-Done.is).numbers in
+    operates_both (operates_both (operates_still _ _ _ _ _ _ c.choose-victim.ensures.wears refl refl) (operates_as s.same_size c.start.ensures.operates)) (operates_as (n.same_size ∙ s.same_size) c.move_pages.ensures.operates)
+
+pub returns-in-Done-erase-clause-operates : goal.returns-in-Done-erase-clause-operates
+returns-in-Done-erase-clause-operates g c =
+    let s = c.choose-victim.ensures.states.numbers in
+    let n = (c.start.ensures.taken c.in-Done.is).numbers in
+    let size = n.same_size ∙ s.same_size in
+    let size_2 = ap (λ (b : Table). b.size) (c.move_pages.ensures.table c.in-Done-move_pages.is) ∙ size in
+    operates_both (operates_both (operates_both (operates_still _ _ _ _ _ _ c.choose-victim.ensures.wears refl refl) (operates_as s.same_size c.start.ensures.operates)) (operates_as size c.move_pages.ensures.operates))
+    (operates_as size_2 c.erase.ensures.operates)
+
+pub returns-in-Failed-erase-clause-operates : goal.returns-in-Failed-erase-clause-operates
+returns-in-Failed-erase-clause-operates g c =
+    let s = c.choose-victim.ensures.states.numbers in
+    let n = (c.start.ensures.taken c.in-Done.is).numbers in
+    let size = n.same_size ∙ s.same_size in
+    let size_2 = ap (λ (b : Table). b.size) (c.move_pages.ensures.table c.in-Done-move_pages.is) ∙ size in
+    operates_both (operates_both (operates_both (operates_still _ _ _ _ _ _ c.choose-victim.ensures.wears refl refl) (operates_as s.same_size c.start.ensures.operates)) (operates_as size c.move_pages.ensures.operates))
+    (operates_as size_2 c.erase.ensures.operates)
 
 pub returns-in-Fault-clause-map : goal.returns-in-Fault-clause-map
 returns-in-Fault-clause-map g c t =

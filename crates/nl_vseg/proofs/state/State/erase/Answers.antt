@@ -1,10 +1,14 @@
-use Rattle.std.proofs.Common.{length, true, false, sym, subst}
+use Rattle.std.proofs.Common.{◌+◌, ◌*◌, length, true, false, refl, sym, subst}
+use Rattle.nl_field.specs.Page.{erased}
+use Rattle.nl_nand.specs.Nand.{Leaves}
+use Rattle.nl_nand.specs.declared.answers.WriteAnswer.TheVariants.{Done, Failed}
 use Rattle.std.proofs.lemmas.Bool.{true≢false}
 use Rattle.nl_nand.specs.ImageLaws.{filled_cut}
 use Rattle.nl_vseg.specs.Places.{map_of}
-use Rattle.nl_vseg.specs.Layout.{bound}
+use Rattle.nl_vseg.specs.Layout.{bound, wears_of}
 use Rattle.nl_vseg.specs.Seen.{seen}
 use Rattle.nl_vseg.specs.Effects.{KeepsMap}
+use Rattle.nl_vseg.proofs.Operating.{operates_block}
 use Rattle.nl_vseg.proofs.Places.{beside_of}
 use Rattle.nl_vseg.proofs.Segments.{erase_segment, erase_keeps, erased_inside, erased_outside, below_of}
 use Rattle.nl_vseg.proofs.state.State.erase.Goals as goal
@@ -49,3 +53,15 @@ returns-in-Failed-clause-map g c t =
     (sym c.set_free-in-Failed.ensures.places)
     (erase_keeps c.args.block (g.M.Nand.geometry c.args.media.now).pages seg.table.size (length seg.table.blocks) seg.places c.erase.result c.requires.fits.pages c.requires.within (c.requires.segment t).holds
     (below_of seg c.requires.formed.segment) c.requires.unmapped c.erase.ensures.crash (c.erase.ensures.effect t))
+
+pub returns-in-Done-clause-operates : goal.returns-in-Done-clause-operates
+returns-in-Done-clause-operates g c =
+    let size = c.args.self.now.blocks.size in
+    operates_block size c.args.block Done (wears_of c.args.self.now.blocks) (wears_of c.set_free.new.self.blocks) _ _ _ _ (c.set_free.ensures.worn refl) c.in-Done.ensures.counted.ticks
+    (λ t. subst (λ n. Leaves (c.args.block * n) (c.args.block * n + n) erased (g.M.Nand.contents c.args.media.now) Done (g.M.Nand.contents c.erase.new.self)) c.requires.fits.pages (c.in-Done.ensures.effect t))
+
+pub returns-in-Failed-clause-operates : goal.returns-in-Failed-clause-operates
+returns-in-Failed-clause-operates g c =
+    let size = c.args.self.now.blocks.size in
+    operates_block size c.args.block Failed (wears_of c.args.self.now.blocks) (wears_of c.set_free-in-Failed.new.self.blocks) _ _ _ _ (c.set_free-in-Failed.ensures.kept refl) c.in-Failed.ensures.counted.ticks
+    (λ t. subst (λ n. Leaves (c.args.block * n) (c.args.block * n + n) erased (g.M.Nand.contents c.args.media.now) Failed (g.M.Nand.contents c.erase.new.self)) c.requires.fits.pages (c.in-Failed.ensures.effect t))

@@ -1,7 +1,8 @@
-use Rattle.std.proofs.Common.{◌≡◌, length, sym, subst, arith}
+use Rattle.std.proofs.Common.{◌≡◌, length, refl, sym, subst, arith}
 use Rattle.nl_blocks.specs.Table.{free_count}
 use Rattle.nl_vseg.specs.Places.{IsUnmapped}
 use Rattle.nl_vseg.specs.Seen.{seen}
+use Rattle.nl_vseg.proofs.Operating.{operates_none}
 use Rattle.nl_vseg.proofs.Segments.{below_of, keeps_nothing}
 use Rattle.nl_vseg.proofs.state.State.free_one.Goals as goal
 
@@ -21,3 +22,6 @@ erase-requires-clause-unmapped g c =
     let none : free_count seg.table ≡ 0 = omega arith in
     subst (λ n. IsUnmapped n seg.places c.choose-block.result) (sym c.choose-block.ensures.states.numbers.same_size)
     (c.choose-block.ensures.unmapped none spare.block spare.within spare.unmapped)
+
+pub returns-then-free-gt0-clause-operates : goal.returns-then-free-gt0-clause-operates
+returns-then-free-gt0-clause-operates g c = operates_none refl

@@ -1,10 +1,11 @@
-use Rattle.std.proofs.Common.{◌+◌, ◌*◌, ◌≤◌, Bool, cond, length, sym, ap, subst, arith}
+use Rattle.std.proofs.Common.{◌+◌, ◌*◌, ◌≤◌, Bool, cond, length, refl, sym, ap, subst, arith}
 use Rattle.nl_blocks.specs.Table.{free_count}
 use Rattle.nl_field.specs.Page.{Image}
 use Rattle.nl_vseg.specs.Seen.{seen}
 use Rattle.nl_vseg.specs.Copying.{StaysOrErased}
 use Rattle.nl_vseg.proofs.Copies.{closed_segment, free_spare, room_free}
 use Rattle.nl_vseg.proofs.Counts.{keeps_then}
+use Rattle.nl_vseg.proofs.Operating.{operates_as, operates_both, operates_none}
 use Rattle.nl_vseg.proofs.Segments.{below_of, keeps_as, keeps_nothing}
 use Rattle.nl_vseg.proofs.state.State.make_room.Goals as goal
 
@@ -55,3 +56,15 @@ returns-in-Failed-start-clause-map g c t =
 
 pub returns-in-Failed-clause-spare : goal.returns-in-Failed-clause-spare
 returns-in-Failed-clause-spare g c = free_spare (seen c.free_one.new.self) c.free_one.ensures.formed.segment c.free_one.ensures.free
+
+pub returns-then-free-gt0-clause-operates : goal.returns-then-free-gt0-clause-operates
+returns-then-free-gt0-clause-operates g c = operates_none refl
+
+pub returns-then-free-lt2-clause-operates : goal.returns-then-free-lt2-clause-operates
+returns-then-free-lt2-clause-operates g c = operates_both c.free_one.ensures.operates (operates_as c.free_one.ensures.numbers.pages c.clean.ensures.operates)
+
+pub returns-in-Done-start-clause-operates : goal.returns-in-Done-start-clause-operates
+returns-in-Done-start-clause-operates g c = operates_both c.free_one.ensures.operates (operates_as c.free_one.ensures.numbers.pages c.start.ensures.operates)
+
+pub returns-in-Failed-start-clause-operates : goal.returns-in-Failed-start-clause-operates
+returns-in-Failed-start-clause-operates g c = operates_both c.free_one.ensures.operates (operates_as c.free_one.ensures.numbers.pages c.start.ensures.operates)

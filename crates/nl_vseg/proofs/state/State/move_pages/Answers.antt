@@ -1,15 +1,17 @@
 use Rattle.std.proofs.lemmas.List.{length-replicate}
-use Rattle.std.proofs.Common.{None, replicate, ◌≡◌, ◌+◌, ◌*◌, ◌<◌, ◌≤◌, List, Option, length, sym, ◌∙◌, ap, subst, arith, mul-le-mul_right}
+use Rattle.std.proofs.Common.{None, replicate, ◌≡◌, ◌+◌, ◌*◌, ◌<◌, ◌≤◌, List, Option, length, refl, sym, ◌∙◌, ap, subst, arith, mul-le-mul_right}
 use Rattle.nl_field.specs.CrashStates.{LeavesOnly}
 use Rattle.nl_nand.specs.Nand.{ErasedWithin}
 use Rattle.nl_vseg.specs.Places.{IsUnmapped, map_of}
-use Rattle.nl_vseg.specs.Layout.{ArePlaces, IsLayout, IsLayoutOf, bound}
+use Rattle.nl_vseg.specs.Layout.{ArePlaces, IsLayout, IsLayoutOf, bound, wears_of}
 use Rattle.nl_vseg.specs.Seen.{seen}
 use Rattle.nl_vseg.specs.Copying.{AreMoved, ChangedIn}
 use Rattle.nl_vseg.specs.Effects.{KeepsMap}
 use Rattle.nl_vseg.specs.declared.place.Place.{Place}
 use Rattle.nl_vseg.proofs.Copies.{widen, next_blank, used_segment, moved_segment, moved_unmapped, moved_image, changed_keeps, given_image, taken_beside}
+use Rattle.nl_vseg.proofs.Operating.{operates_as, operates_both, operates_still}
 use Rattle.nl_vseg.proofs.Segments.{below_of, map_same}
+use Rattle.nl_vseg.proofs.Views.{wear_at}
 use Rattle.nl_vseg.proofs.state.State.move_pages.Goals as goal
 
 pub copy_block-requires-clause-places : goal.copy_block-requires-clause-places
@@ -164,3 +166,16 @@ returns-in-Fault-clause-map g c t =
     subst (λ (l : List (Option Place)). KeepsMap g.M.Nand.clock g.M.Nand.contents g.M.Nand.left seg.table.size (bound seg) (map_of seg.places old) (map_of l new) c.args.media.now c.copy_block.new.media) (sym c.give_back-in-Fault.ensures.places)
     (changed_keeps seg.table.size (length seg.table.blocks) seg.active seg.places (map_of seg.places new) is.active_is (c.requires.segment t).holds (below_of seg is) c.requires.unmapped
     (map_same seg.places old new (λ v place named. changed.same place.page (c.requires.unmapped v place named))) changed crash)
+
+pub returns-in-Done-clause-operates : goal.returns-in-Done-clause-operates
+returns-in-Done-clause-operates g c = operates_as c.pages-pages.ensures (c.copy_block.ensures.operates (wears_of c.args.self.now.blocks) (wear_at c.args.self.now.blocks c.args.self.now.active c.requires.formed.segment.first ∙ sym c.wear-wear.ensures))
+
+pub returns-in-Lost-clause-operates : goal.returns-in-Lost-clause-operates
+returns-in-Lost-clause-operates g c =
+    operates_both (operates_as c.pages-pages.ensures (c.copy_block.ensures.operates (wears_of c.args.self.now.blocks) (wear_at c.args.self.now.blocks c.args.self.now.active c.requires.formed.segment.first ∙ sym c.wear-wear.ensures)))
+    (operates_still _ _ _ _ _ _ c.give_back.ensures.wears refl refl)
+
+pub returns-in-Fault-clause-operates : goal.returns-in-Fault-clause-operates
+returns-in-Fault-clause-operates g c =
+    operates_both (operates_as c.pages-pages.ensures (c.copy_block.ensures.operates (wears_of c.args.self.now.blocks) (wear_at c.args.self.now.blocks c.args.self.now.active c.requires.formed.segment.first ∙ sym c.wear-wear.ensures)))
+    (operates_still _ _ _ _ _ _ c.give_back-in-Fault.ensures.wears refl refl)

@@ -1,13 +1,16 @@
-use Rattle.std.proofs.Common.{◌+◌, ◌*◌, sym, ◌∙◌, ap, subst, arith, length-set, Some}
+use Rattle.std.proofs.Common.{◌≡◌, ◌+◌, ◌*◌, ◌/◌, get_or, sym, ◌∙◌, ap, subst, arith, length-set, Some}
 use Rattle.nl_field.specs.Page.{PageBytes, written}
 use Rattle.nl_nand.specs.ImageLaws.{filled_cut}
 use Rattle.nl_vseg.specs.Maps.{with_at}
 use Rattle.nl_vseg.specs.Pages.{page_with}
 use Rattle.nl_vseg.specs.Places.{map_of}
-use Rattle.nl_vseg.specs.Layout.{bound}
+use Rattle.nl_vseg.specs.Layout.{bound, wears_of}
 use Rattle.nl_vseg.specs.Seen.{seen}
 use Rattle.nl_vseg.specs.Effects.{Programmed}
+use Rattle.std.proofs.lemmas.Nat.{div-mul-add}
 use Rattle.nl_vseg.proofs.Blocks.{some_free}
+use Rattle.nl_vseg.proofs.Operating.{operates_page}
+use Rattle.nl_vseg.proofs.Views.{wear_at}
 use Rattle.nl_vseg.proofs.Writing.{more, spare_kept, spare_put, put_segment, can_program, after_cut, map_stays, after_new, map_new, programmed, put_either, put_takes, put_leaves}
 use Rattle.nl_vseg.proofs.state.State.program.Goals as goal
 
@@ -116,3 +119,21 @@ returns-in-Done-clause-crash g c t =
     put_leaves {contents = g.M.Nand.contents} seg c.requires.formed.segment c.requires.room (seg.active * c.pages.result + seg.used) (ap (λ n. seg.active * n + seg.used) c.pages.ensures) (c.requires.segment t) c.requires.free
     c.args.vaddr c.args.stamp c.wear-wear.result c.copy_from.new.self.main c.args.from.now.main (ap (λ (b : PageBytes). b.main) c.copy_from.ensures) c.program_page.ensures.shows
     _ c.program_page.result (λ done. c.in-Done.is) c.program_page.ensures.crash (c.program_page.ensures.effect t) c.program_page.ensures.clock
+
+pub returns-in-Failed-clause-operates : goal.returns-in-Failed-clause-operates
+returns-in-Failed-clause-operates g c =
+    let seg = seen c.args.self.now in
+    let first = c.requires.formed.segment.first in
+    let page = seg.active * c.pages.result + seg.used in
+    let at : page / seg.table.size ≡ seg.active = ap (λ n. (seg.active * n + seg.used) / seg.table.size) c.pages.ensures ∙ div-mul-add seg.active seg.table.size seg.used c.requires.room in
+    operates_page seg.table.size page c.args.vaddr c.args.stamp c.wear-wear.result c.copy_from.new.self.main c.program_page.result (wears_of seg.table) _ _ _ _
+    (ap (λ n. get_or (wears_of seg.table) n 0) at ∙ (wear_at seg.table seg.active first ∙ sym c.wear-wear.ensures)) c.program_page.ensures.clock c.program_page.ensures.effect
+
+pub returns-in-Done-clause-operates : goal.returns-in-Done-clause-operates
+returns-in-Done-clause-operates g c =
+    let seg = seen c.args.self.now in
+    let first = c.requires.formed.segment.first in
+    let page = seg.active * c.pages.result + seg.used in
+    let at : page / seg.table.size ≡ seg.active = ap (λ n. (seg.active * n + seg.used) / seg.table.size) c.pages.ensures ∙ div-mul-add seg.active seg.table.size seg.used c.requires.room in
+    operates_page seg.table.size page c.args.vaddr c.args.stamp c.wear-wear.result c.copy_from.new.self.main c.program_page.result (wears_of seg.table) _ _ _ _
+    (ap (λ n. get_or (wears_of seg.table) n 0) at ∙ (wear_at seg.table seg.active first ∙ sym c.wear-wear.ensures)) c.program_page.ensures.clock c.program_page.ensures.effect

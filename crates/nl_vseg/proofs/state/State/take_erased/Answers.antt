@@ -1,10 +1,13 @@
-use Rattle.std.proofs.Common.{◌<◌, length, false, refl, sym, ◌∙◌, subst}
+use Rattle.std.proofs.Common.{◌<◌, length, false, refl, sym, ◌∙◌, ap, subst}
 use Rattle.nl_blocks.specs.declared.states.BlockState.TheVariants.{Sealed}
 use Rattle.nl_blocks.specs.Table.{block_at, in_state}
+use Rattle.nl_vseg.specs.Layout.{wears_of}
 use Rattle.nl_vseg.specs.Places.{IsUnmapped}
 use Rattle.nl_vseg.specs.Seen.{seen}
 use Rattle.nl_vseg.specs.Copying.{Restated}
 use Rattle.nl_vseg.proofs.Blocks.{restated}
+use Rattle.nl_vseg.proofs.Operating.{operates_as, operates_both, operates_still}
+use Rattle.nl_vseg.proofs.Wears.{wears_kept}
 use Rattle.nl_vseg.proofs.Segments.{keeps_nothing, below_of, free_unmapped, segment_fewer, sealed_taken}
 use Rattle.nl_vseg.proofs.state.State.take_erased.Goals as goal
 
@@ -28,3 +31,12 @@ returns-in-Done-clause-segment g c t =
     (sealed_taken old c.seal.new.self c.take-block.result
     (subst (Restated c.take-block.result false c.erase.new.self.blocks) (sym c.seal.ensures) (restated c.erase.new.self.blocks c.take-block.result (in_state (block_at c.erase.new.self.blocks c.take-block.result) Sealed) first within)))
     (c.in-Done.ensures.segment t)
+
+pub returns-then-not-index-clause-operates : goal.returns-then-not-index-clause-operates
+returns-then-not-index-clause-operates g c = operates_still _ _ _ _ _ _ c.take-block.ensures.wears refl refl
+
+pub returns-in-Done-clause-operates : goal.returns-in-Done-clause-operates
+returns-in-Done-clause-operates g c =
+    let mid = c.erase.new.self.blocks in
+    operates_both (operates_both (operates_still _ _ _ _ _ _ c.take-block.ensures.wears refl refl) (operates_as c.take-block.ensures.taken.numbers.same_size c.erase.ensures.operates))
+    (operates_still _ _ _ _ _ _ (ap wears_of c.seal.ensures ∙ wears_kept mid c.take-block.result (in_state (block_at mid c.take-block.result) Sealed) refl) refl refl)

@@ -9,6 +9,7 @@ use Rattle.nl_vseg.specs.Pages.{page_with}
 use Rattle.nl_vseg.specs.Effects.{Keeps, Takes, Programmed}
 use Rattle.nl_vseg.proofs.Copies.{resized}
 use Rattle.nl_vseg.proofs.Counts.{counted_as, counted_then, keeps_from, takes_from, keeps_turns, keeps_no_turn, turns_as}
+use Rattle.nl_vseg.proofs.Operating.{operates_as, operates_both}
 use Rattle.nl_vseg.proofs.Views.{layout_of, segment_from, spare_from, wear_at}
 use Rattle.nl_vseg.proofs.state.State.write.Goals as goal
 
@@ -117,3 +118,9 @@ returns-in-Failed-clause-spare g c = spare_from c.put.ensures.spare
 
 pub returns-in-Failed-clause-segment : goal.returns-in-Failed-clause-segment
 returns-in-Failed-clause-segment g c t = segment_from (c.put.ensures.segment t)
+
+pub returns-in-Done-put-clause-operates : goal.returns-in-Done-put-clause-operates
+returns-in-Done-put-clause-operates g c = operates_both c.make_room.ensures.operates (operates_as c.make_room.ensures.numbers.pages c.put.ensures.operates)
+
+pub returns-in-Failed-clause-operates : goal.returns-in-Failed-clause-operates
+returns-in-Failed-clause-operates g c = operates_both c.make_room.ensures.operates (operates_as c.make_room.ensures.numbers.pages c.put.ensures.operates)
