@@ -12,7 +12,7 @@ use Rattle.nl_field.specs.SpareRecord.{spare_bytes, spare_rec_of, fits_spare}
 use Rattle.nl_field.specs.declared.shape.Shape.{Shape}
 use Rattle.nl_field.specs.declared.spare.SpareRec.{SpareRec}
 use Rattle.nl_field.specs.declared.spare.SpareRec.TheVariants.{Virtual}
-use Rattle.nl_meta.specs.Consistent.{Member}
+use Rattle.nl_field.specs.Members.{Has}
 use Rattle.nl_meta.proofs.Lists.{some_in, true_false, none_some, member-some, some-member, member-filter, filter-member}
 use Rattle.nl_meta.proofs.WalkProofs.{nodes_some, nodes_fit}
 use Rattle.nl_core.specs.Fresh.{IsFresh, HasFreshPages, root_page, fresh_super}
@@ -23,7 +23,7 @@ use Rattle.nl_core.proofs.SpareProofs.{spare_by_copies}
 -- ---- lists with their numbers
 
 -- a numbered element stands at its number
-stands : {X : Type 0} (a : ℕ) (xs : List X) (p : ℕ × X) (d : X) → Member p (enumerate_from a xs) → (i : ℕ) × (p.0 ≡ a + i) × (slice_index_or xs i d ≡ p.1)
+stands : {X : Type 0} (a : ℕ) (xs : List X) (p : ℕ × X) (d : X) → Has (enumerate_from a xs) p → (i : ℕ) × (p.0 ≡ a + i) × (slice_index_or xs i d ≡ p.1)
 stands a [] p d m = absurd m
 stands a (x ∷ xs) p d (inl e) = (0, first a p.0 (ap (λ q. q.0) e), ap (λ q. q.1) e)
   where
@@ -35,13 +35,13 @@ stands a (x ∷ xs) p d (inr m) = let s = stands (a + 1) xs p d m in (suc s.0, n
     next a i k e = omega arith
 
 -- what stands in a list and is not its default is numbered
-numbered : {X : Type 0} (a : ℕ) (xs : List X) (i : ℕ) (x d : X) → slice_index_or xs i d ≡ x → x ≢ d → Member (a + i, x) (enumerate_from a xs)
+numbered : {X : Type 0} (a : ℕ) (xs : List X) (i : ℕ) (x d : X) → slice_index_or xs i d ≡ x → x ≢ d → Has (enumerate_from a xs) (a + i, x)
 numbered a [] i x d e far = absurd (far (sym e))
 numbered a (y ∷ ys) zero x d e far = inl (λ j. (same a j, e j))
   where
     same : (a : ℕ) → a ≡ a + 0
     same a = omega arith
-numbered a (y ∷ ys) (suc i) x d e far = inr (subst (λ (k : ℕ). Member (k, x) (enumerate_from (a + 1) ys)) (shift a i) (numbered (a + 1) ys i x d e far))
+numbered a (y ∷ ys) (suc i) x d e far = inr (subst (λ (k : ℕ). Has (enumerate_from (a + 1) ys) (k, x)) (shift a i) (numbered (a + 1) ys i x d e far))
   where
     shift : (a i : ℕ) → a + 1 + i ≡ a + suc i
     shift a i = omega arith
@@ -61,7 +61,7 @@ super_spare = spare-spelled (Virtual 0 2 0) refl refl
 
 past_root : (blocks pages : ℕ) → is_legal blocks pages ≡ true → 67 < (shape_for blocks pages).vaddrs
 unfolding shape_for
-past_root blocks pages legal = past (shape_for blocks pages).inode_pages (shape_for blocks pages).meta (shape_for blocks pages).nodes (nodes_some blocks pages legal) (nodes_fit blocks pages)
+past_root blocks pages legal = past (shape_for blocks pages).inode_pages (shape_for blocks pages).meta (shape_for blocks pages).nodes (nodes_some blocks pages legal) (nodes_fit blocks pages legal)
   where
     past : (i m n : ℕ) → 0 < n → n ≤ 16 * i → 67 < 67 + i + m
     past i m n some fit = omega arith
@@ -91,7 +91,7 @@ module _ (image : Image) (whole : IsTrue (is_image image)) (legal : IsTrue (is_l
   super_reads = ap (option_map (λ (rec : SpareRec). record { page = 1; rec = rec; main = fresh_super image.blocks image.pages })) super_spare
 
   -- no page but these two is readable
-  only : (r : Readable) → Member r (readable_pages image) → (the_root ≡ r) ⊎ (the_super ≡ r)
+  only : (r : Readable) → Has (readable_pages image) r → (the_root ≡ r) ⊎ (the_super ≡ r)
   unfolding readable_pages
   only r m = by (member-some readable (enumerate_from 0 image.contents) r m)
     where
@@ -103,16 +103,16 @@ module _ (image : Image) (whole : IsTrue (is_image image)) (legal : IsTrue (is_l
       from_0 : (k i : ℕ) → k ≡ 0 + i → i ≡ k
       from_0 k i e = omega arith
 
-      by : (x : ℕ × Page) × Member x (enumerate_from 0 image.contents) × (readable x ≡ Some r) → (the_root ≡ r) ⊎ (the_super ≡ r)
+      by : (x : ℕ × Page) × Has (enumerate_from 0 image.contents) x × (readable x ≡ Some r) → (the_root ≡ r) ⊎ (the_super ≡ r)
       by q =
           let s = stands 0 image.contents q.0 erased q.1 in
           at q.0.0 q.0.1 (subst (λ (k : ℕ). page_at image k ≡ q.0.1) (from_0 q.0.0 s.0 s.1) s.2) q.2
 
-  has_root : Member the_root (readable_pages image)
+  has_root : Has (readable_pages image) the_root
   unfolding readable_pages
   has_root = some-member readable (enumerate_from 0 image.contents) (0, written formatted_root) the_root (numbered 0 image.contents 0 (written formatted_root) erased formatted.root (not_erased formatted_root)) root_reads
 
-  has_super : Member the_super (readable_pages image)
+  has_super : Has (readable_pages image) the_super
   unfolding readable_pages
   has_super =
       some-member readable (enumerate_from 0 image.contents) (1, written (formatted_super image.blocks image.pages)) the_super
@@ -122,19 +122,19 @@ module _ (image : Image) (whole : IsTrue (is_image image)) (legal : IsTrue (is_l
   unfolding shape_for
   many_pages = mul-le-mul (two_blocks image.blocks image.pages) (limits image.blocks image.pages legal).2
 
-  virtual_root : Member the_root (virtual_pages image)
+  virtual_root : Has (virtual_pages image) the_root
   unfolding virtual_pages
   virtual_root =
       filter-member (λ r. nat_lt r.page (first_physical shape) && is_virtual_rec shape r.rec) (readable_pages image) the_root has_root
       (and_from _ _ (lt-ltb 0 (first_physical shape) (omega (arith, many_pages))) (lt-ltb 67 shape.vaddrs (past_root image.blocks image.pages legal)))
 
-  virtual_super : Member the_super (virtual_pages image)
+  virtual_super : Has (virtual_pages image) the_super
   unfolding virtual_pages
   virtual_super =
       filter-member (λ r. nat_lt r.page (first_physical shape) && is_virtual_rec shape r.rec) (readable_pages image) the_super has_super
       (and_from _ _ (lt-ltb 1 (first_physical shape) (omega (arith, many_pages))) (lt-ltb 0 shape.vaddrs (omega (arith, past_root image.blocks image.pages legal))))
 
-  only_virtual : (r : Readable) → Member r (virtual_pages image) → (the_root ≡ r) ⊎ (the_super ≡ r)
+  only_virtual : (r : Readable) → Has (virtual_pages image) r → (the_root ≡ r) ⊎ (the_super ≡ r)
   unfolding virtual_pages
   only_virtual r m = only r (member-filter (λ r. nat_lt r.page (first_physical shape) && is_virtual_rec shape r.rec) (readable_pages image) r m).0
 
@@ -146,7 +146,7 @@ module _ (image : Image) (whole : IsTrue (is_image image)) (legal : IsTrue (is_l
   not_physical r (inl e) is = true_false (sym is ∙ ap (λ (q : Readable). is_physical_rec q.rec) (sym e))
   not_physical r (inr e) is = true_false (sym is ∙ ap (λ (q : Readable). is_physical_rec q.rec) (sym e))
 
-  no_data : (r : Readable) → Member r (physical_pages image) → ⊥
+  no_data : (r : Readable) → Has (physical_pages image) r → ⊥
   unfolding physical_pages
   no_data r m = let q = member-filter _ (readable_pages image) r m in not_physical r (only r q.0) (and_parts _ _ q.1).1
 

@@ -13,13 +13,16 @@ use Rattle.nl_field.specs.Bytes.{all_zero, zeros}
 use Rattle.nl_field.specs.Examples.{root_inode}
 use Rattle.nl_field.specs.Graph.{GraphNode, directory_node}
 use Rattle.nl_field.specs.Inode.{inode_of, inode_bytes}
-use Rattle.nl_field.specs.Journal.{header_of, commit_of}
+use Rattle.nl_field.specs.Journal.{header_of}
 use Rattle.nl_field.specs.Medium.{Readable, stamp_on, virtual_pages, physical_pages, shape_of_image, readable_pages, is_virtual_rec, address_on, first_physical, address_of}
 use Rattle.nl_field.specs.Numbers.{is_legal, shape_for}
 use Rattle.nl_field.specs.Page.{Image}
 use Rattle.nl_field.specs.Pointers.{no_pointer}
 use Rattle.nl_field.specs.Scan.{without_wear}
-use Rattle.nl_field.specs.Space.{is_lost, virtual_spare, physical_spare, has_greatest_stamp, spare_block, is_outside}
+use Rattle.nl_field.specs.ScanList.{seen_in, physical_seen, is_lost_seen}
+use Rattle.nl_field.proofs.ScanLists.{virtual_spare_is, physical_spare_is}
+use Rattle.nl_meta.proofs.StampProofs.{same_virtual, same_physical}
+use Rattle.nl_field.specs.Space.{virtual_spare, physical_spare, has_greatest_stamp, spare_block, is_outside}
 use Rattle.nl_field.specs.SpareRecord.{spare_bytes, stamp_of}
 use Rattle.nl_field.specs.SuperPage.{super_of, fits_super}
 use Rattle.nl_field.specs.Virtual.{newest, virtual_bytes, or_first_in, is_inode_address}
@@ -33,9 +36,10 @@ use Rattle.nl_field.specs.declared.spare.SpareRec.{SpareRec}
 use Rattle.nl_field.specs.declared.spare.SpareRec.TheVariants.{Virtual, Physical}
 use Rattle.nl_tree.specs.Represents.{entries_in, node_named, node_reached, node_of, Represents}
 use Rattle.nl_tree.specs.Tree.{empty_tree}
-use Rattle.nl_meta.specs.Committed.{VirtualMap, committed_of, counting, committed, place_in, home_or_image, counts}
-use Rattle.nl_meta.specs.Consistent.{Member, NumbersRight, NamesPhysical, IsNode, NodesRight, PointersRight, AddressAt, AddressesRight, at_root, EntryAt, Reached, EntriesRight, StampsRight, MetadataRight, HasRoom}
-use Rattle.nl_meta.specs.Nodes.{inode_at, bytes_of_node, bytes_at, Held, super_of_pages, is_physical_name, committed_pointers, held_by, size_of, pointers_in, node_from, graph_of, pointers_of, entries_of_inode}
+use Rattle.nl_meta.specs.Committed.{VirtualMap, committed_of, counting, committed, place_in, home_or_image, counts, header_at, commit_at, within_volume}
+use Rattle.nl_field.specs.Members.{Has}
+use Rattle.nl_meta.specs.Consistent.{NumbersRight, NamesPhysical, IsNode, NodesRight, PointersRight, AddressAt, AddressesRight, at_root, EntryAt, Reached, EntriesRight, IsListed, StampsRight, MetadataRight, HasRoom}
+use Rattle.nl_meta.specs.Nodes.{inode_at, bytes_of_node, bytes_at, Held, super_of_pages, is_physical_name, held_in, held_by, size_of, pointers_in, node_from, graph_of, pointers_of, entries_of_inode}
 use Rattle.nl_meta.proofs.Lists.{some_in, true_false, none_some, none-any, each-all, member-find, find-some, range-member, member-filter, filter-member, member-flat}
 use Rattle.nl_meta.proofs.WalkProofs.{nodes_some, nodes_fit, names}
 use Rattle.nl_core.specs.Fresh.{FewFreshAreSound, IsFresh, HasFreshPages, root_page, fresh_super, FreshIsSound}
@@ -82,21 +86,21 @@ has_physical blocks pages legal = fewer blocks (div_ceil (67 + div_ceil (blocks 
 
 -- ---- lists
 
-no_member : {X : Type 0} (xs : List X) → ((x : X) → Member x xs → ⊥) → xs ≡ []
+no_member : {X : Type 0} (xs : List X) → ((x : X) → Has xs x → ⊥) → xs ≡ []
 no_member [] none = refl
 no_member (x ∷ xs) none = absurd (none x (inl refl))
 
-none_kept : {X : Type 0} (t : X → Bool) (xs : List X) → ((x : X) → Member x xs → t x ≡ false) → filter t xs ≡ []
+none_kept : {X : Type 0} (t : X → Bool) (xs : List X) → ((x : X) → Has xs x → t x ≡ false) → filter t xs ≡ []
 none_kept t xs off = no_member (filter t xs) (λ x m. let q = member-filter t xs x m in true_false (sym q.1 ∙ off x q.0))
 
-picked : (t : Readable → Bool) (xs : List Readable) (x : Readable) → Member x xs → (r : Readable) × Member r xs × (or_first_in xs (find t xs) ≡ Some r)
+picked : (t : Readable → Bool) (xs : List Readable) (x : Readable) → Has xs x → (r : Readable) × Has xs r × (or_first_in xs (find t xs) ≡ Some r)
 picked t xs x m = by (find t xs) refl
   where
-    first : (ys : List Readable) → Member x ys → (r : Readable) × Member r ys × (or_first_in ys None ≡ Some r)
+    first : (ys : List Readable) → Has ys x → (r : Readable) × Has ys r × (or_first_in ys None ≡ Some r)
     first [] m = absurd m
     first (y ∷ ys) m = (y, inl refl, refl)
 
-    by : (o : Option Readable) → find t xs ≡ o → (r : Readable) × Member r xs × (or_first_in xs (find t xs) ≡ Some r)
+    by : (o : Option Readable) → find t xs ≡ o → (r : Readable) × Has xs r × (or_first_in xs (find t xs) ≡ Some r)
     by None e = let f = first xs m in (f.0, f.1, ap (or_first_in xs) e ∙ f.2)
     by (Some r) e = (r, (member-find t xs r e).0, ap (or_first_in xs) e)
 
@@ -138,7 +142,7 @@ module _ (image : Image) (fresh : HasFreshPages image) where
   pages = committed_of image
 
   -- pages of one address have one stamp and one content
-  alike : (r q : Readable) → Member r all_virtual → Member q all_virtual → address_on r ≡ address_on q → (stamp_on r ≡ stamp_on q) × (r.main ≡ q.main)
+  alike : (r q : Readable) → Has all_virtual r → Has all_virtual q → address_on r ≡ address_on q → (stamp_on r ≡ stamp_on q) × (r.main ≡ q.main)
   alike r q m n e = by (fresh.no_other r m) (fresh.no_other q n)
     where
       apart : (a b : ℕ) → a ≡ 67 → b ≡ 0 → a ≡ b → ⊥
@@ -150,17 +154,17 @@ module _ (image : Image) (fresh : HasFreshPages image) where
       by (inl a) (inr b) = absurd (apart (address_on r) (address_on q) a.0 b.0 e)
       by (inr a) (inl b) = absurd (apart (address_on q) (address_on r) b.0 a.0 (sym e))
 
-  is_greatest : (r : Readable) → Member r all_virtual → has_greatest_stamp all_virtual r ≡ true
+  is_greatest : (r : Readable) → Has all_virtual r → has_greatest_stamp all_virtual r ≡ true
   is_greatest r m = not_from_false _ (none-any _ all_virtual (λ q n. by q n (cases_eq (address_on q) (address_on r))))
     where
       not_less : (a b : ℕ) → a ≡ b → nat_lt b a ≡ false
       not_less a b e = le-ltb b a (omega arith)
 
-      by : (q : Readable) → Member q all_virtual → (address_on q ≡ address_on r) ⊎ (address_on q ≡ address_on r → ⊥) → (address_on q == address_on r && nat_lt (stamp_on r) (stamp_on q)) ≡ false
+      by : (q : Readable) → Has all_virtual q → (address_on q ≡ address_on r) ⊎ (address_on q ≡ address_on r → ⊥) → (address_on q == address_on r && nat_lt (stamp_on r) (stamp_on q)) ≡ false
       by q n (inl e) = ap (λ t. address_on q == address_on r && t) (not_less (stamp_on q) (stamp_on r) (alike q r n m e).0) ∙ elim (address_on q == address_on r) as (λ t. (t && false) ≡ false) [ true ↦ refl | false ↦ refl ]
       by q n (inr far) = ap (λ t. t && nat_lt (stamp_on r) (stamp_on q)) (ne_eqb _ _ far)
 
-  newest_there : (v : ℕ) (main : List ℕ) (r : Readable) → Member r all_virtual → address_on r ≡ v → r.main ≡ main → option_map (λ r. r.main) (newest image v) ≡ Some main
+  newest_there : (v : ℕ) (main : List ℕ) (r : Readable) → Has all_virtual r → address_on r ≡ v → r.main ≡ main → option_map (λ r. r.main) (newest image v) ≡ Some main
   unfolding newest
   newest_there v main r m e f =
       let xs = filter (λ r. address_on r == v && has_greatest_stamp all_virtual r) all_virtual in
@@ -193,8 +197,8 @@ module _ (image : Image) (fresh : HasFreshPages image) where
   bytes_zero v a b e = cond-true (is_inode_address shape v) _ _ e ∙ ap (λ (o : Option Readable). Some (unwrap_or (option_map (λ r. r.main) o) (zeros 4096))) (newest_not v a b)
 
   no_transaction : counting shape (virtual_bytes image) ≡ None
-  unfolding counting
-  no_transaction = ap (λ (o : Option (List ℕ)). option_and_then (λ header. option_and_then (λ commit. cond (counts shape (virtual_bytes image) header commit) (Some header) None) (option_and_then commit_of (virtual_bytes image 66))) (option_and_then header_of o)) (bytes_not 1 (not_67 1 refl) (not_0 1 refl) refl)
+  unfolding counting header_at
+  no_transaction = ap (λ (o : Option (List ℕ)). option_and_then (λ header. option_and_then (λ commit. cond (counts (virtual_bytes image) header commit) (Some header) None) (commit_at (virtual_bytes image))) (option_and_then (within_volume shape) (option_and_then header_of o))) (bytes_not 1 (not_67 1 refl) (not_0 1 refl) refl)
     where
       not_67 : (a : ℕ) → a ≡ 1 → a ≡ 67 → ⊥
       not_67 a x e = omega arith
@@ -232,7 +236,7 @@ module _ (image : Image) (fresh : HasFreshPages image) where
   some_nodes = nodes_some image.blocks image.pages fresh.legal
 
   nodes_within : shape.nodes ≤ 16 * shape.inode_pages
-  nodes_within = nodes_fit image.blocks image.pages
+  nodes_within = nodes_fit image.blocks image.pages fresh.legal
 
   zero_page : (k : ℕ) → 0 < k → k < shape.inode_pages → pages (67 + k) ≡ Some (zeros 4096)
   zero_page k some below = committed_is (67 + k) ∙ bytes_zero (67 + k) (λ e. off e some) (λ e. past e) (and_from _ _ (le-leb 67 (67 + k) (omega arith)) (lt-ltb (67 + k) (67 + shape.inode_pages) (omega (arith, below))))
@@ -321,10 +325,11 @@ module _ (image : Image) (fresh : HasFreshPages image) where
       fits : IsTrue (fits_super (record { version = 1; blocks = image.blocks; pages = image.pages; count = 0 }))
       fits = let r = limits image.blocks image.pages fresh.legal in and_from _ _ (lt-ltb image.blocks (2 ^ 32) (omega (arith, r.1))) (lt-ltb image.pages (2 ^ 32) (omega (arith, r.3)))
 
-  numbers_right : NumbersRight image (record { version = 1; blocks = image.blocks; pages = image.pages; count = 0 })
-  numbers_right = record { spelled = super_rec_of; blocks = refl; pages = refl; legal = fresh.legal }
+  numbers_right : NumbersRight shape pages (record { version = 1; blocks = image.blocks; pages = image.pages; count = 0 })
+  unfolding shape_for
+  numbers_right = record { spelled = super_rec_of; same_blocks = refl; same_pages = refl; legal = fresh.legal }
 
-  virtual_kind : (r : Readable) → Member r all_virtual → is_virtual_rec shape r.rec ≡ true
+  virtual_kind : (r : Readable) → Has all_virtual r → is_virtual_rec shape r.rec ≡ true
   unfolding virtual_pages
   virtual_kind r m = (and_parts _ _ (member-filter (λ r. nat_lt r.page (first_physical shape) && is_virtual_rec shape r.rec) (readable_pages image) r m).1).1
 
@@ -364,10 +369,10 @@ module _ (image : Image) (fresh : HasFreshPages image) where
           none_ok : (p : Pointer) → no_pointer ≡ p → is_physical_name shape p ≡ true
           none_ok p e = ap (is_physical_name shape) (sym e)
 
-          eight : (p : Pointer) → Member p (replicate 8 no_pointer) → is_physical_name shape p ≡ true
+          eight : (p : Pointer) → Has (replicate 8 no_pointer) p → is_physical_name shape p ≡ true
           eight p m = none_ok p (all_same 8 p m)
             where
-              all_same : (k : ℕ) (p : Pointer) → Member p (replicate k no_pointer) → no_pointer ≡ p
+              all_same : (k : ℕ) (p : Pointer) → Has (replicate k no_pointer) p → no_pointer ≡ p
               all_same zero p m = absurd m
               all_same (suc k) p (inl e) = e
               all_same (suc k) p (inr m) = all_same k p m
@@ -422,21 +427,22 @@ module _ (image : Image) (fresh : HasFreshPages image) where
       by (inl h) (inl k) = ap of (cond-true (nat_lt n shape.nodes) _ _ (lt-ltb _ _ h) ∙ unused_at n k h)
       by (inl h) (inr k) = ap of (cond-true (nat_lt n shape.nodes) _ _ (lt-ltb _ _ h) ∙ ap (inode_at pages) (zero_is k) ∙ root_at)
 
-  no_pointers : committed_pointers image ≡ []
-  unfolding committed_pointers pointers_of
+  no_pointers : held_in shape pages ≡ []
+  unfolding pointers_of
   no_pointers = no_member (flat_map (λ n. held_by n (graph_of shape pages n)) (range_with_len 0 shape.nodes)) (λ h m. by h (member-flat (λ n. held_by n (graph_of shape pages n)) (range_with_len 0 shape.nodes) h m))
     where
-      by : (h : Held) → (n : ℕ) × Member n (range_with_len 0 shape.nodes) × Member h (held_by n (graph_of shape pages n)) → ⊥
+      by : (h : Held) → (n : ℕ) × Has (range_with_len 0 shape.nodes) n × Has (held_by n (graph_of shape pages n)) h → ⊥
       by h r =
-          subst (λ (ps : List (ℕ × Pointer)). Member h (map (λ p. record { size = size_of (graph_of shape pages r.0).body; tag = record { ino = r.0; generation = (graph_of shape pages r.0).generation; index = p.0 }; pointer = p.1 }) ps))
+          subst (λ (ps : List (ℕ × Pointer)). Has (map (λ p. record { size = size_of (graph_of shape pages r.0).body; tag = record { ino = r.0; generation = (graph_of shape pages r.0).generation; index = p.0 }; pointer = p.1 }) ps) h)
           (no_pointers_in r.0) r.2
 
-  no_held : (h : Held) → Member h (committed_pointers image) → ⊥
-  no_held h m = subst (λ (hs : List Held). Member h hs) no_pointers m
+  no_held : (h : Held) → Has (held_in shape pages) h → ⊥
+  no_held h m = subst (λ (hs : List Held). Has hs h) no_pointers m
 
-  pointers_right : PointersRight image
+  pointers_right : PointersRight (held_in shape pages) (IsListed (physical_seen shape (seen_in image)))
   pointers_right = record {
-    good = λ h m. absurd (no_held h m);
+    below = λ h m. absurd (no_held h m);
+    there = λ h m. absurd (no_held h m);
     stamps_differ = λ h k m n e. absurd (no_held h m);
     names_differ = λ h k m n e. absurd (no_held h m);
   }
@@ -445,25 +451,26 @@ module _ (image : Image) (fresh : HasFreshPages image) where
   metadata_right = record {
     super_rec = record { version = 1; blocks = image.blocks; pages = image.pages; count = 0 };
     numbers = numbers_right;
-    virtual_stamps = virtual_right;
-    physical_stamps = λ r q m n s. absurd (fresh.no_data r m);
-    nodes = nodes_right;
-    addresses = addresses_right;
-    entries = entries_right;
-    pointers = pointers_right;
+    virtual_stamps = (same_virtual image).1 virtual_right;
+    physical_stamps = (same_physical image).1 (λ r q m n s. absurd (fresh.no_data r m));
+    tree = record { nodes = nodes_right; addresses = addresses_right; entries = entries_right; pointers = pointers_right };
   }
 
   -- ---- room, and the tree
 
-  data_spare : IsSome (physical_spare image (map (λ h. h.pointer.stamp) (committed_pointers image)))
+  data_spare : (stamps : List ℕ) → IsSome (physical_spare image stamps)
   unfolding physical_spare spare_block
-  data_spare =
-      ap is_some (find-some (λ block. list_all (λ r. not (r.page / image.pages == block && list_any (λ s. s == stamp_on r) (map (λ h. h.pointer.stamp) (committed_pointers image))) || list_any (λ q. not (q.page / image.pages == block) && stamp_on q == stamp_on r) (physical_pages image)) (physical_pages image))
+  data_spare stamps =
+      ap is_some (find-some (λ block. list_all (λ r. not (r.page / image.pages == block && list_any (λ s. s == stamp_on r) stamps) || list_any (λ q. not (q.page / image.pages == block) && stamp_on q == stamp_on r) (physical_pages image)) (physical_pages image))
       (range_with_len shape.vblocks shape.pblocks) shape.vblocks (range-member shape.vblocks shape.vblocks shape.pblocks (omega arith) (omega (arith, has_physical image.blocks image.pages fresh.legal)))
       (each-all _ (physical_pages image) (λ r m. absurd (fresh.no_data r m)))).1
 
   room : IsSome (virtual_spare image) → HasRoom image
-  room spare = record { virtual_room = spare; physical_room = data_spare; few_lost = subst (λ (hs : List Held). count_by (λ h. is_lost image h.pointer) hs ≤ 3 * image.pages) (sym no_pointers) (omega arith) }
+  room spare = record {
+    virtual_room = subst IsSome (sym (virtual_spare_is image)) spare;
+    physical_room = subst IsSome (sym (physical_spare_is image (map (λ h. h.pointer.stamp) (held_in shape pages)))) (data_spare (map (λ h. h.pointer.stamp) (held_in shape pages)));
+    few_lost = subst (λ (hs : List Held). count_by (λ h. is_lost_seen shape (seen_in image) h.pointer) hs ≤ 3 * shape.pages) (sym no_pointers) (omega arith);
+  }
 
   empty_depicted : Represents (bytes_found image) (graph_of shape pages) empty_tree
   unfolding node_reached

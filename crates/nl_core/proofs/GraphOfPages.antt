@@ -14,7 +14,8 @@ use Rattle.nl_tree.specs.Represents.{entries_in, node_named, node_reached}
 use Rattle.nl_tree.proofs.ChangeProofs.{Path, reached_step, at_end, root_reached, Ends, empty, ended, ends}
 use Rattle.nl_tree.proofs.GraphProofs.{names_eq, eq_name, name_eq}
 use Rattle.nl_meta.specs.Committed.{VirtualMap}
-use Rattle.nl_meta.specs.Consistent.{Member, IsNode, NodesRight, GoodEntry, at_root, by_entry, EntryAt, Reached, EntriesRight}
+use Rattle.nl_field.specs.Members.{Has}
+use Rattle.nl_meta.specs.Consistent.{IsNode, NodesRight, GoodEntry, at_root, by_entry, EntryAt, Reached, EntriesRight}
 use Rattle.nl_meta.specs.Nodes.{inode_at, bytes_of_place, body_of, node_from, graph_of, entries_of_inode}
 use Rattle.nl_meta.proofs.Lists.{some_in, none_some, member-range, range-member, member-map, map-member, member-some, some-member}
 use Rattle.nl_meta.proofs.PlaceProofs.{same_entry}
@@ -22,19 +23,19 @@ use Rattle.nl_meta.proofs.PlaceProofs.{same_entry}
 pairs : (y : List ℕ × ℕ) (x : List ℕ) (m : ℕ) → y.0 ≡ x → y.1 ≡ m → y ≡ (x, m)
 pairs y x m a b = λ i. (a i, b i)
 
-pub named_member : (x : List ℕ) (m : ℕ) (es : List (List ℕ × ℕ)) → node_named x es ≡ Some m → Member (x, m) es
+pub named_member : (x : List ℕ) (m : ℕ) (es : List (List ℕ × ℕ)) → node_named x es ≡ Some m → Has es (x, m)
 named_member x m [] e = absurd (none_some m e)
 named_member x m (y ∷ es) e =
-    elim (names_eq x y.0) as (λ t. names_eq x y.0 ≡ t → cond t (Some y.1) (node_named x es) ≡ Some m → Member (x, m) (y ∷ es))
+    elim (names_eq x y.0) as (λ t. names_eq x y.0 ≡ t → cond t (Some y.1) (node_named x es) ≡ Some m → Has (y ∷ es) (x, m))
     [ true ↦ λ t e. inl (pairs y x m (sym (eq_name x y.0 t)) (some_in y.1 m e)) | false ↦ λ t e. inr (named_member x m es e) ] refl e
 
-member_named : (x : List ℕ) (m : ℕ) (es : List (List ℕ × ℕ)) → Member (x, m) es → (k : ℕ) × (node_named x es ≡ Some k)
+member_named : (x : List ℕ) (m : ℕ) (es : List (List ℕ × ℕ)) → Has es (x, m) → (k : ℕ) × (node_named x es ≡ Some k)
 member_named x m [] h = absurd h
 member_named x m (y ∷ es) h =
     elim (names_eq x y.0) as (λ t. names_eq x y.0 ≡ t → (k : ℕ) × (cond t (Some y.1) (node_named x es) ≡ Some k))
     [ true ↦ λ t. (y.1, refl) | false ↦ λ t. by (member_named x m es) t h ] refl
   where
-    by : (Member (x, m) es → (k : ℕ) × (node_named x es ≡ Some k)) → names_eq x y.0 ≡ false → (y ≡ (x, m)) ⊎ Member (x, m) es → (k : ℕ) × (node_named x es ≡ Some k)
+    by : (Has es (x, m) → (k : ℕ) × (node_named x es ≡ Some k)) → names_eq x y.0 ≡ false → (y ≡ (x, m)) ⊎ Has es (x, m) → (k : ℕ) × (node_named x es ≡ Some k)
     by rest t (inl e) = absurd (clash (sym t ∙ name_eq x y.0 (sym (ap (λ (z : List ℕ × ℕ). z.0) e))))
       where
         clash : false ≡ true → ⊥
@@ -93,7 +94,7 @@ module _ (shape : Shape) (pages : VirtualMap) where
   unfolding entries_of_inode
   entry_is n x m e = by (node_or_none n)
     where
-      of_member : (rec : InodeRec) → IsNode shape pages n rec → rec.kind ≡ Dir → Member {X = List ℕ × ℕ} (x, m) (map (λ e. (e.name, e.ino)) (entries_of_inode pages rec)) → EntryOf n x m
+      of_member : (rec : InodeRec) → IsNode shape pages n rec → rec.kind ≡ Dir → Has {X = List ℕ × ℕ} (map (λ e. (e.name, e.ino)) (entries_of_inode pages rec)) (x, m) → EntryOf n x m
       of_member rec is dir h =
           let r = member-map (λ (e : EntryRec). (e.name, e.ino)) (entries_of_inode pages rec) (x, m) h in
           let q = member-some (λ i. entry_of (bytes_of_place pages rec i)) (range_with_len 0 rec.size) r.0 r.1 in
@@ -140,7 +141,7 @@ module _ (shape : Shape) (pages : VirtualMap) where
         let f = ap (node_named e.name) body ∙ r.1 in
         f ∙ ap (λ (k : ℕ). Some k) (same_ino r.0 (entry_is d e.name r.0 f))
       where
-        member : Member {X = List ℕ × ℕ} (e.name, e.ino) (map (λ e. (e.name, e.ino)) (entries_of_inode pages p.rec))
+        member : Has {X = List ℕ × ℕ} (map (λ e. (e.name, e.ino)) (entries_of_inode pages p.rec)) (e.name, e.ino)
         member =
             map-member (λ (e : EntryRec). (e.name, e.ino)) (entries_of_inode pages p.rec) e
             (some-member (λ i. entry_of (bytes_of_place pages p.rec i)) (range_with_len 0 p.rec.size) i e (range-member i 0 p.rec.size (omega arith) (omega (arith, p.below))) p.spelled)

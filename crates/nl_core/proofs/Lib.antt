@@ -1,4 +1,4 @@
-pub mod ChargeOfImage
+pub mod ChargeOfPages
 pub mod EmptyTree
 pub mod FormattedProofs
 pub mod FreshImage
@@ -10,4 +10,4 @@ pub mod SoundProofs
 pub mod SpareProofs
 pub mod StopsKept
 pub mod Sums
-pub mod TreeOfImage
+pub mod TreeOfPages

@@ -8,13 +8,13 @@ use Rattle.nl_field.specs.Page.{Page, erased, uncorrectable, written, Image, pag
 use Rattle.nl_field.specs.SpareRecord.{spare_rec_of}
 use Rattle.nl_field.specs.Medium.{Readable, readable, readable_pages, shape_of_image, first_physical, is_virtual_rec, is_physical_rec, virtual_pages, physical_pages}
 use Rattle.nl_field.specs.declared.spare.SpareRec.{SpareRec}
-use Rattle.nl_meta.specs.Consistent.{Member}
+use Rattle.nl_field.specs.Members.{Has}
 use Rattle.nl_meta.proofs.Lists.{some_in, none_some, member-filter, filter-member, member-some, some-member}
 use Rattle.nl_core.specs.ReadablePages.{WrittenAt, PagesAreReadable}
 
 -- ---- the elements of a list with their numbers
 
-at_index : {X : Type 0} (a : ℕ) (xs : List X) (k : ℕ) (d : X) → k < length xs → Member (a + k, slice_index_or xs k d) (enumerate_from a xs)
+at_index : {X : Type 0} (a : ℕ) (xs : List X) (k : ℕ) (d : X) → k < length xs → Has (enumerate_from a xs) (a + k, slice_index_or xs k d)
 at_index a [] k d h = absurd (none k h)
   where
     none : (k : ℕ) → k < 0 → ⊥
@@ -23,12 +23,12 @@ at_index a (x ∷ xs) zero d h = inl (λ i. (start a i, x))
   where
     start : (a : ℕ) → a ≡ a + 0
     start a = omega arith
-at_index {X} a (x ∷ xs) (suc k) d h = inr (subst (λ (n : ℕ). Member {X = ℕ × X} (n, slice_index_or xs k d) (enumerate_from (a + 1) xs)) (next a k) (at_index (a + 1) xs k d (omega (arith, h))))
+at_index {X} a (x ∷ xs) (suc k) d h = inr (subst (λ (n : ℕ). Has {X = ℕ × X} (enumerate_from (a + 1) xs) (n, slice_index_or xs k d)) (next a k) (at_index (a + 1) xs k d (omega (arith, h))))
   where
     next : (a k : ℕ) → a + 1 + k ≡ a + suc k
     next a k = omega arith
 
-index_of : {X : Type 0} (a : ℕ) (xs : List X) (p : ℕ × X) (d : X) → Member p (enumerate_from a xs) → (k : ℕ) × (p.0 ≡ a + k) × (slice_index_or xs k d ≡ p.1)
+index_of : {X : Type 0} (a : ℕ) (xs : List X) (p : ℕ × X) (d : X) → Has (enumerate_from a xs) p → (k : ℕ) × (p.0 ≡ a + k) × (slice_index_or xs k d ≡ p.1)
 index_of a [] p d h = absurd h
 index_of {X} a (x ∷ xs) p d (inl e) = (0, sym (ap (λ (z : ℕ × X). z.0) e) ∙ start a, ap (λ (z : ℕ × X). z.1) e)
   where
@@ -45,7 +45,7 @@ from_zero k = omega arith
 -- ---- the readable pages of the image
 
 module _ (image : Image) (r : Readable) where
-  from_written : WrittenAt image r → Member r (readable_pages image)
+  from_written : WrittenAt image r → Has (readable_pages image) r
   unfolding readable_pages
   from_written w = by (cases_lt r.page (length image.contents))
     where
@@ -57,11 +57,11 @@ module _ (image : Image) (r : Readable) where
           ap (λ (n : ℕ). readable (n, page_at image r.page)) (from_zero r.page) ∙ ap (λ (page : Page). readable (r.page, page)) w.at ∙ ap (option_map (λ rec. record { page = r.page; rec = rec; main = w.bytes.main })) w.spelled
           ∙ (λ i. Some (record { page = r.page; rec = r.rec; main = w.main i }))
 
-      by : (r.page < length image.contents) ⊎ (length image.contents ≤ r.page) → Member r (readable_pages image)
+      by : (r.page < length image.contents) ⊎ (length image.contents ≤ r.page) → Has (readable_pages image) r
       by (inl h) = some-member readable (enumerate_from 0 image.contents) (0 + r.page, page_at image r.page) r (at_index 0 image.contents r.page erased h) is_readable
       by (inr h) = absurd (not_erased (sym (get_or_past image.contents r.page erased h) ∙ w.at))
 
-  to_written : Member r (readable_pages image) → WrittenAt image r
+  to_written : Has (readable_pages image) r → WrittenAt image r
   unfolding readable_pages
   to_written m = by (member-some readable (enumerate_from 0 image.contents) r m)
     where
@@ -81,30 +81,30 @@ module _ (image : Image) (r : Readable) where
                 main = ap (λ (z : Readable). z.main) same;
               }
 
-      by : (x : ℕ × Page) × Member x (enumerate_from 0 image.contents) × (readable x ≡ Some r) → WrittenAt image r
+      by : (x : ℕ × Page) × Has (enumerate_from 0 image.contents) x × (readable x ≡ Some r) → WrittenAt image r
       by x =
           let k = index_of 0 image.contents x.0 erased x.1 in
           of x.0.0 x.0.1 (ap (page_at image) (k.1 ∙ from_zero k.0) ∙ k.2) x.2
 
-  virtual_law : Member r (virtual_pages image) → WrittenAt image r × (r.page < first_physical (shape_of_image image)) × IsTrue (is_virtual_rec (shape_of_image image) r.rec)
+  virtual_law : Has (virtual_pages image) r → WrittenAt image r × (r.page < first_physical (shape_of_image image)) × IsTrue (is_virtual_rec (shape_of_image image) r.rec)
   unfolding virtual_pages
   virtual_law m =
       let f = member-filter (λ r. nat_lt r.page (first_physical (shape_of_image image)) && is_virtual_rec (shape_of_image image) r.rec) (readable_pages image) r m in
       let p = and_parts _ _ f.1 in
       (to_written f.0, ltb-true _ _ p.0, p.1)
 
-  law_virtual : WrittenAt image r × (r.page < first_physical (shape_of_image image)) × IsTrue (is_virtual_rec (shape_of_image image) r.rec) → Member r (virtual_pages image)
+  law_virtual : WrittenAt image r × (r.page < first_physical (shape_of_image image)) × IsTrue (is_virtual_rec (shape_of_image image) r.rec) → Has (virtual_pages image) r
   unfolding virtual_pages
   law_virtual h = filter-member (λ r. nat_lt r.page (first_physical (shape_of_image image)) && is_virtual_rec (shape_of_image image) r.rec) (readable_pages image) r (from_written h.0) (and_from _ _ (lt-ltb _ _ h.1) h.2)
 
-  physical_law : Member r (physical_pages image) → WrittenAt image r × (first_physical (shape_of_image image) ≤ r.page) × IsTrue (is_physical_rec r.rec)
+  physical_law : Has (physical_pages image) r → WrittenAt image r × (first_physical (shape_of_image image) ≤ r.page) × IsTrue (is_physical_rec r.rec)
   unfolding physical_pages
   physical_law m =
       let f = member-filter (λ r. nat_le (first_physical (shape_of_image image)) r.page && is_physical_rec r.rec) (readable_pages image) r m in
       let p = and_parts _ _ f.1 in
       (to_written f.0, leb-true _ _ p.0, p.1)
 
-  law_physical : WrittenAt image r × (first_physical (shape_of_image image) ≤ r.page) × IsTrue (is_physical_rec r.rec) → Member r (physical_pages image)
+  law_physical : WrittenAt image r × (first_physical (shape_of_image image) ≤ r.page) × IsTrue (is_physical_rec r.rec) → Has (physical_pages image) r
   unfolding physical_pages
   law_physical h = filter-member (λ r. nat_le (first_physical (shape_of_image image)) r.page && is_physical_rec r.rec) (readable_pages image) r (from_written h.0) (and_from _ _ (le-leb _ _ h.1) h.2)
 

@@ -5,7 +5,7 @@ use Rattle.std.specs.List.{list_any, list_all, range_with_len}
 use Rattle.nl_field.specs.Medium.{Readable, stamp_on, virtual_pages, shape_of_image, address_on}
 use Rattle.nl_field.specs.Page.{Image}
 use Rattle.nl_field.specs.Space.{virtual_spare, has_greatest_stamp, spare_block}
-use Rattle.nl_meta.specs.Consistent.{Member}
+use Rattle.nl_field.specs.Members.{Has}
 use Rattle.nl_meta.proofs.Lists.{find-none, any-none, each-all, any_member, member_any, member-find, find-some, member-range, range-member, filter-member, map-member}
 use Rattle.nl_meta.proofs.Pairs.{is_not, itself}
 use Rattle.nl_core.specs.Fresh.{SpareByCopies, SpareByFewPages}
@@ -13,7 +13,7 @@ use Rattle.nl_core.proofs.Sums.{length_mapped}
 
 -- ---- numbers that stand in a list
 
-one_less : (n : ℕ) (ms : List ℕ) → Member n ms → length (filter (is_not n) ms) < length ms
+one_less : (n : ℕ) (ms : List ℕ) → Has ms n → length (filter (is_not n) ms) < length ms
 one_less n [] h = absurd h
 one_less n (m ∷ ms) h =
     elim (m == n) as (λ b. (m == n) ≡ b → length (cond (not b) (m ∷ filter (is_not n) ms) (filter (is_not n) ms)) < suc (length ms)) [
@@ -25,12 +25,12 @@ one_less n (m ∷ ms) h =
     no_more [] = omega arith
     no_more (m ∷ ms) = elim (not (m == n)) as (λ b. length (cond b (m ∷ filter (is_not n) ms) (filter (is_not n) ms)) ≤ suc (length ms)) [ true ↦ omega (arith, no_more ms) | false ↦ omega (arith, no_more ms) ]
 
-    later : (Member n ms → length (filter (is_not n) ms) < length ms) → (m == n) ≡ false → (m ≡ n) ⊎ Member n ms → suc (length (filter (is_not n) ms)) < suc (length ms)
+    later : (Has ms n → length (filter (is_not n) ms) < length ms) → (m == n) ≡ false → (m ≡ n) ⊎ Has ms n → suc (length (filter (is_not n) ms)) < suc (length ms)
     later rest e (inl s) = absurd (eqb-false m n e s)
     later rest e (inr h) = omega (arith, rest h)
 
 -- a list in which all numbers below a bound stand is not shorter
-pub all_stand : (k : ℕ) (ms : List ℕ) → ((b : ℕ) → b < k → Member b ms) → k ≤ length ms
+pub all_stand : (k : ℕ) (ms : List ℕ) → ((b : ℕ) → b < k → Has ms b) → k ≤ length ms
 all_stand zero ms all = omega arith
 all_stand (suc k) ms all =
     let f = one_less k ms (all k (omega arith)) in
@@ -55,17 +55,17 @@ module _ (image : Image) where
       let f = find-some is_free_of (range_with_len 0 (shape_of_image image).vblocks) block (range-member block 0 _ (omega arith) (omega (arith, below))) e in
       ap is_some f.1
 
-  each_free : (block : ℕ) → ((r : Readable) → Member r all_virtual → r.page / image.pages ≡ block → has_copy block r ≡ true) → is_free_of block ≡ true
+  each_free : (block : ℕ) → ((r : Readable) → Has all_virtual r → r.page / image.pages ≡ block → has_copy block r ≡ true) → is_free_of block ≡ true
   each_free block copies = each-all _ all_virtual (λ r m. by r m (cases_eq (r.page / image.pages) block))
     where
-      by : (r : Readable) → Member r all_virtual → (r.page / image.pages ≡ block) ⊎ (r.page / image.pages ≡ block → ⊥) → (not (r.page / image.pages == block && has_greatest_stamp all_virtual r) || has_copy block r) ≡ true
+      by : (r : Readable) → Has all_virtual r → (r.page / image.pages ≡ block) ⊎ (r.page / image.pages ≡ block → ⊥) → (not (r.page / image.pages == block && has_greatest_stamp all_virtual r) || has_copy block r) ≡ true
       by r m (inl h) = or_right (not (r.page / image.pages == block && has_greatest_stamp all_virtual r)) _ (copies r m h)
       by r m (inr far) = or_left _ _ (ap (λ t. not (t && has_greatest_stamp all_virtual r)) (ne_eqb _ _ far))
 
 pub spare_by_copies : SpareByCopies
 spare_by_copies image block below copies = spare_is image block below (each_free image block (λ r m h. by r m (copies r m h)))
   where
-    by : (r : Readable) → Member r (virtual_pages image) → (q : Readable) × Member q (virtual_pages image) × (q.page / image.pages ≢ block) × (address_on q ≡ address_on r) × (stamp_on q ≡ stamp_on r) → has_copy image block r ≡ true
+    by : (r : Readable) → Has (virtual_pages image) r → (q : Readable) × Has (virtual_pages image) q × (q.page / image.pages ≢ block) × (address_on q ≡ address_on r) × (stamp_on q ≡ stamp_on r) → has_copy image block r ≡ true
     by r m c =
         member_any (λ q. not (q.page / image.pages == block) && (address_on q == address_on r && stamp_on q == stamp_on r)) (virtual_pages image) c.0 c.1
         (and_from _ _ (not_from_false _ (ne_eqb _ _ c.2)) (and_from _ _ (eq-eqb _ _ c.3) (eq-eqb _ _ c.4)))
@@ -79,15 +79,15 @@ spare_by_few_pages image few = by (find (λ b. is_empty b) (range_with_len 0 (sh
     is_empty : ℕ → Bool
     is_empty b = not (list_any (λ r. block_of r == b) (virtual_pages image))
 
-    stands : (b : ℕ) → is_empty b ≡ false → Member b (map block_of (virtual_pages image))
+    stands : (b : ℕ) → is_empty b ≡ false → Has (map block_of (virtual_pages image)) b
     stands b e =
         let q = any_member (λ r. block_of r == b) (virtual_pages image) (not-false _ e) in
-        subst (λ (k : ℕ). Member k (map block_of (virtual_pages image))) (eqb-true (block_of q.0) b q.2) (map-member block_of (virtual_pages image) q.0 q.1)
+        subst (λ (k : ℕ). Has (map block_of (virtual_pages image)) k) (eqb-true (block_of q.0) b q.2) (map-member block_of (virtual_pages image) q.0 q.1)
 
     itself_less : (a b : ℕ) → a < b → b ≤ a → ⊥
     itself_less a b h e = omega arith
 
-    none_in : (b : ℕ) → is_empty b ≡ true → (r : Readable) → Member r (virtual_pages image) → block_of r ≡ b → has_copy image b r ≡ true
+    none_in : (b : ℕ) → is_empty b ≡ true → (r : Readable) → Has (virtual_pages image) r → block_of r ≡ b → has_copy image b r ≡ true
     none_in b e r m h = absurd (eqb-false (block_of r) b (any-none (λ r. block_of r == b) (virtual_pages image) (not-true _ e) r m) h)
 
     by : (o : Option ℕ) → find (λ b. is_empty b) (range_with_len 0 (shape_of_image image).vblocks) ≡ o → IsSome (virtual_spare image)

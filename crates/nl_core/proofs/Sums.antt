@@ -5,20 +5,20 @@ use Rattle.std.specs.List.{cons_option, AllByRecursion}
 use Rattle.nl_field.specs.declared.inode.InodeRec.{InodeRec}
 use Rattle.nl_tree.specs.CountLaws.{Differ}
 use Rattle.nl_tree.specs.TreeOfNodes.{IsIn}
-use Rattle.nl_meta.specs.Consistent.{Member}
+use Rattle.nl_field.specs.Members.{Has}
 use Rattle.nl_meta.proofs.Facts.{EachTwo}
 use Rattle.nl_meta.proofs.Lists.{member-map}
 
-pub in_of : (ns : List ℕ) (n : ℕ) → Member n ns → IsIn ns n
+pub in_of : (ns : List ℕ) (n : ℕ) → Has ns n → IsIn ns n
 in_of [] n h = h
 in_of (m ∷ ns) n (inl e) = inl e
 in_of (m ∷ ns) n (inr h) = inr (in_of ns n h)
 
-pub all_by : (P : ℕ → Type 0) (ns : List ℕ) → ((n : ℕ) → Member n ns → P n) → AllByRecursion P ns
+pub all_by : (P : ℕ → Type 0) (ns : List ℕ) → ((n : ℕ) → Has ns n → P n) → AllByRecursion P ns
 all_by P [] f = tt
 all_by P (n ∷ ns) f = (f n (inl refl), all_by P ns (λ m h. f m (inr h)))
 
-pub of_in : (ns : List ℕ) (n : ℕ) → IsIn ns n → Member n ns
+pub of_in : (ns : List ℕ) (n : ℕ) → IsIn ns n → Has ns n
 of_in [] n h = h
 of_in (m ∷ ns) n (inl e) = inl e
 of_in (m ∷ ns) n (inr h) = inr (of_in ns n h)
@@ -30,7 +30,7 @@ differ_rising (x ∷ xs) h = ((λ i. later (member-map (λ (x : ℕ × InodeRec)
     itself : (a b : ℕ) → b ≡ a → a < b → ⊥
     itself a b e h = omega arith
 
-    later : (y : ℕ × InodeRec) × Member y xs × (y.0 ≡ x.0) → ⊥
+    later : (y : ℕ × InodeRec) × Has xs y × (y.0 ≡ x.0) → ⊥
     later q = itself x.0 q.0.0 q.2 (h.0 q.0 q.1)
 
 pub sum_mapped : {X Y : Type 0} (f : Y → ℕ) (k : X → Y) (xs : List X) → sum_by f (map k xs) ≡ sum_by (λ x. f (k x)) xs
@@ -47,7 +47,7 @@ length_flat k (x ∷ xs) = length-append (k x) (flat_map k xs) ∙ ap (λ (n : �
 
 -- a sum over the numbers for which something is given and passes, where the others add nothing
 pub sum_given : {X : Type 0} (f : ℕ → ℕ) (k : ℕ → Option X) (t : ℕ × X → Bool) (ns : List ℕ)
-    → ((n : ℕ) → Member n ns → k n ≡ None → f n ≡ 0) → ((n : ℕ) (x : X) → Member n ns → k n ≡ Some x → t (n, x) ≡ false → f n ≡ 0)
+    → ((n : ℕ) → Has ns n → k n ≡ None → f n ≡ 0) → ((n : ℕ) (x : X) → Has ns n → k n ≡ Some x → t (n, x) ≡ false → f n ≡ 0)
     → sum_by f (map (λ x. x.0) (filter t (filter_map (λ n. option_map (λ x. (n, x)) (k n)) ns))) ≡ sum_by f ns
 sum_given f k t [] none off = refl
 sum_given {X} f k t (n ∷ ns) none off =

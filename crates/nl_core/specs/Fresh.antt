@@ -9,7 +9,7 @@ use Rattle.nl_field.specs.Examples.{root_inode}
 use Rattle.nl_field.specs.Medium.{Readable, shape_of_image, stamp_on, address_on, virtual_pages, physical_pages}
 use Rattle.nl_field.specs.Space.{virtual_spare}
 use Rattle.nl_tree.specs.Tree.{empty_tree}
-use Rattle.nl_meta.specs.Consistent.{Member}
+use Rattle.nl_field.specs.Members.{Has}
 use Rattle.nl_core.specs.Stands.{SoundAs}
 
 -- the inode page with an empty root
@@ -30,10 +30,10 @@ IsFresh image r =
 pub record HasFreshPages (image : Image) : Type 0 where
   pub whole : IsTrue (is_image image)
   pub legal : IsTrue (is_legal image.blocks image.pages)
-  pub root : (r : Readable) × Member r (virtual_pages image) × (address_on r ≡ 67)
-  pub super_page : (r : Readable) × Member r (virtual_pages image) × (address_on r ≡ 0)
-  pub no_other : (r : Readable) → Member r (virtual_pages image) → IsFresh image r
-  pub no_data : (r : Readable) → Member r (physical_pages image) → ⊥
+  pub root : (r : Readable) × Has (virtual_pages image) r × (address_on r ≡ 67)
+  pub super_page : (r : Readable) × Has (virtual_pages image) r × (address_on r ≡ 0)
+  pub no_other : (r : Readable) → Has (virtual_pages image) r → IsFresh image r
+  pub no_data : (r : Readable) → Has (physical_pages image) r → ⊥
 
 -- With a spare block they open as the tree with only the root, after no call.
 abbrev pub FreshIsSound : Type 0
@@ -43,8 +43,8 @@ FreshIsSound = (image : Image) → HasFreshPages image → IsSome (virtual_spare
 abbrev pub SpareByCopies : Type 0
 SpareByCopies =
     (image : Image) (block : ℕ) → block < (shape_of_image image).vblocks
-    → ((r : Readable) → Member r (virtual_pages image) → r.page / image.pages ≡ block
-    → (q : Readable) × Member q (virtual_pages image) × (q.page / image.pages ≢ block) × (address_on q ≡ address_on r) × (stamp_on q ≡ stamp_on r))
+    → ((r : Readable) → Has (virtual_pages image) r → r.page / image.pages ≡ block
+    → (q : Readable) × Has (virtual_pages image) q × (q.page / image.pages ≢ block) × (address_on q ≡ address_on r) × (stamp_on q ≡ stamp_on r))
     → IsSome (virtual_spare image)
 
 -- And where fewer pages are readable than there are blocks.

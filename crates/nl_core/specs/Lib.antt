@@ -4,5 +4,6 @@ pub mod Examples
 pub mod Formatted
 pub mod Fresh
 pub mod ReadablePages
+pub mod RightFor
 pub mod Stands
 pub mod StandsLaws

@@ -3,7 +3,7 @@ use Rattle.std.specs.Prelude.{◌≡◌, ◌↔◌, ◌<◌, ◌≤◌, Some, Is
 use Rattle.nl_field.specs.Page.{PageBytes, Image, written, page_at}
 use Rattle.nl_field.specs.SpareRecord.{spare_rec_of}
 use Rattle.nl_field.specs.Medium.{Readable, shape_of_image, first_physical, is_virtual_rec, is_physical_rec, virtual_pages, physical_pages}
-use Rattle.nl_meta.specs.Consistent.{Member}
+use Rattle.nl_field.specs.Members.{Has}
 
 -- the page of that number is written, with this record and these main bytes
 pub record WrittenAt (image : Image) (r : Readable) : Type 0 where
@@ -14,6 +14,6 @@ pub record WrittenAt (image : Image) (r : Readable) : Type 0 where
 
 pub record PagesAreReadable : Type 0 where
   pub virtual : (image : Image) (r : Readable)
-      → Member r (virtual_pages image) ↔ (WrittenAt image r × (r.page < first_physical (shape_of_image image)) × IsTrue (is_virtual_rec (shape_of_image image) r.rec))
+      → Has (virtual_pages image) r ↔ (WrittenAt image r × (r.page < first_physical (shape_of_image image)) × IsTrue (is_virtual_rec (shape_of_image image) r.rec))
   pub physical : (image : Image) (r : Readable)
-      → Member r (physical_pages image) ↔ (WrittenAt image r × (first_physical (shape_of_image image) ≤ r.page) × IsTrue (is_physical_rec r.rec))
+      → Has (physical_pages image) r ↔ (WrittenAt image r × (first_physical (shape_of_image image) ≤ r.page) × IsTrue (is_physical_rec r.rec))

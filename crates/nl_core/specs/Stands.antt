@@ -1,17 +1,21 @@
 -- Which count of calls and which tree an image stands for, and when it is sound.
-use Rattle.std.specs.Prelude.{◌≡◌, ℕ, ◌≤◌, IsTrue, List, [], option_map, unwrap_or}
+use Rattle.std.specs.Prelude.{◌≡◌, ℕ, ◌≤◌, IsTrue, List, [], Option, option_map, unwrap_or}
 use Rattle.nl_field.specs.Page.{Image, is_image}
-use Rattle.nl_field.specs.Medium.{shape_of_image, found}
+use Rattle.nl_field.specs.Medium.{shape_of_image}
 use Rattle.nl_tree.specs.Tree.{Tree, IsTree}
 use Rattle.nl_tree.specs.Charges.{data_charge}
 use Rattle.nl_tree.specs.Represents.{Represents}
 use Rattle.nl_meta.specs.Committed.{committed_of}
 use Rattle.nl_meta.specs.Nodes.{graph_of}
-use Rattle.nl_meta.specs.Consistent.{MetadataRight, OwnNames, HasRoom}
+use Rattle.nl_meta.specs.Consistent.{MetadataRight, OwnNames, HasRoom, PageOfStamp, page_on}
+
+-- the bytes of the page of a stamp
+abbrev pub bytes_for : (ℕ → Option PageOfStamp) → ℕ → List ℕ
+bytes_for page_of_stamp stamp = unwrap_or (option_map (λ page. page.bytes) (page_of_stamp stamp)) []
 
 -- the bytes of a readable physical page of that stamp
 unfoldable pub bytes_found : Image → ℕ → List ℕ
-bytes_found image stamp = unwrap_or (option_map (λ r. r.main) (found image stamp)) []
+bytes_found image stamp = bytes_for (page_on image) stamp
 
 -- The committed pages are metadata of a tree, with this count in the super page, and their nodes are those of this tree.
 pub record Stands (image : Image) (count : ℕ) (tree : Tree) : Type 0 where

@@ -1,14 +1,12 @@
 -- An image whose metadata is right stands for exactly one tree. It is sound exactly where the walk finds no fault.
-use Rattle.std.specs.Prelude.{◌≡◌, ◌↔◌, ℕ, ◌+◌, IsTrue, length, sum_by, None}
+use Rattle.std.specs.Prelude.{◌≡◌, ◌↔◌, ℕ, IsTrue, None}
 use Rattle.nl_field.specs.Page.{Image, is_image}
 use Rattle.nl_field.specs.Medium.{shape_of_image}
 use Rattle.nl_tree.specs.Tree.{Tree}
-use Rattle.nl_tree.specs.Charges.{data_charge, node_charge, meta_charge}
-use Rattle.nl_tree.specs.NodeCharges.{entry_pages_in, ranges_in}
 use Rattle.nl_meta.specs.Committed.{committed_of}
-use Rattle.nl_meta.specs.Nodes.{graph_of, committed_pointers}
 use Rattle.nl_meta.specs.Consistent.{MetadataRight}
-use Rattle.nl_meta.specs.Walk.{walk, used_nodes}
+use Rattle.nl_meta.specs.Walk.{walk}
+use Rattle.nl_core.specs.RightFor.{ChargesOfPages}
 use Rattle.nl_core.specs.Stands.{Stands, Sound}
 
 -- at least one tree
@@ -20,17 +18,10 @@ abbrev pub StandsForOne : Type 0
 StandsForOne =
     (image : Image) (count count' : ℕ) (tree tree' : Tree) → Stands image count tree → Stands image count' tree' → (count ≡ count') × (tree ≡ tree')
 
--- Exactly the sound images are without a first fault.
+-- Exactly the sound images are without a first fault, of those whose pages are whole.
 abbrev pub WalkIsSoundness : Type 0
 WalkIsSoundness = (image : Image) → IsTrue (is_image image) → (walk image ≡ None) ↔ Sound image
 
--- The charges of the tree are those of the image's nodes.
-pub record ChargesOfImage (image : Image) (tree : Tree) : Type 0 where
-  pub data_pages : data_charge tree ≡ length (committed_pointers image)
-  pub used : node_charge tree ≡ length (used_nodes (shape_of_image image) (committed_of image))
-  pub meta_pages : meta_charge tree
-      ≡ sum_by (λ x. entry_pages_in (graph_of (shape_of_image image) (committed_of image) x.0).body) (used_nodes (shape_of_image image) (committed_of image))
-      + sum_by (λ x. ranges_in (graph_of (shape_of_image image) (committed_of image) x.0).body) (used_nodes (shape_of_image image) (committed_of image))
-
+-- The charges of the tree are those of the image's committed pages.
 abbrev pub StandsWithCharges : Type 0
-StandsWithCharges = (image : Image) (count : ℕ) (tree : Tree) → Stands image count tree → ChargesOfImage image tree
+StandsWithCharges = (image : Image) (count : ℕ) (tree : Tree) → Stands image count tree → ChargesOfPages (shape_of_image image) (committed_of image) tree

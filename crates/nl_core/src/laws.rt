@@ -2,9 +2,17 @@
 ghost use Rattle.nl_core.specs.Formatted.{FormattedIsSound};
 ghost use Rattle.nl_core.specs.Fresh.{FewFreshAreSound, FreshIsSound, SpareByCopies, SpareByFewPages};
 ghost use Rattle.nl_core.specs.ReadablePages.{PagesAreReadable};
+ghost use Rattle.nl_core.specs.RightFor.{RepresentedIsOne, RightCharges, RightRepresents};
 ghost use Rattle.nl_core.specs.StandsLaws.{MetadataStands, StandsForOne, WalkIsSoundness, StandsWithCharges};
 
-// Metadata that is right stands for a tree.
+// Metadata that is right represents a tree, also without an image: exactly one, whose charges are counts of what its pages have.
+pub fn pages_represent()
+    ensures some { RightRepresents }
+    ensures one { RepresentedIsOne }
+    ensures charges { RightCharges }
+{}
+
+// Metadata of an image that is right stands for a tree.
 pub fn metadata_stands()
     ensures { MetadataStands }
 {}
@@ -14,7 +22,7 @@ pub fn stands_for_one()
     ensures { StandsForOne }
 {}
 
-// Exactly the sound images are without a first fault.
+// Of images whose pages are whole exactly the sound ones are without a first fault.
 pub fn walk_is_soundness()
     ensures { WalkIsSoundness }
 {}

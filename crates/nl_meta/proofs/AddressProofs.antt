@@ -12,7 +12,8 @@ use Rattle.nl_field.specs.declared.inode.Kind.TheVariants.{File, Dir}
 use Rattle.nl_field.specs.declared.pointer.Pointer.{Pointer}
 use Rattle.nl_field.specs.declared.shape.Shape.{Shape}
 use Rattle.nl_meta.specs.Committed.{VirtualMap}
-use Rattle.nl_meta.specs.Consistent.{Member, NamesPhysical, IsNode, GoodAddress, AddressAt, AddressesRight}
+use Rattle.nl_field.specs.Members.{Has}
+use Rattle.nl_meta.specs.Consistent.{NamesPhysical, IsNode, GoodAddress, AddressAt, AddressesRight}
 use Rattle.nl_meta.specs.Nodes.{inode_at, bytes_of_node, bytes_at, is_physical_name}
 use Rattle.nl_meta.specs.Walk.{first_after, is_file_kind, used_nodes, addresses_of, is_good_indirect, is_bad_address, pages_fault}
 use Rattle.nl_meta.proofs.Facts.{EachTwo, AddressesListed, PlacesThere}
@@ -94,13 +95,13 @@ module _ (shape : Shape) (pages : VirtualMap) where
           ∙ elim (is_file_kind k) as (λ t. (t && false) ≡ false) [ true ↦ refl | false ↦ refl ]
       file (inr e) = ap (λ t. t && not (is_good_indirect shape (indirect_of (bytes_at pages a)))) e
 
-  address_member : (n : ℕ) (rec : InodeRec) (a : ℕ) → IsNode shape pages n rec → Member a rec.addresses → a ≢ 0 → Member (is_file_kind rec.kind, a) (flat_map addresses_of (used_nodes shape pages))
+  address_member : (n : ℕ) (rec : InodeRec) (a : ℕ) → IsNode shape pages n rec → Has rec.addresses a → a ≢ 0 → Has (flat_map addresses_of (used_nodes shape pages)) (is_file_kind rec.kind, a)
   address_member n rec a is m far =
       flat-member addresses_of (used_nodes shape pages) (n, rec) (is_file_kind rec.kind, a) (is_used shape pages n rec is)
       (map-member (λ a. (is_file_kind rec.kind, a)) (filter (λ a. not (a == 0)) rec.addresses) a (filter-member (λ a. not (a == 0)) rec.addresses a m (not_from_false _ (ne_eqb a 0 far))))
 
-  member_address : (y : Bool × ℕ) → Member y (flat_map addresses_of (used_nodes shape pages))
-      → (n : ℕ) × (rec : InodeRec) × (a : ℕ) × IsNode shape pages n rec × Member a rec.addresses × (a ≢ 0) × ((is_file_kind rec.kind, a) ≡ y)
+  member_address : (y : Bool × ℕ) → Has (flat_map addresses_of (used_nodes shape pages)) y
+      → (n : ℕ) × (rec : InodeRec) × (a : ℕ) × IsNode shape pages n rec × Has rec.addresses a × (a ≢ 0) × ((is_file_kind rec.kind, a) ≡ y)
   member_address y m =
       let r = member-flat addresses_of (used_nodes shape pages) y m in
       let b = member-map (λ a. (is_file_kind r.0.1.kind, a)) (filter (λ a. not (a == 0)) r.0.1.addresses) y r.2 in
@@ -143,12 +144,12 @@ kept_two {X} r t (x ∷ xs) h =
       | false ↦ λ e. kept_two r t xs h.1
     ] refl
 
-at_member : (xs : List ℕ) (i x : ℕ) → slice_get xs i ≡ Some x → Member x xs
+at_member : (xs : List ℕ) (i x : ℕ) → slice_get xs i ≡ Some x → Has xs x
 at_member [] i x h = absurd (none_some x h)
 at_member (y ∷ ys) zero x h = inl (some_in y x h)
 at_member (y ∷ ys) (suc i) x h = inr (at_member ys i x h)
 
-member_at : (xs : List ℕ) (x : ℕ) → Member x xs → (i : ℕ) × (slice_get xs i ≡ Some x)
+member_at : (xs : List ℕ) (x : ℕ) → Has xs x → (i : ℕ) × (slice_get xs i ≡ Some x)
 member_at [] x h = absurd h
 member_at (y ∷ ys) x (inl e) = (zero, ap (λ (z : ℕ). Some z) e)
 member_at (y ∷ ys) x (inr h) = let r = member_at ys x h in (suc r.0, r.1)
@@ -175,12 +176,12 @@ module _ (shape : Shape) (pages : VirtualMap) where
   other_address x y = x.1 ≢ y.1
 
   abbrev other_addresses : ℕ × InodeRec → ℕ × InodeRec → Type 0
-  other_addresses x y = (u v : Bool × ℕ) → Member u (addresses_of x) → Member v (addresses_of y) → other_address u v
+  other_addresses x y = (u v : Bool × ℕ) → Has (addresses_of x) u → Has (addresses_of y) v → other_address u v
 
   abbrev is_used_address : ℕ → Bool
   is_used_address a = not (a == 0)
 
-  address_in : (n slot a : ℕ) (at : AddressAt shape pages n slot a) → Member (is_file_kind at.rec.kind, a) (addresses_of (n, at.rec))
+  address_in : (n slot a : ℕ) (at : AddressAt shape pages n slot a) → Has (addresses_of (n, at.rec)) (is_file_kind at.rec.kind, a)
   address_in n slot a at =
       map-member (λ a. (is_file_kind at.rec.kind, a)) (filter is_used_address at.rec.addresses) a
       (filter-member is_used_address at.rec.addresses a (at_member at.rec.addresses slot a at.in_slot) (not_from_false _ (ne_eqb a 0 at.not_zero)))
@@ -188,7 +189,7 @@ module _ (shape : Shape) (pages : VirtualMap) where
   one_address : AddressesListed shape pages → (n slot m slot' a : ℕ) → AddressAt shape pages n slot a → AddressAt shape pages m slot' a → (n ≡ m) × (slot ≡ slot')
   one_address right n slot m slot' a p q = by (cases_order n m)
     where
-      parts : EachTwo other_addresses (used_nodes shape pages) × ((x : ℕ × InodeRec) → Member x (used_nodes shape pages) → EachTwo other_address (addresses_of x))
+      parts : EachTwo other_addresses (used_nodes shape pages) × ((x : ℕ × InodeRec) → Has (used_nodes shape pages) x → EachTwo other_address (addresses_of x))
       parts = two_flat other_address addresses_of (used_nodes shape pages) right.differ
 
       apart : (n slot m slot' : ℕ) → AddressAt shape pages n slot a → AddressAt shape pages m slot' a → n < m → ⊥
@@ -224,7 +225,7 @@ module _ (shape : Shape) (pages : VirtualMap) where
       itself x.0 y.0 (one x.0 p.0 y.0 q.0 u.1 p.1 (subst (λ (k : ℕ). AddressAt shape pages y.0 q.0 k) (sym e) q.1)).0 h))
       (λ x m. inner x (used_is shape pages x m))
     where
-      at : (x : ℕ × InodeRec) → IsNode shape pages x.0 x.1 → (u : Bool × ℕ) → Member u (addresses_of x) → (slot : ℕ) × AddressAt shape pages x.0 slot u.1
+      at : (x : ℕ × InodeRec) → IsNode shape pages x.0 x.1 → (u : Bool × ℕ) → Has (addresses_of x) u → (slot : ℕ) × AddressAt shape pages x.0 slot u.1
       at x is u m =
           let q = member-map (λ (a : ℕ). (is_file_kind x.1.kind, a)) (filter is_used_address x.1.addresses) u m in
           let f = member-filter is_used_address x.1.addresses q.0 q.1 in

@@ -12,7 +12,8 @@ use Rattle.nl_field.specs.declared.inode.InodeRec.{InodeRec}
 use Rattle.nl_field.specs.declared.inode.Kind.TheVariants.{Dir}
 use Rattle.nl_field.specs.declared.shape.Shape.{Shape}
 use Rattle.nl_meta.specs.Committed.{VirtualMap}
-use Rattle.nl_meta.specs.Consistent.{Member, IsNode, GoodEntry}
+use Rattle.nl_field.specs.Members.{Has}
+use Rattle.nl_meta.specs.Consistent.{IsNode, GoodEntry}
 use Rattle.nl_meta.specs.Nodes.{inode_at, address_of_place, bytes_of_place}
 use Rattle.nl_meta.specs.Walk.{first_after, or_then, is_dir_kind, used_nodes, EntryPlace, places_of, Naming, naming_of, has_generation, is_bad_naming, is_bad_place, is_reached, all_places, entry_fault, reach_fault}
 use Rattle.nl_meta.proofs.Facts.{EachTwo, PlacesThere, namings, ReachedBy, from_root, by_naming, EntriesListed}
@@ -71,14 +72,14 @@ module _ (shape : Shape) (pages : VirtualMap) where
   abbrev pub places_in : InodeRec → List ℕ
   places_in rec = filter (is_there rec) (range_with_len 0 (64 * div_ceil rec.size 64))
 
-  pub in_places : PlacesThere shape pages → (n : ℕ) (rec : InodeRec) (i : ℕ) → IsNode shape pages n rec → rec.kind ≡ Dir → i < 64 * div_ceil rec.size 64 → Member i (places_in rec)
+  pub in_places : PlacesThere shape pages → (n : ℕ) (rec : InodeRec) (i : ℕ) → IsNode shape pages n rec → rec.kind ≡ Dir → i < 64 * div_ceil rec.size 64 → Has (places_in rec) i
   in_places t n rec i is dir below = filter-member (is_there rec) (range_with_len 0 (64 * div_ceil rec.size 64)) i (range-member i 0 _ (omega arith) (omega (arith, below))) (t n rec i is dir below)
 
-  pub place_member : PlacesThere shape pages → (n : ℕ) (rec : InodeRec) (i : ℕ) → IsNode shape pages n rec → rec.kind ≡ Dir → i < 64 * div_ceil rec.size 64 → Member (place_at n rec i) (all_places shape pages)
+  pub place_member : PlacesThere shape pages → (n : ℕ) (rec : InodeRec) (i : ℕ) → IsNode shape pages n rec → rec.kind ≡ Dir → i < 64 * div_ceil rec.size 64 → Has (all_places shape pages) (place_at n rec i)
   unfolding all_places
   place_member t n rec i is dir below =
       flat-member (places_of pages) (used_nodes shape pages) (n, rec) (place_at n rec i) (is_used shape pages n rec is)
-      (subst (λ b. Member (place_at n rec i) (cond b (map (place_at n rec) (places_in rec)) [])) (sym (ap is_dir_kind dir))
+      (subst (λ b. Has (cond b (map (place_at n rec) (places_in rec)) []) (place_at n rec i)) (sym (ap is_dir_kind dir))
       (map-member (place_at n rec) (places_in rec) i (in_places t n rec i is dir below)))
 
   pub record PlaceOf (p : EntryPlace) : Type 0 where
@@ -90,13 +91,13 @@ module _ (shape : Shape) (pages : VirtualMap) where
     inside : at < 64 * div_ceil rec.size 64
     same : place_at node rec at ≡ p
 
-  pub member_place : (p : EntryPlace) → Member p (all_places shape pages) → PlaceOf p
+  pub member_place : (p : EntryPlace) → Has (all_places shape pages) p → PlaceOf p
   unfolding all_places
   member_place p m = by (member-flat (places_of pages) (used_nodes shape pages) p m)
     where
-      by : (x : ℕ × InodeRec) × Member x (used_nodes shape pages) × Member p (places_of pages x) → PlaceOf p
+      by : (x : ℕ × InodeRec) × Has (used_nodes shape pages) x × Has (places_of pages x) p → PlaceOf p
       by r =
-          elim (is_dir_kind r.0.1.kind) as (λ b. is_dir_kind r.0.1.kind ≡ b → Member p (cond b (map (place_at r.0.0 r.0.1) (places_in r.0.1)) []) → PlaceOf p) [
+          elim (is_dir_kind r.0.1.kind) as (λ b. is_dir_kind r.0.1.kind ≡ b → Has (cond b (map (place_at r.0.0 r.0.1) (places_in r.0.1)) []) p → PlaceOf p) [
             | true ↦ λ e m.
                 let q = member-map (place_at r.0.0 r.0.1) (places_in r.0.1) p m in
                 record {
@@ -152,13 +153,13 @@ module _ (shape : Shape) (pages : VirtualMap) where
   pub entry_place : (size i : ℕ) → i < size → i < 64 * div_ceil size 64
   entry_place size i h = omega (arith, h, room size)
 
-  pub naming_member : PlacesThere shape pages → (n : ℕ) (rec : InodeRec) (i : ℕ) (e : EntryRec) → IsNode shape pages n rec → rec.kind ≡ Dir → i < rec.size → entry_of (bytes_of_place pages rec i) ≡ Some e → Member (n, e) (namings shape pages)
+  pub naming_member : PlacesThere shape pages → (n : ℕ) (rec : InodeRec) (i : ℕ) (e : EntryRec) → IsNode shape pages n rec → rec.kind ≡ Dir → i < rec.size → entry_of (bytes_of_place pages rec i) ≡ Some e → Has (namings shape pages) (n, e)
   unfolding namings
   naming_member t n rec i e is dir below at =
       some-member naming_of (all_places shape pages) (place_at shape pages n rec i) (n, e) (place_member shape pages t n rec i is dir (entry_place rec.size i below))
       (cond-true (nat_lt i rec.size) _ _ (lt-ltb _ _ below) ∙ ap (option_map (λ e. (n, e))) at)
 
-  pub naming_at : (x : Naming) → Member x (namings shape pages) → NamingAt shape pages x
+  pub naming_at : (x : Naming) → Has (namings shape pages) x → NamingAt shape pages x
   unfolding namings
   naming_at x m = by (member-some naming_of (all_places shape pages) x m)
     where
@@ -171,7 +172,7 @@ module _ (shape : Shape) (pages : VirtualMap) where
             | false ↦ λ b e. absurd (none_some x e)
           ] refl e
 
-      by : (p : EntryPlace) × Member p (all_places shape pages) × (naming_of p ≡ Some x) → NamingAt shape pages x
+      by : (p : EntryPlace) × Has (all_places shape pages) p × (naming_of p ≡ Some x) → NamingAt shape pages x
       by r =
           let p = member_place shape pages r.0 r.1 in
           of p.node p.rec p.at p.is_node p.is_dir (ap naming_of p.same ∙ r.2)
@@ -193,7 +194,7 @@ module _ (shape : Shape) (pages : VirtualMap) where
   -- the nodes on the way from node 0, the last first
   Chain : ℕ → List ℕ → Type 0
   Chain n [] = n ≡ 0
-  Chain n (m ∷ ns) = (n ≡ m) × (x : Naming) × Member x (namings shape pages) × (x.1.ino ≡ n) × Chain x.0 ns
+  Chain n (m ∷ ns) = (n ≡ m) × (x : Naming) × Has (namings shape pages) x × (x.1.ino ≡ n) × Chain x.0 ns
 
   chain_of : (n : ℕ) → ReachedBy shape pages n → (ns : List ℕ) × Chain n ns
   unfolding Chain
@@ -216,7 +217,7 @@ module _ (shape : Shape) (pages : VirtualMap) where
       less k h = omega arith
 
   module _ (right : EntriesListed shape pages) where
-    pub names_good : (x : Naming) → Member x (namings shape pages) → GoodEntry shape pages x.1
+    pub names_good : (x : Naming) → Has (namings shape pages) x → GoodEntry shape pages x.1
     names_good x m =
         let p = naming_at x m in
         let r = right.spelled x.0 p.rec p.at p.is_node p.is_dir p.inside in
@@ -232,7 +233,7 @@ module _ (shape : Shape) (pages : VirtualMap) where
         let rest = one_chain ms ns c.1.0 c.4 (subst (λ (x : Naming). Chain x.0 ns) (sym same) d.4) in
         λ i. (sym c.0 ∙ d.0) i ∷ rest i
 
-    suffix : (ns : List ℕ) (n m : ℕ) → Chain n ns → Member m ns → (ms : List ℕ) × Chain m ms × (length ms ≤ length ns)
+    suffix : (ns : List ℕ) (n m : ℕ) → Chain n ns → Has ns m → (ms : List ℕ) × Chain m ms × (length ms ≤ length ns)
     unfolding Chain
     suffix [] n m c h = absurd h
     suffix (k ∷ ns) n m c (inl e) = (k ∷ ns, subst (λ (z : ℕ). Chain z (k ∷ ns)) (c.0 ∙ e) c, omega arith)
@@ -249,12 +250,12 @@ module _ (shape : Shape) (pages : VirtualMap) where
         shorter : (a b : ℕ) → a ≡ suc b → a ≤ b → ⊥
         shorter a b e h = omega arith
 
-        twice_there : (m : ℕ) → Member m ns → k ≡ m → ⊥
+        twice_there : (m : ℕ) → Has ns m → k ≡ m → ⊥
         twice_there m h e =
             let r = suffix ns c.1.0 m c.4 h in
             shorter (length r.0) (length ns) (ap (λ (l : List ℕ). length l) (one_chain r.0 (k ∷ ns) m r.1 (subst (λ (z : ℕ). Chain z (k ∷ ns)) (c.0 ∙ e) c))) r.2
 
-    chain_below : (ns : List ℕ) (n m : ℕ) → Chain n ns → Member m ns → m < shape.nodes
+    chain_below : (ns : List ℕ) (n m : ℕ) → Chain n ns → Has ns m → m < shape.nodes
     unfolding Chain
     chain_below [] n m c h = absurd h
     chain_below (k ∷ ns) n m c (inl e) = subst (λ (z : ℕ). z < shape.nodes) (c.3 ∙ c.0 ∙ e) (names_good c.1 c.2).is_node.below
@@ -310,8 +311,8 @@ module _ (shape : Shape) (pages : VirtualMap) where
               × (find (λ n. not (is_reached (filter_map naming_of (all_places shape pages)) shape.nodes n)) (map (λ x. x.0) (used_nodes shape pages)) ≡ None)
           parts = then_none _ _ e
 
-          r : ((x : EntryPlace) → Member x (all_places shape pages) → own_place shape pages x ≡ true)
-              × ((x : EntryPlace) → Member x (all_places shape pages) → (e : EntryPlace) → Member e [] → place_clash shape pages e x ≡ false)
+          r : ((x : EntryPlace) → Has (all_places shape pages) x → own_place shape pages x ≡ true)
+              × ((x : EntryPlace) → Has (all_places shape pages) x → (e : EntryPlace) → Has [] e → place_clash shape pages e x ≡ false)
               × EachTwo (λ e x. place_clash shape pages e x ≡ false) (all_places shape pages)
           r = first_none (is_bad_place shape pages) (own_place shape pages) (place_clash shape pages) (place_parts shape pages) [] (all_places shape pages) (map_none (λ p. p.dir) _ parts.0)
 
@@ -340,12 +341,12 @@ module _ (shape : Shape) (pages : VirtualMap) where
               cond-true (nat_lt i rec.size) _ _ (lt-ltb _ _ below) ∙ ap (own_naming shape pages) e.1 ∙ entry_good e.0 e.2
           own_at n rec i is dir inside (inr past) = cond-false (nat_lt i rec.size) _ _ (le-ltb _ _ past) ∙ right.rest n rec i is dir past inside
 
-          own : (p : EntryPlace) → Member p (all_places shape pages) → own_place shape pages p ≡ true
+          own : (p : EntryPlace) → Has (all_places shape pages) p → own_place shape pages p ≡ true
           own p m =
               let q = member_place shape pages p m in
               ap (own_place shape pages) (sym q.same) ∙ own_at q.node q.rec q.at q.is_node q.is_dir q.inside (cases_lt q.at q.rec.size)
 
-          reach : (n : ℕ) → Member n (map (λ x. x.0) (used_nodes shape pages)) → not (is_reached (filter_map naming_of (all_places shape pages)) shape.nodes n) ≡ false
+          reach : (n : ℕ) → Has (map (λ x. x.0) (used_nodes shape pages)) n → not (is_reached (filter_map naming_of (all_places shape pages)) shape.nodes n) ≡ false
           reach n m =
               let q = member-map (λ (x : ℕ × InodeRec). x.0) (used_nodes shape pages) n m in
               not_from_true _ (all_reached right n (subst (λ (k : ℕ). ReachedBy shape pages k) q.2 (right.reached q.0.0 q.0.1 (used_is shape pages q.0 q.1))))

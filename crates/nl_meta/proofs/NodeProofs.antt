@@ -4,36 +4,34 @@ use Rattle.std.proofs.lemmas.Bool.{cond-false, not_from_true, not-false, cases_e
 use Rattle.std.specs.List.{range_with_len}
 use Rattle.std.specs.Prelude.{◌↔◌}
 use Rattle.nl_field.specs.Bytes.{all_zero}
-use Rattle.nl_field.specs.Page.{Image}
 use Rattle.nl_field.specs.declared.inode.InodeRec.{InodeRec}
 use Rattle.nl_field.specs.declared.inode.Kind.{Kind}
 use Rattle.nl_field.specs.declared.inode.Kind.TheVariants.{Unused, File, Dir}
-use Rattle.nl_field.specs.declared.place.What.TheVariants.{Super as SuperPhase}
 use Rattle.nl_field.specs.declared.shape.Shape.{Shape}
 use Rattle.nl_field.specs.declared.super_page.SuperRec.{SuperRec}
-use Rattle.nl_meta.specs.Committed.{VirtualMap, committed_of}
-use Rattle.nl_meta.specs.Consistent.{Member, NumbersRight, NamesPhysical, IsNode, NodesRight}
+use Rattle.nl_meta.specs.Committed.{VirtualMap}
+use Rattle.nl_field.specs.Members.{Has}
+use Rattle.nl_meta.specs.Consistent.{NumbersRight, NamesPhysical, IsNode, NodesRight}
 use Rattle.nl_meta.specs.Nodes.{inode_at, bytes_of_node, super_of_pages, is_physical_name}
-use Rattle.nl_meta.specs.Walk.{is_super_of, is_dir_kind, is_file_kind, is_used_kind, is_good_inode, inode_fault, used_nodes, phase_fault}
+use Rattle.nl_meta.specs.Walk.{is_super_of, is_dir_kind, is_file_kind, is_used_kind, is_good_inode, inode_fault, used_nodes, zero_where}
 use Rattle.nl_meta.proofs.Facts.{EachTwo}
 use Rattle.nl_meta.proofs.Lists.{some_in, true_false, none_some, find-none, none-find, all-each, each-all, zero_none, member-range, range-member, member-filter, filter-member, member-some, some-member}
 use Rattle.nl_meta.proofs.Pairs.{two_map, somes_two, two_filtered, range_rises}
 
-pub numbers : (image : Image) → (phase_fault image SuperPhase ≡ None) ↔ ((rec : SuperRec) × NumbersRight image rec)
-unfolding phase_fault
-numbers image = ((λ e. there (super_of_pages (committed_of image)) refl (not-false _ (zero_none _ e))), back)
+pub numbers : (shape : Shape) (pages : VirtualMap) → (zero_where (not (is_super_of shape (super_of_pages pages))) ≡ None) ↔ ((rec : SuperRec) × NumbersRight shape pages rec)
+numbers shape pages = ((λ e. there (super_of_pages pages) refl (not-false _ (zero_none _ e))), back)
   where
-    there : (o : Option SuperRec) → super_of_pages (committed_of image) ≡ o → is_super_of image o ≡ true → (rec : SuperRec) × NumbersRight image rec
+    there : (o : Option SuperRec) → super_of_pages pages ≡ o → is_super_of shape o ≡ true → (rec : SuperRec) × NumbersRight shape pages rec
     there None e h = absurd (true_false (sym h))
     there (Some rec) e h =
         let a = and_parts _ _ h in
         let b = and_parts _ _ a.0 in
-        (rec, record { spelled = e; blocks = eqb-true _ _ b.0; pages = eqb-true _ _ b.1; legal = a.1 })
+        (rec, record { spelled = e; same_blocks = eqb-true _ _ b.0; same_pages = eqb-true _ _ b.1; legal = a.1 })
 
-    back : (rec : SuperRec) × NumbersRight image rec → phase_fault image SuperPhase ≡ None
+    back : (rec : SuperRec) × NumbersRight shape pages rec → zero_where (not (is_super_of shape (super_of_pages pages))) ≡ None
     back r =
-        ap (λ (o : Option SuperRec). cond (not (is_super_of image o)) (Some 0) None) r.1.spelled
-        ∙ cond-false _ _ _ (not_from_true _ (and_from _ _ (and_from _ _ (eq-eqb _ _ r.1.blocks) (eq-eqb _ _ r.1.pages)) r.1.legal))
+        ap (λ (o : Option SuperRec). cond (not (is_super_of shape o)) (Some 0) None) r.1.spelled
+        ∙ cond-false _ _ _ (not_from_true _ (and_from _ _ (and_from _ _ (eq-eqb _ _ r.1.same_blocks) (eq-eqb _ _ r.1.same_pages)) r.1.legal))
 
 -- ---- nodes
 
@@ -106,7 +104,7 @@ file_kind Dir e = absurd (true_false (sym e))
 file_kind Unused e = absurd (true_false (sym e))
 
 module _ (shape : Shape) (pages : VirtualMap) where
-  pub used_is : (x : ℕ × InodeRec) → Member x (used_nodes shape pages) → IsNode shape pages x.0 x.1
+  pub used_is : (x : ℕ × InodeRec) → Has (used_nodes shape pages) x → IsNode shape pages x.0 x.1
   unfolding used_nodes
   used_is x m =
       let f = member-filter (λ x. is_used_kind x.1.kind) _ x m in
@@ -116,7 +114,7 @@ module _ (shape : Shape) (pages : VirtualMap) where
       pair n None e = absurd (none_some x e)
       pair n (Some rec) e = let s = some_in (n, rec) x e in (ap (λ (z : ℕ × InodeRec). z.0) s, ap (λ (z : ℕ × InodeRec). Some z.1) s)
 
-      by : (n : ℕ) × Member n (range_with_len 0 shape.nodes) × (option_map (λ rec. (n, rec)) (inode_at pages n) ≡ Some x) → is_used_kind x.1.kind ≡ true → IsNode shape pages x.0 x.1
+      by : (n : ℕ) × Has (range_with_len 0 shape.nodes) n × (option_map (λ rec. (n, rec)) (inode_at pages n) ≡ Some x) → is_used_kind x.1.kind ≡ true → IsNode shape pages x.0 x.1
       by r u =
           let p = pair r.0 (inode_at pages r.0) r.2 in
           record {
@@ -125,7 +123,7 @@ module _ (shape : Shape) (pages : VirtualMap) where
             used = used_kind x.1.kind u;
           }
 
-  pub is_used : (n : ℕ) (rec : InodeRec) → IsNode shape pages n rec → Member (n, rec) (used_nodes shape pages)
+  pub is_used : (n : ℕ) (rec : InodeRec) → IsNode shape pages n rec → Has (used_nodes shape pages) (n, rec)
   unfolding used_nodes
   is_used n rec is =
       filter-member (λ x. is_used_kind x.1.kind) _ (n, rec)

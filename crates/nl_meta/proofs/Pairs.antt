@@ -2,7 +2,7 @@
 use Rattle.std.proofs.Common.{◌≡◌, ℕ, zero, suc, ◌+◌, ◌≤◌, ◌<◌, Bool, true, false, not, ◌||◌, cond, List, [], ◌∷◌, ◌++◌, map, filter, filter_map, flat_map, refl, sym, ap, subst, ◌∙◌, Option, Some, None, ◌⊎◌, inl, inr, arith, ◌≢◌, ◌==◌, length}
 use Rattle.std.proofs.lemmas.Bool.{or_parts, or_from, cond-false, not_from_true, not-false, not_from_false, not-true, eqb-true, eqb-false, ne_eqb}
 use Rattle.std.specs.List.{list_any, range_with_len, cons_option, enumerate_from}
-use Rattle.nl_meta.specs.Consistent.{Member}
+use Rattle.nl_field.specs.Members.{Has}
 use Rattle.nl_meta.specs.Walk.{first_after}
 use Rattle.nl_meta.proofs.Facts.{EachTwo}
 use Rattle.nl_meta.proofs.Lists.{some_in, none_some, any-none, none-any, member-range, member-filter, member-map, map-member, member-append, append-member-left, append-member-right, member-flat, member-some, some-member}
@@ -12,25 +12,25 @@ pub record FaultParts {X : Type 0} (test : List X → X → Bool) (own : X → B
 
 module _ {X : Type 0} (test : List X → X → Bool) (own : X → Bool) (clash : X → X → Bool) (is : FaultParts test own clash) where
   pub first_none : (earlier xs : List X) → first_after test earlier xs ≡ None
-      → ((x : X) → Member x xs → own x ≡ true) × ((x : X) → Member x xs → (e : X) → Member e earlier → clash e x ≡ false) × EachTwo (λ e x. clash e x ≡ false) xs
+      → ((x : X) → Has xs x → own x ≡ true) × ((x : X) → Has xs x → (e : X) → Has earlier e → clash e x ≡ false) × EachTwo (λ e x. clash e x ≡ false) xs
   first_none earlier [] e = ((λ x h. absurd h), (λ x h. absurd h), tt)
   first_none earlier (y ∷ xs) e =
       elim (test earlier y) as (λ b. test earlier y ≡ b → cond b (Some y) (first_after test (y ∷ earlier) xs) ≡ None
-      → ((x : X) → Member x (y ∷ xs) → own x ≡ true) × ((x : X) → Member x (y ∷ xs) → (e : X) → Member e earlier → clash e x ≡ false) × EachTwo (λ e x. clash e x ≡ false) (y ∷ xs)) [
+      → ((x : X) → Has (y ∷ xs) x → own x ≡ true) × ((x : X) → Has (y ∷ xs) x → (e : X) → Has earlier e → clash e x ≡ false) × EachTwo (λ e x. clash e x ≡ false) (y ∷ xs)) [
         | true ↦ λ b e. absurd (none_some y (sym e))
         | false ↦ λ b e. by (first_none (y ∷ earlier) xs e) (or_parts _ _ (sym (is.parts earlier y) ∙ b))
       ] refl e
     where
-      by : ((x : X) → Member x xs → own x ≡ true) × ((x : X) → Member x xs → (e : X) → Member e (y ∷ earlier) → clash e x ≡ false) × EachTwo (λ e x. clash e x ≡ false) xs
+      by : ((x : X) → Has xs x → own x ≡ true) × ((x : X) → Has xs x → (e : X) → Has (y ∷ earlier) e → clash e x ≡ false) × EachTwo (λ e x. clash e x ≡ false) xs
           → (not (own y) ≡ false) × (list_any (λ e. clash e y) earlier ≡ false)
-          → ((x : X) → Member x (y ∷ xs) → own x ≡ true) × ((x : X) → Member x (y ∷ xs) → (e : X) → Member e earlier → clash e x ≡ false) × EachTwo (λ e x. clash e x ≡ false) (y ∷ xs)
+          → ((x : X) → Has (y ∷ xs) x → own x ≡ true) × ((x : X) → Has (y ∷ xs) x → (e : X) → Has earlier e → clash e x ≡ false) × EachTwo (λ e x. clash e x ≡ false) (y ∷ xs)
       by r h = (
         (λ x m. elim m as (λ m. own x ≡ true) [ inl s ↦ ap own (sym s) ∙ not-false _ h.0 | inr m ↦ r.0 x m ]),
         (λ x m e n. elim m as (λ m. clash e x ≡ false) [ inl s ↦ ap (clash e) (sym s) ∙ any-none (λ e. clash e y) earlier h.1 e n | inr m ↦ r.1 x m e (inr n) ]),
         ((λ x m. r.1 x m y (inl refl)), r.2),
       )
 
-  pub none_first : (earlier xs : List X) → ((x : X) → Member x xs → own x ≡ true) → ((x : X) → Member x xs → (e : X) → Member e earlier → clash e x ≡ false) → EachTwo (λ e x. clash e x ≡ false) xs
+  pub none_first : (earlier xs : List X) → ((x : X) → Has xs x → own x ≡ true) → ((x : X) → Has xs x → (e : X) → Has earlier e → clash e x ≡ false) → EachTwo (λ e x. clash e x ≡ false) xs
       → first_after test earlier xs ≡ None
   none_first earlier [] good apart two = refl
   none_first earlier (y ∷ xs) good apart two =
@@ -38,7 +38,7 @@ module _ {X : Type 0} (test : List X → X → Bool) (own : X → Bool) (clash :
       (is.parts earlier y ∙ or_from _ _ (not_from_true _ (good y (inl refl))) (none-any (λ e. clash e y) earlier (λ e n. apart y (inl refl) e n)))
       ∙ none_first (y ∷ earlier) xs (λ x m. good x (inr m)) (λ x m e n. by x m e n) two.1
     where
-      by : (x : X) → Member x xs → (e : X) → (y ≡ e) ⊎ Member e earlier → clash e x ≡ false
+      by : (x : X) → Has xs x → (e : X) → (y ≡ e) ⊎ Has earlier e → clash e x ≡ false
       by x m e (inl s) = ap (λ (z : X). clash z x) (sym s) ∙ two.0 x m
       by x m e (inr n) = apart x (inr m) e n
 
@@ -46,7 +46,7 @@ pub two_map : {X : Type 0} (r s : X → X → Type 0) → ((x y : X) → r x y �
 two_map r s f [] h = tt
 two_map r s f (x ∷ xs) h = ((λ y m. f x y (h.0 y m)), two_map r s f xs h.1)
 
-pub two_members : {X : Type 0} (r : X → X → Type 0) (xs : List X) → EachTwo r xs → (x y : X) → Member x xs → Member y xs → (x ≡ y) ⊎ (r x y ⊎ r y x)
+pub two_members : {X : Type 0} (r : X → X → Type 0) (xs : List X) → EachTwo r xs → (x y : X) → Has xs x → Has xs y → (x ≡ y) ⊎ (r x y ⊎ r y x)
 two_members r [] two x y m n = absurd m
 two_members r (z ∷ xs) two x y (inl a) (inl b) = inl (sym a ∙ b)
 two_members r (z ∷ xs) two x y (inl a) (inr n) = inr (inl (subst (λ w. r w y) a (two.0 y n)))
@@ -54,7 +54,7 @@ two_members r (z ∷ xs) two x y (inr m) (inl b) = inr (inr (subst (λ w. r w x)
 two_members r (z ∷ xs) two x y (inr m) (inr n) = two_members r xs two.1 x y m n
 
 -- where it holds of each two members with the other relation
-pub two_within : {X : Type 0} (s r : X → X → Type 0) (xs : List X) → EachTwo s xs → ((x y : X) → Member x xs → Member y xs → s x y → r x y) → EachTwo r xs
+pub two_within : {X : Type 0} (s r : X → X → Type 0) (xs : List X) → EachTwo s xs → ((x y : X) → Has xs x → Has xs y → s x y → r x y) → EachTwo r xs
 two_within s r [] h f = tt
 two_within s r (x ∷ xs) h f = ((λ y m. f x y (inl refl) (inr m) (h.0 y m)), two_within s r xs h.1 (λ x y m n. f x y (inr m) (inr n)))
 
@@ -63,7 +63,7 @@ two_and r s [] a b = tt
 two_and r s (x ∷ xs) a b = ((λ y m. (a.0 y m, b.0 y m)), two_and r s xs a.1 b.1)
 
 -- of a list whose keys rise
-pub rising_two : {X : Type 0} (key : X → ℕ) (r : X → X → Type 0) (xs : List X) → EachTwo (λ x y. key x < key y) xs → EachTwo r xs → (x y : X) → Member x xs → Member y xs → key x < key y → r x y
+pub rising_two : {X : Type 0} (key : X → ℕ) (r : X → X → Type 0) (xs : List X) → EachTwo (λ x y. key x < key y) xs → EachTwo r xs → (x y : X) → Has xs x → Has xs y → key x < key y → r x y
 rising_two {X} key r xs rise two x y m n h = by (two_members (λ x y. (key x < key y) × r x y) xs (two_and (λ x y. key x < key y) r xs rise two) x y m n)
   where
     itself : (a b : ℕ) → a ≡ b → a < b → ⊥
@@ -77,42 +77,42 @@ rising_two {X} key r xs rise two x y m n h = by (two_members (λ x y. (key x < k
     by (inr (inl p)) = p.1
     by (inr (inr p)) = absurd (turned (key x) (key y) h p.0)
 
-pub two_append : {X : Type 0} (r : X → X → Type 0) (xs ys : List X) → EachTwo r (xs ++ ys) → EachTwo r xs × EachTwo r ys × ((x y : X) → Member x xs → Member y ys → r x y)
+pub two_append : {X : Type 0} (r : X → X → Type 0) (xs ys : List X) → EachTwo r (xs ++ ys) → EachTwo r xs × EachTwo r ys × ((x y : X) → Has xs x → Has ys y → r x y)
 two_append r [] ys h = (tt, h, λ x y m n. absurd m)
 two_append {X} r (z ∷ xs) ys h =
     let p = two_append r xs ys h.1 in
     (((λ y m. h.0 y (append-member-left xs ys y m)), p.0), p.1, λ x y m n. by p.2 x y m n)
   where
-    by : ((x y : X) → Member x xs → Member y ys → r x y) → (x y : X) → (z ≡ x) ⊎ Member x xs → Member y ys → r x y
+    by : ((x y : X) → Has xs x → Has ys y → r x y) → (x y : X) → (z ≡ x) ⊎ Has xs x → Has ys y → r x y
     by rest x y (inl e) n = subst (λ w. r w y) e (h.0 y (append-member-right xs ys y n))
     by rest x y (inr m) n = rest x y m n
 
-pub append_two : {X : Type 0} (r : X → X → Type 0) (xs ys : List X) → EachTwo r xs → EachTwo r ys → ((x y : X) → Member x xs → Member y ys → r x y) → EachTwo r (xs ++ ys)
+pub append_two : {X : Type 0} (r : X → X → Type 0) (xs ys : List X) → EachTwo r xs → EachTwo r ys → ((x y : X) → Has xs x → Has ys y → r x y) → EachTwo r (xs ++ ys)
 append_two r [] ys a b f = b
 append_two {X} r (z ∷ xs) ys a b f = ((λ y m. by y (member-append xs ys y m)), append_two r xs ys a.1 b (λ x y m n. f x y (inr m) n))
   where
-    by : (y : X) → Member y xs ⊎ Member y ys → r z y
+    by : (y : X) → Has xs y ⊎ Has ys y → r z y
     by y (inl m) = a.0 y m
     by y (inr m) = f z y (inl refl) m
 
 pub two_flat : {X Y : Type 0} (r : Y → Y → Type 0) (f : X → List Y) (xs : List X) → EachTwo r (flat_map f xs)
-    → EachTwo (λ x y. (u v : Y) → Member u (f x) → Member v (f y) → r u v) xs × ((x : X) → Member x xs → EachTwo r (f x))
+    → EachTwo (λ x y. (u v : Y) → Has (f x) u → Has (f y) v → r u v) xs × ((x : X) → Has xs x → EachTwo r (f x))
 two_flat r f [] h = (tt, λ x m. absurd m)
 two_flat {X} {Y} r f (x ∷ xs) h =
     let p = two_append r (f x) (flat_map f xs) h in
     let q = two_flat r f xs p.1 in
     (((λ y m u v a b. p.2 u v a (flat_member f xs y v m b)), q.0), λ y m. by p.0 q.1 y m)
   where
-    flat_member : (f : X → List Y) (xs : List X) (x : X) (y : Y) → Member x xs → Member y (f x) → Member y (flat_map f xs)
+    flat_member : (f : X → List Y) (xs : List X) (x : X) (y : Y) → Has xs x → Has (f x) y → Has (flat_map f xs) y
     flat_member f [] x y h m = absurd h
-    flat_member f (z ∷ xs) x y (inl e) m = append-member-left (f z) (flat_map f xs) y (subst (λ w. Member y (f w)) (sym e) m)
+    flat_member f (z ∷ xs) x y (inl e) m = append-member-left (f z) (flat_map f xs) y (subst (λ w. Has (f w) y) (sym e) m)
     flat_member f (z ∷ xs) x y (inr h) m = append-member-right (f z) (flat_map f xs) y (flat_member f xs x y h m)
 
-    by : EachTwo r (f x) → ((y : X) → Member y xs → EachTwo r (f y)) → (y : X) → (x ≡ y) ⊎ Member y xs → EachTwo r (f y)
+    by : EachTwo r (f x) → ((y : X) → Has xs y → EachTwo r (f y)) → (y : X) → (x ≡ y) ⊎ Has xs y → EachTwo r (f y)
     by a rest y (inl e) = subst (λ w. EachTwo r (f w)) e a
     by a rest y (inr m) = rest y m
 
-pub flat_two : {X Y : Type 0} (r : Y → Y → Type 0) (f : X → List Y) (xs : List X) → EachTwo (λ x y. (u v : Y) → Member u (f x) → Member v (f y) → r u v) xs → ((x : X) → Member x xs → EachTwo r (f x))
+pub flat_two : {X Y : Type 0} (r : Y → Y → Type 0) (f : X → List Y) (xs : List X) → EachTwo (λ x y. (u v : Y) → Has (f x) u → Has (f y) v → r u v) xs → ((x : X) → Has xs x → EachTwo r (f x))
     → EachTwo r (flat_map f xs)
 flat_two r f [] a b = tt
 flat_two r f (x ∷ xs) a b =
@@ -132,7 +132,7 @@ two_somes r f [] h = tt
 two_somes {X} {Y} r f (a ∷ xs) h =
     ((λ b m x y e s. head (f a) h x y e (some-member f xs b y m s)), two_somes r f xs (rest (f a) h))
   where
-    head : (o : Option Y) → EachTwo r (cons_option o (filter_map f xs)) → (x y : Y) → o ≡ Some x → Member y (filter_map f xs) → r x y
+    head : (o : Option Y) → EachTwo r (cons_option o (filter_map f xs)) → (x y : Y) → o ≡ Some x → Has (filter_map f xs) y → r x y
     head None h x y e m = absurd (none_some x e)
     head (Some z) h x y e m = subst (λ (w : Y). r w y) (some_in z x e) (h.0 y m)
 
@@ -162,7 +162,7 @@ pub enumerate_rises : {X : Type 0} (a : ℕ) (xs : List X) → EachTwo (λ p q. 
 enumerate_rises a [] = tt
 enumerate_rises {X} a (x ∷ xs) = ((λ q m. omega (arith, from (a + 1) xs q m)), enumerate_rises (a + 1) xs)
   where
-    from : (a : ℕ) (xs : List X) (q : ℕ × X) → Member q (enumerate_from a xs) → a ≤ q.0
+    from : (a : ℕ) (xs : List X) (q : ℕ × X) → Has (enumerate_from a xs) q → a ≤ q.0
     from a [] q m = absurd m
     from a (x ∷ xs) q (inl e) = omega (arith, ap (λ (z : ℕ × X). z.0) e)
     from a (x ∷ xs) q (inr m) = omega (arith, from (a + 1) xs q m)
@@ -186,12 +186,12 @@ two-some {X} {Y} r f (a ∷ xs) h =
       | Some x ↦ λ e. ((λ y m. of x e y (member-some f xs y m)), two-some r f xs h.1)
     ] refl
   where
-    of : (x : Y) → f a ≡ Some x → (y : Y) → (b : X) × Member b xs × (f b ≡ Some y) → r x y ≡ false
+    of : (x : Y) → f a ≡ Some x → (y : Y) → (b : X) × Has xs b × (f b ≡ Some y) → r x y ≡ false
     of x e y p =
         sym (ap (λ (o : Option Y). opt (λ x. opt (λ y. r x y) (f p.0)) o) e ∙ ap (λ (o : Option Y). opt (λ y. r x y) o) p.2) ∙ h.0 p.0 p.1
 
 pub two_rest : {Y : Type 0} (r : Y → Y → Bool) (o : Option Y) (ys : List Y) → EachTwo (λ x y. r x y ≡ false) (cons_option o ys)
-    → EachTwo (λ x y. r x y ≡ false) ys × ((x : Y) → o ≡ Some x → (y : Y) → Member y ys → r x y ≡ false)
+    → EachTwo (λ x y. r x y ≡ false) ys × ((x : Y) → o ≡ Some x → (y : Y) → Has ys y → r x y ≡ false)
 two_rest r None ys h = (h, λ x e. absurd (none_some x e))
 two_rest {Y} r (Some z) ys h = (h.1, λ x e y m. ap (λ (w : Y). r w y) (sym (some_in z x e)) ∙ h.0 y m)
 
@@ -200,7 +200,7 @@ pub some-two : {X Y : Type 0} (r : Y → Y → Bool) (f : X → Option Y) (xs : 
 some-two r f [] h = tt
 some-two {X} {Y} r f (a ∷ xs) h =
     let p = two_rest r (f a) (filter_map f xs) h in (
-      (λ b m. elim (f a) as (λ o. ((x : Y) → o ≡ Some x → (y : Y) → Member y (filter_map f xs) → r x y ≡ false) → opt (λ x. opt (λ y. r x y) (f b)) o ≡ false) [
+      (λ b m. elim (f a) as (λ o. ((x : Y) → o ≡ Some x → (y : Y) → Has (filter_map f xs) y → r x y ≡ false) → opt (λ x. opt (λ y. r x y) (f b)) o ≡ false) [
         | None ↦ λ g. refl
         | Some x ↦ λ g. elim (f b) as (λ o. f b ≡ o → opt (λ y. r x y) o ≡ false) [ None ↦ λ e. refl | Some y ↦ λ e. g x refl y (some-member f xs b y m e) ] refl
       ] p.1),
@@ -208,7 +208,7 @@ some-two {X} {Y} r f (a ∷ xs) h =
     )
 
 -- members with one key are one
-pub two_same : {X : Type 0} (key : X → ℕ) (xs : List X) → EachTwo (λ x y. key x ≢ key y) xs → (x y : X) → Member x xs → Member y xs → key x ≡ key y → x ≡ y
+pub two_same : {X : Type 0} (key : X → ℕ) (xs : List X) → EachTwo (λ x y. key x ≢ key y) xs → (x y : X) → Has xs x → Has xs y → key x ≡ key y → x ≡ y
 two_same key [] two x y m n e = absurd m
 two_same key (z ∷ xs) two x y (inl a) (inl b) e = sym a ∙ b
 two_same key (z ∷ xs) two x y (inl a) (inr n) e = absurd (two.0 y n (ap key a ∙ e))
@@ -219,7 +219,7 @@ two_same key (z ∷ xs) two x y (inr m) (inr n) e = two_same key xs two.1 x y m 
 abbrev pub is_not : ℕ → ℕ → Bool
 is_not n k = not (k == n)
 
-pub all_stay : (n : ℕ) (ns : List ℕ) → (Member n ns → ⊥) → length (filter (is_not n) ns) ≡ length ns
+pub all_stay : (n : ℕ) (ns : List ℕ) → (Has ns n → ⊥) → length (filter (is_not n) ns) ≡ length ns
 all_stay n [] far = refl
 all_stay n (m ∷ ns) far =
     ap (λ b. length (cond b (m ∷ filter (is_not n) ns) (filter (is_not n) ns))) (not_from_false _ (ne_eqb m n (λ e. far (inl e)))) ∙ ap (λ (k : ℕ). suc k) (all_stay n ns (λ h. far (inr h)))
@@ -238,7 +238,7 @@ one_goes n (m ∷ ns) two =
     more : (a b : ℕ) → a ≤ suc b → suc a ≤ suc (suc b)
     more a b e = omega arith
 
-pub not_many : (bound : ℕ) (ns : List ℕ) → EachTwo (λ a b. a ≢ b) ns → ((n : ℕ) → Member n ns → n < bound) → length ns ≤ bound
+pub not_many : (bound : ℕ) (ns : List ℕ) → EachTwo (λ a b. a ≢ b) ns → ((n : ℕ) → Has ns n → n < bound) → length ns ≤ bound
 not_many zero [] two below = omega arith
 not_many zero (n ∷ ns) two below = absurd (none (below n (inl refl)))
   where

@@ -10,7 +10,8 @@ use Rattle.nl_field.specs.declared.inode.InodeRec.{InodeRec}
 use Rattle.nl_field.specs.declared.inode.Kind.TheVariants.{Dir}
 use Rattle.nl_field.specs.declared.shape.Shape.{Shape}
 use Rattle.nl_meta.specs.Committed.{VirtualMap}
-use Rattle.nl_meta.specs.Consistent.{Member, IsNode, GoodEntry, at_root, by_entry, EntryAt, Reached, EntriesRight}
+use Rattle.nl_field.specs.Members.{Has}
+use Rattle.nl_meta.specs.Consistent.{IsNode, GoodEntry, at_root, by_entry, EntryAt, Reached, EntriesRight}
 use Rattle.nl_meta.specs.Nodes.{bytes_of_place}
 use Rattle.nl_meta.specs.Walk.{or_then, is_dir_kind, used_nodes, EntryPlace, places_of, Naming, naming_of, all_places, entry_fault, reach_fault}
 use Rattle.nl_meta.proofs.EntryProofs.{place_at, is_there, places_in, in_places, pair_of, entry_place, naming_member, naming_at, entries_listed}
@@ -20,9 +21,9 @@ use Rattle.nl_meta.proofs.NodeProofs.{dir_kind, used_is, is_used, used_rise, sam
 use Rattle.nl_meta.proofs.Pairs.{two_within, rising_two, two_flat, flat_two, two_mapped, mapped_two, two_somes, somes_two, two_filtered, range_rises, itself}
 
 module _ (shape : Shape) (pages : VirtualMap) where
-  place_in : PlacesThere shape pages → (d : ℕ) (rec : InodeRec) (i : ℕ) → IsNode shape pages d rec → rec.kind ≡ Dir → i < rec.size → Member (place_at shape pages d rec i) (places_of pages (d, rec))
+  place_in : PlacesThere shape pages → (d : ℕ) (rec : InodeRec) (i : ℕ) → IsNode shape pages d rec → rec.kind ≡ Dir → i < rec.size → Has (places_of pages (d, rec)) (place_at shape pages d rec i)
   place_in t d rec i is dir below =
-      subst (λ b. Member (place_at shape pages d rec i) (cond b (map (place_at shape pages d rec) (places_in shape pages rec)) [])) (sym (ap is_dir_kind dir))
+      subst (λ b. Has (cond b (map (place_at shape pages d rec) (places_in shape pages rec)) []) (place_at shape pages d rec i)) (sym (ap is_dir_kind dir))
       (map-member (place_at shape pages d rec) (places_in shape pages rec) i (in_places shape pages t d rec i is dir (entry_place shape pages rec.size i below)))
 
   places_rise : (rec : InodeRec) → EachTwo (λ i j. i < j) (places_in shape pages rec)
@@ -45,9 +46,9 @@ module _ (shape : Shape) (pages : VirtualMap) where
     of_places p q = (x y : Naming) → naming_of p ≡ Some x → naming_of q ≡ Some y → r x y
 
     abbrev of_dirs : ℕ × InodeRec → ℕ × InodeRec → Type 0
-    of_dirs x y = (u v : EntryPlace) → Member u (places_of pages x) → Member v (places_of pages y) → of_places u v
+    of_dirs x y = (u v : EntryPlace) → Has (places_of pages x) u → Has (places_of pages y) v → of_places u v
 
-    split : EachTwo r (namings shape pages) → EachTwo of_dirs (used_nodes shape pages) × ((x : ℕ × InodeRec) → Member x (used_nodes shape pages) → EachTwo of_places (places_of pages x))
+    split : EachTwo r (namings shape pages) → EachTwo of_dirs (used_nodes shape pages) × ((x : ℕ × InodeRec) → Has (used_nodes shape pages) x → EachTwo of_places (places_of pages x))
     unfolding namings all_places
     split two = two_flat of_places (places_of pages) (used_nodes shape pages) (two_somes r naming_of (flat_map (places_of pages) (used_nodes shape pages)) two)
 
@@ -68,7 +69,7 @@ module _ (shape : Shape) (pages : VirtualMap) where
         same : b.rec ≡ a.rec
         same = same_rec shape pages d b.rec a.rec b.is_node a.is_node
 
-        inside : (k : ℕ) → k < a.rec.size → Member k (places_in shape pages a.rec)
+        inside : (k : ℕ) → k < a.rec.size → Has (places_in shape pages a.rec) k
         inside k below = in_places shape pages t d a.rec k a.is_node a.is_dir (entry_place shape pages a.rec.size k below)
 
     moved_to : (d d' : ℕ) (a b : Naming) → d ≡ a.0 → d' ≡ b.0 → r (d, a.1) (d', b.1) → r a b
@@ -85,9 +86,9 @@ module _ (shape : Shape) (pages : VirtualMap) where
         (λ x y m n h u v mu mv a b eu ev. dirs x y (used_is shape pages x m) (used_is shape pages y n) h u v mu mv a b eu ev))
         (λ x m. dir x (used_is shape pages x m)))
       where
-        place : (x : ℕ × InodeRec) → IsNode shape pages x.0 x.1 → (u : EntryPlace) → Member u (places_of pages x) → (a : Naming) → naming_of u ≡ Some a → (i : ℕ) × EntryAt shape pages x.0 i a.1 × (x.0 ≡ a.0)
+        place : (x : ℕ × InodeRec) → IsNode shape pages x.0 x.1 → (u : EntryPlace) → Has (places_of pages x) u → (a : Naming) → naming_of u ≡ Some a → (i : ℕ) × EntryAt shape pages x.0 i a.1 × (x.0 ≡ a.0)
         place x is u m a e =
-            elim (is_dir_kind x.1.kind) as (λ t. is_dir_kind x.1.kind ≡ t → Member u (cond t (map (place_at shape pages x.0 x.1) (places_in shape pages x.1)) []) → (i : ℕ) × EntryAt shape pages x.0 i a.1 × (x.0 ≡ a.0)) [
+            elim (is_dir_kind x.1.kind) as (λ t. is_dir_kind x.1.kind ≡ t → Has (cond t (map (place_at shape pages x.0 x.1) (places_in shape pages x.1)) []) u → (i : ℕ) × EntryAt shape pages x.0 i a.1 × (x.0 ≡ a.0)) [
               | true ↦ λ t m.
                   let q = member-map (place_at shape pages x.0 x.1) (places_in shape pages x.1) u m in
                   let w = entry_here x.0 x.1 q.0 is (dir_kind x.1.kind t) a (ap naming_of q.2 ∙ e) in

@@ -1,11 +1,14 @@
 -- Images of 32 by 32 with a file of many pages, for the last phases of the walk.
-use Rattle.std.specs.Prelude.{ℕ, ◌+◌, ◌-◌, ◌*◌, nat_lt, if◌then◌else◌, List, [], ◌∷◌, ◌++◌, replicate, map, flat_map, codes}
+use Rattle.std.specs.Prelude.{ℕ, ◌+◌, ◌-◌, ◌*◌, ◌==◌, nat_lt, true, Option, Some, None, slice_index, if◌then◌else◌, List, [], ◌∷◌, ◌++◌, replicate, map, flat_map, codes}
 use Rattle.std.specs.List.{range_with_len}
 use Rattle.nl_field.specs.Page.{Page, erased, Image}
 use Rattle.nl_field.specs.Pointers.{no_pointer, indirect_bytes}
 use Rattle.nl_field.specs.Inode.{inode_bytes}
 use Rattle.nl_field.specs.declared.pointer.Pointer.{Pointer}
+use Rattle.nl_field.specs.declared.inode.InodeRec.{InodeRec}
 use Rattle.nl_field.specs.declared.inode.Kind.TheVariants.{File}
+use Rattle.nl_field.specs.declared.seen.Seen.{Seen}
+use Rattle.nl_field.specs.declared.spare.SpareRec.TheVariants.{Virtual, Physical}
 use Rattle.nl_meta.specs.Phases.{at_address, data_page, image_with, super_with, dir_of, entry_for, ptr}
 
 -- the first n pointers, and none behind them
@@ -13,28 +16,38 @@ abbrev pub pointer_below : ℕ → (ℕ → Pointer) → ℕ → Pointer
 pointer_below n p i = if nat_lt i n then p i else no_pointer
 
 -- a file of n pages with these pointers, whose indirect pages stand from address 72 on
-abbrev pub file_of_pages : ℕ → (ℕ → Pointer) → List ℕ
+abbrev pub file_of_pages : ℕ → (ℕ → Pointer) → InodeRec
 file_of_pages n p =
-    inode_bytes (record {
+    record {
       kind = File;
       generation = 1;
       size = 4096 * n;
       direct = map (pointer_below n p) (range_with_len 0 8);
       addresses = map (λ r. if nat_lt (8 + 256 * r) n then 72 + r else 0) (range_with_len 0 16);
-    })
+    }
 
 abbrev pub indirect_page : ℕ → (ℕ → Pointer) → ℕ → List ℕ
 indirect_page n p r = indirect_bytes (map (pointer_below n p) (range_with_len (8 + 256 * r) 256))
 
+-- the pages of such a file, of at most 520 pages
+abbrev pub pages_of_pages : ℕ → (ℕ → Pointer) → ℕ → Option (List ℕ)
+pages_of_pages n p v = if v == 72 then Some (indirect_page n p 0) else (if v == 73 then Some (indirect_page n p 1) else None)
+
 -- the root and the file /a of n pages, of at most 520, with these pointers
 abbrev pub with_pages : ℕ → (ℕ → Pointer) → List Page → Image
 with_pages n p data_pages =
-    image_with (at_address 67 5 (dir_of 1 (71 ∷ []) ++ file_of_pages n p) ∷ at_address 0 6 (super_with 2) ∷ at_address 71 7 (entry_for 1 1 (codes "a"))
+    image_with (at_address 67 5 (dir_of 1 (71 ∷ []) ++ inode_bytes (file_of_pages n p)) ∷ at_address 0 6 (super_with 2) ∷ at_address 71 7 (entry_for 1 1 (codes "a"))
     ∷ at_address 72 8 (indirect_page n p 0) ∷ at_address 73 9 (indirect_page n p 1) ∷ []) data_pages
 
 -- n pages in a row, each where its pointer says
 abbrev pub filled : ℕ → Image
 filled n = with_pages n (λ i. ptr (256 + i) (10 + i)) (map (λ i. data_page i (10 + i) []) (range_with_len 0 n))
+
+-- what a scan lists of that image
+abbrev pub list_of_filled : ℕ → List Seen
+list_of_filled n =
+    map (λ i. record { page = i; rec = Virtual (slice_index (67 ∷ 0 ∷ 71 ∷ 72 ∷ 73 ∷ []) i) (5 + i) 0; zeros = 4096; agrees = true }) (range_with_len 0 5)
+    ++ map (λ i. record { page = 256 + i; rec = Physical (record { ino = 1; generation = 1; index = i }) (10 + i) 0; zeros = 0; agrees = true }) (range_with_len 0 n)
 
 -- a page in the first n physical blocks, each where its pointer says
 abbrev pub spread : ℕ → Image

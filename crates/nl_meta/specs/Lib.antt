@@ -1,8 +1,10 @@
 pub mod Committed
 pub mod Consistent
 pub mod Examples
+pub mod FindingsLaw
 pub mod LargeFiles
 pub mod Nodes
 pub mod Phases
+pub mod RightLaws
 pub mod Walk
 pub mod WalkLaw

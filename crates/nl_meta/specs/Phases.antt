@@ -1,5 +1,5 @@
 -- Images of 32 by 32, one for each phase of the walk.
-use Rattle.std.specs.Prelude.{ℕ, ◌-◌, List, [], ◌∷◌, ◌++◌, replicate, length, codes}
+use Rattle.std.specs.Prelude.{ℕ, ◌-◌, ◌==◌, if◌then◌else◌, Option, Some, None, List, [], ◌∷◌, ◌++◌, replicate, length, codes}
 use Rattle.nl_field.specs.Page.{Page, erased, Image}
 use Rattle.nl_field.specs.SpareRecord.{spare_bytes}
 use Rattle.nl_field.specs.SuperPage.{super_bytes}
@@ -9,6 +9,7 @@ use Rattle.nl_field.specs.EntryRecord.{entry_bytes}
 use Rattle.nl_field.specs.Pointers.{no_pointer}
 use Rattle.nl_field.specs.Bytes.{zeros}
 use Rattle.nl_field.specs.declared.pointer.Pointer.{Pointer}
+use Rattle.nl_field.specs.declared.inode.InodeRec.{InodeRec}
 use Rattle.nl_field.specs.declared.inode.Kind.TheVariants.{Dir, File}
 use Rattle.nl_field.specs.declared.spare.SpareRec.TheVariants.{Virtual, Physical}
 use Rattle.nl_meta.specs.Examples.{page_with}
@@ -98,6 +99,17 @@ bad_names = usual usual_nodes (entry_for 1 1 (codes "a")) (data_page 0 3 (codes 
 abbrev pub moved_page : Image
 moved_page = usual usual_nodes (entry_for 1 1 (codes "a")) (data_page 0 3 (codes "one") ∷ erased ∷ data_page 1 4 (codes "two") ∷ [])
 
+-- each data page is in physical blocks 8 and 9
+abbrev pub copied : Image
+copied = usual usual_nodes (entry_for 1 1 (codes "a")) (usual_data ++ replicate 30 erased ++ usual_data)
+
+-- a directory of two entries, in address 71
+abbrev pub two_entries : InodeRec
+two_entries = record { kind = Dir; generation = 0; size = 2; direct = replicate 8 no_pointer; addresses = 71 ∷ zeros 15 }
+
+abbrev pub page_of_two : ℕ → Option (List ℕ)
+page_of_two v = if v == 71 then Some (entry_for 1 1 (codes "a") ++ entry_for 2 1 (codes "ab") ++ zeros 3968) else None
+
 -- A new root and count stand in a transaction that lists these addresses, has these pages besides and a commit page of this
 -- number, beside the pages at home.
 abbrev pub transaction : List ℕ → List Page → ℕ → Image
@@ -112,6 +124,13 @@ two_images = at_address 3 12 usual_nodes ∷ at_address 4 13 (entry_for 1 1 (cod
 -- header and commit page have the same number or not
 abbrev pub with_journal : ℕ → Image
 with_journal commit_number = transaction (0 ∷ 67 ∷ 71 ∷ []) two_images commit_number
+
+-- The transaction has a new root and its entries, and not the super page.
+abbrev pub without_super : Image
+without_super =
+    image_with (at_address 67 1 (dir_of 0 []) ∷ at_address 0 2 (super_with 0)
+    ∷ at_address 1 10 (header_bytes (record { number = 1; addresses = 67 ∷ 71 ∷ [] }))
+    ∷ at_address 2 11 usual_nodes ∷ at_address 3 12 (entry_for 1 1 (codes "a")) ∷ at_address 66 13 (commit_bytes (record { number = 1 })) ∷ []) usual_data
 
 -- the last image was never written
 abbrev pub without_image : Image

@@ -1,5 +1,7 @@
--- The walk of an opening: the first place at fault, in the order of its phases. An image is sound where there is none.
-use Rattle.std.specs.Prelude.{◌≡◌, ℕ, zero, suc, ◌+◌, ◌-◌, ◌*◌, ◌==◌, nat_le, nat_lt, Bool, true, false, not, ◌&&◌, ◌||◌, if◌then◌else◌, List, [], ◌∷◌, length, drop, map, filter, filter_map, flat_map, find, count_by, bytes_eq, Option, Some, None, option_map, is_none, is_some, IsTrue, AllPairs}
+-- The walk of an opening: the first place at fault, in the order of its phases, over the numbers of a volume, its committed pages, and
+-- the list of readable pages that a scan gives. The walk of an image is that over its own pages. An image is consistent where there is no
+-- fault.
+use Rattle.std.specs.Prelude.{◌≡◌, ℕ, zero, suc, ◌+◌, ◌-◌, ◌*◌, ◌==◌, nat_le, nat_lt, Bool, true, false, not, ◌&&◌, ◌||◌, if◌then◌else◌, List, [], ◌∷◌, length, map, filter, filter_map, flat_map, find, count_by, bytes_eq, Option, Some, None, option_map, is_none, is_some, IsTrue, AllPairs}
 use Rattle.std.specs.List.{list_all, list_any, range_with_len}
 use Rattle.std.specs.Int.{div_ceil}
 use Rattle.nl_field.specs.Numbers.{is_legal}
@@ -7,12 +9,13 @@ use Rattle.nl_field.specs.Page.{Image}
 use Rattle.nl_field.specs.Bytes.{all_zero}
 use Rattle.nl_field.specs.EntryRecord.{entry_of}
 use Rattle.nl_field.specs.Pointers.{indirect_of}
-use Rattle.nl_field.specs.Medium.{shape_of_image, Readable, stamp_on, virtual_pages, physical_pages, readable_pages}
-use Rattle.nl_field.specs.Space.{is_lost, owns_name, virtual_spare, physical_spare, place_outside}
-use Rattle.nl_field.specs.Scan.{differs_from_lower}
+use Rattle.nl_field.specs.Medium.{shape_of_image, readable_pages}
+use Rattle.nl_field.specs.ScanList.{seen_in, virtual_seen, physical_seen, is_lost_seen, owns_seen, virtual_spare_seen, physical_spare_seen, place_seen}
+use Rattle.nl_field.specs.SpareRecord.{stamp_of}
 use Rattle.nl_field.specs.declared.shape.Shape.{Shape}
 use Rattle.nl_field.specs.declared.pointer.Pointer.{Pointer}
 use Rattle.nl_field.specs.declared.pointer.Tag.{Tag}
+use Rattle.nl_field.specs.declared.seen.Seen.{Seen}
 use Rattle.nl_field.specs.declared.spare.SpareRec.{SpareRec}
 use Rattle.nl_field.specs.declared.spare.SpareRec.TheVariants.{Virtual, Physical}
 use Rattle.nl_field.specs.declared.super_page.SuperRec.{SuperRec}
@@ -24,7 +27,7 @@ use Rattle.nl_field.specs.declared.place.Place.{Place}
 use Rattle.nl_field.specs.declared.place.What.{What}
 use Rattle.nl_field.specs.declared.place.What.TheVariants.{Super, Stamp, Inode, Pages as PagesPhase, Entry, Pointer as PointerPhase, Names, Charges, Crowded}
 use Rattle.nl_meta.specs.Committed.{VirtualMap, committed_of}
-use Rattle.nl_meta.specs.Nodes.{bytes_at, super_of_pages, bytes_of_node, inode_at, address_of_place, bytes_of_place, is_physical_name, Held, committed_pointers}
+use Rattle.nl_meta.specs.Nodes.{bytes_at, super_of_pages, bytes_of_node, inode_at, slots_of, address_of_place, bytes_of_place, is_physical_name, Held, held_in}
 
 -- ---- finding the first fault
 
@@ -39,14 +42,14 @@ zero_where b = if b then Some 0 else None
 
 -- ---- super: the record of address 0, with the medium's legal numbers
 
-abbrev pub is_super_of : Image → Option SuperRec → Bool
-is_super_of image None = false
-is_super_of image (Some rec) = rec.blocks == image.blocks && rec.pages == image.pages && is_legal image.blocks image.pages
+abbrev pub is_super_of : Shape → Option SuperRec → Bool
+is_super_of shape None = false
+is_super_of shape (Some rec) = rec.blocks == shape.blocks && rec.pages == shape.pages && is_legal shape.blocks shape.pages
 
 -- ---- stamp: pages of one stamp agree, apart from wear
 
-unfoldable pub stamp_fault : List Readable → Option ℕ
-stamp_fault pages = option_map (λ r. r.page) (find (differs_from_lower pages) pages)
+unfoldable pub stamp_fault : List Seen → Option ℕ
+stamp_fault seen = option_map (λ s. s.page) (find (λ s. not s.agrees) seen)
 
 -- ---- inode: records are spelled, their direct pointers lie in the physical segment, what follows the last node is zero, and node 0 is a directory
 
@@ -81,7 +84,7 @@ used_nodes shape pages =
 
 -- whether it is of a file, and the address
 abbrev pub addresses_of : ℕ × InodeRec → List (Bool × ℕ)
-addresses_of (n, rec) = map (λ a. (is_file_kind rec.kind, a)) (filter (λ a. not (a == 0)) rec.addresses)
+addresses_of (n, rec) = map (λ a. (is_file_kind rec.kind, a)) (filter (λ a. not (a == 0)) (slots_of rec))
 
 abbrev pub is_good_indirect : Shape → Option (List Pointer) → Bool
 is_good_indirect shape None = false
@@ -158,36 +161,37 @@ abbrev pub has_tag : Tag → SpareRec → Bool
 has_tag tag (Virtual vaddr stamp wear) = false
 has_tag tag (Physical t stamp wear) = tag_eq tag t
 
--- a readable physical page of that stamp and tag
-abbrev pub page_of : Image → Held → Option Readable
-page_of image h = find (λ r. stamp_on r == h.pointer.stamp && has_tag h.tag r.rec) (physical_pages image)
+-- the page has the stamp and the tag of the pointer
+abbrev pub is_page_of : Held → Seen → Bool
+is_page_of h s = stamp_of s.rec == h.pointer.stamp && has_tag h.tag s.rec
 
-abbrev pub is_zero_behind : ℕ → Option Readable → Bool
-is_zero_behind size None = false
-is_zero_behind size (Some r) = all_zero (drop size r.main)
+-- A physical page has the pointer's stamp and tag, and each one that has is zero from the file's size on.
+abbrev pub has_page : List Seen → Held → Bool
+has_page physicals h =
+    list_any (is_page_of h) physicals && list_all (λ s. not (is_page_of h s) || nat_le s.zeros (h.size - 4096 * h.tag.index)) physicals
 
-abbrev pub is_bad_pointer : Image → List Held → Held → Bool
-is_bad_pointer image earlier h =
+abbrev pub is_bad_pointer : List Seen → List Held → Held → Bool
+is_bad_pointer physicals earlier h =
     not (nat_lt h.tag.index (div_ceil h.size 4096)) || list_any (λ e. e.pointer.stamp == h.pointer.stamp || e.pointer.name == h.pointer.name) earlier
-    || not (is_zero_behind (h.size - 4096 * h.tag.index) (page_of image h))
+    || not (has_page physicals h)
 
-unfoldable pub pointer_fault : Image → List Held → Option ℕ
-pointer_fault image held = option_map (λ h. h.tag.ino) (first_after (is_bad_pointer image) [] held)
+unfoldable pub pointer_fault : List Seen → List Held → Option ℕ
+pointer_fault physicals held = option_map (λ h. h.tag.ino) (first_after (is_bad_pointer physicals) [] held)
 
 -- ---- names, charges, crowded
 
-unfoldable pub name_fault : Image → List Held → Option ℕ
-name_fault image held = option_map (λ h. h.pointer.name) (find (λ h. not (owns_name image h.pointer)) held)
+unfoldable pub name_fault : Shape → List Seen → List Held → Option ℕ
+name_fault shape seen held = option_map (λ h. h.pointer.name) (find (λ h. not (owns_seen shape seen h.pointer)) held)
 
 -- the spare block of the physical segment, beside these pointers
-abbrev pub spare_beside : Image → List Held → Option ℕ
-spare_beside image held = physical_spare image (map (λ h. h.pointer.stamp) held)
+abbrev pub spare_beside : Shape → List Seen → List Held → Option ℕ
+spare_beside shape seen held = physical_spare_seen shape seen (map (λ h. h.pointer.stamp) held)
 
-unfoldable pub crowded_fault : Image → List Held → Option ℕ
-crowded_fault image held =
-    if is_none (virtual_spare image) then Some 0
-    else (if is_none (spare_beside image held) then Some 1
-    else (if nat_lt (3 * image.pages) (count_by (λ h. is_lost image h.pointer) held) then Some 2 else None))
+unfoldable pub crowded_fault : Shape → List Seen → List Held → Option ℕ
+crowded_fault shape seen held =
+    if is_none (virtual_spare_seen shape seen) then Some 0
+    else (if is_none (spare_beside shape seen held) then Some 1
+    else (if nat_lt (3 * shape.pages) (count_by (λ h. is_lost_seen shape seen h.pointer) held) then Some 2 else None))
 
 -- ---- the walk
 
@@ -196,29 +200,39 @@ or_then None later = later
 or_then (Some place) later = Some place
 
 -- the first place at fault in a phase
-unfoldable pub phase_fault : Image → What → Option ℕ
-phase_fault image Super = zero_where (not (is_super_of image (super_of_pages (committed_of image))))
-phase_fault image Stamp = or_then (stamp_fault (virtual_pages image)) (stamp_fault (physical_pages image))
-phase_fault image Inode = inode_fault (shape_of_image image) (committed_of image)
-phase_fault image PagesPhase = pages_fault (shape_of_image image) (committed_of image)
-phase_fault image Entry = or_then (entry_fault (shape_of_image image) (committed_of image)) (reach_fault (shape_of_image image) (committed_of image))
-phase_fault image PointerPhase = pointer_fault image (committed_pointers image)
-phase_fault image Names = name_fault image (committed_pointers image)
-phase_fault image Charges = zero_where (nat_lt (shape_of_image image).cap (length (committed_pointers image)))
-phase_fault image Crowded = crowded_fault image (committed_pointers image)
+unfoldable pub fault_in : Shape → VirtualMap → List Seen → What → Option ℕ
+fault_in shape pages seen Super = zero_where (not (is_super_of shape (super_of_pages pages)))
+fault_in shape pages seen Stamp = or_then (stamp_fault (virtual_seen shape seen)) (stamp_fault (physical_seen shape seen))
+fault_in shape pages seen Inode = inode_fault shape pages
+fault_in shape pages seen PagesPhase = pages_fault shape pages
+fault_in shape pages seen Entry = or_then (entry_fault shape pages) (reach_fault shape pages)
+fault_in shape pages seen PointerPhase = pointer_fault (physical_seen shape seen) (held_in shape pages)
+fault_in shape pages seen Names = name_fault shape seen (held_in shape pages)
+fault_in shape pages seen Charges = zero_where (nat_lt shape.cap (length (held_in shape pages)))
+fault_in shape pages seen Crowded = crowded_fault shape seen (held_in shape pages)
 
 abbrev pub all_phases : List What
 all_phases = Super ∷ Stamp ∷ Inode ∷ PagesPhase ∷ Entry ∷ PointerPhase ∷ Names ∷ Charges ∷ Crowded ∷ []
 
-abbrev pub first_fault : Image → List What → Option Place
-first_fault image [] = None
-first_fault image (phase ∷ phases) =
-    let later = first_fault image phases in
-    elim (phase_fault image phase) [ None ↦ later | Some place ↦ Some (record { place = place; what = phase }) ]
+abbrev pub first_fault : (What → Option ℕ) → List What → Option Place
+first_fault fault [] = None
+first_fault fault (phase ∷ phases) =
+    let later = first_fault fault phases in
+    elim (fault phase) [ None ↦ later | Some place ↦ Some (record { place = place; what = phase }) ]
 
--- the first place at fault; an image with a readable page is sound where there is none
+-- the first place at fault
+unfoldable pub walk_over : Shape → VirtualMap → List Seen → Option Place
+walk_over shape pages seen = first_fault (fault_in shape pages seen) all_phases
+
+-- ---- an image
+
+-- the first place at fault in a phase, of an image
+unfoldable pub phase_fault : Image → What → Option ℕ
+phase_fault image what = fault_in (shape_of_image image) (committed_of image) (seen_in image) what
+
+-- the first place at fault of an image; one with a readable page is consistent where there is none
 unfoldable pub walk : Image → Option Place
-walk image = first_fault image all_phases
+walk image = walk_over (shape_of_image image) (committed_of image) (seen_in image)
 
 unfoldable pub is_blank : Image → Bool
 is_blank image = length (readable_pages image) == 0
@@ -239,8 +253,11 @@ opening_answer image = if is_blank image then answers_blank else answer_of_walk 
 
 -- Where an opening finds the page of a pointer: under its own name where that page holds the stamp and is outside the
 -- spare block, and else in the least readable page of that stamp outside it.
+unfoldable pub place_over : Shape → VirtualMap → List Seen → Pointer → Option ℕ
+place_over shape pages seen p = place_seen shape seen (spare_beside shape seen (held_in shape pages)) p
+
 unfoldable pub place_of_pointer : Image → Pointer → Option ℕ
-place_of_pointer image p = place_outside image (spare_beside image (committed_pointers image)) p
+place_of_pointer image p = place_over (shape_of_image image) (committed_of image) (seen_in image) p
 
 -- ---- what a checker may find
 
@@ -249,7 +266,7 @@ ends_findings Super = true
 ends_findings Inode = true
 ends_findings _ = false
 
--- A bit is set only where its phase has a fault. That of the opening is set. After `super` and after `inode` no later one is.
+-- A bit is set only where its phase has a fault. That of the first fault is set. After `super` and after `inode` no later one is.
 pub record AreFindings (image : Image) (is_set : What → Bool) : Type 0 where
   pub only_faults : (what : What) → IsTrue (is_set what) → IsTrue (is_some (phase_fault image what))
   pub first_set : (place : Place) → walk image ≡ Some place → IsTrue (is_set place.what)

@@ -1,7 +1,30 @@
 //! Laws of the definitions. Each function stands for the law that its contract names.
-ghost use Rattle.nl_meta.specs.WalkLaw.{WalkIsConsistency};
+ghost use Rattle.nl_meta.specs.FindingsLaw.{NoFindings, PlacesAreTaken};
+ghost use Rattle.nl_meta.specs.RightLaws.{ImageIsRight};
+ghost use Rattle.nl_meta.specs.WalkLaw.{ListsAgree, WalkIsConsistency, WalkIsConsistencyOver};
 
-// The walk finds no fault exactly where the image is consistent.
+// The walk finds no fault exactly where the volume is consistent, also over pages and a list that are no image's.
 pub fn walk_is_consistency()
-    ensures { WalkIsConsistency }
+    ensures image { WalkIsConsistency }
+    ensures any { WalkIsConsistencyOver }
+{}
+
+// That each page of an image's list agrees says that pages of one write sequence number are the same.
+pub fn lists_agree()
+    ensures { ListsAgree }
+{}
+
+// Metadata of an image that is right is right with the pages by stamp that the image has.
+pub fn image_is_right()
+    ensures { ImageIsRight }
+{}
+
+// A check finds nothing exactly where the image is consistent.
+pub fn no_findings()
+    ensures { NoFindings }
+{}
+
+// The place of a pointer is the one that a device takes.
+pub fn places_are_taken()
+    ensures { PlacesAreTaken }
 {}

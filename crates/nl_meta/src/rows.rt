@@ -1,12 +1,14 @@
-ghost use Rattle.std.specs.Prelude.{◌≡◌, ◌∷◌, [], Some, None, codes, option_map, option_and_then};
+ghost use Rattle.std.specs.Prelude.{◌≡◌, ◌==◌, ◌+◌, Some, None, codes, find, option_map};
+ghost use Rattle.nl_field.specs.Numbers.{shape_for};
 ghost use Rattle.nl_field.specs.Page.{uncorrectable};
 ghost use Rattle.nl_field.specs.Examples.{fresh_image, two_supers};
 ghost use Rattle.nl_field.specs.declared.place.What.TheVariants.{Super, Stamp, Inode, Pages, Entry, Pointer, Names, Charges, Crowded};
-ghost use Rattle.nl_meta.specs.Committed.{committed_of};
-ghost use Rattle.nl_meta.specs.Nodes.{super_of_pages};
-ghost use Rattle.nl_meta.specs.Phases.{sound_image, bad_super, bad_stamp, bad_inode, bad_pages, bad_entry, behind_entries, two_names, unreached, bad_pointer, bad_names, moved_page, with_journal, without_image, far_address, only_missing, blank_image};
-ghost use Rattle.nl_meta.specs.LargeFiles.{filled, spread, lost, virtual_blocks};
-ghost use Rattle.nl_meta.specs.Walk.{walk, phase_fault, opening_answer, answers_blank, answers_damaged, opens, place_of_pointer};
+ghost use Rattle.nl_field.specs.Virtual.{virtual_bytes};
+ghost use Rattle.nl_meta.specs.Committed.{committed_of, header_at, next_number};
+ghost use Rattle.nl_meta.specs.Nodes.{committed_pointers, entry_named, pointer_at, super_of_pages};
+ghost use Rattle.nl_meta.specs.Phases.{copied, page_of_two, ptr, two_entries, without_super, sound_image, bad_super, bad_stamp, bad_inode, bad_pages, bad_entry, behind_entries, two_names, unreached, bad_pointer, bad_names, moved_page, with_journal, without_image, far_address, only_missing, blank_image};
+ghost use Rattle.nl_meta.specs.LargeFiles.{file_of_pages, filled, list_of_filled, pages_of_pages, spread, lost, virtual_blocks};
+ghost use Rattle.nl_meta.specs.Walk.{walk, walk_over, phase_fault, opening_answer, answers_blank, answers_damaged, opens, place_of_pointer};
 ghost use Rattle.nl_meta.specs.Examples.{image_of_a, hello_page, long_page};
 
 pub fn fresh_is_sound()
@@ -51,6 +53,33 @@ pub fn journal()
     ensures old_count { option_map (λ rec. rec.count) (super_of_pages (committed_of (with_journal 2))) ≡ Some 0 }
     ensures no_image { option_map (λ rec. rec.count) (super_of_pages (committed_of without_image)) ≡ Some 0 }
     ensures no_address { option_map (λ rec. rec.count) (super_of_pages (committed_of far_address)) ≡ Some 0 }
+    ensures no_header { header_at (shape_for 32 32) (virtual_bytes far_address) ≡ None }
+    ensures any_addresses { option_map (λ h. h.tag.index) (find (λ h. h.pointer.stamp == 4) (committed_pointers without_super)) ≡ Some 1 }
+    ensures old_super { option_map (λ rec. rec.count) (super_of_pages (committed_of without_super)) ≡ Some 0 }
+{}
+
+// The next transaction has a number above both that are spelled.
+pub fn numbers()
+    ensures none { next_number (shape_for 32 32) (virtual_bytes fresh_image) ≡ 1 }
+    ensures both { next_number (shape_for 32 32) (virtual_bytes (with_journal 1)) ≡ 2 }
+    ensures greater { next_number (shape_for 32 32) (virtual_bytes (with_journal 2)) ≡ 3 }
+{}
+
+// The pointers of a file of 300 pages at the borders of the node, of its first range and of its end.
+pub fn pointers_by_index()
+    ensures last_direct { pointer_at (pages_of_pages 300 (λ i. ptr (256 + i) (10 + i))) (file_of_pages 300 (λ i. ptr (256 + i) (10 + i))) 7 ≡ ptr 263 17 }
+    ensures first_indirect { pointer_at (pages_of_pages 300 (λ i. ptr (256 + i) (10 + i))) (file_of_pages 300 (λ i. ptr (256 + i) (10 + i))) 8 ≡ ptr 264 18 }
+    ensures last_of_range { pointer_at (pages_of_pages 300 (λ i. ptr (256 + i) (10 + i))) (file_of_pages 300 (λ i. ptr (256 + i) (10 + i))) 263 ≡ ptr 519 273 }
+    ensures next_range { pointer_at (pages_of_pages 300 (λ i. ptr (256 + i) (10 + i))) (file_of_pages 300 (λ i. ptr (256 + i) (10 + i))) 264 ≡ ptr 520 274 }
+    ensures behind { pointer_at (pages_of_pages 300 (λ i. ptr (256 + i) (10 + i))) (file_of_pages 300 (λ i. ptr (256 + i) (10 + i))) 300 ≡ ptr 0 0 }
+    ensures no_range { pointer_at (pages_of_pages 300 (λ i. ptr (256 + i) (10 + i))) (file_of_pages 300 (λ i. ptr (256 + i) (10 + i))) 4103 ≡ ptr 0 0 }
+{}
+
+// An entry is found by its whole name.
+pub fn entries_by_name()
+    ensures first { option_map (λ e. e.ino) (entry_named page_of_two two_entries (codes "a")) ≡ Some 1 }
+    ensures longer { option_map (λ e. e.ino) (entry_named page_of_two two_entries (codes "ab")) ≡ Some 2 }
+    ensures other { option_map (λ e. e.ino) (entry_named page_of_two two_entries (codes "b")) ≡ None }
 {}
 
 // A page of entries that is not there is at fault as an address, and its entries are passed over.
@@ -65,16 +94,17 @@ pub fn opening_answers()
     ensures sound { opening_answer fresh_image ≡ opens }
 {}
 
-// The first pointer is found under its name, and the second where its page was moved to.
+// The first pointer is found under its name, and the second where its page was moved to. A page in the spare block is not taken.
 pub fn places()
     ensures own { place_of_pointer moved_page (record { name = 256; stamp = 3 }) ≡ Some 256 }
     ensures moved { place_of_pointer moved_page (record { name = 257; stamp = 4 }) ≡ Some 258 }
+    ensures in_spare { place_of_pointer copied (record { name = 256; stamp = 3 }) ≡ Some 288 }
 {}
 
 // Files have 480 pages at most.
 pub fn charges()
-    ensures full { walk (filled 480) ≡ None }
-    ensures over { walk (filled 481) ≡ Some (record { place = 0; what = Charges }) }
+    ensures full { walk_over (shape_for 32 32) (committed_of (filled 480)) (list_of_filled 480) ≡ None }
+    ensures over { walk_over (shape_for 32 32) (committed_of (filled 481)) (list_of_filled 481) ≡ Some (record { place = 0; what = Charges }) }
 {}
 
 // A block of each segment has no page that is needed there alone, and at most 96 pointers are stale.

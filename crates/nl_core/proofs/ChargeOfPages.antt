@@ -1,10 +1,8 @@
 -- The charges of the tree for which an image stands.
-use Rattle.std.proofs.Common.{◌≡◌, ℕ, ◌+◌, ◌<◌, List, [], ◌∷◌, map, refl, sym, ap, subst, ◌∙◌, Option, Some, None, ◌⊎◌, inl, inr, arith, ◌≢◌, length, IsTrue, sum_by}
+use Rattle.std.proofs.Common.{◌≡◌, ℕ, ◌+◌, ◌<◌, List, [], ◌∷◌, map, refl, sym, ap, subst, ◌∙◌, Option, Some, None, ◌⊎◌, inl, inr, arith, ◌≢◌, length, sum_by}
 use Rattle.std.specs.List.{range_with_len, AllByRecursion}
 use Rattle.nl_field.specs.EntryRecord.{entry_of}
 use Rattle.nl_field.specs.Graph.{GraphNode, NodeBody, unused, Graph, directory_node, file_node}
-use Rattle.nl_field.specs.Medium.{shape_of_image}
-use Rattle.nl_field.specs.Page.{Image, is_image}
 use Rattle.nl_field.specs.declared.entry.EntryRec.{EntryRec}
 use Rattle.nl_field.specs.declared.inode.InodeRec.{InodeRec}
 use Rattle.nl_field.specs.declared.inode.Kind.{Kind}
@@ -16,35 +14,30 @@ use Rattle.nl_tree.specs.Represents.{entries_in, node_named, Represents}
 use Rattle.nl_tree.specs.Tree.{Tree}
 use Rattle.nl_tree.specs.TreeLaws.{IsInOrder}
 use Rattle.nl_tree.proofs.ChargeProofs.{node_charges}
-use Rattle.nl_meta.specs.Committed.{VirtualMap, committed_of}
-use Rattle.nl_meta.specs.Consistent.{Member, IsNode, EntryAt, MetadataRight}
-use Rattle.nl_meta.specs.Nodes.{inode_at, committed_pointers, bytes_of_place, held_by, size_of, pointers_in, body_of, pointers_of, entries_of_inode}
+use Rattle.nl_meta.specs.Committed.{VirtualMap}
+use Rattle.nl_field.specs.Members.{Has}
+use Rattle.nl_meta.specs.Consistent.{IsNode, EntryAt, PageOfStamp, RightFor}
+use Rattle.nl_meta.specs.Nodes.{inode_at, held_in, bytes_of_place, held_by, size_of, pointers_in, body_of, pointers_of, entries_of_inode}
 use Rattle.nl_meta.specs.Walk.{is_used_kind, used_nodes}
 use Rattle.nl_meta.proofs.Facts.{EachTwo}
 use Rattle.nl_meta.proofs.Lists.{some_in, true_false, none_some, member-range, member-map}
 use Rattle.nl_meta.proofs.NodeProofs.{kind_used, used_is}
 use Rattle.nl_meta.proofs.Pairs.{two_within, somes_two, range_rises, itself}
-use Rattle.nl_core.specs.Stands.{bytes_found}
-use Rattle.nl_core.specs.StandsLaws.{ChargesOfImage}
+use Rattle.nl_core.specs.Stands.{bytes_for}
+use Rattle.nl_core.specs.RightFor.{ChargesOfPages}
 use Rattle.nl_core.proofs.GraphOfPages.{named_member, graph, node_is, NodeOf, node_or_none}
 use Rattle.nl_core.proofs.Sums.{all_by, sum_mapped, length_mapped, length_flat, sum_given}
-use Rattle.nl_core.proofs.TreeOfImage.{once, numbers_used, reached_nodes}
+use Rattle.nl_core.proofs.TreeOfPages.{once, numbers_used, reached_nodes}
 
-module _ (image : Image) (ok : IsTrue (is_image image)) (meta : MetadataRight image) where
-  abbrev shape : Shape
-  shape = shape_of_image image
-
-  abbrev pages : VirtualMap
-  pages = committed_of image
-
+module _ (shape : Shape) (pages : VirtualMap) (page_of_stamp : ℕ → Option PageOfStamp) (has : RightFor shape pages page_of_stamp) where
   abbrev g : Graph
   g = graph shape pages
 
   abbrev b : ℕ → List ℕ
-  b = bytes_found image
+  b = bytes_for page_of_stamp
 
   abbrev used_numbers : List ℕ
-  used_numbers = numbers_used image ok meta
+  used_numbers = numbers_used shape pages page_of_stamp has
 
   names_in : (n : ℕ) (rec : InodeRec) → IsNode shape pages n rec → rec.kind ≡ Dir → (es : List EntryRec) → EachTwo (λ e k. e.name ≢ k.name) es → NamesDiffer (map (λ e. (e.name, e.ino)) es)
   names_in n rec is dir [] h = tt
@@ -62,9 +55,9 @@ module _ (image : Image) (ok : IsTrue (is_image image)) (meta : MetadataRight im
       somes_two (λ (e k : EntryRec). e.name ≢ k.name) (λ i. entry_of (bytes_of_place pages rec i)) (range_with_len 0 rec.size)
       (two_within (λ i j. i < j) (λ i j. (x y : EntryRec) → entry_of (bytes_of_place pages rec i) ≡ Some x → entry_of (bytes_of_place pages rec j) ≡ Some y → x.name ≢ y.name)
       (range_with_len 0 rec.size) (range_rises 0 rec.size)
-      (λ i j m k h x y a c same. itself i j (meta.entries.names_differ n i j x y (at i m x a) (at j k y c) same) h))
+      (λ i j m k h x y a c same. itself i j (has.tree.entries.names_differ n i j x y (at i m x a) (at j k y c) same) h))
     where
-      at : (i : ℕ) → Member i (range_with_len 0 rec.size) → (x : EntryRec) → entry_of (bytes_of_place pages rec i) ≡ Some x → EntryAt shape pages n i x
+      at : (i : ℕ) → Has (range_with_len 0 rec.size) i → (x : EntryRec) → entry_of (bytes_of_place pages rec i) ≡ Some x → EntryAt shape pages n i x
       at i m x a = record { rec = rec; is_node = is; is_dir = dir; below = omega (arith, (member-range i 0 rec.size m).1); spelled = a }
 
   all_names : AllByRecursion (λ n. NamesDiffer (entries_in (g n).body)) used_numbers
@@ -76,13 +69,13 @@ module _ (image : Image) (ok : IsTrue (is_image image)) (meta : MetadataRight im
       kinds n rec is File e = tt
       kinds n rec is Dir e = names_in n rec is e (entries_of_inode pages rec) (entries_two n rec is e)
 
-      of : (n : ℕ) → (x : ℕ × InodeRec) × Member x (used_nodes shape pages) × (x.0 ≡ n) → NamesDiffer (entries_in (g n).body)
+      of : (n : ℕ) → (x : ℕ × InodeRec) × Has (used_nodes shape pages) x × (x.0 ≡ n) → NamesDiffer (entries_in (g n).body)
       of n r =
           let is = subst (λ (k : ℕ). IsNode shape pages k r.0.1) r.2 (used_is shape pages r.0 r.1) in
           subst (λ (x : GraphNode). NamesDiffer (entries_in x.body)) (sym (node_is shape pages n r.0.1 is)) (kinds n r.0.1 is r.0.1.kind refl)
 
-  pointers_count : sum_by (λ n. pages_in (g n).body) used_numbers ≡ length (committed_pointers image)
-  unfolding numbers_used used_nodes committed_pointers pointers_of
+  pointers_count : sum_by (λ n. pages_in (g n).body) used_numbers ≡ length (held_in shape pages)
+  unfolding numbers_used used_nodes pointers_of
   pointers_count =
       sum_given (λ n. pages_in (g n).body) (inode_at pages) (λ x. is_used_kind x.1.kind) (range_with_len 0 shape.nodes)
       (λ n m e. empty n (node_or_none shape pages n) (λ h. none_some h.rec (sym e ∙ h.is.spelled)))
@@ -104,12 +97,12 @@ module _ (image : Image) (ok : IsTrue (is_image image)) (meta : MetadataRight im
           count x.body
           ∙ sym (length_mapped (λ (p : ℕ × Pointer). record { size = size_of x.body; tag = record { ino = n; generation = x.generation; index = p.0 }; pointer = p.1 }) (pointers_in x.body))
 
-  pub charges : (tree : Tree) → IsInOrder tree → Represents b g tree → ChargesOfImage image tree
+  pub charges : (tree : Tree) → IsInOrder tree → Represents b g tree → ChargesOfPages shape pages tree
   unfolding numbers_used
   charges tree in_order is = record {
-    data_pages = node_charges.pages b g tree used_numbers _ _ (once image ok meta) (reached_nodes image ok meta) in_order is ∙ pointers_count;
-    used = node_charges.nodes b g tree used_numbers _ _ (once image ok meta) (reached_nodes image ok meta) in_order is ∙ length_mapped (λ (x : ℕ × InodeRec). x.0) (used_nodes shape pages);
-    meta_pages = node_charges.meta b g tree used_numbers _ _ (once image ok meta) (reached_nodes image ok meta) all_names in_order is
+    data_pages = node_charges.pages b g tree used_numbers _ _ (once shape pages page_of_stamp has) (reached_nodes shape pages page_of_stamp has) in_order is ∙ pointers_count;
+    used = node_charges.nodes b g tree used_numbers _ _ (once shape pages page_of_stamp has) (reached_nodes shape pages page_of_stamp has) in_order is ∙ length_mapped (λ (x : ℕ × InodeRec). x.0) (used_nodes shape pages);
+    meta_pages = node_charges.meta b g tree used_numbers _ _ (once shape pages page_of_stamp has) (reached_nodes shape pages page_of_stamp has) all_names in_order is
         ∙ ap (λ (k : ℕ). k + sum_by (λ n. ranges_in (g n).body) used_numbers) (sum_mapped (λ n. entry_pages_in (g n).body) (λ (x : ℕ × InodeRec). x.0) (used_nodes shape pages))
         ∙ ap (λ (k : ℕ). sum_by (λ (x : ℕ × InodeRec). entry_pages_in (g x.0).body) (used_nodes shape pages) + k) (sum_mapped (λ n. ranges_in (g n).body) (λ (x : ℕ × InodeRec). x.0) (used_nodes shape pages));
   }

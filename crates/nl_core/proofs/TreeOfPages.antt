@@ -5,12 +5,10 @@ use Rattle.std.specs.FinMap.{is_sorted}
 use Rattle.std.specs.Int.{div_ceil}
 use Rattle.std.specs.List.{range_with_len}
 use Rattle.std.specs.Ordering.{nat_cmp}
-use Rattle.std.specs.Prelude.{drop}
+use Rattle.std.specs.Prelude.{drop, option_map, unwrap_or}
 use Rattle.nl_field.specs.Bytes.{all_zero}
 use Rattle.nl_field.specs.FileContent.{FileContent, is_content}
 use Rattle.nl_field.specs.Graph.{GraphNode, NodeBody, unused, Graph, directory_node, file_node}
-use Rattle.nl_field.specs.Medium.{shape_of_image}
-use Rattle.nl_field.specs.Page.{Image, is_image}
 use Rattle.nl_field.specs.declared.inode.InodeRec.{InodeRec}
 use Rattle.nl_field.specs.declared.inode.Kind.{Kind}
 use Rattle.nl_field.specs.declared.inode.Kind.TheVariants.{Unused, File, Dir}
@@ -25,42 +23,37 @@ use Rattle.nl_tree.specs.TreeOfNodes.{tree_of}
 use Rattle.nl_tree.proofs.ChangeProofs.{Path, reached_step, root_reached}
 use Rattle.nl_tree.proofs.TreeOfProofs.{tree_of_nodes}
 use Rattle.nl_tree.proofs.TreeProofs.{sorted_all, from_T}
-use Rattle.nl_meta.specs.Committed.{VirtualMap, committed_of}
-use Rattle.nl_meta.specs.Consistent.{Member, IsNode, NodesRight, EntriesRight, MetadataRight}
-use Rattle.nl_meta.specs.Nodes.{inode_at, Held, committed_pointers, held_by, pointers_of_inode, body_of, pointers_of}
+use Rattle.nl_meta.specs.Committed.{VirtualMap}
+use Rattle.nl_field.specs.Members.{Has}
+use Rattle.nl_meta.specs.Consistent.{IsNode, NodesRight, EntriesRight, PageOfStamp, RightFor}
+use Rattle.nl_meta.specs.Nodes.{inode_at, Held, held_in, held_by, pointers_of_inode, body_of, pointers_of}
 use Rattle.nl_meta.specs.Walk.{used_nodes}
 use Rattle.nl_meta.proofs.Lists.{none_some, each-all, range-member, member-map, map-member, flat-member}
 use Rattle.nl_meta.proofs.NodeProofs.{used_is, is_used, used_rise}
 use Rattle.nl_meta.proofs.WalkProofs.{nodes_some}
-use Rattle.nl_core.specs.Stands.{bytes_found}
+use Rattle.nl_core.specs.Stands.{bytes_for}
 use Rattle.nl_core.proofs.GraphOfPages.{graph, node_is, NodeOf, node_or_none, entry_is, named_once, path_of_reached, reached_is_node}
-use Rattle.nl_core.proofs.PagesOfFiles.{sorted_in, found_bytes}
+use Rattle.nl_core.proofs.PagesOfFiles.{sorted_in}
 use Rattle.nl_core.proofs.Sums.{in_of, all_by, differ_rising}
 
-module _ (image : Image) (ok : IsTrue (is_image image)) (meta : MetadataRight image) where
-  abbrev nodes : NodesRight (shape_of_image image) (committed_of image)
-  nodes = meta.nodes
+module _ (shape : Shape) (pages : VirtualMap) (page_of_stamp : ℕ → Option PageOfStamp) (has : RightFor shape pages page_of_stamp) where
+  abbrev nodes : NodesRight shape pages
+  nodes = has.tree.nodes
 
-  abbrev right : EntriesRight (shape_of_image image) (committed_of image)
-  right = meta.entries
-
-  abbrev pub shape : Shape
-  shape = shape_of_image image
-
-  abbrev pub pages : VirtualMap
-  pages = committed_of image
+  abbrev right : EntriesRight shape pages
+  right = has.tree.entries
 
   abbrev pub g : Graph
   g = graph shape pages
 
   abbrev pub b : ℕ → List ℕ
-  b = bytes_found image
+  b = bytes_for page_of_stamp
 
   pub once : NamedOnce g
   once = named_once shape pages right nodes
 
   some_nodes : 0 < shape.nodes
-  some_nodes = nodes_some image.blocks image.pages meta.numbers.legal
+  some_nodes = subst (λ (s : Shape). 0 < s.nodes) (sym has.numbers) (nodes_some shape.blocks shape.pages has.legal)
 
   used_body : (n : ℕ) (rec : InodeRec) → IsNode shape pages n rec → (g n).body ≢ unused
   used_body n rec is u = kinds rec.kind is.used (sym (ap (λ (x : GraphNode). x.body) (node_is shape pages n rec is)) ∙ u)
@@ -98,7 +91,7 @@ module _ (image : Image) (ok : IsTrue (is_image image)) (meta : MetadataRight im
       (all_by _ numbers_used (λ n m. each n (member-map (λ (x : ℕ × InodeRec). x.0) (used_nodes shape pages) n m)))
       (λ q n e. let h = reached_is_node shape pages right nodes q n some_nodes e in in_of numbers_used n (map-member (λ (x : ℕ × InodeRec). x.0) (used_nodes shape pages) (n, h.rec) (is_used shape pages n h.rec h.is)))
     where
-      each : (n : ℕ) → (x : ℕ × InodeRec) × Member x (used_nodes shape pages) × (x.0 ≡ n) → (node_reached g 0 (located n).0 ≡ Some n) × (node_of b (g n).body ≡ Some (node_here n).0)
+      each : (n : ℕ) → (x : ℕ × InodeRec) × Has (used_nodes shape pages) x × (x.0 ≡ n) → (node_reached g 0 (located n).0 ≡ Some n) × (node_of b (g n).body ≡ Some (node_here n).0)
       each n r =
           let is = subst (λ (k : ℕ). IsNode shape pages k r.0.1) r.2 (used_is shape pages r.0 r.1) in
           ((located n).1 r.0.1 is, (node_here n).1 r.0.1 is)
@@ -111,7 +104,7 @@ module _ (image : Image) (ok : IsTrue (is_image image)) (meta : MetadataRight im
     differ = differ_rising (used_nodes shape pages) (used_rise shape pages);
   }
     where
-      each : (n : ℕ) → (x : ℕ × InodeRec) × Member x (used_nodes shape pages) × (x.0 ≡ n) → (node_reached g 0 (located n).0 ≡ Some n) × (node_of b (g n).body ≡ Some (node_here n).0)
+      each : (n : ℕ) → (x : ℕ × InodeRec) × Has (used_nodes shape pages) x × (x.0 ≡ n) → (node_reached g 0 (located n).0 ≡ Some n) × (node_of b (g n).body ≡ Some (node_here n).0)
       each n r =
           let is = subst (λ (k : ℕ). IsNode shape pages k r.0.1) r.2 (used_is shape pages r.0 r.1) in
           ((located n).1 r.0.1 is, (node_here n).1 r.0.1 is)
@@ -123,12 +116,12 @@ module _ (image : Image) (ok : IsTrue (is_image image)) (meta : MetadataRight im
   dir_node : (n : ℕ) (rec : InodeRec) → IsNode shape pages n rec → rec.kind ≡ Dir → node_of b (g n).body ≡ Some directory
   dir_node n rec is dir = ap (λ (x : GraphNode). node_of b x.body) (node_is shape pages n rec is) ∙ ap (λ (k : Kind). node_of b (body_of pages rec k)) dir
 
-  held_member : (n : ℕ) (rec : InodeRec) → IsNode shape pages n rec → rec.kind ≡ File → (p : ℕ × Pointer) → Member p (pointers_of_inode pages rec)
-      → Member (record { size = rec.size; tag = record { ino = n; generation = rec.generation; index = p.0 }; pointer = p.1 }) (committed_pointers image)
-  unfolding committed_pointers pointers_of
+  held_member : (n : ℕ) (rec : InodeRec) → IsNode shape pages n rec → rec.kind ≡ File → (p : ℕ × Pointer) → Has (pointers_of_inode pages rec) p
+      → Has (held_in shape pages) (record { size = rec.size; tag = record { ino = n; generation = rec.generation; index = p.0 }; pointer = p.1 })
+  unfolding pointers_of
   held_member n rec is is_file p m =
       flat-member (λ n. held_by n (g n)) (range_with_len 0 shape.nodes) n _ (range-member n 0 shape.nodes (omega arith) (omega (arith, is.below)))
-      (subst (λ (x : GraphNode). Member (record { size = rec.size; tag = record { ino = n; generation = rec.generation; index = p.0 }; pointer = p.1 }) (held_by n x))
+      (subst (λ (x : GraphNode). Has (held_by n x) (record { size = rec.size; tag = record { ino = n; generation = rec.generation; index = p.0 }; pointer = p.1 }))
       (sym (node_is shape pages n rec is ∙ ap (λ (k : Kind). record { generation = rec.generation; body = body_of pages rec k }) is_file))
       (map-member (λ (p : ℕ × Pointer). record { size = rec.size; tag = record { ino = n; generation = rec.generation; index = p.0 }; pointer = p.1 }) (pointers_of_inode pages rec) p m))
 
@@ -140,15 +133,16 @@ module _ (image : Image) (ok : IsTrue (is_image image)) (meta : MetadataRight im
       sorted : is_sorted nat_cmp (map (λ p. (p.0, b p.1.stamp)) (pointers_of_inode pages rec)) ≡ true
       sorted = sorted_in b pages rec
 
-      by : (page : ℕ × List ℕ) → (p : ℕ × Pointer) × Member p (pointers_of_inode pages rec) × ((p.0, b p.1.stamp) ≡ page)
+      by : (page : ℕ × List ℕ) → (p : ℕ × Pointer) × Has (pointers_of_inode pages rec) p × ((p.0, b p.1.stamp) ≡ page)
           → (nat_lt page.0 (div_ceil rec.size 4096) && length page.1 == 4096 && all_zero (drop (rec.size - 4096 * page.0) page.1)) ≡ true
       by page r =
           let h : Held = record { size = rec.size; tag = record { ino = n; generation = rec.generation; index = r.0.0 }; pointer = r.0.1 } in
-          let good = meta.pointers.good h (held_member n rec is is_file r.0 r.1) in
-          let f = found_bytes image ok meta.physical_stamps h good in
+          let m = held_member n rec is is_file r.0 r.1 in
+          let there = has.tree.pointers.there h m in
+          let here = ap (λ (o : Option PageOfStamp). unwrap_or (option_map (λ page. page.bytes) o) []) there.holds in
           subst (λ (page : ℕ × List ℕ). (nat_lt page.0 (div_ceil rec.size 4096) && length page.1 == 4096 && all_zero (drop (rec.size - 4096 * page.0) page.1)) ≡ true) r.2
-          (and_from _ _ (and_from _ _ (lt-ltb _ _ good.below) (eq-eqb _ _ (ap (λ (l : List ℕ). length l) f.0 ∙ f.1)))
-          (ap (λ (l : List ℕ). all_zero (drop (rec.size - 4096 * r.0.0) l)) f.0 ∙ good.behind))
+          (and_from _ _ (and_from _ _ (lt-ltb _ _ (has.tree.pointers.below h m)) (eq-eqb _ _ (ap (λ (l : List ℕ). length l) here ∙ there.whole)))
+          (ap (λ (l : List ℕ). all_zero (drop (rec.size - 4096 * r.0.0) l)) here ∙ there.behind))
 
   no_child : IsSome {T = Node} None → ⊥
   no_child h = cc
