@@ -1,5 +1,5 @@
 // A line of `run`: the number of a script's line, the place of its call in the order of all calls, and its answer.
-ghost use Rattle.std.specs.Prelude.{◌≡◌, ◌≤◌, ◌+◌, ◌*◌, ◌++◌, ◌∷◌, [], length, codes};
+ghost use Rattle.std.specs.Prelude.{◌≡◌, ◌≤◌, ◌+◌, ◌*◌, ◌++◌, ◌∷◌, [], false, IsTrue, length, codes};
 ghost use Rattle.hex.specs.Hex.{encode_lower};
 ghost use Rattle.nl_field.specs.CrashStates.{Rose};
 ghost use Rattle.nl_io.specs.Streams.{Writes};
@@ -30,7 +30,7 @@ fn refusal_bytes(refusal: Refusal) -> &'static [u8]
 }
 
 fn push_fault(line: &mut LineBuf, fault: FaultReply)
-    requires { length line.old + 50 ≤ 384 }
+    requires { length line.old + 50 ≤ 4096 }
     ensures bytes { line.new ≡ line.old ++ fault_text fault }
     ensures len { length line.new ≤ length line.old + 50 }
 {
@@ -64,7 +64,7 @@ ghost use Rattle.nl_print.specs.Tail.{tail_text};
 
 // Adds the front of an answer, and tells what follows it.
 fn push_reply(line: &mut LineBuf, reply: &Reply, bytes: &[u8]) -> Tail
-    requires { length line.old + 60 ≤ 384 }
+    requires { length line.old + 60 ≤ 4096 }
     ensures text { line.new ++ tail_text result bytes.now ≡ line.old ++ reply_text reply.now bytes.now }
     ensures len { length line.new ≤ length line.old + 60 }
 {
@@ -104,6 +104,43 @@ fn push_reply(line: &mut LineBuf, reply: &Reply, bytes: &[u8]) -> Tail
         Reply::Fault(fault) => push_fault(line, fault),
     }
     Tail::Nothing
+}
+
+// Adds the bytes in lower case hexadecimal.
+fn push_hex(line: &mut LineBuf, bytes: &[u8])
+    requires few { length bytes.now ≤ 1024 }
+    requires room { length line.old + 2048 ≤ 4096 }
+    ensures text { line.new ≡ line.old ++ encode_lower bytes.now }
+    ensures len { length line.new ≤ length line.old + 2048 }
+{
+    let mut digits = [0u8; 2048];
+    let text = &mut digits[..2 * bytes.len()];
+    match hex::encode_to_slice(bytes, text) {
+        Ok(()) => {}
+        Err(_) => unreachable!(),
+    }
+    line.push(text);
+}
+
+// Adds what follows the front of an answer, where it is short. Else the line stays.
+fn push_tail(line: &mut LineBuf, tail: Tail, bytes: &[u8]) -> bool
+    requires { length line.old + 3000 ≤ 4096 }
+    ensures text { IsTrue result → line.new ≡ line.old ++ tail_text tail bytes.now }
+    ensures len { IsTrue result → length line.new ≤ length line.old + 2999 }
+    ensures long { result ≡ false → line.new ≡ line.old }
+{
+    match tail {
+        Tail::Nothing => true,
+        Tail::Hex if bytes.len() <= 1024 => {
+            push_hex(line, bytes);
+            true
+        }
+        Tail::Plain if bytes.len() <= 2048 => {
+            line.push(bytes);
+            true
+        }
+        _ => false,
+    }
 }
 
 // Writes the bytes in lower case hexadecimal, in pieces.
@@ -160,7 +197,7 @@ pub fn answer_line<K: Sink>(
     front.push_number(place);
     front.push(b" ");
     let tail = push_reply(&mut front, reply, bytes);
-    if tail == Tail::Nothing {
+    if push_tail(&mut front, tail, bytes) {
         front.push(b"\n");
         return sink.write(front.bytes());
     }

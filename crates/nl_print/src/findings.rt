@@ -1,46 +1,21 @@
 // The findings of a check.
 ghost use Rattle.std.specs.Prelude.{◌≡◌, ◌≤◌, ◌+◌, ◌++◌, length};
 ghost use Rattle.nl_field.specs.CrashStates.{Rose};
-ghost use Rattle.nl_field.specs.FindingBits as findings;
 ghost use Rattle.nl_io.specs.Streams.{Writes};
 ghost use Rattle.nl_print.specs.Texts.{finding_text, findings_text};
 
 use crate::line::LineBuf;
 use crate::status::what_bytes;
-use bitflags::Flags;
 use nl_field::{Findings, What};
 use nl_io::{Sink, SinkAnswer};
 
-fn bit_of(what: What) -> u16
-    ensures { result ≡ findings.bit_of what }
-{
-    match what {
-        What::Super => 1,
-        What::Stamp => 2,
-        What::Inode => 4,
-        What::Pages => 8,
-        What::Entry => 16,
-        What::Pointer => 32,
-        What::Names => 64,
-        What::Charges => 128,
-        What::Crowded => 256,
-    }
-}
-
-fn has_finding(bits: Findings, what: What) -> bool
-    ensures { result ≡ findings.has_finding bits what }
-{
-    let bit = bit_of(what);
-    bits.bits() & bit == bit
-}
-
 // Adds the line of a phase, where it was found at fault.
 fn push_finding(text: &mut LineBuf, bits: Findings, what: What)
-    requires { length text.old + 8 ≤ 384 }
+    requires { length text.old + 8 ≤ 4096 }
     ensures text { text.new ≡ text.old ++ finding_text bits what }
     ensures len { length text.new ≤ length text.old + 8 }
 {
-    if has_finding(bits, what) {
+    if bits.has(what) {
         text.push(what_bytes(what));
         text.push(b"\n");
     }

@@ -1,4 +1,4 @@
-// A line that is put together before it is written, so that most lines are one write.
+// A line that is put together before it is written, so that a line of up to some 4000 bytes is one write.
 ghost use Rattle.std.specs.Prelude.{◌≡◌, ◌≤◌, ◌+◌, ◌++◌, [], length, codes, decimal};
 ghost use Rattle.nl_print.specs.Texts.{then_number, field, share};
 
@@ -6,10 +6,10 @@ use arrayvec::ArrayVec;
 use itoa::Buffer;
 use std::marker::Model;
 
-/// Up to 384 bytes of a line.
+/// Up to 4096 bytes of a line.
 #[derive(Drop)]
 pub struct LineBuf {
-    bytes: ArrayVec<u8, 384>,
+    bytes: ArrayVec<u8, 4096>,
 }
 
 impl Model for LineBuf {
@@ -30,7 +30,7 @@ impl LineBuf {
     }
 
     pub fn push(&mut self, bytes: &[u8])
-        requires { length self.old + length bytes.now ≤ 384 }
+        requires { length self.old + length bytes.now ≤ 4096 }
         ensures bytes { self.new ≡ self.old ++ bytes.now }
         ensures len { length self.new ≡ length self.old + length bytes.now }
     {
@@ -42,7 +42,7 @@ impl LineBuf {
 
     /// Adds the decimal digits of a number, at most 20.
     pub fn push_number(&mut self, number: u64)
-        requires { length self.old + 20 ≤ 384 }
+        requires { length self.old + 20 ≤ 4096 }
         ensures bytes { self.new ≡ self.old ++ decimal number }
         ensures len { length self.new ≤ length self.old + 20 }
     {
@@ -52,7 +52,7 @@ impl LineBuf {
 
     /// Adds a space and a number.
     pub fn then_number(&mut self, number: u64)
-        requires { length self.old + 21 ≤ 384 }
+        requires { length self.old + 21 ≤ 4096 }
         ensures bytes { self.new ≡ self.old ++ then_number number }
         ensures len { length self.new ≤ length self.old + 21 }
     {
@@ -62,7 +62,7 @@ impl LineBuf {
 
     /// Adds a word, a space and a number.
     pub fn push_field(&mut self, word: &[u8], number: u64)
-        requires { length self.old + length word.now + 21 ≤ 384 }
+        requires { length self.old + length word.now + 21 ≤ 4096 }
         ensures bytes { self.new ≡ self.old ++ field word.now number }
         ensures len { length self.new ≤ length self.old + length word.now + 21 }
     {
@@ -72,12 +72,18 @@ impl LineBuf {
 
     /// Adds a field, and the most that it may be.
     pub fn push_share(&mut self, word: &[u8], number: u64, most: u64)
-        requires { length self.old + length word.now + 45 ≤ 384 }
+        requires { length self.old + length word.now + 45 ≤ 4096 }
         ensures bytes { self.new ≡ self.old ++ share word.now number most }
         ensures len { length self.new ≤ length self.old + length word.now + 45 }
     {
         self.push_field(word, number);
         self.push_field(b" of", most);
+    }
+
+    pub fn len(&self) -> usize
+        ensures { result ≡ length self.now }
+    {
+        self.bytes.len()
     }
 
     pub fn bytes(&self) -> &[u8]

@@ -26,7 +26,7 @@ pub fn formatted_line<K: Sink>(sink: &mut K, shape: &Shape) -> SinkAnswer
 
 // A line of a word and a number.
 fn push_number_line(line: &mut LineBuf, word: &[u8], number: u64)
-    requires { length line.old + length word.now + 22 ≤ 384 }
+    requires { length line.old + length word.now + 22 ≤ 4096 }
     ensures text { line.new ≡ line.old ++ number_text word.now number }
     ensures len { length line.new ≤ length line.old + length word.now + 22 }
 {
@@ -35,7 +35,7 @@ fn push_number_line(line: &mut LineBuf, word: &[u8], number: u64)
 }
 
 fn push_blocks(line: &mut LineBuf, vblocks: u32, pblocks: u32)
-    requires { length line.old + 66 ≤ 384 }
+    requires { length line.old + 66 ≤ 4096 }
     ensures text { line.new ≡ line.old ++ blocks_text vblocks pblocks }
     ensures len { length line.new ≤ length line.old + 66 }
 {
@@ -45,7 +45,7 @@ fn push_blocks(line: &mut LineBuf, vblocks: u32, pblocks: u32)
 }
 
 fn push_pages(line: &mut LineBuf, shape: &Shape, data: u64, nodes: u32, meta: u32)
-    requires { length line.old + 157 ≤ 384 }
+    requires { length line.old + 157 ≤ 4096 }
     ensures text { line.new ≡ line.old ++ pages_text shape.now «data» nodes meta }
     ensures len { length line.new ≤ length line.old + 157 }
 {
@@ -56,7 +56,7 @@ fn push_pages(line: &mut LineBuf, shape: &Shape, data: u64, nodes: u32, meta: u3
 }
 
 fn push_wear(line: &mut LineBuf, least: u32, greatest: u32)
-    requires { length line.old + 62 ≤ 384 }
+    requires { length line.old + 62 ≤ 4096 }
     ensures text { line.new ≡ line.old ++ wear_text least greatest }
     ensures len { length line.new ≤ length line.old + 62 }
 {
@@ -94,7 +94,7 @@ pub fn report_lines<K: Sink>(
 }
 
 fn push_calls(line: &mut LineBuf, calls: u64, ok: u64)
-    requires fits { length line.old + 85 ≤ 384 }
+    requires fits { length line.old + 85 ≤ 4096 }
     requires ok { ok ≤ calls }
     ensures text { line.new ≡ line.old ++ calls_text calls ok }
     ensures len { length line.new ≤ length line.old + 85 }
@@ -106,7 +106,7 @@ fn push_calls(line: &mut LineBuf, calls: u64, ok: u64)
 }
 
 fn push_bytes(line: &mut LineBuf, written: u64, read: u64)
-    requires { length line.old + 61 ≤ 384 }
+    requires { length line.old + 61 ≤ 4096 }
     ensures text { line.new ≡ line.old ++ bytes_text written read }
     ensures len { length line.new ≤ length line.old + 61 }
 {
@@ -116,7 +116,7 @@ fn push_bytes(line: &mut LineBuf, written: u64, read: u64)
 }
 
 fn push_charges(line: &mut LineBuf, data: u64, nodes: u32, meta: u32)
-    requires { length line.old + 79 ≤ 384 }
+    requires { length line.old + 79 ≤ 4096 }
     ensures text { line.new ≡ line.old ++ charges_text «data» nodes meta }
     ensures len { length line.new ≤ length line.old + 79 }
 {

@@ -20,6 +20,11 @@ pub fn refused_line<K: Sink>(sink: &mut K, line: u32, column: u32, why: &[u8]) -
     front.then_number(u64::from(line));
     front.then_number(u64::from(column));
     front.push(b" ");
+    if why.len() <= 4000 {
+        front.push(why);
+        front.push(b"\n");
+        return sink.write(front.bytes());
+    }
     match sink.write(front.bytes()) {
         SinkAnswer::Took => {}
         SinkAnswer::Failed => return SinkAnswer::Failed,

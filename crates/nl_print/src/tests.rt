@@ -4,9 +4,9 @@ use crate::{
     refused_line, report_lines, soak_lines, word_line,
 };
 use bitflags::Flags;
-use nl_field::{FailList, Findings, Place, Text, What, shape_of};
+use nl_field::{FailList, Findings, Name, Place, Text, What, shape_of};
 use nl_io::{MemSink, Sink, SinkAnswer};
-use nl_tree::{FaultReply, Path, Refusal, Reply, Space};
+use nl_tree::{FaultReply, Path, Refusal, Reply, Space, WalkPath};
 use std::alloc::Global;
 use std::test::Fail;
 
@@ -150,12 +150,47 @@ fn a_failing_sink_takes_a_prefix(rt: HostRuntime) -> Result<(), Fail> {
     let alloc = rt.alloc();
     let mut failing = FailList::new(alloc);
     failing.push(2)?;
+    failing.push(4)?;
     let mut sink = MemSink::new(alloc, 1000, failing)?;
+    // A line is one write.
     assert_eq!(rt;
         answer_line(&mut sink, 1, 1, &Reply::Content, b"ab"),
+        SinkAnswer::Took
+    );
+    assert_eq!(rt;
+        answer_line(&mut sink, 2, 2, &Reply::Names(1), b" a"),
         SinkAnswer::Failed
     );
     assert_eq!(rt; sink.faults(), 1);
-    assert_eq!(rt; sink.bytes(), b"1 @1 ok ".as_slice());
+    // A longer one is written in pieces.
+    assert_eq!(rt;
+        answer_line(&mut sink, 3, 3, &Reply::Content, [0u8; 1500].as_slice()),
+        SinkAnswer::Failed
+    );
+    assert_eq!(rt; sink.faults(), 2);
+    assert_eq!(rt; sink.bytes(), b"1 @1 ok 6162\n3 @3 ok ".as_slice());
+    Ok(())
+}
+
+#[test]
+fn a_walk_prints_its_path(rt: HostRuntime) -> Result<(), Fail> {
+    let alloc = rt.alloc();
+    let mut failing = FailList::new(alloc);
+    failing.push(2)?;
+    let mut sink = MemSink::new(alloc, 1000, failing)?;
+    let mut path = WalkPath::new(alloc, 2)?;
+    let Some(home) = Name::of(b"home") else {
+        return Err(Fail::new("no name"));
+    };
+    path.push(home);
+    let Some(note) = Name::of(b"note") else {
+        return Err(Fail::new("no name"));
+    };
+    path.push(note);
+    assert_eq!(rt; file_line(&mut sink, &path, 4, 1), SinkAnswer::Took);
+    assert_eq!(rt; path.pop().is_some(), true);
+    assert_eq!(rt; dir_line(&mut sink, &path, 1), SinkAnswer::Failed);
+    assert_eq!(rt; dir_line(&mut sink, &path, 1), SinkAnswer::Took);
+    assert_eq!(rt; sink.bytes(), b"f /home/note 4 1\nd /home 1\n".as_slice());
     Ok(())
 }

@@ -5,9 +5,10 @@ use Rattle.nl_print.specs.Texts.{slashed}
 use Rattle.nl_print.proofs.path.write_path.Given as goal
 
 -- the names so far are taken
-abbrev pub invariant-loop-name : goal.invariant-loop-name
-invariant-loop-name g l =
+abbrev pub invariant-names : goal.invariant-names
+invariant-names g l =
+    let names = g.P.Names.names l.path in
     record {
-      front : (done : List ℕ) × Writes (g.K.Sink.taken l.initial.sink) (g.K.Sink.taken l.sink) sink.Took done × (done ++ slashed (drop l.name-index l.names) ≡ slashed l.names);
+      front : (done : List ℕ) × Writes (g.K.Sink.taken l.initial.sink) (g.K.Sink.taken l.sink) sink.Took done × (done ++ slashed (drop l.at names) ≡ slashed names);
       later : g.K.Sink.faults l.initial.sink ≤ g.K.Sink.faults l.sink;
     }

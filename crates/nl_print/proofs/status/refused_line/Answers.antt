@@ -14,16 +14,16 @@ whole front why line column is =
 
 pub returns-in-Failed-clause-text : goal.returns-in-Failed-clause-text
 returns-in-Failed-clause-text g c =
-    let front : c.bytes.result.now ≡ codes "script" ++ then_number c.args.line ++ then_number c.args.column ++ 32 ∷ [] = grind (arith, common_steps) in
+    let front : c.bytes-2.result.now ≡ codes "script" ++ then_number c.args.line ++ then_number c.args.column ++ 32 ∷ [] = grind (arith, common_steps) in
     let rest = c.args.why.now ++ 10 ∷ [] in
-    subst (λ (t : List ℕ). Writes (g.K.Sink.taken c.args.sink.now) (g.K.Sink.taken c.write.new.self) sink.Failed t)
-    (whole c.bytes.result.now c.args.why.now c.args.line c.args.column front)
-    (stopped _ _ c.bytes.result.now rest c.in-Failed.ensures.bytes)
+    subst (λ (t : List ℕ). Writes (g.K.Sink.taken c.args.sink.now) (g.K.Sink.taken c.write-2.new.self) sink.Failed t)
+    (whole c.bytes-2.result.now c.args.why.now c.args.line c.args.column front)
+    (stopped _ _ c.bytes-2.result.now rest c.in-Failed.ensures.bytes)
 
 pub returns-clause-text : goal.returns-clause-text
 returns-clause-text g c =
-    let front : c.bytes.result.now ≡ codes "script" ++ then_number c.args.line ++ then_number c.args.column ++ 32 ∷ [] = grind (arith, common_steps) in
+    let front : c.bytes-2.result.now ≡ codes "script" ++ then_number c.args.line ++ then_number c.args.column ++ 32 ∷ [] = grind (arith, common_steps) in
     let rest = c.args.why.now ++ 10 ∷ [] in
     subst (λ (t : List ℕ). Writes (g.K.Sink.taken c.args.sink.now) (g.K.Sink.taken c.word_line.new.sink) c.word_line.result t)
-    (whole c.bytes.result.now c.args.why.now c.args.line c.args.column front)
-    (then_write _ (g.K.Sink.taken c.write.new.self) _ _ c.bytes.result.now rest c.in-Took.ensures.bytes c.word_line.ensures.text)
+    (whole c.bytes-2.result.now c.args.why.now c.args.line c.args.column front)
+    (then_write _ (g.K.Sink.taken c.write-2.new.self) _ _ c.bytes-2.result.now rest c.in-Took.ensures.bytes c.word_line.ensures.text)

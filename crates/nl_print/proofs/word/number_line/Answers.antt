@@ -9,6 +9,6 @@ use Rattle.nl_print.proofs.word.number_line.Goals as goal
 
 pub returns-in-Took-clause-text : goal.returns-in-Took-clause-text
 returns-in-Took-clause-text g c =
-    let rest : c.bytes.result.now ≡ then_number c.args.value ++ 10 ∷ [] = grind (arith, common_steps) in
-    let second = subst (λ (t : List ℕ). Writes (g.K.Sink.taken c.write.new.self) (g.K.Sink.taken c.write-in-Took.new.self) c.write-in-Took.result t) rest c.write-in-Took.ensures.bytes in
+    let rest : c.bytes-in-Took.result.now ≡ then_number c.args.value ++ 10 ∷ [] = grind (arith, common_steps) in
+    let second = subst (λ (t : List ℕ). Writes (g.K.Sink.taken c.write-2.new.self) (g.K.Sink.taken c.write-in-Took.new.self) c.write-in-Took.result t) rest c.write-in-Took.ensures.bytes in
     rw append_assoc (then_write _ _ _ _ c.args.word.now (then_number c.args.value ++ 10 ∷ []) c.in-Took.ensures.bytes second)
