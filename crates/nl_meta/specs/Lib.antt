@@ -6,5 +6,6 @@ pub mod LargeFiles
 pub mod Nodes
 pub mod Phases
 pub mod RightLaws
+pub mod SlotLaws
 pub mod Walk
 pub mod WalkLaw

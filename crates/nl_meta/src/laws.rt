@@ -1,6 +1,7 @@
 //! Laws of the definitions. Each function stands for the law that its contract names.
 ghost use Rattle.nl_meta.specs.FindingsLaw.{NoFindings, PlacesAreTaken};
 ghost use Rattle.nl_meta.specs.RightLaws.{ImageIsRight};
+ghost use Rattle.nl_meta.specs.SlotLaws.{ByIndexAndName, OneSlot};
 ghost use Rattle.nl_meta.specs.WalkLaw.{ListsAgree, WalkIsConsistency, WalkIsConsistencyOver};
 
 // The walk finds no fault exactly where the volume is consistent, also over pages and a list that are no image's.
@@ -27,4 +28,14 @@ pub fn no_findings()
 // The place of a pointer is the one that a device takes.
 pub fn places_are_taken()
     ensures { PlacesAreTaken }
+{}
+
+// One slot of a page that changes is one node, one entry or one pointer that changes.
+pub fn one_slot()
+    ensures { OneSlot }
+{}
+
+// Pointers by index and entries by name are those that stand in lists.
+pub fn by_index_and_name()
+    ensures { ByIndexAndName }
 {}
