@@ -26,6 +26,7 @@ use Rattle.nl_meta.proofs.Pairs.{two_within, somes_two, range_rises, itself}
 use Rattle.nl_core.specs.Stands.{bytes_for}
 use Rattle.nl_core.specs.RightFor.{ChargesOfPages}
 use Rattle.nl_core.proofs.GraphOfPages.{named_member, graph, node_is, NodeOf, node_or_none}
+use Rattle.nl_core.proofs.MetaCharge.{all_addresses, few_entries, few_meta, few_nodes}
 use Rattle.nl_core.proofs.Sums.{all_by, sum_mapped, length_mapped, length_flat, sum_given}
 use Rattle.nl_core.proofs.TreeOfPages.{once, numbers_used, reached_nodes}
 
@@ -104,5 +105,9 @@ module _ (shape : Shape) (pages : VirtualMap) (page_of_stamp : ℕ → Option Pa
     used = node_charges.nodes b g tree used_numbers _ _ (once shape pages page_of_stamp has) (reached_nodes shape pages page_of_stamp has) in_order is ∙ length_mapped (λ (x : ℕ × InodeRec). x.0) (used_nodes shape pages);
     meta_pages = node_charges.meta b g tree used_numbers _ _ (once shape pages page_of_stamp has) (reached_nodes shape pages page_of_stamp has) all_names in_order is
         ∙ ap (λ (k : ℕ). k + sum_by (λ n. ranges_in (g n).body) used_numbers) (sum_mapped (λ n. entry_pages_in (g n).body) (λ (x : ℕ × InodeRec). x.0) (used_nodes shape pages))
-        ∙ ap (λ (k : ℕ). sum_by (λ (x : ℕ × InodeRec). entry_pages_in (g x.0).body) (used_nodes shape pages) + k) (sum_mapped (λ n. ranges_in (g n).body) (λ (x : ℕ × InodeRec). x.0) (used_nodes shape pages));
+        ∙ ap (λ (k : ℕ). sum_by (λ (x : ℕ × InodeRec). entry_pages_in (g x.0).body) (used_nodes shape pages) + k) (sum_mapped (λ n. ranges_in (g n).body) (λ (x : ℕ × InodeRec). x.0) (used_nodes shape pages))
+        ∙ all_addresses shape pages page_of_stamp has;
+    few_entries = few_entries shape pages page_of_stamp has;
+    few_nodes = few_nodes shape pages page_of_stamp has;
+    few_meta = few_meta shape pages page_of_stamp has;
   }

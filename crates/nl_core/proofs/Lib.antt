@@ -1,9 +1,11 @@
 pub mod ChargeOfPages
+pub mod Counts
 pub mod EmptyTree
 pub mod FormattedProofs
 pub mod FreshImage
 pub mod FreshProofs
 pub mod GraphOfPages
+pub mod MetaCharge
 pub mod PagesOfFiles
 pub mod ReadableProofs
 pub mod SoundProofs

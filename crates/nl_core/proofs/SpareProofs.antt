@@ -1,5 +1,5 @@
 -- When a segment of virtual pages has a spare block.
-use Rattle.std.proofs.Common.{◌≡◌, ℕ, zero, suc, ◌≤◌, ◌<◌, Bool, true, false, not, ◌&&◌, ◌||◌, cond, List, [], ◌∷◌, map, filter, find, refl, ap, subst, Option, Some, None, is_some, ◌⊎◌, inl, inr, arith, ◌≢◌, ◌==◌, length, IsSome, ◌/◌}
+use Rattle.std.proofs.Common.{◌≡◌, ℕ, zero, suc, ◌≤◌, ◌<◌, Bool, true, false, not, ◌&&◌, ◌||◌, List, map, filter, find, refl, ap, subst, Option, Some, None, is_some, ◌⊎◌, inl, inr, arith, ◌≢◌, ◌==◌, length, IsSome, ◌/◌}
 use Rattle.std.proofs.lemmas.Bool.{not-false, cases_eq, and_from, not_from_false, not-true, eqb-true, eqb-false, eq-eqb, ne_eqb, or_left, or_right}
 use Rattle.std.specs.List.{list_any, list_all, range_with_len}
 use Rattle.nl_field.specs.Medium.{Readable, stamp_on, virtual_pages, shape_of_image, address_on}
@@ -9,25 +9,8 @@ use Rattle.nl_field.specs.Members.{Has}
 use Rattle.nl_meta.proofs.Lists.{find-none, any-none, each-all, any_member, member_any, member-find, find-some, member-range, range-member, filter-member, map-member}
 use Rattle.nl_meta.proofs.Pairs.{is_not, itself}
 use Rattle.nl_core.specs.Fresh.{SpareByCopies, SpareByFewPages}
+use Rattle.nl_core.proofs.Counts.{one_less}
 use Rattle.nl_core.proofs.Sums.{length_mapped}
-
--- ---- numbers that stand in a list
-
-one_less : (n : ℕ) (ms : List ℕ) → Has ms n → length (filter (is_not n) ms) < length ms
-one_less n [] h = absurd h
-one_less n (m ∷ ms) h =
-    elim (m == n) as (λ b. (m == n) ≡ b → length (cond (not b) (m ∷ filter (is_not n) ms) (filter (is_not n) ms)) < suc (length ms)) [
-      | true ↦ λ e. omega (arith, no_more ms)
-      | false ↦ λ e. later (one_less n ms) e h
-    ] refl
-  where
-    no_more : (ms : List ℕ) → length (filter (is_not n) ms) ≤ length ms
-    no_more [] = omega arith
-    no_more (m ∷ ms) = elim (not (m == n)) as (λ b. length (cond b (m ∷ filter (is_not n) ms) (filter (is_not n) ms)) ≤ suc (length ms)) [ true ↦ omega (arith, no_more ms) | false ↦ omega (arith, no_more ms) ]
-
-    later : (Has ms n → length (filter (is_not n) ms) < length ms) → (m == n) ≡ false → (m ≡ n) ⊎ Has ms n → suc (length (filter (is_not n) ms)) < suc (length ms)
-    later rest e (inl s) = absurd (eqb-false m n e s)
-    later rest e (inr h) = omega (arith, rest h)
 
 -- a list in which all numbers below a bound stand is not shorter
 pub all_stand : (k : ℕ) (ms : List ℕ) → ((b : ℕ) → b < k → Has ms b) → k ≤ length ms

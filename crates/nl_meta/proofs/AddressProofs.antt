@@ -100,7 +100,7 @@ module _ (shape : Shape) (pages : VirtualMap) where
       flat-member addresses_of (used_nodes shape pages) (n, rec) (is_file_kind rec.kind, a) (is_used shape pages n rec is)
       (map-member (λ a. (is_file_kind rec.kind, a)) (filter (λ a. not (a == 0)) rec.addresses) a (filter-member (λ a. not (a == 0)) rec.addresses a m (not_from_false _ (ne_eqb a 0 far))))
 
-  member_address : (y : Bool × ℕ) → Has (flat_map addresses_of (used_nodes shape pages)) y
+  pub member_address : (y : Bool × ℕ) → Has (flat_map addresses_of (used_nodes shape pages)) y
       → (n : ℕ) × (rec : InodeRec) × (a : ℕ) × IsNode shape pages n rec × Has rec.addresses a × (a ≢ 0) × ((is_file_kind rec.kind, a) ≡ y)
   member_address y m =
       let r = member-flat addresses_of (used_nodes shape pages) y m in
@@ -250,6 +250,9 @@ module _ (shape : Shape) (pages : VirtualMap) where
     }),
   )
 
+  pub addresses_listed : AddressesRight shape pages → AddressesListed shape pages
+  addresses_listed r = plain.1 r
+
   pub addresses : (pages_fault shape pages ≡ None) ↔ AddressesRight shape pages
   addresses = ((λ e. plain.0 ((listed shape pages).0 e)), (λ r. (listed shape pages).1 (plain.1 r)))
 
@@ -265,7 +268,7 @@ filled_slot (suc n) [] k e h = absurd (true_false (sym e))
 filled_slot (suc n) (a ∷ rest) zero e h = (a, refl, refl, eqb-false a 0 (not-true _ (and_parts _ _ e).0))
 filled_slot (suc n) (a ∷ rest) (suc k) e h = filled_slot n rest k (and_parts _ _ e).1 (omega (arith, h))
 
-filled_of : (rec : InodeRec) → is_inode rec ≡ true → rec.kind ≡ Dir → are_filled (div_ceil rec.size 64) rec.addresses ≡ true
+pub filled_of : (rec : InodeRec) → is_inode rec ≡ true → rec.kind ≡ Dir → are_filled (div_ceil rec.size 64) rec.addresses ≡ true
 unfolding is_inode_of_kind
 filled_of rec e dir = (and_parts _ _ (sym (ap (λ (k : Kind). is_inode_of_kind k rec) dir) ∙ (and_parts _ _ e).1)).1
 
@@ -278,7 +281,7 @@ spelled_inode bytes rec e =
     ] refl e
 
 module _ (shape : Shape) (pages : VirtualMap) where
-  inode_spelled : (n : ℕ) (rec : InodeRec) → IsNode shape pages n rec → is_inode rec ≡ true
+  pub inode_spelled : (n : ℕ) (rec : InodeRec) → IsNode shape pages n rec → is_inode rec ≡ true
   unfolding inode_at
   inode_spelled n rec is = spelled_inode (bytes_of_node pages n) rec is.spelled
 

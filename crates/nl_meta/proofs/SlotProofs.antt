@@ -141,7 +141,7 @@ none_there n j = elim (cases_lt j n) [
   | inr h ↦ get_or_past (replicate n no_pointer) j no_pointer (let l = length-replicate n no_pointer in omega (arith, l, h))
 ]
 
-in_page : (pages : VirtualMap) (v j : ℕ) → j < 256 → get_or (pointers_at pages v) j no_pointer ≡ pointer_in_page pages v j
+pub in_page : (pages : VirtualMap) (v j : ℕ) → j < 256 → get_or (pointers_at pages v) j no_pointer ≡ pointer_in_page pages v j
 in_page pages v j h = by (v == 0)
   where
     by : (b : Bool) → get_or (cond b (replicate 256 no_pointer) (pointers 256 (bytes_at pages v))) j no_pointer ≡ cond b no_pointer (pointer_fields (slot_at pages 16 v j))
@@ -183,7 +183,7 @@ number d a (y ∷ xs) zero h = inl (λ i. (same i, y))
     same = omega arith
 number d a (y ∷ xs) (suc k) h = inr (subst (λ (n : ℕ). Has (enumerate_from (a + 1) xs) (n, get_or xs k d)) (omega arith) (number d (a + 1) xs k (omega (arith, h))))
 
-listed : (pages : VirtualMap) (rec : InodeRec) (i : ℕ) (p : Pointer) → length rec.direct ≡ 8
+pub listed : (pages : VirtualMap) (rec : InodeRec) (i : ℕ) (p : Pointer) → length rec.direct ≡ 8
     → Has (pointers_of_inode pages rec) (i, p) ↔ ((pointer_at pages rec i ≡ p) × (is_none_pointer p ≡ false))
 unfolding pointers_of_inode
 listed pages rec i p eight = (there, back)
