@@ -3,11 +3,14 @@ pub mod Alone
 pub mod Blanks
 pub mod Calls
 pub mod Counted
+pub mod Firm
 pub mod Forms
 pub mod Found
 pub mod FoundStored
 pub mod Gathered
+pub mod KeptLive
 pub mod Keys
+pub mod Laws
 pub mod Living
 pub mod Loading
 pub mod Lookups
@@ -26,6 +29,7 @@ pub mod Picks
 pub mod Places
 pub mod Placing
 pub mod Ranges
+pub mod NamedReads
 pub mod Ready
 pub mod Retained
 pub mod Retaining
@@ -33,5 +37,6 @@ pub mod Showing
 pub mod Spacing
 pub mod Spreads
 pub mod Starting
+pub mod Tried
 pub mod VirtualPages
 pub mod Writes

@@ -17,7 +17,7 @@ use Rattle.nl_device.proofs.Forms.{shape_is}
 use Rattle.nl_device.proofs.OpenedKeeps.{opened_keeps}
 use Rattle.nl_device.proofs.OpenedMedium.{opened_map, opened_on}
 use Rattle.nl_device.proofs.OpenedNames.{opened_names}
-use Rattle.nl_device.proofs.Ready.{can_none, found_holds}
+use Rattle.nl_device.proofs.Ready.{can_none, found_holds, named_after}
 use Rattle.nl_device.proofs.Starting.{for_shape, free_space, opened_device, room_space}
 use Rattle.nl_device.proofs.device.Device.start.Goals as goal
 
@@ -81,12 +81,12 @@ returns-in-Ok-clause-formed g c =
     (opened_device geometry shape t vseg pseg c.in-Ok.field-0.kept g.M.Nand.tells image legal
     (c.legal_shape-shape.ensures ∙ ap (λ (n : Geometry). shape_for n.blocks n.pages) (c.geometry.ensures ∙ sym same))
     fits c.in-Ok.ensures.virtuals c.in-Ok.ensures.physicals
-    (λ segments live tell.
+    (λ segments live spare tell.
     let fit = g.met.M.Nand.contents_fit media tell in
     let is = table_now image (g.M.Nand.contents c.args.media) t c.scan.ensures.only_reads.same_contents (c.in-Tables.ensures.tables tell) in
     let e = shape_is segments fit in
     let physical = opened_names image t pseg is (subst (λ s. IsOpenedPhysical s t pseg) (sym e) c.in-Ok.ensures.physicals) (subst (λ (s : Shape). 0 < s.pages) (sym e) segments.some) in
-    opened_on t segments fit live physical is c.in-Ok.ensures.virtuals)
+    opened_on t segments fit live physical is c.in-Ok.ensures.virtuals (named_after shape image t c.in-Ok.field-0.kept e is c.in-Ok.ensures.kept) c.in-Ok.ensures.physicals.no_pairs spare)
     c.in-Ok.ensures.kept
     (λ tell.
     found_holds shape image t c.in-Ok.field-0.kept (image_shape shape c.geometry.result geometry image c.legal_shape-shape.ensures (c.geometry.ensures ∙ sym same) (g.met.M.Nand.contents_fit media tell))
