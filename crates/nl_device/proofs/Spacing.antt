@@ -3,7 +3,7 @@ use Rattle.std.proofs.Common.{◌≡◌, ◌⊎◌, inl, inr, ⊎_elim, ℕ, zer
 use Rattle.std.proofs.lemmas.Bool.{cases_lt, le-leb, lt-leb}
 use Rattle.std.proofs.lemmas.List.{get_or-set_other, length-set}
 use Rattle.std.proofs.lemmas.List.Sums.{sum_by-set}
-use Rattle.nl_iface.specs.Space.{Freed, IsSpace, Lessened, SameSegment, WriteFailed, Wrote}
+use Rattle.nl_iface.specs.Space.{Freed, IsSpace, Lessened, NoneRetired, SameSegment, WriteFailed, Wrote}
 use Rattle.nl_pseg.specs.Segment.{IsSpent, IsUnspent, Physical, SamePages, room}
 use Rattle.nl_pseg.specs.declared.held.Held.{Held}
 use Rattle.nl_device.specs.Device.{HasFree}
@@ -162,3 +162,8 @@ free_is seg = refl
 pub waiting_is : (seg : Physical) → (space_of seg).waiting ≡ 0
 unfolding space_of
 waiting_is seg = refl
+
+-- no block is bad
+pub none_retired : (old new : Physical) → NoneRetired (space_of old) (space_of new)
+unfolding space_of
+none_retired old new = refl

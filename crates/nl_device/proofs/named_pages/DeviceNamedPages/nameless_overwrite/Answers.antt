@@ -30,7 +30,7 @@ use Rattle.nl_device.proofs.Living.{live_kept, live_more, live_swap, more_below,
 use Rattle.nl_device.proofs.Made.{bytes_from}
 use Rattle.nl_device.proofs.Naming.{below_after, either_live, either_low, in_block, is_new, leaves_tried, live_bytes, map_same, placed_takes, programmed_named, shown_from, stray_same, to_takes}
 use Rattle.nl_device.proofs.Placing.{after_rises, after_tried, cases_tried, counted, fault_room, fault_space, free_after, from_placed, if_not_placed, if_refused, named_has, named_rises, not_touched, not_tried, placed_at, placed_both, placed_map, placed_or, placed_yes, room_is, to_placed, tried_placed}
-use Rattle.nl_device.proofs.Spacing.{one_for_one, wrote, wrote_one}
+use Rattle.nl_device.proofs.Spacing.{none_retired, one_for_one, wrote, wrote_one}
 use Rattle.nl_device.proofs.Tried.{kept_untried, new_name, next_untried, tried_device}
 use Rattle.nl_device.proofs.named_pages.DeviceNamedPages.nameless_overwrite.Goals as goal
 
@@ -229,6 +229,7 @@ returns-clause-counts g c =
       clean_ticks = λ clean is. e.one (inr clean) (to_placed answer is);
       clean_stays = λ clean un. e.none (inr clean) (λ is. un (from_placed answer is));
       clean_fault = λ clean. fault_room answer c.args.self.now.pseg c.nameless_overwrite-answer.new.self clean c.nameless_overwrite-answer.ensures.failed;
+      clean_kept = λ clean. none_retired c.args.self.now.pseg c.nameless_overwrite-answer.new.self;
     }
 
 pub returns-clause-formed : goal.returns-clause-formed
