@@ -33,6 +33,7 @@ pub mod NamedReads
 pub mod Ready
 pub mod Retained
 pub mod Retaining
+pub mod SeenSpare
 pub mod Showing
 pub mod Spacing
 pub mod Spreads

@@ -147,8 +147,10 @@ module _ (geometry : Geometry) (shape : Shape) (vseg : Segment) (seg : Physical)
       (λ dead. inr (inl (record { dead = dead_live p dead.0; own = ap (λ ps. resolve ps p) none }, named_none p dead.1)))
       (k.each p)
   tried_page page stamp tag main none (inr k) p = ⊎_elim
-      (λ here. inr (inr (subst (IsNew shape (names_of seg)) (sym here) (is_new_page none page k.takes.dead),
-      ap (stored_in c).named here ∙ programmed_named page tag stamp (wear_of seg (page / seg.size)) main k.shows k.takes)))
+      (λ here. inr (inr (
+        subst (IsNew shape (names_of seg)) (sym here) (is_new_page none page k.takes.dead),
+        ap (stored_in c).named here ∙ programmed_named page tag stamp (wear_of seg (page / seg.size)) main k.shows k.takes,
+      )))
       (λ ne. ⊎_elim
       (λ same. inl (named_same p same))
       (λ dead. inr (inl (record { dead = dead_live p dead.0; own = ap (λ ps. resolve ps p) none }, named_none p dead.1)))

@@ -19,7 +19,7 @@ use Rattle.nl_device.proofs.OpenedSpare.{is_copy}
 use Rattle.nl_device.proofs.Picks.{find_passes}
 use Rattle.nl_device.proofs.Spreads.{all_at, from_in}
 
-in_range : (n first count : ℕ) → In n (range_with_len first count) → n < first + count
+pub in_range : (n first count : ℕ) → In n (range_with_len first count) → n < first + count
 in_range n first zero is = absurd is
 in_range n first (suc k) (inl same) = omega (arith, same)
 in_range n first (suc k) (inr rest) = let below = in_range n (first + 1) k rest in omega (arith, below)

@@ -27,9 +27,9 @@ impl<M: Nand> NamedPages for Device<M> {
         let answer = self
             .pseg
             .nameless_overwrite(&mut self.media, old, tag, from, self.next);
-        let tried = is_tried(&answer);
-        self.kept.forget_after(tried);
-        self.next = stamp_after(self.next, tried);
+        let taken = is_tried(&answer);
+        self.kept.forget_after(taken);
+        self.next = stamp_after(self.next, taken);
         answer
     }
 

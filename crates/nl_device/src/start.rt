@@ -2,6 +2,7 @@ ghost use Rattle.std.specs.Prelude.{◌≡◌, ◌+◌, ◌<◌, ◌≤◌, ℕ,
 ghost use Rattle.std.specs.List.{list_all};
 ghost use Rattle.nl_field.specs.CrashStates.{Rose};
 ghost use Rattle.nl_field.specs.Numbers.{is_legal, shape_for};
+ghost use Rattle.nl_field.specs.ScanList.{virtual_spare_seen};
 ghost use Rattle.nl_field.specs.Space.{virtual_spare};
 ghost use Rattle.nl_field.specs.Virtual.{newest};
 ghost use Rattle.nl_iface.specs.Stored.{Value, value_on};
@@ -12,7 +13,7 @@ ghost use Rattle.nl_device.specs.Kept.{kept_pages};
 ghost use Rattle.nl_device.specs.Medium.{medium_of};
 ghost use Rattle.nl_device.specs.Opening.{FitsShape, IsOpenedPhysical, IsOpenedVirtual, SaysErased};
 ghost use Rattle.nl_device.specs.Retain.{CanRetain, kept_of};
-ghost use Rattle.nl_device.specs.Started.{IfFault, IfMemory, IfReady};
+ghost use Rattle.nl_device.specs.Started.{IfFault, IfMemory, IfReady, IsStarted};
 
 use crate::device::Device;
 use crate::kept::Kept;
@@ -72,17 +73,12 @@ impl<M: Nand> Device<M> {
     pub fn start(alloc: Global, media: M) -> Started<M>
         requires formed { IsTrue (is_legal (M.geometry media).blocks (M.geometry media).pages) }
         ensures formed { IfReady result (λ d t. ⟦<Device<M> as Counts>⟧.formed d) }
-        ensures shape { IfReady result (λ d t. ⟦<Device<M> as Counts>⟧.shape d ≡ shape_for (M.geometry media).blocks (M.geometry media).pages) }
-        ensures live { IfReady result (λ d t. (p : ℕ) → (⟦<Device<M> as Counts>⟧.names d).live p ≡ None) }
-        ensures pairs { IfReady result (λ d t. (⟦<Device<M> as Counts>⟧.names d).pairs ≡ []) }
-        ensures pending { IfReady result (λ d t. (⟦<Device<M> as Counts>⟧.names d).pending ≡ []) }
-        ensures room { IfReady result (λ d t. let space = (⟦<Device<M> as Counts>⟧.names d).space in space.room + space.block ≡ space.all) }
-        ensures free { IfReady result (λ d t. (⟦<Device<M> as Counts>⟧.names d).space.free ≡ (⟦<Device<M> as Counts>⟧.shape d).pblocks) }
-        ensures next { IfReady result (λ d t. ⟦<Device<M> as Counts>⟧.next_stamp d ≡ 1 + greatest_stamp t.seen) }
+        ensures started { IfReady result (λ d t. IsStarted (M.geometry media) t (⟦<Device<M> as Counts>⟧.shape d) (⟦<Device<M> as Counts>⟧.names d) (⟦<Device<M> as Counts>⟧.next_stamp d)) }
         ensures clean { IfReady result (λ d t. let shape = ⟦<Device<M> as Counts>⟧.shape d in ((block : ℕ) → shape.vblocks ≤ block → block < shape.blocks → SaysErased t block) → ⟦<Device<M> as Counts>⟧.clean d) }
         ensures map { M.tells → IfReady result (λ d t. (v : ℕ) → v < (⟦<Device<M> as Counts>⟧.shape d).vaddrs → ⟦<Device<M> as Counts>⟧.map d v ≡ option_map value_on (newest (M.contents media) v)) }
         ensures agreed { M.tells → IfReady result (λ d t. list_all (λ s. s.agrees) t.seen ≡ true → (v : ℕ) (x : Value) → v < (⟦<Device<M> as Counts>⟧.shape d).vaddrs → ⟦<Device<M> as Counts>⟧.failed d v x → ⊥) }
-        ensures spare { M.tells → IfReady result (λ d t. (block : ℕ) → virtual_spare (M.contents media) ≡ Some block → ⟦<Device<M> as Counts>⟧.keeps_spare d) }
+        ensures spare { IfReady result (λ d t. (block : ℕ) → virtual_spare_seen (⟦<Device<M> as Counts>⟧.shape d) t.seen ≡ Some block → ⟦<Device<M> as Counts>⟧.keeps_spare d) }
+        ensures spare_told { M.tells → IfReady result (λ d t. (block : ℕ) → virtual_spare (M.contents media) ≡ Some block → ⟦<Device<M> as Counts>⟧.keeps_spare d) }
         ensures tables { M.tells → IfReady result (λ d t. IsTableOf (M.contents media) t) }
         ensures fits { IfReady result (λ d t. FitsMedium (M.geometry media) t) }
         ensures counts { IfReady result (λ d t. (⟦<Device<M> as Counts>⟧.clock d ≡ M.clock media) × (⟦<Device<M> as Counts>⟧.read_faults d ≡ M.read_faults media) × (⟦<Device<M> as Counts>⟧.write_faults d ≡ M.write_faults media)) }

@@ -9,7 +9,7 @@ use nl_field::{
     FailList, Named, NamedRead, PageBuf, Pointer, PointerList, SpareRec, Tag, VirtualRead,
     VirtualWrite,
 };
-use nl_iface::{NamedPages, VirtualPages};
+use nl_iface::{Counts, NamedPages, VirtualPages};
 use nl_nand::{FormAnswer, MemNand, Nand};
 use nl_scan::Seen as Page;
 use std::alloc::Global;

@@ -112,9 +112,9 @@ returns-clause-refused g c = if_refused c.nameless_overwrite-answer.result _ (λ
     let d = c.args.self.now in
     let e = c.nameless_overwrite-answer.ensures in
     let same = e.refused is in
-    let untried : c.is_tried-tried.result ≡ false = c.is_tried-tried.ensures ∙ not_tried c.nameless_overwrite-answer.result is in
-    let kept = kept_untried d.kept c.forget_after.new.self c.is_tried-tried.result c.forget_after.ensures untried in
-    let next = next_untried c.is_tried-tried.result c.stamp_after-self.result d.next c.stamp_after-self.ensures untried in
+    let untried : c.is_tried-taken.result ≡ false = c.is_tried-taken.ensures ∙ not_tried c.nameless_overwrite-answer.result is in
+    let kept = kept_untried d.kept c.forget_after.new.self c.is_tried-taken.result c.forget_after.ensures untried in
+    let next = next_untried c.is_tried-taken.result c.stamp_after-self.result d.next c.stamp_after-self.ensures untried in
     let image : g.M.Nand.contents c.nameless_overwrite-answer.new.media ≡ g.M.Nand.contents d.media = ap g.M.Nand.contents same.1 in
     let low : (p : ℕ) → p < d.shape.vblocks * d.shape.pages → page_at (g.M.Nand.contents c.nameless_overwrite-answer.new.media) p ≡ page_at (g.M.Nand.contents d.media) p = λ p lt. ap (λ (i : Image). page_at i p) image in
     let map = map_same (g.M.Nand.contents d.media) (g.M.Nand.contents c.nameless_overwrite-answer.new.media) d.vseg c.requires.formed.mapped (λ p lt. ap (λ (i : Image). page_at i p) image) in
@@ -216,8 +216,8 @@ pub returns-clause-next_stamp : goal.returns-clause-next_stamp
 returns-clause-next_stamp g c =
     let d = c.args.self.now in
     let e = c.nameless_overwrite-answer.ensures.counts in
-    named_rises c.nameless_overwrite-answer.result c.is_tried-tried.result c.stamp_after-self.result d.next (g.M.Nand.clock d.media) (g.M.Nand.clock c.nameless_overwrite-answer.new.media) (g.M.Nand.write_faults d.media) (g.M.Nand.write_faults c.nameless_overwrite-answer.new.media)
-    c.stamp_after-self.ensures c.is_tried-tried.ensures e.later e.more e.placed e.failed
+    named_rises c.nameless_overwrite-answer.result c.is_tried-taken.result c.stamp_after-self.result d.next (g.M.Nand.clock d.media) (g.M.Nand.clock c.nameless_overwrite-answer.new.media) (g.M.Nand.write_faults d.media) (g.M.Nand.write_faults c.nameless_overwrite-answer.new.media)
+    c.stamp_after-self.ensures c.is_tried-taken.ensures e.later e.more e.placed e.failed
 
 pub returns-clause-counts : goal.returns-clause-counts
 returns-clause-counts g c =
@@ -240,11 +240,11 @@ returns-clause-formed g c =
     let seg = c.nameless_overwrite-answer.new.self in
     let answer = c.nameless_overwrite-answer.result in
     let next = c.stamp_after-self.result in
-    let rises : d.next ≤ next = after_rises c.is_tried-tried.result d.next next c.stamp_after-self.ensures in
+    let rises : d.next ≤ next = after_rises c.is_tried-taken.result d.next next c.stamp_after-self.ensures in
     let spare : HasSpareBlock seg = record { block = e.kept f.spare.block; dead = e.kept_dead } in
     let free = free_after answer d.pseg seg f.free e.pages e.spent e.failed (λ r. (e.refused r).0) in
-    let device = tried_device answer c.is_tried-tried.result c.args.tag c.args.from.now.main f e.geometry (g.met.M.Nand.contents_fit d.media) (g.met.M.Nand.contents_fit c.nameless_overwrite-answer.new.media) (λ t. ((e.crash t).page, (e.crash t).either))
-    (λ un. not_touched answer un (λ r. ap g.M.Nand.contents (e.refused r).1)) c.forget_after.ensures c.stamp_after-self.ensures c.is_tried-tried.ensures in
+    let device = tried_device answer c.is_tried-taken.result c.args.tag c.args.from.now.main f e.geometry (g.met.M.Nand.contents_fit d.media) (g.met.M.Nand.contents_fit c.nameless_overwrite-answer.new.media) (λ t. ((e.crash t).page, (e.crash t).either))
+    (λ un. not_touched answer un (λ r. ap g.M.Nand.contents (e.refused r).1)) c.forget_after.ensures c.stamp_after-self.ensures c.is_tried-taken.ensures in
     let place = resolve d.pseg.pairs c.args.old.name in
     ⊎_elim
     (λ at.
@@ -253,7 +253,7 @@ returns-clause-formed g c =
     let below = in_within f.segments at.0.name dead.0.within in
     let h = old_held d.pseg c.args.old answer at.0 at.1 e.live.1 in
     let within = in_within f.segments place (f.live.in_segment place h.0 h.1) in
-    let one = after_tried answer c.is_tried-tried.result d.next next c.stamp_after-self.ensures c.is_tried-tried.ensures (tried_placed answer (placed_yes answer at.0 at.1)) in
+    let one = after_tried answer c.is_tried-taken.result d.next next c.stamp_after-self.ensures c.is_tried-taken.ensures (tried_placed answer (placed_yes answer at.0 at.1)) in
     device seg e.pages (ap (λ (l : List (Option Held)). length l) held ∙ (length-set (set d.pseg.held at.0.name _) place None ∙ length-set d.pseg.held at.0.name _))
     (live_swap d.pseg seg at.0.name place d.next c.args.tag f.live e.pages e.within dead.0.within below within f.stamp.live held) free spare (e.pairs (placed_yes answer at.0 at.1) ∙ no_pair d.pseg.pairs place f.no_pairs)
     (swap_below d.pseg seg at.0.name place d.next next c.args.tag below within held f.stamp.live one) e.segment)
