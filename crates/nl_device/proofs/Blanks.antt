@@ -1,5 +1,5 @@
 -- The least volume: a blank medium of 32 blocks of 32 pages, and one with two pages.
-use Rattle.std.proofs.Common.{◌≡◌, ℕ, zero, suc, ◌+◌, List, [], ◌∷◌, filter, Some, length, refl, sym, ◌∙◌, ap, subst, arith}
+use Rattle.std.proofs.Common.{true, ◌≡◌, ℕ, zero, suc, ◌+◌, List, [], ◌∷◌, filter, Some, length, refl, sym, ◌∙◌, ap, subst, arith}
 use Rattle.std.specs.Prelude.{◌==◌, ◌&&◌, nat_lt, slice_get, slice_index_or, filter_map, All, IsSome}
 use Rattle.std.specs.List.{enumerate_from}
 use Rattle.std.proofs.lemmas.Option.{same_Some}
@@ -14,7 +14,7 @@ use Rattle.nl_nand.specs.Nand.{IsBlank}
 use Rattle.nl_field.specs.declared.seen.Seen.{Seen}
 use Rattle.nl_device.specs.Device.{HasFound}
 use Rattle.nl_device.specs.Kept.{KeptPages, has_stamp, kept_from, kept_pages, place_among, spare_among}
-use Rattle.nl_device.specs.Retain.{CanRetain, place_for}
+use Rattle.nl_device.specs.Retain.{CanRetain, owns_name, place_for}
 use Rattle.nl_device.specs.declared.kept.page.KeptPage.{KeptPage}
 
 none_readable : (n : ℕ) (pages : List Page) → ((i : ℕ) → slice_index_or pages i erased ≡ erased) → filter_map readable (enumerate_from n pages) ≡ []
@@ -69,9 +69,16 @@ can_second = record {
   spare = refl;
   placed = placed;
   differ = λ i j d before within. absurd (omega (arith, before, within));
+  names_differ = λ i j d before within. absurd (omega (arith, before, within));
+  own = owned;
+  few_lost = omega arith;
   room = omega arith;
 }
   where
+    owned : All (λ p. owns_name kept_two p ≡ true) (record { name = 257; stamp = 2 } ∷ [])
+    owned zero d less = refl
+    owned (suc k) d less = absurd (omega (arith, less))
+
     placed : All (λ p. IsSome (place_for kept_two (record { name = 257; stamp = 2 } ∷ []) p)) (record { name = 257; stamp = 2 } ∷ [])
     placed zero d less = refl
     placed (suc k) d less = absurd (omega (arith, less))

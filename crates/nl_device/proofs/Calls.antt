@@ -1,5 +1,5 @@
 -- The device after a call of the physical segment.
-use Rattle.std.proofs.Common.{◌≡◌, ◌⊎◌, inl, inr, ⊎_elim, ℕ, ◌*◌, ◌<◌, ◌≤◌, true, List, [], Option, Some, None, length, refl, sym, ◌∙◌, ap, subst, arith, eq-eqb, eqb-true}
+use Rattle.std.proofs.Common.{◌≡◌, ◌⊎◌, inl, inr, ⊎_elim, ℕ, ◌+◌, ◌*◌, ◌<◌, ◌≤◌, Bool, true, false, cond, List, [], Option, Some, None, length, refl, sym, ◌∙◌, ap, subst, arith, eq-eqb, eqb-true}
 use Rattle.std.proofs.lemmas.Bool.{cases_Bool, false≢true}
 use Rattle.std.proofs.lemmas.Option.{same_Some, none-some}
 use Rattle.nl_field.specs.Page.{Image, page_at}
@@ -8,15 +8,17 @@ use Rattle.nl_field.specs.declared.pointer.Pointer.{Pointer}
 use Rattle.nl_field.specs.declared.shape.Shape.{Shape}
 use Rattle.nl_nand.specs.Nand.{ImageOf}
 use Rattle.nl_nand.specs.declared.geometry.Geometry.{Geometry}
-use Rattle.nl_iface.specs.Names.{HoldsLive, has_stamp, leads}
-use Rattle.nl_iface.specs.Stored.{Stored, stored_in}
+use Rattle.nl_iface.specs.Left.{HoldsLive}
+use Rattle.nl_iface.specs.Names.{has_stamp, leads}
+use Rattle.nl_iface.specs.Stored.{NamedPage, Stored, stored_in}
 use Rattle.nl_device.specs.Shown.{bytes_at, found_in, live_page, names_of}
-use Rattle.nl_pseg.specs.Segment.{InSegment, IsLive, IsPhysicalOf, Physical, SamePages, held_at, stamp_in, without_target}
+use Rattle.nl_pseg.specs.Segment.{InSegment, IsLive, IsPhysicalOf, KeepsBlock, KeptAreDead, Physical, SamePages, held_at, stamp_in, without_target}
 use Rattle.nl_pseg.specs.declared.held.Held.{Held}
 use Rattle.nl_vseg.specs.Segment.{Segment}
 use Rattle.nl_device.specs.Kept.{KeptPages, forgotten}
-use Rattle.nl_device.specs.Device.{HasFound, HasFree, HasLive, HasSegments, IsDevice, IsOnMedium}
+use Rattle.nl_device.specs.Device.{HasFound, HasFree, HasLive, HasSegments, HasSpareBlock, IsDevice, IsOnMedium}
 use Rattle.nl_device.proofs.Forms.{begins}
+use Rattle.nl_device.proofs.Laws.{names_are}
 use Rattle.nl_device.proofs.Made.{made_medium}
 use Rattle.nl_device.proofs.Naming.{map_same, shows_same, shows_still, virtual_kept}
 use Rattle.nl_device.proofs.Spacing.{space_is}
@@ -43,14 +45,27 @@ named_segments {geometry} {now} {shape} {vseg} {old} {new} has is same held = su
 pub found_still : {shape : Shape} {kept : KeptPages} {next after : ℕ} → HasFound shape kept next → next ≤ after → HasFound shape kept after
 found_still f rises = record { first = f.first; count = f.count; size = f.size; below = λ i d within. let lt = f.below i d within in omega (arith, lt, rises) }
 
--- nothing is kept of what it found
-module _ (kept left : KeptPages) (is : left ≡ forgotten kept) where
-  pub found_none : (shape : Shape) (next after : ℕ) → HasFound shape kept next → HasFound shape left after
-  found_none shape next after f = subst (λ k. HasFound shape k after) (sym is) (record { first = f.first; count = f.count; size = f.size; below = λ i d within. absurd (omega (arith, within)) })
+-- nothing is kept of what it found where a page was tried
+found_none : (kept : KeptPages) (shape : Shape) (next after : ℕ) → HasFound shape kept next → HasFound shape (forgotten kept) after
+found_none kept shape next after f = record { first = f.first; count = f.count; size = f.size; below = λ i d within. absurd (omega (arith, within)) }
 
-  pub none_stored : (bytes : ℕ → List ℕ) (c : Stored) → HoldsLive (found_in left) bytes c
-  unfolding found_in
-  none_stored bytes c p page has = absurd (none-some page (ap (λ k. found_in k p) (sym is) ∙ has))
+none_stored : (kept : KeptPages) (bytes : ℕ → List ℕ) (c : Stored) → HoldsLive (found_in (forgotten kept)) bytes c
+unfolding found_in
+none_stored kept bytes c p page has = absurd (none-some page has)
+
+pub found_after : (kept left : KeptPages) (tried : Bool) → left ≡ cond tried (forgotten kept) kept → (shape : Shape) (next after : ℕ) → next ≤ after → HasFound shape kept next → HasFound shape left after
+found_after kept left tried is shape next after rises f = subst (λ k. HasFound shape k after) (sym is) (by tried)
+  where
+    by : (b : Bool) → HasFound shape (cond b (forgotten kept) kept) after
+    by true = found_none kept shape next after f
+    by false = found_still f rises
+
+pub stored_after : (kept left : KeptPages) (tried : Bool) → left ≡ cond tried (forgotten kept) kept → (bytes : ℕ → List ℕ) (c : Stored) → (tried ≡ false → HoldsLive (found_in kept) bytes c) → HoldsLive (found_in left) bytes c
+stored_after kept left tried is bytes c still = subst (λ k. HoldsLive (found_in k) bytes c) (sym is) (by tried refl)
+  where
+    by : (b : Bool) → tried ≡ b → HoldsLive (found_in (cond b (forgotten kept) kept)) bytes c
+    by true e = none_stored kept bytes c
+    by false e = still e
 
 -- what was found is stored still, where the pages of the physical segment are as before
 pub found_beyond : (kept : KeptPages) (shape : Shape) (old new : Image) → ((p : ℕ) → (stored_in new).named p ≡ (stored_in old).named p) → ((p : ℕ) → bytes_at (shape.vblocks * shape.pages) new p ≡ bytes_at (shape.vblocks * shape.pages) old p)
@@ -58,13 +73,14 @@ pub found_beyond : (kept : KeptPages) (shape : Shape) (old new : Image) → ((p 
 found_beyond kept shape old new named bytes holds p page is = named p ∙ holds p page is ∙ (λ i. Some (record { tag = page.tag; stamp = page.stamp; bytes = sym (bytes p) i }))
 
 pub device_with : {geometry now : Geometry} {tells : Type 0} {image c : Image} {shape : Shape} {vseg : Segment} {old new : Physical} {kept left : KeptPages} {next after : ℕ} → IsDevice geometry tells image shape vseg old kept next
-    → HasFound shape left after → (tells → HoldsLive (found_in left) (λ p. bytes_at (shape.vblocks * shape.pages) c p) (stored_in c)) → now ≡ geometry → SamePages old new → length new.held ≡ length old.held → HasLive new → HasFree new → new.pairs ≡ old.pairs → next ≤ after → ((p : ℕ) (h : Held) → held_at new p ≡ Some h → h.stamp < after)
+    → HasFound shape left after → (tells → HoldsLive (found_in left) (λ p. bytes_at (shape.vblocks * shape.pages) c p) (stored_in c)) → now ≡ geometry → SamePages old new → length new.held ≡ length old.held → HasLive new → HasFree new → HasSpareBlock new → new.pairs ≡ old.pairs → next ≤ after → ((p : ℕ) (h : Held) → held_at new p ≡ Some h → h.stamp < after)
     → (tells → IsOnMedium shape after c vseg new) → IsDevice now tells c shape vseg new left after
-device_with f found stored is same held live free pairs rises stamps medium = record {
+device_with f found stored is same held live free spare pairs rises stamps medium = record {
   segments = named_segments f.segments is same held;
   mapped = f.mapped;
   live = live;
   free = free;
+  spare = spare;
   no_pairs = pairs ∙ f.no_pairs;
   stamp = record {
     some = let s = f.stamp.some in omega (arith, s, rises);
@@ -73,21 +89,24 @@ device_with f found stored is same held live free pairs rises stamps medium = re
   };
   found = found;
   found_stored = stored;
-  space = space_is _ free (pairs ∙ f.no_pairs);
+  legal = f.legal;
+  unwritten = f.unwritten;
+  names = names_are (named_segments f.segments is same held) _ live (space_is _ free (pairs ∙ f.no_pairs)) stamps;
   medium = medium;
 }
 
 -- the medium, where the pages of the virtual segment are as before
 pub medium_with : {geometry now : Geometry} {image c : Image} {shape : Shape} {vseg : Segment} {old new : Physical} {kept : KeptPages} {next after : ℕ} {tells : Type 0} → IsDevice geometry tells image shape vseg old kept next → tells
-    → now ≡ geometry → SamePages old new → length new.held ≡ length old.held → ImageOf now c → HasLive new → ((p : ℕ) → p < old.first * old.size → page_at c p ≡ page_at image p) → IsPhysicalOf c new → next ≤ after
-    → IsOnMedium shape after c vseg new
-medium_with {geometry} {now} {image} {c} {shape} {vseg} {old} {new} {kept} {next} {after} f t is same held fits live low physical rises =
+    → now ≡ geometry → SamePages old new → length new.held ≡ length old.held → ImageOf now c → HasLive new → ((p : ℕ) → p < old.first * old.size → page_at c p ≡ page_at image p) → IsPhysicalOf c new → next ≤ after → new.pairs ≡ old.pairs → HasSpareBlock new
+    → ((p : ℕ) (page : NamedPage) → (stored_in c).named p ≡ Some page → page.stamp + 1 ≤ after) → IsOnMedium shape after c vseg new
+medium_with {geometry} {now} {image} {c} {shape} {vseg} {old} {new} {kept} {next} {after} f t is same held fits live low physical rises pairs spare named =
     let below : (p : ℕ) → p < shape.vblocks * shape.pages → page_at c p ≡ page_at image p = λ p lt. low p (subst (λ n. p < n) (sym (begins f.segments)) lt) in
     let under : (p : ℕ) → p < vseg.bound → page_at c p ≡ page_at image p = λ p lt. below p (subst (λ n. p < n) f.segments.virtual_bound lt) in
     made_medium (named_segments f.segments is same held) fits live
     (virtual_kept image c vseg f.mapped under (f.medium t).virtual_is) physical
     (λ v s main has. shows_still (shape.vblocks * shape.pages) image c below v s main ((f.medium t).there v s main (sym (map_same image c vseg f.mapped under v) ∙ has)))
     (λ v s main shows. let lt = (f.medium t).below v s main (shows_same (shape.vblocks * shape.pages) image c below v s main shows) in omega (arith, lt, rises))
+    named (pairs ∙ f.no_pairs) spare
 
 -- what is held where a pointer leads
 pub held_from : (o : Option Held) (s : ℕ) → stamp_in o ≡ Some s → (h : Held) × (o ≡ Some h) × (h.stamp ≡ s)

@@ -1,5 +1,5 @@
 -- How many numbers of a range pass a test, and how many pages are live.
-use Rattle.std.proofs.Common.{◌≡◌, ℕ, zero, suc, ◌+◌, ◌<◌, ◌≤◌, Bool, true, false, cond, List, [], ◌∷◌, get_or, Option, Some, None, is_some, refl, sym, ◌∙◌, ap, arith, ⊎_elim}
+use Rattle.std.proofs.Common.{◌≡◌, ℕ, zero, suc, ◌+◌, ◌<◌, ◌≤◌, Bool, true, false, cond, List, [], ◌∷◌, length, get_or, Option, Some, None, is_some, refl, sym, ◌∙◌, ap, arith, ⊎_elim}
 use Rattle.std.specs.Prelude.{find}
 use Rattle.std.specs.List.{count_by, range_with_len}
 use Rattle.std.proofs.lemmas.Bool.{cases_Bool, cases_eq, cond-false, cond-true}
@@ -83,3 +83,23 @@ live_none (o ∷ held) none =
     let rest = live_none held (λ page. none (suc page)) in
     let e = sum_by-cons (λ (x : Option Held). bit (is_some x)) o held in
     omega (arith, e, here, rest)
+
+-- how many pages are live, as a count of their numbers: there are none before the first
+pub live_counts : (f : ℕ → Bool) (held : List (Option Held)) (from first n : ℕ) → length held ≡ first + n → ((k : ℕ) → k < length held → f (from + k) ≡ is_some (get_or held k None)) → ((k : ℕ) → k < first → get_or held k None ≡ None)
+    → live_in held ≡ count_by f (range_with_len (from + first) n)
+live_counts f [] from first zero long same before = refl
+live_counts f [] from first (suc n) long same before = absurd (omega (arith, long))
+live_counts f (o ∷ held) from zero zero long same before = absurd (omega (arith, long))
+live_counts f (o ∷ held) from zero (suc n) long same before =
+    let here : bit (f (from + 0)) ≡ bit (is_some o) = ap bit (same 0 (omega arith)) in
+    let rest = live_counts f held (from + 1) 0 n (omega (arith, long)) (λ k within. let e : from + 1 + k ≡ from + suc k = omega arith in ap f e ∙ same (suc k) (omega (arith, within))) (λ k below. absurd (omega (arith, below))) in
+    let next = count_next f (from + 0) n in
+    let e : count_by f (range_with_len (from + 1 + 0) n) ≡ count_by f (range_with_len (from + 0 + 1) n) = ap (λ m. count_by f (range_with_len m n)) (omega arith) in
+    let s = sum_by-cons (λ (x : Option Held). bit (is_some x)) o held in
+    omega (arith, here, rest, next, e, s)
+live_counts f (o ∷ held) from (suc first) n long same before =
+    let none : bit (is_some o) ≡ 0 = ap (λ (x : Option Held). bit (is_some x)) (before 0 (omega arith)) in
+    let rest = live_counts f held (from + 1) first n (omega (arith, long)) (λ k within. let e : from + 1 + k ≡ from + suc k = omega arith in ap f e ∙ same (suc k) (omega (arith, within))) (λ k below. before (suc k) (omega (arith, below))) in
+    let e : count_by f (range_with_len (from + 1 + first) n) ≡ count_by f (range_with_len (from + suc first) n) = ap (λ m. count_by f (range_with_len m n)) (omega arith) in
+    let s = sum_by-cons (λ (x : Option Held). bit (is_some x)) o held in
+    omega (arith, none, rest, e, s)

@@ -9,7 +9,8 @@ use Rattle.nl_field.specs.CrashStates.{LeavesOnly}
 use Rattle.nl_field.specs.declared.shape.Shape.{Shape}
 use Rattle.nl_nand.specs.Nand.{ImageOf}
 use Rattle.nl_nand.specs.declared.geometry.Geometry.{Geometry}
-use Rattle.nl_iface.specs.Stored.{Stored, Value, Shows as StoresMap, stored_in}
+use Rattle.nl_iface.specs.Stored.{NoneBeyond, Value, Shows as StoresMap, stored_in}
+use Rattle.nl_iface.proofs.Beyond.{stores_none_beyond}
 use Rattle.nl_vseg.specs.Maps.{Dominated}
 use Rattle.nl_vseg.specs.Pages.{Shows}
 use Rattle.nl_vseg.specs.Segment.{Fits as VirtualFits, SameSize, Segment}
@@ -17,10 +18,9 @@ use Rattle.nl_pseg.specs.Pages.{shown_by}
 use Rattle.nl_pseg.specs.Seen.{Fits as PhysicalFits}
 use Rattle.nl_pseg.specs.Segment.{Physical}
 use Rattle.nl_device.specs.Device.{HasSegments}
-use Rattle.nl_device.specs.Shown.{StoredOn}
 use Rattle.nl_device.proofs.PhysicalPages.{named_of, named_at, named_low}
 use Rattle.nl_device.proofs.Showing.{stores}
-use Rattle.nl_device.proofs.VirtualPages.{SameForm, virtual_same}
+use Rattle.nl_device.proofs.VirtualPages.{SameForm, firm_same, virtual_same}
 
 pub shape_is : {geometry : Geometry} {shape : Shape} {vseg : Segment} {pseg : Physical} {image : Image} → HasSegments geometry shape vseg pseg → ImageOf geometry image → shape_of_image image ≡ shape
 shape_is has fit = (λ i. shape_for (fit.blocks i) (fit.pages i)) ∙ sym has.numbers
@@ -67,10 +67,17 @@ module _ (shape : Shape) (image : Image) (is : shape_of_image image ≡ shape) w
       → ((v t : ℕ) (n : List ℕ) → Shows (first_physical s) image v t n → Dominated (map v) t n ⊎ failed v (t, n)) → StoresMap s.vaddrs map failed (stored_in image))
       is (stores image map failed) there each
 
+-- nothing is stored beyond the last address
+pub beyond_in : (shape : Shape) (image : Image) → shape_of_image image ≡ shape → NoneBeyond shape.vaddrs (stored_in image)
+beyond_in shape image is = subst (λ (s : Shape). NoneBeyond s.vaddrs (stored_in image)) is (stores_none_beyond image)
+
 -- the pages of the virtual segment are as before
 module _ (shape : Shape) (old c : Image) (is : shape_of_image old ≡ shape) (form : SameForm old c) where
   pub same_below : ((p : ℕ) → p < shape.vblocks * shape.pages → page_at c p ≡ page_at old p) → (v : ℕ) → (stored_in c).virtual v ≡ (stored_in old).virtual v
   same_below same = virtual_same old c form (subst (λ s. (p : ℕ) → p < first_physical s → page_at c p ≡ page_at old p) (sym is) same)
+
+  pub as_firm : ((p : ℕ) → p < shape.vblocks * shape.pages → page_at c p ≡ page_at old p) → (stored_in c).firm ≡ (stored_in old).firm
+  as_firm same = firm_same old c form (subst (λ s. (p : ℕ) → p < first_physical s → page_at c p ≡ page_at old p) (sym is) same)
 
 -- those of the physical segment are as before
 pub same_from : (shape : Shape) (old c : Image) → shape_of_image old ≡ shape → shape_of_image c ≡ shape → ((p : ℕ) → shape.vblocks * shape.pages ≤ p → page_at c p ≡ page_at old p) → (p : ℕ) → (stored_in c).named p ≡ (stored_in old).named p
@@ -79,16 +86,15 @@ same_from shape old c old_is c_is same p = ⊎_elim
     (λ le. named_from shape c c_is p le ∙ (ap (λ page. named_of (shown_by page)) (same p le) ∙ sym (named_from shape old old_is p le)))
     (cases_lt p (shape.vblocks * shape.pages))
 
--- what a call leaves of the medium, as it is stored
-pub lift : {D M : Type 0} {clock : M → ℕ} {left : M → ℕ → Image → Type 0} (media : D → M) {old new : D} (P : ℕ → Image → Type 0) (Q : ℕ → Stored → Type 0)
-    → LeavesOnly clock left (media old) (media new) P → ((m : ℕ) (c : Image) → left (media new) m c → P m c → Q m (stored_in c))
-    → LeavesOnly (λ d. clock (media d)) (λ d m s. StoredOn (left (media d) m) s) old new Q
+-- what a call leaves of the medium
+pub lift : {D M : Type 0} {clock : M → ℕ} {left : M → ℕ → Image → Type 0} (media : D → M) {old new : D} (P Q : ℕ → Image → Type 0)
+    → LeavesOnly clock left (media old) (media new) P → ((m : ℕ) (c : Image) → left (media new) m c → P m c → Q m c) → LeavesOnly (λ d. clock (media d)) (λ d m c. left (media d) m c) old new Q
 lift media P Q leaves by = record {
   later = leaves.later;
-  each = λ m s l. ⊎_elim
-      (λ before. inl (l.0, before, l.2))
-      (λ here. inr (here.0, here.1, subst (Q m) (sym l.2) (by m l.0 l.1 here.2)))
-      (leaves.each m l.0 l.1);
+  each = λ m c l. ⊎_elim
+      (λ before. inl before)
+      (λ here. inr (here.0, here.1, by m c l here.2))
+      (leaves.each m c l);
 }
 
 -- the two segments, after a write of the first

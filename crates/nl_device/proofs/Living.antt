@@ -1,11 +1,11 @@
 -- The live pages after a call.
-use Rattle.std.proofs.Common.{◌≡◌, ◌⊎◌, inl, inr, ⊎_elim, ℕ, ◌*◌, ◌/◌, ◌<◌, ◌≤◌, ◌==◌, true, false, cond, is_some, List, Option, Some, None, length, get_or, set, refl, sym, ◌∙◌, ap, subst, arith, eq-eqb, ne_eqb}
+use Rattle.std.proofs.Common.{◌≡◌, ◌⊎◌, inl, inr, ⊎_elim, ℕ, ◌+◌, ◌*◌, ◌/◌, ◌<◌, ◌≤◌, ◌==◌, true, false, cond, is_some, List, Option, Some, None, length, get_or, set, refl, sym, ◌∙◌, ap, subst, arith, eq-eqb, ne_eqb}
 use Rattle.std.proofs.lemmas.Bool.{cases_eq, cond-true, cond-false}
 use Rattle.std.proofs.lemmas.List.{get_or-set_same, get_or-set_other, length-set}
 use Rattle.std.proofs.lemmas.Option.{same_Some, none-some}
 use Rattle.nl_field.specs.declared.pointer.Tag.{Tag}
 use Rattle.nl_iface.specs.Names.{LivePage, with_page, without_page}
-use Rattle.nl_pseg.specs.Segment.{InSegment, IsUnspent, Physical, SamePages, TakenAsErased, held_at, is_free, soiled}
+use Rattle.nl_pseg.specs.Segment.{InSegment, IsUnspent, KeepsBlock, Physical, SamePages, TakenAsErased, held_at, is_free, soiled}
 use Rattle.nl_pseg.specs.declared.held.Held.{Held}
 use Rattle.nl_device.specs.Device.{HasLive}
 use Rattle.nl_device.specs.Shown.{live_page}
@@ -113,6 +113,15 @@ unspent_blank old new same is p taken = ⊎_elim
     inr (at, un))
     taken
 
+-- a block is kept still
+pub kept_still : (old new : Physical) → SamePages old new → IsUnspent old new → KeepsBlock old → KeepsBlock new
+kept_still old new same is k = record {
+  block = k.block;
+  from = subst (λ n. n ≤ k.block) (sym same.same_first) k.from;
+  below = subst (λ n. k.block < n) (sym same.same_blocks) k.below;
+  kept = is.same_kept k.block ∙ k.kept;
+}
+
 -- what is held after a new page in place of another one
 pub swap_held : (held : List (Option Held)) (name place : ℕ) (x : Held) (q : ℕ) (h : Held) → name < length held → place < length held → get_or (set (set held name (Some x)) place None) q None ≡ Some h
     → ((q ≡ name) × (x ≡ h)) ⊎ ((q ≡ name → ⊥) × (get_or held q None ≡ Some h))
@@ -125,3 +134,21 @@ live_swap old new name place next tag live same blank within below there fresh i
     let middle : Physical = record new { held = set old.held name (Some (record { tag = tag; stamp = next })) } in
     live_less middle new place (live_more old middle name next tag live (record { same_first = same.same_first; same_blocks = same.same_blocks; same_size = same.same_size; same_wear = same.same_wear }) blank within below fresh refl)
     (record { same_first = refl; same_blocks = refl; same_size = refl; same_wear = λ b. refl }) blank (subst (λ n. place < n) (sym (length-set old.held name (Some (record { tag = tag; stamp = next })))) there) is
+
+-- the stamps of what is held stay below a next one that rises
+pub more_below : (old new : Physical) (name next after : ℕ) (tag : Tag) → name < length old.held → new.held ≡ set old.held name (Some (record { tag = tag; stamp = next })) → ((p : ℕ) (h : Held) → held_at old p ≡ Some h → h.stamp < next) → after ≡ next + 1
+    → (p : ℕ) (h : Held) → held_at new p ≡ Some h → h.stamp < after
+more_below old new name next after tag below is under one p h has = ⊎_elim
+    (λ here. let s = ap (λ (y : Held). y.stamp) here.1 in omega (arith, s, one))
+    (λ was. let lt = under p h was.1 in omega (arith, lt, one))
+    (set_held old.held name (record { tag = tag; stamp = next }) p h below (ap (λ (l : List (Option Held)). get_or l p None) (sym is) ∙ has))
+
+pub swap_below : (old new : Physical) (name place next after : ℕ) (tag : Tag) → name < length old.held → place < length old.held → new.held ≡ set (set old.held name (Some (record { tag = tag; stamp = next }))) place None
+    → ((p : ℕ) (h : Held) → held_at old p ≡ Some h → h.stamp < next) → after ≡ next + 1 → (p : ℕ) (h : Held) → held_at new p ≡ Some h → h.stamp < after
+swap_below old new name place next after tag below within is under one p h has = ⊎_elim
+    (λ here. let s = ap (λ (y : Held). y.stamp) here.1 in omega (arith, s, one))
+    (λ was. let lt = under p h was.1 in omega (arith, lt, one))
+    (swap_held old.held name place (record { tag = tag; stamp = next }) p h below within (ap (λ (l : List (Option Held)). get_or l p None) (sym is) ∙ has))
+
+pub same_below_still : (old new : Physical) (next after : ℕ) → new.held ≡ old.held → ((p : ℕ) (h : Held) → held_at old p ≡ Some h → h.stamp < next) → next ≤ after → (p : ℕ) (h : Held) → held_at new p ≡ Some h → h.stamp < after
+same_below_still old new next after is under rises p h has = let lt = under p h (ap (λ (l : List (Option Held)). get_or l p None) (sym is) ∙ has) in omega (arith, lt, rises)

@@ -1,21 +1,22 @@
 -- An image of both segments stores what the device shows.
-use Rattle.std.proofs.Common.{◌≡◌, ℕ, ◌*◌, ◌<◌, ◌≤◌, ◌∙◌, nat_lt, List, [], Some, sym, ap, subst}
+use Rattle.std.proofs.Common.{◌≡◌, ℕ, ◌+◌, ◌*◌, ◌<◌, ◌≤◌, ◌∙◌, nat_lt, List, [], Some, sym, ap, subst}
 use Rattle.std.proofs.lemmas.Bool.{cond-false, le-ltb}
 use Rattle.nl_field.specs.Page.{Image, page_at}
 use Rattle.nl_field.specs.declared.shape.Shape.{Shape}
 use Rattle.nl_nand.specs.Nand.{ImageOf}
 use Rattle.nl_nand.specs.declared.geometry.Geometry.{Geometry}
-use Rattle.nl_iface.specs.Names.{HoldsLive}
-use Rattle.nl_iface.specs.Stored.{stored_in}
+use Rattle.nl_iface.specs.Left.{HoldsLive}
+use Rattle.nl_iface.specs.Stored.{NamedPage, stored_in}
 use Rattle.nl_pseg.specs.Pages.{main_of}
 use Rattle.nl_pseg.specs.Segment.{IsPhysicalOf, Physical, held_at}
 use Rattle.nl_vseg.specs.Pages.{Shows}
 use Rattle.nl_vseg.specs.Places.{map_of}
 use Rattle.nl_vseg.specs.Segment.{IsSegmentOf, Segment}
-use Rattle.nl_device.specs.Device.{HasLive, HasSegments, IsOnMedium}
+use Rattle.nl_device.specs.Device.{HasLive, HasSegments, HasSpareBlock, IsOnMedium}
 use Rattle.nl_device.specs.Laws.{held_of}
 use Rattle.nl_device.specs.Shown.{IsStray, bytes_at, names_of}
-use Rattle.nl_device.proofs.Forms.{begins, named_from, shape_is, stores_map}
+use Rattle.nl_device.proofs.Forms.{begins, beyond_in, named_from, shape_is, stores_map}
+use Rattle.nl_device.proofs.Laws.{leaves_pages}
 use Rattle.nl_device.proofs.PhysicalPages.{named_of}
 use Rattle.nl_device.proofs.Writes.{each_or}
 
@@ -34,8 +35,8 @@ live_held {geometry} {shape} {vseg} {pseg} {image} segments fit live is p page h
 pub made_medium : {geometry : Geometry} {shape : Shape} {vseg : Segment} {pseg : Physical} {image : Image} {next : ℕ} → HasSegments geometry shape vseg pseg → ImageOf geometry image → HasLive pseg
     → IsSegmentOf image vseg → IsPhysicalOf image pseg
     → ((v s : ℕ) (main : List ℕ) → map_of vseg.places image v ≡ Some (s, main) → Shows (shape.vblocks * shape.pages) image v s main)
-    → ((v t : ℕ) (n : List ℕ) → Shows (shape.vblocks * shape.pages) image v t n → t < next) → IsOnMedium shape next image vseg pseg
-made_medium {geometry} {shape} {vseg} {pseg} {image} {next} segments fit live virtual_is physical_is there below = record {
+    → ((v t : ℕ) (n : List ℕ) → Shows (shape.vblocks * shape.pages) image v t n → t < next) → ((p : ℕ) (page : NamedPage) → (stored_in image).named p ≡ Some page → page.stamp + 1 ≤ next) → pseg.pairs ≡ [] → HasSpareBlock pseg → IsOnMedium shape next image vseg pseg
+made_medium {geometry} {shape} {vseg} {pseg} {image} {next} segments fit live virtual_is physical_is there below named none spare = record {
   virtual_is = virtual_is;
   physical_is = physical_is;
   there = there;
@@ -43,4 +44,7 @@ made_medium {geometry} {shape} {vseg} {pseg} {image} {next} segments fit live vi
   shown = stores_map shape image (shape_is segments fit) (λ v. map_of vseg.places image v) (λ v x. IsStray (shape.vblocks * shape.pages) image (λ u. map_of vseg.places image u) v x)
       there (each_or (shape.vblocks * shape.pages) image (λ u. map_of vseg.places image u));
   holds = live_held segments fit live physical_is;
+  beyond = beyond_in shape image (shape_is segments fit);
+  pages = leaves_pages segments none spare (λ p. bytes_at (shape.vblocks * shape.pages) image p) (stored_in image) (live_held segments fit live physical_is);
+  named_below = named;
 }

@@ -1,15 +1,16 @@
 -- What a write under a new name leaves of the medium.
-use Rattle.std.proofs.Common.{◌≡◌, ◌⊎◌, inl, inr, ⊎_elim, ℕ, ◌*◌, ◌/◌, ◌<◌, ◌≤◌, nat_lt, cond, List, [], Option, Some, None, refl, sym, ◌∙◌, ap, subst, arith}
+use Rattle.std.proofs.Common.{◌≡◌, ◌⊎◌, inl, inr, ⊎_elim, ℕ, ◌+◌, ◌*◌, ◌/◌, ◌<◌, ◌≤◌, nat_lt, cond, List, [], Option, Some, None, refl, sym, ◌∙◌, ap, subst, arith}
 use Rattle.std.proofs.lemmas.Bool.{cases_lt, cases_eq}
-use Rattle.std.proofs.lemmas.Option.{none-some}
+use Rattle.std.proofs.lemmas.Option.{none-some, same_Some}
 use Rattle.nl_field.specs.Page.{Image, Page, erased, written, page_at}
 use Rattle.nl_field.specs.Live.{resolve}
 use Rattle.nl_field.specs.declared.pointer.Tag.{Tag}
 use Rattle.nl_field.specs.declared.shape.Shape.{Shape}
 use Rattle.nl_nand.specs.Nand.{ImageOf}
 use Rattle.nl_nand.specs.declared.geometry.Geometry.{Geometry}
-use Rattle.nl_iface.specs.Names.{ChangesInBlock, HoldsLive, LeavesNames, LeavesNewPage}
-use Rattle.nl_iface.specs.Stored.{Value, stored_in}
+use Rattle.nl_iface.specs.Left.{ChangesInBlock, HoldsLive, IsTried, LeavesTried}
+use Rattle.nl_iface.specs.Names.{IsNew}
+use Rattle.nl_iface.specs.Stored.{NamedPage, Value, stored_in}
 use Rattle.nl_pseg.specs.Effects.{Keeps, Places, Programmed, Takes}
 use Rattle.nl_pseg.specs.Pages.{IsUnreadable, main_of, page_with, shown_by}
 use Rattle.nl_pseg.specs.Segment.{IsDead, IsPhysicalOf, Physical, held_at, wear_of}
@@ -20,10 +21,11 @@ use Rattle.nl_vseg.specs.Pages as virtual
 use Rattle.nl_vseg.specs.Places.{map_of, place_of, value_at}
 use Rattle.nl_vseg.specs.Segment.{IsSegmentOf, Segment}
 use Rattle.nl_vseg.specs.declared.place.Place.{Place}
-use Rattle.nl_device.specs.Device.{HasLive, HasMapped, HasSegments}
+use Rattle.nl_device.specs.Device.{HasLive, HasMapped, HasSegments, HasSpareBlock}
 use Rattle.nl_device.specs.Laws.{held_of}
+use Rattle.nl_device.proofs.Laws.{leaves_pages}
 use Rattle.nl_device.specs.Shown.{IsStray, bytes_at, live_page, names_of}
-use Rattle.nl_device.proofs.Forms.{begins, named_below, named_from, same_below, same_form, shape_is}
+use Rattle.nl_device.proofs.Forms.{as_firm, begins, named_below, named_from, same_below, same_form, shape_is}
 use Rattle.nl_device.proofs.Made.{live_held}
 use Rattle.nl_device.proofs.PhysicalPages.{named_of}
 
@@ -44,12 +46,6 @@ to_takes (inr k) = inr k.takes
 -- what a page shows that was programmed
 pub shown_from : (tag : Tag) (stamp wear : ℕ) (main : List ℕ) (page : Page) → page ≡ written (page_with main tag stamp wear) → shown_by page ≡ Some (tag, stamp, main_of page) → shown_by (written (page_with main tag stamp wear)) ≡ Some (tag, stamp, main)
 shown_from tag stamp wear main page is shows = subst (λ (p : Page). shown_by p ≡ Some (tag, stamp, main_of p)) is shows
-
-as_keeps : {seg : Physical} {old c : Image} → Keeps seg old c → Keeps seg old c ⊎ Takes seg 0 erased old c
-as_keeps k = inl k
-
-as_takes : {seg : Physical} {page : ℕ} {value : Page} {old c : Image} → Takes seg page value old c → Keeps seg old c ⊎ Takes seg page value old c
-as_takes k = inr k
 
 -- so a page of the virtual segment is as it was
 pub either_low : {seg : Physical} {page : ℕ} {value : Page} {old c : Image} → Keeps seg old c ⊎ Takes seg page value old c → (p : ℕ) → p < seg.first * seg.size → page_at c p ≡ page_at old p
@@ -119,6 +115,9 @@ module _ (geometry : Geometry) (shape : Shape) (vseg : Segment) (seg : Physical)
   addresses_same : ((p : ℕ) → p < seg.first * seg.size → page_at c p ≡ page_at old p) → (v : ℕ) → (stored_in c).virtual v ≡ (stored_in old).virtual v
   addresses_same same = same_below shape old c (shape_is segments old_fits) (same_form old c old_fits c_fits) (subst (λ n. (p : ℕ) → p < n → page_at c p ≡ page_at old p) first_is same)
 
+  firm_kept : ((p : ℕ) → p < seg.first * seg.size → page_at c p ≡ page_at old p) → (stored_in c).firm ≡ (stored_in old).firm
+  firm_kept same = as_firm shape old c (shape_is segments old_fits) (same_form old c old_fits c_fits) (subst (λ n. (p : ℕ) → p < n → page_at c p ≡ page_at old p) first_is same)
+
   holds_live : ((p : ℕ) (h : Held) → held_at seg p ≡ Some h → page_at c p ≡ page_at old p) → HoldsLive (names_of seg).live (λ p. bytes_at (shape.vblocks * shape.pages) old p) (stored_in c)
   holds_live same p page has =
       let h = held_of (held_at seg p) page has in
@@ -127,30 +126,61 @@ module _ (geometry : Geometry) (shape : Shape) (vseg : Segment) (seg : Physical)
   dead_live : (p : ℕ) → IsDead seg p → (names_of seg).live p ≡ None
   dead_live p dead = ap live_page dead.dead
 
-  pub leaves_names : Keeps seg old c → LeavesNames (names_of seg).live (λ p. bytes_at (shape.vblocks * shape.pages) old p) (stored_in old) (stored_in c)
-  leaves_names k = record {
-    same_virtual = addresses_same (either_low (as_keeps k));
-    holds = holds_live (either_live (as_keeps k));
-    others = λ p. ⊎_elim (λ same. inl (named_same p same)) (λ dead. inr (dead_live p dead.0, named_none p dead.1)) (k.each p);
+  is_new_page : seg.pairs ≡ [] → (page : ℕ) → IsDead seg page → IsNew shape (names_of seg) page
+  is_new_page none page dead = record {
+    low = subst (λ n. n ≤ page) first_is dead.within.0;
+    high = subst (λ n. page < n) (λ i. segments.physical_blocks i * segments.physical_pages i) dead.within.1;
+    dead = dead_live page dead;
+    own = ap (λ ps. resolve ps page) none;
   }
 
-  pub leaves_new : (IsName : ℕ → Type 0) (page : ℕ) (tag : Tag) (stamp wear : ℕ) (main : List ℕ) → shown_by (written (page_with main tag stamp wear)) ≡ Some (tag, stamp, main) → seg.pairs ≡ [] → IsName page
-      → Takes seg page (written (page_with main tag stamp wear)) old c
-      → LeavesNewPage shape IsName (record { tag = tag; stamp = stamp; bytes = main }) (names_of seg) (λ p. bytes_at (shape.vblocks * shape.pages) old p) (stored_in old) (stored_in c)
-  leaves_new IsName page tag stamp wear main shows none is_name k = record {
-    name = page;
-    is_name = is_name;
-    is_new = record {
-      low = subst (λ n. n ≤ page) first_is k.dead.within.0;
-      high = subst (λ n. page < n) (λ i. segments.physical_blocks i * segments.physical_pages i) k.dead.within.1;
-      dead = dead_live page k.dead;
-      own = ap (λ ps. resolve ps page) none;
-    };
-    programmed = named_from shape c (shape_is segments c_fits) page (subst (λ n. n ≤ page) first_is k.dead.within.0) ∙ (ap (λ p. named_of (shown_by p)) k.has ∙ ap named_of shows);
-    same_virtual = addresses_same (either_low (as_takes k));
-    holds = holds_live (either_live (as_takes k));
-    others = λ p ne. ⊎_elim (λ same. inl (named_same p same)) (λ dead. inr (dead_live p dead.0, named_none p dead.1)) (k.others p ne);
-  }
+  -- the page that was programmed holds what it shows
+  pub programmed_named : (page : ℕ) (tag : Tag) (stamp wear : ℕ) (main : List ℕ) → shown_by (written (page_with main tag stamp wear)) ≡ Some (tag, stamp, main) → Takes seg page (written (page_with main tag stamp wear)) old c
+      → (stored_in c).named page ≡ Some (record { tag = tag; stamp = stamp; bytes = main })
+  programmed_named page tag stamp wear main shows k =
+      named_from shape c (shape_is segments c_fits) page (subst (λ n. n ≤ page) first_is k.dead.within.0) ∙ (ap (λ p. named_of (shown_by p)) k.has ∙ ap named_of shows)
+
+  -- what a stop leaves of a page
+  pub tried_page : (page stamp : ℕ) (tag : Tag) (main : List ℕ) → seg.pairs ≡ [] → Keeps seg old c ⊎ Places seg page tag stamp main old c → (p : ℕ) → IsTried shape (names_of seg) (record { tag = tag; stamp = stamp; bytes = main }) (stored_in old) (stored_in c) p
+  tried_page page stamp tag main none (inl k) p = ⊎_elim
+      (λ same. inl (named_same p same))
+      (λ dead. inr (inl (record { dead = dead_live p dead.0; own = ap (λ ps. resolve ps p) none }, named_none p dead.1)))
+      (k.each p)
+  tried_page page stamp tag main none (inr k) p = ⊎_elim
+      (λ here. inr (inr (
+        subst (IsNew shape (names_of seg)) (sym here) (is_new_page none page k.takes.dead),
+        ap (stored_in c).named here ∙ programmed_named page tag stamp (wear_of seg (page / seg.size)) main k.shows k.takes,
+      )))
+      (λ ne. ⊎_elim
+      (λ same. inl (named_same p same))
+      (λ dead. inr (inl (record { dead = dead_live p dead.0; own = ap (λ ps. resolve ps p) none }, named_none p dead.1)))
+      (k.takes.others p ne))
+      (cases_eq p page)
+
+  pub leaves_tried : (page stamp : ℕ) (tag : Tag) (main : List ℕ) → seg.pairs ≡ [] → HasSpareBlock seg → Keeps seg old c ⊎ Places seg page tag stamp main old c
+      → LeavesTried shape (names_of seg) (λ p. bytes_at (shape.vblocks * shape.pages) old p) (record { tag = tag; stamp = stamp; bytes = main }) (stored_in old) (stored_in c)
+  leaves_tried page stamp tag main none spare k =
+      let holds = holds_live (either_live (to_takes k)) in
+      record {
+        same_virtual = record { values = addresses_same (either_low (to_takes k)); firm = firm_kept (either_low (to_takes k)) };
+        holds = holds;
+        pages = leaves_pages segments none spare (λ p. bytes_at (shape.vblocks * shape.pages) old p) (stored_in c) holds;
+        others = tried_page page stamp tag main none k;
+      }
+
+  -- no page has a stamp from this one on
+  pub below_after : (page stamp after : ℕ) (tag : Tag) (main : List ℕ) → seg.pairs ≡ [] → Keeps seg old c ⊎ Places seg page tag stamp main old c → ((p : ℕ) (n : NamedPage) → (stored_in old).named p ≡ Some n → n.stamp + 1 ≤ after) → stamp + 1 ≤ after
+      → (p : ℕ) (n : NamedPage) → (stored_in c).named p ≡ Some n → n.stamp + 1 ≤ after
+  below_after page stamp after tag main none k was new p n is = by (tried_page page stamp tag main none k p)
+    where
+      by : IsTried shape (names_of seg) (record { tag = tag; stamp = stamp; bytes = main }) (stored_in old) (stored_in c) p → n.stamp + 1 ≤ after
+      by (inl same) = was p n (sym same ∙ is)
+      by (inr (inl gone)) = absurd (none-some n (sym gone.1 ∙ is))
+      by (inr (inr here)) = subst (λ (x : NamedPage). x.stamp + 1 ≤ after) (same_Some (record { tag = tag; stamp = stamp; bytes = main }) n (sym here.1 ∙ is)) new
+
+  -- a new name
+  pub is_new : seg.pairs ≡ [] → (page : ℕ) → IsDead seg page → IsNew shape (names_of seg) page
+  is_new none page dead = is_new_page none page dead
 
   pub in_block : (name : ℕ) (value : Page) → Programmed seg name value old c → ChangesInBlock shape.pages name (stored_in old) (stored_in c)
   in_block name value k p ne = ⊎_elim

@@ -25,7 +25,7 @@ kept_own : (c : Bool) (r : Readable) (ys : List Own) (zs : List Readable) → ys
 kept_own true r ys zs same = ap (λ os. own_on r ∷ os) same
 kept_own false r ys zs same = same
 
-one_own : (b : Bool) (shape : Shape) (page : ℕ) (rec : SpareRec) (main : List ℕ) (ys : List Own) (zs : List Readable) → ys ≡ map own_on zs
+pub one_own : (b : Bool) (shape : Shape) (page : ℕ) (rec : SpareRec) (main : List ℕ) (ys : List Own) (zs : List Readable) → ys ≡ map own_on zs
     → cons_option (cond b (own_in shape page rec) None) ys ≡ map own_on (cond (b && is_virtual_rec shape rec) (record { page = page; rec = rec; main = main } ∷ zs) zs)
 one_own false shape page rec main ys zs same = same
 one_own true shape page (Physical tag s w) main ys zs same = same
@@ -139,7 +139,7 @@ module _ (pages : List Readable) where
                 (and_from (address_on q.0 == address_on r) (nat_lt (stamp_on r) (stamp_on q.0)) (eq-eqb (address_on q.0) (address_on r) here) (lt-ltb (stamp_on r) (stamp_on q.0) less))))
           ]
 
-filter_on : {A B : Type 0} (f : A → B) (p : B → Bool) (q : A → Bool) (xs : List A) → ((x : A) → In x xs → p (f x) ≡ q x) → filter p (map f xs) ≡ map f (filter q xs)
+pub filter_on : {A B : Type 0} (f : A → B) (p : B → Bool) (q : A → Bool) (xs : List A) → ((x : A) → In x xs → p (f x) ≡ q x) → filter p (map f xs) ≡ map f (filter q xs)
 filter_on f p q [] same = refl
 filter_on {A} {B} f p q (x ∷ xs) same =
     let rest = filter_on f p q xs (λ y is. same y (inr is)) in
@@ -149,7 +149,7 @@ filter_on {A} {B} f p q (x ∷ xs) same =
     by true ys = refl
     by false ys = refl
 
-newest_are : (pages : List Readable) → newest_of (map own_on pages) ≡ map own_on (filter (has_greatest_stamp pages) pages)
+pub newest_are : (pages : List Readable) → newest_of (map own_on pages) ≡ map own_on (filter (has_greatest_stamp pages) pages)
 unfolding newest_of
 newest_are pages = filter_on own_on (λ o. o.stamp == greatest_of (map own_on pages) o.vaddr) (has_greatest_stamp pages) pages (greatest_test pages)
 

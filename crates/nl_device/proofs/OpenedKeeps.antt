@@ -12,23 +12,14 @@ use Rattle.nl_vseg.proofs.Members.{In, any_to, filter_from, find_in}
 use Rattle.nl_vseg.proofs.Places.{beside_of}
 use Rattle.nl_vseg.specs.Segment.{KeepsSpare, Segment}
 use Rattle.nl_device.specs.Opening.{IsOpenedVirtual}
+use Rattle.nl_device.proofs.Firm.{none_found}
 use Rattle.nl_device.proofs.OpenedImage.{pages_is}
 use Rattle.nl_device.proofs.OpenedMedium.{newest_from, opened_from}
 use Rattle.nl_device.proofs.OpenedSpare.{is_copy}
 use Rattle.nl_device.proofs.Picks.{find_passes}
 use Rattle.nl_device.proofs.Spreads.{all_at, from_in}
 
-none_found : {X : Type 0} (p : X → Bool) (xs : List X) (x : X) → find p xs ≡ None → In x xs → p x ≡ true → ⊥
-none_found p [] x none is passes = is
-none_found p (y ∷ ys) x none is passes = elim (cases_Bool (p y)) [
-  | inl holds ↦ none-some y (sym none ∙ cond-true (p y) (Some y) (find p ys) holds)
-  | inr fails ↦ ⊎_elim
-      (λ same. false≢true (sym fails ∙ (ap p same ∙ passes)))
-      (λ rest. none_found p ys x (sym (cond-false (p y) (Some y) (find p ys) fails) ∙ none) rest passes)
-      is
-]
-
-in_range : (n first count : ℕ) → In n (range_with_len first count) → n < first + count
+pub in_range : (n first count : ℕ) → In n (range_with_len first count) → n < first + count
 in_range n first zero is = absurd is
 in_range n first (suc k) (inl same) = omega (arith, same)
 in_range n first (suc k) (inr rest) = let below = in_range n (first + 1) k rest in omega (arith, below)

@@ -29,16 +29,16 @@ module _ (pages : List Readable) where
   group_at v s = cond (is_greatest v s) (Some v) None
 
   -- the needed pages of an address are a group
-  abbrev group_of : Readable → Option ℕ
+  abbrev pub group_of : Readable → Option ℕ
   group_of r = group_at (address_on r) (stamp_on r)
 
-  grouped : (v s g : ℕ) → group_at v s ≡ Some g → (is_greatest v s ≡ true) × (v ≡ g)
+  pub grouped : (v s g : ℕ) → group_at v s ≡ Some g → (is_greatest v s ≡ true) × (v ≡ g)
   grouped v s g is = elim (cases_Bool (is_greatest v s)) [
     | inl holds ↦ (holds, same_Some v g (sym (cond-true (is_greatest v s) (Some v) None holds) ∙ is))
     | inr fails ↦ absurd (none-some g (sym (cond-false (is_greatest v s) (Some v) None fails) ∙ is))
   ]
 
-  copies : (q r : Readable) → is_copy q r ≡ true → group_of q ≡ group_of r
+  pub copies : (q r : Readable) → is_copy q r ≡ true → group_of q ≡ group_of r
   copies q r same =
       let parts = and_parts (address_on q == address_on r) (stamp_on q == stamp_on r) same in
       let address = eqb-true (address_on q) (address_on r) parts.0 in
@@ -54,7 +54,7 @@ module _ (pages : List Readable) where
         (and_from (address_on q == address_on r) (nat_lt (stamp_on r) (stamp_on q)) (eq-eqb (address_on q) (address_on r) at) (lt-ltb (stamp_on r) (stamp_on q) less))))
   ]
 
-  copied : (q r : Readable) (g : ℕ) → In q pages → In r pages → group_of q ≡ Some g → group_of r ≡ Some g → is_copy q r ≡ true
+  pub copied : (q r : Readable) (g : ℕ) → In q pages → In r pages → group_of q ≡ Some g → group_of r ≡ Some g → is_copy q r ≡ true
   copied q r g q_is r_is q_of r_of =
       let a = grouped (address_on q) (stamp_on q) g q_of in
       let b = grouped (address_on r) (stamp_on r) g r_of in
@@ -80,7 +80,7 @@ module _ (pages : List Readable) where
         let f = filter_from (has_greatest_stamp pages) r pages (to_in r pages l.1) k.0 in
         (own_on r, from_in (own_on r) (map own_on (filter (has_greatest_stamp pages) pages)) (in_map own_on r (filter (has_greatest_stamp pages) pages) f), k.1, l.3)
 
-    spread_is : IsSpread (spread_in size (map own_on (filter (has_greatest_stamp pages) pages)) g) (GroupLiesIn size pages group_of g)
+    pub spread_is : IsSpread (spread_in size (map own_on (filter (has_greatest_stamp pages) pages)) g) (GroupLiesIn size pages group_of g)
     unfolding spread_in
     spread_is =
         let needed = map own_on (filter (has_greatest_stamp pages) pages) in

@@ -1,11 +1,12 @@
 -- The answers of a write under a new name.
-use Rattle.std.proofs.Common.{◌≡◌, ◌⊎◌, inl, inr, ⊎_elim, ℕ, ◌+◌, ◌≤◌, true, cond, refl, sym, ◌∙◌, ap, subst, arith}
-use Rattle.nl_field.specs.CrashStates.{saturated}
+use Rattle.std.proofs.Common.{◌≡◌, ◌⊎◌, inl, inr, ⊎_elim, ℕ, ◌+◌, ◌<◌, ◌≤◌, Bool, true, false, cond, refl, sym, ◌∙◌, ap, subst, arith}
+use Rattle.std.proofs.lemmas.Bool.{false≢true}
+use Rattle.nl_field.specs.CrashStates.{Earlier, saturated, top}
 use Rattle.nl_field.specs.declared.answers.Named.{Named}
 use Rattle.nl_field.specs.declared.answers.Named.TheVariants as named
 use Rattle.nl_field.specs.declared.pointer.Pointer.{Pointer}
 use Rattle.nl_iface.specs.Answers as shown
-use Rattle.nl_iface.specs.Counting.{FailuresCounted}
+use Rattle.nl_iface.specs.Counting.{FailuresCounted, StampRises}
 use Rattle.nl_iface.specs.Space.{WriteFailed}
 use Rattle.nl_pseg.specs.Answers.{IfPlaced, IsFault, IsPlaced, Names}
 use Rattle.nl_pseg.specs.Segment.{IsClean, IsReady, IsSpent, IsUnspent, Physical, SamePages, room}
@@ -75,9 +76,25 @@ pub room_is : (seg : Physical) → (space_of seg).room ≡ room seg
 unfolding space_of
 room_is seg = refl
 
--- the name that is told is the page that may be programmed
-pub names_page : (answer : Named) (page stamp : ℕ) → Names page stamp answer → shown.IfPlaced answer (λ p. page ≡ p.name)
-names_page answer page stamp is = placed_map answer (λ at. at ≡ record { name = page; stamp = stamp }) (λ p. page ≡ p.name) is (λ at e same. sym (ap (λ (p : Pointer). p.name) same))
+-- what holds of a page of that number holds of the name that is told
+pub named_has : (answer : Named) (page stamp : ℕ) (P : ℕ → Type 0) → Names page stamp answer → P page → shown.IfPlaced answer (λ at. P at.name)
+named_has answer page stamp P is has = placed_map answer (λ at. at ≡ record { name = page; stamp = stamp }) (λ at. P at.name) is (λ at e same. subst P (sym (ap (λ (p : Pointer). p.name) same)) has)
+
+pub if_not_placed : (answer : Named) (P : Pointer → Type 0) → (IsPlaced answer → ⊥) → shown.IfPlaced answer P
+if_not_placed (named.Placed at) P un = absurd (un tt)
+if_not_placed named.NotLive P un = tt
+if_not_placed named.NoPage P un = tt
+if_not_placed named.Fault P un = tt
+
+pub if_refused : (answer : Named) (P : Type 0) → ((answer ≡ named.NotLive) ⊎ (answer ≡ named.NoPage) → P) → shown.IfRefused answer P
+if_refused (named.Placed at) P by = tt
+if_refused named.NotLive P by = by (inl refl)
+if_refused named.NoPage P by = by (inr refl)
+if_refused named.Fault P by = tt
+
+pub not_tried : (answer : Named) → (answer ≡ named.NotLive) ⊎ (answer ≡ named.NoPage) → is_tried answer ≡ false
+not_tried answer (inl is) = ap is_tried is
+not_tried answer (inr is) = ap is_tried is
 
 pub fault_space : (answer : Named) (old new : Physical) → SamePages old new → (IsFault answer → IsSpent old new ⊎ (IsUnspent old new × (IsReady old → ⊥))) → ((IsPlaced answer → ⊥) → new.held ≡ old.held) → ((IsPlaced answer → ⊥) → new.pairs ≡ old.pairs)
     → shown.IfFault answer (WriteFailed (space_of old) (space_of new))
@@ -91,13 +108,39 @@ fault_room answer old new clean fails = fault_if answer ((space_of new).room + 1
     (λ u. absurd (u.1 (inr clean)))
     (fails is))
 
-pub counted : (answer : Named) (before now : ℕ) → before ≤ now → (IsFault answer → now ≡ saturated (before + 1)) → ((IsFault answer → ⊥) → now ≡ before) → FailuresCounted before now (answer ≡ named.Fault)
-counted answer before now more fails well = record {
+pub counted : (exact : Type 0) (answer : Named) (before now : ℕ) → before ≤ now → (IsFault answer → now ≡ saturated (before + 1)) → ((IsFault answer → ⊥) → now ≡ before) → FailuresCounted exact before now (answer ≡ named.Fault)
+counted exact answer before now more fails well = record {
   never_falls = more;
   cause = λ is. let e = fails is in omega (arith, e);
-  once = fails;
-  stays = well;
+  once = λ only is. fails is;
+  stays = λ only un. well un;
 }
+
+-- the next stamp rises by one where a page was tried, and by no more than the counts do
+pub named_rises : (answer : Named) (tried : Bool) (now next clock clock_now faults faults_now : ℕ) → now ≡ next + cond tried 1 0 → tried ≡ is_tried answer → clock ≤ clock_now → faults ≤ faults_now → (IsPlaced answer → Earlier clock clock_now) → (IsFault answer → faults_now ≡ saturated (faults + 1))
+    → StampRises (shown.IsTriedNamed answer) next now clock clock_now faults faults_now
+named_rises answer tried now next clock clock_now faults faults_now is tried_is later more strict fails = by answer (is ∙ ap (λ b. next + cond b 1 0) tried_is) strict fails
+  where
+    by : (answer : Named) → now ≡ next + cond (is_tried answer) 1 0 → (IsPlaced answer → Earlier clock clock_now) → (IsFault answer → faults_now ≡ saturated (faults + 1)) → StampRises (shown.IsTriedNamed answer) next now clock clock_now faults faults_now
+    by (named.Placed at) one strict fails = record {
+      never_falls = omega (arith, one);
+      at_most_one = omega (arith, one);
+      taken = λ t. one;
+      stays = λ un. absurd (un tt);
+      paid = λ small few. let lt : clock < clock_now = strict tt (omega (arith, later, small)) in omega (arith, one, lt, more);
+    }
+    by named.Fault one strict fails = record {
+      never_falls = omega (arith, one);
+      at_most_one = omega (arith, one);
+      taken = λ t. one;
+      stays = λ un. absurd (un tt);
+      paid = λ small few. let e = fails refl in omega (arith, one, e, few, later);
+    }
+    by named.NotLive none strict fails = stays none
+      where
+        stays : now ≡ next + 0 → StampRises ⊥ next now clock clock_now faults faults_now
+        stays none = record { never_falls = omega (arith, none); at_most_one = omega (arith, none); taken = λ t. absurd t; stays = λ un. omega (arith, none); paid = λ small few. omega (arith, none, later, more) }
+    by named.NoPage none strict fails = record { never_falls = omega (arith, none); at_most_one = omega (arith, none); taken = λ t. absurd t; stays = λ un. omega (arith, none); paid = λ small few. omega (arith, none, later, more) }
 
 -- a block stays Free
 pub free_after : (answer : Named) (old new : Physical) → HasFree old → SamePages old new → (IsPlaced answer → IsSpent old new) → (IsFault answer → IsSpent old new ⊎ (IsUnspent old new × (IsReady old → ⊥)))
@@ -110,13 +153,27 @@ free_after answer old new has same spent fails kept = by (ended answer)
     by (refused is un) = subst HasFree (sym (kept is)) has
 
 -- the next stamp
-pub after_placed : (answer : Named) (next now : ℕ) → now ≡ next + cond (is_tried answer) 1 0 → IsPlaced answer → now ≡ next + 1
-after_placed answer next now is at = by (ended answer)
-  where
-    by : Ended answer → now ≡ next + 1
-    by (placed p t) = is ∙ ap (λ b. next + cond b 1 0) t
-    by (failed e t) = absurd (fault_no answer e at)
-    by (refused r un) = absurd (un at)
+pub after_tried : (answer : Named) (tried : Bool) (next now : ℕ) → now ≡ next + cond tried 1 0 → tried ≡ is_tried answer → is_tried answer ≡ true → now ≡ next + 1
+after_tried answer tried next now is tried_is yes_tried = is ∙ ap (λ b. next + cond b 1 0) (tried_is ∙ yes_tried)
 
-pub after_rises : (answer : Named) (next now : ℕ) → now ≡ next + cond (is_tried answer) 1 0 → next ≤ now
-after_rises answer next now is = omega (arith, is)
+pub after_rises : (tried : Bool) (next now : ℕ) → now ≡ next + cond tried 1 0 → next ≤ now
+after_rises tried next now is = omega (arith, is)
+
+pub tried_placed : (answer : Named) → IsPlaced answer → is_tried answer ≡ true
+tried_placed (named.Placed at) p = refl
+tried_placed named.NotLive p = absurd p
+tried_placed named.NoPage p = absurd p
+tried_placed named.Fault p = absurd p
+
+pub cases_tried : {P : Type 0} (answer : Named) → (is_tried answer ≡ true → P) → (is_tried answer ≡ false → P) → P
+cases_tried (named.Placed at) yes_tried un = yes_tried refl
+cases_tried named.NotLive yes_tried un = un refl
+cases_tried named.NoPage yes_tried un = un refl
+cases_tried named.Fault yes_tried un = yes_tried refl
+
+-- what is not tried was refused
+pub not_touched : {P : Type 0} (answer : Named) → is_tried answer ≡ false → ((answer ≡ named.NotLive) ⊎ (answer ≡ named.NoPage) → P) → P
+not_touched (named.Placed at) un by = absurd (false≢true (sym un))
+not_touched named.NotLive un by = by (inl refl)
+not_touched named.NoPage un by = by (inr refl)
+not_touched named.Fault un by = absurd (false≢true (sym un))

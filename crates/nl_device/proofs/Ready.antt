@@ -1,5 +1,5 @@
 -- What a started device shows of its medium.
-use Rattle.std.proofs.Common.{rules, ◌≡◌, inl, inr, ℕ, zero, suc, ◌+◌, ◌*◌, ◌/◌, ◌<◌, ◌==◌, not, ◌&&◌, ◌||◌, cond, Bool, true, false, List, [], ◌∷◌, find, Option, Some, None, is_some, IsSome, refl, sym, ◌∙◌, ap, arith}
+use Rattle.std.proofs.Common.{rules, ◌≡◌, inl, inr, ℕ, zero, suc, ◌+◌, ◌*◌, ◌/◌, ◌<◌, ◌==◌, not, ◌&&◌, ◌||◌, cond, Bool, true, false, List, [], ◌∷◌, find, Option, Some, None, is_some, IsSome, option_map, refl, sym, ◌∙◌, ap, subst, arith, ◌≤◌}
 use Rattle.std.specs.List.{list_all, list_any, range_with_len}
 use Rattle.std.proofs.lemmas.Bool.{cases_lt}
 use Rattle.std.proofs.lemmas.List.Elements.{All-nil}
@@ -11,17 +11,20 @@ use Rattle.nl_field.specs.SpareRecord.{spare_rec_of}
 use Rattle.nl_field.specs.declared.shape.Shape.{Shape}
 use Rattle.nl_field.specs.declared.spare.SpareRec.{SpareRec}
 use Rattle.nl_field.specs.declared.spare.SpareRec.TheVariants.{Virtual, Physical}
-use Rattle.nl_iface.specs.Names.{HoldsLive}
+use Rattle.nl_iface.specs.Left.{HoldsLive}
+use Rattle.nl_iface.specs.Names.{LivePage}
 use Rattle.nl_iface.specs.Stored.{NamedPage, stored_in}
 use Rattle.nl_pseg.specs.Pages.{main_of, shown_by, shown_with}
-use Rattle.nl_scan.specs.Tables.{IsTableOf, Table}
+use Rattle.nl_scan.specs.Tables.{IsTableOf, Table, greatest_stamp}
 use Rattle.nl_device.specs.Kept.{KeptPages, kept_pages, spare_among}
 use Rattle.nl_device.specs.Retain.{CanRetain, spare_for}
-use Rattle.nl_device.specs.Shown.{bytes_at, found_in}
+use Rattle.nl_device.specs.Shown.{bytes_at, found_in, found_on}
 use Rattle.nl_device.specs.declared.kept.page.KeptPage.{KeptPage}
+use Rattle.nl_device.proofs.Alone.{found_passes}
 use Rattle.nl_device.proofs.Forms.{named_below, named_from}
+use Rattle.nl_device.proofs.Retained.{has_found}
 use Rattle.nl_device.proofs.Found.{IsOf, is_of}
-use Rattle.nl_device.proofs.FoundStored.{stored_found}
+use Rattle.nl_device.proofs.FoundStored.{found_named, stored_found, without_bytes}
 use Rattle.nl_device.proofs.Made.{bytes_from}
 use Rattle.nl_device.proofs.PhysicalPages.{named_of}
 
@@ -46,17 +49,40 @@ image_pages : (image : Image) → (shape_of_image image).pages ≡ image.pages
 unfolding shape_for
 image_pages image = refl
 
+kept_of : (shape : Shape) (image : Image) (t : Table) (kept : KeptPages) → shape_of_image image ≡ shape → IsTableOf image t
+    → kept ≡ record { first = shape.vblocks; count = shape.pblocks; size = shape.pages; pages = kept_pages (first_physical shape) t.seen } → IsOf image kept
+kept_of shape image t kept e is same = record {
+  first = ap (λ (k : KeptPages). k.first) same ∙ ap (λ (s : Shape). s.vblocks) (sym e);
+  count = ap (λ (k : KeptPages). k.count) same ∙ ap (λ (s : Shape). s.pblocks) (sym e);
+  size = ap (λ (k : KeptPages). k.size) same ∙ (ap (λ (s : Shape). s.pages) (sym e) ∙ image_pages image);
+  pages = ap (λ (k : KeptPages). k.pages) same ∙ (ap (λ (s : Shape). kept_pages (first_physical s) t.seen) (sym e) ∙ is_of image t is);
+}
+
+page_found : (kept : KeptPages) (p : ℕ) (page : LivePage) → found_in kept p ≡ Some page → (k : KeptPage) × (find (λ k. k.page == p) kept.pages ≡ Some k) × (k.stamp ≡ page.stamp)
+unfolding found_in
+page_found kept p page is = by (find (λ k. k.page == p) kept.pages) refl is
+  where
+    by : (o : Option KeptPage) → find (λ k. k.page == p) kept.pages ≡ o → option_map found_on o ≡ Some page → (k : KeptPage) × (find (λ k. k.page == p) kept.pages ≡ Some k) × (k.stamp ≡ page.stamp)
+    by None none e = absurd (none-some page e)
+    by (Some k) some e = (k, some, ap (λ (x : LivePage). x.stamp) (same_Some (found_on k) page e))
+
+-- no page under a name has the next stamp or a later one
+pub named_after : (shape : Shape) (image : Image) (t : Table) (kept : KeptPages) → shape_of_image image ≡ shape → IsTableOf image t
+    → kept ≡ record { first = shape.vblocks; count = shape.pblocks; size = shape.pages; pages = kept_pages (first_physical shape) t.seen }
+    → (p : ℕ) (n : NamedPage) → (stored_in image).named p ≡ Some n → n.stamp + 1 ≤ 1 + greatest_stamp t.seen
+named_after shape image t kept e is same p n stored =
+    let k = page_found kept p (record { tag = n.tag; stamp = n.stamp }) (found_named image kept p (kept_of shape image t kept e is same) ∙ ap without_bytes stored) in
+    let one = found_passes (λ (q : KeptPage). q.page == p) kept.pages k.0 k.1 in
+    let lt : k.0.stamp < 1 + greatest_stamp t.seen = subst (λ (q : KeptPage). q.stamp < 1 + greatest_stamp t.seen) (one.is k.0) ((has_found shape kept t.seen same).below one.at k.0 one.within) in
+    let stamp = k.2 in
+    omega (arith, lt, stamp)
+
 -- what was kept of a scan of the medium is stored there
 pub found_holds : (shape : Shape) (image : Image) (t : Table) (kept : KeptPages) → shape_of_image image ≡ shape → IsTableOf image t
     → kept ≡ record { first = shape.vblocks; count = shape.pblocks; size = shape.pages; pages = kept_pages (first_physical shape) t.seen }
     → HoldsLive (found_in kept) (bytes_at (shape.vblocks * shape.pages) image) (stored_in image)
 found_holds shape image t kept e is same p page found =
-    let of : IsOf image kept = record {
-      first = ap (λ (k : KeptPages). k.first) same ∙ ap (λ (s : Shape). s.vblocks) (sym e);
-      count = ap (λ (k : KeptPages). k.count) same ∙ ap (λ (s : Shape). s.pblocks) (sym e);
-      size = ap (λ (k : KeptPages). k.size) same ∙ (ap (λ (s : Shape). s.pages) (sym e) ∙ image_pages image);
-      pages = ap (λ (k : KeptPages). k.pages) same ∙ (ap (λ (s : Shape). kept_pages (first_physical s) t.seen) (sym e) ∙ is_of image t is);
-    } in
+    let of = kept_of shape image t kept e is same in
     let s = stored_found image kept p page of found in
     s.1 ∙ (λ i. Some (record { tag = s.2 i; stamp = s.3 i; bytes = stored_bytes shape image e p s.0 s.1 i }))
 
@@ -93,5 +119,8 @@ can_none kept count is some =
       spare = some_is (spare_for kept []) kept.first (none_spare kept c.0 c.1);
       placed = All-nil _;
       differ = search rules;
+      names_differ = search rules;
+      own = All-nil _;
+      few_lost = omega arith;
       room = omega arith;
     }

@@ -8,25 +8,28 @@ use Rattle.nl_field.specs.declared.pointer.Tag.{Tag}
 use Rattle.nl_field.specs.declared.shape.Shape.{Shape}
 use Rattle.nl_nand.specs.Nand.{ImageOf}
 use Rattle.nl_nand.specs.declared.geometry.Geometry.{Geometry}
-use Rattle.nl_iface.specs.Names.{HoldsLive, LivePage}
+use Rattle.nl_iface.specs.Left.{HoldsLive}
+use Rattle.nl_iface.specs.Names.{LivePage}
 use Rattle.nl_iface.specs.Stored.{NamedPage, stored_in}
 use Rattle.nl_pseg.specs.Pages.{main_of, shown_by}
-use Rattle.nl_pseg.specs.Segment.{InSegment, IsPhysicalOf, Physical, TakenAsErased, held_at, is_free}
+use Rattle.nl_pseg.proofs.Shapes.{IsRoomy, is_roomy}
+use Rattle.nl_pseg.specs.Segment.{InSegment, IsPhysicalOf, KeptAreDead, Physical, TakenAsErased, held_at, is_free}
 use Rattle.nl_pseg.specs.declared.held.Held.{Held}
 use Rattle.nl_field.specs.Medium.{first_physical}
 use Rattle.nl_scan.specs.Tables.{greatest_stamp}
 use Rattle.nl_field.specs.declared.seen.Seen.{Seen}
 use Rattle.nl_vseg.specs.Segment.{Segment}
-use Rattle.nl_device.specs.Device.{HasFound, HasFree, HasLive, HasSegments, IsDevice}
+use Rattle.nl_device.specs.Device.{HasFound, HasFree, HasLive, HasSegments, HasSpareBlock, IsDevice}
 use Rattle.nl_device.specs.Kept.{KeptPages, kept_pages}
 use Rattle.nl_device.specs.Laws.{held_of}
-use Rattle.nl_device.specs.Retain.{AreRetained, IsFoundIn, IsFresh, IsSegmentFor, LiveAre}
+use Rattle.nl_device.specs.Retain.{IsFoundIn, IsFresh, IsSegmentFor}
 use Rattle.nl_device.specs.Shown.{bytes_at, found_in, live_page, names_of}
 use Rattle.nl_device.specs.Space.{live_in, space_of}
 use Rattle.nl_device.specs.declared.kept.page.KeptPage.{KeptPage}
 use Rattle.nl_device.proofs.Alone.{found_passes}
 use Rattle.nl_device.proofs.Found.{kept_below}
 use Rattle.nl_device.proofs.Forms.{begins, named_from, shape_is}
+use Rattle.nl_device.proofs.Laws.{names_are}
 use Rattle.nl_device.proofs.Made.{bytes_from, made_medium}
 use Rattle.nl_device.proofs.PhysicalPages.{named_of}
 use Rattle.nl_device.proofs.Spacing.{free_is, space_is}
@@ -64,6 +67,20 @@ is_fresh {old = old} has none dead held pairs blocks size count each left = reco
   no_pairs = pairs ∙ none;
 }
 
+-- where each block is Free, one is
+pub free_some : {geometry : Geometry} {shape : Shape} {vseg : Segment} {old : Physical} (new : Physical) → HasSegments geometry shape vseg old → new.first ≡ old.first → new.blocks ≡ old.blocks → new.first + new.free ≡ new.blocks → 1 ≤ new.free
+free_some {shape = shape} new has first blocks count =
+    let roomy : IsRoomy shape = subst IsRoomy (sym has.numbers) (is_roomy _ _ has.legal) in
+    let two = roomy.blocks in
+    let all = roomy.all in
+    let f = has.physical_first in
+    let b = has.physical_blocks in
+    omega (arith, two, all, f, b, first, blocks, count)
+
+-- where no page is live, none of a block that is kept is
+pub none_dead : (seg : Physical) → ((page : ℕ) → held_at seg page ≡ None) → KeptAreDead seg
+none_dead seg none page h held = absurd (none-some h (sym (none page) ∙ held))
+
 -- no block is written to
 pub room_is : (seg : Physical) → 1 ≤ seg.free → seg.left ≡ 0 → (space_of seg).room + (space_of seg).block ≡ (space_of seg).free * (space_of seg).block
 unfolding space_of
@@ -98,10 +115,10 @@ held_on {shape = shape} {kept = kept} {image = image} segments fit was holds fro
 }
 
 pub retained_device : {geometry : Geometry} {tells : Type 0} {image : Image} {shape : Shape} {vseg : Segment} {old new : Physical} {kept : KeptPages} {next : ℕ} → IsDevice geometry tells image shape vseg old kept next
-    → IsSegmentFor kept new → length new.held ≡ length old.held → new.pairs ≡ [] → 1 ≤ new.free → new.left ≤ old.left → ((page : ℕ) (h : Held) → held_at new page ≡ Some h → IsFoundIn kept new page h)
+    → IsSegmentFor kept new → length new.held ≡ length old.held → new.pairs ≡ [] → 1 ≤ new.free → HasSpareBlock new → new.left ≤ old.left → ((page : ℕ) (h : Held) → held_at new page ≡ Some h → IsFoundIn kept new page h)
     → ((p q : ℕ) (g h : Held) → held_at new p ≡ Some g → held_at new q ≡ Some h → g.stamp ≡ h.stamp → p ≡ q) → ((p : ℕ) → TakenAsErased new p → TakenAsErased old p) → (tells → ImageOf geometry image)
     → IsDevice geometry tells image shape vseg new kept next
-retained_device {geometry} {tells} {image} {shape} {vseg} {old} {new} {kept} {next} f same pages pairs some left from differ erased fit =
+retained_device {geometry} {tells} {image} {shape} {vseg} {old} {new} {kept} {next} f same pages pairs some spare left from differ erased fit =
     let first : new.first ≡ old.first = same.first ∙ f.found.first ∙ sym f.segments.physical_first in
     let blocks : new.blocks ≡ old.blocks = same.blocks ∙ (λ i. f.found.first i + f.found.count i) ∙ f.segments.split ∙ sym f.segments.physical_blocks in
     let size : new.size ≡ old.size = same.size ∙ f.found.size ∙ sym f.segments.physical_pages in
@@ -127,35 +144,28 @@ retained_device {geometry} {tells} {image} {shape} {vseg} {old} {new} {kept} {ne
           (subst (λ n. n ≤ p) (sym (λ i. first i * size i)) w.0, subst (λ n. p < n) (sym (λ i. blocks i * size i)) w.1);
       differ = differ;
     } in
+    let below : (p : ℕ) (h : Held) → held_at new p ≡ Some h → h.stamp < next = λ p h held.
+    let k : KeptPage = record { page = p; stamp = h.stamp; tag = h.tag } in
+    let one = found_passes (λ (q : KeptPage). q.page == p) kept.pages k (from p h held).found in
+    subst (λ (q : KeptPage). q.stamp < next) (one.is k) (f.found.below one.at k one.within) in
     let free : HasFree new = record { kept = some; left = let l = f.free.left in omega (arith, l, left, size) } in
     record {
       segments = segments;
       mapped = f.mapped;
       live = live;
       free = free;
+      spare = spare;
       no_pairs = pairs;
-      stamp = record {
-        some = f.stamp.some;
-        addresses = f.stamp.addresses;
-        live = λ p h held.
-            let k : KeptPage = record { page = p; stamp = h.stamp; tag = h.tag } in
-            let one = found_passes (λ (q : KeptPage). q.page == p) kept.pages k (from p h held).found in
-            subst (λ (q : KeptPage). q.stamp < next) (one.is k) (f.found.below one.at k one.within);
-      };
+      stamp = record { some = f.stamp.some; addresses = f.stamp.addresses; live = below };
       found = f.found;
       found_stored = f.found_stored;
-      space = space_is new free pairs;
+      legal = f.legal;
+      unwritten = f.unwritten;
+      names = names_are segments next live (space_is new free pairs) below;
       medium = λ t. made_medium segments (fit t) live (f.medium t).virtual_is
           (held_on {new = new} f.segments (fit t) (f.medium t).physical_is (f.found_stored t) from (λ page within. subst (λ n. n ≤ page) (begins segments) within.0) erased)
-          (f.medium t).there (f.medium t).below;
+          (f.medium t).there (f.medium t).below (f.medium t).named_below pairs spare;
     }
-
--- what is shown as live
-pub live_are : (kept : KeptPages) (pointers : List Pointer) (seg : Physical) → AreRetained kept pointers seg → LiveAre kept pointers (names_of seg).live
-live_are kept pointers seg are = record {
-  listed = λ at page p here place. ap live_page (are.listed at page p here place);
-  only = λ page l live. let h = held_of (held_at seg page) l live in are.only page h.0 h.1;
-}
 
 -- what is kept of a scan at the start of a device
 pub has_found : (shape : Shape) (kept : KeptPages) (seen : List Seen) → kept ≡ record { first = shape.vblocks; count = shape.pblocks; size = shape.pages; pages = kept_pages (first_physical shape) seen } → HasFound shape kept (1 + greatest_stamp seen)

@@ -90,6 +90,8 @@ retains_none kept pointers seg same fresh = record {
   left = omega arith;
   erased = λ q taken. taken;
   unchanged = λ none. refl;
+  kept_block = λ k some. k;
+  kept_dead = λ dead. dead;
 }
 
 -- the blocks that are taken with one pointer more
@@ -181,6 +183,8 @@ retains_more kept copies pointers at p old seg new is can fresh first retains he
       left = omega (arith, loads.left, retains.left);
       erased = λ q taken. retains.erased q (loads.erased q taken);
       unchanged = λ none. absurd (omega (arith, none));
+      kept_block = λ k some. loads.kept_block some;
+      kept_dead = λ dead. loads.kept_dead;
     }
   where
     still : (b : ℕ) → is_free new b ≡ true → is_free seg b ≡ true

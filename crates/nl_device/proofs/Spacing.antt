@@ -3,7 +3,7 @@ use Rattle.std.proofs.Common.{◌≡◌, ◌⊎◌, inl, inr, ⊎_elim, ℕ, zer
 use Rattle.std.proofs.lemmas.Bool.{cases_lt, le-leb, lt-leb}
 use Rattle.std.proofs.lemmas.List.{get_or-set_other, length-set}
 use Rattle.std.proofs.lemmas.List.Sums.{sum_by-set}
-use Rattle.nl_iface.specs.Space.{Freed, IsSpace, WriteFailed, Wrote}
+use Rattle.nl_iface.specs.Space.{Freed, IsSpace, Lessened, NoneRetired, SameSegment, WriteFailed, Wrote}
 use Rattle.nl_pseg.specs.Segment.{IsSpent, IsUnspent, Physical, SamePages, room}
 use Rattle.nl_pseg.specs.declared.held.Held.{Held}
 use Rattle.nl_device.specs.Device.{HasFree}
@@ -58,9 +58,12 @@ unfolding space_of
 space_is seg has none = record {
   pairs = let e = ap (λ (ps : List (ℕ × ℕ)). length ps) none in omega (arith, e);
   victim = omega arith;
+  left_in = omega arith;
+  busy = λ one. absurd (omega (arith, one));
   waiting = omega arith;
+  keeps = omega arith;
   kept = let k = has.kept in omega (arith, k);
-  low = let m = mul-le-mul_right seg.size has.kept in omega (arith, m);
+  low = λ lands. let m = mul-le-mul_right seg.size has.kept in omega (arith, m);
   high = λ v few w. let m = mul-le-mul_right seg.size few in omega (arith, m);
   dead = λ p v few.
       let m : seg.free * seg.size ≤ 1 * seg.size = mul-le-mul_right seg.size few in
@@ -86,41 +89,64 @@ one_less held p h below live =
     let z : weight (get_or held p None) ≡ 1 = ap weight live in
     omega (arith, e, z)
 
-pub wrote : (gone : ℕ) (old new : Physical) → SamePages old new → IsSpent old new → live_in new.held + gone ≡ live_in old.held + 1 → Wrote gone (space_of old) (space_of new)
+same_segment : (old new : Physical) → SamePages old new → SameSegment (space_of old) (space_of new)
 unfolding space_of
-wrote gone old new same is live = record {
-  same = record { block = same.same_size; all = λ i. (same.same_blocks i - same.same_first i) * same.same_size i };
-  cleaning = record { victim = refl; waiting = refl };
+same_segment old new same = record { block = same.same_size; all = λ i. (same.same_blocks i - same.same_first i) * same.same_size i; bad = omega arith; kept = refl }
+
+-- no block is in hand, and none waits
+lessened : (gone : ℕ) (old new : Physical) → length new.pairs ≤ length old.pairs → Lessened gone (space_of old) (space_of new)
+unfolding space_of
+lessened gone old new fewer = record { victim = refl; waiting = omega arith; pairs = fewer; left = omega arith; left_most = omega arith; lands = λ none lands. omega arith }
+
+no_more : (xs ys : List (ℕ × ℕ)) → ys ≡ xs → length ys ≤ length xs
+no_more xs ys same = let e = ap (λ (ps : List (ℕ × ℕ)). length ps) same in omega (arith, e)
+
+pub wrote : (gone : ℕ) (old new : Physical) → SamePages old new → IsSpent old new → live_in new.held + gone ≡ live_in old.held + 1 → new.pairs ≡ old.pairs → Wrote gone (space_of old) (space_of new)
+unfolding space_of
+wrote gone old new same is live pairs = record {
+  same = same_segment old new same;
+  lessened = lessened gone old new (no_more old.pairs new.pairs pairs);
   live = live;
-  left = omega arith;
-  left_most = omega arith;
-  room = is.room;
+  room = λ none. let r = is.room in omega (arith, r);
+  exact = λ none either. (refl, is.room);
 }
 
 pub write_failed : (old new : Physical) → SamePages old new → IsSpent old new ⊎ IsUnspent old new → new.held ≡ old.held → new.pairs ≡ old.pairs → WriteFailed (space_of old) (space_of new)
 unfolding space_of
 write_failed old new same spent held pairs = record {
-  same = record { block = same.same_size; all = λ i. (same.same_blocks i - same.same_first i) * same.same_size i };
-  cleaning = record { victim = refl; waiting = refl };
+  same = same_segment old new same;
+  lessened = lessened 0 old new (no_more old.pairs new.pairs pairs);
+  waiting = refl;
   pairs = ap (λ (ps : List (ℕ × ℕ)). length ps) pairs;
   live = ap live_in held;
-  left = refl;
   room = ⊎_elim (λ is. let r = is.room in omega (arith, r)) (λ is. let r = unspent_room old new same is in omega (arith, r)) spent;
-  room_most = ⊎_elim (λ is. let r = is.room in omega (arith, r)) (λ is. let r = unspent_room old new same is in omega (arith, r)) spent;
+  room_most = λ none. ⊎_elim (λ is. let r = is.room in omega (arith, r)) (λ is. let r = unspent_room old new same is in omega (arith, r)) spent;
 }
   where
     unspent_room : (old new : Physical) → SamePages old new → IsUnspent old new → room new ≡ room old
     unspent_room old new same is = λ i. is.left i + (is.free i - 1) * same.same_size i
 
-pub freed : (old new : Physical) → SamePages old new → IsUnspent old new → live_in new.held + 1 ≡ live_in old.held → Freed (space_of old) (space_of new)
+pub freed : (old new : Physical) → SamePages old new → IsUnspent old new → live_in new.held + 1 ≡ live_in old.held → new.pairs ≡ old.pairs → Freed (space_of old) (space_of new)
 unfolding space_of
-freed old new same is live = record {
-  same = record { block = same.same_size; all = λ i. (same.same_blocks i - same.same_first i) * same.same_size i };
-  cleaning = record { victim = refl; waiting = refl };
-  live = live;
-  reach = let e : new.free * new.size ≡ old.free * old.size = (λ i. is.free i * same.same_size i) in omega (arith, e);
-  room = λ i. is.left i + (is.free i - 1) * same.same_size i;
-}
+freed old new same is live pairs =
+    let e : room new ≡ room old = (λ i. is.left i + (is.free i - 1) * same.same_size i) in
+    record {
+      same = same_segment old new same;
+      bad = refl;
+      lessened = lessened 1 old new (no_more old.pairs new.pairs pairs);
+      blocks = ap (λ n. n + 0) is.free;
+      live = live;
+      reach = let f : new.free * new.size ≡ old.free * old.size = (λ i. is.free i * same.same_size i) in omega (arith, f);
+      room = omega (arith, e);
+      exact = λ none. (refl, e);
+    }
+
+-- one page more is live
+pub wrote_one : (old new : Physical) (at : ℕ) (h : Held) → SamePages old new → IsSpent old new → at < length old.held → get_or old.held at None ≡ None → new.held ≡ set old.held at (Some h) → new.pairs ≡ old.pairs → Wrote 0 (space_of old) (space_of new)
+wrote_one old new at h same is below dead held pairs =
+    let e = ap live_in held in
+    let m = one_more old.held at h below dead in
+    wrote 0 old new same is (omega (arith, e, m)) pairs
 
 -- a page is live in place of another one
 pub one_for_one : (held : List (Option Held)) (p q : ℕ) (h x : Held) → p < length held → q < length held → (q ≡ p → ⊥) → get_or held p None ≡ None → get_or held q None ≡ Some x → live_in (set (set held p (Some h)) q None) + 1 ≡ live_in held + 1
@@ -132,3 +158,12 @@ one_for_one held p q h x below within apart dead live =
 pub free_is : (seg : Physical) → (space_of seg).free ≡ seg.free
 unfolding space_of
 free_is seg = refl
+
+pub waiting_is : (seg : Physical) → (space_of seg).waiting ≡ 0
+unfolding space_of
+waiting_is seg = refl
+
+-- no block is bad
+pub none_retired : (old new : Physical) → NoneRetired (space_of old) (space_of new)
+unfolding space_of
+none_retired old new = refl

@@ -97,7 +97,7 @@ alone_found block (InBlock a ∷ rest) any = ⊎_elim
     (λ later. let r = alone_found block rest later in (suc r.0, omega (arith, r.1), r.2))
     (or_cases (a == block) (list_any (is_alone_in block) rest) any)
 
-alone_any : (block : ℕ) (spreads : List Spread) (k : ℕ) → k < length spreads → spread_at spreads k ≡ InBlock block → list_any (is_alone_in block) spreads ≡ true
+pub alone_any : (block : ℕ) (spreads : List Spread) (k : ℕ) → k < length spreads → spread_at spreads k ≡ InBlock block → list_any (is_alone_in block) spreads ≡ true
 alone_any block [] k below is = absurd (omega (arith, below))
 alone_any block (s ∷ rest) zero below is = or_left (is_alone_in block s) (list_any (is_alone_in block) rest) (ap (is_alone_in block) is ∙ eq-eqb block block refl)
 alone_any block (s ∷ rest) (suc k) below is = or_right (is_alone_in block s) (list_any (is_alone_in block) rest) (alone_any block rest k (omega (arith, below)) is)

@@ -8,7 +8,7 @@ use Rattle.nl_field.specs.Page.{Image}
 use Rattle.nl_field.specs.Numbers.{is_legal, shape_for}
 use Rattle.nl_field.specs.SpareRecord.{stamp_of}
 use Rattle.nl_field.specs.declared.shape.Shape.{Shape}
-use Rattle.nl_iface.specs.Names.{HoldsLive}
+use Rattle.nl_iface.specs.Left.{HoldsLive}
 use Rattle.nl_iface.specs.Space.{IsSpace}
 use Rattle.nl_iface.specs.Stored.{stored_in}
 use Rattle.nl_nand.specs.declared.geometry.Geometry.{Geometry}
@@ -22,11 +22,12 @@ use Rattle.nl_vseg.proofs.Members.{In}
 use Rattle.nl_vseg.specs.Places.{place_of, stamp_in_place}
 use Rattle.nl_vseg.specs.Segment.{Segment}
 use Rattle.nl_vseg.specs.declared.place.Place.{Place}
-use Rattle.nl_device.specs.Device.{HasFree, HasLive, HasMapped, HasSegments, IsDevice, IsNextStamp, IsOnMedium}
+use Rattle.nl_device.specs.Device.{HasFree, HasLive, HasMapped, HasSegments, HasSpareBlock, IsDevice, IsNextStamp, IsOnMedium}
 use Rattle.nl_device.specs.Opening.{FitsShape, IsOpenedPhysical, IsOpenedVirtual, needed_of, owns_of, pick_of, place_on}
 use Rattle.nl_field.specs.Medium.{first_physical}
 use Rattle.nl_device.specs.Kept.{KeptPages, kept_pages}
 use Rattle.nl_device.specs.Shown.{bytes_at, found_in}
+use Rattle.nl_device.proofs.Laws.{names_are, no_stamp_beyond, shape_is_legal}
 use Rattle.nl_device.proofs.Retained.{has_found}
 use Rattle.nl_device.specs.Space.{space_of}
 use Rattle.nl_device.specs.Spread.{spare_of}
@@ -146,9 +147,12 @@ module _ (shape : Shape) (t : Table) (pseg : Physical) (p : IsOpenedPhysical sha
       record {
         pairs = omega (arith, none);
         victim = omega arith;
+        left_in = omega arith;
+        busy = λ one. absurd (omega (arith, one));
         waiting = omega (arith, none);
+        keeps = omega arith;
         kept = omega (arith, free, two);
-        low = omega (arith, low);
+        low = λ lands. omega (arith, low);
         high = λ victim few waiting. absurd (omega (arith, few, free, two));
         dead = λ pairs victim few. absurd (omega (arith, few, free, two));
         room = omega arith;
@@ -157,7 +161,7 @@ module _ (shape : Shape) (t : Table) (pseg : Physical) (p : IsOpenedPhysical sha
 
 -- the device of a scan, beside what its medium holds
 pub opened_device : (geometry : Geometry) (shape : Shape) (t : Table) (vseg : Segment) (pseg : Physical) (kept : KeptPages) (tells : Type 0) (image : Image) → IsTrue (is_legal geometry.blocks geometry.pages) → shape ≡ shape_for geometry.blocks geometry.pages → FitsShape shape t
-    → IsOpenedVirtual shape t vseg → IsOpenedPhysical shape t pseg → (HasSegments geometry shape vseg pseg → HasLive pseg → tells → IsOnMedium shape (1 + greatest_stamp t.seen) image vseg pseg)
+    → IsOpenedVirtual shape t vseg → IsOpenedPhysical shape t pseg → (HasSegments geometry shape vseg pseg → HasLive pseg → HasSpareBlock pseg → tells → IsOnMedium shape (1 + greatest_stamp t.seen) image vseg pseg)
     → kept ≡ record { first = shape.vblocks; count = shape.pblocks; size = shape.pages; pages = kept_pages (first_physical shape) t.seen }
     → (tells → HoldsLive (found_in kept) (λ p. bytes_at (shape.vblocks * shape.pages) image p) (stored_in image))
     → IsDevice geometry tells image shape vseg pseg kept (1 + greatest_stamp t.seen)
@@ -181,15 +185,19 @@ opened_device geometry shape t vseg pseg kept tells image legal e fits o p mediu
       physical_held = ap (λ (l : List (Option Held)). length l) p.none_held ∙ length-replicate (shape.blocks * shape.pages) None;
     } in
     let live = live_none shape t pseg p roomy in
+    let spare : HasSpareBlock pseg = record { block = p.kept_block; dead = λ page h held. absurd (none-some h (sym (none_at (shape.blocks * shape.pages) page pseg.held p.none_held) ∙ held)) } in
     record {
       segments = segments;
       mapped = mapped shape t vseg o fits;
       live = live;
       free = free_some shape t pseg p roomy;
+      spare = spare;
       no_pairs = p.no_pairs;
       stamp = next_is shape t vseg o pseg p;
       found = has_found shape kept t.seen found;
       found_stored = stored;
-      space = is_space shape t pseg p roomy;
-      medium = λ tell. medium segments live tell;
+      legal = shape_is_legal segments;
+      unwritten = no_stamp_beyond segments;
+      names = names_are segments (1 + greatest_stamp t.seen) live (is_space shape t pseg p roomy) (λ page h held. absurd (none-some h (sym (none_at (shape.blocks * shape.pages) page pseg.held p.none_held) ∙ held)));
+      medium = λ tell. medium segments live spare tell;
     }

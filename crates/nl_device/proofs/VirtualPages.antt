@@ -1,5 +1,5 @@
 -- What an image stores of the virtual addresses depends on the pages of their segment alone.
-use Rattle.std.proofs.Common.{◌≡◌, ⊎_elim, ℕ, suc, ◌+◌, ◌<◌, ◌≤◌, ◌==◌, nat_lt, Bool, false, cond, not, ◌&&◌, ◌||◌, ◌/◌, Option, Some, None, List, [], ◌∷◌, length, get_or, filter, filter_map, find, option_map, refl, sym, ◌∙◌, ap, arith}
+use Rattle.std.proofs.Common.{◌≡◌, ⊎_elim, ℕ, suc, ◌+◌, ◌<◌, ◌≤◌, ◌==◌, nat_lt, Bool, false, cond, not, ◌&&◌, ◌||◌, ◌/◌, Option, Some, None, is_some, List, [], ◌∷◌, length, get_or, filter, filter_map, find, option_map, refl, sym, ◌∙◌, ap, arith}
 use Rattle.std.specs.List.{enumerate_from, cons_option, list_all, list_any, range_with_len}
 use Rattle.std.proofs.lemmas.Bool.{cases_lt, le-ltb}
 use Rattle.nl_field.specs.Page.{Page, erased, Image, page_at}
@@ -8,7 +8,8 @@ use Rattle.nl_field.specs.Medium.{Readable, readable, readable_pages, virtual_pa
 use Rattle.nl_field.specs.Space.{has_greatest_stamp, is_outside, spare_block, virtual_spare}
 use Rattle.nl_field.specs.Virtual.{newest, or_first_in}
 use Rattle.nl_field.specs.declared.shape.Shape.{Shape}
-use Rattle.nl_iface.specs.Stored.{stored_in, value_on}
+use Rattle.nl_field.specs.Scan.{agree}
+use Rattle.nl_iface.specs.Stored.{is_firm, stored_in, value_on}
 use Rattle.nl_device.proofs.PhysicalPages.{page_is}
 
 module _ (shape : Shape) where
@@ -71,3 +72,18 @@ pub virtual_same : (old c : Image) → SameForm old c → ((p : ℕ) → p < fir
 unfolding stored_in
 virtual_same old c form same v = ap (option_map value_on)
     (newest_is c v ∙ ((λ i. newest_of (form.pages i) (shape_for (form.blocks i) (form.pages i)).vblocks (pages_same old c form same i) v) ∙ sym (newest_is old v)))
+
+-- whether the segment is firm, from the numbers and the pages of the segment
+unfoldable firm_of : ℕ → ℕ → List Readable → Bool
+firm_of pages vblocks list =
+    list_all (λ r. list_all (λ q. not (stamp_on r == stamp_on q) || agree r q) list) list && is_some (find (λ block.
+    list_all (λ r. not (r.page / pages == block && has_greatest_stamp list r)
+    || list_any (λ q. not (q.page / pages == block) && (address_on q == address_on r && stamp_on q == stamp_on r)) list) list) (range_with_len 0 vblocks))
+
+firm_is : (image : Image) → (stored_in image).firm ≡ firm_of image.pages (shape_of_image image).vblocks (virtual_pages image)
+unfolding stored_in is_firm firm_of virtual_spare spare_block
+firm_is image = refl
+
+-- so it is as firm as before
+pub firm_same : (old c : Image) → SameForm old c → ((p : ℕ) → p < first_physical (shape_of_image old) → page_at c p ≡ page_at old p) → (stored_in c).firm ≡ (stored_in old).firm
+firm_same old c form same = firm_is c ∙ ((λ i. firm_of (form.pages i) (shape_for (form.blocks i) (form.pages i)).vblocks (pages_same old c form same i)) ∙ sym (firm_is old))

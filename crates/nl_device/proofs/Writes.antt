@@ -1,14 +1,17 @@
 -- What a write by a virtual address leaves.
+use Rattle.std.specs.Prelude.{◌↔◌}
 use Rattle.std.proofs.Common.{◌≡◌, ◌⊎◌, inl, inr, ⊎_elim, ℕ, ◌+◌, ◌*◌, ◌<◌, ◌≤◌, ◌==◌, if◌then◌else◌, nat_lt, List, [], Option, Some, cond, Bool, true, false, refl, sym, ◌∙◌, ap, subst, arith, eq-eqb, ne_eqb}
-use Rattle.std.proofs.lemmas.Bool.{cases_eq, cases_lt, cond-true, cond-false, lt-ltb}
+use Rattle.std.proofs.lemmas.Bool.{cases_eq, cases_lt, cond-true, cond-false, false≢true, lt-ltb}
 use Rattle.std.proofs.lemmas.Option.{same_Some}
 use Rattle.nl_field.specs.Page.{Image, page_at}
 use Rattle.nl_field.specs.Medium.{shape_of_image}
-use Rattle.nl_field.specs.CrashStates.{Rose, saturated}
+use Rattle.nl_field.specs.CrashStates.{Earlier, Rose, saturated, top}
 use Rattle.nl_field.specs.declared.answers.VirtualWrite.{VirtualWrite}
 use Rattle.nl_field.specs.declared.answers.VirtualWrite.TheVariants as write
 use Rattle.nl_field.specs.declared.shape.Shape.{Shape}
-use Rattle.nl_iface.specs.Stored.{LeavesMap, Value, stored_in, with_value}
+use Rattle.nl_iface.specs.Counting.{StampRises}
+use Rattle.nl_iface.specs.Left.{LeavesMap}
+use Rattle.nl_iface.specs.Stored.{NoneFailed, Value, failed_beside, is_firm, stored_in, with_value}
 use Rattle.nl_vseg.specs.Effects.{Keeps, Takes}
 use Rattle.nl_vseg.specs.Maps.{Dominated}
 use Rattle.nl_vseg.specs.Pages.{Shows}
@@ -16,7 +19,8 @@ use Rattle.nl_pseg.specs.Segment.{IsPhysicalOf, Physical}
 use Rattle.nl_pseg.specs.Pages.{main_of, shown_by}
 use Rattle.nl_device.specs.Device.{HasLive}
 use Rattle.nl_device.specs.Shown.{IsStray, bytes_at}
-use Rattle.nl_device.proofs.Forms.{same_from, stores_map}
+use Rattle.nl_device.proofs.Firm.{keeps_firm, takes_firm}
+use Rattle.nl_device.proofs.Forms.{beyond_in, same_from, stores_map}
 use Rattle.nl_device.proofs.Showing.{dominated_or}
 
 pub with_here : (map : ℕ → Option Value) (v : ℕ) (x : Value) (u : ℕ) → u ≡ v → with_value map v x u ≡ Some x
@@ -42,13 +46,13 @@ module _ (pages bound v next : ℕ) (main : List ℕ) (map : ℕ → Option Valu
       by (inr ne) = let e = k.there u t n (sym (with_other map v (next, main) u ne) ∙ is) in (e.0, e.1, e.3)
 
   pub takes_each : Takes pages bound map v next main old c → ((u t : ℕ) (n : List ℕ) → Shows bound old u t n → t < next) → (u t : ℕ) (n : List ℕ) → Shows bound c u t n
-      → Dominated (with_value map v (next, main) u) t n ⊎ IsStray bound old map u (t, n)
+      → Dominated (with_value map v (next, main) u) t n ⊎ failed_beside v (λ w x. IsStray bound old map w x) u (t, n)
   takes_each k below u t n shows = by (cases_eq u v) (k.no_more u t n shows)
     where
-      by : (u ≡ v) ⊎ (u ≡ v → ⊥) → Shows bound old u t n ⊎ ((u ≡ v) × (t ≡ next) × (n ≡ main)) → Dominated (with_value map v (next, main) u) t n ⊎ IsStray bound old map u (t, n)
+      by : (u ≡ v) ⊎ (u ≡ v → ⊥) → Shows bound old u t n ⊎ ((u ≡ v) × (t ≡ next) × (n ≡ main)) → Dominated (with_value map v (next, main) u) t n ⊎ failed_beside v (λ w x. IsStray bound old map w x) u (t, n)
       by (inl same) (inl was) = inl (subst (λ x. Dominated x t n) (sym (with_here map v (next, main) u same)) (inl (below u t n was)))
       by (inl same) (inr new) = inl (subst (λ x. Dominated x t n) (sym (with_here map v (next, main) u same)) (inr (new.1, new.2)))
-      by (inr ne) (inl was) = subst (λ x. Dominated x t n ⊎ IsStray bound old map u (t, n)) (sym (with_other map v (next, main) u ne)) (each_or bound old map u t n was)
+      by (inr ne) (inl was) = subst (λ x. Dominated x t n ⊎ failed_beside v (λ w y. IsStray bound old map w y) u (t, n)) (sym (with_other map v (next, main) u ne)) (⊎_elim (λ d. inl d) (λ stray. inr (ne, stray)) (each_or bound old map u t n was))
       by (inr ne) (inr new) = absurd (ne new.0)
 
   pub keeps_each : Keeps pages bound map old c → (u t : ℕ) (n : List ℕ) → Shows bound c u t n → Dominated (map u) t n ⊎ IsStray bound old map u (t, n)
@@ -60,18 +64,32 @@ module _ (pages bound v next : ℕ) (main : List ℕ) (map : ℕ → Option Valu
   pub takes_there : Takes pages bound map v next main old c → (u t : ℕ) (n : List ℕ) → map u ≡ Some (t, n) → Shows bound c u t n
   takes_there k u t n is = let e = k.there u t n is in (e.0, e.1, e.3)
 
+firm_stored : (image : Image) → (stored_in image).firm ≡ is_firm image
+unfolding stored_in
+firm_stored image = refl
+
 -- what a stop leaves within it
-module _ (shape : Shape) (pages v next : ℕ) (main : List ℕ) (map : ℕ → Option Value) (old c : Image) (old_is : shape_of_image old ≡ shape) (c_is : shape_of_image c ≡ shape) where
-  pub keeps_leaves : Keeps pages (shape.vblocks * shape.pages) map old c → LeavesMap shape.vaddrs map (λ u x. IsStray (shape.vblocks * shape.pages) old map u x) (stored_in old) (stored_in c)
+module _ (shape : Shape) (v next : ℕ) (main : List ℕ) (map : ℕ → Option Value) (old c : Image) (old_is : shape_of_image old ≡ shape) (c_is : shape_of_image c ≡ shape) (some : 0 < shape.pages) where
+  abbrev stray : ℕ → Value → Type 0
+  stray u x = IsStray (shape.vblocks * shape.pages) old map u x
+
+  all_dominated : NoneFailed shape.vaddrs stray → (u t : ℕ) (n : List ℕ) → u < shape.vaddrs → Shows (shape.vblocks * shape.pages) old u t n → Dominated (map u) t n
+  all_dominated none u t n below shows = ⊎_elim (λ d. d) (λ fails. absurd (none u (t, n) below fails)) (each_or (shape.vblocks * shape.pages) old map u t n shows)
+
+  pub keeps_leaves : Keeps shape.pages (shape.vblocks * shape.pages) map old c → LeavesMap shape.vaddrs map (λ u x. IsStray (shape.vblocks * shape.pages) old map u x) (λ u x. IsStray (shape.vblocks * shape.pages) old map u x) (stored_in old) (stored_in c)
   keeps_leaves k = record {
-    shows = stores_map shape c c_is map (λ u x. IsStray (shape.vblocks * shape.pages) old map u x) (keeps_there pages (shape.vblocks * shape.pages) v next main map old c k) (keeps_each pages (shape.vblocks * shape.pages) v next main map old c k);
+    shows = stores_map shape c c_is map stray (keeps_there shape.pages (shape.vblocks * shape.pages) v next main map old c k) (keeps_each shape.pages (shape.vblocks * shape.pages) v next main map old c k);
+    beyond = beyond_in shape c c_is;
+    firm = λ firm none. firm_stored c ∙ keeps_firm shape map old c old_is c_is some (sym (firm_stored old) ∙ firm) (all_dominated none) k;
     named = same_from shape old c old_is c_is k.beyond;
   }
 
-  pub takes_leaves : Takes pages (shape.vblocks * shape.pages) map v next main old c → ((u t : ℕ) (n : List ℕ) → Shows (shape.vblocks * shape.pages) old u t n → t < next)
-      → LeavesMap shape.vaddrs (with_value map v (next, main)) (λ u x. IsStray (shape.vblocks * shape.pages) old map u x) (stored_in old) (stored_in c)
+  pub takes_leaves : Takes shape.pages (shape.vblocks * shape.pages) map v next main old c → ((u t : ℕ) (n : List ℕ) → Shows (shape.vblocks * shape.pages) old u t n → t < next)
+      → LeavesMap shape.vaddrs (with_value map v (next, main)) (failed_beside v (λ u x. IsStray (shape.vblocks * shape.pages) old map u x)) (λ u x. IsStray (shape.vblocks * shape.pages) old map u x) (stored_in old) (stored_in c)
   takes_leaves k below = record {
-    shows = stores_map shape c c_is (with_value map v (next, main)) (λ u x. IsStray (shape.vblocks * shape.pages) old map u x) (with_there pages (shape.vblocks * shape.pages) v next main map old c k) (takes_each pages (shape.vblocks * shape.pages) v next main map old c k below);
+    shows = stores_map shape c c_is (with_value map v (next, main)) (failed_beside v stray) (with_there shape.pages (shape.vblocks * shape.pages) v next main map old c k) (takes_each shape.pages (shape.vblocks * shape.pages) v next main map old c k below);
+    beyond = beyond_in shape c c_is;
+    firm = λ firm none. firm_stored c ∙ takes_firm shape map old c old_is c_is some (sym (firm_stored old) ∙ firm) (all_dominated none) v next main below k;
     named = same_from shape old c old_is c_is k.beyond;
   }
 
@@ -99,8 +117,15 @@ module _ (pages bound v next : ℕ) (main : List ℕ) (map now : ℕ → Option 
   pub stray_done : Takes pages bound map v next main old c → ((u : ℕ) → now u ≡ with_value map v (next, main) u) → (u : ℕ) (x : Value) → IsStray bound c now u x → IsStray bound old map u x
   stray_done k is u x stray = ⊎_elim
       (λ d. absurd (stray.newer (subst (λ o. Dominated o x.0 x.1) (sym (is u)) d)))
-      (λ was. record { shown = was.shown; newer = was.newer })
+      (λ was. record { shown = was.1.shown; newer = was.1.newer })
       (takes_each pages bound v next main map old c k below u x.0 x.1 stray.shown)
+
+  -- and at the address that was written none is newer
+  pub none_stray : Takes pages bound map v next main old c → ((u : ℕ) → now u ≡ with_value map v (next, main) u) → (x : Value) → IsStray bound c now v x → ⊥
+  none_stray k is x stray = ⊎_elim
+      (λ d. stray.newer (subst (λ o. Dominated o x.0 x.1) (sym (is v)) d))
+      (λ was. was.0 refl)
+      (takes_each pages bound v next main map old c k below v x.0 x.1 stray.shown)
 
   pub stray_kept : Keeps pages bound map old c → ((u : ℕ) → now u ≡ map u) → (u : ℕ) (x : Value) → IsStray bound c now u x → IsStray bound old map u x
   stray_kept k is u x stray = record { shown = k.no_more u x.0 x.1 stray.shown; newer = λ d. stray.newer (subst (λ o. Dominated o x.0 x.1) (sym (is u)) d) }
@@ -117,6 +142,33 @@ bytes_same first old c same p = elim (cases_lt p first) [
   | inl lt ↦ cond-true (nat_lt p first) [] (main_of (page_at c p)) (lt-ltb p first lt) ∙ sym (cond-true (nat_lt p first) [] (main_of (page_at old p)) (lt-ltb p first lt))
   | inr le ↦ ap (λ page. cond (nat_lt p first) [] (main_of page)) (same p le)
 ]
+
+-- the next stamp: it rises by one where a write was done or failed, and by no more than the counts do
+pub write_rises : (done : Type 0) (taken : Bool) (now next clock clock_now faults faults_now : ℕ) → now ≡ next + cond taken 1 0 → (taken ≡ true) ↔ (done ⊎ Rose faults faults_now) → clock ≤ clock_now → faults ≤ faults_now → (done → Earlier clock clock_now)
+    → StampRises (done ⊎ Rose faults faults_now) next now clock clock_now faults faults_now
+write_rises done taken now next clock clock_now faults faults_now is means later more strict = by taken is means
+  where
+    paid_by : now ≡ next + 1 → clock_now < top → faults_now < top → done ⊎ Rose faults faults_now → now + clock + faults ≤ next + clock_now + faults_now
+    paid_by one small few (inl d) =
+        let lt : clock < clock_now = strict d (omega (arith, later, small)) in
+        omega (arith, one, lt, more)
+    paid_by one small few (inr rose) = omega (arith, one, rose, few, later)
+
+    by : (b : Bool) → now ≡ next + cond b 1 0 → (b ≡ true) ↔ (done ⊎ Rose faults faults_now) → StampRises (done ⊎ Rose faults faults_now) next now clock clock_now faults faults_now
+    by true one means = record {
+      never_falls = omega (arith, one);
+      at_most_one = omega (arith, one);
+      taken = λ tried. one;
+      stays = λ un. absurd (un (means.0 refl));
+      paid = λ small few. paid_by one small few (means.0 refl);
+    }
+    by false none means = record {
+      never_falls = omega (arith, none);
+      at_most_one = omega (arith, none);
+      taken = λ tried. absurd (false≢true (means.1 tried));
+      stays = λ un. omega (arith, none);
+      paid = λ small few. omega (arith, none, later, more);
+    }
 
 -- the next stamp
 pub next_taken : (taken : Bool) (now next : ℕ) → now ≡ next + cond taken 1 0 → taken ≡ true → now ≡ next + 1

@@ -1,16 +1,16 @@
 -- What holds of the tables of a device, and of a medium that tells its contents.
-use Rattle.std.specs.Prelude.{◌≡◌, ℕ, ◌+◌, ◌-◌, ◌*◌, ◌<◌, ◌≤◌, List, [], length, true, Some, IsTrue, All}
+use Rattle.std.specs.Prelude.{◌≡◌, ℕ, ◌+◌, ◌-◌, ◌*◌, ◌<◌, ◌≤◌, List, [], length, true, None, Some, IsTrue, All}
 use Rattle.nl_field.specs.Numbers.{is_legal, shape_for}
 use Rattle.nl_field.specs.Page.{Image}
 use Rattle.nl_field.specs.declared.shape.Shape.{Shape}
-use Rattle.nl_iface.specs.Names.{HoldsLive}
-use Rattle.nl_iface.specs.Space.{IsSpace}
-use Rattle.nl_iface.specs.Stored.{Shows as StoresMap, stored_in}
+use Rattle.nl_iface.specs.Device.{IsVolumeShape}
+use Rattle.nl_iface.specs.Left.{HoldsLive, LeavesPages}
+use Rattle.nl_iface.specs.Names.{IsNames}
+use Rattle.nl_iface.specs.Stored.{NamedPage, NoneBeyond, Shows as StoresMap, stored_in}
 use Rattle.nl_device.specs.Kept.{KeptPages}
 use Rattle.nl_device.specs.Shown.{IsStray, bytes_at, found_in, names_of}
-use Rattle.nl_device.specs.Space.{space_of}
 use Rattle.nl_nand.specs.declared.geometry.Geometry.{Geometry}
-use Rattle.nl_pseg.specs.Segment.{InSegment, IsPhysicalOf, Physical, TakenAsErased, held_at}
+use Rattle.nl_pseg.specs.Segment.{InSegment, IsPhysicalOf, KeepsBlock, KeptAreDead, Physical, TakenAsErased, held_at}
 use Rattle.nl_pseg.specs.declared.held.Held.{Held}
 use Rattle.nl_vseg.specs.Pages.{Shows}
 use Rattle.nl_vseg.specs.Places.{AreBelow, map_of, stamp_for}
@@ -49,6 +49,11 @@ pub record HasFree (pseg : Physical) : Type 0 where
   pub kept : 1 ≤ pseg.free
   pub left : pseg.left ≤ pseg.size
 
+-- Some block of the segment holds no live page, so that it can be done without.
+pub record HasSpareBlock (pseg : Physical) : Type 0 where
+  pub block : KeepsBlock pseg
+  pub dead : KeptAreDead pseg
+
 -- Every stamp is below the next one.
 pub record IsNextStamp (next : ℕ) (vseg : Segment) (pseg : Physical) : Type 0 where
   pub some : 1 ≤ next
@@ -56,7 +61,8 @@ pub record IsNextStamp (next : ℕ) (vseg : Segment) (pseg : Physical) : Type 0 
   pub live : (p : ℕ) (h : Held) → held_at pseg p ≡ Some h → h.stamp < next
 
 -- The image is one of both segments. It shows each value of the map, and no stamp of an address from the next one on. So it stores
--- the map's value of each address, or a stray one, and each live page.
+-- the map's value of each address, or a stray one, and each live page, which a stop is to leave. No page under a name has the next
+-- stamp or a later one.
 pub record IsOnMedium (shape : Shape) (next : ℕ) (image : Image) (vseg : Segment) (pseg : Physical) : Type 0 where
   pub virtual_is : IsSegmentOf image vseg
   pub physical_is : IsPhysicalOf image pseg
@@ -64,6 +70,9 @@ pub record IsOnMedium (shape : Shape) (next : ℕ) (image : Image) (vseg : Segme
   pub below : (v t : ℕ) (n : List ℕ) → Shows (shape.vblocks * shape.pages) image v t n → t < next
   pub shown : StoresMap shape.vaddrs (λ v. map_of vseg.places image v) (λ v x. IsStray (shape.vblocks * shape.pages) image (λ u. map_of vseg.places image u) v x) (stored_in image)
   pub holds : HoldsLive (names_of pseg).live (λ p. bytes_at (shape.vblocks * shape.pages) image p) (stored_in image)
+  pub beyond : NoneBeyond shape.vaddrs (stored_in image)
+  pub pages : LeavesPages shape (names_of pseg) (λ p. bytes_at (shape.vblocks * shape.pages) image p) (stored_in image)
+  pub named_below : (p : ℕ) (page : NamedPage) → (stored_in image).named p ≡ Some page → page.stamp + 1 ≤ next
 
 -- The pages that the scan found are those of the physical segment, and their stamps are below the next one.
 pub record HasFound (shape : Shape) (kept : KeptPages) (next : ℕ) : Type 0 where
@@ -72,15 +81,18 @@ pub record HasFound (shape : Shape) (kept : KeptPages) (next : ℕ) : Type 0 whe
   pub size : kept.size ≡ shape.pages
   pub below : All (λ k. k.stamp < next) kept.pages
 
--- The tables stand for the medium. What the scan found, and was not forgotten since, is stored there.
+-- The tables stand for the medium, and for the names that are shown. What the scan found, and was not forgotten since, is stored.
 pub record IsDevice (geometry : Geometry) (tells : Type 0) (image : Image) (shape : Shape) (vseg : Segment) (pseg : Physical) (kept : KeptPages) (next : ℕ) : Type 0 where
   pub segments : HasSegments geometry shape vseg pseg
   pub mapped : HasMapped vseg
   pub live : HasLive pseg
   pub free : HasFree pseg
+  pub spare : HasSpareBlock pseg
   pub no_pairs : pseg.pairs ≡ []
   pub stamp : IsNextStamp next vseg pseg
   pub found : HasFound shape kept next
   pub found_stored : tells → HoldsLive (found_in kept) (λ p. bytes_at (shape.vblocks * shape.pages) image p) (stored_in image)
-  pub space : IsSpace (space_of pseg)
+  pub legal : IsVolumeShape shape
+  pub unwritten : (v : ℕ) → shape.vaddrs ≤ v → stamp_for vseg.places v ≡ None
+  pub names : IsNames shape next (names_of pseg)
   pub medium : tells → IsOnMedium shape next image vseg pseg

@@ -1,5 +1,5 @@
 -- What holds of each device whose tables stand.
-use Rattle.std.proofs.Common.{rules, ◌≡◌, ℕ, ◌*◌, ◌-◌, ◌<◌, ◌≤◌, ◌∙◌, List, [], Option, Some, None, option_map, length, refl, sym, ap, subst}
+use Rattle.std.proofs.Common.{rules, arith, ◌≡◌, ℕ, ◌+◌, ◌*◌, ◌≤◌, ◌∙◌, List, [], Option, Some, None, option_map, refl, sym, ap, subst}
 use Rattle.std.proofs.lemmas.Option.{none-some, same_Some}
 use Rattle.nl_field.specs.Live.{LiveEntry}
 use Rattle.nl_field.specs.Page.{Image}
@@ -13,10 +13,9 @@ use Rattle.nl_pseg.specs.declared.held.Held.{Held}
 use Rattle.nl_vseg.specs.Places.{map_of, place_of, stamp_for, stamp_in_place, value_at}
 use Rattle.nl_vseg.specs.Segment.{Segment}
 use Rattle.nl_vseg.specs.declared.place.Place.{Place}
-use Rattle.nl_device.specs.Device.{HasLive, IsDevice}
+use Rattle.nl_device.specs.Device.{HasLive, IsDevice, IsOnMedium}
 use Rattle.nl_device.specs.Kept.{KeptPages}
-use Rattle.nl_device.specs.Shown.{live_page, names_of}
-use Rattle.nl_device.specs.Space.{space_of}
+use Rattle.nl_device.specs.Shown.{IsStray, live_page, names_of}
 
 stamp_of_value : (image : Image) (place : Option Place) → option_map (λ (x : Value). x.0) (value_at image place) ≡ stamp_in_place place
 stamp_of_value image None = refl
@@ -45,9 +44,13 @@ no_pairs_state pages pseg bytes map next pairs is live = subst (λ ps. IsDeviceS
       let x = held_of (held_at pseg p) a.0 a.1 in
       let y = held_of (held_at pseg q) b.0 b.1 in
       live.differ p q x.0 y.0 x.1 y.1 (x.2 ∙ (a.3 ∙ (same ∙ (sym b.3 ∙ sym y.2))));
+  own = λ p e has. refl;
   old_names_differ = search rules;
   no_chain = tt;
+  to_live = tt;
   one_callback = tt;
+  told = tt;
+  one_number = tt;
   few_pairs = search rules;
 })
 
@@ -55,34 +58,6 @@ pub state_is : {geometry : Geometry} {tells : Type 0} {image : Image} {shape : S
     → IsDeviceState shape.pages (state_of (names_of pseg) bytes map next)
 state_is {geometry} {tells} {image} {shape} {vseg} {pseg} {kept} {next} bytes map f = no_pairs_state shape.pages pseg bytes map next pseg.pairs (sym f.no_pairs) f.live
 
--- a live page lies in the physical segment, and has a stamp below the next
-pub live_from : {geometry : Geometry} {tells : Type 0} {image : Image} {shape : Shape} {vseg : Segment} {pseg : Physical} {kept : KeptPages} {next : ℕ} → IsDevice geometry tells image shape vseg pseg kept next → (p : ℕ) (page : LivePage)
-    → (names_of pseg).live p ≡ Some page → shape.vblocks * shape.pages ≤ p
-live_from {geometry} {tells} {image} {shape} {vseg} {pseg} f p page is =
-    let h = held_of (held_at pseg p) page is in
-    subst (λ n. n ≤ p) (λ i. f.segments.physical_first i * f.segments.physical_pages i) (f.live.in_segment p h.0 h.1).0
-
-pub live_to : {geometry : Geometry} {tells : Type 0} {image : Image} {shape : Shape} {vseg : Segment} {pseg : Physical} {kept : KeptPages} {next : ℕ} → IsDevice geometry tells image shape vseg pseg kept next → (p : ℕ) (page : LivePage)
-    → (names_of pseg).live p ≡ Some page → p < shape.blocks * shape.pages
-live_to {geometry} {tells} {image} {shape} {vseg} {pseg} f p page is =
-    let h = held_of (held_at pseg p) page is in
-    subst (λ n. p < n) (λ i. f.segments.physical_blocks i * f.segments.physical_pages i) (f.live.in_segment p h.0 h.1).1
-
-pub live_under : {geometry : Geometry} {tells : Type 0} {image : Image} {shape : Shape} {vseg : Segment} {pseg : Physical} {kept : KeptPages} {next : ℕ} → IsDevice geometry tells image shape vseg pseg kept next → (p : ℕ) (page : LivePage)
-    → (names_of pseg).live p ≡ Some page → page.stamp < next
-live_under {geometry} {tells} {image} {shape} {vseg} {pseg} {kept} {next} f p page is =
-    let h = held_of (held_at pseg p) page is in
-    subst (λ n. n < next) h.2 (f.stamp.live p h.0 h.1)
-
--- the numbers of the space are those of the volume
-pub space_block : {geometry : Geometry} {tells : Type 0} {image : Image} {shape : Shape} {vseg : Segment} {pseg : Physical} {kept : KeptPages} {next : ℕ} → IsDevice geometry tells image shape vseg pseg kept next → (space_of pseg).block ≡ shape.pages
-unfolding space_of
-space_block f = f.segments.physical_pages
-
-pub space_all : {geometry : Geometry} {tells : Type 0} {image : Image} {shape : Shape} {vseg : Segment} {pseg : Physical} {kept : KeptPages} {next : ℕ} → IsDevice geometry tells image shape vseg pseg kept next → (space_of pseg).all ≡ shape.pblocks * shape.pages
-unfolding space_of
-space_all {shape = shape} f = (λ i. (f.segments.physical_blocks i - f.segments.physical_first i) * f.segments.physical_pages i) ∙ ap (λ n. n * shape.pages) f.segments.rest
-
-pub space_pairs : (pseg : Physical) → (space_of pseg).pairs ≡ length pseg.pairs
-unfolding space_of
-space_pairs pseg = refl
+-- a write that failed has a lesser stamp than the next
+pub failed_below : {shape : Shape} {next : ℕ} {image : Image} {vseg : Segment} {pseg : Physical} → IsOnMedium shape next image vseg pseg → (v : ℕ) (x : Value) → IsStray (shape.vblocks * shape.pages) image (λ u. map_of vseg.places image u) v x → x.0 + 1 ≤ next
+failed_below on v x stray = let lt = on.below v x.0 x.1 stray.shown in omega (arith, lt)

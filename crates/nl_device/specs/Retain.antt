@@ -1,14 +1,15 @@
 -- Which pointers are live after an opening, and where.
-use Rattle.std.specs.Prelude.{◌≡◌, ◌≢◌, ℕ, ◌+◌, ◌*◌, ◌/◌, ◌<◌, ◌≤◌, ◌==◌, not, Bool, true, false, cond, List, [], find, length, map, take, filter, slice_get, slice_set, All, Option, Some, None, IsSome, option_map}
+use Rattle.std.specs.Prelude.{◌≡◌, ◌≢◌, ℕ, ◌+◌, ◌*◌, ◌/◌, ◌<◌, ◌≤◌, ◌==◌, not, Bool, true, false, cond, List, [], find, length, map, take, filter, slice_get, slice_set, All, Option, Some, None, IsSome, option_map, unwrap_or, ◌||◌}
 use Rattle.std.specs.List.{AllPairs, count_by, list_any, range_with_len}
 use Rattle.nl_field.specs.declared.pointer.Pointer.{Pointer}
 use Rattle.nl_field.specs.declared.shape.Shape.{Shape}
-use Rattle.nl_pseg.specs.Segment.{InSegment, IsNewStamp, Physical, TakenAsErased, held_at, is_free, soiled}
+use Rattle.nl_pseg.specs.Segment.{InSegment, IsNewStamp, KeepsBlock, KeptAreDead, Physical, TakenAsErased, held_at, is_free, soiled}
 use Rattle.nl_pseg.specs.declared.held.Held.{Held}
-use Rattle.nl_iface.specs.Names.{LivePage, Names}
-use Rattle.nl_device.specs.Shown.{live_page}
+use Rattle.nl_iface.specs.declared.counts.Counts.{Ghosts}
+use Rattle.nl_iface.specs.Calls.{KeepsVirtual}
+use Rattle.nl_iface.specs.Names.{Names}
 use Rattle.nl_device.specs.declared.device.Device.{Device}
-use Rattle.nl_device.specs.Kept.{KeptPages, is_at_name, place_among, spare_among}
+use Rattle.nl_device.specs.Kept.{KeptPages, has_stamp, is_at_name, place_among, spare_among}
 use Rattle.nl_device.specs.Space.{live_in}
 
 -- the spare block of the segment for the stamps of these pointers
@@ -55,13 +56,28 @@ pub record IsFresh (seg : Physical) : Type 0 where
 abbrev pub pair_room : ℕ
 pair_room = 0
 
--- The pointers have a spare block, each has a place, and no two share a stamp. Where the place is not the name, there is room for
--- a pair.
+-- the place of a pointer is not its name
+abbrev pub is_moved : KeptPages → List Pointer → Pointer → Bool
+is_moved kept pointers p = not (is_at_name kept (spare_for kept pointers) p)
+
+-- the named page does not have the stamp
+abbrev pub is_lost : KeptPages → Pointer → Bool
+is_lost kept p = not (has_stamp kept.pages p.name p.stamp)
+
+-- the named page has the stamp, or was not found
+abbrev pub owns_name : KeptPages → Pointer → Bool
+owns_name kept p = has_stamp kept.pages p.name p.stamp || not (list_any (λ k. k.page == p.name) kept.pages)
+
+-- The pointers have a spare block, each has a place, and no two share a stamp or a name. They own their names, and few are lost.
+-- Where the place is not the name, there is room for a pair.
 pub record CanRetain (kept : KeptPages) (pointers : List Pointer) : Type 0 where
   pub spare : IsSome (spare_for kept pointers)
   pub placed : All (λ p. IsSome (place_for kept pointers p)) pointers
   pub differ : AllPairs (λ p q. p.stamp ≢ q.stamp) pointers
-  pub room : length (filter (λ p. not (is_at_name kept (spare_for kept pointers) p)) pointers) ≤ pair_room
+  pub names_differ : AllPairs (λ p q. p.name ≢ q.name) pointers
+  pub own : All (λ p. owns_name kept p ≡ true) pointers
+  pub few_lost : length (filter (is_lost kept) pointers) ≤ 3 * kept.size
+  pub room : length (filter (is_moved kept pointers) pointers) ≤ pair_room
 
 -- Exactly these pointers are live, each at its place, under its stamp and the owner that the page has.
 pub record AreRetained (kept : KeptPages) (pointers : List Pointer) (seg : Physical) : Type 0 where
@@ -94,6 +110,8 @@ pub record Loads (kept : KeptPages) (p : Pointer) (old new : Physical) : Type 0 
   pub same_soiled : (block : ℕ) → soiled new block ≡ soiled old block
   pub left : new.left ≤ old.left
   pub erased : (q : ℕ) → TakenAsErased new q → TakenAsErased old q
+  pub kept_block : 1 ≤ new.free → KeepsBlock new
+  pub kept_dead : KeptAreDead new
 
 -- a page of one of these names lies in the block
 abbrev pub is_taken : KeptPages → List Pointer → ℕ → Bool
@@ -114,6 +132,8 @@ pub record Retains (kept : KeptPages) (pointers : List Pointer) (at : ℕ) (old 
   pub left : seg.left ≤ old.left
   pub erased : (q : ℕ) → TakenAsErased seg q → TakenAsErased old q
   pub unchanged : at ≡ 0 → seg ≡ old
+  pub kept_block : KeepsBlock old → 1 ≤ seg.free → KeepsBlock seg
+  pub kept_dead : KeptAreDead old → KeptAreDead seg
 
 -- every block of the segment is Free
 abbrev pub HasAllFree : Shape → Names → Type 0
@@ -123,7 +143,18 @@ HasAllFree shape names = names.space.free ≡ shape.pblocks
 abbrev pub kept_of : {M : Type 0} → Device M → KeptPages
 kept_of d = d.kept
 
--- exactly these pointers are live, each at its place, under its stamp and the owner that was found there
-pub record LiveAre (kept : KeptPages) (pointers : List Pointer) (live : ℕ → Option LivePage) : Type 0 where
-  pub listed : (at page : ℕ) (p : Pointer) → slice_get pointers at ≡ Some p → place_for kept pointers p ≡ Some page → live page ≡ live_page (held_for kept page p)
-  pub only : (page : ℕ) (l : LivePage) → live page ≡ Some l → (at : ℕ) × (p : Pointer) × (slice_get pointers at ≡ Some p) × (place_for kept pointers p ≡ Some page)
+-- the place of a pointer that has one
+abbrev pub retained_at : KeptPages → List Pointer → Pointer → ℕ
+retained_at kept pointers p = unwrap_or (place_for kept pointers p) p.name
+
+-- The medium, and what is known of it, is as it was.
+pub record SameMedium {D : Type 0} (g : Ghosts D) (old new : D) : Type 0 where
+  pub virtual : KeepsVirtual g old new
+  pub contents : g.tells → g.contents new ≡ g.contents old
+  pub left : g.tells → (m : ℕ) (c : g.Crash) → g.left new m c → g.left old m c
+  pub bytes : g.tells → (p : ℕ) → g.bytes new p ≡ g.bytes old p
+  pub found : g.found new ≡ g.found old
+  pub next_stamp : g.next_stamp new ≡ g.next_stamp old
+  pub clock : g.clock new ≡ g.clock old
+  pub read_faults : g.read_faults new ≡ g.read_faults old
+  pub write_faults : g.write_faults new ≡ g.write_faults old

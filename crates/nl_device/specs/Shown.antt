@@ -1,8 +1,8 @@
 -- What a device shows.
-use Rattle.std.specs.Prelude.{◌≡◌, ℕ, nat_lt, ◌==◌, cond, find, option_map, List, [], Option, Some, None}
+use Rattle.std.specs.Prelude.{ℕ, nat_lt, ◌==◌, cond, find, map, option_map, List, [], Option, Some, None}
 use Rattle.nl_field.specs.Page.{Image, page_at}
 use Rattle.nl_iface.specs.Names.{LivePage, Names}
-use Rattle.nl_iface.specs.Stored.{Stored, Value, stored_in}
+use Rattle.nl_iface.specs.Stored.{Value}
 use Rattle.nl_device.specs.Kept.{KeptPages}
 use Rattle.nl_device.specs.Space.{space_of}
 use Rattle.nl_device.specs.declared.kept.page.KeptPage.{KeptPage}
@@ -17,7 +17,7 @@ live_page None = None
 live_page (Some h) = Some (record { tag = h.tag; stamp = h.stamp })
 
 abbrev pub names_of : Physical → Names
-names_of pseg = record { live = λ p. live_page (held_at pseg p); pairs = pseg.pairs; pending = []; space = space_of pseg }
+names_of pseg = record { live = λ p. live_page (held_at pseg p); pairs = pseg.pairs; pending = []; handled = λ n. None; posted = 0; space = space_of pseg }
 
 -- The image shows a value of the address that is neither the map's nor older.
 pub record IsStray (bound : ℕ) (image : Image) (map : ℕ → Option Value) (v : ℕ) (x : Value) : Type 0 where
@@ -35,6 +35,6 @@ found_on k = record { tag = k.tag; stamp = k.stamp }
 unfoldable pub found_in : KeptPages → ℕ → Option LivePage
 found_in kept p = option_map found_on (find (λ k. k.page == p) kept.pages)
 
--- what is stored on one of these images
-abbrev pub StoredOn : (Image → Type 0) → Stored → Type 0
-StoredOn P c = (image : Image) × P image × (c ≡ stored_in image)
+-- the pages that were found, by number
+abbrev pub found_by_number : KeptPages → List (ℕ × LivePage)
+found_by_number kept = map (λ k. (k.page, found_on k)) kept.pages

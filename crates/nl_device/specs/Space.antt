@@ -18,18 +18,21 @@ open_live seg = cond (nat_le 1 seg.left) (live_in (take seg.size (drop (seg.next
 abbrev pub all_pages : Physical → ℕ
 all_pages seg = (seg.blocks - seg.first) * seg.size
 
--- No block is in hand to be cleaned, and none waits for its names. Of the blocks that are neither Free nor written to, the pages
--- that are not live are dead.
+-- No block is bad or in hand to be cleaned, none waits for its names, and one Free block is kept. Copies could be programmed in all
+-- Free blocks. Of the blocks that are neither Free nor written to, the pages that are not live are dead.
 unfoldable pub space_of : Physical → Space
 space_of seg = record {
   block = seg.size;
   all = all_pages seg;
+  bad = 0;
+  keep = 1;
   free = seg.free;
   victim = 0;
   waiting = 0;
   pairs = length seg.pairs;
   live = live_in seg.held;
   left = 0;
+  landing = seg.free * seg.size;
   reach = seg.free * seg.size;
   dead = (all_pages seg - seg.free * seg.size - open_pages seg) - (live_in seg.held - open_live seg);
   room = room seg;

@@ -1,6 +1,10 @@
 -- What a start answers.
-use Rattle.std.specs.Prelude.{⊤}
-use Rattle.nl_scan.specs.Tables.{Table}
+use Rattle.std.specs.Prelude.{◌≡◌, ℕ, ◌+◌, [], None, ⊤}
+use Rattle.nl_field.specs.Numbers.{shape_for}
+use Rattle.nl_field.specs.declared.shape.Shape.{Shape}
+use Rattle.nl_iface.specs.Names.{Names}
+use Rattle.nl_nand.specs.declared.geometry.Geometry.{Geometry}
+use Rattle.nl_scan.specs.Tables.{Table, greatest_stamp}
 use Rattle.nl_device.specs.declared.device.Device.{Device}
 use Rattle.nl_device.specs.declared.start.Started.{Started}
 use Rattle.nl_device.specs.declared.start.Started.TheVariants.{Ready, Fault, Memory}
@@ -20,3 +24,14 @@ abbrev pub IfMemory : {M : Type 0} → Started M → (M → Type 0) → Type 0
 IfMemory (Ready d t) P = ⊤
 IfMemory (Fault m) P = ⊤
 IfMemory (Memory m) P = P m
+
+-- What a device has after a start: the numbers of its medium; no page under a name, and nothing that leads to one; each block of the
+-- segment Free, and room in all but one; and the stamp after the greatest that was seen.
+pub record IsStarted (geometry : Geometry) (t : Table) (shape : Shape) (names : Names) (next : ℕ) : Type 0 where
+  pub numbers : shape ≡ shape_for geometry.blocks geometry.pages
+  pub live : (p : ℕ) → names.live p ≡ None
+  pub pairs : names.pairs ≡ []
+  pub pending : names.pending ≡ []
+  pub free : names.space.free ≡ shape.pblocks
+  pub room : names.space.room + names.space.block ≡ names.space.all
+  pub stamp : next ≡ 1 + greatest_stamp t.seen

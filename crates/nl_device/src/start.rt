@@ -2,9 +2,10 @@ ghost use Rattle.std.specs.Prelude.{◌≡◌, ◌+◌, ◌<◌, ◌≤◌, ℕ,
 ghost use Rattle.std.specs.List.{list_all};
 ghost use Rattle.nl_field.specs.CrashStates.{Rose};
 ghost use Rattle.nl_field.specs.Numbers.{is_legal, shape_for};
+ghost use Rattle.nl_field.specs.ScanList.{virtual_spare_seen};
 ghost use Rattle.nl_field.specs.Space.{virtual_spare};
 ghost use Rattle.nl_field.specs.Virtual.{newest};
-ghost use Rattle.nl_iface.specs.Stored.{Value, stored_in, value_on};
+ghost use Rattle.nl_iface.specs.Stored.{Value, value_on};
 ghost use Rattle.nl_nand.specs.Nand.{OnlyReads};
 ghost use Rattle.nl_scan.specs.Tables.{FitsMedium, IsTableOf, greatest_stamp};
 ghost use Rattle.nl_field.specs.Medium.{first_physical};
@@ -12,14 +13,13 @@ ghost use Rattle.nl_device.specs.Kept.{kept_pages};
 ghost use Rattle.nl_device.specs.Medium.{medium_of};
 ghost use Rattle.nl_device.specs.Opening.{FitsShape, IsOpenedPhysical, IsOpenedVirtual, SaysErased};
 ghost use Rattle.nl_device.specs.Retain.{CanRetain, kept_of};
-ghost use Rattle.nl_device.specs.Shown.{StoredOn};
-ghost use Rattle.nl_device.specs.Started.{IfFault, IfMemory, IfReady};
+ghost use Rattle.nl_device.specs.Started.{IfFault, IfMemory, IfReady, IsStarted};
 
 use crate::device::Device;
 use crate::kept::Kept;
 use crate::opening::segments::{Opened, open};
 use nl_field::{Memory, Shape, shape_of};
-use nl_iface::{Counts, NamedPages, VirtualPages};
+use nl_iface::Counts;
 use nl_nand::{Geometry, Nand};
 use nl_pseg::PSeg;
 use nl_scan::{ScanTables, Scanned, scan};
@@ -68,26 +68,22 @@ fn after_scan(alloc: Global, shape: &Shape, tables: &ScanTables) -> Result<Parts
 impl<M: Nand> Device<M> {
     /// Reads each page of a formed medium once, and loads for each virtual address the least of its readable pages with the
     /// greatest write sequence number, outside the spare block of the virtual segment where there is one. Where each page that was
-    /// seen agrees with those below it, no write counts as failed. No page of the physical segment is live.
+    /// seen agrees with those below it, no write counts as failed. No page of the physical segment is live, and no callback is
+    /// pending.
     pub fn start(alloc: Global, media: M) -> Started<M>
         requires formed { IsTrue (is_legal (M.geometry media).blocks (M.geometry media).pages) }
-        ensures formed { IfReady result (λ d t. ⟦<Device<M> as VirtualPages>⟧.formed d) }
-        ensures shape { IfReady result (λ d t. ⟦<Device<M> as VirtualPages>⟧.shape d ≡ shape_for (M.geometry media).blocks (M.geometry media).pages) }
-        ensures live { IfReady result (λ d t. (p : ℕ) → (⟦<Device<M> as VirtualPages>⟧.names d).live p ≡ None) }
-        ensures pairs { IfReady result (λ d t. (⟦<Device<M> as VirtualPages>⟧.names d).pairs ≡ []) }
-        ensures room { IfReady result (λ d t. let space = (⟦<Device<M> as VirtualPages>⟧.names d).space in space.room + space.block ≡ space.all) }
-        ensures free { IfReady result (λ d t. (⟦<Device<M> as VirtualPages>⟧.names d).space.free ≡ (⟦<Device<M> as VirtualPages>⟧.shape d).pblocks) }
-        ensures next { IfReady result (λ d t. ⟦<Device<M> as VirtualPages>⟧.next_stamp d ≡ 1 + greatest_stamp t.seen) }
-        ensures clean { IfReady result (λ d t. let shape = ⟦<Device<M> as VirtualPages>⟧.shape d in ((block : ℕ) → shape.vblocks ≤ block → block < shape.blocks → SaysErased t block) → ⟦<Device<M> as VirtualPages>⟧.clean d) }
-        ensures map { M.tells → IfReady result (λ d t. (v : ℕ) → v < (⟦<Device<M> as VirtualPages>⟧.shape d).vaddrs → ⟦<Device<M> as VirtualPages>⟧.map d v ≡ option_map value_on (newest (M.contents media) v)) }
-        ensures agreed { M.tells → IfReady result (λ d t. list_all (λ s. s.agrees) t.seen ≡ true → (v : ℕ) (x : Value) → v < (⟦<Device<M> as VirtualPages>⟧.shape d).vaddrs → ⟦<Device<M> as VirtualPages>⟧.failed d v x → ⊥) }
-        ensures spare { M.tells → IfReady result (λ d t. (block : ℕ) → virtual_spare (M.contents media) ≡ Some block → ⟦<Device<M> as VirtualPages>⟧.keeps_spare d) }
+        ensures formed { IfReady result (λ d t. ⟦<Device<M> as Counts>⟧.formed d) }
+        ensures started { IfReady result (λ d t. IsStarted (M.geometry media) t (⟦<Device<M> as Counts>⟧.shape d) (⟦<Device<M> as Counts>⟧.names d) (⟦<Device<M> as Counts>⟧.next_stamp d)) }
+        ensures clean { IfReady result (λ d t. let shape = ⟦<Device<M> as Counts>⟧.shape d in ((block : ℕ) → shape.vblocks ≤ block → block < shape.blocks → SaysErased t block) → ⟦<Device<M> as Counts>⟧.clean d) }
+        ensures map { M.tells → IfReady result (λ d t. (v : ℕ) → v < (⟦<Device<M> as Counts>⟧.shape d).vaddrs → ⟦<Device<M> as Counts>⟧.map d v ≡ option_map value_on (newest (M.contents media) v)) }
+        ensures agreed { M.tells → IfReady result (λ d t. list_all (λ s. s.agrees) t.seen ≡ true → (v : ℕ) (x : Value) → v < (⟦<Device<M> as Counts>⟧.shape d).vaddrs → ⟦<Device<M> as Counts>⟧.failed d v x → ⊥) }
+        ensures spare { IfReady result (λ d t. (block : ℕ) → virtual_spare_seen (⟦<Device<M> as Counts>⟧.shape d) t.seen ≡ Some block → ⟦<Device<M> as Counts>⟧.keeps_spare d) }
+        ensures spare_told { M.tells → IfReady result (λ d t. (block : ℕ) → virtual_spare (M.contents media) ≡ Some block → ⟦<Device<M> as Counts>⟧.keeps_spare d) }
         ensures tables { M.tells → IfReady result (λ d t. IsTableOf (M.contents media) t) }
         ensures fits { IfReady result (λ d t. FitsMedium (M.geometry media) t) }
         ensures counts { IfReady result (λ d t. (⟦<Device<M> as Counts>⟧.clock d ≡ M.clock media) × (⟦<Device<M> as Counts>⟧.read_faults d ≡ M.read_faults media) × (⟦<Device<M> as Counts>⟧.write_faults d ≡ M.write_faults media)) }
-        ensures stored { IfReady result (λ d t. ⟦<Device<M> as VirtualPages>⟧.stored d ≡ stored_in (M.contents media)) }
         ensures kept { IfReady result (λ d t. OnlyReads M.geometry M.contents M.clock M.write_faults M.left media (medium_of d)) }
-        ensures scanned { IfReady result (λ d t. (kept_of d).pages ≡ kept_pages (first_physical (⟦<Device<M> as VirtualPages>⟧.shape d)) t.seen) }
+        ensures scanned { IfReady result (λ d t. (kept_of d).pages ≡ kept_pages (first_physical (⟦<Device<M> as Counts>⟧.shape d)) t.seen) }
         ensures nothing { IfReady result (λ d t. CanRetain (kept_of d) []) }
         ensures fault { IfFault result (λ m. Rose (M.read_faults media) (M.read_faults m) × OnlyReads M.geometry M.contents M.clock M.write_faults M.left media m) }
         ensures memory { IfMemory result (λ m. (M.read_faults m ≡ M.read_faults media) × OnlyReads M.geometry M.contents M.clock M.write_faults M.left media m) }

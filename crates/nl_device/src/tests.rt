@@ -9,7 +9,7 @@ use nl_field::{
     FailList, Named, NamedRead, PageBuf, Pointer, PointerList, SpareRec, Tag, VirtualRead,
     VirtualWrite,
 };
-use nl_iface::{NamedPages, VirtualPages};
+use nl_iface::{Counts, NamedPages, VirtualPages};
 use nl_nand::{FormAnswer, MemNand, Nand};
 use nl_scan::Seen as Page;
 use std::alloc::Global;
@@ -56,9 +56,9 @@ fn blank(alloc: Global) -> Result<MemNand, Fail>
 fn started(alloc: Global, media: MemNand) -> Result<Device<MemNand>, Fail>
     requires numbers { geometry_of media ≡ record { blocks = 32; pages = 32 } }
     requires erased { IsBlank (contents_of media) }
-    ensures formed { IfOk result (λ d. ⟦<Device<MemNand> as VirtualPages>⟧.formed d) }
-    ensures addresses { IfOk result (λ d. (⟦<Device<MemNand> as VirtualPages>⟧.shape d).vaddrs ≡ 103) }
-    ensures spare { IfOk result (λ d. ⟦<Device<MemNand> as VirtualPages>⟧.keeps_spare d) }
+    ensures formed { IfOk result (λ d. ⟦<Device<MemNand> as Counts>⟧.formed d) }
+    ensures addresses { IfOk result (λ d. (⟦<Device<MemNand> as Counts>⟧.shape d).vaddrs ≡ 103) }
+    ensures spare { IfOk result (λ d. ⟦<Device<MemNand> as Counts>⟧.keeps_spare d) }
 {
     match Device::start(alloc, media) {
         Started::Ready(mut device, _) => {
@@ -84,8 +84,8 @@ fn is_page(page: &Page, number: u32, stamp: u64) -> bool
 
 /// A device of a medium that has two pages, both of the owner: 256 and 257, under the numbers 1 and 2.
 fn reopened(alloc: Global, media: MemNand) -> Result<Device<MemNand>, Fail>
-    ensures formed { IfOk result (λ d. ⟦<Device<MemNand> as VirtualPages>⟧.formed d) }
-    ensures live { IfOk result (λ d. (p : ℕ) → (⟦<Device<MemNand> as VirtualPages>⟧.names d).live p ≡ None) }
+    ensures formed { IfOk result (λ d. ⟦<Device<MemNand> as Counts>⟧.formed d) }
+    ensures live { IfOk result (λ d. (p : ℕ) → (⟦<Device<MemNand> as Counts>⟧.names d).live p ≡ None) }
     ensures can { IfOk result (λ d. CanRetain (kept_of d) (record { name = 257; stamp = 2 } ∷ [])) }
 {
     let geometry = media.geometry();
@@ -109,12 +109,12 @@ fn reopened(alloc: Global, media: MemNand) -> Result<Device<MemNand>, Fail>
 
 /// Whether the address has a page that begins with this byte then.
 fn write_at(device: &mut Device<MemNand>, buf: &mut PageBuf, vaddr: u32, byte: u8) -> bool
-    requires formed { ⟦<Device<MemNand> as VirtualPages>⟧.formed device.old }
-    requires within { vaddr < (⟦<Device<MemNand> as VirtualPages>⟧.shape device.old).vaddrs }
-    requires spare { ⟦<Device<MemNand> as VirtualPages>⟧.keeps_spare device.old }
-    ensures formed { ⟦<Device<MemNand> as VirtualPages>⟧.formed device.new }
-    ensures shape { ⟦<Device<MemNand> as VirtualPages>⟧.shape device.new ≡ ⟦<Device<MemNand> as VirtualPages>⟧.shape device.old }
-    ensures spare { IsTrue result → ⟦<Device<MemNand> as VirtualPages>⟧.keeps_spare device.new }
+    requires formed { ⟦<Device<MemNand> as Counts>⟧.formed device.old }
+    requires within { vaddr < (⟦<Device<MemNand> as Counts>⟧.shape device.old).vaddrs }
+    requires spare { ⟦<Device<MemNand> as Counts>⟧.keeps_spare device.old }
+    ensures formed { ⟦<Device<MemNand> as Counts>⟧.formed device.new }
+    ensures shape { ⟦<Device<MemNand> as Counts>⟧.shape device.new ≡ ⟦<Device<MemNand> as Counts>⟧.shape device.old }
+    ensures spare { IsTrue result → ⟦<Device<MemNand> as Counts>⟧.keeps_spare device.new }
 {
     if device.next_stamp() > 10_000 {
         return false;
@@ -124,11 +124,11 @@ fn write_at(device: &mut Device<MemNand>, buf: &mut PageBuf, vaddr: u32, byte: u
 }
 
 fn read_at(device: &mut Device<MemNand>, buf: &mut PageBuf, vaddr: u32) -> Seen
-    requires formed { ⟦<Device<MemNand> as VirtualPages>⟧.formed device.old }
-    requires within { vaddr < (⟦<Device<MemNand> as VirtualPages>⟧.shape device.old).vaddrs }
-    ensures formed { ⟦<Device<MemNand> as VirtualPages>⟧.formed device.new }
-    ensures shape { ⟦<Device<MemNand> as VirtualPages>⟧.shape device.new ≡ ⟦<Device<MemNand> as VirtualPages>⟧.shape device.old }
-    ensures spare { ⟦<Device<MemNand> as VirtualPages>⟧.keeps_spare device.old → ⟦<Device<MemNand> as VirtualPages>⟧.keeps_spare device.new }
+    requires formed { ⟦<Device<MemNand> as Counts>⟧.formed device.old }
+    requires within { vaddr < (⟦<Device<MemNand> as Counts>⟧.shape device.old).vaddrs }
+    ensures formed { ⟦<Device<MemNand> as Counts>⟧.formed device.new }
+    ensures shape { ⟦<Device<MemNand> as Counts>⟧.shape device.new ≡ ⟦<Device<MemNand> as Counts>⟧.shape device.old }
+    ensures spare { ⟦<Device<MemNand> as Counts>⟧.keeps_spare device.old → ⟦<Device<MemNand> as Counts>⟧.keeps_spare device.new }
 {
     match device.virtual_read(vaddr, buf) {
         VirtualRead::Done => Seen::Byte(buf.main()[0]),
@@ -149,8 +149,8 @@ fn named(answer: Named) -> Seen {
 
 /// Programs a page that begins with this byte.
 fn write(device: &mut Device<MemNand>, buf: &mut PageBuf, byte: u8) -> Seen
-    requires { ⟦<Device<MemNand> as VirtualPages>⟧.formed device.old }
-    ensures { ⟦<Device<MemNand> as VirtualPages>⟧.formed device.new }
+    requires { ⟦<Device<MemNand> as Counts>⟧.formed device.old }
+    ensures { ⟦<Device<MemNand> as Counts>⟧.formed device.new }
 {
     if device.next_stamp() > 10_000 {
         return Seen::Worn;
@@ -161,8 +161,8 @@ fn write(device: &mut Device<MemNand>, buf: &mut PageBuf, byte: u8) -> Seen
 
 /// Programs a page in place of another one.
 fn replace(device: &mut Device<MemNand>, buf: &mut PageBuf, old: Pointer, byte: u8) -> Seen
-    requires { ⟦<Device<MemNand> as VirtualPages>⟧.formed device.old }
-    ensures { ⟦<Device<MemNand> as VirtualPages>⟧.formed device.new }
+    requires { ⟦<Device<MemNand> as Counts>⟧.formed device.old }
+    ensures { ⟦<Device<MemNand> as Counts>⟧.formed device.new }
 {
     if device.next_stamp() > 10_000 {
         return Seen::Worn;
@@ -172,8 +172,8 @@ fn replace(device: &mut Device<MemNand>, buf: &mut PageBuf, old: Pointer, byte: 
 }
 
 fn read(device: &mut Device<MemNand>, buf: &mut PageBuf, at: Pointer, tag: Tag) -> Seen
-    requires { ⟦<Device<MemNand> as VirtualPages>⟧.formed device.old }
-    ensures { ⟦<Device<MemNand> as VirtualPages>⟧.formed device.new }
+    requires { ⟦<Device<MemNand> as Counts>⟧.formed device.old }
+    ensures { ⟦<Device<MemNand> as Counts>⟧.formed device.new }
 {
     match device.physical_read(at, tag, buf) {
         NamedRead::Done => Seen::Byte(buf.main()[0]),
@@ -185,8 +185,8 @@ fn read(device: &mut Device<MemNand>, buf: &mut PageBuf, at: Pointer, tag: Tag) 
 
 /// Programs pages until none has room, and counts them.
 fn fill(device: &mut Device<MemNand>, buf: &mut PageBuf) -> u32
-    requires { ⟦<Device<MemNand> as VirtualPages>⟧.formed device.old }
-    ensures { ⟦<Device<MemNand> as VirtualPages>⟧.formed device.new }
+    requires { ⟦<Device<MemNand> as Counts>⟧.formed device.old }
+    ensures { ⟦<Device<MemNand> as Counts>⟧.formed device.new }
 {
     let mut placed = 0u32;
     for _ in 0..1000u32 {

@@ -2,7 +2,7 @@ ghost use Rattle.std.specs.Prelude.{◌≡◌};
 ghost use Rattle.nl_device.specs.Medium.{medium_of};
 
 use crate::device::Device;
-use nl_iface::{Counts, NamedPages, VirtualPages};
+use nl_iface::Counts;
 use nl_nand::Nand;
 
 impl<M: Nand> Device<M> {
@@ -23,14 +23,14 @@ impl<M: Nand> Device<M> {
 
     /// The stamp of the next page.
     pub fn next_stamp(&self) -> u64
-        ensures { result ≡ ⟦<Device<M> as VirtualPages>⟧.next_stamp self.now }
+        ensures { result ≡ ⟦<Device<M> as Counts>⟧.next_stamp self.now }
     {
         self.next
     }
 
     /// The Free blocks of the physical segment.
     pub fn free_blocks(&self) -> u32
-        ensures { result ≡ (⟦<Device<M> as VirtualPages>⟧.names self.now).space.free }
+        ensures { result ≡ (⟦<Device<M> as Counts>⟧.names self.now).space.free }
     {
         self.pseg.free_blocks()
     }

@@ -1,0 +1,4 @@
+pub mod Beyond
+mod Choices
+pub mod Stops
+pub mod Tables

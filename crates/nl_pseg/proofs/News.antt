@@ -128,7 +128,7 @@ module _ (shape : Shape) (roomy : IsRoomy shape) where
   new_kept =
       let all = roomy.all in
       let many = roomy.blocks in
-      record { block = shape.vblocks; kept = ap (λ (u : Use). u.is_kept) (new_use shape.vblocks (omega arith) (omega (arith, all, many))) }
+      record { block = shape.vblocks; from = omega arith; below = omega (arith, all, many); kept = ap (λ (u : Use). u.is_kept) (new_use shape.vblocks (omega arith) (omega (arith, all, many))) }
 
   pub new_room : room (new_segment shape) + shape.pages ≡ shape.pblocks * shape.pages
   new_room =

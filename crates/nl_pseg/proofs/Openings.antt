@@ -26,14 +26,14 @@ some_row (row ∷ rows) some = elim (cases_Bool (is_free row)) [
 ]
 
 -- some block is Free
-pub some_free : (t : Table) → 1 ≤ free_count t → (block : ℕ) × ((use_in t block).is_free ≡ true)
+pub some_free : (t : Table) → 1 ≤ free_count t → (block : ℕ) × HasBlock t block × ((use_in t block).is_free ≡ true)
 some_free t some =
     let row = some_row t.blocks some in
     let has : HasBlock t (t.first + row.0) = record { from = omega arith; below = omega (arith, row.1) } in
-    (t.first + row.0, ap (λ (u : Use). u.is_free) (use_here t (t.first + row.0) has) ∙ (ap (λ n. is_free (row_at t.blocks n)) (omega arith) ∙ row.2))
+    (t.first + row.0, has, ap (λ (u : Use). u.is_free) (use_here t (t.first + row.0) has) ∙ (ap (λ n. is_free (row_at t.blocks n)) (omega arith) ∙ row.2))
 
 pub some_kept : (s : State) → IsFormed s → 1 ≤ free_count s.blocks → KeepsBlock (seen s)
-some_kept s is some = let free = some_free s.blocks some in record { block = free.0; kept = is.only_free free.0 ∙ free.1 }
+some_kept s is some = let free = some_free s.blocks some in record { block = free.0; from = free.1.from; below = free.1.below; kept = is.only_free free.0 ∙ free.2 }
 
 -- a block that was taken is opened
 pub opened : (s : State) (t : Table) (block : ℕ) → IsFormed s → s.blocks.size ≤ s.used → 2 ≤ free_count s.blocks → Restated block false (use_in s.blocks block).wear s.blocks t → (use_in s.blocks block).is_free ≡ true
@@ -60,7 +60,7 @@ opened s t block is full two r free formed =
       left = r.numbers.same_size;
       free = fewer;
       some = omega (arith, fewer, two);
-      kept = record { block = kept.block; kept = kept.kept };
+      kept = record { block = kept.block; from = kept.from; below = kept.below; kept = kept.kept };
       here = ap (λ (u : Use). u.is_free) r.here;
       others = λ b ne. r.others b ne;
       soiled = refl;

@@ -1,5 +1,5 @@
 -- How a page is placed: a block is opened, and its next page is used.
-use Rattle.std.proofs.Common.{◌≡◌, inl, inr, ⊎_elim, ℕ, ◌+◌, ◌-◌, ◌*◌, ◌/◌, ◌<◌, ◌≤◌, nat_le, cond, Option, Some, None, List, get_or, set, refl, sym, ◌∙◌, ap, subst, arith, is_some}
+use Rattle.std.proofs.Common.{◌≡◌, ◌⊎◌, inl, inr, ⊎_elim, ℕ, zero, suc, true, ◌+◌, ◌-◌, ◌*◌, ◌/◌, ◌<◌, ◌≤◌, nat_le, cond, Option, Some, None, List, [], ◌∷◌, get_or, set, refl, sym, ◌∙◌, ap, subst, arith, is_some}
 use Rattle.std.proofs.lemmas.Bool.{cond-true, cond-false, le-leb}
 use Rattle.std.proofs.lemmas.List.{get_or-set_other, set-get_or}
 use Rattle.std.proofs.lemmas.Bool.{cases_eq, true≢false}
@@ -14,7 +14,7 @@ use Rattle.nl_nand.proofs.Crashes.{turns_later, weaken}
 use Rattle.nl_pseg.specs.Answers.{IfPlaced, IsPlaced}
 use Rattle.nl_pseg.specs.Effects.{Crashes, Keeps, Places, Programmed, Takes}
 use Rattle.nl_pseg.specs.Pages.{page_with, shown_by}
-use Rattle.nl_pseg.specs.Segment.{Physical, Use, IsClean, IsDead, IsSpent, IsUnspent, KeepsBlock, SamePages, held_at, is_free, is_soiled, room, wear_of}
+use Rattle.nl_pseg.specs.Segment.{Physical, Use, IsClean, IsDead, IsSpent, IsUnspent, KeepsBlock, SamePages, held_at, is_free, is_kept, is_soiled, room, soiled, wear_of}
 use Rattle.nl_pseg.specs.Steps.{IsAlone, IsOpened, IsUsed, Opening, OpeningOn, Placing, PlacingOn}
 use Rattle.nl_pseg.specs.declared.held.Held.{Held}
 use Rattle.nl_pseg.proofs.Images.{keeps_then, takes_then}
@@ -32,6 +32,15 @@ if_placed_three the.NotLive by p q r = p
 if_placed_three the.NoPage by p q r = p
 if_placed_three the.Fault by p q r = p
 
+-- a block is kept still
+pub kept_same : {seg new : Physical} → SamePages seg new → ((block : ℕ) → is_kept new block ≡ is_kept seg block) → KeepsBlock seg → KeepsBlock new
+kept_same same kept k = record {
+  block = k.block;
+  from = subst (λ n. n ≤ k.block) (sym same.same_first) k.from;
+  below = subst (λ n. k.block < n) (sym same.same_blocks) k.below;
+  kept = kept k.block ∙ k.kept;
+}
+
 -- the next page was used
 module _ {x : Option Held} {seg new : Physical} (u : IsUsed x seg new) (some : 0 < seg.left) where
   pub used_spent : IsSpent seg new
@@ -40,7 +49,7 @@ module _ {x : Option Held} {seg new : Physical} (u : IsUsed x seg new) (some : 0
       let left = u.left in
       let none : cond (nat_le 1 seg.left) 0 1 ≡ num_zero = cond-true (nat_le 1 seg.left) 0 1 (le-leb 1 seg.left some) in
       let free = u.free in
-      record { room = omega (arith, blocks, left); taken = omega (arith, none, free) }
+      record { room = omega (arith, blocks, left); taken = omega (arith, none, free); soiled = λ b. inl (ap (λ (l : List (Option ℕ)). get_or l b None) u.soiled) }
     where
       num_zero : ℕ
       num_zero = 0
@@ -49,7 +58,7 @@ module _ {x : Option Held} {seg new : Physical} (u : IsUsed x seg new) (some : 0
   used_clean clean b free = ap (λ (l : List (Option ℕ)). is_some (get_or l b None)) u.soiled ∙ clean b (ap (λ (w : Use). w.is_free) (sym (u.uses b)) ∙ free)
 
   pub used_kept : KeepsBlock seg → KeepsBlock new
-  used_kept k = record { block = k.block; kept = ap (λ (w : Use). w.is_kept) (u.uses k.block) ∙ k.kept }
+  used_kept k = kept_same u.pages (λ b. ap (λ (w : Use). w.is_kept) (u.uses b)) k
 
 pub used_failed : {seg new : Physical} (stamp : ℕ) (now : Pointer → List (Option Held)) → IsUsed None seg new → 0 < seg.left → held_at seg seg.next ≡ None → Placing stamp now the.Fault seg new
 used_failed {seg} {new} stamp now u some dead = record {
@@ -103,6 +112,24 @@ module _ {block : ℕ} {seg mid : Physical} (o : IsOpened block seg mid) where
           let e : (n - 1) + 1 ≡ n = omega (arith, some) in
           subst (λ k. (n - 1) * p + p ≡ k * p) e (omega arith)
 
+  none_there : (xs : List (Option ℕ)) (at : ℕ) → get_or (set xs at None) at None ≡ None
+  none_there [] zero = refl
+  none_there [] (suc at) = refl
+  none_there (x ∷ xs) zero = refl
+  none_there (x ∷ xs) (suc at) = none_there xs at
+
+  opened_soiled : (new : Physical) (b : ℕ) → (soiled new b ≡ soiled mid b) ⊎ ((is_free mid b ≡ true) × (soiled new b ≡ None)) → (soiled new b ≡ soiled seg b) ⊎ ((is_free seg b ≡ true) × (soiled new b ≡ None))
+  opened_soiled new b x = ⊎_elim
+      (λ at. ⊎_elim
+      (λ same. inr (ap (is_free seg) at ∙ o.was_free, same ∙ ap (soiled mid) at ∙ ap (λ (l : List (Option ℕ)). get_or l block None) o.soiled ∙ none_there seg.soiled block))
+      (λ gone. absurd (true≢false (sym gone.0 ∙ (ap (is_free mid) at ∙ o.here))))
+      x)
+      (λ ne. ⊎_elim
+      (λ same. inl (same ∙ ap (λ (l : List (Option ℕ)). get_or l b None) o.soiled ∙ get_or-set_other seg.soiled block b None None ne))
+      (λ gone. inr (ap (λ (w : Use). w.is_free) (sym (o.others b ne)) ∙ gone.0, gone.1))
+      x)
+      (cases_eq b block)
+
   pub opened_spent : {new : Physical} → 0 < seg.size → IsSpent mid new → IsSpent seg new
   opened_spent {new} some spent =
       let r = opened_room in
@@ -113,7 +140,7 @@ module _ {block : ℕ} {seg mid : Physical} (o : IsOpened block seg mid) where
       let f = o.free in
       let full = o.full in
       let one : cond (nat_le 1 seg.left) 0 1 ≡ one_of = cond-false (nat_le 1 seg.left) 0 1 (ap (nat_le 1) full) in
-      record { room = omega (arith, r, a); taken = omega (arith, none, one, t, f) }
+      record { room = omega (arith, r, a); taken = omega (arith, none, one, t, f); soiled = λ b. opened_soiled new b (spent.soiled b) }
     where
       zero_of : ℕ
       zero_of = 0
@@ -207,7 +234,7 @@ opening_failed stamp now x = record {
   spent = λ placed. absurd placed;
   failed = λ fault. inr (x.2, x.3);
   clean = λ clean b free. ap is_some (x.2.same_soiled b) ∙ clean b (sym (x.2.same_free b) ∙ free);
-  kept = λ k. record { block = k.block; kept = x.2.same_kept k.block ∙ k.kept };
+  kept = kept_same x.0 x.2.same_kept;
 }
 
 -- what it leaves of the medium
@@ -238,8 +265,12 @@ ended_placing {seg} {mid} {new} stamp place at_place h at is pages space held p 
       let r = was.room in
       let taken = was.taken in
       let free = space.free in
-      record { room = omega (arith, room_is, r); taken = ap (λ n. n + cond (nat_le 1 seg.left) 0 1) free ∙ taken };
+      record {
+        room = omega (arith, room_is, r);
+        taken = ap (λ n. n + cond (nat_le 1 seg.left) 0 1) free ∙ taken;
+        soiled = λ b. ⊎_elim (λ same. inl (space.same_soiled b ∙ same)) (λ x. inr (x.0, space.same_soiled b ∙ x.1)) (was.soiled b);
+      };
   failed = λ fault. absurd (cc fault);
   clean = λ clean b free. ap is_some (space.same_soiled b) ∙ p.clean clean b (sym (space.same_free b) ∙ free);
-  kept = λ k. let was = p.kept k in record { block = was.block; kept = space.same_kept was.block ∙ was.kept };
+  kept = λ k. kept_same pages space.same_kept (p.kept k);
 }

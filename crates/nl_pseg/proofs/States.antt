@@ -5,8 +5,9 @@ use Rattle.std.proofs.lemmas.List.{get_or_past, length-map}
 use Rattle.std.proofs.lemmas.Nat.{div_below}
 use Rattle.nl_blocks.specs.declared.states.BlockState.{BlockState}
 use Rattle.nl_blocks.specs.Table.{HasBlock, is_free_state}
-use Rattle.nl_pseg.specs.Segment.{Use, IsNext, InSegment, TakenAsErased, is_free, no_use, use_at}
+use Rattle.nl_pseg.specs.Segment.{Use, IsNext, InSegment, KeptAreDead, TakenAsErased, is_free, no_use, use_at}
 use Rattle.nl_pseg.specs.Seen.{IsFormed, seen, use_of}
+use Rattle.nl_pseg.specs.declared.held.Held.{Held}
 use Rattle.nl_pseg.specs.declared.state.State.{State}
 use Rattle.nl_pseg.proofs.Numbers.{in_block, block_of, block_below, block_from}
 use Rattle.nl_pseg.proofs.Tables.{use_before, use_from, use_here}
@@ -78,3 +79,7 @@ module _ (s : State) (is : IsFormed s) where
 
     pub next_in_use : (p : ℕ) → IsNext (seen s) p → is_free (seen s) (p / s.blocks.size) ≡ false
     next_in_use p next = ap (is_free (seen s)) (next_block p next) ∙ active_in_use
+
+-- a block that is kept is Free, and no page of it is live
+pub kept_dead : (s : State) → IsFormed s → KeptAreDead (seen s)
+kept_dead s is p h held = is.only_free (p / s.blocks.size) ∙ (is.places.each p h held).in_use

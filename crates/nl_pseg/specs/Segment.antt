@@ -103,10 +103,16 @@ without_target page pairs = filter (λ (pair : ℕ × ℕ). not (pair.1 == page)
 abbrev pub room : Physical → ℕ
 room seg = seg.left + (seg.free - 1) * seg.size
 
--- a block is kept for the cleaner
+-- a block of the segment is kept for the cleaner
 pub record KeepsBlock (seg : Physical) : Type 0 where
   pub block : ℕ
+  pub from : seg.first ≤ block
+  pub below : block < seg.blocks
   pub kept : is_kept seg block ≡ true
+
+-- no page of a block that is kept for the cleaner is live, so that the block can be done without
+abbrev pub KeptAreDead : Physical → Type 0
+KeptAreDead seg = (page : ℕ) (h : Held) → held_at seg page ≡ Some h → is_kept seg (page / seg.size) ≡ false
 
 -- the block was told not to read as erased, and was not erased since
 abbrev pub is_soiled : Physical → ℕ → Bool
@@ -140,10 +146,12 @@ pub record SamePages (old new : Physical) : Type 0 where
   pub same_size : new.size ≡ old.size
   pub same_wear : (block : ℕ) → wear_of new block ≡ wear_of old block
 
--- One page was given out: from the block that is written to, or from a Free block where that one is full.
+-- One page was given out: from the block that is written to, or from a Free block where that one is full. If this one had to be
+-- erased before use it was erased, and its wear is that which it was to have.
 pub record IsSpent (old new : Physical) : Type 0 where
   pub room : room new + 1 ≡ room old
   pub taken : new.free + cond (nat_le 1 old.left) 0 1 ≡ old.free
+  pub soiled : (block : ℕ) → (soiled new block ≡ soiled old block) ⊎ ((is_free old block ≡ true) × (soiled new block ≡ None))
 
 -- no page was given out
 pub record IsUnspent (old new : Physical) : Type 0 where

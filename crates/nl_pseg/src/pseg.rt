@@ -8,7 +8,7 @@ ghost use Rattle.nl_nand.specs.Nand.{FaultsCounted, SameLeft};
 ghost use Rattle.nl_pseg.specs.Answers.{IfPlaced, IsFault, IsPlaced, ReadsHeld};
 ghost use Rattle.nl_pseg.specs.Effects.{Counted, Crashes, Programmed};
 ghost use Rattle.nl_pseg.specs.Pages.{page_with};
-ghost use Rattle.nl_pseg.specs.Segment.{CanLead, InSegment, IsClean, IsDead, IsLive, IsNewStamp, IsOldName, IsPhysicalOf, IsReady, IsSpent, IsUnspent, KeepsBlock, SamePages, TakenAsErased, erasures, held_at, is_free, is_kept, room, soiled, wear_of, without_target};
+ghost use Rattle.nl_pseg.specs.Segment.{CanLead, InSegment, IsClean, IsDead, IsLive, IsNewStamp, IsOldName, IsPhysicalOf, IsReady, IsSpent, IsUnspent, KeepsBlock, KeptAreDead, SamePages, TakenAsErased, erasures, held_at, is_free, is_kept, room, soiled, wear_of, without_target};
 ghost use Rattle.nl_pseg.specs.Seen.{Fits};
 ghost use Rattle.nl_pseg.specs.declared.held.Held.{Held as HeldOf};
 
@@ -87,6 +87,8 @@ impl PSeg {
         ensures wears { (block : ℕ) → (block ≡ page / self.old.size → ⊥) → wear_of self.new block ≡ wear_of self.old block }
         ensures erased { (p : ℕ) → TakenAsErased self.new p → TakenAsErased self.old p × (p / self.old.size ≡ page / self.old.size → ⊥) }
         ensures still { (p : ℕ) → TakenAsErased self.old p → (p / self.old.size ≡ page / self.old.size → ⊥) → TakenAsErased self.new p }
+        ensures kept { 1 ≤ self.new.free → KeepsBlock self.new }
+        ensures kept_dead { KeptAreDead self.new }
     {
         self.state.load(page, at.stamp, tag);
     }
@@ -110,6 +112,7 @@ impl PSeg {
         ensures wears { (other : ℕ) → (other ≡ block → ⊥) → wear_of self.new other ≡ wear_of self.old other }
         ensures erased { (p : ℕ) → TakenAsErased self.new p → TakenAsErased self.old p × (p / self.old.size ≡ block → ⊥) }
         ensures still { (p : ℕ) → TakenAsErased self.old p → (p / self.old.size ≡ block → ⊥) → TakenAsErased self.new p }
+        ensures kept { KeepsBlock self.old → KeepsBlock self.new }
     {
         self.state.soil(block, wear);
     }
@@ -131,6 +134,7 @@ impl PSeg {
         ensures others { (block : ℕ) → is_free self.old block ≡ true → (soiled self.new block ≡ soiled self.old block) × (wear_of self.new block ≡ wear_of self.old block) }
         ensures erased { (p : ℕ) → TakenAsErased self.new p → TakenAsErased self.old p }
         ensures same { self.old.first + self.old.free ≡ self.old.blocks → self.new ≡ self.old }
+        ensures kept { 1 ≤ self.new.free → KeepsBlock self.new }
     {
         self.state.give_back_all();
     }
@@ -166,6 +170,7 @@ impl PSeg {
         ensures space { IsUnspent self.old self.new }
         ensures segment { (image : Image) → IsPhysicalOf image self.old → IsPhysicalOf image self.new }
         ensures kept { OnFalse result (self.new ≡ self.old) }
+        ensures kept_dead { KeptAreDead self.new }
     {
         self.state.free(at)
     }
@@ -221,6 +226,7 @@ impl PSeg {
         ensures failed { IsFault result → IsSpent self.old self.new ⊎ (IsUnspent self.old self.new × (IsReady self.old → ⊥)) }
         ensures clean { IsClean self.old → IsClean self.new }
         ensures kept { KeepsBlock self.old → KeepsBlock self.new }
+        ensures kept_dead { KeptAreDead self.new }
         ensures within { (p : ℕ) → TakenAsErased self.new p → InSegment self.new p }
         ensures segment { M.tells → IsPhysicalOf (M.contents media.new) self.new }
         ensures programmed { M.tells → IfPlaced result (λ at. Programmed self.old at.name (written (page_with from.now.main tag stamp (wear_of self.old (at.name / self.old.size)))) (M.contents media.old) (M.contents media.new)) }
@@ -258,6 +264,7 @@ impl PSeg {
         ensures failed { IsFault result → IsSpent self.old self.new ⊎ (IsUnspent self.old self.new × (IsReady self.old → ⊥)) }
         ensures clean { IsClean self.old → IsClean self.new }
         ensures kept { KeepsBlock self.old → KeepsBlock self.new }
+        ensures kept_dead { KeptAreDead self.new }
         ensures within { (p : ℕ) → TakenAsErased self.new p → InSegment self.new p }
         ensures segment { M.tells → IsPhysicalOf (M.contents media.new) self.new }
         ensures programmed { M.tells → IfPlaced result (λ at. Programmed self.old at.name (written (page_with from.now.main tag stamp (wear_of self.old (at.name / self.old.size)))) (M.contents media.old) (M.contents media.new)) }

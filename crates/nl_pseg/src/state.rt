@@ -1,12 +1,13 @@
 ghost use Rattle.std.specs.Prelude.{◌≡◌, ◌<◌, IfOk, IfSome, IsTrue};
 ghost use Rattle.nl_field.specs.Numbers.{is_legal, shape_for};
 ghost use Rattle.nl_field.specs.Spelling.{is_stamp};
+ghost use Rattle.nl_blocks.specs.Table.{block_at};
 ghost use Rattle.nl_pseg.specs.Seen.{new_segment, seen, IsFormed};
 ghost use Rattle.nl_pseg.specs.Steps.{IsUsed};
 
 use crate::held::{Held, no_marks, no_pages};
 use crate::table::{mark, seal_full};
-use nl_blocks::Blocks;
+use nl_blocks::{BlockState, Blocks};
 use nl_field::{Memory, PageBuf, Shape};
 use std::alloc::Global;
 
@@ -50,6 +51,7 @@ impl State {
         requires spelled { IfSome held (λ h. IsTrue (is_stamp h.stamp)) }
         ensures formed { IsFormed self.new }
         ensures used { IsUsed held (seen self.old) (seen self.new) }
+        ensures sealed { self.new.used ≡ self.new.blocks.size → (block_at self.new.blocks self.old.active).state ≡ BlockState.Sealed }
     {
         let pages = self.blocks.pages();
         let page = self.active * pages + self.used;

@@ -49,6 +49,7 @@ pub fn seal_full(blocks: &mut Blocks, block: u32, full: bool)
     ensures same { SameUse blocks.old blocks.new }
     ensures marks { SameMarks blocks.old blocks.new }
     ensures more { full ≡ false → (block_at blocks.new block).state ≡ BlockState.Active }
+    ensures sealed { full ≡ true → (block_at blocks.new block).state ≡ BlockState.Sealed }
 {
     if full {
         blocks.seal(block);

@@ -16,6 +16,7 @@ pub mod OneMore
 mod Printing
 pub mod Replying
 mod RunsOf
+pub mod Room
 pub mod SameCall
 pub mod ScriptCalls
 mod SoundMedium

@@ -1,8 +1,8 @@
-ghost use Rattle.std.specs.Prelude.{◌≡◌, ◌≤◌, ◌+◌, ℕ, [], length, Some};
+ghost use Rattle.std.specs.Prelude.{◌≡◌, ◌≤◌, cond, ◌+◌, ℕ, [], length, Some};
 ghost use Rattle.nl_device.specs.Retain.{AreRetained, CanLoad, CanRetain, IsFoundIn, IsFresh, IsSegmentFor, Loads, Retains, needed_blocks};
 ghost use Rattle.nl_device.specs.Kept.{forgotten};
 ghost use Rattle.nl_device.specs.Space.{live_in};
-ghost use Rattle.nl_pseg.specs.Segment.{IsClean, TakenAsErased, held_at};
+ghost use Rattle.nl_pseg.specs.Segment.{IsClean, KeepsBlock, KeptAreDead, TakenAsErased, held_at};
 ghost use Rattle.nl_pseg.specs.declared.held.Held.{Held};
 
 use super::Kept;
@@ -11,11 +11,21 @@ use nl_pseg::PSeg;
 
 impl Kept {
     /// Keeps no page.
-    pub(crate) fn forget(&mut self)
+    fn forget(&mut self)
         ensures { self.new ≡ forgotten self.old }
     {
         self.pages.clear();
         self.copies.clear();
+    }
+
+    /// Keeps no page after a program that may have erased a block before.
+    pub(crate) fn forget_after(&mut self, tried: bool)
+        ensures { self.new ≡ cond tried (forgotten self.old) self.old }
+    {
+        let _ = &self.first;
+        if tried {
+            self.forget();
+        }
     }
 
     /// The place of a pointer is live. It is its name.
@@ -52,6 +62,8 @@ impl Kept {
         ensures erased { (p : ℕ) → TakenAsErased pseg.new p → TakenAsErased pseg.old p }
         ensures clean { IsClean pseg.old → IsClean pseg.new }
         ensures none { list.now.items ≡ [] → pseg.new ≡ pseg.old }
+        ensures kept_block { KeepsBlock pseg.old → KeepsBlock pseg.new }
+        ensures kept_dead { KeptAreDead pseg.old → KeptAreDead pseg.new }
         ensures same { self.new ≡ self.old }
     {
         let _ = &self.first;

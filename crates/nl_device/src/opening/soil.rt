@@ -3,7 +3,7 @@ ghost use Rattle.std.specs.Prelude.{◌≡◌, ◌*◌, ◌/◌, ◌<◌, ◌≤
 ghost use Rattle.nl_field.specs.SpareRecord.{wear_of};
 ghost use Rattle.nl_field.specs.declared.seen.Seen.{Seen as SeenOf};
 ghost use Rattle.nl_device.specs.Opening.{IsSoiled, SaysErased, Tabulates, wear_in};
-ghost use Rattle.nl_pseg.specs.Segment.{IsClean, TakenAsErased};
+ghost use Rattle.nl_pseg.specs.Segment.{IsClean, KeepsBlock, TakenAsErased};
 ghost use Rattle.nl_vseg.specs.Segment.{SameSize, is_blank};
 
 use nl_field::{Memory, SpareRec};
@@ -65,9 +65,11 @@ pub fn soil_physical(pseg: &mut PSeg, tables: &ScanTables, wears: &Vec<u32>, fir
     requires order { first ≤ end }
     requires count { end ≤ length wears.now.items }
     requires clean { IsClean pseg.old }
+    requires kept { KeepsBlock pseg.old }
     ensures same { IsSoiled pseg.old pseg.new }
     ensures erased { (p : ℕ) → TakenAsErased pseg.new p → TakenAsErased pseg.old p × (first ≤ p / pseg.old.size → p / pseg.old.size < end → SaysErased tables.now (p / pseg.old.size)) }
     ensures clean { ((block : ℕ) → first ≤ block → block < end → SaysErased tables.now block) → IsClean pseg.new }
+    ensures kept { KeepsBlock pseg.new }
 {
     for block in first..end {
         if !tables.erased(block) {

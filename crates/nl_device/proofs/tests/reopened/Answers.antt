@@ -13,5 +13,5 @@ returns-then-is_page-2-clause-can c =
     let blocks : c.geometry-geometry.result.blocks ≡ 32 = omega (arith, c.if-geometry-ne32.false) in
     let pages : c.geometry-geometry.result.pages ≡ 32 = omega (arith, c.if-geometry-ne32-2.false) in
     can_retain d.shape d.kept d.next c.in-Ready.tables.seen c.get.result.now c.get-then-is_page.result.now
-    (c.in-Ready.ensures.shape ∙ (λ i. shape_for ((ap (λ (n : Geometry). n.blocks) (sym geometry) ∙ blocks) i) ((ap (λ (n : Geometry). n.pages) (sym geometry) ∙ pages) i)))
+    (c.in-Ready.ensures.started.numbers ∙ (λ i. shape_for ((ap (λ (n : Geometry). n.blocks) (sym geometry) ∙ blocks) i) ((ap (λ (n : Geometry). n.pages) (sym geometry) ∙ pages) i)))
     c.in-Ready.ensures.formed.found c.in-Ready.ensures.scanned (omega (arith, c.if-len-eq2.true, c.len.ensures)) c.get.ensures c.get-then-is_page.ensures first second

@@ -15,7 +15,7 @@ use Rattle.nl_top.proofs.files.read.Goals as goal
 
 pub returns-in_default-clause-answer : goal.returns-in_default-clause-answer
 returns-in_default-clause-answer g c = λ tells capacity begun.
-    let pages = g.D.VirtualPages.bytes c.args.device.now in
+    let pages = g.D.Counts.bytes c.args.device.now in
     let files = c.args.files.now in
     subst
     (λ (r : Found). Replies (λ tree. outcome_of c.args.shape.now capacity tree (call.Read (c.args.name.now ∷ []) c.args.from c.args.count) (fault_of r.reply) begun)
@@ -25,7 +25,7 @@ returns-in_default-clause-answer g c = λ tells capacity begun.
 
 pub returns-then-count-eq0-clause-answer : goal.returns-then-count-eq0-clause-answer
 returns-then-count-eq0-clause-answer g c = λ tells capacity begun.
-    let pages = g.D.VirtualPages.bytes c.args.device.now in
+    let pages = g.D.Counts.bytes c.args.device.now in
     let files = c.args.files.now in
     let f = c.index-files-i.result in
     let none : min c.args.count (f.size - c.args.from) ≡ 0 =
@@ -41,25 +41,25 @@ returns-then-count-eq0-clause-answer g c = λ tells capacity begun.
 
 pub returns-in-Some-load-clause-answer : goal.returns-in-Some-load-clause-answer
 returns-in-Some-load-clause-answer g c = λ tells capacity begun.
-    let pages = g.D.VirtualPages.bytes c.args.device.now in
+    let pages = g.D.Counts.bytes c.args.device.now in
     let files = c.args.files.now in
-    let same : contents_of (g.D.VirtualPages.bytes c.load.new.device) files ≡ contents_of pages files = ap (λ (m : Held). contents_of m files) (λ j p. c.load.ensures.bytes tells p j) in
+    let same : contents_of (g.D.Counts.bytes c.load.new.device) files ≡ contents_of pages files = ap (λ (m : Held). contents_of m files) (λ j p. c.load.ensures.bytes tells p j) in
     subst
     (λ (r : Found). Replies (λ tree. outcome_of c.args.shape.now capacity tree (call.Read (c.args.name.now ∷ []) c.args.from c.args.count) (fault_of r.reply) begun)
-    (contents_of pages files) (contents_of (g.D.VirtualPages.bytes c.load.new.device) files) r.reply (take r.len (drop r.start c.load.new.page.main)))
+    (contents_of pages files) (contents_of (g.D.Counts.bytes c.load.new.device) files) r.reply (take r.len (drop r.start c.load.new.page.main)))
     (sym c.plain-in-Some-load.ensures)
-    (replies_after _ (contents_of pages files) (contents_of pages files) (contents_of (g.D.VirtualPages.bytes c.load.new.device) files) (Fault c.in-Some-load.fault) [] same
+    (replies_after _ (contents_of pages files) (contents_of pages files) (contents_of (g.D.Counts.bytes c.load.new.device) files) (Fault c.in-Some-load.fault) [] same
     (replies_fault c.args.shape.now capacity (contents_of pages files) (call.Read (c.args.name.now ∷ []) c.args.from c.args.count) c.in-Some-load.fault begun))
 
 pub returns-clause-answer : goal.returns-clause-answer
 returns-clause-answer g c = λ tells capacity begun.
-    let pages = g.D.VirtualPages.bytes c.args.device.now in
+    let pages = g.D.Counts.bytes c.args.device.now in
     let files = c.args.files.now in
     let f = c.index-files-i.result in
-    let same : contents_of (g.D.VirtualPages.bytes c.load.new.device) files ≡ contents_of pages files = ap (λ (m : Held). contents_of m files) (λ j p. c.load.ensures.bytes tells p j) in
+    let same : contents_of (g.D.Counts.bytes c.load.new.device) files ≡ contents_of pages files = ap (λ (m : Held). contents_of m files) (λ j p. c.load.ensures.bytes tells p j) in
     let some : position (has_name c.args.name.now) files ≡ Some c.in-Some.i = sym c.file_at.ensures ∙ c.in-Some.is in
-    let is : IsFile (g.D.VirtualPages.names c.args.device.now).live c.in-Some.i f =
-    subst (λ (e : FileEntry). IsFile (g.D.VirtualPages.names c.args.device.now).live c.in-Some.i e) (sym c.index-files-i.is) (c.requires.each.each c.in-Some.i f (position-Some (has_name c.args.name.now) files c.in-Some.i f some).0) in
+    let is : IsFile (g.D.Counts.names c.args.device.now).live c.in-Some.i f =
+    subst (λ (e : FileEntry). IsFile (g.D.Counts.names c.args.device.now).live c.in-Some.i e) (sym c.index-files-i.is) (c.requires.each.each c.in-Some.i f (position-Some (has_name c.args.name.now) files c.in-Some.i f some).0) in
     let count : min c.args.count (f.size - c.args.from) ≡ c.min.result = omega arith in
     let read : bytes_read (content_of_entry pages f) c.args.from c.args.count ≡ take c.min.result (drop c.args.from c.load.new.page.main) =
     bytes_read-entry pages f c.args.from c.args.count c.load.new.page.main is.size is.empty (c.load.ensures.page tells c.in_default-load.is) (sym (ap (λ (m : List ℕ). length m) c.main-whole.ensures.bytes) ∙ c.main-whole.ensures.len)

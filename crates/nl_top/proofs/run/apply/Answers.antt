@@ -8,8 +8,8 @@ use Rattle.nl_top.proofs.run.apply.Goals as goal
 
 pub returns-in-Create-clause-answer : goal.returns-in-Create-clause-answer
 returns-in-Create-clause-answer g c = λ tells capacity le.
-    let begun = capacity - (g.D.VirtualPages.names c.args.device.now).space.room in
-    let pages = g.D.VirtualPages.bytes c.args.device.now in
+    let begun = capacity - (g.D.Counts.names c.args.device.now).space.room in
+    let pages = g.D.Counts.bytes c.args.device.now in
     let before = contents_of pages c.args.files.now.items in
     let after = contents_of pages c.create-reply.new.files.items in
     let is : c.args.call ≡ Create (c.name_of.result ∷ []) = c.in-Create.is ∙ ap Create c.name_of.ensures.name in
@@ -18,13 +18,13 @@ returns-in-Create-clause-answer g c = λ tells capacity le.
     (c.create-reply.ensures.answer pages capacity begun))
 
 pub returns-in-Create-clause-each : goal.returns-in-Create-clause-each
-returns-in-Create-clause-each g c = c.create-reply.ensures.each (g.D.VirtualPages.names c.args.device.now) c.requires.each
+returns-in-Create-clause-each g c = c.create-reply.ensures.each (g.D.Counts.names c.args.device.now) c.requires.each
 
 pub returns-in-Read-clause-answer : goal.returns-in-Read-clause-answer
 returns-in-Read-clause-answer g c = λ tells capacity le.
-    let begun = capacity - (g.D.VirtualPages.names c.args.device.now).space.room in
-    let pages = g.D.VirtualPages.bytes c.args.device.now in
-    let pages' = g.D.VirtualPages.bytes c.read.new.device in
+    let begun = capacity - (g.D.Counts.names c.args.device.now).space.room in
+    let pages = g.D.Counts.bytes c.args.device.now in
+    let pages' = g.D.Counts.bytes c.read.new.device in
     let files = c.args.files.now.items in
     let found = c.read.result in
     let bytes = take found.len (drop found.start c.read.new.page.main) in
@@ -39,9 +39,9 @@ returns-in-Read-clause-answer g c = λ tells capacity le.
 
 pub returns-in-Write-clause-answer : goal.returns-in-Write-clause-answer
 returns-in-Write-clause-answer g c = λ tells capacity le.
-    let begun = capacity - (g.D.VirtualPages.names c.args.device.now).space.room in
-    let before = contents_of (g.D.VirtualPages.bytes c.args.device.now) c.args.files.now.items in
-    let after = contents_of (g.D.VirtualPages.bytes c.write-reply.new.device) c.write-reply.new.files.items in
+    let begun = capacity - (g.D.Counts.names c.args.device.now).space.room in
+    let before = contents_of (g.D.Counts.bytes c.args.device.now) c.args.files.now.items in
+    let after = contents_of (g.D.Counts.bytes c.write-reply.new.device) c.write-reply.new.files.items in
     let name = c.bytes.result.now in
     let bytes = c.bytes-in-Write-2.result.now in
     let named : c.in-Write.path ≡ name ∷ [] = c.name_of-name.ensures.name ∙ ap (λ (n : List ℕ). n ∷ []) (sym c.bytes.ensures) in

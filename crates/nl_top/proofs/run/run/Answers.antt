@@ -19,10 +19,10 @@ use Rattle.nl_top.proofs.run.run.Goals as goal
 pub script-init : goal.script-init
 script-init g c =
     let first : Counts = record { clock = g.D.Counts.clock c.args.device.now; read_faults = g.D.Counts.read_faults c.args.device.now; write_faults = g.D.Counts.write_faults c.args.device.now } in
-    let names = g.D.VirtualPages.names c.args.device.now in
+    let names = g.D.Counts.names c.args.device.now in
     let room = names.space.room in
-    let pages = g.D.VirtualPages.bytes c.args.device.now in
-    let none = has_run_none g.D.VirtualPages.tells c.args.shape.now room first pages no_files in
+    let pages = g.D.Counts.bytes c.args.device.now in
+    let none = has_run_none g.D.Counts.tells c.args.shape.now room first pages no_files in
     let no_file : length c.args.files.now.items ≡ 0 = ap (λ (fs : List FileEntry). length fs) c.requires.files.0 in
     let no_answer : length c.args.answers.now.items ≡ 0 = ap (λ (x : List Answer). length x) c.requires.answers.0 in
     let no_order : length c.args.order.now.items ≡ 0 = ap (λ (x : List Ordered). length x) c.requires.order.0 in
@@ -30,8 +30,8 @@ script-init g c =
     let none_begun : room - room ≡ 0 = omega arith in
     record {
       taken = refl;
-      ran = has_run_at g.D.VirtualPages.tells c.args.shape.now room [] [] c.args.order.now.items first first pages c.args.files.now.items 0 (room - room) [] c.args.answers.now.items [] c.args.bytes.now.items c.requires.order.0 none_begun c.requires.answers.0 c.requires.bytes.0
-          (subst (λ (fs : List FileEntry). HasRun g.D.VirtualPages.tells c.args.shape.now room [] [] first first pages fs 0 [] []) (sym c.requires.files.0) none);
+      ran = has_run_at g.D.Counts.tells c.args.shape.now room [] [] c.args.order.now.items first first pages c.args.files.now.items 0 (room - room) [] c.args.answers.now.items [] c.args.bytes.now.items c.requires.order.0 none_begun c.requires.answers.0 c.requires.bytes.0
+          (subst (λ (fs : List FileEntry). HasRun g.D.Counts.tells c.args.shape.now room [] [] first first pages fs 0 [] []) (sym c.requires.files.0) none);
       formed = c.requires.formed;
       clean = c.requires.clean;
       stamp = omega arith;
@@ -57,14 +57,14 @@ script-preserved g c =
     let main = c.apply-found.new.page.main in
     let piece = take found.len (drop found.start main) in
     let a : Answer = record { line = line.line; reply = found.reply; len = found.len } in
-    let capacity = (g.D.VirtualPages.names c.args.device.now).space.room in
-    let before_room = (g.D.VirtualPages.names c.script.device).space.room in
-    let after_room = (g.D.VirtualPages.names c.apply-found.new.device).space.room in
+    let capacity = (g.D.Counts.names c.args.device.now).space.room in
+    let before_room = (g.D.Counts.names c.script.device).space.room in
+    let after_room = (g.D.Counts.names c.apply-found.new.device).space.room in
     let first : Counts = record { clock = g.D.Counts.clock c.args.device.now; read_faults = g.D.Counts.read_faults c.args.device.now; write_faults = g.D.Counts.write_faults c.args.device.now } in
     let before : Counts = record { clock = g.D.Counts.clock c.script.device; read_faults = g.D.Counts.read_faults c.script.device; write_faults = g.D.Counts.write_faults c.script.device } in
     let now : Counts = record { clock = g.D.Counts.clock c.apply-found.new.device; read_faults = g.D.Counts.read_faults c.apply-found.new.device; write_faults = g.D.Counts.write_faults c.apply-found.new.device } in
-    let pages = g.D.VirtualPages.bytes c.script.device in
-    let after = g.D.VirtualPages.bytes c.apply-found.new.device in
+    let pages = g.D.Counts.bytes c.script.device in
+    let after = g.D.Counts.bytes c.apply-found.new.device in
     let begins = c.apply-found.ensures.begins in
     let begun = capacity - before_room in
     let step : into_iter_items c.script.line-iterator ≡ line ∷ into_iter_items c.next.new.self = c.in-Some.ensures.steps.0 in
@@ -83,7 +83,7 @@ script-preserved g c =
     let arg_len : length (take (found.start + found.len - found.start) (drop found.start c.main.result.now)) ≡ found.len = ap (λ (p : List ℕ). length p) slice ∙ sym piece_len in
     let pushed_order : length c.push_order.new.order.items ≡ length c.script.order.items + 1 = ap (λ (x : List Ordered). length x) order_is ∙ length-append c.script.order.items (record { line = line.line; fault = fault_of found.reply } ∷ []) in
     let later : capacity - after_room ≡ begun + begins.0 = omega (arith, begins.1, c.script.invariant.space) in
-    let one : AnswersLine g.D.VirtualPages.tells c.args.shape.now capacity line before now pages after c.script.files.items c.apply-found.new.files.items begun begins.0 found.reply piece = record {
+    let one : AnswersLine g.D.Counts.tells c.args.shape.now capacity line before now pages after c.script.files.items c.apply-found.new.files.items begun begins.0 found.reply piece = record {
       answer = λ tells. c.apply-found.ensures.answer tells capacity c.script.invariant.space;
       begins = begins.2;
       clock = c.apply-found.ensures.clock;
@@ -95,11 +95,11 @@ script-preserved g c =
       caused = c.apply-found.ensures.caused;
       undamaged = c.apply-found.ensures.undamaged;
     } in
-    let more = has_run_more g.D.VirtualPages.tells c.args.shape.now capacity done c.script.order.items first before now pages after c.script.files.items c.apply-found.new.files.items begun begins.0 c.script.answers.items c.script.bytes.items piece line a
+    let more = has_run_more g.D.Counts.tells c.args.shape.now capacity done c.script.order.items first before now pages after c.script.files.items c.apply-found.new.files.items begun begins.0 c.script.answers.items c.script.bytes.items piece line a
     c.script.invariant.ran one c.script.invariant.whole piece_len refl in
     record {
       taken = append_assoc done (line ∷ []) (into_iter_items c.next.new.self) ∙ ap (λ (ls : List Line). done ++ ls) (sym step) ∙ c.script.invariant.taken;
-      ran = has_run_at g.D.VirtualPages.tells c.args.shape.now capacity (done ++ line ∷ []) (c.script.order.items ++ record { line = line.line; fault = fault_of found.reply } ∷ []) c.push_order.new.order.items first now after c.apply-found.new.files.items
+      ran = has_run_at g.D.Counts.tells c.args.shape.now capacity (done ++ line ∷ []) (c.script.order.items ++ record { line = line.line; fault = fault_of found.reply } ∷ []) c.push_order.new.order.items first now after c.apply-found.new.files.items
           (begun + begins.0) (capacity - after_room) (c.script.answers.items ++ a ∷ []) c.push_reserved.new.self.items (c.script.bytes.items ++ piece) c.push_bytes.new.bytes.items order_is later answers_are bytes_are more;
       formed = c.apply-found.ensures.formed;
       clean = c.apply-found.ensures.clean;

@@ -10,15 +10,15 @@ abbrev pub invariant-script : goal.invariant-script
 invariant-script g l =
     record {
       taken : l.yielded ++ into_iter_items l.line-iterator ≡ into_iter_items l.initial.line-iterator;
-      ran : HasRun g.D.VirtualPages.tells l.shape (g.D.VirtualPages.names l.initial.device).space.room l.yielded l.order.items
+      ran : HasRun g.D.Counts.tells l.shape (g.D.Counts.names l.initial.device).space.room l.yielded l.order.items
           (record { clock = g.D.Counts.clock l.initial.device; read_faults = g.D.Counts.read_faults l.initial.device; write_faults = g.D.Counts.write_faults l.initial.device })
           (record { clock = g.D.Counts.clock l.device; read_faults = g.D.Counts.read_faults l.device; write_faults = g.D.Counts.write_faults l.device })
-          (g.D.VirtualPages.bytes l.device) l.files.items ((g.D.VirtualPages.names l.initial.device).space.room - (g.D.VirtualPages.names l.device).space.room) l.answers.items l.bytes.items;
-      formed : g.D.VirtualPages.formed l.device;
-      clean : g.D.VirtualPages.clean l.device;
-      stamp : g.D.VirtualPages.next_stamp l.device ≤ g.D.VirtualPages.next_stamp l.initial.device + length l.yielded;
-      space : (g.D.VirtualPages.names l.device).space.room ≤ (g.D.VirtualPages.names l.initial.device).space.room;
-      each : HasFilesOf (g.D.VirtualPages.names l.device) l.files.items;
+          (g.D.Counts.bytes l.device) l.files.items ((g.D.Counts.names l.initial.device).space.room - (g.D.Counts.names l.device).space.room) l.answers.items l.bytes.items;
+      formed : g.D.Counts.formed l.device;
+      clean : g.D.Counts.clean l.device;
+      stamp : g.D.Counts.next_stamp l.device ≤ g.D.Counts.next_stamp l.initial.device + length l.yielded;
+      space : (g.D.Counts.names l.device).space.room ≤ (g.D.Counts.names l.initial.device).space.room;
+      each : HasFilesOf (g.D.Counts.names l.device) l.files.items;
       fits : Fits l.shape (length l.files.items);
       files : vec_len l.files ≤ length l.yielded;
       files_room : vec_capacity l.initial.files ≤ vec_capacity l.files;

@@ -8,7 +8,7 @@ use Rattle.nl_top.proofs.RunsOf.{runs_between}
 use Rattle.nl_top.proofs.top.run_device.Goals as goal
 
 pub run_lines-answer-requires-clause-numbers : goal.run_lines-answer-requires-clause-numbers
-run_lines-answer-requires-clause-numbers g c = c.requires.numbers ∙ sym c.retain-2.ensures.addresses.same_shape
+run_lines-answer-requires-clause-numbers g c = c.requires.numbers ∙ sym c.retain-2.ensures.medium.virtual.same_shape
 
 pub run_lines-answer-requires-clause-clean : goal.run_lines-answer-requires-clause-clean
 run_lines-answer-requires-clause-clean g c = c.retain-2.ensures.clean c.requires.free c.requires.clean
@@ -34,7 +34,7 @@ returns-clause-ran g c =
     record {
       text = lines.ensures.ran.0;
       ran = runs_between g.M.Nand.tells c.args.shape (room_for_data c.args.shape) c.args.lines.items _ before _ now order lines.ensures.ran.0
-          (λ i. record { clock = c.retain-2.ensures.clock i; read_faults = c.retain-2.ensures.read_faults i; write_faults = c.retain-2.ensures.write_faults i })
+          (λ i. record { clock = c.retain-2.ensures.medium.clock i; read_faults = c.retain-2.ensures.medium.read_faults i; write_faults = c.retain-2.ensures.medium.write_faults i })
           (λ i. record { clock = g.M.Nand.clock (sym c.into_media-media.ensures i); read_faults = g.M.Nand.read_faults (sym c.into_media-media.ensures i); write_faults = g.M.Nand.write_faults (sym c.into_media-media.ensures i) })
           lines.ensures.ran.1;
       prints = record { answer = lines.result.answer; taken = lines.ensures.ran.2; never_falls = lines.ensures.never_falls; cause = lines.ensures.cause };

@@ -10,9 +10,9 @@ use Rattle.nl_top.proofs.top.run_lines.Goals as goal
 pub returns-clause-ran : goal.returns-clause-ran
 returns-clause-ran g c =
     let shape = c.args.shape in
-    let space = (g.D.VirtualPages.names c.args.device.now).space in
-    let block : space.block ≡ shape.pages = g.met.D.NamedPages.block c.args.device.now c.requires.formed ∙ ap (λ (s : Shape). s.pages) (sym c.requires.numbers) in
-    let all : space.all ≡ shape.pblocks * shape.pages = g.met.D.NamedPages.all c.args.device.now c.requires.formed ∙ ap (λ (s : Shape). s.pblocks * s.pages) (sym c.requires.numbers) in
+    let space = (g.D.Counts.names c.args.device.now).space in
+    let block : space.block ≡ shape.pages = (g.met.D.NamedPages.tables c.args.device.now c.requires.formed).block ∙ ap (λ (s : Shape). s.pages) (sym c.requires.numbers) in
+    let all : space.all ≡ shape.pblocks * shape.pages = (g.met.D.NamedPages.tables c.args.device.now c.requires.formed).all ∙ ap (λ (s : Shape). s.pblocks * s.pages) (sym c.requires.numbers) in
     let whole : space.room + shape.pages ≡ shape.pblocks * shape.pages = ap (λ (k : ℕ). space.room + k) (sym block) ∙ c.requires.all_free ∙ all in
     let room : space.room ≡ room_for_data shape = all_but_one space.room shape.pblocks shape.pages c.requires.some whole in
     let text = run_text 0 (answers_in c.deref.result.now c.deref-2.result.now) in

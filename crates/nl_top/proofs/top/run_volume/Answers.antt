@@ -23,7 +23,7 @@ run_device-requires-clause-some g c =
 
 pub run_device-requires-clause-clean : goal.run_device-requires-clause-clean
 run_device-requires-clause-clean g c =
-    let same = c.requires.shape ∙ sym c.in-Ready.ensures.shape in
+    let same = c.requires.shape ∙ sym c.in-Ready.ensures.started.numbers in
     c.in-Ready.ensures.clean (subst (λ (s : Shape). AreErased s c.in-Ready.found.erased) same (c.is_fresh.ensures.erased c.if-is_fresh.true))
 
 pub returns-then-is_fresh-clause-ended : goal.returns-then-is_fresh-clause-ended

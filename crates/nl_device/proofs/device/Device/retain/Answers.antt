@@ -1,10 +1,12 @@
-use Rattle.std.proofs.Common.{◌+◌, ◌∙◌, ap, arith, length, subst, sym}
+use Rattle.std.proofs.Common.{◌+◌, ◌≤◌, ◌∙◌, ℕ, List, Option, None, get_or, ap, arith, length, refl, subst, sym}
 use Rattle.nl_pseg.specs.Segment.{IsClean}
-use Rattle.nl_device.specs.Device.{IsDevice}
-use Rattle.nl_device.specs.Retain.{IsSegmentFor, needed_blocks}
-use Rattle.nl_device.specs.Shown.{names_of}
-use Rattle.nl_device.proofs.Retained.{all_free, is_fresh, live_is, none_held, retained_device, room_is, segment_for}
-use Rattle.nl_device.proofs.Spacing.{free_is}
+use Rattle.nl_pseg.specs.declared.held.Held.{Held}
+use Rattle.nl_device.specs.Device.{HasSpareBlock, IsDevice}
+use Rattle.nl_device.specs.Retain.{IsSegmentFor}
+use Rattle.nl_device.specs.Shown.{found_by_number, names_of}
+use Rattle.nl_device.proofs.KeptLive.{retains_are}
+use Rattle.nl_device.proofs.Retained.{all_free, free_some, is_fresh, live_is, none_dead, none_held, retained_device, room_is, segment_for}
+use Rattle.nl_device.proofs.Spacing.{free_is, waiting_is}
 use Rattle.nl_device.proofs.device.Device.retain.Goals as goal
 
 pub give_back-requires : goal.give_back-requires
@@ -27,17 +29,44 @@ returns-clause-formed g c =
     let d = c.args.self.now in
     let b = c.give_back.ensures in
     let e = c.retain.ensures in
+    let some_free : 1 ≤ c.give_back.new.self.free = free_some c.give_back.new.self c.requires.formed.segments b.first b.blocks b.free in
+    let spare : HasSpareBlock c.retain.new.pseg = record { block = e.kept_block (b.kept some_free); dead = e.kept_dead (none_dead c.give_back.new.self (λ page. ap (λ (h : List (Option Held)). get_or h page None) b.live ∙ none_held d.pseg c.requires.no_live page)) } in
     subst (λ k. IsDevice (g.M.Nand.geometry d.media) g.M.Nand.tells (g.M.Nand.contents d.media) d.shape d.vseg c.retain.new.pseg k d.next) (sym e.same)
-    (retained_device c.requires.formed e.segment (e.pages ∙ ap length b.live) e.pairs e.some_free (let l = e.left in let z = b.left in omega (arith, l, z)) e.from e.differ (λ p taken. b.erased p (e.erased p taken))
+    (retained_device c.requires.formed e.segment (e.pages ∙ ap length b.live) e.pairs e.some_free spare (let l = e.left in let z = b.left in omega (arith, l, z)) e.from e.differ (λ p taken. b.erased p (e.erased p taken))
     (λ t. g.met.M.Nand.contents_fit d.media t))
 
-pub returns-clause-count : goal.returns-clause-count
-returns-clause-count g c = live_is c.retain.new.pseg ∙ c.retain.ensures.live
+pub returns-clause-retained : goal.returns-clause-retained
+returns-clause-retained g c =
+    let e = c.retain.ensures in
+    retains_are c.args.self.now.kept c.args.kept.now.items c.retain.new.pseg c.requires.can e.retained e.from e.pairs (live_is c.retain.new.pseg ∙ e.live)
 
-pub returns-clause-free : goal.returns-clause-free
-returns-clause-free g c =
+pub returns-clause-pairs : goal.returns-clause-pairs
+returns-clause-pairs g c =
+    let none = c.requires.can.room in
+    let e = ap (λ (ps : List (ℕ × ℕ)). length ps) c.retain.ensures.pairs in
+    omega (arith, none, e)
+
+pub returns-clause-blocks : goal.returns-clause-blocks
+returns-clause-blocks g c =
     let d = c.args.self.now in
-    ap (λ n. n + needed_blocks d.kept c.args.kept.now.items) (free_is c.retain.new.pseg) ∙ c.retain.ensures.free ∙ c.requires.formed.found.count
+    let free = free_is c.retain.new.pseg in
+    let waits = waiting_is c.retain.new.pseg in
+    let needed = c.retain.ensures.free in
+    let count = c.requires.formed.found.count in
+    omega (arith, free, waits, needed, count)
+
+pub returns-clause-medium : goal.returns-clause-medium
+returns-clause-medium g c = record {
+  virtual = record { same_shape = refl; same_stamps = λ v. refl; same_map = λ t v. refl; no_failed = λ t v x stray. stray; spare = λ s. s };
+  contents = λ t. refl;
+  left = λ t m i l. l;
+  bytes = λ t p. refl;
+  found = ap found_by_number c.retain.ensures.same;
+  next_stamp = refl;
+  clock = refl;
+  read_faults = refl;
+  write_faults = refl;
+}
 
 pub returns-clause-room : goal.returns-clause-room
 returns-clause-room g c = let l = c.retain.ensures.left in let z = c.give_back.ensures.left in room_is c.retain.new.pseg c.retain.ensures.some_free (omega (arith, l, z))

@@ -1,4 +1,4 @@
-use Rattle.std.proofs.Common.{◌≡◌, ◌<◌, ◌∙◌, sym, ap, subst, IsTrue, arith}
+use Rattle.std.proofs.Common.{◌≡◌, ◌<◌, ◌∙◌, refl, sym, ap, subst, IsTrue, arith}
 use Rattle.nl_field.specs.Numbers.{is_legal, shape_for}
 use Rattle.nl_field.specs.Page.{Image}
 use Rattle.nl_field.specs.Medium.{first_physical, shape_of_image}
@@ -11,13 +11,15 @@ use Rattle.nl_vseg.specs.Pages.{Shows}
 use Rattle.nl_vseg.specs.Places.{map_of}
 use Rattle.nl_device.specs.Device.{IsDevice}
 use Rattle.nl_device.specs.Kept.{KeptPages}
+use Rattle.nl_device.specs.Shown.{live_page}
 use Rattle.nl_device.specs.Opening.{FitsShape, IsOpenedPhysical, IsOpenedVirtual}
 use Rattle.nl_device.proofs.Agreed.{opened_agreed}
 use Rattle.nl_device.proofs.Forms.{shape_is}
 use Rattle.nl_device.proofs.OpenedKeeps.{opened_keeps}
 use Rattle.nl_device.proofs.OpenedMedium.{opened_map, opened_on}
-use Rattle.nl_device.proofs.OpenedNames.{opened_names}
-use Rattle.nl_device.proofs.Ready.{can_none, found_holds}
+use Rattle.nl_device.proofs.OpenedNames.{none_held, opened_names}
+use Rattle.nl_device.proofs.Ready.{can_none, found_holds, named_after}
+use Rattle.nl_device.proofs.SeenSpare.{seen_keeps}
 use Rattle.nl_device.proofs.Starting.{for_shape, free_space, opened_device, room_space}
 use Rattle.nl_device.proofs.device.Device.start.Goals as goal
 
@@ -43,11 +45,22 @@ after_scan-requires-clause-numbers g c = (for_shape c.legal_shape-shape.result c
 pub after_scan-requires-clause-fits : goal.after_scan-requires-clause-fits
 after_scan-requires-clause-fits g c = fits_of c.legal_shape-shape.result c.geometry.result (g.M.Nand.geometry c.args.media) c.in-Tables.tables c.legal_shape-shape.ensures c.geometry.ensures c.in-Tables.ensures.fits
 
-pub returns-in-Ok-clause-room : goal.returns-in-Ok-clause-room
-returns-in-Ok-clause-room g c = room_space c.legal_shape-shape.result c.in-Tables.tables c.in-Ok.field-0.pseg c.in-Ok.ensures.physicals (roomy_of c.legal_shape-shape.result c.geometry.result (g.M.Nand.geometry c.args.media) c.legal_shape-shape.ensures c.geometry.ensures c.requires.formed)
-
-pub returns-in-Ok-clause-free : goal.returns-in-Ok-clause-free
-returns-in-Ok-clause-free g c = free_space c.legal_shape-shape.result c.in-Tables.tables c.in-Ok.field-0.pseg c.in-Ok.ensures.physicals (roomy_of c.legal_shape-shape.result c.geometry.result (g.M.Nand.geometry c.args.media) c.legal_shape-shape.ensures c.geometry.ensures c.requires.formed)
+pub returns-in-Ok-clause-started : goal.returns-in-Ok-clause-started
+returns-in-Ok-clause-started g c =
+    let shape = c.legal_shape-shape.result in
+    let t = c.in-Tables.tables in
+    let pseg = c.in-Ok.field-0.pseg in
+    let physicals = c.in-Ok.ensures.physicals in
+    let roomy = roomy_of shape c.geometry.result (g.M.Nand.geometry c.args.media) c.legal_shape-shape.ensures c.geometry.ensures c.requires.formed in
+    record {
+      numbers = c.legal_shape-shape.ensures ∙ ap (λ (n : Geometry). shape_for n.blocks n.pages) c.geometry.ensures;
+      live = λ p. ap live_page (none_held shape t pseg physicals p);
+      pairs = physicals.no_pairs;
+      pending = refl;
+      free = free_space shape t pseg physicals roomy;
+      room = room_space shape t pseg physicals roomy;
+      stamp = c.next_stamp-next.ensures;
+    }
 
 pub returns-in-Ok-clause-nothing : goal.returns-in-Ok-clause-nothing
 returns-in-Ok-clause-nothing g c =
@@ -81,12 +94,12 @@ returns-in-Ok-clause-formed g c =
     (opened_device geometry shape t vseg pseg c.in-Ok.field-0.kept g.M.Nand.tells image legal
     (c.legal_shape-shape.ensures ∙ ap (λ (n : Geometry). shape_for n.blocks n.pages) (c.geometry.ensures ∙ sym same))
     fits c.in-Ok.ensures.virtuals c.in-Ok.ensures.physicals
-    (λ segments live tell.
+    (λ segments live spare tell.
     let fit = g.met.M.Nand.contents_fit media tell in
     let is = table_now image (g.M.Nand.contents c.args.media) t c.scan.ensures.only_reads.same_contents (c.in-Tables.ensures.tables tell) in
     let e = shape_is segments fit in
     let physical = opened_names image t pseg is (subst (λ s. IsOpenedPhysical s t pseg) (sym e) c.in-Ok.ensures.physicals) (subst (λ (s : Shape). 0 < s.pages) (sym e) segments.some) in
-    opened_on t segments fit live physical is c.in-Ok.ensures.virtuals)
+    opened_on t segments fit live physical is c.in-Ok.ensures.virtuals (named_after shape image t c.in-Ok.field-0.kept e is c.in-Ok.ensures.kept) c.in-Ok.ensures.physicals.no_pairs spare)
     c.in-Ok.ensures.kept
     (λ tell.
     found_holds shape image t c.in-Ok.field-0.kept (image_shape shape c.geometry.result geometry image c.legal_shape-shape.ensures (c.geometry.ensures ∙ sym same) (g.met.M.Nand.contents_fit media tell))
@@ -102,7 +115,10 @@ returns-in-Ok-clause-map g c tell v below =
     ∙ opened_map before t c.in-Ok.field-0.vseg (c.in-Tables.ensures.tables tell) (subst (λ s. IsOpenedVirtual s t c.in-Ok.field-0.vseg) (sym e) c.in-Ok.ensures.virtuals) v (subst (λ (s : Shape). v < s.vaddrs) (sym e) below)
 
 pub returns-in-Ok-clause-spare : goal.returns-in-Ok-clause-spare
-returns-in-Ok-clause-spare g c tell block spare =
+returns-in-Ok-clause-spare g c block spare = seen_keeps c.legal_shape-shape.result c.in-Tables.tables c.in-Ok.field-0.vseg block c.in-Ok.ensures.virtuals spare
+
+pub returns-in-Ok-clause-spare_told : goal.returns-in-Ok-clause-spare_told
+returns-in-Ok-clause-spare_told g c tell block spare =
     let shape = c.legal_shape-shape.result in
     let t = c.in-Tables.tables in
     let before = g.M.Nand.contents c.args.media in

@@ -57,4 +57,6 @@ returns c =
       same_soiled = l.soiled;
       left = l.left;
       erased = λ q taken. (l.erased q taken).0;
+      kept_block = l.kept;
+      kept_dead = l.kept_dead;
     }

@@ -44,3 +44,12 @@ returns-clause-from c =
 
 pub returns-clause-differ : goal.returns-clause-differ
 returns-clause-differ c = live_differ c.args.self.now c.args.list.now.items c.listed.at c.args.pseg.now c.listed.pseg c.requires.can c.listed.invariant.retains
+
+pub returns-clause-kept_block : goal.returns-clause-kept_block
+returns-clause-kept_block c k =
+    let is = subst (λ k. IsKept k c.self.inside.copies) c.self.view_is c.self.invariant in
+    c.listed.invariant.retains.kept_block k
+    (one_free c.args.self.now c.self.inside.copies c.args.list.now.items c.listed.at c.args.pseg.now c.listed.pseg is c.requires.can c.listed.invariant.retains (omega (arith, c.listed-test.false, c.len-at-end.ensures.count)))
+
+pub returns-clause-kept_dead : goal.returns-clause-kept_dead
+returns-clause-kept_dead c dead = c.listed.invariant.retains.kept_dead dead

@@ -45,4 +45,5 @@ returns c =
           let below = div_below p old.size old.blocks some h.1 in
           subst (λ k. SaysErased c.args.tables.now (p / k)) n.pages (e.1 (subst (λ k. k ≤ p / old.size) n.first from) (subst (λ k. p / old.size < k) n.blocks below));
       clean = s.clean;
+      kept_block = s.kept;
     }

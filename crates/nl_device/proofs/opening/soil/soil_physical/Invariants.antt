@@ -1,6 +1,6 @@
 use Rattle.std.proofs.Common.{ℕ, ◌/◌, ◌<◌, ◌≤◌}
 use Rattle.nl_device.specs.Opening.{IsSoiled, SaysErased}
-use Rattle.nl_pseg.specs.Segment.{IsClean, TakenAsErased}
+use Rattle.nl_pseg.specs.Segment.{IsClean, KeepsBlock, TakenAsErased}
 use Rattle.nl_device.proofs.opening.soil.soil_physical.Given as goal
 
 abbrev pub invariant-loop-block : goal.invariant-loop-block
@@ -8,4 +8,5 @@ invariant-loop-block l = record {
   same : IsSoiled l.initial.pseg l.pseg;
   erased : (p : ℕ) → TakenAsErased l.pseg p → TakenAsErased l.initial.pseg p × (l.fn.first ≤ p / l.initial.pseg.size → p / l.initial.pseg.size < l.block → SaysErased l.fn.tables (p / l.initial.pseg.size));
   clean : ((block : ℕ) → l.fn.first ≤ block → block < l.block → SaysErased l.fn.tables block) → IsClean l.pseg;
+  kept : KeepsBlock l.pseg;
 }

@@ -1,33 +1,50 @@
-use Rattle.std.proofs.Common.{◌≡◌, inl, inr, ⊎_elim, ℕ, ◌+◌, ◌*◌, ◌≤◌, Option, refl, sym, ◌∙◌, subst, arith}
-use Rattle.nl_field.specs.CrashStates.{Rose}
+use Rattle.std.proofs.Common.{◌≡◌, inl, inr, ⊎_elim, ℕ, ◌+◌, ◌*◌, ◌<◌, ◌≤◌, Option, refl, sym, ◌∙◌, subst, arith}
+use Rattle.nl_field.specs.CrashStates.{Rose, Turns}
+use Rattle.nl_field.specs.Page.{Image}
 use Rattle.nl_field.specs.declared.answers.VirtualWrite.TheVariants as write
-use Rattle.nl_iface.specs.Stored.{Value}
+use Rattle.nl_iface.specs.Stored.{NamedPage, Value, stored_in}
 use Rattle.nl_nand.specs.Nand.{ImageOf}
 use Rattle.nl_vseg.specs.Effects.{Keeps, Takes}
 use Rattle.nl_vseg.specs.Places.{map_of, stamp_for}
 use Rattle.nl_device.proofs.Calls.{found_beyond, found_still}
+use Rattle.nl_device.proofs.Laws.{names_are, no_stamp_beyond}
 use Rattle.nl_device.proofs.Made.{made_medium}
 use Rattle.nl_device.proofs.Forms.{begins, kept_segments, lift, same_from, shape_is}
-use Rattle.nl_device.proofs.Writes.{beyond_of, bytes_same, done_or, keeps_below, keeps_leaves, keeps_there, next_rises, next_taken, physical_kept, rose_or, stamps_done, stray_done, stray_failed, stray_kept, takes_below, takes_leaves, takes_there, with_there}
+use Rattle.nl_device.proofs.Writes.{beyond_of, bytes_same, done_or, keeps_below, keeps_leaves, keeps_there, next_rises, next_taken, none_stray, physical_kept, rose_or, stamps_done, stray_done, stray_failed, stray_kept, takes_below, takes_leaves, takes_there, with_there, write_rises}
 use Rattle.nl_device.proofs.virtual_pages.DeviceVirtualPages.virtual_write.Goals as goal
 
-pub returns-clause-crash : goal.returns-clause-crash
-returns-clause-crash g c t =
+pub returns-clause-left : goal.returns-clause-left
+returns-clause-left g c t =
     let d = c.args.self.now in
     let f = c.requires.formed in
     let e = c.virtual_write-answer.ensures in
     let old = g.M.Nand.contents d.media in
+    let new = g.M.Nand.contents c.virtual_write-answer.new.media in
     let map : ℕ → Option Value = λ u. map_of d.vseg.places old u in
     let old_is = shape_is f.segments (g.met.M.Nand.contents_fit d.media t) in
-    lift (λ d. d.media) _ _ (e.crash t) (λ m image l turned.
-    let image_is = shape_is f.segments (subst (λ n. ImageOf n image) e.geometry (g.met.M.Nand.left_fits c.virtual_write-answer.new.media m image t l)) in
-    ⊎_elim
-    (λ was. inl (was.0, keeps_leaves d.shape d.vseg.pages c.args.vaddr d.next c.args.from.now.main map old image old_is image_is (subst (λ b. Keeps d.vseg.pages b map old image) f.segments.virtual_bound was.1)))
-    (λ new. inr (takes_leaves d.shape d.vseg.pages c.args.vaddr d.next c.args.from.now.main map old image old_is image_is (subst (λ b. Takes d.vseg.pages b map c.args.vaddr d.next c.args.from.now.main old image) f.segments.virtual_bound new) (f.medium t).below))
-    turned)
+    let new_is = shape_is f.segments (subst (λ n. ImageOf n new) e.geometry (g.met.M.Nand.contents_fit c.virtual_write-answer.new.media t)) in
+    let main = c.args.from.now.main in
+    let some = f.segments.some in
+    let keeps = λ (image : Image) (k : Keeps d.vseg.pages d.vseg.bound map old image). subst (λ (x : ℕ). Keeps x (d.shape.vblocks * d.shape.pages) map old image) f.segments.virtual_pages (subst (λ b. Keeps d.vseg.pages b map old image) f.segments.virtual_bound k) in
+    let takes = λ (image : Image) (k : Takes d.vseg.pages d.vseg.bound map c.args.vaddr d.next main old image). subst (λ (x : ℕ). Takes x (d.shape.vblocks * d.shape.pages) map c.args.vaddr d.next main old image) f.segments.virtual_pages (subst (λ b. Takes d.vseg.pages b map c.args.vaddr d.next main old image) f.segments.virtual_bound k) in
+    record {
+      stops = lift (λ d. d.media) _ _ (e.crash t) (λ m image l turned.
+          let image_is = shape_is f.segments (subst (λ n. ImageOf n image) e.geometry (g.met.M.Nand.left_fits c.virtual_write-answer.new.media m image t l)) in
+          ⊎_elim
+          (λ was. inl (was.0, keeps_leaves d.shape c.args.vaddr d.next main map old image old_is image_is some (keeps image was.1)))
+          (λ new. inr (takes_leaves d.shape c.args.vaddr d.next main map old image old_is image_is some (takes image new) (f.medium t).below))
+          turned);
+      now = ⊎_elim
+          (λ done. inr (takes_leaves d.shape c.args.vaddr d.next main map old new old_is new_is some (takes new (e.takes t done)) (f.medium t).below))
+          (λ undone. ⊎_elim
+          (λ k. inl (undone, keeps_leaves d.shape c.args.vaddr d.next main map old new old_is new_is some (keeps new k)))
+          (λ k. inr (takes_leaves d.shape c.args.vaddr d.next main map old new old_is new_is some (takes new k) (f.medium t).below))
+          (e.either t))
+          (done_or c.virtual_write-answer.result);
+    }
 
-pub returns-clause-failed : goal.returns-clause-failed
-returns-clause-failed g c t v x stray =
+pub returns-clause-written : goal.returns-clause-written
+returns-clause-written g c =
     let d = c.args.self.now in
     let f = c.requires.formed in
     let e = c.virtual_write-answer.ensures in
@@ -39,32 +56,70 @@ returns-clause-failed g c t v x stray =
     let main = c.args.from.now.main in
     let to_keeps : Keeps d.vseg.pages d.vseg.bound map old new → Keeps d.vseg.pages bound map old new = λ k. subst (λ b. Keeps d.vseg.pages b map old new) f.segments.virtual_bound k in
     let to_takes : Takes d.vseg.pages d.vseg.bound map c.args.vaddr d.next main old new → Takes d.vseg.pages bound map c.args.vaddr d.next main old new = λ k. subst (λ b. Takes d.vseg.pages b map c.args.vaddr d.next main old new) f.segments.virtual_bound k in
-    ⊎_elim
-    (λ done. inl (stray_done d.vseg.pages bound c.args.vaddr d.next main map now old new (f.medium t).below (to_takes (e.takes t done)) (e.map t done) v x stray))
-    (λ undone. ⊎_elim
-    (λ rose. ⊎_elim
-    (λ k. inl (stray_kept d.vseg.pages bound c.args.vaddr d.next main map now old new (f.medium t).below (to_keeps k) (e.same t undone) v x stray))
-    (λ k. ⊎_elim
-    (λ was. inl was)
-    (λ here. inr (undone, rose, here.0, here.1))
-    (stray_failed d.vseg.pages bound c.args.vaddr d.next main map now old new (f.medium t).below (to_takes k) (e.same t undone) v x stray))
-    (e.either t))
-    (λ unrisen. inl (stray_kept d.vseg.pages bound c.args.vaddr d.next main map now old new (f.medium t).below (to_keeps (e.unused t undone unrisen)) (e.same t undone) v x stray))
-    (rose_or (g.M.Nand.write_faults d.media) (g.M.Nand.write_faults c.virtual_write-answer.new.media)))
-    (done_or c.virtual_write-answer.result)
+    record {
+      stamps = e.done;
+      same_stamps = e.failed;
+      map = λ t done u. e.map t done u;
+      same_map = λ t undone u. e.same t undone u;
+      failed = λ t v x stray. ⊎_elim
+          (λ done. inl (stray_done d.vseg.pages bound c.args.vaddr d.next main map now old new (f.medium t).below (to_takes (e.takes t done)) (e.map t done) v x stray))
+          (λ undone. ⊎_elim
+          (λ rose. ⊎_elim
+          (λ k. inl (stray_kept d.vseg.pages bound c.args.vaddr d.next main map now old new (f.medium t).below (to_keeps k) (e.same t undone) v x stray))
+          (λ k. ⊎_elim
+          (λ was. inl was)
+          (λ here. inr (undone, rose, here.0, here.1))
+          (stray_failed d.vseg.pages bound c.args.vaddr d.next main map now old new (f.medium t).below (to_takes k) (e.same t undone) v x stray))
+          (e.either t))
+          (λ unrisen. inl (stray_kept d.vseg.pages bound c.args.vaddr d.next main map now old new (f.medium t).below (to_keeps (e.unused t undone unrisen)) (e.same t undone) v x stray))
+          (rose_or (g.M.Nand.write_faults d.media) (g.M.Nand.write_faults c.virtual_write-answer.new.media)))
+          (done_or c.virtual_write-answer.result);
+      superseded = λ t done x stray. none_stray d.vseg.pages bound c.args.vaddr d.next main map now old new (f.medium t).below (to_takes (e.takes t done)) (e.map t done) x stray;
+    }
 
-pub returns-clause-bytes : goal.returns-clause-bytes
-returns-clause-bytes g c t =
+pub returns-clause-kept : goal.returns-clause-kept
+returns-clause-kept g c =
     let f = c.requires.formed in
-    bytes_same (c.args.self.now.shape.vblocks * c.args.self.now.shape.pages) (g.M.Nand.contents c.args.self.now.media) (g.M.Nand.contents c.virtual_write-answer.new.media) (λ p le. beyond_of (c.virtual_write-answer.ensures.either t) p (subst (λ b. b ≤ p) (sym f.segments.virtual_bound) le))
+    record {
+      same_shape = refl;
+      tables = record { live = λ q. refl; pairs = refl; pending = refl; handled = λ n. refl; posted = refl };
+      space = record {
+        same = record { block = refl; all = refl; bad = omega arith; kept = refl };
+        blocks = (refl, refl, refl);
+        pages = (refl, refl, refl);
+        cleaning = (refl, refl, refl);
+        room = omega arith;
+      };
+      names = λ none. refl;
+      bytes = λ t. bytes_same (c.args.self.now.shape.vblocks * c.args.self.now.shape.pages) (g.M.Nand.contents c.args.self.now.media) (g.M.Nand.contents c.virtual_write-answer.new.media)
+          (λ p le. beyond_of (c.virtual_write-answer.ensures.either t) p (subst (λ b. b ≤ p) (sym f.segments.virtual_bound) le));
+      found = refl;
+      clean = λ k. k;
+    }
 
-pub returns-clause-named : goal.returns-clause-named
-returns-clause-named g c t =
-    let f = c.requires.formed in
+pub returns-clause-spare : goal.returns-clause-spare
+returns-clause-spare g c = record { cleaned = λ done. c.virtual_write-answer.ensures.spare; sound = λ none. c.virtual_write-answer.ensures.spare }
+
+pub returns-clause-next_stamp : goal.returns-clause-next_stamp
+returns-clause-next_stamp g c =
+    let d = c.args.self.now in
     let e = c.virtual_write-answer.ensures in
-    same_from c.args.self.now.shape (g.M.Nand.contents c.args.self.now.media) (g.M.Nand.contents c.virtual_write-answer.new.media) (shape_is f.segments (g.met.M.Nand.contents_fit c.args.self.now.media t))
-    (shape_is f.segments (subst (λ n. ImageOf n (g.M.Nand.contents c.virtual_write-answer.new.media)) e.geometry (g.met.M.Nand.contents_fit c.virtual_write-answer.new.media t)))
-    (λ p le. beyond_of (e.either t) p (subst (λ b. b ≤ p) (sym f.segments.virtual_bound) le))
+    let before = g.M.Nand.write_faults d.media in
+    let after = g.M.Nand.write_faults c.virtual_write-answer.new.media in
+    let means = c.takes_stamp-taken.ensures in
+    let to_rose : Rose c.write_faults-faults.result c.write_faults.result → Rose before after = λ rose. subst (λ n. Rose n after) c.write_faults-faults.ensures (subst (λ n. Rose c.write_faults-faults.result n) c.write_faults.ensures rose) in
+    let from_rose : Rose before after → Rose c.write_faults-faults.result c.write_faults.result = λ rose. subst (λ n. Rose n c.write_faults.result) (sym c.write_faults-faults.ensures) (subst (λ n. Rose before n) (sym c.write_faults.ensures) rose) in
+    write_rises (c.virtual_write-answer.result ≡ write.Done) c.takes_stamp-taken.result c.stamp_after-self.result d.next (g.M.Nand.clock d.media) (g.M.Nand.clock c.virtual_write-answer.new.media) before after c.stamp_after-self.ensures
+    ((λ taken. ⊎_elim (λ done. inl done) (λ rose. inr (to_rose rose)) (means.0 taken)), (λ tried. means.1 (⊎_elim (λ done. inl done) (λ rose. inr (from_rose rose)) tried)))
+    e.counts.later e.counts.more_writes e.ticks
+
+pub returns-clause-clock : goal.returns-clause-clock
+returns-clause-clock g c = record { clock = c.virtual_write-answer.ensures.counts.later; later = c.virtual_write-answer.ensures.ticks }
+
+pub returns-clause-faults : goal.returns-clause-faults
+returns-clause-faults g c =
+    let k = c.virtual_write-answer.ensures.counts in
+    record { reads_never_fall = k.more_reads; writes_never_fall = k.more_writes; cause = k.cause; stays = λ exact un. k.stays un }
 
 pub returns-clause-formed : goal.returns-clause-formed
 returns-clause-formed g c =
@@ -89,8 +144,11 @@ returns-clause-formed g c =
       mapped = record { places_in = e.below; blank_in = e.within };
       live = f.live;
       free = f.free;
+      spare = f.spare;
       no_pairs = f.no_pairs;
-      space = f.space;
+      legal = f.legal;
+      unwritten = no_stamp_beyond (kept_segments f.segments e.geometry e.numbers);
+      names = names_are (kept_segments f.segments e.geometry e.numbers) next f.live f.names.space (λ p h held. let lt = f.stamp.live p h held in omega (arith, lt, rises));
       found = found_still f.found rises;
       found_stored = λ t.
           let beyond = λ (p : ℕ) (le : bound ≤ p). beyond_of (e.either t) p (subst (λ b. b ≤ p) (sym f.segments.virtual_bound) le) in
@@ -107,6 +165,7 @@ returns-clause-formed g c =
       };
       medium = λ t.
           let on = f.medium t in
+          let beyond = λ (p : ℕ) (le : bound ≤ p). beyond_of (e.either t) p (subst (λ b. b ≤ p) (sym f.segments.virtual_bound) le) in
           let now_fits = subst (λ n. ImageOf n new) e.geometry (g.met.M.Nand.contents_fit c.virtual_write-answer.new.media t) in
           made_medium (kept_segments f.segments refl e.numbers) now_fits f.live (e.segment t)
           (physical_kept bound d.pseg old new f.live (begins f.segments) (λ p le. beyond_of (e.either t) p (subst (λ b. b ≤ p) (sym f.segments.virtual_bound) le)) on.physical_is)
@@ -126,5 +185,10 @@ returns-clause-formed g c =
           (e.either t))
           (λ unrisen. keeps_below d.next next (to_keeps (e.unused t undone unrisen)) on.below rises)
           (rose_or (g.M.Nand.write_faults d.media) (g.M.Nand.write_faults c.virtual_write-answer.new.media)))
-          (done_or c.virtual_write-answer.result));
+          (done_or c.virtual_write-answer.result))
+          (λ p page is.
+          let same = same_from d.shape old new (shape_is f.segments (g.met.M.Nand.contents_fit d.media t)) (shape_is f.segments now_fits) beyond in
+          let was = on.named_below p page (sym (same p) ∙ is) in
+          omega (arith, was, rises))
+          f.no_pairs f.spare;
     }

@@ -1,6 +1,7 @@
 use Rattle.std.proofs.Common.{◌≡◌, ◌+◌, ◌∙◌, subst, sym}
 use Rattle.nl_pseg.specs.Segment.{Physical, TakenAsErased}
 use Rattle.nl_pseg.proofs.GivenBack.{all_given, counted_free, free_counted, left_none}
+use Rattle.nl_pseg.proofs.Openings.{some_kept}
 use Rattle.nl_pseg.proofs.pseg.PSeg.give_back.Goals as goal
 
 pub returns-clause-free : goal.returns-clause-free
@@ -16,3 +17,6 @@ pub returns-clause-same : goal.returns-clause-same
 returns-clause-same c count =
     c.give_back_all.ensures.given.same
     (counted_free c.self.inside.state c.self.invariant (subst (λ (s : Physical). s.first + s.free ≡ s.blocks) (sym c.self.view_is) count)) ∙ c.self.view_is
+
+pub returns-clause-kept : goal.returns-clause-kept
+returns-clause-kept c = some_kept c.give_back_all.new.self c.give_back_all.ensures.formed

@@ -4,7 +4,7 @@ use Rattle.nl_pseg.specs.Answers.{IsFault, IsPlaced}
 use Rattle.nl_pseg.specs.Effects.{Counted}
 use Rattle.nl_pseg.specs.Segment.{Physical, IsClean, IsLive, IsReady, IsSpent, IsUnspent, room}
 use Rattle.nl_pseg.specs.Seen.{seen}
-use Rattle.nl_pseg.proofs.States.{taken_segment}
+use Rattle.nl_pseg.proofs.States.{kept_dead, taken_segment}
 use Rattle.nl_pseg.proofs.pseg.PSeg.nameless_overwrite.Goals as goal
 
 pub returns-clause-within : goal.returns-clause-within
@@ -36,3 +36,6 @@ returns-clause-same g c = subst (λ (s : Physical). (IsPlaced c.overwrite.result
 
 pub returns-clause-spent : goal.returns-clause-spent
 returns-clause-spent g c = subst (λ (s : Physical). IsPlaced c.overwrite.result → IsSpent s (seen c.overwrite.new.self)) c.self.view_is c.overwrite.ensures.placing.spent
+
+pub returns-clause-kept_dead : goal.returns-clause-kept_dead
+returns-clause-kept_dead g c = kept_dead c.overwrite.new.self c.overwrite.ensures.formed
