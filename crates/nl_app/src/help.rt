@@ -24,7 +24,8 @@ Status:
      unbuilt: the script or the volume is none that `run` takes
   3  source fault: standard input could not be read
   4  standard output could not be written
-  5  medium fault: the image file could not be opened, read or written; or an answer is EIO
+  5  medium fault: the image file could not be opened, read or written; or an answer is EIO;
+     medium in use: another program has the image file
   6  memory: there is not enough memory
 
 Example:

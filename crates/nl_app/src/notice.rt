@@ -5,6 +5,8 @@ pub enum Notice {
     Words,
     /// The image file could not be opened or attached.
     MediumFault,
+    /// Another program has the image file.
+    MediumInUse,
     Memory,
 }
 
@@ -14,11 +16,13 @@ impl Notice {
     pub fn text(self) -> &'static str
         ensures words { self ≡ Notice.Words → result.now ≡ codes "words" }
         ensures medium_fault { self ≡ Notice.MediumFault → result.now ≡ codes "medium fault" }
+        ensures medium_in_use { self ≡ Notice.MediumInUse → result.now ≡ codes "medium in use" }
         ensures memory { self ≡ Notice.Memory → result.now ≡ codes "memory" }
     {
         match self {
             Notice::Words => "words",
             Notice::MediumFault => "medium fault",
+            Notice::MediumInUse => "medium in use",
             Notice::Memory => "memory",
         }
     }
@@ -26,11 +30,13 @@ impl Notice {
     pub fn status(self) -> u8
         ensures words { self ≡ Notice.Words → result ≡ 2 }
         ensures medium_fault { self ≡ Notice.MediumFault → result ≡ 5 }
+        ensures medium_in_use { self ≡ Notice.MediumInUse → result ≡ 5 }
         ensures memory { self ≡ Notice.Memory → result ≡ 6 }
     {
         match self {
             Notice::Words => 2,
             Notice::MediumFault => 5,
+            Notice::MediumInUse => 5,
             Notice::Memory => 6,
         }
     }

@@ -58,6 +58,7 @@ pub fn answer<Rt: Files<File = File> + AllocGlobal + Threads + Wait + Sync, S: S
     match FileNand::attach(alloc, file) {
         Ok(media) => Ok(status_of(nameless(rt, alloc, words, src, sink, media, &NoGate))),
         Err(Attach::Fault(_)) => Err(Notice::MediumFault),
+        Err(Attach::InUse(_)) => Err(Notice::MediumInUse),
         Err(Attach::Memory(_)) => Err(Notice::Memory),
     }
 }

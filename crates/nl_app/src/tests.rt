@@ -80,3 +80,16 @@ fn faulty_words_leave_the_file(rt: HostRuntime) -> Result<(), Fail> {
     fs::remove_file(&rt, path)?;
     Ok(())
 }
+
+#[test]
+fn a_file_that_is_in_use_is_left(rt: HostRuntime) -> Result<(), Fail> {
+    let path = "nl_app_in_use.img";
+    fs::write(&rt, path, b"kept".as_slice())?;
+    let other = File::open(&rt, path)?;
+    other.lock()?;
+    assert!(rt; answers(&rt, path, "format 32 32", Err(Notice::MediumInUse), b"")?);
+    drop(other);
+    assert!(rt; fs::read(&rt, path)?.as_slice() == b"kept".as_slice());
+    fs::remove_file(&rt, path)?;
+    Ok(())
+}

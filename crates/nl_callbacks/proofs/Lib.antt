@@ -1,3 +1,5 @@
+pub mod Filters
 pub mod IndexProofs
 pub mod ListsProofs
 pub mod PendingProofs
+pub mod Relaying

@@ -1,4 +1,5 @@
 pub mod Kept
 pub mod Links
 pub mod Lists
+pub mod Notices
 pub mod Pending

@@ -1,5 +1,5 @@
 -- The callbacks that wait for their transaction.
-use Rattle.std.specs.Prelude.{◌≡◌, ℕ, ◌+◌, ◌<◌, ◌≤◌, List, length, Option, Some, None, slice_index_or, remove, count_by, nat_lt}
+use Rattle.std.specs.Prelude.{◌≡◌, ℕ, ◌+◌, ◌<◌, ◌≤◌, List, length, Option, Some, None, slice_index_or, remove, filter, count_by, nat_lt, nat_le, ◌==◌, Bool, false, not}
 use Rattle.nl_field.specs.declared.pointer.Tag.{Tag}
 use Rattle.nl_iface.specs.declared.Callback.{Callback}
 use Rattle.nl_callbacks.specs.declared.entry.Entry.{Entry}
@@ -43,6 +43,19 @@ first_of (Some earlier) transaction = Some earlier
 
 abbrev pub marked : Entry → ℕ → Entry
 marked e transaction = record { callback = e.callback; transaction = first_of e.transaction transaction }
+
+-- handled by a transaction up to this one
+abbrev pub is_over : ℕ → Option ℕ → Bool
+is_over upto None = false
+is_over upto (Some transaction) = nat_le transaction upto
+
+-- the callbacks that no transaction up to this one has handled
+abbrev pub unacknowledged : ℕ → List Entry → List Entry
+unacknowledged upto es = filter (λ e. not (is_over upto e.transaction)) es
+
+-- the callbacks of other old names
+abbrev pub beside_name : List Entry → ℕ → List Entry
+beside_name es name = filter (λ e. not (e.callback.before == name)) es
 
 -- the table without the callback at this place
 abbrev pub without : PendingTable → ℕ → PendingTable

@@ -4,9 +4,11 @@
 mod entry;
 mod links;
 mod lists;
+mod notices;
 mod pending;
 
 pub use nl_field::Memory;
+pub use notices::{NoticeLog, NoticePass, Notices};
 pub use pending::Pending;
 
 #[cfg(test)]

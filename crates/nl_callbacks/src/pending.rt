@@ -1,7 +1,7 @@
-ghost use Rattle.std.specs.Prelude.{◌≡◌, ℕ, ◌+◌, ◌-◌, ◌^◌, ◌<◌, ◌≤◌, ◌↔◌, [], length, insert, min, slice_set, IsTrue, IfOk, IfSome, IfNone, Some};
+ghost use Rattle.std.specs.Prelude.{◌≡◌, ℕ, ◌+◌, ◌-◌, ◌^◌, ◌<◌, ◌≤◌, ◌↔◌, ◌∷◌, ◌++◌, [], length, insert, min, slice_set, IsTrue, IfOk, IfSome, IfNone, Some};
 ghost use Rattle.std.specs.Bool.{OnTrue, OnFalse};
 ghost use Rattle.nl_callbacks.specs.Lists.{Rises};
-ghost use Rattle.nl_callbacks.specs.Pending.{Acknowledges, Cancels, HasCallback, IsLeastFree, IsName, IsPending, IsTable, IsWaiting, callback_of, entry_at, marked, new_entry, no_entry, number_of, place_of};
+ghost use Rattle.nl_callbacks.specs.Pending.{Acknowledges, Cancels, HasCallback, IsLeastFree, IsName, IsPending, IsTable, IsWaiting, beside_name, callback_of, entry_at, marked, new_entry, no_entry, number_of, place_of, unacknowledged};
 
 use crate::entry::{Entry, entry_place};
 use crate::links::{Link, place};
@@ -55,7 +55,8 @@ fn least_free(entries: &Vec<Entry>) -> u64
 impl Pending {
     /// No callback, with room for so many.
     pub fn new(alloc: Global, room: u32) -> Result<Pending, Memory>
-        ensures { IfOk result (λ p. p ≡ record { callbacks = []; posted = 0; room = room }) }
+        ensures empty { IfOk result (λ p. p ≡ record { callbacks = []; posted = 0; room = room }) }
+        ensures table { IfOk result (λ p. IsTable p.callbacks p.posted) }
     {
         let entries = Vec::with_capacity(alloc, room as usize)?;
         let names = Vec::with_capacity(alloc, room as usize)?;
@@ -106,6 +107,8 @@ impl Pending {
         ensures next { self.old.posted + 1 < 2 ^ 64 → result ≡ self.old.posted + 1 }
         ensures reused { 2 ^ 64 ≤ self.old.posted + 1 → IsLeastFree self.old.callbacks result }
         ensures fresh { IsPending self.old.callbacks result → ⊥ }
+        ensures table { IsTable self.new.callbacks self.new.posted }
+        ensures appends { self.old.posted + 1 < 2 ^ 64 → self.new.callbacks ≡ self.old.callbacks ++ new_entry (callback_of result old new tag stamp) ∷ [] }
         ensures posted { self.new ≡ record { callbacks = insert self.old.callbacks (place_of self.old.callbacks result) (new_entry (callback_of result old new tag stamp)); posted = min (self.old.posted + 1) (2 ^ 64 - 1); room = self.old.room - 1 } }
     {
         let number = self.next_number();
@@ -165,6 +168,7 @@ impl Pending {
         ensures found { IsTrue result ↔ IsPending self.old.callbacks number }
         ensures handled { OnTrue result (let at = place_of self.old.callbacks number in self.new ≡ record { callbacks = slice_set self.old.callbacks at (marked (entry_at self.old.callbacks at) transaction); posted = self.old.posted; room = self.old.room }) }
         ensures kept { OnFalse result (self.new ≡ self.old) }
+        ensures table { IsTable self.new.callbacks self.new.posted }
     {
         let at = entry_place(&self.entries, number);
         if at == self.entries.len() {
@@ -197,6 +201,9 @@ impl Pending {
         ensures some { IfSome result (Acknowledges self.old self.new upto) }
         ensures none { IfNone result ((i transaction : ℕ) → i < length self.old.callbacks → (entry_at self.old.callbacks i).transaction ≡ Some transaction → upto < transaction) }
         ensures kept { IfNone result (self.new ≡ self.old) }
+        ensures over { unacknowledged upto self.new.callbacks ≡ unacknowledged upto self.old.callbacks }
+        ensures all { IfNone result (unacknowledged upto self.new.callbacks ≡ self.new.callbacks) }
+        ensures table { IsTable self.new.callbacks self.new.posted }
     {
         if self.done.len() == 0 {
             return None;
@@ -223,6 +230,9 @@ impl Pending {
         ensures found { IsTrue result ↔ IsName self.old.callbacks name }
         ensures cancelled { OnTrue result (Cancels self.old self.new name) }
         ensures kept { OnFalse result (self.new ≡ self.old) }
+        ensures beside { beside_name self.new.callbacks name ≡ beside_name self.old.callbacks name }
+        ensures all { OnFalse result (beside_name self.new.callbacks name ≡ self.new.callbacks) }
+        ensures table { IsTable self.new.callbacks self.new.posted }
     {
         let here = place(&self.names, name as u64, 0);
         if here == self.names.len() {

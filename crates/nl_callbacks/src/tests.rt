@@ -1,6 +1,7 @@
 use super::*;
 use nl_field::Tag;
 use nl_iface::Callback;
+use std::test::Fail;
 
 #[derive(Clone, Copy, Debug)]
 enum Step {
@@ -116,4 +117,21 @@ fn callbacks_wait_for_their_transaction(rt: HostRuntime) {
     for (i, (step, want)) in steps.iter().enumerate() {
         assert_eq!(rt; run(&mut pending, *step), *want, "at {i}: {step:?}");
     }
+}
+
+// A queue of two numbers.
+#[test]
+fn notices_come_in_order(rt: HostRuntime) -> Result<(), Fail> {
+    let (notices, mut sender, mut taker) = Notices::new(rt.alloc(), 2)?;
+    assert_eq!(rt; notices.take(&rt, &mut taker), None);
+    assert!(rt; notices.send(&rt, &mut sender, 7));
+    assert!(rt; notices.send(&rt, &mut sender, 5));
+    assert!(rt; !notices.send(&rt, &mut sender, 9));
+    assert_eq!(rt; notices.take(&rt, &mut taker), Some(7));
+    assert!(rt; notices.send(&rt, &mut sender, 9));
+    let mut taker = notices.meet(&mut sender, taker);
+    assert_eq!(rt; notices.take(&rt, &mut taker), Some(5));
+    assert_eq!(rt; notices.take(&rt, &mut taker), Some(9));
+    assert_eq!(rt; notices.take(&rt, &mut taker), None);
+    Ok(())
 }

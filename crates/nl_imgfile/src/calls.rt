@@ -8,6 +8,7 @@ ghost use Rattle.nl_imgfile.specs.PageRecord.{erased_record, written_record};
 use crate::header::{geometry_in, never_formed};
 use crate::layout::{HEADER, STATE};
 use crate::page_record::PageRecord;
+use crate::target::Target;
 use nl_field::PageBuf;
 use nl_nand::Geometry;
 use std::fs::File;
@@ -27,18 +28,22 @@ pub fn read_geometry(file: &File) -> io::Result<Geometry>
 }
 
 /// Gives the file its length for this geometry, with nothing but zeros in it.
-pub fn write_zeros(file: &File, length: u64, _geometry: &Geometry) -> io::Result<()>
+pub fn write_zeros<T: Target>(target: &mut T, length: u64, _geometry: &Geometry) -> io::Result<()>
     requires { length ≡ file_length _geometry.now.blocks _geometry.now.pages }
 {
-    file.set_len(0)?;
-    file.set_len(length)
+    target.resize(0)?;
+    target.resize(length)
 }
 
 /// Writes the header of this geometry.
-pub fn write_header(file: &File, header: &[u8], _geometry: &Geometry) -> io::Result<()>
+pub fn write_header<T: Target>(
+    target: &mut T,
+    header: &[u8],
+    _geometry: &Geometry,
+) -> io::Result<()>
     requires { header.now ≡ header_bytes _geometry.now }
 {
-    file.write_all_at(header, 0)
+    target.put(header, 0)
 }
 
 /// Reads the record of this page.
@@ -50,8 +55,8 @@ pub fn read_record(file: &File, at: u64, buffer: &mut PageRecord, _page: u32) ->
 
 /// Writes the record of this page, which holds these bytes. The state comes last: a write that is cut short leaves the page
 /// erased.
-pub fn write_page(
-    file: &File,
+pub fn write_page<T: Target>(
+    target: &mut T,
     at: u64,
     buffer: &PageRecord,
     _page: u32,
@@ -61,14 +66,19 @@ pub fn write_page(
     requires bytes { buffer.now ≡ written_record _from.now }
 {
     let (state, page) = buffer.bytes().split_at(STATE);
-    file.write_all_at(page, at + STATE as u64)?;
-    file.write_all_at(state, at)
+    target.put(page, at + STATE as u64)?;
+    target.put(state, at)
 }
 
 /// Writes the record of this page, which is erased. The state comes first.
-pub fn write_erased(file: &File, at: u64, buffer: &PageRecord, _page: u32) -> io::Result<()>
+pub fn write_erased<T: Target>(
+    target: &mut T,
+    at: u64,
+    buffer: &PageRecord,
+    _page: u32,
+) -> io::Result<()>
     requires place { at ≡ position _page }
     requires bytes { buffer.now ≡ erased_record }
 {
-    file.write_all_at(buffer.bytes(), at)
+    target.put(buffer.bytes(), at)
 }

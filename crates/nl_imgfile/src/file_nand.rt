@@ -9,17 +9,20 @@ use crate::calls::{
 use crate::header::header_into;
 use crate::layout::{HEADER, length_of, position_of};
 use crate::page_record::PageRecord;
+use crate::target::Target;
 use nl_field::PageBuf;
 use nl_nand::{FormAnswer, Geometry, Nand, ReadAnswer, WriteAnswer};
 use std::alloc::Global;
-use std::fs::File;
+use std::fs::{File, TryLockError};
 use std::io;
 
 /// Why a file was not attached. It is given back.
 #[derive(Debug, Drop)]
 pub enum Attach {
-    /// Its header could not be read.
+    /// It could not be locked, or its header could not be read.
     Fault(File),
+    /// Another program, or another medium of this one, has the file.
+    InUse(File),
     /// Memory was wanting.
     Memory(File),
 }
@@ -42,17 +45,23 @@ impl FileNand {
     ghost use Rattle.nl_imgfile.specs.declared.file_nand.Attach.TheVariants as attach;
     ghost use Rattle.nl_imgfile.specs.FileMedium.{clock_of, read_faults_of, write_faults_of};
 
-    /// The medium that the file holds. A file that is shorter than a header, or has no header of legal numbers, is a medium
+    /// The medium that the file holds. It locks the file, so that no other medium is attached to it until this one is dropped.
+    /// A file that is shorter than a header, or has no header of legal numbers, is a medium
     /// that was never formed.
     pub fn attach(alloc: Global, file: File) -> Result<FileNand, Attach>
         ensures clock { IfOk result (λ f. clock_of f ≡ 0) }
         ensures read_faults { IfOk result (λ f. read_faults_of f ≡ 0) }
         ensures write_faults { IfOk result (λ f. write_faults_of f ≡ 0) }
-        ensures back { IfErr result (λ e. (e ≡ attach.Fault file) ⊎ (e ≡ attach.Memory file)) }
+        ensures back { IfErr result (λ e. (e ≡ attach.Fault file) ⊎ ((e ≡ attach.InUse file) ⊎ (e ≡ attach.Memory file))) }
     {
         let Ok(buffer) = PageRecord::new(alloc) else {
             return Err(Attach::Memory(file));
         };
+        match file.try_lock() {
+            Ok(()) => {}
+            Err(TryLockError::WouldBlock) => return Err(Attach::InUse(file)),
+            Err(TryLockError::Error(_)) => return Err(Attach::Fault(file)),
+        }
         let Ok(geometry) = read_geometry(&file) else {
             return Err(Attach::Fault(file));
         };
@@ -69,23 +78,28 @@ impl FileNand {
 
 // Forms the file. Zeros come first and the header last: where this is cut short, the file has no header, and is a medium that
 // was never formed.
-fn form_file(file: &File, geometry: &Geometry) -> io::Result<()>
+pub fn form_file<T: Target>(target: &mut T, geometry: &Geometry) -> io::Result<()>
     requires { IsTrue (is_legal geometry.now.blocks geometry.now.pages) }
 {
-    write_zeros(file, length_of(geometry.blocks, geometry.pages), geometry)?;
+    write_zeros(target, length_of(geometry.blocks, geometry.pages), geometry)?;
     let mut header = [0; HEADER];
     header_into(geometry, &mut header);
-    write_header(file, &header, geometry)
+    write_header(target, &header, geometry)
 }
 
-// Writes the records of so many pages as erased, one after the other.
-fn erase_pages(file: &File, buffer: &mut PageRecord, first: u32, count: u32) -> io::Result<()>
+// Writes the records of so many pages as erased, one after the other in rising order.
+pub fn erase_pages<T: Target>(
+    target: &mut T,
+    buffer: &mut PageRecord,
+    first: u32,
+    count: u32,
+) -> io::Result<()>
     requires { first + count < 2 ^ 32 }
     ensures { buffer.new ≡ erased_record }
 {
     buffer.set_erased();
     for page in first..first + count {
-        write_erased(file, position_of(page), buffer, page)?;
+        write_erased(target, position_of(page), buffer, page)?;
     }
     Ok(())
 }
@@ -176,7 +190,7 @@ impl Nand for FileNand {
         ensures write_faults { FaultsCounted (write_faults_of self.old) (write_faults_of self.new) (result ≡ FormAnswer.Failed) }
     {
         let geometry = Geometry { blocks, pages };
-        match form_file(&self.file, &geometry) {
+        match form_file(&mut self.file, &geometry) {
             Ok(()) => {
                 self.geometry = geometry;
                 FormAnswer::Done
@@ -212,7 +226,7 @@ impl Nand for FileNand {
         ensures counted { OperationCounted geometry_of clock_of read_faults_of write_faults_of self.old self.new result }
     {
         self.buffer.set_written(from);
-        let written = write_page(&self.file, position_of(page), &self.buffer, page, from);
+        let written = write_page(&mut self.file, position_of(page), &self.buffer, page, from);
         self.counted(written)
     }
 
@@ -224,7 +238,7 @@ impl Nand for FileNand {
         ensures counted { OperationCounted geometry_of clock_of read_faults_of write_faults_of self.old self.new result }
     {
         let pages = self.geometry.pages;
-        let erased = erase_pages(&self.file, &mut self.buffer, block * pages, pages);
+        let erased = erase_pages(&mut self.file, &mut self.buffer, block * pages, pages);
         self.counted(erased)
     }
 }

@@ -187,8 +187,10 @@ fn forming_drops_what_was_there(rt: HostRuntime) -> Result<(), Fail> {
     let mut media = fresh(&rt, path)?;
     assert!(rt; answers(&mut media, &mut buf, &[(b'p', 64, b'D')]));
     assert!(rt; media.form(33, 64) == FormAnswer::Done);
+    drop(media);
     assert_eq!(rt; numbers(&rt, path)?, (33, 64));
     assert_eq!(rt; fs::metadata(&rt, path)?.len(), 8_806_912);
+    let mut media = attached(&rt, path)?;
     assert!(rt; media.form(32, 32) == FormAnswer::Done);
     assert_eq!(rt; fs::metadata(&rt, path)?.len(), 4_272_128);
     assert!(rt; answers(&mut media, &mut buf, &[(b'r', 64, b'E')]));
@@ -255,6 +257,7 @@ fn a_cut_record_is_a_failed_read(rt: HostRuntime) -> Result<(), Fail> {
     resize(&rt, path, 12_432)?;
     assert!(rt; answers(&mut media, &mut buf, &[(b'r', 1, b'E'), (b'r', 1023, b'F')]));
     assert_eq!(rt; media.read_faults(), 2);
+    drop(media);
     write(&rt, path, 4_272_128, b"behind")?;
     assert!(rt; answers(&mut formed(&rt, path)?, &mut buf, &[(b'r', 1023, b'E')]));
     fs::remove_file(&rt, path)?;
@@ -281,6 +284,7 @@ fn a_failed_call_is_counted(rt: HostRuntime) -> Result<(), Fail> {
     assert!(rt; media.form(64, 64) == FormAnswer::Failed);
     assert_eq!(rt; media.write_faults(), 3);
     assert_eq!(rt; media.clock(), 0);
+    drop(media);
     assert_eq!(rt; numbers(&rt, path)?, (32, 32));
     fs::remove_file(&rt, path)?;
     Ok(())
@@ -293,5 +297,18 @@ fn a_file_that_cannot_be_read_is_given_back(rt: HostRuntime) -> Result<(), Fail>
     let back = matches!(FileNand::attach(rt.alloc(), file), Err(Attach::Fault(_)));
     fs::remove_file(&rt, path)?;
     assert!(rt; back);
+    Ok(())
+}
+
+#[test]
+fn a_file_has_one_medium_at_a_time(rt: HostRuntime) -> Result<(), Fail> {
+    let path = "nl_imgfile_locked.img";
+    let first = fresh(&rt, path)?;
+    let second = FileNand::attach(rt.alloc(), opened(&rt, path)?);
+    assert!(rt; matches!(second, Err(Attach::InUse(_))));
+    drop(second);
+    drop(first);
+    assert_eq!(rt; numbers(&rt, path)?, (32, 32));
+    fs::remove_file(&rt, path)?;
     Ok(())
 }

@@ -1,4 +1,5 @@
 use Rattle.std.proofs.Common.{arith, rules}
+use Rattle.nl_callbacks.proofs.Filters.{acknowledged_over, none_over}
 use Rattle.nl_callbacks.proofs.PendingProofs.{acknowledge_at, acknowledge_empty, acknowledge_none, acknowledged, inside_drop}
 use Rattle.nl_callbacks.proofs.pending.Pending.acknowledge_next.Goals as goal
 
@@ -30,3 +31,15 @@ pub returns-clause-some : goal.returns-clause-some
 returns-clause-some c =
     rw (← c.self.view_is) (acknowledged c.self.inside.entries.items c.drop_entry.new.entries.items c.self.inside.names.items c.self.inside.waiting.items c.self.inside.done.items c.index-link.result.now c.index.result.now c.self.inside.room c.self.inside.posted c.args.upto c.entry_place-at.result
     c.self.invariant.kept (omega (arith, c.self.inside.done.ok)) c.index-link.ensures c.entry_place-at.ensures c.if-link-upto.false c.index.ensures c.drop_entry.ensures.items c.self.invariant.few)
+
+pub returns-then-len-eq0-clause-all : goal.returns-then-len-eq0-clause-all
+returns-then-len-eq0-clause-all c = none_over c.args.self.now.callbacks c.args.upto (returns-then-len-eq0-clause-none c)
+
+pub returns-then-link-upto-clause-all : goal.returns-then-link-upto-clause-all
+returns-then-link-upto-clause-all c = none_over c.args.self.now.callbacks c.args.upto (returns-then-link-upto-clause-none c)
+
+pub returns-clause-over : goal.returns-clause-over
+returns-clause-over c = acknowledged_over (returns-clause-some c)
+
+pub returns-clause-table : goal.returns-clause-table
+returns-clause-table c = (invariant_of-self c).table

@@ -2,6 +2,7 @@ use Rattle.std.proofs.Common.{arith, rules, ◌≡◌, ◌∙◌, subst, refl}
 use Rattle.std.proofs.lemmas.Bool.{false≢true}
 use Rattle.nl_callbacks.specs.declared.links.Link.{Link}
 use Rattle.nl_callbacks.specs.Links.{no_link}
+use Rattle.nl_callbacks.proofs.Filters.{cancelled_beside, none_named}
 use Rattle.nl_callbacks.proofs.ListsProofs.{at_is}
 use Rattle.nl_callbacks.proofs.PendingProofs.{cancel_at, cancel_found, cancelled, inside_drop}
 use Rattle.nl_callbacks.proofs.pending.Pending.cancel.Goals as goal
@@ -42,3 +43,15 @@ pub returns-clause-cancelled : goal.returns-clause-cancelled
 returns-clause-cancelled c =
     rw (← c.self.view_is) (cancelled c.self.inside.entries.items c.drop_entry.new.entries.items c.self.inside.names.items c.self.inside.waiting.items c.self.inside.done.items c.index-link.result.now c.self.inside.room c.self.inside.posted c.args.name c.place-here.result c.entry_place-at.result
     c.self.invariant.kept c.place-here.ensures (search rules) c.index-link.ensures c.if-link-name.false c.entry_place-at.ensures c.drop_entry.ensures.items c.self.invariant.few)
+
+pub returns-clause-beside : goal.returns-clause-beside
+returns-clause-beside c = cancelled_beside (returns-clause-cancelled c)
+
+pub returns-then-here-len-clause-all : goal.returns-then-here-len-clause-all
+returns-then-here-len-clause-all c = none_named c.args.self.now.callbacks c.args.name (λ named. false≢true ((returns-then-here-len-clause-found c).1 named))
+
+pub returns-then-link-name-clause-all : goal.returns-then-link-name-clause-all
+returns-then-link-name-clause-all c = none_named c.args.self.now.callbacks c.args.name (λ named. false≢true ((returns-then-link-name-clause-found c).1 named))
+
+pub returns-clause-table : goal.returns-clause-table
+returns-clause-table c = (invariant_of-self c).table
