@@ -5,9 +5,12 @@ pub mod FormattedProofs
 pub mod FreshImage
 pub mod FreshProofs
 pub mod GraphOfPages
+pub mod LeftIsSoundProofs
 pub mod MetaCharge
+pub mod NamedPages
 pub mod PagesOfFiles
 pub mod ReadableProofs
+pub mod Represented
 pub mod SoundProofs
 pub mod SpareProofs
 pub mod StopsKept

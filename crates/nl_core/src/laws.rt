@@ -1,6 +1,7 @@
 //! Laws of the definitions. Each function stands for the law that its contract names.
 ghost use Rattle.nl_core.specs.Formatted.{FormattedIsSound};
 ghost use Rattle.nl_core.specs.Fresh.{FewFreshAreSound, FreshIsSound, SpareByCopies, SpareByFewPages};
+ghost use Rattle.nl_core.specs.LeftIsSound.{WhatIsLeftIsSound};
 ghost use Rattle.nl_core.specs.ReadablePages.{PagesAreReadable};
 ghost use Rattle.nl_core.specs.RightFor.{RepresentedIsOne, RightCharges, RightRepresents};
 ghost use Rattle.nl_core.specs.StandsLaws.{MetadataStands, StandsForOne, WalkIsSoundness, StandsWithCharges};
@@ -60,4 +61,9 @@ pub fn few_fresh_are_sound()
 // Which pages of an image are the readable ones of a segment.
 pub fn pages_are_readable()
     ensures { PagesAreReadable }
+{}
+
+// What a device promises of what a stop leaves makes it sound, where the committed map stands for a tree and its pointers lead.
+pub fn what_is_left_is_sound()
+    ensures { WhatIsLeftIsSound }
 {}

@@ -18,7 +18,7 @@ use Rattle.nl_field.specs.declared.seen.Seen.{Seen}
 use Rattle.nl_field.specs.declared.spare.SpareRec.{SpareRec}
 use Rattle.nl_field.specs.declared.spare.SpareRec.TheVariants.{Virtual, Physical}
 use Rattle.nl_field.proofs.ScanLists.{physical_is}
-use Rattle.nl_meta.specs.Consistent.{IsListed, IsThere, SamePage, StampsRight, of_file, page_on, tag_on}
+use Rattle.nl_meta.specs.Consistent.{IsListed, IsThere, PageOfStamp, SamePage, StampsRight, of_file, page_on, tag_on}
 use Rattle.nl_meta.specs.Nodes.{Held}
 use Rattle.nl_meta.specs.RightLaws.{ImageIsRight}
 use Rattle.nl_meta.proofs.Lists.{some_in, none_some, true_false, all-each, find-some, member-find, member-filter, member-some, member-enumerate, member-map}
@@ -56,6 +56,24 @@ zero_from (b ∷ bytes) (suc n) h = zero_from bytes n (by ((zeros_from bytes == 
     by : (p : Bool) → ((zeros_from bytes == 0) && (b == 0)) ≡ p → cond p 0 (zeros_from bytes + 1) ≤ suc n → zeros_from bytes ≤ n
     by true e h = let z = eqb-true (zeros_from bytes) 0 (and_parts _ _ e).0 in omega (arith, z)
     by false e h = omega (arith, h)
+
+zero_all : (bytes : List ℕ) → all_zero bytes ≡ true → zeros_from bytes ≡ 0
+unfolding zeros_from
+zero_all [] e = refl
+zero_all (b ∷ bytes) e =
+    let p = and_parts (b == 0) (all_zero bytes) e in
+    ap (λ (t : Bool). cond t 0 (zeros_from bytes + 1)) (and_from _ _ (eq-eqb (zeros_from bytes) 0 (zero_all bytes p.1)) p.0)
+
+-- and where it is zero its zeros have begun
+pub from_zero : (bytes : List ℕ) (n : ℕ) → all_zero (drop n bytes) ≡ true → zeros_from bytes ≤ n
+unfolding zeros_from
+from_zero [] n e = omega arith
+from_zero (b ∷ bytes) zero e = let z = zero_all (b ∷ bytes) e in omega (arith, z)
+from_zero (b ∷ bytes) (suc n) e = by ((zeros_from bytes == 0) && (b == 0)) (from_zero bytes n e)
+  where
+    by : (p : Bool) → zeros_from bytes ≤ n → cond p 0 (zeros_from bytes + 1) ≤ suc n
+    by true h = omega arith
+    by false h = omega (arith, h)
 
 -- ---- the owner on a page
 
@@ -143,6 +161,25 @@ module _ (image : Image) where
 
   tag_bytes : (r : Readable) → Has (physical_pages image) r → (tag : Tag) (stamp wear : ℕ) → r.rec ≡ Physical tag stamp wear → tag ≡ tag_in (spare_bytes (without_wear r.rec))
   tag_bytes r m tag stamp wear e = let q = read r (physical_readable image r m) in tag_read q.0 tag stamp wear (q.1 ∙ ap (λ (x : SpareRec). Some x) e) ∙ ap (λ (x : SpareRec). tag_in (spare_bytes (without_wear x))) (sym e)
+
+  -- a page of a stamp has what is found under the stamp, where pages of one stamp are the same
+  pub on_page : StampsRight (physical_pages image) → (r : Readable) → Has (physical_pages image) r → (stamp : ℕ) → stamp_on r ≡ stamp
+      → (x : PageOfStamp) × (page_on image stamp ≡ Some x) × (x.bytes ≡ r.main)
+  unfolding page_on found
+  on_page stamps r m stamp e = (
+    record { tag = o.tag; bytes = f.0.main },
+    ap (option_and_then of_file) f.1 ∙ ap (λ (x : SpareRec). option_map (λ tag. record { tag = tag; bytes = f.0.main }) (tag_on x)) o.is,
+    (stamps f.0 r n.0 m (eqb-true _ _ n.1 ∙ sym e)).main,
+  )
+    where
+      f : (r : Readable) × (find (λ r. stamp_on r == stamp) (physical_pages image) ≡ Some r)
+      f = find-some (λ r. stamp_on r == stamp) (physical_pages image) r m (eq-eqb _ _ e)
+
+      n : Has (physical_pages image) f.0 × ((stamp_on f.0 == stamp) ≡ true)
+      n = member-find (λ r. stamp_on r == stamp) (physical_pages image) f.0 f.1
+
+      o : Owner f.0.rec
+      o = owned f.0 n.0
 
   -- the page of a stamp is that of a pointer, where pages of one stamp are the same
   pub page_there : IsTrue (is_image image) → StampsRight (physical_pages image) → (h : Held) → IsListed (physical_seen (shape_of_image image) (seen_in image)) h → IsThere (page_on image) h

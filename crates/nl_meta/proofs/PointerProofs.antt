@@ -163,7 +163,7 @@ module _ (shape : Shape) (pages : VirtualMap) where
       ino n h m = let q = member-map (held_from n (node n)) (pointers_in (node n).body) h m in sym (ap (λ (z : Held). z.tag.ino) q.2)
 
   module _ (key : Held → ℕ) where
-    keys_there : EachTwo (λ x y. key x ≢ key y) held → (h k : Held) → Has held h → Has held k → key h ≡ key k → OnePointer h k
+    pub keys_there : EachTwo (λ x y. key x ≢ key y) held → (h k : Held) → Has held h → Has held k → key h ≡ key k → OnePointer h k
     keys_there two h k m n e = by (two_members (λ x y. key x ≢ key y) held two h k m n)
       where
         by : (h ≡ k) ⊎ ((key h ≢ key k) ⊎ (key k ≢ key h)) → OnePointer h k
