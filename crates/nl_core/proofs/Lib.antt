@@ -5,6 +5,7 @@ pub mod FormattedProofs
 pub mod FreshImage
 pub mod FreshProofs
 pub mod GraphOfPages
+pub mod HolderListProofs
 pub mod LeftIsSoundProofs
 pub mod MetaCharge
 pub mod NamedPages

@@ -3,6 +3,7 @@ pub mod CrashLaws
 pub mod Examples
 pub mod Formatted
 pub mod Fresh
+pub mod HolderLists
 pub mod LeftIsSound
 pub mod ReadablePages
 pub mod RightFor

@@ -1,6 +1,7 @@
 //! Laws of the definitions. Each function stands for the law that its contract names.
 ghost use Rattle.nl_core.specs.Formatted.{FormattedIsSound};
 ghost use Rattle.nl_core.specs.Fresh.{FewFreshAreSound, FreshIsSound, SpareByCopies, SpareByFewPages};
+ghost use Rattle.nl_core.specs.HolderLists.{OneChangesHolders};
 ghost use Rattle.nl_core.specs.LeftIsSound.{WhatIsLeftIsSound};
 ghost use Rattle.nl_core.specs.ReadablePages.{PagesAreReadable};
 ghost use Rattle.nl_core.specs.RightFor.{RepresentedIsOne, RightCharges, RightRepresents};
@@ -66,4 +67,9 @@ pub fn pages_are_readable()
 // What a device promises of what a stop leaves makes it sound, where the committed map stands for a tree and its pointers lead.
 pub fn what_is_left_is_sound()
     ensures { WhatIsLeftIsSound }
+{}
+
+// One pointer that changes in the list of all changes those of its write sequence number, and no others.
+pub fn one_changes_holders()
+    ensures { OneChangesHolders }
 {}

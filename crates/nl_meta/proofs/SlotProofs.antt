@@ -127,7 +127,7 @@ flat_at f d e len last (x ∷ xs) i = by (flat_at f d e len last xs (i - 256)) (
         get_or-append_right (f x) (flat_map f xs) i d (omega (arith, high, len x)) ∙ ap (λ (n : ℕ). get_or (flat_map f xs) (i - n) d) (len x) ∙ rest
         ∙ sym (λ k. get_or (f (get_or (x ∷ xs) (q k) e)) (r k) d)
 
-pointers_length : (pages : VirtualMap) (v : ℕ) → length (pointers_at pages v) ≡ 256
+pub pointers_length : (pages : VirtualMap) (v : ℕ) → length (pointers_at pages v) ≡ 256
 pointers_length pages v = by (v == 0)
   where
     by : (b : Bool) → length (cond b (replicate 256 no_pointer) (pointers 256 (bytes_at pages v))) ≡ 256
@@ -148,7 +148,7 @@ in_page pages v j h = by (v == 0)
     by true = none_there 256 j
     by false = get_or-each_of pointer_fields 16 256 (bytes_at pages v) j no_pointer h ∙ sym (own_bytes (drop (16 * j) (bytes_at pages v)))
 
-at_index : (pages : VirtualMap) (rec : InodeRec) (i : ℕ) → length rec.direct ≡ 8
+pub at_index : (pages : VirtualMap) (rec : InodeRec) (i : ℕ) → length rec.direct ≡ 8
     → slice_index_or (rec.direct ++ flat_map (pointers_at pages) rec.addresses) i no_pointer ≡ pointer_at pages rec i
 unfolding pointer_at
 at_index pages rec i eight = by (cases_lt i 8)

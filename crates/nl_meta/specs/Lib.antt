@@ -5,6 +5,7 @@ pub mod FindingsLaw
 pub mod LargeFiles
 pub mod Nodes
 pub mod Phases
+pub mod PointerLists
 pub mod RightLaws
 pub mod SlotLaws
 pub mod Walk

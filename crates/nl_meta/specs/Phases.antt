@@ -52,8 +52,8 @@ usual nodes entries data_pages = image_with (at_address 67 5 nodes ∷ at_addres
 abbrev pub usual_data : List Page
 usual_data = data_page 0 3 (codes "one") ∷ data_page 1 4 (codes "two") ∷ []
 
-abbrev pub sound_image : Image
-sound_image = usual usual_nodes (entry_for 1 1 (codes "a")) usual_data
+abbrev pub consistent_image : Image
+consistent_image = usual usual_nodes (entry_for 1 1 (codes "a")) usual_data
 
 -- the super page is for another geometry
 abbrev pub bad_super : Image

@@ -1,5 +1,6 @@
 //! Laws of the definitions. Each function stands for the law that its contract names.
 ghost use Rattle.nl_meta.specs.FindingsLaw.{NoFindings, PlacesAreTaken};
+ghost use Rattle.nl_meta.specs.PointerLists.{OnePointerChanges};
 ghost use Rattle.nl_meta.specs.RightLaws.{ImageIsRight};
 ghost use Rattle.nl_meta.specs.SlotLaws.{ByIndexAndName, OneSlot};
 ghost use Rattle.nl_meta.specs.WalkLaw.{ListsAgree, WalkIsConsistency, WalkIsConsistencyOver};
@@ -38,4 +39,9 @@ pub fn one_slot()
 // Pointers by index and entries by name are those that stand in lists.
 pub fn by_index_and_name()
     ensures { ByIndexAndName }
+{}
+
+// Where one pointer of one file changes, one place of the list of all pointers changes.
+pub fn one_pointer_changes()
+    ensures { OnePointerChanges }
 {}

@@ -6,16 +6,16 @@ ghost use Rattle.nl_field.specs.declared.place.What.TheVariants.{Super, Stamp, I
 ghost use Rattle.nl_field.specs.Virtual.{virtual_bytes};
 ghost use Rattle.nl_meta.specs.Committed.{committed_of, header_at, next_number};
 ghost use Rattle.nl_meta.specs.Nodes.{committed_pointers, entry_named, pointer_at, super_of_pages};
-ghost use Rattle.nl_meta.specs.Phases.{copied, page_of_two, ptr, two_entries, without_super, sound_image, bad_super, bad_stamp, bad_inode, bad_pages, bad_entry, behind_entries, two_names, unreached, bad_pointer, bad_names, moved_page, with_journal, without_image, far_address, only_missing, blank_image};
+ghost use Rattle.nl_meta.specs.Phases.{copied, page_of_two, ptr, two_entries, without_super, consistent_image, bad_super, bad_stamp, bad_inode, bad_pages, bad_entry, behind_entries, two_names, unreached, bad_pointer, bad_names, moved_page, with_journal, without_image, far_address, only_missing, blank_image};
 ghost use Rattle.nl_meta.specs.LargeFiles.{file_of_pages, filled, list_of_filled, pages_of_pages, spread, lost, virtual_blocks};
 ghost use Rattle.nl_meta.specs.Walk.{walk, walk_over, phase_fault, opening_answer, answers_blank, answers_damaged, opens, place_of_pointer};
 ghost use Rattle.nl_meta.specs.Examples.{image_of_a, hello_page, long_page};
 
-pub fn fresh_is_sound()
+pub fn fresh_is_consistent()
     ensures { walk fresh_image ≡ None }
 {}
 
-pub fn a_is_sound()
+pub fn a_is_consistent()
     ensures { walk (image_of_a hello_page) ≡ None }
 {}
 
@@ -29,7 +29,7 @@ pub fn not_zero_behind()
 {}
 
 pub fn phases()
-    ensures none { walk sound_image ≡ None }
+    ensures none { walk consistent_image ≡ None }
     ensures numbers { walk bad_super ≡ Some (record { place = 0; what = Super }) }
     ensures stamps { walk bad_stamp ≡ Some (record { place = 257; what = Stamp }) }
     ensures inodes { walk bad_inode ≡ Some (record { place = 2; what = Inode }) }
@@ -91,7 +91,7 @@ pub fn missing_entries()
 pub fn opening_answers()
     ensures blank { opening_answer blank_image ≡ answers_blank }
     ensures damaged { opening_answer (image_of_a uncorrectable) ≡ answers_damaged (record { place = 1; what = Pointer }) }
-    ensures sound { opening_answer fresh_image ≡ opens }
+    ensures consistent { opening_answer fresh_image ≡ opens }
 {}
 
 // The first pointer is found under its name, and the second where its page was moved to. A page in the spare block is not taken.
