@@ -1,5 +1,7 @@
-ghost use Rattle.std.specs.Prelude.{◌≡◌, ℕ, Ok, None, false, IsTrue};
+ghost use Rattle.std.specs.Prelude.{◌≡◌, ℕ, Ok, None, false, IsTrue, IsSome, IfOk};
+ghost use Rattle.nl_app.specs.Ended.{EndsOnFile};
 ghost use Rattle.nl_top.specs.Command.{command_of};
+ghost use Rattle.nl_top.specs.Top.{stream};
 
 use crate::image::open;
 use crate::notice::Notice;
@@ -36,8 +38,8 @@ fn status_of<M: Drop>(done: Done<M>) -> u8
     status
 }
 
-/// Answers the words of a command line on the image file at a path, and gives the status. Faulty words leave the file alone,
-/// whether it is there or not.
+/// Answers the words of a command line on the image file at a path, and gives the status, which is that of `nameless` on a
+/// medium that does not tell its contents. Faulty words leave the file alone, whether it is there or not.
 pub fn answer<Rt: Files<File = File> + AllocGlobal + Threads + Wait + Sync, S: Source, K: Sink>(
     rt: &Rt,
     path: &str,
@@ -46,6 +48,8 @@ pub fn answer<Rt: Files<File = File> + AllocGlobal + Threads + Wait + Sync, S: S
     sink: &mut K,
 ) -> Result<u8, Notice>
     ensures faulty { command_of words.now ≡ None → result ≡ Ok 2 }
+    ensures ended { IsSome (command_of words.now) → IfOk result (EndsOnFile words.now (stream (S.left src.old) (S.faults src.old)) (stream (S.left src.new) (S.faults src.new))
+        (stream (K.taken sink.old) (K.faults sink.old)) (stream (K.taken sink.new) (K.faults sink.new))) }
 {
     let alloc = rt.alloc();
     let Some(command) = command_of(words) else {

@@ -22,6 +22,24 @@ fn words_of(alloc: Global, text: &str) -> Result<Words, Memory> {
     Ok(words)
 }
 
+/// Whether the words are answered with this text and end so, where the source and the sink fail at the calls of these lists.
+fn answers_over<Rt: Files<File = File> + AllocGlobal + Threads + Wait + Sync>(
+    rt: &Rt,
+    path: &str,
+    words: &str,
+    reads: FailList,
+    writes: FailList,
+    want: Result<u8, Notice>,
+    text: &[u8],
+) -> Result<bool, Memory> {
+    let alloc = rt.alloc();
+    let words = words_of(alloc, words)?;
+    let mut source = MemSource::new(Text::of(alloc, SCRIPT)?, reads);
+    let mut sink = MemSink::new(alloc, 1000, writes)?;
+    let ended = answer(rt, path, &words, &mut source, &mut sink);
+    Ok(ended == want && sink.bytes() == text)
+}
+
 /// Whether the words are answered with this text and end so.
 fn answers<Rt: Files<File = File> + AllocGlobal + Threads + Wait + Sync>(
     rt: &Rt,
@@ -30,12 +48,15 @@ fn answers<Rt: Files<File = File> + AllocGlobal + Threads + Wait + Sync>(
     want: Result<u8, Notice>,
     text: &[u8],
 ) -> Result<bool, Memory> {
-    let alloc = rt.alloc();
-    let words = words_of(alloc, words)?;
-    let mut source = MemSource::new(Text::of(alloc, SCRIPT)?, FailList::new(alloc));
-    let mut sink = MemSink::new(alloc, 1000, FailList::new(alloc))?;
-    let ended = answer(rt, path, &words, &mut source, &mut sink);
-    Ok(ended == want && sink.bytes() == text)
+    let none = FailList::new(rt.alloc());
+    let no_more = FailList::new(rt.alloc());
+    answers_over(rt, path, words, none, no_more, want, text)
+}
+
+fn first_call(alloc: Global) -> Result<FailList, Memory> {
+    let mut list = FailList::new(alloc);
+    list.push(1)?;
+    Ok(list)
 }
 
 #[test]
@@ -90,6 +111,31 @@ fn a_file_that_is_in_use_is_left(rt: HostRuntime) -> Result<(), Fail> {
     assert!(rt; answers(&rt, path, "format 32 32", Err(Notice::MediumInUse), b"")?);
     drop(other);
     assert!(rt; fs::read(&rt, path)?.as_slice() == b"kept".as_slice());
+    fs::remove_file(&rt, path)?;
+    Ok(())
+}
+
+#[test]
+fn failed_streams_end_with_a_status(rt: HostRuntime) -> Result<(), Fail> {
+    let path = "nl_app_streams.img";
+    let _ = fs::remove_file(&rt, path);
+    let alloc = rt.alloc();
+    let formatted = b"formatted blocks 32 pages 32 data 480 nodes 64 meta 32\n";
+    assert!(rt; answers(&rt, path, "format 32 32", Ok(0), formatted)?);
+    let reads = first_call(alloc)?;
+    assert!(rt;
+        answers_over(
+            &rt,
+            path,
+            "run",
+            reads,
+            FailList::new(alloc),
+            Ok(3),
+            b"source fault\n"
+        )?
+    );
+    let writes = first_call(alloc)?;
+    assert!(rt; answers_over(&rt, path, "run", FailList::new(alloc), writes, Ok(4), b"")?);
     fs::remove_file(&rt, path)?;
     Ok(())
 }
