@@ -10,7 +10,6 @@ use Rattle.nl_tree.specs.declared.reply.Reply.TheVariants.{Fault}
 use Rattle.nl_turns_tests.specs.Failing.{refuses_none}
 
 refuses_nothing : (changes : Bool) → (if changes then fault_of_change None 1 else None) ≡ None
-unfolding fault_of_change
 refuses_nothing true = refl
 refuses_nothing false = refl
 
