@@ -1,0 +1,103 @@
+-- One background task more.
+use Rattle.std.proofs.Common.{◌≡◌, ℕ, zero, suc, ◌+◌, ◌<◌, ◌≤◌, Bool, true, false, ◌||◌, List, [], ◌∷◌, ◌++◌, refl, sym, ap, ◌∙◌, subst, arith}
+use Rattle.std.specs.List.{range_with_len}
+use Rattle.std.proofs.lemmas.List.{append-nil}
+use Rattle.atomic_table.specs.Seated.{TableId}
+use Rattle.nl_callbacks.specs.Notices.{IsSender, IsTaker, sent}
+use Rattle.nl_callbacks.specs.declared.notices.Notices.{Notices}
+use Rattle.nl_tree.specs.Causes.{LostHasCause}
+use Rattle.nl_tree.specs.declared.turn.DutyAnswer.{DutyAnswer}
+use Rattle.nl_tree.specs.declared.turn.DutyAnswer.TheVariants.{Did, Nothing, Fault, Lost}
+use Rattle.nl_turns.proofs.Histories.{prefix_trans}
+use Rattle.nl_turns.specs.Seat.{SeatState, by_seat, passed_by}
+use Rattle.nl_turns.specs.Served.{duty_entry}
+use Rattle.nl_workers.specs.Placed.{HasPassed, EachPlaced, entries_of, lines_done}
+use Rattle.nl_workers.specs.Duties.{HasServed, IsOutbox, MayClean, HasCleaned, MayHandle, HasHandled, is_lost}
+use Rattle.nl_workers.specs.declared.duty.Cleaner.{Cleaner}
+use Rattle.nl_workers.specs.declared.duty.Handler.{Handler}
+use Rattle.nl_workers.specs.declared.outbox.Outbox.{Outbox}
+use Rattle.nl_workers.proofs.Turned.{placed_grows, placed_more, own_more, done_append}
+
+pub idles : (seat : SeatState) → HasServed seat seat
+idles seat = record { same = refl; grows = ([], append-nil seat.seen); placed = λ lines h. h; done = refl }
+
+pub serves : (seat s s' : SeatState) → HasServed seat s → HasPassed s duty_entry s' → HasServed seat s'
+serves seat s s' i p =
+    let number : s.number ≡ seat.number = ap (λ (z : SeatState). z.number) i.same in
+    let quiet : by_seat seat.number p.mid ≡ by_seat seat.number s.seen = subst (λ n. by_seat n p.mid ≡ by_seat n s.seen) number p.quiet in
+    let same_is : s' ≡ record seat { seen = p.mid ++ passed_by seat.number duty_entry ∷ [] } = p.same ∙ (λ k. record (i.same k) { seen = p.mid ++ passed_by (number k) duty_entry ∷ [] }) in
+    let seen_is : s'.seen ≡ p.mid ++ passed_by seat.number duty_entry ∷ [] = ap (λ (z : SeatState). z.seen) same_is in
+    record {
+      same = same_is ∙ (λ k. record seat { seen = sym seen_is k });
+      grows = prefix_trans seat.seen p.mid s'.seen (prefix_trans seat.seen s.seen p.mid i.grows p.grows) (passed_by seat.number duty_entry ∷ [], sym seen_is);
+      placed = λ lines h. subst (EachPlaced lines seat.number) (sym seen_is)
+          (placed_more lines seat.number p.mid duty_entry (placed_grows lines seat.number s.seen p.mid p.grows quiet (i.placed lines h))
+          (record { staged = λ a. absurd (omega arith); effect = λ a. absurd (omega arith) }));
+      done = ap (λ xs. lines_done (entries_of seat.number xs)) seen_is
+          ∙ (ap lines_done (own_more seat.number s.seen p.mid duty_entry quiet)
+          ∙ (done_append (entries_of seat.number s.seen) (duty_entry ∷ []) ∙ (append-nil (lines_done (entries_of seat.number s.seen)) ∙ i.done)));
+    }
+
+-- ---- no page is lost over a medium that tells its contents
+
+pub not_lost : (tells : Type 0) (answer : DutyAnswer) → ((wanted found : ℕ) → answer ≡ Lost wanted found → LostHasCause tells wanted found) → tells → is_lost answer ≡ false
+not_lost tells Did h t = refl
+not_lost tells Nothing h t = refl
+not_lost tells Fault h t = refl
+not_lost tells (Lost wanted found) h t = absurd ((h wanted found refl).0 t)
+
+still : (now was before : Bool) (answer : DutyAnswer) → now ≡ (was || is_lost answer) → is_lost answer ≡ false → was ≡ before → now ≡ before
+still now true before answer is none e = is ∙ e
+still now false before answer is none e = is ∙ (none ∙ e)
+
+-- ---- the loops
+
+pub cleans_none : (tells : Type 0) (lock : TableId) (notices : Notices) (cleaner : Cleaner) → MayClean lock notices cleaner → HasCleaned tells notices cleaner cleaner
+cleans_none tells lock notices cleaner may = record { served = idles cleaner.seat; sends = may.sends; goes_on = omega arith; none_lost = λ t. refl }
+
+pub cleans : (tells : Type 0) (notices : Notices) (cleaner s s' : Cleaner) (answer : DutyAnswer) → HasCleaned tells notices cleaner s → HasPassed s.seat duty_entry s'.seat → IsOutbox notices s'.outbox
+    → s.outbox.last ≤ s'.outbox.last → s'.lost ≡ (s.lost || is_lost answer) → (tells → is_lost answer ≡ false) → HasCleaned tells notices cleaner s'
+cleans tells notices cleaner s s' answer i p sends on is none = record {
+  served = serves cleaner.seat s.seat s'.seat i.served p;
+  sends = sends;
+  goes_on = let a = i.goes_on in omega arith;
+  none_lost = λ t. still s'.lost s.lost cleaner.lost answer is (none t) (i.none_lost t);
+}
+
+pub handles_none : (tells : Type 0) (lock : TableId) (notices : Notices) (handler : Handler) → MayHandle lock notices handler → HasHandled tells notices handler handler
+handles_none tells lock notices handler may = record { served = idles handler.seat; takes = may.takes; none_lost = λ t. refl }
+
+pub handles : (tells : Type 0) (notices : Notices) (handler s s' : Handler) (answer : DutyAnswer) → HasHandled tells notices handler s → HasPassed s.seat duty_entry s'.seat → IsTaker notices s'.pass
+    → s'.lost ≡ (s.lost || is_lost answer) → (tells → is_lost answer ≡ false) → HasHandled tells notices handler s'
+handles tells notices handler s s' answer i p takes is none = record {
+  served = serves handler.seat s.seat s'.seat i.served p;
+  takes = takes;
+  none_lost = λ t. still s'.lost s.lost handler.lost answer is (none t) (i.none_lost t);
+}
+
+pub waits : (tells : Type 0) (notices : Notices) (handler s s' : Handler) → HasHandled tells notices handler s → s'.seat ≡ s.seat → s'.lost ≡ s.lost → IsTaker notices s'.pass → HasHandled tells notices handler s'
+waits tells notices handler s s' i seat lost takes = record {
+  served = subst (HasServed handler.seat) (sym seat) i.served;
+  takes = takes;
+  none_lost = λ t. lost ∙ i.none_lost t;
+}
+
+counting : (a n : ℕ) → range_with_len a n ++ (a + n) ∷ [] ≡ range_with_len a (suc n)
+counting a zero = let e : a + zero ≡ a = omega arith in ap (λ (x : ℕ). x ∷ []) e
+counting a (suc n) =
+    let e : a + suc n ≡ a + 1 + n = omega arith in
+    ap (λ (w : List ℕ). a ∷ w) (ap (λ (m : ℕ). range_with_len (a + 1) n ++ m ∷ []) e ∙ counting (a + 1) n)
+
+counts_on : (n : ℕ) → range_with_len 1 n ++ (n + 1) ∷ [] ≡ range_with_len 1 (n + 1)
+counts_on n =
+    let e : n + 1 ≡ 1 + n = omega arith in
+    let f : suc n ≡ n + 1 = omega arith in
+    ap (λ (m : ℕ). range_with_len 1 n ++ m ∷ []) e ∙ (counting 1 n ∙ ap (range_with_len 1) f)
+
+-- one number more is sent
+pub sends_more : (notices : Notices) (s s' : Outbox) (number : ℕ) → IsOutbox notices s → s.last ≡ number → IsSender notices s'.pass → sent s'.pass ≡ sent s.pass ++ (number + 1) ∷ [] → s'.last ≡ number + 1
+    → IsOutbox notices s'
+sends_more notices s s' number i at sender more last = record {
+  sender = sender;
+  numbers = more ∙ (ap (λ (ns : List ℕ). ns ++ (number + 1) ∷ []) (i.numbers ∙ ap (range_with_len 1) at) ∙ (counts_on number ∙ ap (range_with_len 1) (sym last)));
+}

@@ -1,0 +1,189 @@
+ghost use Rattle.std.specs.Prelude.{◌≡◌, ◌<◌, ◌||◌, true, false};
+ghost use Rattle.nl_turns.specs.Served.{duty_entry};
+ghost use Rattle.nl_workers.specs.Placed.{HasPassed};
+ghost use Rattle.nl_workers.specs.Duties.{MayClean, HasCleaned, MayHandle, HasHandled, is_lost, is_copy};
+
+use crate::gate::{Gate, GatePlace};
+use crate::outbox::Outbox;
+use crate::stop::StopFlag;
+use nl_callbacks::{NoticePass, Notices};
+use nl_tree::{Duty, DutyAnswer};
+use nl_turns::{Entry, Served, TurnSeat, Turns};
+use std::sync::Wait;
+use std::thread;
+
+/// The cleaner's number at the gate.
+const CLEANER: u8 = 8;
+
+/// The handler's number at the gate.
+const HANDLER: u8 = 9;
+
+/// The cleaner copies while fewer blocks than these are free.
+const FEW_BLOCKS: u32 = 6;
+
+/// What the loop of the cleaner has in hand, and whether one of its tasks found a page without the wanted stamp.
+#[derive(Drop)]
+pub(crate) struct Cleaner {
+    pub(crate) seat: TurnSeat,
+    pub(crate) outbox: Outbox,
+    pub(crate) lost: bool,
+}
+
+/// What the loop of the handler has in hand, and whether one of its tasks found a page without the wanted stamp.
+#[derive(Drop)]
+pub(crate) struct Handler {
+    pub(crate) seat: TurnSeat,
+    pub(crate) pass: NoticePass,
+    pub(crate) lost: bool,
+}
+
+/// What a turn of the cleaner did.
+#[derive(Drop)]
+struct Cleaned {
+    task: Duty,
+    answer: DutyAnswer,
+    /// The number of the last callback.
+    posted: u64,
+}
+
+fn is_lost_now(lost: bool, answer: DutyAnswer) -> bool
+    ensures { result ≡ (lost || is_lost answer) }
+{
+    lost || matches!(answer, DutyAnswer::Lost { .. })
+}
+
+/// The wanted task, but no copy while there are blocks enough.
+fn fitting(wanted: Duty, free_blocks: u32) -> Duty
+    ensures few { is_copy result ≡ true → free_blocks < 6 }
+    ensures wanted { free_blocks < 6 → result ≡ wanted }
+    ensures other { is_copy wanted ≡ false → result ≡ wanted }
+{
+    if matches!(wanted, Duty::Copy) && free_blocks >= FEW_BLOCKS {
+        return Duty::Erase;
+    }
+    wanted
+}
+
+/// Copies go on as long as they do something. Then comes an erase, and then the look at the coldest block.
+fn next_task(task: Duty, answer: DutyAnswer) -> Duty
+    ensures copies { task ≡ Duty.Copy → answer ≡ DutyAnswer.Did → result ≡ Duty.Copy }
+    ensures erases { task ≡ Duty.Copy → (answer ≡ DutyAnswer.Did → ⊥) → result ≡ Duty.Erase }
+    ensures levels { task ≡ Duty.Erase → result ≡ Duty.Level }
+    ensures again { task ≡ Duty.Level → result ≡ Duty.Copy }
+{
+    match (task, answer) {
+        (Duty::Copy, DutyAnswer::Did) => Duty::Copy,
+        (Duty::Copy, _) => Duty::Erase,
+        (Duty::Erase, _) => Duty::Level,
+        _ => Duty::Copy,
+    }
+}
+
+#[tactic(auto, using(crate::proofs::Serving::not_lost))]
+/// One turn with the wanted task, or another one where no copy is due.
+fn clean_turn<V: Served, R: Wait>(
+    rt: &R,
+    turns: &Turns<V>,
+    seat: &mut TurnSeat,
+    wanted: Duty,
+) -> Cleaned
+    requires lock { seat.old.lock ≡ turns.now.name }
+    requires idle { seat.old.has_turn ≡ false }
+    ensures passed { HasPassed seat.old duty_entry seat.new }
+    ensures lost { V.tells → is_lost result.answer ≡ false }
+{
+    let mut turn = turns.take(rt, seat);
+    let task = fitting(wanted, turn.value.free_blocks());
+    let answer = turn.value.duty(task);
+    let posted = turn.value.posted();
+    turns.pass(seat, turn, Entry::of_duty());
+    Cleaned {
+        task,
+        answer,
+        posted,
+    }
+}
+
+#[tactic(auto, using(crate::proofs::Serving::not_lost))]
+/// One turn with a callback.
+fn handle_turn<V: Served, R: Wait>(
+    rt: &R,
+    turns: &Turns<V>,
+    seat: &mut TurnSeat,
+    number: u64,
+) -> DutyAnswer
+    requires lock { seat.old.lock ≡ turns.now.name }
+    requires idle { seat.old.has_turn ≡ false }
+    ensures passed { HasPassed seat.old duty_entry seat.new }
+    ensures lost { V.tells → is_lost result ≡ false }
+{
+    let mut turn = turns.take(rt, seat);
+    let answer = turn.value.duty(Duty::Handle(number));
+    turns.pass(seat, turn, Entry::of_duty());
+    answer
+}
+
+/// Calls the gate after a task that did something, and else lets others run.
+fn rest<G: Gate>(gate: &G, worker: u8, answer: DutyAnswer) {
+    if matches!(answer, DutyAnswer::Did) {
+        gate.at(worker, 0, GatePlace::After);
+    } else {
+        thread::yield_now();
+    }
+}
+
+#[tactic(auto, using(crate::proofs::Serving::handles_none))]
+/// Handles callbacks by the numbers that come, until the flag is raised.
+pub(crate) fn handle<V: Served, R: Wait, G: Gate>(
+    rt: &R,
+    turns: &Turns<V>,
+    mut handler: Handler,
+    stop: &StopFlag,
+    notices: &Notices,
+    gate: &G,
+) -> Handler
+    requires { MayHandle turns.now.name notices.now handler }
+    ensures { HasHandled V.tells notices.now handler result }
+{
+    for _ in rt.forever() {
+        if stop.is_raised() {
+            return handler;
+        }
+        match notices.take(rt, &mut handler.pass) {
+            Some(number) => {
+                let answer = handle_turn(rt, turns, &mut handler.seat, number);
+                handler.lost = is_lost_now(handler.lost, answer);
+                rest(gate, HANDLER, answer);
+            }
+            None => thread::yield_now(),
+        }
+    }
+    unreachable!()
+}
+
+#[tactic(auto, using(crate::proofs::Serving::cleans_none))]
+/// Cleans until the flag is raised, and sends the number of each new callback.
+pub(crate) fn clean<V: Served, R: Wait, G: Gate>(
+    rt: &R,
+    turns: &Turns<V>,
+    mut cleaner: Cleaner,
+    stop: &StopFlag,
+    notices: &Notices,
+    gate: &G,
+) -> Cleaner
+    requires { MayClean turns.now.name notices.now cleaner }
+    ensures { HasCleaned V.tells notices.now cleaner result }
+{
+    let mut wanted = Duty::Copy;
+    for _ in rt.forever() {
+        if stop.is_raised() {
+            return cleaner;
+        }
+        let cleaned = clean_turn(rt, turns, &mut cleaner.seat, wanted);
+        cleaner.lost = is_lost_now(cleaner.lost, cleaned.answer);
+        cleaner.outbox.send_up_to(rt, notices, cleaned.posted);
+        rest(gate, CLEANER, cleaned.answer);
+        wanted = next_task(cleaned.task, cleaned.answer);
+    }
+    unreachable!()
+}

@@ -1,0 +1,23 @@
+/// Where a worker stands with a line.
+#[derive(Clone, Copy, Debug, PartialEq, Eq)]
+pub enum GatePlace {
+    /// Before the line's first turn.
+    Before,
+    /// At least one page was staged and no more can be, and the effect is still to come.
+    Staged,
+    /// The effect is done. Of the cleaner and the handler: a background task did something.
+    After,
+}
+
+/// Is told of each worker's steps, and may hold the worker there. None that is told has its turn at that moment.
+pub trait Gate {
+    /// A worker, 0 to 7, is at this place of the line of this number. The cleaner is worker 8 and the handler worker 9, with line 0.
+    fn at(&self, worker: u8, line: u32, place: GatePlace);
+}
+
+/// A gate that does nothing.
+pub struct NoGate;
+
+impl Gate for NoGate {
+    fn at(&self, _worker: u8, _line: u32, _place: GatePlace) {}
+}
