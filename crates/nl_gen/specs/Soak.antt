@@ -53,7 +53,7 @@ of_kind kind file cap a b byte =
     else of_others file (b % 4)
 
 unfoldable pub drawn_of : ℕ → ℕ → ℕ → Drawn
-drawn_of r a b = let file = file_number r in of_kind (r % 10) file (cap_of file) a b (r / 16777216)
+drawn_of r a b = let file = file_number r in of_kind (r % 10) file (cap_of file) a b (r / 16777216 % 256)
 
 -- ---- its text
 

@@ -93,5 +93,12 @@ pub(crate) fn of_draws(r: u32, a: u32, b: u32) -> Drawn
     ensures { result ≡ soak.drawn_of r a b }
 {
     let file = file_number(r);
-    of_kind(r % 10, file, cap_of(file), a, b, (r / 16_777_216) as u8)
+    of_kind(
+        r % 10,
+        file,
+        cap_of(file),
+        a,
+        b,
+        (r / 16_777_216 % 256) as u8,
+    )
 }

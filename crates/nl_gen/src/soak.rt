@@ -1,6 +1,8 @@
-ghost use Rattle.std.specs.Prelude.{◌≡◌, ℕ, ◌+◌, ◌<◌, ◌≤◌, ◌++◌, flat_map, slice_index_or, vec_len, OnOk, IfOk};
+ghost use Rattle.std.specs.Prelude.{◌≡◌, ℕ, ◌+◌, ◌*◌, ◌<◌, ◌≤◌, ◌++◌, List, length, flat_map, slice_index_or, vec_len, Ok, OnOk, IfOk};
 ghost use Rattle.std.specs.List.{range_with_len};
 ghost use Rattle.rand_pcg.specs.Lcg.{Lcg};
+ghost use Rattle.nl_tree.specs.declared.call.Line.{Line};
+ghost use Rattle.nl_script.specs.Script.{script};
 ghost use Rattle.nl_gen.specs.Soak.{generator, line_from, after_line, mkdir_text, soak_text};
 
 use crate::draws::draw;
@@ -46,13 +48,10 @@ fn push_directories(text: &mut Vec<u8>, workers: u8) -> Result<(), Memory>
     Ok(())
 }
 
-/// A script of so many lines for each of so many workers, after a line `K mkdir /wK` for each worker K: 1 to 20,000 lines
-/// and 1 to 8 workers. It has no barrier. Worker K works on four files of its directory, and draws each line by three
-/// words of its own generator `Lcg64Xsh32::new(seed, K)`. The lines of the workers come in turn.
+// The text of the script.
 #[tactic(auto, unfolding(crate::specs::Soak::soak_text))]
-pub fn soak_script(alloc: Global, seed: u64, lines: u32, workers: u8) -> Result<Text, Memory>
-    requires lines { (0 < lines) × (lines ≤ 20000) }
-    requires workers { (0 < workers) × (workers ≤ 8) }
+fn text_of(alloc: Global, seed: u64, lines: u32, workers: u8) -> Result<Text, Memory>
+    requires { workers ≤ 8 }
     ensures { IfOk result (λ text. text ≡ soak_text seed lines workers) }
 {
     let mut text = Vec::new(alloc);
@@ -62,4 +61,17 @@ pub fn soak_script(alloc: Global, seed: u64, lines: u32, workers: u8) -> Result<
         push_round(&mut text, &mut all)?;
     }
     Ok(Text::from_vec(text))
+}
+
+/// A script of so many lines for each of so many workers, after a line `K mkdir /wK` for each worker K: 1 to 20,000 lines
+/// and 1 to 8 workers. It has no barrier. Worker K works on four files of its directory, and draws each line by three
+/// words of its own generator `Lcg64Xsh32::new(seed, K)`. The lines of the workers come in turn. `script_of` accepts the
+/// text, and reads `workers * (lines + 1)` lines.
+pub fn soak_script(alloc: Global, seed: u64, lines: u32, workers: u8) -> Result<Text, Memory>
+    requires lines { (0 < lines) × (lines ≤ 20000) }
+    requires workers { (0 < workers) × (workers ≤ 8) }
+    ensures text { IfOk result (λ text. text ≡ soak_text seed lines workers) }
+    ensures accepted { IfOk result (λ text. (made : List Line) × (script text ≡ Ok made) × (length made ≡ workers * (lines + 1))) }
+{
+    text_of(alloc, seed, lines, workers)
 }

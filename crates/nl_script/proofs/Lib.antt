@@ -4,3 +4,6 @@ pub mod Digits
 pub mod Placed
 pub mod Steps
 pub mod Bounded
+pub mod Tokens
+pub mod Says
+pub mod Accepted

@@ -20,7 +20,7 @@ pub words-end : (column next : ℕ) (bytes part after : List ℕ) → parts 32 b
 unfolding placed
 words-end column next bytes part after e none = ap (placed column) e ∙ ap (with_part column part) (sym (words-none next after none))
 
-more : (part : List ℕ) (others : List (List ℕ)) → 0 < length others → without_last_empty (part ∷ others) ≡ part ∷ without_last_empty others
+pub more : (part : List ℕ) (others : List (List ℕ)) → 0 < length others → without_last_empty (part ∷ others) ≡ part ∷ without_last_empty others
 unfolding without_last_empty
 more part [] some = absurd (omega arith)
 more [] (next ∷ others) some = refl

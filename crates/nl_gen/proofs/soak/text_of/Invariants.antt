@@ -3,7 +3,7 @@ use Rattle.std.specs.Prelude.{flat_map}
 use Rattle.std.specs.List.{range_with_len}
 use Rattle.rand_pcg.specs.Lcg.{Lcg}
 use Rattle.nl_gen.specs.Soak.{generator, mkdir_text, round_text}
-use Rattle.nl_gen.proofs.soak.soak_script.Given as goal
+use Rattle.nl_gen.proofs.soak.text_of.Given as goal
 
 abbrev pub invariant-rounds : goal.invariant-rounds
 invariant-rounds l = record {
