@@ -1,4 +1,5 @@
 pub mod Bytes
+pub mod ContentLaws
 pub mod CrashStates
 pub mod EntryRecord
 pub mod Examples

@@ -4,6 +4,7 @@
 mod address_list;
 mod answers;
 mod commit;
+pub mod content_laws;
 mod entry;
 mod fail_list;
 mod findings;

@@ -5,6 +5,8 @@ ghost use Rattle.nl_field.specs.SuperPage.{super_bytes, super_of};
 ghost use Rattle.nl_field.specs.Journal.{header_bytes, header_of, commit_bytes, commit_of};
 ghost use Rattle.nl_field.specs.Pointers.{no_pointer, indirect_bytes, indirect_of};
 ghost use Rattle.nl_field.specs.Inode.{inode_bytes, inode_of};
+ghost use Rattle.nl_field.specs.FileContent.{is_content};
+ghost use Rattle.nl_field.specs.ContentLaws.{has_page, is_touched};
 ghost use Rattle.nl_field.specs.EntryRecord.{entry_bytes, entry_of};
 ghost use Rattle.nl_field.specs.Examples.{fresh_image, root_inode, two_supers, one_stamp_two_addresses, short_page, two_copies};
 ghost use Rattle.nl_field.specs.Medium.{stamp_on, readable_pages};
@@ -136,4 +138,24 @@ pub fn addresses_read()
     ensures none { map_bytes (shape_for 32 32) (λ v. None) 71 ≡ None }
     ensures last { map_bytes (shape_for 32 32) (λ v. Some (1, codes "a")) 102 ≡ Some (codes "a") }
     ensures beyond { map_bytes (shape_for 32 32) (λ v. Some (1, codes "a")) 103 ≡ None }
+{}
+
+// Two bytes across a border lie in two pages, no bytes in none. Of a file of one byte the page behind it is none of its pages.
+pub fn pages_touched()
+    ensures first { is_touched 4095 2 0 ≡ true }
+    ensures second { is_touched 4095 2 1 ≡ true }
+    ensures before { is_touched 4096 1 0 ≡ false }
+    ensures behind { is_touched 4095 1 1 ≡ false }
+    ensures no_bytes { is_touched 4096 0 1 ≡ false }
+    ensures there { has_page (record { size = 4097; pages = (1, codes "a") ∷ [] }) 1 ≡ true }
+    ensures hole { has_page (record { size = 4097; pages = (1, codes "a") ∷ [] }) 0 ≡ false }
+{}
+
+// A file without pages is a content, one with a short page or with a page past its size is none.
+pub fn content_or_not()
+    ensures hole { is_content (record { size = 5000; pages = [] }) ≡ true }
+    ensures short { is_content (record { size = 5000; pages = (1, codes "a") ∷ [] }) ≡ false }
+    ensures past { is_content (record { size = 4096; pages = (1, []) ∷ [] }) ≡ false }
+    ensures page { is_content (record { size = 1; pages = (0, 97 ∷ replicate 4095 0) ∷ [] }) ≡ true }
+    ensures behind { is_content (record { size = 0; pages = (0, 97 ∷ replicate 4095 0) ∷ [] }) ≡ false }
 {}
