@@ -103,7 +103,7 @@ module _ (shape : Shape) (pages : VirtualMap) (n : ℕ) (rec : InodeRec) (file :
   file_tagged = ap (tagged_by n) node_is ∙ mapped_twice with_tag (λ p. record { size = rec.size; tag = record { ino = n; generation = rec.generation; index = p.0 }; pointer = p.1 }) (filter (λ p. not (is_none_pointer p.1)) (enumerate_from 0 (all_of pages rec)))
 
   all_length : length (all_of pages rec) ≡ 4104
-  all_length = length-append rec.direct (flat_map (pointers_at pages) rec.addresses) ∙ (λ i. file.direct i + rows rec.addresses i) ∙ count (length rec.addresses) file.addresses
+  all_length = length-append rec.direct (flat_map (pointers_at pages) rec.addresses) ∙ (λ i. file.direct i + rows rec.addresses i) ∙ count (length rec.addresses) file.slots
     where
       rows : (vs : List ℕ) → length (flat_map (pointers_at pages) vs) ≡ 256 * length vs
       rows [] = omega arith

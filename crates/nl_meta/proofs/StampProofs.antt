@@ -187,6 +187,28 @@ module _ (image : Image) where
   pub same_physical : AllAgree (physical_seen (shape_of_image image) (seen_in image)) ↔ StampsRight (physical_pages image)
   same_physical = subst (λ (ss : List Seen). AllAgree ss ↔ StampsRight (physical_pages image)) (sym (physical_is image)) (segment (physical_pages image) physical_agrees one_physical)
 
+module _ (pages : List Readable) (one : (r q : Readable) → Has pages r → Has pages q → r.page ≡ q.page → r ≡ q) where
+  none_differs : StampsRight pages → (r : Readable) → list_any (λ q. q.page == r.page && differs_from_lower pages q) pages ≡ false
+  none_differs right r = none-any _ pages (λ q m. both (q.page == r.page) (differs_from_lower pages q) (find-none _ pages (map_none (λ r. r.page) _ ((stamps_of pages one).1 right)) q m))
+    where
+      both : (a b : Bool) → b ≡ false → (a && b) ≡ false
+      both true b e = e
+      both false b e = refl
+
+-- Where pages of one stamp are one page, each page agrees with those below it.
+pub one_stamp_agrees : (image : Image) → ((r q : Readable) → Has (readable_pages image) r → Has (readable_pages image) q → stamp_on r ≡ stamp_on q → r.page ≡ q.page) → (r : Readable) → agrees_below image r ≡ true
+unfolding agrees_below
+one_stamp_agrees image one r = λ i. not (none_differs (virtual_pages image) (one_virtual image) virtual r i) && not (none_differs (physical_pages image) (one_physical image) physical r i)
+  where
+    same : (r q : Readable) → r ≡ q → SamePage r q
+    same r q e = subst (λ (z : Readable). SamePage r z) e (record { main = refl; rec = refl })
+
+    virtual : StampsRight (virtual_pages image)
+    virtual r q m n s = same r q (one_virtual image r q m n (one r q (virtual_readable image r m) (virtual_readable image q n) s))
+
+    physical : StampsRight (physical_pages image)
+    physical r q m n s = same r q (one_physical image r q m n (one r q (physical_readable image r m) (physical_readable image q n) s))
+
 pub lists_agree : ListsAgree
 lists_agree image = record { virtual = same_virtual image; physical = same_physical image }
 

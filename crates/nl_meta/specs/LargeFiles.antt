@@ -1,5 +1,5 @@
 -- Images of 32 by 32 with a file of many pages, for the last phases of the walk.
-use Rattle.std.specs.Prelude.{ℕ, ◌+◌, ◌-◌, ◌*◌, ◌==◌, nat_lt, true, Option, Some, None, slice_index, if◌then◌else◌, List, [], ◌∷◌, ◌++◌, replicate, map, flat_map, codes}
+use Rattle.std.specs.Prelude.{ℕ, ◌+◌, ◌-◌, ◌*◌, ◌==◌, nat_lt, true, Option, Some, None, if◌then◌else◌, List, [], ◌∷◌, ◌++◌, replicate, map, flat_map, codes}
 use Rattle.std.specs.List.{range_with_len}
 use Rattle.nl_field.specs.Page.{Page, erased, Image}
 use Rattle.nl_field.specs.Pointers.{no_pointer, indirect_bytes}
@@ -43,11 +43,19 @@ with_pages n p data_pages =
 abbrev pub filled : ℕ → Image
 filled n = with_pages n (λ i. ptr (256 + i) (10 + i)) (map (λ i. data_page i (10 + i) []) (range_with_len 0 n))
 
--- what a scan lists of that image
+-- a page of a list by its number, address and stamp, and where its zeros begin
+abbrev pub listed_at : ℕ → ℕ → ℕ → ℕ → Seen
+listed_at page v stamp zeros = record { page = page; rec = Virtual v stamp 0; zeros = zeros; agrees = true }
+
+-- the data page of node 1, generation 1, by its index
+abbrev pub listed_data : ℕ → Seen
+listed_data i = record { page = 256 + i; rec = Physical (record { ino = 1; generation = 1; index = i }) (10 + i) 0; zeros = 0; agrees = true }
+
+-- what a scan lists of that image, where the file has more than 264 pages
 abbrev pub list_of_filled : ℕ → List Seen
 list_of_filled n =
-    map (λ i. record { page = i; rec = Virtual (slice_index (67 ∷ 0 ∷ 71 ∷ 72 ∷ 73 ∷ []) i) (5 + i) 0; zeros = 4096; agrees = true }) (range_with_len 0 5)
-    ++ map (λ i. record { page = 256 + i; rec = Physical (record { ino = 1; generation = 1; index = i }) (10 + i) 0; zeros = 0; agrees = true }) (range_with_len 0 n)
+    listed_at 0 67 5 453 ∷ listed_at 1 0 6 25 ∷ listed_at 2 71 7 10 ∷ listed_at 3 72 8 4090 ∷ listed_at 4 73 9 (16 * (n - 264) - 6) ∷ []
+    ++ map listed_data (range_with_len 0 n)
 
 -- a page in the first n physical blocks, each where its pointer says
 abbrev pub spread : ℕ → Image

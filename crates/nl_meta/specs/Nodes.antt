@@ -51,7 +51,7 @@ slots_of rec = rec.addresses
 
 -- the address of the i-th place of a directory
 abbrev pub address_of_place : InodeRec → ℕ → ℕ
-address_of_place rec i = slice_index rec.addresses (i / 64)
+address_of_place rec i = slice_index (slots_of rec) (i / 64)
 
 -- the 64 bytes of the i-th place of a directory
 unfoldable pub bytes_of_place : VirtualMap → InodeRec → ℕ → List ℕ
@@ -78,12 +78,12 @@ pointer_in_page pages v i = if v == 0 then no_pointer else pointer_fields (slot_
 unfoldable pub pointer_at : VirtualMap → InodeRec → ℕ → Pointer
 pointer_at pages rec i =
     if nat_lt i 8 then slice_index_or rec.direct i no_pointer
-    else pointer_in_page pages (slice_index rec.addresses ((i - 8) / 256)) ((i - 8) % 256)
+    else pointer_in_page pages (slice_index (slots_of rec) ((i - 8) / 256)) ((i - 8) % 256)
 
 -- the pointers of a file by page index: 8 in the node, and 256 for each of its addresses
 unfoldable pub pointers_of_inode : VirtualMap → InodeRec → List (ℕ × Pointer)
 pointers_of_inode pages rec =
-    filter (λ p. not (is_none_pointer p.1)) (enumerate_from 0 (rec.direct ++ flat_map (pointers_at pages) rec.addresses))
+    filter (λ p. not (is_none_pointer p.1)) (enumerate_from 0 (rec.direct ++ flat_map (pointers_at pages) (slots_of rec)))
 
 abbrev pub body_of : VirtualMap → InodeRec → Kind → NodeBody
 body_of pages rec Unused = unused

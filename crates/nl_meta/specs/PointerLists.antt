@@ -9,7 +9,7 @@ use Rattle.nl_field.specs.declared.pointer.Tag.{Tag}
 use Rattle.nl_field.specs.declared.inode.InodeRec.{InodeRec}
 use Rattle.nl_field.specs.declared.inode.Kind.TheVariants.{File}
 use Rattle.nl_meta.specs.Committed.{VirtualMap}
-use Rattle.nl_meta.specs.Nodes.{graph_of, Held, held_by, held_in, inode_at, pointer_at}
+use Rattle.nl_meta.specs.Nodes.{graph_of, Held, held_by, held_in, inode_at, pointer_at, slots_of}
 
 abbrev pub with_tag : Held → Tag × Pointer
 with_tag h = (h.tag, h.pointer)
@@ -40,7 +40,7 @@ pub record IsFile (shape : Shape) (pages : VirtualMap) (n : ℕ) (rec : InodeRec
   pub spelled : inode_at pages n ≡ Some rec
   pub kind : rec.kind ≡ File
   pub direct : length rec.direct ≡ 8
-  pub addresses : length rec.addresses ≡ 16
+  pub slots : length (slots_of rec) ≡ 16
 
 -- Of two maps of pages, a file has the same pointers but at one index, and every other node has the same.
 pub record ChangesPointer (shape : Shape) (old new : VirtualMap) (n index : ℕ) (was is : InodeRec) : Type 0 where

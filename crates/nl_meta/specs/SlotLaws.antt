@@ -8,7 +8,7 @@ use Rattle.nl_field.specs.declared.entry.EntryRec.{EntryRec}
 use Rattle.nl_field.specs.declared.inode.InodeRec.{InodeRec}
 use Rattle.nl_field.specs.declared.pointer.Pointer.{Pointer}
 use Rattle.nl_meta.specs.Committed.{VirtualMap}
-use Rattle.nl_meta.specs.Nodes.{slot_in, slot_at, bytes_of_node, address_of_place, bytes_of_place, entries_of_inode, entry_named, pointers_at, pointer_at, pointers_of_inode}
+use Rattle.nl_meta.specs.Nodes.{slot_in, slot_at, bytes_of_node, slots_of, address_of_place, bytes_of_place, entries_of_inode, entry_named, pointers_at, pointer_at, pointers_of_inode}
 
 -- the page with its i-th slot replaced
 abbrev pub with_slot : ℕ → ℕ → List ℕ → List ℕ → List ℕ
@@ -32,12 +32,12 @@ pub record OneSlot : Type 0 where
       → bytes_of_place new rec k ≡ bytes_of_place old rec k
   -- and another pointer
   pub pointer : (v i : ℕ) (old new : VirtualMap) → ChangesSlot 16 v i old new → (rec : InodeRec) (k : ℕ)
-      → (8 ≤ k → slice_index rec.addresses ((k - 8) / 256) ≡ v → (k - 8) % 256 ≡ i → ⊥) → pointer_at new rec k ≡ pointer_at old rec k
+      → (8 ≤ k → slice_index (slots_of rec) ((k - 8) / 256) ≡ v → (k - 8) % 256 ≡ i → ⊥) → pointer_at new rec k ≡ pointer_at old rec k
 
 pub record ByIndexAndName : Type 0 where
   -- the pointer at an index is the one that stands there in the list of all
   pub at_index : (pages : VirtualMap) (rec : InodeRec) (i : ℕ) → length rec.direct ≡ 8
-      → slice_index_or (rec.direct ++ flat_map (pointers_at pages) rec.addresses) i no_pointer ≡ pointer_at pages rec i
+      → slice_index_or (rec.direct ++ flat_map (pointers_at pages) (slots_of rec)) i no_pointer ≡ pointer_at pages rec i
   -- a file has a pointer with its index exactly where the one at the index is not none
   pub listed : (pages : VirtualMap) (rec : InodeRec) (i : ℕ) (p : Pointer) → length rec.direct ≡ 8
       → Has (pointers_of_inode pages rec) (i, p) ↔ ((pointer_at pages rec i ≡ p) × (is_none_pointer p ≡ false))

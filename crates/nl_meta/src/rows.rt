@@ -2,13 +2,14 @@ ghost use Rattle.std.specs.Prelude.{◌≡◌, ◌==◌, ◌+◌, Some, None, co
 ghost use Rattle.nl_field.specs.Numbers.{shape_for};
 ghost use Rattle.nl_field.specs.Page.{uncorrectable};
 ghost use Rattle.nl_field.specs.Examples.{fresh_image, two_supers};
+ghost use Rattle.nl_field.specs.ScanList.{seen_in};
 ghost use Rattle.nl_field.specs.declared.place.What.TheVariants.{Super, Stamp, Inode, Pages, Entry, Pointer, Names, Charges, Crowded};
 ghost use Rattle.nl_field.specs.Virtual.{virtual_bytes};
 ghost use Rattle.nl_meta.specs.Committed.{committed_of, header_at, next_number};
 ghost use Rattle.nl_meta.specs.Nodes.{committed_pointers, entry_named, pointer_at, super_of_pages};
 ghost use Rattle.nl_meta.specs.Phases.{copied, page_of_two, ptr, two_entries, without_super, consistent_image, bad_super, bad_stamp, bad_inode, bad_pages, bad_entry, behind_entries, two_names, unreached, bad_pointer, bad_names, moved_page, with_journal, without_image, far_address, only_missing, blank_image};
 ghost use Rattle.nl_meta.specs.LargeFiles.{file_of_pages, filled, list_of_filled, pages_of_pages, spread, lost, virtual_blocks};
-ghost use Rattle.nl_meta.specs.Walk.{walk, walk_over, phase_fault, opening_answer, answers_blank, answers_damaged, opens, place_of_pointer};
+ghost use Rattle.nl_meta.specs.Walk.{walk, phase_fault, opening_answer, answers_blank, answers_damaged, opens, place_of_pointer};
 ghost use Rattle.nl_meta.specs.Examples.{image_of_a, hello_page, long_page};
 
 pub fn fresh_is_consistent()
@@ -101,10 +102,16 @@ pub fn places()
     ensures in_spare { place_of_pointer copied (record { name = 256; stamp = 3 }) ≡ Some 288 }
 {}
 
+// The list that a scan of a long file gives is the one that is written out.
+pub fn long_lists()
+    ensures full { seen_in (filled 480) ≡ list_of_filled 480 }
+    ensures over { seen_in (filled 481) ≡ list_of_filled 481 }
+{}
+
 // Files have 480 pages at most.
 pub fn charges()
-    ensures full { walk_over (shape_for 32 32) (committed_of (filled 480)) (list_of_filled 480) ≡ None }
-    ensures over { walk_over (shape_for 32 32) (committed_of (filled 481)) (list_of_filled 481) ≡ Some (record { place = 0; what = Charges }) }
+    ensures full { walk (filled 480) ≡ None }
+    ensures over { walk (filled 481) ≡ Some (record { place = 0; what = Charges }) }
 {}
 
 // A block of each segment has no page that is needed there alone, and at most 96 pointers are stale.
