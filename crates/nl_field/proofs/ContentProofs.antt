@@ -1,8 +1,8 @@
 -- Proofs of the laws of one file's content.
-use Rattle.std.proofs.Common.{◌≡◌, ◌<◌, ◌≤◌, ℕ, zero, suc, ◌+◌, ◌-◌, ◌*◌, ◌/◌, ◌%◌, ◌==◌, max, nat_lt, nat_le, Bool, true, false, ◌&&◌, ◌||◌, cond, if◌then◌else◌, IsTrue, List, [], ◌∷◌, length, drop, fold, get_or, refl, sym, ap, subst, ◌∙◌, Option, Some, None, option_map, is_some, unwrap_or, inl, inr, arith}
-use Rattle.std.proofs.lemmas.Bool.{and_from, and_parts, cond-true, cond-false, leb-true, leb-false, ltb-true, ltb-false, le-leb, lt-ltb, eqb-true, eq-eqb, ne_eqb, cases_lt, and_cases, or_cases, or_left, or_right, false_from_ne_true}
+use Rattle.std.proofs.Common.{◌≡◌, ◌<◌, ◌≤◌, ℕ, zero, suc, ◌+◌, ◌-◌, ◌*◌, ◌/◌, ◌%◌, ◌==◌, max, nat_lt, nat_le, Bool, true, false, ◌&&◌, ◌||◌, cond, if◌then◌else◌, IsTrue, List, [], ◌∷◌, length, map, take, drop, fold, get_or, refl, sym, ap, subst, ◌∙◌, Option, Some, None, option_map, is_some, unwrap_or, inl, inr, arith}
+use Rattle.std.proofs.lemmas.Bool.{and_from, and_parts, cond-true, cond-false, leb-true, leb-false, ltb-true, ltb-false, le-leb, lt-ltb, eqb-true, eq-eqb, ne_eqb, cases_lt, and_cases, or_cases, or_left, or_right, false_from_ne_true, true≢false}
 use Rattle.std.specs.Cmp.{both_ways as same_answer}
-use Rattle.std.proofs.lemmas.List.{get_or_past}
+use Rattle.std.proofs.lemmas.List.{get_or_past, drop_more}
 use Rattle.std.specs.List.{list_all, list_any, range_with_len}
 use Rattle.std.specs.Int.{div_ceil}
 use Rattle.std.specs.Ordering.{nat_cmp}
@@ -72,6 +72,38 @@ in_page file index i lt =
     elim (find nat_cmp index file.pages) as (λ o. get_or (unwrap_or o (zeros 4096)) i 0 ≡ get_or (unwrap_or o []) i 0) [ None ↦ zeros-at 4096 i | Some page ↦ refl ]
     ∙ sym (byte_at file index i lt)
 
+part_from : (file : FileContent) (index count start : ℕ) → length (page_bytes file index) ≡ 4096 → start + count ≤ 4096
+    → map (byte_of file) (range_with_len (4096 * index + start) count) ≡ take count (drop start (page_bytes file index))
+part_from file index zero start whole fits = refl
+part_from file index (suc count) start whole fits =
+    let lt : start < 4096 = omega (arith, fits) in
+    let on : 4096 * index + start + 1 ≡ 4096 * index + (start + 1) = omega arith in
+    (λ i. sym (in_page file index start lt) i ∷ map (byte_of file) (range_with_len (on i) count))
+    ∙ ap (λ (x : List ℕ). get_or (page_bytes file index) start 0 ∷ x) (part_from file index count (start + 1) whole (omega (arith, fits)))
+    ∙ ap (take (suc count)) (sym (drop_more (page_bytes file index) start 0 (omega (arith, whole, lt))))
+
+part : (file : FileContent) (index start count : ℕ) → length (page_bytes file index) ≡ 4096 → start + count ≤ 4096
+    → map (byte_of file) (range_with_len (4096 * index + start) count) ≡ take count (drop start (page_bytes file index))
+part file index start count whole fits = part_from file index count start whole fits
+
+hole_from : (file : FileContent) (index count start : ℕ) → find nat_cmp index file.pages ≡ None → start + count ≤ 4096
+    → map (byte_of file) (range_with_len (4096 * index + start) count) ≡ zeros count
+unfolding zeros
+hole_from file index zero start none fits = refl
+hole_from file index (suc count) start none fits =
+    let on : 4096 * index + start + 1 ≡ 4096 * index + (start + 1) = omega arith in
+    let here : byte_of file (4096 * index + start) ≡ 0 = byte_at file index start (omega (arith, fits)) ∙ ap (λ (o : Option (List ℕ)). get_or (unwrap_or o []) start 0) none in
+    (λ i. here i ∷ map (byte_of file) (range_with_len (on i) count))
+    ∙ ap (λ (x : List ℕ). 0 ∷ x) (hole_from file index count (start + 1) none (omega (arith, fits)))
+
+hole : (file : FileContent) (index start count : ℕ) → has_page file index ≡ false → start + count ≤ 4096
+    → map (byte_of file) (range_with_len (4096 * index + start) count) ≡ zeros count
+hole file index start count none fits = hole_from file index count start (no_page (find nat_cmp index file.pages) none) fits
+  where
+    no_page : (o : Option (List ℕ)) → is_some o ≡ false → o ≡ None
+    no_page None h = refl
+    no_page (Some x) h = absurd (true≢false h)
+
 -- an offset as that of a page and one in it
 split : (i : ℕ) → 4096 * (i / 4096) + i % 4096 ≡ i
 split i = omega arith
@@ -97,7 +129,7 @@ same file other h k sizes each =
     λ i. record { size = sizes i; pages = pages i }
 
 pub byte_laws : ByteLaws
-byte_laws = record { past_size = past_size; in_page = in_page; whole_page = whole_page; same = same }
+byte_laws = record { past_size = past_size; in_page = in_page; whole_page = whole_page; part = part; hole = hole; same = same }
 
 -- ---- a write
 

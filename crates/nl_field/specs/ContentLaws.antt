@@ -1,6 +1,6 @@
 -- What is in a file after a write and after a cut.
-use Rattle.std.specs.Prelude.{◌≡◌, ◌<◌, ◌≤◌, ℕ, ◌+◌, ◌-◌, ◌*◌, min, max, ◌==◌, nat_lt, nat_le, Bool, ◌&&◌, ◌||◌, if◌then◌else◌, List, ◌++◌, length, take, slice_index, Some, None, option_map, is_some, IsTrue}
-use Rattle.std.specs.List.{list_any}
+use Rattle.std.specs.Prelude.{◌≡◌, ◌<◌, ◌≤◌, ℕ, ◌+◌, ◌-◌, ◌*◌, min, max, ◌==◌, nat_lt, nat_le, Bool, ◌&&◌, ◌||◌, if◌then◌else◌, List, ◌++◌, length, take, drop, map, false, slice_index, Some, None, option_map, is_some, IsTrue}
+use Rattle.std.specs.List.{list_any, range_with_len}
 use Rattle.std.specs.Int.{div_ceil}
 use Rattle.std.specs.Ordering.{nat_cmp}
 use Rattle.std.specs.FinMap.{find as value_at}
@@ -42,11 +42,15 @@ pub record CutLaws : Type 0 where
       → value_at nat_cmp index (cut_to file size).pages ≡ (if nat_lt index (div_ceil size 4096) then option_map (cut_page size index) (value_at nat_cmp index file.pages) else None)
   pub indexes : (file : FileContent) (size index : ℕ) → has_page (cut_to file size) index ≡ (has_page file index && nat_lt index (div_ceil size 4096))
 
--- Of a content. Bytes at and past the size are zero, and a page's bytes are those of its offsets. Its size and what is at each index
+-- Of a content. Bytes at and past the size are zero, and a page's bytes, or a part of them, are those of its offsets. Its size and what is at each index
 -- make up a content.
 pub record ByteLaws : Type 0 where
   pub past_size : (file : FileContent) (i : ℕ) → IsTrue (is_content file) → file.size ≤ i → byte_of file i ≡ 0
   pub in_page : (file : FileContent) (index i : ℕ) → i < 4096 → slice_index (page_bytes file index) i ≡ byte_of file (4096 * index + i)
   pub whole_page : (file : FileContent) (index : ℕ) → IsTrue (is_content file) → length (page_bytes file index) ≡ 4096
+  pub part : (file : FileContent) (index start count : ℕ) → length (page_bytes file index) ≡ 4096 → start + count ≤ 4096
+      → map (byte_of file) (range_with_len (4096 * index + start) count) ≡ take count (drop start (page_bytes file index))
+  pub hole : (file : FileContent) (index start count : ℕ) → has_page file index ≡ false → start + count ≤ 4096
+      → map (byte_of file) (range_with_len (4096 * index + start) count) ≡ zeros count
   pub same : (file other : FileContent) → IsTrue (is_content file) → IsTrue (is_content other) → file.size ≡ other.size
       → ((index : ℕ) → value_at nat_cmp index file.pages ≡ value_at nat_cmp index other.pages) → file ≡ other
