@@ -133,7 +133,7 @@ byte_laws = record { past_size = past_size; in_page = in_page; whole_page = whol
 
 -- ---- a write
 
-touched_some : (from len : ℕ) → 0 < len → touched from len ≡ range_with_len (from / 4096) ((from + len - 1) / 4096 + 1 - from / 4096)
+pub touched_some : (from len : ℕ) → 0 < len → touched from len ≡ range_with_len (from / 4096) ((from + len - 1) / 4096 + 1 - from / 4096)
 unfolding touched
 touched_some from len some = cond-false (len == 0) _ _ (ne_eqb len 0 (λ e. omega (arith, e, some)))
 
