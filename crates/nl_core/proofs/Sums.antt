@@ -4,28 +4,17 @@ use Rattle.std.proofs.lemmas.List.Sums.{sum_by-cons}
 use Rattle.std.specs.List.{cons_option, AllByRecursion}
 use Rattle.nl_field.specs.declared.inode.InodeRec.{InodeRec}
 use Rattle.nl_tree.specs.CountLaws.{Differ}
-use Rattle.nl_tree.specs.TreeOfNodes.{IsIn}
 use Rattle.nl_field.specs.Members.{Has}
 use Rattle.nl_meta.proofs.Facts.{EachTwo}
 use Rattle.nl_meta.proofs.Lists.{member-map}
-
-pub in_of : (ns : List ℕ) (n : ℕ) → Has ns n → IsIn ns n
-in_of [] n h = h
-in_of (m ∷ ns) n (inl e) = inl e
-in_of (m ∷ ns) n (inr h) = inr (in_of ns n h)
 
 pub all_by : (P : ℕ → Type 0) (ns : List ℕ) → ((n : ℕ) → Has ns n → P n) → AllByRecursion P ns
 all_by P [] f = tt
 all_by P (n ∷ ns) f = (f n (inl refl), all_by P ns (λ m h. f m (inr h)))
 
-pub of_in : (ns : List ℕ) (n : ℕ) → IsIn ns n → Has ns n
-of_in [] n h = h
-of_in (m ∷ ns) n (inl e) = inl e
-of_in (m ∷ ns) n (inr h) = inr (of_in ns n h)
-
 pub differ_rising : (xs : List (ℕ × InodeRec)) → EachTwo (λ x y. x.0 < y.0) xs → Differ (map (λ x. x.0) xs)
 differ_rising [] h = tt
-differ_rising (x ∷ xs) h = ((λ i. later (member-map (λ (x : ℕ × InodeRec). x.0) xs x.0 (of_in (map (λ x. x.0) xs) x.0 i))), differ_rising xs h.1)
+differ_rising (x ∷ xs) h = ((λ i. later (member-map (λ (x : ℕ × InodeRec). x.0) xs x.0 i)), differ_rising xs h.1)
   where
     itself : (a b : ℕ) → b ≡ a → a < b → ⊥
     itself a b e h = omega arith

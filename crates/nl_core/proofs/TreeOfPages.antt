@@ -34,7 +34,7 @@ use Rattle.nl_meta.proofs.WalkProofs.{nodes_some}
 use Rattle.nl_core.specs.Stands.{bytes_for}
 use Rattle.nl_core.proofs.GraphOfPages.{graph, node_is, NodeOf, node_or_none, entry_is, named_once, path_of_reached, reached_is_node}
 use Rattle.nl_core.proofs.PagesOfFiles.{sorted_in}
-use Rattle.nl_core.proofs.Sums.{in_of, all_by, differ_rising}
+use Rattle.nl_core.proofs.Sums.{all_by, differ_rising}
 
 module _ (shape : Shape) (pages : VirtualMap) (page_of_stamp : ℕ → Option PageOfStamp) (has : RightFor shape pages page_of_stamp) where
   abbrev nodes : NodesRight shape pages
@@ -89,7 +89,7 @@ module _ (shape : Shape) (pages : VirtualMap) (page_of_stamp : ℕ → Option Pa
   tree_represents =
       tree_of_nodes b g numbers_used (λ n. (located n).0) (λ n. (node_here n).0) once
       (all_by _ numbers_used (λ n m. each n (member-map (λ (x : ℕ × InodeRec). x.0) (used_nodes shape pages) n m)))
-      (λ q n e. let h = reached_is_node shape pages right nodes q n some_nodes e in in_of numbers_used n (map-member (λ (x : ℕ × InodeRec). x.0) (used_nodes shape pages) (n, h.rec) (is_used shape pages n h.rec h.is)))
+      (λ q n e. let h = reached_is_node shape pages right nodes q n some_nodes e in map-member (λ (x : ℕ × InodeRec). x.0) (used_nodes shape pages) (n, h.rec) (is_used shape pages n h.rec h.is))
     where
       each : (n : ℕ) → (x : ℕ × InodeRec) × Has (used_nodes shape pages) x × (x.0 ≡ n) → (node_reached g 0 (located n).0 ≡ Some n) × (node_of b (g n).body ≡ Some (node_here n).0)
       each n r =
@@ -100,7 +100,7 @@ module _ (shape : Shape) (pages : VirtualMap) (page_of_stamp : ℕ → Option Pa
   unfolding numbers_used
   reached_nodes = record {
     each = all_by _ numbers_used (λ n m. each n (member-map (λ (x : ℕ × InodeRec). x.0) (used_nodes shape pages) n m));
-    all = λ q n e. let h = reached_is_node shape pages right nodes q n some_nodes e in in_of numbers_used n (map-member (λ (x : ℕ × InodeRec). x.0) (used_nodes shape pages) (n, h.rec) (is_used shape pages n h.rec h.is));
+    all = λ q n e. let h = reached_is_node shape pages right nodes q n some_nodes e in map-member (λ (x : ℕ × InodeRec). x.0) (used_nodes shape pages) (n, h.rec) (is_used shape pages n h.rec h.is);
     differ = differ_rising (used_nodes shape pages) (used_rise shape pages);
   }
     where

@@ -15,7 +15,8 @@ use Rattle.nl_tree.specs.TreeLaws.{IsInOrder, or_else}
 use Rattle.nl_tree.specs.Charges.{data_charge, node_charge, meta_charge, data_of_node, ranges_of_node}
 use Rattle.nl_tree.specs.Represents.{entries_in, node_named, node_reached, node_of, Represents}
 use Rattle.nl_tree.specs.GraphLaws.{NamedOnce}
-use Rattle.nl_tree.specs.TreeOfNodes.{IsIn, tree_of}
+use Rattle.nl_field.specs.Members.{Has}
+use Rattle.nl_tree.specs.TreeOfNodes.{tree_of}
 use Rattle.nl_tree.specs.CountLaws.{Differ}
 use Rattle.nl_tree.specs.NodeCharges.{ReachedNodes, NamesDiffer, pages_in, entry_pages_in, ranges_in, NodeCharges}
 use Rattle.nl_tree.proofs.TreeProofs.{tree_laws, eq_path, find_all, sorted_all, from_T, under_append, under_parts}
@@ -25,7 +26,7 @@ use Rattle.nl_tree.proofs.TreeOfProofs.{tree_of_nodes}
 use Rattle.nl_tree.proofs.CountProofs.{count_laws}
 
 -- sums over the members of a list
-pub same_sums : (f g : ℕ → ℕ) (ns : List ℕ) → ((n : ℕ) → IsIn ns n → f n ≡ g n) → sum_by f ns ≡ sum_by g ns
+pub same_sums : (f g : ℕ → ℕ) (ns : List ℕ) → ((n : ℕ) → Has ns n → f n ≡ g n) → sum_by f ns ≡ sum_by g ns
 same_sums f g [] same = refl
 same_sums f g (n ∷ ns) same =
     sum_by-cons f n ns ∙ ap (λ (k : ℕ). k + sum_by f ns) (same n (inl refl)) ∙ ap (λ (k : ℕ). g n + k) (same_sums f g ns (λ m h. same m (inr h))) ∙ sym (sum_by-cons g n ns)
@@ -45,30 +46,30 @@ length-map : {X Y : Type 0} (g : X → Y) (xs : List X) → length (map g xs) �
 length-map g [] = refl
 length-map g (x ∷ xs) = ap (λ (k : ℕ). suc k) (length-map g xs)
 
-member : (P : ℕ → Type 0) (ns : List ℕ) (n : ℕ) → AllByRecursion P ns → IsIn ns n → P n
+member : (P : ℕ → Type 0) (ns : List ℕ) (n : ℕ) → AllByRecursion P ns → Has ns n → P n
 member P [] n all h = absurd h
 member P (m ∷ ns) n all (inl e) = subst P e all.0
 member P (m ∷ ns) n all (inr h) = member P ns n all.1 h
 
 -- ---- members that pass a test
 
-in_filter : (t : ℕ → Bool) (ns : List ℕ) (m : ℕ) → IsIn (filter t ns) m → IsIn ns m × (t m ≡ true)
+in_filter : (t : ℕ → Bool) (ns : List ℕ) (m : ℕ) → Has (filter t ns) m → Has ns m × (t m ≡ true)
 in_filter t [] m h = absurd h
 in_filter t (n ∷ ns) m h =
-    elim (t n) as (λ b. t n ≡ b → IsIn (cond b (n ∷ filter t ns) (filter t ns)) m → IsIn (n ∷ ns) m × (t m ≡ true)) [
+    elim (t n) as (λ b. t n ≡ b → Has (cond b (n ∷ filter t ns) (filter t ns)) m → Has (n ∷ ns) m × (t m ≡ true)) [
       | true ↦ λ e h. first (in_filter t ns m) e h
       | false ↦ λ e h. let r = in_filter t ns m h in (inr r.0, r.1)
     ] refl h
   where
-    first : (IsIn (filter t ns) m → IsIn ns m × (t m ≡ true)) → t n ≡ true → (n ≡ m) ⊎ IsIn (filter t ns) m → IsIn (n ∷ ns) m × (t m ≡ true)
+    first : (Has (filter t ns) m → Has ns m × (t m ≡ true)) → t n ≡ true → (n ≡ m) ⊎ Has (filter t ns) m → Has (n ∷ ns) m × (t m ≡ true)
     first rest e (inl s) = (inl s, ap t (sym s) ∙ e)
     first rest e (inr h) = (inr (rest h).0, (rest h).1)
 
-to_filter : (t : ℕ → Bool) (ns : List ℕ) (m : ℕ) → IsIn ns m → t m ≡ true → IsIn (filter t ns) m
+to_filter : (t : ℕ → Bool) (ns : List ℕ) (m : ℕ) → Has ns m → t m ≡ true → Has (filter t ns) m
 to_filter t [] m h e = absurd h
-to_filter t (n ∷ ns) m (inl s) e = subst (λ b. IsIn (cond b (n ∷ filter t ns) (filter t ns)) m) (sym (ap t s ∙ e)) (inl s)
+to_filter t (n ∷ ns) m (inl s) e = subst (λ b. Has (cond b (n ∷ filter t ns) (filter t ns)) m) (sym (ap t s ∙ e)) (inl s)
 to_filter t (n ∷ ns) m (inr h) e =
-    elim (t n) as (λ b. IsIn (cond b (n ∷ filter t ns) (filter t ns)) m) [ true ↦ inr (to_filter t ns m h e) | false ↦ to_filter t ns m h e ]
+    elim (t n) as (λ b. Has (cond b (n ∷ filter t ns) (filter t ns)) m) [ true ↦ inr (to_filter t ns m h e) | false ↦ to_filter t ns m h e ]
 
 differ_filter : (t : ℕ → Bool) (ns : List ℕ) → Differ ns → Differ (filter t ns)
 differ_filter t [] d = tt
@@ -81,10 +82,10 @@ differ_filter t (n ∷ ns) d =
 abbrev numbers : List (List ℕ × ℕ) → List ℕ
 numbers es = map (λ e. e.1) es
 
-named_in : (x : List ℕ) (m : ℕ) (es : List (List ℕ × ℕ)) → node_named x es ≡ Some m → IsIn (numbers es) m
+named_in : (x : List ℕ) (m : ℕ) (es : List (List ℕ × ℕ)) → node_named x es ≡ Some m → Has (numbers es) m
 named_in x m [] e = absurd (not_none m e)
 named_in x m (y ∷ es) e =
-    elim (names_eq x y.0) as (λ t. cond t (Some y.1) (node_named x es) ≡ Some m → IsIn (numbers (y ∷ es)) m)
+    elim (names_eq x y.0) as (λ t. cond t (Some y.1) (node_named x es) ≡ Some m → Has (numbers (y ∷ es)) m)
     [ true ↦ λ e. inl (inside y.1 m e) | false ↦ λ e. inr (named_in x m es e) ] e
 
 at_head : (e : List ℕ × ℕ) (es : List (List ℕ × ℕ)) → node_named e.0 (e ∷ es) ≡ Some e.1
@@ -95,7 +96,7 @@ in_rest e es x m none at =
     ap (λ t. cond t (Some e.1) (node_named x es))
     (not_true (names_eq x e.0) (λ h. absurd (not_none m (sym none ∙ ap (λ (z : List ℕ). node_named z es) (sym (eq_name x e.0 h)) ∙ at)))) ∙ at
 
-in_named : (m : ℕ) (es : List (List ℕ × ℕ)) → NamesDiffer es → IsIn (numbers es) m → (x : List ℕ) × (node_named x es ≡ Some m)
+in_named : (m : ℕ) (es : List (List ℕ × ℕ)) → NamesDiffer es → Has (numbers es) m → (x : List ℕ) × (node_named x es ≡ Some m)
 in_named m [] d h = absurd h
 in_named m (y ∷ es) d (inl e) = (y.0, at_head y es ∙ some e)
 in_named m (y ∷ es) d (inr h) = let r = in_named m es d.1 h in (r.0, in_rest y es r.0 m d.0 r.1)
@@ -180,7 +181,7 @@ module _ (b : ℕ → List ℕ) (g : Graph) (path_of : ℕ → List (List ℕ)) 
   abbrev listed : List ℕ → Tree
   listed ns = map (λ n. (path_of n, node n)) ns
 
-  not_listed : (n : ℕ) (ns : List ℕ) → node_reached g 0 (path_of n) ≡ Some n → AllByRecursion Is ns → (IsIn ns n → ⊥) → find path_cmp (path_of n) (listed ns) ≡ None
+  not_listed : (n : ℕ) (ns : List ℕ) → node_reached g 0 (path_of n) ≡ Some n → AllByRecursion Is ns → (Has ns n → ⊥) → find path_cmp (path_of n) (listed ns) ≡ None
   not_listed n [] e is far = refl
   not_listed n (m ∷ ns) e is far =
       ap (λ t. cond t (Some (node m)) (find path_cmp (path_of n) (listed ns)))
@@ -215,7 +216,7 @@ module _ (b : ℕ → List ℕ) (g : Graph) (path_of : ℕ → List (List ℕ)) 
         sum_by-map f (λ e. e.1) tree ∙ sum_over (λ e. f e.1)
         ∙ same_sums (λ n. f (node n)) (λ n. h (g n).body) ns (λ n i. same (g n).body (node n) (member Is ns n reached.each i).1)
 
-    entries_count : (n : ℕ) → IsIn ns n → NamesDiffer (entries_in (g n).body) → length (entries_of tree (path_of n)) ≡ length (entries_in (g n).body)
+    entries_count : (n : ℕ) → Has ns n → NamesDiffer (entries_in (g n).body) → length (entries_of tree (path_of n)) ≡ length (entries_in (g n).body)
     unfolding entries_of
     entries_count n i d =
         length-filter (λ e. is_child (path_of n) e.0) tree ∙ sum_over (λ e. cond (is_child (path_of n) e.0) 1 0)
@@ -229,13 +230,13 @@ module _ (b : ℕ → List ℕ) (g : Graph) (path_of : ℕ → List (List ℕ)) 
         at_n : node_reached g 0 (path_of n) ≡ Some n
         at_n = (member Is ns n reached.each i).0
 
-        there : (m : ℕ) → IsIn (filter (λ m. is_child (path_of n) (path_of m)) ns) m → IsIn (numbers (entries_in (g n).body)) m
+        there : (m : ℕ) → Has (filter (λ m. is_child (path_of n) (path_of m)) ns) m → Has (numbers (entries_in (g n).body)) m
         there m h =
             let r = in_filter (λ m. is_child (path_of n) (path_of m)) ns m h in
             let c = child_is (path_of n) (path_of m) r.1 in
             named_in c.0 m (entries_in (g n).body) (sym (at_end g (path_of n) c.0 n at_n) ∙ ap (node_reached g 0) (sym c.1) ∙ (member Is ns m reached.each r.0).0)
 
-        back : (m : ℕ) → IsIn (numbers (entries_in (g n).body)) m → IsIn (filter (λ m. is_child (path_of n) (path_of m)) ns) m
+        back : (m : ℕ) → Has (numbers (entries_in (g n).body)) m → Has (filter (λ m. is_child (path_of n) (path_of m)) ns) m
         back m h =
             let r = in_named m (entries_in (g n).body) d h in
             let at_m = at_end g (path_of n) r.0 n at_n ∙ r.1 in

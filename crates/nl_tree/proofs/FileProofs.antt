@@ -1,5 +1,5 @@
 -- Pages of a file: what a cut, a write and a read make of them.
-use Rattle.std.proofs.Common.{◌≡◌, ◌+◌, ◌-◌, ◌*◌, ◌/◌, ◌%◌, ◌<◌, ◌≤◌, ◌==◌, min, nat_lt, nat_le, ℕ, zero, suc, true, false, List, [], ◌∷◌, ◌++◌, length, take, drop, map, filter, fold, replicate, get_or, ap, sym, subst, refl, arith, ◌∙◌, cond, if◌then◌else◌, Option, Some, None, unwrap_or, add-zero, add-one, zero-add, max}
+use Rattle.std.proofs.Common.{◌≡◌, ◌+◌, ◌-◌, ◌*◌, ◌/◌, ◌%◌, ◌<◌, ◌≤◌, ◌==◌, min, nat_lt, nat_le, ℕ, zero, suc, true, false, List, [], ◌∷◌, ◌++◌, length, take, drop, map, filter, fold, replicate, get_or, ap, sym, subst, refl, arith, ◌∙◌, cond, if◌then◌else◌, Option, Some, None, is_some, unwrap_or, add-zero, add-one, zero-add, max}
 use Rattle.std.proofs.lemmas.List.FromFn.{length-map-range_with_len}
 use Rattle.std.proofs.lemmas.Bool.Decides.{nat_tests}
 use Rattle.std.proofs.lemmas.List.{take_all, drop_more, append_assoc, length-take, length-append, length-replicate}
@@ -10,6 +10,8 @@ use Rattle.std.specs.Ordering.{nat_cmp}
 use Rattle.std.specs.FinMap.Entries.{find, put, by_order}
 use Rattle.nl_field.specs.Bytes.{zeros}
 use Rattle.nl_field.specs.FileContent.{FileContent, byte_of, overlaid, page_bytes, touched, written_over}
+use Rattle.nl_field.proofs.ContentBytes.{length-cut_page}
+use Rattle.nl_field.proofs.ContentProofs.{byte_laws}
 use Rattle.nl_tree.specs.PlainTree.{AreWhole, cut_entry}
 
 pub take_most : (n : ℕ) (page : List ℕ) → length page ≡ 4096 → take (min 4096 n) page ≡ take n page
@@ -29,15 +31,6 @@ cut_bytes len left page part all long whole is_left is_part is_long is_all =
     let kept : take 4096 part ≡ part = take_all 4096 part (omega (arith, ap length cut, short)) in
     let many : length part ≡ min 4096 len = ap length cut ∙ short in
     is_all ∙ ap (λ (x : List ℕ). x ++ replicate (4096 - long) 0) (kept ∙ cut ∙ take_most len page whole) ∙ ap (λ (k : ℕ). take len page ++ replicate (4096 - k) 0) (is_long ∙ many)
-
-pub length-cut : (len : ℕ) (page : List ℕ) → length page ≡ 4096 → length (take len page ++ zeros (4096 - min 4096 len)) ≡ 4096
-unfolding zeros
-length-cut len page whole =
-    let rest : List ℕ = replicate (4096 - min 4096 len) 0 in
-    let parts : length (take len page ++ rest) ≡ length (take len page) + length rest = length-append (take len page) rest in
-    let a : length (take len page) ≡ min len (length page) = length-take len page in
-    let b : length rest ≡ 4096 - min 4096 len = length-replicate (4096 - min 4096 len) 0 in
-    grind (arith, nat_tests, parts, a, b, whole)
 
 pub whole-append : (a b : List (ℕ × List ℕ)) → AreWhole a → AreWhole b → AreWhole (a ++ b)
 whole-append [] b h k = k
@@ -74,7 +67,7 @@ pub whole-cut : (size : ℕ) (kept : List (ℕ × List ℕ)) (entry : ℕ × Lis
     → AreWhole (kept ++ (if nat_lt entry.0 (div_ceil size 4096) then cut_entry size entry ∷ [] else []))
 whole-cut size kept entry whole h =
     elim (nat_lt entry.0 (div_ceil size 4096)) as (λ b. AreWhole (kept ++ (if b then cut_entry size entry ∷ [] else []))) [
-      | true ↦ whole-append kept (cut_entry size entry ∷ []) h (length-cut (size - 4096 * entry.0) entry.1 whole, tt)
+      | true ↦ whole-append kept (cut_entry size entry ∷ []) h (length-cut_page size entry.0 entry.1 whole, tt)
       | false ↦ whole-append kept [] h tt
     ]
 
@@ -85,33 +78,6 @@ fold_more f x from n = rw add-one (by f x from n)
     by : {X : Type 0} (f : X → ℕ → X) (x : X) (from n : ℕ) → fold f x (range_with_len from (suc n)) ≡ f (fold f x (range_with_len from n)) (from + n)
     by f x from zero = ap (f x) (sym (add-zero from))
     by f x from (suc n) = by f (f x from) (from + 1) n ∙ ap (f (fold f (f x from) (range_with_len (from + 1) n))) (omega arith)
-
--- the bytes of a part of a page
-pub part_of_page : (file : FileContent) (index : ℕ) (page : List ℕ) → find nat_cmp index file.pages ≡ Some page → (count start : ℕ) → start + count ≤ length page → length page ≡ 4096
-    → map (byte_of file) (range_with_len (4096 * index + start) count) ≡ take count (drop start page)
-unfolding byte_of
-part_of_page file index page there zero start fits whole = refl
-part_of_page file index page there (suc count) start fits whole =
-    let at : (4096 * index + start) / 4096 ≡ index = omega arith in
-    let in_page : (4096 * index + start) % 4096 ≡ start = omega arith in
-    let here : byte_of file (4096 * index + start) ≡ get_or page start 0 =
-    (λ i. get_or (unwrap_or (find nat_cmp (at i) file.pages) []) (in_page i) 0) ∙ ap (λ (o : Option (List ℕ)). get_or (unwrap_or o []) start 0) there in
-    let on : 4096 * index + start + 1 ≡ 4096 * index + (start + 1) = omega arith in
-    (λ i. here i ∷ map (byte_of file) (range_with_len (on i) count))
-    ∙ ap (λ (x : List ℕ). get_or page start 0 ∷ x) (part_of_page file index page there count (start + 1) (omega arith) whole)
-    ∙ ap (take (suc count)) (sym (drop_more page start 0 (omega arith)))
-
-pub part_of_none : (file : FileContent) (index : ℕ) → find nat_cmp index file.pages ≡ None → (count start : ℕ) → start + count ≤ 4096
-    → map (byte_of file) (range_with_len (4096 * index + start) count) ≡ replicate count 0
-unfolding byte_of
-part_of_none file index none zero start fits = refl
-part_of_none file index none (suc count) start fits =
-    let at : (4096 * index + start) / 4096 ≡ index = omega arith in
-    let here : byte_of file (4096 * index + start) ≡ 0 =
-    (λ i. get_or (unwrap_or (find nat_cmp (at i) file.pages) []) ((4096 * index + start) % 4096) 0) ∙ ap (λ (o : Option (List ℕ)). get_or (unwrap_or o []) ((4096 * index + start) % 4096) 0) none in
-    let on : 4096 * index + start + 1 ≡ 4096 * index + (start + 1) = omega arith in
-    (λ i. here i ∷ map (byte_of file) (range_with_len (on i) count))
-    ∙ ap (λ (x : List ℕ). 0 ∷ x) (part_of_none file index none count (start + 1) (omega arith))
 
 -- a range in two parts
 pub map_range : (f : ℕ → ℕ) (from m n : ℕ) → map f (range_with_len from (m + n)) ≡ map f (range_with_len from m) ++ map f (range_with_len (from + m) n)
@@ -131,12 +97,16 @@ read_step f old out next from done part index start is_index is_start grown befo
 
 pub part_some : (file : FileContent) (index : ℕ) (page shown out next : List ℕ) (count start len : ℕ) → next ≡ out ++ take len (drop start shown) → shown ≡ page → len ≡ count → Some page ≡ find nat_cmp index file.pages
     → start + count ≤ 4096 → length page ≡ 4096 → next ≡ out ++ map (byte_of file) (range_with_len (4096 * index + start) count)
+unfolding page_bytes
 part_some file index page shown out next count start len grown shows is there fits whole =
-    grown ∙ ap (λ (x : List ℕ). out ++ take len (drop start x)) shows ∙ ap (λ (k : ℕ). out ++ take k (drop start page)) is ∙ ap (λ (x : List ℕ). out ++ x) (sym (part_of_page file index page (sym there) count start (omega arith) whole))
+    let held : page_bytes file index ≡ page = ap (λ (o : Option (List ℕ)). unwrap_or o (zeros 4096)) (sym there) in
+    let bytes = byte_laws.part file index start count (ap length held ∙ whole) fits ∙ ap (λ (x : List ℕ). take count (drop start x)) held in
+    grown ∙ ap (λ (x : List ℕ). out ++ take len (drop start x)) shows ∙ ap (λ (k : ℕ). out ++ take k (drop start page)) is ∙ ap (λ (x : List ℕ). out ++ x) (sym bytes)
 
 pub part_none : (file : FileContent) (index : ℕ) (out next : List ℕ) (count start : ℕ) → next ≡ out ++ replicate count 0 → None ≡ find nat_cmp index file.pages
     → start + count ≤ 4096 → next ≡ out ++ map (byte_of file) (range_with_len (4096 * index + start) count)
-part_none file index out next count start grown none fits = grown ∙ ap (λ (x : List ℕ). out ++ x) (sym (part_of_none file index (sym none) count start fits))
+unfolding zeros
+part_none file index out next count start grown none fits = grown ∙ ap (λ (x : List ℕ). out ++ x) (sym (byte_laws.hole file index start count (ap is_some (sym none)) fits))
 
 replicate_more : (n : ℕ) → replicate {A = ℕ} (suc n) 0 ≡ replicate n 0 ++ 0 ∷ []
 replicate_more zero = refl
@@ -165,12 +135,6 @@ touched_step f old now next first index le before grown =
     let at : first + (index - first) ≡ index = omega arith in
     grown ∙ ap (λ (x : List (ℕ × List ℕ)). f x index) before ∙ ap (f (fold f old (range_with_len first (index - first)))) (sym at)
     ∙ sym (fold_more f old first (index - first)) ∙ ap (λ (k : ℕ). fold f old (range_with_len first k)) (sym on)
-
-pub touched-is : (from len : ℕ) → 0 < len → touched from len ≡ range_with_len (from / 4096) ((from + len - 1) / 4096 + 1 - from / 4096)
-unfolding touched
-touched-is from len some =
-    let range : List ℕ = range_with_len (from / 4096) ((from + len - 1) / 4096 + 1 - from / 4096) in
-    elim (len == 0) as (λ b. (len == 0) ≡ b → cond b [] range ≡ range) [ true ↦ λ t. absurd (grind (arith, nat_tests, t, some)) | false ↦ λ t. refl ] refl
 
 written_some : (file : FileContent) (from : ℕ) (bytes : List ℕ) (size : ℕ) (pages : List (ℕ × List ℕ)) → 0 < length bytes → size ≡ max file.size (from + length bytes)
     → pages ≡ fold (λ pages index. put nat_cmp index (overlaid (page_bytes file index) index from bytes) pages) file.pages (touched from (length bytes))

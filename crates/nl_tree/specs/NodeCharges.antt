@@ -8,13 +8,13 @@ use Rattle.nl_tree.specs.TreeLaws.{IsInOrder}
 use Rattle.nl_tree.specs.Charges.{data_charge, node_charge, meta_charge}
 use Rattle.nl_tree.specs.Represents.{entries_in, node_named, node_reached, node_of, Represents}
 use Rattle.nl_tree.specs.GraphLaws.{NamedOnce}
-use Rattle.nl_tree.specs.TreeOfNodes.{IsIn}
+use Rattle.nl_field.specs.Members.{Has}
 use Rattle.nl_tree.specs.CountLaws.{Differ}
 
 -- the numbers are those of the nodes that are reached, each once; each has this path and is this node of the tree
 pub record ReachedNodes (bytes_of : ℕ → List ℕ) (graph : Graph) (ns : List ℕ) (path_of : ℕ → List (List ℕ)) (node_at_number : ℕ → Node) : Type 0 where
   pub each : AllByRecursion (λ n. (node_reached graph 0 (path_of n) ≡ Some n) × (node_of bytes_of (graph n).body ≡ Some (node_at_number n))) ns
-  pub all : (q : List (List ℕ)) (n : ℕ) → node_reached graph 0 q ≡ Some n → IsIn ns n
+  pub all : (q : List (List ℕ)) (n : ℕ) → node_reached graph 0 q ≡ Some n → Has ns n
   pub differ : Differ ns
 
 -- no name stands twice

@@ -1,11 +1,11 @@
 -- What the plain tree as a program keeps beside the tree.
-use Rattle.std.specs.Prelude.{◌≡◌, ℕ, suc, ◌+◌, ◌-◌, ◌*◌, ◌++◌, take, drop, min, ◌==◌, ◌&&◌, ◌≤◌, ◌<◌, ◌^◌, is_none, Option, Some, None, nat_le, nat_lt, count_by, Bool, false, if◌then◌else◌, List, [], ◌∷◌, length}
+use Rattle.std.specs.Prelude.{◌≡◌, ℕ, suc, ◌+◌, ◌*◌, drop, ◌==◌, ◌&&◌, ◌≤◌, ◌<◌, ◌^◌, is_none, Option, Some, None, nat_le, nat_lt, count_by, Bool, false, if◌then◌else◌, List, [], ◌∷◌, length}
 use Rattle.std.specs.declared.cmp.Ordering.{Ordering}
 use Rattle.std.specs.Ordering.{is_gt, eq_by_cmp}
 use Rattle.std.specs.List.{AllByRecursion, list_any, range_with_len}
 use Rattle.std.specs.Int.{div_ceil}
 use Rattle.nl_field.specs.Numbers.{max_file_size, max_name, max_entries}
-use Rattle.nl_field.specs.Bytes.{zeros}
+use Rattle.nl_field.specs.ContentLaws.{cut_page}
 use Rattle.nl_field.specs.FileContent.{FileContent}
 use Rattle.nl_tree.specs.Tree.{Node, file, Tree, is_at_or_under, entries_of, last_name, node_at}
 use Rattle.nl_tree.specs.declared.call.Call.{Call}
@@ -68,7 +68,7 @@ ranges_of_pages pages = count_by (is_in_range pages) (range_with_len 0 16)
 
 -- what a cut to a size leaves of a page
 abbrev pub cut_entry : ℕ → ℕ × List ℕ → ℕ × List ℕ
-cut_entry size page = (page.0, take (size - 4096 * page.0) page.1 ++ zeros (4096 - min 4096 (size - 4096 * page.0)))
+cut_entry size page = (page.0, cut_page size page.0 page.1)
 
 -- each path ends in a name of at most 55 bytes
 abbrev pub HasShortNames : Tree → Type 0

@@ -1,4 +1,4 @@
-ghost use Rattle.std.specs.Prelude.{◌≡◌, ◌<◌, ◌≤◌, ◌^◌, ◌+◌, ◌↔◌, [], ◌∷◌, ◌++◌, length, IfOk, IsSome, slice_get, Some};
+ghost use Rattle.std.specs.Prelude.{◌≡◌, ◌<◌, ◌≤◌, ◌^◌, ◌+◌, ◌↔◌, [], ◌∷◌, ◌++◌, length, take, IfOk, IsSome, slice_get, Some};
 ghost use Rattle.std.specs.Option.{option_to_list};
 
 use crate::Names;
@@ -51,6 +51,13 @@ impl WalkPath {
         ensures room { self.new.room ≡ self.old.room }
     {
         self.names.pop()
+    }
+
+    /// Keeps so many names from the root on.
+    pub fn shorten(&mut self, count: u32)
+        ensures { self.new ≡ record { names = take count self.old.names; room = self.old.room } }
+    {
+        self.names.truncate(count as usize);
     }
 
     /// Becomes the root.

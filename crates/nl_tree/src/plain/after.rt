@@ -1,7 +1,7 @@
 //! The tree after a call that is not refused.
 ghost use Rattle.std.specs.Prelude.{◌≡◌, ◌<◌, ◌≤◌, ◌+◌, ◌∷◌, length, IfOk, IfSome, IfNone, if◌then◌else◌, Some, None};
 ghost use Rattle.std.specs.Option.{option_map_or};
-ghost use Rattle.nl_field.specs.Numbers.{max_file_size};
+ghost use Rattle.nl_field.specs.Numbers.{max_bytes, max_file_size};
 ghost use Rattle.nl_field.specs.FileContent.{empty_file, written_over, cut_to};
 ghost use Rattle.nl_tree.specs.Tree.{Node, directory, file, node_at, with_new, with_content, without as tree_without, with_renamed, paths_eq, content_of};
 ghost use Rattle.nl_tree.specs.Step.{effect_of, own_refusal};
@@ -99,7 +99,7 @@ fn after_write(
     from: u64,
     bytes: &[u8],
 ) -> Result<Vec<Entry>, Memory>
-    requires small { length bytes.now ≤ 65536 }
+    requires small { length bytes.now ≤ max_bytes }
     requires end { 0 < length bytes.now → from + length bytes.now ≤ max_file_size }
     ensures { IfOk result (λ v. v.items ≡ with_content tree.now path.now (written_over (content_of (node_at tree.now path.now)) from bytes.now)) }
 {

@@ -6,7 +6,7 @@ ghost use Rattle.std.specs.Option.{option_copied};
 ghost use Rattle.std.specs.Ordering.{nat_cmp};
 ghost use Rattle.std.specs.FinMap.{find as value_at, put as with_entry};
 ghost use Rattle.nl_field.specs.Bytes.{zeros};
-ghost use Rattle.nl_field.specs.Numbers.{max_file_size};
+ghost use Rattle.nl_field.specs.Numbers.{max_bytes, max_file_size};
 ghost use Rattle.nl_field.specs.FileContent.{byte_of, bytes_read, overlaid, page_bytes, touched, written_over, cut_to};
 ghost use Rattle.nl_tree.specs.PlainTree.{AreWhole, cut_entry};
 
@@ -20,7 +20,7 @@ use std::alloc::Global;
 /// Adds the bytes from an offset on, at most this many, ending at the size.
 #[tactic(auto, unfolding(nl_field::specs::FileContent::bytes_read))]
 pub(crate) fn read(file: &FileBuf, from: u64, len: u32, out: &mut ReplyBuf)
-    requires { length out.old + len ≤ 65536 }
+    requires { length out.old + len ≤ max_bytes }
     ensures { out.new ≡ out.old ++ bytes_read file.now from len }
 {
     let count = min_of(len as u64, file.size().saturating_sub(from));
@@ -53,7 +53,7 @@ fn copy_of(alloc: Global, file: &FileBuf) -> Result<Vec<Page>, Memory>
 
 /// Adds the bytes of a part of a page.
 fn push_part(file: &FileBuf, index: u32, start: usize, count: usize, out: &mut ReplyBuf)
-    requires room { length out.old + count ≤ 65536 }
+    requires room { length out.old + count ≤ max_bytes }
     requires part { start + count ≤ 4096 }
     ensures { out.new ≡ out.old ++ map (byte_of file.now) (range_with_len (4096 * index + start) count) }
 {
@@ -64,7 +64,7 @@ fn push_part(file: &FileBuf, index: u32, start: usize, count: usize, out: &mut R
 }
 
 fn push_zeros(out: &mut ReplyBuf, count: usize)
-    requires { length out.old + count ≤ 65536 }
+    requires { length out.old + count ≤ max_bytes }
     ensures { out.new ≡ out.old ++ replicate count 0 }
 {
     'zeros: for at in 0..count {
@@ -80,7 +80,7 @@ pub(crate) fn written(
     from: u64,
     bytes: &[u8],
 ) -> Result<FileBuf, Memory>
-    requires small { length bytes.now ≤ 65536 }
+    requires small { length bytes.now ≤ max_bytes }
     requires end { 0 < length bytes.now → from + length bytes.now ≤ max_file_size }
     ensures { IfOk result (λ f. f ≡ written_over file.now from bytes.now) }
 {
@@ -101,7 +101,7 @@ fn written_some(
     requires same { pages.items ≡ file.now.pages }
     requires whole { AreWhole pages.items }
     requires some { 0 < length bytes.now }
-    requires small { length bytes.now ≤ 65536 }
+    requires small { length bytes.now ≤ max_bytes }
     requires end { from + length bytes.now ≤ max_file_size }
     ensures { IfOk result (λ f. f ≡ written_over file.now from bytes.now) }
 {
@@ -122,7 +122,7 @@ fn put_touched(
 ) -> Result<(), Memory>
     requires whole { AreWhole pages.old.items }
     requires some { 0 < length bytes.now }
-    requires small { length bytes.now ≤ 65536 }
+    requires small { length bytes.now ≤ max_bytes }
     requires end { from + length bytes.now ≤ max_file_size }
     ensures pages { OnOk result (pages.new.items ≡ fold (λ pages index. with_entry nat_cmp index (overlaid (page_bytes file.now index) index from bytes.now) pages) pages.old.items (touched from (length bytes.now))) }
     ensures whole { OnOk result (AreWhole pages.new.items) }
@@ -144,7 +144,7 @@ fn put_overlaid(
     bytes: &[u8],
 ) -> Result<(), Memory>
     requires whole { AreWhole pages.old.items }
-    requires small { length bytes.now ≤ 65536 }
+    requires small { length bytes.now ≤ max_bytes }
     ensures pages { OnOk result (pages.new.items ≡ with_entry nat_cmp index (overlaid (page_bytes file.now index) index from bytes.now) pages.old.items) }
     ensures whole { OnOk result (AreWhole pages.new.items) }
 {
@@ -161,7 +161,7 @@ fn overlaid_page(
     from: u64,
     bytes: &[u8],
 ) -> Result<SharedPage, Memory>
-    requires { length bytes.now ≤ 65536 }
+    requires { length bytes.now ≤ max_bytes }
     ensures page { IfOk result (λ p. p ≡ overlaid (page_bytes file.now index) index from bytes.now) }
     ensures whole { IfOk result (λ p. length p ≡ 4096) }
 {

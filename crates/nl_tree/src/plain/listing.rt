@@ -1,4 +1,5 @@
 //! The names of a directory as they are printed.
+ghost use Rattle.nl_field.specs.Numbers.{max_bytes};
 ghost use Rattle.std.specs.Prelude.{◌≡◌, ◌≤◌, ◌+◌, ◌++◌, ◌∷◌, [], length, if◌then◌else◌, Some};
 ghost use Rattle.nl_tree.specs.Tree.{last_name, is_directory, entries_of};
 ghost use Rattle.nl_tree.specs.Step.{listing};
@@ -12,7 +13,7 @@ use nl_field::Text;
 /// Adds a space and the name for each entry of a directory.
 #[tactic(auto, unfolding(crate::specs::Tree::entries_of))]
 pub(crate) fn push_names(tree: &[Entry], path: &[Text], out: &mut ReplyBuf)
-    requires { length out.old + length (listing (entries_of tree.now path.now)) ≤ 65536 }
+    requires { length out.old + length (listing (entries_of tree.now path.now)) ≤ max_bytes }
     ensures { out.new ≡ out.old ++ listing (entries_of tree.now path.now) }
 {
     'entries: for entry in tree {
@@ -21,7 +22,7 @@ pub(crate) fn push_names(tree: &[Entry], path: &[Text], out: &mut ReplyBuf)
 }
 
 fn push_if_entry(path: &[Text], entry: &Entry, out: &mut ReplyBuf)
-    requires { length out.old + length (listing (if is_entry_of path.now entry.now.0 then entry.now ∷ [] else [])) ≤ 65536 }
+    requires { length out.old + length (listing (if is_entry_of path.now entry.now.0 then entry.now ∷ [] else [])) ≤ max_bytes }
     ensures { out.new ≡ out.old ++ listing (if is_entry_of path.now entry.now.0 then entry.now ∷ [] else []) }
 {
     if is_entry(path, &entry.0) {
@@ -31,7 +32,7 @@ fn push_if_entry(path: &[Text], entry: &Entry, out: &mut ReplyBuf)
 
 /// A space and the name, with `/` after the name of a directory.
 fn push_entry(entry: &Entry, out: &mut ReplyBuf)
-    requires { length out.old + length (listing (entry.now ∷ [])) ≤ 65536 }
+    requires { length out.old + length (listing (entry.now ∷ [])) ≤ max_bytes }
     ensures { out.new ≡ out.old ++ listing (entry.now ∷ []) }
 {
     out.push(b' ');

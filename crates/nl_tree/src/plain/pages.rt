@@ -1,4 +1,5 @@
 //! The pages of a file by rising index.
+ghost use Rattle.nl_field.specs.Numbers.{max_bytes};
 ghost use Rattle.std.specs.Prelude.{◌≡◌, ◌≤◌, ◌<◌, ◌+◌, ◌-◌, ◌*◌, ◌++◌, ◌∷◌, [], length, drop, take, min, unwrap_or, nat_lt, if◌then◌else◌, IfSome, IfOk, OnOk, OnErr};
 ghost use Rattle.std.specs.Int.{div_ceil};
 ghost use Rattle.std.specs.Option.{option_copied};
@@ -80,7 +81,7 @@ pub(crate) fn overlay(
     bytes: &[u8],
 ) -> Result<SharedPage, Memory>
     requires whole { length page.now ≡ 4096 }
-    requires small { length bytes.now ≤ 65536 }
+    requires small { length bytes.now ≤ max_bytes }
     ensures page { IfOk result (λ p. p ≡ overlaid page.now index from bytes.now) }
     ensures whole { IfOk result (λ p. length p ≡ 4096) }
 {

@@ -1,4 +1,5 @@
 //! What a call answers that is not refused.
+ghost use Rattle.nl_field.specs.Numbers.{max_bytes};
 ghost use Rattle.std.specs.Prelude.{◌≡◌, ◌≤◌, ◌+◌, ◌++◌, [], false, None, length, is_none};
 ghost use Rattle.nl_field.specs.FileContent.{bytes_read};
 ghost use Rattle.nl_tree.specs.Tree.{node_at, entries_of, content_of};
@@ -56,7 +57,7 @@ pub(crate) fn reply_of(
 }
 
 fn read_at(alloc: Global, tree: &[Entry], path: &[Text], from: u64, len: u32, out: &mut ReplyBuf)
-    requires small { len ≤ 65536 }
+    requires small { len ≤ max_bytes }
     requires empty { out.old ≡ [] }
     ensures { out.new ≡ bytes_read (content_of (node_at tree.now path.now)) from len }
 {
