@@ -133,16 +133,16 @@ spelled_path (c ∷ d ∷ bytes) path h e = by_test (c == 47) e
 spelled_length : (word : List ℕ) (n : ℕ) → length_of word ≡ Ok n → n ≤ max_bytes
 unfolding length_of
 spelled_length word n e =
-    let b = bind_ok (number_of word) (λ count. ok_or_cause (nat_le count 65536) count Long) n e in
-    let h = if_ok (nat_le b.0 65536) b.0 n Long b.2 in
-    let within : b.0 ≤ 65536 = grind (arith, nat_tests) in
+    let b = bind_ok (number_of word) (λ count. ok_or_cause (nat_le count max_bytes) count Long) n e in
+    let h = if_ok (nat_le b.0 max_bytes) b.0 n Long b.2 in
+    let within : b.0 ≤ max_bytes = grind (arith, nat_tests) in
     subst (λ m. m ≤ max_bytes) h.1 within
 
 short_data : (word bytes : List ℕ) → hex_data word ≡ Ok bytes → length bytes ≤ max_bytes
 short_data word bytes e =
-    let b = bind_ok (hex_of (decode_of word)) (λ bs. ok_or_cause (nat_le (length bs) 65536) bs Long) bytes e in
-    let h = if_ok (nat_le (length b.0) 65536) b.0 bytes Long b.2 in
-    let within : length b.0 ≤ 65536 = grind (arith, nat_tests) in
+    let b = bind_ok (hex_of (decode_of word)) (λ bs. ok_or_cause (nat_le (length bs) max_bytes) bs Long) bytes e in
+    let h = if_ok (nat_le (length b.0) max_bytes) b.0 bytes Long b.2 in
+    let within : length b.0 ≤ max_bytes = grind (arith, nat_tests) in
     subst (λ (bs : List ℕ). length bs ≤ max_bytes) h.1 within
 
 spelled_data : (word bytes : List ℕ) → data_of word ≡ Ok bytes → length bytes ≤ max_bytes

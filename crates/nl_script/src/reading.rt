@@ -11,7 +11,7 @@ ghost use Rattle.nl_script.specs.declared.why.Why.{Why};
 use crate::grammar::line_says;
 use crate::said::Said;
 use crate::{ScriptRefusal, Why};
-use nl_field::Memory;
+use nl_field::{MAX_BYTES, Memory};
 use nl_tree::{Call, Line, Lines};
 use std::alloc::Global;
 
@@ -32,7 +32,7 @@ fn read_length(call: &Call) -> u32
 {
     match call {
         Call::Read(_, _, count) => *count,
-        Call::List(_) => 65536,
+        Call::List(_) => MAX_BYTES as u32,
         _ => 0,
     }
 }

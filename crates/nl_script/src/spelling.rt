@@ -6,11 +6,9 @@ ghost use Rattle.nl_script.specs.Words.{parts};
 
 use crate::Why;
 use crate::cut::cut;
-use nl_field::{Memory, Text};
+use nl_field::{MAX_BYTES, Memory, Text};
 use nl_tree::Path;
 use std::alloc::Global;
-
-const MAX_BYTES: u64 = 65536;
 
 pub(crate) fn worker_of(word: &[u8]) -> Result<u8, Why>
     ensures worker { result ≡ spells.worker_of word.now }
@@ -98,7 +96,7 @@ pub(crate) fn length_of(word: &[u8]) -> Result<u32, Why>
     ensures { result ≡ spells.length_of word.now }
 {
     let count = number_of(word)?;
-    if count > MAX_BYTES {
+    if count > MAX_BYTES as u64 {
         return Err(Why::Long);
     }
     Ok(count as u32)
@@ -116,7 +114,7 @@ pub(crate) fn data_of(alloc: Global, word: &[u8]) -> Result<Result<Text, Why>, M
     }
     match hex::decode(alloc, word) {
         Ok(bytes) => {
-            if bytes.len() as u64 > MAX_BYTES {
+            if bytes.len() > MAX_BYTES {
                 return Ok(Err(Why::Long));
             }
             Ok(Ok(Text::from_vec(bytes)))
