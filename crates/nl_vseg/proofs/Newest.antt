@@ -8,11 +8,11 @@ use Rattle.nl_field.specs.Page.{Page, erased, uncorrectable, written, Image, pag
 use Rattle.nl_field.specs.SpareRecord.{spare_rec_of, stamp_of}
 use Rattle.nl_field.specs.Medium.{Readable, readable, readable_pages, virtual_pages, shape_of_image, first_physical, is_virtual_rec, address_of, address_on, stamp_on}
 use Rattle.nl_field.specs.Space.{has_greatest_stamp, virtual_spare, is_outside}
-use Rattle.nl_field.specs.Virtual.{or_first_in, newest, virtual_bytes}
+use Rattle.nl_field.specs.Virtual.{or_first_in, or_zeros, newest, virtual_bytes}
 use Rattle.nl_field.specs.declared.shape.Shape.{Shape}
 use Rattle.nl_field.specs.declared.spare.SpareRec.{SpareRec}
 use Rattle.nl_field.specs.declared.spare.SpareRec.TheVariants.{Virtual, Physical}
-use Rattle.nl_vseg.specs.Maps.{StandsFor, Dominated, bytes_of_value}
+use Rattle.nl_vseg.specs.Maps.{StandsFor, Dominated}
 use Rattle.nl_vseg.specs.Pages.{Fact, fact_of, fact_with, Shows}
 use Rattle.nl_vseg.proofs.Members.{In, filter_to, filter_from, filter_map_to, filter_map_from, enumerate_to, enumerate_from_at, any_from, any_to, find_in}
 
@@ -101,11 +101,11 @@ picked_some xs (Some y) r rest is = rest is
 picked_some [] None r rest is = absurd (none-some r is)
 picked_some (x ∷ xs) None r rest is = inl (same_Some x r is)
 
-module _ (image : Image) (map : ℕ → Option (ℕ × List ℕ)) (stands : StandsFor (first_physical (shape_of_image image)) (shape_of_image image).vaddrs image map []) (v : ℕ) (below : v < (shape_of_image image).vaddrs) where
+module _ (image : Image) (map : ℕ → Option (ℕ × List ℕ)) (stands : StandsFor (first_physical (shape_of_image image)) (shape_of_image image).vaddrs image map) (v : ℕ) (below : v < (shape_of_image image).vaddrs) where
   dominated : (r : Readable) → In r (virtual_pages image) → address_on r ≡ v → Dominated (map v) (stamp_on r) r.main
   dominated r is at =
       let f = from_pages image r is in
-      ⊎_elim (λ d. d) (λ none. absurd none) (stands.each v (stamp_on r) r.main below (subst (λ u. Shows (first_physical (shape_of_image image)) image u (stamp_on r) r.main) at f.1))
+      stands.each v (stamp_on r) r.main below (subst (λ u. Shows (first_physical (shape_of_image image)) image u (stamp_on r) r.main) at f.1)
 
   is_greatest : (s : ℕ) (main : List ℕ) (r : Readable) → map v ≡ Some (s, main) → address_on r ≡ v → stamp_on r ≡ s → has_greatest_stamp (virtual_pages image) r ≡ true
   is_greatest s main r value at stamp = elim (cases_Bool (list_any (λ q. address_on q == address_on r && nat_lt (stamp_on r) (stamp_on q)) (virtual_pages image))) [
@@ -154,7 +154,7 @@ module _ (image : Image) (map : ℕ → Option (ℕ × List ℕ)) (stands : Stan
       (map v) refl
 
 -- the bytes of a virtual address are the value of the map, and zeros in an inode page that was never written
-pub virtual_value : (image : Image) (map : ℕ → Option (ℕ × List ℕ)) (v : ℕ) → StandsFor (first_physical (shape_of_image image)) (shape_of_image image).vaddrs image map [] → v < (shape_of_image image).vaddrs
-    → virtual_bytes image v ≡ bytes_of_value (shape_of_image image) v (option_map (λ (y : ℕ × List ℕ). y.1) (map v))
+pub virtual_value : (image : Image) (map : ℕ → Option (ℕ × List ℕ)) (v : ℕ) → StandsFor (first_physical (shape_of_image image)) (shape_of_image image).vaddrs image map → v < (shape_of_image image).vaddrs
+    → virtual_bytes image v ≡ or_zeros (shape_of_image image) v (option_map (λ (y : ℕ × List ℕ). y.1) (map v))
 unfolding virtual_bytes
-virtual_value image map v stands below = ap (bytes_of_value (shape_of_image image) v) (newest_value image map stands v below)
+virtual_value image map v stands below = ap (or_zeros (shape_of_image image) v) (newest_value image map stands v below)

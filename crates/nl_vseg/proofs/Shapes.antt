@@ -1,10 +1,9 @@
 -- The numbers of a shape that a segment rests on.
-use Rattle.std.proofs.Common.{◌≡◌, inl, inr, ℕ, zero, suc, ◌+◌, ◌-◌, ◌*◌, ◌/◌, ◌^◌, ◌<◌, ◌≤◌, true, false, Option, None, length, replicate, refl, sym, ◌∙◌, ap, subst, arith, IsTrue, nat_le, ◌&&◌, count_by, cond, get_or}
-use Rattle.std.specs.Int.{div_ceil}
-use Rattle.std.proofs.lemmas.Bool.{and_parts, cond-true, leb-true, le-leb}
-use Rattle.std.proofs.lemmas.Grind.{div_ceil_times}
+use Rattle.std.proofs.Common.{◌≡◌, inl, inr, ℕ, zero, suc, ◌+◌, ◌-◌, ◌*◌, ◌/◌, ◌^◌, ◌<◌, ◌≤◌, true, false, Option, None, length, replicate, refl, sym, ◌∙◌, ap, subst, arith, mul-le-mul_right, nat_le, count_by, cond, get_or}
+use Rattle.std.proofs.lemmas.Bool.{cond-true, le-leb}
 use Rattle.std.proofs.lemmas.List.Sums.{sum_by-cons}
-use Rattle.nl_field.specs.Numbers.{is_legal, shape_for}
+use Rattle.nl_field.specs.Numbers.{ShapeBounds}
+use Rattle.nl_field.proofs.Bounds.{legal_parts}
 use Rattle.nl_field.specs.declared.shape.Shape.{Shape}
 use Rattle.std.proofs.lemmas.List.{length-replicate}
 use Rattle.std.proofs.lemmas.Option.{none-some}
@@ -17,33 +16,12 @@ use Rattle.nl_vseg.specs.declared.place.Place.{Place}
 use Rattle.nl_vseg.proofs.Places.{all_none}
 use Rattle.nl_vseg.proofs.Views.{taken_blank, wear_at}
 
-pub record HasRoom (shape : Shape) : Type 0 where
-  pub some : 0 < shape.pages
-  pub blocks : 4 ≤ shape.vblocks
-  pub few : shape.vaddrs + 4 * shape.pages ≤ shape.vblocks * shape.pages
-  pub numbers : shape.vblocks * shape.pages < 2 ^ 32
-
-pub legal_parts : (blocks pages : ℕ) → IsTrue (is_legal blocks pages) → (32 ≤ blocks) × (blocks ≤ 4096) × (32 ≤ pages) × (pages ≤ 256) × (blocks * pages ≤ 262144)
-legal_parts blocks pages legal =
-    let a = and_parts (nat_le 32 blocks && nat_le blocks 4096 && nat_le 32 pages && nat_le pages 256) (nat_le (blocks * pages) 262144) legal in
-    let b = and_parts (nat_le 32 blocks && nat_le blocks 4096 && nat_le 32 pages) (nat_le pages 256) a.0 in
-    let d = and_parts (nat_le 32 blocks && nat_le blocks 4096) (nat_le 32 pages) b.0 in
-    let e = and_parts (nat_le 32 blocks) (nat_le blocks 4096) d.0 in
-    (leb-true 32 blocks e.0, leb-true blocks 4096 e.1, leb-true 32 pages d.1, leb-true pages 256 b.1, leb-true (blocks * pages) 262144 a.1)
-
-pub has_room : (blocks pages : ℕ) → IsTrue (is_legal blocks pages) → HasRoom (shape_for blocks pages)
-unfolding shape_for
-has_room blocks pages legal =
-    let p = legal_parts blocks pages legal in
-    let inodes = div_ceil_times (blocks * pages / 16) 16 (omega arith) in
-    let vaddrs = 67 + div_ceil (blocks * pages / 16) 16 + blocks * pages / 32 in
-    let parts = div_ceil_times vaddrs pages (omega (arith, p.2)) in
-    record {
-      some = omega (arith, p.2);
-      blocks = omega arith;
-      few = omega (arith, parts.0);
-      numbers = omega (arith, parts.1, inodes.1, p.3, p.4);
-    }
+-- the pages of the segment are counted by a `u32`
+pub few_pages : (shape : Shape) → ShapeBounds shape → shape.vblocks * shape.pages < 2 ^ 32
+few_pages shape is =
+    let few : shape.vblocks ≤ shape.blocks = omega (arith, is.segments) in
+    let le : shape.vblocks * shape.pages ≤ shape.blocks * shape.pages = mul-le-mul_right shape.pages few in
+    omega (arith, le, is.all_pages)
 
 pub all_free : (count size : ℕ) → count_by is_free (replicate count (new_row size)) ≡ count
 all_free zero size = refl
@@ -53,18 +31,18 @@ all_free (suc count) size =
     omega (arith, e, rest)
 
 -- a segment of a shape, of which no address was written
-pub new_segment : (shape : Shape) → HasRoom shape → IsLayout (record { places = replicate shape.vaddrs None; table = new_table 0 shape.vblocks shape.pages; soiled = replicate shape.vblocks false; active = 0; used = shape.pages })
+pub new_segment : (shape : Shape) → ShapeBounds shape → IsLayout (record { places = replicate shape.vaddrs None; table = new_table 0 shape.vblocks shape.pages; soiled = replicate shape.vblocks false; active = 0; used = shape.pages })
 new_segment shape room =
     let places : length {A = Option Place} (replicate shape.vaddrs None) ≡ shape.vaddrs = length-replicate shape.vaddrs None in
     let blocks : length (replicate shape.vblocks (new_row shape.pages)) ≡ shape.vblocks = length-replicate shape.vblocks (new_row shape.pages) in
     let soiled : length (replicate shape.vblocks false) ≡ shape.vblocks = length-replicate shape.vblocks false in
-    let more = room.blocks in
+    let more = room.some_blocks in
     record {
       first = refl;
-      some = room.some;
-      numbers = subst (λ n. n * shape.pages < 2 ^ 32) (sym blocks) room.numbers;
+      some = let some = room.least_pages in omega (arith, some);
+      numbers = subst (λ n. n * shape.pages < 2 ^ 32) (sym blocks) (few_pages shape room);
       marks = soiled ∙ sym blocks;
-      few = subst (λ n. length {A = Option Place} (replicate shape.vaddrs None) + 4 * shape.pages ≤ n * shape.pages) (sym blocks) (subst (λ n. n + 4 * shape.pages ≤ shape.vblocks * shape.pages) (sym places) room.few);
+      few = subst (λ n. length {A = Option Place} (replicate shape.vaddrs None) + 4 * shape.pages ≤ n * shape.pages) (sym blocks) (subst (λ n. n + 4 * shape.pages ≤ shape.vblocks * shape.pages) (sym places) room.addresses_fit);
       active_is = omega (arith, blocks, more);
       used_fits = omega arith;
       taken = λ lt. absurd (omega (arith, lt));
@@ -76,13 +54,13 @@ new_segment shape room =
 
 -- the pages of a medium are counted by a `u32`
 pub medium_fits : (geometry : Geometry) → IsLegal geometry → geometry.blocks * geometry.pages < 2 ^ 32
-medium_fits geometry (inl legal) = let p = legal_parts geometry.blocks geometry.pages legal in omega (arith, p.4)
+medium_fits geometry (inl legal) = let p = (legal_parts geometry.blocks geometry.pages legal).all_pages in omega (arith, p)
 medium_fits geometry (inr none) = subst (λ (n : Geometry). n.blocks * n.pages < 2 ^ 32) (sym none) (omega arith)
 
-pub new_spare : (shape : Shape) → HasRoom shape → HasSpare (record { places = replicate shape.vaddrs None; table = new_table 0 shape.vblocks shape.pages; soiled = replicate shape.vblocks false; active = 0; used = shape.pages })
+pub new_spare : (shape : Shape) → ShapeBounds shape → HasSpare (record { places = replicate shape.vaddrs None; table = new_table 0 shape.vblocks shape.pages; soiled = replicate shape.vblocks false; active = 0; used = shape.pages })
 new_spare shape roomy =
     let blocks : length (replicate shape.vblocks (new_row shape.pages)) ≡ shape.vblocks = length-replicate shape.vblocks (new_row shape.pages) in
-    let more = roomy.blocks in
+    let more = roomy.some_blocks in
     record { block = 0; within = omega (arith, blocks, more); unmapped = λ v place named. absurd (none-some place (sym (all_none shape.vaddrs v) ∙ named)) }
 
 one_less : (n p : ℕ) → 1 ≤ n → (n - 1) * p + p ≡ n * p
@@ -91,11 +69,11 @@ one_less (suc n) p some =
     let e : suc n - 1 ≡ n = omega arith in
     subst (λ k. k * p + p ≡ suc n * p) (sym e) (omega arith)
 
-pub new_room : (shape : Shape) → HasRoom shape
+pub new_room : (shape : Shape) → ShapeBounds shape
     → room (record { places = replicate shape.vaddrs None; table = new_table 0 shape.vblocks shape.pages; soiled = replicate shape.vblocks false; active = 0; used = shape.pages }) + shape.pages ≡ shape.vblocks * shape.pages
 new_room shape roomy =
     let free : free_count (new_table 0 shape.vblocks shape.pages) ≡ shape.vblocks = all_free shape.vblocks shape.pages in
-    let more = roomy.blocks in
+    let more = roomy.some_blocks in
     let some_is : nat_le 1 (free_count (new_table 0 shape.vblocks shape.pages)) ≡ true = le-leb 1 (free_count (new_table 0 shape.vblocks shape.pages)) (omega (arith, free, more)) in
     let e : cond (nat_le 1 (free_count (new_table 0 shape.vblocks shape.pages))) ((shape.pages - shape.pages) + (free_count (new_table 0 shape.vblocks shape.pages) - 1) * shape.pages) 0
     ≡ (shape.pages - shape.pages) + (free_count (new_table 0 shape.vblocks shape.pages) - 1) * shape.pages =
@@ -120,7 +98,7 @@ new_clean (suc count) zero = refl
 new_clean (suc count) (suc block) = new_clean count block
 
 -- all its pages are taken as erased
-pub new_blank : (shape : Shape) → HasRoom shape → (p : ℕ)
+pub new_blank : (shape : Shape) → ShapeBounds shape → (p : ℕ)
     → p < bound (record { places = replicate shape.vaddrs None; table = new_table 0 shape.vblocks shape.pages; soiled = replicate shape.vblocks false; active = 0; used = shape.pages })
     → is_blank (shown (record { places = replicate shape.vaddrs None; table = new_table 0 shape.vblocks shape.pages; soiled = replicate shape.vblocks false; active = 0; used = shape.pages })) p ≡ true
 new_blank shape room p below =

@@ -9,3 +9,4 @@ pub mod Places
 pub mod Rig
 pub mod Seen
 pub mod Segment
+pub mod Writes

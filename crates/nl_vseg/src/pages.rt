@@ -4,7 +4,7 @@ ghost use Rattle.nl_field.specs.Page.{page_at, written};
 ghost use Rattle.nl_field.specs.Spelling.{is_stamp};
 ghost use Rattle.nl_field.specs.SpareRecord.{spare_bytes, spare_rec_of};
 ghost use Rattle.nl_field.specs.declared.spare.SpareRec.TheVariants.{Virtual};
-ghost use Rattle.nl_nand.specs.Nand.{CanProgram, Leaves, CrashLeaves, FaultsCounted, SameLeft, ticked};
+ghost use Rattle.nl_nand.specs.Nand.{CanProgram, Leaves, CrashLeaves, FaultsCounted, OnlyReads, OperationCounted};
 ghost use Rattle.nl_vseg.specs.Pages.{fact_of, page_with, stamp_found};
 ghost use Rattle.nl_vseg.specs.Answers.{ReadsPage};
 
@@ -30,11 +30,7 @@ pub fn read_page<M: Nand>(media: &mut M, page: u32, wanted: u64, buf: &mut PageB
     ensures stamp { result ≡ VirtualRead.Done → stamp_found buf.new ≡ wanted }
     ensures mapped { result ≡ VirtualRead.Unmapped → ⊥ }
     ensures lost { (w f : ℕ) → result ≡ VirtualRead.Lost w f → (w ≡ wanted) × (f ≡ wanted → ⊥) }
-    ensures geometry { M.geometry media.new ≡ M.geometry media.old }
-    ensures contents { M.contents media.new ≡ M.contents media.old }
-    ensures left { SameLeft M.left media.old media.new }
-    ensures clock { M.clock media.new ≡ M.clock media.old }
-    ensures write_faults { M.write_faults media.new ≡ M.write_faults media.old }
+    ensures only_reads { OnlyReads M.geometry M.contents M.clock M.write_faults M.left media.old media.new }
     ensures read_faults { FaultsCounted (M.read_faults media.old) (M.read_faults media.new) (result ≡ VirtualRead.Fault) }
 {
     let found = match media.read(page, buf) {
@@ -64,10 +60,7 @@ pub fn program_page<M: Nand>(
     ensures shows { fact_of (written (page_with buf.old.main vaddr stamp wear)) ≡ Some (vaddr, stamp, buf.old.main) }
     ensures effect { M.tells → Leaves page (page + 1) (written (page_with buf.old.main vaddr stamp wear)) (M.contents media.old) result (M.contents media.new) }
     ensures crash { CrashLeaves M.clock M.contents M.left page (page + 1) (written (page_with buf.old.main vaddr stamp wear)) media.old media.new }
-    ensures geometry { M.geometry media.new ≡ M.geometry media.old }
-    ensures clock { M.clock media.new ≡ ticked (M.clock media.old) result }
-    ensures read_faults { M.read_faults media.new ≡ M.read_faults media.old }
-    ensures write_faults { FaultsCounted (M.write_faults media.old) (M.write_faults media.new) (result ≡ WriteAnswer.Failed) }
+    ensures counted { OperationCounted M.geometry M.clock M.read_faults M.write_faults media.old media.new result }
 {
     let mut spare = [0; 64];
     spare_into(&SpareRec::Virtual { vaddr, stamp, wear }, &mut spare);

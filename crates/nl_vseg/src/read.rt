@@ -1,5 +1,5 @@
 ghost use Rattle.std.specs.Prelude.{◌≡◌, ◌<◌, length};
-ghost use Rattle.nl_nand.specs.Nand.{FaultsCounted, SameLeft};
+ghost use Rattle.nl_nand.specs.Nand.{FaultsCounted, OnlyReads};
 ghost use Rattle.nl_vseg.specs.Places.{map_of, stamp_for};
 ghost use Rattle.nl_vseg.specs.Segment.{Fits, IsSegmentOf};
 ghost use Rattle.nl_vseg.specs.Seen.{segment_of, IsFormed};
@@ -18,11 +18,7 @@ impl State {
         requires segment { M.tells → IsSegmentOf (M.contents media.old) (segment_of self.now) }
         ensures answer { ReadsStamp (stamp_for self.now.places.items vaddr) buf.new result }
         ensures value { M.tells → ReadsValue (map_of self.now.places.items (M.contents media.old) vaddr) buf.new result }
-        ensures geometry { M.geometry media.new ≡ M.geometry media.old }
-        ensures contents { M.contents media.new ≡ M.contents media.old }
-        ensures left { SameLeft M.left media.old media.new }
-        ensures clock { M.clock media.new ≡ M.clock media.old }
-        ensures write_faults { M.write_faults media.new ≡ M.write_faults media.old }
+        ensures only_reads { OnlyReads M.geometry M.contents M.clock M.write_faults M.left media.old media.new }
         ensures read_faults { FaultsCounted (M.read_faults media.old) (M.read_faults media.new) (result ≡ VirtualRead.Fault) }
     {
         match self.places[vaddr as usize] {

@@ -1,14 +1,14 @@
 ghost use Rattle.std.specs.Prelude.{◌≡◌, ◌⊎◌, ℕ, ◌+◌, ◌*◌, ◌/◌, ◌<◌, ◌≤◌, ◌==◌, length, slice_set, replicate, true, if◌then◌else◌, None, Some, IsTrue, IfOk};
-ghost use Rattle.nl_field.specs.CrashStates.{Earlier, LeavesOnly, Rose, Turns};
+ghost use Rattle.nl_field.specs.CrashStates.{Earlier};
 ghost use Rattle.nl_field.specs.Numbers.{is_legal, shape_for};
 ghost use Rattle.nl_field.specs.Spelling.{is_stamp};
-ghost use Rattle.nl_nand.specs.Nand.{FaultsCounted, SameLeft};
-ghost use Rattle.nl_vseg.specs.Maps.{with_at};
+ghost use Rattle.nl_nand.specs.Nand.{FaultsCounted, OnlyReads};
 ghost use Rattle.nl_vseg.specs.Places.{AreBelow, map_of, place_of, stamp_for};
 ghost use Rattle.nl_vseg.specs.Segment.{Fits, IsSegmentOf, KeepsSpare, SameSize, is_blank, wear_of};
-ghost use Rattle.nl_vseg.specs.Effects.{Counted, Keeps, Programmed, Takes};
+ghost use Rattle.nl_vseg.specs.Effects.{Counted, Programmed};
 ghost use Rattle.nl_vseg.specs.Operations.{Operates, snapshot};
 ghost use Rattle.nl_vseg.specs.Answers.{IsLost, LosesStamp, ReadsStamp, ReadsValue};
+ghost use Rattle.nl_vseg.specs.Writes.{WritesStamp, WritesValue};
 
 use crate::state::State;
 use nl_field::{Memory, PageBuf, Shape, VirtualRead, VirtualWrite};
@@ -98,11 +98,7 @@ impl VSeg {
         ensures segment { self.new ≡ self.old }
         ensures answer { ReadsStamp (stamp_for self.old.places vaddr) buf.new result }
         ensures value { M.tells → ReadsValue (map_of self.old.places (M.contents media.old) vaddr) buf.new result }
-        ensures geometry { M.geometry media.new ≡ M.geometry media.old }
-        ensures contents { M.contents media.new ≡ M.contents media.old }
-        ensures left { SameLeft M.left media.old media.new }
-        ensures clock { M.clock media.new ≡ M.clock media.old }
-        ensures write_faults { M.write_faults media.new ≡ M.write_faults media.old }
+        ensures only_reads { OnlyReads M.geometry M.contents M.clock M.write_faults M.left media.old media.new }
         ensures read_faults { FaultsCounted (M.read_faults media.old) (M.read_faults media.new) (result ≡ VirtualRead.Fault) }
     {
         self.state.read(media, vaddr, buf)
@@ -126,20 +122,11 @@ impl VSeg {
         ensures numbers { SameSize self.old self.new }
         ensures below { AreBelow self.new.bound self.new.places }
         ensures within { (p : ℕ) → is_blank self.new p ≡ true → p < self.new.bound }
-        ensures done { result ≡ VirtualWrite.Done → (v : ℕ) → stamp_for self.new.places v ≡ (if v == vaddr then Some stamp else stamp_for self.old.places v) }
-        ensures failed { (result ≡ VirtualWrite.Done → ⊥) → (v : ℕ) → stamp_for self.new.places v ≡ stamp_for self.old.places v }
+        ensures stamps { WritesStamp vaddr stamp (result ≡ VirtualWrite.Done) self.old.places self.new.places }
         ensures room { 0 < self.old.room → result ≡ VirtualWrite.Done → self.new.room + 1 ≡ self.old.room }
         ensures segment { M.tells → IsSegmentOf (M.contents media.new) self.new }
-        ensures map { M.tells → result ≡ VirtualWrite.Done → (v : ℕ) → map_of self.new.places (M.contents media.new) v ≡ with_at (map_of self.old.places (M.contents media.old)) vaddr (stamp, from.now.main) v }
-        ensures same { M.tells → (result ≡ VirtualWrite.Done → ⊥) → (v : ℕ) → map_of self.new.places (M.contents media.new) v ≡ map_of self.old.places (M.contents media.old) v }
-        ensures takes { M.tells → result ≡ VirtualWrite.Done → Takes self.old.pages self.old.bound (map_of self.old.places (M.contents media.old)) vaddr stamp from.now.main (M.contents media.old) (M.contents media.new) }
-        ensures either { M.tells → Keeps self.old.pages self.old.bound (map_of self.old.places (M.contents media.old)) (M.contents media.old) (M.contents media.new)
-            ⊎ Takes self.old.pages self.old.bound (map_of self.old.places (M.contents media.old)) vaddr stamp from.now.main (M.contents media.old) (M.contents media.new) }
-        ensures unused { M.tells → (result ≡ VirtualWrite.Done → ⊥) → (Rose (M.write_faults media.old) (M.write_faults media.new) → ⊥) → Keeps self.old.pages self.old.bound (map_of self.old.places (M.contents media.old)) (M.contents media.old) (M.contents media.new) }
+        ensures value { M.tells → WritesValue M.clock M.write_faults M.contents M.left vaddr stamp from.now.main (result ≡ VirtualWrite.Done) self.old self.new media.old media.new }
         ensures programmed { M.tells → 0 < self.old.room → result ≡ VirtualWrite.Done → (block : ℕ) × Programmed self.old.pages self.old.bound block vaddr stamp (wear_of self.new block) from.now.main (M.contents media.old) (M.contents media.new) }
-        ensures crash { M.tells → LeavesOnly M.clock M.left media.old media.new (Turns (result ≡ VirtualWrite.Done) (M.clock media.new)
-            (λ c. Keeps self.old.pages self.old.bound (map_of self.old.places (M.contents media.old)) (M.contents media.old) c)
-            (λ c. Takes self.old.pages self.old.bound (map_of self.old.places (M.contents media.old)) vaddr stamp from.now.main (M.contents media.old) c)) }
         ensures lost { LosesStamp self.old.places result }
         ensures kept { M.tells → IsLost result → ⊥ }
         ensures operates { Operates M.tells self.old.pages (snapshot self.old.wears (M.clock media.old) (M.contents media.old)) (snapshot self.new.wears (M.clock media.new) (M.contents media.new)) }

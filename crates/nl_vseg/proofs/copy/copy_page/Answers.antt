@@ -14,17 +14,17 @@ returns-in-Fault-clause-copied g c t =
     ∙ sym (c.requires.shows t)
 
 pub returns-in-Lost-clause-operates : goal.returns-in-Lost-clause-operates
-returns-in-Lost-clause-operates g c pages wears is = operates_still wears wears _ _ _ _ refl c.read_page.ensures.clock c.read_page.ensures.contents
+returns-in-Lost-clause-operates g c pages wears is = operates_still wears wears _ _ _ _ refl c.read_page.ensures.only_reads.same_clock c.read_page.ensures.only_reads.same_contents
 
 pub returns-in-Fault-clause-operates : goal.returns-in-Fault-clause-operates
-returns-in-Fault-clause-operates g c pages wears is = operates_still wears wears _ _ _ _ refl c.read_page.ensures.clock c.read_page.ensures.contents
+returns-in-Fault-clause-operates g c pages wears is = operates_still wears wears _ _ _ _ refl c.read_page.ensures.only_reads.same_clock c.read_page.ensures.only_reads.same_contents
 
 pub returns-in-Done-program_page-clause-operates : goal.returns-in-Done-program_page-clause-operates
 returns-in-Done-program_page-clause-operates g c pages wears is =
-    operates_both (operates_still wears wears _ _ _ _ refl c.read_page.ensures.clock c.read_page.ensures.contents)
-    (operates_page pages c.args.to c.args.vaddr c.args.place.stamp c.args.wear c.read_page.new.buf.main c.program_page.result wears _ _ _ _ is c.program_page.ensures.clock c.program_page.ensures.effect)
+    operates_both (operates_still wears wears _ _ _ _ refl c.read_page.ensures.only_reads.same_clock c.read_page.ensures.only_reads.same_contents)
+    (operates_page pages c.args.to c.args.vaddr c.args.place.stamp c.args.wear c.read_page.new.buf.main c.program_page.result wears _ _ _ _ is c.program_page.ensures.counted.ticks c.program_page.ensures.effect)
 
 pub returns-in-Failed-clause-operates : goal.returns-in-Failed-clause-operates
 returns-in-Failed-clause-operates g c pages wears is =
-    operates_both (operates_still wears wears _ _ _ _ refl c.read_page.ensures.clock c.read_page.ensures.contents)
-    (operates_page pages c.args.to c.args.vaddr c.args.place.stamp c.args.wear c.read_page.new.buf.main c.program_page.result wears _ _ _ _ is c.program_page.ensures.clock c.program_page.ensures.effect)
+    operates_both (operates_still wears wears _ _ _ _ refl c.read_page.ensures.only_reads.same_clock c.read_page.ensures.only_reads.same_contents)
+    (operates_page pages c.args.to c.args.vaddr c.args.place.stamp c.args.wear c.read_page.new.buf.main c.program_page.result wears _ _ _ _ is c.program_page.ensures.counted.ticks c.program_page.ensures.effect)

@@ -1,18 +1,20 @@
 use Rattle.std.proofs.lemmas.List.{length-replicate}
 use Rattle.nl_blocks.specs.Table.{Table}
 use Rattle.std.proofs.Common.{None, length, sym, ◌∙◌, ap, subst, arith}
+use Rattle.nl_field.specs.Numbers.{ShapeBounds}
+use Rattle.nl_field.proofs.Bounds.{bounds}
 use Rattle.nl_vseg.specs.Layout.{IsLayout}
-use Rattle.nl_vseg.proofs.Shapes.{HasRoom, has_room, new_segment}
+use Rattle.nl_vseg.proofs.Shapes.{few_pages, new_segment}
 use Rattle.nl_vseg.proofs.state.State.new.Goals as goal
 
 pub new-requires-clause-numbers : goal.new-requires-clause-numbers
 new-requires-clause-numbers c =
-    let room = subst HasRoom (sym c.requires.numbers) (has_room c.args.shape.now.blocks c.args.shape.now.pages c.requires.legal) in
-    omega (arith, room.numbers)
+    let few = few_pages c.args.shape.now (subst ShapeBounds (sym c.requires.numbers) (bounds c.args.shape.now.blocks c.args.shape.now.pages c.requires.legal)) in
+    omega (arith, few)
 
 pub returns-clause-formed : goal.returns-clause-formed
 returns-clause-formed c =
-    let room = subst HasRoom (sym c.requires.numbers) (has_room c.args.shape.now.blocks c.args.shape.now.pages c.requires.legal) in
+    let room = subst ShapeBounds (sym c.requires.numbers) (bounds c.args.shape.now.blocks c.args.shape.now.pages c.requires.legal) in
     let places = c.in_ok-no_places.ensures in
     let table = c.in_ok-new.ensures in
     let soiled = c.in_ok-no_marks.ensures in

@@ -55,7 +55,7 @@ returns-in-Failed-clause-crash g c t =
     let seg = seen c.args.self.now in
     put_leaves {contents = g.M.Nand.contents} seg c.requires.formed.segment c.requires.room (seg.active * c.pages.result + seg.used) (ap (λ n. seg.active * n + seg.used) c.pages.ensures) (c.requires.segment t) c.requires.free
     c.args.vaddr c.args.stamp c.wear-wear.result c.copy_from.new.self.main c.args.from.now.main (ap (λ (b : PageBytes). b.main) c.copy_from.ensures) c.program_page.ensures.shows
-    _ c.program_page.result (λ done. absurd (cc done)) c.program_page.ensures.crash (c.program_page.ensures.effect t) c.program_page.ensures.clock
+    _ c.program_page.result (λ done. absurd (cc done)) c.program_page.ensures.crash (c.program_page.ensures.effect t) c.program_page.ensures.counted.ticks
 
 pub returns-in-Done-clause-formed : goal.returns-in-Done-clause-formed
 returns-in-Done-clause-formed g c =
@@ -118,7 +118,7 @@ returns-in-Done-clause-crash g c t =
     let seg = seen c.args.self.now in
     put_leaves {contents = g.M.Nand.contents} seg c.requires.formed.segment c.requires.room (seg.active * c.pages.result + seg.used) (ap (λ n. seg.active * n + seg.used) c.pages.ensures) (c.requires.segment t) c.requires.free
     c.args.vaddr c.args.stamp c.wear-wear.result c.copy_from.new.self.main c.args.from.now.main (ap (λ (b : PageBytes). b.main) c.copy_from.ensures) c.program_page.ensures.shows
-    _ c.program_page.result (λ done. c.in-Done.is) c.program_page.ensures.crash (c.program_page.ensures.effect t) c.program_page.ensures.clock
+    _ c.program_page.result (λ done. c.in-Done.is) c.program_page.ensures.crash (c.program_page.ensures.effect t) c.program_page.ensures.counted.ticks
 
 pub returns-in-Failed-clause-operates : goal.returns-in-Failed-clause-operates
 returns-in-Failed-clause-operates g c =
@@ -127,7 +127,7 @@ returns-in-Failed-clause-operates g c =
     let page = seg.active * c.pages.result + seg.used in
     let at : page / seg.table.size ≡ seg.active = ap (λ n. (seg.active * n + seg.used) / seg.table.size) c.pages.ensures ∙ div-mul-add seg.active seg.table.size seg.used c.requires.room in
     operates_page seg.table.size page c.args.vaddr c.args.stamp c.wear-wear.result c.copy_from.new.self.main c.program_page.result (wears_of seg.table) _ _ _ _
-    (ap (λ n. get_or (wears_of seg.table) n 0) at ∙ (wear_at seg.table seg.active first ∙ sym c.wear-wear.ensures)) c.program_page.ensures.clock c.program_page.ensures.effect
+    (ap (λ n. get_or (wears_of seg.table) n 0) at ∙ (wear_at seg.table seg.active first ∙ sym c.wear-wear.ensures)) c.program_page.ensures.counted.ticks c.program_page.ensures.effect
 
 pub returns-in-Done-clause-operates : goal.returns-in-Done-clause-operates
 returns-in-Done-clause-operates g c =
@@ -136,4 +136,4 @@ returns-in-Done-clause-operates g c =
     let page = seg.active * c.pages.result + seg.used in
     let at : page / seg.table.size ≡ seg.active = ap (λ n. (seg.active * n + seg.used) / seg.table.size) c.pages.ensures ∙ div-mul-add seg.active seg.table.size seg.used c.requires.room in
     operates_page seg.table.size page c.args.vaddr c.args.stamp c.wear-wear.result c.copy_from.new.self.main c.program_page.result (wears_of seg.table) _ _ _ _
-    (ap (λ n. get_or (wears_of seg.table) n 0) at ∙ (wear_at seg.table seg.active first ∙ sym c.wear-wear.ensures)) c.program_page.ensures.clock c.program_page.ensures.effect
+    (ap (λ n. get_or (wears_of seg.table) n 0) at ∙ (wear_at seg.table seg.active first ∙ sym c.wear-wear.ensures)) c.program_page.ensures.counted.ticks c.program_page.ensures.effect

@@ -1,10 +1,8 @@
 use Rattle.std.proofs.Common.{◌≡◌, subst}
-use Rattle.nl_field.specs.CrashStates.{LeavesOnly, Turns}
 use Rattle.nl_field.specs.declared.answers.VirtualWrite.TheVariants.{Done}
-use Rattle.nl_vseg.specs.Places.{map_of}
 use Rattle.nl_vseg.specs.Segment.{Segment}
-use Rattle.nl_vseg.specs.Effects.{Keeps, Takes}
-use Rattle.nl_vseg.specs.Seen.{seen}
+use Rattle.nl_vseg.specs.Seen.{seen, segment_of}
+use Rattle.nl_vseg.specs.Writes.{WritesValue}
 use Rattle.nl_vseg.proofs.Views.{blank_taken}
 use Rattle.nl_vseg.proofs.vseg.VSeg.virtual_write.Goals as goal
 
@@ -14,9 +12,8 @@ returns-clause-below g c v place named = (c.write.ensures.formed.segment.places_
 pub returns-clause-within : goal.returns-clause-within
 returns-clause-within g c p is = (blank_taken (seen c.write.new.self) p is).0
 
-pub returns-clause-crash : goal.returns-clause-crash
-returns-clause-crash g c t =
-    let old = g.M.Nand.contents c.args.media.now in
-    subst (λ (s : Segment). LeavesOnly g.M.Nand.clock g.M.Nand.left c.args.media.now c.write.new.media (Turns (c.write.result ≡ Done) (g.M.Nand.clock c.write.new.media)
-    (λ img. Keeps s.pages s.bound (map_of s.places old) old img)
-    (λ img. Takes s.pages s.bound (map_of s.places old) c.args.vaddr c.args.stamp c.args.from.now.main old img))) c.self.view_is (c.write.ensures.crash t)
+pub returns-clause-value : goal.returns-clause-value
+returns-clause-value g c t =
+    let e = c.write.ensures in
+    subst (λ (s : Segment). WritesValue g.M.Nand.clock g.M.Nand.write_faults g.M.Nand.contents g.M.Nand.left c.args.vaddr c.args.stamp c.args.from.now.main (c.write.result ≡ Done) s (segment_of c.write.new.self) c.args.media.now c.write.new.media) c.self.view_is
+    (record { map = e.map t; same = e.same t; takes = e.takes t; either = e.either t; unused = e.unused t; crash = e.crash t })
