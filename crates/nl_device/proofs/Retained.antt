@@ -12,7 +12,9 @@ use Rattle.nl_iface.specs.Left.{HoldsLive}
 use Rattle.nl_iface.specs.Names.{LivePage}
 use Rattle.nl_iface.specs.Stored.{NamedPage, stored_in}
 use Rattle.nl_pseg.specs.Pages.{main_of, shown_by}
-use Rattle.nl_pseg.proofs.Shapes.{IsRoomy, is_roomy}
+use Rattle.nl_field.specs.Numbers.{ShapeBounds}
+use Rattle.nl_field.proofs.Bounds.{bounds}
+use Rattle.nl_device.proofs.Bounds.{two_blocks}
 use Rattle.nl_pseg.specs.Segment.{InSegment, IsPhysicalOf, KeptAreDead, Physical, TakenAsErased, held_at, is_free}
 use Rattle.nl_pseg.specs.declared.held.Held.{Held}
 use Rattle.nl_field.specs.Medium.{first_physical}
@@ -70,9 +72,9 @@ is_fresh {old = old} has none dead held pairs blocks size count each left = reco
 -- where each block is Free, one is
 pub free_some : {geometry : Geometry} {shape : Shape} {vseg : Segment} {old : Physical} (new : Physical) → HasSegments geometry shape vseg old → new.first ≡ old.first → new.blocks ≡ old.blocks → new.first + new.free ≡ new.blocks → 1 ≤ new.free
 free_some {shape = shape} new has first blocks count =
-    let roomy : IsRoomy shape = subst IsRoomy (sym has.numbers) (is_roomy _ _ has.legal) in
-    let two = roomy.blocks in
-    let all = roomy.all in
+    let roomy : ShapeBounds shape = subst ShapeBounds (sym has.numbers) (bounds _ _ has.legal) in
+    let two = two_blocks roomy in
+    let all = roomy.segments in
     let f = has.physical_first in
     let b = has.physical_blocks in
     omega (arith, two, all, f, b, first, blocks, count)

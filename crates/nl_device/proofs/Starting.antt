@@ -5,7 +5,8 @@ use Rattle.std.proofs.lemmas.Bool.{cases_lt}
 use Rattle.std.proofs.lemmas.List.{get_or-replicate, get_or_past, length-replicate}
 use Rattle.std.proofs.lemmas.Option.{none-some, same_Some}
 use Rattle.nl_field.specs.Page.{Image}
-use Rattle.nl_field.specs.Numbers.{is_legal, shape_for}
+use Rattle.nl_field.specs.Numbers.{ShapeBounds, is_legal, shape_for}
+use Rattle.nl_field.proofs.Bounds.{bounds}
 use Rattle.nl_field.specs.SpareRecord.{stamp_of}
 use Rattle.nl_field.specs.declared.shape.Shape.{Shape}
 use Rattle.nl_iface.specs.Left.{HoldsLive}
@@ -13,7 +14,7 @@ use Rattle.nl_iface.specs.Space.{IsSpace}
 use Rattle.nl_iface.specs.Stored.{stored_in}
 use Rattle.nl_nand.specs.declared.geometry.Geometry.{Geometry}
 use Rattle.nl_pseg.proofs.Numbers.{block_from}
-use Rattle.nl_pseg.proofs.Shapes.{IsRoomy, is_roomy}
+use Rattle.nl_device.proofs.Bounds.{some_pages, two_blocks}
 use Rattle.nl_pseg.specs.Segment.{Physical}
 use Rattle.nl_pseg.specs.declared.held.Held.{Held}
 use Rattle.nl_scan.specs.Tables.{Table, greatest_stamp}
@@ -104,7 +105,7 @@ module _ (shape : Shape) (t : Table) (vseg : Segment) (o : IsOpenedVirtual shape
     live = λ q h is. absurd (none-some h (sym (none_at (shape.blocks * shape.pages) q pseg.held p.none_held) ∙ is));
   }
 
-module _ (shape : Shape) (t : Table) (pseg : Physical) (p : IsOpenedPhysical shape t pseg) (roomy : IsRoomy shape) where
+module _ (shape : Shape) (t : Table) (pseg : Physical) (p : IsOpenedPhysical shape t pseg) (roomy : ShapeBounds shape) where
   pub live_none : HasLive pseg
   live_none = record {
     in_segment = λ q h is. absurd (none-some h (sym (none_at (shape.blocks * shape.pages) q pseg.held p.none_held) ∙ is));
@@ -113,7 +114,7 @@ module _ (shape : Shape) (t : Table) (pseg : Physical) (p : IsOpenedPhysical sha
   }
 
   pub free_some : HasFree pseg
-  free_some = let free = p.free_is in let left = p.left_is in let two = roomy.blocks in record { kept = omega (arith, free, two); left = omega (arith, left) }
+  free_some = let free = p.free_is in let left = p.left_is in let two = two_blocks roomy in record { kept = omega (arith, free, two); left = omega (arith, left) }
 
   pub free_space : (space_of pseg).free ≡ shape.pblocks
   unfolding space_of
@@ -122,9 +123,9 @@ module _ (shape : Shape) (t : Table) (pseg : Physical) (p : IsOpenedPhysical sha
   pub room_space : (space_of pseg).room + (space_of pseg).block ≡ (space_of pseg).all
   unfolding space_of
   room_space =
-      let all = roomy.all in
+      let all = roomy.segments in
       let k = shape.pblocks - 1 in
-      let two = roomy.blocks in
+      let two = two_blocks roomy in
       let e : shape.pblocks ≡ k + 1 = omega (arith, two) in
       let left = p.left_is in
       let first = p.first_is in
@@ -140,7 +141,7 @@ module _ (shape : Shape) (t : Table) (pseg : Physical) (p : IsOpenedPhysical sha
   unfolding space_of
   is_space =
       let free = p.free_is in
-      let two = roomy.blocks in
+      let two = two_blocks roomy in
       let left = p.left_is in
       let none : length pseg.pairs ≡ 0 = ap (λ (l : List (ℕ × ℕ)). length l) p.no_pairs in
       let low : 1 * pseg.size ≤ pseg.free * pseg.size = block_from 1 pseg.free pseg.size (omega (arith, free, two)) in
@@ -167,15 +168,15 @@ pub opened_device : (geometry : Geometry) (shape : Shape) (t : Table) (vseg : Se
     → IsDevice geometry tells image shape vseg pseg kept (1 + greatest_stamp t.seen)
 opened_device geometry shape t vseg pseg kept tells image legal e fits o p medium found stored =
     let x = for_shape shape geometry.blocks geometry.pages e in
-    let roomy : IsRoomy shape = subst IsRoomy (sym e) (is_roomy geometry.blocks geometry.pages legal) in
+    let roomy : ShapeBounds shape = subst ShapeBounds (sym e) (bounds geometry.blocks geometry.pages legal) in
     let segments : HasSegments geometry shape vseg pseg = record {
       legal = legal;
       numbers = e;
       blocks = sym x.0;
       pages = sym x.1;
-      some = roomy.some;
-      split = roomy.all;
-      rest = let a = roomy.all in omega (arith, a);
+      some = some_pages roomy;
+      split = roomy.segments;
+      rest = let a = roomy.segments in omega (arith, a);
       virtual_pages = o.same_pages;
       virtual_bound = o.same_bound;
       addresses = o.addresses;

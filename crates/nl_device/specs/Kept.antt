@@ -4,8 +4,10 @@ use Rattle.nl_field.specs.Spelling.{is_stamp}
 use Rattle.std.specs.List.{list_all, list_any, range_with_len, AllPairs}
 use Rattle.std.specs.Ordering.{nat_cmp}
 use Rattle.std.specs.BTreeMap.{BTreeMap, get}
+use Rattle.nl_field.specs.Medium.{first_physical}
 use Rattle.nl_field.specs.Space.{is_outside}
 use Rattle.nl_field.specs.declared.pointer.Pointer.{Pointer}
+use Rattle.nl_field.specs.declared.shape.Shape.{Shape}
 use Rattle.nl_field.specs.declared.spare.SpareRec.{SpareRec}
 use Rattle.nl_field.specs.declared.spare.SpareRec.TheVariants.{Virtual, Physical}
 use Rattle.nl_field.specs.declared.seen.Seen.{Seen}
@@ -35,6 +37,10 @@ kept_from low s = if nat_le low s.page then with_record s.page s.rec else None
 -- of the pages that a scan saw, those of the physical segment
 unfoldable pub kept_pages : ℕ → List Seen → List KeptPage
 kept_pages low seen = filter_map (kept_from low) seen
+
+-- what is kept of the pages that a scan saw
+abbrev pub kept_of_scan : Shape → List Seen → KeptPages
+kept_of_scan shape seen = record { first = shape.vblocks; count = shape.pblocks; size = shape.pages; pages = kept_pages (first_physical shape) seen }
 
 -- the page of that number has the stamp
 unfoldable pub has_stamp : List KeptPage → ℕ → ℕ → Bool

@@ -3,8 +3,7 @@ ghost use Rattle.std.specs.List.{AllPairs};
 ghost use Rattle.std.specs.Ordering.{nat_cmp};
 ghost use Rattle.std.specs.BTreeMap.{get, Updates};
 ghost use Rattle.nl_device.specs.Copies.{noted};
-ghost use Rattle.nl_device.specs.Kept.{kept_from, kept_pages};
-ghost use Rattle.nl_field.specs.Medium.{first_physical};
+ghost use Rattle.nl_device.specs.Kept.{kept_from, kept_of_scan};
 ghost use Rattle.nl_scan.specs.Tables.{IsSeen};
 
 mod copies;
@@ -51,7 +50,7 @@ impl Kept {
         requires few { shape.now.vblocks + shape.now.pblocks < 2 ^ 32 }
         requires rising { AllPairs (λ a b. a.page < b.page) tables.now.seen }
         requires within { All (IsSeen ((shape.now.vblocks + shape.now.pblocks) * shape.now.pages)) tables.now.seen }
-        ensures { IfOk result (λ k. k ≡ record { first = shape.now.vblocks; count = shape.now.pblocks; size = shape.now.pages; pages = kept_pages (first_physical shape.now) tables.now.seen }) }
+        ensures { IfOk result (λ k. k ≡ kept_of_scan shape.now tables.now.seen) }
     {
         let low = shape.vblocks as u64 * shape.pages as u64;
         let mut pages = Vec::new(alloc);

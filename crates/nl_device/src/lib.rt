@@ -8,6 +8,7 @@ mod marks;
 mod named_pages;
 mod opening;
 mod retain;
+pub mod scan_laws;
 mod stamps;
 mod start;
 #[cfg(test)]

@@ -8,8 +8,7 @@ ghost use Rattle.nl_field.specs.Virtual.{newest};
 ghost use Rattle.nl_iface.specs.Stored.{Value, value_on};
 ghost use Rattle.nl_nand.specs.Nand.{OnlyReads};
 ghost use Rattle.nl_scan.specs.Tables.{FitsMedium, IsTableOf, greatest_stamp};
-ghost use Rattle.nl_field.specs.Medium.{first_physical};
-ghost use Rattle.nl_device.specs.Kept.{kept_pages};
+ghost use Rattle.nl_device.specs.Kept.{kept_of_scan};
 ghost use Rattle.nl_device.specs.Medium.{medium_of};
 ghost use Rattle.nl_device.specs.Opening.{FitsShape, IsOpenedPhysical, IsOpenedVirtual, SaysErased};
 ghost use Rattle.nl_device.specs.Retain.{CanRetain, kept_of};
@@ -58,7 +57,7 @@ fn after_scan(alloc: Global, shape: &Shape, tables: &ScanTables) -> Result<Parts
     requires fits { FitsShape shape.now tables.now }
     ensures virtuals { IfOk result (λ p. IsOpenedVirtual shape.now tables.now p.vseg) }
     ensures physicals { IfOk result (λ p. IsOpenedPhysical shape.now tables.now p.pseg) }
-    ensures kept { IfOk result (λ p. p.kept ≡ record { first = shape.now.vblocks; count = shape.now.pblocks; size = shape.now.pages; pages = kept_pages (first_physical shape.now) tables.now.seen }) }
+    ensures kept { IfOk result (λ p. p.kept ≡ kept_of_scan shape.now tables.now.seen) }
 {
     let Opened { vseg, pseg } = open(alloc, shape, tables)?;
     let kept = Kept::of(alloc, tables, shape)?;
@@ -83,7 +82,7 @@ impl<M: Nand> Device<M> {
         ensures fits { IfReady result (λ d t. FitsMedium (M.geometry media) t) }
         ensures counts { IfReady result (λ d t. (⟦<Device<M> as Counts>⟧.clock d ≡ M.clock media) × (⟦<Device<M> as Counts>⟧.read_faults d ≡ M.read_faults media) × (⟦<Device<M> as Counts>⟧.write_faults d ≡ M.write_faults media)) }
         ensures kept { IfReady result (λ d t. OnlyReads M.geometry M.contents M.clock M.write_faults M.left media (medium_of d)) }
-        ensures scanned { IfReady result (λ d t. (kept_of d).pages ≡ kept_pages (first_physical (⟦<Device<M> as Counts>⟧.shape d)) t.seen) }
+        ensures scanned { IfReady result (λ d t. kept_of d ≡ kept_of_scan (⟦<Device<M> as Counts>⟧.shape d) t.seen) }
         ensures nothing { IfReady result (λ d t. CanRetain (kept_of d) []) }
         ensures fault { IfFault result (λ m. Rose (M.read_faults media) (M.read_faults m) × OnlyReads M.geometry M.contents M.clock M.write_faults M.left media m) }
         ensures memory { IfMemory result (λ m. (M.read_faults m ≡ M.read_faults media) × OnlyReads M.geometry M.contents M.clock M.write_faults M.left media m) }

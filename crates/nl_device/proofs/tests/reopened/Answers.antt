@@ -1,6 +1,7 @@
 use Rattle.std.proofs.Common.{◌≡◌, ◌∙◌, ap, arith, refl, sym}
 use Rattle.nl_field.specs.Numbers.{shape_for}
 use Rattle.nl_nand.specs.declared.geometry.Geometry.{Geometry}
+use Rattle.nl_device.specs.Kept.{KeptPages}
 use Rattle.nl_device.proofs.Blanks.{IsPage, can_retain}
 use Rattle.nl_device.proofs.tests.reopened.Goals as goal
 
@@ -14,4 +15,4 @@ returns-then-is_page-2-clause-can c =
     let pages : c.geometry-geometry.result.pages ≡ 32 = omega (arith, c.if-geometry-ne32-2.false) in
     can_retain d.shape d.kept d.next c.in-Ready.tables.seen c.get.result.now c.get-then-is_page.result.now
     (c.in-Ready.ensures.started.numbers ∙ (λ i. shape_for ((ap (λ (n : Geometry). n.blocks) (sym geometry) ∙ blocks) i) ((ap (λ (n : Geometry). n.pages) (sym geometry) ∙ pages) i)))
-    c.in-Ready.ensures.formed.found c.in-Ready.ensures.scanned (omega (arith, c.if-len-eq2.true, c.len.ensures)) c.get.ensures c.get-then-is_page.ensures first second
+    c.in-Ready.ensures.formed.found (ap (λ (k : KeptPages). k.pages) c.in-Ready.ensures.scanned) (omega (arith, c.if-len-eq2.true, c.len.ensures)) c.get.ensures c.get-then-is_page.ensures first second

@@ -1,10 +1,11 @@
 use Rattle.std.proofs.Common.{◌≡◌, ◌<◌, ◌∙◌, refl, sym, ap, subst, IsTrue, arith}
-use Rattle.nl_field.specs.Numbers.{is_legal, shape_for}
+use Rattle.nl_field.specs.Numbers.{ShapeBounds, is_legal, shape_for}
+use Rattle.nl_field.proofs.Bounds.{bounds}
 use Rattle.nl_field.specs.Page.{Image}
 use Rattle.nl_field.specs.Medium.{first_physical, shape_of_image}
 use Rattle.nl_field.specs.declared.shape.Shape.{Shape}
 use Rattle.nl_nand.specs.declared.geometry.Geometry.{Geometry}
-use Rattle.nl_pseg.proofs.Shapes.{IsRoomy, is_roomy}
+use Rattle.nl_device.proofs.Bounds.{two_blocks}
 use Rattle.nl_nand.specs.Nand.{ImageOf}
 use Rattle.nl_scan.specs.Tables.{FitsMedium, IsTableOf, Table}
 use Rattle.nl_vseg.specs.Pages.{Shows}
@@ -33,8 +34,8 @@ legal_of shape seen before e same legal = subst (λ (n : Geometry). IsTrue (is_l
 fits_of : (shape : Shape) (seen before : Geometry) (t : Table) → shape ≡ shape_for seen.blocks seen.pages → seen ≡ before → FitsMedium before t → FitsShape shape t
 fits_of shape seen before t e same fits = subst (λ (n : Geometry). FitsMedium n t) (numbers_of shape seen before e same) fits
 
-roomy_of : (shape : Shape) (seen before : Geometry) → shape ≡ shape_for seen.blocks seen.pages → seen ≡ before → IsTrue (is_legal before.blocks before.pages) → IsRoomy shape
-roomy_of shape seen before e same legal = subst IsRoomy (sym e) (is_roomy seen.blocks seen.pages (subst (λ (n : Geometry). IsTrue (is_legal n.blocks n.pages)) (sym same) legal))
+roomy_of : (shape : Shape) (seen before : Geometry) → shape ≡ shape_for seen.blocks seen.pages → seen ≡ before → IsTrue (is_legal before.blocks before.pages) → ShapeBounds shape
+roomy_of shape seen before e same legal = subst ShapeBounds (sym e) (bounds seen.blocks seen.pages (subst (λ (n : Geometry). IsTrue (is_legal n.blocks n.pages)) (sym same) legal))
 
 pub after_scan-requires-clause-legal : goal.after_scan-requires-clause-legal
 after_scan-requires-clause-legal g c = legal_of c.legal_shape-shape.result c.geometry.result (g.M.Nand.geometry c.args.media) c.legal_shape-shape.ensures c.geometry.ensures c.requires.formed
@@ -66,7 +67,7 @@ pub returns-in-Ok-clause-nothing : goal.returns-in-Ok-clause-nothing
 returns-in-Ok-clause-nothing g c =
     let shape = c.legal_shape-shape.result in
     let roomy = roomy_of shape c.geometry.result (g.M.Nand.geometry c.args.media) c.legal_shape-shape.ensures c.geometry.ensures c.requires.formed in
-    let two = roomy.blocks in
+    let two = two_blocks roomy in
     can_none c.in-Ok.field-0.kept shape.pblocks (ap (λ (k : KeptPages). k.count) c.in-Ok.ensures.kept) (omega (arith, two))
 
 -- the tables are of the medium as it is after the scan

@@ -2,7 +2,9 @@ use Rattle.std.proofs.Common.{inl, inr, ℕ, ◌*◌, ◌/◌, ◌<◌, ◌≤�
 use Rattle.std.proofs.lemmas.Bool.{cases_lt}
 use Rattle.std.proofs.lemmas.Nat.{div_below}
 use Rattle.nl_pseg.proofs.Numbers.{block_below, in_block}
-use Rattle.nl_pseg.proofs.Shapes.{IsRoomy, is_roomy}
+use Rattle.nl_field.specs.Numbers.{ShapeBounds}
+use Rattle.nl_field.proofs.Bounds.{bounds}
+use Rattle.nl_device.proofs.Bounds.{some_pages, two_blocks}
 use Rattle.nl_device.specs.Opening.{SaysErased}
 use Rattle.nl_device.proofs.Opened.{none_left}
 use Rattle.nl_device.proofs.opening.segments.open_physical.Goals as goal
@@ -19,14 +21,14 @@ from_block p size first some from = elim (cases_lt (p / size) first) [
 pub returns : goal.returns
 returns c =
     let shape = c.args.shape.now in
-    let roomy = subst IsRoomy (sym c.requires.numbers) (is_roomy shape.blocks shape.pages c.requires.legal) in
+    let roomy = subst ShapeBounds (sym c.requires.numbers) (bounds shape.blocks shape.pages c.requires.legal) in
     let n = c.in_ok-pseg.ensures in
     let old = c.in_ok-pseg.pseg in
     let s = c.soil_physical.ensures in
-    let two = roomy.blocks in
+    let two = two_blocks roomy in
     let left = s.same.left in
     let none = none_left old.left old.free old.size shape.pblocks shape.pages n.free n.pages (omega (arith, two)) n.room in
-    let some : 0 < old.size = subst (λ k. 0 < k) (sym n.pages) roomy.some in
+    let some : 0 < old.size = subst (λ k. 0 < k) (sym n.pages) (some_pages roomy) in
     record {
       first_is = s.same.same_first ∙ n.first;
       blocks_is = s.same.same_blocks ∙ n.blocks;

@@ -3,7 +3,9 @@ use Rattle.std.specs.Prelude.{IfSome, option_map}
 use Rattle.std.proofs.lemmas.Bool.{cases_lt}
 use Rattle.std.proofs.lemmas.List.{get_or_past, length-replicate}
 use Rattle.std.proofs.lemmas.Nat.{div_below}
-use Rattle.nl_pseg.proofs.Shapes.{IsRoomy, is_roomy}
+use Rattle.nl_field.specs.Numbers.{ShapeBounds}
+use Rattle.nl_field.proofs.Bounds.{bounds}
+use Rattle.nl_device.proofs.Bounds.{some_pages}
 use Rattle.nl_vseg.specs.declared.place.Place.{Place}
 use Rattle.nl_device.specs.Opening.{CanLoad, SaysErased, Tabulates, pick_of, place_on, spread_in}
 use Rattle.nl_device.specs.declared.opening.spare.Spread.TheVariants.{Nowhere}
@@ -13,8 +15,8 @@ use Rattle.nl_device.proofs.opening.segments.open_virtual.Goals as goal
 pub soil_virtual-requires-clause-count : goal.soil_virtual-requires-clause-count
 soil_virtual-requires-clause-count c =
     let shape = c.args.shape.now in
-    let roomy = subst IsRoomy (sym c.requires.numbers) (is_roomy shape.blocks shape.pages c.requires.legal) in
-    let all = roomy.all in
+    let roomy = subst ShapeBounds (sym c.requires.numbers) (bounds shape.blocks shape.pages c.requires.legal) in
+    let all = roomy.segments in
     let wears = c.requires.wears in
     omega (arith, all, wears)
 
@@ -35,7 +37,7 @@ load-requires-clause-picks c v =
 pub returns : goal.returns
 returns c =
     let shape = c.args.shape.now in
-    let roomy = subst IsRoomy (sym c.requires.numbers) (is_roomy shape.blocks shape.pages c.requires.legal) in
+    let roomy = subst ShapeBounds (sym c.requires.numbers) (bounds shape.blocks shape.pages c.requires.legal) in
     let needed = needed_is shape c.args.tables.now.seen c.in_ok-owns.owns.items c.in_ok-needed.needed.items c.in_ok-greatest.greatest.items c.in_ok-owns.ensures.items c.in_ok-greatest.ensures c.in_ok-needed.ensures.items in
     let n = c.in_ok-vseg.ensures in
     let old = c.in_ok-vseg.vseg in
@@ -52,6 +54,6 @@ returns c =
       blank = λ p is.
           let b = s.blank p (l.blank p is) in
           let within : p < shape.vblocks * shape.pages = subst (λ k. p < k) n.bound (n.within p b.0) in
-          let here : p / old.pages < shape.vblocks = subst (λ k. p / k < shape.vblocks) (sym n.pages) (div_below p shape.pages shape.vblocks roomy.some within) in
+          let here : p / old.pages < shape.vblocks = subst (λ k. p / k < shape.vblocks) (sym n.pages) (div_below p shape.pages shape.vblocks (some_pages roomy) within) in
           (subst (λ k. p < k) (sym bound) within, subst (λ k. SaysErased c.args.tables.now (p / k)) n.pages (b.1 here));
     }
