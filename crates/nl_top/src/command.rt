@@ -22,12 +22,8 @@ fn format_of(blocks: &[u8], pages: &[u8]) -> Option<Command>
     ensures command { result ≡ format_of (number_of blocks.now) (number_of pages.now) }
     ensures legal { IfSome result IsLegalCommand }
 {
-    let blocks = number_of(blocks)?;
-    let pages = number_of(pages)?;
-    if blocks > 4096 || pages > 256 {
-        return None;
-    }
-    let (blocks, pages) = (blocks as u32, pages as u32);
+    let blocks = u32::try_from(number_of(blocks)?).ok()?;
+    let pages = u32::try_from(number_of(pages)?).ok()?;
     match shape_of(blocks, pages) {
         Some(_) => Some(Command::Format(blocks, pages)),
         None => None,

@@ -8,7 +8,7 @@ ghost use Rattle.nl_top.specs.Execution.{outcome_of, programs_of, risen, fault_o
 ghost use Rattle.nl_top.specs.Files.{Held, has_name, tag_at, contents_of, HasFilesOf, IsRoomy, Fits, Replies};
 
 use crate::pages::{load, place, sum_of_faults};
-use nl_field::{Named, PageBuf, Pointer, Shape, Tag, Text};
+use nl_field::{MAX_ENTRIES, Named, PageBuf, Pointer, Shape, Tag, Text};
 use nl_iface::NamedPages;
 use nl_tree::{FaultReply, Refusal, Reply, Space};
 
@@ -45,7 +45,7 @@ pub fn create(files: &mut Vec<FileEntry>, shape: &Shape, name: Text) -> Reply
     match file_at(files, name.bytes()) {
         Some(_) => Reply::No(Refusal::Eexist),
         None => {
-            if files.len() >= 1024 {
+            if files.len() >= MAX_ENTRIES as usize {
                 return Reply::No(Refusal::Enospc(Space::Dir));
             }
             if files.len() + 2 > shape.nodes as usize {

@@ -4,7 +4,7 @@ ghost use Rattle.nl_top.specs.Form.{path_of, number_of, data_of, write_of, read_
 ghost use Rattle.nl_top.specs.Plain.{IsPlain, calls_in, AreNumbered};
 
 use crate::word::{cut, data_of, number_of, path_of};
-use nl_field::Memory;
+use nl_field::{MAX_BYTES, Memory};
 use nl_tree::{Call, Line, Lines};
 use std::alloc::Global;
 
@@ -67,7 +67,7 @@ fn read_call(alloc: Global, path: &[u8], from: &[u8], count: &[u8]) -> Result<Op
     let Some(count) = number_of(count) else {
         return Ok(None);
     };
-    if count > 65536 {
+    if count > MAX_BYTES as u64 {
         return Ok(None);
     }
     Ok(Some(Call::Read(path, from, count as u32)))

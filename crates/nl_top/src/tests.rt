@@ -46,6 +46,33 @@ fn medium(alloc: Global, failing: Failing) -> Result<MemNand, Memory> {
     Ok(media)
 }
 
+fn words_of(alloc: Global, line: &[u8]) -> Result<Words, Memory> {
+    let mut words = Words::new(alloc);
+    for word in line.split(|b| *b == b' ') {
+        if words.len() < 9 {
+            words.push(word)?;
+        }
+    }
+    Ok(words)
+}
+
+fn call<Rt: Threads + Wait + Sync>(
+    rt: &Rt,
+    alloc: Global,
+    words: &Words,
+    source: &mut MemSource,
+    sink: &mut MemSink,
+    media: MemNand,
+) -> (u8, MemNand, u32) {
+    let Done {
+        status,
+        media,
+        syncs: _,
+        order,
+    } = nameless(rt, alloc, words, source, sink, media, &NoGate);
+    (status, media, order.len())
+}
+
 // The status of a command, its text, the medium behind it, and how many lines were answered.
 fn answer<Rt: Threads + Wait + Sync>(
     rt: &Rt,
@@ -55,21 +82,10 @@ fn answer<Rt: Threads + Wait + Sync>(
     failing: Failing,
     media: MemNand,
 ) -> Result<(u8, MemSink, MemNand, u32), Memory> {
-    let mut words = Words::new(alloc);
-    for word in line.split(|b| *b == b' ') {
-        if words.len() < 9 {
-            words.push(word)?;
-        }
-    }
+    let words = words_of(alloc, line)?;
     let mut source = MemSource::new(Text::of(alloc, script)?, list_of(alloc, failing.source)?);
     let mut sink = MemSink::new(alloc, 100_000, list_of(alloc, failing.sink)?)?;
-    let Done {
-        status,
-        media,
-        syncs: _,
-        order,
-    } = nameless(rt, alloc, &words, &mut source, &mut sink, media, &NoGate);
-    let lines = order.len();
+    let (status, media, lines) = call(rt, alloc, &words, &mut source, &mut sink, media);
     Ok((status, sink, media, lines))
 }
 

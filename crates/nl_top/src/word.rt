@@ -7,7 +7,7 @@ ghost use Rattle.nl_field.specs.Numbers.{max_name};
 ghost use Rattle.nl_top.specs.Form.{parts_at, path_of, number_of, data_of};
 ghost use Rattle.nl_top.specs.Plain.{IsOneName};
 
-use nl_field::{Memory, Text};
+use nl_field::{MAX_NAME, Memory, Text};
 use nl_tree::Path;
 use std::alloc::Global;
 
@@ -53,7 +53,7 @@ fn is_short_name(name: &[u8]) -> bool
 {
     let plain = has_name_bytes(name);
     let dots = is_dots(name);
-    !name.is_empty() && plain && !dots && name.len() <= 55
+    !name.is_empty() && plain && !dots && name.len() <= MAX_NAME
 }
 
 /// The path of a slash and one name of at most 55 bytes.

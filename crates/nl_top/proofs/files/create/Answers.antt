@@ -12,8 +12,8 @@ returns-in-Some-clause-answer c = λ pages capacity begun.
     create_answer_there c.args.shape.now capacity begun pages files c.args.name c.requires.short _
     (placed c.args.name c.bytes.result.now files c.deref.result.now _ c.file_at.result c.bytes.ensures c.deref.ensures.value c.file_at.ensures c.in-Some.is)
 
-pub returns-then-len-ge1024-clause-answer : goal.returns-then-len-ge1024-clause-answer
-returns-then-len-ge1024-clause-answer c = λ pages capacity begun.
+pub returns-then-len-clause-answer : goal.returns-then-len-clause-answer
+returns-then-len-clause-answer c = λ pages capacity begun.
     let files = c.args.files.now.items in
     create_answer_full_directory c.args.shape.now capacity begun pages files c.args.name c.requires.short
     (placed c.args.name c.bytes.result.now files c.deref.result.now None c.file_at.result c.bytes.ensures c.deref.ensures.value c.file_at.ensures c.in-None.is) (omega arith)
