@@ -2,11 +2,16 @@ pub mod Committed
 pub mod Consistent
 pub mod Examples
 pub mod FindingsLaw
+pub mod Inside
 pub mod LargeFiles
+pub mod Lending
 pub mod Nodes
+pub mod Pages
 pub mod Phases
 pub mod PointerLists
 pub mod RightLaws
+pub mod Running
 pub mod SlotLaws
+pub mod Steps
 pub mod Walk
 pub mod WalkLaw

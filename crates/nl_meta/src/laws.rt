@@ -2,6 +2,7 @@
 ghost use Rattle.nl_meta.specs.FindingsLaw.{NoFindings, PlacesAreTaken};
 ghost use Rattle.nl_meta.specs.PointerLists.{OnePointerChanges};
 ghost use Rattle.nl_meta.specs.RightLaws.{ImageIsRight};
+ghost use Rattle.nl_meta.specs.Running.{AdmitsPage, MissesPage, RunningMap};
 ghost use Rattle.nl_meta.specs.SlotLaws.{ByIndexAndName, OneSlot};
 ghost use Rattle.nl_meta.specs.WalkLaw.{ListsAgree, WalkIsConsistency, WalkIsConsistencyOver};
 
@@ -44,4 +45,11 @@ pub fn by_index_and_name()
 // Where one pointer of one file changes, one place of the list of all pointers changes.
 pub fn one_pointer_changes()
     ensures { OnePointerChanges }
+{}
+
+// What each call of `Meta` means for what the addresses have over any device.
+pub fn running_map()
+    ensures calls { RunningMap }
+    ensures admits { AdmitsPage }
+    ensures misses { MissesPage }
 {}
