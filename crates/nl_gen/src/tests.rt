@@ -1,5 +1,8 @@
 use crate::soak_script;
+use nl_field::{Memory, shape_of};
 use nl_script::script_of;
+use nl_tree::{Lines, Plain, Refusal, Reply, ReplyBuf};
+use std::alloc::Global;
 use std::test::Fail;
 
 /// What another program gives for the number 7, 16 lines and 2 workers.
@@ -55,6 +58,42 @@ fn eight_workers_have_a_script(rt: HostRuntime) -> Result<(), Fail> {
     match script_of(alloc, text.bytes()) {
         Ok(lines) => assert_eq!(rt; lines.len(), 1608),
         Err(_) => return Err(Fail::new("the script is refused")),
+    }
+    Ok(())
+}
+
+// How many calls of the lines were done, and how many were refused since the volume was full.
+fn replies_of(alloc: Global, lines: &Lines, plain: &mut Plain) -> Result<(u32, u32), Memory> {
+    let mut out = ReplyBuf::new(alloc)?;
+    let mut done = 0;
+    let mut full = 0;
+    for at in 0..lines.len() {
+        match plain.step(&lines.get(at).call, &mut out)? {
+            Reply::No(Refusal::Enospc(_)) => full += 1,
+            Reply::No(_) => {}
+            _ => done += 1,
+        }
+    }
+    Ok((done, full))
+}
+
+// The least volume has room for what eight workers do.
+#[test]
+fn no_call_meets_a_full_volume(rt: HostRuntime) -> Result<(), Fail> {
+    let alloc = rt.alloc();
+    let Some(shape) = shape_of(32, 32) else {
+        return Err(Fail::new("the geometry is refused"));
+    };
+    let rows: [(u64, u32, u8); 3] = [(7, 200, 8), (1, 300, 8), (2, 40, 1)];
+    for (seed, count, workers) in rows {
+        let text = soak_script(alloc, seed, count, workers)?;
+        let Ok(lines) = script_of(alloc, text.bytes()) else {
+            return Err(Fail::new("the script is refused"));
+        };
+        let mut plain = Plain::new(alloc, shape)?;
+        let (done, full) = replies_of(alloc, &lines, &mut plain)?;
+        assert_eq!(rt; full, 0);
+        assert!(rt; done > lines.len() / 2);
     }
     Ok(())
 }
