@@ -1,0 +1,4 @@
+pub mod FetchFacts
+pub mod FreeProofs
+pub mod MarkTree
+pub mod NodeSlots

@@ -1,0 +1,5 @@
+pub mod Fetching
+pub mod Free
+pub mod FreeLaws
+pub mod Nodes
+pub mod Tree
