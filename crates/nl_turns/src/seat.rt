@@ -1,6 +1,7 @@
 use crate::table::SeatView;
 use atomic_table::Badge;
 use std::marker::Model;
+use std::mem;
 
 /// A seat at one lock, with which a thread takes turns. It may go to another thread.
 ///
@@ -22,6 +23,22 @@ impl Model for TurnSeat {
     ghost view = { λ s. state_of s.badge.table_id (view_of s.badge.views) };
 
     ghost invariant = { λ s. IsSeat s.badge.views s.places };
+}
+
+impl TurnSeat {
+    /// Lends the seat by value to the call, and takes back the seat that it answers with.
+    pub fn lend<T, F: FnOnce(TurnSeat) -> (TurnSeat, T)>(seat: &mut TurnSeat, call: F) -> T
+        requires { F.pre call seat.old }
+        ensures { F.post call seat.old (seat.new, result) }
+    {
+        let lent = TurnSeat {
+            badge: mem::replace(&mut seat.badge, Badge::blank()),
+            places: seat.places,
+        };
+        let (back, told) = call(lent);
+        *seat = back;
+        told
+    }
 }
 
 /// A turn: the value, for as long as the seat keeps all others out.
