@@ -1,5 +1,5 @@
 -- One number more is sent.
-use Rattle.std.proofs.Common.{◌≡◌, ℕ, ◌+◌, ◌<◌, ◌≤◌, max, List, [], ◌∷◌, ◌++◌, arith}
+use Rattle.std.proofs.Common.{◌≡◌, ℕ, ◌+◌, ◌<◌, [], ◌∷◌, ◌++◌, arith}
 use Rattle.nl_callbacks.specs.Notices.{IsSender, sent}
 use Rattle.nl_callbacks.specs.declared.notices.Notices.{Notices}
 use Rattle.nl_workers.specs.Sending.{IsSending}

@@ -1,41 +1,37 @@
 -- One background task more.
-use Rattle.std.proofs.Common.{◌≡◌, ℕ, zero, suc, ◌+◌, ◌<◌, ◌≤◌, Bool, true, false, ◌||◌, List, [], ◌∷◌, ◌++◌, refl, sym, ap, ◌∙◌, subst, arith}
+use Rattle.std.proofs.Common.{◌≡◌, ℕ, zero, suc, ◌+◌, ◌≤◌, Bool, true, false, ◌||◌, List, [], ◌∷◌, ◌++◌, refl, sym, ap, ◌∙◌, subst, arith}
 use Rattle.std.specs.List.{range_with_len}
-use Rattle.std.proofs.lemmas.List.{append-nil}
 use Rattle.atomic_table.specs.Seated.{TableId}
 use Rattle.nl_callbacks.specs.Notices.{IsSender, IsTaker, sent}
 use Rattle.nl_callbacks.specs.declared.notices.Notices.{Notices}
 use Rattle.nl_tree.specs.Causes.{LostHasCause}
 use Rattle.nl_tree.specs.declared.turn.DutyAnswer.{DutyAnswer}
 use Rattle.nl_tree.specs.declared.turn.DutyAnswer.TheVariants.{Did, Nothing, Fault, Lost}
-use Rattle.nl_turns.proofs.Histories.{prefix_trans}
-use Rattle.nl_turns.specs.Seat.{SeatState, by_seat, passed_by}
+use Rattle.nl_turns.specs.Seat.{SeatState}
+use Rattle.nl_tree.specs.declared.turn.Stage.{Stage}
+use Rattle.nl_tree.specs.declared.turn.Stage.TheVariants as stage
 use Rattle.nl_turns.specs.Served.{duty_entry}
-use Rattle.nl_workers.specs.Placed.{HasPassed, EachPlaced, entries_of, lines_done}
+use Rattle.nl_workers.specs.Placed.{HasPassed, EachPlaced, entries_of, is_lost_stage}
 use Rattle.nl_workers.specs.Duties.{HasServed, IsOutbox, MayClean, HasCleaned, MayHandle, HasHandled, is_lost}
 use Rattle.nl_workers.specs.declared.duty.Cleaner.{Cleaner}
 use Rattle.nl_workers.specs.declared.duty.Handler.{Handler}
 use Rattle.nl_workers.specs.declared.outbox.Outbox.{Outbox}
-use Rattle.nl_workers.proofs.Turned.{placed_grows, placed_more, own_more, done_append}
+use Rattle.nl_workers.proofs.Turned.{passed_placed, passed_effects, effects_none}
+use Rattle.nl_workers.proofs.GoingOn.{goes_self, goes_trans, passed_goes}
 
 pub idles : (seat : SeatState) → HasServed seat seat
-idles seat = record { same = refl; grows = ([], append-nil seat.seen); placed = λ lines h. h; done = refl }
+idles seat = record { goes = goes_self seat; placed = λ lines h. h; done = λ m some. refl }
 
 pub serves : (seat s s' : SeatState) → HasServed seat s → HasPassed s duty_entry s' → HasServed seat s'
 serves seat s s' i p =
-    let number : s.number ≡ seat.number = ap (λ (z : SeatState). z.number) i.same in
-    let quiet : by_seat seat.number p.mid ≡ by_seat seat.number s.seen = subst (λ n. by_seat n p.mid ≡ by_seat n s.seen) number p.quiet in
-    let same_is : s' ≡ record seat { seen = p.mid ++ passed_by seat.number duty_entry ∷ [] } = p.same ∙ (λ k. record (i.same k) { seen = p.mid ++ passed_by (number k) duty_entry ∷ [] }) in
-    let seen_is : s'.seen ≡ p.mid ++ passed_by seat.number duty_entry ∷ [] = ap (λ (z : SeatState). z.seen) same_is in
+    let number : s.number ≡ seat.number = ap (λ (z : SeatState). z.number) i.goes.same in
     record {
-      same = same_is ∙ (λ k. record seat { seen = sym seen_is k });
-      grows = prefix_trans seat.seen p.mid s'.seen (prefix_trans seat.seen s.seen p.mid i.grows p.grows) (passed_by seat.number duty_entry ∷ [], sym seen_is);
-      placed = λ lines h. subst (EachPlaced lines seat.number) (sym seen_is)
-          (placed_more lines seat.number p.mid duty_entry (placed_grows lines seat.number s.seen p.mid p.grows quiet (i.placed lines h))
+      goes = goes_trans seat s s' i.goes (passed_goes s s' duty_entry p);
+      placed = λ lines h. subst (λ n. EachPlaced lines n s'.seen) number
+          (passed_placed lines s s' duty_entry p (subst (λ n. EachPlaced lines n s.seen) (sym number) (i.placed lines h))
           (record { staged = λ a. absurd (omega arith); effect = λ a. absurd (omega arith) }));
-      done = ap (λ xs. lines_done (entries_of seat.number xs)) seen_is
-          ∙ (ap lines_done (own_more seat.number s.seen p.mid duty_entry quiet)
-          ∙ (done_append (entries_of seat.number s.seen) (duty_entry ∷ []) ∙ (append-nil (lines_done (entries_of seat.number s.seen)) ∙ i.done)));
+      done = λ m some. passed_effects seat.number m s s' duty_entry number p
+          ∙ (effects_none m (entries_of seat.number s.seen) duty_entry some refl ∙ i.done m some);
     }
 
 -- ---- no page is lost over a medium that tells its contents
@@ -45,6 +41,13 @@ not_lost tells Did h t = refl
 not_lost tells Nothing h t = refl
 not_lost tells Fault h t = refl
 not_lost tells (Lost wanted found) h t = absurd ((h wanted found refl).0 t)
+
+pub no_lost_stage : (tells : Type 0) (answer : Stage) → ((wanted found : ℕ) → answer ≡ stage.Lost wanted found → LostHasCause tells wanted found) → tells → is_lost_stage answer ≡ false
+no_lost_stage tells stage.Staged h t = refl
+no_lost_stage tells stage.Whole h t = refl
+no_lost_stage tells stage.Stopped h t = refl
+no_lost_stage tells stage.Fault h t = refl
+no_lost_stage tells (stage.Lost wanted found) h t = absurd ((h wanted found refl).0 t)
 
 still : (now was before : Bool) (answer : DutyAnswer) → now ≡ (was || is_lost answer) → is_lost answer ≡ false → was ≡ before → now ≡ before
 still now true before answer is none e = is ∙ e
@@ -101,3 +104,7 @@ sends_more notices s s' number i at sender more last = record {
   sender = sender;
   numbers = more ∙ (ap (λ (ns : List ℕ). ns ++ (number + 1) ∷ []) (i.numbers ∙ ap (range_with_len 1) at) ∙ (counts_on number ∙ ap (range_with_len 1) (sym last)));
 }
+
+pub none_either : (a b : Bool) → a ≡ false → b ≡ false → (a || b) ≡ false
+none_either true b e f = e
+none_either false b e f = f

@@ -1,7 +1,6 @@
 -- What the loops of background tasks add to the history, and what they send and take.
-use Rattle.std.specs.Prelude.{◌≡◌, ℕ, ◌≤◌, Bool, true, false, List}
+use Rattle.std.specs.Prelude.{◌≡◌, ℕ, ◌<◌, ◌≤◌, Bool, true, false, List}
 use Rattle.std.specs.List.{range_with_len}
-use mathlib.Core.List.{IsPrefix}
 use Rattle.atomic_table.specs.Seated.{TableId}
 use Rattle.nl_callbacks.specs.Notices.{IsSender, IsTaker, sent}
 use Rattle.nl_callbacks.specs.declared.notices.Notices.{Notices}
@@ -11,7 +10,7 @@ use Rattle.nl_tree.specs.declared.turn.Duty.TheVariants.{Copy}
 use Rattle.nl_tree.specs.declared.turn.DutyAnswer.{DutyAnswer}
 use Rattle.nl_tree.specs.declared.turn.DutyAnswer.TheVariants.{Lost}
 use Rattle.nl_turns.specs.Seat.{SeatState}
-use Rattle.nl_workers.specs.Placed.{EachPlaced, entries_of, lines_done}
+use Rattle.nl_workers.specs.Placed.{EachPlaced, GoesOn, entries_of, effects_of}
 use Rattle.nl_workers.specs.declared.duty.Cleaner.{Cleaner}
 use Rattle.nl_workers.specs.declared.duty.Handler.{Handler}
 use Rattle.nl_workers.specs.declared.outbox.Outbox.{Outbox}
@@ -26,10 +25,9 @@ is_lost _ = false
 
 -- its entries have neither a line nor a staging
 pub record HasServed (seat after : SeatState) : Type 0 where
-  pub same : after ≡ record seat { seen = after.seen }
-  pub grows : IsPrefix seat.seen after.seen
+  pub goes : GoesOn seat after
   pub placed : (lines : List Line) → EachPlaced lines seat.number seat.seen → EachPlaced lines seat.number after.seen
-  pub done : lines_done (entries_of seat.number after.seen) ≡ lines_done (entries_of seat.number seat.seen)
+  pub done : (m : ℕ) → 0 < m → effects_of m (entries_of seat.number after.seen) ≡ effects_of m (entries_of seat.number seat.seen)
 
 -- it has sent the numbers from 1 to its last one, each once and in order, and nobody else sends
 pub record IsOutbox (notices : Notices) (outbox : Outbox) : Type 0 where

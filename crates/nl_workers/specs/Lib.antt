@@ -1,6 +1,12 @@
 pub mod Placed
+pub mod Table
+pub mod Filing
 pub mod Worked
-pub mod Round
+pub mod Crew
 pub mod Rounds
+pub mod Going
 pub mod Duties
 pub mod Sending
+pub mod Kit
+pub mod Spots
+pub mod Fresh

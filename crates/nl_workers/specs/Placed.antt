@@ -1,14 +1,20 @@
 -- Where the turns of a line stand in the history.
-use Rattle.std.specs.Prelude.{◌≡◌, ℕ, ◌<◌, List, [], ◌++◌, ◌∷◌, map, filter, false, IfSome, IsTrue, Contains}
+use Rattle.std.specs.Prelude.{◌≡◌, ◌==◌, ℕ, ◌+◌, ◌<◌, List, [], ◌++◌, ◌∷◌, Bool, true, false, if◌then◌else◌, count_by, IfSome, IsTrue, Contains}
 use mathlib.Core.List.{IsPrefix}
 use Rattle.nl_tree.specs.Order.{has_to_precede}
 use Rattle.nl_tree.specs.Replay.{Answers}
 use Rattle.nl_tree.specs.declared.call.Line.{Line}
 use Rattle.nl_tree.specs.declared.turn.Answered.{Answered}
-use Rattle.nl_turns.specs.History.{Opening, line_at, is_effect}
-use Rattle.nl_turns.specs.Seat.{Passed, SeatState, entries, by_seat, passed_by}
+use Rattle.nl_tree.specs.declared.turn.Stage.{Stage}
+use Rattle.nl_tree.specs.declared.turn.Stage.TheVariants.{Lost}
+use Rattle.nl_turns.specs.History.{Opening, line_at}
+use Rattle.nl_turns.specs.Seat.{Passed, SeatState, entries, by_seat, passed_by, NoneBeyond}
 use Rattle.nl_turns.specs.Served.{IsLineOf, effect_entry, place_due, ordinal_due, outcome_due}
 use Rattle.nl_turns.specs.declared.entry.Entry.{Entry}
+
+abbrev pub is_lost_stage : Stage → Bool
+is_lost_stage (Lost wanted found) = true
+is_lost_stage _ = false
 
 abbrev pub HasLine : Opening → Line → Type 0
 HasLine opening line = IsLineOf opening line.worker line.line line.call
@@ -17,9 +23,12 @@ HasLine opening line = IsLineOf opening line.worker line.line line.call
 abbrev pub entries_of : ℕ → List Passed → List Entry
 entries_of number history = entries (by_seat number history)
 
--- the lines whose effects these entries are
-abbrev pub lines_done : List Entry → List ℕ
-lines_done es = map (λ (e : Entry). e.line) (filter is_effect es)
+abbrev pub one_if : Bool → ℕ
+one_if b = if b then 1 else 0
+
+-- how many of these are effects of the line of this number
+abbrev pub effects_of : ℕ → List Entry → ℕ
+effects_of line es = count_by (λ (e : Entry). e.line == line) es
 
 -- One turn of a seat: it came to its turn by a history without entries of its own, and added this entry.
 pub record HasPassed (seat : SeatState) (entry : Entry) (after : SeatState) : Type 0 where
@@ -27,6 +36,15 @@ pub record HasPassed (seat : SeatState) (entry : Entry) (after : SeatState) : Ty
   pub grows : IsPrefix seat.seen mid
   pub quiet : by_seat seat.number mid ≡ by_seat seat.number seat.seen
   pub same : after ≡ record seat { seen = mid ++ passed_by seat.number entry ∷ [] }
+  pub joined : (n : ℕ) → Contains seat.joined n → by_seat n after.seen ≡ by_seat n seat.seen
+  pub numbers : seat.number ≡ 0 → NoneBeyond seat.next after.seen
+
+-- A seat went on: it has seen more, and nothing new of the seats that it took back or of numbers that are still to be given.
+pub record GoesOn (seat after : SeatState) : Type 0 where
+  pub same : after ≡ record seat { seen = after.seen }
+  pub grows : IsPrefix seat.seen after.seen
+  pub joined : (n : ℕ) → Contains seat.joined n → by_seat n after.seen ≡ by_seat n seat.seen
+  pub numbers : seat.number ≡ 0 → NoneBeyond seat.next seat.seen → NoneBeyond seat.next after.seen
 
 -- the effect of a line stands in the history
 pub record HasEffect (line : ℕ) (history : List Passed) : Type 0 where
@@ -76,16 +94,14 @@ pub record IsAnswered (tells : Type 0) (opening : Opening) (line : Line) (answer
 
 -- a seat ran one line
 pub record HasAnswered (tells : Type 0) (lines : List Line) (line : Line) (answered : Answered) (bytes : List ℕ) (seat after : SeatState) : Type 0 where
-  pub same : after ≡ record seat { seen = after.seen }
-  pub grows : IsPrefix seat.seen after.seen
+  pub goes : GoesOn seat after
   pub placed : EachPlaced lines seat.number after.seen
   pub answered_is : IsAnswered tells seat.opening line answered bytes after.seen
-  pub done : lines_done (entries_of seat.number after.seen) ≡ lines_done (entries_of seat.number seat.seen) ++ line.line ∷ []
+  pub done : (m : ℕ) → 0 < m → effects_of m (entries_of seat.number after.seen) ≡ effects_of m (entries_of seat.number seat.seen) + one_if (line.line == m)
 
 -- a seat has staged for a line, and may go on
 pub record IsStaging (lines : List Line) (line : ℕ) (seat after : SeatState) : Type 0 where
-  pub same : after ≡ record seat { seen = after.seen }
-  pub grows : IsPrefix seat.seen after.seen
+  pub goes : GoesOn seat after
   pub placed : EachPlaced lines seat.number after.seen
   pub may : MayRun lines line after.seen
-  pub done : lines_done (entries_of seat.number after.seen) ≡ lines_done (entries_of seat.number seat.seen)
+  pub done : (m : ℕ) → 0 < m → effects_of m (entries_of seat.number after.seen) ≡ effects_of m (entries_of seat.number seat.seen)

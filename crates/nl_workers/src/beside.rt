@@ -1,13 +1,13 @@
-ghost use Rattle.std.specs.Prelude.{◌≡◌, vec_len};
+ghost use Rattle.std.specs.Prelude.{◌≡◌};
 ghost use Rattle.std.specs.Thread.{IsSync};
-ghost use Rattle.nl_workers.specs.Worked.{AreLinesOf};
-ghost use Rattle.nl_workers.specs.Round.{MayStart, EachMayWork, HasRun};
+ghost use Rattle.nl_workers.specs.Crew.{MayStart, HasRun};
 ghost use Rattle.nl_workers.specs.Duties.{MayClean, HasCleaned, MayHandle, HasHandled};
 
+use crate::crew::{Crew, run_crew};
 use crate::duty::{Cleaner, Handler, clean, handle};
+use crate::epoch::Span;
 use crate::gate::Gate;
-use crate::part::Part;
-use crate::round::run_round;
+use crate::station::Station;
 use crate::stop::StopFlag;
 use nl_callbacks::Notices;
 use nl_tree::Lines;
@@ -15,42 +15,54 @@ use nl_turns::{Served, TurnSeat, Turns};
 use std::sync::Wait;
 use std::thread::{Threads, join};
 
-/// The workers of an epoch beside a cleaner and a handler. The flag is lowered as they begin, and raised when the workers are joined.
-/// Where no thread can be made for the cleaner or the handler, it runs last, and finds the flag raised.
+/// The workers of an epoch beside the cleaner and the handler. The flag is lowered as they begin, and raised when the workers are
+/// joined. Where no thread can be made for the cleaner or the handler, it runs last, and finds the flag raised.
 pub(crate) fn run_beside<V: Served + Send, R: Threads + Wait + Sync, G: Gate + Sync>(
     rt: &R,
     turns: &Turns<V>,
     stop: &StopFlag,
     notices: &Notices,
-    cleaner: Cleaner,
-    handler: Handler,
-    seat: TurnSeat,
     lines: &Lines,
-    parts: Vec<Part>,
+    span: Span,
+    crew: Crew,
     gate: &G,
-) -> (Cleaner, (Handler, (TurnSeat, Vec<Part>)))
-    requires cleaner { MayClean turns.now.name notices.now cleaner }
-    requires handler { MayHandle turns.now.name notices.now handler }
-    requires lock { seat.lock ≡ turns.now.name }
-    requires may { MayStart seat (vec_len parts) }
-    requires lines { AreLinesOf seat.opening lines.now }
-    requires work { EachMayWork lines.now seat.seen parts.items }
-    ensures cleaned { HasCleaned V.tells notices.now cleaner result.0 }
-    ensures handled { HasHandled V.tells notices.now handler result.1.0 }
-    ensures ran { HasRun V.tells lines.now seat parts.items result.1.1.0 result.1.1.1.items }
+) -> Crew
+    requires cleaner { MayClean turns.now.name notices.now crew.cleaner }
+    requires handler { MayHandle turns.now.name notices.now crew.handler }
+    requires lock { crew.seat.lock ≡ turns.now.name }
+    requires may { MayStart V.tells lines.now span.from span.to crew.seat crew.stations.items }
+    ensures cleaned { HasCleaned V.tells notices.now crew.cleaner result.cleaner }
+    ensures handled { HasHandled V.tells notices.now crew.handler result.handler }
+    ensures ran { HasRun V.tells lines.now span.from span.to crew.seat crew.stations.items result.seat result.stations.items }
 {
+    let Crew {
+        seat,
+        stations,
+        cleaner,
+        handler,
+    } = crew;
     stop.lower();
-    join(
+    let (cleaner, (handler, (seat, stations))) = join(
         rt,
         move || -> Cleaner
             requires { IsSync R.row × IsSync G.row × MayClean turns.now.name notices.now cleaner }
             ensures { HasCleaned V.tells notices.entry.now cleaner result }
         { clean(rt, turns, cleaner, stop, notices, gate) },
-        move || -> (Handler, (TurnSeat, Vec<Part>))
-            requires { IsSync R.row × IsSync G.row × MayHandle turns.now.name notices.now handler × (seat.lock ≡ turns.now.name) × MayStart seat (vec_len parts) × AreLinesOf seat.opening lines.now × EachMayWork lines.now seat.seen parts.items }
-            ensures { HasHandled V.tells notices.entry.now handler result.0 × HasRun V.tells lines.entry.now seat parts.items result.1.0 result.1.1.items }
-        { handle_beside(rt, turns, stop, notices, handler, seat, lines, parts, gate) },
-    )
+        move || -> (Handler, (TurnSeat, Vec<Station>))
+            requires { IsSync R.row × IsSync G.row × MayHandle turns.now.name notices.now handler × (seat.lock ≡ turns.now.name) × MayStart V.tells lines.now span.from span.to seat stations.items }
+            ensures { HasHandled V.tells notices.entry.now handler result.0 × HasRun V.tells lines.entry.now span.from span.to seat stations.items result.1.0 result.1.1.items }
+        {
+            handle_beside(
+                rt, turns, stop, notices, handler, seat, lines, span, stations, gate,
+            )
+        },
+    );
+    Crew {
+        seat,
+        stations,
+        cleaner,
+        handler,
+    }
 }
 
 fn handle_beside<V: Served + Send, R: Threads + Wait + Sync, G: Gate + Sync>(
@@ -61,16 +73,15 @@ fn handle_beside<V: Served + Send, R: Threads + Wait + Sync, G: Gate + Sync>(
     handler: Handler,
     seat: TurnSeat,
     lines: &Lines,
-    parts: Vec<Part>,
+    span: Span,
+    stations: Vec<Station>,
     gate: &G,
-) -> (Handler, (TurnSeat, Vec<Part>))
+) -> (Handler, (TurnSeat, Vec<Station>))
     requires handler { MayHandle turns.now.name notices.now handler }
     requires lock { seat.lock ≡ turns.now.name }
-    requires may { MayStart seat (vec_len parts) }
-    requires lines { AreLinesOf seat.opening lines.now }
-    requires work { EachMayWork lines.now seat.seen parts.items }
+    requires may { MayStart V.tells lines.now span.from span.to seat stations.items }
     ensures handled { HasHandled V.tells notices.now handler result.0 }
-    ensures ran { HasRun V.tells lines.now seat parts.items result.1.0 result.1.1.items }
+    ensures ran { HasRun V.tells lines.now span.from span.to seat stations.items result.1.0 result.1.1.items }
 {
     join(
         rt,
@@ -78,11 +89,11 @@ fn handle_beside<V: Served + Send, R: Threads + Wait + Sync, G: Gate + Sync>(
             requires { IsSync R.row × IsSync G.row × MayHandle turns.now.name notices.now handler }
             ensures { HasHandled V.tells notices.entry.now handler result }
         { handle(rt, turns, handler, stop, notices, gate) },
-        move || -> (TurnSeat, Vec<Part>)
-            requires { IsSync R.row × IsSync G.row × (seat.lock ≡ turns.now.name) × MayStart seat (vec_len parts) × AreLinesOf seat.opening lines.now × EachMayWork lines.now seat.seen parts.items }
-            ensures { HasRun V.tells lines.entry.now seat parts.items result.0 result.1.items }
+        move || -> (TurnSeat, Vec<Station>)
+            requires { IsSync R.row × IsSync G.row × (seat.lock ≡ turns.now.name) × MayStart V.tells lines.now span.from span.to seat stations.items }
+            ensures { HasRun V.tells lines.entry.now span.from span.to seat stations.items result.0 result.1.items }
         {
-            let ran = run_round(rt, turns, seat, lines, parts, gate);
+            let ran = run_crew(rt, turns, seat, lines, span, stations, gate);
             stop.raise();
             ran
         },

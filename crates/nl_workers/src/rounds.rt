@@ -1,59 +1,247 @@
-ghost use Rattle.std.specs.Prelude.{◌≡◌, ◌≤◌, vec_len};
-ghost use Rattle.nl_workers.specs.Worked.{AreLinesOf};
-ghost use Rattle.nl_workers.specs.Round.{MayStart, EachMayWork, HasRun};
-ghost use Rattle.nl_workers.specs.Rounds.{AreRounds, IsRunning, HasRunAll};
+ghost use Rattle.std.specs.Prelude.{◌≡◌, ◌+◌, ◌-◌, ◌<◌, ◌≤◌, ◌^◌, [], length, false, vec_len};
+ghost use Rattle.std.specs.Thread.{IsSync};
+ghost use Rattle.nl_callbacks.specs.Notices.{IsTaker};
+ghost use Rattle.nl_workers.specs.Duties.{IsOutbox};
+ghost use Rattle.nl_workers.specs.Fresh.{AreFresh};
+ghost use Rattle.nl_workers.specs.Going.{IsGoing, MayGo, HasRunAll, IsHome, NoneLost, MayRunRounds};
+ghost use Rattle.nl_workers.specs.Rounds.{IsFirstSeat, RoundsRan};
+ghost use Rattle.nl_workers.specs.Spots.{rows_at, AreSpots};
+ghost use Rattle.nl_workers.specs.Table.{IsTableFor};
 
+use crate::answers::AnswerTable;
+use crate::beside::run_beside;
+use crate::crew::Crew;
+use crate::duty::{Cleaner, Handler};
+use crate::epoch::{Span, end_of_epoch};
 use crate::gate::Gate;
-use crate::part::Round;
-use crate::round::run_round;
+use crate::kit::{DutyKit, Passes};
+use crate::placing::{Spot, place_all};
+use crate::station::Station;
+use crate::stop::StopFlag;
+use nl_callbacks::Notices;
 use nl_tree::Lines;
 use nl_turns::{Served, TurnSeat, Turns};
-use std::alloc::Global;
 use std::mem;
 use std::sync::Wait;
 use std::thread::Threads;
 
-fn run_one<V: Served + Send, R: Threads + Wait + Sync, G: Gate + Sync>(
-    rt: &R,
-    alloc: Global,
-    turns: &Turns<V>,
-    seat: TurnSeat,
-    lines: &Lines,
-    round: &mut Round,
-    gate: &G,
-) -> TurnSeat
-    requires lock { seat.lock ≡ turns.now.name }
-    requires may { MayStart seat (vec_len round.old.parts) }
-    requires lines { AreLinesOf seat.opening lines.now }
-    requires work { EachMayWork lines.now seat.seen round.old.parts.items }
-    ensures ran { HasRun V.tells lines.now seat round.old.parts.items result round.new.parts.items }
-    ensures number { round.new.number ≡ round.old.number }
-{
-    let parts = mem::replace(&mut round.parts, Vec::new(alloc));
-    let (seat, parts) = run_round(rt, turns, seat, lines, parts, gate);
-    round.parts = parts;
-    seat
+/// What the crew leaves when all lines are answered.
+#[derive(Drop)]
+struct Home {
+    stations: Vec<Station>,
+    passes: Passes,
+    lost: bool,
 }
 
 /// Runs epoch after epoch.
-pub(crate) fn run_rounds<V: Served + Send, R: Threads + Wait + Sync, G: Gate + Sync>(
+fn run_epochs<V: Served + Send, R: Threads + Wait + Sync, G: Gate + Sync>(
     rt: &R,
-    alloc: Global,
     turns: &Turns<V>,
-    mut seat: TurnSeat,
+    stop: &StopFlag,
+    notices: &Notices,
     lines: &Lines,
-    mut rounds: Vec<Round>,
+    mut crew: Crew,
     gate: &G,
-) -> (TurnSeat, Vec<Round>)
-    requires lock { seat.lock ≡ turns.now.name }
-    requires places { 8 ≤ seat.places }
-    requires lines { AreLinesOf seat.opening lines.now }
-    requires running { IsRunning lines.now seat }
-    requires table { AreRounds lines.now rounds.items }
-    ensures { HasRunAll V.tells lines.now seat result.0 result.1.items }
+) -> Crew
+    requires may { MayGo turns.now.name lines.now crew.seat }
+    requires going { IsGoing V.tells turns.now.name notices.now lines.now crew.seat 0 crew }
+    ensures { IsGoing V.tells turns.now.name notices.now lines.now crew.seat (length lines.now) result }
 {
-    for at in 0..rounds.len() {
-        seat = run_one(rt, alloc, turns, seat, lines, &mut rounds[at], gate);
+    let mut from = 0;
+    while from < lines.len() {
+        let to = end_of_epoch(lines, from);
+        crew = run_beside(
+            rt,
+            turns,
+            stop,
+            notices,
+            lines,
+            Span { from, to },
+            crew,
+            gate,
+        );
+        from = to;
     }
-    (seat, rounds)
+    crew
+}
+
+fn is_any_lost(stations: &Vec<Station>) -> bool
+    ensures { NoneLost stations.now.items → result ≡ false }
+{
+    for station in stations {
+        if station.lost {
+            return true;
+        }
+    }
+    false
+}
+
+/// A seat for the cleaner or the handler.
+fn give_seat<V: Served>(turns: &Turns<V>, seat: &mut TurnSeat) -> TurnSeat
+    requires lock { seat.old.lock ≡ turns.now.name }
+    requires idle { seat.old.has_turn ≡ false }
+    requires first { seat.old.number ≡ 0 }
+    requires places { 0 < seat.old.places }
+    ensures left { seat.new ≡ record seat.old { places = seat.old.places - 1; next = seat.old.next + 1 } }
+    ensures given { result ≡ record seat.old { number = seat.old.next; places = 0; next = 0; joined = [] } }
+{
+    let Some(given) = turns.split(seat) else {
+        unreachable!()
+    };
+    given
+}
+
+/// Gives the cleaner and the handler their seats, runs all epochs, and takes the seats back.
+fn run_all<V: Served + Send, R: Threads + Wait + Sync, G: Gate + Sync>(
+    rt: &R,
+    turns: &Turns<V>,
+    stop: &StopFlag,
+    notices: &Notices,
+    lines: &Lines,
+    mut seat: TurnSeat,
+    stations: Vec<Station>,
+    passes: Passes,
+    gate: &G,
+) -> (TurnSeat, Home)
+    requires lock { seat.lock ≡ turns.now.name }
+    requires first { IsFirstSeat lines.now seat }
+    requires fresh { AreFresh lines.now stations.items }
+    requires kit { IsOutbox notices.now passes.outbox × IsTaker notices.now passes.taker }
+    ensures ran { HasRunAll V.tells lines.now seat result.0 result.1.stations.items }
+    ensures kit { IsOutbox notices.now result.1.passes.outbox × IsTaker notices.now result.1.passes.taker }
+    ensures lost { V.tells → result.1.lost ≡ false }
+{
+    let _ = lines.as_slice();
+    let first = give_seat(turns, &mut seat);
+    let second = give_seat(turns, &mut seat);
+    let Passes { outbox, taker } = passes;
+    let crew = Crew {
+        seat,
+        stations,
+        cleaner: Cleaner {
+            seat: first,
+            outbox,
+            lost: false,
+        },
+        handler: Handler {
+            seat: second,
+            pass: taker,
+            lost: false,
+        },
+    };
+    let crew = run_epochs(rt, turns, stop, notices, lines, crew, gate);
+    send_home(turns, crew)
+}
+
+/// Takes the seats of the cleaner and the handler back.
+fn send_home<V: Served>(turns: &Turns<V>, crew: Crew) -> (TurnSeat, Home)
+    requires lock { (crew.seat.lock ≡ turns.now.name) × (crew.cleaner.seat.lock ≡ turns.now.name) × (crew.handler.seat.lock ≡ turns.now.name) }
+    requires idle { (crew.seat.has_turn ≡ false) × (crew.cleaner.seat.has_turn ≡ false) × (crew.handler.seat.has_turn ≡ false) }
+    requires first { crew.seat.number ≡ 0 }
+    ensures home { IsHome crew.seat crew.cleaner.seat crew.handler.seat result.0 }
+    ensures stations { result.1.stations.items ≡ crew.stations.items }
+    ensures passes { (result.1.passes.outbox ≡ crew.cleaner.outbox) × (result.1.passes.taker ≡ crew.handler.pass) }
+    ensures lost { crew.cleaner.lost ≡ false → crew.handler.lost ≡ false → NoneLost crew.stations.items → result.1.lost ≡ false }
+{
+    let Crew {
+        mut seat,
+        stations,
+        cleaner,
+        handler,
+    } = crew;
+    let Cleaner {
+        seat: first,
+        outbox,
+        lost: cleaner_lost,
+    } = cleaner;
+    let Handler {
+        seat: second,
+        pass: taker,
+        lost: handler_lost,
+    } = handler;
+    turns.join(&mut seat, first);
+    turns.join(&mut seat, second);
+    let lost = cleaner_lost || handler_lost || is_any_lost(&stations);
+    let passes = Passes { outbox, taker };
+    (
+        seat,
+        Home {
+            stations,
+            passes,
+            lost,
+        },
+    )
+}
+
+/// Runs all epochs, and then puts the answers in the order of their places.
+fn run_placed<V: Served + Send, R: Threads + Wait + Sync, G: Gate + Sync>(
+    rt: &R,
+    turns: &Turns<V>,
+    stop: &StopFlag,
+    notices: &Notices,
+    lines: &Lines,
+    seat: TurnSeat,
+    stations: Vec<Station>,
+    passes: Passes,
+    spare: Vec<Spot>,
+    gate: &G,
+) -> (TurnSeat, (Home, Vec<Spot>))
+    requires { MayRunRounds turns.now.name notices.now lines.now seat stations.items passes (vec_len spare) }
+    ensures ran { RoundsRan V.tells seat lines.now (rows_at result.1.0.stations.items result.1.1.items) result.0 }
+    ensures spots { AreSpots result.1.0.stations.items result.1.1.items × (length result.1.1.items < 2 ^ 32) }
+    ensures kit { IsOutbox notices.now result.1.0.passes.outbox × IsTaker notices.now result.1.0.passes.taker }
+    ensures lost { V.tells → result.1.0.lost ≡ false }
+{
+    let _ = lines.as_slice();
+    let (seat, home) = run_all(
+        rt, turns, stop, notices, lines, seat, stations, passes, gate,
+    );
+    let spots = place_all(&home.stations, spare);
+    (seat, (home, spots))
+}
+
+/// Runs the lines, epoch by epoch, by a thread for each worker that has lines, beside a cleaner and a handler. The least worker of an
+/// epoch is run by the caller, with the first seat of the lock. A worker takes turns that stage for its line, until one stages
+/// nothing, and then the turn of the line's effect. The table has the answers. It takes no memory.
+pub fn run_rounds<V: Served + Send, R: Threads + Wait + Sync, G: Gate + Sync>(
+    rt: &R,
+    turns: &Turns<V>,
+    seat: &mut TurnSeat,
+    lines: &Lines,
+    kit: &mut DutyKit,
+    answers: &mut AnswerTable,
+    gate: &G,
+)
+    requires lock { seat.old.lock ≡ turns.now.name }
+    requires first { IsFirstSeat lines.now seat.old }
+    requires table { IsTableFor lines.now answers.old }
+    ensures ran { RoundsRan V.tells seat.old lines.now answers.new.rows seat.new }
+    ensures lost { V.tells → answers.new.lost ≡ false }
+    ensures kit { kit.new.room ≡ kit.old.room }
+{
+    let Some(passes) = kit.passes.take() else {
+        unreachable!()
+    };
+    let stations = mem::replace(&mut answers.stations, Vec::new(answers.alloc));
+    let spare = mem::replace(&mut answers.spare, Vec::new(answers.alloc));
+    let notices = &kit.notices;
+    let stop = &kit.stop;
+    let (home, spots) = TurnSeat::lend(
+        seat,
+        move |own: TurnSeat| -> (TurnSeat, (Home, Vec<Spot>))
+            requires { IsSync R.row × IsSync G.row × MayRunRounds turns.now.name notices.now lines.now own stations.items passes (vec_len spare) }
+            ensures ran { RoundsRan V.tells own lines.entry.now (rows_at result.1.0.stations.items result.1.1.items) result.0 }
+            ensures spots { AreSpots result.1.0.stations.items result.1.1.items × (length result.1.1.items < 2 ^ 32) }
+            ensures kit { IsOutbox notices.entry.now result.1.0.passes.outbox × IsTaker notices.entry.now result.1.0.passes.taker }
+            ensures lost { V.tells → result.1.0.lost ≡ false }
+        {
+            run_placed(
+                rt, turns, stop, notices, lines, own, stations, passes, spare, gate,
+            )
+        },
+    );
+    kit.passes = Some(home.passes);
+    answers.stations = home.stations;
+    answers.spots = spots;
+    answers.lost = home.lost;
 }

@@ -2,6 +2,7 @@ use crossbeam_utils::CachePadded;
 use std::sync::atomic::{AtomicBool, Ordering};
 
 /// The flag that ends the loops of background tasks.
+#[derive(Drop)]
 pub(crate) struct StopFlag {
     raised: CachePadded<AtomicBool>,
 }

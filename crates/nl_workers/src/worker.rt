@@ -1,53 +1,58 @@
-ghost use Rattle.std.specs.Prelude.{◌≡◌, ◌<◌, length, false, IfSome, slice_get};
-ghost use Rattle.nl_workers.specs.Placed.{EachPlaced, HasLine, MayRun, HasAnswered};
-ghost use Rattle.nl_workers.specs.Worked.{AreLinesOf, MayWork, HasWorked, ats};
+ghost use Rattle.std.specs.Prelude.{◌≡◌, ◌+◌, ◌<◌, length, false, IfSome, slice_get};
+ghost use Rattle.nl_workers.specs.Worked.{MayRunAt, MayWork, HasWorked};
 
+use crate::epoch::Span;
 use crate::gate::Gate;
-use crate::part::{Part, Slot};
+use crate::station::{Station, either};
 use crate::turn::run_line;
 use nl_tree::Lines;
 use nl_turns::{Served, TurnSeat, Turns};
 use std::sync::Wait;
 
-fn run_slot<V: Served, R: Wait, G: Gate>(
+/// Answers the line at a position, if it is one of the worker's.
+fn run_at<V: Served, R: Wait, G: Gate>(
     rt: &R,
     turns: &Turns<V>,
     seat: &mut TurnSeat,
     lines: &Lines,
-    slot: &mut Slot,
+    at: u32,
+    worker: u8,
+    station: &mut Station,
     gate: &G,
 )
     requires lock { seat.old.lock ≡ turns.now.name }
-    requires idle { seat.old.has_turn ≡ false }
-    requires at { slot.old.at < length lines.now }
-    requires lines { AreLinesOf seat.old.opening lines.now }
-    requires may { IfSome (slice_get lines.now slot.old.at) (λ line. MayRun lines.now line.line seat.old.seen) }
-    requires placed { EachPlaced lines.now seat.old.number seat.old.seen }
-    ensures at { slot.new.at ≡ slot.old.at }
-    ensures answered { IfSome (slice_get lines.now slot.old.at) (λ line. HasAnswered V.tells lines.now line slot.new.answered slot.new.out seat.old seat.new) }
+    requires at { at < length lines.now }
+    requires may { MayRunAt V.tells lines.now worker at seat.old station.old }
+    ensures { HasWorked V.tells lines.now worker at (at + 1) seat.old seat.new station.new }
 {
-    let line = lines.get(slot.at);
-    slot.answered = run_line(rt, turns, seat, lines, line, &mut slot.out, gate);
+    let line = lines.get(at);
+    if line.worker != worker {
+        return;
+    }
+    let ran = run_line(rt, turns, seat, lines, line, &mut station.out, gate);
+    station
+        .desk
+        .add(line.line, &line.call, ran.answered, &station.out);
+    station.lost = either(station.lost, ran.lost);
 }
 
-/// Answers the lines of a part, one after the other.
+/// Answers a worker's lines of an epoch, one after the other.
 pub(crate) fn work<V: Served, R: Wait, G: Gate>(
     rt: &R,
     turns: &Turns<V>,
     mut seat: TurnSeat,
     lines: &Lines,
-    mut part: Part,
+    span: Span,
+    worker: u8,
+    mut station: Station,
     gate: &G,
-) -> (TurnSeat, Part)
+) -> (TurnSeat, Station)
     requires lock { seat.lock ≡ turns.now.name }
-    requires idle { seat.has_turn ≡ false }
-    requires lines { AreLinesOf seat.opening lines.now }
-    requires may { MayWork lines.now seat.seen (ats part.slots.items) }
-    requires placed { EachPlaced lines.now seat.number seat.seen }
-    ensures { HasWorked V.tells lines.now seat part.slots.items result.0 result.1.slots.items }
+    requires may { MayWork V.tells lines.now worker span.from span.to seat station }
+    ensures { HasWorked V.tells lines.now worker span.from span.to seat result.0 result.1 }
 {
-    for at in 0..part.slots.len() {
-        run_slot(rt, turns, &mut seat, lines, &mut part.slots[at], gate);
+    for at in span.from..span.to {
+        run_at(rt, turns, &mut seat, lines, at, worker, &mut station, gate);
     }
-    (seat, part)
+    (seat, station)
 }

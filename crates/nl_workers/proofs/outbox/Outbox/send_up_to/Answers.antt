@@ -1,4 +1,4 @@
-use Rattle.std.proofs.Common.{rules, arith}
+use Rattle.std.proofs.Common.{rules}
 use Rattle.nl_workers.proofs.Sending.{sending_more}
 use Rattle.nl_workers.proofs.outbox.Outbox.send_up_to.Goals as goal
 

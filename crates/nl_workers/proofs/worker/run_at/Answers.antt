@@ -1,0 +1,22 @@
+use Rattle.std.proofs.Common.{rules, ◌∙◌}
+use Rattle.nl_workers.proofs.Working.{skips, room_here, works}
+use Rattle.nl_workers.proofs.Serving.{none_either}
+use Rattle.nl_workers.proofs.worker.run_at.Goals as goal
+
+pub returns-then-line-worker : goal.returns-then-line-worker
+returns-then-line-worker g c =
+    skips g.V.Served.tells c.args.lines.now c.args.worker c.args.at c.args.seat.now c.args.station.now c.get-line.result.now c.requires.may c.get-line.ensures.line (search rules)
+
+pub add-requires-clause-lines : goal.add-requires-clause-lines
+add-requires-clause-lines g c =
+    (room_here g.V.Served.tells c.args.lines.now c.args.worker c.args.at c.args.seat.now c.args.station.now c.get-line.result.now c.requires.may c.get-line.ensures.line (search rules)).0
+
+pub add-requires-clause-bytes : goal.add-requires-clause-bytes
+add-requires-clause-bytes g c =
+    (room_here g.V.Served.tells c.args.lines.now c.args.worker c.args.at c.args.seat.now c.args.station.now c.get-line.result.now c.requires.may c.get-line.ensures.line (search rules)).1
+
+pub returns : goal.returns
+returns g c =
+    works g.V.Served.tells c.args.lines.now c.args.worker c.args.at c.args.seat.now c.args.station.now c.get-line.result.now c.requires.may c.get-line.ensures.line
+    c.run_line-ran.new.seat _ c.run_line-ran.result.answered c.run_line-ran.new.out (search rules) c.add.ensures.out c.run_line-ran.ensures.answered c.add.ensures.rows c.add.ensures.lines c.add.ensures.bytes
+    (λ t. c.either-station.ensures ∙ none_either c.args.station.now.lost c.run_line-ran.result.lost (c.requires.may.station_is.none_lost t) (c.run_line-ran.ensures.lost t))

@@ -1,0 +1,19 @@
+ghost use Rattle.std.specs.Prelude.{◌≡◌, ◌||◌};
+
+use crate::desk::Desk;
+use nl_tree::ReplyBuf;
+
+/// What one worker has in hand: its answers, a buffer for the reply to come, and whether a staging found a page without the wanted
+/// stamp.
+#[derive(Drop)]
+pub(crate) struct Station {
+    pub(crate) desk: Desk,
+    pub(crate) out: ReplyBuf,
+    pub(crate) lost: bool,
+}
+
+pub(crate) fn either(a: bool, b: bool) -> bool
+    ensures { result ≡ (a || b) }
+{
+    a || b
+}
