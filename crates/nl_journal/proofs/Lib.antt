@@ -1,0 +1,16 @@
+pub mod Addresses
+pub mod Counted
+pub mod Steps
+pub mod Writes
+pub mod Moving
+pub mod Finishing
+pub mod Passing
+pub mod UnitSteps
+pub mod FinishSteps
+pub mod CommitSteps
+pub mod Stops
+pub mod FrozenPages
+pub mod Freezing
+pub mod DirtyPages
+pub mod Openings
+pub mod InOrders

@@ -1,0 +1,10 @@
+pub mod Outcomes
+pub mod Transaction
+pub mod Progress
+pub mod Standing
+pub mod Committing
+pub mod Units
+pub mod Passes
+pub mod Left
+pub mod Opening
+pub mod Laws

@@ -1,0 +1,345 @@
+ghost use Rattle.std.specs.Prelude.{◌≡◌, ◌⊎◌, ◌<◌, ◌≤◌, ◌+◌, ◌-◌, ◌^◌, ℕ, [], length, max, IfOk, IfSome, Some};
+ghost use Rattle.nl_field.specs.CrashStates.{Earlier};
+ghost use Rattle.nl_iface.specs.Answers.{IsLost, LosesStamp};
+ghost use Rattle.nl_iface.specs.Calls.{CallCounted, DoneOrFailed, LeavesAt, OnlyReads, ReadsCounted, TakesStamp, Ticks};
+ghost use Rattle.nl_meta.specs.Committed.{next_number as number_of_next};
+ghost use Rattle.nl_journal.specs.Committing.{ahead_on, committed_on, finished_on};
+ghost use Rattle.nl_journal.specs.Left.{CommitWrites, DirtyWrites, FinishWrites, UnitWrites};
+ghost use Rattle.nl_journal.specs.Opening.{Finds, commit_number, header_number, phase_found};
+ghost use Rattle.nl_journal.specs.Outcomes.{Agrees, bytes_of};
+ghost use Rattle.nl_journal.specs.Passes.{Passes};
+ghost use Rattle.nl_journal.specs.Progress.{HasNumber, IsPhase, Progress, begun, next, next_after as after, raised as raised_from, units_left};
+ghost use Rattle.nl_journal.specs.Standing.{InOrder};
+ghost use Rattle.nl_journal.specs.Transaction.{IsTransaction, head, mark};
+ghost use Rattle.nl_journal.specs.Units.{Advances, Ends, IfCommitted, IfLost, IfLostUnit, IsCommitted, IsDone, OtherFound, answer};
+ghost use Rattle.nl_meta.specs.Pages.{dirty_pages};
+
+use crate::due::{LAST, due, frozen_len, next_after};
+use crate::put::put;
+use crate::reading::{commit_page, header, images};
+use crate::{Committing, Phase, ReadBack, Unit};
+use nl_field::{CommitRec, HeaderRec, Memory, PageBuf, Shape, VirtualWrite};
+use nl_iface::VirtualPages;
+use nl_meta::Meta;
+use std::alloc::Global;
+use std::marker::Model;
+
+/// The journal of a volume. It is seen as the number of the last transaction whose commit page was written, and the page that
+/// is due of the frozen one.
+#[derive(Drop)]
+pub struct Journal {
+    number: u64,
+    phase: Phase,
+    page: PageBuf,
+}
+
+impl Model for Journal {
+    ghost use Rattle.std.specs.Prelude.{◌≤◌, ◌^◌};
+    ghost use Rattle.nl_journal.specs.Progress.{Progress};
+
+    ghost Value = { Progress };
+
+    ghost view = { λ j. record { number = j.number; phase = j.phase } };
+
+    ghost invariant = { λ j. j.number ≤ 2 ^ 63 };
+}
+
+impl Journal {
+    /// A journal before its first transaction.
+    pub fn new(alloc: Global) -> Result<Journal, Memory>
+        ensures { IfOk result (λ j. j ≡ record { number = 0; phase = Phase.Header }) }
+    {
+        Ok(Journal {
+            number: 0,
+            phase: Phase::Header,
+            page: PageBuf::new(alloc)?,
+        })
+    }
+
+    /// The number that the next transaction to begin will have, up to 2^63 - 1. The commit page raises it, and nothing else.
+    pub fn next_number(&self) -> u64
+        ensures { result ≡ after self.now.number }
+    {
+        next_after(self.number)
+    }
+
+    /// The units left of the frozen transaction, 0 where nothing is frozen.
+    pub fn left(&self, meta: &Meta) -> u32
+        requires { IsPhase self.now.phase (length meta.now.frozen.addresses) }
+        ensures { result ≡ units_left self.now.phase (length meta.now.frozen.addresses) }
+    {
+        let count = frozen_len(meta);
+        match self.phase {
+            Phase::Header => { if count == 0 { 0 } else { 2 * count + 2 } }
+            Phase::Image(i) => 2 * count + 1 - i,
+            Phase::Commit => count + 1,
+            Phase::Home(i) => count - i,
+        }
+    }
+
+    /// Does one write of the frozen transaction: the header, an image, the commit page, or a page copied home. After `Lost`
+    /// and `Fault` the same unit is still to be done. Of the committed pages a stop within it leaves those of before or, where
+    /// the commit page is due, those with the frozen ones, and these once it is done.
+    pub fn unit<D: VirtualPages>(&mut self, device: &mut D, meta: &mut Meta) -> Unit
+        requires formed { D.formed device.old }
+        requires spare { D.keeps_spare device.old }
+        requires stamp { D.next_stamp device.old < 2 ^ 63 }
+        requires some { 1 ≤ length meta.old.frozen.addresses }
+        requires order { InOrder D.Counts device.old self.old meta.old.frozen }
+        ensures formed { D.formed device.new }
+        ensures order { InOrder D.Counts device.new self.new meta.new.frozen }
+        ensures advances { Advances result self.old self.new meta.old meta.new }
+        ensures writes { D.tells → HasNumber self.old (length meta.old.frozen.addresses) → UnitWrites D.Counts (IsDone result) self.old self.new meta.old meta.new device.old device.new }
+        ensures passes { Passes D.Counts (IsDone result) 1 device.old device.new }
+        ensures lost { IfLostUnit result (OtherFound (D.stamps device.new)) }
+        ensures told { D.tells → IfLostUnit result (λ w f. ⊥) }
+        ensures next_stamp { TakesStamp D.Counts (DoneOrFailed D.Counts (IsDone result) device.old device.new) device.old device.new }
+        ensures clock { Ticks D.Counts (IsDone result) device.old device.new }
+        ensures faults { CallCounted D.Counts (result ≡ Unit.Fault) device.old device.new }
+    {
+        let vaddr = due(&mut self.page, self.phase, self.number, meta);
+        match put(device, vaddr, &self.page) {
+            VirtualWrite::Done => self.advance(meta),
+            VirtualWrite::Lost { wanted, found } => Unit::Lost { wanted, found },
+            VirtualWrite::Fault => Unit::Fault,
+        }
+    }
+
+    /// Makes all dirty pages take effect at once: it finishes the frozen transaction, where there is one, and then freezes the
+    /// dirty pages and finishes these. After `Lost` and `Fault` the next commit goes on where this one stopped, and the number
+    /// tells which pages are committed. A stop within it leaves the committed pages of before, or those with the frozen ones, or
+    /// those with the dirty ones too, and after `Done` the last.
+    pub fn commit<D: VirtualPages>(&mut self, device: &mut D, meta: &mut Meta) -> Committing
+        requires formed { D.formed device.old }
+        requires spare { D.keeps_spare device.old }
+        requires stamp { D.next_stamp device.old < 2 ^ 63 - 1024 }
+        requires dirty { IsTransaction (D.shape device.old).vaddrs (dirty_pages meta.old) }
+        requires order { InOrder D.Counts device.old self.old meta.old.frozen }
+        ensures formed { D.formed device.new }
+        ensures order { InOrder D.Counts device.new self.new meta.new.frozen }
+        ensures running { meta.new.running ≡ meta.old.running }
+        ensures done { IfCommitted result (λ n. Ends n self.old self.new meta.old meta.new) }
+        ensures writes { D.tells → HasNumber self.new (length meta.new.frozen.addresses) → CommitWrites D.Counts (IsCommitted result) self.old self.new meta.old meta.new device.old device.new }
+        ensures passes { Passes D.Counts (IsCommitted result) 1024 device.old device.new }
+        ensures lost { IfLost result (OtherFound (D.stamps device.new)) }
+        ensures told { D.tells → IfLost result (λ w f. ⊥) }
+        ensures clock { Ticks D.Counts (IsCommitted result) device.old device.new }
+        ensures faults { CallCounted D.Counts (result ≡ Committing.Fault) device.old device.new }
+    {
+        match self.finish(device, meta) {
+            VirtualWrite::Done => self.commit_dirty(device, meta),
+            VirtualWrite::Lost { wanted, found } => Committing::Lost { wanted, found },
+            VirtualWrite::Fault => Committing::Fault,
+        }
+    }
+
+    /// Reads the journal of a volume that was opened: whether a transaction counts, and its number. A page that is lost counts as
+    /// not readable. Where one counts, its pages are to be copied home.
+    pub fn read_back<D: VirtualPages>(&mut self, device: &mut D, shape: &Shape) -> ReadBack
+        requires formed { D.formed device.old }
+        requires shape { shape.now ≡ D.shape device.old }
+        ensures formed { D.formed device.new }
+        ensures found { D.tells → Finds (D.shape device.old) (bytes_of (D.map device.old)) result }
+        ensures number { D.tells → (result ≡ ReadBack.Fault → ⊥) → self.new.number + 1 ≡ number_of_next (D.shape device.old) (bytes_of (D.map device.old)) }
+        ensures phase { self.new.phase ≡ phase_found result }
+        ensures kept { OnlyReads D.Counts device.old device.new }
+        ensures faults { ReadsCounted D.Counts (result ≡ ReadBack.Fault) device.old device.new }
+    {
+        self.number = 0;
+        self.phase = Phase::Header;
+        match header(device, &mut self.page, shape) {
+            None => ReadBack::Fault,
+            Some(header) => match commit_page(device, &mut self.page) {
+                None => ReadBack::Fault,
+                Some(commit) => self.agree(device, header, commit),
+            },
+        }
+    }
+
+    fn agree<D: VirtualPages>(
+        &mut self,
+        device: &mut D,
+        header: Option<HeaderRec>,
+        commit: Option<CommitRec>,
+    ) -> ReadBack
+        requires formed { D.formed device.old }
+        requires header { D.tells → header ≡ head (D.shape device.old) (bytes_of (D.map device.old) 1) }
+        requires commit { D.tells → commit ≡ mark (bytes_of (D.map device.old) 66) }
+        requires spelled_header { IfSome header (λ h. (h.number < 2 ^ 63) × (length h.addresses ≤ 64)) }
+        requires spelled_commit { IfSome commit (λ k. k.number < 2 ^ 63) }
+        requires phase { self.old.phase ≡ Phase.Header }
+        ensures formed { D.formed device.new }
+        ensures found { D.tells → Finds (D.shape device.old) (bytes_of (D.map device.old)) result }
+        ensures number { self.new.number ≡ max (header_number header) (commit_number commit) }
+        ensures phase { self.new.phase ≡ phase_found result }
+        ensures kept { OnlyReads D.Counts device.old device.new }
+        ensures faults { ReadsCounted D.Counts (result ≡ ReadBack.Fault) device.old device.new }
+    {
+        match (header, commit) {
+            (Some(header), Some(commit)) => {
+                self.number = header.number.max(commit.number);
+                self.compare(device, header, commit)
+            }
+            (Some(header), None) => {
+                self.number = header.number;
+                ReadBack::Nothing
+            }
+            (None, Some(commit)) => {
+                self.number = commit.number;
+                ReadBack::Nothing
+            }
+            (None, None) => {
+                self.number = 0;
+                ReadBack::Nothing
+            }
+        }
+    }
+
+    fn compare<D: VirtualPages>(
+        &mut self,
+        device: &mut D,
+        header: HeaderRec,
+        commit: CommitRec,
+    ) -> ReadBack
+        requires formed { D.formed device.old }
+        requires header { D.tells → head (D.shape device.old) (bytes_of (D.map device.old) 1) ≡ Some header }
+        requires commit { D.tells → mark (bytes_of (D.map device.old) 66) ≡ Some commit }
+        requires few { length header.addresses ≤ 64 }
+        requires phase { self.old.phase ≡ Phase.Header }
+        ensures formed { D.formed device.new }
+        ensures found { D.tells → Finds (D.shape device.old) (bytes_of (D.map device.old)) result }
+        ensures number { self.new.number ≡ self.old.number }
+        ensures phase { self.new.phase ≡ phase_found result }
+        ensures kept { OnlyReads D.Counts device.old device.new }
+        ensures faults { ReadsCounted D.Counts (result ≡ ReadBack.Fault) device.old device.new }
+    {
+        if header.number != commit.number {
+            return ReadBack::Nothing;
+        }
+        match images(device, &mut self.page, 0, header.addresses.len()) {
+            None => ReadBack::Fault,
+            Some(false) => ReadBack::Nothing,
+            Some(true) => {
+                self.phase = Phase::Home(0);
+                ReadBack::Agreed(header.number)
+            }
+        }
+    }
+
+    // Does the units that are left of the frozen transaction.
+    fn finish<D: VirtualPages>(&mut self, device: &mut D, meta: &mut Meta) -> VirtualWrite
+        requires formed { D.formed device.old }
+        requires spare { D.keeps_spare device.old }
+        requires stamp { D.next_stamp device.old + units_left self.old.phase (length meta.old.frozen.addresses) ≤ 2 ^ 63 }
+        requires order { InOrder D.Counts device.old self.old meta.old.frozen }
+        ensures formed { D.formed device.new }
+        ensures order { InOrder D.Counts device.new self.new meta.new.frozen }
+        ensures done { result ≡ VirtualWrite.Done → (self.new.phase ≡ Phase.Header) × (meta.new.frozen.addresses ≡ []) }
+        ensures begun { begun self.new (length meta.new.frozen.addresses) ≡ begun self.old (length meta.old.frozen.addresses) }
+        ensures running { meta.new.running ≡ meta.old.running }
+        ensures dirty { meta.new.dirty ≡ meta.old.dirty }
+        ensures writes { D.tells → HasNumber self.old (length meta.old.frozen.addresses) → FinishWrites D.Counts (result ≡ VirtualWrite.Done) self.old self.new meta.old meta.new device.old device.new }
+        ensures passes { Passes D.Counts (result ≡ VirtualWrite.Done) (units_left self.old.phase (length meta.old.frozen.addresses)) device.old device.new }
+        ensures lost { LosesStamp (D.stamps device.new) result }
+        ensures told { D.tells → IsLost result → ⊥ }
+        ensures clock { Ticks D.Counts ((result ≡ VirtualWrite.Done) × (1 ≤ units_left self.old.phase (length meta.old.frozen.addresses))) device.old device.new }
+        ensures faults { CallCounted D.Counts (result ≡ VirtualWrite.Fault) device.old device.new }
+    {
+        if self.left(meta) == 0 {
+            return VirtualWrite::Done;
+        }
+        match self.unit(device, meta) {
+            Unit::Lost { wanted, found } => VirtualWrite::Lost { wanted, found },
+            Unit::Fault => VirtualWrite::Fault,
+            _ => self.finish(device, meta),
+        }
+    }
+
+    // Freezes the dirty pages, and finishes them.
+    fn commit_dirty<D: VirtualPages>(&mut self, device: &mut D, meta: &mut Meta) -> Committing
+        requires formed { D.formed device.old }
+        requires spare { D.keeps_spare device.old }
+        requires stamp { D.next_stamp device.old < 2 ^ 63 - 512 }
+        requires header { self.old.phase ≡ Phase.Header }
+        requires none { meta.old.frozen.addresses ≡ [] }
+        requires dirty { IsTransaction (D.shape device.old).vaddrs (dirty_pages meta.old) }
+        requires order { InOrder D.Counts device.old self.old meta.old.frozen }
+        ensures formed { D.formed device.new }
+        ensures order { InOrder D.Counts device.new self.new meta.new.frozen }
+        ensures running { meta.new.running ≡ meta.old.running }
+        ensures done { IfCommitted result (λ n. Ends n self.old self.new meta.old meta.new) }
+        ensures begun { begun self.new (length meta.new.frozen.addresses) ≡ raised_from self.old.number }
+        ensures writes { D.tells → HasNumber self.new (length meta.new.frozen.addresses) → DirtyWrites D.Counts (IsCommitted result) self.old self.new meta.old meta.new device.old device.new }
+        ensures passes { Passes D.Counts (IsCommitted result) 512 device.old device.new }
+        ensures lost { IfLost result (OtherFound (D.stamps device.new)) }
+        ensures told { D.tells → IfLost result (λ w f. ⊥) }
+        ensures clock { Ticks D.Counts (IsCommitted result) device.old device.new }
+        ensures faults { CallCounted D.Counts (result ≡ Committing.Fault) device.old device.new }
+    {
+        meta.freeze();
+        match self.finish(device, meta) {
+            VirtualWrite::Done => Committing::Done(self.number.min(LAST)),
+            VirtualWrite::Lost { wanted, found } => Committing::Lost { wanted, found },
+            VirtualWrite::Fault => Committing::Fault,
+        }
+    }
+
+    // Goes on after a write that was done.
+    fn advance(&mut self, meta: &mut Meta) -> Unit
+        requires phase { IsPhase self.old.phase (length meta.old.frozen.addresses) }
+        requires some { 1 ≤ length meta.old.frozen.addresses }
+        ensures done { IsDone result }
+        ensures phase { IsPhase self.new.phase (length meta.new.frozen.addresses) }
+        ensures advances { Advances result self.old self.new meta.old meta.new }
+    {
+        let count = frozen_len(meta);
+        match self.phase {
+            Phase::Header => {
+                self.phase = Phase::Image(0);
+                Unit::Programmed
+            }
+            Phase::Image(i) => {
+                self.phase = if i + 1 < count {
+                    Phase::Image(i + 1)
+                } else {
+                    Phase::Commit
+                };
+                Unit::Programmed
+            }
+            Phase::Commit => {
+                let number = next_after(self.number);
+                self.number = raised(self.number);
+                self.phase = Phase::Home(0);
+                Unit::Decided(number)
+            }
+            Phase::Home(i) => self.go_home(meta, i, count),
+        }
+    }
+
+    fn go_home(&mut self, meta: &mut Meta, i: u32, count: u32) -> Unit
+        requires phase { self.old.phase ≡ Phase.Home i }
+        requires below { i < count }
+        requires count { count ≡ length meta.old.frozen.addresses }
+        requires few { count ≤ 64 }
+        ensures done { IsDone result }
+        ensures phase { IsPhase self.new.phase (length meta.new.frozen.addresses) }
+        ensures advances { Advances result self.old self.new meta.old meta.new }
+    {
+        if i + 1 < count {
+            self.phase = Phase::Home(i + 1);
+            Unit::Programmed
+        } else {
+            self.phase = Phase::Header;
+            meta.thaw();
+            Unit::AllHome
+        }
+    }
+}
+
+// The number after a commit page.
+fn raised(number: u64) -> u64
+    requires { number ≤ 2 ^ 63 }
+    ensures { result ≡ raised_from number }
+{
+    (number + 1).min(1 << 63)
+}
