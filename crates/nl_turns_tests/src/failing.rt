@@ -5,7 +5,8 @@ use nl_turns::{Kept, Served};
 
 const WORKERS: usize = 256;
 
-/// A volume whose medium fails each read, so that no call succeeds. It stages one page of a line before each effect.
+/// A volume whose medium fails each read, so that no call succeeds. It stages one page of a line before each effect. It has few free
+/// blocks, and each copy posts a callback.
 #[derive(Drop)]
 pub struct FailingVolume {
     /// The count of calls, at most 2^64 - 1.
@@ -14,6 +15,8 @@ pub struct FailingVolume {
     pub done: u64,
     /// The failed reads so far, at most 2^64 - 1.
     pub faults: u64,
+    /// The callbacks so far, at most 2^64 - 1.
+    posted: u64,
     /// The line of which a page is staged, for each worker, or 0.
     staged: [u32; 256],
 }
@@ -28,6 +31,7 @@ impl FailingVolume {
             calls: 0,
             done: 0,
             faults: 0,
+            posted: 0,
             staged: [0; WORKERS],
         }
     }
@@ -54,9 +58,9 @@ impl Served for FailingVolume {
 
     ghost to_stage = { λ v. left_to_stage v.staged };
 
-    ghost posted = { λ _. 0 };
+    ghost posted = { λ v. v.posted };
 
-    ghost free_blocks = { λ _. 6 };
+    ghost free_blocks = { λ _. 5 };
 
     fn stage(&mut self, worker: u8, line: u32, _call: &Call) -> Stage {
         let at = usize::from(worker);
@@ -80,16 +84,23 @@ impl Served for FailingVolume {
         }
     }
 
-    fn duty(&mut self, _which: Duty) -> DutyAnswer {
-        DutyAnswer::Nothing
+    fn duty(&mut self, which: Duty) -> DutyAnswer {
+        match which {
+            Duty::Copy => {
+                self.posted = self.posted.saturating_add(1);
+                DutyAnswer::Did
+            }
+            Duty::Handle(_) => DutyAnswer::Did,
+            _ => DutyAnswer::Nothing,
+        }
     }
 
     fn posted(&self) -> u64 {
-        0
+        self.posted
     }
 
     fn free_blocks(&self) -> u32 {
-        6
+        5
     }
 
     ghost since = { λ v w o h s. s.since };

@@ -1,0 +1,122 @@
+use nl_workers::{Gate, GatePlace};
+use std::sync::atomic::{AtomicBool, AtomicU32, Ordering};
+use std::thread;
+
+/// How often a gate looks before it lets a worker go on.
+const LOOKS: u32 = 20_000_000;
+
+/// Looks until the count is reached, at most so many times, and says whether it was.
+fn is_reached(count: &AtomicU32, wanted: u32) -> bool {
+    for _ in 0..LOOKS {
+        if count.load(Ordering::SeqCst) >= wanted {
+            return true;
+        }
+        thread::yield_now();
+    }
+    false
+}
+
+/// Workers 0 and 1 wait for each other before their lines.
+#[derive(Drop)]
+pub struct Meeting {
+    here: AtomicU32,
+    met: AtomicU32,
+}
+
+impl Meeting {
+    pub fn new() -> Meeting {
+        Meeting {
+            here: AtomicU32::new(0),
+            met: AtomicU32::new(0),
+        }
+    }
+
+    /// How many of them saw the other.
+    pub fn met(&self) -> u32 {
+        self.met.load(Ordering::SeqCst)
+    }
+}
+
+impl Gate for Meeting {
+    fn at(&self, worker: u8, _line: u32, place: GatePlace) {
+        if worker < 2 && place == GatePlace::Before {
+            self.here.fetch_add(1, Ordering::SeqCst);
+            if is_reached(&self.here, 2) {
+                self.met.fetch_add(1, Ordering::SeqCst);
+            }
+        }
+    }
+}
+
+/// Worker 0 is held where its line is staged, until worker 1 has finished so many lines.
+#[derive(Drop)]
+pub struct Overtaking {
+    wanted: u32,
+    finished: AtomicU32,
+    overtaken: AtomicBool,
+}
+
+impl Overtaking {
+    pub fn new(wanted: u32) -> Overtaking {
+        Overtaking {
+            wanted,
+            finished: AtomicU32::new(0),
+            overtaken: AtomicBool::new(false),
+        }
+    }
+
+    /// Whether the other worker finished them in that time.
+    pub fn is_overtaken(&self) -> bool {
+        self.overtaken.load(Ordering::SeqCst)
+    }
+}
+
+impl Gate for Overtaking {
+    fn at(&self, worker: u8, line: u32, place: GatePlace) {
+        if worker == 1 && place == GatePlace::After {
+            self.finished.fetch_add(1, Ordering::SeqCst);
+        }
+        if worker == 0 && line == 1 && place == GatePlace::Staged {
+            let reached = is_reached(&self.finished, self.wanted);
+            self.overtaken.store(reached, Ordering::SeqCst);
+        }
+    }
+}
+
+/// Worker 0 is held before its line, until the cleaner and the handler have both done something.
+#[derive(Drop)]
+pub struct Chores {
+    cleaned: AtomicU32,
+    handled: AtomicU32,
+    both: AtomicBool,
+}
+
+impl Chores {
+    pub fn new() -> Chores {
+        Chores {
+            cleaned: AtomicU32::new(0),
+            handled: AtomicU32::new(0),
+            both: AtomicBool::new(false),
+        }
+    }
+
+    /// Whether both did something in that time.
+    pub fn are_done(&self) -> bool {
+        self.both.load(Ordering::SeqCst)
+    }
+}
+
+impl Gate for Chores {
+    fn at(&self, worker: u8, _line: u32, place: GatePlace) {
+        if worker == 8 && place == GatePlace::After {
+            self.cleaned.fetch_add(1, Ordering::SeqCst);
+        }
+        if worker == 9 && place == GatePlace::After {
+            self.handled.fetch_add(1, Ordering::SeqCst);
+        }
+        if worker == 0 && place == GatePlace::Before {
+            let both = is_reached(&self.cleaned, 1) && is_reached(&self.handled, 1);
+            self.both.store(both, Ordering::SeqCst);
+        }
+    }
+}

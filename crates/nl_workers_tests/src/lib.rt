@@ -1,0 +1,11 @@
+//! Scripts that the workers run over a small value, under gates.
+#![tactic(auto)]
+
+mod gates;
+mod run;
+
+pub use gates::{Chores, Meeting, Overtaking};
+pub use run::run_script;
+
+#[cfg(test)]
+mod tests;
