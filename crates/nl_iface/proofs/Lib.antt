@@ -1,4 +1,5 @@
 pub mod Beyond
 mod Choices
+pub mod RoundSteps
 pub mod Stops
 pub mod Tables
