@@ -5,5 +5,7 @@ mod addresses;
 pub mod laws;
 mod meta;
 pub mod rows;
+#[cfg(test)]
+mod tests;
 
 pub use meta::Meta;
