@@ -1,7 +1,9 @@
 -- In lines with rising numbers each is found by its number.
-use Rattle.std.proofs.Common.{◌≡◌, ◌==◌, ℕ, zero, suc, ◌<◌, Bool, cond, List, [], ◌∷◌, length, get_or, Some, sym, ap, ◌∙◌, subst, arith, ne_eqb, eq-eqb}
+use Rattle.std.proofs.Common.{◌≡◌, ◌==◌, ℕ, zero, suc, ◌<◌, Bool, cond, List, [], ◌∷◌, length, get_or, Some, sym, ap, ◌∙◌, subst, arith, ne_eqb, eq-eqb, ◌++◌, ◌+◌, ◌≤◌, ◌^◌, length-append, All}
+use Rattle.std.proofs.lemmas.List.Elements.{All-push}
+use Rattle.std.proofs.lemmas.List.Quantifiers.{all_pairs_push}
 use Rattle.std.specs.Prelude.{AllPairs, find}
-use Rattle.nl_tree.specs.Calls.{AreLines}
+use Rattle.nl_tree.specs.Calls.{AreLines, IsLine}
 use Rattle.nl_tree.specs.declared.call.Line.{Line}
 
 found : (lines : List Line) (i : ℕ) (l : Line) → AllPairs (λ a b. a.line < b.line) lines → i < length lines → l ≡ get_or lines i l → find (λ x. x.line == l.line) lines ≡ Some l
@@ -15,3 +17,13 @@ found (x ∷ xs) (suc i) l rising within is =
 
 pub line_found : (lines : List Line) (i : ℕ) (l : Line) → AreLines lines → i < length lines → l ≡ get_or lines i l → find (λ x. x.line == l.line) lines ≡ Some l
 line_found lines i l are within is = found lines i l (λ j k d lt up. (are.rising j k d lt up).0) within is
+
+-- a line behind others, of a number above theirs and no earlier round
+pub lines_push : (lines next : List Line) (line : Line) → next ≡ lines ++ line ∷ [] → length lines + 1 < 2 ^ 32 → IsLine line
+    → All (λ l. (l.line < line.line) × (l.round ≤ line.round)) lines → AreLines lines → (length next < 2 ^ 32) × AreLines next
+lines_push lines next line grown room is later are =
+    subst (λ (ls : List Line). (length ls < 2 ^ 32) × AreLines ls) (sym grown)
+    (subst (λ (n : ℕ). n < 2 ^ 32) (sym (length-append lines (line ∷ []))) room, record {
+      each = All-push IsLine lines line are.each is;
+      rising = all_pairs_push (λ a b. (a.line < b.line) × (a.round ≤ b.round)) lines line are.rising later;
+    })

@@ -1,5 +1,6 @@
 -- Entries whose keys rise are put into a list in one pass over it.
-use Rattle.std.proofs.Common.{◌≡◌, ◌<◌, ◌&&◌, ◌+◌, ◌-◌, ℕ, zero, suc, Bool, true, false, cond, T, if◌then◌else◌, List, [], ◌∷◌, ◌++◌, length, take, drop, map, get_or, ap, sym, subst, refl, arith, ◌∙◌}
+use Rattle.std.proofs.Common.{◌≡◌, ◌<◌, ◌≤◌, ◌&&◌, ◌+◌, ◌-◌, ℕ, zero, suc, Bool, true, false, cond, T, if◌then◌else◌, List, [], ◌∷◌, ◌++◌, length, take, drop, map, get_or, ap, sym, subst, refl, arith, ◌∙◌}
+use Rattle.std.proofs.Math.ListN.{drop_of_length-le}
 use Rattle.std.proofs.lemmas.List.{drop_more, append_assoc, take-append-drop}
 use Rattle.std.specs.declared.cmp.Ordering.{Ordering}
 use Rattle.std.specs.declared.cmp.Ordering.TheVariants.{Less, Equal, Greater}
@@ -161,3 +162,7 @@ moved_step test move moved next tree all i entry lt grown read before =
   where
     at_head : (e : Entry) (es : Tree) → (if test e.0 then move e ∷ [] else []) ++ map move (where_key path_cmp test es) ≡ map move (where_key path_cmp test (e ∷ es))
     at_head e es = elim (test e.0) as (λ b. (if b then move e ∷ [] else []) ++ map move (where_key path_cmp test es) ≡ map move (cond b (e ∷ where_key path_cmp test es) (where_key path_cmp test es))) [ true ↦ refl | false ↦ refl ]
+
+-- behind the last entry what is left of the tree follows
+pub merged_end : (put rest entries all : Tree) (i : ℕ) → length entries ≤ i → put ++ with_all rest (drop i entries) ≡ all → put ++ rest ≡ all
+merged_end put rest entries all i le is = ap (λ (es : Tree). put ++ with_all rest es) (sym (drop_of_length-le entries le)) ∙ is

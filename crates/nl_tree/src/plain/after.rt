@@ -1,5 +1,5 @@
 //! The tree after a call that is not refused.
-ghost use Rattle.std.specs.Prelude.{◌≡◌, ◌<◌, ◌≤◌, ◌+◌, ◌∷◌, length, IfOk, IfSome, IfNone, if◌then◌else◌, Some, None};
+ghost use Rattle.std.specs.Prelude.{◌≡◌, ◌<◌, ◌≤◌, ◌+◌, ◌∷◌, length, IfOk, IfSome, IfNone, if◌then◌else◌, Some, None, Ok, replicate};
 ghost use Rattle.std.specs.Option.{option_map_or};
 ghost use Rattle.nl_field.specs.Numbers.{max_bytes, max_file_size};
 ghost use Rattle.nl_field.specs.FileContent.{empty_file, written_over, cut_to};
@@ -30,32 +30,43 @@ pub(crate) fn after(
     ensures same { IfOk result (λ o. IfNone o (tree.now ≡ (effect_of tree.now call.now).tree)) }
 {
     match call {
-        Call::Mkdir(path) => Ok(Some(with_directory(alloc, tree, path)?)),
-        Call::Create(path) => Ok(Some(with_file(alloc, tree, path, FileBuf::empty(alloc))?)),
-        Call::Rmdir(path) | Call::Unlink(path) => Ok(Some(without_path(alloc, tree, path)?)),
-        Call::Rename(from, to) => Ok(Some(after_rename(alloc, tree, from, to)?)),
+        Call::Mkdir(path) => changed(with_node(alloc, tree, path, SharedNode::directory())),
+        Call::Create(path) => changed(with_file(alloc, tree, path, FileBuf::empty(alloc))),
+        Call::Rmdir(path) | Call::Unlink(path) => changed(without_path(alloc, tree, path)),
+        Call::Rename(from, to) => changed(after_rename(alloc, tree, from, to)),
         Call::Write(path, from, bytes) => {
-            Ok(Some(after_write(alloc, tree, path, *from, bytes.bytes())?))
+            changed(after_write(alloc, tree, path, *from, bytes.bytes()))
         }
         Call::Fill(path, from, len, byte) => {
-            let bytes = vec![in alloc; *byte; *len as usize]?;
-            Ok(Some(after_write(alloc, tree, path, *from, &bytes)?))
+            changed(after_fill(alloc, tree, path, *from, *len, *byte))
         }
-        Call::Truncate(path, size) => Ok(Some(after_cut(alloc, tree, path, *size)?)),
+        Call::Truncate(path, size) => changed(after_cut(alloc, tree, path, *size)),
         Call::Read(_, _, _) | Call::Stat(_) | Call::List(_) | Call::Sync | Call::Clean => Ok(None),
     }
 }
 
+fn changed(next: Result<Vec<Entry>, Memory>) -> Result<Option<Vec<Entry>>, Memory>
+    ensures some { IfOk result (λ o. IfNone o ⊥) }
+    ensures tree { IfOk result (λ o. IfSome o (λ v. Ok v ≡ next)) }
+{
+    match next {
+        Ok(tree) => Ok(Some(tree)),
+        Err(memory) => Err(memory),
+    }
+}
+
 #[tactic(auto, unfolding(crate::specs::Tree::with_new))]
-fn with_directory(alloc: Global, tree: &[Entry], path: &Path) -> Result<Vec<Entry>, Memory>
-    ensures { IfOk result (λ v. v.items ≡ with_new tree.now path.now directory) }
+fn with_node(
+    alloc: Global,
+    tree: &[Entry],
+    path: &Path,
+    node: SharedNode,
+) -> Result<Vec<Entry>, Memory>
+    ensures { IfOk result (λ v. v.items ≡ with_new tree.now path.now node) }
 {
     let mut next = copy(alloc, tree)?;
-    put(
-        &mut next,
-        copied_path(alloc, path)?,
-        SharedNode::directory(),
-    )?;
+    let copied = copied_path(alloc, path)?;
+    put(&mut next, copied, node)?;
     Ok(next)
 }
 
@@ -69,10 +80,8 @@ fn with_file(
     ensures new { IfOk result (λ v. v.items ≡ with_new tree.now path.now (file content)) }
     ensures there { IfOk result (λ v. v.items ≡ with_content tree.now path.now content) }
 {
-    let mut next = copy(alloc, tree)?;
     let node = SharedNode::of_file(alloc, content)?;
-    put(&mut next, copied_path(alloc, path)?, node)?;
-    Ok(next)
+    with_node(alloc, tree, path, node)
 }
 
 #[tactic(auto, unfolding(crate::specs::Tree::without))]
@@ -108,6 +117,22 @@ fn after_write(
         None => written(alloc, &FileBuf::empty(alloc), from, bytes)?,
     };
     with_file(alloc, tree, path, content)
+}
+
+fn after_fill(
+    alloc: Global,
+    tree: &[Entry],
+    path: &Path,
+    from: u64,
+    len: u32,
+    byte: u8,
+) -> Result<Vec<Entry>, Memory>
+    requires small { len ≤ max_bytes }
+    requires end { 0 < len → from + len ≤ max_file_size }
+    ensures { IfOk result (λ v. v.items ≡ with_content tree.now path.now (written_over (content_of (node_at tree.now path.now)) from (replicate len byte))) }
+{
+    let bytes = vec![in alloc; byte; len as usize]?;
+    after_write(alloc, tree, path, from, &bytes)
 }
 
 fn after_cut(alloc: Global, tree: &[Entry], path: &Path, size: u64) -> Result<Vec<Entry>, Memory>

@@ -66,20 +66,39 @@ pub(crate) fn copy(alloc: Global, tree: &[Entry]) -> Result<Vec<Entry>, Memory>
     ensures { IfOk result (λ v. v.items ≡ tree.now) }
 {
     let mut copied = Vec::with_capacity(alloc, tree.len())?;
-    'entries: for entry in tree {
-        copied.push((entry.0.share()?, entry.1.share()?))?;
-    }
+    push_all(&mut copied, tree)?;
     Ok(copied)
+}
+
+fn share(entry: &Entry) -> Result<Entry, Memory>
+    ensures { IfOk result (λ e. e ≡ entry.now) }
+{
+    let path = entry.0.share()?;
+    Ok((path, entry.1.share()?))
+}
+
+pub(crate) fn push(kept: &mut Vec<Entry>, entry: &Entry) -> Result<(), Memory>
+    ensures { OnOk result (kept.new.items ≡ kept.old.items ++ entry.now ∷ []) }
+{
+    let shared = share(entry)?;
+    kept.push(shared)?;
+    Ok(())
+}
+
+pub(crate) fn push_all(kept: &mut Vec<Entry>, entries: &[Entry]) -> Result<(), Memory>
+    ensures { OnOk result (kept.new.items ≡ kept.old.items ++ entries.now) }
+{
+    'entries: for entry in entries {
+        push(kept, entry)?;
+    }
+    Ok(())
 }
 
 /// Adds an entry that is to be kept.
 fn push_if(kept: &mut Vec<Entry>, keep: bool, entry: &Entry) -> Result<(), Memory>
     ensures { OnOk result (kept.new.items ≡ kept.old.items ++ (if keep then entry.now ∷ [] else [])) }
 {
-    if keep {
-        kept.push((entry.0.share()?, entry.1.share()?))?;
-    }
-    Ok(())
+    if keep { push(kept, entry) } else { Ok(()) }
 }
 
 fn is_other(path: &[Text], entry: &SharedPath) -> bool

@@ -5,7 +5,7 @@ ghost use Rattle.nl_tree.specs.Tree.{path_cmp, with_all};
 ghost use Rattle.nl_tree.specs.TreeLaws.{IsInOrder};
 ghost use Rattle.nl_tree.specs.PlainTree.{is_first, behind_first};
 
-use super::entries::{Entry, is_at, place_of};
+use super::entries::{Entry, is_at, place_of, push, push_all};
 use super::names::compare;
 use super::shared::SharedPath;
 use nl_field::Memory;
@@ -83,20 +83,4 @@ fn without_first<'a>(entries: &'a [Entry], path: &SharedPath) -> &'a [Entry]
     } else {
         entries
     }
-}
-
-fn push(put: &mut Vec<Entry>, entry: &Entry) -> Result<(), Memory>
-    ensures { OnOk result (put.new.items ≡ put.old.items ++ entry.now ∷ []) }
-{
-    put.push((entry.0.share()?, entry.1.share()?))?;
-    Ok(())
-}
-
-fn push_all(put: &mut Vec<Entry>, entries: &[Entry]) -> Result<(), Memory>
-    ensures { OnOk result (put.new.items ≡ put.old.items ++ entries.now) }
-{
-    'entries: for entry in entries {
-        push(put, entry)?;
-    }
-    Ok(())
 }

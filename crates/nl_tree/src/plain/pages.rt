@@ -66,9 +66,17 @@ pub(crate) fn copy(alloc: Global, pages: &[Page]) -> Result<Vec<Page>, Memory>
 {
     let mut copied = Vec::with_capacity(alloc, pages.len())?;
     'pages: for page in pages {
-        copied.push((page.0, page.1.share()?))?;
+        push(&mut copied, page)?;
     }
     Ok(copied)
+}
+
+fn push(kept: &mut Vec<Page>, page: &Page) -> Result<(), Memory>
+    ensures { OnOk result (kept.new.items ≡ kept.old.items ++ page.now ∷ []) }
+{
+    let shared = page.1.share()?;
+    kept.push((page.0, shared))?;
+    Ok(())
 }
 
 /// The bytes of a page with those of the data that lie in it laid over them.

@@ -6,7 +6,7 @@ ghost use Rattle.nl_tree.specs.Tree.{path_cmp, is_at_or_under, with_renamed};
 use super::entries::{Entry, staying};
 use super::merge::put_all;
 use super::names::is_under;
-use super::shared::SharedPath;
+use super::shared::{SharedNode, SharedPath};
 use crate::Path;
 use nl_field::{Memory, Text};
 use std::alloc::Global;
@@ -56,7 +56,14 @@ fn push_moved(
         return Ok(());
     }
     let path = joined(alloc, to, behind(from, names))?;
-    moved.push((path, entry.1.share()?))?;
+    push(moved, path, &entry.1)
+}
+
+fn push(moved: &mut Vec<Entry>, path: SharedPath, node: &SharedNode) -> Result<(), Memory>
+    ensures { OnOk result (moved.new.items ≡ moved.old.items ++ (path, node.now) ∷ []) }
+{
+    let shared = node.share()?;
+    moved.push((path, shared))?;
     Ok(())
 }
 
