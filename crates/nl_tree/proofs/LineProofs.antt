@@ -22,8 +22,10 @@ line_found lines i l are within is = found lines i l (λ j k d lt up. (are.risin
 pub lines_push : (lines next : List Line) (line : Line) → next ≡ lines ++ line ∷ [] → length lines + 1 < 2 ^ 32 → IsLine line
     → All (λ l. (l.line < line.line) × (l.round ≤ line.round)) lines → AreLines lines → (length next < 2 ^ 32) × AreLines next
 lines_push lines next line grown room is later are =
-    subst (λ (ls : List Line). (length ls < 2 ^ 32) × AreLines ls) (sym grown)
-    (subst (λ (n : ℕ). n < 2 ^ 32) (sym (length-append lines (line ∷ []))) room, record {
-      each = All-push IsLine lines line are.each is;
-      rising = all_pairs_push (λ a b. (a.line < b.line) × (a.round ≤ b.round)) lines line are.rising later;
-    })
+    subst (λ (ls : List Line). (length ls < 2 ^ 32) × AreLines ls) (sym grown) (
+      subst (λ (n : ℕ). n < 2 ^ 32) (sym (length-append lines (line ∷ []))) room,
+      record {
+        each = All-push IsLine lines line are.each is;
+        rising = all_pairs_push (λ a b. (a.line < b.line) × (a.round ≤ b.round)) lines line are.rising later;
+      },
+    )

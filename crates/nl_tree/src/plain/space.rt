@@ -52,7 +52,7 @@ fn meta_pages(tree: &[Entry], at: usize) -> u64
     entries + ranges(&tree[at].1)
 }
 
-fn ranges(node: &SharedNode) -> u64
+pub(crate) fn ranges(node: &SharedNode) -> u64
     ensures pages { result ≡ ranges_of_node node.now }
     ensures bound { result < 2 ^ 32 }
 {

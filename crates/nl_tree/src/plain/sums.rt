@@ -11,7 +11,7 @@ ghost use Rattle.nl_tree.specs.KeptSums.{AreCharges, IsChangeAt, has_overfull, p
 use super::entries::{Entry, count_entries, find};
 use super::refusals::is_missing;
 use super::shared::SharedNode;
-use super::space::{data_total, exceeds_nodes, has_full_directory, meta_total};
+use super::space::{data_total, exceeds_nodes, has_full_directory, meta_total, ranges};
 use crate::{Refusal, Space};
 use nl_field::{MAX_ENTRIES, Shape, Text};
 
@@ -105,10 +105,7 @@ fn ranges_of(node: Option<&SharedNode>) -> u64
     ensures bound { result < 2 ^ 32 }
 {
     match node {
-        Some(node) => match node.content() {
-            Some(content) => content.ranges() as u64,
-            None => 0,
-        },
+        Some(node) => ranges(node),
         None => 0,
     }
 }

@@ -1,4 +1,4 @@
-use Rattle.std.proofs.Common.{◌≡◌, ◌<◌, ◌≤◌, ◌+◌, ◌^◌, List, length, subst, sym, All}
+use Rattle.std.proofs.Common.{◌<◌, ◌≤◌, ◌+◌, ◌^◌, List, length, subst, sym, All}
 use Rattle.nl_tree.specs.declared.call.Line.{Line}
 use Rattle.nl_tree.proofs.LineProofs.{lines_push}
 use Rattle.nl_tree.proofs.lines.Lines.push.Goals as goal

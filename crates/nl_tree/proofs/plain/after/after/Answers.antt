@@ -1,5 +1,4 @@
-use Rattle.std.proofs.Common.{◌≡◌, ◌<◌, ◌≤◌, ◌+◌, ◌∙◌, ℕ, length, ap, sym, subst, arith}
-use Rattle.nl_field.specs.Numbers.{max_file_size}
+use Rattle.std.proofs.Common.{◌∙◌, ap, sym}
 use Rattle.nl_tree.specs.declared.call.Call.TheVariants.{Write}
 use Rattle.nl_tree.proofs.CallProofs.{write_end, fill_end, truncate_end}
 use Rattle.nl_tree.proofs.plain.after.after.Goals as goal
