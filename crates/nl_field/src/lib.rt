@@ -13,7 +13,7 @@ mod inode;
 pub mod laws;
 mod limits;
 mod name;
-mod numbers;
+pub mod numbers;
 mod page_buf;
 mod place;
 mod pointer;

@@ -1,3 +1,4 @@
+//! Numbers, pointers and zeros in bytes.
 ghost use Rattle.std.specs.Prelude.{◌≡◌, ◌≤◌, ◌+◌, ◌-◌, ◌*◌, ◌++◌, length, take, drop, flat_map, bytes_eq, IsTrue};
 ghost use Rattle.std.specs.List.{list_all};
 ghost use Rattle.nl_field.specs.Bytes.{zeros, all_zero};
@@ -114,6 +115,23 @@ pub fn pointers_from(bytes: &[u8], into: &mut [Pointer])
     for i in 0..into.len() {
         into[i] = pointer_from(&bytes[16 * i..]);
     }
+}
+
+/// Zeros everywhere.
+#[tactic(auto, unfolding(crate::specs::Bytes::zeros))]
+pub fn zero(bytes: &mut [u8])
+    ensures { bytes.new ≡ zeros (length bytes.old) }
+{
+    bytes.fill(0);
+}
+
+/// Puts bytes, and zeros behind them.
+pub fn pad(out: &mut [u8], bytes: &[u8])
+    requires { length bytes.now ≤ length out.old }
+    ensures { out.new ≡ bytes.now ++ zeros (length out.old - length bytes.now) }
+{
+    out[..bytes.len()].copy_from_slice(bytes);
+    zero(&mut out[bytes.len()..]);
 }
 
 /// Whether the bytes are these and then zeros.

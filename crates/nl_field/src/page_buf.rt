@@ -3,6 +3,7 @@ ghost use Rattle.nl_field.specs.Bytes.{zeros};
 ghost use Rattle.nl_field.specs.Page.{PageBytes};
 
 use crate::Memory;
+use crate::numbers::{pad, zero};
 use std::alloc::Global;
 use std::marker::Model;
 
@@ -102,20 +103,4 @@ fn zeroed(alloc: Global, count: usize) -> Result<Vec<u8>, Memory>
     ensures len { IfOk result (λ v. length v.items ≡ count) }
 {
     Ok(vec![in alloc; 0u8; count]?)
-}
-
-#[tactic(auto, unfolding(crate::specs::Bytes::zeros))]
-fn zero(bytes: &mut [u8])
-    ensures { bytes.new ≡ zeros (length bytes.old) }
-{
-    bytes.fill(0);
-}
-
-// These bytes, and zeros behind them.
-fn pad(out: &mut [u8], bytes: &[u8])
-    requires { length bytes.now ≤ length out.old }
-    ensures { out.new ≡ bytes.now ++ zeros (length out.old - length bytes.now) }
-{
-    out[..bytes.len()].copy_from_slice(bytes);
-    zero(&mut out[bytes.len()..]);
 }

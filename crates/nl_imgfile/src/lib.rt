@@ -2,7 +2,6 @@
 //! by position. No contract can say what a file holds, so this medium tells no contents.
 #![tactic(auto)]
 
-mod bytes;
 mod calls;
 mod file_nand;
 mod header;

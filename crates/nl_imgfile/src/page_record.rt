@@ -1,12 +1,11 @@
-ghost use Rattle.std.specs.Prelude.{◌≡◌, length, take, drop};
+ghost use Rattle.std.specs.Prelude.{◌≡◌, ◌≤◌, ◌+◌, ◌++◌, length, take, drop};
 ghost use Rattle.nl_field.specs.Page.{written};
 ghost use Rattle.nl_field.specs.Spelling.{u64_at};
 ghost use Rattle.nl_nand.specs.Nand.{Reads};
 ghost use Rattle.nl_imgfile.specs.PageRecord.{erased_record, written_record, page_of};
 
-use crate::bytes::{put, zero};
 use crate::layout::{RECORD, STATE};
-use byteorder::{ByteOrder, LittleEndian};
+use nl_field::numbers::{put_u64, u64_from, zero};
 use nl_field::{Memory, PageBuf};
 use nl_nand::ReadAnswer;
 use std::alloc::Global;
@@ -89,9 +88,17 @@ fn fill_written(out: &mut [u8], page: &PageBuf)
     ensures bytes { out.new ≡ written_record page.now }
     ensures back { page_of out.new ≡ written page.now }
 {
-    LittleEndian::write_u64(out, WRITTEN);
+    put_u64(out, 0, WRITTEN);
     put(out, STATE, page.main());
     put(out, STATE + MAIN, page.spare());
+}
+
+/// Puts bytes over those from an offset on.
+fn put(out: &mut [u8], at: usize, bytes: &[u8])
+    requires { at + length bytes.now ≤ length out.old }
+    ensures { out.new ≡ take at out.old ++ bytes.now ++ drop (at + length bytes.now) out.old }
+{
+    out[at..at + bytes.len()].copy_from_slice(bytes);
 }
 
 fn decode(bytes: &[u8], buf: &mut PageBuf) -> ReadAnswer
@@ -122,10 +129,9 @@ fn fill_page(bytes: &[u8], buf: &mut PageBuf)
     buf.set_spare(&spare);
 }
 
-#[tactic(auto, unfolding(nl_field::specs::Spelling::u64_at))]
 fn state_in(bytes: &[u8]) -> u64
     requires { length bytes.now ≡ 4168 }
     ensures { result ≡ u64_at bytes.now 0 }
 {
-    LittleEndian::read_u64(bytes)
+    u64_from(bytes, 0)
 }
