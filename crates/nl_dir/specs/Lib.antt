@@ -1,0 +1,5 @@
+pub mod Changes
+pub mod Directory
+pub mod DirectoryLaws
+pub mod Looking
+pub mod Slots
