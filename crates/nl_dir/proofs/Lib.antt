@@ -1,0 +1,4 @@
+pub mod EntryLists
+pub mod InsertProofs
+pub mod PlaceFacts
+pub mod Records

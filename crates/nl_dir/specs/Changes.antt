@@ -28,16 +28,16 @@ touched_by (Some v) recent = touched v recent
 
 -- Every other name has the entry that it had.
 abbrev pub SameNamesBut : List ℕ → VirtualMap → InodeRec → VirtualMap → InodeRec → Type 0
-SameNamesBut name old rec new then = (other : List ℕ) → other ≢ name → entry_named new then other ≡ entry_named old rec other
+SameNamesBut name old rec new after = (other : List ℕ) → other ≢ name → entry_named new after other ≡ entry_named old rec other
 
 -- The entry stands behind those of the directory; its page alone changes.
-pub record InsertsEntry (entry : EntryRec) (fresh : Option ℕ) (rec then : InodeRec) (old new : Pages) : Type 0 where
-  pub record_after : then ≡ longer rec fresh
-  pub directory : IsDirectory (page_of new) then
-  pub entries : entries_of_inode (page_of new) then ≡ entries_of_inode (page_of old) rec ++ entry ∷ []
-  pub named : entry_named (page_of new) then entry.name ≡ Some entry
-  pub others : SameNamesBut entry.name (page_of old) rec (page_of new) then
-  pub pages : ChangesPages (address_of_place then rec.size ∷ []) old new
+pub record InsertsEntry (entry : EntryRec) (fresh : Option ℕ) (rec after : InodeRec) (old new : Pages) : Type 0 where
+  pub record_after : after ≡ longer rec fresh
+  pub directory : IsDirectory (page_of new) after
+  pub entries : entries_of_inode (page_of new) after ≡ entries_of_inode (page_of old) rec ++ entry ∷ []
+  pub named : entry_named (page_of new) after entry.name ≡ Some entry
+  pub others : SameNamesBut entry.name (page_of old) rec (page_of new) after
+  pub pages : ChangesPages (address_of_place after rec.size ∷ []) old new
   pub recent : new.recent ≡ touched_by fresh old.recent
 
 abbrev pub no_entry : EntryRec
@@ -50,14 +50,14 @@ changed_by_removal rec at =
     (if at == rec.size - 1 then [] else (address_of_place rec at ∷ [])) ++ (if last_alone rec then [] else (address_of_place rec (rec.size - 1) ∷ []))
 
 -- The last entry stands in the place of the one that had the name, and the directory is one shorter.
-pub record RemovesEntry (name : List ℕ) (gone : Option ℕ) (rec then : InodeRec) (old new : Pages) : Type 0 where
-  pub record_after : then ≡ shorter rec
+pub record RemovesEntry (name : List ℕ) (gone : Option ℕ) (rec after : InodeRec) (old new : Pages) : Type 0 where
+  pub record_after : after ≡ shorter rec
   pub given : gone ≡ given_up rec
-  pub directory : IsDirectory (page_of new) then
+  pub directory : IsDirectory (page_of new) after
   pub place : ℕ
   pub had_name : position (λ e. bytes_eq e.name name) (entries_of_inode (page_of old) rec) ≡ Some place
-  pub entries : entries_of_inode (page_of new) then ≡ swap_remove (entries_of_inode (page_of old) rec) place no_entry
-  pub named : entry_named (page_of new) then name ≡ None
-  pub others : SameNamesBut name (page_of old) rec (page_of new) then
+  pub entries : entries_of_inode (page_of new) after ≡ swap_remove (entries_of_inode (page_of old) rec) place no_entry
+  pub named : entry_named (page_of new) after name ≡ None
+  pub others : SameNamesBut name (page_of old) rec (page_of new) after
   pub pages : ChangesPages (changed_by_removal rec place) old new
   pub recent : new.recent ≡ old.recent

@@ -1,12 +1,11 @@
 -- Where a directory of a volume is one, and that only its own pages say so.
-use Rattle.std.specs.Prelude.{◌≡◌, ℕ, ◌<◌, length, slice_get, Some}
-use Rattle.nl_field.specs.declared.entry.EntryRec.{EntryRec}
+use Rattle.std.specs.Prelude.{◌≡◌, ℕ, ◌<◌, length, slice_get}
 use Rattle.nl_field.specs.declared.inode.InodeRec.{InodeRec}
 use Rattle.nl_field.specs.declared.inode.Kind.TheVariants.{Dir}
 use Rattle.nl_field.specs.declared.shape.Shape.{Shape}
 use Rattle.nl_meta.specs.Committed.{VirtualMap}
 use Rattle.nl_meta.specs.Consistent.{AddressesRight, EntriesRight, IsNode}
-use Rattle.nl_meta.specs.Nodes.{address_of_place, entries_of_inode, entry_named}
+use Rattle.nl_meta.specs.Nodes.{address_of_place, entries_of_inode}
 use Rattle.nl_dir.specs.Directory.{IsDirectory, entry_at}
 
 -- A directory of metadata that is right is one.

@@ -37,9 +37,9 @@ pub record FillsPlace (place : ℕ) (rec : InodeRec) (old new : Pages) : Type 0 
   pub recent : new.recent ≡ old.recent
 
 -- The last place is gone: its page is given up, or it is zero.
-pub record DropsLast (rec then : InodeRec) (old new : Pages) : Type 0 where
-  pub record_after : then ≡ shorter rec
-  pub kept : (k : ℕ) → k < rec.size - 1 → bytes_of_place (page_of new) then k ≡ bytes_of_place (page_of old) rec k
-  pub rest : (k : ℕ) → rec.size - 1 ≤ k → k < 64 * div_ceil (rec.size - 1) 64 → IsTrue (all_zero (bytes_of_place (page_of new) then k))
+pub record DropsLast (rec after : InodeRec) (old new : Pages) : Type 0 where
+  pub record_after : after ≡ shorter rec
+  pub kept : (k : ℕ) → k < rec.size - 1 → bytes_of_place (page_of new) after k ≡ bytes_of_place (page_of old) rec k
+  pub rest : (k : ℕ) → rec.size - 1 ≤ k → k < 64 * div_ceil (rec.size - 1) 64 → IsTrue (all_zero (bytes_of_place (page_of new) after k))
   pub pages : ChangesPages (if last_alone rec then [] else (address_of_place rec (rec.size - 1) ∷ [])) old new
   pub recent : new.recent ≡ old.recent

@@ -62,7 +62,7 @@ fn write_bytes(page: &mut PageBuf, slot: u32, bytes: &[u8; 64])
     ensures main { page.new.main ≡ with_slot 64 slot bytes.now page.old.main }
     ensures whole { length page.old.main ≡ 4096 }
 {
-    let _whole = page.main().len();
+    let _before = page.main().len();
     page.set_main(64 * slot as usize, bytes);
 }
 
@@ -86,11 +86,22 @@ fn write_entry(page: &mut PageBuf, slot: u32, entry: &EntryRec, is_new: bool)
     ensures width { length (entry_bytes entry.now) ≡ 64 }
     ensures back { entry_of (entry_bytes entry.now) ≡ Some entry.now }
 {
-    let _whole = page.main().len();
+    let _before = page.main().len();
     if is_new {
         page.clear();
     }
+    write_over(page, slot, entry);
+}
+
+fn write_over(page: &mut PageBuf, slot: u32, entry: &EntryRec)
+    requires { slot < 64 }
+    ensures main { page.new.main ≡ with_slot 64 slot (entry_bytes entry.now) page.old.main }
+    ensures width { length (entry_bytes entry.now) ≡ 64 }
+    ensures back { entry_of (entry_bytes entry.now) ≡ Some entry.now }
+{
+    let _before = page.main().len();
     entry.into_page(page, 64 * slot);
+    let _after = page.main().len();
 }
 
 // The page of an address is resident, whatever it has, and touched.
