@@ -1,7 +1,7 @@
 -- An entry behind those of a directory.
-use Rattle.std.proofs.Common.{◌≡◌, ◌≢◌, ℕ, ◌+◌, ◌-◌, ◌*◌, ◌/◌, ◌%◌, ◌≤◌, ◌<◌, Bool, true, false, List, [], ◌∷◌, ◌++◌, length, find, refl, sym, ap, subst, ◌∙◌, Option, Some, None, unwrap_or, is_some, IsSome, ◌⊎◌, inl, inr, arith}
+use Rattle.std.proofs.Common.{◌≡◌, ◌≢◌, ℕ, ◌+◌, ◌*◌, ◌/◌, ◌%◌, ◌<◌, true, false, List, [], ◌∷◌, ◌++◌, length, find, refl, sym, ap, subst, ◌∙◌, Option, Some, None, unwrap_or, is_some, IsSome, ◌⊎◌, inl, inr, arith}
 use Rattle.std.proofs.lemmas.Bool.{cases_eq}
-use Rattle.std.proofs.lemmas.List.{get_or-set_same, get_or-set_other, length-set, set-set}
+use Rattle.std.proofs.lemmas.List.{get_or-set_other, length-set}
 use Rattle.std.specs.Int.{div_ceil}
 use Rattle.std.specs.Prelude.{IsTrue}
 use Rattle.nl_field.specs.Bytes.{all_zero, zeros}
@@ -10,13 +10,13 @@ use Rattle.nl_field.specs.declared.entry.EntryRec.{EntryRec}
 use Rattle.nl_field.specs.declared.inode.InodeRec.{InodeRec}
 use Rattle.nl_meta.specs.Committed.{VirtualMap}
 use Rattle.nl_meta.specs.Nodes.{address_of_place, bytes_at, bytes_of_place, entries_of_inode, entry_named, slot_in}
-use Rattle.nl_meta.specs.Pages.{Pages, page_of, touched, with_address}
+use Rattle.nl_meta.specs.Pages.{Pages, page_of, with_address}
 use Rattle.nl_meta.specs.SlotLaws.{with_slot}
 use Rattle.nl_meta.specs.Steps.{with_admitted, with_dirty}
 use Rattle.nl_meta.proofs.Lists.{some_in, none_some}
 use Rattle.nl_meta.proofs.SlotProofs.{one_slot}
 use Rattle.nl_dir.specs.Changes.{ChangesPages, InsertsEntry, touched_by, with_addresses}
-use Rattle.nl_dir.specs.Directory.{FitsFresh, HasPlaces, IsDirectory, entry_at, longer}
+use Rattle.nl_dir.specs.Directory.{FitsFresh, IsDirectory, entry_at, longer}
 use Rattle.nl_dir.specs.Slots.{Holds, PutsEntry}
 use Rattle.nl_dir.proofs.EntryLists.{find-same, is_named, listed, listed-more, listed-same, one-named, some-of}
 use Rattle.nl_dir.proofs.PlaceFacts.{apart, below-length, one-page, one-row, one-slot, page-at, page-beside, row-there, same-place, shown, slot-kept, slot-put, slot-zero, spelled-there, zeros-length, zeros-zero}

@@ -1,4 +1,7 @@
 pub mod EntryLists
 pub mod InsertProofs
+pub mod LawProofs
+pub mod LookProofs
 pub mod PlaceFacts
 pub mod Records
+pub mod RemoveProofs

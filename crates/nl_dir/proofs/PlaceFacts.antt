@@ -1,18 +1,16 @@
 -- Places of a directory over pages of which one changes.
-use Rattle.std.proofs.Common.{◌≡◌, ◌≢◌, ℕ, zero, suc, ◌+◌, ◌-◌, ◌*◌, ◌/◌, ◌%◌, ◌≤◌, ◌<◌, Bool, true, false, not, ◌==◌, cond, List, [], ◌∷◌, ◌++◌, length, take, drop, filter, replicate, get_or, refl, sym, ap, subst, ◌∙◌, Option, Some, None, unwrap_or, is_some, IsSome, ◌⊎◌, inl, inr, arith, length-append}
-use Rattle.std.proofs.lemmas.Bool.{and_parts, and_from, both_ways, cases_eq, cases_lt, lt-ltb, or_right}
+use Rattle.std.proofs.Common.{◌≡◌, ◌≢◌, ℕ, zero, suc, ◌+◌, ◌*◌, ◌/◌, ◌%◌, ◌≤◌, ◌<◌, Bool, true, false, not, ◌==◌, cond, List, [], ◌∷◌, length, take, drop, replicate, refl, sym, ap, subst, ◌∙◌, Option, Some, None, unwrap_or, is_some, IsSome, ◌⊎◌, inl, inr, arith, length-append}
+use Rattle.std.proofs.lemmas.Bool.{and_parts, and_from, both_ways, cases_lt, lt-ltb, or_right}
 use Rattle.std.proofs.lemmas.List.{get_or-set_same, get_or-set_other, get_or_past, length-set, length-replicate}
 use Rattle.std.proofs.lemmas.List.Elements.{filter-append}
 use Rattle.std.specs.Int.{div_ceil}
-use Rattle.std.specs.List.{list_all}
-use Rattle.std.specs.Prelude.{IsTrue, slice_index}
+use Rattle.std.specs.Prelude.{slice_index}
 use Rattle.nl_field.specs.Bytes.{all_zero, zeros}
 use Rattle.nl_field.specs.EntryRecord.{entry_of, entry_fields}
 use Rattle.nl_field.specs.Names.{is_name}
-use Rattle.nl_field.specs.Members.{Has}
 use Rattle.nl_field.specs.declared.inode.InodeRec.{InodeRec}
 use Rattle.nl_meta.specs.Committed.{VirtualMap}
-use Rattle.nl_meta.specs.Nodes.{address_of_place, bytes_of_place, bytes_at, slot_in}
+use Rattle.nl_meta.specs.Nodes.{address_of_place, bytes_of_place, slot_in}
 use Rattle.nl_meta.specs.Pages.{Pages, above, below, besides_0, has_room, page_of, with_address}
 use Rattle.nl_meta.specs.SlotLaws.{ChangesSlot, with_slot}
 use Rattle.nl_meta.specs.Steps.{with_dirty}
@@ -78,23 +76,24 @@ spelled-there pages rec i h = by (pages (address_of_place rec i)) h
 
 -- ---- places of one page
 
+-- the first place of a row
+pub head : (rec : InodeRec) (i : ℕ) → address_of_place rec (64 * (i / 64)) ≡ address_of_place rec i
+head rec i = ap (slice_index rec.addresses) row
+  where
+    row : 64 * (i / 64) / 64 ≡ i / 64
+    row = omega arith
+
+pub head-below : (rec : InodeRec) (i : ℕ) → i < 64 * div_ceil rec.size 64 → 64 * (i / 64) < rec.size
+head-below rec i h = omega (arith, h)
+
 module _ (pages : VirtualMap) (rec : InodeRec) (has : HasPlaces pages rec) where
-  head : (i : ℕ) → address_of_place rec (64 * (i / 64)) ≡ address_of_place rec i
-  head i = ap (slice_index rec.addresses) row
-    where
-      row : 64 * (i / 64) / 64 ≡ i / 64
-      row = omega arith
-
-  head-below : (i : ℕ) → i < 64 * div_ceil rec.size 64 → 64 * (i / 64) < rec.size
-  head-below i h = omega (arith, h)
-
   pub one-row : (i j : ℕ) → i < 64 * div_ceil rec.size 64 → j < 64 * div_ceil rec.size 64 → address_of_place rec i ≡ address_of_place rec j → i / 64 ≡ j / 64
   one-row i j h g e =
-      let r = has.one_use (64 * (i / 64)) (64 * (j / 64)) (head-below i h) (head-below j g) (head i ∙ e ∙ sym (head j)) in
+      let r = has.one_use (64 * (i / 64)) (64 * (j / 64)) (head-below rec i h) (head-below rec j g) (head rec i ∙ e ∙ sym (head rec j)) in
       omega (arith, r)
 
   pub row-there : (i : ℕ) → i < 64 * div_ceil rec.size 64 → IsSome (pages (address_of_place rec i))
-  row-there i h = subst (λ (v : ℕ). IsSome (pages v)) (head i) (has.there (64 * (i / 64)) (head-below i h))
+  row-there i h = subst (λ (v : ℕ). IsSome (pages v)) (head rec i) (has.there (64 * (i / 64)) (head-below rec i h))
 
   pub apart : (i k : ℕ) → i < 64 * div_ceil rec.size 64 → k < 64 * div_ceil rec.size 64 → k ≢ i → address_of_place rec k ≡ address_of_place rec i → k % 64 ≡ i % 64 → ⊥
   apart i k h g far e slot = let r = one-row k i g h e in far (omega (arith, r, slot))

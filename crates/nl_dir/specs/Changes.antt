@@ -1,12 +1,12 @@
 -- What it means that an entry is inserted, or removed.
-use Rattle.std.specs.Prelude.{◌≡◌, ◌≢◌, ℕ, ◌-◌, ◌<◌, ◌==◌, if◌then◌else◌, List, [], ◌∷◌, ◌++◌, length, bytes_eq, position, swap_remove, Option, Some, None, IsSome}
+use Rattle.std.specs.Prelude.{◌≡◌, ◌≢◌, ℕ, ◌-◌, ◌==◌, if◌then◌else◌, List, [], ◌∷◌, ◌++◌, length, bytes_eq, position, swap_remove, Option, Some, None, IsSome}
 use Rattle.nl_field.specs.Members.{Has}
 use Rattle.nl_field.specs.declared.entry.EntryRec.{EntryRec}
 use Rattle.nl_field.specs.declared.inode.InodeRec.{InodeRec}
 use Rattle.nl_meta.specs.Committed.{VirtualMap}
 use Rattle.nl_meta.specs.Nodes.{address_of_place, entries_of_inode, entry_named}
 use Rattle.nl_meta.specs.Pages.{Pages, page_of, touched, with_address}
-use Rattle.nl_dir.specs.Directory.{IsDirectory, entry_at, given_up, last_alone, longer, shorter}
+use Rattle.nl_dir.specs.Directory.{IsDirectory, given_up, last_alone, longer, shorter}
 
 -- rising addresses with some more
 unfoldable pub with_addresses : List ℕ → List ℕ → List ℕ

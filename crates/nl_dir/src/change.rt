@@ -1,9 +1,8 @@
-ghost use Rattle.std.specs.Prelude.{◌≡◌, ◌≢◌, ◌<◌, ◌≤◌, ◌+◌, IfSome, None, Some};
+ghost use Rattle.std.specs.Prelude.{◌≡◌, ◌<◌, IsSome, None, Some};
 ghost use Rattle.nl_meta.specs.Nodes.{entry_named};
 ghost use Rattle.nl_meta.specs.Pages.{page_of};
 ghost use Rattle.nl_dir.specs.Changes.{InsertsEntry, RemovesEntry};
 ghost use Rattle.nl_dir.specs.Directory.{FitsFresh, HasPlaces, HasRoomFor, IsDirectory, given_up};
-ghost use Rattle.nl_dir.specs.Looking.{IsNamedAt};
 ghost use Rattle.nl_dir.specs.Slots.{DropsLast, FillsPlace};
 
 use crate::look::{address_at, count, page_at, place_of};
@@ -61,7 +60,7 @@ fn insert_behind(rec: &mut InodeRec, meta: &mut Meta, entry: &EntryRec)
 /// where the last entry was the only one of its page.
 pub fn remove(rec: &mut InodeRec, meta: &mut Meta, name: &[u8]) -> Option<u32>
     requires directory { IsDirectory (page_of meta.old) rec.old }
-    requires there { entry_named (page_of meta.old) rec.old name.now ≢ None }
+    requires there { IsSome (entry_named (page_of meta.old) rec.old name.now) }
     requires room { HasRoomFor 2 meta.old }
     ensures { RemovesEntry name.now result rec.old rec.new meta.old meta.new }
 {

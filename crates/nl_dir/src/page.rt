@@ -22,21 +22,28 @@ pub(crate) fn entry_in(page: &PageBuf, slot: u32) -> EntryRec
 }
 
 // Whether the entry in a slot has the name.
-#[tactic(auto, unfolding(nl_field::specs::EntryRecord::entry_fields))]
 pub(crate) fn has_name(page: &PageBuf, slot: u32, name: &[u8]) -> bool
     requires { slot < 64 }
     ensures { result ≡ bytes_eq (entry_fields (slot_in 64 slot page.now.main)).name name.now }
 {
     let at = 64 * slot as usize;
-    let bytes = &page.main()[at..at + 64];
+    name_in(&page.main()[at..at + 64]) == name
+}
+
+// The name that 64 bytes of an entry have.
+fn name_in(bytes: &[u8]) -> &[u8]
+    requires { length bytes.now ≡ 64 }
+    ensures { result.now ≡ (entry_fields bytes.now).name }
+{
     let len = (bytes[8] as usize).min(55);
-    &bytes[9..9 + len] == name
+    &bytes[9..9 + len]
 }
 
 // The 64 bytes of a slot.
 pub(crate) fn bytes_in(page: &PageBuf, slot: u32) -> [u8; 64]
     requires { slot < 64 }
-    ensures { result ≡ slot_in 64 slot page.now.main }
+    ensures value { result ≡ slot_in 64 slot page.now.main }
+    ensures width { length result ≡ 64 }
 {
     let at = 64 * slot as usize;
     let mut out = [0; 64];

@@ -1,4 +1,4 @@
-use Rattle.std.proofs.Common.{ℕ, ◌%◌, ◌≡◌, ◌∙◌, sym, ap, subst, false}
+use Rattle.std.proofs.Common.{ℕ, ◌%◌, ◌∙◌, ap, subst, false}
 use Rattle.nl_meta.specs.Nodes.{address_of_place}
 use Rattle.nl_dir.specs.Slots.{PutsEntry}
 use Rattle.nl_dir.proofs.InsertProofs.{inserts-behind}

@@ -1,6 +1,5 @@
 use Rattle.std.proofs.Common.{arith}
 use Rattle.nl_dir.proofs.Records.{spelled-dir}
-use Rattle.nl_dir.proofs.PlaceFacts.{below-length}
 use Rattle.nl_dir.proofs.look.page_at.Goals as goal
 
 pub address_at-requires : goal.address_at-requires

@@ -1,7 +1,6 @@
-use Rattle.std.proofs.Common.{◌≡◌, ◌∙◌, sym, ap, Option, List, ℕ, None}
+use Rattle.std.proofs.Common.{◌∙◌, sym, ap, Option, List, ℕ, None}
 use Rattle.std.proofs.lemmas.List.{set-get_or}
-use Rattle.nl_meta.specs.Pages.{Pages, page_of, touched}
-use Rattle.nl_meta.specs.Steps.{with_admitted}
+use Rattle.nl_meta.specs.Pages.{page_of, touched}
 use Rattle.std.proofs.Math.ListN.{set}
 use Rattle.nl_dir.proofs.EntryLists.{some-of}
 use Rattle.nl_dir.proofs.page.hold.Goals as goal
