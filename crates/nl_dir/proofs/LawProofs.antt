@@ -1,6 +1,6 @@
 -- Where directories are right, and whose pages say what they have.
-use Rattle.std.proofs.Common.{◌≡◌, ◌≢◌, ℕ, zero, suc, ◌*◌, ◌/◌, ◌<◌, true, not, ◌==◌, List, [], ◌∷◌, get_or, refl, sym, ap, subst, ◌∙◌, Some, is_some, IsSome, arith}
-use Rattle.std.proofs.lemmas.Bool.{and_parts, eqb-false, not-true}
+use Rattle.std.proofs.Common.{◌≡◌, ◌≢◌, ℕ, zero, suc, ◌+◌, ◌*◌, ◌/◌, ◌≤◌, ◌<◌, true, false, not, ◌==◌, List, [], ◌∷◌, length, get_or, refl, sym, ap, subst, ◌∙◌, Option, Some, None, is_some, IsSome, ◌⊎◌, inl, inr, arith}
+use Rattle.std.proofs.lemmas.Bool.{and_parts, both_ways, eqb-false, not-true}
 use Rattle.std.specs.Int.{div_ceil}
 use Rattle.std.specs.Prelude.{slice_get}
 use Rattle.nl_field.specs.Bytes.{all_zero}
@@ -12,13 +12,19 @@ use Rattle.nl_field.specs.declared.inode.Kind.TheVariants.{Dir}
 use Rattle.nl_field.specs.declared.shape.Shape.{Shape}
 use Rattle.nl_meta.specs.Committed.{VirtualMap}
 use Rattle.nl_meta.specs.Consistent.{AddressAt, AddressesRight, EntriesRight, EntryAt, IsNode}
-use Rattle.nl_meta.specs.Nodes.{address_of_place, bytes_of_place, entries_of_inode}
+use Rattle.nl_meta.specs.Nodes.{address_of_place, bytes_of_place, entries_of_inode, entry_named}
+use Rattle.nl_meta.specs.Pages.{Frozen, besides_0, page_of, with_address}
+use Rattle.nl_meta.specs.Running.{or_stored, running_over}
+use Rattle.nl_field.specs.Members.{Has}
+use Rattle.std.specs.List.{list_any}
+use Rattle.nl_meta.proofs.RunningProofs.{not-with}
+use Rattle.nl_dir.specs.Changes.{with_addresses}
 use Rattle.nl_meta.proofs.AddressProofs.{inode_spelled}
 use Rattle.nl_meta.proofs.NodeProofs.{same_rec}
 use Rattle.nl_dir.specs.Directory.{IsDirectory, entry_at}
-use Rattle.nl_dir.specs.DirectoryLaws.{OnlyOwnPages, OwnPages, RightIsDirectory, SamePages}
-use Rattle.nl_dir.proofs.EntryLists.{listed-same}
-use Rattle.nl_dir.proofs.PlaceFacts.{head, head-below, same-place, spelled-there}
+use Rattle.nl_dir.specs.DirectoryLaws.{ChangeTakesRoom, ChangedPagesRun, EntriesInOrder, OnlyOwnPages, OwnPages, ResidentIsRunning, RightIsDirectory, SamePages}
+use Rattle.nl_dir.proofs.EntryLists.{has-listed, listed-at, listed-has, listed-length, listed-same, named-at, one-named}
+use Rattle.nl_dir.proofs.PlaceFacts.{head, head-below, one-dirtier, same-place, spelled-there}
 use Rattle.nl_dir.proofs.Records.{spelled-dir, true_false}
 
 -- ---- a directory of metadata that is right
@@ -98,3 +104,75 @@ module _ (rec : InodeRec) (old new : VirtualMap) (same : SamePages rec old new) 
 
 pub only_own_pages : OnlyOwnPages
 only_own_pages rec old new same = own-pages rec old new same
+
+-- ---- the list of entries
+
+pub entries_in_order : EntriesInOrder
+unfolding entries_of_inode entry_named
+entries_in_order pages rec is = record {
+  count = listed-length f rec.size is.entries;
+  each = listed-at f rec.size is.entries;
+  by_name = λ e. (
+    (λ h. let r = has-listed f rec.size e h in one-named f rec.size r.0 e.name e is.names_differ r.1 r.2 refl),
+    (λ at. let r = named-at f rec.size e.name e at in listed-has f rec.size r.0 e r.1 r.2),
+  );
+}
+  where
+    f : ℕ → Option EntryRec
+    f = entry_at pages rec
+
+-- ---- resident pages
+
+resident-same : (o stored : Option (List ℕ)) → IsSome o → or_stored o stored ≡ o
+resident-same (Some bytes) stored h = refl
+resident-same None stored h = absurd (both_ways _ refl h)
+
+pub resident_is_running : ResidentIsRunning
+unfolding running_over
+resident_is_running device p rec there = record {
+  directory = ((own-pages rec (running_over device p) (page_of p) (λ i h. sym (same i h))).directory, (own-pages rec (page_of p) (running_over device p) same).directory);
+  entries = (own-pages rec (page_of p) (running_over device p) same).entries;
+}
+  where
+    same : (i : ℕ) → i < rec.size → running_over device p (address_of_place rec i) ≡ page_of p (address_of_place rec i)
+    same i h = resident-same (page_of p (address_of_place rec i)) (device (address_of_place rec i)) (there i h)
+
+-- ---- pages that change
+
+not-among : (vs dirty : List ℕ) (u : ℕ) → list_any (λ a. a == u) (with_addresses vs dirty) ≡ false → (Has vs u → ⊥) × (list_any (λ a. a == u) dirty ≡ false)
+unfolding with_addresses
+not-among [] dirty u e = ((λ h. h), e)
+not-among (v ∷ vs) dirty u e =
+    let r = not-among vs (with_address v dirty) u e in
+    let q = not-with v dirty u r.1 in
+    ((λ h. neither r.0 q.0 h), q.1)
+  where
+    neither : (Has vs u → ⊥) → u ≢ v → (v ≡ u) ⊎ Has vs u → ⊥
+    neither none far (inl s) = far (sym s)
+    neither none far (inr h) = none h
+
+pub changed_pages_run : ChangedPagesRun
+unfolding running_over
+changed_pages_run changed device old new clean changes = record {
+  others = λ u none. ap (λ (o : Option (List ℕ)). or_stored o (device u)) (changes.others u none);
+  at = λ u h. resident-same (page_of new u) (device u) (changes.there u h);
+  clean = record {
+    each = λ u bytes at d f.
+        let r = not-among changed old.dirty u (ap (λ (xs : List ℕ). list_any (λ a. a == u) xs) (sym changes.dirty) ∙ d) in
+        clean.each u bytes (sym (changes.others u r.0) ∙ at) r.1 (ap (λ (x : Frozen). list_any (λ a. a == u) x.addresses) (sym changes.frozen) ∙ f);
+  };
+}
+
+more-dirty : (vs dirty : List ℕ) → length (besides_0 (with_addresses vs dirty)) ≤ length (besides_0 dirty) + length vs
+unfolding with_addresses
+more-dirty [] dirty = omega arith
+more-dirty (v ∷ vs) dirty =
+    let r = more-dirty vs (with_address v dirty) in
+    let m = one-dirtier v dirty in
+    omega (arith, r, m)
+
+pub change_takes_room : ChangeTakesRoom
+change_takes_room changed old new n changes h =
+    let e = ap (λ (xs : List ℕ). length (besides_0 xs)) changes.dirty in
+    let m = more-dirty changed old.dirty in
+    omega (arith, e, m, h)

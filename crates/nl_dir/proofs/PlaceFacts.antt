@@ -158,13 +158,14 @@ slot-kept i j bytes main whole low width far = one_slot.kept 64 i j bytes main w
 pub room-for : (p : Pages) (n v : ℕ) → 1 ≤ n → HasRoomFor n p → has_room p v ≡ true
 room-for p n v some h = or_right _ _ (lt-ltb (length (besides_0 p.dirty)) 63 (omega (arith, some, h)))
 
-pub room-after : (p : Pages) (v : ℕ) (bytes : List ℕ) → HasRoomFor 2 p → HasRoomFor 1 (with_dirty p v bytes)
+-- one address more takes the room of one at most
+pub one-dirtier : (v : ℕ) (dirty : List ℕ) → length (besides_0 (with_address v dirty)) ≤ length (besides_0 dirty) + 1
 unfolding with_address
-room-after p v bytes h =
-    let e = ap length (filter-append (λ a. other a) (below v p.dirty) (v ∷ above v p.dirty)) ∙ length-append (besides_0 (below v p.dirty)) (besides_0 (v ∷ above v p.dirty)) in
-    let s = split other v p.dirty in
-    let m = most-one (other v) (besides_0 (above v p.dirty)) in
-    omega (arith, e, s, m, h)
+one-dirtier v dirty =
+    let e = ap length (filter-append (λ a. other a) (below v dirty) (v ∷ above v dirty)) ∙ length-append (besides_0 (below v dirty)) (besides_0 (v ∷ above v dirty)) in
+    let s = split other v dirty in
+    let m = most-one (other v) (besides_0 (above v dirty)) in
+    omega (arith, e, s, m)
   where
     other : ℕ → Bool
     other a = not (a == 0)
@@ -172,3 +173,6 @@ room-after p v bytes h =
     most-one : (b : Bool) (xs : List ℕ) → length (cond b (v ∷ xs) xs) ≤ length xs + 1
     most-one true xs = omega arith
     most-one false xs = omega arith
+
+pub room-after : (p : Pages) (v : ℕ) (bytes : List ℕ) → HasRoomFor 2 p → HasRoomFor 1 (with_dirty p v bytes)
+room-after p v bytes h = let m = one-dirtier v p.dirty in omega (arith, m, h)

@@ -2,7 +2,7 @@ ghost use Rattle.std.specs.Prelude.{◌≡◌, ◌<◌, IsSome, None, Some};
 ghost use Rattle.nl_meta.specs.Nodes.{entry_named};
 ghost use Rattle.nl_meta.specs.Pages.{page_of};
 ghost use Rattle.nl_dir.specs.Changes.{InsertsEntry, RemovesEntry};
-ghost use Rattle.nl_dir.specs.Directory.{FitsFresh, HasPlaces, HasRoomFor, IsDirectory, given_up};
+ghost use Rattle.nl_dir.specs.Directory.{FitsFresh, HasPlaces, HasRoomFor, IsDirectory, given_up, longer};
 ghost use Rattle.nl_dir.specs.Slots.{DropsLast, FillsPlace};
 
 use crate::look::{address_at, count, page_at, place_of};
@@ -21,38 +21,46 @@ pub fn insert(rec: &mut InodeRec, meta: &mut Meta, entry: &EntryRec, fresh: Opti
     ensures { InsertsEntry entry.now fresh rec.old rec.new meta.old meta.new }
 {
     match fresh {
-        Some(vaddr) => insert_first(rec, meta, entry, vaddr),
-        None => insert_behind(rec, meta, entry),
+        Some(vaddr) => put_first(rec, meta, entry, vaddr),
+        None => put_behind(rec, meta, entry),
     }
+    lengthen(rec, fresh);
 }
 
 // The entry is the first one of a new page.
-fn insert_first(rec: &mut InodeRec, meta: &mut Meta, entry: &EntryRec, vaddr: u32)
-    requires directory { IsDirectory (page_of meta.old) rec.old }
-    requires few { rec.old.size < 1024 }
-    requires absent { entry_named (page_of meta.old) rec.old entry.now.name ≡ None }
+fn put_first(rec: &InodeRec, meta: &mut Meta, entry: &EntryRec, vaddr: u32)
+    requires directory { IsDirectory (page_of meta.old) rec.now }
+    requires few { rec.now.size < 1024 }
+    requires absent { entry_named (page_of meta.old) rec.now entry.now.name ≡ None }
     requires room { HasRoomFor 1 meta.old }
-    requires fresh { FitsFresh meta.old rec.old (Some vaddr) }
-    ensures { InsertsEntry entry.now (Some vaddr) rec.old rec.new meta.old meta.new }
+    requires fresh { FitsFresh meta.old rec.now (Some vaddr) }
+    ensures { InsertsEntry entry.now (Some vaddr) rec.now (longer rec.now (Some vaddr)) meta.old meta.new }
 {
     hold(meta, vaddr);
     put_entry(meta, vaddr, 0, entry, true);
-    let place = count(rec);
-    rec.addresses[place as usize / 64] = vaddr;
-    rec.size += 1;
 }
 
 // The entry is not the first one of its page.
-fn insert_behind(rec: &mut InodeRec, meta: &mut Meta, entry: &EntryRec)
-    requires directory { IsDirectory (page_of meta.old) rec.old }
-    requires few { rec.old.size < 1024 }
-    requires absent { entry_named (page_of meta.old) rec.old entry.now.name ≡ None }
+fn put_behind(rec: &InodeRec, meta: &mut Meta, entry: &EntryRec)
+    requires directory { IsDirectory (page_of meta.old) rec.now }
+    requires few { rec.now.size < 1024 }
+    requires absent { entry_named (page_of meta.old) rec.now entry.now.name ≡ None }
     requires room { HasRoomFor 1 meta.old }
-    requires fresh { FitsFresh meta.old rec.old None }
-    ensures { InsertsEntry entry.now None rec.old rec.new meta.old meta.new }
+    requires fresh { FitsFresh meta.old rec.now None }
+    ensures { InsertsEntry entry.now None rec.now (longer rec.now None) meta.old meta.new }
 {
     let place = count(rec);
     put_entry(meta, address_at(rec, place), place % 64, entry, false);
+}
+
+// The record has one place more, which begins the page of a new address where one is given.
+fn lengthen(rec: &mut InodeRec, fresh: Option<u32>)
+    requires { rec.old.size < 1024 }
+    ensures { rec.new ≡ longer rec.old fresh }
+{
+    if let Some(vaddr) = fresh {
+        rec.addresses[rec.size as usize / 64] = vaddr;
+    }
     rec.size += 1;
 }
 
@@ -99,13 +107,13 @@ fn drop_last(rec: &mut InodeRec, meta: &mut Meta) -> Option<u32>
     ensures given { result ≡ given_up rec.old }
 {
     let last = count(rec) - 1;
-    let vaddr = address_at(rec, last);
+    let gone = address_at(rec, last);
     rec.size -= 1;
     if last % 64 == 0 {
         rec.addresses[last as usize / 64] = 0;
-        Some(vaddr)
+        Some(gone)
     } else {
-        put_bytes(meta, vaddr, last % 64, &[0; 64]);
+        put_bytes(meta, gone, last % 64, &[0; 64]);
         None
     }
 }

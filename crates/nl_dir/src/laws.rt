@@ -1,5 +1,5 @@
 //! Laws of the definitions. Each function stands for the law that its contract names.
-ghost use Rattle.nl_dir.specs.DirectoryLaws.{EntriesByPlace, OnlyOwnPages, RightIsDirectory};
+ghost use Rattle.nl_dir.specs.DirectoryLaws.{ChangeTakesRoom, ChangedPagesRun, EntriesInOrder, OnlyOwnPages, ResidentIsRunning, RightIsDirectory};
 
 // A directory of metadata that is right is one for the calls of this crate.
 pub fn right_is_directory()
@@ -11,7 +11,18 @@ pub fn only_own_pages()
     ensures { OnlyOwnPages }
 {}
 
+// A directory whose pages are resident is one in memory and over any device alike.
+pub fn resident_is_running()
+    ensures { ResidentIsRunning }
+{}
+
 // The list of entries has those of the places, in order.
-pub fn entries_by_place()
-    ensures { EntriesByPlace }
+pub fn entries_in_order()
+    ensures { EntriesInOrder }
+{}
+
+// What the pages that change mean for the map over any device, and for the room of further ones.
+pub fn changed_pages()
+    ensures run { ChangedPagesRun }
+    ensures room { ChangeTakesRoom }
 {}

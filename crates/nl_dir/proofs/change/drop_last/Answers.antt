@@ -54,10 +54,10 @@ returns-then-last-eq0-clause-places c = (first-of-page c.args.meta.now c.args.re
 
 pub returns-else-last-eq0-clause-dropped : goal.returns-else-last-eq0-clause-dropped
 returns-else-last-eq0-clause-dropped c =
-    (behind-others c.args.meta.now c.put_bytes.new.meta c.args.rec.now c.count-last.result c.address_at-vaddr.result c.requires.places c.requires.some c.count-last.ensures.value c.address_at-vaddr.ensures c.if-last-eq0.false
+    (behind-others c.args.meta.now c.put_bytes.new.meta c.args.rec.now c.count-last.result c.address_at-gone.result c.requires.places c.requires.some c.count-last.ensures.value c.address_at-gone.ensures c.if-last-eq0.false
     c.put_bytes.ensures).0
 
 pub returns-else-last-eq0-clause-places : goal.returns-else-last-eq0-clause-places
 returns-else-last-eq0-clause-places c =
-    (behind-others c.args.meta.now c.put_bytes.new.meta c.args.rec.now c.count-last.result c.address_at-vaddr.result c.requires.places c.requires.some c.count-last.ensures.value c.address_at-vaddr.ensures c.if-last-eq0.false
+    (behind-others c.args.meta.now c.put_bytes.new.meta c.args.rec.now c.count-last.result c.address_at-gone.result c.requires.places c.requires.some c.count-last.ensures.value c.address_at-gone.ensures c.if-last-eq0.false
     c.put_bytes.ensures).1

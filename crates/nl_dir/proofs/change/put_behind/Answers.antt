@@ -2,7 +2,7 @@ use Rattle.std.proofs.Common.{ℕ, ◌%◌, ◌∙◌, ap, subst, false}
 use Rattle.nl_meta.specs.Nodes.{address_of_place}
 use Rattle.nl_dir.specs.Slots.{PutsEntry}
 use Rattle.nl_dir.proofs.InsertProofs.{inserts-behind}
-use Rattle.nl_dir.proofs.change.insert_behind.Goals as goal
+use Rattle.nl_dir.proofs.change.put_behind.Goals as goal
 
 pub returns : goal.returns
 returns c =
