@@ -83,7 +83,7 @@ longer-spelled p rec (Some a) dir s few fits =
       few = omega (arith, few);
       none = s.none;
       filled = ap (λ (k : ℕ). are_filled k (set rec.addresses (rec.size / 64) a)) (sym rows)
-      ∙ filled-more (rec.size / 64) rec.addresses a (ap (λ (k : ℕ). are_filled k rec.addresses) (sym old) ∙ s.filled) (omega (arith, few, sixteen)) (fits.not_zero a refl);
+          ∙ filled-more (rec.size / 64) rec.addresses a (ap (λ (k : ℕ). are_filled k rec.addresses) (sym old) ∙ s.filled) (omega (arith, few, sixteen)) (fits.not_zero a refl);
     }
 
 pub longer-address : (p : Pages) (rec : InodeRec) (fresh : Option ℕ) → FitsFresh p rec fresh → (k : ℕ) → k < rec.size → address_of_place (longer rec fresh) k ≡ address_of_place rec k

@@ -11,5 +11,5 @@ returns-then-has_name c =
 pub loop-place-preserved : goal.loop-place-preserved
 loop-place-preserved c = record {
   none = none-more (page_of c.args.meta.now) c.args.rec.now c.loop-place.place c.args.name.now c.page_at.result.now.main c.has_name.result c.loop-place.invariant.none c.page_at.ensures c.has_name.ensures
-  c.if-has_name.false;
+      c.if-has_name.false;
 }

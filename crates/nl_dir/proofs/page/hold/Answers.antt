@@ -13,5 +13,5 @@ returns-then-resident c =
     record {
       bytes = s.0;
       page = c.touch.ensures ∙ ap (λ (r : List (Option (List ℕ))). record p { running = r; recent = touched v p.recent })
-      (sym (set-get_or p.running v None) ∙ ap (λ (o : Option (List ℕ)). set p.running v o) s.1);
+          (sym (set-get_or p.running v None) ∙ ap (λ (o : Option (List ℕ)). set p.running v o) s.1);
     }
