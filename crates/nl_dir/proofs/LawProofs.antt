@@ -22,7 +22,7 @@ use Rattle.nl_dir.specs.Changes.{with_addresses}
 use Rattle.nl_meta.proofs.AddressProofs.{inode_spelled}
 use Rattle.nl_meta.proofs.NodeProofs.{same_rec}
 use Rattle.nl_dir.specs.Directory.{IsDirectory, entry_at}
-use Rattle.nl_dir.specs.DirectoryLaws.{ChangeTakesRoom, ChangedPagesRun, EntriesInOrder, OnlyOwnPages, OwnPages, ResidentIsRunning, RightIsDirectory, SamePages}
+use Rattle.nl_dir.specs.DirectoryLaws.{ChangeTakesRoom, ChangedPagesRun, EmptyIsDirectory, EntriesInOrder, OnlyOwnPages, OwnPages, ResidentIsRunning, RightIsDirectory, SamePages}
 use Rattle.nl_dir.proofs.EntryLists.{has-listed, listed-at, listed-has, listed-length, listed-same, named-at, one-named}
 use Rattle.nl_dir.proofs.PlaceFacts.{head, head-below, one-dirtier, same-place, spelled-there}
 use Rattle.nl_dir.proofs.Records.{spelled-dir, true_false}
@@ -71,6 +71,27 @@ module _ (shape : Shape) (pages : VirtualMap) (n : ℕ) (rec : InodeRec) (addres
 
 pub right_is_directory : RightIsDirectory
 right_is_directory shape pages n rec addresses entries is dir = right-directory shape pages n rec addresses entries is dir
+
+-- ---- a directory without entries
+
+pub empty_is_directory : EmptyIsDirectory
+empty_is_directory pages rec dir spelled zero-size = record {
+  places = record {
+    is_dir = dir;
+    spelled = spelled;
+    there = λ i h. absurd (none i h);
+    one_use = λ i j h l e. absurd (none i h);
+    rest = λ i h l. absurd (none-behind i l);
+  };
+  entries = λ i h. absurd (none i h);
+  names_differ = λ i j e d h l at at' names. absurd (none i h);
+}
+  where
+    none : (i : ℕ) → i < rec.size → ⊥
+    none i h = omega (arith, h, zero-size)
+
+    none-behind : (i : ℕ) → i < 64 * div_ceil rec.size 64 → ⊥
+    none-behind i h = omega (arith, h, zero-size)
 
 -- ---- the same pages
 

@@ -1,5 +1,6 @@
 -- Where a directory of a volume is one, that only its own pages say so, and what the changes mean over a device.
-use Rattle.std.specs.Prelude.{◌≡◌, ◌↔◌, ℕ, ◌+◌, ◌<◌, List, length, slice_get, Some, IsSome}
+use Rattle.std.specs.Prelude.{◌≡◌, ◌↔◌, ℕ, ◌+◌, ◌<◌, List, length, slice_get, Some, IsSome, IsTrue}
+use Rattle.nl_field.specs.Inode.{is_inode}
 use Rattle.nl_field.specs.Members.{Has}
 use Rattle.nl_field.specs.declared.entry.EntryRec.{EntryRec}
 use Rattle.nl_field.specs.declared.inode.InodeRec.{InodeRec}
@@ -16,6 +17,10 @@ use Rattle.nl_dir.specs.Directory.{HasRoomFor, IsDirectory, entry_at}
 -- A directory of metadata that is right is one.
 abbrev pub RightIsDirectory : Type 0
 RightIsDirectory = (shape : Shape) (pages : VirtualMap) (n : ℕ) (rec : InodeRec) → AddressesRight shape pages → EntriesRight shape pages → IsNode shape pages n rec → rec.kind ≡ Dir → IsDirectory pages rec
+
+-- One without entries is one, whatever the pages have.
+abbrev pub EmptyIsDirectory : Type 0
+EmptyIsDirectory = (pages : VirtualMap) (rec : InodeRec) → rec.kind ≡ Dir → IsTrue (is_inode rec) → rec.size ≡ 0 → IsDirectory pages rec
 
 -- Two maps have the same pages of the places of a directory.
 abbrev pub SamePages : InodeRec → VirtualMap → VirtualMap → Type 0

@@ -1,9 +1,14 @@
 //! Laws of the definitions. Each function stands for the law that its contract names.
-ghost use Rattle.nl_dir.specs.DirectoryLaws.{ChangeTakesRoom, ChangedPagesRun, EntriesInOrder, OnlyOwnPages, ResidentIsRunning, RightIsDirectory};
+ghost use Rattle.nl_dir.specs.DirectoryLaws.{ChangeTakesRoom, ChangedPagesRun, EmptyIsDirectory, EntriesInOrder, OnlyOwnPages, ResidentIsRunning, RightIsDirectory};
 
 // A directory of metadata that is right is one for the calls of this crate.
 pub fn right_is_directory()
     ensures { RightIsDirectory }
+{}
+
+// One without entries is one.
+pub fn empty_is_directory()
+    ensures { EmptyIsDirectory }
 {}
 
 // Only its own pages say what a directory has.

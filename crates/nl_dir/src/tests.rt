@@ -1,5 +1,5 @@
-ghost use Rattle.std.specs.Prelude.{◌≡◌, ◌<◌, ◌≤◌, length};
-ghost use Rattle.nl_meta.specs.Pages.{page_of};
+ghost use Rattle.std.specs.Prelude.{◌≡◌, ◌<◌, ◌≤◌, ℕ, IfOk, IfSome, length};
+ghost use Rattle.nl_meta.specs.Pages.{no_pages, page_of};
 ghost use Rattle.nl_dir.specs.Directory.{IsDirectory};
 
 use crate::{entry_at, find, insert, remove};
@@ -22,7 +22,9 @@ const SHAPE: Shape = Shape {
 };
 
 // A directory without entries.
-fn empty() -> InodeRec {
+fn empty() -> InodeRec
+    ensures { (count : ℕ) → IsDirectory (page_of (no_pages count)) result }
+{
     InodeRec {
         kind: Kind::Dir,
         generation: 0,
@@ -88,6 +90,20 @@ fn add_first(rec: &mut InodeRec, meta: &mut Meta, count: u32) -> bool
     true
 }
 
+// A directory with the first entries, so many, and its pages.
+fn filled(alloc: Global, count: u32) -> Result<Option<(InodeRec, Meta)>, Memory>
+    requires { count ≤ 1024 }
+    ensures { IfOk result (λ o. IfSome o (λ d. IsDirectory (page_of d.1) d.0)) }
+{
+    let mut meta = Meta::new(alloc, SHAPE)?;
+    let mut rec = empty();
+    if add_first(&mut rec, &mut meta, count) {
+        Ok(Some((rec, meta)))
+    } else {
+        Ok(None)
+    }
+}
+
 // Sixteen main bytes of a resident page.
 fn bytes_at(meta: &Meta, vaddr: u32, at: usize) -> Option<[u8; 16]>
     requires { at < 4080 }
@@ -105,11 +121,9 @@ fn inserted(alloc: Global, count: u32, vaddr: u32, at: usize) -> Result<Option<[
     requires few { count ≤ 1024 }
     requires at { at < 4080 }
 {
-    let mut meta = Meta::new(alloc, SHAPE)?;
-    let mut rec = empty();
-    if !add_first(&mut rec, &mut meta, count) {
+    let Some((rec, meta)) = filled(alloc, count)? else {
         return Ok(None);
-    }
+    };
     Ok(bytes_at(&meta, vaddr, at))
 }
 
@@ -124,11 +138,9 @@ fn removed(
     requires few { count ≤ 1024 }
     requires at { at < 4080 }
 {
-    let mut meta = Meta::new(alloc, SHAPE)?;
-    let mut rec = empty();
-    if !add_first(&mut rec, &mut meta, count) {
+    let Some((mut rec, mut meta)) = filled(alloc, count)? else {
         return Ok(None);
-    }
+    };
     let name = digits(gone);
     if meta.dirty() > 61 || find(&rec, &meta, &name).is_none() {
         return Ok(None);
@@ -141,11 +153,9 @@ fn removed(
 fn found(alloc: Global, count: u32, name: &[u8]) -> Result<Option<u32>, Memory>
     requires { count ≤ 1024 }
 {
-    let mut meta = Meta::new(alloc, SHAPE)?;
-    let mut rec = empty();
-    if !add_first(&mut rec, &mut meta, count) {
+    let Some((rec, meta)) = filled(alloc, count)? else {
         return Ok(None);
-    }
+    };
     Ok(find(&rec, &meta, name).map(|entry| entry.ino))
 }
 
@@ -153,9 +163,10 @@ fn found(alloc: Global, count: u32, name: &[u8]) -> Result<Option<u32>, Memory>
 fn at_place(alloc: Global, count: u32, place: u32) -> Result<Option<u32>, Memory>
     requires { count ≤ 1024 }
 {
-    let mut meta = Meta::new(alloc, SHAPE)?;
-    let mut rec = empty();
-    if !add_first(&mut rec, &mut meta, count) || u64::from(place) >= rec.size {
+    let Some((rec, meta)) = filled(alloc, count)? else {
+        return Ok(None);
+    };
+    if u64::from(place) >= rec.size {
         return Ok(None);
     }
     Ok(Some(entry_at(&rec, &meta, place).ino))
