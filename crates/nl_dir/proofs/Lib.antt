@@ -1,6 +1,7 @@
 pub mod EntryLists
 pub mod InsertProofs
 pub mod LawProofs
+pub mod ListProofs
 pub mod LookProofs
 pub mod PlaceFacts
 pub mod Records

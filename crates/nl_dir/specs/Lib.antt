@@ -1,5 +1,6 @@
 pub mod Changes
 pub mod Directory
 pub mod DirectoryLaws
+pub mod ListLaws
 pub mod Looking
 pub mod Slots

@@ -1,5 +1,6 @@
 //! Laws of the definitions. Each function stands for the law that its contract names.
 ghost use Rattle.nl_dir.specs.DirectoryLaws.{ChangeTakesRoom, ChangedPagesRun, EmptyIsDirectory, EntriesInOrder, OnlyOwnPages, ResidentIsRunning, RightIsDirectory};
+ghost use Rattle.nl_dir.specs.ListLaws.{EntriesByLists};
 
 // A directory of metadata that is right is one for the calls of this crate.
 pub fn right_is_directory()
@@ -24,6 +25,11 @@ pub fn resident_is_running()
 // The list of entries has those of the places, in order.
 pub fn entries_in_order()
     ensures { EntriesInOrder }
+{}
+
+// The entries of a volume are right exactly where the lists of its directories are.
+pub fn entries_by_lists()
+    ensures { EntriesByLists }
 {}
 
 // What the pages that change mean for the map over any device, and for the room of further ones.
