@@ -11,7 +11,8 @@ use nl_field::{EntryRec, InodeRec};
 use nl_meta::Meta;
 
 /// Puts an entry behind those of a directory that has fewer than 1024, none under its name. The address of a new page is given
-/// exactly where the last page is full; whatever its page had, it is zero behind the entry.
+/// exactly where the last page is full; whatever its page had, it is zero behind the entry. The page of the entry is dirty, and no
+/// other one changes.
 pub fn insert(rec: &mut InodeRec, meta: &mut Meta, entry: &EntryRec, fresh: Option<u32>)
     requires directory { IsDirectory (page_of meta.old) rec.old }
     requires few { rec.old.size < 1024 }
@@ -65,7 +66,8 @@ fn lengthen(rec: &mut InodeRec, fresh: Option<u32>)
 }
 
 /// Removes the entry of a name that is there; the last entry takes its place. Tells the address of the page that is given up, exactly
-/// where the last entry was the only one of its page.
+/// where the last entry was the only one of its page; what that page has, nobody needs. The pages of the two places that change are
+/// dirty, and no other one changes.
 pub fn remove(rec: &mut InodeRec, meta: &mut Meta, name: &[u8]) -> Option<u32>
     requires directory { IsDirectory (page_of meta.old) rec.old }
     requires there { IsSome (entry_named (page_of meta.old) rec.old name.now) }

@@ -1,4 +1,5 @@
-//! Directories: maps from names to entries, in the running pages.
+//! Directories: maps from names to entries, in the running pages. Each call needs the pages of its directory to be resident, and they
+//! stay so.
 #![tactic(auto)]
 
 mod change;

@@ -9,7 +9,7 @@ use crate::page::{entry_in, has_name};
 use nl_field::{EntryRec, InodeRec, Kind, PageBuf};
 use nl_meta::Meta;
 
-/// The entry of a name. None exactly where no entry has it.
+/// The entry of a name. None exactly where no entry has it. It looks at each entry once at most.
 pub fn find(rec: &InodeRec, meta: &Meta, name: &[u8]) -> Option<EntryRec>
     requires { IsDirectory (page_of meta.now) rec.now }
     ensures { result ≡ entry_named (page_of meta.now) rec.now name.now }
