@@ -1,3 +1,4 @@
+pub mod AfterProofs
 pub mod EntryLists
 pub mod InsertProofs
 pub mod LawProofs

@@ -1,3 +1,4 @@
+pub mod AfterLaws
 pub mod Changes
 pub mod Directory
 pub mod DirectoryLaws

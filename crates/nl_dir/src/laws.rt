@@ -1,4 +1,5 @@
 //! Laws of the definitions. Each function stands for the law that its contract names.
+ghost use Rattle.nl_dir.specs.AfterLaws.{AddressesOfChanged, ListsInserted, ListsRemoved};
 ghost use Rattle.nl_dir.specs.DirectoryLaws.{ChangeTakesRoom, ChangedPagesRun, EmptyIsDirectory, EntriesInOrder, OnlyOwnPages, ResidentIsRunning, RightIsDirectory};
 ghost use Rattle.nl_dir.specs.ListLaws.{EntriesByLists};
 
@@ -36,4 +37,11 @@ pub fn entries_by_lists()
 pub fn changed_pages()
     ensures run { ChangedPagesRun }
     ensures room { ChangeTakesRoom }
+{}
+
+// What a directory lists after a change, and which addresses its record has.
+pub fn after_changes()
+    ensures inserted { ListsInserted }
+    ensures removed { ListsRemoved }
+    ensures addresses { AddressesOfChanged }
 {}
