@@ -1,0 +1,6 @@
+pub mod Cases
+pub mod Fresh
+pub mod Maps
+pub mod Pointing
+pub mod Records
+pub mod Spelled

@@ -1,0 +1,11 @@
+//! Where the pointers of a file stand: 8 in the record of its node, and 256 in each of up to 16 pages.
+#![tactic(auto)]
+
+mod answer;
+mod page;
+mod pointers;
+#[cfg(test)]
+mod tests;
+
+pub use answer::Stored;
+pub use pointers::{lookup, store};
