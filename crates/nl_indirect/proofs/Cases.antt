@@ -1,5 +1,5 @@
 -- Each way that a pointer is stored.
-use Rattle.std.proofs.Common.{◌≡◌, ◌≢◌, ℕ, zero, suc, ◌≤◌, ◌<◌, Bool, true, false, ◌&&◌, ◌||◌, ◌==◌, ◌^◌, nat_le, nat_lt, List, [], ◌∷◌, length, get_or, refl, sym, ap, ◌∙◌, subst, Option, Some, None, IsSome, is_some, unwrap_or, ◌⊎◌, inl, inr, arith}
+use Rattle.std.proofs.Common.{◌≡◌, ◌≢◌, ℕ, zero, suc, ◌+◌, ◌≤◌, ◌<◌, Bool, true, false, ◌&&◌, ◌||◌, ◌==◌, ◌^◌, nat_le, nat_lt, List, [], ◌∷◌, length, get_or, refl, sym, ap, ◌∙◌, subst, Option, Some, None, IsSome, is_some, unwrap_or, ◌⊎◌, inl, inr, arith}
 use Rattle.std.proofs.lemmas.Bool.{and_parts, both_ways, cases_lt, leb-true, ne_eqb}
 use Rattle.std.proofs.lemmas.List.{get_or-set_same, get_or-set_other}
 use Rattle.std.specs.Prelude.{IfSome, IsTrue}
@@ -9,16 +9,17 @@ use Rattle.nl_field.specs.Spelling.{is_stamp}
 use Rattle.nl_field.specs.declared.inode.InodeRec.{InodeRec}
 use Rattle.nl_field.specs.declared.pointer.Pointer.{Pointer}
 use Rattle.nl_meta.specs.Committed.{VirtualMap}
-use Rattle.nl_meta.specs.Pages.{Pages, page_of}
+use Rattle.nl_meta.specs.Pages.{Pages, besides_0, page_of}
 use Rattle.nl_meta.specs.Running.{CleanIsStored, RunsWith, running_over}
 use Rattle.nl_meta.specs.SlotLaws.{with_slot}
 use Rattle.nl_meta.specs.Steps.{Freshens, with_dirty}
 use Rattle.nl_meta.proofs.Lists.{none_some}
 use Rattle.nl_meta.proofs.RunningProofs.{running_map}
 use Rattle.nl_indirect.specs.Ranges.{HasOther, HasPointers, IsFileRecord, address_of, pointer_in, range_of, slot_of}
-use Rattle.nl_indirect.specs.Storing.{Answers, IsForNew, KeepsRecord, Stores, StoresPointer, or_none}
+use Rattle.nl_indirect.specs.Storing.{Answers, HasNewPage, IsForNew, KeepsRecord, Stores, StoresPointer, or_none}
 use Rattle.nl_indirect.specs.declared.answer.Stored.{Stored}
 use Rattle.nl_indirect.specs.declared.answer.Stored.TheVariants.{Done, Emptied}
+use Rattle.nl_indirect.proofs.Fresh.{new-page, one-more}
 use Rattle.nl_indirect.proofs.Maps.{address-with, in-node, last-gone, none-there, page-begun, slot-changed}
 use Rattle.nl_indirect.proofs.Pointing.{address-node, address-range, runs}
 use Rattle.nl_indirect.proofs.Records.{file-with-address, file-with-pointer, with-address, with-pointer}
@@ -99,7 +100,7 @@ module _ (was : InodeRec) (file : IsFileRecord was) (index : ℕ) (within : inde
     file = file;
     record_kept = kept;
     range = λ far. absurd (far nought);
-    pages = record { same = λ e. refl; written = λ far e. absurd (far nought); begun = λ some. absurd (is-no-fresh fresh none some) };
+    pages = record { same = λ e. refl; written = λ far e. absurd (far nought); begun = λ some. absurd (is-no-fresh fresh none some); one_more = omega arith };
     answered = answered;
   }
 
@@ -179,6 +180,7 @@ module _ (was : InodeRec) (file : IsFileRecord was) (index : ℕ) (within : inde
                   ap (λ (l : List ℕ). with_dirty old a (slotted l)) (sym bytes-are)
                   ∙ ap (λ (v : ℕ). with_dirty old v (slotted (unwrap_or (page_of old v) []))) (sym (address-range was index high));
               begun = λ s. absurd (is-no-fresh fresh none s);
+                one_more = one-more a old.dirty;
             };
             answered = sym (without none);
           }
@@ -224,7 +226,8 @@ module _ (was : InodeRec) (file : IsFileRecord was) (index : ℕ) (within : inde
             pages = record {
               same = λ z. absurd (free.not_zero (sym address ∙ z));
               written = λ z n. absurd (none_some a (sym n ∙ fresh-is));
-              begun = λ s. subst (λ (v : ℕ). (b : Pages) × Freshens v old b × (next ≡ with_dirty b v bytes)) (sym address) (blank, is, refl);
+              begun = λ s. subst (λ (v : ℕ). HasNewPage v bytes old next) (sym address) (new-page a bytes old blank a-below is);
+                one_more = subst (λ (xs : List ℕ). length (besides_0 xs) ≤ length (besides_0 old.dirty) + 1) (sym (new-page a bytes old blank a-below is).dirty) (one-more a old.dirty);
             };
             answered = address ∙ sym (ap (λ (o : Option ℕ). unwrap_or o (address_of was index)) fresh-is);
           }
