@@ -1,5 +1,6 @@
 pub mod Cases
 pub mod Fresh
+pub mod LawProofs
 pub mod Maps
 pub mod Pointing
 pub mod Records

@@ -63,7 +63,7 @@ flat-slot (x ∷ xs) (suc j) h = ap (take 16) dropped ∙ flat-slot xs j (omega 
         ∙ ap (drop (16 * j)) (drop_at (pointer_bytes x) (flat_map pointer_bytes xs) 16 (length-pointer_bytes x))
 
 -- the pointers of a page by their slots
-row : (bytes : List ℕ) (j : ℕ) → j < 256 → get_or (pointers 256 bytes) j no_pointer ≡ pointer_in bytes j
+pub row : (bytes : List ℕ) (j : ℕ) → j < 256 → get_or (pointers 256 bytes) j no_pointer ≡ pointer_in bytes j
 row bytes j h = in_page (λ _. Some bytes) 1 j h
 
 own-bytes : (bytes : List ℕ) → pointer_fields bytes ≡ pointer_fields (take 16 bytes)
@@ -130,6 +130,14 @@ indirect-parts bytes is = by (is_indirect (pointers 256 bytes) && bytes_eq (indi
         let p = and_parts (is_indirect (pointers 256 bytes)) (bytes_eq (indirect_bytes (pointers 256 bytes)) bytes) e in
         (p.0, (bytes_eq-Decides (indirect_bytes (pointers 256 bytes)) bytes).0 p.1)
     by false e is = absurd (both_ways false refl is)
+
+pub indirect-is : (bytes : List ℕ) → IsSome (indirect_of bytes) → indirect_of bytes ≡ Some (pointers 256 bytes)
+unfolding indirect_of
+indirect-is bytes is = by (is_indirect (pointers 256 bytes) && bytes_eq (indirect_bytes (pointers 256 bytes)) bytes) is
+  where
+    by : (b : Bool) → IsSome (cond b (Some (pointers 256 bytes)) None) → cond b (Some (pointers 256 bytes)) None ≡ Some (pointers 256 bytes)
+    by true is = refl
+    by false is = absurd (both_ways false refl is)
 
 module _ (bytes : List ℕ) (is : IsSome (indirect_of bytes)) where
   ps : List Pointer

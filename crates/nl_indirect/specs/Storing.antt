@@ -31,11 +31,15 @@ pub record IsForNew (p : Pages) (rec : InodeRec) (a : ℕ) : Type 0 where
   pub unused : (r : ℕ) → slice_index (slots_of rec) r ≢ a
   pub room : has_room p a ≡ true
 
+-- At most the page of this address differs, and none where it is 0.
+abbrev pub DiffersInPage : ℕ → VirtualMap → VirtualMap → Type 0
+DiffersInPage a old new = (v : ℕ) → (v ≡ a → v ≡ 0) → new v ≡ old v
+
 -- One index of a file has this pointer, and each other one the pointer that it had. Of the pages at most the one of the index changes.
 pub record StoresPointer (index : ℕ) (to : Pointer) (was is : InodeRec) (old new : VirtualMap) : Type 0 where
   pub at : pointer_at new is index ≡ to
   pub others : (i : ℕ) → i ≢ index → pointer_at new is i ≡ pointer_at old was i
-  pub pages : (v : ℕ) → (v ≡ address_of is index → v ≡ 0) → new v ≡ old v
+  pub pages : DiffersInPage (address_of is index) old new
 
 -- The record stays but for its pointers and addresses, and of these each one of another range stays.
 pub record KeepsRecord (index : ℕ) (was is : InodeRec) : Type 0 where

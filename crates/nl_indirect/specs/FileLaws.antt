@@ -1,0 +1,48 @@
+-- What it means for a volume that a pointer is stored.
+use Rattle.std.specs.Prelude.{◌≡◌, ◌≢◌, ℕ, ◌+◌, ◌/◌, ◌≤◌, ◌<◌, slice_index, Option, IfSome, IsTrue}
+use Rattle.nl_field.specs.Spelling.{is_stamp}
+use Rattle.nl_field.specs.declared.inode.InodeRec.{InodeRec}
+use Rattle.nl_field.specs.declared.inode.Kind.{Kind}
+use Rattle.nl_field.specs.declared.inode.Kind.TheVariants.{File}
+use Rattle.nl_field.specs.declared.pointer.Pointer.{Pointer}
+use Rattle.nl_field.specs.declared.shape.Shape.{Shape}
+use Rattle.nl_meta.specs.Committed.{VirtualMap}
+use Rattle.nl_meta.specs.Consistent.{GoodAddress}
+use Rattle.nl_meta.specs.Nodes.{body_of, inode_at, is_physical_name, pointer_at, slots_of}
+use Rattle.nl_meta.specs.Pages.{Pages}
+use Rattle.nl_meta.specs.Running.{CleanIsStored, running_over}
+use Rattle.nl_indirect.specs.Ranges.{some_pointer}
+use Rattle.nl_indirect.specs.Storing.{DiffersInPage, Stores, or_none}
+use Rattle.nl_indirect.specs.declared.answer.Stored.{Stored}
+
+-- Where one page of pointers differs, each node stands in the same bytes, and each file and directory that has no such address has the
+-- same pointers and entries.
+pub record PageLaws (a : ℕ) (old new : VirtualMap) : Type 0 where
+  pub node : (n : ℕ) → 67 + n / 16 ≢ a → inode_at new n ≡ inode_at old n
+  pub body : (rec : InodeRec) → ((r : ℕ) → slice_index (slots_of rec) r ≡ a → slice_index (slots_of rec) r ≡ 0) → (kind : Kind) → body_of new rec kind ≡ body_of old rec kind
+
+abbrev pub OtherNodes : Type 0
+OtherNodes = (a : ℕ) (old new : VirtualMap) → DiffersInPage a old new → PageLaws a old new
+
+-- A call of `store` on a volume of these numbers over this device: the pointer names a page of the physical segment, and a new page is one
+-- of the pool.
+pub record StoresOver (shape : Shape) (device : VirtualMap) (index : ℕ) (to : Option Pointer) (fresh : Option ℕ) (was is : InodeRec) (old new : Pages) (answer : Stored) : Type 0 where
+  pub clean : CleanIsStored device old
+  pub spelled : IfSome to (λ p. IsTrue (is_stamp p.stamp))
+  pub physical : IsTrue (is_physical_name shape (or_none to))
+  pub pool : IfSome fresh (λ a. (67 + shape.inode_pages ≤ a) × (a < shape.vaddrs))
+  pub stores : Stores index (or_none to) fresh was is old new answer
+
+-- each address of the file is one of the pool, with a page that spells pointers to the physical segment
+abbrev pub AddressesGood : Shape → VirtualMap → InodeRec → Type 0
+AddressesGood shape pages rec = (r : ℕ) → slice_index (slots_of rec) r ≢ 0 → GoodAddress shape pages File (slice_index (slots_of rec) r)
+
+-- What was stored is found, and the addresses of the file stay good.
+pub record FileLaws (shape : Shape) (device : VirtualMap) (index : ℕ) (to : Option Pointer) (was is : InodeRec) (old new : Pages) : Type 0 where
+  pub found : some_pointer (pointer_at (running_over device new) is index) ≡ to
+  pub good : AddressesGood shape (running_over device old) was → AddressesGood shape (running_over device new) is
+
+abbrev pub StoredFile : Type 0
+StoredFile =
+    (shape : Shape) (device : VirtualMap) (index : ℕ) (to : Option Pointer) (fresh : Option ℕ) (was is : InodeRec) (old new : Pages) (answer : Stored)
+    → StoresOver shape device index to fresh was is old new answer → FileLaws shape device index to was is old new
