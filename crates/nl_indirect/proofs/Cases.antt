@@ -180,7 +180,7 @@ module _ (was : InodeRec) (file : IsFileRecord was) (index : ℕ) (within : inde
                   ap (λ (l : List ℕ). with_dirty old a (slotted l)) (sym bytes-are)
                   ∙ ap (λ (v : ℕ). with_dirty old v (slotted (unwrap_or (page_of old v) []))) (sym (address-range was index high));
               begun = λ s. absurd (is-no-fresh fresh none s);
-                one_more = one-more a old.dirty;
+              one_more = one-more a old.dirty;
             };
             answered = sym (without none);
           }
@@ -227,7 +227,7 @@ module _ (was : InodeRec) (file : IsFileRecord was) (index : ℕ) (within : inde
               same = λ z. absurd (free.not_zero (sym address ∙ z));
               written = λ z n. absurd (none_some a (sym n ∙ fresh-is));
               begun = λ s. subst (λ (v : ℕ). HasNewPage v bytes old next) (sym address) (new-page a bytes old blank a-below is);
-                one_more = subst (λ (xs : List ℕ). length (besides_0 xs) ≤ length (besides_0 old.dirty) + 1) (sym (new-page a bytes old blank a-below is).dirty) (one-more a old.dirty);
+              one_more = subst (λ (xs : List ℕ). length (besides_0 xs) ≤ length (besides_0 old.dirty) + 1) (sym (new-page a bytes old blank a-below is).dirty) (one-more a old.dirty);
             };
             answered = address ∙ sym (ap (λ (o : Option ℕ). unwrap_or o (address_of was index)) fresh-is);
           }

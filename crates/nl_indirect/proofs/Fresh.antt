@@ -1,12 +1,11 @@
 -- A page that is new, and the list of dirty pages with one more.
-use Rattle.std.proofs.Common.{◌≡◌, ◌≢◌, ℕ, ◌+◌, ◌≤◌, ◌<◌, Bool, true, false, not, ◌||◌, ◌==◌, cond, refl, ap, ◌∙◌, sym, List, [], ◌∷◌, ◌++◌, filter, length, nat_lt, Option, Some, None, ◌⊎◌, inl, inr, arith, length-append}
+use Rattle.std.proofs.Common.{◌≡◌, ◌≢◌, ℕ, ◌+◌, ◌≤◌, ◌<◌, Bool, true, false, not, ◌||◌, ◌==◌, cond, refl, ap, ◌∙◌, List, [], ◌∷◌, ◌++◌, filter, length, nat_lt, Some, None, ◌⊎◌, inl, inr, arith, length-append}
 use Rattle.std.proofs.lemmas.Bool.{cond-false, le-ltb, ltb-true}
 use Rattle.std.proofs.lemmas.List.{append-nil, get_or-set_same, get_or-set_other, length-set}
 use Rattle.std.proofs.lemmas.List.Elements.{filter-append}
 use Rattle.std.specs.List.{list_any}
-use Rattle.nl_field.specs.Bytes.{zeros}
-use Rattle.nl_meta.specs.Pages.{Pages, above, below, besides_0, has_room, is_dirty, most, page_of, with_address}
-use Rattle.nl_meta.specs.Steps.{Freshens, Keeps, PutsOut, with_dirty}
+use Rattle.nl_meta.specs.Pages.{Pages, above, below, besides_0, has_room, most, page_of, with_address}
+use Rattle.nl_meta.specs.Steps.{Freshens, PutsOut, with_dirty}
 use Rattle.nl_meta.proofs.Rising.{split}
 use Rattle.nl_meta.proofs.RunningProofs.{not-with}
 use Rattle.nl_indirect.specs.Storing.{HasNewPage}
@@ -57,14 +56,14 @@ with-twice v xs = λ i. low i ++ v ∷ high i
     low =
         filter-append (λ a. nat_lt a v) (below v xs) (v ∷ above v xs)
         ∙ (λ i. filter-both (λ a. nat_lt a v) (λ a. nat_lt a v) (λ x h. h) xs i
-            ++ (cond-false (nat_lt v v) (v ∷ below v (above v xs)) (below v (above v xs)) self ∙ filter-none (λ a. nat_lt v a) (λ a. nat_lt a v) (λ x h. let k = ltb-true v x h in le-ltb x v (omega (arith, k))) xs) i)
+        ++ (cond-false (nat_lt v v) (v ∷ below v (above v xs)) (below v (above v xs)) self ∙ filter-none (λ a. nat_lt v a) (λ a. nat_lt a v) (λ x h. let k = ltb-true v x h in le-ltb x v (omega (arith, k))) xs) i)
         ∙ append-nil (below v xs)
 
     high : above v (below v xs ++ v ∷ above v xs) ≡ above v xs
     high =
         filter-append (λ a. nat_lt v a) (below v xs) (v ∷ above v xs)
         ∙ (λ i. filter-none (λ a. nat_lt a v) (λ a. nat_lt v a) (λ x h. let k = ltb-true x v h in le-ltb v x (omega (arith, k))) xs i
-            ++ (cond-false (nat_lt v v) (v ∷ above v (above v xs)) (above v (above v xs)) self ∙ filter-both (λ a. nat_lt v a) (λ a. nat_lt v a) (λ x h. h) xs) i)
+        ++ (cond-false (nat_lt v v) (v ∷ above v (above v xs)) (above v (above v xs)) self ∙ filter-both (λ a. nat_lt v a) (λ a. nat_lt v a) (λ x h. h) xs) i)
 
 -- at most one more is dirty
 pub one-more : (v : ℕ) (xs : List ℕ) → length (besides_0 (with_address v xs)) ≤ length (besides_0 xs) + 1

@@ -1,6 +1,6 @@
 -- Other nodes stay, and the file's addresses stay good.
-use Rattle.std.proofs.Common.{◌≡◌, ◌≢◌, ℕ, zero, suc, ◌+◌, ◌-◌, ◌*◌, ◌/◌, ◌%◌, ◌≤◌, ◌<◌, Bool, true, false, ◌&&◌, ◌||◌, ◌==◌, cond, List, [], ◌∷◌, ◌++◌, length, filter, filter_map, flat_map, map, not, replicate, get_or, refl, sym, ap, ◌∙◌, subst, Option, Some, None, IsSome, IfSome, is_some, unwrap_or, ◌⊎◌, inl, inr, arith}
-use Rattle.std.proofs.lemmas.Bool.{both_ways, cases_eq, cases_lt, cond-false}
+use Rattle.std.proofs.Common.{◌≡◌, ◌≢◌, ℕ, zero, suc, ◌+◌, ◌*◌, ◌/◌, ◌%◌, ◌≤◌, ◌<◌, ◌==◌, cond, List, [], ◌∷◌, ◌++◌, length, filter, filter_map, flat_map, map, not, replicate, get_or, refl, sym, ap, ◌∙◌, subst, Option, Some, None, IfSome, is_some, unwrap_or, ◌⊎◌, inl, inr, arith}
+use Rattle.std.proofs.lemmas.Bool.{cases_eq, cases_lt, cond-false}
 use Rattle.std.specs.List.{enumerate_from, range_with_len}
 use Rattle.std.specs.Prelude.{IsTrue, slice_index}
 use Rattle.nl_field.specs.EntryRecord.{entry_of}
@@ -19,11 +19,11 @@ use Rattle.nl_meta.specs.Committed.{VirtualMap}
 use Rattle.nl_meta.specs.Consistent.{GoodAddress, NamesPhysical}
 use Rattle.nl_meta.specs.Nodes.{body_of, bytes_of_node, bytes_of_place, entries_of_inode, inode_at, is_physical_name, pointer_at, pointer_in_page, pointers_at, pointers_of_inode, slot_in, slots_of}
 use Rattle.nl_meta.specs.Pages.{Pages, page_of}
-use Rattle.nl_meta.specs.Running.{CleanIsStored, running_over}
+use Rattle.nl_meta.specs.Running.{running_over}
 use Rattle.nl_meta.proofs.Lists.{some_in}
-use Rattle.nl_indirect.specs.FileLaws.{AddressesGood, FileLaws, OtherNodes, PageLaws, StoredFile, StoresOver}
+use Rattle.nl_indirect.specs.FileLaws.{AddressesGood, OtherNodes, StoredFile, StoresOver}
 use Rattle.nl_indirect.specs.Ranges.{HasPointers, address_of, pointer_in, range_of, slot_of, some_pointer}
-use Rattle.nl_indirect.specs.Storing.{Answers, DiffersInPage, Stores, StoresPointer, or_none}
+use Rattle.nl_indirect.specs.Storing.{Answers, DiffersInPage, StoresPointer, or_none}
 use Rattle.nl_indirect.specs.declared.answer.Stored.{Stored}
 use Rattle.nl_indirect.specs.declared.answer.Stored.TheVariants.{Done, Emptied}
 use Rattle.nl_indirect.proofs.Cases.{to-some}
@@ -88,7 +88,7 @@ physical-slot : (shape : Shape) (bytes : List ℕ) (ps : List Pointer) → indir
 physical-slot shape bytes ps is names j h =
     subst (λ (p : Pointer). IsTrue (is_physical_name shape p)) (row bytes j h)
     (names (get_or (pointers 256 bytes) j no_pointer)
-     (subst (λ (l : List Pointer). Has l (get_or (pointers 256 bytes) j no_pointer)) same (get-has no_pointer (pointers 256 bytes) j (let l = length-each_of pointer_fields 16 256 bytes in omega (arith, l, h)))))
+    (subst (λ (l : List Pointer). Has l (get_or (pointers 256 bytes) j no_pointer)) same (get-has no_pointer (pointers 256 bytes) j (let l = length-each_of pointer_fields 16 256 bytes in omega (arith, l, h)))))
   where
     same : pointers 256 bytes ≡ ps
     same = some_in _ _ (sym (indirect-is bytes (ap is_some is)) ∙ is)
@@ -139,7 +139,7 @@ module _ (shape : Shape) (device : VirtualMap) (index : ℕ) (to : Option Pointe
               subst (λ (v : ℕ). (67 + shape.inode_pages ≤ v) × (v < shape.vaddrs)) (sym (sym (address-range is index high) ∙ h ∙ ap (λ (o : Option ℕ). unwrap_or o (address_of was index)) e)) pool
           by Done h None e pool =
               let same : slice_index (slots_of is) (range_of index) ≡ slice_index (slots_of was) (range_of index) =
-                    sym (address-range is index high) ∙ h ∙ ap (λ (o : Option ℕ). unwrap_or o (address_of was index)) e ∙ address-range was index high in
+              sym (address-range is index high) ∙ h ∙ ap (λ (o : Option ℕ). unwrap_or o (address_of was index)) e ∙ address-range was index high in
               let g = good (range_of index) (λ z. far (same ∙ z)) in
               subst (λ (v : ℕ). (67 + shape.inode_pages ≤ v) × (v < shape.vaddrs)) (sym same) (g.from_pool, g.in_pool)
 

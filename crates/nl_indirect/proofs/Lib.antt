@@ -5,3 +5,4 @@ pub mod Maps
 pub mod Pointing
 pub mod Records
 pub mod Spelled
+pub mod Tested

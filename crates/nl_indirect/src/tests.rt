@@ -1,6 +1,7 @@
-ghost use Rattle.std.specs.Prelude.{◌≡◌, ◌↔◌, ◌<◌, IfOk, IfSome, IsSome, IsTrue};
+ghost use Rattle.std.specs.Prelude.{◌≡◌, ◌↔◌, ◌<◌, ◌≤◌, IfOk, IfSome, IsSome, IsTrue};
 ghost use Rattle.nl_field.specs.Spelling.{is_stamp};
 ghost use Rattle.nl_indirect.specs.Examples.{IsTested};
+ghost use Rattle.nl_indirect.specs.Ranges.{range_of};
 ghost use Rattle.nl_indirect.specs.Storing.{Begins};
 
 use crate::{Stored, lookup, store};
@@ -56,12 +57,19 @@ fn fresh_for(rec: &InodeRec, index: u32, to: Option<Pointer>) -> Option<u32>
     }
 }
 
+fn is_in(range: u32, index: u32) -> bool
+    ensures within { IsTrue result → index < 4104 }
+    ensures range { IsTrue result → 8 ≤ index → range_of index ≡ range }
+{
+    index < 8 || index < 4104 && (index - 8) / 256 == range
+}
+
 // Stores a pointer at an index of the node or of this range, and gives the answer.
 fn run(rec: &mut InodeRec, meta: &mut Meta, range: u32, index: u32, stamp: u64) -> Option<Stored>
     requires { IsTested range rec.old meta.old }
     ensures { IsTested range rec.new meta.new }
 {
-    if index >= 4104 || index >= 8 && (index - 8) / 256 != range {
+    if !is_in(range, index) {
         return None;
     }
     let to = pointer(stamp);
@@ -73,7 +81,7 @@ fn run(rec: &mut InodeRec, meta: &mut Meta, range: u32, index: u32, stamp: u64) 
 fn stamp_at(rec: &InodeRec, meta: &Meta, range: u32, index: u32) -> Option<u64>
     requires { IsTested range rec.now meta.now }
 {
-    if index >= 4104 || index >= 8 && (index - 8) / 256 != range {
+    if !is_in(range, index) {
         return None;
     }
     match lookup(rec, meta, index) {
@@ -175,7 +183,12 @@ fn pointers_at_borders(rt: HostRuntime) -> Result<(), Fail> {
 }
 
 // Stores at an index, and gives the answer and what indexes 7, 8 and 263 have then.
-fn step(rec: &mut InodeRec, meta: &mut Meta, index: u32, stamp: u64) -> (Option<Stored>, [Option<u64>; 3])
+fn step(
+    rec: &mut InodeRec,
+    meta: &mut Meta,
+    index: u32,
+    stamp: u64,
+) -> (Option<Stored>, [Option<u64>; 3])
     requires { IsTested 0 rec.old meta.old }
     ensures { IsTested 0 rec.new meta.new }
 {
