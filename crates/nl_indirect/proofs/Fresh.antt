@@ -18,13 +18,16 @@ with-is-dirty v old = by (list_any (λ a. a == v) (with_address v old)) refl
     by false e = absurd ((not-with v old v e).0 refl)
 
 -- a page that is dirty may be written
-pub dirty-has-room : (v : ℕ) (old new : Pages) → new.dirty ≡ with_address v old.dirty → has_room new v ≡ true
-dirty-has-room v old new is =
+pub dirty_has_room : (v : ℕ) (old new : Pages) → new.dirty ≡ with_address v old.dirty → has_room new v ≡ true
+dirty_has_room v old new is =
     ap (λ b. v == 0 || b || nat_lt (length (besides_0 new.dirty)) most) (ap (λ (xs : List ℕ). list_any (λ a. a == v) xs) is ∙ with-is-dirty v old.dirty) ∙ by (v == 0)
   where
     by : (b : Bool) → (b || true || nat_lt (length (besides_0 new.dirty)) most) ≡ true
     by true = refl
     by false = refl
+
+pub new_has_room : (v : ℕ) (old new : Pages) → Freshens v old new → has_room new v ≡ true
+new_has_room v old new is = dirty_has_room v old new is.dirty
 
 -- ---- an address twice
 

@@ -12,7 +12,7 @@ use Rattle.nl_indirect.specs.Ranges.{HasPointers, address_of, range_of}
 use Rattle.nl_indirect.specs.Storing.{Answers, Stores}
 use Rattle.nl_indirect.specs.declared.answer.Stored.{Stored}
 use Rattle.nl_indirect.specs.declared.answer.Stored.TheVariants.{Done, Emptied}
-use Rattle.nl_indirect.proofs.Fresh.{dirty-has-room}
+use Rattle.nl_indirect.proofs.Fresh.{dirty_has_room}
 use Rattle.nl_indirect.proofs.Pointing.{address-node, address-range}
 
 no-both : (i : ℕ) → i < 8 → 8 ≤ i → ⊥
@@ -40,10 +40,10 @@ module _ (range index : ℕ) (to : Pointer) (fresh : Option ℕ) (was is : Inode
       by (inl z) f g = subst (λ (p : Pages). (has_room p 71 ≡ true) × (length p.running ≡ 103)) (sym (stores.pages.same z)) (ready.room, ready.count)
       by (inr far) None g =
           let w = stores.pages.written far g in
-          (subst (λ (v : ℕ). has_room new v ≡ true) (at-71 far) (dirty-has-room _ old new (ap (λ (p : Pages). p.dirty) w)), ap (λ (p : Pages). length p.running) w ∙ length-set old.running _ _ ∙ ready.count)
+          (subst (λ (v : ℕ). has_room new v ≡ true) (at-71 far) (dirty_has_room _ old new (ap (λ (p : Pages). p.dirty) w)), ap (λ (p : Pages). length p.running) w ∙ length-set old.running _ _ ∙ ready.count)
       by (inr far) (Some b) g =
           let n = stores.pages.begun (ap is_some g) in
-          (subst (λ (v : ℕ). has_room new v ≡ true) (at-71 far) (dirty-has-room _ old new n.dirty), n.keeps.count ∙ ready.count)
+          (subst (λ (v : ℕ). has_room new v ≡ true) (at-71 far) (dirty_has_room _ old new n.dirty), n.keeps.count ∙ ready.count)
 
   tested-page : slice_index (slots_of is) range ≢ 0 → (slice_index (slots_of is) range ≡ 71) × HasPointers (page_of new) 71
   tested-page far = by (cases_lt index 8)

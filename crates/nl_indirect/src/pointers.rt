@@ -99,6 +99,7 @@ fn put(meta: &mut Meta, address: u32, slot: u32, pointer: &Pointer)
 }
 
 // The pointer stands in this slot of a new page of zeros.
+#[tactic(auto, using(crate::proofs::Fresh::new_has_room))]
 fn begin(meta: &mut Meta, address: u32, slot: u32, pointer: &Pointer)
     requires slot { slot < 256 }
     requires inside { address < length meta.old.running }
