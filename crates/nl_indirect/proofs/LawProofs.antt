@@ -1,8 +1,8 @@
 -- Other nodes stay, and the file's addresses stay good.
-use Rattle.std.proofs.Common.{◌≡◌, ◌≢◌, ℕ, zero, suc, ◌+◌, ◌*◌, ◌/◌, ◌%◌, ◌≤◌, ◌<◌, ◌==◌, cond, List, [], ◌∷◌, ◌++◌, length, filter, filter_map, flat_map, map, not, replicate, get_or, refl, sym, ap, ◌∙◌, subst, Option, Some, None, IfSome, is_some, unwrap_or, ◌⊎◌, inl, inr, arith}
-use Rattle.std.proofs.lemmas.Bool.{cases_eq, cases_lt, cond-false}
+use Rattle.std.proofs.Common.{◌≡◌, ◌≢◌, ℕ, zero, suc, ◌+◌, ◌*◌, ◌/◌, ◌%◌, ◌≤◌, ◌<◌, ◌==◌, false, cond, List, [], ◌∷◌, ◌++◌, length, filter, filter_map, flat_map, map, not, replicate, get_or, refl, sym, ap, ◌∙◌, subst, Option, Some, None, IfSome, IsSome, is_some, unwrap_or, ◌⊎◌, inl, inr, arith}
+use Rattle.std.proofs.lemmas.Bool.{both_ways, cases_eq, cases_lt, cond-false}
 use Rattle.std.specs.List.{enumerate_from, range_with_len}
-use Rattle.std.specs.Prelude.{IsTrue, slice_index}
+use Rattle.std.specs.Prelude.{IsTrue, slice_get, slice_index}
 use Rattle.nl_field.specs.EntryRecord.{entry_of}
 use Rattle.nl_field.specs.Graph.{directory_node, file_node}
 use Rattle.nl_field.specs.Inode.{inode_of}
@@ -16,12 +16,13 @@ use Rattle.nl_field.specs.declared.pointer.Pointer.{Pointer}
 use Rattle.nl_field.specs.declared.shape.Shape.{Shape}
 use Rattle.nl_field.proofs.EachRow.{length-each_of}
 use Rattle.nl_meta.specs.Committed.{VirtualMap}
-use Rattle.nl_meta.specs.Consistent.{GoodAddress, NamesPhysical}
+use Rattle.nl_meta.specs.Consistent.{AddressAt, GoodAddress, NamesPhysical}
 use Rattle.nl_meta.specs.Nodes.{body_of, bytes_of_node, bytes_of_place, entries_of_inode, inode_at, is_physical_name, pointer_at, pointer_in_page, pointers_at, pointers_of_inode, slot_in, slots_of}
 use Rattle.nl_meta.specs.Pages.{Pages, page_of}
 use Rattle.nl_meta.specs.Running.{running_over}
+use Rattle.nl_meta.proofs.AddressProofs.{inode_spelled}
 use Rattle.nl_meta.proofs.Lists.{some_in}
-use Rattle.nl_indirect.specs.FileLaws.{AddressesGood, OtherNodes, StoredFile, StoresOver}
+use Rattle.nl_indirect.specs.FileLaws.{AddressesGood, FileOfNode, ResidentPointers, OtherNodes, StoredFile, StoresOver}
 use Rattle.nl_indirect.specs.Ranges.{HasPointers, address_of, pointer_in, range_of, slot_of, some_pointer}
 use Rattle.nl_indirect.specs.Storing.{Answers, DiffersInPage, StoresPointer, or_none}
 use Rattle.nl_indirect.specs.declared.answer.Stored.{Stored}
@@ -123,9 +124,6 @@ module _ (shape : Shape) (device : VirtualMap) (index : ℕ) (to : Option Pointe
 
     -- the range of the index
     module _ (high : 8 ≤ index) (far : slice_index (slots_of is) (range_of index) ≢ 0) where
-      a : ℕ
-      a = slice_index (slots_of is) (range_of index)
-
       has : HasPointers (page_of new) (slice_index (slots_of is) (range_of index))
       has = subst (λ (v : ℕ). HasPointers (page_of new) v) (address-range is index high) (over.stores.range (λ z. far (sym (address-range is index high) ∙ z)))
 
@@ -209,3 +207,32 @@ stored_file shape device index to fresh was is old new answer over = record {
   found = ap some_pointer (stored shape device index to fresh was is old new answer over).at ∙ found-pointer to over.spelled;
   good = good-all shape device index to fresh was is old new answer over;
 }
+
+-- ---- a node of a volume
+
+at-slot : (xs : List ℕ) (r : ℕ) → slice_index xs r ≢ 0 → slice_get xs r ≡ Some (slice_index xs r)
+at-slot [] r far = absurd (far refl)
+at-slot (x ∷ xs) zero far = refl
+at-slot (x ∷ xs) (suc r) far = at-slot xs r far
+
+pub file_of_node : FileOfNode
+file_of_node shape pages n rec right is kind = record {
+  file = record { kind = kind; spelled = inode_spelled shape pages n rec is; differ = λ r s far e. sym (right.one_use n r n s (slice_index (slots_of rec) r) (address r far) (other r s far e)).1 };
+  good = λ r far. subst (λ (k : Kind). GoodAddress shape pages k (slice_index (slots_of rec) r)) kind (right.good n r (slice_index (slots_of rec) r) (address r far));
+  unused = λ a far none r e. none r (record { rec = rec; is_node = is; in_slot = at-slot (slots_of rec) r (λ z. far (sym e ∙ z)) ∙ ap (λ (v : ℕ). Some v) e; not_zero = far });
+}
+  where
+    address : (r : ℕ) → slice_index (slots_of rec) r ≢ 0 → AddressAt shape pages n r (slice_index (slots_of rec) r)
+    address r far = record { rec = rec; is_node = is; in_slot = at-slot (slots_of rec) r far; not_zero = far }
+
+    other : (r s : ℕ) → slice_index (slots_of rec) r ≢ 0 → slice_index (slots_of rec) s ≡ slice_index (slots_of rec) r → AddressAt shape pages n s (slice_index (slots_of rec) r)
+    other r s far e = record { rec = rec; is_node = is; in_slot = at-slot (slots_of rec) s (λ z. far (sym e ∙ z)) ∙ ap (λ (v : ℕ). Some v) e; not_zero = far }
+
+pub resident_pointers : ResidentPointers
+resident_pointers shape device p a good there = by (page_of p a) refl there
+  where
+    by : (o : Option (List ℕ)) → page_of p a ≡ o → IsSome o → HasPointers (page_of p) a
+    by None e h = absurd (both_ways false refl h)
+    by (Some bytes) e h =
+        let same : good.bytes ≡ bytes = some_in _ _ (sym good.committed ∙ runs device p a bytes e) in
+        record { bytes = bytes; there = e; spelled = subst (λ (l : List ℕ). IsSome (indirect_of l)) same (ap is_some (good.spelled refl).1) }

@@ -1,5 +1,5 @@
 -- What it means for a volume that a pointer is stored.
-use Rattle.std.specs.Prelude.{◌≡◌, ◌≢◌, ℕ, ◌+◌, ◌/◌, ◌≤◌, ◌<◌, slice_index, Option, IfSome, IsTrue}
+use Rattle.std.specs.Prelude.{◌≡◌, ◌≢◌, ℕ, ◌+◌, ◌/◌, ◌≤◌, ◌<◌, slice_index, Option, IfSome, IsSome, IsTrue}
 use Rattle.nl_field.specs.Spelling.{is_stamp}
 use Rattle.nl_field.specs.declared.inode.InodeRec.{InodeRec}
 use Rattle.nl_field.specs.declared.inode.Kind.{Kind}
@@ -7,11 +7,11 @@ use Rattle.nl_field.specs.declared.inode.Kind.TheVariants.{File}
 use Rattle.nl_field.specs.declared.pointer.Pointer.{Pointer}
 use Rattle.nl_field.specs.declared.shape.Shape.{Shape}
 use Rattle.nl_meta.specs.Committed.{VirtualMap}
-use Rattle.nl_meta.specs.Consistent.{GoodAddress}
+use Rattle.nl_meta.specs.Consistent.{AddressAt, AddressesRight, GoodAddress, IsNode}
 use Rattle.nl_meta.specs.Nodes.{body_of, inode_at, is_physical_name, pointer_at, slots_of}
-use Rattle.nl_meta.specs.Pages.{Pages}
+use Rattle.nl_meta.specs.Pages.{Pages, page_of}
 use Rattle.nl_meta.specs.Running.{CleanIsStored, running_over}
-use Rattle.nl_indirect.specs.Ranges.{some_pointer}
+use Rattle.nl_indirect.specs.Ranges.{HasPointers, IsFileRecord, some_pointer}
 use Rattle.nl_indirect.specs.Storing.{DiffersInPage, Stores, or_none}
 use Rattle.nl_indirect.specs.declared.answer.Stored.{Stored}
 
@@ -46,3 +46,17 @@ abbrev pub StoredFile : Type 0
 StoredFile =
     (shape : Shape) (device : VirtualMap) (index : ℕ) (to : Option Pointer) (fresh : Option ℕ) (was is : InodeRec) (old new : Pages) (answer : Stored)
     → StoresOver shape device index to fresh was is old new answer → FileLaws shape device index to was is old new
+
+-- A file of a volume whose addresses are right has such a record and such addresses; and an address that no slot of its node has is none of
+-- the record's.
+pub record NodeLaws (shape : Shape) (pages : VirtualMap) (n : ℕ) (rec : InodeRec) : Type 0 where
+  pub file : IsFileRecord rec
+  pub good : AddressesGood shape pages rec
+  pub unused : (a : ℕ) → a ≢ 0 → ((slot : ℕ) → AddressAt shape pages n slot a → ⊥) → (r : ℕ) → slice_index (slots_of rec) r ≢ a
+
+abbrev pub FileOfNode : Type 0
+FileOfNode = (shape : Shape) (pages : VirtualMap) (n : ℕ) (rec : InodeRec) → AddressesRight shape pages → IsNode shape pages n rec → rec.kind ≡ File → NodeLaws shape pages n rec
+
+-- A good address whose page is resident can be looked at.
+abbrev pub ResidentPointers : Type 0
+ResidentPointers = (shape : Shape) (device : VirtualMap) (p : Pages) (a : ℕ) → GoodAddress shape (running_over device p) File a → IsSome (page_of p a) → HasPointers (page_of p) a

@@ -1,5 +1,5 @@
 //! Laws of the definitions. Each function stands for the law that its contract names.
-ghost use Rattle.nl_indirect.specs.FileLaws.{OtherNodes, StoredFile};
+ghost use Rattle.nl_indirect.specs.FileLaws.{FileOfNode, OtherNodes, ResidentPointers, StoredFile};
 
 // A page of pointers is its file's alone: nodes, and files and directories without its address, are as before.
 pub fn other_nodes()
@@ -9,4 +9,10 @@ pub fn other_nodes()
 // What was stored is found again, and each address of the file is still one of the pool that spells pointers.
 pub fn stored_file()
     ensures { StoredFile }
+{}
+
+// What calls need of a file holds of each file of a volume whose addresses are right, where the page is resident.
+pub fn file_of_node()
+    ensures node { FileOfNode }
+    ensures pages { ResidentPointers }
 {}

@@ -9,4 +9,4 @@ mod pointers;
 mod tests;
 
 pub use answer::Stored;
-pub use pointers::{lookup, store};
+pub use pointers::{lookup, page_address, store};

@@ -22,6 +22,19 @@ const SLOTS: u32 = 256;
 
 const NONE: Pointer = Pointer { name: 0, stamp: 0 };
 
+/// The address of the page that has the pointer of a page index, of which a file has 4104. 0 where the node has it, or where the
+/// range of 256 indexes has no page.
+pub fn page_address(rec: &InodeRec, index: u32) -> u32
+    requires { index < 4104 }
+    ensures { result ≡ address_of rec.now index }
+{
+    if index < DIRECT {
+        0
+    } else {
+        rec.addresses[((index - DIRECT) / SLOTS) as usize]
+    }
+}
+
 /// The pointer of a file at a page index. None exactly where there is no page. The page that has the pointer, where one has it, is
 /// resident.
 pub fn lookup(rec: &InodeRec, meta: &Meta, index: u32) -> Option<Pointer>

@@ -4,7 +4,7 @@ ghost use Rattle.nl_indirect.specs.Examples.{IsTested};
 ghost use Rattle.nl_indirect.specs.Ranges.{range_of};
 ghost use Rattle.nl_indirect.specs.Storing.{Begins};
 
-use crate::{Stored, lookup, store};
+use crate::{Stored, lookup, page_address, store};
 use nl_field::{InodeRec, Kind, Memory, Pointer, Shape};
 use nl_meta::Meta;
 use std::alloc::Global;
@@ -120,17 +120,17 @@ struct Left {
 }
 
 fn stored_and_taken(alloc: Global, range: u32, index: u32, at: usize) -> Result<Left, Memory>
-    requires { range < 16 }
+    requires { index < 4104 }
 {
     let mut meta = blank(alloc, range)?;
     let mut rec = EMPTY;
     let stored = run(&mut rec, &mut meta, range, index, 5);
     let stamp = stamp_at(&rec, &meta, range, index);
-    let address = rec.addresses[range as usize];
+    let address = page_address(&rec, index);
     let byte = byte_at(&meta, at);
     let taken = run(&mut rec, &mut meta, range, index, 0);
     let stamp_then = stamp_at(&rec, &meta, range, index);
-    let address_then = rec.addresses[range as usize];
+    let address_then = page_address(&rec, index);
     Ok(Left {
         stored,
         stamp,
@@ -175,7 +175,7 @@ fn pointers_at_borders(rt: HostRuntime) -> Result<(), Fail> {
         (15, 4103, 4088, in_page),
     ];
     for (range, index, at, expected) in rows {
-        if range < 16 {
+        if index < 4104 {
             assert_eq!(rt; stored_and_taken(rt.alloc(), range, index, at)?, expected);
         }
     }
