@@ -1,5 +1,5 @@
 -- The units that are left, one after another.
-use Rattle.std.proofs.Common.{◌≡◌, ◌⊎◌, inl, inr, ⊎_elim, ℕ, zero, suc, ◌+◌, ◌<◌, ◌≤◌, List, [], ◌∷◌, length, refl, sym, ◌∙◌, ap, subst, arith}
+use Rattle.std.proofs.Common.{◌≡◌, ◌⊎◌, inl, inr, ⊎_elim, ℕ, zero, suc, ◌+◌, ◌<◌, ◌≤◌, nat_lt, Bool, true, false, if◌then◌else◌, List, [], ◌∷◌, length, refl, sym, ◌∙◌, ap, subst, arith}
 use Rattle.nl_field.specs.CrashStates.{Earlier}
 use Rattle.nl_field.specs.declared.shape.Shape.{Shape}
 use Rattle.nl_iface.specs.Calls.{StoresMap, stored}
@@ -7,7 +7,7 @@ use Rattle.nl_iface.specs.Device.{IsVolumeShape}
 use Rattle.nl_iface.specs.Stored.{NoneBeyond, NoneFailed, Stored, Value}
 use Rattle.nl_iface.specs.declared.counts.Counts.{Ghosts}
 use Rattle.nl_meta.specs.Committed.{VirtualMap}
-use Rattle.nl_meta.specs.Pages.{Frozen, Pages}
+use Rattle.nl_meta.specs.Pages.{Frozen, Pages, none_frozen}
 use Rattle.nl_journal.specs.Committing.{aimed, committed_on, finished, finished_on}
 use Rattle.nl_journal.specs.Left.{Commits, FinishWrites, LeavesRest, UnitWrites}
 use Rattle.nl_journal.specs.Outcomes.{Agrees}
@@ -189,3 +189,14 @@ few_units phase frozen count at t = by (length frozen.addresses) refl
     by : (n : ℕ) → length frozen.addresses ≡ n → units_left phase (length frozen.addresses) ≤ 130
     by zero is = units_most phase (length frozen.addresses) at (omega (arith, is))
     by (suc n) is = units_most phase (length frozen.addresses) at (t (omega (arith, is))).pages.few
+
+-- what is frozen stays until all of it is home
+pub frozen_waits : (phase : Phase) (frozen : Frozen) → (frozen_after phase frozen ≡ none_frozen → ⊥) → frozen_after phase frozen ≡ frozen
+frozen_waits Header frozen off = refl
+frozen_waits (Image i) frozen off = refl
+frozen_waits Commit frozen off = refl
+frozen_waits (Home i) frozen off = by (nat_lt (i + 1) (length frozen.addresses)) off
+  where
+    by : (b : Bool) → ((if b then frozen else none_frozen) ≡ none_frozen → ⊥) → (if b then frozen else none_frozen) ≡ frozen
+    by true off = refl
+    by false off = absurd (off refl)

@@ -1,7 +1,7 @@
 -- What a unit writes and answers.
-use Rattle.std.specs.Prelude.{◌≡◌, ⊤, ℕ, ◌+◌, nat_lt, if◌then◌else◌, [], List, length, Option, Some, slice_index}
+use Rattle.std.specs.Prelude.{◌≡◌, ◌⊎◌, ⊤, ℕ, ◌+◌, nat_lt, if◌then◌else◌, [], List, length, Option, Some, slice_index}
 use Rattle.nl_field.specs.Journal.{header_of, commit_of}
-use Rattle.nl_meta.specs.Pages.{Frozen, Pages, none_frozen}
+use Rattle.nl_meta.specs.Pages.{Frozen, Pages, dirty_pages, none_frozen}
 use Rattle.nl_journal.specs.Progress.{Progress, begun, next, next_after, raised}
 use Rattle.nl_journal.specs.Transaction.{header, main_at}
 use Rattle.nl_journal.specs.declared.answers.Phase.{Phase}
@@ -84,3 +84,7 @@ pub record Ends (number : ℕ) (old new : Progress) (old_pages new_pages : Pages
   pub idle : new.phase ≡ Header
   pub thawed : new_pages.frozen.addresses ≡ []
   pub clean : new_pages.dirty ≡ []
+
+-- The pages in memory after a commit that was not done: as before, or the dirty ones are frozen, since all that was frozen before is home.
+abbrev pub Waits : Pages → Pages → Type 0
+Waits old new = (new ≡ old) ⊎ (new ≡ record old { dirty = []; frozen = dirty_pages old })

@@ -11,7 +11,7 @@ ghost use Rattle.nl_journal.specs.Passes.{Passes};
 ghost use Rattle.nl_journal.specs.Progress.{HasNumber, IsPhase, Progress, begun, next, next_after as after, raised as raised_from, units_left};
 ghost use Rattle.nl_journal.specs.Standing.{InOrder};
 ghost use Rattle.nl_journal.specs.Transaction.{IsTransaction, head, mark};
-ghost use Rattle.nl_journal.specs.Units.{Advances, Ends, IfCommitted, IfLost, IfLostUnit, IsCommitted, IsDone, OtherFound, answer};
+ghost use Rattle.nl_journal.specs.Units.{Advances, Ends, IfCommitted, IfLost, IfLostUnit, IsCommitted, IsDone, OtherFound, Waits, answer};
 ghost use Rattle.nl_meta.specs.Pages.{dirty_pages};
 
 use crate::due::{LAST, due, frozen_len, next_after};
@@ -106,8 +106,8 @@ impl Journal {
     }
 
     /// Makes all dirty pages take effect at once: it finishes the frozen transaction, where there is one, and then freezes the
-    /// dirty pages and finishes these. After `Lost` and `Fault` the next commit goes on where this one stopped, and the number
-    /// tells which pages are committed. A stop within it leaves the committed pages of before, or those with the frozen ones, or
+    /// dirty pages and finishes these. After `Lost` and `Fault` the pages in memory are as before, or the dirty ones are frozen;
+    /// the next commit goes on where this one stopped, and the number tells which pages are committed. A stop within it leaves the committed pages of before, or those with the frozen ones, or
     /// those with the dirty ones too, and after `Done` the last.
     pub fn commit<D: VirtualPages>(&mut self, device: &mut D, meta: &mut Meta) -> Committing
         requires formed { D.formed device.old }
@@ -119,6 +119,7 @@ impl Journal {
         ensures order { InOrder D.Counts device.new self.new meta.new.frozen }
         ensures running { meta.new.running ≡ meta.old.running }
         ensures done { IfCommitted result (λ n. Ends n self.old self.new meta.old meta.new) }
+        ensures waits { (IsCommitted result → ⊥) → Waits meta.old meta.new }
         ensures writes { D.tells → HasNumber self.new (length meta.new.frozen.addresses) → CommitWrites D.Counts (IsCommitted result) self.old self.new meta.old meta.new device.old device.new }
         ensures passes { Passes D.Counts (IsCommitted result) 1024 device.old device.new }
         ensures lost { IfLost result (OtherFound (D.stamps device.new)) }
@@ -238,6 +239,9 @@ impl Journal {
         ensures begun { begun self.new (length meta.new.frozen.addresses) ≡ begun self.old (length meta.old.frozen.addresses) }
         ensures running { meta.new.running ≡ meta.old.running }
         ensures dirty { meta.new.dirty ≡ meta.old.dirty }
+        ensures kept { meta.new ≡ record meta.old { frozen = meta.new.frozen } }
+        ensures waits { (result ≡ VirtualWrite.Done → ⊥) → meta.new.frozen ≡ meta.old.frozen }
+        ensures none { meta.old.frozen.addresses ≡ [] → result ≡ VirtualWrite.Done }
         ensures writes { D.tells → HasNumber self.old (length meta.old.frozen.addresses) → FinishWrites D.Counts (result ≡ VirtualWrite.Done) self.old self.new meta.old meta.new device.old device.new }
         ensures passes { Passes D.Counts (result ≡ VirtualWrite.Done) (units_left self.old.phase (length meta.old.frozen.addresses)) device.old device.new }
         ensures lost { LosesStamp (D.stamps device.new) result }
@@ -268,6 +272,7 @@ impl Journal {
         ensures order { InOrder D.Counts device.new self.new meta.new.frozen }
         ensures running { meta.new.running ≡ meta.old.running }
         ensures done { IfCommitted result (λ n. Ends n self.old self.new meta.old meta.new) }
+        ensures waits { (IsCommitted result → ⊥) → meta.new ≡ record meta.old { dirty = []; frozen = dirty_pages meta.old } }
         ensures begun { begun self.new (length meta.new.frozen.addresses) ≡ raised_from self.old.number }
         ensures writes { D.tells → HasNumber self.new (length meta.new.frozen.addresses) → DirtyWrites D.Counts (IsCommitted result) self.old self.new meta.old meta.new device.old device.new }
         ensures passes { Passes D.Counts (IsCommitted result) 512 device.old device.new }

@@ -1,12 +1,12 @@
 use Rattle.std.proofs.Common.{◌≡◌, ◌+◌, ◌<◌, length, sym, ◌∙◌, ap, subst, arith}
 use Rattle.nl_field.specs.declared.answers.VirtualWrite.TheVariants as write
-use Rattle.nl_meta.specs.Pages.{Pages}
+use Rattle.nl_meta.specs.Pages.{Frozen, Pages}
 use Rattle.nl_journal.specs.Passes.{Passes}
 use Rattle.nl_journal.specs.Progress.{units_left}
 use Rattle.nl_journal.specs.Units.{IsDone}
 use Rattle.nl_journal.specs.declared.answers.Unit.TheVariants as unit
 use Rattle.nl_journal.proofs.Finishing.{nothing_left}
-use Rattle.nl_journal.proofs.FinishSteps.{begun_step, done_is, no_addresses, some_frozen, units_step, writes_failed, writes_none, writes_step}
+use Rattle.nl_journal.proofs.FinishSteps.{begun_step, done_is, frozen_waits, no_addresses, some_frozen, units_step, writes_failed, writes_none, writes_step}
 use Rattle.nl_journal.proofs.Passing.{counted_then, none_failed, passes_by, passes_most, passes_then}
 use Rattle.nl_journal.proofs.journal.Journal.+finish.Goals as goal
 
@@ -56,6 +56,9 @@ returns-in_default g m c =
       begun = f.begun ∙ begun_same;
       running = f.running ∙ ap (λ (n : Pages). n.running) goes.2;
       dirty = f.dirty ∙ ap (λ (n : Pages). n.dirty) goes.2;
+      kept = f.kept ∙ ap (λ (n : Pages). record n { frozen = c.finish.new.meta.frozen }) goes.2;
+      waits = λ off. f.waits off ∙ (ap (λ (n : Pages). n.frozen) goes.2 ∙ frozen_waits p.phase pages.frozen (λ none. off (f.none (ap (λ (n : Pages). n.frozen.addresses) goes.2 ∙ ap (λ (x : Frozen). x.addresses) none))));
+      none = λ empty. let e = ap length empty in absurd (omega (arith, some, e));
       writes = λ t numbers.
           writes_step G old mid new p pages e.passes.named.same_shape (none_failed G (IsDone c.unit.result) 1 old mid t done e.passes) (IsDone c.unit.result) (c.finish.result ≡ write.Done) q r mid_pages c.finish.new.meta done
           c.requires.order.phase some goes.1 goes.2 (e.writes t numbers) (f.writes t (subst (λ n. n < 9223372036854775808) (sym begun_same) numbers)) (λ o more. f.clock.later (o, more));

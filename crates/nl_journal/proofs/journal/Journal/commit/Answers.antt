@@ -1,5 +1,6 @@
-use Rattle.std.proofs.Common.{◌≡◌, ◌+◌, ◌<◌, length, sym, ◌∙◌, ap, subst, arith}
+use Rattle.std.proofs.Common.{◌≡◌, inr, ◌+◌, ◌<◌, [], length, sym, ◌∙◌, ap, subst, arith}
 use Rattle.nl_field.specs.declared.answers.VirtualWrite.TheVariants as write
+use Rattle.nl_meta.specs.Pages.{Pages, dirty_pages}
 use Rattle.nl_journal.specs.Progress.{HasNumber, begun, units_left}
 use Rattle.nl_journal.specs.Units.{IsCommitted}
 use Rattle.nl_journal.proofs.CommitSteps.{begun_none, commit_failed, commit_then, unraised}
@@ -22,6 +23,10 @@ returns-in-Done-clause-writes g c t numbers =
     let below : HasNumber p (length c.args.meta.now.frozen.addresses) = subst (λ n. n < 9223372036854775808) number (unraised q.number (subst (λ n. n < 9223372036854775808) f.begun numbers)) in
     commit_then G (c.finish.result ≡ write.Done) (IsCommitted c.commit_dirty.result) old mid c.commit_dirty.new.device p q c.commit_dirty.new.self c.args.meta.now c.finish.new.meta c.commit_dirty.new.meta c.in-Done.is
     e.passes.named.same_shape (none_failed G (c.finish.result ≡ write.Done) units old mid t c.in-Done.is e.passes) ends.0 ends.1 number e.running e.dirty (e.writes t below) (f.writes t numbers) f.clock.later
+
+pub returns-in-Done-clause-waits : goal.returns-in-Done-clause-waits
+returns-in-Done-clause-waits g c off =
+    inr (c.commit_dirty.ensures.waits off ∙ ap (λ (n : Pages). record n { dirty = []; frozen = dirty_pages n }) c.finish.ensures.kept)
 
 pub returns-in-Done-clause-passes : goal.returns-in-Done-clause-passes
 returns-in-Done-clause-passes g c =
