@@ -84,9 +84,6 @@ holds-other bytes i p whole below has = record { at = has.at; below = has.below;
 -- ---- the ways
 
 module _ (was : InodeRec) (file : IsFileRecord was) (index : ℕ) (within : index < 4104) (fresh : Option ℕ) (old : Pages) where
-  here : ℕ
-  here = get_or was.addresses (range_of index) 0
-
   below : range_of index < 16
   below = omega (arith, within)
 
@@ -103,9 +100,6 @@ module _ (was : InodeRec) (file : IsFileRecord was) (index : ℕ) (within : inde
     pages = record { same = λ e. refl; written = λ far e. absurd (far nought); begun = λ some. absurd (is-no-fresh fresh none some); one_more = omega arith };
     answered = answered;
   }
-
-  stays : unwrap_or None (address_of was index) ≡ address_of was index
-  stays = refl
 
   without : fresh ≡ None → unwrap_or fresh (address_of was index) ≡ address_of was index
   without e = ap (λ (o : Option ℕ). unwrap_or o (address_of was index)) e

@@ -210,7 +210,7 @@ stored_file shape device index to fresh was is old new answer over = record {
 
 -- ---- a node of a volume
 
-at-slot : (xs : List ℕ) (r : ℕ) → slice_index xs r ≢ 0 → slice_get xs r ≡ Some (slice_index xs r)
+pub at-slot : (xs : List ℕ) (r : ℕ) → slice_index xs r ≢ 0 → slice_get xs r ≡ Some (slice_index xs r)
 at-slot [] r far = absurd (far refl)
 at-slot (x ∷ xs) zero far = refl
 at-slot (x ∷ xs) (suc r) far = at-slot xs r far

@@ -1,5 +1,5 @@
 -- A page that spells pointers, slot by slot.
-use Rattle.std.proofs.Common.{◌≡◌, ◌≢◌, ℕ, zero, suc, ◌+◌, ◌-◌, ◌*◌, ◌≤◌, ◌<◌, Bool, true, false, not, ◌&&◌, ◌||◌, cond, List, [], ◌∷◌, ◌++◌, length, take, drop, flat_map, replicate, get_or, refl, sym, ap, ◌∙◌, subst, Option, Some, None, IsSome, is_some, ◌⊎◌, inl, inr, arith, ◌==◌}
+use Rattle.std.proofs.Common.{◌≡◌, ◌≢◌, ℕ, zero, suc, ◌+◌, ◌-◌, ◌*◌, ◌≤◌, ◌<◌, Bool, true, false, not, ◌&&◌, ◌||◌, cond, List, [], ◌∷◌, ◌++◌, length, take, drop, flat_map, replicate, get_or, refl, sym, ap, ◌∙◌, subst, Some, None, IsSome, is_some, ◌⊎◌, inl, inr, arith, ◌==◌}
 use Rattle.std.proofs.Math.Seq.{take-append_seam}
 use Rattle.std.proofs.lemmas.Bool.{and_parts, and_from, both_ways, cases_eq, cond-true, eq-eqb}
 use Rattle.std.proofs.lemmas.List.{drop_at, drop-drop, drop-replicate, length-append, length-drop, length-replicate, length-take-le, take-append-drop, take-replicate}
@@ -140,9 +140,6 @@ indirect-is bytes is = by (is_indirect (pointers 256 bytes) && bytes_eq (indirec
     by false is = absurd (both_ways false refl is)
 
 module _ (bytes : List ℕ) (is : IsSome (indirect_of bytes)) where
-  ps : List Pointer
-  ps = pointers 256 bytes
-
   rows-256 : length (pointers 256 bytes) ≡ 256
   rows-256 = length-each_of pointer_fields 16 256 bytes
 
@@ -170,9 +167,6 @@ module _ (bytes : List ℕ) (is : IsSome (indirect_of bytes)) where
       let r = row-any (pointers 256 bytes) tests.1 in
       let h : r.0 < 256 = omega (arith, r.1, rows-256) in
       record { at = r.0; below = h; some = ap is_none_pointer (sym (row bytes r.0 h)) ∙ r.2 }
-
-some-is : {X : Type 0} (o : Option X) (x : X) → o ≡ Some x → IsSome o
-some-is o x e = ap is_some e
 
 pub is-indirect : (bytes : List ℕ) → Spells bytes → HoldsSome bytes → IsSome (indirect_of bytes)
 unfolding indirect_of indirect_bytes

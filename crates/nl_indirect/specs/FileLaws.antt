@@ -1,5 +1,6 @@
 -- What it means for a volume that a pointer is stored.
-use Rattle.std.specs.Prelude.{◌≡◌, ◌≢◌, ℕ, ◌+◌, ◌/◌, ◌≤◌, ◌<◌, slice_index, Option, IfSome, IsSome, IsTrue}
+use Rattle.std.specs.Prelude.{◌≡◌, ◌≢◌, ℕ, ◌+◌, ◌/◌, ◌%◌, ◌≤◌, ◌<◌, slice_index, Option, Some, IfSome, IsSome, IsTrue}
+use Rattle.nl_field.specs.Numbers.{ShapeBounds}
 use Rattle.nl_field.specs.Spelling.{is_stamp}
 use Rattle.nl_field.specs.declared.inode.InodeRec.{InodeRec}
 use Rattle.nl_field.specs.declared.inode.Kind.{Kind}
@@ -10,7 +11,9 @@ use Rattle.nl_meta.specs.Committed.{VirtualMap}
 use Rattle.nl_meta.specs.Consistent.{AddressAt, AddressesRight, GoodAddress, IsNode}
 use Rattle.nl_meta.specs.Nodes.{body_of, inode_at, is_physical_name, pointer_at, slots_of}
 use Rattle.nl_meta.specs.Pages.{Pages, page_of}
+use Rattle.nl_meta.specs.PointerLists.{ChangesPointer}
 use Rattle.nl_meta.specs.Running.{CleanIsStored, running_over}
+use Rattle.nl_meta.specs.SlotLaws.{ChangesSlot}
 use Rattle.nl_indirect.specs.Ranges.{HasPointers, IsFileRecord, some_pointer}
 use Rattle.nl_indirect.specs.Storing.{DiffersInPage, Stores, or_none}
 use Rattle.nl_indirect.specs.declared.answer.Stored.{Stored}
@@ -60,3 +63,22 @@ FileOfNode = (shape : Shape) (pages : VirtualMap) (n : ℕ) (rec : InodeRec) →
 -- A good address whose page is resident can be looked at.
 abbrev pub ResidentPointers : Type 0
 ResidentPointers = (shape : Shape) (device : VirtualMap) (p : Pages) (a : ℕ) → GoodAddress shape (running_over device p) File a → IsSome (page_of p a) → HasPointers (page_of p) a
+
+-- A call of `store` for node n of a volume whose addresses are right, where a new page is one that no node has. Afterwards the node has
+-- the record that the call left, and every other node the bytes that it had.
+pub record StoresAt (shape : Shape) (device : VirtualMap) (n index : ℕ) (to : Option Pointer) (fresh : Option ℕ) (was is : InodeRec) (old new : Pages) (answer : Stored) (after : VirtualMap) : Type 0 where
+  pub bounds : ShapeBounds shape
+  pub right : AddressesRight shape (running_over device old)
+  pub is_node : IsNode shape (running_over device old) n was
+  pub is_file : was.kind ≡ File
+  pub within : index < 4104
+  pub over : StoresOver shape device index to fresh was is old new answer
+  pub unused : IfSome fresh (λ a. (m slot : ℕ) → AddressAt shape (running_over device old) m slot a → ⊥)
+  pub node : inode_at after n ≡ Some is
+  pub others : ChangesSlot 256 (67 + n / 16) (n % 16) (running_over device new) after
+
+-- One pointer of one file changed, and no other node.
+abbrev pub OnePointerStored : Type 0
+OnePointerStored =
+    (shape : Shape) (device : VirtualMap) (n index : ℕ) (to : Option Pointer) (fresh : Option ℕ) (was is : InodeRec) (old new : Pages) (answer : Stored) (after : VirtualMap)
+    → StoresAt shape device n index to fresh was is old new answer after → ChangesPointer shape (running_over device old) after n index was is

@@ -1,5 +1,5 @@
 //! Laws of the definitions. Each function stands for the law that its contract names.
-ghost use Rattle.nl_indirect.specs.FileLaws.{FileOfNode, OtherNodes, ResidentPointers, StoredFile};
+ghost use Rattle.nl_indirect.specs.FileLaws.{FileOfNode, OnePointerStored, OtherNodes, ResidentPointers, StoredFile};
 
 // A page of pointers is its file's alone: nodes, and files and directories without its address, are as before.
 pub fn other_nodes()
@@ -15,4 +15,9 @@ pub fn stored_file()
 pub fn file_of_node()
     ensures node { FileOfNode }
     ensures pages { ResidentPointers }
+{}
+
+// Once the record is written back, one pointer of one file changed, and nothing of any other node.
+pub fn one_pointer_stored()
+    ensures { OnePointerStored }
 {}
