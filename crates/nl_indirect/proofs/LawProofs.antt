@@ -2,7 +2,7 @@
 use Rattle.std.proofs.Common.{◌≡◌, ◌≢◌, ℕ, zero, suc, ◌+◌, ◌*◌, ◌/◌, ◌%◌, ◌≤◌, ◌<◌, ◌==◌, false, cond, List, [], ◌∷◌, ◌++◌, length, filter, filter_map, flat_map, map, not, replicate, get_or, refl, sym, ap, ◌∙◌, subst, Option, Some, None, IfSome, IsSome, is_some, unwrap_or, ◌⊎◌, inl, inr, arith}
 use Rattle.std.proofs.lemmas.Bool.{both_ways, cases_eq, cases_lt, cond-false}
 use Rattle.std.specs.List.{enumerate_from, range_with_len}
-use Rattle.std.specs.Prelude.{IsTrue, slice_get, slice_index}
+use Rattle.std.specs.Prelude.{◌↔◌, IsTrue, slice_get, slice_index}
 use Rattle.nl_field.specs.EntryRecord.{entry_of}
 use Rattle.nl_field.specs.Graph.{directory_node, file_node}
 use Rattle.nl_field.specs.Inode.{inode_of}
@@ -22,14 +22,14 @@ use Rattle.nl_meta.specs.Pages.{Pages, page_of}
 use Rattle.nl_meta.specs.Running.{running_over}
 use Rattle.nl_meta.proofs.AddressProofs.{inode_spelled}
 use Rattle.nl_meta.proofs.Lists.{some_in}
-use Rattle.nl_indirect.specs.FileLaws.{AddressesGood, FileOfNode, ResidentPointers, OtherNodes, StoredFile, StoresOver}
-use Rattle.nl_indirect.specs.Ranges.{HasPointers, address_of, pointer_in, range_of, slot_of, some_pointer}
+use Rattle.nl_indirect.specs.FileLaws.{AddressesGood, FileOfNode, GivesBack, HoldsPointer, ResidentPointers, OtherNodes, StoredFile, StoresOver}
+use Rattle.nl_indirect.specs.Ranges.{HasPointers, HasRange, address_of, pointer_in, range_of, slot_of, some_pointer}
 use Rattle.nl_indirect.specs.Storing.{Answers, DiffersInPage, StoresPointer, or_none}
 use Rattle.nl_indirect.specs.declared.answer.Stored.{Stored}
 use Rattle.nl_indirect.specs.declared.answer.Stored.TheVariants.{Done, Emptied}
 use Rattle.nl_indirect.proofs.Cases.{to-some}
 use Rattle.nl_indirect.proofs.Pointing.{address-node, address-range, in-range, no-page, on-page, runs}
-use Rattle.nl_indirect.proofs.Spelled.{indirect-is, row}
+use Rattle.nl_indirect.proofs.Spelled.{HoldsSome, holds-some, indirect-is, row}
 
 -- ---- other nodes
 
@@ -99,6 +99,39 @@ slots-physical shape bytes each p m =
     let r = has-get no_pointer (pointers 256 bytes) p m in
     let h : r.0 < 256 = (let l = length-each_of pointer_fields 16 256 bytes in omega (arith, l, r.1)) in
     subst (λ (q : Pointer). IsTrue (is_physical_name shape q)) (sym (row bytes r.0 h) ∙ r.2) (each r.0 h)
+
+-- a range has an address exactly where it has a pointer
+range-holds : (pages : VirtualMap) (rec : InodeRec) (index : ℕ) → 8 ≤ index → HasRange pages rec index → (address_of rec index ≢ 0) ↔ HoldsPointer pages rec index
+range-holds pages rec index high range = (there, back)
+  where
+    there : address_of rec index ≢ 0 → HoldsPointer pages rec index
+    there far = record { at = 8 + 256 * range_of index + some.at; high = omega arith; same = range-of some.at some.below; some = ap is_none_pointer pointer ∙ some.some }
+      where
+        has : HasPointers pages (slice_index (slots_of rec) (range_of index))
+        has = subst (λ (v : ℕ). HasPointers pages v) (address-range rec index high) (range far)
+
+        some : HoldsSome has.bytes
+        some = holds-some has.bytes has.spelled
+
+        range-of : (j : ℕ) → j < 256 → range_of (8 + 256 * range_of index + j) ≡ range_of index
+        range-of j h = omega (arith, h)
+
+        slot-of : (j : ℕ) → j < 256 → slot_of (8 + 256 * range_of index + j) ≡ j
+        slot-of j h = omega (arith, h)
+
+        pointer : pointer_at pages rec (8 + 256 * range_of index + some.at) ≡ pointer_in has.bytes some.at
+        pointer =
+            in-range pages rec (8 + 256 * range_of index + some.at) (omega arith)
+            ∙ (λ k. pointer_in_page pages (slice_index (slots_of rec) (range-of some.at some.below k)) (slot-of some.at some.below k))
+            ∙ on-page pages (slice_index (slots_of rec) (range_of index)) some.at has.bytes (λ z. far (address-range rec index high ∙ z)) has.there
+
+    back : HoldsPointer pages rec index → address_of rec index ≢ 0
+    back h z = both_ways (is_none_pointer (pointer_at pages rec h.at)) h.some (ap is_none_pointer none)
+      where
+        none : pointer_at pages rec h.at ≡ no_pointer
+        none =
+            in-range pages rec h.at h.high
+            ∙ no-page pages (slice_index (slots_of rec) (range_of h.at)) (slot_of h.at) (ap (λ (r : ℕ). slice_index (slots_of rec) r) h.same ∙ sym (address-range rec index high) ∙ z)
 
 module _ (shape : Shape) (device : VirtualMap) (index : ℕ) (to : Option Pointer) (fresh : Option ℕ) (was is : InodeRec) (old new : Pages) (answer : Stored) (over : StoresOver shape device index to fresh was is old new answer) where
   stored : StoresPointer index (or_none to) was is (running_over device old) (running_over device new)
@@ -202,10 +235,39 @@ module _ (shape : Shape) (device : VirtualMap) (index : ℕ) (to : Option Pointe
         by (inr high) (inr off) = good-other r (λ h. off) far
         by (inr high) (inl e) = subst (λ (k : ℕ). GoodAddress shape (running_over device new) File (slice_index (slots_of is) k)) (sym e) (good-here high (λ z. far (ap (λ (k : ℕ). slice_index (slots_of is) k) e ∙ z)))
 
+  -- ---- pages that are given back
+
+  given-back : 8 ≤ index → AddressesGood shape (running_over device old) was → GivesBack index was is (running_over device old) (running_over device new) answer
+  given-back high good = record {
+    emptied = λ a e.
+        let h = subst (λ (s : Stored). Answers index fresh was is s) e over.stores.answered in
+        (before.0 (λ z. h.0 (sym h.1 ∙ z)), λ held. later.1 held h.2);
+    done = λ e held. later.0 (kept (subst (λ (s : Stored). Answers index fresh was is s) e over.stores.answered) fresh refl over.pool (before.1 held));
+  }
+    where
+      before : (address_of was index ≢ 0) ↔ HoldsPointer (running_over device old) was index
+      before = range-holds (running_over device old) was index high (λ far. at-address (address-range was index high) far)
+        where
+          at-address : address_of was index ≡ slice_index (slots_of was) (range_of index) → address_of was index ≢ 0 → HasPointers (running_over device old) (address_of was index)
+          at-address e far =
+              let g = good (range_of index) (λ z. far (e ∙ z)) in
+              subst (λ (v : ℕ). HasPointers (running_over device old) v) (sym e) (record { bytes = g.bytes; there = g.committed; spelled = ap is_some (g.spelled refl).1 })
+
+      later : (address_of is index ≢ 0) ↔ HoldsPointer (running_over device new) is index
+      later = range-holds (running_over device new) is index high (λ far. let h = over.stores.range far in record { bytes = h.bytes; there = runs device new (address_of is index) h.bytes h.there; spelled = h.spelled })
+
+      kept : address_of is index ≡ unwrap_or fresh (address_of was index) → (f : Option ℕ) → fresh ≡ f → IfSome f (λ a. (67 + shape.inode_pages ≤ a) × (a < shape.vaddrs)) → address_of was index ≢ 0 → address_of is index ≢ 0
+      kept h None e pool far = λ z. far (sym (h ∙ ap (λ (o : Option ℕ). unwrap_or o (address_of was index)) e) ∙ z)
+      kept h (Some b) e pool far = λ z. low pool.0 (sym (h ∙ ap (λ (o : Option ℕ). unwrap_or o (address_of was index)) e) ∙ z)
+        where
+          low : 67 + shape.inode_pages ≤ b → b ≡ 0 → ⊥
+          low p z = omega (arith, p, z)
+
 pub stored_file : StoredFile
 stored_file shape device index to fresh was is old new answer over = record {
   found = ap some_pointer (stored shape device index to fresh was is old new answer over).at ∙ found-pointer to over.spelled;
   good = good-all shape device index to fresh was is old new answer over;
+  given_back = given-back shape device index to fresh was is old new answer over;
 }
 
 -- ---- a node of a volume

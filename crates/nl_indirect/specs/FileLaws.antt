@@ -1,6 +1,7 @@
 -- What it means for a volume that a pointer is stored.
-use Rattle.std.specs.Prelude.{◌≡◌, ◌≢◌, ℕ, ◌+◌, ◌/◌, ◌%◌, ◌≤◌, ◌<◌, slice_index, Option, Some, IfSome, IsSome, IsTrue}
+use Rattle.std.specs.Prelude.{◌≡◌, ◌≢◌, ℕ, ◌+◌, ◌/◌, ◌%◌, ◌≤◌, ◌<◌, false, slice_index, Option, Some, IfSome, IsSome, IsTrue}
 use Rattle.nl_field.specs.Numbers.{ShapeBounds}
+use Rattle.nl_field.specs.Pointers.{is_none_pointer}
 use Rattle.nl_field.specs.Spelling.{is_stamp}
 use Rattle.nl_field.specs.declared.inode.InodeRec.{InodeRec}
 use Rattle.nl_field.specs.declared.inode.Kind.{Kind}
@@ -14,9 +15,10 @@ use Rattle.nl_meta.specs.Pages.{Pages, page_of}
 use Rattle.nl_meta.specs.PointerLists.{ChangesPointer}
 use Rattle.nl_meta.specs.Running.{CleanIsStored, running_over}
 use Rattle.nl_meta.specs.SlotLaws.{ChangesSlot}
-use Rattle.nl_indirect.specs.Ranges.{HasPointers, IsFileRecord, some_pointer}
+use Rattle.nl_indirect.specs.Ranges.{HasPointers, IsFileRecord, range_of, some_pointer}
 use Rattle.nl_indirect.specs.Storing.{DiffersInPage, Stores, or_none}
 use Rattle.nl_indirect.specs.declared.answer.Stored.{Stored}
+use Rattle.nl_indirect.specs.declared.answer.Stored.TheVariants.{Done, Emptied}
 
 -- Where one page of pointers differs, each node stands in the same bytes, and each file and directory that has no such address has the
 -- same pointers and entries.
@@ -40,15 +42,28 @@ pub record StoresOver (shape : Shape) (device : VirtualMap) (index : ℕ) (to : 
 abbrev pub AddressesGood : Shape → VirtualMap → InodeRec → Type 0
 AddressesGood shape pages rec = (r : ℕ) → slice_index (slots_of rec) r ≢ 0 → GoodAddress shape pages File (slice_index (slots_of rec) r)
 
--- What was stored is found, and the addresses of the file stay good.
-pub record FileLaws (shape : Shape) (device : VirtualMap) (index : ℕ) (to : Option Pointer) (was is : InodeRec) (old new : Pages) : Type 0 where
+-- the range of the index has a pointer
+pub record HoldsPointer (pages : VirtualMap) (rec : InodeRec) (index : ℕ) : Type 0 where
+  pub at : ℕ
+  pub high : 8 ≤ at
+  pub same : range_of at ≡ range_of index
+  pub some : is_none_pointer (pointer_at pages rec at) ≡ false
+
+-- A page is told as given back exactly where the range lost its last pointer.
+pub record GivesBack (index : ℕ) (was is : InodeRec) (old new : VirtualMap) (answer : Stored) : Type 0 where
+  pub emptied : (a : ℕ) → answer ≡ Emptied a → HoldsPointer old was index × (HoldsPointer new is index → ⊥)
+  pub done : answer ≡ Done → HoldsPointer old was index → HoldsPointer new is index
+
+-- What was stored is found, the addresses of the file stay good, and a page without pointers is given back.
+pub record FileLaws (shape : Shape) (device : VirtualMap) (index : ℕ) (to : Option Pointer) (was is : InodeRec) (old new : Pages) (answer : Stored) : Type 0 where
   pub found : some_pointer (pointer_at (running_over device new) is index) ≡ to
   pub good : AddressesGood shape (running_over device old) was → AddressesGood shape (running_over device new) is
+  pub given_back : 8 ≤ index → AddressesGood shape (running_over device old) was → GivesBack index was is (running_over device old) (running_over device new) answer
 
 abbrev pub StoredFile : Type 0
 StoredFile =
     (shape : Shape) (device : VirtualMap) (index : ℕ) (to : Option Pointer) (fresh : Option ℕ) (was is : InodeRec) (old new : Pages) (answer : Stored)
-    → StoresOver shape device index to fresh was is old new answer → FileLaws shape device index to was is old new
+    → StoresOver shape device index to fresh was is old new answer → FileLaws shape device index to was is old new answer
 
 -- A file of a volume whose addresses are right has such a record and such addresses; and an address that no slot of its node has is none of
 -- the record's.

@@ -6,7 +6,8 @@ pub fn other_nodes()
     ensures { OtherNodes }
 {}
 
-// What was stored is found again, and each address of the file is still one of the pool that spells pointers.
+// What was stored is found again, each address of the file is still one of the pool that spells pointers, and a page is given back
+// exactly where its range lost its last pointer.
 pub fn stored_file()
     ensures { StoredFile }
 {}
