@@ -20,8 +20,8 @@ use Rattle.nl_indirect.specs.Storing.{DiffersInPage, Stores, or_none}
 use Rattle.nl_indirect.specs.declared.answer.Stored.{Stored}
 use Rattle.nl_indirect.specs.declared.answer.Stored.TheVariants.{Done, Emptied}
 
--- Where one page of pointers differs, each node stands in the same bytes, and each file and directory that has no such address has the
--- same pointers and entries.
+-- Where one page differs, each node of another page has the same record, and each file and directory that has no such address the same
+-- pointers and entries.
 pub record PageLaws (a : ℕ) (old new : VirtualMap) : Type 0 where
   pub node : (n : ℕ) → 67 + n / 16 ≢ a → inode_at new n ≡ inode_at old n
   pub body : (rec : InodeRec) → ((r : ℕ) → slice_index (slots_of rec) r ≡ a → slice_index (slots_of rec) r ≡ 0) → (kind : Kind) → body_of new rec kind ≡ body_of old rec kind
