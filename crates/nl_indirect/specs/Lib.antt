@@ -1,0 +1,4 @@
+pub mod Examples
+pub mod FileLaws
+pub mod Ranges
+pub mod Storing
