@@ -2,6 +2,8 @@ pub mod Answers
 pub mod Effects
 pub mod Pages
 pub mod Segment
+pub mod Space
+pub mod Cleaning
 pub mod Rig
 pub mod Seen
 pub mod Steps

@@ -7,8 +7,9 @@ use Rattle.nl_blocks.specs.declared.states.BlockState.{BlockState}
 use Rattle.nl_blocks.specs.declared.states.BlockState.TheVariants.{Free, Active, Target, Sealed, Victim, Retired}
 use Rattle.nl_blocks.specs.declared.states.PageState.{PageState}
 use Rattle.nl_blocks.specs.declared.states.PageState.TheVariants.{Dead, Live}
-use Rattle.nl_blocks.specs.Table.{BlockRow, Table, HasBlock, block_at, is_free, free_count, HasPage, page_at}
-use Rattle.nl_pseg.specs.Segment.{Physical, Use, InSegment, IsNext, held_at, use_at}
+use Rattle.nl_blocks.specs.Table.{BlockRow, Table, HasBlock, block_at, dead_count, is_free, free_count, HasPage, page_at}
+use Rattle.nl_remap.specs.Table.{told}
+use Rattle.nl_pseg.specs.Segment.{Physical, Row, Use, InSegment, IsNext, held_at, use_at}
 use Rattle.nl_pseg.specs.declared.held.Held.{Held}
 use Rattle.nl_pseg.specs.declared.state.State.{State}
 
@@ -31,19 +32,28 @@ use_with free wear = record { is_free = free; is_kept = free; wear = wear }
 abbrev pub use_in : Table → ℕ → Use
 use_in table block = use_at table.first (map use_of table.blocks) block
 
+-- what cleaning knows of a block
+abbrev pub row_of : BlockRow → Row
+row_of row = record { state = row.state; dead = dead_count row }
+
 abbrev pub seen : State → Physical
 seen s = record {
   first = s.blocks.first;
   blocks = s.blocks.first + length s.blocks.blocks;
   size = s.blocks.size;
   held = s.held.items;
-  pairs = [];
-  pair_room = 0;
+  pairs = told s.remap.pairs;
+  pair_room = s.remap.room;
   next = s.active * s.blocks.size + s.used;
   left = s.blocks.size - s.used;
   free = free_count s.blocks;
   uses = map use_of s.blocks.blocks;
   soiled = s.soiled.items;
+  copy_next = s.target * s.blocks.size + s.filled;
+  copy_left = s.blocks.size - s.filled;
+  victim = s.victim;
+  rows = map row_of s.blocks.blocks;
+  names = s.names.items;
 }
 
 -- the segment of a shape, of which no page was used
@@ -54,12 +64,17 @@ new_segment shape = record {
   size = shape.pages;
   held = replicate (shape.blocks * shape.pages) None;
   pairs = [];
-  pair_room = 0;
+  pair_room = 4 * shape.pages;
   next = shape.vblocks * shape.pages + shape.pages;
   left = 0;
   free = shape.pblocks;
   uses = replicate shape.pblocks (use_with true 0);
   soiled = replicate shape.blocks None;
+  copy_next = shape.vblocks * shape.pages + shape.pages;
+  copy_left = 0;
+  victim = None;
+  rows = replicate shape.pblocks (record { state = Free; dead = shape.pages });
+  names = replicate shape.blocks 0;
 }
 
 -- A live page is one of the segment, in a block that is not Free, and not one of those that are programmed next.

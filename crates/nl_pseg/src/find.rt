@@ -12,24 +12,10 @@ use crate::table::mark;
 use nl_field::Pointer;
 
 impl State {
-    /// The page to which the name leads.
-    pub fn resolve(&self, name: u32) -> u32
-        ensures { result ≡ resolve [] name }
-    {
-        name
-    }
-
     pub fn free_blocks(&self) -> u32
         ensures { result ≡ free_count self.now.blocks }
     {
         self.blocks.free()
-    }
-
-    /// The number of pairs.
-    pub fn pairs(&self) -> u32
-        ensures { result ≡ 0 }
-    {
-        0
     }
 
     /// What is live on a page.
@@ -90,6 +76,7 @@ impl State {
             return false;
         };
         self.end(place);
+        self.drop_names(place);
         true
     }
 }

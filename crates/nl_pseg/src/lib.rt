@@ -2,9 +2,15 @@
 //! sequence number.
 #![tactic(auto)]
 
+mod begin;
+mod clean;
+mod cleaned;
+mod copy;
+mod erase;
 mod find;
 mod give_back;
 mod held;
+mod names;
 mod open;
 mod pages;
 mod pseg;
@@ -16,5 +22,6 @@ mod table;
 mod tests;
 mod write;
 
+pub use cleaned::{Copied, Erasure};
 pub use held::Held;
 pub use pseg::PSeg;

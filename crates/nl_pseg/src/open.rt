@@ -7,7 +7,8 @@ ghost use Rattle.nl_pseg.specs.Seen.{seen, use_in, IsFormed};
 use crate::held::Held;
 use crate::state::State;
 use crate::table::{mark, shut, tell};
-use nl_field::Tag;
+use nl_blocks::BlockState;
+use nl_field::{Pointer, Tag};
 
 impl State {
     /// Nothing more is programmed in this block before it is erased.
@@ -26,6 +27,9 @@ impl State {
     {
         if block == self.active {
             self.used = self.blocks.pages();
+        }
+        if block == self.target {
+            self.filled = self.blocks.pages();
         }
     }
 
@@ -66,6 +70,28 @@ impl State {
         shut(&mut self.blocks, block, wear);
         mark(&mut self.blocks, page, true);
         self.held[page as usize] = Some(Held { tag, stamp });
+    }
+
+    /// The page is live under a name that is another page's number. The block of that page is not given out while it stands there.
+    pub fn load_moved(&mut self, page: u32, at: Pointer, tag: Tag) {
+        self.load(page, at.stamp, tag);
+        let block = at.name / self.blocks.pages();
+        self.set_aside(block);
+        self.add_pair(at.name, page);
+    }
+
+    /// Nothing more is programmed in the block of an old name, which waits for it where it is Free.
+    fn set_aside(&mut self, block: u32) {
+        if block < self.blocks.first() || block >= self.blocks.first() + self.blocks.count() {
+            return;
+        }
+        self.close(block);
+        match self.blocks.state(block) {
+            BlockState::Active | BlockState::Target => self.blocks.seal(block),
+            BlockState::Free => self.blocks.freed(block, 1),
+            BlockState::Retired(names) => self.blocks.freed(block, names + 1),
+            BlockState::Sealed | BlockState::Victim => {}
+        }
     }
 
     pub fn soil(&mut self, block: u32, wear: u32)

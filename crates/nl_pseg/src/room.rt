@@ -22,7 +22,7 @@ impl State {
     }
 
     /// Whether the block is erased before use.
-    fn is_soiled(&self, block: u32) -> bool
+    pub fn is_soiled(&self, block: u32) -> bool
         requires { block < length self.now.soiled.items }
         ensures { result ≡ is_soiled (seen self.now) block }
     {
@@ -30,7 +30,7 @@ impl State {
     }
 
     /// This block is written to. No page of it is used.
-    fn begin(&mut self, block: u32)
+    fn write_to(&mut self, block: u32)
         requires formed { IsFormed self.old }
         requires has { HasBlock self.old.blocks block }
         requires active { (block_at self.old.blocks block).state ≡ BlockState.Active }
@@ -67,13 +67,13 @@ impl State {
         }
         let block = take(&mut self.blocks);
         if !self.is_soiled(block) {
-            self.begin(block);
+            self.write_to(block);
             return WriteAnswer::Done;
         }
         let wear = self.blocks.wear(block);
         match media.erase(block) {
             WriteAnswer::Done => {
-                self.begin(block);
+                self.write_to(block);
                 WriteAnswer::Done
             }
             WriteAnswer::Failed => {

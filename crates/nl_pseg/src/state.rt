@@ -5,10 +5,11 @@ ghost use Rattle.nl_blocks.specs.Table.{block_at};
 ghost use Rattle.nl_pseg.specs.Seen.{new_segment, seen, IsFormed};
 ghost use Rattle.nl_pseg.specs.Steps.{IsUsed};
 
-use crate::held::{Held, no_marks, no_pages};
+use crate::held::{Held, no_marks, no_names, no_pages};
 use crate::table::{mark, seal_full};
 use nl_blocks::{BlockState, Blocks};
 use nl_field::{Memory, PageBuf, Shape};
+use nl_remap::Remap;
 use std::alloc::Global;
 
 /// What a segment keeps.
@@ -24,6 +25,17 @@ pub struct State {
     pub active: u32,
     /// How many of its pages are used.
     pub used: u32,
+    /// The block that copies are written to.
+    pub target: u32,
+    /// How many of its pages are used.
+    pub filled: u32,
+    /// The block whose live pages are moved away.
+    pub victim: Option<u32>,
+    /// No page of the victim before this one is live.
+    pub from: u32,
+    /// How many old names stand in each block of the medium.
+    pub names: Vec<u32>,
+    pub remap: Remap,
     pub buf: PageBuf,
 }
 
@@ -40,6 +52,12 @@ impl State {
             soiled: no_marks(alloc, shape.blocks)?,
             active: shape.vblocks,
             used: shape.pages,
+            target: shape.vblocks,
+            filled: shape.pages,
+            victim: None,
+            from: 0,
+            names: no_names(alloc, shape.blocks)?,
+            remap: Remap::new(alloc, 4 * shape.pages)?,
             buf: PageBuf::new(alloc)?,
         })
     }

@@ -27,6 +27,20 @@ pub fn take(blocks: &mut Blocks) -> u32
     }
 }
 
+/// Takes the least worn Free block for copies.
+pub fn take_target(blocks: &mut Blocks) -> u32
+    requires { 1 ≤ free_count blocks.old }
+    ensures has { HasBlock blocks.old result }
+    ensures was_free { (use_in blocks.old result).is_free ≡ true }
+    ensures target { (block_at blocks.new result).state ≡ BlockState.Target }
+    ensures taken { Restated result false (use_in blocks.old result).wear blocks.old blocks.new }
+{
+    match blocks.take_reserve() {
+        Some(block) => block,
+        None => unreachable!(),
+    }
+}
+
 /// Marks a page live or dead.
 pub fn mark(blocks: &mut Blocks, page: u32, live: bool)
     requires { HasBlock blocks.old (page / blocks.old.size) }
@@ -56,12 +70,26 @@ pub fn seal_full(blocks: &mut Blocks, block: u32, full: bool)
     }
 }
 
+/// Seals a block for copies, where it is full.
+pub fn seal_filled(blocks: &mut Blocks, block: u32, full: bool)
+    requires has { HasBlock blocks.old block }
+    requires target { (block_at blocks.old block).state ≡ BlockState.Target }
+    ensures same { SameUse blocks.old blocks.new }
+    ensures marks { SameMarks blocks.old blocks.new }
+    ensures more { full ≡ false → (block_at blocks.new block).state ≡ BlockState.Target }
+    ensures sealed { full ≡ true → (block_at blocks.new block).state ≡ BlockState.Sealed }
+{
+    if full {
+        blocks.seal(block);
+    }
+}
+
 /// The block is Free, with this wear.
 pub fn give_back(blocks: &mut Blocks, block: u32, wear: u32)
     requires { HasBlock blocks.old block }
     ensures { Restated block true wear blocks.old blocks.new }
 {
-    blocks.erased(block, 0);
+    blocks.freed(block, 0);
     blocks.found(block, wear, 0);
 }
 
@@ -79,9 +107,9 @@ pub fn tell(blocks: &mut Blocks, block: u32, wear: u32)
     requires { HasBlock blocks.old block }
     ensures { Restated block (use_in blocks.old block).is_free (cond (use_in blocks.old block).is_free (min (wear + 1) (2 ^ 32 - 1)) wear) blocks.old blocks.new }
 {
-    if is_free(blocks, block) {
-        give_back(blocks, block, wear.saturating_add(1));
-    } else {
-        shut(blocks, block, wear);
+    match blocks.state(block) {
+        BlockState::Free => blocks.found(block, wear.saturating_add(1), 0),
+        BlockState::Retired(names) => blocks.found(block, wear.saturating_add(1), names),
+        _ => shut(blocks, block, wear),
     }
 }

@@ -123,6 +123,7 @@ impl State {
         match self.place(media, tag, from, stamp) {
             Named::Placed(at) => {
                 self.end(place);
+                self.drop_names(place);
                 Named::Placed(at)
             }
             Named::Fault => Named::Fault,
