@@ -1,3 +1,4 @@
+mod Named
 pub mod Counts
 pub mod Forms
 pub mod GivenBack

@@ -1,5 +1,6 @@
 pub mod Answers
 pub mod Effects
+pub mod OldNames
 pub mod Pages
 pub mod Segment
 pub mod Space

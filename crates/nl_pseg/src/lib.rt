@@ -11,6 +11,7 @@ mod find;
 mod give_back;
 mod held;
 mod names;
+mod old_names;
 mod open;
 mod pages;
 mod pseg;
