@@ -20,6 +20,8 @@ mod room;
 mod state;
 mod table;
 #[cfg(test)]
+mod moves;
+#[cfg(test)]
 mod tests;
 mod write;
 
