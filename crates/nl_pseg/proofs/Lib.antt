@@ -1,3 +1,4 @@
+mod Tied
 mod Named
 pub mod Counts
 pub mod Forms

@@ -27,21 +27,6 @@ all_uses : (count size : ℕ) → map use_of (replicate count (new_row size)) �
 all_uses zero size = refl
 all_uses (suc count) size = ap (λ (us : List Use). use_with true 0 ∷ us) (all_uses count size)
 
-only : (count size i : ℕ) → (get_or (map use_of (replicate count (new_row size))) i no_use).is_kept ≡ (get_or (map use_of (replicate count (new_row size))) i no_use).is_free
-only zero size i = refl
-only (suc count) size zero = refl
-only (suc count) size (suc i) = only count size i
-
-pub only_new : (first count size block : ℕ) → (use_in (new_table first count size) block).is_kept ≡ (use_in (new_table first count size) block).is_free
-only_new first count size block = elim (cases_Bool (nat_le first block)) [
-  | inl from_is ↦
-      let e = use_from first (map use_of (replicate count (new_row size))) block (leb-true first block from_is) in
-      ap (λ (u : Use). u.is_kept) e ∙ (only count size (block - first) ∙ sym (ap (λ (u : Use). u.is_free) e))
-  | inr before ↦
-      let e = use_before first (map use_of (replicate count (new_row size))) block before in
-      ap (λ (u : Use). u.is_kept) e ∙ sym (ap (λ (u : Use). u.is_free) e)
-]
-
 pub all_none : (n v : ℕ) → get_or {A = Option Held} (replicate n None) v None ≡ None
 all_none zero v = refl
 all_none (suc n) zero = refl
@@ -113,7 +98,6 @@ module _ (shape : Shape) (roomy : IsRoomy shape) (s : State) (table : s.blocks �
           each = λ p has. ap (λ (t : Table). (page_at t p).state) table ∙ (ap (λ (q : Page). q.state) (new_pages shape.pblocks shape.pages (p / shape.pages - shape.vblocks) (p % shape.pages))
               ∙ sym (ap state_for (ap (λ (l : List (Option Held)). get_or l p None) held ∙ all_none (shape.blocks * shape.pages) p)));
         };
-        only_free = λ b. subst (λ (t : Table). (use_in t b).is_kept ≡ (use_in t b).is_free) (sym table) (only_new shape.vblocks shape.pblocks shape.pages b);
         places = record { each = λ p h named. absurd (none-some h (sym (all_none (shape.blocks * shape.pages) p) ∙ (ap (λ (l : List (Option Held)). get_or l p None) (sym held) ∙ named))) };
       }
 
@@ -147,7 +131,7 @@ module _ (shape : Shape) (roomy : IsRoomy shape) where
   pub new_taken : (p : ℕ) → InSegment (new_segment shape) p → TakenAsErased (new_segment shape) p
   new_taken p within =
       let below = div_below p shape.pages shape.blocks roomy.some within.1 in
-      inr (ap (λ (u : Use). u.is_free) (new_use (p / shape.pages) from below), new_clean (p / shape.pages))
+      inr (ap (λ (u : Use). u.is_kept) (new_use (p / shape.pages) from below), new_clean (p / shape.pages))
     where
       from : shape.vblocks ≤ p / shape.pages
       from = elim (cases_lt (p / shape.pages) shape.vblocks) [

@@ -1,12 +1,14 @@
 -- What the calls on the table of blocks do to the uses of blocks.
-use Rattle.std.proofs.Common.{◌≡◌, inl, inr, ⊎_elim, ℕ, ◌+◌, ◌-◌, ◌/◌, ◌%◌, ◌<◌, ◌≤◌, nat_le, Bool, false, cond, List, length, map, get_or, refl, sym, ◌∙◌, ap, subst, arith, length-set, set}
+use Rattle.std.proofs.Common.{◌≡◌, inl, inr, ⊎_elim, ℕ, zero, suc, ◌+◌, ◌-◌, ◌/◌, ◌%◌, ◌<◌, ◌≤◌, nat_le, Bool, true, false, cond, List, [], ◌∷◌, length, map, get_or, refl, sym, ◌∙◌, ap, subst, arith, length-set, set}
 use Rattle.std.proofs.lemmas.Bool.{cases_eq, cases_Bool, le-leb, leb-true, cond-true, cond-false}
 use Rattle.std.proofs.lemmas.List.{get_or-set_same, get_or-set_other, get_or-map, map-set}
+use Rattle.nl_blocks.specs.declared.states.BlockState.{BlockState}
+use Rattle.nl_blocks.specs.declared.states.BlockState.TheVariants as the
 use Rattle.nl_blocks.specs.declared.states.Page.{Page}
-use Rattle.nl_blocks.specs.Table.{BlockRow, Table, HasBlock, HasPage, block_at, new_page, no_row, page_at, with_block, is_free, free_count}
+use Rattle.nl_blocks.specs.Table.{BlockRow, Table, HasBlock, HasPage, block_at, new_page, no_row, page_at, with_block, is_free, is_free_state, free_count}
 use Rattle.nl_blocks.proofs.TableLaws.{sum_by-with_block, block_at-with_block_other}
 use Rattle.nl_pseg.specs.Segment.{Use, no_use, use_at}
-use Rattle.nl_pseg.specs.Seen.{use_of, use_in, use_with}
+use Rattle.nl_pseg.specs.Seen.{is_kept_state, use_of, use_in, use_with}
 use Rattle.nl_pseg.specs.Steps.{SameMarks, SameNumbers, SameUse, Restated}
 
 abbrev num : Bool → ℕ
@@ -24,6 +26,30 @@ use_before first uses block before = cond-false (nat_le first block) (get_or use
 
 pub use_here : (t : Table) (block : ℕ) → HasBlock t block → use_in t block ≡ use_of (block_at t block)
 use_here t block has = use_from t.first (map use_of t.blocks) block has.from ∙ get_or-map use_of t.blocks (block - t.first) no_row no_use (omega (arith, has.from, has.below))
+
+kept_state : (state : BlockState) → is_free_state state ≡ true → is_kept_state state ≡ true
+kept_state the.Free free = refl
+kept_state the.Active free = free
+kept_state the.Target free = free
+kept_state the.Sealed free = free
+kept_state the.Victim free = free
+kept_state (the.Retired names) free = refl
+
+kept_row : (rows : List BlockRow) (i : ℕ) → (get_or (map use_of rows) i no_use).is_free ≡ true → (get_or (map use_of rows) i no_use).is_kept ≡ true
+kept_row [] i free = free
+kept_row (row ∷ rows) zero free = kept_state row.state free
+kept_row (row ∷ rows) (suc i) free = kept_row rows i free
+
+-- a Free block is kept
+pub free_kept : (t : Table) (block : ℕ) → (use_in t block).is_free ≡ true → (use_in t block).is_kept ≡ true
+free_kept t block free = elim (cases_Bool (nat_le t.first block)) [
+  | inl from_is ↦
+      let e = use_from t.first (map use_of t.blocks) block (leb-true t.first block from_is) in
+      ap (λ (u : Use). u.is_kept) e ∙ kept_row t.blocks (block - t.first) (sym (ap (λ (u : Use). u.is_free) e) ∙ free)
+  | inr before ↦
+      let e = use_before t.first (map use_of t.blocks) block before in
+      ap (λ (u : Use). u.is_kept) e ∙ (sym (ap (λ (u : Use). u.is_free) e) ∙ free)
+]
 
 pub use_other : (t : Table) (block other : ℕ) (row : BlockRow) → HasBlock t block → (other ≡ block → ⊥) → use_in (with_block t block row) other ≡ use_in t other
 use_other t block other row has ne = elim (cases_Bool (nat_le t.first other)) [

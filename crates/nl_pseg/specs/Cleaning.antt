@@ -9,7 +9,7 @@ use Rattle.nl_field.specs.declared.pointer.Tag.{Tag}
 use Rattle.nl_pseg.specs.Effects.{Crashes, Programmed}
 use Rattle.nl_pseg.specs.Pages.{IsUnreadable, main_of, page_with}
 use Rattle.nl_pseg.specs.Segment.{HasSpare, InVictim, IsDead, IsOldName, Physical, held_at, is_free, is_sealed, is_waiting, room, row_at, soiled, wear_of}
-use Rattle.nl_pseg.specs.Space.{HasRoomForVictim, SameCleaning, dead_in, dead_pages, gain_of, landing, left_of, names_in, reach, victims, waiting}
+use Rattle.nl_pseg.specs.Space.{HasRoomForVictim, SameCleaning, dead_in, dead_pages, gain_of, landing, left_of, reach, victims, waiting}
 use Rattle.nl_pseg.specs.declared.cleaned.Copied.{Copied}
 use Rattle.nl_pseg.specs.declared.cleaned.Copied.TheVariants as copy
 use Rattle.nl_pseg.specs.declared.cleaned.Erasure.{Erasure}

@@ -2,14 +2,14 @@
 use Rattle.std.specs.Prelude.{◌≡◌, ◌⊎◌, ℕ, ◌+◌, ◌-◌, ◌*◌, ◌/◌, ◌<◌, ◌≤◌, ◌==◌, ◌&&◌, not, nat_le, if◌then◌else◌, Bool, true, false, cond, List, filter, slice_index_or, Contains, Option, Some, None, is_some, option_map, unwrap_or}
 use Rattle.nl_blocks.specs.declared.states.BlockState.{BlockState}
 use Rattle.nl_blocks.specs.declared.states.BlockState.TheVariants.{Sealed}
-use Rattle.nl_blocks.specs.Table.{is_retired_state, is_sealed_state}
+use Rattle.nl_blocks.specs.Table.{is_sealed_state}
 use Rattle.nl_field.specs.Live.{resolve}
 use Rattle.nl_field.specs.Page.{Image, erased, page_at}
 use Rattle.nl_field.specs.declared.pointer.Pointer.{Pointer}
 use Rattle.nl_pseg.specs.Pages.{shown_by, main_of}
 use Rattle.nl_pseg.specs.declared.held.Held.{Held}
 
--- What a block is good for: whether it is Free, whether it is kept for the cleaner, as it is Free or will be, and how often it was
+-- What a block is good for: whether it is Free, whether it is kept for the cleaner, as it is Free or waits to be, and how often it was
 -- erased as a page of it is programmed next.
 pub record Use : Type 0 where
   pub is_free : Bool
@@ -50,8 +50,6 @@ pub record Physical : Type 0 where
   pub victim : Option ℕ
   -- what cleaning knows of each block of the segment
   pub rows : List Row
-  -- how many old names stand in each block of the medium
-  pub names : List ℕ
 
 abbrev pub no_use : Use
 no_use = record { is_free = false; is_kept = false; wear = 0 }
@@ -70,9 +68,9 @@ row_in first rows block = if nat_le first block then slice_index_or rows (block 
 abbrev pub row_at : Physical → ℕ → Row
 row_at seg block = row_in seg.first seg.rows block
 
--- the block is erased, and not given out until old names in it are gone
+-- the block is not given out until old names in it are gone
 abbrev pub is_waiting : Physical → ℕ → Bool
-is_waiting seg block = is_retired_state (row_at seg block).state
+is_waiting seg block = (use_at seg.first seg.uses block).is_kept && not (use_at seg.first seg.uses block).is_free
 
 -- the block takes no more pages
 abbrev pub is_sealed : Physical → ℕ → Bool
@@ -148,15 +146,14 @@ without_target page pairs = filter (λ (pair : ℕ × ℕ). not (pair.1 == page)
 abbrev pub room : Physical → ℕ
 room seg = seg.left + (seg.free - 1) * seg.size
 
--- a block of the segment is kept for the cleaner
+-- a block of the segment is kept for the cleaner, or is the victim
 pub record KeepsBlock (seg : Physical) : Type 0 where
   pub block : ℕ
   pub from : seg.first ≤ block
   pub below : block < seg.blocks
-  pub kept : is_kept seg block ≡ true
+  pub kept : (is_kept seg block ≡ true) ⊎ (seg.victim ≡ Some block)
 
--- No page of a block that is kept for the cleaner is live, so that the block can be done without. It is asked while no victim is in
--- hand.
+-- no page of a block that is kept for the cleaner is live, so that the block can be done without
 abbrev pub KeptAreDead : Physical → Type 0
 KeptAreDead seg = (page : ℕ) (h : Held) → held_at seg page ≡ Some h → is_kept seg (page / seg.size) ≡ false
 
@@ -178,21 +175,17 @@ IsNext seg page = (seg.next ≤ page) × (page < seg.next + seg.left)
 
 -- the segment takes the page as erased
 abbrev pub TakenAsErased : Physical → ℕ → Type 0
-TakenAsErased seg page = IsNext seg page ⊎ ((is_free seg (page / seg.size) ≡ true) × (is_soiled seg (page / seg.size) ≡ false))
+TakenAsErased seg page = IsNext seg page ⊎ ((is_kept seg (page / seg.size) ≡ true) × (is_soiled seg (page / seg.size) ≡ false))
 
 -- the page is one of those that the next copies are programmed on
 abbrev pub IsNextCopy : Physical → ℕ → Type 0
 IsNextCopy seg page = (seg.copy_next ≤ page) × (page < seg.copy_next + seg.copy_left)
 
--- the segment takes the page as erased that is not for a new name yet: it is for a copy, or its block waits for its names
-abbrev pub TakenLater : Physical → ℕ → Type 0
-TakenLater seg page = IsNextCopy seg page ⊎ ((is_waiting seg (page / seg.size) ≡ true) × (is_soiled seg (page / seg.size) ≡ false))
-
 -- The image is one of this segment: each live page holds its owner and its number, and what the segment takes as erased is erased.
 pub record IsPhysicalOf (image : Image) (seg : Physical) : Type 0 where
   pub holds : (page : ℕ) (h : Held) → held_at seg page ≡ Some h → shown_by (page_at image page) ≡ Some (h.tag, h.stamp, main_of (page_at image page))
   pub blank : (page : ℕ) → TakenAsErased seg page → page_at image page ≡ erased
-  pub blank_later : (page : ℕ) → TakenLater seg page → page_at image page ≡ erased
+  pub blank_copy : (page : ℕ) → IsNextCopy seg page → page_at image page ≡ erased
 
 -- Some block can be done without on this image: no page of it is programmed next, and each live page of it stands in the victim too.
 pub record HasSpare (image : Image) (seg : Physical) : Type 0 where

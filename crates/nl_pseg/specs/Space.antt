@@ -1,7 +1,7 @@
 -- The numbers of a segment's space, and how they go on.
-use Rattle.std.specs.Prelude.{◌≡◌, ◌⊎◌, ℕ, ◌+◌, ◌-◌, ◌*◌, ◌/◌, ◌<◌, ◌≤◌, true, false, cond, List, [], length, sum_by, count_by, slice_index_or, Contains, AllPairs, Option, Some, None, is_some, option_map, unwrap_or}
-use Rattle.nl_blocks.specs.Table.{is_retired_state, is_sealed_state}
-use Rattle.nl_pseg.specs.Segment.{InSegment, IsOldName, IsUnspent, Physical, TakenAsErased, TakenLater, held_at, is_free, is_waiting, room, row_at, soiled}
+use Rattle.std.specs.Prelude.{◌≡◌, ◌⊎◌, ℕ, ◌+◌, ◌-◌, ◌*◌, ◌/◌, ◌<◌, ◌≤◌, ◌&&◌, not, true, false, cond, List, [], length, sum_by, count_by, Contains, AllPairs, Option, Some, None, is_some, option_map, unwrap_or}
+use Rattle.nl_blocks.specs.Table.{is_sealed_state}
+use Rattle.nl_pseg.specs.Segment.{InSegment, IsOldName, IsUnspent, Physical, IsNextCopy, TakenAsErased, held_at, is_free, is_kept, is_waiting, room, row_at, soiled}
 use Rattle.nl_pseg.specs.declared.held.Held.{Held}
 
 -- how many pages are live
@@ -12,17 +12,13 @@ live_in held = sum_by (λ h. cond (is_some h) 1 0) held
 abbrev pub dead_in : Physical → ℕ → ℕ
 dead_in seg block = (row_at seg block).dead
 
--- how many old names stand in a block
-abbrev pub names_in : Physical → ℕ → ℕ
-names_in seg block = slice_index_or seg.names block 0
-
 -- blocks in hand to be cleaned: one or none
 abbrev pub victims : Physical → ℕ
 victims seg = cond (is_some seg.victim) 1 0
 
 -- blocks that wait for their names
 abbrev pub waiting : Physical → ℕ
-waiting seg = count_by (λ row. is_retired_state row.state) seg.rows
+waiting seg = count_by (λ u. u.is_kept && not u.is_free) seg.uses
 
 -- live pages of the victim
 abbrev pub left_of : Physical → ℕ
@@ -54,8 +50,8 @@ HasRoomForVictim seg = left_of seg ≤ landing seg
 pub record HasPages (seg : Physical) : Type 0 where
   pub live_within : (page : ℕ) (h : Held) → held_at seg page ≡ Some h → InSegment seg page
   pub erased_within : (page : ℕ) → TakenAsErased seg page → InSegment seg page
-  pub later_within : (page : ℕ) → TakenLater seg page → InSegment seg page
-  pub in_use : (page : ℕ) (h : Held) → held_at seg page ≡ Some h → (is_free seg (page / seg.size) ≡ false) × (is_waiting seg (page / seg.size) ≡ false)
+  pub copies_within : (page : ℕ) → IsNextCopy seg page → InSegment seg page
+  pub in_use : (page : ℕ) (h : Held) → held_at seg page ≡ Some h → is_kept seg (page / seg.size) ≡ false
   pub own : (page : ℕ) (h : Held) → held_at seg page ≡ Some h → IsOldName seg page → ⊥
   pub to_live : (name target : ℕ) → Contains seg.pairs (name, target) → (h : Held) × (held_at seg target ≡ Some h)
   pub one_target : AllPairs (λ (p q : ℕ × ℕ). p.0 ≡ q.0 → ⊥) seg.pairs

@@ -13,7 +13,8 @@ use Rattle.nl_blocks.specs.Table.{page_at as page_in}
 use Rattle.nl_pseg.specs.Answers.{IfPlaced, IsFault, IsPlaced}
 use Rattle.nl_pseg.specs.Effects.{Crashes, Keeps, Programmed}
 use Rattle.nl_pseg.specs.Pages.{page_with}
-use Rattle.nl_pseg.specs.Segment.{Physical, IsClean, IsDead, IsNext, IsPhysicalOf, IsReady, IsSpent, IsUnspent, KeepsBlock, SamePages, TakenAsErased, erasures, is_free, is_soiled, soiled, use_at, wear_of}
+use Rattle.nl_pseg.specs.Segment.{Physical, IsClean, IsDead, IsNext, IsPhysicalOf, IsReady, IsSpent, IsUnspent, KeepsBlock, SamePages, TakenAsErased, erasures, is_free, is_kept, is_soiled, soiled, use_at, wear_of, IsOldName}
+use Rattle.nl_pseg.specs.Space.{waiting}
 use Rattle.nl_pseg.specs.Seen.{use_in, use_with}
 use Rattle.nl_pseg.specs.declared.held.Held.{Held}
 
@@ -59,9 +60,9 @@ pub record IsApart (block : ℕ) (old new : Physical) : Type 0 where
   pub next : new.next ≡ old.next
   pub left : new.left ≡ old.left
   pub idle : (p : ℕ) → IsNext old p → p / old.size ≡ block → ⊥
-  pub others_free : (other : ℕ) → (other ≡ block → ⊥) → is_free new other ≡ is_free old other
+  pub others_kept : (other : ℕ) → (other ≡ block → ⊥) → is_kept new other ≡ is_kept old other
   pub others_soiled : (other : ℕ) → (other ≡ block → ⊥) → soiled new other ≡ soiled old other
-  pub gone : is_free new block ≡ true → is_soiled new block ≡ false → ⊥
+  pub gone : is_kept new block ≡ true → is_soiled new block ≡ false → ⊥
 
 -- A block is Free, and no page is given out. Where it was in use, it is erased before use.
 pub record IsGivenBack (block : ℕ) (old new : Physical) : Type 0 where
@@ -75,6 +76,22 @@ pub record IsGivenBack (block : ℕ) (old new : Physical) : Type 0 where
   pub others_soiled : (other : ℕ) → (other ≡ block → ⊥) → soiled new other ≡ soiled old other
   pub erased : (p : ℕ) → TakenAsErased new p → TakenAsErased old p
   pub same : is_free old block ≡ true → new ≡ old
+
+-- Names are gone: a block that waited for them may be Free. Nothing else changed but the pairs.
+pub record NamesGone (old new : Physical) : Type 0 where
+  pub range : SameRange old new
+  pub held : new.held ≡ old.held
+  pub next : (new.next ≡ old.next) × (new.left ≡ old.left)
+  pub copies : (new.copy_next ≡ old.copy_next) × (new.copy_left ≡ old.copy_left)
+  pub victim : new.victim ≡ old.victim
+  pub same_soiled : new.soiled ≡ old.soiled
+  pub kept : (block : ℕ) → is_kept new block ≡ is_kept old block
+  pub wears : (block : ℕ) → wear_of new block ≡ wear_of old block
+  pub frees : (block : ℕ) → is_free old block ≡ true → is_free new block ≡ true
+  pub others : (block : ℕ) → is_kept old block ≡ false → is_free new block ≡ false
+  pub more : old.free ≤ new.free
+  pub blocks : new.free + waiting new ≡ old.free + waiting old
+  pub gone : (name : ℕ) → IsOldName new name → IsOldName old name
 
 -- every block is Free
 abbrev pub AllFree : Physical → Type 0
@@ -114,12 +131,14 @@ pub record IsOpened (block : ℕ) (old new : Physical) : Type 0 where
   pub held : new.held ≡ old.held
   pub full : old.left ≡ 0
   pub was_free : is_free old block ≡ true
+  pub was_kept : is_kept old block ≡ true
   pub next : new.next ≡ block * old.size
   pub left : new.left ≡ old.size
   pub free : new.free + 1 ≡ old.free
   pub some : 1 ≤ new.free
   pub kept : KeepsBlock new
   pub here : is_free new block ≡ false
+  pub in_use : is_kept new block ≡ false
   pub others : (other : ℕ) → (other ≡ block → ⊥) → use_at new.first new.uses other ≡ use_at old.first old.uses other
   pub soiled : new.soiled ≡ slice_set old.soiled block None
 

@@ -5,7 +5,7 @@ use nl_victim::{coldest, most_dead};
 impl State {
     /// Whether a victim can be begun, where there is one.
     fn may_begin(&self) -> bool {
-        self.victim.is_none() && self.remap.len() <= 2 * self.blocks.pages() && self.blocks.free() > 0
+        self.victim.is_none() && self.names.len() <= 2 * self.blocks.pages() && self.blocks.free() > 0
     }
 
     /// The block that is cleaned next.

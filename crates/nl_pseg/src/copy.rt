@@ -66,7 +66,7 @@ impl State {
         mark(&mut self.blocks, before, false);
         self.held[before as usize] = None;
         self.from = before % self.blocks.pages() + 1;
-        self.add_pair(before, after);
+        self.names.add(before, after);
     }
 
     /// Programs the buffer as the copy of a live page.

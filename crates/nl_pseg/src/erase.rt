@@ -6,7 +6,7 @@ use nl_nand::{Nand, WriteAnswer};
 impl State {
     /// The victim was erased.
     fn release(&mut self, victim: u32) {
-        let names = self.names[victim as usize];
+        let names = self.names.count(victim);
         self.blocks.erased(victim, names);
         self.soiled[victim as usize] = None;
         self.victim = None;

@@ -1,4 +1,4 @@
-ghost use Rattle.std.specs.Prelude.{◌≡◌, ◌↔◌, ◌<◌, [], slice_set, slice_index_or, None, IsSome, IfSome, IsTrue};
+ghost use Rattle.std.specs.Prelude.{◌≡◌, ◌↔◌, ◌<◌, slice_set, slice_index_or, None, IsSome, IfSome, IsTrue};
 ghost use Rattle.std.specs.Bool.{OnTrue, OnFalse};
 ghost use Rattle.nl_field.specs.Live.{resolve};
 ghost use Rattle.nl_field.specs.Page.{Image};
@@ -31,7 +31,7 @@ impl State {
     /// The page to which the pointer leads, where it is live under the pointer's number.
     pub fn place_of(&self, at: Pointer) -> Option<u32>
         requires { IsFormed self.now }
-        ensures some { IfSome result (λ place. place ≡ resolve [] at.name) }
+        ensures some { IfSome result (λ place. place ≡ resolve (seen self.now).pairs at.name) }
         ensures within { IfSome result (λ place. InSegment (seen self.now) place) }
         ensures live { IsSome result ↔ IsLive (seen self.now) at }
     {
@@ -66,7 +66,7 @@ impl State {
         requires formed { IsFormed self.old }
         ensures formed { IsFormed self.new }
         ensures found { IsTrue result ↔ IsLive (seen self.old) at }
-        ensures freed { OnTrue result (self.new.held.items ≡ slice_set self.old.held.items (resolve [] at.name) None) }
+        ensures freed { OnTrue result (self.new.held.items ≡ slice_set self.old.held.items (resolve (seen self.old).pairs at.name) None) }
         ensures pages { SamePages (seen self.old) (seen self.new) }
         ensures space { IsUnspent (seen self.old) (seen self.new) }
         ensures segment { (image : Image) → IsPhysicalOf image (seen self.old) → IsPhysicalOf image (seen self.new) }
@@ -75,8 +75,8 @@ impl State {
         let Some(place) = self.place_of(at) else {
             return false;
         };
-        self.end(place);
         self.drop_names(place);
+        self.end(place);
         true
     }
 }

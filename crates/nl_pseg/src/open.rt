@@ -77,7 +77,7 @@ impl State {
         self.load(page, at.stamp, tag);
         let block = at.name / self.blocks.pages();
         self.set_aside(block);
-        self.add_pair(at.name, page);
+        self.names.add(at.name, page);
     }
 
     /// Nothing more is programmed in the block of an old name, which waits for it where it is Free.

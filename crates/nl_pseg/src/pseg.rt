@@ -10,7 +10,7 @@ ghost use Rattle.nl_pseg.specs.Effects.{Counted, Crashes, Programmed};
 ghost use Rattle.nl_pseg.specs.Pages.{page_with};
 ghost use Rattle.nl_pseg.specs.Cleaning.{without_name};
 ghost use Rattle.nl_pseg.specs.Space.{GivesBack, HasRoomForVictim, IsWhole, Lessens, SameCleaning, reach, waiting};
-ghost use Rattle.nl_pseg.specs.Segment.{HasSpare, TakenLater, is_waiting, names_another_free, CanLead, InSegment, IsClean, IsDead, IsLive, IsNewStamp, IsOldName, IsPhysicalOf, IsReady, IsSpent, IsUnspent, KeepsBlock, KeptAreDead, SamePages, TakenAsErased, erasures, held_at, is_free, is_kept, room, soiled, wear_of, without_target};
+ghost use Rattle.nl_pseg.specs.Segment.{HasSpare, IsNextCopy, is_waiting, names_another_free, CanLead, InSegment, IsNext, IsClean, IsDead, IsLive, IsNewStamp, IsOldName, IsPhysicalOf, IsReady, IsSpent, IsUnspent, KeepsBlock, KeptAreDead, SamePages, TakenAsErased, erasures, held_at, is_free, is_kept, room, soiled, wear_of, without_target};
 ghost use Rattle.nl_pseg.specs.Seen.{Fits};
 ghost use Rattle.nl_pseg.specs.declared.held.Held.{Held as HeldOf};
 
@@ -63,7 +63,6 @@ impl PSeg {
         ensures pair_room { IfOk result (λ s. s.pair_room ≡ 4 * shape.now.pages) }
         ensures copies { IfOk result (λ s. s.copy_left ≡ 0) }
         ensures whole { IfOk result IsWhole }
-        ensures later { IfOk result (λ s. (page : ℕ) → TakenLater s page → ⊥) }
         ensures spare { IfOk result (λ s. (image : Image) → HasSpare image s) }
     {
         Ok(PSeg {
@@ -101,8 +100,8 @@ impl PSeg {
         ensures wear { wear_of self.new (page / self.old.size) ≡ unwrap_or (soiled self.old (page / self.old.size)) (wear_of self.old (page / self.old.size)) }
         ensures wears { (block : ℕ) → (block ≡ page / self.old.size → ⊥) → wear_of self.new block ≡ wear_of self.old block }
         ensures erased { (p : ℕ) → TakenAsErased self.new p → TakenAsErased self.old p × (p / self.old.size ≡ page / self.old.size → ⊥) }
-        ensures still { (p : ℕ) → TakenAsErased self.old p → (p / self.old.size ≡ page / self.old.size → ⊥) → (p / self.old.size ≡ at.name / self.old.size → ⊥) → TakenAsErased self.new p }
-        ensures later { (p : ℕ) → TakenLater self.new p → TakenAsErased self.old p ⊎ TakenLater self.old p }
+        ensures still { (p : ℕ) → TakenAsErased self.old p → (p / self.old.size ≡ page / self.old.size → ⊥) → (IsNext self.old p → p / self.old.size ≡ at.name / self.old.size → ⊥) → TakenAsErased self.new p }
+        ensures copies { (p : ℕ) → IsNextCopy self.new p → IsNextCopy self.old p }
         ensures kept { (1 ≤ self.new.free + waiting self.new) → KeepsBlock self.new }
         ensures spare { (image : Image) → 1 ≤ self.new.free + waiting self.new → HasSpare image self.new }
         ensures kept_dead { KeptAreDead self.new }
@@ -135,7 +134,7 @@ impl PSeg {
         ensures wears { (other : ℕ) → (other ≡ block → ⊥) → wear_of self.new other ≡ wear_of self.old other }
         ensures erased { (p : ℕ) → TakenAsErased self.new p → TakenAsErased self.old p × (p / self.old.size ≡ block → ⊥) }
         ensures still { (p : ℕ) → TakenAsErased self.old p → (p / self.old.size ≡ block → ⊥) → TakenAsErased self.new p }
-        ensures later { (p : ℕ) → TakenLater self.new p → TakenLater self.old p × (p / self.old.size ≡ block → ⊥) }
+        ensures copies { (p : ℕ) → IsNextCopy self.new p → IsNextCopy self.old p × (p / self.old.size ≡ block → ⊥) }
         ensures kept { KeepsBlock self.old → KeepsBlock self.new }
         ensures victim { self.new.victim ≡ None }
         ensures waits { (other : ℕ) → is_waiting self.new other ≡ is_waiting self.old other }
@@ -153,7 +152,7 @@ impl PSeg {
         ensures live { self.new.held ≡ self.old.held }
         ensures pairs { self.new.pairs ≡ self.old.pairs }
         ensures victim { self.new.victim ≡ None }
-        ensures later { (page : ℕ) → TakenLater self.new page → ⊥ }
+        ensures copies { self.new.copy_left ≡ 0 }
         ensures spare { (image : Image) → HasSpare image self.new }
         ensures first { self.new.first ≡ self.old.first }
         ensures blocks { self.new.blocks ≡ self.old.blocks }
@@ -233,7 +232,7 @@ impl PSeg {
         ensures spare { (image : Image) → HasSpare image self.old → HasSpare image self.new }
         ensures kept { OnFalse result (self.new ≡ self.old) }
         ensures kept_block { KeepsBlock self.old → KeepsBlock self.new }
-        ensures kept_dead { self.new.victim ≡ None → KeptAreDead self.new }
+        ensures kept_dead { KeptAreDead self.new }
     {
         self.state.free(at)
     }
@@ -291,7 +290,7 @@ impl PSeg {
         ensures failed { IsFault result → IsSpent self.old self.new ⊎ (IsUnspent self.old self.new × (IsReady self.old → ⊥)) }
         ensures clean { IsClean self.old → IsClean self.new }
         ensures kept { KeepsBlock self.old → KeepsBlock self.new }
-        ensures kept_dead { self.new.victim ≡ None → KeptAreDead self.new }
+        ensures kept_dead { KeptAreDead self.new }
         ensures whole { IsWhole self.new }
         ensures spare { M.tells → HasSpare (M.contents media.old) self.old → HasSpare (M.contents media.new) self.new }
         ensures within { (p : ℕ) → TakenAsErased self.new p → InSegment self.new p }
@@ -335,7 +334,7 @@ impl PSeg {
         ensures failed { IsFault result → IsSpent self.old self.new ⊎ (IsUnspent self.old self.new × (IsReady self.old → ⊥)) }
         ensures clean { IsClean self.old → IsClean self.new }
         ensures kept { KeepsBlock self.old → KeepsBlock self.new }
-        ensures kept_dead { self.new.victim ≡ None → KeptAreDead self.new }
+        ensures kept_dead { KeptAreDead self.new }
         ensures whole { IsWhole self.new }
         ensures spare { M.tells → HasSpare (M.contents media.old) self.old → HasSpare (M.contents media.new) self.new }
         ensures within { (p : ℕ) → TakenAsErased self.new p → InSegment self.new p }

@@ -5,11 +5,11 @@ ghost use Rattle.nl_blocks.specs.Table.{block_at};
 ghost use Rattle.nl_pseg.specs.Seen.{new_segment, seen, IsFormed};
 ghost use Rattle.nl_pseg.specs.Steps.{IsUsed};
 
-use crate::held::{Held, no_marks, no_names, no_pages};
+use crate::held::{Held, no_marks, no_pages};
+use crate::old_names::OldNames;
 use crate::table::{mark, seal_full};
 use nl_blocks::{BlockState, Blocks};
 use nl_field::{Memory, PageBuf, Shape};
-use nl_remap::Remap;
 use std::alloc::Global;
 
 /// What a segment keeps.
@@ -33,9 +33,7 @@ pub struct State {
     pub victim: Option<u32>,
     /// No page of the victim before this one is live.
     pub from: u32,
-    /// How many old names stand in each block of the medium.
-    pub names: Vec<u32>,
-    pub remap: Remap,
+    pub names: OldNames,
     pub buf: PageBuf,
 }
 
@@ -56,8 +54,7 @@ impl State {
             filled: shape.pages,
             victim: None,
             from: 0,
-            names: no_names(alloc, shape.blocks)?,
-            remap: Remap::new(alloc, 4 * shape.pages)?,
+            names: OldNames::new(alloc, 4 * shape.pages, shape.pages, shape.blocks)?,
             buf: PageBuf::new(alloc)?,
         })
     }

@@ -1,4 +1,4 @@
-ghost use Rattle.std.specs.Prelude.{◌≡◌, ◌⊎◌, ◌*◌, ◌/◌, ◌<◌, ◌↔◌, [], slice_set, None, Some, IsTrue};
+ghost use Rattle.std.specs.Prelude.{◌≡◌, ◌⊎◌, ◌*◌, ◌/◌, ◌<◌, ◌↔◌, slice_set, None, Some, IsTrue};
 ghost use Rattle.nl_field.specs.Live.{resolve};
 ghost use Rattle.nl_field.specs.Page.{written};
 ghost use Rattle.nl_field.specs.Spelling.{is_stamp};
@@ -107,7 +107,7 @@ impl State {
         ensures live { result ≡ Named.NotLive ↔ (IsLive (seen self.old) old → ⊥) }
         ensures full { result ≡ Named.NoPage ↔ (IsLive (seen self.old) old × (room (seen self.old) ≡ 0)) }
         ensures refused { (result ≡ Named.NotLive) ⊎ (result ≡ Named.NoPage) → (seen self.new ≡ seen self.old) × (media.new ≡ media.old) }
-        ensures placing { Placing stamp (λ at. slice_set (slice_set self.old.held.items at.name (Some (record { tag = tag; stamp = stamp }))) (resolve [] old.name) None) result (seen self.old) (seen self.new) }
+        ensures placing { Placing stamp (λ at. slice_set (slice_set self.old.held.items at.name (Some (record { tag = tag; stamp = stamp }))) (resolve (seen self.old).pairs old.name) None) result (seen self.old) (seen self.new) }
         ensures segment { M.tells → IsPhysicalOf (M.contents media.new) (seen self.new) }
         ensures programmed { M.tells → IfPlaced result (λ at. Programmed (seen self.old) at.name (written (page_with from.now.main tag stamp (wear_of (seen self.old) (at.name / self.old.blocks.size)))) (M.contents media.old) (M.contents media.new)) }
         ensures crash { M.tells → Crashes M.clock M.contents M.left (seen self.old) tag stamp from.now.main media.old media.new result }
@@ -122,8 +122,8 @@ impl State {
         }
         match self.place(media, tag, from, stamp) {
             Named::Placed(at) => {
-                self.end(place);
                 self.drop_names(place);
+                self.end(place);
                 Named::Placed(at)
             }
             Named::Fault => Named::Fault,

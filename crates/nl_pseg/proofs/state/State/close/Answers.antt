@@ -13,7 +13,6 @@ returns-then-block-self-clause-formed c =
       active_in = c.requires.active_in;
       used_fits = omega (arith, e);
       taken = λ lt. absurd (omega (arith, e, lt));
-      only_free = c.requires.only_free;
       marked = c.requires.marked;
       places = record {
         each = λ p h named.

@@ -1,7 +1,7 @@
 use Rattle.std.proofs.Common.{◌≡◌, ◌+◌, ◌*◌, ◌/◌, ◌<◌, false, Some, None, length, set, get_or, refl, sym, ◌∙◌, ap, subst, arith, unwrap_or}
 use Rattle.std.proofs.lemmas.Bool.{true≢false}
 use Rattle.nl_blocks.specs.Table.{Table}
-use Rattle.nl_pseg.specs.Segment.{Use, InSegment, is_free}
+use Rattle.nl_pseg.specs.Segment.{Use, InSegment, is_kept}
 use Rattle.nl_pseg.specs.Seen.{IsPlace, seen, use_in}
 use Rattle.nl_pseg.specs.Steps.{IsApart}
 use Rattle.nl_pseg.specs.declared.held.Held.{Held}
@@ -28,7 +28,7 @@ returns-clause-formed c =
     let n = numbers_then c.shut.ensures.numbers c.mark.ensures.same.numbers in
     let size = ap (λ (k : Table). k.size) c.close.ensures.table in
     let same_block : c.args.page / t.size ≡ block = ap (λ k. c.args.page / k) (n.same_size ∙ (size ∙ sym c.pages.ensures)) in
-    let free : is_free (seen x) block ≡ false = ap (λ (u : Use). u.is_free) (c.mark.ensures.same.uses block ∙ c.shut.ensures.here) in
+    let free : is_kept (seen x) block ≡ false = ap (λ (u : Use). u.is_kept) (c.mark.ensures.same.uses block ∙ c.shut.ensures.here) in
     let within : InSegment (seen x) c.args.page =
     (let low : t.first * t.size ≡ c.args.self.now.blocks.first * c.args.self.now.blocks.size = (λ i. (n.same_first ∙ ap (λ (k : Table). k.first) c.close.ensures.table) i * (n.same_size ∙ size) i) in
     let count : length t.blocks ≡ length c.args.self.now.blocks.blocks = n.same_count ∙ ap (λ (k : Table). length k.blocks) c.close.ensures.table in
@@ -36,7 +36,7 @@ returns-clause-formed c =
     (omega (arith, low, c.requires.dead.within.0), omega (arith, high, c.requires.dead.within.1))) in
     let place : IsPlace (record (seen x) { held = set s.held.items c.args.page (Some h) }) c.args.page h = record {
       within = within;
-      in_use = ap (λ b. (use_in t b).is_free) same_block ∙ free;
+      in_use = ap (λ b. (use_in t b).is_kept) same_block ∙ free;
       behind = λ next.
           let room : s.used < t.size = omega (arith, next.0, next.1) in
           c.close.ensures.idle (subst (λ k. s.used < k) n.same_size room) (sym same_block ∙ block_of c.args.page t.size s.active (omega (arith, next.0)) (omega (arith, next.1, room)));
@@ -70,9 +70,9 @@ returns-clause-erased c p taken =
       next = next_is s is t n;
       left = left_is s is t n;
       idle = λ q next at. let room : s.used < s.blocks.size = omega (arith, next.0, next.1) in c.close.ensures.idle room (sym at ∙ next_block s is room q next);
-      others_free = λ b ne. ap (λ (u : Use). u.is_free) (c.mark.ensures.same.uses b ∙ c.shut.ensures.others b ne);
+      others_kept = λ b ne. ap (λ (u : Use). u.is_kept) (c.mark.ensures.same.uses b ∙ c.shut.ensures.others b ne);
       others_soiled = λ b ne. refl;
-      gone = λ free clean. true≢false (sym free ∙ ap (λ (u : Use). u.is_free) (c.mark.ensures.same.uses block ∙ c.shut.ensures.here));
+      gone = λ free clean. true≢false (sym free ∙ ap (λ (u : Use). u.is_kept) (c.mark.ensures.same.uses block ∙ c.shut.ensures.here));
     } in
     let out = apart_taken apart p taken in
     (c.close.ensures.erased p out.0, λ at. out.1 (ap (λ k. p / k) size ∙ (at ∙ ap (λ k. c.args.page / k) (sym c.pages.ensures))))

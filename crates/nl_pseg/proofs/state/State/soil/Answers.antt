@@ -2,12 +2,13 @@ use Rattle.std.proofs.Common.{◌+◌, ◌/◌, ◌<◌, Some, None, length, set
 use Rattle.std.proofs.lemmas.Bool.{true≢false}
 use Rattle.std.proofs.lemmas.List.{get_or-set_same, get_or-set_other}
 use Rattle.nl_blocks.specs.Table.{HasBlock, Table}
-use Rattle.nl_pseg.specs.Segment.{Use, is_free}
+use Rattle.nl_pseg.specs.Segment.{Use, is_kept}
 use Rattle.nl_pseg.specs.Seen.{seen}
 use Rattle.nl_pseg.specs.Steps.{IsApart}
 use Rattle.nl_pseg.proofs.Forms.{formed_marks, formed_restated, next_is, left_is}
 use Rattle.nl_pseg.proofs.Segments.{apart_taken}
 use Rattle.nl_pseg.proofs.States.{next_block}
+use Rattle.nl_pseg.proofs.Tables.{free_kept}
 use Rattle.nl_pseg.proofs.state.State.soil.Goals as goal
 
 pub returns-clause-formed : goal.returns-clause-formed
@@ -16,7 +17,7 @@ returns-clause-formed c =
     let is = c.close.ensures.formed in
     formed_marks (record s { blocks = c.tell.new.blocks }) c.args.block (Some c.args.wear)
     (formed_restated s c.tell.new.blocks c.args.block _ _ is c.tell.ensures c.close.ensures.idle
-    (λ yes p h named here. true≢false (sym yes ∙ (ap (is_free (seen s)) (sym here) ∙ (is.places.each p h named).in_use))))
+    (λ yes p h named here. true≢false (sym (free_kept s.blocks c.args.block yes) ∙ (ap (is_kept (seen s)) (sym here) ∙ (is.places.each p h named).in_use))))
 
 pub returns-clause-erased : goal.returns-clause-erased
 returns-clause-erased c p taken =
@@ -32,7 +33,7 @@ returns-clause-erased c p taken =
       next = next_is s is t n;
       left = left_is s is t n;
       idle = λ q next at. let room : s.used < s.blocks.size = omega (arith, next.0, next.1) in c.close.ensures.idle room (sym at ∙ next_block s is room q next);
-      others_free = λ b ne. ap (λ (u : Use). u.is_free) (c.tell.ensures.others b ne);
+      others_kept = λ b ne. ap (λ (u : Use). u.is_kept) (c.tell.ensures.others b ne);
       others_soiled = λ b ne. get_or-set_other s.soiled.items c.args.block b (Some c.args.wear) None ne;
       gone = λ free clean. true≢false (sym (ap is_some (get_or-set_same s.soiled.items c.args.block (Some c.args.wear) None within)) ∙ clean);
     } in

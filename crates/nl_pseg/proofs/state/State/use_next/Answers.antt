@@ -53,6 +53,5 @@ returns-clause-formed c =
       active_in = has_same s.active n is.active_in;
       used_fits = let e = n.same_size in let room = c.requires.room in omega (arith, e, room);
       taken = λ lt. c.seal_full.ensures.more (ne_eqb (s.used + 1) c.pages-pages.result (λ full. let e = n.same_size in let p = c.pages-pages.ensures in omega (arith, lt, full, e, p)));
-      only_free = λ b. ap (λ (u : Use). u.is_kept) (same.uses b) ∙ (is.only_free b ∙ sym (ap (λ (u : Use). u.is_free) (same.uses b)));
       places = used_places used is.some (within_length s is (s.active * s.blocks.size + s.used) segment) segment (next_in_use s is c.requires.room (s.active * s.blocks.size + s.used) next) c.requires.spelled is.places;
     }

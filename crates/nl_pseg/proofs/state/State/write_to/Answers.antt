@@ -1,6 +1,6 @@
 use Rattle.std.proofs.Common.{None, ◌∙◌, arith, length-set}
 use Rattle.nl_pseg.proofs.Numbers.{block_of}
-use Rattle.nl_pseg.proofs.state.State.begin.Goals as goal
+use Rattle.nl_pseg.proofs.state.State.write_to.Goals as goal
 
 pub returns-clause-formed : goal.returns-clause-formed
 returns-clause-formed c =
@@ -14,7 +14,6 @@ returns-clause-formed c =
       active_in = c.requires.has;
       used_fits = omega arith;
       taken = λ lt. c.requires.active;
-      only_free = is.only_free;
       marked = is.marked;
       places = record {
         each = λ p h named.

@@ -1,0 +1,53 @@
+-- How the pairs of a state, and what its blocks are used for, go on.
+use Rattle.std.proofs.Common.{◌≡◌, ◌⊎◌, inl, inr, ⊎_elim, ℕ, ◌+◌, ◌-◌, ◌*◌, ◌/◌, ◌<◌, ◌≤◌, Bool, true, false, Option, Some, None, length, refl, sym, ◌∙◌, ap, subst, arith}
+use Rattle.std.proofs.lemmas.Bool.{cases_eq}
+use Rattle.nl_blocks.specs.declared.states.BlockState.{BlockState}
+use Rattle.nl_blocks.specs.declared.states.BlockState.TheVariants.{Free, Active, Target, Sealed, Victim, Retired}
+use Rattle.nl_blocks.specs.Table.{Table, HasBlock, block_at}
+use Rattle.nl_remap.specs.Links.{HasLink}
+use Rattle.nl_remap.specs.Table.{IsOld, IsRemap}
+use Rattle.nl_remap.specs.declared.links.Link.{Link}
+use Rattle.nl_pseg.specs.OldNames.{NameTable, names_among}
+use Rattle.nl_pseg.specs.Segment.{held_at}
+use Rattle.nl_pseg.specs.Seen.{HasPhases, IsNamed, IsStanding, seen}
+use Rattle.nl_pseg.specs.Steps.{SameNumbers}
+use Rattle.nl_pseg.specs.declared.held.Held.{Held}
+use Rattle.nl_pseg.specs.declared.state.State.{State}
+use Rattle.nl_pseg.proofs.Tables.{has_same}
+
+back : {a b : Table} → SameNumbers a b → SameNumbers b a
+back n = record { same_first = sym n.same_first; same_size = sym n.same_size; same_count = sym n.same_count }
+
+-- The same pairs: each old name stands still and is no live page, each pair leads to a live page, and no other block waits.
+pub named_on : (s x : State) → IsNamed s → x.names ≡ s.names → SameNumbers s.blocks x.blocks → ((p : ℕ) (h : Held) → held_at (seen x) p ≡ Some h → IsOld s.names.pairs p → ⊥)
+    → ((pair : Link) → HasLink s.names.pairs pair → (h : Held) × (held_at (seen x) pair.to ≡ Some h)) → ((n : ℕ) → IsOld s.names.pairs n → IsStanding (seen s) n → IsStanding (seen x) n)
+    → ((b k : ℕ) → HasBlock s.blocks b → (block_at x.blocks b).state ≡ Retired k → (block_at s.blocks b).state ≡ Retired k) → IsNamed x
+named_on s x is same n own live stands waits = record {
+  size = ap (λ (t : NameTable). t.size) same ∙ (is.size ∙ sym n.same_size);
+  blocks = ap (λ (t : NameTable). t.blocks) same ∙ (is.blocks ∙ (λ i. sym n.same_first i + sym n.same_count i));
+  room = ap (λ (t : NameTable). length t.pairs + t.room) same ∙ (is.room ∙ ap (λ k. 4 * k) (sym n.same_size));
+  remap = subst (λ (t : NameTable). IsRemap t.pairs) (sym same) is.remap;
+  standing = λ name old. let was : IsOld s.names.pairs name = subst (λ (t : NameTable). IsOld t.pairs name) same old in stands name was (is.standing name was);
+  own = λ p h held old. own p h held (subst (λ (t : NameTable). IsOld t.pairs p) same old);
+  to_live = λ pair has. live pair (subst (λ (t : NameTable). HasLink t.pairs pair) same has);
+  waits = λ b k has state. is.waits b k (has_same b (back n) has) (waits b k (has_same b (back n) has) state) ∙ (λ i. names_among (sym n.same_size i) b (sym same i).pairs);
+}
+
+-- The states of all blocks but one are as they were, and that one's is none of those that are written to, or it is one that is.
+pub record Stays (s x : State) (block : ℕ) (state : BlockState) : Type 0 where
+  pub numbers : SameNumbers s.blocks x.blocks
+  pub here : (block_at x.blocks block).state ≡ state
+  pub others : (b : ℕ) → HasBlock s.blocks b → (b ≡ block → ⊥) → (block_at x.blocks b).state ≡ (block_at s.blocks b).state
+
+-- all states are as they were
+pub phases_same : (s x : State) → HasPhases s → SameNumbers s.blocks x.blocks → ((b : ℕ) → (block_at x.blocks b).state ≡ (block_at s.blocks b).state)
+    → x.active ≡ s.active → x.used ≡ s.used → x.target ≡ s.target → x.filled ≡ s.filled → x.victim ≡ s.victim → HasPhases x
+phases_same s x is n states active used target filled victim = record {
+  target_in = subst (HasBlock x.blocks) (sym target) (has_same s.target n is.target_in);
+  filled_fits = let e = n.same_size in let f = is.filled_fits in omega (arith, e, f, filled);
+  filling = λ lt. ap (λ b. (block_at x.blocks b).state) target ∙ (states s.target ∙ is.filling (let e = n.same_size in omega (arith, lt, e, filled)));
+  one_active = λ b has st. let w = is.one_active b (has_same b (back n) has) (sym (states b) ∙ st) in (w.0 ∙ sym active, let l = w.1 in let e = n.same_size in omega (arith, l, e, used));
+  one_target = λ b has st. let w = is.one_target b (has_same b (back n) has) (sym (states b) ∙ st) in (w.0 ∙ sym target, let l = w.1 in let e = n.same_size in omega (arith, l, e, filled));
+  one_victim = λ b has st. victim ∙ is.one_victim b (has_same b (back n) has) (sym (states b) ∙ st);
+  victim_in = λ b named. let w = is.victim_in b (sym victim ∙ named) in (has_same b n w.0, states b ∙ w.1);
+}
