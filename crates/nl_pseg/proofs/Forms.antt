@@ -130,4 +130,5 @@ module _ (s : State) (t : Table) (same : SameUse s.blocks t) where
     same_free = λ b. ap (λ (u : Use). u.is_free) (same.uses b);
     same_kept = λ b. ap (λ (u : Use). u.is_kept) (same.uses b);
     same_soiled = λ b. refl;
+    copies = (λ i. s.target * same.numbers.same_size i + s.filled, λ i. same.numbers.same_size i - s.filled);
   }

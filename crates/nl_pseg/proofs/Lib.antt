@@ -1,3 +1,4 @@
+mod Used
 mod Tied
 mod Named
 pub mod Counts

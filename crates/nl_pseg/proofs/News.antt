@@ -58,13 +58,17 @@ module _ (shape : Shape) (roomy : IsRoomy shape) (s : State) (table : s.blocks �
     blocks = last i;
     size = size i;
     held = held i;
-    pairs = [];
-    pair_room = 0;
+    pairs = pairs i;
+    pair_room = pair_room i;
     next = active i * size i + used i;
     left = left i;
     free = free i;
     uses = uses i;
     soiled = soiled i;
+    copy_next = target i * size i + filled i;
+    copy_left = copies i;
+    victim = victim i;
+    rows = rows i;
   }
     where
       first : s.blocks.first ≡ shape.vblocks
@@ -112,7 +116,7 @@ module _ (shape : Shape) (roomy : IsRoomy shape) where
   new_kept =
       let all = roomy.all in
       let many = roomy.blocks in
-      record { block = shape.vblocks; from = omega arith; below = omega (arith, all, many); kept = ap (λ (u : Use). u.is_kept) (new_use shape.vblocks (omega arith) (omega (arith, all, many))) }
+      record { block = shape.vblocks; from = omega arith; below = omega (arith, all, many); kept = inl (ap (λ (u : Use). u.is_kept) (new_use shape.vblocks (omega arith) (omega (arith, all, many)))) }
 
   pub new_room : room (new_segment shape) + shape.pages ≡ shape.pblocks * shape.pages
   new_room =

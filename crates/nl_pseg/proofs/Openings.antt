@@ -33,7 +33,7 @@ some_free t some =
     (t.first + row.0, has, ap (λ (u : Use). u.is_free) (use_here t (t.first + row.0) has) ∙ (ap (λ n. is_free (row_at t.blocks n)) (omega arith) ∙ row.2))
 
 pub some_kept : (s : State) → IsFormed s → 1 ≤ free_count s.blocks → KeepsBlock (seen s)
-some_kept s is some = let free = some_free s.blocks some in record { block = free.0; from = free.1.from; below = free.1.below; kept = free_kept s.blocks free.0 free.2 }
+some_kept s is some = let free = some_free s.blocks some in record { block = free.0; from = free.1.from; below = free.1.below; kept = inl (free_kept s.blocks free.0 free.2) }
 
 -- a block that was taken is opened
 pub opened : (s : State) (t : Table) (block : ℕ) → IsFormed s → s.blocks.size ≤ s.used → 2 ≤ free_count s.blocks → Restated block false (use_in s.blocks block).wear s.blocks t → (use_in s.blocks block).is_free ≡ true
@@ -66,6 +66,7 @@ opened s t block is full two r free formed =
       in_use = ap (λ (u : Use). u.is_kept) r.here;
       others = λ b ne. r.others b ne;
       soiled = refl;
+      names = record { same_pairs = refl; same_pair_room = refl; same_victim = refl; copies = (λ i. s.target * r.numbers.same_size i + s.filled, λ i. r.numbers.same_size i - s.filled) };
     }
 
 -- the page that is programmed next is the first one of the block

@@ -4,7 +4,7 @@ use Rattle.std.proofs.lemmas.Bool.{cases_eq, cases_Bool, cases_lt, leb-true, tru
 use Rattle.std.proofs.lemmas.List.{get_or-set_same, get_or-set_other, get_or_past, get_or_read}
 use Rattle.std.proofs.lemmas.Option.{none-some, same_Some}
 use Rattle.nl_field.specs.Spelling.{is_stamp}
-use Rattle.nl_pseg.specs.Segment.{Physical, Use, IsNext, InSegment, IsUnspent, SamePages, TakenAsErased, held_at, is_free, is_kept, is_soiled, no_use, stamp_in, use_at}
+use Rattle.nl_pseg.specs.Segment.{Physical, Use, IsNext, IsNextCopy, InSegment, IsUnspent, SamePages, TakenAsErased, held_at, is_free, is_kept, is_soiled, no_use, stamp_in, use_at}
 use Rattle.nl_pseg.specs.Seen.{ArePlaces, IsPlace}
 use Rattle.nl_pseg.specs.Steps.{IsApart, IsUsed, IsOpened, SameRange}
 use Rattle.nl_pseg.specs.declared.held.Held.{Held}
@@ -80,6 +80,10 @@ pages_then first second = record {
   same_size = second.same_size ∙ first.same_size;
   same_wear = λ block. second.same_wear block ∙ first.same_wear block;
 }
+
+-- the same pages for copies
+pub copy_same : (old new : Physical) (p : ℕ) → (new.copy_next ≡ old.copy_next) × (new.copy_left ≡ old.copy_left) → IsNextCopy new p → IsNextCopy old p
+copy_same old new p same next = let a = same.0 in let b = same.1 in (omega (arith, a, next.0), omega (arith, a, b, next.1))
 
 -- a place stays one
 pub place_same : {old new : Physical} (p : ℕ) (h : Held) → SameRange old new → (is_kept new (p / old.size) ≡ false) → (IsNext new p → ⊥) → IsPlace old p h → IsPlace new p h

@@ -1,21 +1,24 @@
 -- How the pairs of a state, and what its blocks are used for, go on.
 use Rattle.std.proofs.Common.{◌≡◌, ◌⊎◌, inl, inr, ⊎_elim, ℕ, ◌+◌, ◌-◌, ◌*◌, ◌/◌, ◌<◌, ◌≤◌, Bool, true, false, Option, Some, None, length, refl, sym, ◌∙◌, ap, subst, arith}
-use Rattle.std.proofs.lemmas.Bool.{cases_eq}
+use Rattle.std.proofs.lemmas.Bool.{cases_eq, true≢false}
+use Rattle.std.proofs.lemmas.List.{get_or-map, length-map}
 use Rattle.nl_blocks.specs.declared.states.BlockState.{BlockState}
 use Rattle.nl_blocks.specs.declared.states.BlockState.TheVariants.{Free, Active, Target, Sealed, Victim, Retired}
 use Rattle.nl_blocks.specs.Table.{Table, HasBlock, block_at}
-use Rattle.nl_remap.specs.Links.{HasLink}
+use Rattle.nl_remap.specs.Links.{HasLink, link_at, no_link}
 use Rattle.nl_remap.specs.Table.{IsOld, IsRemap}
 use Rattle.nl_remap.specs.declared.links.Link.{Link}
 use Rattle.nl_pseg.specs.OldNames.{NameTable, names_among}
-use Rattle.nl_pseg.specs.Segment.{held_at}
-use Rattle.nl_pseg.specs.Seen.{HasPhases, IsNamed, IsStanding, seen}
+use Rattle.nl_pseg.specs.Segment.{IsNext, IsNextCopy, IsOldName, held_at, is_free}
+use Rattle.nl_pseg.specs.Seen.{HasPhases, IsFormed, IsNamed, IsStanding, IsTied, seen}
 use Rattle.nl_pseg.specs.Steps.{SameNumbers}
 use Rattle.nl_pseg.specs.declared.held.Held.{Held}
 use Rattle.nl_pseg.specs.declared.state.State.{State}
+use Rattle.nl_pseg.proofs.Numbers.{block_of}
+use Rattle.nl_pseg.proofs.States.{next_block}
 use Rattle.nl_pseg.proofs.Tables.{has_same}
 
-back : {a b : Table} → SameNumbers a b → SameNumbers b a
+pub back : {a b : Table} → SameNumbers a b → SameNumbers b a
 back n = record { same_first = sym n.same_first; same_size = sym n.same_size; same_count = sym n.same_count }
 
 -- The same pairs: each old name stands still and is no live page, each pair leads to a live page, and no other block waits.
@@ -51,3 +54,44 @@ phases_same s x is n states active used target filled victim = record {
   one_victim = λ b has st. victim ∙ is.one_victim b (has_same b (back n) has) (sym (states b) ∙ st);
   victim_in = λ b named. let w = is.victim_in b (sym victim ∙ named) in (has_same b n w.0, states b ∙ w.1);
 }
+
+-- an old name that is seen is one of the table
+pub old_is : (s : State) (n : ℕ) → IsOldName (seen s) n → IsOld s.names.pairs n
+old_is s n old =
+    let turn : Link → ℕ × ℕ = λ p. (p.from, p.to) in
+    let within : old.1.0 < length s.names.pairs = subst (λ k. old.1.0 < k) (length-map s.names.pairs turn) old.1.1 in
+    let e : turn (link_at s.names.pairs old.1.0) ≡ (n, old.0) = sym (get_or-map turn s.names.pairs old.1.0 no_link (n, old.0) within) ∙ old.1.2 in
+    (old.1.0, within, ap (λ (p : ℕ × ℕ). p.0) e)
+
+module _ (s : State) (is : IsFormed s) (tied : IsTied s) where
+  -- a page that is taken for a copy lies in a Target block
+  pub copy_target : (p : ℕ) → IsNextCopy (seen s) p → (p / s.blocks.size ≡ s.target) × ((block_at s.blocks s.target).state ≡ Target)
+  copy_target p next =
+      let some = is.some in
+      let fits = tied.phases.filled_fits in
+      let room : s.filled < s.blocks.size = omega (arith, next.0, next.1) in
+      (block_of p s.blocks.size s.target (omega (arith, next.0)) (omega (arith, next.1, fits)), tied.phases.filling room)
+
+  -- a page of a kept block is no old name, where that is Free, and none for copies; nor is it in the victim
+  pub free_own : (block : ℕ) → is_free (seen s) block ≡ true → (p : ℕ) → p / s.blocks.size ≡ block → IsOldName (seen s) p → ⊥
+  free_own block free p at old = true≢false (sym free ∙ (ap (is_free (seen s)) (sym at) ∙ (tied.named.standing p (old_is s p old)).in_use))
+
+  module _ (block : ℕ) (has : HasBlock s.blocks block) (state : BlockState) (st : (block_at s.blocks block).state ≡ state) where
+    pub not_victim : (state ≡ Victim → ⊥) → s.victim ≡ Some block → ⊥
+    not_victim other named = other (sym st ∙ (tied.phases.victim_in block named).1)
+
+    pub not_copy : (state ≡ Target → ⊥) → (p : ℕ) → IsNextCopy (seen s) p → p / s.blocks.size ≡ block → ⊥
+    not_copy other p next at =
+        let w = copy_target p next in
+        other (sym st ∙ (ap (λ b. (block_at s.blocks b).state) (sym at ∙ w.0) ∙ w.1))
+
+  -- a page that is programmed next is no old name, none for copies, and not in the victim
+  pub next_own : (p : ℕ) → IsNext (seen s) p → IsOldName (seen s) p → ⊥
+  next_own p next old = (tied.named.standing p (old_is s p old)).behind next
+
+  module _ (room : s.used < s.blocks.size) where
+    pub next_copy : (p : ℕ) → IsNext (seen s) p → IsNextCopy (seen s) p → ⊥
+    next_copy p next copy = not_copy s.active is.active_in Active (is.taken room) (λ e. cc e) p copy (next_block s is room p next)
+
+    pub next_apart : (p : ℕ) → IsNext (seen s) p → s.victim ≡ Some (p / s.blocks.size) → ⊥
+    next_apart p next at = not_victim s.active is.active_in Active (is.taken room) (λ e. cc e) (at ∙ ap (λ b. Some b) (next_block s is room p next))

@@ -78,13 +78,11 @@ new_segment shape = record {
   rows = replicate shape.pblocks (record { state = Free; dead = shape.pages });
 }
 
--- A live page is one of the segment, in a block that is neither Free nor waits to be, and not one of those that are programmed next, or that the next copies
--- are programmed on.
+-- A live page is one of the segment, in a block that is neither Free nor waits to be, and not one of those that are programmed next.
 pub record IsPlace (seg : Physical) (page : ℕ) (h : Held) : Type 0 where
   pub within : InSegment seg page
   pub in_use : (use_at seg.first seg.uses (page / seg.size)).is_kept ≡ false
   pub behind : IsNext seg page → ⊥
-  pub copy_behind : IsNextCopy seg page → ⊥
   pub spelled : IsTrue (is_stamp h.stamp)
 
 pub record ArePlaces (seg : Physical) : Type 0 where
@@ -138,10 +136,14 @@ pub record IsFormed (s : State) : Type 0 where
   pub taken : s.used < s.blocks.size → (block_at s.blocks s.active).state ≡ Active
   pub places : ArePlaces (seen s)
   pub marked : AreMarked s.blocks s.held.items
-  pub named : IsNamed s
-  pub phases : HasPhases s
 
 -- the medium has the pages of the segment's blocks, and at least as many blocks
 pub record Fits (geometry : Geometry) (seg : Physical) : Type 0 where
   pub pages : geometry.pages ≡ seg.size
   pub blocks : seg.blocks ≤ geometry.blocks
+
+-- what holds beside it of the pairs and of the blocks that are cleaned, between two calls
+pub record IsTied (s : State) : Type 0 where
+  pub named : IsNamed s
+  pub phases : HasPhases s
+  pub behind : (page : ℕ) (h : Held) → held_at (seen s) page ≡ Some h → IsNextCopy (seen s) page → ⊥

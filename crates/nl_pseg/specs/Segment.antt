@@ -202,6 +202,13 @@ pub record SamePages (old new : Physical) : Type 0 where
   pub same_size : new.size ≡ old.size
   pub same_wear : (block : ℕ) → wear_of new block ≡ wear_of old block
 
+-- the same pairs, the same victim, and the same pages for copies
+pub record SameNames (old new : Physical) : Type 0 where
+  pub same_pairs : new.pairs ≡ old.pairs
+  pub same_pair_room : new.pair_room ≡ old.pair_room
+  pub same_victim : new.victim ≡ old.victim
+  pub copies : (new.copy_next ≡ old.copy_next) × (new.copy_left ≡ old.copy_left)
+
 -- One page was given out: from the block that is written to, or from a Free block where that one is full. If this one had to be
 -- erased before use it was erased, and its wear is that which it was to have.
 pub record IsSpent (old new : Physical) : Type 0 where
@@ -217,3 +224,4 @@ pub record IsUnspent (old new : Physical) : Type 0 where
   pub same_free : (block : ℕ) → is_free new block ≡ is_free old block
   pub same_kept : (block : ℕ) → is_kept new block ≡ is_kept old block
   pub same_soiled : (block : ℕ) → soiled new block ≡ soiled old block
+  pub copies : (new.copy_next ≡ old.copy_next) × (new.copy_left ≡ old.copy_left)

@@ -13,7 +13,7 @@ use Rattle.nl_blocks.specs.Table.{page_at as page_in}
 use Rattle.nl_pseg.specs.Answers.{IfPlaced, IsFault, IsPlaced}
 use Rattle.nl_pseg.specs.Effects.{Crashes, Keeps, Programmed}
 use Rattle.nl_pseg.specs.Pages.{page_with}
-use Rattle.nl_pseg.specs.Segment.{Physical, IsClean, IsDead, IsNext, IsPhysicalOf, IsReady, IsSpent, IsUnspent, KeepsBlock, SamePages, TakenAsErased, erasures, is_free, is_kept, is_soiled, soiled, use_at, wear_of, IsOldName}
+use Rattle.nl_pseg.specs.Segment.{Physical, IsClean, IsDead, IsNext, IsPhysicalOf, IsReady, IsSpent, IsUnspent, KeepsBlock, SameNames, SamePages, TakenAsErased, erasures, is_free, is_kept, is_soiled, soiled, use_at, wear_of, IsOldName}
 use Rattle.nl_pseg.specs.Space.{waiting}
 use Rattle.nl_pseg.specs.Seen.{use_in, use_with}
 use Rattle.nl_pseg.specs.declared.held.Held.{Held}
@@ -120,6 +120,7 @@ pub record IsUsed (x : Option Held) (old new : Physical) : Type 0 where
   pub free : new.free ≡ old.free
   pub uses : (block : ℕ) → use_at new.first new.uses block ≡ use_at old.first old.uses block
   pub soiled : new.soiled ≡ old.soiled
+  pub names : SameNames old new
 
 -- the segment where this block is written to, and no page of it is used
 abbrev pub opened_at : Physical → ℕ → Physical
@@ -141,12 +142,13 @@ pub record IsOpened (block : ℕ) (old new : Physical) : Type 0 where
   pub in_use : is_kept new block ≡ false
   pub others : (other : ℕ) → (other ≡ block → ⊥) → use_at new.first new.uses other ≡ use_at old.first old.uses other
   pub soiled : new.soiled ≡ slice_set old.soiled block None
+  pub names : SameNames old new
 
 -- What was done to have a page to program: nothing where there was one, else a Free block is written to. Where it failed, no page
 -- was given out.
 abbrev pub Opening : WriteAnswer → Physical → Physical → Type 0
 Opening wrote.Done old new = ((0 < old.left) × (new ≡ old)) ⊎ ((block : ℕ) × IsOpened block old new)
-Opening wrote.Failed old new = SamePages old new × (new.held ≡ old.held) × IsUnspent old new × (IsReady old → ⊥)
+Opening wrote.Failed old new = SamePages old new × (new.held ≡ old.held) × IsUnspent old new × (IsReady old → ⊥) × SameNames old new
 
 -- and to the medium: the page that is programmed next is erased, and only pages of its block have changed, where that had to be
 -- erased
@@ -167,6 +169,7 @@ pub record Placing (stamp : ℕ) (now : Pointer → List (Option Held)) (answer 
   pub failed : IsFault answer → IsSpent old new ⊎ (IsUnspent old new × (IsReady old → ⊥))
   pub clean : IsClean old → IsClean new
   pub kept : KeepsBlock old → KeepsBlock new
+  pub names : SameNames old new
 
 -- one page was programmed, and no other changed
 pub record IsAlone (page : ℕ) (value : Page) (old new : Image) : Type 0 where

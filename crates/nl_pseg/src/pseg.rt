@@ -33,11 +33,11 @@ impl Model for PSeg {
 
     ghost Value = { Physical };
 
-    ghost use Rattle.nl_pseg.specs.Seen.{seen, IsFormed};
+    ghost use Rattle.nl_pseg.specs.Seen.{seen, IsFormed, IsTied};
 
     ghost view = { λ s. seen s.state };
 
-    ghost invariant = { λ s. IsFormed s.state };
+    ghost invariant = { λ s. IsFormed s.state × IsTied s.state };
 }
 
 impl PSeg {

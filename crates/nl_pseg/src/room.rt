@@ -3,7 +3,7 @@ ghost use Rattle.std.specs.Prelude.{◌≡◌, ◌⊎◌, ℕ, ◌+◌, ◌*◌,
 ghost use Rattle.nl_blocks.specs.Table.{HasBlock, block_at};
 ghost use Rattle.nl_nand.specs.Nand.{FaultsCounted};
 ghost use Rattle.nl_pseg.specs.Segment.{IsPhysicalOf, IsReady, held_at, is_soiled, room};
-ghost use Rattle.nl_pseg.specs.Seen.{seen, Fits, IsFormed};
+ghost use Rattle.nl_pseg.specs.Seen.{seen, Fits, IsFormed, IsTied};
 ghost use Rattle.nl_pseg.specs.Steps.{Opening, OpeningOn, opened_at};
 ghost use Rattle.nl_pseg.specs.declared.held.Held.{Held as HeldOf};
 
@@ -39,6 +39,11 @@ impl State {
         ensures opened { seen self.new ≡ opened_at (seen self.old) block }
         ensures used { self.new.used ≡ 0 }
         ensures pages { self.new.blocks.size ≡ self.old.blocks.size }
+        ensures table { self.new.blocks ≡ self.old.blocks }
+        ensures active { self.new.active ≡ block }
+        ensures names { self.new.names ≡ self.old.names }
+        ensures copies { (self.new.target ≡ self.old.target) × (self.new.filled ≡ self.old.filled) × (self.new.victim ≡ self.old.victim) }
+        ensures held { self.new.held ≡ self.old.held }
     {
         self.soiled[block as usize] = None;
         self.active = block;
@@ -49,10 +54,12 @@ impl State {
     /// it first where it is soiled. Where that fails, the block is Free again.
     pub fn start<M: Nand>(&mut self, media: &mut M) -> WriteAnswer
         requires formed { IsFormed self.old }
+        requires tied { IsTied self.old }
         requires fits { Fits (M.geometry media.old) (seen self.old) }
         requires room { 0 < room (seen self.old) }
         requires segment { M.tells → IsPhysicalOf (M.contents media.old) (seen self.old) }
         ensures formed { IsFormed self.new }
+        ensures tied { IsTied self.new }
         ensures left { result ≡ WriteAnswer.Done → self.new.used < self.new.blocks.size }
         ensures opening { Opening result (seen self.old) (seen self.new) }
         ensures medium { M.tells → OpeningOn M.clock M.contents M.left result (seen self.old) (seen self.new) media.old media.new }

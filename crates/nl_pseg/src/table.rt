@@ -64,6 +64,7 @@ pub fn seal_full(blocks: &mut Blocks, block: u32, full: bool)
     ensures marks { SameMarks blocks.old blocks.new }
     ensures more { full ≡ false → (block_at blocks.new block).state ≡ BlockState.Active }
     ensures sealed { full ≡ true → (block_at blocks.new block).state ≡ BlockState.Sealed }
+    ensures others { (other : ℕ) → HasBlock blocks.old other → (other ≡ block → ⊥) → (block_at blocks.new other).state ≡ (block_at blocks.old other).state }
 {
     if full {
         blocks.seal(block);
