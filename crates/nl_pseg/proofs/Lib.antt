@@ -1,3 +1,4 @@
+mod Taken
 mod Used
 mod Tied
 mod Named

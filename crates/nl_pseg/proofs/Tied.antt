@@ -4,19 +4,19 @@ use Rattle.std.proofs.lemmas.Bool.{cases_eq, true≢false}
 use Rattle.std.proofs.lemmas.List.{get_or-map, length-map}
 use Rattle.nl_blocks.specs.declared.states.BlockState.{BlockState}
 use Rattle.nl_blocks.specs.declared.states.BlockState.TheVariants.{Free, Active, Target, Sealed, Victim, Retired}
-use Rattle.nl_blocks.specs.Table.{Table, HasBlock, block_at}
+use Rattle.nl_blocks.specs.Table.{Table, HasBlock, block_at, is_free_state}
 use Rattle.nl_remap.specs.Links.{HasLink, link_at, no_link}
 use Rattle.nl_remap.specs.Table.{IsOld, IsRemap}
 use Rattle.nl_remap.specs.declared.links.Link.{Link}
 use Rattle.nl_pseg.specs.OldNames.{NameTable, names_among}
-use Rattle.nl_pseg.specs.Segment.{IsNext, IsNextCopy, IsOldName, held_at, is_free}
+use Rattle.nl_pseg.specs.Segment.{IsNext, IsNextCopy, IsOldName, Use, held_at, is_free}
 use Rattle.nl_pseg.specs.Seen.{HasPhases, IsFormed, IsNamed, IsStanding, IsTied, seen}
 use Rattle.nl_pseg.specs.Steps.{SameNumbers}
 use Rattle.nl_pseg.specs.declared.held.Held.{Held}
 use Rattle.nl_pseg.specs.declared.state.State.{State}
 use Rattle.nl_pseg.proofs.Numbers.{block_of}
 use Rattle.nl_pseg.proofs.States.{next_block}
-use Rattle.nl_pseg.proofs.Tables.{has_same}
+use Rattle.nl_pseg.proofs.Tables.{has_same, use_here}
 
 pub back : {a b : Table} → SameNumbers a b → SameNumbers b a
 back n = record { same_first = sym n.same_first; same_size = sym n.same_size; same_count = sym n.same_count }
@@ -95,3 +95,13 @@ module _ (s : State) (is : IsFormed s) (tied : IsTied s) where
 
     pub next_apart : (p : ℕ) → IsNext (seen s) p → s.victim ≡ Some (p / s.blocks.size) → ⊥
     next_apart p next at = not_victim s.active is.active_in Active (is.taken room) (λ e. cc e) (at ∙ ap (λ b. Some b) (next_block s is room p next))
+
+  module _ (block : ℕ) (has : HasBlock s.blocks block) (free : is_free (seen s) block ≡ true) where
+    free_is : is_free_state (block_at s.blocks block).state ≡ true
+    free_is = sym (ap (λ (u : Use). u.is_free) (use_here s.blocks block has)) ∙ free
+
+    pub free_apart : s.victim ≡ Some block → ⊥
+    free_apart = not_victim block has (block_at s.blocks block).state refl (λ e. true≢false (sym free_is ∙ ap (λ (b : BlockState). is_free_state b) e))
+
+    pub free_copy : (p : ℕ) → IsNextCopy (seen s) p → p / s.blocks.size ≡ block → ⊥
+    free_copy = not_copy block has (block_at s.blocks block).state refl (λ e. true≢false (sym free_is ∙ ap (λ (b : BlockState). is_free_state b) e))

@@ -15,8 +15,9 @@ use Rattle.nl_pseg.specs.Effects.{Crashes, Keeps, Programmed}
 use Rattle.nl_pseg.specs.Pages.{page_with}
 use Rattle.nl_pseg.specs.Segment.{Physical, IsClean, IsDead, IsNext, IsPhysicalOf, IsReady, IsSpent, IsUnspent, KeepsBlock, SameNames, SamePages, TakenAsErased, erasures, is_free, is_kept, is_soiled, soiled, use_at, wear_of, IsOldName}
 use Rattle.nl_pseg.specs.Space.{waiting}
-use Rattle.nl_pseg.specs.Seen.{use_in, use_with}
+use Rattle.nl_pseg.specs.Seen.{IsTied, use_in, use_with}
 use Rattle.nl_pseg.specs.declared.held.Held.{Held}
+use Rattle.nl_pseg.specs.declared.state.State.{State}
 
 -- as many blocks, with the same numbers
 pub record SameNumbers (old new : Table) : Type 0 where
@@ -47,6 +48,15 @@ pub record Restated (block : ℕ) (free : Bool) (wear : ℕ) (old new : Table) :
   pub states : (other : ℕ) → HasBlock old other → (other ≡ block → ⊥) → (block_at new other).state ≡ (block_at old other).state
   pub total : free_count new + cond (use_in old block).is_free 1 0 ≡ free_count old + cond free 1 0
   pub marks : SameMarks old new
+
+-- A block was taken that was Free, where the block that was written to is full, and no page of it is used.
+pub record IsTaking (s : State) (block : ℕ) : Type 0 where
+  pub table : Table
+  pub tied : IsTied (record s { blocks = table })
+  pub restated : Restated block false (use_in table block).wear table s.blocks
+  pub had : HasBlock table block
+  pub was_free : (use_in table block).is_free ≡ true
+  pub full : s.blocks.size ≤ s.used
 
 -- the same blocks and pages
 pub record SameRange (old new : Physical) : Type 0 where

@@ -4,7 +4,7 @@ ghost use Rattle.nl_blocks.specs.Table.{HasBlock, block_at};
 ghost use Rattle.nl_nand.specs.Nand.{FaultsCounted};
 ghost use Rattle.nl_pseg.specs.Segment.{IsPhysicalOf, IsReady, held_at, is_soiled, room};
 ghost use Rattle.nl_pseg.specs.Seen.{seen, Fits, IsFormed, IsTied};
-ghost use Rattle.nl_pseg.specs.Steps.{Opening, OpeningOn, opened_at};
+ghost use Rattle.nl_pseg.specs.Steps.{IsTaking, Opening, OpeningOn, opened_at};
 ghost use Rattle.nl_pseg.specs.declared.held.Held.{Held as HeldOf};
 
 use crate::state::State;
@@ -34,16 +34,13 @@ impl State {
         requires formed { IsFormed self.old }
         requires has { HasBlock self.old.blocks block }
         requires active { (block_at self.old.blocks block).state ≡ BlockState.Active }
+        requires taking { IsTaking self.old block }
         requires in_use { (p : ℕ) (h : HeldOf) → held_at (seen self.old) p ≡ Some h → p / self.old.blocks.size ≡ block → ⊥ }
         ensures formed { IsFormed self.new }
+        ensures tied { IsTied self.new }
         ensures opened { seen self.new ≡ opened_at (seen self.old) block }
         ensures used { self.new.used ≡ 0 }
         ensures pages { self.new.blocks.size ≡ self.old.blocks.size }
-        ensures table { self.new.blocks ≡ self.old.blocks }
-        ensures active { self.new.active ≡ block }
-        ensures names { self.new.names ≡ self.old.names }
-        ensures copies { (self.new.target ≡ self.old.target) × (self.new.filled ≡ self.old.filled) × (self.new.victim ≡ self.old.victim) }
-        ensures held { self.new.held ≡ self.old.held }
     {
         self.soiled[block as usize] = None;
         self.active = block;

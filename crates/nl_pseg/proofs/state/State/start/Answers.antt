@@ -14,6 +14,8 @@ use Rattle.nl_pseg.proofs.Images.{erase_keeps, erase_others, failed_segment, kee
 use Rattle.nl_pseg.proofs.Numbers.{in_block}
 use Rattle.nl_pseg.proofs.Openings.{free_use, last_block, opened, opened_block, two_free}
 use Rattle.nl_pseg.proofs.Tables.{free_kept, has_same, restated_again, restated_same, use_here}
+use Rattle.nl_pseg.proofs.Taken.{free_again}
+use Rattle.nl_pseg.proofs.Tied.{free_apart, free_copy, free_own}
 use Rattle.nl_pseg.proofs.state.State.start.Goals as goal
 
 pub write_to-requires-clause-formed : goal.write_to-requires-clause-formed
@@ -63,7 +65,7 @@ returns-then-not-is_soiled-clause-medium g c t =
     let image = g.M.Nand.contents c.args.media.now in
     let clean : is_soiled (seen s) block ≡ false = sym c.is_soiled.ensures ∙ c.if-not-is_soiled.true in
     record {
-      segment = opened_segment o is.some is.places (c.requires.segment t) (λ p ne. refl)
+      segment = opened_segment o is.some is.places (free_copy s is c.requires.tied block c.take-block.ensures.has c.take-block.ensures.was_free) (c.requires.segment t) (λ p ne. refl)
           (λ p at. (c.requires.segment t).blank p (inr (ap (is_kept (seen s)) at ∙ free_kept s.blocks block c.take-block.ensures.was_free, ap (is_soiled (seen s)) at ∙ clean)));
       keeps = keeps_nothing (seen s) image;
       crash = crashes.start c.args.media.now (λ m i. Keeps (seen s) image i);
@@ -97,9 +99,9 @@ returns-in-Done-clause-medium g c t =
     (let w = in_block p s.blocks.size block is.some at in
     filled.inside p (subst (λ n. block * n ≤ p) (sym c.requires.fits.pages) w.0) (subst (λ n. p < block * n + n) (sym c.requires.fits.pages) w.1)) in
     let next = opened_block o is.some in
-    let keep = λ (i : Image) (cut : Cut (block * pages) (block * pages + pages) erased (g.M.Nand.contents c.args.media.now) i). erase_keeps (seen s) block pages c.requires.fits.pages (last_block s) is.places (free_kept s.blocks block c.take-block.ensures.was_free) cut in
+    let keep = λ (i : Image) (cut : Cut (block * pages) (block * pages + pages) erased (g.M.Nand.contents c.args.media.now) i). erase_keeps (seen s) block pages c.requires.fits.pages (last_block s) is.places (free_kept s.blocks block c.take-block.ensures.was_free) (free_own s is c.requires.tied block c.take-block.ensures.was_free) (free_apart s is c.requires.tied block c.take-block.ensures.has c.take-block.ensures.was_free) cut in
     record {
-      segment = opened_segment o is.some is.places (c.requires.segment t) (erase_others block pages s.blocks.size c.requires.fits.pages (filled_cut filled)) inside;
+      segment = opened_segment o is.some is.places (free_copy s is c.requires.tied block c.take-block.ensures.has c.take-block.ensures.was_free) (c.requires.segment t) (erase_others block pages s.blocks.size c.requires.fits.pages (filled_cut filled)) inside;
       keeps = keep _ (filled_cut filled);
       crash = operation c.erase.result (λ i. Keeps (seen s) (g.M.Nand.contents c.args.media.now) i) c.erase.ensures.crash (c.erase.ensures.effect t) keep;
       others = λ done p. ⊎_elim
@@ -140,6 +142,7 @@ returns-in-Failed-clause-opening g c =
           (λ lt. let f = c.if-self-pages.false in let e = c.pages.ensures in omega (arith, lt, f, e))
           (λ clean. true≢false (sym dirty ∙ clean block c.take-block.ensures.was_free))
           ready,
+      record { same_pairs = refl; same_pair_room = refl; same_victim = refl; copies = (same_unspent s c.give_back.new.blocks same).copies },
     )
 
 pub returns-in-Failed-clause-medium : goal.returns-in-Failed-clause-medium
@@ -156,11 +159,48 @@ returns-in-Failed-clause-medium g c t =
     let pages = (g.M.Nand.geometry c.args.media.now).pages in
     let cut = c.in-Failed.ensures.effect t in
     let dirty : is_soiled (seen s) block ≡ true = sym c.is_soiled.ensures ∙ c.if-not-is_soiled.false in
-    let keep = λ (i : Image) (cut_is : Cut (block * pages) (block * pages + pages) erased (g.M.Nand.contents c.args.media.now) i). erase_keeps (seen s) block pages c.requires.fits.pages (last_block s) is.places (free_kept s.blocks block c.take-block.ensures.was_free) cut_is in
+    let keep = λ (i : Image) (cut_is : Cut (block * pages) (block * pages + pages) erased (g.M.Nand.contents c.args.media.now) i). erase_keeps (seen s) block pages c.requires.fits.pages (last_block s) is.places (free_kept s.blocks block c.take-block.ensures.was_free) (free_own s is c.requires.tied block c.take-block.ensures.was_free) (free_apart s is c.requires.tied block c.take-block.ensures.has c.take-block.ensures.was_free) cut_is in
     record {
-      segment = failed_segment block (same_pages s c.give_back.new.blocks same) refl (same_unspent s c.give_back.new.blocks same) is.places (c.requires.segment t) (free_kept s.blocks block c.take-block.ensures.was_free) dirty
+      segment = failed_segment block (same_pages s c.give_back.new.blocks same) refl (same_unspent s c.give_back.new.blocks same) is.places (free_copy s is c.requires.tied block c.take-block.ensures.has c.take-block.ensures.was_free) (c.requires.segment t) (free_kept s.blocks block c.take-block.ensures.was_free) dirty
           (let f = c.if-self-pages.false in let e = c.pages.ensures in omega (arith, f, e)) (erase_others block pages s.blocks.size c.requires.fits.pages cut);
       keeps = keep _ cut;
       crash = operation c.erase.result (λ i. Keeps (seen s) (g.M.Nand.contents c.args.media.now) i) c.erase.ensures.crash (c.erase.ensures.effect t) keep;
       others = λ done. absurd (cc done);
     }
+
+pub write_to-requires-clause-taking : goal.write_to-requires-clause-taking
+write_to-requires-clause-taking g c =
+    let s = c.args.self.now in
+    record {
+      table = s.blocks;
+      tied = c.requires.tied;
+      restated = c.take-block.ensures.taken;
+      had = c.take-block.ensures.has;
+      was_free = c.take-block.ensures.was_free;
+      full = let f = c.if-self-pages.false in let e = c.pages.ensures in let n = c.take-block.ensures.taken.numbers.same_size in omega (arith, f, e, n);
+    }
+
+pub write_to-requires-in-Done-clause-taking : goal.write_to-requires-in-Done-clause-taking
+write_to-requires-in-Done-clause-taking g c =
+    let s = c.args.self.now in
+    record {
+      table = s.blocks;
+      tied = c.requires.tied;
+      restated = c.take-block.ensures.taken;
+      had = c.take-block.ensures.has;
+      was_free = c.take-block.ensures.was_free;
+      full = let f = c.if-self-pages.false in let e = c.pages.ensures in let n = c.take-block.ensures.taken.numbers.same_size in omega (arith, f, e, n);
+    }
+
+pub returns-in-Failed-clause-tied : goal.returns-in-Failed-clause-tied
+returns-in-Failed-clause-tied g c =
+    let s = c.args.self.now in
+    let is = c.requires.formed in
+    let block = c.take-block.result in
+    let mid = c.take-block.new.blocks in
+    let r = c.take-block.ensures.taken in
+    let has = has_same block r.numbers c.take-block.ensures.has in
+    let worn : c.wear-wear.result ≡ (use_in s.blocks block).wear = c.wear-wear.ensures ∙ (sym (ap (λ (u : Use). u.wear) (use_here mid block has)) ∙ ap (λ (u : Use). u.wear) r.here) in
+    let back : Restated block true (use_in s.blocks block).wear mid c.give_back.new.blocks = subst (λ n. Restated block true n mid c.give_back.new.blocks) worn c.give_back.ensures in
+    let whole = restated_again r back in
+    free_again s c.requires.tied c.give_back.new.blocks (restated_same (free_use s block is c.take-block.ensures.was_free) whole) block c.take-block.ensures.has c.take-block.ensures.was_free whole.states

@@ -1,5 +1,6 @@
 use Rattle.std.proofs.Common.{None, ◌∙◌, arith, length-set}
 use Rattle.nl_pseg.proofs.Numbers.{block_of}
+use Rattle.nl_pseg.proofs.Taken.{taken_tied}
 use Rattle.nl_pseg.proofs.state.State.write_to.Goals as goal
 
 pub returns-clause-formed : goal.returns-clause-formed
@@ -26,3 +27,6 @@ returns-clause-formed c =
             };
       };
     }
+
+pub returns-clause-tied : goal.returns-clause-tied
+returns-clause-tied c = taken_tied c.args.self.now c.args.block c.requires.taking c.requires.formed.some c.requires.active
