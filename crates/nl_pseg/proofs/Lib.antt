@@ -1,3 +1,4 @@
+mod Chosen
 mod Taken
 mod Used
 mod Tied

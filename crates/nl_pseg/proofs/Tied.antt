@@ -1,20 +1,23 @@
 -- How the pairs of a state, and what its blocks are used for, go on.
 use Rattle.std.proofs.Common.{◌≡◌, ◌⊎◌, inl, inr, ⊎_elim, ℕ, ◌+◌, ◌-◌, ◌*◌, ◌/◌, ◌<◌, ◌≤◌, Bool, true, false, Option, Some, None, length, refl, sym, ◌∙◌, ap, subst, arith}
 use Rattle.std.proofs.lemmas.Bool.{cases_eq, true≢false}
-use Rattle.std.proofs.lemmas.List.{get_or-map, length-map}
+use Rattle.std.specs.Vec.{with_item}
+use Rattle.std.proofs.lemmas.Option.{none-some}
+use Rattle.std.proofs.lemmas.List.{get_or-map, get_or-set_other, length-map}
 use Rattle.nl_blocks.specs.declared.states.BlockState.{BlockState}
 use Rattle.nl_blocks.specs.declared.states.BlockState.TheVariants.{Free, Active, Target, Sealed, Victim, Retired}
 use Rattle.nl_blocks.specs.Table.{Table, HasBlock, block_at, is_free_state}
 use Rattle.nl_remap.specs.Links.{HasLink, link_at, no_link}
-use Rattle.nl_remap.specs.Table.{IsOld, IsRemap}
+use Rattle.nl_remap.specs.Table.{IsOld, IsRemap, pair}
 use Rattle.nl_remap.specs.declared.links.Link.{Link}
 use Rattle.nl_pseg.specs.OldNames.{NameTable, names_among}
 use Rattle.nl_pseg.specs.Segment.{IsNext, IsNextCopy, IsOldName, Use, held_at, is_free}
-use Rattle.nl_pseg.specs.Seen.{HasPhases, IsFormed, IsNamed, IsStanding, IsTied, seen}
-use Rattle.nl_pseg.specs.Steps.{SameNumbers}
+use Rattle.nl_pseg.specs.Seen.{HasPhases, IsFormed, IsNamed, IsStanding, IsTied, seen, use_in}
+use Rattle.nl_pseg.specs.Steps.{SameNumbers, SameUse}
 use Rattle.nl_pseg.specs.declared.held.Held.{Held}
 use Rattle.nl_pseg.specs.declared.state.State.{State}
 use Rattle.nl_pseg.proofs.Numbers.{block_of}
+use Rattle.nl_pseg.proofs.Segments.{set_held}
 use Rattle.nl_pseg.proofs.States.{next_block}
 use Rattle.nl_pseg.proofs.Tables.{has_same, use_here}
 
@@ -105,3 +108,39 @@ module _ (s : State) (is : IsFormed s) (tied : IsTied s) where
 
     pub free_copy : (p : ℕ) → IsNextCopy (seen s) p → p / s.blocks.size ≡ block → ⊥
     free_copy = not_copy block has (block_at s.blocks block).state refl (λ e. true≢false (sym free_is ∙ ap (λ (b : BlockState). is_free_state b) e))
+
+-- a live page died, to which no pair leads
+pub ended_tied : (s : State) → IsTied s → (t : Table) → SameUse s.blocks t → ((b : ℕ) → (block_at t b).state ≡ (block_at s.blocks b).state) → (page : ℕ) → page < length s.held.items → ((name : ℕ) → HasLink s.names.pairs (pair name page) → ⊥)
+    → IsTied (record s { held = with_item s.held page None; blocks = t })
+ended_tied s tied t same states page within alone =
+    let x : State = record s { held = with_item s.held page None; blocks = t } in
+    let e = same.numbers.same_size in
+    let was = λ (p : ℕ) (h : Held) (held : held_at (seen x) p ≡ Some h). ⊎_elim (λ here. absurd (none-some h here.1)) (λ there. there.1) (set_held s.held.items page None within p h held) in
+    let copies = λ (p : ℕ) (n : IsNextCopy (seen x) p). copy_back s t same p n in
+    record {
+      named = named_on s x tied.named refl same.numbers
+          (λ p h held old. tied.named.own p h (was p h held) old)
+          (λ l has.
+          let live = tied.named.to_live l has in
+          (live.0, get_or-set_other s.held.items page l.to None None (λ at. alone l.from (subst (λ k. HasLink s.names.pairs (pair l.from k)) at has)) ∙ live.1))
+          (λ m old w. record {
+            in_use = ap (λ (u : Use). u.is_free) (same.uses (m / t.size)) ∙ (ap (λ k. (use_in s.blocks (m / k)).is_free) e ∙ w.in_use);
+            behind = λ next. w.behind (next_same s t same m next);
+            copy_behind = λ copy. w.copy_behind (copies m copy);
+          })
+          (λ b names has st. sym (states b) ∙ st);
+      phases = phases_same s x tied.phases same.numbers states refl refl refl refl refl;
+      behind = λ p h held copy. tied.behind p h (was p h held) (copies p copy);
+    }
+  where
+    next_same : (s : State) (t : Table) → SameUse s.blocks t → (p : ℕ) → IsNext (seen (record s { blocks = t })) p → IsNext (seen s) p
+    next_same s t same p n =
+        let e = same.numbers.same_size in
+        let a : s.active * t.size ≡ s.active * s.blocks.size = ap (λ m. s.active * m) e in
+        (omega (arith, a, n.0), omega (arith, a, e, n.1))
+
+    copy_back : (s : State) (t : Table) → SameUse s.blocks t → (p : ℕ) → IsNextCopy (seen (record s { blocks = t })) p → IsNextCopy (seen s) p
+    copy_back s t same p n =
+        let e = same.numbers.same_size in
+        let a : s.target * t.size ≡ s.target * s.blocks.size = ap (λ m. s.target * m) e in
+        (omega (arith, a, n.0), omega (arith, a, e, n.1))

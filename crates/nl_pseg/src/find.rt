@@ -1,10 +1,12 @@
-ghost use Rattle.std.specs.Prelude.{◌≡◌, ◌↔◌, ◌<◌, slice_set, slice_index_or, None, IsSome, IfSome, IsTrue};
+ghost use Rattle.std.specs.Prelude.{◌≡◌, ◌↔◌, ◌<◌, ℕ, slice_set, slice_index_or, None, IsSome, IfSome, IsTrue};
 ghost use Rattle.std.specs.Bool.{OnTrue, OnFalse};
 ghost use Rattle.nl_field.specs.Live.{resolve};
 ghost use Rattle.nl_field.specs.Page.{Image};
 ghost use Rattle.nl_blocks.specs.Table.{free_count};
+ghost use Rattle.nl_remap.specs.Links.{HasLink};
+ghost use Rattle.nl_remap.specs.Table.{pair};
 ghost use Rattle.nl_pseg.specs.Segment.{InSegment, IsLive, IsPhysicalOf, IsUnspent, SamePages};
-ghost use Rattle.nl_pseg.specs.Seen.{seen, IsFormed};
+ghost use Rattle.nl_pseg.specs.Seen.{seen, IsFormed, IsTied};
 
 use crate::held::Held;
 use crate::state::State;
@@ -48,11 +50,14 @@ impl State {
         }
     }
 
-    /// A live page is dead.
+    /// A live page is dead. No pair leads to it.
     pub fn end(&mut self, page: u32)
         requires formed { IsFormed self.old }
+        requires tied { IsTied self.old }
+        requires alone { (name : ℕ) → HasLink self.old.names.pairs (pair name page) → ⊥ }
         requires within { InSegment (seen self.old) page }
         ensures formed { IsFormed self.new }
+        ensures tied { IsTied self.new }
         ensures held { self.new.held.items ≡ slice_set self.old.held.items page None }
         ensures pages { SamePages (seen self.old) (seen self.new) }
         ensures space { IsUnspent (seen self.old) (seen self.new) }

@@ -8,6 +8,7 @@ ghost use Rattle.nl_pseg.specs.Seen.{IsFormed, seen};
 ghost use Rattle.nl_pseg.specs.Steps.{NamesGone};
 
 use crate::state::State;
+use crate::table::end_name;
 use nl_blocks::BlockState;
 
 impl State {
@@ -61,7 +62,7 @@ impl State {
         }
         let block = name / self.blocks.pages();
         if self.is_waiting(block) {
-            self.blocks.name_gone(block);
+            end_name(&mut self.blocks, block);
         }
         true
     }

@@ -1,8 +1,8 @@
 // Steps on the table of blocks.
 ghost use Rattle.std.specs.Prelude.{◌≡◌, ◌/◌, ◌≤◌, ◌+◌, ◌-◌, ◌^◌, ℕ, min, cond, true, false};
-ghost use Rattle.nl_blocks.specs.Table.{HasBlock, block_at, free_count};
+ghost use Rattle.nl_blocks.specs.Table.{HasBlock, after_erase, block_at, free_count, is_retired_state, names_of};
 ghost use Rattle.nl_pseg.specs.Seen.{use_in};
-ghost use Rattle.nl_pseg.specs.Steps.{IsMarked, Restated, SameMarks, SameUse};
+ghost use Rattle.nl_pseg.specs.Steps.{IsMarked, Restated, SameMarks, SameNumbers, SameUse};
 
 use nl_blocks::{BlockState, Blocks, PageState};
 
@@ -79,10 +79,38 @@ pub fn seal_filled(blocks: &mut Blocks, block: u32, full: bool)
     ensures marks { SameMarks blocks.old blocks.new }
     ensures more { full ≡ false → (block_at blocks.new block).state ≡ BlockState.Target }
     ensures sealed { full ≡ true → (block_at blocks.new block).state ≡ BlockState.Sealed }
+    ensures others { (other : ℕ) → HasBlock blocks.old other → (other ≡ block → ⊥) → (block_at blocks.new other).state ≡ (block_at blocks.old other).state }
 {
     if full {
         blocks.seal(block);
     }
+}
+
+/// Makes a Sealed block the victim.
+pub fn choose(blocks: &mut Blocks, block: u32)
+    requires has { HasBlock blocks.old block }
+    requires sealed { (block_at blocks.old block).state ≡ BlockState.Sealed }
+    ensures same { SameUse blocks.old blocks.new }
+    ensures marks { SameMarks blocks.old blocks.new }
+    ensures here { (block_at blocks.new block).state ≡ BlockState.Victim }
+    ensures others { (other : ℕ) → HasBlock blocks.old other → (other ≡ block → ⊥) → (block_at blocks.new other).state ≡ (block_at blocks.old other).state }
+{
+    blocks.choose(block);
+}
+
+/// One name of a block that waits is gone: on the last one it is Free.
+pub fn end_name(blocks: &mut Blocks, block: u32)
+    requires has { HasBlock blocks.old block }
+    requires retired { is_retired_state (block_at blocks.old block).state ≡ true }
+    ensures numbers { SameNumbers blocks.old blocks.new }
+    ensures kept { (other : ℕ) → (use_in blocks.new other).is_kept ≡ (use_in blocks.old other).is_kept }
+    ensures wears { (other : ℕ) → (use_in blocks.new other).wear ≡ (use_in blocks.old other).wear }
+    ensures uses { (other : ℕ) → (other ≡ block → ⊥) → use_in blocks.new other ≡ use_in blocks.old other }
+    ensures here { (block_at blocks.new block).state ≡ after_erase (names_of (block_at blocks.old block).state - 1) }
+    ensures others { (other : ℕ) → HasBlock blocks.old other → (other ≡ block → ⊥) → (block_at blocks.new other).state ≡ (block_at blocks.old other).state }
+    ensures marks { SameMarks blocks.old blocks.new }
+{
+    blocks.name_gone(block);
 }
 
 /// The block is Free, with this wear.
