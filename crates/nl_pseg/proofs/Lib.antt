@@ -1,3 +1,4 @@
+mod Dropped
 mod Chosen
 mod Taken
 mod Used

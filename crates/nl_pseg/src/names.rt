@@ -4,7 +4,7 @@ ghost use Rattle.std.specs.Bool.{OnTrue, OnFalse};
 ghost use Rattle.nl_blocks.specs.Table.{HasBlock, block_at, is_retired_state};
 ghost use Rattle.nl_remap.specs.Links.{HasLink};
 ghost use Rattle.nl_remap.specs.Table.{IsOld, beside, led, pair, place_of};
-ghost use Rattle.nl_pseg.specs.Seen.{IsFormed, seen};
+ghost use Rattle.nl_pseg.specs.Seen.{IsFormed, IsTied, seen};
 ghost use Rattle.nl_pseg.specs.Steps.{NamesGone};
 
 use crate::state::State;
@@ -49,7 +49,9 @@ impl State {
     /// The name is an old name no longer. A block that waited for it alone is Free.
     pub fn drop_name(&mut self, name: u32) -> bool
         requires formed { IsFormed self.old }
+        requires tied { IsTied self.old }
         ensures formed { IsFormed self.new }
+        ensures tied { IsTied self.new }
         ensures found { IsTrue result ↔ IsOld self.old.names.pairs name }
         ensures pairs { OnTrue result (self.new.names.pairs ≡ remove self.old.names.pairs (place_of self.old.names.pairs name)) }
         ensures room { OnTrue result (self.new.names.room ≡ self.old.names.room + 1) }
