@@ -21,6 +21,15 @@ use Rattle.nl_pseg.proofs.Named.{names_some, names_taken, old_within}
 use Rattle.nl_pseg.proofs.Tables.{has_same, use_here}
 use Rattle.nl_pseg.proofs.Tied.{back}
 
+-- a block that waits is not Free
+pub not_free_state : (state : BlockState) → is_retired_state state ≡ true → is_free_state state ≡ false
+not_free_state the.Free is = absurd (true≢false (sym is))
+not_free_state the.Active is = refl
+not_free_state the.Target is = refl
+not_free_state the.Sealed is = refl
+not_free_state the.Victim is = refl
+not_free_state (the.Retired names) is = refl
+
 -- the state of a block with so many names fewer is not Free where one is left
 waits_still : (n : ℕ) → 0 < n → is_free_state (after_erase n) ≡ false
 waits_still zero some = absurd (omega (arith, some))

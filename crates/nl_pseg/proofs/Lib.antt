@@ -1,3 +1,4 @@
+mod Gone
 mod Dropped
 mod Chosen
 mod Taken

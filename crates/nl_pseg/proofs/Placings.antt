@@ -264,4 +264,3 @@ failed_on {M} {clock} {contents} {left} {seg} {new} {a} {b} tag stamp main on = 
         (λ m c from to k. inl ((λ placed. absurd placed), k));
   };
 }
-

@@ -13,7 +13,10 @@ pub enum Copied {
     /// No victim with a live page is in hand.
     Nothing,
     /// The page that was read does not hold the wanted number: `found` is another one, 0 where it holds none.
-    Lost { wanted: u64, found: u64 },
+    Lost {
+        wanted: u64,
+        found: u64,
+    },
     /// The medium failed.
     Fault,
 }

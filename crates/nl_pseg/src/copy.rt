@@ -70,7 +70,13 @@ impl State {
     }
 
     /// Programs the buffer as the copy of a live page.
-    fn land<M: Nand>(&mut self, media: &mut M, before: u32, held: Held, buf: &mut PageBuf) -> Copied {
+    fn land<M: Nand>(
+        &mut self,
+        media: &mut M,
+        before: u32,
+        held: Held,
+        buf: &mut PageBuf,
+    ) -> Copied {
         let after = self.target * self.blocks.pages() + self.filled;
         let wear = self.blocks.wear(self.target);
         match program_page(media, after, buf, held.tag, held.stamp, wear) {
@@ -92,7 +98,13 @@ impl State {
     }
 
     /// Moves the page, which is live and in the victim.
-    fn move_page<M: Nand>(&mut self, media: &mut M, before: u32, held: Held, buf: &mut PageBuf) -> Copied {
+    fn move_page<M: Nand>(
+        &mut self,
+        media: &mut M,
+        before: u32,
+        held: Held,
+        buf: &mut PageBuf,
+    ) -> Copied {
         match read_page(media, before, held.tag, held.stamp, buf) {
             NamedRead::Done => {}
             NamedRead::Lost { wanted, found } => return Copied::Lost { wanted, found },

@@ -10,6 +10,8 @@ mod erase;
 mod find;
 mod give_back;
 mod held;
+#[cfg(test)]
+mod moves;
 mod names;
 mod old_names;
 mod open;
@@ -19,8 +21,6 @@ mod read;
 mod room;
 mod state;
 mod table;
-#[cfg(test)]
-mod moves;
 #[cfg(test)]
 mod tests;
 mod write;

@@ -135,10 +135,7 @@ impl Rig {
 
     fn read(&mut self, name: u32, stamp: u64) -> Seen {
         let tag = owner((stamp % 1_000_000) as u32 - 1);
-        match self
-            .seg
-            .physical_read(&mut self.media, Pointer { name, stamp }, tag, &mut self.buf)
-        {
+        match self.seg.physical_read(&mut self.media, Pointer { name, stamp }, tag, &mut self.buf) {
             NamedRead::Done => Seen::Byte(self.buf.main()[0]),
             NamedRead::NotLive => Seen::NotLive,
             NamedRead::Lost { .. } => Seen::Lost,
@@ -209,7 +206,10 @@ fn a_victim_is_cleaned(rt: HostRuntime) -> Result<(), Fail> {
     }
     // Block 10 takes 29 copies more.
     for n in 1u32..30 {
-        assert_eq!(rt; rig.copy(), Seen::Moved(289 + n, 322 + n, u64::from(n) + 34));
+        assert_eq!(rt;
+            rig.copy(),
+            Seen::Moved(289 + n, 322 + n, u64::from(n) + 34)
+        );
     }
     let table = [
         (Step::Copy, Seen::Moved(319, 352, 64)),
@@ -320,12 +320,14 @@ fn moves_are_stopped(rt: HostRuntime) -> Result<(), Fail> {
         rig.copy();
         rig.copy();
         rig.erase();
-        let Rig {
-            media, mut buf, ..
-        } = rig;
+        let Rig { media, mut buf, .. } = rig;
         let mut media = media.restart(None);
         for (i, page) in [258, 320, 270, 321, 288].iter().enumerate() {
-            assert_eq!(rt; stamp_on(&mut media, *page, &mut buf), want[i], "{operation} {cut:?} {page}");
+            assert_eq!(rt;
+                stamp_on(&mut media, *page, &mut buf),
+                want[i],
+                "{operation} {cut:?} {page}"
+            );
         }
     }
     Ok(())

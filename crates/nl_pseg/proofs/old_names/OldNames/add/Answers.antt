@@ -15,9 +15,9 @@ add_one-requires c =
     let whole = c.self.invariant.whole in
     let fits = c.self.invariant.fits in
     ⊎_elim
-        (λ within. let e = c.self.invariant.counted.each (c.args.old / c.self.inside.size) within in omega (arith, e, few, whole, fits, room))
-        (λ past. let e = get_or_past c.self.inside.counts.items (c.args.old / c.self.inside.size) 0 past in omega (arith, e))
-        (cases_lt (c.args.old / c.self.inside.size) (length c.self.inside.counts.items))
+    (λ within. let e = c.self.invariant.counted.each (c.args.old / c.self.inside.size) within in omega (arith, e, few, whole, fits, room))
+    (λ past. let e = get_or_past c.self.inside.counts.items (c.args.old / c.self.inside.size) 0 past in omega (arith, e))
+    (cases_lt (c.args.old / c.self.inside.size) (length c.self.inside.counts.items))
 
 pub invariant_of-self : goal.invariant_of-self
 invariant_of-self c =
