@@ -15,7 +15,7 @@ use Rattle.nl_pseg.proofs.Tied.{back, named_on}
 module _ (s : State) (tied : IsTied s) (none : s.victim ≡ None) (t : Table) (same : SameUse s.blocks t) (block : ℕ) (has_block : HasBlock s.blocks block) (sealed : (block_at s.blocks block).state ≡ Sealed)
     (here : (block_at t block).state ≡ Victim) (others : (b : ℕ) → HasBlock s.blocks b → (b ≡ block → ⊥) → (block_at t b).state ≡ (block_at s.blocks b).state) where
   abbrev after : State
-  after = record s { blocks = t; victim = Some block; from = 0 }
+  after = record s { blocks = t; victim = Some block }
 
   size : t.size ≡ s.blocks.size
   size = same.numbers.same_size
@@ -36,7 +36,7 @@ module _ (s : State) (tied : IsTied s) (none : s.victim ≡ None) (t : Table) (s
   was : (b : ℕ) (state : BlockState) → (Victim ≡ state → ⊥) → HasBlock s.blocks b → (block_at t b).state ≡ state → (block_at s.blocks b).state ≡ state
   was b state not has st = sym (others b has (λ e. not (sym here ∙ (ap (λ n. (block_at t n).state) (sym e) ∙ st)))) ∙ st
 
-  pub chosen_tied : IsTied (record s { blocks = t; victim = Some block; from = 0 })
+  pub chosen_tied : IsTied (record s { blocks = t; victim = Some block })
   chosen_tied =
       let ph = tied.phases in
       let n = same.numbers in

@@ -44,6 +44,10 @@ dead_pages seg = sum_by (λ row. cond (is_sealed_state row.state) row.dead 0) se
 abbrev pub HasRoomForVictim : Physical → Type 0
 HasRoomForVictim seg = left_of seg ≤ landing seg
 
+-- With a victim in hand there are at most 3 pairs for each page of a block, its live pages counted with them.
+abbrev pub HasFewPairs : Physical → Type 0
+HasFewPairs seg = victims seg ≡ 1 → length seg.pairs + left_of seg ≤ 3 * seg.size
+
 -- What holds of each segment, of its pages: what is live or taken as erased lies in the segment; a live page is in a block that is in
 -- use, and its number is no old name; each pair leads to a live page, and old names differ; no old name stands in a block that is
 -- Free.
@@ -64,7 +68,7 @@ pub record HasNumbers (seg : Physical) : Type 0 where
   pub copy_left : seg.copy_left ≤ seg.size
   pub victim : left_of seg + gain_of seg ≡ victims seg * seg.size
   pub pairs : length seg.pairs + seg.pair_room ≡ 4 * seg.size
-  pub busy : victims seg ≡ 1 → length seg.pairs + left_of seg ≤ 3 * seg.size
+  pub busy : HasFewPairs seg
   pub few_wait : waiting seg ≤ length seg.pairs
   pub dead : waiting seg ≡ 0 → victims seg ≡ 0 → (seg.blocks - seg.first) * seg.size ≤ live_in seg.held + dead_pages seg + (seg.free + 2) * seg.size
 

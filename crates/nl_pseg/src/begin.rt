@@ -59,6 +59,5 @@ impl State {
     {
         choose(&mut self.blocks, block);
         self.victim = Some(block);
-        self.from = 0;
     }
 }

@@ -8,10 +8,10 @@ use nl_field::{NamedRead, PageBuf};
 use nl_nand::{Nand, WriteAnswer};
 
 impl State {
-    /// The first live page of a block, of those from a number on.
-    pub fn first_live(&self, block: u32, from: u32) -> Option<u32> {
+    /// The first live page of a block.
+    pub fn first_live(&self, block: u32) -> Option<u32> {
         let pages = self.blocks.pages();
-        for at in from..pages {
+        for at in 0..pages {
             let page = block * pages + at;
             if self.held[page as usize].is_some() {
                 return Some(page);
@@ -65,7 +65,6 @@ impl State {
     fn lead(&mut self, before: u32, after: u32) {
         mark(&mut self.blocks, before, false);
         self.held[before as usize] = None;
-        self.from = before % self.blocks.pages() + 1;
         self.names.add(before, after);
     }
 
@@ -122,7 +121,7 @@ impl State {
         let Some(victim) = self.victim else {
             return Copied::Nothing;
         };
-        let Some(before) = self.first_live(victim, self.from) else {
+        let Some(before) = self.first_live(victim) else {
             return Copied::Nothing;
         };
         let Some(held) = self.live_on(before) else {

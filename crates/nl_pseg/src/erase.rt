@@ -17,7 +17,7 @@ impl State {
         let Some(victim) = self.victim else {
             return Erasure::Nothing;
         };
-        if self.first_live(victim, self.from).is_some() {
+        if self.first_live(victim).is_some() {
             return Erasure::Nothing;
         }
         match media.erase(victim) {

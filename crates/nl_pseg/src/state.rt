@@ -31,8 +31,6 @@ pub struct State {
     pub filled: u32,
     /// The block whose live pages are moved away.
     pub victim: Option<u32>,
-    /// No page of the victim before this one is live.
-    pub from: u32,
     pub names: OldNames,
     pub buf: PageBuf,
 }
@@ -54,7 +52,6 @@ impl State {
             target: shape.vblocks,
             filled: shape.pages,
             victim: None,
-            from: 0,
             names: OldNames::new(alloc, 4 * shape.pages, shape.pages, shape.blocks)?,
             buf: PageBuf::new(alloc)?,
         })
