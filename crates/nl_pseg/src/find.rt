@@ -2,11 +2,12 @@ ghost use Rattle.std.specs.Prelude.{◌≡◌, ◌↔◌, ◌<◌, ℕ, slice_se
 ghost use Rattle.std.specs.Bool.{OnTrue, OnFalse};
 ghost use Rattle.nl_field.specs.Live.{resolve};
 ghost use Rattle.nl_field.specs.Page.{Image};
-ghost use Rattle.nl_blocks.specs.Table.{free_count};
+ghost use Rattle.nl_blocks.specs.Table.{IsTable, free_count};
 ghost use Rattle.nl_remap.specs.Links.{HasLink};
 ghost use Rattle.nl_remap.specs.Table.{pair};
 ghost use Rattle.nl_pseg.specs.Segment.{InSegment, IsLive, IsPhysicalOf, IsUnspent, SamePages};
 ghost use Rattle.nl_pseg.specs.Seen.{seen, IsFormed, IsTied};
+ghost use Rattle.nl_pseg.specs.Space.{HasFewPairs, IsWhole};
 
 use crate::held::Held;
 use crate::state::State;
@@ -14,6 +15,17 @@ use crate::table::mark;
 use nl_field::Pointer;
 
 impl State {
+    /// What holds of each segment.
+    pub fn whole(&self)
+        requires formed { IsFormed self.now }
+        requires tied { IsTied self.now }
+        requires few { HasFewPairs (seen self.now) }
+        ensures table { IsTable self.now.blocks }
+        ensures whole { IsWhole (seen self.now) }
+    {
+        let _ = self.blocks.count();
+    }
+
     pub fn free_blocks(&self) -> u32
         ensures { result ≡ free_count self.now.blocks }
     {

@@ -33,12 +33,13 @@ impl Model for PSeg {
 
     ghost Value = { Physical };
 
+    ghost use Rattle.nl_blocks.specs.Table.{IsTable};
     ghost use Rattle.nl_pseg.specs.Seen.{seen, IsFormed, IsTied};
     ghost use Rattle.nl_pseg.specs.Space.{HasFewPairs};
 
     ghost view = { λ s. seen s.state };
 
-    ghost invariant = { λ s. IsFormed s.state × IsTied s.state × HasFewPairs (seen s.state) };
+    ghost invariant = { λ s. IsFormed s.state × IsTied s.state × HasFewPairs (seen s.state) × IsTable s.state.blocks };
 }
 
 impl PSeg {
