@@ -1,4 +1,6 @@
 mod Gone
+mod Rows
+mod Begun
 mod Dropped
 mod Chosen
 mod Taken

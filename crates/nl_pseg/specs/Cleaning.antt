@@ -8,7 +8,7 @@ use Rattle.nl_field.specs.declared.answers.Named.TheVariants as named
 use Rattle.nl_field.specs.declared.pointer.Tag.{Tag}
 use Rattle.nl_pseg.specs.Effects.{Crashes, Programmed}
 use Rattle.nl_pseg.specs.Pages.{IsUnreadable, main_of, page_with}
-use Rattle.nl_pseg.specs.Segment.{HasSpare, InVictim, IsDead, IsOldName, Physical, held_at, is_free, is_sealed, is_waiting, room, row_at, soiled, wear_of}
+use Rattle.nl_pseg.specs.Segment.{HasSpare, InVictim, IsDead, IsOldName, Physical, held_at, is_free, is_kept, is_sealed, is_waiting, room, row_at, soiled, wear_of}
 use Rattle.nl_pseg.specs.Space.{HasRoomForVictim, SameCleaning, dead_in, dead_pages, gain_of, landing, left_of, reach, victims, waiting}
 use Rattle.nl_pseg.specs.declared.cleaned.Copied.{Copied}
 use Rattle.nl_pseg.specs.declared.cleaned.Copied.TheVariants as copy
@@ -58,6 +58,7 @@ pub record Begins (block : ℕ) (old new : Physical) : Type 0 where
   pub copies : (new.copy_next ≡ old.copy_next) × (new.copy_left ≡ old.copy_left)
   pub free : new.free ≡ old.free
   pub frees : (other : ℕ) → is_free new other ≡ is_free old other
+  pub keeps : (other : ℕ) → is_kept new other ≡ is_kept old other
   pub wears : (other : ℕ) → wear_of new other ≡ wear_of old other
   pub same_soiled : (other : ℕ) → soiled new other ≡ soiled old other
   pub waits : (other : ℕ) → is_waiting new other ≡ is_waiting old other

@@ -1,8 +1,10 @@
 // Takes a block to be cleaned.
-ghost use Rattle.std.specs.Prelude.{◌≡◌, ◌↔◌, ◌*◌, ◌<◌, ◌≤◌, length, Some, None, IsTrue};
-ghost use Rattle.nl_blocks.specs.Table.{HasBlock, block_at, free_count};
-ghost use Rattle.nl_pseg.specs.Seen.{IsFormed, IsTied};
-ghost use Rattle.nl_pseg.specs.Steps.{SameUse};
+ghost use Rattle.std.specs.Prelude.{◌≡◌, ◌↔◌, ℕ, ◌*◌, ◌<◌, ◌≤◌, length, Some, None, IsTrue, IfSome, IfNone};
+ghost use Rattle.std.specs.Bool.{OnTrue, OnFalse};
+ghost use Rattle.nl_blocks.specs.Table.{HasBlock, IsTable, block_at, free_count};
+ghost use Rattle.nl_pseg.specs.Cleaning.{Begins, CannotBegin, IsChosen, NoneChosen};
+ghost use Rattle.nl_pseg.specs.Seen.{IsFormed, IsTied, seen};
+ghost use Rattle.nl_pseg.specs.Space.{HasFewPairs, IsWhole};
 
 use crate::state::State;
 use crate::table::choose;
@@ -20,7 +22,11 @@ impl State {
     }
 
     /// The block that is cleaned next.
-    fn pick(&self, cold: bool) -> Option<u32> {
+    fn pick(&self, cold: bool) -> Option<u32>
+        ensures some { IfSome result (IsChosen cold (seen self.now)) }
+        ensures here { IfSome result (λ block. HasBlock self.now.blocks block × ((block_at self.now.blocks block).state ≡ BlockState.Sealed)) }
+        ensures none { IfNone result (NoneChosen cold (seen self.now)) }
+    {
         if cold {
             coldest(&self.blocks)
         } else {
@@ -29,7 +35,19 @@ impl State {
     }
 
     /// Makes the coldest block, or that with the most dead pages, the victim.
-    pub fn begin(&mut self, cold: bool) -> bool {
+    pub fn begin(&mut self, cold: bool) -> bool
+        requires formed { IsFormed self.old }
+        requires tied { IsTied self.old }
+        requires few { HasFewPairs (seen self.old) }
+        ensures formed { IsFormed self.new }
+        ensures tied { IsTied self.new }
+        ensures few { HasFewPairs (seen self.new) }
+        ensures table { IsTable self.new.blocks }
+        ensures begun { OnTrue result ((block : ℕ) × IsChosen cold (seen self.old) block × Begins block (seen self.old) (seen self.new)) }
+        ensures none { OnFalse result (seen self.new ≡ seen self.old) }
+        ensures cannot { IsTrue result ↔ (CannotBegin cold (seen self.old) → ⊥) }
+    {
+        let _ = self.blocks.count();
         if !self.may_begin() {
             return false;
         }
@@ -45,19 +63,19 @@ impl State {
         requires formed { IsFormed self.old }
         requires tied { IsTied self.old }
         requires none { self.old.victim ≡ None }
+        requires few { length self.old.names.pairs ≤ 2 * self.old.blocks.size }
+        requires some { 0 < free_count self.old.blocks }
         requires has { HasBlock self.old.blocks block }
         requires sealed { (block_at self.old.blocks block).state ≡ BlockState.Sealed }
         ensures formed { IsFormed self.new }
         ensures tied { IsTied self.new }
-        ensures victim { self.new.victim ≡ Some block }
-        ensures same { SameUse self.old.blocks self.new.blocks }
-        ensures held { self.new.held ≡ self.old.held }
-        ensures names { self.new.names ≡ self.old.names }
-        ensures next { (self.new.active ≡ self.old.active) × (self.new.used ≡ self.old.used) }
-        ensures copies { (self.new.target ≡ self.old.target) × (self.new.filled ≡ self.old.filled) }
-        ensures soiled { self.new.soiled ≡ self.old.soiled }
+        ensures few { HasFewPairs (seen self.new) }
+        ensures table { IsTable self.new.blocks }
+        ensures begins { Begins block (seen self.old) (seen self.new) }
     {
+        let _ = self.blocks.count();
         choose(&mut self.blocks, block);
+        let _ = self.blocks.count();
         self.victim = Some(block);
     }
 }

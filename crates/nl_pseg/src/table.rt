@@ -1,6 +1,6 @@
 // Steps on the table of blocks.
 ghost use Rattle.std.specs.Prelude.{◌≡◌, ◌/◌, ◌≤◌, ◌+◌, ◌-◌, ◌^◌, ℕ, min, cond, true, false};
-ghost use Rattle.nl_blocks.specs.Table.{HasBlock, after_erase, block_at, free_count, is_retired_state, names_of};
+ghost use Rattle.nl_blocks.specs.Table.{HasBlock, after_erase, block_at, free_count, in_state, is_retired_state, names_of, with_block, with_page};
 ghost use Rattle.nl_pseg.specs.Seen.{use_in};
 ghost use Rattle.nl_pseg.specs.Steps.{IsMarked, Restated, SameMarks, SameNumbers, SameUse};
 
@@ -47,6 +47,7 @@ pub fn mark(blocks: &mut Blocks, page: u32, live: bool)
     ensures same { SameUse blocks.old blocks.new }
     ensures states { (block : ℕ) → (block_at blocks.new block).state ≡ (block_at blocks.old block).state }
     ensures marked { IsMarked page (cond live PageState.Live PageState.Dead) blocks.old blocks.new }
+    ensures table { blocks.new ≡ with_page blocks.old page (cond live PageState.Live PageState.Dead) }
 {
     let _ = blocks.count();
     if live {
@@ -93,6 +94,7 @@ pub fn choose(blocks: &mut Blocks, block: u32)
     ensures same { SameUse blocks.old blocks.new }
     ensures marks { SameMarks blocks.old blocks.new }
     ensures here { (block_at blocks.new block).state ≡ BlockState.Victim }
+    ensures table { blocks.new ≡ with_block blocks.old block (in_state (block_at blocks.old block) BlockState.Victim) }
     ensures others { (other : ℕ) → HasBlock blocks.old other → (other ≡ block → ⊥) → (block_at blocks.new other).state ≡ (block_at blocks.old other).state }
 {
     blocks.choose(block);

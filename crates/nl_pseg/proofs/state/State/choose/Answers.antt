@@ -1,5 +1,6 @@
 use Rattle.std.proofs.Common.{◌≡◌, ◌⊎◌, ⊎_elim, ℕ, ◌+◌, ◌*◌, ◌/◌, ◌<◌, ◌≤◌, Some, None, refl, sym, ◌∙◌, ap, arith}
 use Rattle.nl_blocks.specs.Table.{block_at}
+use Rattle.nl_pseg.proofs.Begun.{begins, few_begun}
 use Rattle.nl_pseg.proofs.Chosen.{chosen_tied}
 use Rattle.nl_pseg.proofs.Forms.{formed_same}
 use Rattle.nl_pseg.proofs.state.State.choose.Goals as goal
@@ -14,3 +15,9 @@ returns-clause-formed c =
 
 pub returns-clause-tied : goal.returns-clause-tied
 returns-clause-tied c = chosen_tied c.args.self.now c.requires.tied c.requires.none c.choose.new.blocks c.choose.ensures.same c.args.block c.requires.has c.requires.sealed c.choose.ensures.here c.choose.ensures.others
+
+pub returns-clause-few : goal.returns-clause-few
+returns-clause-few c = few_begun c.args.self.now c.count.ensures.table c.requires.none c.requires.few c.requires.some c.args.block c.requires.has c.requires.sealed c.choose.new.blocks c.choose.ensures.table c.choose.ensures.same
+
+pub returns-clause-begins : goal.returns-clause-begins
+returns-clause-begins c = begins c.args.self.now c.count.ensures.table c.requires.none c.requires.few c.requires.some c.args.block c.requires.has c.requires.sealed c.choose.new.blocks c.choose.ensures.table c.choose.ensures.same
