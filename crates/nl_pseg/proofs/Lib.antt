@@ -1,6 +1,8 @@
 mod Gone
 mod Rows
 mod Begun
+mod Picked
+mod Chooses
 mod Dropped
 mod Chosen
 mod Taken

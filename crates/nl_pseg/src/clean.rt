@@ -31,7 +31,9 @@ impl PSeg {
         ensures clean { IsClean self.old → IsClean self.new }
         ensures kept { KeepsBlock self.old → KeepsBlock self.new }
     {
-        self.state.begin(cold)
+        let begun = self.state.begin(cold);
+        self.state.whole();
+        begun
     }
 
     /// Moves one live page of the victim: it is read, and programmed with its owner, its number and its bytes as a copy, to which all
