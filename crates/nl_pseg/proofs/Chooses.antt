@@ -1,6 +1,7 @@
 -- What a victim that was taken leaves of a segment and its images.
 use Rattle.std.proofs.Common.{◌≡◌, inl, inr, ⊎_elim, ℕ, ◌+◌, ◌*◌, ◌/◌, ◌<◌, ◌≤◌, Bool, true, false, Option, Some, None, List, get_or, is_some, refl, sym, ◌∙◌, ap, subst, arith}
 use Rattle.std.proofs.lemmas.Option.{none-some}
+use Rattle.std.specs.Bool.{OnFalse, OnTrue}
 use Rattle.nl_field.specs.Page.{Image}
 use Rattle.nl_pseg.specs.Cleaning.{Begins}
 use Rattle.nl_pseg.specs.Segment.{HasSpare, IsClean, IsNext, IsNextCopy, IsPhysicalOf, KeepsBlock, Physical, TakenAsErased, held_at, is_kept, is_soiled}
@@ -51,3 +52,8 @@ module _ {block : ℕ} {old new : Physical} (b : Begins block old new) where
     below = subst (λ n. k.block < n) (sym b.tables.same_blocks) k.below;
     kept = ⊎_elim (λ is. inl (b.keeps k.block ∙ is)) (λ is. absurd (none-some k.block (sym b.none ∙ is))) k.kept;
   }
+
+-- by what a call answered
+pub by_answer : (b : Bool) {A B : Type 0} (C : Type 0) → OnTrue b A → OnFalse b B → (A → C) → (B → C) → C
+by_answer true C a b done kept = done a
+by_answer false C a b done kept = kept b
