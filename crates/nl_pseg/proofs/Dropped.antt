@@ -43,7 +43,7 @@ not_in_use : (n : ℕ) (state : BlockState) → is_free_state state ≡ false �
 not_in_use zero state free retired is = true≢false (ap is_free_state is ∙ free)
 not_in_use (suc n) state free retired is = true≢false (ap is_retired_state is ∙ retired)
 
-retired_is : (state : BlockState) → is_retired_state state ≡ true → state ≡ the.Retired (names_of state)
+pub retired_is : (state : BlockState) → is_retired_state state ≡ true → state ≡ the.Retired (names_of state)
 retired_is the.Free is = absurd (true≢false (sym is))
 retired_is the.Active is = absurd (true≢false (sym is))
 retired_is the.Target is = absurd (true≢false (sym is))

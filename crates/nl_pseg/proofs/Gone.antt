@@ -19,10 +19,10 @@ use Rattle.nl_pseg.proofs.Tables.{free_kept, use_from}
 abbrev num : Bool → ℕ
 num b = cond b 1 0
 
-abbrev kept : Use → Bool
+abbrev pub kept : Use → Bool
 kept u = u.is_kept
 
-abbrev waits : Use → Bool
+abbrev pub waits : Use → Bool
 waits u = u.is_kept && not u.is_free
 
 -- a block is Free, or waits, or is neither
@@ -34,7 +34,7 @@ three the.Sealed = refl
 three the.Victim = refl
 three (the.Retired names) = refl
 
-all_kept : (rows : List BlockRow) → count_by is_free rows + count_by waits (map use_of rows) ≡ count_by kept (map use_of rows)
+pub all_kept : (rows : List BlockRow) → count_by is_free rows + count_by waits (map use_of rows) ≡ count_by kept (map use_of rows)
 all_kept [] = refl
 all_kept (row ∷ rows) =
     let a : count_by is_free (row ∷ rows) ≡ num (is_free row) + count_by is_free rows = sum_by-cons (λ r. num (is_free r)) row rows in

@@ -1,3 +1,6 @@
+pub mod Holds
+pub mod Sums
+pub mod Runs
 mod Gone
 mod Rows
 mod Begun
