@@ -97,11 +97,10 @@ module _ (s : State) (t : Table) (names : NameTable) (n : SameNumbers s.blocks t
   pub gone_names : NamesGone (seen s) (seen (record s { blocks = t; names = names }))
   gone_names = record {
     range = record { range_first = n.same_first; range_blocks = λ i. n.same_first i + n.same_count i; range_size = n.same_size };
-    held = refl;
     next = (λ i. s.active * n.same_size i + s.used, λ i. n.same_size i - s.used);
     copies = (λ i. s.target * n.same_size i + s.filled, λ i. n.same_size i - s.filled);
     victim = refl;
-    same_soiled = refl;
+    same_soiled = λ b. refl;
     kept = keeps;
     wears = wears;
     frees = frees;

@@ -1,3 +1,7 @@
+pub mod Waits
+pub mod Ended
+pub mod Lefts
+pub mod Dropping
 pub mod Holds
 pub mod Sums
 pub mod Runs

@@ -13,7 +13,7 @@ use Rattle.nl_blocks.specs.Table.{page_at as page_in}
 use Rattle.nl_pseg.specs.Answers.{IfPlaced, IsFault, IsPlaced}
 use Rattle.nl_pseg.specs.Effects.{Crashes, Keeps, Programmed}
 use Rattle.nl_pseg.specs.Pages.{page_with}
-use Rattle.nl_pseg.specs.Segment.{Physical, IsClean, IsDead, IsNext, IsPhysicalOf, IsReady, IsSpent, IsUnspent, KeepsBlock, SameNames, SamePages, TakenAsErased, erasures, is_free, is_kept, is_soiled, soiled, use_at, wear_of, IsOldName}
+use Rattle.nl_pseg.specs.Segment.{InSegment, Physical, IsClean, IsDead, IsNext, IsPhysicalOf, IsReady, IsSpent, IsUnspent, KeepsBlock, SameNames, SamePages, TakenAsErased, erasures, is_free, is_kept, is_soiled, soiled, use_at, wear_of, without_target, IsOldName}
 use Rattle.nl_pseg.specs.Space.{waiting}
 use Rattle.nl_pseg.specs.Seen.{IsTied, use_in, use_with}
 use Rattle.nl_pseg.specs.declared.held.Held.{Held}
@@ -87,14 +87,13 @@ pub record IsGivenBack (block : ℕ) (old new : Physical) : Type 0 where
   pub erased : (p : ℕ) → TakenAsErased new p → TakenAsErased old p
   pub same : is_free old block ≡ true → new ≡ old
 
--- Names are gone: a block that waited for them may be Free. Nothing else changed but the pairs.
+-- Names are gone: a block that waited for them may be Free. No page is given out.
 pub record NamesGone (old new : Physical) : Type 0 where
   pub range : SameRange old new
-  pub held : new.held ≡ old.held
   pub next : (new.next ≡ old.next) × (new.left ≡ old.left)
   pub copies : (new.copy_next ≡ old.copy_next) × (new.copy_left ≡ old.copy_left)
   pub victim : new.victim ≡ old.victim
-  pub same_soiled : new.soiled ≡ old.soiled
+  pub same_soiled : (block : ℕ) → soiled new block ≡ soiled old block
   pub kept : (block : ℕ) → is_kept new block ≡ is_kept old block
   pub wears : (block : ℕ) → wear_of new block ≡ wear_of old block
   pub frees : (block : ℕ) → is_free old block ≡ true → is_free new block ≡ true
@@ -102,6 +101,13 @@ pub record NamesGone (old new : Physical) : Type 0 where
   pub more : old.free ≤ new.free
   pub blocks : new.free + waiting new ≡ old.free + waiting old
   pub gone : (name : ℕ) → IsOldName new name → IsOldName old name
+
+-- A page is live no longer, and no name leads to it any more.
+pub record Ends (page : ℕ) (old new : Physical) : Type 0 where
+  pub within : InSegment old page
+  pub gone : NamesGone old new
+  pub pairs : new.pairs ≡ without_target page old.pairs
+  pub held : new.held ≡ slice_set old.held page None
 
 -- every block is Free
 abbrev pub AllFree : Physical → Type 0

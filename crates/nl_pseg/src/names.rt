@@ -56,6 +56,7 @@ impl State {
         ensures pairs { OnTrue result (self.new.names.pairs ≡ remove self.old.names.pairs (place_of self.old.names.pairs name)) }
         ensures room { OnTrue result (self.new.names.room ≡ self.old.names.room + 1) }
         ensures beside { OnTrue result (let target = led self.old.names.pairs name in beside self.new.names.pairs target ≡ beside self.old.names.pairs target) }
+        ensures held { self.new.held ≡ self.old.held }
         ensures gone { NamesGone (seen self.old) (seen self.new) }
         ensures kept { OnFalse result (seen self.new ≡ seen self.old) }
     {
@@ -72,9 +73,12 @@ impl State {
     /// No name leads to the page any more.
     pub fn drop_names(&mut self, target: u32)
         requires formed { IsFormed self.old }
+        requires tied { IsTied self.old }
         ensures formed { IsFormed self.new }
+        ensures tied { IsTied self.new }
         ensures pairs { self.new.names.pairs ≡ beside self.old.names.pairs target }
         ensures none { (name : ℕ) → HasLink self.new.names.pairs (pair name target) → ⊥ }
+        ensures held { self.new.held ≡ self.old.held }
         ensures gone { NamesGone (seen self.old) (seen self.new) }
     {
         while let Some(name) = self.name_of(target) {

@@ -203,7 +203,9 @@ impl PSeg {
         ensures spare { (image : Image) → HasSpare image self.old → HasSpare image self.new }
         ensures kept_block { KeepsBlock self.old → KeepsBlock self.new }
     {
-        self.state.drop_name(name)
+        let dropped = self.state.drop_name(name);
+        self.state.whole();
+        dropped
     }
 
     /// The number of Free blocks.
@@ -236,7 +238,9 @@ impl PSeg {
         ensures kept_block { KeepsBlock self.old → KeepsBlock self.new }
         ensures kept_dead { KeptAreDead self.new }
     {
-        self.state.free(at)
+        let freed = self.state.free(at);
+        self.state.whole();
+        freed
     }
 
     /// Reads the page to which the pointer leads, for an owner. It answers `NotLive` exactly where the pointer leads to no live

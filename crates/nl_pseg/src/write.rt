@@ -130,8 +130,7 @@ impl State {
         }
         match self.place(media, tag, from, stamp) {
             Named::Placed(at) => {
-                self.drop_names(place);
-                self.end(place);
+                self.end_all(place);
                 Named::Placed(at)
             }
             Named::Fault => Named::Fault,
