@@ -10,6 +10,8 @@ mod Rows
 mod Begun
 mod Picked
 mod Chooses
+mod Left
+mod Released
 mod Dropped
 mod Chosen
 mod Taken

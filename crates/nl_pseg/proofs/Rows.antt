@@ -11,10 +11,10 @@ use Rattle.nl_pseg.specs.Seen.{row_of, use_in, use_of}
 use Rattle.nl_pseg.specs.Steps.{SameNumbers, SameUse}
 use Rattle.nl_pseg.proofs.Tables.{use_from}
 
-abbrev num : Bool → ℕ
+abbrev pub num : Bool → ℕ
 num b = cond b 1 0
 
-abbrev waits : Use → Bool
+abbrev pub waits : Use → Bool
 waits u = u.is_kept && not u.is_free
 
 -- the dead pages of a Sealed block

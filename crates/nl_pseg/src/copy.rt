@@ -1,4 +1,9 @@
 // Moves live pages of the victim.
+ghost use Rattle.std.specs.Prelude.{◌≡◌, ℕ, ◌/◌, None, IfNone, IfSome, IsSome};
+ghost use Rattle.nl_blocks.specs.Table.{HasBlock};
+ghost use Rattle.nl_pseg.specs.Segment.{held_at};
+ghost use Rattle.nl_pseg.specs.Seen.{seen, IsFormed};
+
 use crate::cleaned::Copied;
 use crate::held::Held;
 use crate::pages::{program_page, read_page};
@@ -9,7 +14,12 @@ use nl_nand::{Nand, WriteAnswer};
 
 impl State {
     /// The first live page of a block.
-    pub fn first_live(&self, block: u32) -> Option<u32> {
+    pub fn first_live(&self, block: u32) -> Option<u32>
+        requires formed { IsFormed self.now }
+        requires has { HasBlock self.now.blocks block }
+        ensures some { IfSome result (λ page. (page / self.now.blocks.size ≡ block) × IsSome (held_at (seen self.now) page)) }
+        ensures none { IfNone result ((page : ℕ) → page / self.now.blocks.size ≡ block → held_at (seen self.now) page ≡ None) }
+    {
         let pages = self.blocks.pages();
         for at in 0..pages {
             let page = block * pages + at;
