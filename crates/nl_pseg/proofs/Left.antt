@@ -1,5 +1,6 @@
 -- How many pages of a block are live.
-use Rattle.std.proofs.Common.{◌≡◌, inl, inr, ⊎_elim, ℕ, zero, suc, ◌+◌, ◌-◌, ◌*◌, ◌/◌, ◌%◌, ◌<◌, ◌≤◌, cond, count_by, Option, Some, None, IsSome, Bool, true, false, List, [], ◌∷◌, length, get_or, refl, sym, ◌∙◌, ap, subst, arith}
+use Rattle.std.proofs.Common.{◌≡◌, inl, inr, ⊎_elim, ℕ, zero, suc, ◌+◌, ◌-◌, ◌*◌, ◌/◌, ◌%◌, ◌<◌, ◌≤◌, cond, count_by, Option, Some, None, IfNone, IfSome, IsSome, is_some, Bool, true, false, List, [], ◌∷◌, length, get_or, refl, sym, ◌∙◌, ap, subst, arith}
+use Rattle.std.proofs.lemmas.Bool.{true≢false}
 use Rattle.std.proofs.lemmas.List.Sums.{sum_by-cons}
 use Rattle.std.proofs.lemmas.Nat.{mod-mul-add}
 use Rattle.nl_blocks.specs.declared.states.Page.{Page}
@@ -10,9 +11,11 @@ use Rattle.nl_blocks.proofs.TableLaws.{page_in}
 use Rattle.nl_blocks.proofs.TableProofs.{row_size}
 use Rattle.nl_pseg.specs.Segment.{held_at}
 use Rattle.nl_pseg.specs.Seen.{IsFormed, seen, state_for}
+use Rattle.nl_pseg.specs.Space.{left_of, victims}
 use Rattle.nl_pseg.specs.declared.held.Held.{Held}
 use Rattle.nl_pseg.specs.declared.state.State.{State}
 use Rattle.nl_pseg.proofs.Numbers.{block_of, in_block}
+use Rattle.nl_pseg.proofs.Rows.{dead_here}
 
 abbrev num : Bool → ℕ
 num b = cond b 1 0
@@ -78,3 +81,22 @@ module _ (s : State) (is : IsFormed s) (table : IsTable s.blocks) (block : ℕ) 
       let live = page_of (p - block * s.blocks.size) less ∙ ap state_for (ap (held_at (seen s)) whole ∙ held) in
       let few = one_live (block_at s.blocks block).pages (p - block * s.blocks.size) (omega (arith, less, n)) live in
       omega (arith, few, n)
+
+-- the live pages of a victim
+pub left_is : (s : State) (block : ℕ) → HasBlock s.blocks block → s.victim ≡ Some block → left_of (seen s) ≡ s.blocks.size - dead_count (block_at s.blocks block)
+left_is s block has named = ap (λ v. left_of (record (seen s) { victim = v })) named ∙ ap (λ d. s.blocks.size - d) (dead_here s.blocks block has)
+
+pub victims_is : (s : State) (block : ℕ) → s.victim ≡ Some block → victims (seen s) ≡ 1
+victims_is s block named = ap (λ v. victims (record (seen s) { victim = v })) named
+
+pub none_is : {A : Type 0} (o : Option A) {P : Type 0} → is_some o ≡ false → IfNone o P → P
+none_is None none is = is
+none_is (Some x) none is = absurd (true≢false none)
+
+pub some_is : {A : Type 0} (o : Option A) {P : A → Type 0} → is_some o ≡ true → IfSome o P → (x : A) × P x
+some_is None some is = absurd (true≢false (sym some))
+some_is (Some x) some is = (x, is)
+
+pub there_is : {A : Type 0} (o : Option A) → IsSome o → (x : A) × (o ≡ Some x)
+there_is None some = absurd (true≢false (sym some))
+there_is (Some x) some = (x, refl)

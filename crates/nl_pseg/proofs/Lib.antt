@@ -12,6 +12,7 @@ mod Picked
 mod Chooses
 mod Left
 mod Released
+mod Erasing
 mod Dropped
 mod Chosen
 mod Taken

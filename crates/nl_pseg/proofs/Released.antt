@@ -210,6 +210,8 @@ module _ (s : State) (is : IsFormed s) (tied : IsTied s) (table : IsTable s.bloc
     copies = (refl, refl);
     blocks = counts;
     frees = λ b ne. ap (λ (u : Use). u.is_free) (use_other s.blocks block b row has ne);
+    keeps = λ b ne. ap (λ (u : Use). u.is_kept) (use_other s.blocks block b row has ne);
+    kept = ap (λ (u : Use). u.is_kept) use_now ∙ kept_after n;
     here = ⊎_elim (λ free. inl (ap (λ (u : Use). u.is_free) use_now ∙ free)) (λ used. inr (ap waits use_now ∙ (λ i. kept_after n i && not (used i)))) (free_after n);
     names = λ name old at. ap waits use_now ∙ (λ i. kept_after n i && not (standing_here name (old_is s name old) at i));
     clean = get_or-set_same s.soiled.items block None None (let m = is.marks in omega (arith, has.below, m));

@@ -140,6 +140,8 @@ pub record Erases (block : ℕ) (old new : Physical) : Type 0 where
   pub copies : (new.copy_next ≡ old.copy_next) × (new.copy_left ≡ old.copy_left)
   pub blocks : ((new.free ≡ old.free + 1) × (waiting new ≡ waiting old)) ⊎ ((new.free ≡ old.free) × (waiting new ≡ waiting old + 1))
   pub frees : (other : ℕ) → (other ≡ block → ⊥) → is_free new other ≡ is_free old other
+  pub keeps : (other : ℕ) → (other ≡ block → ⊥) → is_kept new other ≡ is_kept old other
+  pub kept : is_kept new block ≡ true
   pub here : (is_free new block ≡ true) ⊎ (is_waiting new block ≡ true)
   pub names : (name : ℕ) → IsOldName old name → name / old.size ≡ block → is_waiting new block ≡ true
   pub clean : soiled new block ≡ None

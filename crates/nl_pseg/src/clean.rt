@@ -84,6 +84,8 @@ impl PSeg {
         ensures read_faults { M.read_faults media.new ≡ M.read_faults media.old }
         ensures write_faults { FaultsCounted (M.write_faults media.old) (M.write_faults media.new) (result ≡ Erasure.Fault) }
     {
-        self.state.erase_victim(media)
+        let erased = self.state.erase_victim(media);
+        self.state.whole();
+        erased
     }
 }
