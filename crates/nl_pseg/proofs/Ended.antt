@@ -3,7 +3,7 @@ use Rattle.std.proofs.Common.{◌≡◌, ◌⊎◌, inl, inr, ⊎_elim, ℕ, zer
 use Rattle.std.proofs.lemmas.Bool.{cases_Bool, cases_eq, true≢false}
 use Rattle.nl_field.specs.Page.{Image}
 use Rattle.nl_pseg.specs.Segment.{HasSpare, InSegment, InVictim, IsNext, IsOldName, IsPhysicalOf, IsUnspent, KeepsBlock, Physical, SameNames, SamePages, TakenAsErased, held_at, is_free, is_kept, is_soiled, is_waiting, room, soiled, without_target}
-use Rattle.nl_pseg.specs.Space.{GivesBack, HasRoomForVictim, Lessens, gain_of, landing, left_of, reach, waiting}
+use Rattle.nl_pseg.specs.Space.{GivesBack, HasFewPairs, HasRoomForVictim, Lessens, gain_of, landing, left_of, reach, victims, waiting}
 use Rattle.nl_pseg.specs.Steps.{Ends, NamesGone}
 use Rattle.nl_pseg.specs.declared.held.Held.{Held}
 use Rattle.nl_pseg.proofs.Numbers.{block_from}
@@ -25,6 +25,7 @@ gone_then {a} {b} {c} f g = record {
   more = let x = f.more in let y = g.more in omega (arith, x, y);
   blocks = g.blocks ∙ f.blocks;
   gone = λ n old. f.gone n (g.gone n old);
+  fewer = let x = f.fewer in let y = g.fewer in omega (arith, x, y);
 }
 
 pub gone_none : (a : Physical) → ((block : ℕ) → is_kept a block ≡ false → is_free a block ≡ false) → NamesGone a a
@@ -41,6 +42,7 @@ gone_none a none = record {
   more = omega arith;
   blocks = refl;
   gone = λ n old. old;
+  fewer = omega arith;
 }
 
 -- the page dies then
@@ -67,8 +69,16 @@ ends {old} {mid} {new} page within g held pairs same space names now = record {
         let w = waiting_same mid new same.same_first (λ k. wait_by mid new k (space.same_free k) (space.same_kept k)) in
         omega (arith, x, y, w);
     gone = λ n is. g.gone n (subst (λ (ps : List (ℕ × ℕ)). (target : ℕ) × Contains ps (n, target)) names.same_pairs is);
+    fewer = let x = g.fewer in let y = ap (λ (l : List (ℕ × ℕ)). length l) names.same_pairs in omega (arith, x, y);
   };
 }
+
+-- there are few pairs still
+pub few_on : (old new : Physical) → new.victim ≡ old.victim → new.size ≡ old.size → length new.pairs ≤ length old.pairs → left_of new ≤ left_of old → HasFewPairs old → HasFewPairs new
+few_on old new victim size pairs left few one =
+    let was : victims old ≡ 1 = ap (λ (v : Option ℕ). victims (record old { victim = v })) (sym victim) ∙ one in
+    let bound = few was in
+    omega (arith, bound, size, pairs, left)
 
 module _ {old new : Physical} (g : NamesGone old new) where
   pub gone_pages : SamePages old new
@@ -178,3 +188,20 @@ module _ {old new : Physical} (g : NamesGone old new) where
     below = subst (λ n. k.block < n) (sym g.range.range_blocks) k.below;
     kept = ⊎_elim (λ is. inl (g.kept k.block ∙ is)) (λ is. inr (g.victim ∙ is)) k.kept;
   }
+
+-- nothing changed
+pub nothing_lessens : (gone : ℕ) (seg : Physical) → Lessens gone seg seg
+nothing_lessens gone seg = record { victim = refl; copies = (refl, refl); fewer_wait = omega arith; left = omega arith; left_most = omega arith; lands = λ lands. lands }
+
+pub nothing_back : (seg : Physical) → GivesBack seg seg
+nothing_back seg = record {
+  next = refl;
+  left = refl;
+  soiled = λ b. refl;
+  blocks = refl;
+  frees = λ b free. inl free;
+  still = λ b free. free;
+  more_reach = omega arith;
+  more_room = omega arith;
+  same = λ none. record { next = refl; left = refl; free = refl; same_free = λ b. refl; same_kept = λ b. refl; same_soiled = λ b. refl; copies = (refl, refl) };
+}

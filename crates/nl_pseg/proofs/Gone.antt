@@ -84,7 +84,7 @@ old_told ps m old =
     (to, (old.0, subst (λ k. old.0 < k) (sym (length-map ps turn)) old.1, get_or-map turn ps old.0 no_link (m, to) old.1 ∙ (λ i. (old.2 i, to))))
 
 module _ (s : State) (t : Table) (names : NameTable) (n : SameNumbers s.blocks t) (keeps : (b : ℕ) → (use_in t b).is_kept ≡ (use_in s.blocks b).is_kept) (wears : (b : ℕ) → (use_in t b).wear ≡ (use_in s.blocks b).wear)
-    (frees : (b : ℕ) → (use_in s.blocks b).is_free ≡ true → (use_in t b).is_free ≡ true) (olds : (m : ℕ) → IsOld names.pairs m → IsOld s.names.pairs m) where
+    (frees : (b : ℕ) → (use_in s.blocks b).is_free ≡ true → (use_in t b).is_free ≡ true) (olds : (m : ℕ) → IsOld names.pairs m → IsOld s.names.pairs m) (fewer : length names.pairs ≤ length s.names.pairs) where
   at : (u : Table) (i : ℕ) → use_in u (u.first + i) ≡ get_or (map use_of u.blocks) i no_use
   at u i = use_from u.first (map use_of u.blocks) (u.first + i) (omega arith) ∙ ap (λ k. get_or (map use_of u.blocks) k no_use) (omega arith)
 
@@ -112,4 +112,9 @@ module _ (s : State) (t : Table) (names : NameTable) (n : SameNumbers s.blocks t
         (λ i less. sym (ap (λ (u : Use). u.is_kept) (here i)) ∙ (keeps (s.blocks.first + i) ∙ ap (λ (u : Use). u.is_kept) (at s.blocks i)))
         ∙ sym (all_kept s.blocks.blocks));
     gone = λ m old. old_told s.names.pairs m (olds m (told_old names.pairs m old));
+    fewer =
+        let turn : Link → ℕ × ℕ = λ p. (p.from, p.to) in
+        let a : length (map turn names.pairs) ≡ length names.pairs = length-map names.pairs turn in
+        let b : length (map turn s.names.pairs) ≡ length s.names.pairs = length-map s.names.pairs turn in
+        omega (arith, a, b, fewer);
   }

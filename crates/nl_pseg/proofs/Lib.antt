@@ -2,6 +2,7 @@ pub mod Waits
 pub mod Ended
 pub mod Lefts
 pub mod Dropping
+pub mod After
 pub mod Holds
 pub mod Sums
 pub mod Runs

@@ -101,6 +101,7 @@ pub record NamesGone (old new : Physical) : Type 0 where
   pub more : old.free ≤ new.free
   pub blocks : new.free + waiting new ≡ old.free + waiting old
   pub gone : (name : ℕ) → IsOldName new name → IsOldName old name
+  pub fewer : length new.pairs ≤ length old.pairs
 
 -- A page is live no longer, and no name leads to it any more.
 pub record Ends (page : ℕ) (old new : Physical) : Type 0 where

@@ -15,6 +15,13 @@ use crate::table::mark;
 use nl_field::Pointer;
 
 impl State {
+    /// What holds of each table of blocks.
+    pub fn table(&self)
+        ensures { IsTable self.now.blocks }
+    {
+        let _ = self.blocks.count();
+    }
+
     /// What holds of each segment.
     pub fn whole(&self)
         requires formed { IsFormed self.now }

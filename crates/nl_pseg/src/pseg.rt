@@ -204,6 +204,7 @@ impl PSeg {
         ensures kept_block { KeepsBlock self.old → KeepsBlock self.new }
     {
         let dropped = self.state.drop_name(name);
+        self.state.table();
         self.state.whole();
         dropped
     }
@@ -239,6 +240,7 @@ impl PSeg {
         ensures kept_dead { KeptAreDead self.new }
     {
         let freed = self.state.free(at);
+        self.state.table();
         self.state.whole();
         freed
     }

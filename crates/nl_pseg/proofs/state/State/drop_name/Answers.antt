@@ -1,4 +1,4 @@
-use Rattle.std.proofs.Common.{rules, ◌≡◌, ◌⊎◌, inl, inr, ⊎_elim, ℕ, ◌+◌, ◌-◌, ◌/◌, true, false, refl, sym, ◌∙◌, ap, subst, remove}
+use Rattle.std.proofs.Common.{rules, ◌≡◌, ◌⊎◌, inl, inr, ⊎_elim, ℕ, ◌+◌, ◌-◌, ◌/◌, true, false, refl, sym, ◌∙◌, ap, subst, remove, length, arith}
 use Rattle.std.proofs.lemmas.Bool.{cases_eq, true≢false}
 use Rattle.nl_blocks.specs.Table.{HasBlock, after_erase, block_at, is_retired_state, names_of}
 use Rattle.nl_remap.specs.Table.{IsOld, place_of}
@@ -7,6 +7,7 @@ use Rattle.nl_pseg.specs.Seen.{IsTied, use_in}
 use Rattle.nl_remap.proofs.TableProofs.{IsOld-remove_back}
 use Rattle.nl_pseg.specs.Segment.{Use}
 use Rattle.nl_pseg.proofs.Dropped.{dropped_tied, formed_names, not_free_state}
+use Rattle.nl_pseg.proofs.Dropping.{one_fewer}
 use Rattle.nl_pseg.proofs.Gone.{gone_names}
 use Rattle.nl_pseg.proofs.Named.{old_within}
 use Rattle.nl_pseg.proofs.Tables.{use_here}
@@ -66,6 +67,7 @@ returns-then-not-drop_name-clause-gone c =
     let e : c.drop_name.new.self ≡ s.names = search rules in
     gone_names s s.blocks c.drop_name.new.self (record { same_first = refl; same_size = refl; same_count = refl }) (λ b. refl) (λ b. refl) (λ b free. free)
     (λ m old. subst (λ (t : NameTable). IsOld t.pairs m) e old)
+    (let n = ap (λ (t : NameTable). length t.pairs) e in omega (arith, n))
 
 pub returns-else-is_waiting-clause-gone : goal.returns-else-is_waiting-clause-gone
 returns-else-is_waiting-clause-gone c =
@@ -74,6 +76,7 @@ returns-else-is_waiting-clause-gone c =
     let taken : c.drop_name.new.self ≡ record s.names { pairs = remove s.names.pairs (place_of s.names.pairs c.args.name); room = s.names.room + 1 } = search rules in
     gone_names s s.blocks c.drop_name.new.self (record { same_first = refl; same_size = refl; same_count = refl }) (λ b. refl) (λ b. refl) (λ b free. free)
     (λ m is. IsOld-remove_back s.names.pairs (place_of s.names.pairs c.args.name) m (old_within s.names.pairs c.args.name c.requires.tied.named.remap old) (subst (λ (t : NameTable). IsOld t.pairs m) taken is))
+    (let n = one_fewer s.names.pairs c.drop_name.new.self.pairs c.args.name c.requires.tied.named.remap old (ap (λ (t : NameTable). t.pairs) taken) in omega (arith, n))
 
 pub returns-then-is_waiting-clause-gone : goal.returns-then-is_waiting-clause-gone
 returns-then-is_waiting-clause-gone c =
@@ -88,3 +91,4 @@ returns-then-is_waiting-clause-gone c =
     (λ ne. ap (λ (u : Use). u.is_free) (c.end_name.ensures.uses b ne) ∙ free)
     (cases_eq b block))
     (λ m is. IsOld-remove_back s.names.pairs (place_of s.names.pairs c.args.name) m (old_within s.names.pairs c.args.name c.requires.tied.named.remap old) (subst (λ (t : NameTable). IsOld t.pairs m) taken is))
+    (let n = one_fewer s.names.pairs c.drop_name.new.self.pairs c.args.name c.requires.tied.named.remap old (ap (λ (t : NameTable). t.pairs) taken) in omega (arith, n))
