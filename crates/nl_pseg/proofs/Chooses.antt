@@ -43,7 +43,7 @@ module _ {block : ℕ} {old new : Physical} (b : Begins block old new) where
   }
 
   pub begins_clean : IsClean old → IsClean new
-  begins_clean clean other free = ap is_some (b.same_soiled other) ∙ clean other (sym (b.frees other) ∙ free)
+  begins_clean clean other kept = ap is_some (b.same_soiled other) ∙ clean other (sym (b.keeps other) ∙ kept)
 
   pub begins_kept : KeepsBlock old → KeepsBlock new
   begins_kept k = record {

@@ -113,7 +113,7 @@ module _ {block : ℕ} {old new : Physical} (e : Erases block old new) where
   pub erases_clean : IsClean old → IsClean new
   erases_clean clean b free = ⊎_elim
       (λ at. ap is_some (ap (soiled new) at ∙ e.clean))
-      (λ ne. ap is_some (e.same_soiled b ne) ∙ clean b (sym (e.frees b ne) ∙ free))
+      (λ ne. ap is_some (e.same_soiled b ne) ∙ clean b (sym (e.keeps b ne) ∙ free))
       (cases_eq b block)
 
 -- the block that was the victim is kept then

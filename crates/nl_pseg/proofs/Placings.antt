@@ -14,10 +14,12 @@ use Rattle.nl_nand.proofs.Crashes.{turns_later, weaken}
 use Rattle.nl_pseg.specs.Answers.{IfPlaced, IsPlaced}
 use Rattle.nl_pseg.specs.Effects.{Crashes, Keeps, Places, Programmed, Takes}
 use Rattle.nl_pseg.specs.Pages.{page_with, shown_by}
-use Rattle.nl_pseg.specs.Segment.{Physical, Use, IsClean, IsDead, IsSpent, IsUnspent, KeepsBlock, SameNames, SamePages, held_at, is_free, is_kept, is_soiled, room, soiled, wear_of}
+use Rattle.nl_pseg.specs.Segment.{Physical, Use, IsClean, IsDead, IsNext, IsSpent, is_waiting, IsUnspent, KeepsBlock, SameNames, SamePages, held_at, is_free, is_kept, is_soiled, room, soiled, wear_of}
 use Rattle.nl_pseg.specs.Steps.{IsAlone, IsOpened, IsUsed, Opening, OpeningOn, Placing, PlacingOn}
 use Rattle.nl_pseg.specs.declared.held.Held.{Held}
 use Rattle.nl_pseg.proofs.Images.{keeps_then, takes_then}
+use Rattle.nl_pseg.proofs.Gone.{waits}
+use Rattle.nl_pseg.proofs.Waits.{wait_by, wait_free, wait_not}
 use Rattle.nl_pseg.proofs.Segments.{pages_back, pages_then, range_of, within_same}
 
 pub if_placed : (answer : Named) {P Q : Pointer → Type 0} → ((at : Pointer) → P at → Q at) → IfPlaced answer P → IfPlaced answer Q
@@ -63,7 +65,13 @@ module _ {x : Option Held} {seg new : Physical} (u : IsUsed x seg new) (some : 0
       num_zero = 0
 
   pub used_clean : IsClean seg → IsClean new
-  used_clean clean b free = ap (λ (l : List (Option ℕ)). is_some (get_or l b None)) u.soiled ∙ clean b (ap (λ (w : Use). w.is_free) (sym (u.uses b)) ∙ free)
+  used_clean clean b free = ap (λ (l : List (Option ℕ)). is_some (get_or l b None)) u.soiled ∙ clean b (ap (λ (w : Use). w.is_kept) (sym (u.uses b)) ∙ free)
+
+  pub used_waits : (block : ℕ) → is_waiting new block ≡ is_waiting seg block
+  used_waits block = ap waits (u.uses block)
+
+  pub used_next : (p : ℕ) → IsNext new p → IsNext seg p
+  used_next p next = let a = u.next in let l = u.left in (omega (arith, a, next.0), omega (arith, a, l, next.0, next.1))
 
   pub used_kept : KeepsBlock seg → KeepsBlock new
   used_kept k = kept_same u.pages u.names (λ b. ap (λ (w : Use). w.is_kept) (u.uses b)) k
@@ -77,6 +85,8 @@ used_failed {seg} {new} stamp now u some dead = record {
   spent = λ placed. absurd placed;
   failed = λ fault. inl (used_spent u some);
   clean = used_clean u some;
+  waits = used_waits u some;
+  frees = inl (u.free, used_next u some, tt);
   kept = used_kept u some;
   names = u.names;
 }
@@ -91,6 +101,8 @@ used_placed {h} {seg} {new} page stamp at u some dead = record {
   spent = λ placed. used_spent u some;
   failed = λ fault. absurd (cc fault);
   clean = used_clean u some;
+  waits = used_waits u some;
+  frees = inl (u.free, used_next u some, (omega (arith, at), omega (arith, at, some)));
   kept = used_kept u some;
   names = u.names;
 }
@@ -162,8 +174,14 @@ module _ {block : ℕ} {seg mid : Physical} (o : IsOpened block seg mid) where
 
   pub opened_clean : IsClean seg → IsClean mid
   opened_clean clean b free = ⊎_elim
-      (λ is. absurd (true≢false (sym free ∙ (ap (is_free mid) is ∙ o.here))))
-      (λ ne. ap (λ (l : List (Option ℕ)). is_some (get_or l b None)) o.soiled ∙ (ap is_some (get_or-set_other seg.soiled block b None None ne) ∙ clean b (ap (λ (w : Use). w.is_free) (sym (o.others b ne)) ∙ free)))
+      (λ is. absurd (true≢false (sym free ∙ (ap (is_kept mid) is ∙ o.in_use))))
+      (λ ne. ap (λ (l : List (Option ℕ)). is_some (get_or l b None)) o.soiled ∙ (ap is_some (get_or-set_other seg.soiled block b None None ne) ∙ clean b (ap (λ (w : Use). w.is_kept) (sym (o.others b ne)) ∙ free)))
+      (cases_eq b block)
+
+  opened_waits : (b : ℕ) → is_waiting mid b ≡ is_waiting seg b
+  opened_waits b = ⊎_elim
+      (λ at. ap (is_waiting mid) at ∙ (wait_not mid block o.in_use ∙ sym (ap (is_waiting seg) at ∙ wait_free seg block o.was_free)))
+      (λ ne. ap waits (o.others b ne))
       (cases_eq b block)
 
   pub opened_placing : {new : Physical} {answer : Named} (stamp : ℕ) (h : Held) → 0 < seg.size → Placing stamp (λ at. set mid.held at.name (Some h)) answer mid new
@@ -176,6 +194,8 @@ module _ {block : ℕ} {seg mid : Physical} (o : IsOpened block seg mid) where
     spent = λ placed. opened_spent some (p.spent placed);
     failed = λ failed. inl (opened_spent some (⊎_elim (λ spent. spent) (λ x. absurd (x.1 (inl ready))) (p.failed failed)));
     clean = λ clean. p.clean (opened_clean clean);
+    waits = λ b. p.waits b ∙ opened_waits b;
+    frees = inr (⊎_elim (λ same. let e = same.0 in let a = o.some in omega (arith, e, a)) (λ some. some) p.frees);
     kept = λ k. p.kept o.kept;
     names = names_then o.names p.names;
   }
@@ -239,14 +259,16 @@ module _ {M : Type 0} {clock : M → ℕ} {contents : M → Image} {left : M →
 
 -- an erase failed
 pub opening_failed : {seg new : Physical} (stamp : ℕ) (now : Pointer → List (Option Held)) → Opening wrote.Failed seg new → Placing stamp now the.Fault seg new
-opening_failed stamp now x = record {
+opening_failed {seg} {new} stamp now x = record {
   pages = x.0;
   placed = tt;
   held = tt;
   same = λ not. x.1;
   spent = λ placed. absurd placed;
   failed = λ fault. inr (x.2, x.3);
-  clean = λ clean b free. ap is_some (x.2.same_soiled b) ∙ clean b (sym (x.2.same_free b) ∙ free);
+  clean = λ clean b free. ap is_some (x.2.same_soiled b) ∙ clean b (sym (x.2.same_kept b) ∙ free);
+  waits = λ b. wait_by seg new b (x.2.same_free b) (x.2.same_kept b);
+  frees = inl (x.2.free, (λ p next. let a = x.2.next in let l = x.2.left in (omega (arith, a, next.0), omega (arith, a, l, next.1))), tt);
   kept = kept_same x.0 x.4 x.2.same_kept;
   names = x.4;
 }

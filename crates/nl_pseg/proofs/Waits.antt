@@ -46,6 +46,13 @@ wait_is seg block kept free = (λ i. kept i && not (free i))
 pub wait_kept : (seg : Physical) (block : ℕ) → is_waiting seg block ≡ true → is_kept seg block ≡ true
 wait_kept seg block waits_is = ⊎_elim (λ yes. yes) (λ no. absurd (true≢false (sym waits_is ∙ (λ i. no i && not (is_free seg block))))) (cases_Bool (is_kept seg block))
 
+-- a block that is Free, or in use, does not wait
+pub wait_free : (seg : Physical) (block : ℕ) → is_free seg block ≡ true → is_waiting seg block ≡ false
+wait_free seg block free = ⊎_elim (λ yes. (λ i. yes i && not (free i))) (λ no. (λ i. no i && not (is_free seg block))) (cases_Bool (is_kept seg block))
+
+pub wait_not : (seg : Physical) (block : ℕ) → is_kept seg block ≡ false → is_waiting seg block ≡ false
+wait_not seg block used = (λ i. used i && not (is_free seg block))
+
 -- where none waits, no block does
 pub none_waits : (seg : Physical) (block : ℕ) → waiting seg ≡ 0 → is_waiting seg block ≡ true → ⊥
 none_waits seg block none waits_is =

@@ -161,9 +161,9 @@ KeptAreDead seg = (page : ℕ) (h : Held) → held_at seg page ≡ Some h → is
 abbrev pub is_soiled : Physical → ℕ → Bool
 is_soiled seg block = is_some (soiled seg block)
 
--- no Free block has to be erased before use
+-- no block that is Free, or waits to be, has to be erased before use
 abbrev pub IsClean : Physical → Type 0
-IsClean seg = (block : ℕ) → is_free seg block ≡ true → is_soiled seg block ≡ false
+IsClean seg = (block : ℕ) → is_kept seg block ≡ true → is_soiled seg block ≡ false
 
 -- the page for the next new name is programmed with no erase before it
 abbrev pub IsReady : Physical → Type 0

@@ -13,7 +13,7 @@ use Rattle.nl_blocks.specs.Table.{page_at as page_in}
 use Rattle.nl_pseg.specs.Answers.{IfPlaced, IsFault, IsPlaced}
 use Rattle.nl_pseg.specs.Effects.{Crashes, Keeps, Programmed}
 use Rattle.nl_pseg.specs.Pages.{page_with}
-use Rattle.nl_pseg.specs.Segment.{InSegment, Physical, IsClean, IsDead, IsNext, IsPhysicalOf, IsReady, IsSpent, IsUnspent, KeepsBlock, SameNames, SamePages, TakenAsErased, erasures, is_free, is_kept, is_soiled, soiled, use_at, wear_of, without_target, IsOldName}
+use Rattle.nl_pseg.specs.Segment.{InSegment, Physical, IsClean, IsDead, IsNext, IsPhysicalOf, IsReady, IsSpent, IsUnspent, KeepsBlock, SameNames, SamePages, TakenAsErased, erasures, is_free, is_kept, is_soiled, is_waiting, soiled, use_at, wear_of, without_target, IsOldName}
 use Rattle.nl_pseg.specs.Space.{waiting}
 use Rattle.nl_pseg.specs.Seen.{IsTied, use_in, use_with}
 use Rattle.nl_pseg.specs.declared.held.Held.{Held}
@@ -176,6 +176,10 @@ pub record OpeningOn {M : Type 0} (clock : M → ℕ) (contents : M → Image) (
   pub others : answer ≡ wrote.Done → (p : ℕ) → (page_at (contents new) p ≡ page_at (contents old) p)
       ⊎ ((p / seg.size ≡ seg_new.next / seg.size) × (is_free seg (seg_new.next / seg.size) ≡ true) × (is_soiled seg (seg_new.next / seg.size) ≡ true) × (page_at (contents new) p ≡ erased))
 
+-- No Free block was taken, and a page that was placed is one of those that were programmed next; or another block is Free.
+abbrev pub LeavesFree : Named → Physical → Physical → Type 0
+LeavesFree answer old new = ((new.free ≡ old.free) × ((p : ℕ) → IsNext new p → IsNext old p) × IfPlaced answer (λ at. IsNext old at.name)) ⊎ (1 ≤ new.free)
+
 -- what placing a page does to the segment, where it then has these live pages
 pub record Placing (stamp : ℕ) (now : Pointer → List (Option Held)) (answer : Named) (old new : Physical) : Type 0 where
   pub pages : SamePages old new
@@ -185,6 +189,8 @@ pub record Placing (stamp : ℕ) (now : Pointer → List (Option Held)) (answer 
   pub spent : IsPlaced answer → IsSpent old new
   pub failed : IsFault answer → IsSpent old new ⊎ (IsUnspent old new × (IsReady old → ⊥))
   pub clean : IsClean old → IsClean new
+  pub waits : (block : ℕ) → is_waiting new block ≡ is_waiting old block
+  pub frees : LeavesFree answer old new
   pub kept : KeepsBlock old → KeepsBlock new
   pub names : SameNames old new
 

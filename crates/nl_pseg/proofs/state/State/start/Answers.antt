@@ -140,7 +140,7 @@ returns-in-Failed-clause-opening g c =
       same_unspent s c.give_back.new.blocks same,
       λ ready. ⊎_elim
           (λ lt. let f = c.if-self-pages.false in let e = c.pages.ensures in omega (arith, lt, f, e))
-          (λ clean. true≢false (sym dirty ∙ clean block c.take-block.ensures.was_free))
+          (λ clean. true≢false (sym dirty ∙ clean block (free_kept s.blocks block c.take-block.ensures.was_free)))
           ready,
       record { same_pairs = refl; same_pair_room = refl; same_victim = refl; copies = (same_unspent s c.give_back.new.blocks same).copies },
     )
@@ -204,3 +204,23 @@ returns-in-Failed-clause-tied g c =
     let back : Restated block true (use_in s.blocks block).wear mid c.give_back.new.blocks = subst (λ n. Restated block true n mid c.give_back.new.blocks) worn c.give_back.ensures in
     let whole = restated_again r back in
     free_again s c.requires.tied c.give_back.new.blocks (restated_same (free_use s block is c.take-block.ensures.was_free) whole) block c.take-block.ensures.has c.take-block.ensures.was_free whole.states
+
+pub returns-in-Done-clause-ready : goal.returns-in-Done-clause-ready
+returns-in-Done-clause-ready g c ready =
+    let s = c.args.self.now in
+    let block = c.take-block.result in
+    let dirty : is_soiled (seen s) block ≡ true = sym c.is_soiled.ensures ∙ c.if-not-is_soiled.false in
+    absurd (⊎_elim
+    (λ lt. let f = c.if-self-pages.false in let e = c.pages.ensures in omega (arith, lt, f, e))
+    (λ clean. true≢false (sym dirty ∙ clean block (free_kept s.blocks block c.take-block.ensures.was_free)))
+    ready)
+
+pub returns-in-Failed-clause-ready : goal.returns-in-Failed-clause-ready
+returns-in-Failed-clause-ready g c ready =
+    let s = c.args.self.now in
+    let block = c.take-block.result in
+    let dirty : is_soiled (seen s) block ≡ true = sym c.is_soiled.ensures ∙ c.if-not-is_soiled.false in
+    absurd (⊎_elim
+    (λ lt. let f = c.if-self-pages.false in let e = c.pages.ensures in omega (arith, lt, f, e))
+    (λ clean. true≢false (sym dirty ∙ clean block (free_kept s.blocks block c.take-block.ensures.was_free)))
+    ready)
