@@ -52,9 +52,3 @@ module _ (s x : State) (is : IsFormed s) (tied : IsTied s) (table : IsTable s.bl
         let e = less_left in
         let sum = gain_by s x is tied table now tied_now table_now d.gone.range.range_size d.gone.victim (holds_whole s is tied table few) (holds_whole x now tied_now table_now ended_few) in
         gone_back d.gone (omega (arith, e.0, sum))
-
-    pub ended_was : (p : ℕ) (h : Held) → held_at (seen x) p ≡ Some h → held_at (seen s) p ≡ Some h
-    ended_was p h live = ⊎_elim
-        (λ here. absurd (none-some h here.1))
-        (λ there. there.1)
-        (set_held s.held.items page None (within_length s is page d.within) p h (ap (λ (l : List (Option Held)). get_or l p None) (sym d.held) ∙ live))

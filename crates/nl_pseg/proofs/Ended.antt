@@ -1,13 +1,14 @@
 -- What is seen of a segment as a page is live no longer, or as names are gone.
 use Rattle.std.proofs.Common.{◌≡◌, ◌⊎◌, inl, inr, ⊎_elim, ℕ, zero, suc, ◌+◌, ◌-◌, ◌*◌, ◌/◌, ◌<◌, ◌≤◌, ◌==◌, not, Bool, true, false, cond, is_some, filter, remove, map, Option, Some, None, List, [], ◌∷◌, length, get_or, set, Contains, refl, sym, ◌∙◌, ap, subst, arith, eq-eqb, ne_eqb}
 use Rattle.std.proofs.lemmas.Bool.{cases_Bool, cases_eq, true≢false}
+use Rattle.std.proofs.lemmas.Option.{none-some}
 use Rattle.nl_field.specs.Page.{Image}
 use Rattle.nl_pseg.specs.Segment.{HasSpare, InSegment, InVictim, IsNext, IsOldName, IsPhysicalOf, IsUnspent, KeepsBlock, Physical, SameNames, SamePages, TakenAsErased, held_at, is_free, is_kept, is_soiled, is_waiting, room, soiled, without_target}
 use Rattle.nl_pseg.specs.Space.{GivesBack, HasFewPairs, HasRoomForVictim, Lessens, gain_of, landing, left_of, reach, victims, waiting}
 use Rattle.nl_pseg.specs.Steps.{Ends, NamesGone}
 use Rattle.nl_pseg.specs.declared.held.Held.{Held}
 use Rattle.nl_pseg.proofs.Numbers.{block_from}
-use Rattle.nl_pseg.proofs.Segments.{copy_same, pages_then}
+use Rattle.nl_pseg.proofs.Segments.{copy_same, set_held}
 use Rattle.nl_pseg.proofs.Waits.{none_waits, wait_by, wait_is, waiting_same}
 
 -- a name is gone, and then another one
@@ -79,6 +80,13 @@ few_on old new victim size pairs left few one =
     let was : victims old ≡ 1 = ap (λ (v : Option ℕ). victims (record old { victim = v })) (sym victim) ∙ one in
     let bound = few was in
     omega (arith, bound, size, pairs, left)
+
+-- what is live was
+pub ended_was : {page : ℕ} {old new : Physical} → Ends page old new → page < length old.held → (p : ℕ) (h : Held) → held_at new p ≡ Some h → held_at old p ≡ Some h
+ended_was {page} {old} {new} d within p h live = ⊎_elim
+    (λ here. absurd (none-some h here.1))
+    (λ there. there.1)
+    (set_held old.held page None within p h (ap (λ (l : List (Option Held)). get_or l p None) (sym d.held) ∙ live))
 
 module _ {old new : Physical} (g : NamesGone old new) where
   pub gone_pages : SamePages old new

@@ -3,6 +3,7 @@ pub mod Ended
 pub mod Lefts
 pub mod Dropping
 pub mod After
+pub mod Wrote
 pub mod Holds
 pub mod Sums
 pub mod Runs

@@ -286,3 +286,25 @@ failed_on {M} {clock} {contents} {left} {seg} {new} {a} {b} tag stamp main on = 
         (λ m c from to k. inl ((λ placed. absurd placed), k));
   };
 }
+
+-- nothing was tried
+pub nothing_placed : (answer : Named) (stamp : ℕ) (now : Pointer → List (Option Held)) (seg : Physical) → (IsPlaced answer → ⊥) → (answer ≡ the.Fault → ⊥) → Placing stamp now answer seg seg
+nothing_placed answer stamp now seg not no_fault = record {
+  pages = record { same_first = refl; same_blocks = refl; same_size = refl; same_wear = λ b. refl };
+  placed = none answer _ not;
+  held = none answer _ not;
+  same = λ n. refl;
+  spent = λ placed. absurd (not placed);
+  failed = λ fault. absurd (no_fault fault);
+  clean = λ clean. clean;
+  waits = λ b. refl;
+  frees = inl (refl, (λ p next. next), none answer _ not);
+  kept = λ k. k;
+  names = record { same_pairs = refl; same_pair_room = refl; same_victim = refl; copies = (refl, refl) };
+}
+  where
+    none : (a : Named) (P : Pointer → Type 0) → (IsPlaced a → ⊥) → IfPlaced a P
+    none (the.Placed at) P never = absurd (never tt)
+    none the.NotLive P never = tt
+    none the.NoPage P never = tt
+    none the.Fault P never = tt

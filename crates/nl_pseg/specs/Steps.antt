@@ -194,6 +194,13 @@ pub record Placing (stamp : ℕ) (now : Pointer → List (Option Held)) (answer 
   pub kept : KeepsBlock old → KeepsBlock new
   pub names : SameNames old new
 
+-- What writing over a live page does to it: where a page was placed, the other one is live no longer.
+pub record WritesOver (place stamp : ℕ) (now : Pointer → List (Option Held)) (answer : Named) (old new : Physical) : Type 0 where
+  pub mid : Physical
+  pub placing : Placing stamp now answer old mid
+  pub ended : IsPlaced answer → Ends place mid new
+  pub none : (IsPlaced answer → ⊥) → new ≡ mid
+
 -- one page was programmed, and no other changed
 pub record IsAlone (page : ℕ) (value : Page) (old new : Image) : Type 0 where
   pub has : page_at new page ≡ value

@@ -308,7 +308,10 @@ impl PSeg {
         ensures geometry { M.geometry media.new ≡ M.geometry media.old }
         ensures counts { Counted M.clock M.read_faults M.write_faults (IsReady self.old) media.old media.new result }
     {
-        self.state.write(media, tag, from, stamp)
+        let named = self.state.write(media, tag, from, stamp);
+        self.state.table();
+        self.state.whole();
+        named
     }
 
     /// As `nameless_write`, in place of the page to which a pointer leads: that is dead once the new one is placed, and only then.
@@ -352,6 +355,9 @@ impl PSeg {
         ensures geometry { M.geometry media.new ≡ M.geometry media.old }
         ensures counts { Counted M.clock M.read_faults M.write_faults (IsReady self.old) media.old media.new result }
     {
-        self.state.overwrite(media, old, tag, from, stamp)
+        let named = self.state.overwrite(media, old, tag, from, stamp);
+        self.state.table();
+        self.state.whole();
+        named
     }
 }

@@ -7,7 +7,7 @@ ghost use Rattle.nl_pseg.specs.Effects.{Counted, Crashes, Programmed};
 ghost use Rattle.nl_pseg.specs.Pages.{page_with};
 ghost use Rattle.nl_pseg.specs.Segment.{IsClean, IsDead, IsLive, IsPhysicalOf, IsReady, IsSpent, IsUnspent, KeepsBlock, SamePages, room, wear_of};
 ghost use Rattle.nl_pseg.specs.Seen.{seen, Fits, IsFormed, IsTied};
-ghost use Rattle.nl_pseg.specs.Steps.{IsAlone, Placing, PlacingOn};
+ghost use Rattle.nl_pseg.specs.Steps.{IsAlone, Placing, PlacingOn, WritesOver};
 
 use crate::held::Held;
 use crate::pages::program_page;
@@ -115,7 +115,7 @@ impl State {
         ensures live { result ≡ Named.NotLive ↔ (IsLive (seen self.old) old → ⊥) }
         ensures full { result ≡ Named.NoPage ↔ (IsLive (seen self.old) old × (room (seen self.old) ≡ 0)) }
         ensures refused { (result ≡ Named.NotLive) ⊎ (result ≡ Named.NoPage) → (seen self.new ≡ seen self.old) × (media.new ≡ media.old) }
-        ensures placing { Placing stamp (λ at. slice_set (slice_set self.old.held.items at.name (Some (record { tag = tag; stamp = stamp }))) (resolve (seen self.old).pairs old.name) None) result (seen self.old) (seen self.new) }
+        ensures over { WritesOver (resolve (seen self.old).pairs old.name) stamp (λ at. slice_set self.old.held.items at.name (Some (record { tag = tag; stamp = stamp }))) result (seen self.old) (seen self.new) }
         ensures segment { M.tells → IsPhysicalOf (M.contents media.new) (seen self.new) }
         ensures programmed { M.tells → IfPlaced result (λ at. Programmed (seen self.old) at.name (written (page_with from.now.main tag stamp (wear_of (seen self.old) (at.name / self.old.blocks.size)))) (M.contents media.old) (M.contents media.new)) }
         ensures crash { M.tells → Crashes M.clock M.contents M.left (seen self.old) tag stamp from.now.main media.old media.new result }

@@ -7,9 +7,9 @@ use Rattle.nl_pseg.specs.Segment.{HasSpare, IsLive, IsPhysicalOf, KeepsBlock, Ph
 use Rattle.nl_pseg.specs.Seen.{seen}
 use Rattle.nl_pseg.specs.Space.{GivesBack, HasFewPairs, Lessens}
 use Rattle.nl_pseg.specs.Steps.{Ends}
-use Rattle.nl_pseg.proofs.After.{ended_back, ended_few, ended_space, ended_was}
-use Rattle.nl_pseg.proofs.Ended.{gone_kept, gone_pages, gone_segment, gone_spare, nothing_back, nothing_lessens}
-use Rattle.nl_pseg.proofs.States.{kept_dead}
+use Rattle.nl_pseg.proofs.After.{ended_back, ended_few, ended_space}
+use Rattle.nl_pseg.proofs.Ended.{ended_was, gone_kept, gone_pages, gone_segment, gone_spare, nothing_back, nothing_lessens}
+use Rattle.nl_pseg.proofs.States.{kept_dead, within_length}
 use Rattle.nl_pseg.proofs.pseg.PSeg.free.Goals as goal
 
 pub whole-requires-clause-few : goal.whole-requires-clause-few
@@ -78,7 +78,7 @@ returns-clause-segment c image =
     let d = c.free-freed.ensures in
     subst (λ (o : Physical). IsPhysicalOf image o → IsPhysicalOf image (seen x)) c.self.view_is
     (⊎_elim
-    (λ yes. (let e : Ends (resolve (seen s).pairs c.args.at.name) (seen s) (seen x) = OnTrue_at yes d.ended in gone_segment e.gone (ended_was s x i.0 i.1 i.3 i.2 d.formed d.tied c.table.ensures e) image))
+    (λ yes. (let e : Ends (resolve (seen s).pairs c.args.at.name) (seen s) (seen x) = OnTrue_at yes d.ended in gone_segment e.gone (ended_was e (within_length s i.0 (resolve (seen s).pairs c.args.at.name) e.within)) image))
     (λ no is. subst (IsPhysicalOf image) (sym (OnFalse_at no d.kept)) is)
     (cases_Bool c.free-freed.result))
 
@@ -90,7 +90,7 @@ returns-clause-spare c image =
     let d = c.free-freed.ensures in
     subst (λ (o : Physical). HasSpare image o → HasSpare image (seen x)) c.self.view_is
     (⊎_elim
-    (λ yes. (let e : Ends (resolve (seen s).pairs c.args.at.name) (seen s) (seen x) = OnTrue_at yes d.ended in gone_spare e.gone (ended_was s x i.0 i.1 i.3 i.2 d.formed d.tied c.table.ensures e) image))
+    (λ yes. (let e : Ends (resolve (seen s).pairs c.args.at.name) (seen s) (seen x) = OnTrue_at yes d.ended in gone_spare e.gone (ended_was e (within_length s i.0 (resolve (seen s).pairs c.args.at.name) e.within)) image))
     (λ no is. subst (HasSpare image) (sym (OnFalse_at no d.kept)) is)
     (cases_Bool c.free-freed.result))
 
