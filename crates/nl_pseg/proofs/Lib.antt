@@ -15,6 +15,7 @@ mod Chooses
 mod Left
 mod Released
 mod Erasing
+mod Aimed
 mod Dropped
 mod Chosen
 mod Taken

@@ -16,11 +16,11 @@ use Rattle.nl_pseg.proofs.Tables.{has_same, use_here}
 use Rattle.nl_pseg.proofs.Tied.{back, named_on}
 
 -- the state of a Free block
-state_free : (t : Table) (block : ℕ) → HasBlock t block → (use_in t block).is_free ≡ true → is_free_state (block_at t block).state ≡ true
+pub state_free : (t : Table) (block : ℕ) → HasBlock t block → (use_in t block).is_free ≡ true → is_free_state (block_at t block).state ≡ true
 state_free t block has free = sym (ap (λ (u : Use). u.is_free) (use_here t block has)) ∙ free
 
 -- a block in another state is another one
-free_other : (t : Table) (block b : ℕ) (state : BlockState) → HasBlock t block → (use_in t block).is_free ≡ true → is_free_state state ≡ false → (block_at t b).state ≡ state → b ≡ block → ⊥
+pub free_other : (t : Table) (block b : ℕ) (state : BlockState) → HasBlock t block → (use_in t block).is_free ≡ true → is_free_state state ≡ false → (block_at t b).state ≡ state → b ≡ block → ⊥
 free_other t block b state has free not st e =
     true≢false (sym (state_free t block has free) ∙ (ap (λ n. is_free_state (block_at t n).state) (sym e) ∙ (ap (λ (x : BlockState). is_free_state x) st ∙ not)))
 

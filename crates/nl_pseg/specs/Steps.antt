@@ -1,6 +1,7 @@
 -- What the steps of a call do to the table of blocks and to the segment.
-use Rattle.std.specs.Prelude.{◌≡◌, ◌⊎◌, ℕ, ◌+◌, ◌-◌, ◌*◌, ◌/◌, ◌^◌, ◌<◌, ◌≤◌, min, Bool, true, false, cond, List, length, slice_set, Option, Some, None}
+use Rattle.std.specs.Prelude.{◌≡◌, ◌⊎◌, ℕ, ◌+◌, ◌-◌, ◌*◌, ◌/◌, ◌^◌, ◌<◌, ◌≤◌, ◌==◌, if◌then◌else◌, min, Bool, true, false, cond, List, length, slice_set, Option, Some, None}
 use Rattle.nl_field.specs.CrashStates.{LeavesOnly}
+use Rattle.nl_field.specs.Live.{resolve}
 use Rattle.nl_field.specs.Page.{Image, Page, erased, written, page_at}
 use Rattle.nl_field.specs.declared.answers.Named.{Named}
 use Rattle.nl_field.specs.declared.pointer.Pointer.{Pointer}
@@ -14,7 +15,7 @@ use Rattle.nl_pseg.specs.Answers.{IfPlaced, IsFault, IsPlaced}
 use Rattle.nl_pseg.specs.Effects.{Crashes, Keeps, Programmed}
 use Rattle.nl_pseg.specs.Pages.{page_with}
 use Rattle.nl_pseg.specs.Segment.{InSegment, Physical, IsClean, IsDead, IsNext, IsPhysicalOf, IsReady, IsSpent, IsUnspent, KeepsBlock, SameNames, SamePages, TakenAsErased, erasures, is_free, is_kept, is_soiled, is_waiting, soiled, use_at, wear_of, without_target, IsOldName}
-use Rattle.nl_pseg.specs.Space.{waiting}
+use Rattle.nl_pseg.specs.Space.{gain_of, landing, left_of, waiting}
 use Rattle.nl_pseg.specs.Seen.{IsTied, use_in, use_with}
 use Rattle.nl_pseg.specs.declared.held.Held.{Held}
 use Rattle.nl_pseg.specs.declared.state.State.{State}
@@ -210,3 +211,76 @@ pub record IsAlone (page : ℕ) (value : Page) (old new : Image) : Type 0 where
 pub record PlacingOn {M : Type 0} (clock : M → ℕ) (contents : M → Image) (left : M → ℕ → Image → Type 0) (tag : Tag) (stamp : ℕ) (main : List ℕ) (answer : Named) (seg : Physical) (old new : M) : Type 0 where
   pub programmed : IfPlaced answer (λ at. Programmed seg at.name (written (page_with main tag stamp (wear_of seg (at.name / seg.size)))) (contents old) (contents new))
   pub crash : Crashes clock contents left seg tag stamp main old new answer
+
+-- A block was taken for copies that was Free, where the one before it is full, and no page of it is used.
+pub record IsTargeted (s : State) (block : ℕ) : Type 0 where
+  pub table : Table
+  pub tied : IsTied (record s { blocks = table })
+  pub restated : Restated block false (use_in table block).wear table s.blocks
+  pub had : HasBlock table block
+  pub was_free : (use_in table block).is_free ≡ true
+  pub full : s.blocks.size ≤ s.filled
+
+-- the segment where copies are programmed in this block, and no page of it is used
+abbrev pub aimed_at : Physical → ℕ → Physical
+aimed_at seg block = record seg { copy_next = block * seg.size; copy_left = seg.size; soiled = slice_set seg.soiled block None }
+
+-- A Free block may take copies now: as many copies find a page.
+pub record IsReadied (old new : Physical) : Type 0 where
+  pub pages : SamePages old new
+  pub held : new.held ≡ old.held
+  pub pairs : new.pairs ≡ old.pairs
+  pub pair_room : new.pair_room ≡ old.pair_room
+  pub victim : new.victim ≡ old.victim
+  pub next : (new.next ≡ old.next) × (new.left ≡ old.left)
+  pub waits : waiting new ≡ waiting old
+  pub left : left_of new ≡ left_of old
+  pub gain : gain_of new ≡ gain_of old
+  pub lands : landing new ≡ landing old
+  pub fewer : new.free ≤ old.free
+  pub most : old.free ≤ new.free + 1
+  pub clean : IsClean old → IsClean new
+
+-- What was done to the medium for that: the page that the next copy is programmed on is erased, and only pages of its block have
+-- changed, where that had to be erased.
+pub record ReadiedOn {M : Type 0} (clock : M → ℕ) (contents : M → Image) (left : M → ℕ → Image → Type 0) (answer : WriteAnswer) (seg seg_new : Physical) (old new : M) : Type 0 where
+  pub segment : IsPhysicalOf (contents new) seg_new
+  pub keeps : Keeps seg (contents old) (contents new)
+  pub crash : LeavesOnly clock left old new (λ m c. Keeps seg (contents old) c)
+  pub others : answer ≡ wrote.Done → (p : ℕ) → (page_at (contents new) p ≡ page_at (contents old) p)
+      ⊎ ((p / seg.size ≡ seg_new.copy_next / seg.size) × (is_free seg (seg_new.copy_next / seg.size) ≡ true) × (is_soiled seg (seg_new.copy_next / seg.size) ≡ true) × (page_at (contents new) p ≡ erased))
+
+-- The next page for copies was used: it holds this.
+pub record IsCopyUsed (x : Option Held) (old new : Physical) : Type 0 where
+  pub pages : SamePages old new
+  pub held : new.held ≡ slice_set old.held old.copy_next x
+  pub next : (new.next ≡ old.next) × (new.left ≡ old.left)
+  pub copy_next : new.copy_next ≡ old.copy_next + 1
+  pub copy_left : new.copy_left + 1 ≡ old.copy_left
+  pub free : new.free ≡ old.free
+  pub uses : (block : ℕ) → use_at new.first new.uses block ≡ use_at old.first old.uses block
+  pub soiled : new.soiled ≡ old.soiled
+  pub pairs : new.pairs ≡ old.pairs
+  pub pair_room : new.pair_room ≡ old.pair_room
+  pub victim : new.victim ≡ old.victim
+  pub waits : waiting new ≡ waiting old
+  pub left : left_of new ≡ left_of old
+  pub gain : gain_of new ≡ gain_of old
+
+-- A live page of the victim is dead, and what led to it leads to the other page, under its number too.
+pub record IsLed (before after : ℕ) (old new : Physical) : Type 0 where
+  pub pages : SamePages old new
+  pub held : new.held ≡ slice_set old.held before None
+  pub next : (new.next ≡ old.next) × (new.left ≡ old.left)
+  pub copies : (new.copy_next ≡ old.copy_next) × (new.copy_left ≡ old.copy_left)
+  pub free : new.free ≡ old.free
+  pub uses : (block : ℕ) → use_at new.first new.uses block ≡ use_at old.first old.uses block
+  pub soiled : new.soiled ≡ old.soiled
+  pub ways : (name : ℕ) → resolve new.pairs name ≡ (if resolve old.pairs name == before then after else resolve old.pairs name)
+  pub names : (name : ℕ) → IsOldName new name → (name ≡ before) ⊎ IsOldName old name
+  pub pairs : length new.pairs ≡ length old.pairs + 1
+  pub pair_room : new.pair_room + 1 ≡ old.pair_room
+  pub victim : new.victim ≡ old.victim
+  pub waits : waiting new ≡ waiting old
+  pub left : left_of new + 1 ≡ left_of old
+  pub gain : gain_of new ≡ gain_of old + 1

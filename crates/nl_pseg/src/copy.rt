@@ -1,14 +1,20 @@
 // Moves live pages of the victim.
-ghost use Rattle.std.specs.Prelude.{◌≡◌, ℕ, ◌/◌, None, IfNone, IfSome, IsSome};
-ghost use Rattle.nl_blocks.specs.Table.{HasBlock};
-ghost use Rattle.nl_pseg.specs.Segment.{held_at};
-ghost use Rattle.nl_pseg.specs.Seen.{seen, IsFormed};
+ghost use Rattle.std.specs.Prelude.{◌≡◌, ◌⊎◌, ◌↔◌, ℕ, ◌+◌, ◌*◌, ◌/◌, ◌<◌, ◌≤◌, Some, None, IfNone, IfSome, IsSome, IsTrue};
+ghost use Rattle.nl_field.specs.Spelling.{is_stamp};
+ghost use Rattle.nl_nand.specs.Nand.{FaultsCounted};
+ghost use Rattle.nl_blocks.specs.Table.{HasBlock, IsTable, block_at};
+ghost use Rattle.nl_pseg.specs.Segment.{IsClean, IsPhysicalOf, held_at};
+ghost use Rattle.nl_pseg.specs.Seen.{seen, Fits, IsFormed, IsTied};
+ghost use Rattle.nl_pseg.specs.Space.{landing};
+ghost use Rattle.nl_pseg.specs.Steps.{IsCopyUsed, IsLed, IsReadied, IsTargeted, ReadiedOn, aimed_at};
+ghost use Rattle.nl_pseg.specs.declared.held.Held.{Held as HeldOf};
 
 use crate::cleaned::Copied;
 use crate::held::Held;
 use crate::pages::{program_page, read_page};
 use crate::state::State;
 use crate::table::{give_back, mark, seal_filled, take_target};
+use nl_blocks::BlockState;
 use nl_field::{NamedRead, PageBuf};
 use nl_nand::{Nand, WriteAnswer};
 
@@ -32,11 +38,29 @@ impl State {
 
     /// Sees to it that the block for copies has a page that is not used: where it is full, takes a Free block, and erases it first
     /// where it is soiled. Where that fails, the block is Free again.
-    fn ready<M: Nand>(&mut self, media: &mut M) -> WriteAnswer {
+    fn ready<M: Nand>(&mut self, media: &mut M) -> WriteAnswer
+        requires formed { IsFormed self.old }
+        requires tied { IsTied self.old }
+        requires fits { Fits (M.geometry media.old) (seen self.old) }
+        requires lands { 0 < landing (seen self.old) }
+        requires segment { M.tells → IsPhysicalOf (M.contents media.old) (seen self.old) }
+        ensures formed { IsFormed self.new }
+        ensures tied { IsTied self.new }
+        ensures left { result ≡ WriteAnswer.Done → self.new.filled < self.new.blocks.size }
+        ensures readied { IsReadied (seen self.old) (seen self.new) }
+        ensures medium { M.tells → ReadiedOn M.clock M.contents M.left result (seen self.old) (seen self.new) media.old media.new }
+        ensures geometry { M.geometry media.new ≡ M.geometry media.old }
+        ensures clean { IsClean (seen self.old) → (result ≡ WriteAnswer.Done) × (M.clock media.new ≡ M.clock media.old) }
+        ensures clock { (M.clock media.old ≤ M.clock media.new) × (M.clock media.new ≤ M.clock media.old + 1) }
+        ensures read_faults { M.read_faults media.new ≡ M.read_faults media.old }
+        ensures write_faults { FaultsCounted (M.write_faults media.old) (M.write_faults media.new) (result ≡ WriteAnswer.Failed) }
+    {
         if self.filled < self.blocks.pages() {
             return WriteAnswer::Done;
         }
+        let _ = self.blocks.count();
         let block = take_target(&mut self.blocks);
+        let _ = self.blocks.count();
         if !self.is_soiled(block) {
             self.aim(block);
             return WriteAnswer::Done;
@@ -49,33 +73,69 @@ impl State {
             }
             WriteAnswer::Failed => {
                 give_back(&mut self.blocks, block, wear);
+                let _ = self.blocks.count();
                 WriteAnswer::Failed
             }
         }
     }
 
     /// Copies are written to this block. No page of it is used.
-    fn aim(&mut self, block: u32) {
+    fn aim(&mut self, block: u32)
+        requires formed { IsFormed self.old }
+        requires has { HasBlock self.old.blocks block }
+        requires target { (block_at self.old.blocks block).state ≡ BlockState.Target }
+        requires targeted { IsTargeted self.old block }
+        requires in_use { (p : ℕ) (h : HeldOf) → held_at (seen self.old) p ≡ Some h → p / self.old.blocks.size ≡ block → ⊥ }
+        ensures formed { IsFormed self.new }
+        ensures tied { IsTied self.new }
+        ensures aimed { seen self.new ≡ aimed_at (seen self.old) block }
+        ensures filled { self.new.filled ≡ 0 }
+        ensures pages { self.new.blocks.size ≡ self.old.blocks.size }
+    {
         self.soiled[block as usize] = None;
         self.target = block;
         self.filled = 0;
     }
 
     /// Uses the next page for copies: it holds this. A block that is full is Sealed.
-    fn use_copy(&mut self, held: Option<Held>) {
+    fn use_copy(&mut self, held: Option<Held>)
+        requires formed { IsFormed self.old }
+        requires tied { IsTied self.old }
+        requires room { self.old.filled < self.old.blocks.size }
+        requires spelled { IfSome held (λ h. IsTrue (is_stamp h.stamp)) }
+        ensures formed { IsFormed self.new }
+        ensures tied { IsTied self.new }
+        ensures used { IsCopyUsed held (seen self.old) (seen self.new) }
+    {
+        let _ = self.blocks.count();
         let pages = self.blocks.pages();
         let page = self.target * pages + self.filled;
         mark(&mut self.blocks, page, held.is_some());
         self.held[page as usize] = held;
         self.filled += 1;
         seal_filled(&mut self.blocks, self.target, self.filled == pages);
+        let _ = self.blocks.count();
     }
 
     /// The live page of the victim is at the other page now.
-    fn lead(&mut self, before: u32, after: u32) {
+    fn lead(&mut self, before: u32, after: u32)
+        requires formed { IsFormed self.old }
+        requires tied { IsTied self.old }
+        requires victim { self.old.victim ≡ Some (before / self.old.blocks.size) }
+        requires live { IsSome (held_at (seen self.old) before) }
+        requires there { IsSome (held_at (seen self.old) after) }
+        requires apart { before ≡ after → ⊥ }
+        requires room { 0 < self.old.names.room }
+        ensures formed { IsFormed self.new }
+        ensures tied { IsTied self.new }
+        ensures table { IsTable self.new.blocks }
+        ensures led { IsLed before after (seen self.old) (seen self.new) }
+    {
+        let _ = self.blocks.count();
         mark(&mut self.blocks, before, false);
         self.held[before as usize] = None;
         self.names.add(before, after);
+        let _ = self.blocks.count();
     }
 
     /// Programs the buffer as the copy of a live page.
