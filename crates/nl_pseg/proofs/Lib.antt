@@ -16,6 +16,7 @@ mod Left
 mod Released
 mod Erasing
 mod Aimed
+mod Readied
 mod Dropped
 mod Chosen
 mod Taken
