@@ -172,8 +172,8 @@ module _ (s : State) (is : IsFormed s) (tied : IsTied s) (t : Table) (block : �
         fewer = omega (arith, fewer);
         most = omega (arith, fewer);
         clean = λ clean b now. ⊎_elim
-            (λ at. absurd (true≢false (sym now ∙ (ap (λ m. (use_in t m).is_free) at ∙ ap (λ (u : Use). u.is_free) r.here))))
-            (λ ne. ap is_some (get_or-set_other s.soiled.items block b None None ne) ∙ clean b (sym (ap (λ (u : Use). u.is_free) (r.others b ne)) ∙ now))
+            (λ at. absurd (true≢false (sym now ∙ (ap (λ m. (use_in t m).is_kept) at ∙ ap (λ (u : Use). u.is_kept) r.here))))
+            (λ ne. ap is_some (get_or-set_other s.soiled.items block b None None ne) ∙ clean b (sym (ap (λ (u : Use). u.is_kept) (r.others b ne)) ∙ now))
             (cases_eq b block);
       }
     where
@@ -203,7 +203,7 @@ module _ (s : State) (is : IsFormed s) (tied : IsTied s) (t : Table) (is_a : IsT
         lands = λ i. same.total i * n.same_size i + (n.same_size i - s.filled);
         fewer = let e = same.total in omega (arith, e);
         most = let e = same.total in omega (arith, e);
-        clean = λ clean b now. clean b (sym (ap (λ (u : Use). u.is_free) (same.uses b)) ∙ now);
+        clean = λ clean b now. clean b (sym (ap (λ (u : Use). u.is_kept) (same.uses b)) ∙ now);
       }
 
 -- nothing was to be done

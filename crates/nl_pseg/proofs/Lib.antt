@@ -17,6 +17,8 @@ mod Released
 mod Erasing
 mod Aimed
 mod Readied
+mod CopyUsed
+mod Led
 mod Dropped
 mod Chosen
 mod Taken

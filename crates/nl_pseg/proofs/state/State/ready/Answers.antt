@@ -1,5 +1,5 @@
 use Rattle.std.proofs.Common.{◌≡◌, inl, inr, ⊎_elim, ℕ, ◌+◌, ◌*◌, ◌/◌, ◌<◌, ◌≤◌, true, false, refl, sym, ◌∙◌, ap, subst, arith}
-use Rattle.std.proofs.lemmas.Bool.{cases_eq}
+use Rattle.std.proofs.lemmas.Bool.{cases_eq, true≢false}
 use Rattle.nl_field.specs.Page.{Image, erased}
 use Rattle.nl_nand.specs.ImageLaws.{filled_cut}
 use Rattle.nl_nand.specs.Nand.{Cut}
@@ -204,3 +204,17 @@ returns-in-Failed-clause-medium g c t =
       crash = operation c.erase.result (λ i. Keeps (seen s) old i) c.erase.ensures.crash (c.erase.ensures.effect t) keep;
       others = λ done. absurd (cc done);
     }
+
+pub returns-in-Done-clause-clean : goal.returns-in-Done-clause-clean
+returns-in-Done-clause-clean g c clean =
+    let s = c.args.self.now in
+    let block = c.take_target-block.result in
+    let dirty : is_soiled (seen s) block ≡ true = sym c.is_soiled.ensures ∙ c.if-not-is_soiled.false in
+    absurd (true≢false (sym dirty ∙ clean block (free_kept s.blocks block c.take_target-block.ensures.was_free)))
+
+pub returns-in-Failed-clause-clean : goal.returns-in-Failed-clause-clean
+returns-in-Failed-clause-clean g c clean =
+    let s = c.args.self.now in
+    let block = c.take_target-block.result in
+    let dirty : is_soiled (seen s) block ≡ true = sym c.is_soiled.ensures ∙ c.if-not-is_soiled.false in
+    absurd (true≢false (sym dirty ∙ clean block (free_kept s.blocks block c.take_target-block.ensures.was_free)))
