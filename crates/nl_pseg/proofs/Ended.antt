@@ -3,7 +3,7 @@ use Rattle.std.proofs.Common.{◌≡◌, ◌⊎◌, inl, inr, ⊎_elim, ℕ, zer
 use Rattle.std.proofs.lemmas.Bool.{cases_Bool, cases_eq, true≢false}
 use Rattle.std.proofs.lemmas.Option.{none-some}
 use Rattle.nl_field.specs.Page.{Image}
-use Rattle.nl_pseg.specs.Segment.{HasSpare, InSegment, InVictim, IsNext, IsOldName, IsPhysicalOf, IsUnspent, KeepsBlock, Physical, SameNames, SamePages, TakenAsErased, held_at, is_free, is_kept, is_soiled, is_waiting, room, soiled, without_target}
+use Rattle.nl_pseg.specs.Segment.{HasSpare, InSegment, IsClean, InVictim, IsNext, IsOldName, IsPhysicalOf, IsUnspent, KeepsBlock, Physical, SameNames, SamePages, TakenAsErased, held_at, is_free, is_kept, is_soiled, is_waiting, room, soiled, without_target}
 use Rattle.nl_pseg.specs.Space.{GivesBack, HasFewPairs, HasRoomForVictim, Lessens, gain_of, landing, left_of, reach, victims, waiting}
 use Rattle.nl_pseg.specs.Steps.{Ends, NamesGone}
 use Rattle.nl_pseg.specs.declared.held.Held.{Held}
@@ -92,7 +92,7 @@ module _ {old new : Physical} (g : NamesGone old new) where
   pub gone_pages : SamePages old new
   gone_pages = record { same_first = g.range.range_first; same_blocks = g.range.range_blocks; same_size = g.range.range_size; same_wear = g.wears }
 
-  more_landing : landing old ≤ landing new
+  pub more_landing : landing old ≤ landing new
   more_landing =
       let a = block_from old.free new.free old.size g.more in
       let e : new.free * new.size ≡ new.free * old.size = ap (λ k. new.free * k) g.range.range_size in
@@ -127,6 +127,31 @@ module _ {old new : Physical} (g : NamesGone old new) where
       (λ used. absurd (true≢false (sym free ∙ g.others block used)))
       (cases_Bool (is_kept old block))
 
+  pub gone_room : room old ≤ room new
+  gone_room =
+      let a = g.more in
+      let b = block_from (old.free - 1) (new.free - 1) old.size (omega (arith, a)) in
+      let e : (new.free - 1) * new.size ≡ (new.free - 1) * old.size = ap (λ k. (new.free - 1) * k) g.range.range_size in
+      let l = g.next.1 in
+      omega (arith, b, e, l)
+
+  pub gone_unspent : waiting old ≡ 0 → IsUnspent old new
+  gone_unspent none = record {
+    next = g.next.0;
+    left = g.next.1;
+    free =
+        let a = g.more in
+        let b = g.blocks in
+        omega (arith, a, b, none);
+    same_free = λ block. ⊎_elim
+        (λ now. now ∙ sym (⊎_elim (λ was. was) (λ waits. absurd (none_waits old block none waits)) (frees block now)))
+        (λ not_now. not_now ∙ sym (⊎_elim (λ was. absurd (true≢false (sym (g.frees block was) ∙ not_now))) (λ no. no) (cases_Bool (is_free old block))))
+        (cases_Bool (is_free new block));
+    same_kept = g.kept;
+    same_soiled = g.same_soiled;
+    copies = g.copies;
+  }
+
   pub gone_back : gain_of old ≤ gain_of new → GivesBack old new
   gone_back more = record {
     next = g.next.0;
@@ -136,27 +161,8 @@ module _ {old new : Physical} (g : NamesGone old new) where
     frees = frees;
     still = g.frees;
     more_reach = gone_reach more;
-    more_room =
-        let a = g.more in
-        let b = block_from (old.free - 1) (new.free - 1) old.size (omega (arith, a)) in
-        let e : (new.free - 1) * new.size ≡ (new.free - 1) * old.size = ap (λ k. (new.free - 1) * k) g.range.range_size in
-        let l = g.next.1 in
-        omega (arith, b, e, l);
-    same = λ none. record {
-      next = g.next.0;
-      left = g.next.1;
-      free =
-          let a = g.more in
-          let b = g.blocks in
-          omega (arith, a, b, none);
-      same_free = λ block. ⊎_elim
-          (λ now. now ∙ sym (⊎_elim (λ was. was) (λ waits. absurd (none_waits old block none waits)) (frees block now)))
-          (λ not_now. not_now ∙ sym (⊎_elim (λ was. absurd (true≢false (sym (g.frees block was) ∙ not_now))) (λ no. no) (cases_Bool (is_free old block))))
-          (cases_Bool (is_free new block));
-      same_kept = g.kept;
-      same_soiled = g.same_soiled;
-      copies = g.copies;
-    };
+    more_room = gone_room;
+    same = gone_unspent;
   }
 
   next_back : (p : ℕ) → IsNext new p → IsNext old p
@@ -188,6 +194,9 @@ module _ {old new : Physical} (g : NamesGone old new) where
             let w = is.copied p h (was p h held) (ap (λ n. p / n) (sym size) ∙ at) in
             (w.0, g.victim ∙ (w.1 ∙ ap (λ n. Some (w.0 / n)) (sym size)), (λ e. w.2 (ap (λ n. w.0 / n) (sym size) ∙ e)), w.3);
       }
+
+  pub gone_clean : IsClean old → IsClean new
+  gone_clean clean b kept = ap is_some (g.same_soiled b) ∙ clean b (sym (g.kept b) ∙ kept)
 
   pub gone_kept : KeepsBlock old → KeepsBlock new
   gone_kept k = record {

@@ -4,6 +4,7 @@ pub mod Lefts
 pub mod Dropping
 pub mod After
 pub mod Wrote
+pub mod Overwrote
 pub mod Holds
 pub mod Sums
 pub mod Runs

@@ -75,7 +75,7 @@ free_spare s is some image =
     }
 
 -- a page that is not dead stays
-still_page : {M : Type 0} {clock : M → ℕ} {contents : M → Image} {left : M → ℕ → Image → Type 0} {seg : Physical} {tag : Tag} {stamp : ℕ} {main : List ℕ} {a b : M} {answer : Named} → Crashes clock contents left seg tag stamp main a b answer
+pub still_page : {M : Type 0} {clock : M → ℕ} {contents : M → Image} {left : M → ℕ → Image → Type 0} {seg : Physical} {tag : Tag} {stamp : ℕ} {main : List ℕ} {a b : M} {answer : Named} → Crashes clock contents left seg tag stamp main a b answer
     → (p : ℕ) → (IsDead seg p → ⊥) → page_at (contents b) p ≡ page_at (contents a) p
 still_page {contents = contents} {a = a} {b = b} k p live = ⊎_elim
     (λ keeps. ⊎_elim (λ same. same) (λ w. absurd (live w.0)) (keeps.each p))
@@ -91,6 +91,25 @@ placed_was (the.Placed at) stamp x old new is next p apart = ap (λ (l : List (O
 placed_was the.NotLive stamp x old new is next p apart = ap (λ (l : List (Option Held)). get_or l p None) (is.same (λ n. n))
 placed_was the.NoPage stamp x old new is next p apart = ap (λ (l : List (Option Held)). get_or l p None) (is.same (λ n. n))
 placed_was the.Fault stamp x old new is next p apart = ap (λ (l : List (Option Held)). get_or l p None) (is.same (λ n. n))
+
+-- some block can still be done without, where no Free block was taken
+pub placed_spares : (answer : Named) (stamp : ℕ) (x : Option Held) (old new : Physical) → Placing stamp (λ at. set old.held at.name x) answer old new → ((p : ℕ) → IsNext new p → IsNext old p) → IfPlaced answer (λ at. IsNext old at.name)
+    → (i j : Image) → ((p : ℕ) → (IsDead old p → ⊥) → page_at j p ≡ page_at i p) → HasSpare i old → HasSpare j new
+placed_spares answer stamp x old new p nexts next i j still spare =
+    let size = p.pages.same_size in
+    record {
+      block = spare.block;
+      from = subst (λ m. m ≤ spare.block) (sym p.pages.same_first) spare.from;
+      below = subst (λ m. spare.block < m) (sym p.pages.same_blocks) spare.below;
+      idle = λ q is at. spare.idle q (nexts q is) (ap (λ m. q / m) (sym size) ∙ at);
+      copied = λ q h held at.
+          let here : q / old.size ≡ spare.block = ap (λ m. q / m) (sym size) ∙ at in
+          let was : held_at old q ≡ Some h = sym (placed_was answer stamp x old new p next q (λ is. spare.idle q is here)) ∙ held in
+          let w = spare.copied q h was here in
+          let first = still q (λ dead. none-some h (sym dead.dead ∙ was)) in
+          let second = still w.0 (λ dead. dead.apart w.1) in
+          (w.0, p.names.same_victim ∙ (w.1 ∙ ap (λ m. Some (w.0 / m)) (sym size)), (λ e. w.2 (ap (λ m. w.0 / m) (sym size) ∙ e)), ap shown_by second ∙ (w.3 ∙ ap shown_by (sym first)));
+    }
 
 module _ (answer : Named) (stamp : ℕ) (x : Option Held) (s n : State) (is : IsFormed s) (tied : IsTied s) (table : IsTable s.blocks) (few : HasFewPairs (seen s)) (now : IsFormed n) (tied_now : IsTied n) (table_now : IsTable n.blocks)
     (p : Placing stamp (λ at. set s.held.items at.name x) answer (seen s) (seen n)) where
@@ -129,20 +148,6 @@ module _ (answer : Named) (stamp : ℕ) (x : Option Held) (s n : State) (is : Is
   pub placed_spare : {M : Type 0} {clock : M → ℕ} {contents : M → Image} {left : M → ℕ → Image → Type 0} {tag : Tag} {number : ℕ} {main : List ℕ} {a b : M} → Crashes clock contents left (seen s) tag number main a b answer
       → HasSpare (contents a) (seen s) → HasSpare (contents b) (seen n)
   placed_spare {contents = contents} {a = a} {b = b} k spare = ⊎_elim
-      (λ same.
-      let size = p.pages.same_size in
-      record {
-        block = spare.block;
-        from = subst (λ m. m ≤ spare.block) (sym p.pages.same_first) spare.from;
-        below = subst (λ m. spare.block < m) (sym p.pages.same_blocks) spare.below;
-        idle = λ q next at. spare.idle q (same.1 q next) (ap (λ m. q / m) (sym size) ∙ at);
-        copied = λ q h held at.
-            let here : q / s.blocks.size ≡ spare.block = ap (λ m. q / m) (sym size) ∙ at in
-            let was : held_at (seen s) q ≡ Some h = sym (placed_was answer stamp x (seen s) (seen n) p same.2 q (λ next. spare.idle q next here)) ∙ held in
-            let w = spare.copied q h was here in
-            let first = still_page k q (λ dead. none-some h (sym dead.dead ∙ was)) in
-            let second = still_page k w.0 (λ dead. dead.apart w.1) in
-            (w.0, p.names.same_victim ∙ (w.1 ∙ ap (λ m. Some (w.0 / m)) (sym size)), (λ e. w.2 (ap (λ m. w.0 / m) (sym size) ∙ e)), ap shown_by second ∙ (w.3 ∙ ap shown_by (sym first)));
-      })
+      (λ same. placed_spares answer stamp x (seen s) (seen n) p same.1 same.2 (contents a) (contents b) (still_page k) spare)
       (λ some. free_spare n now (omega (arith, some)) (contents b))
       p.frees

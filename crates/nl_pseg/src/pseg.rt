@@ -67,9 +67,10 @@ impl PSeg {
         ensures whole { IfOk result IsWhole }
         ensures spare { IfOk result (λ s. (image : Image) → HasSpare image s) }
     {
-        Ok(PSeg {
-            state: State::new(alloc, shape)?,
-        })
+        let state = State::new(alloc, shape)?;
+        state.table();
+        state.whole();
+        Ok(PSeg { state })
     }
 
     /// Serves an opening, while no victim is in hand: this page holds what the pointer and the owner say. Nothing more is programmed
@@ -201,6 +202,7 @@ impl PSeg {
         ensures back { GivesBack self.old self.new }
         ensures segment { (image : Image) → IsPhysicalOf image self.old → IsPhysicalOf image self.new }
         ensures spare { (image : Image) → HasSpare image self.old → HasSpare image self.new }
+        ensures clean { IsClean self.old → IsClean self.new }
         ensures kept_block { KeepsBlock self.old → KeepsBlock self.new }
     {
         let dropped = self.state.drop_name(name);
@@ -236,6 +238,7 @@ impl PSeg {
         ensures segment { (image : Image) → IsPhysicalOf image self.old → IsPhysicalOf image self.new }
         ensures spare { (image : Image) → HasSpare image self.old → HasSpare image self.new }
         ensures kept { OnFalse result (self.new ≡ self.old) }
+        ensures clean { IsClean self.old → IsClean self.new }
         ensures kept_block { KeepsBlock self.old → KeepsBlock self.new }
         ensures kept_dead { KeptAreDead self.new }
     {

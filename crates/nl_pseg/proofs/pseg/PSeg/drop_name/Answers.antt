@@ -4,12 +4,12 @@ use Rattle.std.proofs.lemmas.Bool.{OnTrue_at, OnTrue_from}
 use Rattle.nl_field.specs.Page.{Image}
 use Rattle.nl_remap.specs.Table.{told}
 use Rattle.nl_pseg.specs.Cleaning.{without_name}
-use Rattle.nl_pseg.specs.Segment.{HasSpare, IsOldName, IsPhysicalOf, KeepsBlock, Physical}
+use Rattle.nl_pseg.specs.Segment.{HasSpare, IsClean, IsOldName, IsPhysicalOf, KeepsBlock, Physical}
 use Rattle.nl_pseg.specs.Seen.{seen}
 use Rattle.nl_pseg.specs.Space.{GivesBack, Lessens, reach}
 use Rattle.nl_pseg.proofs.After.{dropped_back, dropped_few, dropped_reach, dropped_space}
 use Rattle.nl_pseg.proofs.Dropping.{dropped_told}
-use Rattle.nl_pseg.proofs.Ended.{gone_kept, gone_segment, gone_spare}
+use Rattle.nl_pseg.proofs.Ended.{gone_clean, gone_kept, gone_segment, gone_spare}
 use Rattle.nl_pseg.proofs.Gone.{old_told, told_old}
 use Rattle.nl_pseg.proofs.pseg.PSeg.drop_name.Goals as goal
 
@@ -72,3 +72,6 @@ returns-clause-spare c =
 
 pub returns-clause-kept_block : goal.returns-clause-kept_block
 returns-clause-kept_block c = subst (λ (o : Physical). KeepsBlock o → KeepsBlock (seen c.drop_name-dropped.new.self)) c.self.view_is (gone_kept c.drop_name-dropped.ensures.gone)
+
+pub returns-clause-clean : goal.returns-clause-clean
+returns-clause-clean c = subst (λ (o : Physical). IsClean o → IsClean (seen c.drop_name-dropped.new.self)) c.self.view_is (gone_clean c.drop_name-dropped.ensures.gone)

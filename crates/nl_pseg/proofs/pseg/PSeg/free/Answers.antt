@@ -3,12 +3,12 @@ use Rattle.std.specs.Bool.{OnTrue}
 use Rattle.std.proofs.lemmas.Bool.{OnFalse_at, OnTrue_at, OnTrue_from, cases_Bool}
 use Rattle.nl_field.specs.Live.{resolve}
 use Rattle.nl_field.specs.Page.{Image}
-use Rattle.nl_pseg.specs.Segment.{HasSpare, IsLive, IsPhysicalOf, KeepsBlock, Physical, SamePages, without_target}
+use Rattle.nl_pseg.specs.Segment.{HasSpare, IsClean, IsLive, IsPhysicalOf, KeepsBlock, Physical, SamePages, without_target}
 use Rattle.nl_pseg.specs.Seen.{seen}
 use Rattle.nl_pseg.specs.Space.{GivesBack, HasFewPairs, Lessens}
 use Rattle.nl_pseg.specs.Steps.{Ends}
 use Rattle.nl_pseg.proofs.After.{ended_back, ended_few, ended_space}
-use Rattle.nl_pseg.proofs.Ended.{ended_was, gone_kept, gone_pages, gone_segment, gone_spare, nothing_back, nothing_lessens}
+use Rattle.nl_pseg.proofs.Ended.{ended_was, gone_clean, gone_kept, gone_pages, gone_segment, gone_spare, nothing_back, nothing_lessens}
 use Rattle.nl_pseg.proofs.States.{kept_dead, within_length}
 use Rattle.nl_pseg.proofs.pseg.PSeg.free.Goals as goal
 
@@ -104,3 +104,11 @@ returns-clause-kept_block c =
 
 pub returns-clause-kept_dead : goal.returns-clause-kept_dead
 returns-clause-kept_dead c = kept_dead c.free-freed.new.self c.free-freed.ensures.formed
+
+pub returns-clause-clean : goal.returns-clause-clean
+returns-clause-clean c =
+    let s = c.self.inside.state in
+    let x = c.free-freed.new.self in
+    let d = c.free-freed.ensures in
+    subst (λ (o : Physical). IsClean o → IsClean (seen x)) c.self.view_is
+    (⊎_elim (λ yes. (let e : Ends (resolve (seen s).pairs c.args.at.name) (seen s) (seen x) = OnTrue_at yes d.ended in gone_clean e.gone)) (λ no is. subst IsClean (sym (OnFalse_at no d.kept)) is) (cases_Bool c.free-freed.result))
