@@ -22,7 +22,7 @@ use Rattle.nl_pseg.proofs.Numbers.{block_of, block_below, block_from}
 use Rattle.nl_pseg.proofs.Segments.{copy_same, dead_kept, kept_within, opened_next, set_held, unspent_taken, used_taken}
 
 -- apart from its page
-program_others : {page : ℕ} {value : Page} {old c : Image} → Cut page (page + 1) value old c → (p : ℕ) → (p ≡ page → ⊥) → page_at c p ≡ page_at old p
+pub program_others : {page : ℕ} {value : Page} {old c : Image} → Cut page (page + 1) value old c → (p : ℕ) → (p ≡ page → ⊥) → page_at c p ≡ page_at old p
 program_others cut p ne = ⊎_elim (λ same. same) (λ w. absurd (ne (omega (arith, w.0, w.1)))) (cut.each p)
 
 module _ (seg : Physical) (page : ℕ) (dead : IsDead seg page) {value : Page} {old c : Image} where

@@ -20,6 +20,8 @@ mod Aimed
 mod Readied
 mod CopyUsed
 mod Led
+mod Moved
+mod CopyImages
 mod Dropped
 mod Chosen
 mod Taken

@@ -107,7 +107,10 @@ IfMoved (copy.Lost wanted found) P = ⊤
 IfMoved copy.Fault P = ⊤
 
 abbrev pub IsMoved : Copied → Type 0
-IsMoved answer = IfMoved answer (λ before after h. ⊤)
+IsMoved (copy.Moved before after tag stamp) = ⊤
+IsMoved copy.Nothing = ⊥
+IsMoved (copy.Lost wanted found) = ⊥
+IsMoved copy.Fault = ⊥
 
 -- the answer of the program that a move makes
 abbrev pub programmed_by : Copied → Named

@@ -1,12 +1,17 @@
 // Moves live pages of the victim.
 ghost use Rattle.std.specs.Prelude.{◌≡◌, ◌⊎◌, ◌↔◌, ℕ, ◌+◌, ◌*◌, ◌/◌, ◌<◌, ◌≤◌, Some, None, IfNone, IfSome, IsSome, IsTrue};
+ghost use Rattle.nl_field.specs.CrashStates.{saturated};
+ghost use Rattle.nl_field.specs.Page.{page_at, written};
 ghost use Rattle.nl_field.specs.Spelling.{is_stamp};
 ghost use Rattle.nl_nand.specs.Nand.{FaultsCounted};
 ghost use Rattle.nl_blocks.specs.Table.{HasBlock, IsTable, block_at};
-ghost use Rattle.nl_pseg.specs.Segment.{IsClean, IsPhysicalOf, held_at};
+ghost use Rattle.nl_pseg.specs.Cleaning.{IfMoved, IsMoved, Moves, MovesNone, programmed_by};
+ghost use Rattle.nl_pseg.specs.Effects.{Crashes};
+ghost use Rattle.nl_pseg.specs.Pages.{page_with, shown_by};
+ghost use Rattle.nl_pseg.specs.Segment.{HasSpare, InVictim, IsClean, IsPhysicalOf, held_at, room, wear_of};
 ghost use Rattle.nl_pseg.specs.Seen.{seen, Fits, IsFormed, IsTied};
-ghost use Rattle.nl_pseg.specs.Space.{landing};
-ghost use Rattle.nl_pseg.specs.Steps.{IsCopyUsed, IsLed, IsReadied, IsTargeted, ReadiedOn, aimed_at};
+ghost use Rattle.nl_pseg.specs.Space.{HasFewPairs, landing};
+ghost use Rattle.nl_pseg.specs.Steps.{IsAlone, IsCopyUsed, IsLed, IsReadied, IsTargeted, ReadiedOn, aimed_at};
 ghost use Rattle.nl_pseg.specs.declared.held.Held.{Held as HeldOf};
 
 use crate::cleaned::Copied;
@@ -138,14 +143,38 @@ impl State {
         let _ = self.blocks.count();
     }
 
-    /// Programs the buffer as the copy of a live page.
+    /// Programs the buffer as the copy of a live page of the victim.
     fn land<M: Nand>(
         &mut self,
         media: &mut M,
         before: u32,
         held: Held,
         buf: &mut PageBuf,
-    ) -> Copied {
+    ) -> Copied
+        requires formed { IsFormed self.old }
+        requires tied { IsTied self.old }
+        requires few { HasFewPairs (seen self.old) }
+        requires fits { Fits (M.geometry media.old) (seen self.old) }
+        requires room { self.old.filled < self.old.blocks.size }
+        requires victim { InVictim (seen self.old) before }
+        requires live { held_at (seen self.old) before ≡ Some held }
+        requires segment { M.tells → IsPhysicalOf (M.contents media.old) (seen self.old) }
+        ensures formed { IsFormed self.new }
+        ensures tied { IsTied self.new }
+        ensures few { HasFewPairs (seen self.new) }
+        ensures moved { IfMoved result (λ was after h. (was ≡ before) × (after ≡ (seen self.old).copy_next) × (h ≡ held) × Moves was after h (seen self.old) (seen self.new)) }
+        ensures kept { (IsMoved result → ⊥) → (result ≡ Copied.Fault) × MovesNone (seen self.old) (seen self.new) }
+        ensures same_room { room (seen self.new) ≡ room (seen self.old) }
+        ensures clean { IsClean (seen self.old) → IsClean (seen self.new) }
+        ensures segment { M.tells → IsPhysicalOf (M.contents media.new) (seen self.new) }
+        ensures spare { M.tells → shown_by (page_at (M.contents media.old) before) ≡ Some (held.tag, held.stamp, buf.old.main) → HasSpare (M.contents media.old) (seen self.old) → HasSpare (M.contents media.new) (seen self.new) }
+        ensures alone { M.tells → IfMoved result (λ was after h. IsAlone after (written (page_with buf.old.main held.tag held.stamp (wear_of (seen self.old) (after / self.old.blocks.size)))) (M.contents media.old) (M.contents media.new)) }
+        ensures crash { M.tells → Crashes M.clock M.contents M.left (seen self.old) held.tag held.stamp buf.old.main media.old media.new (programmed_by result) }
+        ensures geometry { M.geometry media.new ≡ M.geometry media.old }
+        ensures clock { (IsMoved result → M.clock media.new ≡ saturated (M.clock media.old + 1)) × ((IsMoved result → ⊥) → M.clock media.new ≡ M.clock media.old) }
+        ensures read_faults { M.read_faults media.new ≡ M.read_faults media.old }
+        ensures write_faults { FaultsCounted (M.write_faults media.old) (M.write_faults media.new) (result ≡ Copied.Fault) }
+    {
         let after = self.target * self.blocks.pages() + self.filled;
         let wear = self.blocks.wear(self.target);
         match program_page(media, after, buf, held.tag, held.stamp, wear) {
