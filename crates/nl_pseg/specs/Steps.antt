@@ -8,6 +8,8 @@ use Rattle.nl_field.specs.declared.pointer.Pointer.{Pointer}
 use Rattle.nl_field.specs.declared.pointer.Tag.{Tag}
 use Rattle.nl_nand.specs.declared.answers.WriteAnswer.{WriteAnswer}
 use Rattle.nl_nand.specs.declared.answers.WriteAnswer.TheVariants as wrote
+use Rattle.nl_blocks.specs.declared.states.BlockState.{BlockState}
+use Rattle.nl_blocks.specs.declared.states.BlockState.TheVariants.{Free, Active, Target, Sealed, Victim, Retired}
 use Rattle.nl_blocks.specs.declared.states.PageState.{PageState}
 use Rattle.nl_blocks.specs.Table.{Table, HasBlock, block_at, free_count, HasPage}
 use Rattle.nl_blocks.specs.Table.{page_at as page_in}
@@ -48,6 +50,24 @@ pub record Restated (block : ℕ) (free : Bool) (wear : ℕ) (old new : Table) :
   pub others : (other : ℕ) → (other ≡ block → ⊥) → use_in new other ≡ use_in old other
   pub states : (other : ℕ) → HasBlock old other → (other ≡ block → ⊥) → (block_at new other).state ≡ (block_at old other).state
   pub total : free_count new + cond (use_in old block).is_free 1 0 ≡ free_count old + cond free 1 0
+  pub marks : SameMarks old new
+
+-- the state of a block that is erased before use
+abbrev pub told_state : BlockState → BlockState
+told_state Free = Free
+told_state Active = Sealed
+told_state Target = Sealed
+told_state Sealed = Sealed
+told_state Victim = Sealed
+told_state (Retired names) = Retired names
+
+-- one block has this wear, and is as Free and as kept as it was; the others are as before
+pub record IsTold (block : ℕ) (wear : ℕ) (old new : Table) : Type 0 where
+  pub numbers : SameNumbers old new
+  pub here : use_in new block ≡ record { is_free = (use_in old block).is_free; is_kept = (use_in old block).is_kept; wear = wear }
+  pub others : (other : ℕ) → (other ≡ block → ⊥) → use_in new other ≡ use_in old other
+  pub states : (other : ℕ) → HasBlock old other → (other ≡ block → ⊥) → (block_at new other).state ≡ (block_at old other).state
+  pub total : free_count new ≡ free_count old
   pub marks : SameMarks old new
 
 -- A block was taken that was Free, where the block that was written to is full, and no page of it is used.

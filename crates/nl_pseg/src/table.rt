@@ -2,7 +2,7 @@
 ghost use Rattle.std.specs.Prelude.{◌≡◌, ◌/◌, ◌≤◌, ◌+◌, ◌-◌, ◌^◌, ℕ, min, cond, true, false};
 ghost use Rattle.nl_blocks.specs.Table.{HasBlock, after_erase, block_at, free_count, in_state, is_retired_state, names_of, with_block, with_page};
 ghost use Rattle.nl_pseg.specs.Seen.{use_in};
-ghost use Rattle.nl_pseg.specs.Steps.{IsMarked, Restated, SameMarks, SameNumbers, SameUse};
+ghost use Rattle.nl_pseg.specs.Steps.{IsMarked, IsTold, Restated, SameMarks, SameNumbers, SameUse, told_state};
 
 use nl_blocks::{BlockState, Blocks, PageState};
 
@@ -127,20 +127,34 @@ pub fn give_back(blocks: &mut Blocks, block: u32, wear: u32)
 /// The block is Sealed, with this wear.
 pub fn shut(blocks: &mut Blocks, block: u32, wear: u32)
     requires { HasBlock blocks.old block }
-    ensures { Restated block false wear blocks.old blocks.new }
+    ensures restated { Restated block false wear blocks.old blocks.new }
+    ensures state { (block_at blocks.new block).state ≡ BlockState.Sealed }
 {
     give_back(blocks, block, wear);
     blocks.seal(block);
 }
 
-/// Tells the block that it was erased so often and is to be erased before use: a Free one has one more, and another is Sealed.
+/// The wear of a block that waits.
+fn wait_with(blocks: &mut Blocks, block: u32, wear: u32, names: u32)
+    requires has { HasBlock blocks.old block }
+    requires retired { (block_at blocks.old block).state ≡ BlockState.Retired names }
+    ensures told { IsTold block wear blocks.old blocks.new }
+    ensures state { (block_at blocks.new block).state ≡ BlockState.Retired names }
+{
+    let _ = blocks.count();
+    blocks.found(block, wear, names);
+}
+
+/// Tells the block that it was erased so often and is to be erased before use: a Free one, and one that waits, has one more, and
+/// another is Sealed.
 pub fn tell(blocks: &mut Blocks, block: u32, wear: u32)
     requires { HasBlock blocks.old block }
-    ensures { Restated block (use_in blocks.old block).is_free (cond (use_in blocks.old block).is_free (min (wear + 1) (2 ^ 32 - 1)) wear) blocks.old blocks.new }
+    ensures told { IsTold block (cond (use_in blocks.old block).is_kept (min (wear + 1) (2 ^ 32 - 1)) wear) blocks.old blocks.new }
+    ensures state { (block_at blocks.new block).state ≡ told_state (block_at blocks.old block).state }
 {
     match blocks.state(block) {
-        BlockState::Free => blocks.found(block, wear.saturating_add(1), 0),
-        BlockState::Retired(names) => blocks.found(block, wear.saturating_add(1), names),
+        BlockState::Free => give_back(blocks, block, wear.saturating_add(1)),
+        BlockState::Retired(names) => wait_with(blocks, block, wear.saturating_add(1), names),
         _ => shut(blocks, block, wear),
     }
 }
