@@ -5,6 +5,7 @@ pub mod Dropping
 pub mod After
 pub mod Wrote
 pub mod Overwrote
+pub mod Served
 pub mod Holds
 pub mod Sums
 pub mod Runs

@@ -70,6 +70,13 @@ pub record IsTold (block : ℕ) (wear : ℕ) (old new : Table) : Type 0 where
   pub total : free_count new ≡ free_count old
   pub marks : SameMarks old new
 
+-- nothing more is programmed in this block, and the pages of another one that are programmed next are the same
+pub record IsIdle (block : ℕ) (old new : State) : Type 0 where
+  pub active : new.active ≡ old.active
+  pub target : new.target ≡ old.target
+  pub used : ((block ≡ old.active) × (new.used ≡ old.blocks.size)) ⊎ ((block ≡ old.active → ⊥) × (new.used ≡ old.used))
+  pub filled : ((block ≡ old.target) × (new.filled ≡ old.blocks.size)) ⊎ ((block ≡ old.target → ⊥) × (new.filled ≡ old.filled))
+
 -- A block was taken that was Free, where the block that was written to is full, and no page of it is used.
 pub record IsTaking (s : State) (block : ℕ) : Type 0 where
   pub table : Table
