@@ -23,6 +23,7 @@ mod CopyUsed
 mod Led
 mod Moved
 mod CopyImages
+mod MoveSteps
 mod Dropped
 mod Chosen
 mod Taken

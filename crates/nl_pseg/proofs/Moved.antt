@@ -201,3 +201,6 @@ unmoved_few {seg} {new} m few one =
     let l = m.left in
     let e = m.tables.same_size in
     omega (arith, n, was, l, e)
+
+pub readied_none : {seg mid : Physical} → IsReadied seg mid → MovesNone seg mid
+readied_none {seg} {mid} r = none_then r refl (still_none mid)

@@ -1,16 +1,16 @@
 // Moves live pages of the victim.
 ghost use Rattle.std.specs.Prelude.{◌≡◌, ◌⊎◌, ◌↔◌, ℕ, ◌+◌, ◌*◌, ◌/◌, ◌<◌, ◌≤◌, Some, None, IfNone, IfSome, IsSome, IsTrue};
-ghost use Rattle.nl_field.specs.CrashStates.{saturated};
+ghost use Rattle.nl_field.specs.CrashStates.{Rose, saturated};
 ghost use Rattle.nl_field.specs.Page.{page_at, written};
 ghost use Rattle.nl_field.specs.Spelling.{is_stamp};
 ghost use Rattle.nl_nand.specs.Nand.{FaultsCounted};
 ghost use Rattle.nl_blocks.specs.Table.{HasBlock, IsTable, block_at};
-ghost use Rattle.nl_pseg.specs.Cleaning.{IfMoved, IsMoved, Moves, MovesNone, programmed_by};
-ghost use Rattle.nl_pseg.specs.Effects.{Crashes};
-ghost use Rattle.nl_pseg.specs.Pages.{page_with, shown_by};
+ghost use Rattle.nl_pseg.specs.Cleaning.{CountedMove, IfMoved, IsMoved, Moves, MovesNone, programmed_by};
+ghost use Rattle.nl_pseg.specs.Effects.{Crashes, Programmed};
+ghost use Rattle.nl_pseg.specs.Pages.{main_of, page_with, shown_by};
 ghost use Rattle.nl_pseg.specs.Segment.{HasSpare, InVictim, IsClean, IsPhysicalOf, held_at, room, wear_of};
 ghost use Rattle.nl_pseg.specs.Seen.{seen, Fits, IsFormed, IsTied};
-ghost use Rattle.nl_pseg.specs.Space.{HasFewPairs, landing};
+ghost use Rattle.nl_pseg.specs.Space.{HasFewPairs, HasRoomForVictim, landing};
 ghost use Rattle.nl_pseg.specs.Steps.{IsAlone, IsCopyUsed, IsLed, IsReadied, IsTargeted, ReadiedOn, aimed_at};
 ghost use Rattle.nl_pseg.specs.declared.held.Held.{Held as HeldOf};
 
@@ -171,6 +171,7 @@ impl State {
         ensures alone { M.tells → IfMoved result (λ was after h. IsAlone after (written (page_with buf.old.main held.tag held.stamp (wear_of (seen self.old) (after / self.old.blocks.size)))) (M.contents media.old) (M.contents media.new)) }
         ensures crash { M.tells → Crashes M.clock M.contents M.left (seen self.old) held.tag held.stamp buf.old.main media.old media.new (programmed_by result) }
         ensures geometry { M.geometry media.new ≡ M.geometry media.old }
+        ensures later { M.clock media.old ≤ M.clock media.new }
         ensures clock { (IsMoved result → M.clock media.new ≡ saturated (M.clock media.old + 1)) × ((IsMoved result → ⊥) → M.clock media.new ≡ M.clock media.old) }
         ensures read_faults { M.read_faults media.new ≡ M.read_faults media.old }
         ensures write_faults { FaultsCounted (M.write_faults media.old) (M.write_faults media.new) (result ≡ Copied.Fault) }
@@ -202,7 +203,32 @@ impl State {
         before: u32,
         held: Held,
         buf: &mut PageBuf,
-    ) -> Copied {
+    ) -> Copied
+        requires formed { IsFormed self.old }
+        requires tied { IsTied self.old }
+        requires few { HasFewPairs (seen self.old) }
+        requires fits { Fits (M.geometry media.old) (seen self.old) }
+        requires victim { InVictim (seen self.old) before }
+        requires live { held_at (seen self.old) before ≡ Some held }
+        requires room { 0 < landing (seen self.old) }
+        requires segment { M.tells → IsPhysicalOf (M.contents media.old) (seen self.old) }
+        ensures formed { IsFormed self.new }
+        ensures tied { IsTied self.new }
+        ensures few { HasFewPairs (seen self.new) }
+        ensures nothing { result ≡ Copied.Nothing → ⊥ }
+        ensures moved { IfMoved result (λ was after h. (was ≡ before) × (h ≡ held) × Moves was after h (seen self.old) (seen self.new)) }
+        ensures kept { (IsMoved result → ⊥) → MovesNone (seen self.old) (seen self.new) }
+        ensures lost { (w f : ℕ) → result ≡ Copied.Lost w f → (f ≡ w → ⊥) × (held.stamp ≡ w) }
+        ensures told { M.tells → (w f : ℕ) → result ≡ Copied.Lost w f → ⊥ }
+        ensures clean { IsClean (seen self.old) → IsClean (seen self.new) }
+        ensures lands { HasRoomForVictim (seen self.old) → Rose (M.write_faults media.old) (M.write_faults media.new) ⊎ HasRoomForVictim (seen self.new) }
+        ensures segment { M.tells → IsPhysicalOf (M.contents media.new) (seen self.new) }
+        ensures spare { M.tells → HasSpare (M.contents media.old) (seen self.old) → HasSpare (M.contents media.new) (seen self.new) }
+        ensures programmed { M.tells → IfMoved result (λ was after h. Programmed (seen self.old) after (written (page_with (main_of (page_at (M.contents media.old) was)) h.tag h.stamp (wear_of (seen self.old) (after / self.old.blocks.size)))) (M.contents media.old) (M.contents media.new)) }
+        ensures crash { M.tells → Crashes M.clock M.contents M.left (seen self.old) held.tag held.stamp (main_of (page_at (M.contents media.old) before)) media.old media.new (programmed_by result) }
+        ensures geometry { M.geometry media.new ≡ M.geometry media.old }
+        ensures counts { CountedMove M.clock M.read_faults M.write_faults (IsClean (seen self.old)) media.old media.new result }
+    {
         match read_page(media, before, held.tag, held.stamp, buf) {
             NamedRead::Done => {}
             NamedRead::Lost { wanted, found } => return Copied::Lost { wanted, found },
