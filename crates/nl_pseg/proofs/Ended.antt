@@ -222,3 +222,9 @@ nothing_back seg = record {
   more_room = omega arith;
   same = λ none. record { next = refl; left = refl; free = refl; same_free = λ b. refl; same_kept = λ b. refl; same_soiled = λ b. refl; copies = (refl, refl) };
 }
+
+-- with no victim in hand there are few pairs
+pub few_none : (seg : Physical) → seg.victim ≡ None → HasFewPairs seg
+few_none seg none one =
+    let zero_is : victims seg ≡ 0 = ap (λ (v : Option ℕ). victims (record seg { victim = v })) none in
+    absurd (omega (arith, zero_is, one))

@@ -144,3 +144,6 @@ told_waits the.Target k is = absurd (cc is)
 told_waits the.Sealed k is = absurd (cc is)
 told_waits the.Victim k is = absurd (cc is)
 told_waits (the.Retired names) k is = is
+
+pub free_set : (state : BlockState) → state ≡ the.Free → IsSet state
+free_set state is = record { active = λ e. cc (sym is ∙ e); target = λ e. cc (sym is ∙ e); victim = λ e. cc (sym is ∙ e) }

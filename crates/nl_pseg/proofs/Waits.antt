@@ -1,5 +1,5 @@
 -- Which blocks wait.
-use Rattle.std.proofs.Common.{◌≡◌, ◌⊎◌, inl, inr, ⊎_elim, ℕ, zero, suc, ◌+◌, ◌-◌, ◌*◌, ◌<◌, ◌≤◌, ◌&&◌, not, Bool, true, false, cond, List, [], ◌∷◌, length, get_or, count_by, refl, sym, ◌∙◌, ap, arith}
+use Rattle.std.proofs.Common.{◌≡◌, ◌⊎◌, inl, inr, ⊎_elim, ℕ, zero, suc, ◌+◌, ◌-◌, ◌*◌, ◌<◌, ◌≤◌, ◌&&◌, ◌||◌, not, Bool, true, false, cond, List, [], ◌∷◌, length, get_or, count_by, refl, sym, ◌∙◌, ap, arith}
 use Rattle.std.proofs.lemmas.Bool.{cases_Bool, true≢false}
 use Rattle.std.proofs.lemmas.List.Sums.{get_or-le-sum_by, sum_by-cons}
 use Rattle.nl_pseg.specs.Segment.{Physical, Use, is_free, is_kept, is_waiting, no_use, use_at}
@@ -61,3 +61,14 @@ none_waits seg block none waits_is =
     let one : num (waits (get_or seg.uses (block - seg.first) no_use)) ≡ 1 = ap num (ap waits (sym e) ∙ waits_is) in
     let most : num (waits (get_or seg.uses (block - seg.first) no_use)) ≤ waiting seg = get_or-le-sum_by (λ u. num (waits u)) seg.uses (block - seg.first) no_use (omega (arith, range.0, range.1)) in
     omega (arith, one, most, none)
+
+-- a block that is Free or waits is kept
+pub free_or_waits : (seg : Physical) (block : ℕ) → (is_free seg block ≡ true → is_kept seg block ≡ true) → (is_free seg block || is_waiting seg block) ≡ is_kept seg block
+free_or_waits seg block kept = ⊎_elim
+    (λ yes. (λ i. yes i || (is_kept seg block && not (yes i))) ∙ sym (kept yes))
+    (λ no. (λ i. no i || (is_kept seg block && not (no i))) ∙ kept_and (is_kept seg block))
+    (cases_Bool (is_free seg block))
+  where
+    kept_and : (b : Bool) → (b && true) ≡ b
+    kept_and true = refl
+    kept_and false = refl

@@ -106,6 +106,8 @@ pub record IsApart (block : ℕ) (old new : Physical) : Type 0 where
 pub record IsGivenBack (block : ℕ) (old new : Physical) : Type 0 where
   pub range : SameRange old new
   pub held : new.held ≡ old.held
+  pub names : (new.pairs ≡ old.pairs) × (new.pair_room ≡ old.pair_room)
+  pub victim : new.victim ≡ old.victim
   pub left : new.left ≤ old.left
   pub here : is_free new block ≡ true
   pub told : is_free old block ≡ false → soiled new block ≡ Some (erasures old block)
@@ -146,6 +148,8 @@ AllFree seg = (block : ℕ) → seg.first ≤ block → block < seg.blocks → i
 pub record AreGivenBack (end : ℕ) (old new : Physical) : Type 0 where
   pub range : SameRange old new
   pub held : new.held ≡ old.held
+  pub names : (new.pairs ≡ old.pairs) × (new.pair_room ≡ old.pair_room)
+  pub victim : new.victim ≡ old.victim
   pub left : new.left ≤ old.left
   pub each : (block : ℕ) → old.first ≤ block → block < end → is_free new block ≡ true
   pub told : (block : ℕ) → old.first ≤ block → block < end → is_free old block ≡ false → soiled new block ≡ Some (erasures old block)

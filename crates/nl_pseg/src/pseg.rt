@@ -144,6 +144,8 @@ impl PSeg {
         ensures spare { (image : Image) → HasSpare image self.old → HasSpare image self.new }
     {
         self.state.soil(block, wear);
+        self.state.table();
+        self.state.whole();
     }
 
     /// Serves an opening, while no page is live: every block is Free. One that was in use is erased before use. Where every
@@ -171,6 +173,8 @@ impl PSeg {
         ensures kept { 1 ≤ self.new.free → KeepsBlock self.new }
     {
         self.state.give_back_all();
+        self.state.table();
+        self.state.whole();
     }
 
     /// The page to which the name leads: the target of the pair of that old name, else the name itself.
