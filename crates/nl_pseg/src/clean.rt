@@ -60,7 +60,9 @@ impl PSeg {
         ensures geometry { M.geometry media.new ≡ M.geometry media.old }
         ensures counts { CountedMove M.clock M.read_faults M.write_faults (IsClean self.old) media.old media.new result }
     {
-        self.state.copy_one(media, buf)
+        let copied = self.state.copy_one(media, buf);
+        self.state.whole();
+        copied
     }
 
     /// Erases the victim, where no page of it is live: it is Free, or waits for the old names that stand in it. `Nothing` exactly where

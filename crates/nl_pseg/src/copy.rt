@@ -5,12 +5,12 @@ ghost use Rattle.nl_field.specs.Page.{page_at, written};
 ghost use Rattle.nl_field.specs.Spelling.{is_stamp};
 ghost use Rattle.nl_nand.specs.Nand.{FaultsCounted};
 ghost use Rattle.nl_blocks.specs.Table.{HasBlock, IsTable, block_at};
-ghost use Rattle.nl_pseg.specs.Cleaning.{CountedMove, IfMoved, IsMoved, Moves, MovesNone, programmed_by};
+ghost use Rattle.nl_pseg.specs.Cleaning.{CountedMove, CrashesMove, IfMoved, IsMoved, Moves, MovesNone, programmed_by};
 ghost use Rattle.nl_pseg.specs.Effects.{Crashes, Programmed};
 ghost use Rattle.nl_pseg.specs.Pages.{main_of, page_with, shown_by};
-ghost use Rattle.nl_pseg.specs.Segment.{HasSpare, InVictim, IsClean, IsPhysicalOf, held_at, room, wear_of};
+ghost use Rattle.nl_pseg.specs.Segment.{HasSpare, InVictim, IsClean, IsPhysicalOf, KeepsBlock, held_at, room, wear_of};
 ghost use Rattle.nl_pseg.specs.Seen.{seen, Fits, IsFormed, IsTied};
-ghost use Rattle.nl_pseg.specs.Space.{HasFewPairs, HasRoomForVictim, landing};
+ghost use Rattle.nl_pseg.specs.Space.{HasFewPairs, HasRoomForVictim, landing, left_of};
 ghost use Rattle.nl_pseg.specs.Steps.{IsAlone, IsCopyUsed, IsLed, IsReadied, IsTargeted, ReadiedOn, aimed_at};
 ghost use Rattle.nl_pseg.specs.declared.held.Held.{Held as HeldOf};
 
@@ -242,7 +242,33 @@ impl State {
     }
 
     /// Moves one live page of the victim.
-    pub fn copy_one<M: Nand>(&mut self, media: &mut M, buf: &mut PageBuf) -> Copied {
+    pub fn copy_one<M: Nand>(&mut self, media: &mut M, buf: &mut PageBuf) -> Copied
+        requires formed { IsFormed self.old }
+        requires tied { IsTied self.old }
+        requires few { HasFewPairs (seen self.old) }
+        requires fits { Fits (M.geometry media.old) (seen self.old) }
+        requires lands { HasRoomForVictim (seen self.old) }
+        requires segment { M.tells → IsPhysicalOf (M.contents media.old) (seen self.old) }
+        ensures formed { IsFormed self.new }
+        ensures tied { IsTied self.new }
+        ensures few { HasFewPairs (seen self.new) }
+        ensures nothing { result ≡ Copied.Nothing ↔ left_of (seen self.old) ≡ 0 }
+        ensures refused { result ≡ Copied.Nothing → (seen self.new ≡ seen self.old) × (media.new ≡ media.old) }
+        ensures moved { IfMoved result (λ before after h. Moves before after h (seen self.old) (seen self.new)) }
+        ensures kept { (IsMoved result → ⊥) → MovesNone (seen self.old) (seen self.new) }
+        ensures lost { (w f : ℕ) → result ≡ Copied.Lost w f → (f ≡ w → ⊥) × ((p : ℕ) × (h : HeldOf) × InVictim (seen self.old) p × (held_at (seen self.old) p ≡ Some h) × (h.stamp ≡ w)) }
+        ensures told { M.tells → (w f : ℕ) → result ≡ Copied.Lost w f → ⊥ }
+        ensures clean { IsClean (seen self.old) → IsClean (seen self.new) }
+        ensures kept_block { KeepsBlock (seen self.old) → KeepsBlock (seen self.new) }
+        ensures lands { Rose (M.write_faults media.old) (M.write_faults media.new) ⊎ HasRoomForVictim (seen self.new) }
+        ensures segment { M.tells → IsPhysicalOf (M.contents media.new) (seen self.new) }
+        ensures spare { M.tells → HasSpare (M.contents media.old) (seen self.old) → HasSpare (M.contents media.new) (seen self.new) }
+        ensures programmed { M.tells → IfMoved result (λ before after h. Programmed (seen self.old) after (written (page_with (main_of (page_at (M.contents media.old) before)) h.tag h.stamp (wear_of (seen self.old) (after / self.old.blocks.size)))) (M.contents media.old) (M.contents media.new)) }
+        ensures crash { M.tells → (result ≡ Copied.Nothing → ⊥) → CrashesMove M.clock M.contents M.left (seen self.old) media.old media.new result }
+        ensures geometry { M.geometry media.new ≡ M.geometry media.old }
+        ensures counts { CountedMove M.clock M.read_faults M.write_faults (IsClean (seen self.old)) media.old media.new result }
+    {
+        let _ = self.blocks.count();
         let Some(victim) = self.victim else {
             return Copied::Nothing;
         };
