@@ -79,9 +79,16 @@ impl State {
 
     pub fn load(&mut self, page: u32, stamp: u64, tag: Tag)
         requires formed { IsFormed self.old }
+        requires tied { IsTied self.old }
+        requires none { self.old.victim ≡ None }
         requires dead { IsDead (seen self.old) page }
         requires stamp { IsTrue (is_stamp stamp) }
         ensures formed { IsFormed self.new }
+        ensures tied { IsTied self.new }
+        ensures names { self.new.names ≡ self.old.names }
+        ensures victim { self.new.victim ≡ self.old.victim }
+        ensures next { (p : ℕ) → IsNext (seen self.new) p → IsNext (seen self.old) p }
+        ensures copies { (p : ℕ) → IsNextCopy (seen self.new) p → IsNextCopy (seen self.old) p }
         ensures held { self.new.held.items ≡ slice_set self.old.held.items page (Some (record { tag = tag; stamp = stamp })) }
         ensures first { self.new.blocks.first ≡ self.old.blocks.first }
         ensures blocks { self.new.blocks.first + length self.new.blocks.blocks ≡ self.old.blocks.first + length self.old.blocks.blocks }
