@@ -30,9 +30,8 @@ module _ (s : State) (is : IsFormed s) (t : Table) (n : SameNumbers s.blocks t) 
   next_back : (p : ℕ) → IsNext (seen (record s { blocks = t })) p → IsNext (seen s) p
   next_back p next = let a = next_is in let b = left_is in (omega (arith, a, next.0), omega (arith, a, b, next.1))
 
-  pub formed_table : (s.used < s.blocks.size → (block_at t s.active).state ≡ Active) → ((block : ℕ) → (use_in t block).is_kept ≡ (use_in t block).is_free)
-      → ((p : ℕ) (h : Held) → held_at (seen s) p ≡ Some h → (use_in t (p / s.blocks.size)).is_free ≡ false) → SameMarks s.blocks t → IsFormed (record s { blocks = t })
-  formed_table active only in_use marks = record {
+  pub formed_table : (s.used < s.blocks.size → (block_at t s.active).state ≡ Active) → ((p : ℕ) (h : Held) → held_at (seen s) p ≡ Some h → (use_in t (p / s.blocks.size)).is_kept ≡ false) → SameMarks s.blocks t → IsFormed (record s { blocks = t })
+  formed_table active in_use marks = record {
     marked = record { each = λ p has. let back = page_back p n has in marks.same p back ∙ is.marked.each p back };
     some = subst (λ k. 0 < k) (sym n.same_size) is.some;
     numbers = subst (λ k. k < 2 ^ 32) (sym bound) is.numbers;
@@ -41,7 +40,6 @@ module _ (s : State) (is : IsFormed s) (t : Table) (n : SameNumbers s.blocks t) 
     active_in = has_same s.active n is.active_in;
     used_fits = subst (λ k. s.used ≤ k) (sym n.same_size) is.used_fits;
     taken = λ lt. active (subst (λ k. s.used < k) n.same_size lt);
-    only_free = only;
     places = record {
       each = λ p h named.
           let was = is.places.each p h named in
@@ -52,14 +50,13 @@ module _ (s : State) (is : IsFormed s) (t : Table) (n : SameNumbers s.blocks t) 
 -- each block has the same use
 pub formed_same : (s : State) (t : Table) → IsFormed s → SameUse s.blocks t → SameMarks s.blocks t → (s.used < s.blocks.size → (block_at t s.active).state ≡ Active) → IsFormed (record s { blocks = t })
 formed_same s t is same marks active = formed_table s is t same.numbers active
-    (λ b. ap (λ (u : Use). u.is_kept) (same.uses b) ∙ (is.only_free b ∙ sym (ap (λ (u : Use). u.is_free) (same.uses b))))
-    (λ p h named. ap (λ (u : Use). u.is_free) (same.uses (p / s.blocks.size)) ∙ (is.places.each p h named).in_use) marks
+    (λ p h named. ap (λ (u : Use). u.is_kept) (same.uses (p / s.blocks.size)) ∙ (is.places.each p h named).in_use) marks
 
 pub use_places : (s : State) (t : Table) → IsFormed s → SameUse s.blocks t → ArePlaces (seen (record s { blocks = t }))
 use_places s t is same = record {
   each = λ p h named.
       let was = is.places.each p h named in
-      place_same p h (range_is s is t same.numbers) (ap (λ (u : Use). u.is_free) (same.uses (p / s.blocks.size)) ∙ was.in_use) (λ next. was.behind (next_back s is t same.numbers p next)) was;
+      place_same p h (range_is s is t same.numbers) (ap (λ (u : Use). u.is_kept) (same.uses (p / s.blocks.size)) ∙ was.in_use) (λ next. was.behind (next_back s is t same.numbers p next)) was;
 }
 
 -- One block is Free now, or in use. Where it is Free, no page of it is live.
@@ -67,13 +64,9 @@ pub formed_restated : (s : State) (t : Table) (block wear : ℕ) (free : Bool) �
     → (free ≡ true → (p : ℕ) (h : Held) → held_at (seen s) p ≡ Some h → p / s.blocks.size ≡ block → ⊥) → IsFormed (record s { blocks = t })
 formed_restated s t block wear free is r idle dead = formed_table s is t r.numbers
     (λ room. r.states s.active is.active_in (λ same. idle room (sym same)) ∙ is.taken room)
-    (λ b. ⊎_elim
-    (λ here. ap (λ n. (use_in t n).is_kept) here ∙ (ap (λ (u : Use). u.is_kept) r.here ∙ sym (ap (λ n. (use_in t n).is_free) here ∙ ap (λ (u : Use). u.is_free) r.here)))
-    (λ ne. ap (λ (u : Use). u.is_kept) (r.others b ne) ∙ (is.only_free b ∙ sym (ap (λ (u : Use). u.is_free) (r.others b ne))))
-    (cases_eq b block))
     (λ p h named. ⊎_elim
-    (λ here. ap (λ n. (use_in t n).is_free) here ∙ (ap (λ (u : Use). u.is_free) r.here ∙ not_free free (λ yes. dead yes p h named here)))
-    (λ ne. ap (λ (u : Use). u.is_free) (r.others (p / s.blocks.size) ne) ∙ (is.places.each p h named).in_use)
+    (λ here. ap (λ n. (use_in t n).is_kept) here ∙ (ap (λ (u : Use). u.is_kept) r.here ∙ not_free free (λ yes. dead yes p h named here)))
+    (λ ne. ap (λ (u : Use). u.is_kept) (r.others (p / s.blocks.size) ne) ∙ (is.places.each p h named).in_use)
     (cases_eq (p / s.blocks.size) block)) r.marks
   where
     not_free : (b : Bool) → (b ≡ true → ⊥) → b ≡ false
@@ -91,7 +84,6 @@ formed_marks s block told is = record {
   active_in = is.active_in;
   used_fits = is.used_fits;
   taken = is.taken;
-  only_free = is.only_free;
   places = record { each = λ p h named. let was = is.places.each p h named in record { within = was.within; in_use = was.in_use; behind = was.behind; spelled = was.spelled } };
 }
 
@@ -116,7 +108,6 @@ module _ (s : State) (is : IsFormed s) (t : Table) (same : SameUse s.blocks t) (
         active_in = has_same s.active n is.active_in;
         used_fits = subst (λ k. s.used ≤ k) (sym n.same_size) is.used_fits;
         taken = λ lt. active (subst (λ k. s.used < k) n.same_size lt);
-        only_free = λ b. ap (λ (u : Use). u.is_kept) (same.uses b) ∙ (is.only_free b ∙ sym (ap (λ (u : Use). u.is_free) (same.uses b)));
         places = places;
         marked = marked_are;
       }
@@ -139,4 +130,5 @@ module _ (s : State) (t : Table) (same : SameUse s.blocks t) where
     same_free = λ b. ap (λ (u : Use). u.is_free) (same.uses b);
     same_kept = λ b. ap (λ (u : Use). u.is_kept) (same.uses b);
     same_soiled = λ b. refl;
+    copies = (λ i. s.target * same.numbers.same_size i + s.filled, λ i. same.numbers.same_size i - s.filled);
   }

@@ -6,7 +6,7 @@ use Rattle.nl_blocks.specs.declared.states.BlockState.{BlockState}
 use Rattle.nl_blocks.specs.Table.{BlockRow, HasBlock, is_free_state, row_at}
 use Rattle.nl_blocks.specs.Table.{is_free as is_free_row}
 use Rattle.nl_pseg.specs.Segment.{Physical, Use, erasures, is_free, soiled, wear_of}
-use Rattle.nl_pseg.specs.Seen.{IsFormed, seen}
+use Rattle.nl_pseg.specs.Seen.{IsFormed, IsTied, seen}
 use Rattle.nl_pseg.specs.Steps.{AllFree, AreGivenBack, IsGivenBack}
 use Rattle.nl_pseg.specs.declared.state.State.{State}
 use Rattle.nl_pseg.proofs.Tables.{use_here}
@@ -15,6 +15,8 @@ pub given_none : (seg : Physical) → AreGivenBack seg.first seg seg
 given_none seg = record {
   range = record { range_first = refl; range_blocks = refl; range_size = refl };
   held = refl;
+  names = (refl, refl);
+  victim = refl;
   left = omega arith;
   each = λ block from below. absurd (omega (arith, from, below));
   told = λ block from below used. absurd (omega (arith, from, below));
@@ -38,6 +40,8 @@ module _ {old mid new : Physical} (block : ℕ) (from : old.first ≤ block) (wi
       range_size = g.range.range_size ∙ given.range.range_size;
     };
     held = g.held ∙ given.held;
+    names = (g.names.0 ∙ given.names.0, g.names.1 ∙ given.names.1);
+    victim = g.victim ∙ given.victim;
     left = let a = g.left in let b = given.left in omega (arith, a, b);
     each = λ b low high. ⊎_elim
         (λ here. ap (is_free new) here ∙ g.here)
@@ -120,3 +124,13 @@ module _ (s : State) (is : IsFormed s) where
         absurd (true≢false (sym (all s.active is.active_in.from is.active_in.below) ∙ in_use))
     | inr full ↦ omega (arith, full)
   ]
+
+-- and none is for copies
+pub copies_none : (s : State) → IsTied s → AllFree (seen s) → (seen s).copy_left ≡ 0
+copies_none s tied all = elim (cases_lt s.filled s.blocks.size) [
+  | inl room ↦
+      let at = tied.phases.target_in in
+      let in_use : is_free (seen s) s.target ≡ false = ap (λ (u : Use). u.is_free) (use_here s.blocks s.target at) ∙ ap (λ (b : BlockState). is_free_state b) (tied.phases.filling room) in
+      absurd (true≢false (sym (all s.target at.from at.below) ∙ in_use))
+  | inr full ↦ omega (arith, full)
+]

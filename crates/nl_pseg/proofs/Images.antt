@@ -14,15 +14,15 @@ use Rattle.nl_nand.specs.ImageLaws.{filled_cut}
 use Rattle.nl_pseg.specs.Effects.{Crashes, Keeps, Places, Takes}
 use Rattle.nl_pseg.specs.Answers.{IsPlaced, Names}
 use Rattle.nl_pseg.specs.Pages.{IsUnreadable, main_of, page_with, shown_by}
-use Rattle.nl_pseg.specs.Segment.{Physical, Use, IsDead, IsPhysicalOf, IsUnspent, SamePages, TakenAsErased, held_at, is_free, is_soiled, soiled, wear_of}
+use Rattle.nl_pseg.specs.Segment.{Physical, Use, IsDead, IsNextCopy, IsOldName, IsPhysicalOf, IsUnspent, SamePages, TakenAsErased, held_at, is_kept, is_soiled, soiled, wear_of}
 use Rattle.nl_pseg.specs.Seen.{ArePlaces}
 use Rattle.nl_pseg.specs.Steps.{IsAlone, IsOpened, IsUsed}
 use Rattle.nl_pseg.specs.declared.held.Held.{Held}
 use Rattle.nl_pseg.proofs.Numbers.{block_of, block_below, block_from}
-use Rattle.nl_pseg.proofs.Segments.{dead_free, free_within, opened_next, set_held, unspent_taken, used_taken}
+use Rattle.nl_pseg.proofs.Segments.{copy_same, dead_kept, kept_within, opened_next, set_held, unspent_taken, used_taken}
 
 -- apart from its page
-program_others : {page : ℕ} {value : Page} {old c : Image} → Cut page (page + 1) value old c → (p : ℕ) → (p ≡ page → ⊥) → page_at c p ≡ page_at old p
+pub program_others : {page : ℕ} {value : Page} {old c : Image} → Cut page (page + 1) value old c → (p : ℕ) → (p ≡ page → ⊥) → page_at c p ≡ page_at old p
 program_others cut p ne = ⊎_elim (λ same. same) (λ w. absurd (ne (omega (arith, w.0, w.1)))) (cut.each p)
 
 module _ (seg : Physical) (page : ℕ) (dead : IsDead seg page) {value : Page} {old c : Image} where
@@ -55,9 +55,9 @@ pub put_alone : {page : ℕ} {value : Page} {old c : Image} → Filled page (pag
 put_alone {page} filled = record { has = filled.inside page (omega arith) (omega arith); others = program_others (filled_cut filled) }
 
 -- an erase of a Free block
-pub erase_keeps : (seg : Physical) (block g : ℕ) {old c : Image} → g ≡ seg.size → seg.blocks ≡ seg.first + length seg.uses → ArePlaces seg → is_free seg block ≡ true
+pub erase_keeps : (seg : Physical) (block g : ℕ) {old c : Image} → g ≡ seg.size → seg.blocks ≡ seg.first + length seg.uses → ArePlaces seg → is_kept seg block ≡ true → ((p : ℕ) → p / seg.size ≡ block → IsOldName seg p → ⊥) → (seg.victim ≡ Some block → ⊥)
     → Cut (block * g) (block * g + g) erased old c → Keeps seg old c
-erase_keeps seg block g {old} {c} is count are free cut = record {
+erase_keeps seg block g {old} {c} is count are free own apart cut = record {
   each = λ p. ⊎_elim (λ same. inl same) (λ w. inr (dead p w.0 w.1, w.2)) (cut.each p);
 }
   where
@@ -65,12 +65,14 @@ erase_keeps seg block g {old} {c} is count are free cut = record {
     dead p low high =
         let from : block * seg.size ≤ p = subst (λ k. block * k ≤ p) is low in
         let below : p < block * seg.size + seg.size = subst (λ k. p < block * k + k) is high in
-        let range = free_within seg.first seg.uses block free in
+        let range = kept_within seg.first seg.uses block free in
         let first = block_from seg.first block seg.size range.0 in
         let last = block_below block seg.blocks seg.size (omega (arith, count, range.1)) in
         record {
           within = (omega (arith, first, from), omega (arith, last, below));
-          dead = dead_free seg are p (ap (is_free seg) (block_of p seg.size block from below) ∙ free);
+          dead = dead_kept seg are p (ap (is_kept seg) (block_of p seg.size block from below) ∙ free);
+          own = own p (block_of p seg.size block from below);
+          apart = λ at. apart (at ∙ ap (λ b. Some b) (block_of p seg.size block from below));
         }
 
 -- and of all others
@@ -100,11 +102,12 @@ shows_same : (h : Held) {x y : Page} → y ≡ x → shown_by x ≡ Some (h.tag,
 shows_same h {x} {y} same shows = subst (λ (q : Page). shown_by q ≡ Some (h.tag, h.stamp, main_of q)) (sym same) shows
 
 -- the next page was used
-pub after_put : {x : Option Held} {seg new : Physical} {value : Page} {old c : Image} → IsUsed x seg new → seg.next < length seg.held → is_free seg (seg.next / seg.size) ≡ false → IsPhysicalOf old seg
+pub after_put : {x : Option Held} {seg new : Physical} {value : Page} {old c : Image} → IsUsed x seg new → seg.next < length seg.held → is_kept seg (seg.next / seg.size) ≡ false → (IsNextCopy seg seg.next → ⊥) → IsPhysicalOf old seg
     → Cut seg.next (seg.next + 1) value old c → ((h : Held) → x ≡ Some h → shown_by (page_at c seg.next) ≡ Some (h.tag, h.stamp, main_of (page_at c seg.next))) → IsPhysicalOf c new
-after_put {x} {seg} {new} {value} {old} {c} u within in_use is cut shows = record {
+after_put {x} {seg} {new} {value} {old} {c} u within in_use apart is cut shows = record {
   holds = λ p h named. holds p h (set_held seg.held seg.next x within p h (ap (λ (l : List (Option Held)). get_or l p None) (sym u.held) ∙ named));
   blank = λ p taken. let was = used_taken u in_use p taken in program_others cut p was.1 ∙ is.blank p was.0;
+  blank_copy = λ p next. let was = copy_same seg new p u.names.copies next in program_others cut p (λ same. apart (subst (IsNextCopy seg) same was)) ∙ is.blank_copy p was;
 }
   where
     holds : (p : ℕ) (h : Held) → ((p ≡ seg.next) × (x ≡ Some h)) ⊎ ((p ≡ seg.next → ⊥) × (held_at seg p ≡ Some h)) → shown_by (page_at c p) ≡ Some (h.tag, h.stamp, main_of (page_at c p))
@@ -112,23 +115,24 @@ after_put {x} {seg} {new} {value} {old} {c} u within in_use is cut shows = recor
     holds p h (inr there) = shows_same h (program_others cut p there.0) (is.holds p h there.1)
 
 -- a Free block is written to
-pub opened_segment : {block : ℕ} {seg new : Physical} {old c : Image} → IsOpened block seg new → 0 < seg.size → ArePlaces seg → IsPhysicalOf old seg → ((p : ℕ) → (p / seg.size ≡ block → ⊥) → page_at c p ≡ page_at old p)
+pub opened_segment : {block : ℕ} {seg new : Physical} {old c : Image} → IsOpened block seg new → 0 < seg.size → ArePlaces seg → ((p : ℕ) → IsNextCopy seg p → p / seg.size ≡ block → ⊥) → IsPhysicalOf old seg → ((p : ℕ) → (p / seg.size ≡ block → ⊥) → page_at c p ≡ page_at old p)
     → ((p : ℕ) → p / seg.size ≡ block → page_at c p ≡ erased) → IsPhysicalOf c new
-opened_segment {block} {seg} {new} {old} {c} o some are is others here = record {
+opened_segment {block} {seg} {new} {old} {c} o some are apart is others here = record {
   holds = λ p h named.
       let was : held_at seg p ≡ Some h = ap (λ (l : List (Option Held)). get_or l p None) (sym o.held) ∙ named in
-      let ne : p / seg.size ≡ block → ⊥ = (λ at. true≢false (sym o.was_free ∙ (ap (is_free seg) (sym at) ∙ (are.each p h was).in_use))) in
+      let ne : p / seg.size ≡ block → ⊥ = (λ at. true≢false (sym o.was_kept ∙ (ap (is_kept seg) (sym at) ∙ (are.each p h was).in_use))) in
       shows_same h (others p ne) (is.holds p h was);
   blank = λ p taken. blank p taken;
+  blank_copy = λ p next. let was = copy_same seg new p o.names.copies next in others p (apart p was) ∙ is.blank_copy p was;
 }
   where
     blank : (p : ℕ) → TakenAsErased new p → page_at c p ≡ erased
     blank p (inl next) = here p (opened_next o some p next)
     blank p (inr free) =
-        let at : is_free new (p / seg.size) ≡ true = ap (λ n. is_free new (p / n)) (sym o.pages.same_size) ∙ free.0 in
+        let at : is_kept new (p / seg.size) ≡ true = ap (λ n. is_kept new (p / n)) (sym o.pages.same_size) ∙ free.0 in
         let clean : is_soiled new (p / seg.size) ≡ false = ap (λ n. is_soiled new (p / n)) (sym o.pages.same_size) ∙ free.1 in
-        let ne : p / seg.size ≡ block → ⊥ = (λ same. true≢false (sym at ∙ (ap (is_free new) same ∙ o.here))) in
-        others p ne ∙ is.blank p (inr (ap (λ (u : Use). u.is_free) (sym (o.others (p / seg.size) ne)) ∙ at, ap is_some (sym (soiled_other (p / seg.size) ne)) ∙ clean))
+        let ne : p / seg.size ≡ block → ⊥ = (λ same. true≢false (sym at ∙ (ap (is_kept new) same ∙ o.in_use))) in
+        others p ne ∙ is.blank p (inr (ap (λ (u : Use). u.is_kept) (sym (o.others (p / seg.size) ne)) ∙ at, ap is_some (sym (soiled_other (p / seg.size) ne)) ∙ clean))
       where
         soiled_other : (b : ℕ) → (b ≡ block → ⊥) → soiled new b ≡ soiled seg b
         soiled_other b ne = ap (λ (l : List (Option ℕ)). get_or l b None) o.soiled ∙ get_or-set_other seg.soiled block b None None ne
@@ -141,19 +145,21 @@ ended_segment {seg} {new} {image} page within same space held is = record {
       (λ there. is.holds p h there.1)
       (set_held seg.held page None within p h (ap (λ (l : List (Option Held)). get_or l p None) (sym held) ∙ named));
   blank = λ p taken. is.blank p (unspent_taken same space p taken);
+  blank_copy = λ p next. is.blank_copy p (copy_same seg new p space.copies next);
 }
 
 -- an erase of a block that was told to be soiled failed
-pub failed_segment : {seg new : Physical} {old c : Image} (block : ℕ) → SamePages seg new → new.held ≡ seg.held → IsUnspent seg new → ArePlaces seg → IsPhysicalOf old seg → is_free seg block ≡ true → is_soiled seg block ≡ true
+pub failed_segment : {seg new : Physical} {old c : Image} (block : ℕ) → SamePages seg new → new.held ≡ seg.held → IsUnspent seg new → ArePlaces seg → ((p : ℕ) → IsNextCopy seg p → p / seg.size ≡ block → ⊥) → IsPhysicalOf old seg → is_kept seg block ≡ true → is_soiled seg block ≡ true
     → (seg.left ≡ 0) → ((p : ℕ) → (p / seg.size ≡ block → ⊥) → page_at c p ≡ page_at old p) → IsPhysicalOf c new
-failed_segment {seg} {new} {old} {c} block same held space are is free dirty full others = record {
+failed_segment {seg} {new} {old} {c} block same held space are away is free dirty full others = record {
   holds = λ p h named.
       let was : held_at seg p ≡ Some h = ap (λ (l : List (Option Held)). get_or l p None) (sym held) ∙ named in
-      let ne : p / seg.size ≡ block → ⊥ = (λ at. true≢false (sym free ∙ (ap (is_free seg) (sym at) ∙ (are.each p h was).in_use))) in
+      let ne : p / seg.size ≡ block → ⊥ = (λ at. true≢false (sym free ∙ (ap (is_kept seg) (sym at) ∙ (are.each p h was).in_use))) in
       shows_same h (others p ne) (is.holds p h was);
   blank = λ p taken.
       let was = unspent_taken same space p taken in
       others p (apart p was) ∙ is.blank p was;
+  blank_copy = λ p next. let was = copy_same seg new p space.copies next in others p (away p was) ∙ is.blank_copy p was;
 }
   where
     apart : (p : ℕ) → TakenAsErased seg p → p / seg.size ≡ block → ⊥

@@ -1,3 +1,35 @@
+pub mod Waits
+pub mod Ended
+pub mod Lefts
+pub mod Dropping
+pub mod After
+pub mod Wrote
+pub mod Overwrote
+pub mod Served
+pub mod Holds
+pub mod Sums
+pub mod Runs
+mod Gone
+mod Rows
+mod Begun
+mod Picked
+mod Chooses
+mod Left
+mod Released
+mod Erasing
+mod Aimed
+mod Readied
+mod CopyUsed
+mod Led
+mod Moved
+mod CopyImages
+mod MoveSteps
+mod Dropped
+mod Chosen
+mod Taken
+mod Used
+mod Tied
+mod Named
 pub mod Counts
 pub mod Forms
 pub mod GivenBack

@@ -7,9 +7,14 @@ use Rattle.std.proofs.lemmas.Nat.{div_below}
 use Rattle.std.proofs.lemmas.Option.{none-some}
 use Rattle.nl_field.specs.declared.shape.Shape.{Shape}
 use Rattle.nl_blocks.specs.declared.states.Page.{Page}
-use Rattle.nl_blocks.specs.Table.{Table, free_count, is_free, new_row, new_table, new_page, no_row, page_at}
+use Rattle.nl_blocks.specs.declared.states.BlockState.{BlockState}
+use Rattle.nl_blocks.specs.declared.states.BlockState.TheVariants as the
+use Rattle.nl_blocks.specs.Table.{BlockRow, HasBlock, Table, block_at, free_count, is_dead, is_free, new_row, new_table, new_page, no_row, page_at}
+use Rattle.nl_remap.specs.Links.{HasLink}
+use Rattle.nl_remap.specs.Table.{IsOld, IsRemap, told}
+use Rattle.nl_pseg.specs.OldNames.{NameTable}
 use Rattle.nl_pseg.specs.Segment.{Use, InSegment, KeepsBlock, TakenAsErased, no_use, room, use_at}
-use Rattle.nl_pseg.specs.Seen.{IsFormed, new_segment, seen, use_in, use_of, use_with, state_for}
+use Rattle.nl_pseg.specs.Seen.{IsFormed, IsTied, new_segment, row_of, seen, use_in, use_of, use_with, state_for}
 use Rattle.nl_pseg.specs.declared.held.Held.{Held}
 use Rattle.nl_pseg.specs.declared.state.State.{State}
 use Rattle.nl_pseg.proofs.Numbers.{in_block, block_below}
@@ -27,21 +32,6 @@ all_uses : (count size : ℕ) → map use_of (replicate count (new_row size)) �
 all_uses zero size = refl
 all_uses (suc count) size = ap (λ (us : List Use). use_with true 0 ∷ us) (all_uses count size)
 
-only : (count size i : ℕ) → (get_or (map use_of (replicate count (new_row size))) i no_use).is_kept ≡ (get_or (map use_of (replicate count (new_row size))) i no_use).is_free
-only zero size i = refl
-only (suc count) size zero = refl
-only (suc count) size (suc i) = only count size i
-
-pub only_new : (first count size block : ℕ) → (use_in (new_table first count size) block).is_kept ≡ (use_in (new_table first count size) block).is_free
-only_new first count size block = elim (cases_Bool (nat_le first block)) [
-  | inl from_is ↦
-      let e = use_from first (map use_of (replicate count (new_row size))) block (leb-true first block from_is) in
-      ap (λ (u : Use). u.is_kept) e ∙ (only count size (block - first) ∙ sym (ap (λ (u : Use). u.is_free) e))
-  | inr before ↦
-      let e = use_before first (map use_of (replicate count (new_row size))) block before in
-      ap (λ (u : Use). u.is_kept) e ∙ sym (ap (λ (u : Use). u.is_free) e)
-]
-
 pub all_none : (n v : ℕ) → get_or {A = Option Held} (replicate n None) v None ≡ None
 all_none zero v = refl
 all_none (suc n) zero = refl
@@ -58,9 +48,25 @@ new_pages zero size i k = refl
 new_pages (suc count) size zero k = rest_pages size k
 new_pages (suc count) size (suc i) k = new_pages count size i k
 
+all_rows : (count size : ℕ) → map row_of (replicate count (new_row size)) ≡ replicate count (record { state = the.Free; dead = size })
+all_rows zero size = refl
+all_rows (suc count) size = (λ i. record { state = the.Free; dead = all_dead size i } ∷ all_rows count size i)
+  where
+    all_dead : (n : ℕ) → count_by is_dead (replicate n new_page) ≡ n
+    all_dead zero = refl
+    all_dead (suc n) =
+        let rest : count_by is_dead (replicate n new_page) ≡ n = all_dead n in
+        let e : count_by is_dead (replicate (suc n) new_page) ≡ 1 + count_by is_dead (replicate n new_page) = sum_by-cons (λ x. cond (is_dead x) 1 0) new_page (replicate n new_page) in
+        omega (arith, e, rest)
+
+-- the pairs of a new segment
+abbrev pub new_names : Shape → NameTable
+new_names shape = record { pairs = []; room = 4 * shape.pages; size = shape.pages; blocks = shape.blocks }
+
 -- a state with these is that segment
 module _ (shape : Shape) (roomy : IsRoomy shape) (s : State) (table : s.blocks ≡ new_table shape.vblocks shape.pblocks shape.pages) (held : s.held.items ≡ replicate (shape.blocks * shape.pages) None)
-    (soiled : s.soiled.items ≡ replicate shape.blocks None) (active : s.active ≡ shape.vblocks) (used : s.used ≡ shape.pages) where
+    (soiled : s.soiled.items ≡ replicate shape.blocks None) (active : s.active ≡ shape.vblocks) (used : s.used ≡ shape.pages) (target : s.target ≡ shape.vblocks) (filled : s.filled ≡ shape.pages)
+    (victim : s.victim ≡ None) (names : s.names ≡ new_names shape) where
   last : s.blocks.first + length s.blocks.blocks ≡ shape.blocks
   last = ap (λ (t : Table). t.first + length t.blocks) table ∙ (ap (λ n. shape.vblocks + n) (length-replicate shape.pblocks (new_row shape.pages)) ∙ roomy.all)
 
@@ -73,13 +79,17 @@ module _ (shape : Shape) (roomy : IsRoomy shape) (s : State) (table : s.blocks �
     blocks = last i;
     size = size i;
     held = held i;
-    pairs = [];
-    pair_room = 0;
+    pairs = told (names i).pairs;
+    pair_room = (names i).room;
     next = active i * size i + used i;
     left = left i;
     free = free i;
     uses = uses i;
     soiled = soiled i;
+    copy_next = target i * size i + filled i;
+    copy_left = copies i;
+    victim = victim i;
+    rows = rows i;
   }
     where
       first : s.blocks.first ≡ shape.vblocks
@@ -88,34 +98,81 @@ module _ (shape : Shape) (roomy : IsRoomy shape) (s : State) (table : s.blocks �
       left : s.blocks.size - s.used ≡ 0
       left = omega (arith, size, used)
 
+      copies : s.blocks.size - s.filled ≡ 0
+      copies = omega (arith, size, filled)
+
       free : free_count s.blocks ≡ shape.pblocks
       free = ap free_count table ∙ all_free shape.pblocks shape.pages
 
       uses : map use_of s.blocks.blocks ≡ replicate shape.pblocks (use_with true 0)
       uses = ap (λ (t : Table). map use_of t.blocks) table ∙ all_uses shape.pblocks shape.pages
 
+      rows : map row_of s.blocks.blocks ≡ replicate shape.pblocks (record { state = the.Free; dead = shape.pages })
+      rows = ap (λ (t : Table). map row_of t.blocks) table ∙ all_rows shape.pblocks shape.pages
+
+  none_held : (p : ℕ) → get_or s.held.items p None ≡ None
+  none_held p = ap (λ (l : List (Option Held)). get_or l p None) held ∙ all_none (shape.blocks * shape.pages) p
+
+  has_first : HasBlock s.blocks shape.vblocks
+  has_first =
+      let many = roomy.blocks in
+      let all = roomy.all in
+      let end = last in
+      let first : s.blocks.first ≡ shape.vblocks = ap (λ (t : Table). t.first) table in
+      record { from = omega (arith, first); below = omega (arith, end, many, all) }
+
   pub new_formed : IsFormed s
   new_formed =
       let some = roomy.some in
-      let many = roomy.blocks in
-      let all = roomy.all in
-      let first : s.blocks.first ≡ shape.vblocks = ap (λ (t : Table). t.first) table in
-      let end = last in
       record {
         some = omega (arith, size, some);
         numbers = subst (λ k. k < 2 ^ 32) (λ i. sym last i * sym size i) roomy.numbers;
         pages = ap length held ∙ (length-replicate {A = Option Held} (shape.blocks * shape.pages) None ∙ (λ i. sym last i * sym size i));
         marks = ap length soiled ∙ (length-replicate {A = Option ℕ} shape.blocks None ∙ sym last);
-        active_in = record { from = omega (arith, first, active); below = omega (arith, active, end, many, all) };
+        active_in = subst (HasBlock s.blocks) (sym active) has_first;
         used_fits = omega (arith, size, used);
         taken = λ lt. absurd (omega (arith, lt, size, used));
         marked = record {
           each = λ p has. ap (λ (t : Table). (page_at t p).state) table ∙ (ap (λ (q : Page). q.state) (new_pages shape.pblocks shape.pages (p / shape.pages - shape.vblocks) (p % shape.pages))
-              ∙ sym (ap state_for (ap (λ (l : List (Option Held)). get_or l p None) held ∙ all_none (shape.blocks * shape.pages) p)));
+              ∙ sym (ap state_for (none_held p)));
         };
-        only_free = λ b. subst (λ (t : Table). (use_in t b).is_kept ≡ (use_in t b).is_free) (sym table) (only_new shape.vblocks shape.pblocks shape.pages b);
-        places = record { each = λ p h named. absurd (none-some h (sym (all_none (shape.blocks * shape.pages) p) ∙ (ap (λ (l : List (Option Held)). get_or l p None) (sym held) ∙ named))) };
+        places = record { each = λ p h named. absurd (none-some h (sym (none_held p) ∙ named)) };
       }
+
+  -- each block is Free
+  state_free : (b : ℕ) (state : BlockState) → HasBlock s.blocks b → (block_at s.blocks b).state ≡ state → the.Free ≡ state
+  state_free b state has is =
+      let count : length (new_table shape.vblocks shape.pblocks shape.pages).blocks ≡ shape.pblocks = length-replicate shape.pblocks (new_row shape.pages) in
+      let now : HasBlock (new_table shape.vblocks shape.pblocks shape.pages) b = subst (λ (t : Table). HasBlock t b) table has in
+      let e : get_or (replicate shape.pblocks (new_row shape.pages)) (b - shape.vblocks) no_row ≡ new_row shape.pages = get_or-replicate shape.pblocks (b - shape.vblocks) (new_row shape.pages) no_row (let f = now.from in let w = now.below in omega (arith, f, w, count)) in
+      sym (ap (λ (t : Table). (block_at t b).state) table ∙ ap (λ (r : BlockRow). r.state) e) ∙ is
+
+  no_old : (n : ℕ) → IsOld s.names.pairs n → ⊥
+  no_old n old = let w = subst (λ (t : NameTable). IsOld t.pairs n) names old in omega (arith, w.1)
+
+  pub new_tied : IsTied s
+  new_tied = record {
+    named = record {
+      size = ap (λ (t : NameTable). t.size) names ∙ sym size;
+      blocks = ap (λ (t : NameTable). t.blocks) names ∙ sym last;
+      room = let r = ap (λ (t : NameTable). length t.pairs + t.room) names in let z = size in omega (arith, r, z);
+      remap = subst (λ (t : NameTable). IsRemap t.pairs) (sym names) (record { rising = λ i j less within. absurd (omega (arith, within)); fits = λ i within. absurd (omega (arith, within)); one_step = λ l has. absurd (omega (arith, has.1)) });
+      standing = λ n old. absurd (no_old n old);
+      own = λ p h live old. no_old p old;
+      to_live = λ l has. absurd (let w = subst (λ (t : NameTable). HasLink t.pairs l) names has in omega (arith, w.1));
+      waits = λ b k has is. absurd (cc (state_free b (the.Retired k) has is));
+    };
+    phases = record {
+      target_in = subst (HasBlock s.blocks) (sym target) has_first;
+      filled_fits = omega (arith, size, filled);
+      filling = λ lt. absurd (omega (arith, lt, size, filled));
+      one_active = λ b has is. absurd (cc (state_free b the.Active has is));
+      one_target = λ b has is. absurd (cc (state_free b the.Target has is));
+      one_victim = λ b has is. absurd (cc (state_free b the.Victim has is));
+      victim_in = λ b named. absurd (none-some b (sym victim ∙ named));
+    };
+    behind = λ p h live next. absurd (none-some h (sym (none_held p) ∙ live));
+  }
 
 -- what a new segment has
 module _ (shape : Shape) (roomy : IsRoomy shape) where
@@ -128,7 +185,7 @@ module _ (shape : Shape) (roomy : IsRoomy shape) where
   new_kept =
       let all = roomy.all in
       let many = roomy.blocks in
-      record { block = shape.vblocks; from = omega arith; below = omega (arith, all, many); kept = ap (λ (u : Use). u.is_kept) (new_use shape.vblocks (omega arith) (omega (arith, all, many))) }
+      record { block = shape.vblocks; from = omega arith; below = omega (arith, all, many); kept = inl (ap (λ (u : Use). u.is_kept) (new_use shape.vblocks (omega arith) (omega (arith, all, many)))) }
 
   pub new_room : room (new_segment shape) + shape.pages ≡ shape.pblocks * shape.pages
   new_room =
@@ -147,7 +204,7 @@ module _ (shape : Shape) (roomy : IsRoomy shape) where
   pub new_taken : (p : ℕ) → InSegment (new_segment shape) p → TakenAsErased (new_segment shape) p
   new_taken p within =
       let below = div_below p shape.pages shape.blocks roomy.some within.1 in
-      inr (ap (λ (u : Use). u.is_free) (new_use (p / shape.pages) from below), new_clean (p / shape.pages))
+      inr (ap (λ (u : Use). u.is_kept) (new_use (p / shape.pages) from below), new_clean (p / shape.pages))
     where
       from : shape.vblocks ≤ p / shape.pages
       from = elim (cases_lt (p / shape.pages) shape.vblocks) [

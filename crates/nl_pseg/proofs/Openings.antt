@@ -9,7 +9,7 @@ use Rattle.nl_pseg.specs.Seen.{IsFormed, seen, use_in, use_of, use_with}
 use Rattle.nl_pseg.specs.Steps.{IsOpened, Restated, opened_at}
 use Rattle.nl_pseg.specs.declared.state.State.{State}
 use Rattle.nl_pseg.proofs.Numbers.{block_of}
-use Rattle.nl_pseg.proofs.Tables.{use_here}
+use Rattle.nl_pseg.proofs.Tables.{free_kept, use_here}
 
 abbrev num : Bool → ℕ
 num b = cond b 1 0
@@ -33,7 +33,7 @@ some_free t some =
     (t.first + row.0, has, ap (λ (u : Use). u.is_free) (use_here t (t.first + row.0) has) ∙ (ap (λ n. is_free (row_at t.blocks n)) (omega arith) ∙ row.2))
 
 pub some_kept : (s : State) → IsFormed s → 1 ≤ free_count s.blocks → KeepsBlock (seen s)
-some_kept s is some = let free = some_free s.blocks some in record { block = free.0; from = free.1.from; below = free.1.below; kept = is.only_free free.0 ∙ free.2 }
+some_kept s is some = let free = some_free s.blocks some in record { block = free.0; from = free.1.from; below = free.1.below; kept = inl (free_kept s.blocks free.0 free.2) }
 
 -- a block that was taken is opened
 pub opened : (s : State) (t : Table) (block : ℕ) → IsFormed s → s.blocks.size ≤ s.used → 2 ≤ free_count s.blocks → Restated block false (use_in s.blocks block).wear s.blocks t → (use_in s.blocks block).is_free ≡ true
@@ -56,14 +56,17 @@ opened s t block is full two r free formed =
       held = refl;
       full = omega (arith, full);
       was_free = free;
+      was_kept = free_kept s.blocks block free;
       next = ap (λ n. block * n) r.numbers.same_size;
       left = r.numbers.same_size;
       free = fewer;
       some = omega (arith, fewer, two);
       kept = record { block = kept.block; from = kept.from; below = kept.below; kept = kept.kept };
       here = ap (λ (u : Use). u.is_free) r.here;
+      in_use = ap (λ (u : Use). u.is_kept) r.here;
       others = λ b ne. r.others b ne;
       soiled = refl;
+      names = record { same_pairs = refl; same_pair_room = refl; same_victim = refl; copies = (λ i. s.target * r.numbers.same_size i + s.filled, λ i. r.numbers.same_size i - s.filled) };
     }
 
 -- the page that is programmed next is the first one of the block
@@ -83,7 +86,7 @@ two_free size used free full room = elim (cases_lt 1 free) [
 -- a Free block is kept too
 pub free_use : (s : State) (block : ℕ) → IsFormed s → (use_in s.blocks block).is_free ≡ true → use_in s.blocks block ≡ use_with true (use_in s.blocks block).wear
 free_use s block is free =
-    let kept : (use_in s.blocks block).is_kept ≡ true = is.only_free block ∙ free in
+    let kept : (use_in s.blocks block).is_kept ≡ true = free_kept s.blocks block free in
     (λ i. record { is_free = free i; is_kept = kept i; wear = (use_in s.blocks block).wear })
 
 -- the number behind the last block

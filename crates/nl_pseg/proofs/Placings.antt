@@ -1,5 +1,5 @@
 -- How a page is placed: a block is opened, and its next page is used.
-use Rattle.std.proofs.Common.{◌≡◌, ◌⊎◌, inl, inr, ⊎_elim, ℕ, zero, suc, true, ◌+◌, ◌-◌, ◌*◌, ◌/◌, ◌<◌, ◌≤◌, nat_le, cond, Option, Some, None, List, [], ◌∷◌, get_or, set, refl, sym, ◌∙◌, ap, subst, arith, is_some}
+use Rattle.std.proofs.Common.{◌≡◌, ◌⊎◌, inl, inr, ⊎_elim, ℕ, zero, suc, true, ◌+◌, ◌-◌, ◌*◌, ◌/◌, ◌<◌, ◌≤◌, nat_le, cond, Option, Some, None, Contains, List, [], ◌∷◌, get_or, set, refl, sym, ◌∙◌, ap, subst, arith, is_some}
 use Rattle.std.proofs.lemmas.Bool.{cond-true, cond-false, le-leb}
 use Rattle.std.proofs.lemmas.List.{get_or-set_other, set-get_or}
 use Rattle.std.proofs.lemmas.Bool.{cases_eq, true≢false}
@@ -14,10 +14,12 @@ use Rattle.nl_nand.proofs.Crashes.{turns_later, weaken}
 use Rattle.nl_pseg.specs.Answers.{IfPlaced, IsPlaced}
 use Rattle.nl_pseg.specs.Effects.{Crashes, Keeps, Places, Programmed, Takes}
 use Rattle.nl_pseg.specs.Pages.{page_with, shown_by}
-use Rattle.nl_pseg.specs.Segment.{Physical, Use, IsClean, IsDead, IsSpent, IsUnspent, KeepsBlock, SamePages, held_at, is_free, is_kept, is_soiled, room, soiled, wear_of}
+use Rattle.nl_pseg.specs.Segment.{Physical, Use, IsClean, IsDead, IsNext, IsSpent, is_waiting, IsUnspent, KeepsBlock, SameNames, SamePages, held_at, is_free, is_kept, is_soiled, room, soiled, wear_of}
 use Rattle.nl_pseg.specs.Steps.{IsAlone, IsOpened, IsUsed, Opening, OpeningOn, Placing, PlacingOn}
 use Rattle.nl_pseg.specs.declared.held.Held.{Held}
 use Rattle.nl_pseg.proofs.Images.{keeps_then, takes_then}
+use Rattle.nl_pseg.proofs.Gone.{waits}
+use Rattle.nl_pseg.proofs.Waits.{wait_by, wait_free, wait_not}
 use Rattle.nl_pseg.proofs.Segments.{pages_back, pages_then, range_of, within_same}
 
 pub if_placed : (answer : Named) {P Q : Pointer → Type 0} → ((at : Pointer) → P at → Q at) → IfPlaced answer P → IfPlaced answer Q
@@ -32,13 +34,21 @@ if_placed_three the.NotLive by p q r = p
 if_placed_three the.NoPage by p q r = p
 if_placed_three the.Fault by p q r = p
 
+pub names_then : {a b c : Physical} → SameNames a b → SameNames b c → SameNames a c
+names_then first second = record {
+  same_pairs = second.same_pairs ∙ first.same_pairs;
+  same_pair_room = second.same_pair_room ∙ first.same_pair_room;
+  same_victim = second.same_victim ∙ first.same_victim;
+  copies = (second.copies.0 ∙ first.copies.0, second.copies.1 ∙ first.copies.1);
+}
+
 -- a block is kept still
-pub kept_same : {seg new : Physical} → SamePages seg new → ((block : ℕ) → is_kept new block ≡ is_kept seg block) → KeepsBlock seg → KeepsBlock new
-kept_same same kept k = record {
+pub kept_same : {seg new : Physical} → SamePages seg new → SameNames seg new → ((block : ℕ) → is_kept new block ≡ is_kept seg block) → KeepsBlock seg → KeepsBlock new
+kept_same same names kept k = record {
   block = k.block;
   from = subst (λ n. n ≤ k.block) (sym same.same_first) k.from;
   below = subst (λ n. k.block < n) (sym same.same_blocks) k.below;
-  kept = kept k.block ∙ k.kept;
+  kept = ⊎_elim (λ is. inl (kept k.block ∙ is)) (λ is. inr (names.same_victim ∙ is)) k.kept;
 }
 
 -- the next page was used
@@ -55,10 +65,16 @@ module _ {x : Option Held} {seg new : Physical} (u : IsUsed x seg new) (some : 0
       num_zero = 0
 
   pub used_clean : IsClean seg → IsClean new
-  used_clean clean b free = ap (λ (l : List (Option ℕ)). is_some (get_or l b None)) u.soiled ∙ clean b (ap (λ (w : Use). w.is_free) (sym (u.uses b)) ∙ free)
+  used_clean clean b free = ap (λ (l : List (Option ℕ)). is_some (get_or l b None)) u.soiled ∙ clean b (ap (λ (w : Use). w.is_kept) (sym (u.uses b)) ∙ free)
+
+  pub used_waits : (block : ℕ) → is_waiting new block ≡ is_waiting seg block
+  used_waits block = ap waits (u.uses block)
+
+  pub used_next : (p : ℕ) → IsNext new p → IsNext seg p
+  used_next p next = let a = u.next in let l = u.left in (omega (arith, a, next.0), omega (arith, a, l, next.0, next.1))
 
   pub used_kept : KeepsBlock seg → KeepsBlock new
-  used_kept k = kept_same u.pages (λ b. ap (λ (w : Use). w.is_kept) (u.uses b)) k
+  used_kept k = kept_same u.pages u.names (λ b. ap (λ (w : Use). w.is_kept) (u.uses b)) k
 
 pub used_failed : {seg new : Physical} (stamp : ℕ) (now : Pointer → List (Option Held)) → IsUsed None seg new → 0 < seg.left → held_at seg seg.next ≡ None → Placing stamp now the.Fault seg new
 used_failed {seg} {new} stamp now u some dead = record {
@@ -69,7 +85,10 @@ used_failed {seg} {new} stamp now u some dead = record {
   spent = λ placed. absurd placed;
   failed = λ fault. inl (used_spent u some);
   clean = used_clean u some;
+  waits = used_waits u some;
+  frees = inl (u.free, used_next u some, tt);
   kept = used_kept u some;
+  names = u.names;
 }
 
 pub used_placed : {h : Held} {seg new : Physical} (page stamp : ℕ) → page ≡ seg.next → IsUsed (Some h) seg new → 0 < seg.left → IsDead seg page
@@ -82,7 +101,10 @@ used_placed {h} {seg} {new} page stamp at u some dead = record {
   spent = λ placed. used_spent u some;
   failed = λ fault. absurd (cc fault);
   clean = used_clean u some;
+  waits = used_waits u some;
+  frees = inl (u.free, used_next u some, (omega (arith, at), omega (arith, at, some)));
   kept = used_kept u some;
+  names = u.names;
 }
 
 -- a Free block was opened before
@@ -91,6 +113,8 @@ module _ {block : ℕ} {seg mid : Physical} (o : IsOpened block seg mid) where
   opened_dead p dead = record {
     within = within_same p (range_of (pages_back o.pages)) dead.within;
     dead = ap (λ (l : List (Option Held)). get_or l p None) (sym o.held) ∙ dead.dead;
+    own = λ old. dead.own (subst (λ (ps : List (ℕ × ℕ)). (target : ℕ) × Contains ps (p, target)) (sym o.names.same_pairs) old);
+    apart = λ at. dead.apart (o.names.same_victim ∙ (at ∙ ap (λ k. Some (p / k)) (sym o.pages.same_size)));
   }
 
   opened_room : room mid ≡ room seg
@@ -150,8 +174,14 @@ module _ {block : ℕ} {seg mid : Physical} (o : IsOpened block seg mid) where
 
   pub opened_clean : IsClean seg → IsClean mid
   opened_clean clean b free = ⊎_elim
-      (λ is. absurd (true≢false (sym free ∙ (ap (is_free mid) is ∙ o.here))))
-      (λ ne. ap (λ (l : List (Option ℕ)). is_some (get_or l b None)) o.soiled ∙ (ap is_some (get_or-set_other seg.soiled block b None None ne) ∙ clean b (ap (λ (w : Use). w.is_free) (sym (o.others b ne)) ∙ free)))
+      (λ is. absurd (true≢false (sym free ∙ (ap (is_kept mid) is ∙ o.in_use))))
+      (λ ne. ap (λ (l : List (Option ℕ)). is_some (get_or l b None)) o.soiled ∙ (ap is_some (get_or-set_other seg.soiled block b None None ne) ∙ clean b (ap (λ (w : Use). w.is_kept) (sym (o.others b ne)) ∙ free)))
+      (cases_eq b block)
+
+  opened_waits : (b : ℕ) → is_waiting mid b ≡ is_waiting seg b
+  opened_waits b = ⊎_elim
+      (λ at. ap (is_waiting mid) at ∙ (wait_not mid block o.in_use ∙ sym (ap (is_waiting seg) at ∙ wait_free seg block o.was_free)))
+      (λ ne. ap waits (o.others b ne))
       (cases_eq b block)
 
   pub opened_placing : {new : Physical} {answer : Named} (stamp : ℕ) (h : Held) → 0 < seg.size → Placing stamp (λ at. set mid.held at.name (Some h)) answer mid new
@@ -164,7 +194,10 @@ module _ {block : ℕ} {seg mid : Physical} (o : IsOpened block seg mid) where
     spent = λ placed. opened_spent some (p.spent placed);
     failed = λ failed. inl (opened_spent some (⊎_elim (λ spent. spent) (λ x. absurd (x.1 (inl ready))) (p.failed failed)));
     clean = λ clean. p.clean (opened_clean clean);
+    waits = λ b. p.waits b ∙ opened_waits b;
+    frees = inr (⊎_elim (λ same. let e = same.0 in let a = o.some in omega (arith, e, a)) (λ some. some) p.frees);
     kept = λ k. p.kept o.kept;
+    names = names_then o.names p.names;
   }
     where
       ready : 0 < mid.left
@@ -226,15 +259,18 @@ module _ {M : Type 0} {clock : M → ℕ} {contents : M → Image} {left : M →
 
 -- an erase failed
 pub opening_failed : {seg new : Physical} (stamp : ℕ) (now : Pointer → List (Option Held)) → Opening wrote.Failed seg new → Placing stamp now the.Fault seg new
-opening_failed stamp now x = record {
+opening_failed {seg} {new} stamp now x = record {
   pages = x.0;
   placed = tt;
   held = tt;
   same = λ not. x.1;
   spent = λ placed. absurd placed;
   failed = λ fault. inr (x.2, x.3);
-  clean = λ clean b free. ap is_some (x.2.same_soiled b) ∙ clean b (sym (x.2.same_free b) ∙ free);
-  kept = kept_same x.0 x.2.same_kept;
+  clean = λ clean b free. ap is_some (x.2.same_soiled b) ∙ clean b (sym (x.2.same_kept b) ∙ free);
+  waits = λ b. wait_by seg new b (x.2.same_free b) (x.2.same_kept b);
+  frees = inl (x.2.free, (λ p next. let a = x.2.next in let l = x.2.left in (omega (arith, a, next.0), omega (arith, a, l, next.1))), tt);
+  kept = kept_same x.0 x.4 x.2.same_kept;
+  names = x.4;
 }
 
 -- what it leaves of the medium
@@ -251,26 +287,24 @@ failed_on {M} {clock} {contents} {left} {seg} {new} {a} {b} tag stamp main on = 
   };
 }
 
--- and then a live page died
-pub ended_placing : {seg mid new : Physical} (stamp place at_place : ℕ) (h : Held) (at : Pointer) → place ≡ at_place → SamePages mid new → IsUnspent mid new → new.held ≡ set mid.held place None
-    → Placing stamp (λ p. set seg.held p.name (Some h)) (the.Placed at) seg mid → Placing stamp (λ p. set (set seg.held p.name (Some h)) at_place None) (the.Placed at) seg new
-ended_placing {seg} {mid} {new} stamp place at_place h at is pages space held p = record {
-  pages = pages_then p.pages pages;
-  placed = p.placed;
-  held = held ∙ (ap (λ (l : List (Option Held)). set l place None) p.held ∙ ap (λ n. set (set seg.held at.name (Some h)) n None) is);
-  same = λ not. absurd (not tt);
-  spent = λ placed.
-      let was = p.spent placed in
-      let room_is : room new ≡ room mid = (λ i. space.left i + (space.free i - 1) * pages.same_size i) in
-      let r = was.room in
-      let taken = was.taken in
-      let free = space.free in
-      record {
-        room = omega (arith, room_is, r);
-        taken = ap (λ n. n + cond (nat_le 1 seg.left) 0 1) free ∙ taken;
-        soiled = λ b. ⊎_elim (λ same. inl (space.same_soiled b ∙ same)) (λ x. inr (x.0, space.same_soiled b ∙ x.1)) (was.soiled b);
-      };
-  failed = λ fault. absurd (cc fault);
-  clean = λ clean b free. ap is_some (space.same_soiled b) ∙ p.clean clean b (sym (space.same_free b) ∙ free);
-  kept = λ k. kept_same pages space.same_kept (p.kept k);
+-- nothing was tried
+pub nothing_placed : (answer : Named) (stamp : ℕ) (now : Pointer → List (Option Held)) (seg : Physical) → (IsPlaced answer → ⊥) → (answer ≡ the.Fault → ⊥) → Placing stamp now answer seg seg
+nothing_placed answer stamp now seg not no_fault = record {
+  pages = record { same_first = refl; same_blocks = refl; same_size = refl; same_wear = λ b. refl };
+  placed = none answer _ not;
+  held = none answer _ not;
+  same = λ n. refl;
+  spent = λ placed. absurd (not placed);
+  failed = λ fault. absurd (no_fault fault);
+  clean = λ clean. clean;
+  waits = λ b. refl;
+  frees = inl (refl, (λ p next. next), none answer _ not);
+  kept = λ k. k;
+  names = record { same_pairs = refl; same_pair_room = refl; same_victim = refl; copies = (refl, refl) };
 }
+  where
+    none : (a : Named) (P : Pointer → Type 0) → (IsPlaced a → ⊥) → IfPlaced a P
+    none (the.Placed at) P never = absurd (never tt)
+    none the.NotLive P never = tt
+    none the.NoPage P never = tt
+    none the.Fault P never = tt

@@ -4,23 +4,23 @@ use Rattle.std.proofs.lemmas.Bool.{cases_eq, cases_Bool, cases_lt, leb-true, tru
 use Rattle.std.proofs.lemmas.List.{get_or-set_same, get_or-set_other, get_or_past, get_or_read}
 use Rattle.std.proofs.lemmas.Option.{none-some, same_Some}
 use Rattle.nl_field.specs.Spelling.{is_stamp}
-use Rattle.nl_pseg.specs.Segment.{Physical, Use, IsNext, InSegment, IsUnspent, SamePages, TakenAsErased, held_at, is_free, is_soiled, no_use, stamp_in, use_at}
+use Rattle.nl_pseg.specs.Segment.{Physical, Use, IsNext, IsNextCopy, InSegment, IsUnspent, SamePages, TakenAsErased, held_at, is_free, is_kept, is_soiled, no_use, stamp_in, use_at}
 use Rattle.nl_pseg.specs.Seen.{ArePlaces, IsPlace}
 use Rattle.nl_pseg.specs.Steps.{IsApart, IsUsed, IsOpened, SameRange}
 use Rattle.nl_pseg.specs.declared.held.Held.{Held}
 use Rattle.nl_pseg.proofs.Numbers.{block_of}
 use Rattle.nl_pseg.proofs.Tables.{use_from, use_before}
 
--- a Free block is one of the segment
-pub free_within : (first : ℕ) (uses : List Use) (block : ℕ) → (use_at first uses block).is_free ≡ true → (first ≤ block) × (block < first + length uses)
-free_within first uses block free = elim (cases_Bool (nat_le first block)) [
+-- a kept block is one of the segment
+pub kept_within : (first : ℕ) (uses : List Use) (block : ℕ) → (use_at first uses block).is_kept ≡ true → (first ≤ block) × (block < first + length uses)
+kept_within first uses block free = elim (cases_Bool (nat_le first block)) [
   | inl from_is ↦
       let from : first ≤ block = leb-true first block from_is in
       elim (cases_lt (block - first) (length uses)) [
         | inl lt ↦ (from, omega (arith, from, lt))
-        | inr past ↦ absurd (true≢false (sym free ∙ ap (λ (u : Use). u.is_free) (use_from first uses block from ∙ get_or_past uses (block - first) no_use past)))
+        | inr past ↦ absurd (true≢false (sym free ∙ ap (λ (u : Use). u.is_kept) (use_from first uses block from ∙ get_or_past uses (block - first) no_use past)))
       ]
-  | inr before ↦ absurd (true≢false (sym free ∙ ap (λ (u : Use). u.is_free) (use_before first uses block before)))
+  | inr before ↦ absurd (true≢false (sym free ∙ ap (λ (u : Use). u.is_kept) (use_before first uses block before)))
 ]
 
 -- a live page is below the length
@@ -47,8 +47,8 @@ set_held held page x within p h is = elim (cases_eq p page) [
 ]
 
 -- the places are those of pages that are not given out and not Free
-pub dead_free : (seg : Physical) → ArePlaces seg → (p : ℕ) → is_free seg (p / seg.size) ≡ true → held_at seg p ≡ None
-dead_free seg are p free = at (held_at seg p) refl
+pub dead_kept : (seg : Physical) → ArePlaces seg → (p : ℕ) → is_kept seg (p / seg.size) ≡ true → held_at seg p ≡ None
+dead_kept seg are p free = at (held_at seg p) refl
   where
     at : (x : Option Held) → held_at seg p ≡ x → held_at seg p ≡ None
     at None is = is
@@ -81,11 +81,15 @@ pages_then first second = record {
   same_wear = λ block. second.same_wear block ∙ first.same_wear block;
 }
 
+-- the same pages for copies
+pub copy_same : (old new : Physical) (p : ℕ) → (new.copy_next ≡ old.copy_next) × (new.copy_left ≡ old.copy_left) → IsNextCopy new p → IsNextCopy old p
+copy_same old new p same next = let a = same.0 in let b = same.1 in (omega (arith, a, next.0), omega (arith, a, b, next.1))
+
 -- a place stays one
-pub place_same : {old new : Physical} (p : ℕ) (h : Held) → SameRange old new → (is_free new (p / old.size) ≡ false) → (IsNext new p → ⊥) → IsPlace old p h → IsPlace new p h
+pub place_same : {old new : Physical} (p : ℕ) (h : Held) → SameRange old new → (is_kept new (p / old.size) ≡ false) → (IsNext new p → ⊥) → IsPlace old p h → IsPlace new p h
 place_same {old} {new} p h same in_use behind is = record {
   within = within_same p same is.within;
-  in_use = ap (λ n. is_free new (p / n)) same.range_size ∙ in_use;
+  in_use = ap (λ n. is_kept new (p / n)) same.range_size ∙ in_use;
   behind = behind;
   spelled = is.spelled;
 }
@@ -98,18 +102,18 @@ module _ {x : Option Held} {old new : Physical} (u : IsUsed x old new) where
       let l = u.left in
       ((omega (arith, n, next.0), omega (arith, n, l, next.1)), λ same. omega (arith, same, n, next.0))
 
-  pub used_places : 0 < old.size → old.next < length old.held → InSegment old old.next → is_free old (old.next / old.size) ≡ false → IfSome x (λ h. IsTrue (is_stamp h.stamp)) → ArePlaces old → ArePlaces new
+  pub used_places : 0 < old.size → old.next < length old.held → InSegment old old.next → is_kept old (old.next / old.size) ≡ false → IfSome x (λ h. IsTrue (is_stamp h.stamp)) → ArePlaces old → ArePlaces new
   used_places some within segment in_use spelled are = record {
     each = λ p h is. each p h (set_held old.held old.next x within p h (ap (λ (l : List (Option Held)). get_or l p None) (sym u.held) ∙ is));
   }
     where
-      stays : (b : ℕ) → is_free old b ≡ false → is_free new b ≡ false
-      stays b was = ap (λ (w : Use). w.is_free) (u.uses b) ∙ was
+      stays : (b : ℕ) → is_kept old b ≡ false → is_kept new b ≡ false
+      stays b was = ap (λ (w : Use). w.is_kept) (u.uses b) ∙ was
 
       each : (p : ℕ) (h : Held) → ((p ≡ old.next) × (x ≡ Some h)) ⊎ ((p ≡ old.next → ⊥) × (held_at old p ≡ Some h)) → IsPlace new p h
       each p h (inl here) = record {
         within = within_same p (range_of u.pages) (subst (InSegment old) (sym here.0) segment);
-        in_use = ap (λ n. is_free new (p / n)) u.pages.same_size ∙ stays (p / old.size) (ap (λ q. is_free old (q / old.size)) here.0 ∙ in_use);
+        in_use = ap (λ n. is_kept new (p / n)) u.pages.same_size ∙ stays (p / old.size) (ap (λ q. is_kept old (q / old.size)) here.0 ∙ in_use);
         behind = λ next. (next_fewer p next).1 here.0;
         spelled = subst (λ (y : Option Held). IfSome y (λ k. IsTrue (is_stamp k.stamp))) here.1 spelled;
       }
@@ -118,12 +122,12 @@ module _ {x : Option Held} {old new : Physical} (u : IsUsed x old new) where
           place_same p h (range_of u.pages) (stays (p / old.size) was.in_use) (λ next. was.behind (next_fewer p next).0) was
 
   -- what is taken as erased then, was before, and is not that page
-  pub used_taken : is_free old (old.next / old.size) ≡ false → (p : ℕ) → TakenAsErased new p → TakenAsErased old p × (p ≡ old.next → ⊥)
+  pub used_taken : is_kept old (old.next / old.size) ≡ false → (p : ℕ) → TakenAsErased new p → TakenAsErased old p × (p ≡ old.next → ⊥)
   used_taken in_use p (inl next) = let n = next_fewer p next in (inl n.0, n.1)
   used_taken in_use p (inr free) =
-      let at : (use_at old.first old.uses (p / old.size)).is_free ≡ true = ap (λ (w : Use). w.is_free) (sym (u.uses (p / old.size))) ∙ (ap (λ n. is_free new (p / n)) (sym u.pages.same_size) ∙ free.0) in
+      let at : (use_at old.first old.uses (p / old.size)).is_kept ≡ true = ap (λ (w : Use). w.is_kept) (sym (u.uses (p / old.size))) ∙ (ap (λ n. is_kept new (p / n)) (sym u.pages.same_size) ∙ free.0) in
       let clean : is_soiled old (p / old.size) ≡ false = ap (λ (l : List (Option ℕ)). is_soiled (record old { soiled = l }) (p / old.size)) (sym u.soiled) ∙ (ap (λ n. is_soiled new (p / n)) (sym u.pages.same_size) ∙ free.1) in
-      (inr (at, clean), λ same. true≢false (sym at ∙ (ap (λ q. is_free old (q / old.size)) same ∙ in_use)))
+      (inr (at, clean), λ same. true≢false (sym at ∙ (ap (λ q. is_kept old (q / old.size)) same ∙ in_use)))
 
 -- a Free block is written to
 module _ {block : ℕ} {old new : Physical} (o : IsOpened block old new) where
@@ -134,8 +138,8 @@ module _ {block : ℕ} {old new : Physical} (o : IsOpened block old new) where
   opened_places some are = record {
     each = λ p h is.
         let was = are.each p h (ap (λ (l : List (Option Held)). get_or l p None) (sym o.held) ∙ is) in
-        let ne : p / old.size ≡ block → ⊥ = (λ at. true≢false (sym o.was_free ∙ (ap (is_free old) (sym at) ∙ was.in_use))) in
-        place_same p h (range_of o.pages) (ap (λ (w : Use). w.is_free) (o.others (p / old.size) ne) ∙ was.in_use) (λ next. ne (opened_next some p next)) was;
+        let ne : p / old.size ≡ block → ⊥ = (λ at. true≢false (sym o.was_kept ∙ (ap (is_kept old) (sym at) ∙ was.in_use))) in
+        place_same p h (range_of o.pages) (ap (λ (w : Use). w.is_kept) (o.others (p / old.size) ne) ∙ was.in_use) (λ next. ne (opened_next some p next)) was;
   }
 
 -- a page died, and no page was given out
@@ -146,7 +150,7 @@ module _ {old new : Physical} (same : SamePages old new) (space : IsUnspent old 
   pub unspent_taken : (p : ℕ) → TakenAsErased new p → TakenAsErased old p
   unspent_taken p (inl next) = inl (next_back p next)
   unspent_taken p (inr free) = inr (
-    sym (space.same_free (p / old.size)) ∙ (ap (λ n. is_free new (p / n)) (sym same.same_size) ∙ free.0),
+    sym (space.same_kept (p / old.size)) ∙ (ap (λ n. is_kept new (p / n)) (sym same.same_size) ∙ free.0),
     ap is_some (sym (space.same_soiled (p / old.size))) ∙ (ap (λ n. is_soiled new (p / n)) (sym same.same_size) ∙ free.1),
   )
 
@@ -154,12 +158,12 @@ module _ {old new : Physical} (same : SamePages old new) (space : IsUnspent old 
   unspent_places back are = record {
     each = λ p h is.
         let was = are.each p h (back p h is) in
-        place_same p h (range_of same) (space.same_free (p / old.size) ∙ was.in_use) (λ next. was.behind (next_back p next)) was;
+        place_same p h (range_of same) (space.same_kept (p / old.size) ∙ was.in_use) (λ next. was.behind (next_back p next)) was;
   }
 
 -- a page of a block is live, and is not programmed next
 pub held_places : {old new : Physical} (page : ℕ) (h : Held) → SameRange old new → new.held ≡ set old.held page (Some h) → page < length old.held → IsPlace new page h
-    → ((b : ℕ) → is_free old b ≡ false → is_free new b ≡ false) → ((p : ℕ) → IsNext new p → IsNext old p) → ArePlaces old → ArePlaces new
+    → ((b : ℕ) → is_kept old b ≡ false → is_kept new b ≡ false) → ((p : ℕ) → IsNext new p → IsNext old p) → ArePlaces old → ArePlaces new
 held_places {old} {new} page h range held within place free next are = record {
   each = λ p k is. each p k (set_held old.held page (Some h) within p k (ap (λ (l : List (Option Held)). get_or l p None) (sym held) ∙ is));
 }
@@ -178,15 +182,15 @@ module _ {block : ℕ} {old new : Physical} (apart : IsApart block old new) wher
   pub apart_taken : (p : ℕ) → TakenAsErased new p → TakenAsErased old p × (p / old.size ≡ block → ⊥)
   apart_taken p (inl next) = (inl (apart_next p next), apart.idle p (apart_next p next))
   apart_taken p (inr free) =
-      let at : is_free new (p / old.size) ≡ true = ap (λ n. is_free new (p / n)) (sym apart.range.range_size) ∙ free.0 in
+      let at : is_kept new (p / old.size) ≡ true = ap (λ n. is_kept new (p / n)) (sym apart.range.range_size) ∙ free.0 in
       let clean : is_soiled new (p / old.size) ≡ false = ap (λ n. is_soiled new (p / n)) (sym apart.range.range_size) ∙ free.1 in
-      let ne : p / old.size ≡ block → ⊥ = (λ is. apart.gone (ap (is_free new) (sym is) ∙ at) (ap (is_soiled new) (sym is) ∙ clean)) in
-      (inr (sym (apart.others_free (p / old.size) ne) ∙ at, ap is_some (sym (apart.others_soiled (p / old.size) ne)) ∙ clean), ne)
+      let ne : p / old.size ≡ block → ⊥ = (λ is. apart.gone (ap (is_kept new) (sym is) ∙ at) (ap (is_soiled new) (sym is) ∙ clean)) in
+      (inr (sym (apart.others_kept (p / old.size) ne) ∙ at, ap is_some (sym (apart.others_soiled (p / old.size) ne)) ∙ clean), ne)
 
   pub apart_still : (p : ℕ) → TakenAsErased old p → (p / old.size ≡ block → ⊥) → TakenAsErased new p
   apart_still p (inl next) ne = let n = apart.next in let l = apart.left in inl (omega (arith, n, next.0), omega (arith, n, l, next.1))
   apart_still p (inr free) ne = inr (
-    ap (λ n. is_free new (p / n)) apart.range.range_size ∙ (apart.others_free (p / old.size) ne ∙ free.0),
+    ap (λ n. is_kept new (p / n)) apart.range.range_size ∙ (apart.others_kept (p / old.size) ne ∙ free.0),
     ap (λ n. is_soiled new (p / n)) apart.range.range_size ∙ (ap is_some (apart.others_soiled (p / old.size) ne) ∙ free.1),
   )
 

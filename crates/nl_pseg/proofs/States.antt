@@ -4,9 +4,9 @@ use Rattle.std.proofs.lemmas.Bool.{cases_Bool, cases_lt, false≢true, leb-true}
 use Rattle.std.proofs.lemmas.List.{get_or_past, length-map}
 use Rattle.std.proofs.lemmas.Nat.{div_below}
 use Rattle.nl_blocks.specs.declared.states.BlockState.{BlockState}
-use Rattle.nl_blocks.specs.Table.{HasBlock, is_free_state}
-use Rattle.nl_pseg.specs.Segment.{Use, IsNext, InSegment, KeptAreDead, TakenAsErased, is_free, no_use, use_at}
-use Rattle.nl_pseg.specs.Seen.{IsFormed, seen, use_of}
+use Rattle.nl_blocks.specs.Table.{HasBlock}
+use Rattle.nl_pseg.specs.Segment.{Use, IsNext, InSegment, KeptAreDead, TakenAsErased, is_kept, no_use, use_at}
+use Rattle.nl_pseg.specs.Seen.{IsFormed, is_kept_state, seen, use_of}
 use Rattle.nl_pseg.specs.declared.held.Held.{Held}
 use Rattle.nl_pseg.specs.declared.state.State.{State}
 use Rattle.nl_pseg.proofs.Numbers.{in_block, block_of, block_below, block_from}
@@ -31,22 +31,22 @@ segment_block s p some within = record {
   below = div_below p s.blocks.size (s.blocks.first + length s.blocks.blocks) some within.1;
 }
 
-free_from : (first : ℕ) (uses : List Use) (block : ℕ) → (use_at first uses block).is_free ≡ true → (first ≤ block) × (block < first + length uses)
-free_from first uses block free = elim (cases_Bool (nat_le first block)) [
-  | inr before ↦ absurd (false≢true (sym (ap (λ (u : Use). u.is_free) (use_before first uses block before)) ∙ free))
+kept_from : (first : ℕ) (uses : List Use) (block : ℕ) → (use_at first uses block).is_kept ≡ true → (first ≤ block) × (block < first + length uses)
+kept_from first uses block free = elim (cases_Bool (nat_le first block)) [
+  | inr before ↦ absurd (false≢true (sym (ap (λ (u : Use). u.is_kept) (use_before first uses block before)) ∙ free))
   | inl from_is ↦
       let from = leb-true first block from_is in
       elim (cases_lt (block - first) (length uses)) [
         | inl lt ↦ (from, omega (arith, from, lt))
         | inr past ↦
-            absurd (false≢true (sym (ap (λ (u : Use). u.is_free) (use_from first uses block from ∙ get_or_past uses (block - first) no_use past)) ∙ free))
+            absurd (false≢true (sym (ap (λ (u : Use). u.is_kept) (use_from first uses block from ∙ get_or_past uses (block - first) no_use past)) ∙ free))
       ]
 ]
 
--- a block that is Free is one of the table
-pub free_block : (s : State) (block : ℕ) → is_free (seen s) block ≡ true → HasBlock s.blocks block
-free_block s block free =
-    let h = free_from s.blocks.first (map use_of s.blocks.blocks) block free in
+-- a block that is kept is one of the table
+pub kept_block : (s : State) (block : ℕ) → is_kept (seen s) block ≡ true → HasBlock s.blocks block
+kept_block s block free =
+    let h = kept_from s.blocks.first (map use_of s.blocks.blocks) block free in
     let n : length (map use_of s.blocks.blocks) ≡ length s.blocks.blocks = length-map s.blocks.blocks use_of in
     record { from = h.0; below = omega (arith, h.1, n) }
 
@@ -56,7 +56,7 @@ module _ (s : State) (is : IsFormed s) where
   taken_segment p (inl next) = block_segment s s.active p is.active_in (omega (arith, next.0)) (let fits = is.used_fits in omega (arith, next.1, next.0, fits))
   taken_segment p (inr free) =
       let here = in_block p s.blocks.size (p / s.blocks.size) is.some refl in
-      block_segment s (p / s.blocks.size) p (free_block s (p / s.blocks.size) free.0) here.0 here.1
+      block_segment s (p / s.blocks.size) p (kept_block s (p / s.blocks.size) free.0) here.0 here.1
 
   pub within_length : (p : ℕ) → InSegment (seen s) p → p < length s.held.items
   within_length p within = let n = is.pages in omega (arith, n, within.1)
@@ -74,12 +74,12 @@ module _ (s : State) (is : IsFormed s) where
     pub is_next : IsNext (seen s) (s.active * s.blocks.size + s.used)
     is_next = (omega arith, omega (arith, room))
 
-    active_in_use : is_free (seen s) s.active ≡ false
-    active_in_use = ap (λ (u : Use). u.is_free) (use_here s.blocks s.active is.active_in) ∙ ap (λ (b : BlockState). is_free_state b) (is.taken room)
+    active_in_use : is_kept (seen s) s.active ≡ false
+    active_in_use = ap (λ (u : Use). u.is_kept) (use_here s.blocks s.active is.active_in) ∙ ap (λ (b : BlockState). is_kept_state b) (is.taken room)
 
-    pub next_in_use : (p : ℕ) → IsNext (seen s) p → is_free (seen s) (p / s.blocks.size) ≡ false
-    next_in_use p next = ap (is_free (seen s)) (next_block p next) ∙ active_in_use
+    pub next_in_use : (p : ℕ) → IsNext (seen s) p → is_kept (seen s) (p / s.blocks.size) ≡ false
+    next_in_use p next = ap (is_kept (seen s)) (next_block p next) ∙ active_in_use
 
--- a block that is kept is Free, and no page of it is live
+-- no page of a block that is kept is live
 pub kept_dead : (s : State) → IsFormed s → KeptAreDead (seen s)
-kept_dead s is p h held = is.only_free (p / s.blocks.size) ∙ (is.places.each p h held).in_use
+kept_dead s is p h held = (is.places.each p h held).in_use

@@ -1,13 +1,15 @@
 -- What the calls on the table of blocks do to the uses of blocks.
-use Rattle.std.proofs.Common.{◌≡◌, inl, inr, ⊎_elim, ℕ, ◌+◌, ◌-◌, ◌/◌, ◌%◌, ◌<◌, ◌≤◌, nat_le, Bool, false, cond, List, length, map, get_or, refl, sym, ◌∙◌, ap, subst, arith, length-set, set}
-use Rattle.std.proofs.lemmas.Bool.{cases_eq, cases_Bool, le-leb, leb-true, cond-true, cond-false}
+use Rattle.std.proofs.Common.{◌≡◌, inl, inr, ⊎_elim, ℕ, zero, suc, ◌+◌, ◌-◌, ◌/◌, ◌%◌, ◌<◌, ◌≤◌, nat_le, Bool, true, false, cond, List, [], ◌∷◌, length, map, get_or, refl, sym, ◌∙◌, ap, subst, arith, length-set, set}
+use Rattle.std.proofs.lemmas.Bool.{cases_eq, cases_Bool, le-leb, leb-true, cond-true, cond-false, true≢false}
 use Rattle.std.proofs.lemmas.List.{get_or-set_same, get_or-set_other, get_or-map, map-set}
+use Rattle.nl_blocks.specs.declared.states.BlockState.{BlockState}
+use Rattle.nl_blocks.specs.declared.states.BlockState.TheVariants as the
 use Rattle.nl_blocks.specs.declared.states.Page.{Page}
-use Rattle.nl_blocks.specs.Table.{BlockRow, Table, HasBlock, HasPage, block_at, new_page, no_row, page_at, with_block, is_free, free_count}
+use Rattle.nl_blocks.specs.Table.{BlockRow, Table, HasBlock, HasPage, block_at, new_page, no_row, page_at, with_block, after_erase, is_free, is_free_state, free_count}
 use Rattle.nl_blocks.proofs.TableLaws.{sum_by-with_block, block_at-with_block_other}
 use Rattle.nl_pseg.specs.Segment.{Use, no_use, use_at}
-use Rattle.nl_pseg.specs.Seen.{use_of, use_in, use_with}
-use Rattle.nl_pseg.specs.Steps.{SameMarks, SameNumbers, SameUse, Restated}
+use Rattle.nl_pseg.specs.Seen.{is_kept_state, use_of, use_in, use_with}
+use Rattle.nl_pseg.specs.Steps.{IsTold, SameMarks, SameNumbers, SameUse, Restated, told_state}
 
 abbrev num : Bool → ℕ
 num b = cond b 1 0
@@ -24,6 +26,30 @@ use_before first uses block before = cond-false (nat_le first block) (get_or use
 
 pub use_here : (t : Table) (block : ℕ) → HasBlock t block → use_in t block ≡ use_of (block_at t block)
 use_here t block has = use_from t.first (map use_of t.blocks) block has.from ∙ get_or-map use_of t.blocks (block - t.first) no_row no_use (omega (arith, has.from, has.below))
+
+kept_state : (state : BlockState) → is_free_state state ≡ true → is_kept_state state ≡ true
+kept_state the.Free free = refl
+kept_state the.Active free = free
+kept_state the.Target free = free
+kept_state the.Sealed free = free
+kept_state the.Victim free = free
+kept_state (the.Retired names) free = refl
+
+kept_row : (rows : List BlockRow) (i : ℕ) → (get_or (map use_of rows) i no_use).is_free ≡ true → (get_or (map use_of rows) i no_use).is_kept ≡ true
+kept_row [] i free = free
+kept_row (row ∷ rows) zero free = kept_state row.state free
+kept_row (row ∷ rows) (suc i) free = kept_row rows i free
+
+-- a Free block is kept
+pub free_kept : (t : Table) (block : ℕ) → (use_in t block).is_free ≡ true → (use_in t block).is_kept ≡ true
+free_kept t block free = elim (cases_Bool (nat_le t.first block)) [
+  | inl from_is ↦
+      let e = use_from t.first (map use_of t.blocks) block (leb-true t.first block from_is) in
+      ap (λ (u : Use). u.is_kept) e ∙ kept_row t.blocks (block - t.first) (sym (ap (λ (u : Use). u.is_free) e) ∙ free)
+  | inr before ↦
+      let e = use_before t.first (map use_of t.blocks) block before in
+      ap (λ (u : Use). u.is_kept) e ∙ (sym (ap (λ (u : Use). u.is_free) e) ∙ free)
+]
 
 pub use_other : (t : Table) (block other : ℕ) (row : BlockRow) → HasBlock t block → (other ≡ block → ⊥) → use_in (with_block t block row) other ≡ use_in t other
 use_other t block other row has ne = elim (cases_Bool (nat_le t.first other)) [
@@ -141,3 +167,55 @@ same_row t block row has use_is = record {
       let now : num (is_free row) ≡ num (is_free (block_at t block)) = ap (λ (u : Use). num u.is_free) use_is in
       omega (arith, sums, now);
 }
+
+-- a block has another wear
+pub told_block : (t : Table) (block : ℕ) (row : BlockRow) (wear : ℕ) → HasBlock t block → use_of row ≡ record { is_free = (use_in t block).is_free; is_kept = (use_in t block).is_kept; wear = wear }
+    → ((k : ℕ) → (get_or row.pages k new_page).state ≡ (get_or (block_at t block).pages k new_page).state) → IsTold block wear t (with_block t block row)
+told_block t block row wear has use_is same = record {
+  numbers = record { same_first = refl; same_size = refl; same_count = length-set t.blocks (block - t.first) row };
+  here = use_here (with_block t block row) block (with_has t block block row has) ∙ (ap use_of (row_here t block row has) ∙ use_is);
+  others = λ other ne. use_other t block other row has ne;
+  states = λ other has_other ne. ap (λ (r : BlockRow). r.state) (block_at-with_block_other t block other row has has_other ne);
+  total =
+      let sums = sum_by-with_block (λ r. cond (is_free r) 1 0) t block row has in
+      let was : num (use_in t block).is_free ≡ num (is_free (block_at t block)) = ap (λ (u : Use). num u.is_free) (use_here t block has) in
+      let now : num (is_free row) ≡ num (use_in t block).is_free = ap (λ (u : Use). num u.is_free) use_is in
+      omega (arith, sums, was, now);
+  marks = same_marks t block row has same;
+}
+
+-- a block that is Free, or in use, is that still
+pub told_restated : (t n : Table) (block wear : ℕ) (free : Bool) → (use_in t block).is_free ≡ free → (use_in t block).is_kept ≡ free → Restated block free wear t n → IsTold block wear t n
+told_restated t n block wear free is_free_now is_kept_now r = record {
+  numbers = r.numbers;
+  here = r.here ∙ (λ i. record { is_free = sym is_free_now i; is_kept = sym is_kept_now i; wear = wear });
+  others = r.others;
+  states = r.states;
+  total = let t1 = r.total in let e : num (use_in t block).is_free ≡ num free = ap num is_free_now in omega (arith, t1, e);
+  marks = r.marks;
+}
+
+free_is : (state : BlockState) → is_free_state state ≡ true → state ≡ the.Free
+free_is the.Free is = refl
+free_is the.Active is = absurd (true≢false (sym is))
+free_is the.Target is = absurd (true≢false (sym is))
+free_is the.Sealed is = absurd (true≢false (sym is))
+free_is the.Victim is = absurd (true≢false (sym is))
+free_is (the.Retired names) is = absurd (true≢false (sym is))
+
+-- the state of a block that is Free
+pub free_state_is : (t : Table) (block : ℕ) → HasBlock t block → (use_in t block).is_free ≡ true → (block_at t block).state ≡ the.Free
+free_state_is t block has free = free_is (block_at t block).state (sym (ap (λ (u : Use). u.is_free) (use_here t block has)) ∙ free)
+
+pub after_some : (n : ℕ) → 0 < n → after_erase n ≡ the.Retired n
+after_some zero some = absurd (omega (arith, some))
+after_some (suc n) some = refl
+
+-- neither Free nor waiting
+pub used_state : (state : BlockState) → (state ≡ the.Free → ⊥) → ((names : ℕ) → state ≡ the.Retired names → ⊥) → (is_free_state state ≡ false) × (is_kept_state state ≡ false) × (told_state state ≡ the.Sealed)
+used_state the.Free free waits = absurd (free refl)
+used_state the.Active free waits = (refl, refl, refl)
+used_state the.Target free waits = (refl, refl, refl)
+used_state the.Sealed free waits = (refl, refl, refl)
+used_state the.Victim free waits = (refl, refl, refl)
+used_state (the.Retired names) free waits = absurd (waits names refl)

@@ -1,5 +1,5 @@
 -- When the calls answer what.
-use Rattle.std.specs.Prelude.{◌≡◌, ℕ, ⊤, Option, Some}
+use Rattle.std.specs.Prelude.{◌≡◌, ℕ, ⊤, Bool, true, false, Option, Some}
 use Rattle.nl_field.specs.Page.{PageBytes, written}
 use Rattle.nl_field.specs.declared.answers.Named.{Named}
 use Rattle.nl_field.specs.declared.answers.Named.TheVariants as write
@@ -21,6 +21,12 @@ IsPlaced (write.Placed at) = ⊤
 IsPlaced write.NotLive = ⊥
 IsPlaced write.NoPage = ⊥
 IsPlaced write.Fault = ⊥
+
+abbrev pub is_placed : Named → Bool
+is_placed (write.Placed at) = true
+is_placed write.NotLive = false
+is_placed write.NoPage = false
+is_placed write.Fault = false
 
 abbrev pub IsFault : Named → Type 0
 IsFault answer = answer ≡ write.Fault

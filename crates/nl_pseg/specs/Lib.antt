@@ -1,7 +1,10 @@
 pub mod Answers
 pub mod Effects
+pub mod OldNames
 pub mod Pages
 pub mod Segment
+pub mod Space
+pub mod Cleaning
 pub mod Rig
 pub mod Seen
 pub mod Steps

@@ -7,8 +7,12 @@ use Rattle.nl_blocks.specs.declared.states.BlockState.{BlockState}
 use Rattle.nl_blocks.specs.declared.states.BlockState.TheVariants.{Free, Active, Target, Sealed, Victim, Retired}
 use Rattle.nl_blocks.specs.declared.states.PageState.{PageState}
 use Rattle.nl_blocks.specs.declared.states.PageState.TheVariants.{Dead, Live}
-use Rattle.nl_blocks.specs.Table.{BlockRow, Table, HasBlock, block_at, is_free, free_count, HasPage, page_at}
-use Rattle.nl_pseg.specs.Segment.{Physical, Use, InSegment, IsNext, held_at, use_at}
+use Rattle.nl_blocks.specs.Table.{BlockRow, Table, HasBlock, block_at, dead_count, is_free, free_count, HasPage, page_at}
+use Rattle.nl_remap.specs.Links.{HasLink}
+use Rattle.nl_remap.specs.Table.{IsOld, IsRemap, told}
+use Rattle.nl_remap.specs.declared.links.Link.{Link}
+use Rattle.nl_pseg.specs.OldNames.{names_among}
+use Rattle.nl_pseg.specs.Segment.{Physical, Row, Use, InSegment, IsNext, IsNextCopy, held_at, use_at}
 use Rattle.nl_pseg.specs.declared.held.Held.{Held}
 use Rattle.nl_pseg.specs.declared.state.State.{State}
 
@@ -17,7 +21,7 @@ is_kept_state Free = true
 is_kept_state Active = false
 is_kept_state Target = false
 is_kept_state Sealed = false
-is_kept_state Victim = true
+is_kept_state Victim = false
 is_kept_state (Retired names) = true
 
 abbrev pub use_of : BlockRow → Use
@@ -31,19 +35,27 @@ use_with free wear = record { is_free = free; is_kept = free; wear = wear }
 abbrev pub use_in : Table → ℕ → Use
 use_in table block = use_at table.first (map use_of table.blocks) block
 
+-- what cleaning knows of a block
+abbrev pub row_of : BlockRow → Row
+row_of row = record { state = row.state; dead = dead_count row }
+
 abbrev pub seen : State → Physical
 seen s = record {
   first = s.blocks.first;
   blocks = s.blocks.first + length s.blocks.blocks;
   size = s.blocks.size;
   held = s.held.items;
-  pairs = [];
-  pair_room = 0;
+  pairs = told s.names.pairs;
+  pair_room = s.names.room;
   next = s.active * s.blocks.size + s.used;
   left = s.blocks.size - s.used;
   free = free_count s.blocks;
   uses = map use_of s.blocks.blocks;
   soiled = s.soiled.items;
+  copy_next = s.target * s.blocks.size + s.filled;
+  copy_left = s.blocks.size - s.filled;
+  victim = s.victim;
+  rows = map row_of s.blocks.blocks;
 }
 
 -- the segment of a shape, of which no page was used
@@ -54,18 +66,22 @@ new_segment shape = record {
   size = shape.pages;
   held = replicate (shape.blocks * shape.pages) None;
   pairs = [];
-  pair_room = 0;
+  pair_room = 4 * shape.pages;
   next = shape.vblocks * shape.pages + shape.pages;
   left = 0;
   free = shape.pblocks;
   uses = replicate shape.pblocks (use_with true 0);
   soiled = replicate shape.blocks None;
+  copy_next = shape.vblocks * shape.pages + shape.pages;
+  copy_left = 0;
+  victim = None;
+  rows = replicate shape.pblocks (record { state = Free; dead = shape.pages });
 }
 
--- A live page is one of the segment, in a block that is not Free, and not one of those that are programmed next.
+-- A live page is one of the segment, in a block that is neither Free nor waits to be, and not one of those that are programmed next.
 pub record IsPlace (seg : Physical) (page : ℕ) (h : Held) : Type 0 where
   pub within : InSegment seg page
-  pub in_use : (use_at seg.first seg.uses (page / seg.size)).is_free ≡ false
+  pub in_use : (use_at seg.first seg.uses (page / seg.size)).is_kept ≡ false
   pub behind : IsNext seg page → ⊥
   pub spelled : IsTrue (is_stamp h.stamp)
 
@@ -80,6 +96,35 @@ state_for (Some h) = Live
 pub record AreMarked (table : Table) (held : List (Option Held)) : Type 0 where
   pub each : (page : ℕ) → HasPage table page → (page_at table page).state ≡ state_for (slice_index_or held page None)
 
+-- An old name is that of a page in a block that is not Free, and not one of those that are programmed next.
+pub record IsStanding (seg : Physical) (name : ℕ) : Type 0 where
+  pub in_use : (use_at seg.first seg.uses (name / seg.size)).is_free ≡ false
+  pub behind : IsNext seg name → ⊥
+  pub copy_behind : IsNextCopy seg name → ⊥
+
+-- The pairs of the state: each old name stands, and is no live page; each pair leads to a live page; a block that waits for its names
+-- waits for as many as stand in it.
+pub record IsNamed (s : State) : Type 0 where
+  pub size : s.names.size ≡ s.blocks.size
+  pub blocks : s.names.blocks ≡ s.blocks.first + length s.blocks.blocks
+  pub room : length s.names.pairs + s.names.room ≡ 4 * s.blocks.size
+  pub remap : IsRemap s.names.pairs
+  pub standing : (name : ℕ) → IsOld s.names.pairs name → IsStanding (seen s) name
+  pub own : (page : ℕ) (h : Held) → held_at (seen s) page ≡ Some h → IsOld s.names.pairs page → ⊥
+  pub to_live : (pair : Link) → HasLink s.names.pairs pair → (h : Held) × (held_at (seen s) pair.to ≡ Some h)
+  pub waits : (block names : ℕ) → HasBlock s.blocks block → (block_at s.blocks block).state ≡ Retired names → names ≡ names_among s.blocks.size block s.names.pairs
+
+-- Of the blocks in use one is written to, and one takes copies, where they are not full; one is the victim, where it is in hand; and
+-- the others are Sealed.
+pub record HasPhases (s : State) : Type 0 where
+  pub target_in : HasBlock s.blocks s.target
+  pub filled_fits : s.filled ≤ s.blocks.size
+  pub filling : s.filled < s.blocks.size → (block_at s.blocks s.target).state ≡ Target
+  pub one_active : (block : ℕ) → HasBlock s.blocks block → (block_at s.blocks block).state ≡ Active → (block ≡ s.active) × (s.used < s.blocks.size)
+  pub one_target : (block : ℕ) → HasBlock s.blocks block → (block_at s.blocks block).state ≡ Target → (block ≡ s.target) × (s.filled < s.blocks.size)
+  pub one_victim : (block : ℕ) → HasBlock s.blocks block → (block_at s.blocks block).state ≡ Victim → s.victim ≡ Some block
+  pub victim_in : (block : ℕ) → s.victim ≡ Some block → HasBlock s.blocks block × ((block_at s.blocks block).state ≡ Victim)
+
 -- what holds of every state
 pub record IsFormed (s : State) : Type 0 where
   pub some : 0 < s.blocks.size
@@ -89,7 +134,6 @@ pub record IsFormed (s : State) : Type 0 where
   pub active_in : HasBlock s.blocks s.active
   pub used_fits : s.used ≤ s.blocks.size
   pub taken : s.used < s.blocks.size → (block_at s.blocks s.active).state ≡ Active
-  pub only_free : (block : ℕ) → (use_in s.blocks block).is_kept ≡ (use_in s.blocks block).is_free
   pub places : ArePlaces (seen s)
   pub marked : AreMarked s.blocks s.held.items
 
@@ -97,3 +141,9 @@ pub record IsFormed (s : State) : Type 0 where
 pub record Fits (geometry : Geometry) (seg : Physical) : Type 0 where
   pub pages : geometry.pages ≡ seg.size
   pub blocks : seg.blocks ≤ geometry.blocks
+
+-- what holds beside it of the pairs and of the blocks that are cleaned, between two calls
+pub record IsTied (s : State) : Type 0 where
+  pub named : IsNamed s
+  pub phases : HasPhases s
+  pub behind : (page : ℕ) (h : Held) → held_at (seen s) page ≡ Some h → IsNextCopy (seen s) page → ⊥

@@ -1,17 +1,25 @@
 -- A physical segment: which pages are live, where names lead, and which pages can be programmed next.
-use Rattle.std.specs.Prelude.{◌≡◌, ◌⊎◌, ℕ, ◌+◌, ◌-◌, ◌*◌, ◌/◌, ◌<◌, ◌≤◌, ◌==◌, not, nat_le, if◌then◌else◌, Bool, true, false, cond, List, filter, slice_index_or, Contains, Option, Some, None, is_some, option_map, unwrap_or}
+use Rattle.std.specs.Prelude.{◌≡◌, ◌⊎◌, ℕ, ◌+◌, ◌-◌, ◌*◌, ◌/◌, ◌<◌, ◌≤◌, ◌==◌, ◌&&◌, not, nat_le, if◌then◌else◌, Bool, true, false, cond, List, filter, slice_index_or, Contains, Option, Some, None, is_some, option_map, unwrap_or}
+use Rattle.nl_blocks.specs.declared.states.BlockState.{BlockState}
+use Rattle.nl_blocks.specs.declared.states.BlockState.TheVariants.{Sealed}
+use Rattle.nl_blocks.specs.Table.{is_sealed_state}
 use Rattle.nl_field.specs.Live.{resolve}
 use Rattle.nl_field.specs.Page.{Image, erased, page_at}
 use Rattle.nl_field.specs.declared.pointer.Pointer.{Pointer}
 use Rattle.nl_pseg.specs.Pages.{shown_by, main_of}
 use Rattle.nl_pseg.specs.declared.held.Held.{Held}
 
--- What a block is good for: whether it is Free, whether it is kept for the cleaner, as it is Free or will be, and how often it was
+-- What a block is good for: whether it is Free, whether it is kept for the cleaner, as it is Free or waits to be, and how often it was
 -- erased as a page of it is programmed next.
 pub record Use : Type 0 where
   pub is_free : Bool
   pub is_kept : Bool
   pub wear : ℕ
+
+-- What cleaning knows of a block: what it is used for, and how many of its pages are not live.
+pub record Row : Type 0 where
+  pub state : BlockState
+  pub dead : ℕ
 
 -- The blocks of the segment go from `first` on, and `blocks` is the number behind the last one. Pages go by their numbers on
 -- the medium.
@@ -35,6 +43,13 @@ pub record Physical : Type 0 where
   pub uses : List Use
   -- for each block of the medium, how often it was erased, where it was told not to read as erased and was not erased since
   pub soiled : List (Option ℕ)
+  -- the page that the next copy is programmed on, and how many pages from it on are not used in its block
+  pub copy_next : ℕ
+  pub copy_left : ℕ
+  -- the block whose live pages are moved away
+  pub victim : Option ℕ
+  -- what cleaning knows of each block of the segment
+  pub rows : List Row
 
 abbrev pub no_use : Use
 no_use = record { is_free = false; is_kept = false; wear = 0 }
@@ -42,6 +57,28 @@ no_use = record { is_free = false; is_kept = false; wear = 0 }
 -- the use of a block, where the list begins with that of block `first`
 unfoldable pub use_at : ℕ → List Use → ℕ → Use
 use_at first uses block = if nat_le first block then slice_index_or uses (block - first) no_use else no_use
+
+abbrev pub no_row : Row
+no_row = record { state = Sealed; dead = 0 }
+
+-- what is known of a block, where the list begins with that of block `first`
+unfoldable pub row_in : ℕ → List Row → ℕ → Row
+row_in first rows block = if nat_le first block then slice_index_or rows (block - first) no_row else no_row
+
+abbrev pub row_at : Physical → ℕ → Row
+row_at seg block = row_in seg.first seg.rows block
+
+-- the block is not given out until old names in it are gone
+abbrev pub is_waiting : Physical → ℕ → Bool
+is_waiting seg block = (use_at seg.first seg.uses block).is_kept && not (use_at seg.first seg.uses block).is_free
+
+-- the block takes no more pages
+abbrev pub is_sealed : Physical → ℕ → Bool
+is_sealed seg block = is_sealed_state (row_at seg block).state
+
+-- the page lies in the victim
+abbrev pub InVictim : Physical → ℕ → Type 0
+InVictim seg page = seg.victim ≡ Some (page / seg.size)
 
 abbrev pub is_free : Physical → ℕ → Bool
 is_free seg block = (use_at seg.first seg.uses block).is_free
@@ -75,18 +112,24 @@ IsLive seg at = stamp_in (held_at seg (resolve seg.pairs at.name)) ≡ Some at.s
 abbrev pub InSegment : Physical → ℕ → Type 0
 InSegment seg page = (seg.first * seg.size ≤ page) × (page < seg.blocks * seg.size)
 
--- the page is one of the segment, and not live
+-- the name is the old name of a pair
+abbrev pub IsOldName : Physical → ℕ → Type 0
+IsOldName seg name = (target : ℕ) × Contains seg.pairs (name, target)
+
+-- The page is one of the segment and not live, its number is no old name, and it is not in the victim.
 pub record IsDead (seg : Physical) (page : ℕ) : Type 0 where
   pub within : InSegment seg page
   pub dead : held_at seg page ≡ None
+  pub own : IsOldName seg page → ⊥
+  pub apart : InVictim seg page → ⊥
 
 -- no live page has this write sequence number
 abbrev pub IsNewStamp : Physical → ℕ → Type 0
 IsNewStamp seg stamp = (page : ℕ) (h : Held) → held_at seg page ≡ Some h → h.stamp ≡ stamp → ⊥
 
--- the name is the old name of a pair
-abbrev pub IsOldName : Physical → ℕ → Type 0
-IsOldName seg name = (target : ℕ) × Contains seg.pairs (name, target)
+-- the name is another page than that one, in another block, which is Free
+abbrev pub names_another_free : Physical → ℕ → ℕ → Bool
+names_another_free seg page name = not (name == page) && (not (name / seg.size == page / seg.size) && is_free seg (name / seg.size))
 
 -- A pair can be added under this name: there is room, and the name is neither a live page nor an old name.
 pub record CanLead (seg : Physical) (name : ℕ) : Type 0 where
@@ -103,12 +146,12 @@ without_target page pairs = filter (λ (pair : ℕ × ℕ). not (pair.1 == page)
 abbrev pub room : Physical → ℕ
 room seg = seg.left + (seg.free - 1) * seg.size
 
--- a block of the segment is kept for the cleaner
+-- a block of the segment is kept for the cleaner, or is the victim
 pub record KeepsBlock (seg : Physical) : Type 0 where
   pub block : ℕ
   pub from : seg.first ≤ block
   pub below : block < seg.blocks
-  pub kept : is_kept seg block ≡ true
+  pub kept : (is_kept seg block ≡ true) ⊎ (seg.victim ≡ Some block)
 
 -- no page of a block that is kept for the cleaner is live, so that the block can be done without
 abbrev pub KeptAreDead : Physical → Type 0
@@ -118,9 +161,9 @@ KeptAreDead seg = (page : ℕ) (h : Held) → held_at seg page ≡ Some h → is
 abbrev pub is_soiled : Physical → ℕ → Bool
 is_soiled seg block = is_some (soiled seg block)
 
--- no Free block has to be erased before use
+-- no block that is Free, or waits to be, has to be erased before use
 abbrev pub IsClean : Physical → Type 0
-IsClean seg = (block : ℕ) → is_free seg block ≡ true → is_soiled seg block ≡ false
+IsClean seg = (block : ℕ) → is_kept seg block ≡ true → is_soiled seg block ≡ false
 
 -- the page for the next new name is programmed with no erase before it
 abbrev pub IsReady : Physical → Type 0
@@ -132,12 +175,25 @@ IsNext seg page = (seg.next ≤ page) × (page < seg.next + seg.left)
 
 -- the segment takes the page as erased
 abbrev pub TakenAsErased : Physical → ℕ → Type 0
-TakenAsErased seg page = IsNext seg page ⊎ ((is_free seg (page / seg.size) ≡ true) × (is_soiled seg (page / seg.size) ≡ false))
+TakenAsErased seg page = IsNext seg page ⊎ ((is_kept seg (page / seg.size) ≡ true) × (is_soiled seg (page / seg.size) ≡ false))
+
+-- the page is one of those that the next copies are programmed on
+abbrev pub IsNextCopy : Physical → ℕ → Type 0
+IsNextCopy seg page = (seg.copy_next ≤ page) × (page < seg.copy_next + seg.copy_left)
 
 -- The image is one of this segment: each live page holds its owner and its number, and what the segment takes as erased is erased.
 pub record IsPhysicalOf (image : Image) (seg : Physical) : Type 0 where
   pub holds : (page : ℕ) (h : Held) → held_at seg page ≡ Some h → shown_by (page_at image page) ≡ Some (h.tag, h.stamp, main_of (page_at image page))
   pub blank : (page : ℕ) → TakenAsErased seg page → page_at image page ≡ erased
+  pub blank_copy : (page : ℕ) → IsNextCopy seg page → page_at image page ≡ erased
+
+-- Some block can be done without on this image: no page of it is programmed next, and each live page of it stands in the victim too.
+pub record HasSpare (image : Image) (seg : Physical) : Type 0 where
+  pub block : ℕ
+  pub from : seg.first ≤ block
+  pub below : block < seg.blocks
+  pub idle : (page : ℕ) → IsNext seg page → page / seg.size ≡ block → ⊥
+  pub copied : (page : ℕ) (h : Held) → held_at seg page ≡ Some h → page / seg.size ≡ block → (q : ℕ) × InVictim seg q × (q / seg.size ≡ block → ⊥) × (shown_by (page_at image q) ≡ shown_by (page_at image page))
 
 -- the same blocks and pages
 pub record SamePages (old new : Physical) : Type 0 where
@@ -145,6 +201,13 @@ pub record SamePages (old new : Physical) : Type 0 where
   pub same_blocks : new.blocks ≡ old.blocks
   pub same_size : new.size ≡ old.size
   pub same_wear : (block : ℕ) → wear_of new block ≡ wear_of old block
+
+-- the same pairs, the same victim, and the same pages for copies
+pub record SameNames (old new : Physical) : Type 0 where
+  pub same_pairs : new.pairs ≡ old.pairs
+  pub same_pair_room : new.pair_room ≡ old.pair_room
+  pub same_victim : new.victim ≡ old.victim
+  pub copies : (new.copy_next ≡ old.copy_next) × (new.copy_left ≡ old.copy_left)
 
 -- One page was given out: from the block that is written to, or from a Free block where that one is full. If this one had to be
 -- erased before use it was erased, and its wear is that which it was to have.
@@ -161,3 +224,4 @@ pub record IsUnspent (old new : Physical) : Type 0 where
   pub same_free : (block : ℕ) → is_free new block ≡ is_free old block
   pub same_kept : (block : ℕ) → is_kept new block ≡ is_kept old block
   pub same_soiled : (block : ℕ) → soiled new block ≡ soiled old block
+  pub copies : (new.copy_next ≡ old.copy_next) × (new.copy_left ≡ old.copy_left)

@@ -1,21 +1,26 @@
 -- What the steps of a call do to the table of blocks and to the segment.
-use Rattle.std.specs.Prelude.{◌≡◌, ◌⊎◌, ℕ, ◌+◌, ◌-◌, ◌*◌, ◌/◌, ◌^◌, ◌<◌, ◌≤◌, min, Bool, true, false, cond, List, length, slice_set, Option, Some, None}
+use Rattle.std.specs.Prelude.{◌≡◌, ◌⊎◌, ℕ, ◌+◌, ◌-◌, ◌*◌, ◌/◌, ◌^◌, ◌<◌, ◌≤◌, ◌==◌, if◌then◌else◌, min, Bool, true, false, cond, List, length, slice_set, Option, Some, None}
 use Rattle.nl_field.specs.CrashStates.{LeavesOnly}
+use Rattle.nl_field.specs.Live.{resolve}
 use Rattle.nl_field.specs.Page.{Image, Page, erased, written, page_at}
 use Rattle.nl_field.specs.declared.answers.Named.{Named}
 use Rattle.nl_field.specs.declared.pointer.Pointer.{Pointer}
 use Rattle.nl_field.specs.declared.pointer.Tag.{Tag}
 use Rattle.nl_nand.specs.declared.answers.WriteAnswer.{WriteAnswer}
 use Rattle.nl_nand.specs.declared.answers.WriteAnswer.TheVariants as wrote
+use Rattle.nl_blocks.specs.declared.states.BlockState.{BlockState}
+use Rattle.nl_blocks.specs.declared.states.BlockState.TheVariants.{Free, Active, Target, Sealed, Victim, Retired}
 use Rattle.nl_blocks.specs.declared.states.PageState.{PageState}
 use Rattle.nl_blocks.specs.Table.{Table, HasBlock, block_at, free_count, HasPage}
 use Rattle.nl_blocks.specs.Table.{page_at as page_in}
 use Rattle.nl_pseg.specs.Answers.{IfPlaced, IsFault, IsPlaced}
 use Rattle.nl_pseg.specs.Effects.{Crashes, Keeps, Programmed}
 use Rattle.nl_pseg.specs.Pages.{page_with}
-use Rattle.nl_pseg.specs.Segment.{Physical, IsClean, IsDead, IsNext, IsPhysicalOf, IsReady, IsSpent, IsUnspent, KeepsBlock, SamePages, TakenAsErased, erasures, is_free, is_soiled, soiled, use_at, wear_of}
-use Rattle.nl_pseg.specs.Seen.{use_in, use_with}
+use Rattle.nl_pseg.specs.Segment.{InSegment, Physical, IsClean, IsDead, IsNext, IsPhysicalOf, IsReady, IsSpent, IsUnspent, KeepsBlock, SameNames, SamePages, TakenAsErased, erasures, is_free, is_kept, is_soiled, is_waiting, soiled, use_at, wear_of, without_target, IsOldName}
+use Rattle.nl_pseg.specs.Space.{gain_of, landing, left_of, waiting}
+use Rattle.nl_pseg.specs.Seen.{IsTied, use_in, use_with}
 use Rattle.nl_pseg.specs.declared.held.Held.{Held}
+use Rattle.nl_pseg.specs.declared.state.State.{State}
 
 -- as many blocks, with the same numbers
 pub record SameNumbers (old new : Table) : Type 0 where
@@ -47,6 +52,40 @@ pub record Restated (block : ℕ) (free : Bool) (wear : ℕ) (old new : Table) :
   pub total : free_count new + cond (use_in old block).is_free 1 0 ≡ free_count old + cond free 1 0
   pub marks : SameMarks old new
 
+-- the state of a block that is erased before use
+abbrev pub told_state : BlockState → BlockState
+told_state Free = Free
+told_state Active = Sealed
+told_state Target = Sealed
+told_state Sealed = Sealed
+told_state Victim = Sealed
+told_state (Retired names) = Retired names
+
+-- one block has this wear, and is as Free and as kept as it was; the others are as before
+pub record IsTold (block : ℕ) (wear : ℕ) (old new : Table) : Type 0 where
+  pub numbers : SameNumbers old new
+  pub here : use_in new block ≡ record { is_free = (use_in old block).is_free; is_kept = (use_in old block).is_kept; wear = wear }
+  pub others : (other : ℕ) → (other ≡ block → ⊥) → use_in new other ≡ use_in old other
+  pub states : (other : ℕ) → HasBlock old other → (other ≡ block → ⊥) → (block_at new other).state ≡ (block_at old other).state
+  pub total : free_count new ≡ free_count old
+  pub marks : SameMarks old new
+
+-- nothing more is programmed in this block, and the pages of another one that are programmed next are the same
+pub record IsIdle (block : ℕ) (old new : State) : Type 0 where
+  pub active : new.active ≡ old.active
+  pub target : new.target ≡ old.target
+  pub used : ((block ≡ old.active) × (new.used ≡ old.blocks.size)) ⊎ ((block ≡ old.active → ⊥) × (new.used ≡ old.used))
+  pub filled : ((block ≡ old.target) × (new.filled ≡ old.blocks.size)) ⊎ ((block ≡ old.target → ⊥) × (new.filled ≡ old.filled))
+
+-- A block was taken that was Free, where the block that was written to is full, and no page of it is used.
+pub record IsTaking (s : State) (block : ℕ) : Type 0 where
+  pub table : Table
+  pub tied : IsTied (record s { blocks = table })
+  pub restated : Restated block false (use_in table block).wear table s.blocks
+  pub had : HasBlock table block
+  pub was_free : (use_in table block).is_free ≡ true
+  pub full : s.blocks.size ≤ s.used
+
 -- the same blocks and pages
 pub record SameRange (old new : Physical) : Type 0 where
   pub range_first : new.first ≡ old.first
@@ -59,14 +98,16 @@ pub record IsApart (block : ℕ) (old new : Physical) : Type 0 where
   pub next : new.next ≡ old.next
   pub left : new.left ≡ old.left
   pub idle : (p : ℕ) → IsNext old p → p / old.size ≡ block → ⊥
-  pub others_free : (other : ℕ) → (other ≡ block → ⊥) → is_free new other ≡ is_free old other
+  pub others_kept : (other : ℕ) → (other ≡ block → ⊥) → is_kept new other ≡ is_kept old other
   pub others_soiled : (other : ℕ) → (other ≡ block → ⊥) → soiled new other ≡ soiled old other
-  pub gone : is_free new block ≡ true → is_soiled new block ≡ false → ⊥
+  pub gone : is_kept new block ≡ true → is_soiled new block ≡ false → ⊥
 
 -- A block is Free, and no page is given out. Where it was in use, it is erased before use.
 pub record IsGivenBack (block : ℕ) (old new : Physical) : Type 0 where
   pub range : SameRange old new
   pub held : new.held ≡ old.held
+  pub names : (new.pairs ≡ old.pairs) × (new.pair_room ≡ old.pair_room)
+  pub victim : new.victim ≡ old.victim
   pub left : new.left ≤ old.left
   pub here : is_free new block ≡ true
   pub told : is_free old block ≡ false → soiled new block ≡ Some (erasures old block)
@@ -76,6 +117,29 @@ pub record IsGivenBack (block : ℕ) (old new : Physical) : Type 0 where
   pub erased : (p : ℕ) → TakenAsErased new p → TakenAsErased old p
   pub same : is_free old block ≡ true → new ≡ old
 
+-- Names are gone: a block that waited for them may be Free. No page is given out.
+pub record NamesGone (old new : Physical) : Type 0 where
+  pub range : SameRange old new
+  pub next : (new.next ≡ old.next) × (new.left ≡ old.left)
+  pub copies : (new.copy_next ≡ old.copy_next) × (new.copy_left ≡ old.copy_left)
+  pub victim : new.victim ≡ old.victim
+  pub same_soiled : (block : ℕ) → soiled new block ≡ soiled old block
+  pub kept : (block : ℕ) → is_kept new block ≡ is_kept old block
+  pub wears : (block : ℕ) → wear_of new block ≡ wear_of old block
+  pub frees : (block : ℕ) → is_free old block ≡ true → is_free new block ≡ true
+  pub others : (block : ℕ) → is_kept old block ≡ false → is_free new block ≡ false
+  pub more : old.free ≤ new.free
+  pub blocks : new.free + waiting new ≡ old.free + waiting old
+  pub gone : (name : ℕ) → IsOldName new name → IsOldName old name
+  pub fewer : length new.pairs ≤ length old.pairs
+
+-- A page is live no longer, and no name leads to it any more.
+pub record Ends (page : ℕ) (old new : Physical) : Type 0 where
+  pub within : InSegment old page
+  pub gone : NamesGone old new
+  pub pairs : new.pairs ≡ without_target page old.pairs
+  pub held : new.held ≡ slice_set old.held page None
+
 -- every block is Free
 abbrev pub AllFree : Physical → Type 0
 AllFree seg = (block : ℕ) → seg.first ≤ block → block < seg.blocks → is_free seg block ≡ true
@@ -84,6 +148,8 @@ AllFree seg = (block : ℕ) → seg.first ≤ block → block < seg.blocks → i
 pub record AreGivenBack (end : ℕ) (old new : Physical) : Type 0 where
   pub range : SameRange old new
   pub held : new.held ≡ old.held
+  pub names : (new.pairs ≡ old.pairs) × (new.pair_room ≡ old.pair_room)
+  pub victim : new.victim ≡ old.victim
   pub left : new.left ≤ old.left
   pub each : (block : ℕ) → old.first ≤ block → block < end → is_free new block ≡ true
   pub told : (block : ℕ) → old.first ≤ block → block < end → is_free old block ≡ false → soiled new block ≡ Some (erasures old block)
@@ -103,6 +169,7 @@ pub record IsUsed (x : Option Held) (old new : Physical) : Type 0 where
   pub free : new.free ≡ old.free
   pub uses : (block : ℕ) → use_at new.first new.uses block ≡ use_at old.first old.uses block
   pub soiled : new.soiled ≡ old.soiled
+  pub names : SameNames old new
 
 -- the segment where this block is written to, and no page of it is used
 abbrev pub opened_at : Physical → ℕ → Physical
@@ -114,20 +181,23 @@ pub record IsOpened (block : ℕ) (old new : Physical) : Type 0 where
   pub held : new.held ≡ old.held
   pub full : old.left ≡ 0
   pub was_free : is_free old block ≡ true
+  pub was_kept : is_kept old block ≡ true
   pub next : new.next ≡ block * old.size
   pub left : new.left ≡ old.size
   pub free : new.free + 1 ≡ old.free
   pub some : 1 ≤ new.free
   pub kept : KeepsBlock new
   pub here : is_free new block ≡ false
+  pub in_use : is_kept new block ≡ false
   pub others : (other : ℕ) → (other ≡ block → ⊥) → use_at new.first new.uses other ≡ use_at old.first old.uses other
   pub soiled : new.soiled ≡ slice_set old.soiled block None
+  pub names : SameNames old new
 
 -- What was done to have a page to program: nothing where there was one, else a Free block is written to. Where it failed, no page
 -- was given out.
 abbrev pub Opening : WriteAnswer → Physical → Physical → Type 0
 Opening wrote.Done old new = ((0 < old.left) × (new ≡ old)) ⊎ ((block : ℕ) × IsOpened block old new)
-Opening wrote.Failed old new = SamePages old new × (new.held ≡ old.held) × IsUnspent old new × (IsReady old → ⊥)
+Opening wrote.Failed old new = SamePages old new × (new.held ≡ old.held) × IsUnspent old new × (IsReady old → ⊥) × SameNames old new
 
 -- and to the medium: the page that is programmed next is erased, and only pages of its block have changed, where that had to be
 -- erased
@@ -138,6 +208,10 @@ pub record OpeningOn {M : Type 0} (clock : M → ℕ) (contents : M → Image) (
   pub others : answer ≡ wrote.Done → (p : ℕ) → (page_at (contents new) p ≡ page_at (contents old) p)
       ⊎ ((p / seg.size ≡ seg_new.next / seg.size) × (is_free seg (seg_new.next / seg.size) ≡ true) × (is_soiled seg (seg_new.next / seg.size) ≡ true) × (page_at (contents new) p ≡ erased))
 
+-- No Free block was taken, and a page that was placed is one of those that were programmed next; or another block is Free.
+abbrev pub LeavesFree : Named → Physical → Physical → Type 0
+LeavesFree answer old new = ((new.free ≡ old.free) × ((p : ℕ) → IsNext new p → IsNext old p) × IfPlaced answer (λ at. IsNext old at.name)) ⊎ (1 ≤ new.free)
+
 -- what placing a page does to the segment, where it then has these live pages
 pub record Placing (stamp : ℕ) (now : Pointer → List (Option Held)) (answer : Named) (old new : Physical) : Type 0 where
   pub pages : SamePages old new
@@ -147,7 +221,17 @@ pub record Placing (stamp : ℕ) (now : Pointer → List (Option Held)) (answer 
   pub spent : IsPlaced answer → IsSpent old new
   pub failed : IsFault answer → IsSpent old new ⊎ (IsUnspent old new × (IsReady old → ⊥))
   pub clean : IsClean old → IsClean new
+  pub waits : (block : ℕ) → is_waiting new block ≡ is_waiting old block
+  pub frees : LeavesFree answer old new
   pub kept : KeepsBlock old → KeepsBlock new
+  pub names : SameNames old new
+
+-- What writing over a live page does to it: where a page was placed, the other one is live no longer.
+pub record WritesOver (place stamp : ℕ) (now : Pointer → List (Option Held)) (answer : Named) (old new : Physical) : Type 0 where
+  pub mid : Physical
+  pub placing : Placing stamp now answer old mid
+  pub ended : IsPlaced answer → Ends place mid new
+  pub none : (IsPlaced answer → ⊥) → new ≡ mid
 
 -- one page was programmed, and no other changed
 pub record IsAlone (page : ℕ) (value : Page) (old new : Image) : Type 0 where
@@ -158,3 +242,76 @@ pub record IsAlone (page : ℕ) (value : Page) (old new : Image) : Type 0 where
 pub record PlacingOn {M : Type 0} (clock : M → ℕ) (contents : M → Image) (left : M → ℕ → Image → Type 0) (tag : Tag) (stamp : ℕ) (main : List ℕ) (answer : Named) (seg : Physical) (old new : M) : Type 0 where
   pub programmed : IfPlaced answer (λ at. Programmed seg at.name (written (page_with main tag stamp (wear_of seg (at.name / seg.size)))) (contents old) (contents new))
   pub crash : Crashes clock contents left seg tag stamp main old new answer
+
+-- A block was taken for copies that was Free, where the one before it is full, and no page of it is used.
+pub record IsTargeted (s : State) (block : ℕ) : Type 0 where
+  pub table : Table
+  pub tied : IsTied (record s { blocks = table })
+  pub restated : Restated block false (use_in table block).wear table s.blocks
+  pub had : HasBlock table block
+  pub was_free : (use_in table block).is_free ≡ true
+  pub full : s.blocks.size ≤ s.filled
+
+-- the segment where copies are programmed in this block, and no page of it is used
+abbrev pub aimed_at : Physical → ℕ → Physical
+aimed_at seg block = record seg { copy_next = block * seg.size; copy_left = seg.size; soiled = slice_set seg.soiled block None }
+
+-- A Free block may take copies now: as many copies find a page.
+pub record IsReadied (old new : Physical) : Type 0 where
+  pub pages : SamePages old new
+  pub held : new.held ≡ old.held
+  pub pairs : new.pairs ≡ old.pairs
+  pub pair_room : new.pair_room ≡ old.pair_room
+  pub victim : new.victim ≡ old.victim
+  pub next : (new.next ≡ old.next) × (new.left ≡ old.left)
+  pub waits : waiting new ≡ waiting old
+  pub left : left_of new ≡ left_of old
+  pub gain : gain_of new ≡ gain_of old
+  pub lands : landing new ≡ landing old
+  pub fewer : new.free ≤ old.free
+  pub most : old.free ≤ new.free + 1
+  pub clean : IsClean old → IsClean new
+
+-- What was done to the medium for that: the page that the next copy is programmed on is erased, and only pages of its block have
+-- changed, where that had to be erased.
+pub record ReadiedOn {M : Type 0} (clock : M → ℕ) (contents : M → Image) (left : M → ℕ → Image → Type 0) (answer : WriteAnswer) (seg seg_new : Physical) (old new : M) : Type 0 where
+  pub segment : IsPhysicalOf (contents new) seg_new
+  pub keeps : Keeps seg (contents old) (contents new)
+  pub crash : LeavesOnly clock left old new (λ m c. Keeps seg (contents old) c)
+  pub others : answer ≡ wrote.Done → (p : ℕ) → (page_at (contents new) p ≡ page_at (contents old) p)
+      ⊎ ((p / seg.size ≡ seg_new.copy_next / seg.size) × (is_free seg (seg_new.copy_next / seg.size) ≡ true) × (is_soiled seg (seg_new.copy_next / seg.size) ≡ true) × (page_at (contents new) p ≡ erased))
+
+-- The next page for copies was used: it holds this.
+pub record IsCopyUsed (x : Option Held) (old new : Physical) : Type 0 where
+  pub pages : SamePages old new
+  pub held : new.held ≡ slice_set old.held old.copy_next x
+  pub next : (new.next ≡ old.next) × (new.left ≡ old.left)
+  pub copy_next : new.copy_next ≡ old.copy_next + 1
+  pub copy_left : new.copy_left + 1 ≡ old.copy_left
+  pub free : new.free ≡ old.free
+  pub uses : (block : ℕ) → use_at new.first new.uses block ≡ use_at old.first old.uses block
+  pub soiled : new.soiled ≡ old.soiled
+  pub pairs : new.pairs ≡ old.pairs
+  pub pair_room : new.pair_room ≡ old.pair_room
+  pub victim : new.victim ≡ old.victim
+  pub waits : waiting new ≡ waiting old
+  pub left : left_of new ≡ left_of old
+  pub gain : gain_of new ≡ gain_of old
+
+-- A live page of the victim is dead, and what led to it leads to the other page, under its number too.
+pub record IsLed (before after : ℕ) (old new : Physical) : Type 0 where
+  pub pages : SamePages old new
+  pub held : new.held ≡ slice_set old.held before None
+  pub next : (new.next ≡ old.next) × (new.left ≡ old.left)
+  pub copies : (new.copy_next ≡ old.copy_next) × (new.copy_left ≡ old.copy_left)
+  pub free : new.free ≡ old.free
+  pub uses : (block : ℕ) → use_at new.first new.uses block ≡ use_at old.first old.uses block
+  pub soiled : new.soiled ≡ old.soiled
+  pub ways : (name : ℕ) → resolve new.pairs name ≡ (if resolve old.pairs name == before then after else resolve old.pairs name)
+  pub names : (name : ℕ) → IsOldName new name → (name ≡ before) ⊎ IsOldName old name
+  pub pairs : length new.pairs ≡ length old.pairs + 1
+  pub pair_room : new.pair_room + 1 ≡ old.pair_room
+  pub victim : new.victim ≡ old.victim
+  pub waits : waiting new ≡ waiting old
+  pub left : left_of new + 1 ≡ left_of old
+  pub gain : gain_of new ≡ gain_of old + 1

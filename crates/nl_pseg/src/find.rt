@@ -1,10 +1,13 @@
-ghost use Rattle.std.specs.Prelude.{◌≡◌, ◌↔◌, ◌<◌, [], slice_set, slice_index_or, None, IsSome, IfSome, IsTrue};
+ghost use Rattle.std.specs.Prelude.{◌≡◌, ◌↔◌, ◌<◌, ℕ, slice_set, slice_index_or, None, IsSome, IfSome, IsTrue};
 ghost use Rattle.std.specs.Bool.{OnTrue, OnFalse};
 ghost use Rattle.nl_field.specs.Live.{resolve};
-ghost use Rattle.nl_field.specs.Page.{Image};
-ghost use Rattle.nl_blocks.specs.Table.{free_count};
-ghost use Rattle.nl_pseg.specs.Segment.{InSegment, IsLive, IsPhysicalOf, IsUnspent, SamePages};
-ghost use Rattle.nl_pseg.specs.Seen.{seen, IsFormed};
+ghost use Rattle.nl_blocks.specs.Table.{IsTable, free_count};
+ghost use Rattle.nl_remap.specs.Links.{HasLink};
+ghost use Rattle.nl_remap.specs.Table.{pair};
+ghost use Rattle.nl_pseg.specs.Segment.{InSegment, IsLive, IsUnspent, SameNames, SamePages};
+ghost use Rattle.nl_pseg.specs.Seen.{seen, IsFormed, IsTied};
+ghost use Rattle.nl_pseg.specs.Space.{HasFewPairs, IsWhole};
+ghost use Rattle.nl_pseg.specs.Steps.{Ends};
 
 use crate::held::Held;
 use crate::state::State;
@@ -12,24 +15,29 @@ use crate::table::mark;
 use nl_field::Pointer;
 
 impl State {
-    /// The page to which the name leads.
-    pub fn resolve(&self, name: u32) -> u32
-        ensures { result ≡ resolve [] name }
+    /// What holds of each table of blocks.
+    pub fn table(&self)
+        ensures { IsTable self.now.blocks }
     {
-        name
+        let _ = self.blocks.count();
+    }
+
+    /// What holds of each segment.
+    pub fn whole(&self)
+        requires formed { IsFormed self.now }
+        requires tied { IsTied self.now }
+        requires few { HasFewPairs (seen self.now) }
+        ensures table { IsTable self.now.blocks }
+        ensures few { HasFewPairs (seen self.now) }
+        ensures whole { IsWhole (seen self.now) }
+    {
+        let _ = self.blocks.count();
     }
 
     pub fn free_blocks(&self) -> u32
         ensures { result ≡ free_count self.now.blocks }
     {
         self.blocks.free()
-    }
-
-    /// The number of pairs.
-    pub fn pairs(&self) -> u32
-        ensures { result ≡ 0 }
-    {
-        0
     }
 
     /// What is live on a page.
@@ -45,7 +53,7 @@ impl State {
     /// The page to which the pointer leads, where it is live under the pointer's number.
     pub fn place_of(&self, at: Pointer) -> Option<u32>
         requires { IsFormed self.now }
-        ensures some { IfSome result (λ place. place ≡ resolve [] at.name) }
+        ensures some { IfSome result (λ place. place ≡ resolve (seen self.now).pairs at.name) }
         ensures within { IfSome result (λ place. InSegment (seen self.now) place) }
         ensures live { IsSome result ↔ IsLive (seen self.now) at }
     {
@@ -62,14 +70,19 @@ impl State {
         }
     }
 
-    /// A live page is dead.
+    /// A live page is dead. No pair leads to it.
     pub fn end(&mut self, page: u32)
         requires formed { IsFormed self.old }
+        requires tied { IsTied self.old }
+        requires alone { (name : ℕ) → HasLink self.old.names.pairs (pair name page) → ⊥ }
         requires within { InSegment (seen self.old) page }
         ensures formed { IsFormed self.new }
+        ensures tied { IsTied self.new }
         ensures held { self.new.held.items ≡ slice_set self.old.held.items page None }
         ensures pages { SamePages (seen self.old) (seen self.new) }
         ensures space { IsUnspent (seen self.old) (seen self.new) }
+        ensures names { self.new.names ≡ self.old.names }
+        ensures same { SameNames (seen self.old) (seen self.new) }
     {
         mark(&mut self.blocks, page, false);
         self.held[page as usize] = None;
@@ -78,18 +91,30 @@ impl State {
     /// The page to which the pointer leads is dead. False exactly where it leads to no live page of its number.
     pub fn free(&mut self, at: Pointer) -> bool
         requires formed { IsFormed self.old }
+        requires tied { IsTied self.old }
         ensures formed { IsFormed self.new }
+        ensures tied { IsTied self.new }
         ensures found { IsTrue result ↔ IsLive (seen self.old) at }
-        ensures freed { OnTrue result (self.new.held.items ≡ slice_set self.old.held.items (resolve [] at.name) None) }
-        ensures pages { SamePages (seen self.old) (seen self.new) }
-        ensures space { IsUnspent (seen self.old) (seen self.new) }
-        ensures segment { (image : Image) → IsPhysicalOf image (seen self.old) → IsPhysicalOf image (seen self.new) }
+        ensures ended { OnTrue result (Ends (resolve (seen self.old).pairs at.name) (seen self.old) (seen self.new)) }
         ensures kept { OnFalse result (seen self.new ≡ seen self.old) }
     {
         let Some(place) = self.place_of(at) else {
             return false;
         };
-        self.end(place);
+        self.end_all(place);
         true
+    }
+
+    /// A live page is dead, and no pair leads to it any more.
+    pub fn end_all(&mut self, page: u32)
+        requires formed { IsFormed self.old }
+        requires tied { IsTied self.old }
+        requires within { InSegment (seen self.old) page }
+        ensures formed { IsFormed self.new }
+        ensures tied { IsTied self.new }
+        ensures ended { Ends page (seen self.old) (seen self.new) }
+    {
+        self.drop_names(page);
+        self.end(page);
     }
 }

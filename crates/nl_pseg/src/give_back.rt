@@ -2,7 +2,7 @@
 ghost use Rattle.std.specs.Prelude.{◌≡◌, ◌/◌, ℕ, length, None, Some};
 ghost use Rattle.nl_blocks.specs.Table.{HasBlock};
 ghost use Rattle.nl_pseg.specs.Segment.{held_at};
-ghost use Rattle.nl_pseg.specs.Seen.{seen, IsFormed};
+ghost use Rattle.nl_pseg.specs.Seen.{seen, IsFormed, IsTied};
 ghost use Rattle.nl_pseg.specs.Steps.{AreGivenBack, IsGivenBack};
 
 use crate::state::State;
@@ -12,9 +12,12 @@ impl State {
     /// The block is Free. Where it was in use, it is erased before use.
     fn give_back(&mut self, block: u32)
         requires formed { IsFormed self.old }
+        requires tied { IsTied self.old }
         requires within { HasBlock self.old.blocks block }
         requires none { (page : ℕ) → held_at (seen self.old) page ≡ None }
+        requires no_victim { self.old.victim ≡ None }
         ensures formed { IsFormed self.new }
+        ensures tied { IsTied self.new }
         ensures given { IsGivenBack block (seen self.old) (seen self.new) }
     {
         if is_free(&self.blocks, block) {
@@ -29,8 +32,11 @@ impl State {
     /// Every block is Free. One that was in use is erased before use.
     pub fn give_back_all(&mut self)
         requires formed { IsFormed self.old }
+        requires tied { IsTied self.old }
         requires none { (page : ℕ) → held_at (seen self.old) page ≡ None }
+        requires no_victim { self.old.victim ≡ None }
         ensures formed { IsFormed self.new }
+        ensures tied { IsTied self.new }
         ensures given { AreGivenBack (seen self.old).blocks (seen self.old) (seen self.new) }
     {
         let first = self.blocks.first();

@@ -31,3 +31,14 @@ pub fn no_marks(alloc: Global, count: u32) -> Result<Vec<Option<u32>>, Memory>
     }
     Ok(marks)
 }
+
+/// So many blocks in which no old name stands.
+pub fn no_names(alloc: Global, count: u32) -> Result<Vec<u32>, Memory>
+    ensures { IfOk result (λ v. v.items ≡ replicate count 0) }
+{
+    let mut names = Vec::with_capacity(alloc, count as usize)?;
+    for _ in 0..count {
+        names.push(0)?;
+    }
+    Ok(names)
+}

@@ -2,9 +2,18 @@
 //! sequence number.
 #![tactic(auto)]
 
+mod begin;
+mod clean;
+mod cleaned;
+mod copy;
+mod erase;
 mod find;
 mod give_back;
 mod held;
+#[cfg(test)]
+mod moves;
+mod names;
+mod old_names;
 mod open;
 mod pages;
 mod pseg;
@@ -16,5 +25,6 @@ mod table;
 mod tests;
 mod write;
 
+pub use cleaned::{Copied, Erasure};
 pub use held::Held;
 pub use pseg::PSeg;

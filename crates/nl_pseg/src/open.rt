@@ -1,15 +1,50 @@
 ghost use Rattle.std.specs.Prelude.{◌≡◌, ◌⊎◌, ℕ, ◌+◌, ◌*◌, ◌/◌, ◌<◌, ◌≤◌, ◌^◌, min, cond, ◌-◌, true, false, length, slice_set, slice_index_or, None, Some, unwrap_or, IsTrue};
 ghost use Rattle.nl_field.specs.Spelling.{is_stamp};
 ghost use Rattle.nl_blocks.specs.Table.{HasBlock, free_count};
-ghost use Rattle.nl_pseg.specs.Segment.{IsDead, TakenAsErased};
-ghost use Rattle.nl_pseg.specs.Seen.{seen, use_in, IsFormed};
+ghost use Rattle.nl_pseg.specs.Segment.{IsDead, IsNext, IsNextCopy, TakenAsErased};
+ghost use Rattle.nl_pseg.specs.Seen.{seen, use_in, IsFormed, IsTied};
+ghost use Rattle.nl_pseg.specs.Steps.{IsIdle};
 
 use crate::held::Held;
 use crate::state::State;
 use crate::table::{mark, shut, tell};
-use nl_field::Tag;
+use nl_blocks::BlockState;
+use nl_field::{Pointer, Tag};
 
 impl State {
+    /// No page for a new name is programmed in this block before it is erased.
+    fn close_active(&mut self, block: u32)
+        requires { IsFormed self.old }
+        ensures formed { IsFormed self.new }
+        ensures held { self.new.held.items ≡ self.old.held.items }
+        ensures table { self.new.blocks ≡ self.old.blocks }
+        ensures soiled { self.new.soiled.items ≡ self.old.soiled.items }
+        ensures active { self.new.active ≡ self.old.active }
+        ensures used { self.old.used ≤ self.new.used }
+        ensures left { self.new.blocks.size - self.new.used ≤ self.old.blocks.size - self.old.used }
+        ensures idle { self.new.used < self.new.blocks.size → block ≡ self.new.active → ⊥ }
+        ensures erased { (p : ℕ) → TakenAsErased (seen self.new) p → TakenAsErased (seen self.old) p }
+        ensures still { (p : ℕ) → TakenAsErased (seen self.old) p → (p / self.old.blocks.size ≡ block → ⊥) → TakenAsErased (seen self.new) p }
+        ensures same { self.new ≡ record self.old { used = self.new.used } }
+        ensures shut { ((block ≡ self.old.active) × (self.new.used ≡ self.old.blocks.size)) ⊎ ((block ≡ self.old.active → ⊥) × (self.new.used ≡ self.old.used)) }
+    {
+        if block == self.active {
+            self.used = self.blocks.pages();
+        }
+    }
+
+    /// No copy is programmed in this block before it is erased.
+    fn close_target(&mut self, block: u32)
+        requires { IsFormed self.old }
+        ensures formed { IsFormed self.new }
+        ensures same { self.new ≡ record self.old { filled = self.new.filled } }
+        ensures shut { ((block ≡ self.old.target) × (self.new.filled ≡ self.old.blocks.size)) ⊎ ((block ≡ self.old.target → ⊥) × (self.new.filled ≡ self.old.filled)) }
+    {
+        if block == self.target {
+            self.filled = self.blocks.pages();
+        }
+    }
+
     /// Nothing more is programmed in this block before it is erased.
     pub fn close(&mut self, block: u32)
         requires { IsFormed self.old }
@@ -23,10 +58,11 @@ impl State {
         ensures idle { self.new.used < self.new.blocks.size → block ≡ self.new.active → ⊥ }
         ensures erased { (p : ℕ) → TakenAsErased (seen self.new) p → TakenAsErased (seen self.old) p }
         ensures still { (p : ℕ) → TakenAsErased (seen self.old) p → (p / self.old.blocks.size ≡ block → ⊥) → TakenAsErased (seen self.new) p }
+        ensures same { self.new ≡ record self.old { used = self.new.used; filled = self.new.filled } }
+        ensures shut { IsIdle block self.old self.new }
     {
-        if block == self.active {
-            self.used = self.blocks.pages();
-        }
+        self.close_active(block);
+        self.close_target(block);
     }
 
     /// How often a block was erased, where it is not erased before use.
@@ -43,9 +79,16 @@ impl State {
 
     pub fn load(&mut self, page: u32, stamp: u64, tag: Tag)
         requires formed { IsFormed self.old }
+        requires tied { IsTied self.old }
+        requires none { self.old.victim ≡ None }
         requires dead { IsDead (seen self.old) page }
         requires stamp { IsTrue (is_stamp stamp) }
         ensures formed { IsFormed self.new }
+        ensures tied { IsTied self.new }
+        ensures names { self.new.names ≡ self.old.names }
+        ensures victim { self.new.victim ≡ self.old.victim }
+        ensures next { (p : ℕ) → IsNext (seen self.new) p → IsNext (seen self.old) p }
+        ensures copies { (p : ℕ) → IsNextCopy (seen self.new) p → IsNextCopy (seen self.old) p }
         ensures held { self.new.held.items ≡ slice_set self.old.held.items page (Some (record { tag = tag; stamp = stamp })) }
         ensures first { self.new.blocks.first ≡ self.old.blocks.first }
         ensures blocks { self.new.blocks.first + length self.new.blocks.blocks ≡ self.old.blocks.first + length self.old.blocks.blocks }
@@ -68,21 +111,49 @@ impl State {
         self.held[page as usize] = Some(Held { tag, stamp });
     }
 
+    /// The page is live under a name that is another page's number. The block of that page is not given out while it stands there.
+    pub fn load_moved(&mut self, page: u32, at: Pointer, tag: Tag) {
+        self.load(page, at.stamp, tag);
+        let block = at.name / self.blocks.pages();
+        self.set_aside(block);
+        self.names.add(at.name, page);
+    }
+
+    /// Nothing more is programmed in the block of an old name, which waits for it where it is Free.
+    fn set_aside(&mut self, block: u32) {
+        if block < self.blocks.first() || block >= self.blocks.first() + self.blocks.count() {
+            return;
+        }
+        self.close(block);
+        match self.blocks.state(block) {
+            BlockState::Active | BlockState::Target => self.blocks.seal(block),
+            BlockState::Free => self.blocks.freed(block, 1),
+            BlockState::Retired(names) => self.blocks.freed(block, names + 1),
+            BlockState::Sealed | BlockState::Victim => {}
+        }
+    }
+
     pub fn soil(&mut self, block: u32, wear: u32)
         requires formed { IsFormed self.old }
+        requires tied { IsTied self.old }
+        requires none { self.old.victim ≡ None }
         requires within { HasBlock self.old.blocks block }
         ensures formed { IsFormed self.new }
+        ensures tied { IsTied self.new }
         ensures held { self.new.held.items ≡ self.old.held.items }
+        ensures names { self.new.names ≡ self.old.names }
+        ensures victim { self.new.victim ≡ self.old.victim }
         ensures first { self.new.blocks.first ≡ self.old.blocks.first }
         ensures blocks { self.new.blocks.first + length self.new.blocks.blocks ≡ self.old.blocks.first + length self.old.blocks.blocks }
         ensures pages { self.new.blocks.size ≡ self.old.blocks.size }
-        ensures used { self.old.used ≤ self.new.used }
         ensures free { free_count self.new.blocks ≡ free_count self.old.blocks }
         ensures left { (seen self.new).left ≤ (seen self.old).left }
+        ensures next { (p : ℕ) → IsNext (seen self.new) p → IsNext (seen self.old) p }
+        ensures copies { (p : ℕ) → IsNextCopy (seen self.new) p → IsNextCopy (seen self.old) p × (p / self.old.blocks.size ≡ block → ⊥) }
         ensures same { (other : ℕ) → ((use_in self.new.blocks other).is_free ≡ (use_in self.old.blocks other).is_free) × ((use_in self.new.blocks other).is_kept ≡ (use_in self.old.blocks other).is_kept) }
         ensures soiled { slice_index_or self.new.soiled.items block None ≡ Some wear }
         ensures others { (other : ℕ) → (other ≡ block → ⊥) → slice_index_or self.new.soiled.items other None ≡ slice_index_or self.old.soiled.items other None }
-        ensures wear { (use_in self.new.blocks block).wear ≡ cond ((use_in self.old.blocks block).is_free) (min (wear + 1) (2 ^ 32 - 1)) wear }
+        ensures wear { (use_in self.new.blocks block).wear ≡ cond ((use_in self.old.blocks block).is_kept) (min (wear + 1) (2 ^ 32 - 1)) wear }
         ensures wears { (other : ℕ) → (other ≡ block → ⊥) → (use_in self.new.blocks other).wear ≡ (use_in self.old.blocks other).wear }
         ensures erased { (p : ℕ) → TakenAsErased (seen self.new) p → TakenAsErased (seen self.old) p × (p / self.old.blocks.size ≡ block → ⊥) }
         ensures still { (p : ℕ) → TakenAsErased (seen self.old) p → (p / self.old.blocks.size ≡ block → ⊥) → TakenAsErased (seen self.new) p }

@@ -1,14 +1,16 @@
-ghost use Rattle.std.specs.Prelude.{◌≡◌, ◌⊎◌, ℕ, ◌+◌, ◌-◌, ◌*◌, ◌/◌, ◌<◌, ◌≤◌, ◌↔◌, Bool, true, false, cond, min, ◌^◌, [], length, slice_set, replicate, None, Some, unwrap_or, IsTrue, IfOk};
+ghost use Rattle.std.specs.Prelude.{◌≡◌, ◌⊎◌, ℕ, ◌+◌, ◌-◌, ◌*◌, ◌/◌, ◌<◌, ◌≤◌, ◌↔◌, ◌||◌, Bool, true, false, cond, min, ◌^◌, [], length, slice_set, replicate, None, Some, Contains, unwrap_or, IsTrue, IfOk, IfSome, IfNone};
 ghost use Rattle.std.specs.Bool.{OnTrue, OnFalse};
 ghost use Rattle.nl_field.specs.Live.{resolve};
 ghost use Rattle.nl_field.specs.Numbers.{is_legal, shape_for};
 ghost use Rattle.nl_field.specs.Page.{Image, page_at, written};
 ghost use Rattle.nl_field.specs.Spelling.{is_stamp};
 ghost use Rattle.nl_nand.specs.Nand.{FaultsCounted, SameLeft};
-ghost use Rattle.nl_pseg.specs.Answers.{IfPlaced, IsFault, IsPlaced, ReadsHeld};
+ghost use Rattle.nl_pseg.specs.Answers.{IfPlaced, IsFault, IsPlaced, ReadsHeld, is_placed};
 ghost use Rattle.nl_pseg.specs.Effects.{Counted, Crashes, Programmed};
 ghost use Rattle.nl_pseg.specs.Pages.{page_with};
-ghost use Rattle.nl_pseg.specs.Segment.{CanLead, InSegment, IsClean, IsDead, IsLive, IsNewStamp, IsOldName, IsPhysicalOf, IsReady, IsSpent, IsUnspent, KeepsBlock, KeptAreDead, SamePages, TakenAsErased, erasures, held_at, is_free, is_kept, room, soiled, wear_of, without_target};
+ghost use Rattle.nl_pseg.specs.Cleaning.{without_name};
+ghost use Rattle.nl_pseg.specs.Space.{GivesBack, HasRoomForVictim, IsWhole, Lessens, SameCleaning, reach, waiting};
+ghost use Rattle.nl_pseg.specs.Segment.{HasSpare, IsNextCopy, is_waiting, names_another_free, CanLead, InSegment, IsNext, IsClean, IsDead, IsLive, IsNewStamp, IsOldName, IsPhysicalOf, IsReady, IsSpent, IsUnspent, KeepsBlock, KeptAreDead, SamePages, TakenAsErased, erasures, held_at, is_free, is_kept, room, soiled, wear_of, without_target};
 ghost use Rattle.nl_pseg.specs.Seen.{Fits};
 ghost use Rattle.nl_pseg.specs.declared.held.Held.{Held as HeldOf};
 
@@ -23,7 +25,7 @@ use std::marker::Model;
 /// No call but `new` takes memory.
 #[derive(Drop)]
 pub struct PSeg {
-    state: State,
+    pub(crate) state: State,
 }
 
 impl Model for PSeg {
@@ -31,11 +33,13 @@ impl Model for PSeg {
 
     ghost Value = { Physical };
 
-    ghost use Rattle.nl_pseg.specs.Seen.{seen, IsFormed};
+    ghost use Rattle.nl_blocks.specs.Table.{IsTable};
+    ghost use Rattle.nl_pseg.specs.Seen.{seen, IsFormed, IsTied};
+    ghost use Rattle.nl_pseg.specs.Space.{HasFewPairs};
 
     ghost view = { λ s. seen s.state };
 
-    ghost invariant = { λ s. IsFormed s.state };
+    ghost invariant = { λ s. IsFormed s.state × IsTied s.state × HasFewPairs (seen s.state) × IsTable s.state.blocks };
 }
 
 impl PSeg {
@@ -57,47 +61,68 @@ impl PSeg {
         ensures wear { IfOk result (λ s. (block : ℕ) → wear_of s block ≡ 0) }
         ensures room { IfOk result (λ s. room s + shape.now.pages ≡ shape.now.pblocks * shape.now.pages) }
         ensures kept { IfOk result KeepsBlock }
+        ensures victim { IfOk result (λ s. s.victim ≡ None) }
+        ensures pair_room { IfOk result (λ s. s.pair_room ≡ 4 * shape.now.pages) }
+        ensures copies { IfOk result (λ s. s.copy_left ≡ 0) }
+        ensures whole { IfOk result IsWhole }
+        ensures spare { IfOk result (λ s. (image : Image) → HasSpare image s) }
     {
-        Ok(PSeg {
-            state: State::new(alloc, shape)?,
-        })
+        let state = State::new(alloc, shape)?;
+        state.table();
+        state.whole();
+        Ok(PSeg { state })
     }
 
-    /// Serves an opening: this page holds what the pointer and the owner say. Nothing more is programmed in its block before
-    /// that is erased.
+    /// Serves an opening, while no victim is in hand: this page holds what the pointer and the owner say. Nothing more is programmed
+    /// in its block before that is erased. Where the pointer's name is another page, that name leads to this page, and nothing more is
+    /// programmed in the block of the name either while it stands there: where that block was Free, it waits.
     pub fn load(&mut self, page: u32, at: Pointer, tag: Tag)
+        requires none { self.old.victim ≡ None }
         requires dead { IsDead self.old page }
         requires fresh { IsOldName self.old page → ⊥ }
         requires stamp { IsTrue (is_stamp at.stamp) }
         requires new_stamp { IsNewStamp self.old at.stamp }
         requires away { (at.name ≡ page → ⊥) → CanLead self.old at.name }
+        ensures whole { IsWhole self.new }
         ensures live { self.new.held ≡ slice_set self.old.held page (Some (record { tag = tag; stamp = at.stamp })) }
         ensures leads { resolve self.new.pairs at.name ≡ page }
         ensures names { (name : ℕ) → (name ≡ at.name → ⊥) → resolve self.new.pairs name ≡ resolve self.old.pairs name }
         ensures pairs { at.name ≡ page → self.new.pairs ≡ self.old.pairs }
+        ensures olds { (name : ℕ) → IsOldName self.new name → (name ≡ at.name) ⊎ IsOldName self.old name }
+        ensures more { (at.name ≡ page → ⊥) → (length self.new.pairs ≡ length self.old.pairs + 1) × (self.new.pair_room + 1 ≡ self.old.pair_room) }
         ensures first { self.new.first ≡ self.old.first }
         ensures blocks { self.new.blocks ≡ self.old.blocks }
         ensures pages { self.new.size ≡ self.old.size }
+        ensures victim { self.new.victim ≡ None }
         ensures here { is_free self.new (page / self.old.size) ≡ false }
-        ensures free { self.new.free + cond (is_free self.old (page / self.old.size)) 1 0 ≡ self.old.free }
+        ensures name_here { (at.name ≡ page → ⊥) → is_free self.new (at.name / self.old.size) ≡ false }
+        ensures free { self.new.free + cond (is_free self.old (page / self.old.size)) 1 0 + cond (names_another_free self.old page at.name) 1 0 ≡ self.old.free }
         ensures left { self.new.left ≤ self.old.left }
-        ensures others { (block : ℕ) → (block ≡ page / self.old.size → ⊥) → (is_free self.new block ≡ is_free self.old block) × (is_kept self.new block ≡ is_kept self.old block) }
+        ensures others { (block : ℕ) → (block ≡ page / self.old.size → ⊥) → (is_kept self.new block ≡ is_kept self.old block) × ((block ≡ at.name / self.old.size → ⊥) → is_free self.new block ≡ is_free self.old block) }
         ensures soiled { (block : ℕ) → soiled self.new block ≡ soiled self.old block }
         ensures wear { wear_of self.new (page / self.old.size) ≡ unwrap_or (soiled self.old (page / self.old.size)) (wear_of self.old (page / self.old.size)) }
         ensures wears { (block : ℕ) → (block ≡ page / self.old.size → ⊥) → wear_of self.new block ≡ wear_of self.old block }
         ensures erased { (p : ℕ) → TakenAsErased self.new p → TakenAsErased self.old p × (p / self.old.size ≡ page / self.old.size → ⊥) }
-        ensures still { (p : ℕ) → TakenAsErased self.old p → (p / self.old.size ≡ page / self.old.size → ⊥) → TakenAsErased self.new p }
-        ensures kept { 1 ≤ self.new.free → KeepsBlock self.new }
+        ensures still { (p : ℕ) → TakenAsErased self.old p → (p / self.old.size ≡ page / self.old.size → ⊥) → (IsNext self.old p → p / self.old.size ≡ at.name / self.old.size → ⊥) → TakenAsErased self.new p }
+        ensures copies { (p : ℕ) → IsNextCopy self.new p → IsNextCopy self.old p }
+        ensures kept { (1 ≤ self.new.free + waiting self.new) → KeepsBlock self.new }
+        ensures spare { (image : Image) → 1 ≤ self.new.free + waiting self.new → HasSpare image self.new }
         ensures kept_dead { KeptAreDead self.new }
     {
-        self.state.load(page, at.stamp, tag);
+        if at.name == page {
+            self.state.load(page, at.stamp, tag);
+        } else {
+            self.state.load_moved(page, at, tag);
+        }
     }
 
     /// Serves an opening: the pages of this block, which was erased so often, do not all read as erased. Where no page of it is
     /// live, it is erased before use.
     pub fn soiled(&mut self, block: u32, wear: u32)
+        requires none { self.old.victim ≡ None }
         requires from { self.old.first ≤ block }
         requires below { block < self.old.blocks }
+        ensures whole { IsWhole self.new }
         ensures live { self.new.held ≡ self.old.held }
         ensures pairs { self.new.pairs ≡ self.old.pairs }
         ensures first { self.new.first ≡ self.old.first }
@@ -108,21 +133,32 @@ impl PSeg {
         ensures same { (other : ℕ) → (is_free self.new other ≡ is_free self.old other) × (is_kept self.new other ≡ is_kept self.old other) }
         ensures soiled { soiled self.new block ≡ Some wear }
         ensures others { (other : ℕ) → (other ≡ block → ⊥) → soiled self.new other ≡ soiled self.old other }
-        ensures wear { wear_of self.new block ≡ cond (is_free self.old block) (min (wear + 1) (2 ^ 32 - 1)) wear }
+        ensures wear { wear_of self.new block ≡ cond (is_free self.old block || is_waiting self.old block) (min (wear + 1) (2 ^ 32 - 1)) wear }
         ensures wears { (other : ℕ) → (other ≡ block → ⊥) → wear_of self.new other ≡ wear_of self.old other }
         ensures erased { (p : ℕ) → TakenAsErased self.new p → TakenAsErased self.old p × (p / self.old.size ≡ block → ⊥) }
         ensures still { (p : ℕ) → TakenAsErased self.old p → (p / self.old.size ≡ block → ⊥) → TakenAsErased self.new p }
+        ensures copies { (p : ℕ) → IsNextCopy self.new p → IsNextCopy self.old p × (p / self.old.size ≡ block → ⊥) }
         ensures kept { KeepsBlock self.old → KeepsBlock self.new }
+        ensures victim { self.new.victim ≡ None }
+        ensures waits { (other : ℕ) → is_waiting self.new other ≡ is_waiting self.old other }
+        ensures spare { (image : Image) → HasSpare image self.old → HasSpare image self.new }
     {
         self.state.soil(block, wear);
+        self.state.table();
+        self.state.whole();
     }
 
     /// Serves an opening, while no page is live: every block is Free. One that was in use is erased before use. Where every
     /// block was Free, nothing changes.
     pub fn give_back(&mut self)
         requires none { (page : ℕ) → held_at self.old page ≡ None }
+        requires no_victim { self.old.victim ≡ None }
+        ensures whole { IsWhole self.new }
         ensures live { self.new.held ≡ self.old.held }
         ensures pairs { self.new.pairs ≡ self.old.pairs }
+        ensures victim { self.new.victim ≡ None }
+        ensures copies { self.new.copy_left ≡ 0 }
+        ensures spare { (image : Image) → HasSpare image self.new }
         ensures first { self.new.first ≡ self.old.first }
         ensures blocks { self.new.blocks ≡ self.old.blocks }
         ensures pages { self.new.size ≡ self.old.size }
@@ -137,6 +173,8 @@ impl PSeg {
         ensures kept { 1 ≤ self.new.free → KeepsBlock self.new }
     {
         self.state.give_back_all();
+        self.state.table();
+        self.state.whole();
     }
 
     /// The page to which the name leads: the target of the pair of that old name, else the name itself.
@@ -144,6 +182,37 @@ impl PSeg {
         ensures { result ≡ resolve self.now.pairs name }
     {
         self.state.resolve(name)
+    }
+
+    /// An old name of the page: one that leads to it. None exactly where no pair leads to it.
+    pub fn name_of(&self, target: u32) -> Option<u32>
+        ensures some { IfSome result (λ name. Contains self.now.pairs (name, target)) }
+        ensures none { IfNone result ((name : ℕ) → Contains self.now.pairs (name, target) → ⊥) }
+    {
+        self.state.name_of(target)
+    }
+
+    /// The name is an old name no longer. False exactly where it was none. A block that waited for it alone is Free.
+    pub fn drop_name(&mut self, name: u32) -> bool
+        ensures whole { IsWhole self.new }
+        ensures found { IsTrue result ↔ IsOldName self.old name }
+        ensures pairs { OnTrue result (self.new.pairs ≡ without_name name self.old.pairs) }
+        ensures room { OnTrue result (self.new.pair_room ≡ self.old.pair_room + 1) }
+        ensures kept { OnFalse result (self.new ≡ self.old) }
+        ensures live { self.new.held ≡ self.old.held }
+        ensures pages { SamePages self.old self.new }
+        ensures space { Lessens 0 self.old self.new }
+        ensures reach { reach self.new ≡ reach self.old }
+        ensures back { GivesBack self.old self.new }
+        ensures segment { (image : Image) → IsPhysicalOf image self.old → IsPhysicalOf image self.new }
+        ensures spare { (image : Image) → HasSpare image self.old → HasSpare image self.new }
+        ensures clean { IsClean self.old → IsClean self.new }
+        ensures kept_block { KeepsBlock self.old → KeepsBlock self.new }
+    {
+        let dropped = self.state.drop_name(name);
+        self.state.table();
+        self.state.whole();
+        dropped
     }
 
     /// The number of Free blocks.
@@ -167,12 +236,20 @@ impl PSeg {
         ensures freed { OnTrue result (self.new.held ≡ slice_set self.old.held (resolve self.old.pairs at.name) None) }
         ensures pairs { OnTrue result (self.new.pairs ≡ without_target (resolve self.old.pairs at.name) self.old.pairs) }
         ensures pages { SamePages self.old self.new }
-        ensures space { IsUnspent self.old self.new }
+        ensures whole { IsWhole self.new }
+        ensures space { Lessens 1 self.old self.new }
+        ensures back { GivesBack self.old self.new }
         ensures segment { (image : Image) → IsPhysicalOf image self.old → IsPhysicalOf image self.new }
+        ensures spare { (image : Image) → HasSpare image self.old → HasSpare image self.new }
         ensures kept { OnFalse result (self.new ≡ self.old) }
+        ensures clean { IsClean self.old → IsClean self.new }
+        ensures kept_block { KeepsBlock self.old → KeepsBlock self.new }
         ensures kept_dead { KeptAreDead self.new }
     {
-        self.state.free(at)
+        let freed = self.state.free(at);
+        self.state.table();
+        self.state.whole();
+        freed
     }
 
     /// Reads the page to which the pointer leads, for an owner. It answers `NotLive` exactly where the pointer leads to no live
@@ -222,11 +299,15 @@ impl PSeg {
         ensures same { (IsPlaced result → ⊥) → self.new.held ≡ self.old.held }
         ensures pairs { self.new.pairs ≡ self.old.pairs }
         ensures pages { SamePages self.old self.new }
+        ensures cleaning { SameCleaning self.old self.new }
+        ensures lands { HasRoomForVictim self.old → HasRoomForVictim self.new }
         ensures spent { IsPlaced result → IsSpent self.old self.new }
         ensures failed { IsFault result → IsSpent self.old self.new ⊎ (IsUnspent self.old self.new × (IsReady self.old → ⊥)) }
         ensures clean { IsClean self.old → IsClean self.new }
         ensures kept { KeepsBlock self.old → KeepsBlock self.new }
         ensures kept_dead { KeptAreDead self.new }
+        ensures whole { IsWhole self.new }
+        ensures spare { M.tells → HasSpare (M.contents media.old) self.old → HasSpare (M.contents media.new) self.new }
         ensures within { (p : ℕ) → TakenAsErased self.new p → InSegment self.new p }
         ensures segment { M.tells → IsPhysicalOf (M.contents media.new) self.new }
         ensures programmed { M.tells → IfPlaced result (λ at. Programmed self.old at.name (written (page_with from.now.main tag stamp (wear_of self.old (at.name / self.old.size)))) (M.contents media.old) (M.contents media.new)) }
@@ -234,7 +315,10 @@ impl PSeg {
         ensures geometry { M.geometry media.new ≡ M.geometry media.old }
         ensures counts { Counted M.clock M.read_faults M.write_faults (IsReady self.old) media.old media.new result }
     {
-        self.state.write(media, tag, from, stamp)
+        let named = self.state.write(media, tag, from, stamp);
+        self.state.table();
+        self.state.whole();
+        named
     }
 
     /// As `nameless_write`, in place of the page to which a pointer leads: that is dead once the new one is placed, and only then.
@@ -260,11 +344,17 @@ impl PSeg {
         ensures pairs { IsPlaced result → self.new.pairs ≡ without_target (resolve self.old.pairs old.name) self.old.pairs }
         ensures same_pairs { (IsPlaced result → ⊥) → self.new.pairs ≡ self.old.pairs }
         ensures pages { SamePages self.old self.new }
-        ensures spent { IsPlaced result → IsSpent self.old self.new }
+        ensures space { Lessens (cond (is_placed result) 1 0) self.old self.new }
+        ensures cleaning { (IsPlaced result → ⊥) → SameCleaning self.old self.new }
+        ensures room { IsPlaced result → room self.old ≤ room self.new + 1 }
+        ensures blocks { IsPlaced result → self.new.free + waiting self.new ≤ self.old.free + waiting self.old }
+        ensures spent { IsPlaced result → waiting self.old ≡ 0 → IsSpent self.old self.new }
         ensures failed { IsFault result → IsSpent self.old self.new ⊎ (IsUnspent self.old self.new × (IsReady self.old → ⊥)) }
         ensures clean { IsClean self.old → IsClean self.new }
         ensures kept { KeepsBlock self.old → KeepsBlock self.new }
         ensures kept_dead { KeptAreDead self.new }
+        ensures whole { IsWhole self.new }
+        ensures spare { M.tells → HasSpare (M.contents media.old) self.old → HasSpare (M.contents media.new) self.new }
         ensures within { (p : ℕ) → TakenAsErased self.new p → InSegment self.new p }
         ensures segment { M.tells → IsPhysicalOf (M.contents media.new) self.new }
         ensures programmed { M.tells → IfPlaced result (λ at. Programmed self.old at.name (written (page_with from.now.main tag stamp (wear_of self.old (at.name / self.old.size)))) (M.contents media.old) (M.contents media.new)) }
@@ -272,6 +362,9 @@ impl PSeg {
         ensures geometry { M.geometry media.new ≡ M.geometry media.old }
         ensures counts { Counted M.clock M.read_faults M.write_faults (IsReady self.old) media.old media.new result }
     {
-        self.state.overwrite(media, old, tag, from, stamp)
+        let named = self.state.overwrite(media, old, tag, from, stamp);
+        self.state.table();
+        self.state.whole();
+        named
     }
 }

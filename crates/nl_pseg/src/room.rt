@@ -3,8 +3,8 @@ ghost use Rattle.std.specs.Prelude.{◌≡◌, ◌⊎◌, ℕ, ◌+◌, ◌*◌,
 ghost use Rattle.nl_blocks.specs.Table.{HasBlock, block_at};
 ghost use Rattle.nl_nand.specs.Nand.{FaultsCounted};
 ghost use Rattle.nl_pseg.specs.Segment.{IsPhysicalOf, IsReady, held_at, is_soiled, room};
-ghost use Rattle.nl_pseg.specs.Seen.{seen, Fits, IsFormed};
-ghost use Rattle.nl_pseg.specs.Steps.{Opening, OpeningOn, opened_at};
+ghost use Rattle.nl_pseg.specs.Seen.{seen, Fits, IsFormed, IsTied};
+ghost use Rattle.nl_pseg.specs.Steps.{IsTaking, Opening, OpeningOn, opened_at};
 ghost use Rattle.nl_pseg.specs.declared.held.Held.{Held as HeldOf};
 
 use crate::state::State;
@@ -22,7 +22,7 @@ impl State {
     }
 
     /// Whether the block is erased before use.
-    fn is_soiled(&self, block: u32) -> bool
+    pub fn is_soiled(&self, block: u32) -> bool
         requires { block < length self.now.soiled.items }
         ensures { result ≡ is_soiled (seen self.now) block }
     {
@@ -30,12 +30,14 @@ impl State {
     }
 
     /// This block is written to. No page of it is used.
-    fn begin(&mut self, block: u32)
+    fn write_to(&mut self, block: u32)
         requires formed { IsFormed self.old }
         requires has { HasBlock self.old.blocks block }
         requires active { (block_at self.old.blocks block).state ≡ BlockState.Active }
+        requires taking { IsTaking self.old block }
         requires in_use { (p : ℕ) (h : HeldOf) → held_at (seen self.old) p ≡ Some h → p / self.old.blocks.size ≡ block → ⊥ }
         ensures formed { IsFormed self.new }
+        ensures tied { IsTied self.new }
         ensures opened { seen self.new ≡ opened_at (seen self.old) block }
         ensures used { self.new.used ≡ 0 }
         ensures pages { self.new.blocks.size ≡ self.old.blocks.size }
@@ -49,10 +51,12 @@ impl State {
     /// it first where it is soiled. Where that fails, the block is Free again.
     pub fn start<M: Nand>(&mut self, media: &mut M) -> WriteAnswer
         requires formed { IsFormed self.old }
+        requires tied { IsTied self.old }
         requires fits { Fits (M.geometry media.old) (seen self.old) }
         requires room { 0 < room (seen self.old) }
         requires segment { M.tells → IsPhysicalOf (M.contents media.old) (seen self.old) }
         ensures formed { IsFormed self.new }
+        ensures tied { IsTied self.new }
         ensures left { result ≡ WriteAnswer.Done → self.new.used < self.new.blocks.size }
         ensures opening { Opening result (seen self.old) (seen self.new) }
         ensures medium { M.tells → OpeningOn M.clock M.contents M.left result (seen self.old) (seen self.new) media.old media.new }
@@ -67,13 +71,13 @@ impl State {
         }
         let block = take(&mut self.blocks);
         if !self.is_soiled(block) {
-            self.begin(block);
+            self.write_to(block);
             return WriteAnswer::Done;
         }
         let wear = self.blocks.wear(block);
         match media.erase(block) {
             WriteAnswer::Done => {
-                self.begin(block);
+                self.write_to(block);
                 WriteAnswer::Done
             }
             WriteAnswer::Failed => {

@@ -2,10 +2,11 @@ ghost use Rattle.std.specs.Prelude.{◌≡◌, ◌<◌, IfOk, IfSome, IsTrue};
 ghost use Rattle.nl_field.specs.Numbers.{is_legal, shape_for};
 ghost use Rattle.nl_field.specs.Spelling.{is_stamp};
 ghost use Rattle.nl_blocks.specs.Table.{block_at};
-ghost use Rattle.nl_pseg.specs.Seen.{new_segment, seen, IsFormed};
+ghost use Rattle.nl_pseg.specs.Seen.{new_segment, seen, IsFormed, IsTied};
 ghost use Rattle.nl_pseg.specs.Steps.{IsUsed};
 
 use crate::held::{Held, no_marks, no_pages};
+use crate::old_names::OldNames;
 use crate::table::{mark, seal_full};
 use nl_blocks::{BlockState, Blocks};
 use nl_field::{Memory, PageBuf, Shape};
@@ -24,6 +25,13 @@ pub struct State {
     pub active: u32,
     /// How many of its pages are used.
     pub used: u32,
+    /// The block that copies are written to.
+    pub target: u32,
+    /// How many of its pages are used.
+    pub filled: u32,
+    /// The block whose live pages are moved away.
+    pub victim: Option<u32>,
+    pub names: OldNames,
     pub buf: PageBuf,
 }
 
@@ -32,6 +40,7 @@ impl State {
         requires legal { IsTrue (is_legal shape.now.blocks shape.now.pages) }
         requires numbers { shape.now ≡ shape_for shape.now.blocks shape.now.pages }
         ensures formed { IfOk result IsFormed }
+        ensures tied { IfOk result IsTied }
         ensures seen { IfOk result (λ s. seen s ≡ new_segment shape.now) }
     {
         Ok(State {
@@ -40,6 +49,10 @@ impl State {
             soiled: no_marks(alloc, shape.blocks)?,
             active: shape.vblocks,
             used: shape.pages,
+            target: shape.vblocks,
+            filled: shape.pages,
+            victim: None,
+            names: OldNames::new(alloc, 4 * shape.pages, shape.pages, shape.blocks)?,
             buf: PageBuf::new(alloc)?,
         })
     }
@@ -47,9 +60,11 @@ impl State {
     /// Uses the next page of the block that is written to: it holds this. A block that is full is Sealed.
     pub fn use_next(&mut self, held: Option<Held>)
         requires formed { IsFormed self.old }
+        requires tied { IsTied self.old }
         requires room { self.old.used < self.old.blocks.size }
         requires spelled { IfSome held (λ h. IsTrue (is_stamp h.stamp)) }
         ensures formed { IsFormed self.new }
+        ensures tied { IsTied self.new }
         ensures used { IsUsed held (seen self.old) (seen self.new) }
         ensures sealed { self.new.used ≡ self.new.blocks.size → (block_at self.new.blocks self.old.active).state ≡ BlockState.Sealed }
     {

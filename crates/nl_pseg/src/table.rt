@@ -1,8 +1,8 @@
 // Steps on the table of blocks.
 ghost use Rattle.std.specs.Prelude.{◌≡◌, ◌/◌, ◌≤◌, ◌+◌, ◌-◌, ◌^◌, ℕ, min, cond, true, false};
-ghost use Rattle.nl_blocks.specs.Table.{HasBlock, block_at, free_count};
+ghost use Rattle.nl_blocks.specs.Table.{HasBlock, after_erase, block_at, free_count, in_state, is_retired_state, names_of, with_block, with_page};
 ghost use Rattle.nl_pseg.specs.Seen.{use_in};
-ghost use Rattle.nl_pseg.specs.Steps.{IsMarked, Restated, SameMarks, SameUse};
+ghost use Rattle.nl_pseg.specs.Steps.{IsMarked, IsTold, Restated, SameMarks, SameNumbers, SameUse, told_state};
 
 use nl_blocks::{BlockState, Blocks, PageState};
 
@@ -27,12 +27,27 @@ pub fn take(blocks: &mut Blocks) -> u32
     }
 }
 
+/// Takes the least worn Free block for copies.
+pub fn take_target(blocks: &mut Blocks) -> u32
+    requires { 1 ≤ free_count blocks.old }
+    ensures has { HasBlock blocks.old result }
+    ensures was_free { (use_in blocks.old result).is_free ≡ true }
+    ensures target { (block_at blocks.new result).state ≡ BlockState.Target }
+    ensures taken { Restated result false (use_in blocks.old result).wear blocks.old blocks.new }
+{
+    match blocks.take_reserve() {
+        Some(block) => block,
+        None => unreachable!(),
+    }
+}
+
 /// Marks a page live or dead.
 pub fn mark(blocks: &mut Blocks, page: u32, live: bool)
     requires { HasBlock blocks.old (page / blocks.old.size) }
     ensures same { SameUse blocks.old blocks.new }
     ensures states { (block : ℕ) → (block_at blocks.new block).state ≡ (block_at blocks.old block).state }
     ensures marked { IsMarked page (cond live PageState.Live PageState.Dead) blocks.old blocks.new }
+    ensures table { blocks.new ≡ with_page blocks.old page (cond live PageState.Live PageState.Dead) }
 {
     let _ = blocks.count();
     if live {
@@ -50,10 +65,54 @@ pub fn seal_full(blocks: &mut Blocks, block: u32, full: bool)
     ensures marks { SameMarks blocks.old blocks.new }
     ensures more { full ≡ false → (block_at blocks.new block).state ≡ BlockState.Active }
     ensures sealed { full ≡ true → (block_at blocks.new block).state ≡ BlockState.Sealed }
+    ensures others { (other : ℕ) → HasBlock blocks.old other → (other ≡ block → ⊥) → (block_at blocks.new other).state ≡ (block_at blocks.old other).state }
 {
     if full {
         blocks.seal(block);
     }
+}
+
+/// Seals a block for copies, where it is full.
+pub fn seal_filled(blocks: &mut Blocks, block: u32, full: bool)
+    requires has { HasBlock blocks.old block }
+    requires target { (block_at blocks.old block).state ≡ BlockState.Target }
+    ensures same { SameUse blocks.old blocks.new }
+    ensures marks { SameMarks blocks.old blocks.new }
+    ensures more { full ≡ false → (block_at blocks.new block).state ≡ BlockState.Target }
+    ensures sealed { full ≡ true → (block_at blocks.new block).state ≡ BlockState.Sealed }
+    ensures others { (other : ℕ) → HasBlock blocks.old other → (other ≡ block → ⊥) → (block_at blocks.new other).state ≡ (block_at blocks.old other).state }
+{
+    if full {
+        blocks.seal(block);
+    }
+}
+
+/// Makes a Sealed block the victim.
+pub fn choose(blocks: &mut Blocks, block: u32)
+    requires has { HasBlock blocks.old block }
+    requires sealed { (block_at blocks.old block).state ≡ BlockState.Sealed }
+    ensures same { SameUse blocks.old blocks.new }
+    ensures marks { SameMarks blocks.old blocks.new }
+    ensures here { (block_at blocks.new block).state ≡ BlockState.Victim }
+    ensures table { blocks.new ≡ with_block blocks.old block (in_state (block_at blocks.old block) BlockState.Victim) }
+    ensures others { (other : ℕ) → HasBlock blocks.old other → (other ≡ block → ⊥) → (block_at blocks.new other).state ≡ (block_at blocks.old other).state }
+{
+    blocks.choose(block);
+}
+
+/// One name of a block that waits is gone: on the last one it is Free.
+pub fn end_name(blocks: &mut Blocks, block: u32)
+    requires has { HasBlock blocks.old block }
+    requires retired { is_retired_state (block_at blocks.old block).state ≡ true }
+    ensures numbers { SameNumbers blocks.old blocks.new }
+    ensures kept { (other : ℕ) → (use_in blocks.new other).is_kept ≡ (use_in blocks.old other).is_kept }
+    ensures wears { (other : ℕ) → (use_in blocks.new other).wear ≡ (use_in blocks.old other).wear }
+    ensures uses { (other : ℕ) → (other ≡ block → ⊥) → use_in blocks.new other ≡ use_in blocks.old other }
+    ensures here { (block_at blocks.new block).state ≡ after_erase (names_of (block_at blocks.old block).state - 1) }
+    ensures others { (other : ℕ) → HasBlock blocks.old other → (other ≡ block → ⊥) → (block_at blocks.new other).state ≡ (block_at blocks.old other).state }
+    ensures marks { SameMarks blocks.old blocks.new }
+{
+    blocks.name_gone(block);
 }
 
 /// The block is Free, with this wear.
@@ -61,27 +120,41 @@ pub fn give_back(blocks: &mut Blocks, block: u32, wear: u32)
     requires { HasBlock blocks.old block }
     ensures { Restated block true wear blocks.old blocks.new }
 {
-    blocks.erased(block, 0);
+    blocks.freed(block, 0);
     blocks.found(block, wear, 0);
 }
 
 /// The block is Sealed, with this wear.
 pub fn shut(blocks: &mut Blocks, block: u32, wear: u32)
     requires { HasBlock blocks.old block }
-    ensures { Restated block false wear blocks.old blocks.new }
+    ensures restated { Restated block false wear blocks.old blocks.new }
+    ensures state { (block_at blocks.new block).state ≡ BlockState.Sealed }
 {
     give_back(blocks, block, wear);
     blocks.seal(block);
 }
 
-/// Tells the block that it was erased so often and is to be erased before use: a Free one has one more, and another is Sealed.
+/// The wear of a block that waits.
+fn wait_with(blocks: &mut Blocks, block: u32, wear: u32, names: u32)
+    requires has { HasBlock blocks.old block }
+    requires retired { (block_at blocks.old block).state ≡ BlockState.Retired names }
+    ensures told { IsTold block wear blocks.old blocks.new }
+    ensures state { (block_at blocks.new block).state ≡ BlockState.Retired names }
+{
+    let _ = blocks.count();
+    blocks.found(block, wear, names);
+}
+
+/// Tells the block that it was erased so often and is to be erased before use: a Free one, and one that waits, has one more, and
+/// another is Sealed.
 pub fn tell(blocks: &mut Blocks, block: u32, wear: u32)
     requires { HasBlock blocks.old block }
-    ensures { Restated block (use_in blocks.old block).is_free (cond (use_in blocks.old block).is_free (min (wear + 1) (2 ^ 32 - 1)) wear) blocks.old blocks.new }
+    ensures told { IsTold block (cond (use_in blocks.old block).is_kept (min (wear + 1) (2 ^ 32 - 1)) wear) blocks.old blocks.new }
+    ensures state { (block_at blocks.new block).state ≡ told_state (block_at blocks.old block).state }
 {
-    if is_free(blocks, block) {
-        give_back(blocks, block, wear.saturating_add(1));
-    } else {
-        shut(blocks, block, wear);
+    match blocks.state(block) {
+        BlockState::Free => give_back(blocks, block, wear.saturating_add(1)),
+        BlockState::Retired(names) => wait_with(blocks, block, wear.saturating_add(1), names),
+        _ => shut(blocks, block, wear),
     }
 }

@@ -1,4 +1,4 @@
-ghost use Rattle.std.specs.Prelude.{◌≡◌, ◌⊎◌, ◌*◌, ◌/◌, ◌<◌, ◌↔◌, [], slice_set, None, Some, IsTrue};
+ghost use Rattle.std.specs.Prelude.{◌≡◌, ◌⊎◌, ◌*◌, ◌/◌, ◌<◌, ◌↔◌, slice_set, None, Some, IsTrue};
 ghost use Rattle.nl_field.specs.Live.{resolve};
 ghost use Rattle.nl_field.specs.Page.{written};
 ghost use Rattle.nl_field.specs.Spelling.{is_stamp};
@@ -6,8 +6,8 @@ ghost use Rattle.nl_pseg.specs.Answers.{IfPlaced, IsFault, IsPlaced, IsTried};
 ghost use Rattle.nl_pseg.specs.Effects.{Counted, Crashes, Programmed};
 ghost use Rattle.nl_pseg.specs.Pages.{page_with};
 ghost use Rattle.nl_pseg.specs.Segment.{IsClean, IsDead, IsLive, IsPhysicalOf, IsReady, IsSpent, IsUnspent, KeepsBlock, SamePages, room, wear_of};
-ghost use Rattle.nl_pseg.specs.Seen.{seen, Fits, IsFormed};
-ghost use Rattle.nl_pseg.specs.Steps.{IsAlone, Placing, PlacingOn};
+ghost use Rattle.nl_pseg.specs.Seen.{seen, Fits, IsFormed, IsTied};
+ghost use Rattle.nl_pseg.specs.Steps.{IsAlone, Placing, PlacingOn, WritesOver};
 
 use crate::held::Held;
 use crate::pages::program_page;
@@ -19,11 +19,13 @@ impl State {
     /// Programs the next page of the block that is written to.
     fn put<M: Nand>(&mut self, media: &mut M, tag: Tag, from: &PageBuf, stamp: u64) -> Named
         requires formed { IsFormed self.old }
+        requires tied { IsTied self.old }
         requires fits { Fits (M.geometry media.old) (seen self.old) }
         requires stamp { IsTrue (is_stamp stamp) }
         requires room { self.old.used < self.old.blocks.size }
         requires segment { M.tells → IsPhysicalOf (M.contents media.old) (seen self.old) }
         ensures formed { IsFormed self.new }
+        ensures tied { IsTied self.new }
         ensures tried { IsTried result }
         ensures placing { Placing stamp (λ at. slice_set self.old.held.items at.name (Some (record { tag = tag; stamp = stamp }))) result (seen self.old) (seen self.new) }
         ensures segment { M.tells → IsPhysicalOf (M.contents media.new) (seen self.new) }
@@ -51,11 +53,13 @@ impl State {
     /// Programs a page for a new name, where there is room.
     fn place<M: Nand>(&mut self, media: &mut M, tag: Tag, from: &PageBuf, stamp: u64) -> Named
         requires formed { IsFormed self.old }
+        requires tied { IsTied self.old }
         requires fits { Fits (M.geometry media.old) (seen self.old) }
         requires stamp { IsTrue (is_stamp stamp) }
         requires room { 0 < room (seen self.old) }
         requires segment { M.tells → IsPhysicalOf (M.contents media.old) (seen self.old) }
         ensures formed { IsFormed self.new }
+        ensures tied { IsTied self.new }
         ensures tried { IsTried result }
         ensures placing { Placing stamp (λ at. slice_set self.old.held.items at.name (Some (record { tag = tag; stamp = stamp }))) result (seen self.old) (seen self.new) }
         ensures segment { M.tells → IsPhysicalOf (M.contents media.new) (seen self.new) }
@@ -71,10 +75,12 @@ impl State {
 
     pub fn write<M: Nand>(&mut self, media: &mut M, tag: Tag, from: &PageBuf, stamp: u64) -> Named
         requires formed { IsFormed self.old }
+        requires tied { IsTied self.old }
         requires fits { Fits (M.geometry media.old) (seen self.old) }
         requires stamp { IsTrue (is_stamp stamp) }
         requires segment { M.tells → IsPhysicalOf (M.contents media.old) (seen self.old) }
         ensures formed { IsFormed self.new }
+        ensures tied { IsTied self.new }
         ensures live { result ≡ Named.NotLive → ⊥ }
         ensures full { result ≡ Named.NoPage ↔ room (seen self.old) ≡ 0 }
         ensures refused { result ≡ Named.NoPage → (seen self.new ≡ seen self.old) × (media.new ≡ media.old) }
@@ -100,14 +106,16 @@ impl State {
         stamp: u64,
     ) -> Named
         requires formed { IsFormed self.old }
+        requires tied { IsTied self.old }
         requires fits { Fits (M.geometry media.old) (seen self.old) }
         requires stamp { IsTrue (is_stamp stamp) }
         requires segment { M.tells → IsPhysicalOf (M.contents media.old) (seen self.old) }
         ensures formed { IsFormed self.new }
+        ensures tied { IsTied self.new }
         ensures live { result ≡ Named.NotLive ↔ (IsLive (seen self.old) old → ⊥) }
         ensures full { result ≡ Named.NoPage ↔ (IsLive (seen self.old) old × (room (seen self.old) ≡ 0)) }
         ensures refused { (result ≡ Named.NotLive) ⊎ (result ≡ Named.NoPage) → (seen self.new ≡ seen self.old) × (media.new ≡ media.old) }
-        ensures placing { Placing stamp (λ at. slice_set (slice_set self.old.held.items at.name (Some (record { tag = tag; stamp = stamp }))) (resolve [] old.name) None) result (seen self.old) (seen self.new) }
+        ensures over { WritesOver (resolve (seen self.old).pairs old.name) stamp (λ at. slice_set self.old.held.items at.name (Some (record { tag = tag; stamp = stamp }))) result (seen self.old) (seen self.new) }
         ensures segment { M.tells → IsPhysicalOf (M.contents media.new) (seen self.new) }
         ensures programmed { M.tells → IfPlaced result (λ at. Programmed (seen self.old) at.name (written (page_with from.now.main tag stamp (wear_of (seen self.old) (at.name / self.old.blocks.size)))) (M.contents media.old) (M.contents media.new)) }
         ensures crash { M.tells → Crashes M.clock M.contents M.left (seen self.old) tag stamp from.now.main media.old media.new result }
@@ -122,7 +130,7 @@ impl State {
         }
         match self.place(media, tag, from, stamp) {
             Named::Placed(at) => {
-                self.end(place);
+                self.end_all(place);
                 Named::Placed(at)
             }
             Named::Fault => Named::Fault,

@@ -7,8 +7,8 @@ use Rattle.nl_pseg.specs.Steps.{Restated}
 use Rattle.nl_pseg.proofs.Tables.{has_same, restated, restated_again, use_here}
 use Rattle.nl_pseg.proofs.table.shut.Goals as goal
 
-pub returns : goal.returns
-returns c =
+pub returns-clause-restated : goal.returns-clause-restated
+returns-clause-restated c =
     let t = c.args.blocks.now in
     let has : HasBlock t c.args.block = record { from = c.requires.from; below = c.requires.below } in
     let first = c.give_back.ensures in

@@ -1,14 +1,20 @@
-use Rattle.std.proofs.Common.{◌≡◌, ◌+◌, ◌*◌, ◌/◌, ◌<◌, false, Some, None, length, set, get_or, refl, sym, ◌∙◌, ap, subst, arith, unwrap_or}
-use Rattle.std.proofs.lemmas.Bool.{true≢false}
-use Rattle.nl_blocks.specs.Table.{Table}
-use Rattle.nl_pseg.specs.Segment.{Use, InSegment, is_free}
+use Rattle.std.proofs.Common.{◌≡◌, ◌⊎◌, inl, inr, ⊎_elim, ◌+◌, ◌*◌, ◌/◌, ◌<◌, false, List, Option, Some, None, length, set, get_or, refl, sym, ◌∙◌, ap, subst, arith, unwrap_or}
+use Rattle.std.specs.Vec.{with_item}
+use Rattle.std.proofs.lemmas.List.{get_or-set_other}
+use Rattle.std.proofs.lemmas.Option.{none-some}
+use Rattle.std.proofs.lemmas.Bool.{cases_eq, true≢false}
+use Rattle.nl_blocks.specs.Table.{HasBlock, Table, block_at}
+use Rattle.nl_remap.specs.Table.{IsOld}
+use Rattle.nl_pseg.specs.Segment.{Use, InSegment, held_at, is_kept}
 use Rattle.nl_pseg.specs.Seen.{IsPlace, seen, use_in}
-use Rattle.nl_pseg.specs.Steps.{IsApart}
+use Rattle.nl_pseg.specs.Steps.{IsApart, IsIdle, SameNumbers}
 use Rattle.nl_pseg.specs.declared.held.Held.{Held}
 use Rattle.nl_pseg.specs.declared.state.State.{State}
 use Rattle.nl_pseg.proofs.Forms.{formed_page, formed_restated, use_places, next_is, left_is}
 use Rattle.nl_pseg.proofs.Numbers.{block_of}
-use Rattle.nl_pseg.proofs.Segments.{apart_taken, held_places}
+use Rattle.nl_pseg.proofs.Gone.{old_told}
+use Rattle.nl_pseg.proofs.Segments.{apart_taken, held_places, set_held}
+use Rattle.nl_pseg.proofs.Served.{idle_copy, idle_next, sealed_set, served_tied}
 use Rattle.nl_pseg.proofs.States.{next_block}
 use Rattle.nl_pseg.proofs.Tables.{numbers_then}
 use Rattle.nl_pseg.proofs.state.State.load.Goals as goal
@@ -19,16 +25,16 @@ returns-clause-formed c =
     let is = c.close.ensures.formed in
     let block = c.args.page / c.pages.result in
     let t = c.mark.new.blocks in
-    let first = formed_restated s c.shut.new.blocks block c.wear-wear.result false is c.shut.ensures c.close.ensures.idle (λ yes. absurd (true≢false (sym yes))) in
+    let first = formed_restated s c.shut.new.blocks block c.wear-wear.result false is c.shut.ensures.restated c.close.ensures.idle (λ yes. absurd (true≢false (sym yes))) in
     let mid : State = record s { blocks = c.shut.new.blocks } in
     let same = c.mark.ensures.same in
     let active = λ (room : s.used < c.shut.new.blocks.size). c.mark.ensures.states s.active ∙ first.taken room in
     let x : State = record s { blocks = t } in
     let h : Held = record { tag = c.args.tag; stamp = c.args.stamp } in
-    let n = numbers_then c.shut.ensures.numbers c.mark.ensures.same.numbers in
+    let n = numbers_then c.shut.ensures.restated.numbers c.mark.ensures.same.numbers in
     let size = ap (λ (k : Table). k.size) c.close.ensures.table in
     let same_block : c.args.page / t.size ≡ block = ap (λ k. c.args.page / k) (n.same_size ∙ (size ∙ sym c.pages.ensures)) in
-    let free : is_free (seen x) block ≡ false = ap (λ (u : Use). u.is_free) (c.mark.ensures.same.uses block ∙ c.shut.ensures.here) in
+    let free : is_kept (seen x) block ≡ false = ap (λ (u : Use). u.is_kept) (c.mark.ensures.same.uses block ∙ c.shut.ensures.restated.here) in
     let within : InSegment (seen x) c.args.page =
     (let low : t.first * t.size ≡ c.args.self.now.blocks.first * c.args.self.now.blocks.size = (λ i. (n.same_first ∙ ap (λ (k : Table). k.first) c.close.ensures.table) i * (n.same_size ∙ size) i) in
     let count : length t.blocks ≡ length c.args.self.now.blocks.blocks = n.same_count ∙ ap (λ (k : Table). length k.blocks) c.close.ensures.table in
@@ -36,7 +42,7 @@ returns-clause-formed c =
     (omega (arith, low, c.requires.dead.within.0), omega (arith, high, c.requires.dead.within.1))) in
     let place : IsPlace (record (seen x) { held = set s.held.items c.args.page (Some h) }) c.args.page h = record {
       within = within;
-      in_use = ap (λ b. (use_in t b).is_free) same_block ∙ free;
+      in_use = ap (λ b. (use_in t b).is_kept) same_block ∙ free;
       behind = λ next.
           let room : s.used < t.size = omega (arith, next.0, next.1) in
           c.close.ensures.idle (subst (λ k. s.used < k) n.same_size room) (sym same_block ∙ block_of c.args.page t.size s.active (omega (arith, next.0)) (omega (arith, next.1, room)));
@@ -54,7 +60,7 @@ returns-clause-wear c =
     let block = c.args.page / c.pages.result in
     let same_block : c.args.page / s.blocks.size ≡ block = ap (λ k. c.args.page / k) (sym c.pages.ensures) in
     let e : (use_in c.mark.new.blocks block).wear ≡ unwrap_or (get_or s.soiled.items block None) (use_in s.blocks block).wear =
-    ap (λ (u : Use). u.wear) (c.mark.ensures.same.uses block ∙ c.shut.ensures.here) ∙ (c.wear-wear.ensures ∙ (λ i. unwrap_or (get_or (c.close.ensures.soiled i) block None) (use_in (c.close.ensures.table i) block).wear)) in
+    ap (λ (u : Use). u.wear) (c.mark.ensures.same.uses block ∙ c.shut.ensures.restated.here) ∙ (c.wear-wear.ensures ∙ (λ i. unwrap_or (get_or (c.close.ensures.soiled i) block None) (use_in (c.close.ensures.table i) block).wear)) in
     subst (λ b. (use_in c.mark.new.blocks b).wear ≡ unwrap_or (get_or s.soiled.items b None) (use_in s.blocks b).wear) (sym same_block) e
 
 pub returns-clause-erased : goal.returns-clause-erased
@@ -63,16 +69,72 @@ returns-clause-erased c p taken =
     let is = c.close.ensures.formed in
     let block = c.args.page / c.pages.result in
     let t = c.mark.new.blocks in
-    let n = numbers_then c.shut.ensures.numbers c.mark.ensures.same.numbers in
+    let n = numbers_then c.shut.ensures.restated.numbers c.mark.ensures.same.numbers in
     let size = ap (λ (x : Table). x.size) c.close.ensures.table in
     let apart : IsApart block (seen s) (record (seen (record s { blocks = t })) { held = set s.held.items c.args.page (Some (record { tag = c.args.tag; stamp = c.args.stamp })) }) = record {
       range = record { range_first = n.same_first; range_blocks = λ i. n.same_first i + n.same_count i; range_size = n.same_size };
       next = next_is s is t n;
       left = left_is s is t n;
       idle = λ q next at. let room : s.used < s.blocks.size = omega (arith, next.0, next.1) in c.close.ensures.idle room (sym at ∙ next_block s is room q next);
-      others_free = λ b ne. ap (λ (u : Use). u.is_free) (c.mark.ensures.same.uses b ∙ c.shut.ensures.others b ne);
+      others_kept = λ b ne. ap (λ (u : Use). u.is_kept) (c.mark.ensures.same.uses b ∙ c.shut.ensures.restated.others b ne);
       others_soiled = λ b ne. refl;
-      gone = λ free clean. true≢false (sym free ∙ ap (λ (u : Use). u.is_free) (c.mark.ensures.same.uses block ∙ c.shut.ensures.here));
+      gone = λ free clean. true≢false (sym free ∙ ap (λ (u : Use). u.is_kept) (c.mark.ensures.same.uses block ∙ c.shut.ensures.restated.here));
     } in
     let out = apart_taken apart p taken in
     (c.close.ensures.erased p out.0, λ at. out.1 (ap (λ k. p / k) size ∙ (at ∙ ap (λ k. c.args.page / k) (sym c.pages.ensures))))
+
+pub returns-clause-tied : goal.returns-clause-tied
+returns-clause-tied c =
+    let s = c.args.self.now in
+    let m = c.close.new.self in
+    let e = c.close.ensures in
+    let r = c.shut.ensures.restated in
+    let t = c.mark.new.blocks in
+    let block = c.args.page / c.pages.result in
+    let h : Held = record { tag = c.args.tag; stamp = c.args.stamp } in
+    let x : State = record m { held = with_item m.held c.args.page (Some h); blocks = t } in
+    let n : SameNumbers s.blocks t = subst (λ u. SameNumbers u t) e.table (numbers_then r.numbers c.mark.ensures.same.numbers) in
+    let i : IsIdle block s x = record { active = e.shut.active; target = e.shut.target; used = e.shut.used; filled = e.shut.filled } in
+    let state = c.mark.ensures.states block ∙ c.shut.ensures.state in
+    let at : c.args.page / s.blocks.size ≡ block = ap (λ k. c.args.page / k) (sym c.pages.ensures) in
+    let count = c.requires.formed.pages in
+    let below : c.args.page < length s.held.items = omega (arith, count, c.requires.dead.within.1) in
+    let held : x.held.items ≡ set s.held.items c.args.page (Some h) = ap (λ (l : List (Option Held)). set l c.args.page (Some h)) e.held in
+    let dead : held_at (seen s) c.args.page ≡ None = c.requires.dead.dead in
+    served_tied s x c.requires.tied block i n c.requires.none (ap (λ (q : State). q.victim) e.same) (sealed_set _ state)
+    (λ b has_b ne. c.mark.ensures.states b ∙ (r.states b (subst (λ u. HasBlock u b) (sym e.table) has_b) ne ∙ ap (λ u. (block_at u b).state) e.table))
+    (ap (λ (q : State). q.names) e.same)
+    (λ k old. ap (λ (u : Use). u.is_free) (c.mark.ensures.same.uses (k / s.blocks.size)) ∙ ⊎_elim
+    (λ q. ap (λ b. (use_in c.shut.new.blocks b).is_free) q ∙ ap (λ (u : Use). u.is_free) r.here)
+    (λ ne. ap (λ (u : Use). u.is_free) (r.others (k / s.blocks.size) ne) ∙ (ap (λ u. (use_in u (k / s.blocks.size)).is_free) e.table ∙ (c.requires.tied.named.standing k old).in_use))
+    (cases_eq (k / s.blocks.size) block))
+    (λ k is. absurd (cc (sym state ∙ is)))
+    (λ p g live. ⊎_elim
+    (λ here. inr (ap (λ q. q / s.blocks.size) here.0 ∙ at, (λ old. c.requires.dead.own (old_told s.names.pairs c.args.page (subst (IsOld s.names.pairs) here.0 old)))))
+    (λ there. inl there.1)
+    (set_held s.held.items c.args.page (Some h) below p g (ap (λ (l : List (Option Held)). get_or l p None) (sym held) ∙ live)))
+    (λ p g live. (g, ap (λ (l : List (Option Held)). get_or l p None) held ∙ (get_or-set_other s.held.items c.args.page p (Some h) None (λ q. none-some g (sym dead ∙ (ap (held_at (seen s)) (sym q) ∙ live))) ∙ live)))
+
+pub returns-clause-next : goal.returns-clause-next
+returns-clause-next c p next =
+    let s = c.args.self.now in
+    let m = c.close.new.self in
+    let e = c.close.ensures in
+    let t = c.mark.new.blocks in
+    let block = c.args.page / c.pages.result in
+    let h : Held = record { tag = c.args.tag; stamp = c.args.stamp } in
+    let x : State = record m { held = with_item m.held c.args.page (Some h); blocks = t } in
+    let n : SameNumbers s.blocks t = subst (λ u. SameNumbers u t) e.table (numbers_then c.shut.ensures.restated.numbers c.mark.ensures.same.numbers) in
+    (idle_next s x block (record { active = e.shut.active; target = e.shut.target; used = e.shut.used; filled = e.shut.filled }) n p next).0
+
+pub returns-clause-copies : goal.returns-clause-copies
+returns-clause-copies c p next =
+    let s = c.args.self.now in
+    let m = c.close.new.self in
+    let e = c.close.ensures in
+    let t = c.mark.new.blocks in
+    let block = c.args.page / c.pages.result in
+    let h : Held = record { tag = c.args.tag; stamp = c.args.stamp } in
+    let x : State = record m { held = with_item m.held c.args.page (Some h); blocks = t } in
+    let n : SameNumbers s.blocks t = subst (λ u. SameNumbers u t) e.table (numbers_then c.shut.ensures.restated.numbers c.mark.ensures.same.numbers) in
+    (idle_copy s x block (record { active = e.shut.active; target = e.shut.target; used = e.shut.used; filled = e.shut.filled }) n p next).0

@@ -1,6 +1,6 @@
-use Rattle.std.proofs.Common.{◌*◌, ◌^◌, ◌<◌, refl, sym, subst}
+use Rattle.std.proofs.Common.{◌*◌, ◌^◌, ◌<◌, None, refl, sym, subst}
 use Rattle.nl_pseg.specs.declared.state.State.{State}
-use Rattle.nl_pseg.proofs.News.{new_formed, new_seen}
+use Rattle.nl_pseg.proofs.News.{new_formed, new_seen, new_tied}
 use Rattle.nl_pseg.proofs.Shapes.{IsRoomy, is_roomy}
 use Rattle.nl_pseg.proofs.state.State.new.Goals as goal
 
@@ -12,10 +12,26 @@ new-requires-clause-numbers c =
 pub returns-clause-formed : goal.returns-clause-formed
 returns-clause-formed c =
     let roomy = subst IsRoomy (sym c.requires.numbers) (is_roomy c.args.shape.now.blocks c.args.shape.now.pages c.requires.legal) in
-    new_formed c.args.shape.now roomy _ c.in_ok-new.ensures c.in_ok-no_pages.ensures c.in_ok-no_marks.ensures refl refl
+    new_formed c.args.shape.now roomy _ c.in_ok-new.ensures c.in_ok-no_pages.ensures c.in_ok-no_marks.ensures refl refl refl refl refl c.in_ok-new-2.ensures
+
+pub returns-clause-tied : goal.returns-clause-tied
+returns-clause-tied c =
+    let roomy = subst IsRoomy (sym c.requires.numbers) (is_roomy c.args.shape.now.blocks c.args.shape.now.pages c.requires.legal) in
+    new_tied c.args.shape.now roomy _ c.in_ok-new.ensures c.in_ok-no_pages.ensures c.in_ok-no_marks.ensures refl refl refl refl refl c.in_ok-new-2.ensures
 
 pub returns-clause-seen : goal.returns-clause-seen
 returns-clause-seen c =
     let roomy = subst IsRoomy (sym c.requires.numbers) (is_roomy c.args.shape.now.blocks c.args.shape.now.pages c.requires.legal) in
-    let x : State = record { held = c.in_ok-no_pages.field-0; blocks = c.in_ok-new.field-0; soiled = c.in_ok-no_marks.field-0; active = c.args.shape.now.vblocks; used = c.args.shape.now.pages; buf = c.in_ok-new-2.field-0 } in
-    new_seen c.args.shape.now roomy x c.in_ok-new.ensures c.in_ok-no_pages.ensures c.in_ok-no_marks.ensures refl refl
+    let x : State = record {
+      held = c.in_ok-no_pages.field-0;
+      blocks = c.in_ok-new.field-0;
+      soiled = c.in_ok-no_marks.field-0;
+      active = c.args.shape.now.vblocks;
+      used = c.args.shape.now.pages;
+      target = c.args.shape.now.vblocks;
+      filled = c.args.shape.now.pages;
+      victim = None;
+      names = c.in_ok-new-2.field-0;
+      buf = c.in_ok-new-3.field-0;
+    } in
+    new_seen c.args.shape.now roomy x c.in_ok-new.ensures c.in_ok-no_pages.ensures c.in_ok-no_marks.ensures refl refl refl refl refl c.in_ok-new-2.ensures

@@ -12,6 +12,7 @@ use Rattle.nl_pseg.proofs.Placings.{used_failed, used_placed}
 use Rattle.nl_pseg.proofs.Segments.{dead_next}
 use Rattle.nl_pseg.proofs.States.{is_next, next_block, next_in_use, next_segment, within_length}
 use Rattle.nl_pseg.proofs.Tables.{use_here}
+use Rattle.nl_pseg.proofs.Tied.{next_apart, next_copy, next_own}
 use Rattle.nl_pseg.proofs.state.State.put.Goals as goal
 
 pub returns-in-Failed-clause-placing : goal.returns-in-Failed-clause-placing
@@ -27,7 +28,7 @@ returns-in-Failed-clause-segment g c t =
     let is = c.requires.formed in
     let next = is_next s is c.requires.room in
     let at : s.active * c.pages.result + s.used ≡ (seen s).next = ap (λ n. s.active * n + s.used) c.pages.ensures in
-    after_put c.use_next.ensures.used (within_length s is (seen s).next (next_segment s is c.requires.room (seen s).next next)) (next_in_use s is c.requires.room (seen s).next next) (c.requires.segment t)
+    after_put c.use_next.ensures.used (within_length s is (seen s).next (next_segment s is c.requires.room (seen s).next next)) (next_in_use s is c.requires.room (seen s).next next) (λ copy. next_copy s is c.requires.tied c.requires.room (seen s).next next copy) (c.requires.segment t)
     (subst (λ n. Cut n (n + 1) (written (page_with c.copy_from.new.self.main c.args.tag c.args.stamp c.wear-wear.result)) (g.M.Nand.contents c.args.media.now) (g.M.Nand.contents c.program_page.new.media)) at (c.in-Failed.ensures.effect t))
     (λ h none. absurd (cc none))
 
@@ -38,7 +39,7 @@ returns-in-Done-clause-placing g c =
     let room = c.requires.room in
     let at : s.active * c.pages.result + s.used ≡ (seen s).next = ap (λ n. s.active * n + s.used) c.pages.ensures in
     let next = is_next s is c.requires.room in
-    let dead : IsDead (seen s) (seen s).next = record { within = next_segment s is c.requires.room (seen s).next next; dead = dead_next (seen s) is.places (seen s).next next } in
+    let dead : IsDead (seen s) (seen s).next = record { within = next_segment s is c.requires.room (seen s).next next; dead = dead_next (seen s) is.places (seen s).next next; own = next_own s is c.requires.tied (seen s).next next; apart = next_apart s is c.requires.tied c.requires.room (seen s).next next } in
     used_placed (s.active * c.pages.result + s.used) c.args.stamp at c.use_next-in-Done.ensures.used (omega (arith, room)) (subst (IsDead (seen s)) (sym at) dead)
 
 pub returns-in-Done-clause-segment : goal.returns-in-Done-clause-segment
@@ -50,7 +51,7 @@ returns-in-Done-clause-segment g c t =
     let value = written (page_with c.copy_from.new.self.main c.args.tag c.args.stamp c.wear-wear.result) in
     let filled = c.in-Done.ensures.effect t in
     let has : page_at (g.M.Nand.contents c.program_page.new.media) (seen s).next ≡ value = subst (λ n. page_at (g.M.Nand.contents c.program_page.new.media) n ≡ value) at (filled.inside (s.active * c.pages.result + s.used) (omega arith) (omega arith)) in
-    after_put c.use_next-in-Done.ensures.used (within_length s is (seen s).next (next_segment s is c.requires.room (seen s).next next)) (next_in_use s is c.requires.room (seen s).next next) (c.requires.segment t)
+    after_put c.use_next-in-Done.ensures.used (within_length s is (seen s).next (next_segment s is c.requires.room (seen s).next next)) (next_in_use s is c.requires.room (seen s).next next) (λ copy. next_copy s is c.requires.tied c.requires.room (seen s).next next copy) (c.requires.segment t)
     (subst (λ n. Cut n (n + 1) value (g.M.Nand.contents c.args.media.now) (g.M.Nand.contents c.program_page.new.media)) at (filled_cut filled))
     (λ h some. shows_placed c.args.tag c.args.stamp h (page_with c.copy_from.new.self.main c.args.tag c.args.stamp c.wear-wear.result) has c.program_page.ensures.shows some)
 
@@ -72,7 +73,7 @@ returns-in-Done-clause-crash g c t =
     let page = s.active * c.pages.result + s.used in
     let at : page ≡ (seen s).next = ap (λ n. s.active * n + s.used) c.pages.ensures in
     let next = subst (IsNext (seen s)) (sym at) (is_next s is c.requires.room) in
-    let dead : IsDead (seen s) page = record { within = next_segment s is c.requires.room page next; dead = dead_next (seen s) is.places page next } in
+    let dead : IsDead (seen s) page = record { within = next_segment s is c.requires.room page next; dead = dead_next (seen s) is.places page next; own = next_own s is c.requires.tied page next; apart = next_apart s is c.requires.tied c.requires.room page next } in
     let worn : c.wear-wear.result ≡ wear_of (seen s) (page / s.blocks.size) = c.wear-wear.ensures ∙ sym (ap (λ (b : ℕ). (use_in s.blocks b).wear) (next_block s is c.requires.room page next) ∙ ap (λ (u : Use). u.wear) (use_here s.blocks s.active is.active_in)) in
     put_crashes (seen s) page c.args.tag c.args.stamp c.wear-wear.result c.copy_from.new.self.main c.args.from.now.main c.program_page.result (Placed (record { name = page; stamp = c.args.stamp })) dead refl
     (λ placed. c.in-Done.is) (ap (λ (b : PageBytes). b.main) c.copy_from.ensures) worn c.program_page.ensures.shows c.program_page.ensures.crash (c.program_page.ensures.effect t) c.program_page.ensures.clock
@@ -84,7 +85,7 @@ returns-in-Failed-clause-crash g c t =
     let page = s.active * c.pages.result + s.used in
     let at : page ≡ (seen s).next = ap (λ n. s.active * n + s.used) c.pages.ensures in
     let next = subst (IsNext (seen s)) (sym at) (is_next s is c.requires.room) in
-    let dead : IsDead (seen s) page = record { within = next_segment s is c.requires.room page next; dead = dead_next (seen s) is.places page next } in
+    let dead : IsDead (seen s) page = record { within = next_segment s is c.requires.room page next; dead = dead_next (seen s) is.places page next; own = next_own s is c.requires.tied page next; apart = next_apart s is c.requires.tied c.requires.room page next } in
     let worn : c.wear-wear.result ≡ wear_of (seen s) (page / s.blocks.size) = c.wear-wear.ensures ∙ sym (ap (λ (b : ℕ). (use_in s.blocks b).wear) (next_block s is c.requires.room page next) ∙ ap (λ (u : Use). u.wear) (use_here s.blocks s.active is.active_in)) in
     put_crashes (seen s) page c.args.tag c.args.stamp c.wear-wear.result c.copy_from.new.self.main c.args.from.now.main c.program_page.result Fault dead tt
     (λ placed. absurd placed) (ap (λ (b : PageBytes). b.main) c.copy_from.ensures) worn c.program_page.ensures.shows c.program_page.ensures.crash (c.program_page.ensures.effect t) c.program_page.ensures.clock

@@ -1,4 +1,4 @@
-use Rattle.std.proofs.Common.{◌≡◌, ◌+◌, ◌*◌, ◌<◌, ◌^◌, length, set, refl, sym, ◌∙◌, ap, subst, arith, length-set, ne_eqb, cond, is_some, Option, Some, None}
+use Rattle.std.proofs.Common.{◌≡◌, ◌⊎◌, inl, inr, ⊎_elim, ◌+◌, ◌-◌, ◌*◌, ◌<◌, ◌^◌, length, set, refl, sym, ◌∙◌, ap, subst, arith, length-set, ne_eqb, eq-eqb, cond, is_some, Option, Some, None}
 use Rattle.std.specs.Vec.{with_item}
 use Rattle.nl_pseg.specs.Segment.{Use}
 use Rattle.nl_pseg.specs.Seen.{seen, state_for}
@@ -9,6 +9,8 @@ use Rattle.nl_pseg.proofs.Forms.{marked_are}
 use Rattle.nl_pseg.proofs.Segments.{used_places}
 use Rattle.nl_pseg.proofs.States.{within_length, next_segment, is_next, next_in_use}
 use Rattle.nl_pseg.proofs.Tables.{has_same, page_back, same_then}
+use Rattle.nl_pseg.proofs.Used.{used_tied}
+use Rattle.std.proofs.lemmas.Bool.{cases_eq}
 use Rattle.nl_pseg.proofs.state.State.use_next.Goals as goal
 
 state_is : (x : Option Held) → cond (is_some x) Live Dead ≡ state_for x
@@ -37,6 +39,7 @@ returns-clause-formed c =
       free = same.total;
       uses = same.uses;
       soiled = refl;
+      names = record { same_pairs = refl; same_pair_room = refl; same_victim = refl; copies = (λ i. s.target * n.same_size i + s.filled, λ i. n.same_size i - s.filled) };
     } in
     let next = is_next s is c.requires.room in
     let segment = next_segment s is c.requires.room (s.active * s.blocks.size + s.used) next in
@@ -53,6 +56,24 @@ returns-clause-formed c =
       active_in = has_same s.active n is.active_in;
       used_fits = let e = n.same_size in let room = c.requires.room in omega (arith, e, room);
       taken = λ lt. c.seal_full.ensures.more (ne_eqb (s.used + 1) c.pages-pages.result (λ full. let e = n.same_size in let p = c.pages-pages.ensures in omega (arith, lt, full, e, p)));
-      only_free = λ b. ap (λ (u : Use). u.is_kept) (same.uses b) ∙ (is.only_free b ∙ sym (ap (λ (u : Use). u.is_free) (same.uses b)));
       places = used_places used is.some (within_length s is (s.active * s.blocks.size + s.used) segment) segment (next_in_use s is c.requires.room (s.active * s.blocks.size + s.used) next) c.requires.spelled is.places;
     }
+
+pub returns-clause-tied : goal.returns-clause-tied
+returns-clause-tied c =
+    let s = c.args.self.now in
+    let is = c.requires.formed in
+    let same = same_then c.mark.ensures.same c.seal_full.ensures.same in
+    let at : s.active * c.pages-pages.result + s.used ≡ s.active * s.blocks.size + s.used = ap (λ k. s.active * k + s.used) c.pages-pages.ensures in
+    let page = s.active * c.pages-pages.result + s.used in
+    let next = is_next s is c.requires.room in
+    let segment = next_segment s is c.requires.room (s.active * s.blocks.size + s.used) next in
+    let within : page < length s.held.items = subst (λ k. k < length s.held.items) (sym at) (within_length s is (s.active * s.blocks.size + s.used) segment) in
+    let p = c.pages-pages.ensures in
+    let room = c.requires.room in
+    used_tied s is c.requires.tied c.requires.room c.seal_full.new.blocks same page at c.args.held
+    (⊎_elim
+    (λ full. inr (c.seal_full.ensures.sealed (eq-eqb (s.used + 1) c.pages-pages.result full)))
+    (λ ne. inl (c.seal_full.ensures.more (ne_eqb (s.used + 1) c.pages-pages.result ne), omega (arith, p, room, ne)))
+    (cases_eq (s.used + 1) c.pages-pages.result))
+    (λ b has ne. c.seal_full.ensures.others b (has_same b c.mark.ensures.same.numbers has) ne ∙ c.mark.ensures.states b) within

@@ -1,6 +1,6 @@
 use Rattle.std.proofs.Common.{⊎_elim, inr, ◌<◌, sym, ◌∙◌, arith}
 use Rattle.nl_pseg.proofs.States.{next_block}
-use Rattle.nl_pseg.proofs.state.State.close.Goals as goal
+use Rattle.nl_pseg.proofs.state.State.close_active.Goals as goal
 
 pub returns-then-block-self-clause-formed : goal.returns-then-block-self-clause-formed
 returns-then-block-self-clause-formed c =
@@ -13,7 +13,6 @@ returns-then-block-self-clause-formed c =
       active_in = c.requires.active_in;
       used_fits = omega (arith, e);
       taken = λ lt. absurd (omega (arith, e, lt));
-      only_free = c.requires.only_free;
       marked = c.requires.marked;
       places = record {
         each = λ p h named.

@@ -1,6 +1,7 @@
 use Rattle.std.proofs.Common.{None, ◌∙◌, arith, length-set}
 use Rattle.nl_pseg.proofs.Numbers.{block_of}
-use Rattle.nl_pseg.proofs.state.State.begin.Goals as goal
+use Rattle.nl_pseg.proofs.Taken.{taken_tied}
+use Rattle.nl_pseg.proofs.state.State.write_to.Goals as goal
 
 pub returns-clause-formed : goal.returns-clause-formed
 returns-clause-formed c =
@@ -14,7 +15,6 @@ returns-clause-formed c =
       active_in = c.requires.has;
       used_fits = omega arith;
       taken = λ lt. c.requires.active;
-      only_free = is.only_free;
       marked = is.marked;
       places = record {
         each = λ p h named.
@@ -27,3 +27,6 @@ returns-clause-formed c =
             };
       };
     }
+
+pub returns-clause-tied : goal.returns-clause-tied
+returns-clause-tied c = taken_tied c.args.self.now c.args.block c.requires.taking c.requires.formed.some c.requires.active

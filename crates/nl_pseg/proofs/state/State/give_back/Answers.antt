@@ -1,0 +1,77 @@
+use Rattle.std.proofs.Common.{◌≡◌, ◌⊎◌, inl, ℕ, ◌+◌, ◌-◌, ◌/◌, ◌^◌, ◌<◌, ◌≤◌, min, List, Option, Some, None, length, get_or, set, unwrap_or, is_some, refl, sym, ◌∙◌, ap, subst, arith, true, false}
+use Rattle.std.specs.Vec.{with_item}
+use Rattle.std.proofs.lemmas.Bool.{true≢false}
+use Rattle.std.proofs.lemmas.List.{get_or-set_same, get_or-set_other}
+use Rattle.std.proofs.lemmas.Option.{none-some}
+use Rattle.nl_blocks.specs.declared.states.BlockState.TheVariants.{Free}
+use Rattle.nl_blocks.specs.Table.{HasBlock, Table, block_at}
+use Rattle.nl_remap.specs.Links.{HasLink, link_at}
+use Rattle.nl_remap.specs.Table.{IsOld, told}
+use Rattle.nl_pseg.specs.OldNames.{NameTable}
+use Rattle.nl_pseg.specs.Segment.{Use, held_at}
+use Rattle.nl_pseg.specs.Seen.{seen, use_in}
+use Rattle.nl_pseg.specs.Steps.{IsApart, IsIdle, SameNumbers}
+use Rattle.nl_pseg.specs.declared.held.Held.{Held}
+use Rattle.nl_pseg.specs.declared.state.State.{State}
+use Rattle.nl_pseg.proofs.Forms.{next_is, left_is}
+use Rattle.nl_pseg.proofs.Segments.{apart_taken}
+use Rattle.nl_pseg.proofs.Served.{free_set, served_tied}
+use Rattle.nl_pseg.proofs.States.{next_block}
+use Rattle.nl_pseg.proofs.Tables.{free_state_is, has_same}
+use Rattle.nl_pseg.proofs.state.State.give_back.Goals as goal
+
+pub returns-clause-tied : goal.returns-clause-tied
+returns-clause-tied c =
+    let s = c.args.self.now in
+    let m = c.close.new.self in
+    let e = c.close.ensures in
+    let g = c.give_back.ensures in
+    let x : State = record m { blocks = c.give_back.new.blocks; soiled = with_item m.soiled c.args.block (Some c.wear-wear.result) } in
+    let n : SameNumbers s.blocks x.blocks = subst (λ u. SameNumbers u c.give_back.new.blocks) e.table g.numbers in
+    let i : IsIdle c.args.block s x = record { active = e.shut.active; target = e.shut.target; used = e.shut.used; filled = e.shut.filled } in
+    let state : (block_at x.blocks c.args.block).state ≡ Free = free_state_is c.give_back.new.blocks c.args.block (has_same c.args.block n c.requires.within) (ap (λ (u : Use). u.is_free) g.here) in
+    served_tied s x c.requires.tied c.args.block i n c.requires.no_victim (ap (λ (q : State). q.victim) e.same) (free_set _ state)
+    (λ b has_b ne. g.states b (subst (λ u. HasBlock u b) (sym e.table) has_b) ne ∙ ap (λ u. (block_at u b).state) e.table)
+    (ap (λ (q : State). q.names) e.same)
+    (λ k old. let live = c.requires.tied.named.to_live (link_at s.names.pairs old.0) (old.0, old.1, refl) in absurd (none-some live.0 (sym (c.requires.none (link_at s.names.pairs old.0).to) ∙ live.1)))
+    (λ k is. absurd (cc (sym state ∙ is)))
+    (λ p h held. inl (sym (ap (λ (l : List (Option Held)). get_or l p None) e.held) ∙ held))
+    (λ p h held. (h, ap (λ (l : List (Option Held)). get_or l p None) e.held ∙ held))
+
+pub returns-clause-given : goal.returns-clause-given
+returns-clause-given c =
+    let s = c.args.self.now in
+    let m = c.close.new.self in
+    let e = c.close.ensures in
+    let g = c.give_back.ensures in
+    let is = e.formed in
+    let t = c.give_back.new.blocks in
+    let n = g.numbers in
+    let x : State = record m { blocks = t; soiled = with_item m.soiled c.args.block (Some c.wear-wear.result) } in
+    let now : SameNumbers s.blocks x.blocks = subst (λ u. SameNumbers u t) e.table n in
+    let has : HasBlock m.blocks c.args.block = subst (λ u. HasBlock u c.args.block) (sym e.table) c.requires.within in
+    let within : c.args.block < length m.soiled.items = subst (λ k. c.args.block < k) (sym is.marks) has.below in
+    let size = ap (λ (u : Table). u.size) e.table in
+    let apart : IsApart c.args.block (seen m) (seen x) = record {
+      range = record { range_first = n.same_first; range_blocks = λ i. n.same_first i + n.same_count i; range_size = n.same_size };
+      next = next_is m is t n;
+      left = left_is m is t n;
+      idle = λ q next at. let room : m.used < m.blocks.size = omega (arith, next.0, next.1) in e.idle room (sym at ∙ next_block m is room q next);
+      others_kept = λ b ne. ap (λ (u : Use). u.is_kept) (g.others b ne);
+      others_soiled = λ b ne. get_or-set_other m.soiled.items c.args.block b (Some c.wear-wear.result) None ne;
+      gone = λ free clean. true≢false (sym (ap is_some (get_or-set_same m.soiled.items c.args.block (Some c.wear-wear.result) None within)) ∙ clean);
+    } in
+    record {
+      range = record { range_first = now.same_first; range_blocks = λ i. now.same_first i + now.same_count i; range_size = now.same_size };
+      held = e.held;
+      names = (ap (λ (q : State). told q.names.pairs) e.same, ap (λ (q : State). q.names.room) e.same);
+      victim = ap (λ (q : State). q.victim) e.same;
+      left = let l = e.left in let z = n.same_size in omega (arith, l, z);
+      here = ap (λ (u : Use). u.is_free) g.here;
+      told = λ used. get_or-set_same m.soiled.items c.args.block (Some c.wear-wear.result) None within ∙ ap (λ w. Some w) c.wear-wear.ensures;
+      wear = λ used. ap (λ (u : Use). u.wear) g.here ∙ (c.saturating_add.ensures ∙ ap (λ w. min (w + 1) (2 ^ 32 - 1)) c.wear-wear.ensures);
+      others = λ b ne. g.others b ne ∙ ap (λ u. use_in u b) e.table;
+      others_soiled = λ b ne. get_or-set_other m.soiled.items c.args.block b (Some c.wear-wear.result) None ne ∙ ap (λ (l : List (Option ℕ)). get_or l b None) e.soiled;
+      erased = λ p taken. e.erased p (apart_taken apart p taken).0;
+      same = λ free. absurd (true≢false (sym free ∙ (sym c.is_free.ensures ∙ c.if-is_free.false)));
+    }

@@ -1,0 +1,220 @@
+use Rattle.std.proofs.Common.{◌≡◌, inl, inr, ⊎_elim, ℕ, ◌+◌, ◌*◌, ◌/◌, ◌<◌, ◌≤◌, true, false, refl, sym, ◌∙◌, ap, subst, arith}
+use Rattle.std.proofs.lemmas.Bool.{cases_eq, true≢false}
+use Rattle.nl_field.specs.Page.{Image, erased}
+use Rattle.nl_nand.specs.ImageLaws.{filled_cut}
+use Rattle.nl_nand.specs.Nand.{Cut}
+use Rattle.nl_nand.proofs.Crashes.{operation}
+use Rattle.nl_nand.proofs.Crashes as crashes
+use Rattle.nl_pseg.specs.Effects.{Keeps}
+use Rattle.nl_pseg.specs.Segment.{Physical, Use, IsPhysicalOf, is_free, is_kept, is_soiled}
+use Rattle.nl_pseg.specs.Seen.{seen, use_in}
+use Rattle.nl_pseg.specs.Steps.{IsReadied, Restated}
+use Rattle.nl_pseg.proofs.Aimed.{again_readied, aimed_readied}
+use Rattle.nl_pseg.proofs.Forms.{formed_same}
+use Rattle.nl_pseg.proofs.Images.{erase_keeps, erase_others, keeps_nothing}
+use Rattle.nl_pseg.proofs.Numbers.{block_of, in_block}
+use Rattle.nl_pseg.proofs.Openings.{free_use, last_block}
+use Rattle.nl_pseg.proofs.Readied.{again_segment, aimed_segment, free_dead, taken_formed}
+use Rattle.nl_pseg.proofs.Tables.{free_kept, has_same, restated_again, restated_same, use_here}
+use Rattle.nl_pseg.proofs.Taken.{free_again, free_other}
+use Rattle.nl_pseg.proofs.Tied.{free_apart, free_own}
+use Rattle.nl_blocks.specs.declared.states.BlockState.TheVariants.{Active}
+use Rattle.nl_pseg.proofs.state.State.ready.Goals as goal
+
+pub aim-requires-clause-formed : goal.aim-requires-clause-formed
+aim-requires-clause-formed g c =
+    let s = c.args.self.now in
+    let is = c.requires.formed in
+    let block = c.take_target-block.result in
+    let has = c.take_target-block.ensures.has in
+    let free = c.take_target-block.ensures.was_free in
+    let r = c.take_target-block.ensures.taken in
+    taken_formed s is block has free c.take_target-block.new.blocks r
+
+pub aim-requires-clause-in_use : goal.aim-requires-clause-in_use
+aim-requires-clause-in_use g c p h held at =
+    let s = c.args.self.now in
+    let is = c.requires.formed in
+    let block = c.take_target-block.result in
+    let has = c.take_target-block.ensures.has in
+    let free = c.take_target-block.ensures.was_free in
+    let r = c.take_target-block.ensures.taken in
+    free_dead s is block has free p h held (ap (λ n. p / n) (sym r.numbers.same_size) ∙ at)
+
+pub aim-requires-in-Done-clause-formed : goal.aim-requires-in-Done-clause-formed
+aim-requires-in-Done-clause-formed g c =
+    let s = c.args.self.now in
+    let is = c.requires.formed in
+    let block = c.take_target-block.result in
+    let has = c.take_target-block.ensures.has in
+    let free = c.take_target-block.ensures.was_free in
+    let r = c.take_target-block.ensures.taken in
+    taken_formed s is block has free c.take_target-block.new.blocks r
+
+pub aim-requires-in-Done-clause-in_use : goal.aim-requires-in-Done-clause-in_use
+aim-requires-in-Done-clause-in_use g c p h held at =
+    let s = c.args.self.now in
+    let is = c.requires.formed in
+    let block = c.take_target-block.result in
+    let has = c.take_target-block.ensures.has in
+    let free = c.take_target-block.ensures.was_free in
+    let r = c.take_target-block.ensures.taken in
+    free_dead s is block has free p h held (ap (λ n. p / n) (sym r.numbers.same_size) ∙ at)
+
+pub returns-then-not-is_soiled-clause-readied : goal.returns-then-not-is_soiled-clause-readied
+returns-then-not-is_soiled-clause-readied g c =
+    let s = c.args.self.now in
+    let is = c.requires.formed in
+    let block = c.take_target-block.result in
+    let has = c.take_target-block.ensures.has in
+    let free = c.take_target-block.ensures.was_free in
+    let r = c.take_target-block.ensures.taken in
+    let full : s.blocks.size ≤ s.filled = (let f = c.if-self-pages.false in let e = c.pages.ensures in omega (arith, f, e)) in
+    subst (IsReadied (seen s)) (sym c.aim.ensures.aimed)
+    (aimed_readied s is c.requires.tied c.take_target-block.new.blocks block c.count.ensures.table c.count-2.ensures.table full r free)
+
+pub returns-in-Done-clause-readied : goal.returns-in-Done-clause-readied
+returns-in-Done-clause-readied g c =
+    let s = c.args.self.now in
+    let is = c.requires.formed in
+    let block = c.take_target-block.result in
+    let has = c.take_target-block.ensures.has in
+    let free = c.take_target-block.ensures.was_free in
+    let r = c.take_target-block.ensures.taken in
+    let full : s.blocks.size ≤ s.filled = (let f = c.if-self-pages.false in let e = c.pages.ensures in omega (arith, f, e)) in
+    subst (IsReadied (seen s)) (sym c.aim-in-Done.ensures.aimed)
+    (aimed_readied s is c.requires.tied c.take_target-block.new.blocks block c.count.ensures.table c.count-2.ensures.table full r free)
+
+pub returns-then-not-is_soiled-clause-medium : goal.returns-then-not-is_soiled-clause-medium
+returns-then-not-is_soiled-clause-medium g c t =
+    let s = c.args.self.now in
+    let is = c.requires.formed in
+    let block = c.take_target-block.result in
+    let has = c.take_target-block.ensures.has in
+    let free = c.take_target-block.ensures.was_free in
+    let r = c.take_target-block.ensures.taken in
+    let image = g.M.Nand.contents c.args.media.now in
+    let clean : is_soiled (seen s) block ≡ false = sym c.is_soiled.ensures ∙ c.if-not-is_soiled.true in
+    record {
+      segment = subst (IsPhysicalOf image) (sym c.aim.ensures.aimed) (aimed_segment s is block has free c.take_target-block.new.blocks r (c.requires.segment t) (λ p ne. refl)
+          (λ p at. (c.requires.segment t).blank p (inr (ap (is_kept (seen s)) at ∙ free_kept s.blocks block free, ap (is_soiled (seen s)) at ∙ clean))));
+      keeps = keeps_nothing (seen s) image;
+      crash = crashes.start c.args.media.now (λ m i. Keeps (seen s) image i);
+      others = λ done p. inl refl;
+    }
+
+pub returns-in-Done-clause-medium : goal.returns-in-Done-clause-medium
+returns-in-Done-clause-medium g c t =
+    let s = c.args.self.now in
+    let is = c.requires.formed in
+    let block = c.take_target-block.result in
+    let has = c.take_target-block.ensures.has in
+    let free = c.take_target-block.ensures.was_free in
+    let r = c.take_target-block.ensures.taken in
+    let pages = (g.M.Nand.geometry c.args.media.now).pages in
+    let old = g.M.Nand.contents c.args.media.now in
+    let dirty : is_soiled (seen s) block ≡ true = sym c.is_soiled.ensures ∙ c.if-not-is_soiled.false in
+    let keep = λ (i : Image) (cut : Cut (block * pages) (block * pages + pages) erased old i). erase_keeps (seen s) block pages c.requires.fits.pages (last_block s) is.places (free_kept s.blocks block free) (free_own s is c.requires.tied block free) (free_apart s is c.requires.tied block has free) cut in
+    let filled = c.in-Done.ensures.effect t in
+    let inside = λ (p : ℕ) (at : p / s.blocks.size ≡ block).
+    (let w = in_block p s.blocks.size block is.some at in
+    filled.inside p (subst (λ n. block * n ≤ p) (sym c.requires.fits.pages) w.0) (subst (λ n. p < block * n + n) (sym c.requires.fits.pages) w.1)) in
+    let next : (seen c.aim-in-Done.new.self).copy_next / s.blocks.size ≡ block = ap (λ (x : Physical). x.copy_next / s.blocks.size) c.aim-in-Done.ensures.aimed ∙ (let e = r.numbers.same_size in let a : block * c.take_target-block.new.blocks.size ≡ block * s.blocks.size = ap (λ n. block * n) e in block_of (block * c.take_target-block.new.blocks.size) s.blocks.size block (omega (arith, a)) (let some = is.some in omega (arith, a, some))) in
+    record {
+      segment = subst (IsPhysicalOf (g.M.Nand.contents c.erase.new.self)) (sym c.aim-in-Done.ensures.aimed) (aimed_segment s is block has free c.take_target-block.new.blocks r (c.requires.segment t) (erase_others block pages s.blocks.size c.requires.fits.pages (filled_cut filled)) inside);
+      keeps = keep _ (filled_cut filled);
+      crash = operation c.erase.result (λ i. Keeps (seen s) old i) c.erase.ensures.crash (c.erase.ensures.effect t) keep;
+      others = λ done p. ⊎_elim
+          (λ at. inr (at ∙ sym next, ap (is_free (seen s)) next ∙ free, ap (is_soiled (seen s)) next ∙ dirty, inside p at))
+          (λ ne. inl (erase_others block pages s.blocks.size c.requires.fits.pages (filled_cut filled) p ne))
+          (cases_eq (p / s.blocks.size) block);
+    }
+
+pub returns-in-Failed-clause-formed : goal.returns-in-Failed-clause-formed
+returns-in-Failed-clause-formed g c =
+    let s = c.args.self.now in
+    let is = c.requires.formed in
+    let block = c.take_target-block.result in
+    let has = c.take_target-block.ensures.has in
+    let free = c.take_target-block.ensures.was_free in
+    let r = c.take_target-block.ensures.taken in
+    let mid = c.take_target-block.new.blocks in
+    let has_mid = has_same block r.numbers has in
+    let worn : c.wear-wear.result ≡ (use_in s.blocks block).wear = c.wear-wear.ensures ∙ (sym (ap (λ (u : Use). u.wear) (use_here mid block has_mid)) ∙ ap (λ (u : Use). u.wear) r.here) in
+    let again : Restated block true (use_in s.blocks block).wear mid c.give_back.new.blocks = subst (λ n. Restated block true n mid c.give_back.new.blocks) worn c.give_back.ensures in
+    let both = restated_again r again in
+    let same = restated_same (free_use s block is free) both in
+    formed_same s c.give_back.new.blocks is same both.marks (λ room. both.states s.active is.active_in (free_other s.blocks block s.active Active has free refl (is.taken room)) ∙ is.taken room)
+
+pub returns-in-Failed-clause-tied : goal.returns-in-Failed-clause-tied
+returns-in-Failed-clause-tied g c =
+    let s = c.args.self.now in
+    let is = c.requires.formed in
+    let block = c.take_target-block.result in
+    let has = c.take_target-block.ensures.has in
+    let free = c.take_target-block.ensures.was_free in
+    let r = c.take_target-block.ensures.taken in
+    let mid = c.take_target-block.new.blocks in
+    let has_mid = has_same block r.numbers has in
+    let worn : c.wear-wear.result ≡ (use_in s.blocks block).wear = c.wear-wear.ensures ∙ (sym (ap (λ (u : Use). u.wear) (use_here mid block has_mid)) ∙ ap (λ (u : Use). u.wear) r.here) in
+    let again : Restated block true (use_in s.blocks block).wear mid c.give_back.new.blocks = subst (λ n. Restated block true n mid c.give_back.new.blocks) worn c.give_back.ensures in
+    let both = restated_again r again in
+    let same = restated_same (free_use s block is free) both in
+    free_again s c.requires.tied c.give_back.new.blocks same block has free both.states
+
+pub returns-in-Failed-clause-readied : goal.returns-in-Failed-clause-readied
+returns-in-Failed-clause-readied g c =
+    let s = c.args.self.now in
+    let is = c.requires.formed in
+    let block = c.take_target-block.result in
+    let has = c.take_target-block.ensures.has in
+    let free = c.take_target-block.ensures.was_free in
+    let r = c.take_target-block.ensures.taken in
+    let mid = c.take_target-block.new.blocks in
+    let has_mid = has_same block r.numbers has in
+    let worn : c.wear-wear.result ≡ (use_in s.blocks block).wear = c.wear-wear.ensures ∙ (sym (ap (λ (u : Use). u.wear) (use_here mid block has_mid)) ∙ ap (λ (u : Use). u.wear) r.here) in
+    let again : Restated block true (use_in s.blocks block).wear mid c.give_back.new.blocks = subst (λ n. Restated block true n mid c.give_back.new.blocks) worn c.give_back.ensures in
+    let both = restated_again r again in
+    let same = restated_same (free_use s block is free) both in
+    again_readied s is c.requires.tied c.give_back.new.blocks c.count.ensures.table c.count-in-Failed.ensures.table same both.marks
+
+pub returns-in-Failed-clause-medium : goal.returns-in-Failed-clause-medium
+returns-in-Failed-clause-medium g c t =
+    let s = c.args.self.now in
+    let is = c.requires.formed in
+    let block = c.take_target-block.result in
+    let has = c.take_target-block.ensures.has in
+    let free = c.take_target-block.ensures.was_free in
+    let r = c.take_target-block.ensures.taken in
+    let full : s.blocks.size ≤ s.filled = (let f = c.if-self-pages.false in let e = c.pages.ensures in omega (arith, f, e)) in
+    let mid = c.take_target-block.new.blocks in
+    let has_mid = has_same block r.numbers has in
+    let worn : c.wear-wear.result ≡ (use_in s.blocks block).wear = c.wear-wear.ensures ∙ (sym (ap (λ (u : Use). u.wear) (use_here mid block has_mid)) ∙ ap (λ (u : Use). u.wear) r.here) in
+    let again : Restated block true (use_in s.blocks block).wear mid c.give_back.new.blocks = subst (λ n. Restated block true n mid c.give_back.new.blocks) worn c.give_back.ensures in
+    let both = restated_again r again in
+    let same = restated_same (free_use s block is free) both in
+    let pages = (g.M.Nand.geometry c.args.media.now).pages in
+    let old = g.M.Nand.contents c.args.media.now in
+    let dirty : is_soiled (seen s) block ≡ true = sym c.is_soiled.ensures ∙ c.if-not-is_soiled.false in
+    let keep = λ (i : Image) (cut : Cut (block * pages) (block * pages + pages) erased old i). erase_keeps (seen s) block pages c.requires.fits.pages (last_block s) is.places (free_kept s.blocks block free) (free_own s is c.requires.tied block free) (free_apart s is c.requires.tied block has free) cut in
+    let cut = c.in-Failed.ensures.effect t in
+    record {
+      segment = again_segment s is block has free c.give_back.new.blocks same full dirty (c.requires.segment t) (erase_others block pages s.blocks.size c.requires.fits.pages cut);
+      keeps = keep _ cut;
+      crash = operation c.erase.result (λ i. Keeps (seen s) old i) c.erase.ensures.crash (c.erase.ensures.effect t) keep;
+      others = λ done. absurd (cc done);
+    }
+
+pub returns-in-Done-clause-clean : goal.returns-in-Done-clause-clean
+returns-in-Done-clause-clean g c clean =
+    let s = c.args.self.now in
+    let block = c.take_target-block.result in
+    let dirty : is_soiled (seen s) block ≡ true = sym c.is_soiled.ensures ∙ c.if-not-is_soiled.false in
+    absurd (true≢false (sym dirty ∙ clean block (free_kept s.blocks block c.take_target-block.ensures.was_free)))
+
+pub returns-in-Failed-clause-clean : goal.returns-in-Failed-clause-clean
+returns-in-Failed-clause-clean g c clean =
+    let s = c.args.self.now in
+    let block = c.take_target-block.result in
+    let dirty : is_soiled (seen s) block ≡ true = sym c.is_soiled.ensures ∙ c.if-not-is_soiled.false in
+    absurd (true≢false (sym dirty ∙ clean block (free_kept s.blocks block c.take_target-block.ensures.was_free)))

@@ -1,0 +1,39 @@
+use Rattle.std.proofs.Common.{None, sym, ◌∙◌, ap, subst, arith}
+use Rattle.std.specs.Vec.{with_item}
+use Rattle.nl_blocks.specs.Table.{Table}
+use Rattle.nl_pseg.specs.Cleaning.{Erases}
+use Rattle.nl_pseg.specs.OldNames.{names_among}
+use Rattle.nl_pseg.specs.Seen.{IsFormed, IsTied, seen}
+use Rattle.nl_pseg.proofs.Released.{released, released_formed, released_tied}
+use Rattle.nl_pseg.proofs.state.State.release.Goals as goal
+
+pub returns-clause-formed : goal.returns-clause-formed
+returns-clause-formed c =
+    let s = c.args.self.now in
+    let counted = c.count-names.ensures ∙ ap (λ k. names_among k c.args.victim s.names.pairs) c.requires.tied.named.size in
+    subst (λ (t : Table). IsFormed (record s { blocks = t; soiled = with_item s.soiled c.args.victim None; victim = None })) (sym c.erased.ensures)
+    (released_formed s c.requires.formed c.requires.tied c.count.ensures.table c.args.victim c.requires.victim c.requires.dead c.count-names.result counted)
+
+pub returns-clause-tied : goal.returns-clause-tied
+returns-clause-tied c =
+    let s = c.args.self.now in
+    let counted = c.count-names.ensures ∙ ap (λ k. names_among k c.args.victim s.names.pairs) c.requires.tied.named.size in
+    subst (λ (t : Table). IsTied (record s { blocks = t; soiled = with_item s.soiled c.args.victim None; victim = None })) (sym c.erased.ensures)
+    (released_tied s c.requires.formed c.requires.tied c.count.ensures.table c.args.victim c.requires.victim c.requires.dead c.count-names.result counted)
+
+pub returns-clause-erases : goal.returns-clause-erases
+returns-clause-erases c =
+    let s = c.args.self.now in
+    let counted = c.count-names.ensures ∙ ap (λ k. names_among k c.args.victim s.names.pairs) c.requires.tied.named.size in
+    subst (λ (t : Table). Erases c.args.victim (seen s) (seen (record s { blocks = t; soiled = with_item s.soiled c.args.victim None; victim = None }))) (sym c.erased.ensures)
+    (released s c.requires.formed c.requires.tied c.count.ensures.table c.args.victim c.requires.victim c.requires.dead c.count-names.result counted)
+
+pub count-names-requires : goal.count-names-requires
+count-names-requires c =
+    let has = (c.requires.tied.phases.victim_in c.args.victim c.requires.victim).0 in
+    let n = c.requires.tied.named.blocks in
+    let b = has.below in
+    omega (arith, n, b)
+
+pub erased-requires : goal.erased-requires
+erased-requires c = (c.requires.tied.phases.victim_in c.args.victim c.requires.victim).0

@@ -1,0 +1,283 @@
+// Moves live pages of the victim.
+ghost use Rattle.std.specs.Prelude.{◌≡◌, ◌⊎◌, ◌↔◌, ℕ, ◌+◌, ◌*◌, ◌/◌, ◌<◌, ◌≤◌, Some, None, IfNone, IfSome, IsSome, IsTrue};
+ghost use Rattle.nl_field.specs.CrashStates.{Rose, saturated};
+ghost use Rattle.nl_field.specs.Page.{page_at, written};
+ghost use Rattle.nl_field.specs.Spelling.{is_stamp};
+ghost use Rattle.nl_nand.specs.Nand.{FaultsCounted};
+ghost use Rattle.nl_blocks.specs.Table.{HasBlock, IsTable, block_at};
+ghost use Rattle.nl_pseg.specs.Cleaning.{CountedMove, CrashesMove, IfMoved, IsMoved, Moves, MovesNone, programmed_by};
+ghost use Rattle.nl_pseg.specs.Effects.{Crashes, Programmed};
+ghost use Rattle.nl_pseg.specs.Pages.{main_of, page_with, shown_by};
+ghost use Rattle.nl_pseg.specs.Segment.{HasSpare, InVictim, IsClean, IsPhysicalOf, KeepsBlock, held_at, room, wear_of};
+ghost use Rattle.nl_pseg.specs.Seen.{seen, Fits, IsFormed, IsTied};
+ghost use Rattle.nl_pseg.specs.Space.{HasFewPairs, HasRoomForVictim, landing, left_of};
+ghost use Rattle.nl_pseg.specs.Steps.{IsAlone, IsCopyUsed, IsLed, IsReadied, IsTargeted, ReadiedOn, aimed_at};
+ghost use Rattle.nl_pseg.specs.declared.held.Held.{Held as HeldOf};
+
+use crate::cleaned::Copied;
+use crate::held::Held;
+use crate::pages::{program_page, read_page};
+use crate::state::State;
+use crate::table::{give_back, mark, seal_filled, take_target};
+use nl_blocks::BlockState;
+use nl_field::{NamedRead, PageBuf};
+use nl_nand::{Nand, WriteAnswer};
+
+impl State {
+    /// The first live page of a block.
+    pub fn first_live(&self, block: u32) -> Option<u32>
+        requires formed { IsFormed self.now }
+        requires has { HasBlock self.now.blocks block }
+        ensures some { IfSome result (λ page. (page / self.now.blocks.size ≡ block) × IsSome (held_at (seen self.now) page)) }
+        ensures none { IfNone result ((page : ℕ) → page / self.now.blocks.size ≡ block → held_at (seen self.now) page ≡ None) }
+    {
+        let pages = self.blocks.pages();
+        for at in 0..pages {
+            let page = block * pages + at;
+            if self.held[page as usize].is_some() {
+                return Some(page);
+            }
+        }
+        None
+    }
+
+    /// Sees to it that the block for copies has a page that is not used: where it is full, takes a Free block, and erases it first
+    /// where it is soiled. Where that fails, the block is Free again.
+    fn ready<M: Nand>(&mut self, media: &mut M) -> WriteAnswer
+        requires formed { IsFormed self.old }
+        requires tied { IsTied self.old }
+        requires fits { Fits (M.geometry media.old) (seen self.old) }
+        requires lands { 0 < landing (seen self.old) }
+        requires segment { M.tells → IsPhysicalOf (M.contents media.old) (seen self.old) }
+        ensures formed { IsFormed self.new }
+        ensures tied { IsTied self.new }
+        ensures left { result ≡ WriteAnswer.Done → self.new.filled < self.new.blocks.size }
+        ensures readied { IsReadied (seen self.old) (seen self.new) }
+        ensures medium { M.tells → ReadiedOn M.clock M.contents M.left result (seen self.old) (seen self.new) media.old media.new }
+        ensures geometry { M.geometry media.new ≡ M.geometry media.old }
+        ensures clean { IsClean (seen self.old) → (result ≡ WriteAnswer.Done) × (M.clock media.new ≡ M.clock media.old) }
+        ensures clock { (M.clock media.old ≤ M.clock media.new) × (M.clock media.new ≤ M.clock media.old + 1) }
+        ensures read_faults { M.read_faults media.new ≡ M.read_faults media.old }
+        ensures write_faults { FaultsCounted (M.write_faults media.old) (M.write_faults media.new) (result ≡ WriteAnswer.Failed) }
+    {
+        if self.filled < self.blocks.pages() {
+            return WriteAnswer::Done;
+        }
+        let _ = self.blocks.count();
+        let block = take_target(&mut self.blocks);
+        let _ = self.blocks.count();
+        if !self.is_soiled(block) {
+            self.aim(block);
+            return WriteAnswer::Done;
+        }
+        let wear = self.blocks.wear(block);
+        match media.erase(block) {
+            WriteAnswer::Done => {
+                self.aim(block);
+                WriteAnswer::Done
+            }
+            WriteAnswer::Failed => {
+                give_back(&mut self.blocks, block, wear);
+                let _ = self.blocks.count();
+                WriteAnswer::Failed
+            }
+        }
+    }
+
+    /// Copies are written to this block. No page of it is used.
+    fn aim(&mut self, block: u32)
+        requires formed { IsFormed self.old }
+        requires has { HasBlock self.old.blocks block }
+        requires target { (block_at self.old.blocks block).state ≡ BlockState.Target }
+        requires targeted { IsTargeted self.old block }
+        requires in_use { (p : ℕ) (h : HeldOf) → held_at (seen self.old) p ≡ Some h → p / self.old.blocks.size ≡ block → ⊥ }
+        ensures formed { IsFormed self.new }
+        ensures tied { IsTied self.new }
+        ensures aimed { seen self.new ≡ aimed_at (seen self.old) block }
+        ensures filled { self.new.filled ≡ 0 }
+        ensures pages { self.new.blocks.size ≡ self.old.blocks.size }
+    {
+        self.soiled[block as usize] = None;
+        self.target = block;
+        self.filled = 0;
+    }
+
+    /// Uses the next page for copies: it holds this. A block that is full is Sealed.
+    fn use_copy(&mut self, held: Option<Held>)
+        requires formed { IsFormed self.old }
+        requires tied { IsTied self.old }
+        requires room { self.old.filled < self.old.blocks.size }
+        requires spelled { IfSome held (λ h. IsTrue (is_stamp h.stamp)) }
+        ensures formed { IsFormed self.new }
+        ensures tied { IsTied self.new }
+        ensures used { IsCopyUsed held (seen self.old) (seen self.new) }
+    {
+        let _ = self.blocks.count();
+        let pages = self.blocks.pages();
+        let page = self.target * pages + self.filled;
+        mark(&mut self.blocks, page, held.is_some());
+        self.held[page as usize] = held;
+        self.filled += 1;
+        seal_filled(&mut self.blocks, self.target, self.filled == pages);
+        let _ = self.blocks.count();
+    }
+
+    /// The live page of the victim is at the other page now.
+    fn lead(&mut self, before: u32, after: u32)
+        requires formed { IsFormed self.old }
+        requires tied { IsTied self.old }
+        requires victim { self.old.victim ≡ Some (before / self.old.blocks.size) }
+        requires live { IsSome (held_at (seen self.old) before) }
+        requires there { IsSome (held_at (seen self.old) after) }
+        requires apart { before ≡ after → ⊥ }
+        requires room { 0 < self.old.names.room }
+        ensures formed { IsFormed self.new }
+        ensures tied { IsTied self.new }
+        ensures table { IsTable self.new.blocks }
+        ensures led { IsLed before after (seen self.old) (seen self.new) }
+    {
+        let _ = self.blocks.count();
+        mark(&mut self.blocks, before, false);
+        self.held[before as usize] = None;
+        self.names.add(before, after);
+        let _ = self.blocks.count();
+    }
+
+    /// Programs the buffer as the copy of a live page of the victim.
+    fn land<M: Nand>(
+        &mut self,
+        media: &mut M,
+        before: u32,
+        held: Held,
+        buf: &mut PageBuf,
+    ) -> Copied
+        requires formed { IsFormed self.old }
+        requires tied { IsTied self.old }
+        requires few { HasFewPairs (seen self.old) }
+        requires fits { Fits (M.geometry media.old) (seen self.old) }
+        requires room { self.old.filled < self.old.blocks.size }
+        requires victim { InVictim (seen self.old) before }
+        requires live { held_at (seen self.old) before ≡ Some held }
+        requires segment { M.tells → IsPhysicalOf (M.contents media.old) (seen self.old) }
+        ensures formed { IsFormed self.new }
+        ensures tied { IsTied self.new }
+        ensures few { HasFewPairs (seen self.new) }
+        ensures moved { IfMoved result (λ was after h. (was ≡ before) × (after ≡ (seen self.old).copy_next) × (h ≡ held) × Moves was after h (seen self.old) (seen self.new)) }
+        ensures kept { (IsMoved result → ⊥) → (result ≡ Copied.Fault) × MovesNone (seen self.old) (seen self.new) }
+        ensures same_room { room (seen self.new) ≡ room (seen self.old) }
+        ensures clean { IsClean (seen self.old) → IsClean (seen self.new) }
+        ensures segment { M.tells → IsPhysicalOf (M.contents media.new) (seen self.new) }
+        ensures spare { M.tells → shown_by (page_at (M.contents media.old) before) ≡ Some (held.tag, held.stamp, buf.old.main) → HasSpare (M.contents media.old) (seen self.old) → HasSpare (M.contents media.new) (seen self.new) }
+        ensures alone { M.tells → IfMoved result (λ was after h. IsAlone after (written (page_with buf.old.main held.tag held.stamp (wear_of (seen self.old) (after / self.old.blocks.size)))) (M.contents media.old) (M.contents media.new)) }
+        ensures crash { M.tells → Crashes M.clock M.contents M.left (seen self.old) held.tag held.stamp buf.old.main media.old media.new (programmed_by result) }
+        ensures geometry { M.geometry media.new ≡ M.geometry media.old }
+        ensures later { M.clock media.old ≤ M.clock media.new }
+        ensures clock { (IsMoved result → M.clock media.new ≡ saturated (M.clock media.old + 1)) × ((IsMoved result → ⊥) → M.clock media.new ≡ M.clock media.old) }
+        ensures read_faults { M.read_faults media.new ≡ M.read_faults media.old }
+        ensures write_faults { FaultsCounted (M.write_faults media.old) (M.write_faults media.new) (result ≡ Copied.Fault) }
+    {
+        let after = self.target * self.blocks.pages() + self.filled;
+        let wear = self.blocks.wear(self.target);
+        match program_page(media, after, buf, held.tag, held.stamp, wear) {
+            WriteAnswer::Failed => {
+                self.use_copy(None);
+                Copied::Fault
+            }
+            WriteAnswer::Done => {
+                self.use_copy(Some(held));
+                self.lead(before, after);
+                Copied::Moved {
+                    before,
+                    after,
+                    tag: held.tag,
+                    stamp: held.stamp,
+                }
+            }
+        }
+    }
+
+    /// Moves the page, which is live and in the victim.
+    fn move_page<M: Nand>(
+        &mut self,
+        media: &mut M,
+        before: u32,
+        held: Held,
+        buf: &mut PageBuf,
+    ) -> Copied
+        requires formed { IsFormed self.old }
+        requires tied { IsTied self.old }
+        requires few { HasFewPairs (seen self.old) }
+        requires fits { Fits (M.geometry media.old) (seen self.old) }
+        requires victim { InVictim (seen self.old) before }
+        requires live { held_at (seen self.old) before ≡ Some held }
+        requires room { 0 < landing (seen self.old) }
+        requires segment { M.tells → IsPhysicalOf (M.contents media.old) (seen self.old) }
+        ensures formed { IsFormed self.new }
+        ensures tied { IsTied self.new }
+        ensures few { HasFewPairs (seen self.new) }
+        ensures nothing { result ≡ Copied.Nothing → ⊥ }
+        ensures moved { IfMoved result (λ was after h. (was ≡ before) × (h ≡ held) × Moves was after h (seen self.old) (seen self.new)) }
+        ensures kept { (IsMoved result → ⊥) → MovesNone (seen self.old) (seen self.new) }
+        ensures lost { (w f : ℕ) → result ≡ Copied.Lost w f → (f ≡ w → ⊥) × (held.stamp ≡ w) }
+        ensures told { M.tells → (w f : ℕ) → result ≡ Copied.Lost w f → ⊥ }
+        ensures clean { IsClean (seen self.old) → IsClean (seen self.new) }
+        ensures lands { HasRoomForVictim (seen self.old) → Rose (M.write_faults media.old) (M.write_faults media.new) ⊎ HasRoomForVictim (seen self.new) }
+        ensures segment { M.tells → IsPhysicalOf (M.contents media.new) (seen self.new) }
+        ensures spare { M.tells → HasSpare (M.contents media.old) (seen self.old) → HasSpare (M.contents media.new) (seen self.new) }
+        ensures programmed { M.tells → IfMoved result (λ was after h. Programmed (seen self.old) after (written (page_with (main_of (page_at (M.contents media.old) was)) h.tag h.stamp (wear_of (seen self.old) (after / self.old.blocks.size)))) (M.contents media.old) (M.contents media.new)) }
+        ensures crash { M.tells → Crashes M.clock M.contents M.left (seen self.old) held.tag held.stamp (main_of (page_at (M.contents media.old) before)) media.old media.new (programmed_by result) }
+        ensures geometry { M.geometry media.new ≡ M.geometry media.old }
+        ensures counts { CountedMove M.clock M.read_faults M.write_faults (IsClean (seen self.old)) media.old media.new result }
+    {
+        match read_page(media, before, held.tag, held.stamp, buf) {
+            NamedRead::Done => {}
+            NamedRead::Lost { wanted, found } => return Copied::Lost { wanted, found },
+            NamedRead::Fault => return Copied::Fault,
+            NamedRead::NotLive => unreachable!(),
+        }
+        match self.ready(media) {
+            WriteAnswer::Failed => Copied::Fault,
+            WriteAnswer::Done => self.land(media, before, held, buf),
+        }
+    }
+
+    /// Moves one live page of the victim.
+    pub fn copy_one<M: Nand>(&mut self, media: &mut M, buf: &mut PageBuf) -> Copied
+        requires formed { IsFormed self.old }
+        requires tied { IsTied self.old }
+        requires few { HasFewPairs (seen self.old) }
+        requires fits { Fits (M.geometry media.old) (seen self.old) }
+        requires lands { HasRoomForVictim (seen self.old) }
+        requires segment { M.tells → IsPhysicalOf (M.contents media.old) (seen self.old) }
+        ensures formed { IsFormed self.new }
+        ensures tied { IsTied self.new }
+        ensures few { HasFewPairs (seen self.new) }
+        ensures nothing { result ≡ Copied.Nothing ↔ left_of (seen self.old) ≡ 0 }
+        ensures refused { result ≡ Copied.Nothing → (seen self.new ≡ seen self.old) × (media.new ≡ media.old) }
+        ensures moved { IfMoved result (λ before after h. Moves before after h (seen self.old) (seen self.new)) }
+        ensures kept { (IsMoved result → ⊥) → MovesNone (seen self.old) (seen self.new) }
+        ensures lost { (w f : ℕ) → result ≡ Copied.Lost w f → (f ≡ w → ⊥) × ((p : ℕ) × (h : HeldOf) × InVictim (seen self.old) p × (held_at (seen self.old) p ≡ Some h) × (h.stamp ≡ w)) }
+        ensures told { M.tells → (w f : ℕ) → result ≡ Copied.Lost w f → ⊥ }
+        ensures clean { IsClean (seen self.old) → IsClean (seen self.new) }
+        ensures kept_block { KeepsBlock (seen self.old) → KeepsBlock (seen self.new) }
+        ensures lands { Rose (M.write_faults media.old) (M.write_faults media.new) ⊎ HasRoomForVictim (seen self.new) }
+        ensures segment { M.tells → IsPhysicalOf (M.contents media.new) (seen self.new) }
+        ensures spare { M.tells → HasSpare (M.contents media.old) (seen self.old) → HasSpare (M.contents media.new) (seen self.new) }
+        ensures programmed { M.tells → IfMoved result (λ before after h. Programmed (seen self.old) after (written (page_with (main_of (page_at (M.contents media.old) before)) h.tag h.stamp (wear_of (seen self.old) (after / self.old.blocks.size)))) (M.contents media.old) (M.contents media.new)) }
+        ensures crash { M.tells → (result ≡ Copied.Nothing → ⊥) → CrashesMove M.clock M.contents M.left (seen self.old) media.old media.new result }
+        ensures geometry { M.geometry media.new ≡ M.geometry media.old }
+        ensures counts { CountedMove M.clock M.read_faults M.write_faults (IsClean (seen self.old)) media.old media.new result }
+    {
+        let _ = self.blocks.count();
+        let Some(victim) = self.victim else {
+            return Copied::Nothing;
+        };
+        let Some(before) = self.first_live(victim) else {
+            return Copied::Nothing;
+        };
+        let Some(held) = self.live_on(before) else {
+            return Copied::Nothing;
+        };
+        self.move_page(media, before, held, buf)
+    }
+}
