@@ -1,10 +1,12 @@
 -- The live pages after a call.
-use Rattle.std.proofs.Common.{◌≡◌, ◌⊎◌, inl, inr, ⊎_elim, ℕ, ◌+◌, ◌*◌, ◌/◌, ◌<◌, ◌≤◌, ◌==◌, true, false, cond, is_some, List, Option, Some, None, length, get_or, set, refl, sym, ◌∙◌, ap, subst, arith, eq-eqb, ne_eqb}
+use Rattle.std.proofs.Common.{◌≡◌, ◌⊎◌, inl, inr, ⊎_elim, ℕ, ◌+◌, ◌*◌, ◌/◌, ◌<◌, ◌≤◌, ◌==◌, true, false, cond, is_some, List, [], Option, Some, None, length, get_or, set, refl, sym, ◌∙◌, ap, subst, arith, eq-eqb, ne_eqb}
 use Rattle.std.proofs.lemmas.Bool.{cases_eq, cond-true, cond-false}
 use Rattle.std.proofs.lemmas.List.{get_or-set_same, get_or-set_other, length-set}
 use Rattle.std.proofs.lemmas.Option.{same_Some, none-some}
+use Rattle.std.specs.Prelude.{Contains}
 use Rattle.nl_field.specs.declared.pointer.Tag.{Tag}
 use Rattle.nl_iface.specs.Names.{LivePage, with_page, without_page}
+use Rattle.nl_pseg.specs.Space.{IsWhole, waiting}
 use Rattle.nl_pseg.specs.Segment.{InSegment, IsUnspent, KeepsBlock, Physical, SamePages, TakenAsErased, held_at, is_free, soiled}
 use Rattle.nl_pseg.specs.declared.held.Held.{Held}
 use Rattle.nl_device.specs.Device.{HasLive}
@@ -104,6 +106,14 @@ live_kept old new live same blank is = record {
     split p h has = ap (λ (l : List (Option Held)). get_or l p None) (sym is) ∙ has
 
 -- what is taken as erased, where no page was given out
+-- where there is no pair no block waits for names
+pub none_wait : (seg : Physical) → IsWhole seg → seg.pairs ≡ [] → waiting seg ≡ 0
+none_wait seg whole none = let few = whole.numbers.few_wait in let e = ap (λ (l : List (ℕ × ℕ)). length l) none in omega (arith, few, e)
+
+-- and no name is an old one
+pub no_old : (pairs : List (ℕ × ℕ)) (name : ℕ) → pairs ≡ [] → (target : ℕ) × Contains pairs (name, target) → ⊥
+no_old pairs name none = subst (λ (l : List (ℕ × ℕ)). (target : ℕ) × Contains l (name, target) → ⊥) (sym none) (λ old. let lt = old.1.1 in absurd (omega (arith, lt)))
+
 pub unspent_blank : (old new : Physical) → SamePages old new → IsUnspent old new → (p : ℕ) → TakenAsErased new p → TakenAsErased old p
 unspent_blank old new same is p taken = ⊎_elim
     (λ next. let n = is.next in let l = is.left in inl (omega (arith, next.0, n), omega (arith, next.1, n, l)))

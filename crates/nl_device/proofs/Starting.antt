@@ -186,7 +186,7 @@ opened_device geometry shape t vseg pseg kept tells image legal e fits o p mediu
       physical_held = ap (λ (l : List (Option Held)). length l) p.none_held ∙ length-replicate (shape.blocks * shape.pages) None;
     } in
     let live = live_none shape t pseg p roomy in
-    let spare : HasSpareBlock pseg = record { block = p.kept_block; dead = λ page h held. absurd (none-some h (sym (none_at (shape.blocks * shape.pages) page pseg.held p.none_held) ∙ held)) } in
+    let spare : HasSpareBlock pseg = record { whole = p.whole; none_in_hand = p.none_in_hand; block = p.kept_block; dead = λ page h held. absurd (none-some h (sym (none_at (shape.blocks * shape.pages) page pseg.held p.none_held) ∙ held)) } in
     record {
       segments = segments;
       mapped = mapped shape t vseg o fits;

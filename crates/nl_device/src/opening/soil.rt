@@ -1,9 +1,10 @@
 // The blocks whose pages do not all read as erased, and how often they were erased.
-ghost use Rattle.std.specs.Prelude.{◌≡◌, ◌*◌, ◌/◌, ◌<◌, ◌≤◌, ℕ, length, max, slice_index_or, slice_set, true, All, IfOk};
+ghost use Rattle.std.specs.Prelude.{◌≡◌, ◌*◌, ◌/◌, ◌<◌, ◌≤◌, ℕ, length, max, slice_index_or, slice_set, true, All, IfOk, None};
 ghost use Rattle.nl_field.specs.SpareRecord.{wear_of};
 ghost use Rattle.nl_field.specs.declared.seen.Seen.{Seen as SeenOf};
 ghost use Rattle.nl_device.specs.Opening.{IsSoiled, SaysErased, Tabulates, wear_in};
-ghost use Rattle.nl_pseg.specs.Segment.{IsClean, KeepsBlock, TakenAsErased};
+ghost use Rattle.nl_pseg.specs.Segment.{IsClean, KeepsBlock, TakenAsErased, TakenLater};
+ghost use Rattle.nl_pseg.specs.Space.{IsWhole};
 ghost use Rattle.nl_vseg.specs.Segment.{SameSize, is_blank};
 
 use nl_field::{Memory, SpareRec};
@@ -66,10 +67,15 @@ pub fn soil_physical(pseg: &mut PSeg, tables: &ScanTables, wears: &Vec<u32>, fir
     requires count { end ≤ length wears.now.items }
     requires clean { IsClean pseg.old }
     requires kept { KeepsBlock pseg.old }
+    requires whole { IsWhole pseg.old }
+    requires none { pseg.old.victim ≡ None }
     ensures same { IsSoiled pseg.old pseg.new }
     ensures erased { (p : ℕ) → TakenAsErased pseg.new p → TakenAsErased pseg.old p × (first ≤ p / pseg.old.size → p / pseg.old.size < end → SaysErased tables.now (p / pseg.old.size)) }
     ensures clean { ((block : ℕ) → first ≤ block → block < end → SaysErased tables.now block) → IsClean pseg.new }
     ensures kept { KeepsBlock pseg.new }
+    ensures whole { IsWhole pseg.new }
+    ensures none { pseg.new.victim ≡ None }
+    ensures later { (p : ℕ) → TakenLater pseg.new p → TakenLater pseg.old p }
 {
     for block in first..end {
         if !tables.erased(block) {

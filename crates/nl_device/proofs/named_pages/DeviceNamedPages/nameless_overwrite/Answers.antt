@@ -26,7 +26,7 @@ use Rattle.nl_device.specs.Space.{live_in}
 use Rattle.nl_device.specs.Stamps.{is_tried}
 use Rattle.nl_device.proofs.Calls.{device_with, found_after, held_from, in_within, is_leads, leads_is, live_or, medium_with, no_pair, stored_after}
 use Rattle.nl_device.proofs.Forms.{begins, lift}
-use Rattle.nl_device.proofs.Living.{live_kept, live_more, live_swap, more_below, same_below_still, set_live, swap_below, swap_live}
+use Rattle.nl_device.proofs.Living.{live_kept, live_more, live_swap, more_below, none_wait, same_below_still, set_live, swap_below, swap_live}
 use Rattle.nl_device.proofs.Made.{bytes_from}
 use Rattle.nl_device.proofs.Naming.{below_after, either_live, either_low, in_block, is_new, leaves_tried, live_bytes, map_same, placed_takes, programmed_named, shown_from, stray_same, to_takes}
 use Rattle.nl_device.proofs.Placing.{after_rises, after_tried, cases_tried, counted, fault_room, fault_space, free_after, from_placed, if_not_placed, if_refused, named_has, named_rises, not_touched, not_tried, placed_at, placed_both, placed_map, placed_or, placed_yes, room_is, to_placed, tried_placed}
@@ -91,7 +91,7 @@ returns-clause-placed g c =
         handled = λ x has. absurd has;
         posted = refl;
       };
-      space = wrote 1 d.pseg seg e.pages (e.spent yes_placed) (ap (λ (l : List (Option Held)). live_in l + 1) held ∙ swapped) (e.pairs yes_placed ∙ no_pair d.pseg.pairs place f.no_pairs);
+      space = wrote 1 d.pseg seg e.pages (e.spent yes_placed (none_wait d.pseg f.spare.whole f.no_pairs)) (ap (λ (l : List (Option Held)). live_in l + 1) held ∙ swapped) (e.pairs yes_placed ∙ no_pair d.pseg.pairs place f.no_pairs);
       bytes = λ t. let p = placed_at c.nameless_overwrite-answer.result _ at is (e.programmed t) in
           bytes_from (d.shape.vblocks * d.shape.pages) new at.name (subst (λ n. n ≤ at.name) (begins f.segments) p.dead.within.0) ∙ ap main_of p.has;
       block = λ t none. let p = placed_at c.nameless_overwrite-answer.result _ at is (e.programmed t) in
@@ -241,8 +241,9 @@ returns-clause-formed g c =
     let answer = c.nameless_overwrite-answer.result in
     let next = c.stamp_after-self.result in
     let rises : d.next ≤ next = after_rises c.is_tried-taken.result d.next next c.stamp_after-self.ensures in
-    let spare : HasSpareBlock seg = record { block = e.kept f.spare.block; dead = e.kept_dead } in
-    let free = free_after answer d.pseg seg f.free e.pages e.spent e.failed (λ r. (e.refused r).0) in
+    let hand = e.space.victim ∙ f.spare.none_in_hand in
+    let spare : HasSpareBlock seg = record { whole = e.whole; none_in_hand = hand; block = e.kept f.spare.block; dead = e.kept_dead hand } in
+    let free = free_after answer d.pseg seg f.free e.pages (λ placed. e.spent placed (none_wait d.pseg f.spare.whole f.no_pairs)) e.failed (λ r. (e.refused r).0) in
     let device = tried_device answer c.is_tried-taken.result c.args.tag c.args.from.now.main f e.geometry (g.met.M.Nand.contents_fit d.media) (g.met.M.Nand.contents_fit c.nameless_overwrite-answer.new.media) (λ t. ((e.crash t).page, (e.crash t).either))
     (λ un. not_touched answer un (λ r. ap g.M.Nand.contents (e.refused r).1)) c.forget_after.ensures c.stamp_after-self.ensures c.is_tried-taken.ensures in
     let place = resolve d.pseg.pairs c.args.old.name in

@@ -48,4 +48,7 @@ returns c =
           subst (λ k. SaysErased c.args.tables.now (p / k)) n.pages (e.1 (subst (λ k. k ≤ p / old.size) n.first from) (subst (λ k. p / old.size < k) n.blocks below));
       clean = s.clean;
       kept_block = s.kept;
+      whole = s.whole;
+      none_in_hand = s.none;
+      none_later = λ p taken. n.later p (s.later p taken);
     }
