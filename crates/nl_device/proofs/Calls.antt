@@ -22,6 +22,7 @@ use Rattle.nl_device.proofs.Laws.{names_are}
 use Rattle.nl_device.proofs.Made.{made_medium}
 use Rattle.nl_device.proofs.Naming.{map_same, shows_same, shows_still, virtual_kept}
 use Rattle.nl_device.proofs.Spacing.{space_is}
+use Rattle.nl_callbacks.specs.Pending.{PendingTable}
 
 pub named_segments : {geometry now : Geometry} {shape : Shape} {vseg : Segment} {old new : Physical} → HasSegments geometry shape vseg old → now ≡ geometry → SamePages old new → length new.held ≡ length old.held → HasSegments now shape vseg new
 named_segments {geometry} {now} {shape} {vseg} {old} {new} has is same held = subst (λ n. HasSegments n shape vseg new) (sym is) (record {
@@ -72,9 +73,9 @@ pub found_beyond : (kept : KeptPages) (shape : Shape) (old new : Image) → ((p 
     → HoldsLive (found_in kept) (λ p. bytes_at (shape.vblocks * shape.pages) old p) (stored_in old) → HoldsLive (found_in kept) (λ p. bytes_at (shape.vblocks * shape.pages) new p) (stored_in new)
 found_beyond kept shape old new named bytes holds p page is = named p ∙ holds p page is ∙ (λ i. Some (record { tag = page.tag; stamp = page.stamp; bytes = sym (bytes p) i }))
 
-pub device_with : {geometry now : Geometry} {tells : Type 0} {image c : Image} {shape : Shape} {vseg : Segment} {old new : Physical} {kept left : KeptPages} {next after : ℕ} → IsDevice geometry tells image shape vseg old kept next
+pub device_with : {geometry now : Geometry} {tells : Type 0} {image c : Image} {shape : Shape} {vseg : Segment} {old new : Physical} {pending : PendingTable} {kept left : KeptPages} {next after : ℕ} → IsDevice geometry tells image shape vseg old pending kept next
     → HasFound shape left after → (tells → HoldsLive (found_in left) (λ p. bytes_at (shape.vblocks * shape.pages) c p) (stored_in c)) → now ≡ geometry → SamePages old new → length new.held ≡ length old.held → HasLive new → HasFree new → HasSpareBlock new → new.pairs ≡ old.pairs → next ≤ after → ((p : ℕ) (h : Held) → held_at new p ≡ Some h → h.stamp < after)
-    → (tells → IsOnMedium shape after c vseg new) → IsDevice now tells c shape vseg new left after
+    → (tells → IsOnMedium shape after c vseg new) → IsDevice now tells c shape vseg new pending left after
 device_with f found stored is same held live free spare pairs rises stamps medium = record {
   segments = named_segments f.segments is same held;
   mapped = f.mapped;
@@ -82,6 +83,7 @@ device_with f found stored is same held live free spare pairs rises stamps mediu
   free = free;
   spare = spare;
   no_pairs = pairs ∙ f.no_pairs;
+  no_callbacks = f.no_callbacks;
   stamp = record {
     some = let s = f.stamp.some in omega (arith, s, rises);
     addresses = λ v t has. let lt = f.stamp.addresses v t has in omega (arith, lt, rises);
@@ -96,10 +98,10 @@ device_with f found stored is same held live free spare pairs rises stamps mediu
 }
 
 -- the medium, where the pages of the virtual segment are as before
-pub medium_with : {geometry now : Geometry} {image c : Image} {shape : Shape} {vseg : Segment} {old new : Physical} {kept : KeptPages} {next after : ℕ} {tells : Type 0} → IsDevice geometry tells image shape vseg old kept next → tells
+pub medium_with : {geometry now : Geometry} {image c : Image} {shape : Shape} {vseg : Segment} {old new : Physical} {pending : PendingTable} {kept : KeptPages} {next after : ℕ} {tells : Type 0} → IsDevice geometry tells image shape vseg old pending kept next → tells
     → now ≡ geometry → SamePages old new → length new.held ≡ length old.held → ImageOf now c → HasLive new → ((p : ℕ) → p < old.first * old.size → page_at c p ≡ page_at image p) → IsPhysicalOf c new → next ≤ after → new.pairs ≡ old.pairs → HasSpareBlock new
     → ((p : ℕ) (page : NamedPage) → (stored_in c).named p ≡ Some page → page.stamp + 1 ≤ after) → IsOnMedium shape after c vseg new
-medium_with {geometry} {now} {image} {c} {shape} {vseg} {old} {new} {kept} {next} {after} f t is same held fits live low physical rises pairs spare named =
+medium_with {geometry} {now} {image} {c} {shape} {vseg} {old} {new} {pending} {kept} {next} {after} f t is same held fits live low physical rises pairs spare named =
     let below : (p : ℕ) → p < shape.vblocks * shape.pages → page_at c p ≡ page_at image p = λ p lt. low p (subst (λ n. p < n) (sym (begins f.segments)) lt) in
     let under : (p : ℕ) → p < vseg.bound → page_at c p ≡ page_at image p = λ p lt. below p (subst (λ n. p < n) f.segments.virtual_bound lt) in
     made_medium (named_segments f.segments is same held) fits live

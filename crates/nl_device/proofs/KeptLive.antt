@@ -19,6 +19,9 @@ use Rattle.nl_device.proofs.Alone.{both}
 use Rattle.nl_device.proofs.Loading.{place_is}
 use Rattle.nl_device.proofs.Lookups.{stamp_of_none}
 use Rattle.nl_device.proofs.Retaining.{at_name}
+use Rattle.nl_callbacks.specs.Pending.{PendingTable}
+use Rattle.nl_device.specs.Callbacks.{names_with}
+use Rattle.nl_device.proofs.Called.{no_callback}
 
 to_index : (xs : List Pointer) (p : Pointer) → Has xs p → (at : ℕ) × (slice_get xs at ≡ Some p)
 to_index [] p has = absurd has
@@ -90,3 +93,16 @@ module _ (kept : KeptPages) (pointers : List Pointer) (seg : Physical) (can : Ca
     unhandled = λ c has. absurd has;
     count = count;
   }
+
+-- and with the callbacks, where none is pending
+pub retains_with : {pointers : List Pointer} {place : Pointer → ℕ} {found : List (ℕ × LivePage)} (seg : Physical) (table : PendingTable) → table.callbacks ≡ [] → Retains pointers place found (names_of seg) → Retains pointers place found (names_with seg table)
+retains_with seg table none r = record {
+  lives = r.lives;
+  only = r.only;
+  ways = r.ways;
+  own = r.own;
+  told = λ c has. absurd (no_callback table.callbacks c none has);
+  moved = λ p has away. let m = r.moved p has away in absurd m.1;
+  unhandled = λ c has. absurd (no_callback table.callbacks c none has);
+  count = r.count;
+}

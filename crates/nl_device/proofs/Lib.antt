@@ -2,6 +2,7 @@ pub mod Agreed
 pub mod Alone
 pub mod Blanks
 pub mod Bounds
+pub mod Called
 pub mod Calls
 pub mod Counted
 pub mod Firm

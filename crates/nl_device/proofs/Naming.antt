@@ -10,7 +10,7 @@ use Rattle.nl_nand.specs.Nand.{ImageOf}
 use Rattle.nl_nand.specs.declared.geometry.Geometry.{Geometry}
 use Rattle.nl_iface.specs.Left.{ChangesInBlock, HoldsLive, IsTried, LeavesTried}
 use Rattle.nl_iface.specs.Names.{IsNew}
-use Rattle.nl_iface.specs.Stored.{NamedPage, Value, stored_in}
+use Rattle.nl_iface.specs.Stored.{NamedPage, Value, stored_in, Stored}
 use Rattle.nl_pseg.specs.Effects.{Keeps, Places, Programmed, Takes}
 use Rattle.nl_pseg.specs.Pages.{IsUnreadable, main_of, page_with, shown_by}
 use Rattle.nl_pseg.specs.Segment.{IsDead, IsPhysicalOf, Physical, held_at, wear_of}
@@ -22,12 +22,14 @@ use Rattle.nl_vseg.specs.Places.{map_of, place_of, value_at}
 use Rattle.nl_vseg.specs.Segment.{IsSegmentOf, Segment}
 use Rattle.nl_vseg.specs.declared.place.Place.{Place}
 use Rattle.nl_device.specs.Device.{HasLive, HasMapped, HasSegments, HasSpareBlock}
-use Rattle.nl_device.specs.Laws.{held_of}
+use Rattle.nl_device.specs.Laws.{held_of, leaves_as}
 use Rattle.nl_device.proofs.Laws.{leaves_pages}
 use Rattle.nl_device.specs.Shown.{IsStray, bytes_at, live_page, names_of}
 use Rattle.nl_device.proofs.Forms.{as_firm, begins, named_below, named_from, same_below, same_form, shape_is}
 use Rattle.nl_device.proofs.Made.{live_held}
 use Rattle.nl_device.proofs.PhysicalPages.{named_of}
+use Rattle.nl_callbacks.specs.Pending.{PendingTable}
+use Rattle.nl_device.specs.Callbacks.{names_with}
 
 unread : (page : Page) → IsUnreadable page → named_of (shown_by page) ≡ None
 unread page (inl is) = ap (λ p. named_of (shown_by p)) is
@@ -187,3 +189,20 @@ module _ (geometry : Geometry) (shape : Shape) (vseg : Segment) (seg : Physical)
       (λ same. inl (named_same p same))
       (λ wiped. inr (subst (λ n. p / n ≡ name / n) segments.physical_pages wiped.0, named_none p (inl wiped.3)))
       (k.others p ne)
+
+-- what is said of names does not hang on the callbacks
+pub new_as : {shape : Shape} {page : ℕ} (pseg : Physical) (table : PendingTable) → IsNew shape (names_of pseg) page → IsNew shape (names_with pseg table) page
+new_as pseg table is = record { low = is.low; high = is.high; dead = is.dead; own = is.own }
+
+pub tried_as : {shape : Shape} {bytes : ℕ → List ℕ} {new : NamedPage} {old c : Stored} (pseg : Physical) (table : PendingTable) → LeavesTried shape (names_of pseg) bytes new old c → LeavesTried shape (names_with pseg table) bytes new old c
+tried_as {shape} {bytes} {new} {old} {c} pseg table l = record {
+  same_virtual = l.same_virtual;
+  holds = l.holds;
+  pages = leaves_as pseg table l.pages;
+  others = λ p. by p (l.others p);
+}
+  where
+    by : (p : ℕ) → IsTried shape (names_of pseg) new old c p → IsTried shape (names_with pseg table) new old c p
+    by p (inl same) = inl same
+    by p (inr (inl gone)) = inr (inl (record { dead = gone.0.dead; own = gone.0.own }, gone.1))
+    by p (inr (inr here)) = inr (inr (new_as pseg table here.0, here.1))

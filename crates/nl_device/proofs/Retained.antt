@@ -36,6 +36,7 @@ use Rattle.nl_device.proofs.Laws.{names_are}
 use Rattle.nl_device.proofs.Made.{bytes_from, made_medium}
 use Rattle.nl_device.proofs.PhysicalPages.{named_of}
 use Rattle.nl_device.proofs.Spacing.{free_is, space_is}
+use Rattle.nl_callbacks.specs.Pending.{PendingTable}
 
 pub segment_for : {geometry : Geometry} {shape : Shape} {vseg : Segment} {pseg : Physical} {kept : KeptPages} {next : ℕ} → HasSegments geometry shape vseg pseg → HasFound shape kept next → IsSegmentFor kept pseg
 segment_for has found = record {
@@ -120,11 +121,11 @@ held_on {shape = shape} {kept = kept} {image = image} segments fit was holds fro
   blank = λ page taken. was.blank page (erased page taken);
 }
 
-pub retained_device : {geometry : Geometry} {tells : Type 0} {image : Image} {shape : Shape} {vseg : Segment} {old new : Physical} {kept : KeptPages} {next : ℕ} → IsDevice geometry tells image shape vseg old kept next
+pub retained_device : {geometry : Geometry} {tells : Type 0} {image : Image} {shape : Shape} {vseg : Segment} {old new : Physical} {pending : PendingTable} {kept : KeptPages} {next : ℕ} → IsDevice geometry tells image shape vseg old pending kept next
     → IsSegmentFor kept new → length new.held ≡ length old.held → new.pairs ≡ [] → 1 ≤ new.free → HasSpareBlock new → new.left ≤ old.left → ((page : ℕ) (h : Held) → held_at new page ≡ Some h → IsFoundIn kept new page h)
     → ((p q : ℕ) (g h : Held) → held_at new p ≡ Some g → held_at new q ≡ Some h → g.stamp ≡ h.stamp → p ≡ q) → ((p : ℕ) → TakenAsErased new p → TakenAsErased old p) → ((p : ℕ) → TakenLater new p → TakenAsErased old p ⊎ TakenLater old p) → (tells → ImageOf geometry image)
-    → IsDevice geometry tells image shape vseg new kept next
-retained_device {geometry} {tells} {image} {shape} {vseg} {old} {new} {kept} {next} f same pages pairs some spare left from differ erased later fit =
+    → IsDevice geometry tells image shape vseg new pending kept next
+retained_device {geometry} {tells} {image} {shape} {vseg} {old} {new} {pending} {kept} {next} f same pages pairs some spare left from differ erased later fit =
     let first : new.first ≡ old.first = same.first ∙ f.found.first ∙ sym f.segments.physical_first in
     let blocks : new.blocks ≡ old.blocks = same.blocks ∙ (λ i. f.found.first i + f.found.count i) ∙ f.segments.split ∙ sym f.segments.physical_blocks in
     let size : new.size ≡ old.size = same.size ∙ f.found.size ∙ sym f.segments.physical_pages in
@@ -162,6 +163,7 @@ retained_device {geometry} {tells} {image} {shape} {vseg} {old} {new} {kept} {ne
       free = free;
       spare = spare;
       no_pairs = pairs;
+      no_callbacks = f.no_callbacks;
       stamp = record { some = f.stamp.some; addresses = f.stamp.addresses; live = below };
       found = f.found;
       found_stored = f.found_stored;

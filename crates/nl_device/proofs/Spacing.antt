@@ -3,7 +3,7 @@ use Rattle.std.proofs.Common.{◌≡◌, ◌⊎◌, inl, inr, ⊎_elim, ℕ, zer
 use Rattle.std.proofs.lemmas.Bool.{cases_lt, le-leb, lt-leb}
 use Rattle.std.proofs.lemmas.List.{get_or-set_other, length-set}
 use Rattle.std.proofs.lemmas.List.Sums.{sum_by-set}
-use Rattle.nl_iface.specs.Space.{Freed, IsSpace, Lessened, NoneRetired, SameSegment, WriteFailed, Wrote}
+use Rattle.nl_iface.specs.Space.{Freed, IsSpace, Lessened, NoneRetired, SameSegment, WriteFailed, Wrote, NamesGone}
 use Rattle.nl_pseg.specs.Segment.{IsSpent, IsUnspent, Physical, SamePages, room}
 use Rattle.nl_pseg.specs.declared.held.Held.{Held}
 use Rattle.nl_device.specs.Device.{HasFree}
@@ -167,3 +167,19 @@ waiting_is seg = refl
 pub none_retired : (old new : Physical) → NoneRetired (space_of old) (space_of new)
 unfolding space_of
 none_retired old new = refl
+
+-- no name is gone
+pub names_gone : (seg : Physical) → NamesGone (space_of seg) (space_of seg)
+names_gone seg = record {
+  same = record { block = refl; all = refl; bad = omega arith; kept = refl };
+  bad = refl;
+  lessened = record { victim = refl; waiting = omega arith; pairs = omega arith; left = omega arith; left_most = omega arith; lands = λ none lands. lands };
+  blocks = refl;
+  live = refl;
+  reach = refl;
+  room = omega arith;
+}
+
+pub pairs_is : (seg : Physical) → (space_of seg).pairs ≡ length seg.pairs
+unfolding space_of
+pairs_is seg = refl

@@ -36,6 +36,7 @@ use Rattle.nl_device.specs.declared.opening.own.Own.{Own}
 use Rattle.nl_device.proofs.Opened.{can_load}
 use Rattle.nl_device.proofs.Owns.{needed_in, owns_is}
 use Rattle.nl_device.proofs.Picks.{pick_in}
+use Rattle.nl_callbacks.specs.Pending.{PendingTable}
 
 pub for_shape : (s : Shape) (b p : ℕ) → s ≡ shape_for b p → (s.blocks ≡ b) × (s.pages ≡ p) × (s ≡ shape_for s.blocks s.pages)
 unfolding shape_for
@@ -161,12 +162,12 @@ module _ (shape : Shape) (t : Table) (pseg : Physical) (p : IsOpenedPhysical sha
       }
 
 -- the device of a scan, beside what its medium holds
-pub opened_device : (geometry : Geometry) (shape : Shape) (t : Table) (vseg : Segment) (pseg : Physical) (kept : KeptPages) (tells : Type 0) (image : Image) → IsTrue (is_legal geometry.blocks geometry.pages) → shape ≡ shape_for geometry.blocks geometry.pages → FitsShape shape t
+pub opened_device : (geometry : Geometry) (shape : Shape) (t : Table) (vseg : Segment) (pseg : Physical) (pending : PendingTable) (kept : KeptPages) (tells : Type 0) (image : Image) → IsTrue (is_legal geometry.blocks geometry.pages) → shape ≡ shape_for geometry.blocks geometry.pages → FitsShape shape t
     → IsOpenedVirtual shape t vseg → IsOpenedPhysical shape t pseg → (HasSegments geometry shape vseg pseg → HasLive pseg → HasSpareBlock pseg → tells → IsOnMedium shape (1 + greatest_stamp t.seen) image vseg pseg)
     → kept ≡ record { first = shape.vblocks; count = shape.pblocks; size = shape.pages; pages = kept_pages (first_physical shape) t.seen }
     → (tells → HoldsLive (found_in kept) (λ p. bytes_at (shape.vblocks * shape.pages) image p) (stored_in image))
-    → IsDevice geometry tells image shape vseg pseg kept (1 + greatest_stamp t.seen)
-opened_device geometry shape t vseg pseg kept tells image legal e fits o p medium found stored =
+    → pending.callbacks ≡ [] → IsDevice geometry tells image shape vseg pseg pending kept (1 + greatest_stamp t.seen)
+opened_device geometry shape t vseg pseg pending kept tells image legal e fits o p medium found stored none =
     let x = for_shape shape geometry.blocks geometry.pages e in
     let roomy : ShapeBounds shape = subst ShapeBounds (sym e) (bounds geometry.blocks geometry.pages legal) in
     let segments : HasSegments geometry shape vseg pseg = record {
@@ -194,6 +195,7 @@ opened_device geometry shape t vseg pseg kept tells image legal e fits o p mediu
       free = free_some shape t pseg p roomy;
       spare = spare;
       no_pairs = p.no_pairs;
+      no_callbacks = none;
       stamp = next_is shape t vseg o pseg p;
       found = has_found shape kept t.seen found;
       found_stored = stored;

@@ -21,6 +21,7 @@ use Rattle.nl_device.specs.Stamps.{is_tried}
 use Rattle.nl_device.proofs.Calls.{device_with, found_after, medium_with, stored_after}
 use Rattle.nl_device.proofs.Forms.{begins}
 use Rattle.nl_device.proofs.Naming.{below_after, either_low, to_takes}
+use Rattle.nl_callbacks.specs.Pending.{PendingTable}
 
 -- what is kept of the scan, and the next stamp, where nothing was tried
 pub kept_untried : (kept left : KeptPages) (tried : Bool) → left ≡ cond tried (forgotten kept) kept → tried ≡ false → left ≡ kept
@@ -38,7 +39,7 @@ new_name segments none page dead = record {
   own = ap (λ ps. resolve ps page) none;
 }
 
-module _ {geometry now : Geometry} {tells : Type 0} {image c : Image} {shape : Shape} {vseg : Segment} {old : Physical} {kept left : KeptPages} {next after : ℕ} (answer : Named) (tried : Bool) (tag : Tag) (main : List ℕ) (f : IsDevice geometry tells image shape vseg old kept next)
+module _ {geometry now : Geometry} {tells : Type 0} {image c : Image} {shape : Shape} {vseg : Segment} {old : Physical} {pending : PendingTable} {kept left : KeptPages} {next after : ℕ} (answer : Named) (tried : Bool) (tag : Tag) (main : List ℕ) (f : IsDevice geometry tells image shape vseg old pending kept next)
     (same_geometry : now ≡ geometry) (old_fits : tells → ImageOf geometry image) (fits : tells → ImageOf now c) (either : tells → (page : ℕ) × (Keeps old image c ⊎ Places old page tag next main image c)) (untouched : is_tried answer ≡ false → c ≡ image)
     (is_left : left ≡ cond tried (forgotten kept) kept) (is_after : after ≡ next + cond tried 1 0) (tried_is : tried ≡ is_tried answer) where
   rises : next ≤ after
@@ -62,7 +63,7 @@ module _ {geometry now : Geometry} {tells : Type 0} {image c : Image} {shape : S
           below_after geometry shape vseg old image c f.segments (old_fits t) (subst (λ n. ImageOf n c) same_geometry (fits t)) f.live (f.medium t).physical_is k.0 next after tag main f.no_pairs k.1 was (omega (arith, one)) p page is
 
   pub tried_device : (new : Physical) → SamePages old new → length new.held ≡ length old.held → HasLive new → HasFree new → HasSpareBlock new → new.pairs ≡ old.pairs → ((p : ℕ) (h : Held) → held_at new p ≡ Some h → h.stamp < after) → (tells → IsPhysicalOf c new)
-      → IsDevice now tells c shape vseg new left after
+      → IsDevice now tells c shape vseg new pending left after
   tried_device new same count live free spare pairs stamps physical =
       device_with f (found_after kept left tried is_left shape next after rises f.found) stored same_geometry same count live free spare pairs rises stamps
       (λ t. medium_with f t same_geometry same count (fits t) live (either_low (to_takes (either t).1)) (physical t) rises pairs spare (named_below t))

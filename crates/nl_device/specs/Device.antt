@@ -16,6 +16,7 @@ use Rattle.nl_pseg.specs.declared.held.Held.{Held}
 use Rattle.nl_vseg.specs.Pages.{Shows}
 use Rattle.nl_vseg.specs.Places.{AreBelow, map_of, stamp_for}
 use Rattle.nl_vseg.specs.Segment.{IsSegmentOf, Segment, is_blank}
+use Rattle.nl_callbacks.specs.Pending.{PendingTable}
 
 -- The numbers of the volume are those of the medium, and the two segments are its first and its last blocks.
 pub record HasSegments (geometry : Geometry) (shape : Shape) (vseg : Segment) (pseg : Physical) : Type 0 where
@@ -85,13 +86,14 @@ pub record HasFound (shape : Shape) (kept : KeptPages) (next : ℕ) : Type 0 whe
   pub below : All (λ k. k.stamp < next) kept.pages
 
 -- The tables stand for the medium, and for the names that are shown. What the scan found, and was not forgotten since, is stored.
-pub record IsDevice (geometry : Geometry) (tells : Type 0) (image : Image) (shape : Shape) (vseg : Segment) (pseg : Physical) (kept : KeptPages) (next : ℕ) : Type 0 where
+pub record IsDevice (geometry : Geometry) (tells : Type 0) (image : Image) (shape : Shape) (vseg : Segment) (pseg : Physical) (pending : PendingTable) (kept : KeptPages) (next : ℕ) : Type 0 where
   pub segments : HasSegments geometry shape vseg pseg
   pub mapped : HasMapped vseg
   pub live : HasLive pseg
   pub free : HasFree pseg
   pub spare : HasSpareBlock pseg
   pub no_pairs : pseg.pairs ≡ []
+  pub no_callbacks : pending.callbacks ≡ []
   pub stamp : IsNextStamp next vseg pseg
   pub found : HasFound shape kept next
   pub found_stored : tells → HoldsLive (found_in kept) (λ p. bytes_at (shape.vblocks * shape.pages) image p) (stored_in image)

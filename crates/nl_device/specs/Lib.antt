@@ -1,3 +1,4 @@
+pub mod Callbacks
 pub mod Copies
 pub mod Device
 pub mod Kept

@@ -16,6 +16,7 @@ abbrev pub live_page : Option Held → Option LivePage
 live_page None = None
 live_page (Some h) = Some (record { tag = h.tag; stamp = h.stamp })
 
+-- the live pages and what leads to them, where no callback is pending
 abbrev pub names_of : Physical → Names
 names_of pseg = record { live = λ p. live_page (held_at pseg p); pairs = pseg.pairs; pending = []; handled = λ n. None; posted = 0; space = space_of pseg }
 

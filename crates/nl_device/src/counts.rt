@@ -1,6 +1,7 @@
 ghost use Rattle.std.specs.Prelude.{◌≡◌, ◌*◌};
 ghost use Rattle.nl_device.specs.Device.{IsDevice};
-ghost use Rattle.nl_device.specs.Shown.{IsStray, bytes_at, found_by_number, names_of};
+ghost use Rattle.nl_device.specs.Shown.{IsStray, bytes_at, found_by_number};
+ghost use Rattle.nl_device.specs.Callbacks.{names_with};
 ghost use Rattle.nl_field.specs.Page.{Image};
 ghost use Rattle.nl_iface.specs.Stored.{stored_in};
 ghost use Rattle.nl_pseg.specs.Segment.{IsClean};
@@ -28,7 +29,7 @@ impl<M: Nand> Counts for Device<M> {
 
     ghost left = { λ d m c. M.left d.media m c };
 
-    ghost formed = { λ d. IsDevice (M.geometry d.media) M.tells (M.contents d.media) d.shape d.vseg d.pseg d.kept d.next };
+    ghost formed = { λ d. IsDevice (M.geometry d.media) M.tells (M.contents d.media) d.shape d.vseg d.pseg d.pending d.kept d.next };
 
     ghost shape = { λ d. d.shape };
 
@@ -42,7 +43,7 @@ impl<M: Nand> Counts for Device<M> {
 
     ghost next_stamp = { λ d. d.next };
 
-    ghost names = { λ d. names_of d.pseg };
+    ghost names = { λ d. names_with d.pseg d.pending };
 
     ghost bytes = { λ d p. bytes_at (d.shape.vblocks * d.shape.pages) (M.contents d.media) p };
 

@@ -1,4 +1,5 @@
 use crate::kept::Kept;
+use nl_callbacks::Pending;
 use nl_field::Shape;
 use nl_nand::Nand;
 use nl_pseg::PSeg;
@@ -11,6 +12,8 @@ pub struct Device<M: Nand> {
     pub(crate) shape: Shape,
     pub(crate) vseg: VSeg,
     pub(crate) pseg: PSeg,
+    /// The callbacks whose transaction was not acknowledged yet.
+    pub(crate) pending: Pending,
     /// The stamp of the next page.
     pub(crate) next: u64,
     /// What the scan of its start saw in the physical segment, until a page is programmed there: a block may be erased then.

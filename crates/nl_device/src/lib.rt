@@ -1,6 +1,7 @@
 //! A device over a flash medium: pages by virtual address, and pages under names that the device picks.
 #![tactic(auto)]
 
+mod callbacks;
 mod counts;
 mod device;
 mod kept;

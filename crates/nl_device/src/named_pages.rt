@@ -1,4 +1,4 @@
-ghost use Rattle.nl_device.specs.Laws.{state_is};
+ghost use Rattle.nl_device.specs.Laws.{leaves_as, names_as, state_is};
 
 use crate::device::Device;
 use crate::stamps::{is_tried, stamp_after};
@@ -9,9 +9,9 @@ use nl_nand::Nand;
 impl<M: Nand> NamedPages for Device<M> {
     ghost state = { λ s f. state_is (Self.bytes s) (Self.map s) f };
 
-    ghost tables = { λ s f. f.names };
+    ghost tables = { λ s f. names_as s.pseg s.pending f.no_callbacks f.names };
 
-    ghost stores_pages = { λ s t f. record { holds = (f.medium t).holds; pages = (f.medium t).pages; named_below = (f.medium t).named_below } };
+    ghost stores_pages = { λ s t f. record { holds = (f.medium t).holds; pages = leaves_as s.pseg s.pending (f.medium t).pages; named_below = (f.medium t).named_below } };
 
     fn nameless_write(&mut self, tag: Tag, from: &PageBuf) -> Named {
         let answer = self

@@ -17,6 +17,7 @@ ghost use Rattle.nl_device.specs.Started.{IfFault, IfMemory, IfReady, IsStarted}
 use crate::device::Device;
 use crate::kept::Kept;
 use crate::opening::segments::{Opened, open};
+use nl_callbacks::Pending;
 use nl_field::{Memory, Shape, shape_of};
 use nl_iface::Counts;
 use nl_nand::{Geometry, Nand};
@@ -48,6 +49,7 @@ fn legal_shape(geometry: Geometry) -> Shape
 struct Parts {
     vseg: VSeg,
     pseg: PSeg,
+    pending: Pending,
     kept: Kept,
 }
 
@@ -57,11 +59,18 @@ fn after_scan(alloc: Global, shape: &Shape, tables: &ScanTables) -> Result<Parts
     requires fits { FitsShape shape.now tables.now }
     ensures virtuals { IfOk result (λ p. IsOpenedVirtual shape.now tables.now p.vseg) }
     ensures physicals { IfOk result (λ p. IsOpenedPhysical shape.now tables.now p.pseg) }
+    ensures pending { IfOk result (λ p. p.pending.callbacks ≡ []) }
     ensures kept { IfOk result (λ p. p.kept ≡ kept_of_scan shape.now tables.now.seen) }
 {
     let Opened { vseg, pseg } = open(alloc, shape, tables)?;
+    let pending = Pending::new(alloc, 4 * shape.pages)?;
     let kept = Kept::of(alloc, tables, shape)?;
-    Ok(Parts { vseg, pseg, kept })
+    Ok(Parts {
+        vseg,
+        pseg,
+        pending,
+        kept,
+    })
 }
 
 impl<M: Nand> Device<M> {
@@ -91,7 +100,14 @@ impl<M: Nand> Device<M> {
         let shape = legal_shape(media.geometry());
         match scan(alloc, &mut media) {
             Scanned::Tables(tables) => match after_scan(alloc, &shape, &tables) {
-                Ok(Parts { vseg, pseg, kept }) => {
+                Ok(
+                    Parts {
+                        vseg,
+                        pseg,
+                        pending,
+                        kept,
+                    },
+                ) => {
                     let next = tables.next_stamp();
                     Started::Ready(
                         Device {
@@ -99,6 +115,7 @@ impl<M: Nand> Device<M> {
                             shape,
                             vseg,
                             pseg,
+                            pending,
                             next,
                             kept,
                         },

@@ -15,6 +15,7 @@ impl<M: Nand> Device<M> {
             shape: _,
             vseg: _,
             pseg: _,
+            pending: _,
             next: _,
             kept: _,
         } = self;

@@ -1,12 +1,13 @@
 use Rattle.std.proofs.Common.{◌+◌, ◌≤◌, ◌∙◌, inl, ⊎_elim, ℕ, List, Option, None, get_or, ap, arith, length, refl, subst, sym}
-use Rattle.nl_pseg.specs.Segment.{IsClean}
+use Rattle.nl_pseg.specs.Segment.{IsClean, Physical}
 use Rattle.nl_pseg.specs.declared.held.Held.{Held}
 use Rattle.nl_device.specs.Device.{HasSpareBlock, IsDevice}
 use Rattle.nl_device.specs.Retain.{IsSegmentFor}
 use Rattle.nl_device.specs.Shown.{found_by_number, names_of}
-use Rattle.nl_device.proofs.KeptLive.{retains_are}
+use Rattle.nl_device.proofs.KeptLive.{retains_are, retains_with}
 use Rattle.nl_device.proofs.Retained.{all_free, free_some, is_fresh, live_is, none_dead, none_held, retained_device, room_is, segment_for}
 use Rattle.nl_device.proofs.Spacing.{free_is, waiting_is}
+use Rattle.nl_device.specs.Callbacks.{names_with}
 use Rattle.nl_device.proofs.device.Device.retain.Goals as goal
 
 pub give_back-requires : goal.give_back-requires
@@ -31,14 +32,14 @@ returns-clause-formed g c =
     let e = c.retain.ensures in
     let some_free : 1 ≤ c.give_back.new.self.free = free_some c.give_back.new.self c.requires.formed.segments b.first b.blocks b.free in
     let spare : HasSpareBlock c.retain.new.pseg = record { whole = e.whole; none_in_hand = e.none_in_hand; block = e.kept_block (b.kept (omega (arith, some_free))); dead = e.kept_dead (none_dead c.give_back.new.self (λ page. ap (λ (h : List (Option Held)). get_or h page None) b.live ∙ none_held d.pseg c.requires.no_live page)) } in
-    subst (λ k. IsDevice (g.M.Nand.geometry d.media) g.M.Nand.tells (g.M.Nand.contents d.media) d.shape d.vseg c.retain.new.pseg k d.next) (sym e.same)
+    subst (λ k. IsDevice (g.M.Nand.geometry d.media) g.M.Nand.tells (g.M.Nand.contents d.media) d.shape d.vseg c.retain.new.pseg d.pending k d.next) (sym e.same)
     (retained_device c.requires.formed e.segment (e.pages ∙ ap length b.live) e.pairs e.some_free spare (let l = e.left in let z = b.left in omega (arith, l, z)) e.from e.differ (λ p taken. b.erased p (e.erased p taken)) (λ p taken. ⊎_elim (λ was. inl (b.erased p was)) (λ later. absurd (b.later p later)) (e.later p taken))
     (λ t. g.met.M.Nand.contents_fit d.media t))
 
 pub returns-clause-retained : goal.returns-clause-retained
 returns-clause-retained g c =
     let e = c.retain.ensures in
-    retains_are c.args.self.now.kept c.args.kept.now.items c.retain.new.pseg c.requires.can e.retained e.from e.pairs (live_is c.retain.new.pseg ∙ e.live)
+    retains_with c.retain.new.pseg c.args.self.now.pending c.requires.formed.no_callbacks (retains_are c.args.self.now.kept c.args.kept.now.items c.retain.new.pseg c.requires.can e.retained e.from e.pairs (live_is c.retain.new.pseg ∙ e.live))
 
 pub returns-clause-pairs : goal.returns-clause-pairs
 returns-clause-pairs g c =
@@ -72,7 +73,7 @@ pub returns-clause-room : goal.returns-clause-room
 returns-clause-room g c = let l = c.retain.ensures.left in let z = c.give_back.ensures.left in room_is c.retain.new.pseg c.retain.ensures.some_free (omega (arith, l, z))
 
 pub returns-clause-none : goal.returns-clause-none
-returns-clause-none g c all empty = ap names_of (c.retain.ensures.none empty ∙ c.give_back.ensures.same (all_free c.requires.formed.segments all))
+returns-clause-none g c all empty = ap (λ (s : Physical). names_with s c.args.self.now.pending) (c.retain.ensures.none empty ∙ c.give_back.ensures.same (all_free c.requires.formed.segments all))
 
 pub returns-clause-clean : goal.returns-clause-clean
 returns-clause-clean g c all clean = c.retain.ensures.clean (subst IsClean (sym (c.give_back.ensures.same (all_free c.requires.formed.segments all))) clean)

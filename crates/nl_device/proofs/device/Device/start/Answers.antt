@@ -22,6 +22,7 @@ use Rattle.nl_device.proofs.OpenedNames.{none_held, opened_names}
 use Rattle.nl_device.proofs.Ready.{can_none, found_holds, named_after}
 use Rattle.nl_device.proofs.SeenSpare.{seen_keeps}
 use Rattle.nl_device.proofs.Starting.{for_shape, free_space, opened_device, room_space}
+use Rattle.nl_device.specs.Callbacks.{callbacks_of}
 use Rattle.nl_device.proofs.device.Device.start.Goals as goal
 
 -- the numbers of the volume are those of the medium
@@ -57,7 +58,7 @@ returns-in-Ok-clause-started g c =
       numbers = c.legal_shape-shape.ensures ∙ ap (λ (n : Geometry). shape_for n.blocks n.pages) c.geometry.ensures;
       live = λ p. ap live_page (none_held shape t pseg physicals p);
       pairs = physicals.no_pairs;
-      pending = refl;
+      pending = ap callbacks_of c.in-Ok.ensures.pending;
       free = free_space shape t pseg physicals roomy;
       room = room_space shape t pseg physicals roomy;
       stamp = c.next_stamp-next.ensures;
@@ -91,8 +92,8 @@ returns-in-Ok-clause-formed g c =
     let same = c.scan.ensures.only_reads.same_geometry in
     let legal = subst (λ (n : Geometry). IsTrue (is_legal n.blocks n.pages)) (sym same) c.requires.formed in
     let fits = fits_of shape c.geometry.result (g.M.Nand.geometry c.args.media) t c.legal_shape-shape.ensures c.geometry.ensures c.in-Tables.ensures.fits in
-    subst (λ next. IsDevice geometry g.M.Nand.tells image shape vseg pseg c.in-Ok.field-0.kept next) (sym c.next_stamp-next.ensures)
-    (opened_device geometry shape t vseg pseg c.in-Ok.field-0.kept g.M.Nand.tells image legal
+    subst (λ next. IsDevice geometry g.M.Nand.tells image shape vseg pseg c.in-Ok.field-0.pending c.in-Ok.field-0.kept next) (sym c.next_stamp-next.ensures)
+    (opened_device geometry shape t vseg pseg c.in-Ok.field-0.pending c.in-Ok.field-0.kept g.M.Nand.tells image legal
     (c.legal_shape-shape.ensures ∙ ap (λ (n : Geometry). shape_for n.blocks n.pages) (c.geometry.ensures ∙ sym same))
     fits c.in-Ok.ensures.virtuals c.in-Ok.ensures.physicals
     (λ segments live spare tell.
@@ -104,7 +105,7 @@ returns-in-Ok-clause-formed g c =
     c.in-Ok.ensures.kept
     (λ tell.
     found_holds shape image t c.in-Ok.field-0.kept (image_shape shape c.geometry.result geometry image c.legal_shape-shape.ensures (c.geometry.ensures ∙ sym same) (g.met.M.Nand.contents_fit media tell))
-    (table_now image (g.M.Nand.contents c.args.media) t c.scan.ensures.only_reads.same_contents (c.in-Tables.ensures.tables tell)) c.in-Ok.ensures.kept))
+    (table_now image (g.M.Nand.contents c.args.media) t c.scan.ensures.only_reads.same_contents (c.in-Tables.ensures.tables tell)) c.in-Ok.ensures.kept) c.in-Ok.ensures.pending)
 
 pub returns-in-Ok-clause-map : goal.returns-in-Ok-clause-map
 returns-in-Ok-clause-map g c tell v below =

@@ -10,6 +10,7 @@ use Rattle.nl_device.specs.Space.{live_in}
 use Rattle.nl_device.proofs.Calls.{device_with, held_from, in_within, medium_with, no_pair}
 use Rattle.nl_device.proofs.Living.{clear_held, clear_live, kept_still, live_less, moved_in, none_wait, unspent_blank}
 use Rattle.nl_device.proofs.Spacing.{freed, one_less, unspent_free}
+use Rattle.nl_device.proofs.Called.{none_beside}
 use Rattle.nl_device.proofs.named_pages.DeviceNamedPages.free.Goals as goal
 
 pub returns-clause-freed : goal.returns-clause-freed
@@ -25,8 +26,8 @@ returns-clause-freed g c is =
       names = record {
         live = λ q. ap (λ (l : List (Option Held)). live_page (get_or l q None)) (OnTrue_at is e.freed) ∙ clear_live d.pseg.held place below q;
         pairs = pairs;
-        pending = refl;
-        handled = λ x has. absurd has;
+        pending = none_beside d.pseg.pairs d.pending.callbacks place f.no_callbacks;
+        handled = λ x has. refl;
         posted = refl;
       };
       space = freed d.pseg c.free.new.self e.pages (e.back.same (none_wait d.pseg f.spare.whole f.no_pairs)) (ap (λ (l : List (Option Held)). live_in l + 1) (OnTrue_at is e.freed) ∙ one_less d.pseg.held place h.0 below h.1) (pairs ∙ no_pair d.pseg.pairs place f.no_pairs);
@@ -69,5 +70,5 @@ returns-clause-formed g c =
     pairs (omega arith)
     (λ p x has. f.stamp.live p x (clear_held d.pseg.held place p x below (ap (λ (l : List (Option Held)). get_or l p None) (sym held) ∙ has)).1)
     (λ t. medium_with f t refl e.pages count (g.met.M.Nand.contents_fit d.media t) live (λ p lt. refl) (e.segment (g.M.Nand.contents d.media) (f.medium t).physical_is) (omega arith) pairs spare (f.medium t).named_below))
-    (λ (is : c.free.result ≡ false). subst (λ s. IsDevice (g.M.Nand.geometry d.media) g.M.Nand.tells (g.M.Nand.contents d.media) d.shape d.vseg s d.kept d.next) (sym (OnFalse_at is e.kept)) f)
+    (λ (is : c.free.result ≡ false). subst (λ s. IsDevice (g.M.Nand.geometry d.media) g.M.Nand.tells (g.M.Nand.contents d.media) d.shape d.vseg s d.pending d.kept d.next) (sym (OnFalse_at is e.kept)) f)
     (cases_Bool c.free.result)

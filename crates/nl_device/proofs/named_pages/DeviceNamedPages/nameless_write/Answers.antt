@@ -26,10 +26,11 @@ use Rattle.nl_device.proofs.Calls.{device_with, found_after, held_from, in_withi
 use Rattle.nl_device.proofs.Forms.{begins, lift}
 use Rattle.nl_device.proofs.Living.{live_kept, live_more, live_swap, more_below, same_below_still, set_live, swap_below, swap_live}
 use Rattle.nl_device.proofs.Made.{bytes_from}
-use Rattle.nl_device.proofs.Naming.{below_after, either_live, either_low, in_block, is_new, leaves_tried, live_bytes, map_same, placed_takes, programmed_named, shown_from, stray_same, to_takes}
+use Rattle.nl_device.proofs.Naming.{below_after, either_live, either_low, in_block, is_new, leaves_tried, live_bytes, map_same, placed_takes, programmed_named, shown_from, stray_same, to_takes, new_as, tried_as}
 use Rattle.nl_device.proofs.Placing.{after_rises, after_tried, cases_tried, counted, fault_room, fault_space, free_after, from_placed, if_not_placed, if_refused, named_has, named_rises, not_touched, not_tried, placed_at, placed_both, placed_map, placed_or, placed_yes, room_is, to_placed, tried_placed}
 use Rattle.nl_device.proofs.Spacing.{none_retired, one_for_one, wrote, wrote_one}
 use Rattle.nl_device.proofs.Tried.{kept_untried, new_name, next_untried, tried_device}
+use Rattle.nl_device.specs.Callbacks.{names_with}
 use Rattle.nl_device.proofs.named_pages.DeviceNamedPages.nameless_write.Goals as goal
 
 pub returns-clause-not_live : goal.returns-clause-not_live
@@ -52,12 +53,12 @@ returns-clause-placed g c =
     let below = in_within f.segments at.name dead.0.within in
     record {
       stamp = dead.1;
-      is_new = new_name f.segments f.no_pairs at.name dead.0;
+      is_new = new_as d.pseg d.pending (new_name f.segments f.no_pairs at.name dead.0);
       names = record {
         live = λ q. ap (λ (l : List (Option Held)). live_page (get_or l q None)) held ∙ set_live d.pseg.held at.name c.args.tag d.next below q;
         pairs = e.pairs;
         pending = refl;
-        handled = λ x has. absurd has;
+        handled = λ x has. refl;
         posted = refl;
       };
       space = wrote_one d.pseg seg at.name (record { tag = c.args.tag; stamp = d.next }) e.pages (e.spent (placed_yes c.nameless_write-answer.result at is)) below dead.0.dead held e.pairs;
@@ -110,7 +111,7 @@ returns-clause-refused g c = if_refused c.nameless_write-answer.result _ (λ is.
         clock = ap g.M.Nand.clock same.1;
         write_faults = ap g.M.Nand.write_faults same.1;
       };
-      names = ap names_of same.0;
+      names = ap (λ (s : Physical). names_with s d.pending) same.0;
     })
 
 pub returns-clause-left : goal.returns-clause-left
@@ -127,7 +128,7 @@ returns-clause-left g c t =
     let old_fits = g.met.M.Nand.contents_fit d.media t in
     let value : ℕ → Page = λ p. written (page_with main c.args.tag d.next (wear_of d.pseg (p / d.pseg.size))) in
     let leaves = λ (image : Image) (fits : ImageOf (g.M.Nand.geometry d.media) image) (x : Keeps d.pseg old image ⊎ Places d.pseg k.page c.args.tag d.next main old image).
-    leaves_tried (g.M.Nand.geometry d.media) d.shape d.vseg d.pseg old image f.segments old_fits fits f.live (f.medium t).physical_is k.page d.next c.args.tag main f.no_pairs f.spare x in
+    tried_as d.pseg d.pending (leaves_tried (g.M.Nand.geometry d.media) d.shape d.vseg d.pseg old image f.segments old_fits fits f.live (f.medium t).physical_is k.page d.next c.args.tag main f.no_pairs f.spare x) in
     let there = λ (image : Image) (fits : ImageOf (g.M.Nand.geometry d.media) image) (x : Places d.pseg k.page c.args.tag d.next main old image).
     named_has answer k.page d.next (λ n. (stored_in image).named n ≡ Some (record { tag = c.args.tag; stamp = d.next; bytes = main })) k.named
     (programmed_named (g.M.Nand.geometry d.media) d.shape d.vseg d.pseg old image f.segments old_fits fits f.live (f.medium t).physical_is k.page c.args.tag d.next (wear_of d.pseg (k.page / d.pseg.size)) main x.shows x.takes) in

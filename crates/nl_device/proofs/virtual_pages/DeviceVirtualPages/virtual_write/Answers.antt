@@ -146,6 +146,7 @@ returns-clause-formed g c =
       free = f.free;
       spare = f.spare;
       no_pairs = f.no_pairs;
+      no_callbacks = f.no_callbacks;
       legal = f.legal;
       unwritten = no_stamp_beyond (kept_segments f.segments e.geometry e.numbers);
       names = names_are (kept_segments f.segments e.geometry e.numbers) next f.live f.names.space (λ p h held. let lt = f.stamp.live p h held in omega (arith, lt, rises));
