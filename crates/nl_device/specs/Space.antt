@@ -2,6 +2,7 @@
 use Rattle.std.specs.Prelude.{ℕ, ◌-◌, ◌*◌, nat_le, cond, List, length, sum_by, take, drop, ◌/◌, Option, is_some}
 use Rattle.nl_iface.specs.Space.{Space}
 use Rattle.nl_pseg.specs.Segment.{Physical, room}
+use Rattle.nl_pseg.specs.Space.{dead_pages, landing, left_of, reach, victims, waiting}
 use Rattle.nl_pseg.specs.declared.held.Held.{Held}
 
 abbrev pub live_in : List (Option Held) → ℕ
@@ -35,5 +36,24 @@ space_of seg = record {
   landing = seg.free * seg.size;
   reach = seg.free * seg.size;
   dead = (all_pages seg - seg.free * seg.size - open_pages seg) - (live_in seg.held - open_live seg);
+  room = room seg;
+}
+
+-- The numbers of the space of a segment with a victim in hand and blocks that wait for their names.
+unfoldable pub numbers_of : Physical → Space
+numbers_of seg = record {
+  block = seg.size;
+  all = (seg.blocks - seg.first) * seg.size;
+  bad = 0;
+  keep = 1;
+  free = seg.free;
+  victim = victims seg;
+  waiting = waiting seg;
+  pairs = length seg.pairs;
+  live = live_in seg.held;
+  left = left_of seg;
+  landing = landing seg;
+  reach = reach seg;
+  dead = dead_pages seg;
   room = room seg;
 }
