@@ -169,7 +169,7 @@ retained_device {geometry} {tells} {image} {shape} {vseg} {old} {new} {pending} 
       found_stored = f.found_stored;
       legal = f.legal;
       unwritten = f.unwritten;
-      names = names_are segments next live (space_is new free pairs) below;
+      names = names_are segments next live (space_is new free spare.whole) below;
       medium = λ t. made_medium segments (fit t) live (f.medium t).virtual_is
           (held_on {new = new} f.segments (fit t) (f.medium t).physical_is (f.found_stored t) from (λ page within. subst (λ n. n ≤ page) (begins segments) within.0) erased later)
           (f.medium t).there (f.medium t).below (f.medium t).named_below pairs spare;

@@ -6,7 +6,7 @@ use Rattle.nl_pseg.specs.Cleaning.{Begins, Erases, Moves}
 use Rattle.nl_pseg.specs.Segment.{IsUnspent, Physical, SamePages, room}
 use Rattle.nl_pseg.specs.Space.{GivesBack, HasRoomForVictim, IsWhole, Lessens, dead_in, gain_of, landing, left_of, live_in, reach, victims, waiting}
 use Rattle.nl_pseg.specs.declared.held.Held.{Held}
-use Rattle.nl_device.specs.Space.{numbers_of}
+use Rattle.nl_device.specs.Space.{space_of}
 
 -- what the numbers rest on: some block is Free, or waits for its names, or is in hand
 abbrev pub KeepsSome : Physical → Type 0
@@ -38,8 +38,8 @@ high seg whole none few waits =
     let zero : victims seg * seg.size ≡ 0 * seg.size = ap (λ n. n * seg.size) none in
     omega (arith, le, zero, whole.numbers.victim, whole.numbers.copy_left)
 
-gained : (seg : Physical) → IsWhole seg → length seg.pairs ≡ 0 → victims seg ≡ 0 → seg.free ≤ 1 → (seg.blocks - seg.first) * seg.size ≤ live_in seg.held + (numbers_of seg).dead + 3 * seg.size
-unfolding numbers_of
+gained : (seg : Physical) → IsWhole seg → length seg.pairs ≡ 0 → victims seg ≡ 0 → seg.free ≤ 1 → (seg.blocks - seg.first) * seg.size ≤ live_in seg.held + (space_of seg).dead + 3 * seg.size
+unfolding space_of
 gained seg whole no_pairs none few =
     let waits : waiting seg ≡ 0 = omega (arith, whole.numbers.few_wait, no_pairs) in
     let three : seg.free + 2 ≤ 3 = omega (arith, few) in
@@ -48,8 +48,8 @@ gained seg whole no_pairs none few =
     omega (arith, le, most)
 
 -- the numbers are right at any moment
-pub is_space : (seg : Physical) → IsWhole seg → KeepsSome seg → IsSpace (numbers_of seg)
-unfolding numbers_of
+pub is_space : (seg : Physical) → IsWhole seg → KeepsSome seg → IsSpace (space_of seg)
+unfolding space_of
 is_space seg whole some = record {
   pairs = omega (arith, whole.numbers.pairs);
   victim = small (is_some seg.victim);
@@ -65,13 +65,13 @@ is_space seg whole some = record {
   room_ends = omega (arith, whole.numbers.left);
 }
 
-same_segment : (old new : Physical) → new.first ≡ old.first → new.blocks ≡ old.blocks → new.size ≡ old.size → SameSegment (numbers_of old) (numbers_of new)
-unfolding numbers_of
+pub same_segment : (old new : Physical) → new.first ≡ old.first → new.blocks ≡ old.blocks → new.size ≡ old.size → SameSegment (space_of old) (space_of new)
+unfolding space_of
 same_segment old new first blocks size = record { block = size; all = λ i. (blocks i - first i) * size i; bad = omega arith; kept = refl }
 
 -- a block became the victim
-pub begun : (block : ℕ) (old new : Physical) → Begins block old new → Begun (numbers_of old) (numbers_of new)
-unfolding numbers_of
+pub begun : (block : ℕ) (old new : Physical) → Begins block old new → Begun (space_of old) (space_of new)
+unfolding space_of
 begun block old new b =
     let size = b.tables.same_size in
     record {
@@ -87,13 +87,13 @@ begun block old new b =
     }
 
 -- a victim that was chosen for its dead pages has fewer live pages than it has pages
-pub begun_gains : (block : ℕ) (old new : Physical) → Begins block old new → 0 < dead_in old block → (numbers_of new).left + 1 ≤ (numbers_of new).block
-unfolding numbers_of
+pub begun_gains : (block : ℕ) (old new : Physical) → Begins block old new → 0 < dead_in old block → (space_of new).left + 1 ≤ (space_of new).block
+unfolding space_of
 begun_gains block old new b some = let l = b.left in let size = b.tables.same_size in omega (arith, l, some, size)
 
 -- a live page of the victim was moved
-pub copied : (before after : ℕ) (h : Held) (old new : Physical) → Moves before after h old new → live_in new.held ≡ live_in old.held → Copied (numbers_of old) (numbers_of new)
-unfolding numbers_of
+pub copied : (before after : ℕ) (h : Held) (old new : Physical) → Moves before after h old new → live_in new.held ≡ live_in old.held → Copied (space_of old) (space_of new)
+unfolding space_of
 copied before after h old new m live = record {
   same = same_segment old new m.same_first m.same_blocks m.same_size;
   in_hand = ap (λ (o : Option ℕ). cond (is_some o) 1 0) m.in_victim;
@@ -109,8 +109,8 @@ copied before after h old new m live = record {
 
 -- the victim was erased: its block is Free, or it waits
 pub erased : (block : ℕ) (old new : Physical) → Erases block old new
-    → ((new.free ≡ old.free + 1) × (waiting new ≡ waiting old)) ⊎ ((new.free ≡ old.free) × (waiting new ≡ waiting old + 1)) → Erased (numbers_of old) (numbers_of new)
-unfolding numbers_of
+    → ((new.free ≡ old.free + 1) × (waiting new ≡ waiting old)) ⊎ ((new.free ≡ old.free) × (waiting new ≡ waiting old + 1)) → Erased (space_of old) (space_of new)
+unfolding space_of
 erased block old new e one = record {
   same = same_segment old new e.tables.same_first e.tables.same_blocks e.tables.same_size;
   bad = refl;
@@ -125,8 +125,8 @@ erased block old new e one = record {
   room = e.more_room;
 }
 
-lessened : (gone : ℕ) (old new : Physical) → length new.pairs ≤ length old.pairs → Lessens gone old new → Lessened gone (numbers_of old) (numbers_of new)
-unfolding numbers_of
+pub lessened : (gone : ℕ) (old new : Physical) → length new.pairs ≤ length old.pairs → Lessens gone old new → Lessened gone (space_of old) (space_of new)
+unfolding space_of
 lessened gone old new fewer l = record {
   victim = ap (λ (o : Option ℕ). cond (is_some o) 1 0) l.victim;
   waiting = l.fewer_wait;
@@ -137,8 +137,8 @@ lessened gone old new fewer l = record {
 }
 
 -- a name is gone
-pub name_gone : (old new : Physical) → SamePages old new → new.held ≡ old.held → length new.pairs ≤ length old.pairs → Lessens 0 old new → GivesBack old new → reach new ≡ reach old → NamesGone (numbers_of old) (numbers_of new)
-unfolding numbers_of
+pub name_gone : (old new : Physical) → SamePages old new → new.held ≡ old.held → length new.pairs ≤ length old.pairs → Lessens 0 old new → GivesBack old new → reach new ≡ reach old → NamesGone (space_of old) (space_of new)
+unfolding space_of
 name_gone old new same held fewer l back reaches = record {
   same = same_segment old new same.same_first same.same_blocks same.same_size;
   bad = refl;
@@ -150,8 +150,8 @@ name_gone old new same held fewer l back reaches = record {
 }
 
 -- a page is live no longer
-pub page_gone : (old new : Physical) → SamePages old new → live_in new.held + 1 ≡ live_in old.held → length new.pairs ≤ length old.pairs → Lessens 1 old new → GivesBack old new → Freed (numbers_of old) (numbers_of new)
-unfolding numbers_of
+pub page_gone : (old new : Physical) → SamePages old new → live_in new.held + 1 ≡ live_in old.held → length new.pairs ≤ length old.pairs → Lessens 1 old new → GivesBack old new → Freed (space_of old) (space_of new)
+unfolding space_of
 page_gone old new same live fewer l back = record {
   same = same_segment old new same.same_first same.same_blocks same.same_size;
   bad = refl;

@@ -8,6 +8,7 @@ use Rattle.nl_device.proofs.KeptLive.{retains_are, retains_with}
 use Rattle.nl_device.proofs.Retained.{all_free, free_some, is_fresh, live_is, none_dead, none_held, retained_device, room_is, segment_for}
 use Rattle.nl_device.proofs.Spacing.{free_is, waiting_is}
 use Rattle.nl_device.specs.Callbacks.{names_with}
+use Rattle.nl_device.proofs.Living.{none_wait}
 use Rattle.nl_device.proofs.device.Device.retain.Goals as goal
 
 pub give_back-requires : goal.give_back-requires
@@ -51,7 +52,7 @@ pub returns-clause-blocks : goal.returns-clause-blocks
 returns-clause-blocks g c =
     let d = c.args.self.now in
     let free = free_is c.retain.new.pseg in
-    let waits = waiting_is c.retain.new.pseg in
+    let waits = waiting_is c.retain.new.pseg ∙ none_wait c.retain.new.pseg c.retain.ensures.whole c.retain.ensures.pairs in
     let needed = c.retain.ensures.free in
     let count = c.requires.formed.found.count in
     omega (arith, free, waits, needed, count)

@@ -30,7 +30,7 @@ returns-clause-freed g c is =
         handled = λ x has. refl;
         posted = refl;
       };
-      space = freed d.pseg c.free.new.self e.pages (e.back.same (none_wait d.pseg f.spare.whole f.no_pairs)) (ap (λ (l : List (Option Held)). live_in l + 1) (OnTrue_at is e.freed) ∙ one_less d.pseg.held place h.0 below h.1) (pairs ∙ no_pair d.pseg.pairs place f.no_pairs);
+      space = freed d.pseg c.free.new.self e.pages e.space e.back (ap (λ (l : List (Option Held)). live_in l + 1) (OnTrue_at is e.freed) ∙ one_less d.pseg.held place h.0 below h.1) (pairs ∙ no_pair d.pseg.pairs place f.no_pairs);
     }
 
 pub returns-clause-kept : goal.returns-clause-kept

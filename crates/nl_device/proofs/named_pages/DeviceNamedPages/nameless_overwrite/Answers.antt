@@ -13,7 +13,8 @@ use Rattle.nl_iface.specs.Answers as shown
 use Rattle.nl_iface.specs.Names.{leads}
 use Rattle.nl_iface.specs.Left.{HoldsLive}
 use Rattle.nl_iface.specs.Stored.{NamedPage, stored_in}
-use Rattle.nl_pseg.specs.Answers.{IsPlaced}
+use Rattle.nl_pseg.specs.Space.{Lessens}
+use Rattle.nl_pseg.specs.Answers.{IsPlaced, is_placed}
 use Rattle.nl_pseg.specs.Effects.{Keeps, Places, Programmed, Takes}
 use Rattle.nl_pseg.specs.Pages.{main_of, page_with, shown_by}
 use Rattle.nl_pseg.specs.Segment.{IsClean, IsLive, Physical, held_at, wear_of}
@@ -93,7 +94,7 @@ returns-clause-placed g c =
         handled = λ x has. refl;
         posted = refl;
       };
-      space = wrote 1 d.pseg seg e.pages (e.spent yes_placed (none_wait d.pseg f.spare.whole f.no_pairs)) (ap (λ (l : List (Option Held)). live_in l + 1) held ∙ swapped) (e.pairs yes_placed ∙ no_pair d.pseg.pairs place f.no_pairs);
+      space = wrote 1 d.pseg seg e.pages (subst (λ a. Lessens (cond (is_placed a) 1 0) d.pseg seg) is e.space) (none_wait seg e.whole (e.pairs yes_placed ∙ no_pair d.pseg.pairs place f.no_pairs ∙ f.no_pairs) ∙ sym (none_wait d.pseg f.spare.whole f.no_pairs)) (e.spent yes_placed (none_wait d.pseg f.spare.whole f.no_pairs)) (ap (λ (l : List (Option Held)). live_in l + 1) held ∙ swapped) (e.pairs yes_placed ∙ no_pair d.pseg.pairs place f.no_pairs);
       bytes = λ t. let p = placed_at c.nameless_overwrite-answer.result _ at is (e.programmed t) in
           bytes_from (d.shape.vblocks * d.shape.pages) new at.name (subst (λ n. n ≤ at.name) (begins f.segments) p.dead.within.0) ∙ ap main_of p.has;
       block = λ t none. let p = placed_at c.nameless_overwrite-answer.result _ at is (e.programmed t) in
@@ -106,7 +107,7 @@ returns-clause-none g c un =
     let un_placed : IsPlaced c.nameless_overwrite-answer.result → ⊥ = λ is. un (from_placed c.nameless_overwrite-answer.result is) in
     record {
       tables = record { live = λ q. ap (λ (l : List (Option Held)). live_page (get_or l q None)) (e.same un_placed); pairs = e.same_pairs un_placed; pending = refl; handled = λ n. refl; posted = refl };
-      fault = fault_space c.nameless_overwrite-answer.result c.args.self.now.pseg c.nameless_overwrite-answer.new.self e.pages e.failed e.same e.same_pairs;
+      fault = fault_space c.nameless_overwrite-answer.result c.args.self.now.pseg c.nameless_overwrite-answer.new.self e.pages e.cleaning (λ un. e.space.lands) e.failed e.same e.same_pairs;
     }
 
 pub returns-clause-refused : goal.returns-clause-refused
