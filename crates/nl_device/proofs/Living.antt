@@ -7,7 +7,7 @@ use Rattle.std.specs.Prelude.{Contains}
 use Rattle.nl_field.specs.declared.pointer.Tag.{Tag}
 use Rattle.nl_iface.specs.Names.{LivePage, with_page, without_page}
 use Rattle.nl_pseg.specs.Space.{IsWhole, waiting}
-use Rattle.nl_pseg.specs.Segment.{InSegment, IsUnspent, KeepsBlock, Physical, SamePages, TakenAsErased, held_at, is_free, soiled}
+use Rattle.nl_pseg.specs.Segment.{InSegment, IsUnspent, Physical, SamePages, TakenAsErased, held_at, is_kept, soiled}
 use Rattle.nl_pseg.specs.declared.held.Held.{Held}
 use Rattle.nl_device.specs.Device.{HasLive}
 use Rattle.nl_device.specs.Shown.{live_page}
@@ -118,19 +118,10 @@ pub unspent_blank : (old new : Physical) → SamePages old new → IsUnspent old
 unspent_blank old new same is p taken = ⊎_elim
     (λ next. let n = is.next in let l = is.left in inl (omega (arith, next.0, n), omega (arith, next.1, n, l)))
     (λ free.
-    let at : is_free old (p / old.size) ≡ true = sym (is.same_free (p / old.size)) ∙ (ap (λ n. is_free new (p / n)) (sym same.same_size) ∙ free.0) in
+    let at : is_kept old (p / old.size) ≡ true = sym (is.same_kept (p / old.size)) ∙ (ap (λ n. is_kept new (p / n)) (sym same.same_size) ∙ free.0) in
     let un : is_some (soiled old (p / old.size)) ≡ false = ap is_some (sym (is.same_soiled (p / old.size))) ∙ (ap (λ n. is_some (soiled new (p / n))) (sym same.same_size) ∙ free.1) in
     inr (at, un))
     taken
-
--- a block is kept still
-pub kept_still : (old new : Physical) → SamePages old new → IsUnspent old new → KeepsBlock old → KeepsBlock new
-kept_still old new same is k = record {
-  block = k.block;
-  from = subst (λ n. n ≤ k.block) (sym same.same_first) k.from;
-  below = subst (λ n. k.block < n) (sym same.same_blocks) k.below;
-  kept = is.same_kept k.block ∙ k.kept;
-}
 
 -- what is held after a new page in place of another one
 pub swap_held : (held : List (Option Held)) (name place : ℕ) (x : Held) (q : ℕ) (h : Held) → name < length held → place < length held → get_or (set (set held name (Some x)) place None) q None ≡ Some h

@@ -90,7 +90,7 @@ retains_none kept pointers seg same fresh = record {
   same_soiled = λ block. refl;
   left = omega arith;
   erased = λ q taken. taken;
-  later = λ q taken. inr taken;
+  copies = λ q taken. taken;
   whole = fresh.whole;
   none_in_hand = fresh.none_in_hand;
   unchanged = λ none. refl;
@@ -186,7 +186,7 @@ retains_more kept copies pointers at p old seg new is can fresh first retains he
       same_soiled = λ b. loads.same_soiled b ∙ retains.same_soiled b;
       left = omega (arith, loads.left, retains.left);
       erased = λ q taken. retains.erased q (loads.erased q taken);
-      later = λ q taken. ⊎_elim (λ e. inl (retains.erased q e)) (λ l. retains.later q l) (loads.later q taken);
+      copies = λ q taken. retains.copies q (loads.copies q taken);
       whole = loads.whole;
       none_in_hand = loads.none_in_hand;
       unchanged = λ none. absurd (omega (arith, none));

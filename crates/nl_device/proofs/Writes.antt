@@ -110,7 +110,7 @@ physical_kept bound seg old c live whole first same is = record {
       let e : page_at c p ≡ page_at old p = same p (subst (λ n. n ≤ p) first within.0) in
       ap shown_by e ∙ (is.holds p h held ∙ ap (λ page. Some (h.tag, h.stamp, main_of page)) (sym e));
   blank = λ p taken. let within = live.blank_in p taken in same p (subst (λ n. n ≤ p) first within.0) ∙ is.blank p taken;
-  blank_later = λ p taken. let within = whole.pages.later_within p taken in same p (subst (λ n. n ≤ p) first within.0) ∙ is.blank_later p taken;
+  blank_copy = λ p taken. let within = whole.pages.copies_within p taken in same p (subst (λ n. n ≤ p) first within.0) ∙ is.blank_copy p taken;
 }
 
 -- What failed before, or failed now: where nothing was placed, a value that is newer than the map's was newer before, or it is the

@@ -1,9 +1,9 @@
 -- Which pointers are live after an opening, and where.
-use Rattle.std.specs.Prelude.{◌≡◌, ◌≢◌, ◌⊎◌, ℕ, ◌+◌, ◌*◌, ◌/◌, ◌<◌, ◌≤◌, ◌==◌, not, Bool, true, false, cond, List, [], find, length, map, take, filter, slice_get, slice_set, All, Option, Some, None, IsSome, option_map, unwrap_or, ◌||◌}
+use Rattle.std.specs.Prelude.{◌≡◌, ◌≢◌, ℕ, ◌+◌, ◌*◌, ◌/◌, ◌<◌, ◌≤◌, ◌==◌, not, Bool, true, false, cond, List, [], find, length, map, take, filter, slice_get, slice_set, All, Option, Some, None, IsSome, option_map, unwrap_or, ◌||◌}
 use Rattle.std.specs.List.{AllPairs, count_by, list_any, range_with_len}
 use Rattle.nl_field.specs.declared.pointer.Pointer.{Pointer}
 use Rattle.nl_field.specs.declared.shape.Shape.{Shape}
-use Rattle.nl_pseg.specs.Segment.{InSegment, IsNewStamp, KeepsBlock, KeptAreDead, Physical, TakenAsErased, TakenLater, held_at, is_free, soiled}
+use Rattle.nl_pseg.specs.Segment.{InSegment, IsNewStamp, KeepsBlock, KeptAreDead, IsNextCopy, Physical, TakenAsErased, held_at, is_free, soiled}
 use Rattle.nl_pseg.specs.Space.{IsWhole}
 use Rattle.nl_pseg.specs.declared.held.Held.{Held}
 use Rattle.nl_iface.specs.declared.counts.Counts.{Ghosts}
@@ -114,7 +114,7 @@ pub record Loads (kept : KeptPages) (p : Pointer) (old new : Physical) : Type 0 
   pub same_soiled : (block : ℕ) → soiled new block ≡ soiled old block
   pub left : new.left ≤ old.left
   pub erased : (q : ℕ) → TakenAsErased new q → TakenAsErased old q
-  pub later : (q : ℕ) → TakenLater new q → TakenAsErased old q ⊎ TakenLater old q
+  pub copies : (q : ℕ) → IsNextCopy new q → IsNextCopy old q
   pub whole : IsWhole new
   pub none_in_hand : new.victim ≡ None
   pub kept_block : 1 ≤ new.free → KeepsBlock new
@@ -138,7 +138,7 @@ pub record Retains (kept : KeptPages) (pointers : List Pointer) (at : ℕ) (old 
   pub same_soiled : (block : ℕ) → soiled seg block ≡ soiled old block
   pub left : seg.left ≤ old.left
   pub erased : (q : ℕ) → TakenAsErased seg q → TakenAsErased old q
-  pub later : (q : ℕ) → TakenLater seg q → TakenAsErased old q ⊎ TakenLater old q
+  pub copies : (q : ℕ) → IsNextCopy seg q → IsNextCopy old q
   pub whole : IsWhole seg
   pub none_in_hand : seg.victim ≡ None
   pub unchanged : at ≡ 0 → seg ≡ old

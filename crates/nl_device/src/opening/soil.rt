@@ -3,7 +3,7 @@ ghost use Rattle.std.specs.Prelude.{◌≡◌, ◌*◌, ◌/◌, ◌<◌, ◌≤
 ghost use Rattle.nl_field.specs.SpareRecord.{wear_of};
 ghost use Rattle.nl_field.specs.declared.seen.Seen.{Seen as SeenOf};
 ghost use Rattle.nl_device.specs.Opening.{IsSoiled, SaysErased, Tabulates, wear_in};
-ghost use Rattle.nl_pseg.specs.Segment.{IsClean, KeepsBlock, TakenAsErased, TakenLater};
+ghost use Rattle.nl_pseg.specs.Segment.{IsClean, IsNextCopy, KeepsBlock, TakenAsErased};
 ghost use Rattle.nl_pseg.specs.Space.{IsWhole};
 ghost use Rattle.nl_vseg.specs.Segment.{SameSize, is_blank};
 
@@ -75,7 +75,7 @@ pub fn soil_physical(pseg: &mut PSeg, tables: &ScanTables, wears: &Vec<u32>, fir
     ensures kept { KeepsBlock pseg.new }
     ensures whole { IsWhole pseg.new }
     ensures none { pseg.new.victim ≡ None }
-    ensures later { (p : ℕ) → TakenLater pseg.new p → TakenLater pseg.old p }
+    ensures copies { (p : ℕ) → IsNextCopy pseg.new p → IsNextCopy pseg.old p }
 {
     for block in first..end {
         if !tables.erased(block) {

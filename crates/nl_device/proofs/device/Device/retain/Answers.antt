@@ -34,7 +34,7 @@ returns-clause-formed g c =
     let some_free : 1 ≤ c.give_back.new.self.free = free_some c.give_back.new.self c.requires.formed.segments b.first b.blocks b.free in
     let spare : HasSpareBlock c.retain.new.pseg = record { whole = e.whole; none_in_hand = e.none_in_hand; block = e.kept_block (b.kept (omega (arith, some_free))); dead = e.kept_dead (none_dead c.give_back.new.self (λ page. ap (λ (h : List (Option Held)). get_or h page None) b.live ∙ none_held d.pseg c.requires.no_live page)) } in
     subst (λ k. IsDevice (g.M.Nand.geometry d.media) g.M.Nand.tells (g.M.Nand.contents d.media) d.shape d.vseg c.retain.new.pseg d.pending k d.next) (sym e.same)
-    (retained_device c.requires.formed e.segment (e.pages ∙ ap length b.live) e.pairs e.some_free spare (let l = e.left in let z = b.left in omega (arith, l, z)) e.from e.differ (λ p taken. b.erased p (e.erased p taken)) (λ p taken. ⊎_elim (λ was. inl (b.erased p was)) (λ later. absurd (b.later p later)) (e.later p taken))
+    (retained_device c.requires.formed e.segment (e.pages ∙ ap length b.live) e.pairs e.some_free spare (let l = e.left in let z = b.left in omega (arith, l, z)) e.from e.differ (λ p taken. b.erased p (e.erased p taken)) (λ p taken. let here = e.copies p taken in let zero = b.copies in absurd (omega (arith, here.0, here.1, zero)))
     (λ t. g.met.M.Nand.contents_fit d.media t))
 
 pub returns-clause-retained : goal.returns-clause-retained

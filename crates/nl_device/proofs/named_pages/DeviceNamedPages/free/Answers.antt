@@ -8,7 +8,7 @@ use Rattle.nl_pseg.specs.declared.held.Held.{Held}
 use Rattle.nl_device.specs.Device.{HasSpareBlock, IsDevice}
 use Rattle.nl_device.specs.Space.{live_in}
 use Rattle.nl_device.proofs.Calls.{device_with, held_from, in_within, medium_with, no_pair}
-use Rattle.nl_device.proofs.Living.{clear_held, clear_live, kept_still, live_less, moved_in, none_wait, unspent_blank}
+use Rattle.nl_device.proofs.Living.{clear_held, clear_live, live_less, moved_in, none_wait, unspent_blank}
 use Rattle.nl_device.proofs.Spacing.{freed, one_less, unspent_free}
 use Rattle.nl_device.proofs.Called.{none_beside}
 use Rattle.nl_device.proofs.named_pages.DeviceNamedPages.free.Goals as goal
@@ -65,7 +65,7 @@ returns-clause-formed g c =
     let live = live_less d.pseg new place f.live e.pages (λ p taken. moved_in d.pseg new e.pages p (f.live.blank_in p (unspent_blank d.pseg new e.pages space p taken))) below held in
     let count : length new.held ≡ length d.pseg.held = ap (λ (l : List (Option Held)). length l) held ∙ length-set d.pseg.held place None in
     let pairs = OnTrue_at is e.pairs ∙ no_pair d.pseg.pairs place f.no_pairs in
-    let spare : HasSpareBlock new = record { whole = e.whole; none_in_hand = hand; block = kept_still d.pseg new e.pages space f.spare.block; dead = e.kept_dead hand } in
+    let spare : HasSpareBlock new = record { whole = e.whole; none_in_hand = hand; block = e.kept_block f.spare.block; dead = e.kept_dead } in
     device_with f f.found f.found_stored refl e.pages count live (unspent_free d.pseg new f.free e.pages space) spare
     pairs (omega arith)
     (λ p x has. f.stamp.live p x (clear_held d.pseg.held place p x below (ap (λ (l : List (Option Held)). get_or l p None) (sym held) ∙ has)).1)

@@ -245,7 +245,7 @@ returns-clause-formed g c =
     let next = c.stamp_after-self.result in
     let rises : d.next ≤ next = after_rises c.is_tried-taken.result d.next next c.stamp_after-self.ensures in
     let hand = e.space.victim ∙ f.spare.none_in_hand in
-    let spare : HasSpareBlock seg = record { whole = e.whole; none_in_hand = hand; block = e.kept f.spare.block; dead = e.kept_dead hand } in
+    let spare : HasSpareBlock seg = record { whole = e.whole; none_in_hand = hand; block = e.kept f.spare.block; dead = e.kept_dead } in
     let free = free_after answer d.pseg seg f.free e.pages (λ placed. e.spent placed (none_wait d.pseg f.spare.whole f.no_pairs)) e.failed (λ r. (e.refused r).0) in
     let device = tried_device answer c.is_tried-taken.result c.args.tag c.args.from.now.main f e.geometry (g.met.M.Nand.contents_fit d.media) (g.met.M.Nand.contents_fit c.nameless_overwrite-answer.new.media) (λ t. ((e.crash t).page, (e.crash t).either))
     (λ un. not_touched answer un (λ r. ap g.M.Nand.contents (e.refused r).1)) c.forget_after.ensures c.stamp_after-self.ensures c.is_tried-taken.ensures in

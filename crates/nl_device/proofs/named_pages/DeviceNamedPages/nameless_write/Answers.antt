@@ -214,7 +214,7 @@ returns-clause-formed g c =
     let next = c.stamp_after-self.result in
     let rises : d.next ≤ next = after_rises c.is_tried-tried.result d.next next c.stamp_after-self.ensures in
     let hand = e.cleaning.victim ∙ f.spare.none_in_hand in
-    let spare : HasSpareBlock seg = record { whole = e.whole; none_in_hand = hand; block = e.kept f.spare.block; dead = e.kept_dead hand } in
+    let spare : HasSpareBlock seg = record { whole = e.whole; none_in_hand = hand; block = e.kept f.spare.block; dead = e.kept_dead } in
     let free = free_after answer d.pseg seg f.free e.pages e.spent e.failed (λ r. (e.refused (no_page_of c.nameless_write-answer.result e.live r)).0) in
     let device = tried_device answer c.is_tried-tried.result c.args.tag c.args.from.now.main f e.geometry (g.met.M.Nand.contents_fit d.media) (g.met.M.Nand.contents_fit c.nameless_write-answer.new.media) (λ t. ((e.crash t).page, (e.crash t).either))
     (λ un. not_touched answer un (λ r. ap g.M.Nand.contents (e.refused (no_page_of c.nameless_write-answer.result e.live r)).1)) c.forget_after.ensures c.stamp_after-self.ensures c.is_tried-tried.ensures in

@@ -1,4 +1,4 @@
-use Rattle.std.proofs.Common.{inl, inr, ℕ, ◌*◌, ◌/◌, ◌<◌, ◌≤◌, ◌∙◌, sym, subst, refl, arith}
+use Rattle.std.proofs.Common.{inl, inr, ℕ, ◌+◌, ◌*◌, ◌/◌, ◌<◌, ◌≤◌, ◌∙◌, sym, subst, refl, arith}
 use Rattle.std.proofs.lemmas.Bool.{cases_lt}
 use Rattle.std.proofs.lemmas.Nat.{div_below}
 use Rattle.nl_pseg.proofs.Numbers.{block_below, in_block}
@@ -50,5 +50,8 @@ returns c =
       kept_block = s.kept;
       whole = s.whole;
       none_in_hand = s.none;
-      none_later = λ p taken. n.later p (s.later p taken);
+      none_copies = λ p taken.
+          let here = s.copies p taken in
+          let zero = n.copies in
+          absurd (omega (arith, here.0, here.1, zero));
     }

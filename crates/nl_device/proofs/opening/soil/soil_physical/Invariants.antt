@@ -1,6 +1,6 @@
 use Rattle.std.proofs.Common.{◌≡◌, ℕ, ◌/◌, ◌<◌, ◌≤◌, None}
 use Rattle.nl_device.specs.Opening.{IsSoiled, SaysErased}
-use Rattle.nl_pseg.specs.Segment.{IsClean, KeepsBlock, TakenAsErased, TakenLater}
+use Rattle.nl_pseg.specs.Segment.{IsClean, IsNextCopy, KeepsBlock, TakenAsErased}
 use Rattle.nl_pseg.specs.Space.{IsWhole}
 use Rattle.nl_device.proofs.opening.soil.soil_physical.Given as goal
 
@@ -12,5 +12,5 @@ invariant-loop-block l = record {
   kept : KeepsBlock l.pseg;
   whole : IsWhole l.pseg;
   none : l.pseg.victim ≡ None;
-  later : (p : ℕ) → TakenLater l.pseg p → TakenLater l.initial.pseg p;
+  copies : (p : ℕ) → IsNextCopy l.pseg p → IsNextCopy l.initial.pseg p;
 }
