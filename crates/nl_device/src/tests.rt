@@ -203,6 +203,22 @@ fn at(name: u32, stamp: u64) -> Pointer
     Pointer { name, stamp }
 }
 
+// No page was moved, so no callback is pending.
+#[test]
+fn no_callback_is_pending(rt: HostRuntime) -> Result<(), Fail> {
+    let alloc = rt.alloc();
+    let media = blank(alloc)?;
+    let mut device = started(alloc, media)?;
+    assert_eq!(rt; device.posted(), 0);
+    assert_eq!(rt; device.pairs(), 0);
+    assert!(rt; device.least().is_none());
+    assert!(rt; device.callback(1).is_none());
+    assert!(rt; !device.handled(1, 1));
+    device.acknowledge(1);
+    assert_eq!(rt; device.posted(), 0);
+    Ok(())
+}
+
 // The physical segment has the pages from 256 on. 24 blocks of 32 pages, one of them kept for the cleaner, have room for 736.
 #[test]
 fn pages_have_names(rt: HostRuntime) -> Result<(), Fail> {
