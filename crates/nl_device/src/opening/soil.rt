@@ -59,6 +59,24 @@ pub fn soil_virtual(vseg: &mut VSeg, tables: &ScanTables, wears: &Vec<u32>, coun
     }
 }
 
+// Tells the segment of one block that it does not read as erased, where that is so.
+fn soil_one(pseg: &mut PSeg, block: u32, is_erased: bool, wear: u32)
+    requires none { pseg.old.victim ≡ None }
+    requires from { pseg.old.first ≤ block }
+    requires below { block < pseg.old.blocks }
+    ensures same { IsSoiled pseg.old pseg.new }
+    ensures erased { (p : ℕ) → TakenAsErased pseg.new p → TakenAsErased pseg.old p × (p / pseg.old.size ≡ block → is_erased ≡ true) }
+    ensures skipped { is_erased ≡ true → pseg.new ≡ pseg.old }
+    ensures kept { KeepsBlock pseg.old → KeepsBlock pseg.new }
+    ensures whole { IsWhole pseg.old → IsWhole pseg.new }
+    ensures none { pseg.new.victim ≡ None }
+    ensures copies { (p : ℕ) → IsNextCopy pseg.new p → IsNextCopy pseg.old p }
+{
+    if !is_erased {
+        pseg.soiled(block, wear);
+    }
+}
+
 /// Tells the physical segment its blocks that do not read as erased.
 pub fn soil_physical(pseg: &mut PSeg, tables: &ScanTables, wears: &Vec<u32>, first: u32, end: u32)
     requires first { pseg.old.first ≡ first }
@@ -78,8 +96,6 @@ pub fn soil_physical(pseg: &mut PSeg, tables: &ScanTables, wears: &Vec<u32>, fir
     ensures copies { (p : ℕ) → IsNextCopy pseg.new p → IsNextCopy pseg.old p }
 {
     for block in first..end {
-        if !tables.erased(block) {
-            pseg.soiled(block, wears[block as usize]);
-        }
+        soil_one(pseg, block, tables.erased(block), wears[block as usize]);
     }
 }
