@@ -93,7 +93,7 @@ device_with f found stored is same held live free spare pairs rises stamps mediu
   found_stored = stored;
   legal = f.legal;
   unwritten = f.unwritten;
-  names = names_are (named_segments f.segments is same held) _ live (space_is _ free (pairs ∙ f.no_pairs)) stamps;
+  names = names_are (named_segments f.segments is same held) _ live (space_is _ free spare.whole) stamps;
   medium = medium;
 }
 

@@ -1,5 +1,5 @@
 -- What holds of the tables of a device, and of a medium that stores them.
-use Rattle.std.proofs.Common.{arith, inl, inr, ◌≡◌, ℕ, ◌+◌, ◌*◌, ◌-◌, ◌/◌, ◌<◌, ◌≤◌, ◌∙◌, Bool, List, [], Option, Some, None, length, is_some, refl, sym, ap, subst, add-mul, zero-add, IsTrue}
+use Rattle.std.proofs.Common.{arith, inl, inr, ◌≡◌, ℕ, ◌+◌, ◌*◌, ◌-◌, ◌/◌, ◌<◌, ◌≤◌, ◌∙◌, Bool, List, [], Option, Some, None, length, is_some, refl, sym, ap, subst, add-mul, zero-add, IsTrue, ⊎_elim, true}
 use Rattle.std.specs.List.{count_by, range_with_len}
 use Rattle.std.proofs.lemmas.Bool.{true≢false}
 use Rattle.std.proofs.lemmas.List.{get_or_past}
@@ -106,7 +106,8 @@ module _ {geometry : Geometry} {shape : Shape} {vseg : Segment} {pseg : Physical
       away : (p : ℕ) (page : LivePage) → (names_of pseg).live p ≡ Some page → p / shape.pages ≡ spare.block.block → ⊥
       away p page live at =
           let h = held_of (held_at pseg p) page live in
-          true≢false (sym spare.block.kept ∙ (ap (is_kept pseg) (sym at ∙ ap (λ n. p / n) (sym segments.physical_pages)) ∙ spare.dead p h.0 h.1))
+          let kept : is_kept pseg spare.block.block ≡ true = ⊎_elim (λ is. is) (λ hand. absurd (none-some spare.block.block (sym spare.none_in_hand ∙ hand))) spare.block.kept in
+          true≢false (sym kept ∙ (ap (is_kept pseg) (sym at ∙ ap (λ n. p / n) (sym segments.physical_pages)) ∙ spare.dead p h.0 h.1))
 
       there : (name : ℕ) (page : LivePage) → (names_of pseg).live (led (names_of pseg) name) ≡ Some page → HoldsStamp c name page.stamp
       there name page live =

@@ -30,12 +30,14 @@ pub mod PhysicalPages
 pub mod Picks
 pub mod Places
 pub mod Placing
+pub mod Posting
 pub mod Ranges
 pub mod NamedReads
 pub mod Ready
 pub mod Retained
 pub mod Retaining
 pub mod SeenSpare
+pub mod SpaceSteps
 pub mod Showing
 pub mod Spacing
 pub mod Spreads

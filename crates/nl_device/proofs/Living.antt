@@ -1,11 +1,13 @@
 -- The live pages after a call.
-use Rattle.std.proofs.Common.{◌≡◌, ◌⊎◌, inl, inr, ⊎_elim, ℕ, ◌+◌, ◌*◌, ◌/◌, ◌<◌, ◌≤◌, ◌==◌, true, false, cond, is_some, List, Option, Some, None, length, get_or, set, refl, sym, ◌∙◌, ap, subst, arith, eq-eqb, ne_eqb}
+use Rattle.std.proofs.Common.{◌≡◌, ◌⊎◌, inl, inr, ⊎_elim, ℕ, ◌+◌, ◌*◌, ◌/◌, ◌<◌, ◌≤◌, ◌==◌, true, false, cond, is_some, List, [], Option, Some, None, length, get_or, set, refl, sym, ◌∙◌, ap, subst, arith, eq-eqb, ne_eqb}
 use Rattle.std.proofs.lemmas.Bool.{cases_eq, cond-true, cond-false}
 use Rattle.std.proofs.lemmas.List.{get_or-set_same, get_or-set_other, length-set}
 use Rattle.std.proofs.lemmas.Option.{same_Some, none-some}
+use Rattle.std.specs.Prelude.{Contains}
 use Rattle.nl_field.specs.declared.pointer.Tag.{Tag}
 use Rattle.nl_iface.specs.Names.{LivePage, with_page, without_page}
-use Rattle.nl_pseg.specs.Segment.{InSegment, IsUnspent, KeepsBlock, Physical, SamePages, TakenAsErased, held_at, is_free, soiled}
+use Rattle.nl_pseg.specs.Space.{IsWhole, waiting}
+use Rattle.nl_pseg.specs.Segment.{InSegment, IsUnspent, Physical, SamePages, TakenAsErased, held_at, is_kept, soiled}
 use Rattle.nl_pseg.specs.declared.held.Held.{Held}
 use Rattle.nl_device.specs.Device.{HasLive}
 use Rattle.nl_device.specs.Shown.{live_page}
@@ -104,23 +106,22 @@ live_kept old new live same blank is = record {
     split p h has = ap (λ (l : List (Option Held)). get_or l p None) (sym is) ∙ has
 
 -- what is taken as erased, where no page was given out
+-- where there is no pair no block waits for names
+pub none_wait : (seg : Physical) → IsWhole seg → seg.pairs ≡ [] → waiting seg ≡ 0
+none_wait seg whole none = let few = whole.numbers.few_wait in let e = ap (λ (l : List (ℕ × ℕ)). length l) none in omega (arith, few, e)
+
+-- and no name is an old one
+pub no_old : (pairs : List (ℕ × ℕ)) (name : ℕ) → pairs ≡ [] → (target : ℕ) × Contains pairs (name, target) → ⊥
+no_old pairs name none = subst (λ (l : List (ℕ × ℕ)). (target : ℕ) × Contains l (name, target) → ⊥) (sym none) (λ old. let lt = old.1.1 in absurd (omega (arith, lt)))
+
 pub unspent_blank : (old new : Physical) → SamePages old new → IsUnspent old new → (p : ℕ) → TakenAsErased new p → TakenAsErased old p
 unspent_blank old new same is p taken = ⊎_elim
     (λ next. let n = is.next in let l = is.left in inl (omega (arith, next.0, n), omega (arith, next.1, n, l)))
     (λ free.
-    let at : is_free old (p / old.size) ≡ true = sym (is.same_free (p / old.size)) ∙ (ap (λ n. is_free new (p / n)) (sym same.same_size) ∙ free.0) in
+    let at : is_kept old (p / old.size) ≡ true = sym (is.same_kept (p / old.size)) ∙ (ap (λ n. is_kept new (p / n)) (sym same.same_size) ∙ free.0) in
     let un : is_some (soiled old (p / old.size)) ≡ false = ap is_some (sym (is.same_soiled (p / old.size))) ∙ (ap (λ n. is_some (soiled new (p / n))) (sym same.same_size) ∙ free.1) in
     inr (at, un))
     taken
-
--- a block is kept still
-pub kept_still : (old new : Physical) → SamePages old new → IsUnspent old new → KeepsBlock old → KeepsBlock new
-kept_still old new same is k = record {
-  block = k.block;
-  from = subst (λ n. n ≤ k.block) (sym same.same_first) k.from;
-  below = subst (λ n. k.block < n) (sym same.same_blocks) k.below;
-  kept = is.same_kept k.block ∙ k.kept;
-}
 
 -- what is held after a new page in place of another one
 pub swap_held : (held : List (Option Held)) (name place : ℕ) (x : Held) (q : ℕ) (h : Held) → name < length held → place < length held → get_or (set (set held name (Some x)) place None) q None ≡ Some h

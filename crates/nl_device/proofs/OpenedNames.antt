@@ -43,4 +43,5 @@ opened_names image t pseg is opened some =
       blank = λ p taken.
           let below : p < shape.blocks * shape.pages = subst (λ n. p < n) (λ i. opened.blocks_is i * opened.size_is i) (opened.within p taken).1 in
           erased_in image t is some p (subst (λ n. p / shape.pages < n) (blocks_is image) (div_below p shape.pages shape.blocks some below)) (opened.erased p taken);
+      blank_copy = λ p taken. absurd (opened.none_copies p taken);
     }

@@ -10,6 +10,7 @@ use Rattle.nl_iface.specs.Counting.{FailuresCounted, StampRises}
 use Rattle.nl_iface.specs.Space.{WriteFailed}
 use Rattle.nl_pseg.specs.Answers.{IfPlaced, IsFault, IsPlaced, Names}
 use Rattle.nl_pseg.specs.Segment.{IsClean, IsReady, IsSpent, IsUnspent, Physical, SamePages, room}
+use Rattle.nl_pseg.specs.Space.{HasRoomForVictim, SameCleaning}
 use Rattle.nl_device.specs.Device.{HasFree}
 use Rattle.nl_device.specs.Space.{space_of}
 use Rattle.nl_device.specs.Stamps.{is_tried}
@@ -96,10 +97,10 @@ pub not_tried : (answer : Named) → (answer ≡ named.NotLive) ⊎ (answer ≡ 
 not_tried answer (inl is) = ap is_tried is
 not_tried answer (inr is) = ap is_tried is
 
-pub fault_space : (answer : Named) (old new : Physical) → SamePages old new → (IsFault answer → IsSpent old new ⊎ (IsUnspent old new × (IsReady old → ⊥))) → ((IsPlaced answer → ⊥) → new.held ≡ old.held) → ((IsPlaced answer → ⊥) → new.pairs ≡ old.pairs)
+pub fault_space : (answer : Named) (old new : Physical) → SamePages old new → ((IsPlaced answer → ⊥) → SameCleaning old new) → ((IsPlaced answer → ⊥) → HasRoomForVictim old → HasRoomForVictim new) → (IsFault answer → IsSpent old new ⊎ (IsUnspent old new × (IsReady old → ⊥))) → ((IsPlaced answer → ⊥) → new.held ≡ old.held) → ((IsPlaced answer → ⊥) → new.pairs ≡ old.pairs)
     → shown.IfFault answer (WriteFailed (space_of old) (space_of new))
-fault_space answer old new same fails held pairs = fault_if answer (WriteFailed (space_of old) (space_of new)) (λ is.
-    write_failed old new same (⊎_elim (λ s. inl s) (λ u. inr u.0) (fails is)) (held (fault_no answer is)) (pairs (fault_no answer is)))
+fault_space answer old new same cleaning lands fails held pairs = fault_if answer (WriteFailed (space_of old) (space_of new)) (λ is.
+    write_failed old new same (cleaning (fault_no answer is)) (lands (fault_no answer is)) (⊎_elim (λ s. inl s) (λ u. inr u.0) (fails is)) (held (fault_no answer is)) (pairs (fault_no answer is)))
 
 pub fault_room : (answer : Named) (old new : Physical) → IsClean old → (IsFault answer → IsSpent old new ⊎ (IsUnspent old new × (IsReady old → ⊥))) → shown.IfFault answer ((space_of new).room + 1 ≡ (space_of old).room)
 fault_room answer old new clean fails = fault_if answer ((space_of new).room + 1 ≡ (space_of old).room) (λ is.

@@ -1,5 +1,5 @@
 -- The device once the listed pointers are live.
-use Rattle.std.proofs.Common.{◌≡◌, ℕ, ◌+◌, ◌-◌, ◌*◌, ◌<◌, ◌≤◌, true, List, [], Option, Some, None, get_or, length, refl, sym, ◌∙◌, ap, subst, arith, add-mul}
+use Rattle.std.proofs.Common.{◌≡◌, ℕ, ◌+◌, ◌-◌, ◌*◌, ◌<◌, ◌≤◌, true, List, [], Option, Some, None, get_or, length, refl, sym, ◌∙◌, ap, subst, arith, add-mul, ◌⊎◌, ⊎_elim}
 use Rattle.std.specs.Prelude.{All, ◌==◌, find, option_map}
 use Rattle.std.proofs.lemmas.Option.{none-some, same_Some}
 use Rattle.nl_field.specs.Page.{Image, page_at}
@@ -15,7 +15,8 @@ use Rattle.nl_pseg.specs.Pages.{main_of, shown_by}
 use Rattle.nl_field.specs.Numbers.{ShapeBounds}
 use Rattle.nl_field.proofs.Bounds.{bounds}
 use Rattle.nl_device.proofs.Bounds.{two_blocks}
-use Rattle.nl_pseg.specs.Segment.{InSegment, IsPhysicalOf, KeptAreDead, Physical, TakenAsErased, held_at, is_free}
+use Rattle.nl_pseg.specs.Segment.{InSegment, IsPhysicalOf, KeptAreDead, Physical, IsNextCopy, TakenAsErased, held_at, is_free}
+use Rattle.nl_pseg.specs.Space.{IsWhole, waiting}
 use Rattle.nl_pseg.specs.declared.held.Held.{Held}
 use Rattle.nl_field.specs.Medium.{first_physical}
 use Rattle.nl_scan.specs.Tables.{greatest_stamp}
@@ -60,8 +61,10 @@ pub all_free : {geometry : Geometry} {shape : Shape} {vseg : Segment} {pseg : Ph
 all_free {pseg = pseg} has free = (λ i. has.physical_first i + (sym (free_is pseg) ∙ free) i) ∙ has.split ∙ sym has.physical_blocks
 
 pub is_fresh : {geometry : Geometry} {shape : Shape} {vseg : Segment} {old new : Physical} → HasSegments geometry shape vseg old → old.pairs ≡ [] → ((p : ℕ) → (names_of old).live p ≡ None) → new.held ≡ old.held → new.pairs ≡ old.pairs → new.blocks ≡ old.blocks
-    → new.size ≡ old.size → new.first + new.free ≡ new.blocks → ((block : ℕ) → new.first ≤ block → block < new.blocks → is_free new block ≡ true) → new.left ≡ 0 → IsFresh new
-is_fresh {old = old} has none dead held pairs blocks size count each left = record {
+    → new.size ≡ old.size → new.first + new.free ≡ new.blocks → ((block : ℕ) → new.first ≤ block → block < new.blocks → is_free new block ≡ true) → new.left ≡ 0 → IsWhole new → new.victim ≡ None → IsFresh new
+is_fresh {old = old} has none dead held pairs blocks size count each left whole hand = record {
+  whole = whole;
+  none_in_hand = hand;
   count = count;
   each = each;
   none_left = left;
@@ -105,8 +108,9 @@ found_live kept page h is = ap (option_map {U = LivePage} (λ (k : KeptPage). re
 -- the medium holds what is live, where it holds what was found
 pub held_on : {geometry : Geometry} {shape : Shape} {vseg : Segment} {old new : Physical} {kept : KeptPages} {image : Image} → HasSegments geometry shape vseg old → ImageOf geometry image → IsPhysicalOf image old
     → HoldsLive (found_in kept) (λ p. bytes_at (shape.vblocks * shape.pages) image p) (stored_in image) → ((page : ℕ) (h : Held) → held_at new page ≡ Some h → IsFoundIn kept new page h)
-    → ((page : ℕ) → InSegment new page → shape.vblocks * shape.pages ≤ page) → ((p : ℕ) → TakenAsErased new p → TakenAsErased old p) → IsPhysicalOf image new
-held_on {shape = shape} {kept = kept} {image = image} segments fit was holds from low erased = record {
+    → ((page : ℕ) → InSegment new page → shape.vblocks * shape.pages ≤ page) → ((p : ℕ) → TakenAsErased new p → TakenAsErased old p) → ((p : ℕ) → IsNextCopy new p → IsNextCopy old p) → IsPhysicalOf image new
+held_on {shape = shape} {kept = kept} {image = image} segments fit was holds from low erased copies = record {
+  blank_copy = λ page taken. was.blank_copy page (copies page taken);
   holds = λ page h held.
       let f = from page h held in
       let above = low page f.within in
@@ -119,9 +123,9 @@ held_on {shape = shape} {kept = kept} {image = image} segments fit was holds fro
 
 pub retained_device : {geometry : Geometry} {tells : Type 0} {image : Image} {shape : Shape} {vseg : Segment} {old new : Physical} {pending : PendingTable} {kept : KeptPages} {next : ℕ} → IsDevice geometry tells image shape vseg old pending kept next
     → IsSegmentFor kept new → length new.held ≡ length old.held → new.pairs ≡ [] → 1 ≤ new.free → HasSpareBlock new → new.left ≤ old.left → ((page : ℕ) (h : Held) → held_at new page ≡ Some h → IsFoundIn kept new page h)
-    → ((p q : ℕ) (g h : Held) → held_at new p ≡ Some g → held_at new q ≡ Some h → g.stamp ≡ h.stamp → p ≡ q) → ((p : ℕ) → TakenAsErased new p → TakenAsErased old p) → (tells → ImageOf geometry image)
+    → ((p q : ℕ) (g h : Held) → held_at new p ≡ Some g → held_at new q ≡ Some h → g.stamp ≡ h.stamp → p ≡ q) → ((p : ℕ) → TakenAsErased new p → TakenAsErased old p) → ((p : ℕ) → IsNextCopy new p → IsNextCopy old p) → (tells → ImageOf geometry image)
     → IsDevice geometry tells image shape vseg new pending kept next
-retained_device {geometry} {tells} {image} {shape} {vseg} {old} {new} {pending} {kept} {next} f same pages pairs some spare left from differ erased fit =
+retained_device {geometry} {tells} {image} {shape} {vseg} {old} {new} {pending} {kept} {next} f same pages pairs some spare left from differ erased copies fit =
     let first : new.first ≡ old.first = same.first ∙ f.found.first ∙ sym f.segments.physical_first in
     let blocks : new.blocks ≡ old.blocks = same.blocks ∙ (λ i. f.found.first i + f.found.count i) ∙ f.segments.split ∙ sym f.segments.physical_blocks in
     let size : new.size ≡ old.size = same.size ∙ f.found.size ∙ sym f.segments.physical_pages in
@@ -165,9 +169,9 @@ retained_device {geometry} {tells} {image} {shape} {vseg} {old} {new} {pending} 
       found_stored = f.found_stored;
       legal = f.legal;
       unwritten = f.unwritten;
-      names = names_are segments next live (space_is new free pairs) below;
+      names = names_are segments next live (space_is new free spare.whole) below;
       medium = λ t. made_medium segments (fit t) live (f.medium t).virtual_is
-          (held_on {new = new} f.segments (fit t) (f.medium t).physical_is (f.found_stored t) from (λ page within. subst (λ n. n ≤ page) (begins segments) within.0) erased)
+          (held_on {new = new} f.segments (fit t) (f.medium t).physical_is (f.found_stored t) from (λ page within. subst (λ n. n ≤ page) (begins segments) within.0) erased copies)
           (f.medium t).there (f.medium t).below (f.medium t).named_below pairs spare;
     }
 

@@ -1,5 +1,5 @@
 -- One pointer more is live, and all of them.
-use Rattle.std.proofs.Common.{◌≡◌, ◌++◌, ◌||◌, take, ℕ, zero, suc, ◌+◌, ◌/◌, ◌<◌, ◌≤◌, Bool, true, false, not, List, [], ◌∷◌, length, get_or, set, Option, Some, None, option_map, refl, sym, ◌∙◌, ap, subst, arith, ⊎_elim}
+use Rattle.std.proofs.Common.{◌≡◌, ◌++◌, ◌||◌, take, ℕ, zero, suc, ◌+◌, ◌/◌, ◌<◌, ◌≤◌, Bool, true, false, not, List, [], ◌∷◌, length, get_or, set, Option, Some, None, option_map, refl, sym, ◌∙◌, ap, subst, arith, ⊎_elim, inl, inr}
 use Rattle.std.specs.Prelude.{◌==◌, IsSome, filter, find, slice_get}
 use Rattle.std.specs.List.{count_by, list_any, range_with_len}
 use Rattle.std.specs.BTreeMap.{BTreeMap}
@@ -66,6 +66,7 @@ can_load kept copies pointers at p old seg is can retains here =
           let one = retains.only page h held in
           stamps_differ kept pointers one.0 at one.1 p can one.2 one.3 here (sym one.5 ∙ same);
       no_pairs = retains.no_pairs;
+      none_in_hand = retains.none_in_hand;
     }
   where
     by : (o : Option Held) → held_at seg p.name ≡ o → IsThere kept (spare_for kept pointers) p → o ≡ None
@@ -89,6 +90,9 @@ retains_none kept pointers seg same fresh = record {
   same_soiled = λ block. refl;
   left = omega arith;
   erased = λ q taken. taken;
+  copies = λ q taken. taken;
+  whole = fresh.whole;
+  none_in_hand = fresh.none_in_hand;
   unchanged = λ none. refl;
   kept_block = λ k some. k;
   kept_dead = λ dead. dead;
@@ -182,6 +186,9 @@ retains_more kept copies pointers at p old seg new is can fresh first retains he
       same_soiled = λ b. loads.same_soiled b ∙ retains.same_soiled b;
       left = omega (arith, loads.left, retains.left);
       erased = λ q taken. retains.erased q (loads.erased q taken);
+      copies = λ q taken. retains.copies q (loads.copies q taken);
+      whole = loads.whole;
+      none_in_hand = loads.none_in_hand;
       unchanged = λ none. absurd (omega (arith, none));
       kept_block = λ k some. loads.kept_block some;
       kept_dead = λ dead. loads.kept_dead;

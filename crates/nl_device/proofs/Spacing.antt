@@ -6,8 +6,10 @@ use Rattle.std.proofs.lemmas.List.Sums.{sum_by-set}
 use Rattle.nl_iface.specs.Space.{Freed, IsSpace, Lessened, NoneRetired, SameSegment, WriteFailed, Wrote, NamesGone}
 use Rattle.nl_pseg.specs.Segment.{IsSpent, IsUnspent, Physical, SamePages, room}
 use Rattle.nl_pseg.specs.declared.held.Held.{Held}
+use Rattle.nl_pseg.specs.Space.{GivesBack, HasRoomForVictim, IsWhole, Lessens, SameCleaning, waiting}
 use Rattle.nl_device.specs.Device.{HasFree}
 use Rattle.nl_device.specs.Space.{live_in, space_of}
+use Rattle.nl_device.proofs.SpaceSteps.{is_space, lessened, page_gone, same_segment}
 
 -- One page of the block that is written to, or of a Free block: a block is Free still.
 spent_numbers : (s left free left' free' : ℕ) → 1 ≤ free → left ≤ s → left' + (free' - 1) * s + 1 ≡ left + (free - 1) * s → free' + cond (nat_le 1 left) 0 1 ≡ free → (1 ≤ free') × (left' ≤ s)
@@ -46,32 +48,9 @@ unspent_free old new has same is = record {
   left = let a = is.left in let b = same.same_size in let c = has.left in omega (arith, a, b, c);
 }
 
-open_small : (left size : ℕ) → cond (nat_le 1 left) size 0 ≤ size
-open_small left size = by (nat_le 1 left)
-  where
-    by : (b : Bool) → cond b size 0 ≤ size
-    by true = omega arith
-    by false = omega arith
-
-pub space_is : (seg : Physical) → HasFree seg → seg.pairs ≡ [] → IsSpace (space_of seg)
-unfolding space_of
-space_is seg has none = record {
-  pairs = let e = ap (λ (ps : List (ℕ × ℕ)). length ps) none in omega (arith, e);
-  victim = omega arith;
-  left_in = omega arith;
-  busy = λ one. absurd (omega (arith, one));
-  waiting = omega arith;
-  keeps = omega arith;
-  kept = let k = has.kept in omega (arith, k);
-  low = λ lands. let m = mul-le-mul_right seg.size has.kept in omega (arith, m);
-  high = λ v few w. let m = mul-le-mul_right seg.size few in omega (arith, m);
-  dead = λ p v few.
-      let m : seg.free * seg.size ≤ 1 * seg.size = mul-le-mul_right seg.size few in
-      let o = open_small seg.left seg.size in
-      omega (arith, m, o);
-  room = omega arith;
-  room_ends = let l = has.left in omega (arith, l);
-}
+-- where a block is Free the numbers are right
+pub space_is : (seg : Physical) → HasFree seg → IsWhole seg → IsSpace (space_of seg)
+space_is seg has whole = is_space seg whole (let k = has.kept in omega (arith, k))
 
 -- a page is live now
 pub one_more : (held : List (Option Held)) (p : ℕ) (h : Held) → p < length held → get_or held p None ≡ None → live_in (set held p (Some h)) ≡ live_in held + 1
@@ -89,34 +68,39 @@ one_less held p h below live =
     let z : weight (get_or held p None) ≡ 1 = ap weight live in
     omega (arith, e, z)
 
-same_segment : (old new : Physical) → SamePages old new → SameSegment (space_of old) (space_of new)
-unfolding space_of
-same_segment old new same = record { block = same.same_size; all = λ i. (same.same_blocks i - same.same_first i) * same.same_size i; bad = omega arith; kept = refl }
-
--- no block is in hand, and none waits
-lessened : (gone : ℕ) (old new : Physical) → length new.pairs ≤ length old.pairs → Lessened gone (space_of old) (space_of new)
-unfolding space_of
-lessened gone old new fewer = record { victim = refl; waiting = omega arith; pairs = fewer; left = omega arith; left_most = omega arith; lands = λ none lands. omega arith }
+same_pages : (old new : Physical) → SamePages old new → SameSegment (space_of old) (space_of new)
+same_pages old new same = same_segment old new same.same_first same.same_blocks same.same_size
 
 no_more : (xs ys : List (ℕ × ℕ)) → ys ≡ xs → length ys ≤ length xs
 no_more xs ys same = let e = ap (λ (ps : List (ℕ × ℕ)). length ps) same in omega (arith, e)
 
-pub wrote : (gone : ℕ) (old new : Physical) → SamePages old new → IsSpent old new → live_in new.held + gone ≡ live_in old.held + 1 → new.pairs ≡ old.pairs → Wrote gone (space_of old) (space_of new)
-unfolding space_of
-wrote gone old new same is live pairs = record {
-  same = same_segment old new same;
-  lessened = lessened gone old new (no_more old.pairs new.pairs pairs);
-  live = live;
-  room = λ none. let r = is.room in omega (arith, r);
-  exact = λ none either. (refl, is.room);
+-- where nothing of cleaning changed, nothing of it is less
+pub still_lessens : (old new : Physical) → SameCleaning old new → (HasRoomForVictim old → HasRoomForVictim new) → Lessens 0 old new
+still_lessens old new same lands = record {
+  victim = same.victim;
+  copies = same.copies;
+  fewer_wait = let w = same.same_waiting in omega (arith, w);
+  left = let l = same.left in omega (arith, l);
+  left_most = let l = same.left in omega (arith, l);
+  lands = lands;
 }
 
-pub write_failed : (old new : Physical) → SamePages old new → IsSpent old new ⊎ IsUnspent old new → new.held ≡ old.held → new.pairs ≡ old.pairs → WriteFailed (space_of old) (space_of new)
+pub wrote : (gone : ℕ) (old new : Physical) → SamePages old new → Lessens gone old new → waiting new ≡ waiting old → IsSpent old new → live_in new.held + gone ≡ live_in old.held + 1 → new.pairs ≡ old.pairs → Wrote gone (space_of old) (space_of new)
 unfolding space_of
-write_failed old new same spent held pairs = record {
-  same = same_segment old new same;
-  lessened = lessened 0 old new (no_more old.pairs new.pairs pairs);
-  waiting = refl;
+wrote gone old new same fewer waits is live pairs = record {
+  same = same_pages old new same;
+  lessened = lessened gone old new (no_more old.pairs new.pairs pairs) fewer;
+  live = live;
+  room = λ none. let r = is.room in omega (arith, r);
+  exact = λ none either. (waits, is.room);
+}
+
+pub write_failed : (old new : Physical) → SamePages old new → SameCleaning old new → (HasRoomForVictim old → HasRoomForVictim new) → IsSpent old new ⊎ IsUnspent old new → new.held ≡ old.held → new.pairs ≡ old.pairs → WriteFailed (space_of old) (space_of new)
+unfolding space_of
+write_failed old new same cleaning lands spent held pairs = record {
+  same = same_pages old new same;
+  lessened = lessened 0 old new (no_more old.pairs new.pairs pairs) (still_lessens old new cleaning lands);
+  waiting = cleaning.same_waiting;
   pairs = ap (λ (ps : List (ℕ × ℕ)). length ps) pairs;
   live = ap live_in held;
   room = ⊎_elim (λ is. let r = is.room in omega (arith, r)) (λ is. let r = unspent_room old new same is in omega (arith, r)) spent;
@@ -126,27 +110,16 @@ write_failed old new same spent held pairs = record {
     unspent_room : (old new : Physical) → SamePages old new → IsUnspent old new → room new ≡ room old
     unspent_room old new same is = λ i. is.left i + (is.free i - 1) * same.same_size i
 
-pub freed : (old new : Physical) → SamePages old new → IsUnspent old new → live_in new.held + 1 ≡ live_in old.held → new.pairs ≡ old.pairs → Freed (space_of old) (space_of new)
-unfolding space_of
-freed old new same is live pairs =
-    let e : room new ≡ room old = (λ i. is.left i + (is.free i - 1) * same.same_size i) in
-    record {
-      same = same_segment old new same;
-      bad = refl;
-      lessened = lessened 1 old new (no_more old.pairs new.pairs pairs);
-      blocks = ap (λ n. n + 0) is.free;
-      live = live;
-      reach = let f : new.free * new.size ≡ old.free * old.size = (λ i. is.free i * same.same_size i) in omega (arith, f);
-      room = omega (arith, e);
-      exact = λ none. (refl, e);
-    }
+pub freed : (old new : Physical) → SamePages old new → Lessens 1 old new → GivesBack old new → live_in new.held + 1 ≡ live_in old.held → new.pairs ≡ old.pairs → Freed (space_of old) (space_of new)
+freed old new same fewer back live pairs = page_gone old new same live (no_more old.pairs new.pairs pairs) fewer back
 
 -- one page more is live
-pub wrote_one : (old new : Physical) (at : ℕ) (h : Held) → SamePages old new → IsSpent old new → at < length old.held → get_or old.held at None ≡ None → new.held ≡ set old.held at (Some h) → new.pairs ≡ old.pairs → Wrote 0 (space_of old) (space_of new)
-wrote_one old new at h same is below dead held pairs =
+pub wrote_one : (old new : Physical) (at : ℕ) (h : Held) → SamePages old new → SameCleaning old new → (HasRoomForVictim old → HasRoomForVictim new) → IsSpent old new → at < length old.held → get_or old.held at None ≡ None → new.held ≡ set old.held at (Some h) → new.pairs ≡ old.pairs
+    → Wrote 0 (space_of old) (space_of new)
+wrote_one old new at h same cleaning lands is below dead held pairs =
     let e = ap live_in held in
     let m = one_more old.held at h below dead in
-    wrote 0 old new same is (omega (arith, e, m)) pairs
+    wrote 0 old new same (still_lessens old new cleaning lands) cleaning.same_waiting is (omega (arith, e, m)) pairs
 
 -- a page is live in place of another one
 pub one_for_one : (held : List (Option Held)) (p q : ℕ) (h x : Held) → p < length held → q < length held → (q ≡ p → ⊥) → get_or held p None ≡ None → get_or held q None ≡ Some x → live_in (set (set held p (Some h)) q None) + 1 ≡ live_in held + 1
@@ -159,7 +132,7 @@ pub free_is : (seg : Physical) → (space_of seg).free ≡ seg.free
 unfolding space_of
 free_is seg = refl
 
-pub waiting_is : (seg : Physical) → (space_of seg).waiting ≡ 0
+pub waiting_is : (seg : Physical) → (space_of seg).waiting ≡ waiting seg
 unfolding space_of
 waiting_is seg = refl
 

@@ -37,6 +37,7 @@ use Rattle.nl_device.proofs.Opened.{can_load}
 use Rattle.nl_device.proofs.Owns.{needed_in, owns_is}
 use Rattle.nl_device.proofs.Picks.{pick_in}
 use Rattle.nl_callbacks.specs.Pending.{PendingTable}
+use Rattle.nl_device.proofs.Spacing.{space_is}
 
 pub for_shape : (s : Shape) (b p : ℕ) → s ≡ shape_for b p → (s.blocks ≡ b) × (s.pages ≡ p) × (s ≡ shape_for s.blocks s.pages)
 unfolding shape_for
@@ -138,29 +139,6 @@ module _ (shape : Shape) (t : Table) (pseg : Physical) (p : IsOpenedPhysical sha
       let spread : (k + 1) * pseg.size ≡ k * pseg.size + pseg.size = omega arith in
       omega (arith, left, whole, most, spread)
 
-  pub is_space : IsSpace (space_of pseg)
-  unfolding space_of
-  is_space =
-      let free = p.free_is in
-      let two = two_blocks roomy in
-      let left = p.left_is in
-      let none : length pseg.pairs ≡ 0 = ap (λ (l : List (ℕ × ℕ)). length l) p.no_pairs in
-      let low : 1 * pseg.size ≤ pseg.free * pseg.size = block_from 1 pseg.free pseg.size (omega (arith, free, two)) in
-      record {
-        pairs = omega (arith, none);
-        victim = omega arith;
-        left_in = omega arith;
-        busy = λ one. absurd (omega (arith, one));
-        waiting = omega (arith, none);
-        keeps = omega arith;
-        kept = omega (arith, free, two);
-        low = λ lands. omega (arith, low);
-        high = λ victim few waiting. absurd (omega (arith, few, free, two));
-        dead = λ pairs victim few. absurd (omega (arith, few, free, two));
-        room = omega arith;
-        room_ends = omega (arith, left);
-      }
-
 -- the device of a scan, beside what its medium holds
 pub opened_device : (geometry : Geometry) (shape : Shape) (t : Table) (vseg : Segment) (pseg : Physical) (pending : PendingTable) (kept : KeptPages) (tells : Type 0) (image : Image) → IsTrue (is_legal geometry.blocks geometry.pages) → shape ≡ shape_for geometry.blocks geometry.pages → FitsShape shape t
     → IsOpenedVirtual shape t vseg → IsOpenedPhysical shape t pseg → (HasSegments geometry shape vseg pseg → HasLive pseg → HasSpareBlock pseg → tells → IsOnMedium shape (1 + greatest_stamp t.seen) image vseg pseg)
@@ -187,7 +165,7 @@ opened_device geometry shape t vseg pseg pending kept tells image legal e fits o
       physical_held = ap (λ (l : List (Option Held)). length l) p.none_held ∙ length-replicate (shape.blocks * shape.pages) None;
     } in
     let live = live_none shape t pseg p roomy in
-    let spare : HasSpareBlock pseg = record { block = p.kept_block; dead = λ page h held. absurd (none-some h (sym (none_at (shape.blocks * shape.pages) page pseg.held p.none_held) ∙ held)) } in
+    let spare : HasSpareBlock pseg = record { whole = p.whole; none_in_hand = p.none_in_hand; block = p.kept_block; dead = λ page h held. absurd (none-some h (sym (none_at (shape.blocks * shape.pages) page pseg.held p.none_held) ∙ held)) } in
     record {
       segments = segments;
       mapped = mapped shape t vseg o fits;
@@ -201,6 +179,6 @@ opened_device geometry shape t vseg pseg pending kept tells image legal e fits o
       found_stored = stored;
       legal = shape_is_legal segments;
       unwritten = no_stamp_beyond segments;
-      names = names_are segments (1 + greatest_stamp t.seen) live (is_space shape t pseg p roomy) (λ page h held. absurd (none-some h (sym (none_at (shape.blocks * shape.pages) page pseg.held p.none_held) ∙ held)));
+      names = names_are segments (1 + greatest_stamp t.seen) live (space_is pseg (free_some shape t pseg p roomy) p.whole) (λ page h held. absurd (none-some h (sym (none_at (shape.blocks * shape.pages) page pseg.held p.none_held) ∙ held)));
       medium = λ tell. medium segments live spare tell;
     }

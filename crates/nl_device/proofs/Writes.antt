@@ -17,6 +17,7 @@ use Rattle.nl_vseg.specs.Maps.{Dominated}
 use Rattle.nl_vseg.specs.Pages.{Shows}
 use Rattle.nl_pseg.specs.Segment.{IsPhysicalOf, Physical}
 use Rattle.nl_pseg.specs.Pages.{main_of, shown_by}
+use Rattle.nl_pseg.specs.Space.{IsWhole}
 use Rattle.nl_device.specs.Device.{HasLive}
 use Rattle.nl_device.specs.Shown.{IsStray, bytes_at}
 use Rattle.nl_device.proofs.Firm.{keeps_firm, takes_firm}
@@ -102,13 +103,14 @@ beyond_of (inl k) = k.beyond
 beyond_of (inr k) = k.beyond
 
 -- so the physical segment is that of the image still
-pub physical_kept : (bound : ℕ) (seg : Physical) (old c : Image) → HasLive seg → seg.first * seg.size ≡ bound → ((p : ℕ) → bound ≤ p → page_at c p ≡ page_at old p) → IsPhysicalOf old seg → IsPhysicalOf c seg
-physical_kept bound seg old c live first same is = record {
+pub physical_kept : (bound : ℕ) (seg : Physical) (old c : Image) → HasLive seg → IsWhole seg → seg.first * seg.size ≡ bound → ((p : ℕ) → bound ≤ p → page_at c p ≡ page_at old p) → IsPhysicalOf old seg → IsPhysicalOf c seg
+physical_kept bound seg old c live whole first same is = record {
   holds = λ p h held.
       let within = live.in_segment p h held in
       let e : page_at c p ≡ page_at old p = same p (subst (λ n. n ≤ p) first within.0) in
       ap shown_by e ∙ (is.holds p h held ∙ ap (λ page. Some (h.tag, h.stamp, main_of page)) (sym e));
   blank = λ p taken. let within = live.blank_in p taken in same p (subst (λ n. n ≤ p) first within.0) ∙ is.blank p taken;
+  blank_copy = λ p taken. let within = whole.pages.copies_within p taken in same p (subst (λ n. n ≤ p) first within.0) ∙ is.blank_copy p taken;
 }
 
 -- What failed before, or failed now: where nothing was placed, a value that is newer than the map's was newer before, or it is the

@@ -11,6 +11,7 @@ use Rattle.nl_device.specs.Kept.{KeptPages}
 use Rattle.nl_device.specs.Shown.{IsStray, bytes_at, found_in, names_of}
 use Rattle.nl_nand.specs.declared.geometry.Geometry.{Geometry}
 use Rattle.nl_pseg.specs.Segment.{InSegment, IsPhysicalOf, KeepsBlock, KeptAreDead, Physical, TakenAsErased, held_at}
+use Rattle.nl_pseg.specs.Space.{IsWhole}
 use Rattle.nl_pseg.specs.declared.held.Held.{Held}
 use Rattle.nl_vseg.specs.Pages.{Shows}
 use Rattle.nl_vseg.specs.Places.{AreBelow, map_of, stamp_for}
@@ -50,8 +51,10 @@ pub record HasFree (pseg : Physical) : Type 0 where
   pub kept : 1 ≤ pseg.free
   pub left : pseg.left ≤ pseg.size
 
--- Some block of the segment holds no live page, so that it can be done without.
+-- No block is in hand to be cleaned. Some block of the segment holds no live page, so that it can be done without.
 pub record HasSpareBlock (pseg : Physical) : Type 0 where
+  pub whole : IsWhole pseg
+  pub none_in_hand : pseg.victim ≡ None
   pub block : KeepsBlock pseg
   pub dead : KeptAreDead pseg
 

@@ -13,7 +13,8 @@ use Rattle.nl_device.specs.Spread.{by_key, spare_of, spread_more}
 use Rattle.nl_device.specs.declared.opening.own.Own.{Own}
 use Rattle.nl_device.specs.declared.opening.spare.Spread.{Spread}
 use Rattle.nl_device.specs.declared.opening.spare.Spread.TheVariants.{Nowhere}
-use Rattle.nl_pseg.specs.Segment.{InSegment, IsClean, KeepsBlock, Physical as Segment, TakenAsErased, is_free}
+use Rattle.nl_pseg.specs.Segment.{InSegment, IsClean, KeepsBlock, Physical as Segment, IsNextCopy, TakenAsErased, is_free}
+use Rattle.nl_pseg.specs.Space.{IsWhole}
 use Rattle.nl_vseg.specs.Places.{place_of}
 use Rattle.nl_vseg.specs.Segment.{SameSize, Segment as Virtuals, is_blank}
 use Rattle.nl_vseg.specs.declared.place.Place.{Place}
@@ -125,10 +126,13 @@ pub record IsOpenedPhysical (shape : Shape) (t : Table) (pseg : Segment) : Type 
   pub none_held : pseg.held ≡ replicate (shape.blocks * shape.pages) None
   pub no_pairs : pseg.pairs ≡ []
   pub free_is : pseg.free ≡ shape.pblocks
+  pub whole : IsWhole pseg
+  pub none_in_hand : pseg.victim ≡ None
   pub kept_block : KeepsBlock pseg
   pub left_is : pseg.left ≡ 0
   pub within : (p : ℕ) → TakenAsErased pseg p → InSegment pseg p
   pub erased : (p : ℕ) → TakenAsErased pseg p → SaysErased t (p / shape.pages)
+  pub none_copies : (p : ℕ) → IsNextCopy pseg p → ⊥
   pub clean : ((block : ℕ) → shape.vblocks ≤ block → block < shape.blocks → SaysErased t block) → IsClean pseg
 
 -- the tables are of a medium with the numbers of the volume

@@ -3,7 +3,8 @@ use Rattle.std.specs.Prelude.{◌≡◌, ◌≢◌, ℕ, ◌+◌, ◌*◌, ◌/�
 use Rattle.std.specs.List.{AllPairs, count_by, list_any, range_with_len}
 use Rattle.nl_field.specs.declared.pointer.Pointer.{Pointer}
 use Rattle.nl_field.specs.declared.shape.Shape.{Shape}
-use Rattle.nl_pseg.specs.Segment.{InSegment, IsNewStamp, KeepsBlock, KeptAreDead, Physical, TakenAsErased, held_at, is_free, soiled}
+use Rattle.nl_pseg.specs.Segment.{InSegment, IsNewStamp, KeepsBlock, KeptAreDead, IsNextCopy, Physical, TakenAsErased, held_at, is_free, soiled}
+use Rattle.nl_pseg.specs.Space.{IsWhole}
 use Rattle.nl_pseg.specs.declared.held.Held.{Held}
 use Rattle.nl_iface.specs.declared.counts.Counts.{Ghosts}
 use Rattle.nl_iface.specs.Calls.{KeepsVirtual}
@@ -51,6 +52,8 @@ pub record IsFresh (seg : Physical) : Type 0 where
   pub no_live : (page : ℕ) → held_at seg page ≡ None
   pub pages : length seg.held ≡ seg.blocks * seg.size
   pub no_pairs : seg.pairs ≡ []
+  pub whole : IsWhole seg
+  pub none_in_hand : seg.victim ≡ None
 
 -- for how many pairs there is room: there is no table of pairs yet
 abbrev pub pair_room : ℕ
@@ -96,6 +99,7 @@ pub record CanLoad (kept : KeptPages) (spare : Option ℕ) (p : Pointer) (seg : 
   pub dead : held_at seg p.name ≡ None
   pub new_stamp : IsNewStamp seg p.stamp
   pub no_pairs : seg.pairs ≡ []
+  pub none_in_hand : seg.victim ≡ None
 
 -- what a loaded pointer leaves
 pub record Loads (kept : KeptPages) (p : Pointer) (old new : Physical) : Type 0 where
@@ -110,6 +114,9 @@ pub record Loads (kept : KeptPages) (p : Pointer) (old new : Physical) : Type 0 
   pub same_soiled : (block : ℕ) → soiled new block ≡ soiled old block
   pub left : new.left ≤ old.left
   pub erased : (q : ℕ) → TakenAsErased new q → TakenAsErased old q
+  pub copies : (q : ℕ) → IsNextCopy new q → IsNextCopy old q
+  pub whole : IsWhole new
+  pub none_in_hand : new.victim ≡ None
   pub kept_block : 1 ≤ new.free → KeepsBlock new
   pub kept_dead : KeptAreDead new
 
@@ -131,6 +138,9 @@ pub record Retains (kept : KeptPages) (pointers : List Pointer) (at : ℕ) (old 
   pub same_soiled : (block : ℕ) → soiled seg block ≡ soiled old block
   pub left : seg.left ≤ old.left
   pub erased : (q : ℕ) → TakenAsErased seg q → TakenAsErased old q
+  pub copies : (q : ℕ) → IsNextCopy seg q → IsNextCopy old q
+  pub whole : IsWhole seg
+  pub none_in_hand : seg.victim ≡ None
   pub unchanged : at ≡ 0 → seg ≡ old
   pub kept_block : KeepsBlock old → 1 ≤ seg.free → KeepsBlock seg
   pub kept_dead : KeptAreDead old → KeptAreDead seg

@@ -9,13 +9,17 @@ use crate::device::Device;
 use nl_callbacks::Pending;
 use nl_iface::{Callback, Counts};
 use nl_nand::Nand;
+use nl_pseg::PSeg;
 
-/// Takes away each callback that was handled by a transaction up to this one. No page is moved yet, so no name is an old one.
-fn drop_over(pending: &mut Pending, upto: u64)
-    requires { pending.old.callbacks ≡ [] }
-    ensures { pending.new ≡ pending.old }
+/// Takes away each callback that was handled by a transaction up to this one, with its old name.
+fn drop_over(pending: &mut Pending, pseg: &mut PSeg, upto: u64)
+    requires none { pending.old.callbacks ≡ [] }
+    ensures pending { pending.new ≡ pending.old }
+    ensures pseg { pseg.new ≡ pseg.old }
 {
-    'over: while pending.acknowledge_next(upto).is_some() {}
+    'over: while let Some(name) = pending.acknowledge_next(upto) {
+        pseg.drop_name(name);
+    }
 }
 
 impl<M: Nand> Device<M> {
@@ -66,7 +70,7 @@ impl<M: Nand> Device<M> {
         ensures kept { KeepsMedium ⟦<Device<M> as Counts>⟧ self.old self.new }
         ensures read_faults { ⟦<Device<M> as Counts>⟧.read_faults self.new ≡ ⟦<Device<M> as Counts>⟧.read_faults self.old }
     {
-        drop_over(&mut self.pending, upto);
+        drop_over(&mut self.pending, &mut self.pseg, upto);
     }
 
     /// How many pairs of an old name and the page that it leads to there are.

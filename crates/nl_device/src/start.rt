@@ -53,6 +53,16 @@ struct Parts {
     kept: Kept,
 }
 
+// What a device keeps of a scan.
+fn kept_after(alloc: Global, shape: &Shape, tables: &ScanTables) -> Result<Kept, Memory>
+    requires legal { IsTrue (is_legal shape.now.blocks shape.now.pages) }
+    requires numbers { shape.now ≡ shape_for shape.now.blocks shape.now.pages }
+    requires fits { FitsShape shape.now tables.now }
+    ensures { IfOk result (λ k. k ≡ kept_of_scan shape.now tables.now.seen) }
+{
+    Kept::of(alloc, tables, shape)
+}
+
 fn after_scan(alloc: Global, shape: &Shape, tables: &ScanTables) -> Result<Parts, Memory>
     requires legal { IsTrue (is_legal shape.now.blocks shape.now.pages) }
     requires numbers { shape.now ≡ shape_for shape.now.blocks shape.now.pages }
@@ -64,7 +74,7 @@ fn after_scan(alloc: Global, shape: &Shape, tables: &ScanTables) -> Result<Parts
 {
     let Opened { vseg, pseg } = open(alloc, shape, tables)?;
     let pending = Pending::new(alloc, 4 * shape.pages)?;
-    let kept = Kept::of(alloc, tables, shape)?;
+    let kept = kept_after(alloc, shape, tables)?;
     Ok(Parts {
         vseg,
         pseg,

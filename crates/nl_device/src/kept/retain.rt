@@ -1,8 +1,9 @@
-ghost use Rattle.std.specs.Prelude.{◌≡◌, ◌≤◌, cond, ◌+◌, ℕ, [], length, Some};
+ghost use Rattle.std.specs.Prelude.{◌≡◌, ◌≤◌, cond, ◌+◌, ℕ, [], length, None, Some};
 ghost use Rattle.nl_device.specs.Retain.{AreRetained, CanLoad, CanRetain, IsFoundIn, IsFresh, IsSegmentFor, Loads, Retains, needed_blocks};
 ghost use Rattle.nl_device.specs.Kept.{forgotten};
 ghost use Rattle.nl_device.specs.Space.{live_in};
-ghost use Rattle.nl_pseg.specs.Segment.{IsClean, KeepsBlock, KeptAreDead, TakenAsErased, held_at};
+ghost use Rattle.nl_pseg.specs.Segment.{IsClean, IsNextCopy, KeepsBlock, KeptAreDead, TakenAsErased, held_at};
+ghost use Rattle.nl_pseg.specs.Space.{IsWhole};
 ghost use Rattle.nl_pseg.specs.declared.held.Held.{Held};
 
 use super::Kept;
@@ -60,6 +61,9 @@ impl Kept {
         ensures free { pseg.new.free + needed_blocks self.old list.now.items ≡ self.old.count }
         ensures left { pseg.new.left ≤ pseg.old.left }
         ensures erased { (p : ℕ) → TakenAsErased pseg.new p → TakenAsErased pseg.old p }
+        ensures copies { (p : ℕ) → IsNextCopy pseg.new p → IsNextCopy pseg.old p }
+        ensures whole { IsWhole pseg.new }
+        ensures none_in_hand { pseg.new.victim ≡ None }
         ensures clean { IsClean pseg.old → IsClean pseg.new }
         ensures none { list.now.items ≡ [] → pseg.new ≡ pseg.old }
         ensures kept_block { KeepsBlock pseg.old → KeepsBlock pseg.new }

@@ -1,9 +1,10 @@
 // The blocks whose pages do not all read as erased, and how often they were erased.
-ghost use Rattle.std.specs.Prelude.{◌≡◌, ◌*◌, ◌/◌, ◌<◌, ◌≤◌, ℕ, length, max, slice_index_or, slice_set, true, All, IfOk};
+ghost use Rattle.std.specs.Prelude.{◌≡◌, ◌*◌, ◌/◌, ◌<◌, ◌≤◌, ℕ, length, max, slice_index_or, slice_set, true, All, IfOk, None};
 ghost use Rattle.nl_field.specs.SpareRecord.{wear_of};
 ghost use Rattle.nl_field.specs.declared.seen.Seen.{Seen as SeenOf};
 ghost use Rattle.nl_device.specs.Opening.{IsSoiled, SaysErased, Tabulates, wear_in};
-ghost use Rattle.nl_pseg.specs.Segment.{IsClean, KeepsBlock, TakenAsErased};
+ghost use Rattle.nl_pseg.specs.Segment.{IsClean, IsNextCopy, KeepsBlock, TakenAsErased};
+ghost use Rattle.nl_pseg.specs.Space.{IsWhole};
 ghost use Rattle.nl_vseg.specs.Segment.{SameSize, is_blank};
 
 use nl_field::{Memory, SpareRec};
@@ -58,6 +59,24 @@ pub fn soil_virtual(vseg: &mut VSeg, tables: &ScanTables, wears: &Vec<u32>, coun
     }
 }
 
+// Tells the segment of one block that it does not read as erased, where that is so.
+fn soil_one(pseg: &mut PSeg, block: u32, is_erased: bool, wear: u32)
+    requires none { pseg.old.victim ≡ None }
+    requires from { pseg.old.first ≤ block }
+    requires below { block < pseg.old.blocks }
+    ensures same { IsSoiled pseg.old pseg.new }
+    ensures erased { (p : ℕ) → TakenAsErased pseg.new p → TakenAsErased pseg.old p × (p / pseg.old.size ≡ block → is_erased ≡ true) }
+    ensures skipped { is_erased ≡ true → pseg.new ≡ pseg.old }
+    ensures kept { KeepsBlock pseg.old → KeepsBlock pseg.new }
+    ensures whole { IsWhole pseg.old → IsWhole pseg.new }
+    ensures none { pseg.new.victim ≡ None }
+    ensures copies { (p : ℕ) → IsNextCopy pseg.new p → IsNextCopy pseg.old p }
+{
+    if !is_erased {
+        pseg.soiled(block, wear);
+    }
+}
+
 /// Tells the physical segment its blocks that do not read as erased.
 pub fn soil_physical(pseg: &mut PSeg, tables: &ScanTables, wears: &Vec<u32>, first: u32, end: u32)
     requires first { pseg.old.first ≡ first }
@@ -66,14 +85,17 @@ pub fn soil_physical(pseg: &mut PSeg, tables: &ScanTables, wears: &Vec<u32>, fir
     requires count { end ≤ length wears.now.items }
     requires clean { IsClean pseg.old }
     requires kept { KeepsBlock pseg.old }
+    requires whole { IsWhole pseg.old }
+    requires none { pseg.old.victim ≡ None }
     ensures same { IsSoiled pseg.old pseg.new }
     ensures erased { (p : ℕ) → TakenAsErased pseg.new p → TakenAsErased pseg.old p × (first ≤ p / pseg.old.size → p / pseg.old.size < end → SaysErased tables.now (p / pseg.old.size)) }
     ensures clean { ((block : ℕ) → first ≤ block → block < end → SaysErased tables.now block) → IsClean pseg.new }
     ensures kept { KeepsBlock pseg.new }
+    ensures whole { IsWhole pseg.new }
+    ensures none { pseg.new.victim ≡ None }
+    ensures copies { (p : ℕ) → IsNextCopy pseg.new p → IsNextCopy pseg.old p }
 {
     for block in first..end {
-        if !tables.erased(block) {
-            pseg.soiled(block, wears[block as usize]);
-        }
+        soil_one(pseg, block, tables.erased(block), wears[block as usize]);
     }
 }

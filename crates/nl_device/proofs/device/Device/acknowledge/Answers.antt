@@ -4,6 +4,7 @@ use Rattle.nl_callbacks.specs.Pending.{PendingTable}
 use Rattle.nl_iface.specs.Moves.{Acknowledges}
 use Rattle.nl_iface.specs.Names.{Has, Names}
 use Rattle.nl_iface.specs.declared.Callback.{Callback}
+use Rattle.nl_pseg.specs.Segment.{IsClean, Physical}
 use Rattle.nl_device.specs.Callbacks.{callbacks_of, names_with}
 use Rattle.nl_device.specs.Device.{IsDevice}
 use Rattle.nl_device.proofs.Called.{none_acknowledged}
@@ -13,13 +14,15 @@ use Rattle.nl_device.proofs.device.Device.acknowledge.Goals as goal
 pub returns-clause-formed : goal.returns-clause-formed
 returns-clause-formed g c =
     let d = c.args.self.now in
-    subst (λ p. IsDevice (g.M.Nand.geometry d.media) g.M.Nand.tells (g.M.Nand.contents d.media) d.shape d.vseg d.pseg p d.kept d.next) (sym c.drop_over.ensures) c.requires.formed
+    subst (λ p. IsDevice (g.M.Nand.geometry d.media) g.M.Nand.tells (g.M.Nand.contents d.media) d.shape d.vseg c.drop_over.new.pseg p d.kept d.next) (sym c.drop_over.ensures.pending)
+    (subst (λ (s : Physical). IsDevice (g.M.Nand.geometry d.media) g.M.Nand.tells (g.M.Nand.contents d.media) d.shape d.vseg s d.pending d.kept d.next) (sym c.drop_over.ensures.pseg) c.requires.formed)
 
 pub returns-clause-acknowledged : goal.returns-clause-acknowledged
 returns-clause-acknowledged g c =
     let d = c.args.self.now in
     let f = c.requires.formed in
-    subst (λ p. Acknowledges c.args.upto (names_with d.pseg d.pending) (names_with d.pseg p)) (sym c.drop_over.ensures) (none_acknowledged d.pseg d.pending c.args.upto f.no_callbacks (names_gone d.pseg))
+    subst (λ p. Acknowledges c.args.upto (names_with d.pseg d.pending) (names_with c.drop_over.new.pseg p)) (sym c.drop_over.ensures.pending)
+    (subst (λ (s : Physical). Acknowledges c.args.upto (names_with d.pseg d.pending) (names_with s d.pending)) (sym c.drop_over.ensures.pseg) (none_acknowledged d.pseg d.pending c.args.upto f.no_callbacks (names_gone d.pseg)))
 
 pub returns-clause-kept : goal.returns-clause-kept
 returns-clause-kept g c = record {
@@ -29,7 +32,7 @@ returns-clause-kept g c = record {
   bytes = λ t p. refl;
   found = refl;
   next_stamp = refl;
-  clean = λ clean. clean;
+  clean = λ clean. subst (λ (s : Physical). IsClean s) (sym c.drop_over.ensures.pseg) clean;
   clock = refl;
   write_faults = refl;
 }

@@ -13,7 +13,8 @@ use Rattle.nl_iface.specs.Answers as shown
 use Rattle.nl_iface.specs.Names.{leads}
 use Rattle.nl_iface.specs.Left.{HoldsLive}
 use Rattle.nl_iface.specs.Stored.{NamedPage, stored_in}
-use Rattle.nl_pseg.specs.Answers.{IsPlaced}
+use Rattle.nl_pseg.specs.Space.{Lessens}
+use Rattle.nl_pseg.specs.Answers.{IsPlaced, is_placed}
 use Rattle.nl_pseg.specs.Effects.{Keeps, Places, Programmed, Takes}
 use Rattle.nl_pseg.specs.Pages.{main_of, page_with, shown_by}
 use Rattle.nl_pseg.specs.Segment.{IsClean, IsLive, Physical, held_at, wear_of}
@@ -26,7 +27,7 @@ use Rattle.nl_device.specs.Space.{live_in}
 use Rattle.nl_device.specs.Stamps.{is_tried}
 use Rattle.nl_device.proofs.Calls.{device_with, found_after, held_from, in_within, is_leads, leads_is, live_or, medium_with, no_pair, stored_after}
 use Rattle.nl_device.proofs.Forms.{begins, lift}
-use Rattle.nl_device.proofs.Living.{live_kept, live_more, live_swap, more_below, same_below_still, set_live, swap_below, swap_live}
+use Rattle.nl_device.proofs.Living.{live_kept, live_more, live_swap, more_below, none_wait, same_below_still, set_live, swap_below, swap_live}
 use Rattle.nl_device.proofs.Made.{bytes_from}
 use Rattle.nl_device.proofs.Naming.{below_after, either_live, either_low, in_block, is_new, leaves_tried, live_bytes, map_same, placed_takes, programmed_named, shown_from, stray_same, to_takes, new_as, tried_as}
 use Rattle.nl_device.proofs.Placing.{after_rises, after_tried, cases_tried, counted, fault_room, fault_space, free_after, from_placed, if_not_placed, if_refused, named_has, named_rises, not_touched, not_tried, placed_at, placed_both, placed_map, placed_or, placed_yes, room_is, to_placed, tried_placed}
@@ -93,7 +94,7 @@ returns-clause-placed g c =
         handled = λ x has. refl;
         posted = refl;
       };
-      space = wrote 1 d.pseg seg e.pages (e.spent yes_placed) (ap (λ (l : List (Option Held)). live_in l + 1) held ∙ swapped) (e.pairs yes_placed ∙ no_pair d.pseg.pairs place f.no_pairs);
+      space = wrote 1 d.pseg seg e.pages (subst (λ a. Lessens (cond (is_placed a) 1 0) d.pseg seg) is e.space) (none_wait seg e.whole (e.pairs yes_placed ∙ no_pair d.pseg.pairs place f.no_pairs ∙ f.no_pairs) ∙ sym (none_wait d.pseg f.spare.whole f.no_pairs)) (e.spent yes_placed (none_wait d.pseg f.spare.whole f.no_pairs)) (ap (λ (l : List (Option Held)). live_in l + 1) held ∙ swapped) (e.pairs yes_placed ∙ no_pair d.pseg.pairs place f.no_pairs);
       bytes = λ t. let p = placed_at c.nameless_overwrite-answer.result _ at is (e.programmed t) in
           bytes_from (d.shape.vblocks * d.shape.pages) new at.name (subst (λ n. n ≤ at.name) (begins f.segments) p.dead.within.0) ∙ ap main_of p.has;
       block = λ t none. let p = placed_at c.nameless_overwrite-answer.result _ at is (e.programmed t) in
@@ -106,7 +107,7 @@ returns-clause-none g c un =
     let un_placed : IsPlaced c.nameless_overwrite-answer.result → ⊥ = λ is. un (from_placed c.nameless_overwrite-answer.result is) in
     record {
       tables = record { live = λ q. ap (λ (l : List (Option Held)). live_page (get_or l q None)) (e.same un_placed); pairs = e.same_pairs un_placed; pending = refl; handled = λ n. refl; posted = refl };
-      fault = fault_space c.nameless_overwrite-answer.result c.args.self.now.pseg c.nameless_overwrite-answer.new.self e.pages e.failed e.same e.same_pairs;
+      fault = fault_space c.nameless_overwrite-answer.result c.args.self.now.pseg c.nameless_overwrite-answer.new.self e.pages e.cleaning (λ un. e.space.lands) e.failed e.same e.same_pairs;
     }
 
 pub returns-clause-refused : goal.returns-clause-refused
@@ -243,8 +244,9 @@ returns-clause-formed g c =
     let answer = c.nameless_overwrite-answer.result in
     let next = c.stamp_after-self.result in
     let rises : d.next ≤ next = after_rises c.is_tried-taken.result d.next next c.stamp_after-self.ensures in
-    let spare : HasSpareBlock seg = record { block = e.kept f.spare.block; dead = e.kept_dead } in
-    let free = free_after answer d.pseg seg f.free e.pages e.spent e.failed (λ r. (e.refused r).0) in
+    let hand = e.space.victim ∙ f.spare.none_in_hand in
+    let spare : HasSpareBlock seg = record { whole = e.whole; none_in_hand = hand; block = e.kept f.spare.block; dead = e.kept_dead } in
+    let free = free_after answer d.pseg seg f.free e.pages (λ placed. e.spent placed (none_wait d.pseg f.spare.whole f.no_pairs)) e.failed (λ r. (e.refused r).0) in
     let device = tried_device answer c.is_tried-taken.result c.args.tag c.args.from.now.main f e.geometry (g.met.M.Nand.contents_fit d.media) (g.met.M.Nand.contents_fit c.nameless_overwrite-answer.new.media) (λ t. ((e.crash t).page, (e.crash t).either))
     (λ un. not_touched answer un (λ r. ap g.M.Nand.contents (e.refused r).1)) c.forget_after.ensures c.stamp_after-self.ensures c.is_tried-taken.ensures in
     let place = resolve d.pseg.pairs c.args.old.name in

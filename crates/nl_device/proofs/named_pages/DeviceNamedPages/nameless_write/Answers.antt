@@ -61,7 +61,7 @@ returns-clause-placed g c =
         handled = λ x has. refl;
         posted = refl;
       };
-      space = wrote_one d.pseg seg at.name (record { tag = c.args.tag; stamp = d.next }) e.pages (e.spent (placed_yes c.nameless_write-answer.result at is)) below dead.0.dead held e.pairs;
+      space = wrote_one d.pseg seg at.name (record { tag = c.args.tag; stamp = d.next }) e.pages e.cleaning e.lands (e.spent (placed_yes c.nameless_write-answer.result at is)) below dead.0.dead held e.pairs;
       bytes = λ t. let p = placed_at c.nameless_write-answer.result _ at is (e.programmed t) in
           bytes_from (d.shape.vblocks * d.shape.pages) new at.name (subst (λ n. n ≤ at.name) (begins f.segments) p.dead.within.0) ∙ ap main_of p.has;
       block = λ t none. let p = placed_at c.nameless_write-answer.result _ at is (e.programmed t) in
@@ -79,7 +79,7 @@ returns-clause-none g c un =
     let un_placed : IsPlaced c.nameless_write-answer.result → ⊥ = λ is. un (from_placed c.nameless_write-answer.result is) in
     record {
       tables = record { live = λ q. ap (λ (l : List (Option Held)). live_page (get_or l q None)) (e.same un_placed); pairs = e.pairs; pending = refl; handled = λ n. refl; posted = refl };
-      fault = fault_space c.nameless_write-answer.result c.args.self.now.pseg c.nameless_write-answer.new.self e.pages e.failed e.same (λ un. e.pairs);
+      fault = fault_space c.nameless_write-answer.result c.args.self.now.pseg c.nameless_write-answer.new.self e.pages (λ un. e.cleaning) (λ un. e.lands) e.failed e.same (λ un. e.pairs);
     }
 
 pub returns-clause-refused : goal.returns-clause-refused
@@ -213,7 +213,8 @@ returns-clause-formed g c =
     let answer = c.nameless_write-answer.result in
     let next = c.stamp_after-self.result in
     let rises : d.next ≤ next = after_rises c.is_tried-tried.result d.next next c.stamp_after-self.ensures in
-    let spare : HasSpareBlock seg = record { block = e.kept f.spare.block; dead = e.kept_dead } in
+    let hand = e.cleaning.victim ∙ f.spare.none_in_hand in
+    let spare : HasSpareBlock seg = record { whole = e.whole; none_in_hand = hand; block = e.kept f.spare.block; dead = e.kept_dead } in
     let free = free_after answer d.pseg seg f.free e.pages e.spent e.failed (λ r. (e.refused (no_page_of c.nameless_write-answer.result e.live r)).0) in
     let device = tried_device answer c.is_tried-tried.result c.args.tag c.args.from.now.main f e.geometry (g.met.M.Nand.contents_fit d.media) (g.met.M.Nand.contents_fit c.nameless_write-answer.new.media) (λ t. ((e.crash t).page, (e.crash t).either))
     (λ un. not_touched answer un (λ r. ap g.M.Nand.contents (e.refused (no_page_of c.nameless_write-answer.result e.live r)).1)) c.forget_after.ensures c.stamp_after-self.ensures c.is_tried-tried.ensures in

@@ -1,4 +1,4 @@
-use Rattle.std.proofs.Common.{inl, inr, ℕ, ◌*◌, ◌/◌, ◌<◌, ◌≤◌, ◌∙◌, sym, subst, refl, arith}
+use Rattle.std.proofs.Common.{inl, inr, ℕ, ◌+◌, ◌*◌, ◌/◌, ◌<◌, ◌≤◌, ◌∙◌, sym, subst, refl, arith}
 use Rattle.std.proofs.lemmas.Bool.{cases_lt}
 use Rattle.std.proofs.lemmas.Nat.{div_below}
 use Rattle.nl_pseg.proofs.Numbers.{block_below, in_block}
@@ -48,4 +48,10 @@ returns c =
           subst (λ k. SaysErased c.args.tables.now (p / k)) n.pages (e.1 (subst (λ k. k ≤ p / old.size) n.first from) (subst (λ k. p / old.size < k) n.blocks below));
       clean = s.clean;
       kept_block = s.kept;
+      whole = s.whole;
+      none_in_hand = s.none;
+      none_copies = λ p taken.
+          let here = s.copies p taken in
+          let zero = n.copies in
+          absurd (omega (arith, here.0, here.1, zero));
     }

@@ -169,7 +169,7 @@ returns-clause-formed g c =
           let beyond = λ (p : ℕ) (le : bound ≤ p). beyond_of ((e.value t).either) p (subst (λ b. b ≤ p) (sym f.segments.virtual_bound) le) in
           let now_fits = subst (λ n. ImageOf n new) e.geometry (g.met.M.Nand.contents_fit c.virtual_write-answer.new.media t) in
           made_medium (kept_segments f.segments refl e.numbers) now_fits f.live (e.segment t)
-          (physical_kept bound d.pseg old new f.live (begins f.segments) (λ p le. beyond_of ((e.value t).either) p (subst (λ b. b ≤ p) (sym f.segments.virtual_bound) le)) on.physical_is)
+          (physical_kept bound d.pseg old new f.live f.spare.whole (begins f.segments) (λ p le. beyond_of ((e.value t).either) p (subst (λ b. b ≤ p) (sym f.segments.virtual_bound) le)) on.physical_is)
           (λ v s n has. ⊎_elim
           (λ done. with_there d.vseg.pages bound c.args.vaddr d.next main map old new (to_takes ((e.value t).takes done)) v s n (sym ((e.value t).map done v) ∙ has))
           (λ undone. ⊎_elim
