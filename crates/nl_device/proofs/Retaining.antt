@@ -1,6 +1,6 @@
 -- One pointer more is live, and all of them.
 use Rattle.std.proofs.Common.{◌≡◌, ◌++◌, ◌||◌, take, ℕ, zero, suc, ◌+◌, ◌/◌, ◌<◌, ◌≤◌, Bool, true, false, not, List, [], ◌∷◌, length, get_or, set, Option, Some, None, option_map, refl, sym, ◌∙◌, ap, subst, arith, ⊎_elim, inl, inr}
-use Rattle.std.specs.Prelude.{◌==◌, IsSome, filter, find, slice_get}
+use Rattle.std.specs.Prelude.{◌==◌, IsSome, filter, find, is_some, slice_get}
 use Rattle.std.specs.List.{count_by, list_any, range_with_len}
 use Rattle.std.specs.BTreeMap.{BTreeMap}
 use Rattle.std.proofs.lemmas.Bool.{cases_Bool, cases_eq, cases_lt, cond-false, cond-true, true≢false}
@@ -9,7 +9,7 @@ use Rattle.std.proofs.lemmas.List.Folds.{list_any-append}
 use Rattle.std.proofs.lemmas.Option.{get_or_from_slice_get, none-some, same_Some, slice_get_within}
 use Rattle.nl_field.specs.Space.{is_outside}
 use Rattle.nl_field.specs.declared.pointer.Pointer.{Pointer}
-use Rattle.nl_pseg.specs.Segment.{InSegment, Physical, held_at, is_free}
+use Rattle.nl_pseg.specs.Segment.{InSegment, Physical, held_at, is_free, is_kept}
 use Rattle.nl_pseg.specs.declared.held.Held.{Held}
 use Rattle.nl_device.specs.Kept.{IsKept, KeptPages, is_at_name, spare_among}
 use Rattle.nl_device.specs.Retain.{AreRetained, CanLoad, CanRetain, IsFoundIn, IsFresh, IsSegmentFor, Loads, Retains, held_for, is_needed, is_taken, lies_in, needed_blocks, place_for, spare_for}
@@ -96,6 +96,7 @@ retains_none kept pointers seg same fresh = record {
   unchanged = λ none. refl;
   kept_block = λ k some. k;
   kept_dead = λ dead. dead;
+  clean = λ clean. clean;
 }
 
 -- the blocks that are taken with one pointer more
@@ -192,6 +193,12 @@ retains_more kept copies pointers at p old seg new is can fresh first retains he
       unchanged = λ none. absurd (omega (arith, none));
       kept_block = λ k some. loads.kept_block some;
       kept_dead = λ dead. loads.kept_dead;
+      clean = λ clean b kept.
+          let off : is_kept new (p.name / seg.size) ≡ false = subst (λ n. is_kept new (p.name / n) ≡ false) loads.same_size (loads.kept_dead p.name h here_now) in
+          ap is_some (loads.same_soiled b) ∙ retains.clean clean b (⊎_elim
+              (λ same. absurd (true≢false (sym kept ∙ (ap (is_kept new) same ∙ off))))
+              (λ other. sym (loads.others_kept b other) ∙ kept)
+              (cases_eq b (p.name / seg.size)));
     }
   where
     still : (b : ℕ) → is_free new b ≡ true → is_free seg b ≡ true

@@ -51,5 +51,8 @@ returns-clause-kept_block c k =
     c.listed.invariant.retains.kept_block k
     (one_free c.args.self.now c.self.inside.copies c.args.list.now.items c.listed.at c.args.pseg.now c.listed.pseg is c.requires.can c.listed.invariant.retains (omega (arith, c.listed-test.false, c.len-at-end.ensures.count)))
 
+pub returns-clause-clean : goal.returns-clause-clean
+returns-clause-clean c clean = c.listed.invariant.retains.clean clean
+
 pub returns-clause-kept_dead : goal.returns-clause-kept_dead
 returns-clause-kept_dead c dead = c.listed.invariant.retains.kept_dead dead

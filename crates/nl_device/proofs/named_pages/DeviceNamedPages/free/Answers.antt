@@ -41,9 +41,7 @@ returns-clause-kept g c = record {
   bytes = λ t p. refl;
   found = refl;
   next_stamp = refl;
-  clean = λ clean b free.
-      let space = c.free.ensures.back.same (none_wait c.args.self.now.pseg c.requires.formed.spare.whole c.requires.formed.no_pairs) in
-      ap is_some (space.same_soiled b) ∙ clean b (sym (space.same_free b) ∙ free);
+  clean = c.free.ensures.clean;
   clock = refl;
   write_faults = refl;
 }
