@@ -1,5 +1,5 @@
 -- The least volume, and a segment of it with its medium.
-use Rattle.std.proofs.Common.{◌≡◌, ℕ, ◌≤◌, ◌<◌, ◌*◌, None, Option, List, get_or, replicate, refl, sym, ◌∙◌, ap, subst, arith, IsTrue}
+use Rattle.std.proofs.Common.{◌≡◌, ℕ, ◌≤◌, ◌<◌, ◌*◌, ◌/◌, None, Option, List, [], length, get_or, replicate, refl, sym, ◌∙◌, ap, subst, arith, IsTrue}
 use Rattle.std.proofs.lemmas.Option.{none-some}
 use Rattle.nl_field.specs.Numbers.{is_legal, shape_for}
 use Rattle.nl_field.specs.Page.{Image}
@@ -54,12 +54,13 @@ new_rig shape geometry image seg least_is numbers blank held first blocks size =
   segment = record {
     holds = λ p h named. absurd (none-some h (sym (ap (λ (l : List (Option Held)). get_or l p None) held ∙ all_none (shape.blocks * shape.pages) p) ∙ named));
     blank = λ p taken. blank p;
+    blank_copy = λ p next. blank p;
   };
 }
 
 -- no page of a new segment is live
-pub new_dead : (shape : Shape) (seg : Physical) (page : ℕ) → IsLeast shape → seg.held ≡ replicate (shape.blocks * shape.pages) None → seg.first ≡ shape.vblocks → seg.blocks ≡ shape.blocks → seg.size ≡ shape.pages → 256 ≤ page → page < 1024 → IsDead seg page
-new_dead shape seg page least_is held first blocks size from below =
+pub new_dead : (shape : Shape) (seg : Physical) (page : ℕ) → IsLeast shape → seg.held ≡ replicate (shape.blocks * shape.pages) None → seg.first ≡ shape.vblocks → seg.blocks ≡ shape.blocks → seg.size ≡ shape.pages → seg.pairs ≡ [] → seg.victim ≡ None → 256 ≤ page → page < 1024 → IsDead seg page
+new_dead shape seg page least_is held first blocks size pairs victim from below =
     let f = first ∙ least_is.first in
     let b = blocks ∙ least_is.blocks in
     let s = size ∙ least_is.pages in
@@ -68,4 +69,6 @@ new_dead shape seg page least_is held first blocks size from below =
     record {
       within = (omega (arith, low, from), omega (arith, high, below));
       dead = ap (λ (l : List (Option Held)). get_or l page None) held ∙ all_none (shape.blocks * shape.pages) page;
+      own = λ old. let none : length seg.pairs ≡ 0 = ap (λ (ps : List (ℕ × ℕ)). length ps) pairs in let less = old.1.1 in omega (arith, none, less);
+      apart = λ at. none-some (page / seg.size) (sym victim ∙ at);
     }
