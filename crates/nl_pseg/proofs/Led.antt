@@ -39,12 +39,12 @@ use Rattle.nl_pseg.proofs.Tables.{has_same, use_here}
 use Rattle.nl_pseg.proofs.Tied.{back, named_on, old_is, phases_same}
 
 -- a link of the pairs that were led on is one that was, or goes to the new page
-link_led : (xs : List Link) (old new : ℕ) (l : Link) → HasLink (map (led_on old new) xs) l → (x : Link) × HasLink xs x × (l ≡ led_on old new x)
+pub link_led : (xs : List Link) (old new : ℕ) (l : Link) → HasLink (map (led_on old new) xs) l → (x : Link) × HasLink xs x × (l ≡ led_on old new x)
 link_led xs old new l has =
     let less : has.0 < length xs = subst (λ k. has.0 < k) (length-map xs (led_on old new)) has.1 in
     (link_at xs has.0, (has.0, less, refl), sym has.2 ∙ get_or-map (led_on old new) xs has.0 no_link no_link less)
 
-old_led : (xs : List Link) (old new name : ℕ) → IsOld (map (led_on old new) xs) name → IsOld xs name
+pub old_led : (xs : List Link) (old new name : ℕ) → IsOld (map (led_on old new) xs) name → IsOld xs name
 old_led xs old new name is =
     let less : is.0 < length xs = subst (λ k. is.0 < k) (length-map xs (led_on old new)) is.1 in
     (is.0, less, sym (ap (λ (l : Link). l.from) (get_or-map (led_on old new) xs is.0 no_link no_link less)) ∙ is.2)
