@@ -1,5 +1,5 @@
 -- What the steps of a call do to the table of blocks and to the segment.
-use Rattle.std.specs.Prelude.{◌≡◌, ◌⊎◌, ℕ, ◌+◌, ◌-◌, ◌*◌, ◌/◌, ◌^◌, ◌<◌, ◌≤◌, ◌==◌, if◌then◌else◌, min, Bool, true, false, cond, List, length, slice_set, Option, Some, None}
+use Rattle.std.specs.Prelude.{◌≡◌, ◌⊎◌, ℕ, ◌+◌, ◌-◌, ◌*◌, ◌/◌, ◌^◌, ◌<◌, ◌≤◌, ◌==◌, if◌then◌else◌, min, Bool, true, false, cond, List, length, slice_set, Option, Some, None, unwrap_or}
 use Rattle.nl_field.specs.CrashStates.{LeavesOnly}
 use Rattle.nl_field.specs.Live.{resolve}
 use Rattle.nl_field.specs.Live.{resolve}
@@ -17,7 +17,7 @@ use Rattle.nl_blocks.specs.Table.{page_at as page_in}
 use Rattle.nl_pseg.specs.Answers.{IfPlaced, IsFault, IsPlaced}
 use Rattle.nl_pseg.specs.Effects.{Crashes, Keeps, Programmed}
 use Rattle.nl_pseg.specs.Pages.{page_with}
-use Rattle.nl_pseg.specs.Segment.{InSegment, Physical, IsClean, IsDead, IsNext, IsNextCopy, IsPhysicalOf, IsReady, IsSpent, IsUnspent, KeepsBlock, SameNames, SamePages, TakenAsErased, erasures, is_free, is_kept, is_soiled, is_waiting, soiled, use_at, wear_of, without_target, IsOldName}
+use Rattle.nl_pseg.specs.Segment.{InSegment, Physical, IsClean, IsDead, IsNext, IsNextCopy, IsPhysicalOf, IsReady, IsSpent, IsUnspent, KeepsBlock, SameNames, SamePages, TakenAsErased, erasures, is_free, is_kept, is_soiled, is_waiting, soiled, use_at, wear_of, without_target, names_another_free, IsOldName}
 use Rattle.nl_pseg.specs.Space.{gain_of, landing, left_of, waiting}
 use Rattle.nl_pseg.specs.Seen.{IsTied, use_in, use_with}
 use Rattle.nl_pseg.specs.declared.held.Held.{Held}
@@ -128,6 +128,29 @@ pub record LeadsFrom (name page : ℕ) (old new : Physical) : Type 0 where
   pub left : new.left ≤ old.left
   pub next : (p : ℕ) → IsNext new p → IsNext old p
   pub still : (p : ℕ) → IsNext old p → (p / old.size ≡ name / old.size → ⊥) → IsNext new p
+  pub copies : (p : ℕ) → IsNextCopy new p → IsNextCopy old p
+
+-- The page holds what the pointer and the owner say. Nothing more is programmed in its block, nor in that of the pointer's name where
+-- this is another page: then the name leads to the page, and a block of it that was Free waits.
+pub record Loads (page : ℕ) (at : Pointer) (tag : Tag) (old new : Physical) : Type 0 where
+  pub held : new.held ≡ slice_set old.held page (Some (record { tag = tag; stamp = at.stamp }))
+  pub leads : resolve new.pairs at.name ≡ page
+  pub ways : (name : ℕ) → (name ≡ at.name → ⊥) → resolve new.pairs name ≡ resolve old.pairs name
+  pub pairs : at.name ≡ page → new.pairs ≡ old.pairs
+  pub olds : (name : ℕ) → IsOldName new name → (name ≡ at.name) ⊎ IsOldName old name
+  pub more : (at.name ≡ page → ⊥) → (length new.pairs ≡ length old.pairs + 1) × (new.pair_room + 1 ≡ old.pair_room)
+  pub range : SameRange old new
+  pub victim : new.victim ≡ old.victim
+  pub here : is_free new (page / old.size) ≡ false
+  pub name_here : (at.name ≡ page → ⊥) → is_free new (at.name / old.size) ≡ false
+  pub free : new.free + cond (is_free old (page / old.size)) 1 0 + cond (names_another_free old page at.name) 1 0 ≡ old.free
+  pub left : new.left ≤ old.left
+  pub others : (block : ℕ) → (block ≡ page / old.size → ⊥) → (is_kept new block ≡ is_kept old block) × ((block ≡ at.name / old.size → ⊥) → is_free new block ≡ is_free old block)
+  pub same_soiled : (block : ℕ) → soiled new block ≡ soiled old block
+  pub wear : wear_of new (page / old.size) ≡ unwrap_or (soiled old (page / old.size)) (wear_of old (page / old.size))
+  pub wears : (block : ℕ) → (block ≡ page / old.size → ⊥) → wear_of new block ≡ wear_of old block
+  pub erased : (p : ℕ) → TakenAsErased new p → TakenAsErased old p × (p / old.size ≡ page / old.size → ⊥)
+  pub still : (p : ℕ) → TakenAsErased old p → (p / old.size ≡ page / old.size → ⊥) → (IsNext old p → p / old.size ≡ at.name / old.size → ⊥) → TakenAsErased new p
   pub copies : (p : ℕ) → IsNextCopy new p → IsNextCopy old p
 
 -- A block was taken that was Free, where the block that was written to is full, and no page of it is used.

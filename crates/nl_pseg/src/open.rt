@@ -2,14 +2,14 @@ ghost use Rattle.std.specs.Prelude.{◌≡◌, ◌⊎◌, ℕ, ◌+◌, ◌*◌,
 ghost use Rattle.nl_field.specs.Spelling.{is_stamp};
 ghost use Rattle.nl_blocks.specs.Table.{HasBlock, block_at, free_count, names_of};
 ghost use Rattle.nl_remap.specs.Table.{IsOld};
-ghost use Rattle.nl_pseg.specs.Segment.{IsDead, IsNext, IsNextCopy, TakenAsErased, held_at};
+ghost use Rattle.nl_pseg.specs.Segment.{CanLead, IsDead, IsNext, IsNextCopy, TakenAsErased, held_at};
 ghost use Rattle.nl_pseg.specs.Seen.{seen, use_in, IsFormed, IsTied};
-ghost use Rattle.nl_pseg.specs.Steps.{IsAside, IsIdle, LeadsFrom};
+ghost use Rattle.nl_pseg.specs.Steps.{IsAside, IsIdle, LeadsFrom, Loads};
 
 use crate::held::Held;
 use crate::state::State;
 use crate::table::{mark, set_aside, shut, tell};
-use nl_field::Tag;
+use nl_field::{Pointer, Tag};
 
 impl State {
     /// No page for a new name is programmed in this block before it is erased.
@@ -77,7 +77,26 @@ impl State {
         }
     }
 
-    pub fn load(&mut self, page: u32, stamp: u64, tag: Tag)
+    /// The page holds what the pointer and the owner say.
+    pub fn load_as(&mut self, page: u32, at: Pointer, tag: Tag)
+        requires formed { IsFormed self.old }
+        requires tied { IsTied self.old }
+        requires none { self.old.victim ≡ None }
+        requires dead { IsDead (seen self.old) page }
+        requires stamp { IsTrue (is_stamp at.stamp) }
+        requires away { (at.name ≡ page → ⊥) → CanLead (seen self.old) at.name }
+        ensures formed { IsFormed self.new }
+        ensures tied { IsTied self.new }
+        ensures loads { Loads page at tag (seen self.old) (seen self.new) }
+    {
+        self.load(page, at.stamp, tag);
+        if at.name == page {
+            return;
+        }
+        self.lead_from(at.name, page);
+    }
+
+    fn load(&mut self, page: u32, stamp: u64, tag: Tag)
         requires formed { IsFormed self.old }
         requires tied { IsTied self.old }
         requires none { self.old.victim ≡ None }
@@ -126,7 +145,7 @@ impl State {
     }
 
     /// The name leads to this page.
-    pub fn lead_from(&mut self, name: u32, page: u32)
+    fn lead_from(&mut self, name: u32, page: u32)
         requires formed { IsFormed self.old }
         requires tied { IsTied self.old }
         requires none { self.old.victim ≡ None }

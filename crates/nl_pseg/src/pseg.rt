@@ -109,10 +109,7 @@ impl PSeg {
         ensures spare { (image : Image) → 1 ≤ self.new.free + waiting self.new → HasSpare image self.new }
         ensures kept_dead { KeptAreDead self.new }
     {
-        self.state.load(page, at.stamp, tag);
-        if at.name != page {
-            self.state.lead_from(at.name, page);
-        }
+        self.state.load_as(page, at, tag);
         self.state.table();
         self.state.whole();
     }
