@@ -1,7 +1,8 @@
 // A victim is begun, its live pages are moved, and it is erased.
+ghost use Rattle.std.specs.Prelude.{◌≡◌, ◌+◌, ◌*◌};
 ghost use Rattle.nl_nand.specs.Memory.{contents_of, geometry_of};
 ghost use Rattle.nl_pseg.specs.Rig.{IsRig};
-ghost use Rattle.nl_pseg.specs.Space.{IsWhole};
+ghost use Rattle.nl_pseg.specs.Space.{gain_of, left_of, victims};
 
 use crate::{Copied, Erasure, PSeg};
 use nl_field::{FailList, Named, NamedRead, PageBuf, Pointer, SpareRec, Tag, shape_of, spare_of};
@@ -50,7 +51,7 @@ struct Rig {
     buf: PageBuf,
     stamp: u32,
     ghost is: { IsRig (geometry_of media) (contents_of media) seg },
-    ghost whole: { IsWhole seg },
+    ghost victim: { left_of seg + gain_of seg ≡ victims seg * seg.size },
 }
 
 fn owner(index: u32) -> Tag {
