@@ -12,13 +12,9 @@ use Rattle.nl_pseg.specs.Steps.{IsCopyUsed, IsLed, IsReadied}
 use Rattle.nl_pseg.specs.declared.held.Held.{Held}
 use Rattle.nl_pseg.specs.declared.state.State.{State}
 use Rattle.nl_pseg.proofs.CopyUsed.{copy_apart, copy_behind, copy_block, copy_in_use, copy_segment, is_copy}
-use Rattle.nl_pseg.proofs.Images.{program_others}
+use Rattle.nl_pseg.proofs.Images.{program_others, shows_same}
 use Rattle.nl_pseg.proofs.Segments.{set_held}
 use Rattle.nl_pseg.proofs.Tied.{old_is}
-
--- a page that shows what it did
-shows_same : (h : Held) {x y : Page} → y ≡ x → shown_by x ≡ Some (h.tag, h.stamp, main_of x) → shown_by y ≡ Some (h.tag, h.stamp, main_of y)
-shows_same h {x} {y} same shows = subst (λ (q : Page). shown_by q ≡ Some (h.tag, h.stamp, main_of q)) (sym same) shows
 
 no_some : (o : Option Held) → ((h : Held) → o ≡ Some h → ⊥) → o ≡ None
 no_some None never = refl

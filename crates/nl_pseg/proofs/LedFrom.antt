@@ -141,10 +141,13 @@ module _ (s : State) (is : IsFormed s) (tied : IsTied s) (none : s.victim ≡ No
         here = ap (λ (u : Use). u.is_free) (use_here m.blocks block (has_same block a.put.numbers has)) ∙ (ap (λ (b : BlockState). is_free_state b) a.put.here ∙ aside_free st);
         total = let t = a.put.total in let z : num (is_free_state (aside_state st)) ≡ 0 = ap num (aside_free st) in omega (arith, t, z);
         waits = λ b k has_b w. ⊎_elim
-            (λ e. inr (e, aside_waits st k (names_among s.blocks.size block s.names.pairs)
-            (λ free. none_among s.blocks.size block s.names.pairs (λ n old at. true≢false (sym (ap (λ (u : Use). u.is_free) (use_here s.blocks block has) ∙ ap (λ (b : BlockState). is_free_state b) free) ∙ (ap (λ q. (use_in s.blocks q).is_free) (sym at) ∙ (tied.named.standing n old).in_use))))
-            (λ j waits. tied.named.waits block j has waits)
-            (sym a.put.here ∙ (ap (λ q. (block_at m.blocks q).state) (sym e) ∙ w))))
+            (λ e. inr (
+              e,
+              aside_waits st k (names_among s.blocks.size block s.names.pairs)
+                  (λ free. none_among s.blocks.size block s.names.pairs (λ n old at. true≢false (sym (ap (λ (u : Use). u.is_free) (use_here s.blocks block has) ∙ ap (λ (b : BlockState). is_free_state b) free) ∙ (ap (λ q. (use_in s.blocks q).is_free) (sym at) ∙ (tied.named.standing n old).in_use))))
+                  (λ j waits. tied.named.waits block j has waits)
+                  (sym a.put.here ∙ (ap (λ q. (block_at m.blocks q).state) (sym e) ∙ w)),
+            ))
             (λ ne. inl (ne, sym (a.put.states b has_b ne) ∙ w))
             (cases_eq b block);
       }

@@ -108,9 +108,9 @@ returns-clause-loads c =
           let at : num (is_free (seen m) (name / m.blocks.size)) ≡ num (is_free (seen m) (name / s.blocks.size)) = ap (λ k. num (is_free (seen m) k)) nb in
           let first : names_another_free (seen s) page name ≡ (not (name / s.blocks.size == page / s.blocks.size) && is_free (seen s) (name / s.blocks.size)) = ap (λ b. not b && (not (name / s.blocks.size == page / s.blocks.size) && is_free (seen s) (name / s.blocks.size))) (ne_eqb name page ne) in
           let same : num (is_free (seen m) (name / s.blocks.size)) ≡ num (names_another_free (seen s) page name) = ⊎_elim
-              (λ q. ap num (ap (is_free (seen m)) q ∙ (e.here ∙ sym (first ∙ ap (λ b. not b && is_free (seen s) (name / s.blocks.size)) (eq-eqb (name / s.blocks.size) (page / s.blocks.size) q)))))
-              (λ other. ap num ((e.others (name / s.blocks.size) other).0 ∙ sym (first ∙ ap (λ b. not b && is_free (seen s) (name / s.blocks.size)) (ne_eqb (name / s.blocks.size) (page / s.blocks.size) other))))
-              (cases_eq (name / s.blocks.size) (page / s.blocks.size)) in
+          (λ q. ap num (ap (is_free (seen m)) q ∙ (e.here ∙ sym (first ∙ ap (λ b. not b && is_free (seen s) (name / s.blocks.size)) (eq-eqb (name / s.blocks.size) (page / s.blocks.size) q)))))
+          (λ other. ap num ((e.others (name / s.blocks.size) other).0 ∙ sym (first ∙ ap (λ b. not b && is_free (seen s) (name / s.blocks.size)) (ne_eqb (name / s.blocks.size) (page / s.blocks.size) other))))
+          (cases_eq (name / s.blocks.size) (page / s.blocks.size)) in
           omega (arith, f, g, at, same);
       left = let a = l.left in let b = e.left in omega (arith, a, b);
       others = λ b other. (l.kept b ∙ (e.others b other).1, (λ away. l.frees b (λ q. away (q ∙ nb)) ∙ (e.others b other).0));
