@@ -7,8 +7,7 @@ use Rattle.nl_field.specs.declared.shape.Shape.{Shape}
 use Rattle.nl_nand.specs.declared.geometry.Geometry.{Geometry}
 use Rattle.nl_nand.specs.Nand.{IsBlank}
 use Rattle.nl_pseg.specs.Rig.{IsRig}
-use Rattle.nl_pseg.specs.Segment.{Physical, IsDead, IsPhysicalOf, SamePages}
-use Rattle.nl_pseg.specs.Seen.{Fits}
+use Rattle.nl_pseg.specs.Segment.{Physical, IsDead, IsPhysicalOf}
 use Rattle.nl_pseg.specs.declared.held.Held.{Held}
 use Rattle.nl_pseg.proofs.News.{all_none}
 
@@ -27,21 +26,6 @@ least shape is = record {
   first = ap (λ (s : Shape). s.vblocks) is;
   blocks = ap (λ (s : Shape). s.blocks) is;
   pages = ap (λ (s : Shape). s.pages) is;
-}
-
-pub rig_fits : {geometry : Geometry} {image : Image} {seg : Physical} → IsRig geometry image seg → Fits geometry seg
-rig_fits {geometry} {image} {seg} is = record {
-  pages = ap (λ (g : Geometry). g.pages) is.numbers ∙ sym is.size;
-  blocks = let b : geometry.blocks ≡ 32 = ap (λ (g : Geometry). g.blocks) is.numbers in let e = is.blocks in omega (arith, b, e);
-}
-
-pub kept_rig : {old new : Geometry} {before after : Image} {seg next : Physical} → IsRig old before seg → new ≡ old → SamePages seg next → IsPhysicalOf after next → IsRig new after next
-kept_rig is same pages segment = record {
-  numbers = same ∙ is.numbers;
-  first = pages.same_first ∙ is.first;
-  blocks = pages.same_blocks ∙ is.blocks;
-  size = pages.same_size ∙ is.size;
-  segment = segment;
 }
 
 pub new_rig : (shape : Shape) (geometry : Geometry) (image : Image) (seg : Physical) → IsLeast shape → geometry ≡ record { blocks = 32; pages = 32 } → IsBlank image → seg.held ≡ replicate (shape.blocks * shape.pages) None → seg.first ≡ shape.vblocks → seg.blocks ≡ shape.blocks → seg.size ≡ shape.pages

@@ -39,6 +39,7 @@ struct Rig {
     media: MemNand,
     buf: PageBuf,
     ghost is: { IsRig (geometry_of media) (contents_of media) seg },
+    ghost none: { seg.victim ≡ None },
 }
 
 fn owner(index: u32) -> Tag {
