@@ -39,7 +39,6 @@ struct Rig {
     media: MemNand,
     buf: PageBuf,
     ghost is: { IsRig (geometry_of media) (contents_of media) seg },
-    ghost none: { seg.victim ≡ None },
 }
 
 fn owner(index: u32) -> Tag {

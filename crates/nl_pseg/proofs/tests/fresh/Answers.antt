@@ -10,4 +10,4 @@ new-requires-2-clause-numbers c = (least c.in-Some.shape c.in-Some.ensures.numbe
 pub invariant_of-result : goal.invariant_of-result
 invariant_of-result c =
     let e = c.in_ok-seg.ensures in
-    record { is = new_rig c.in-Some.shape _ _ c.in_ok-seg.seg (least c.in-Some.shape c.in-Some.ensures.numbers) (c.form.ensures.done c.in-Done.is) (c.form.ensures.erased c.in-Done.is) e.live e.first e.blocks e.pages; none = e.victim }
+    record { is = new_rig c.in-Some.shape _ _ c.in_ok-seg.seg (least c.in-Some.shape c.in-Some.ensures.numbers) (c.form.ensures.done c.in-Done.is) (c.form.ensures.erased c.in-Done.is) e.live e.first e.blocks e.pages }
