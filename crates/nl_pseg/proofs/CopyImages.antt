@@ -12,13 +12,9 @@ use Rattle.nl_pseg.specs.Steps.{IsCopyUsed, IsLed, IsReadied}
 use Rattle.nl_pseg.specs.declared.held.Held.{Held}
 use Rattle.nl_pseg.specs.declared.state.State.{State}
 use Rattle.nl_pseg.proofs.CopyUsed.{copy_apart, copy_behind, copy_block, copy_in_use, copy_segment, is_copy}
-use Rattle.nl_pseg.proofs.Images.{program_others}
+use Rattle.nl_pseg.proofs.Images.{program_others, shows_same}
 use Rattle.nl_pseg.proofs.Segments.{set_held}
 use Rattle.nl_pseg.proofs.Tied.{old_is}
-
--- a page that shows what it did
-shows_same : (h : Held) {x y : Page} → y ≡ x → shown_by x ≡ Some (h.tag, h.stamp, main_of x) → shown_by y ≡ Some (h.tag, h.stamp, main_of y)
-shows_same h {x} {y} same shows = subst (λ (q : Page). shown_by q ≡ Some (h.tag, h.stamp, main_of q)) (sym same) shows
 
 no_some : (o : Option Held) → ((h : Held) → o ≡ Some h → ⊥) → o ≡ None
 no_some None never = refl
@@ -117,8 +113,7 @@ failed_spare {seg} {new} {value} {old} {c} u dead held_is cut is = record {
   idle = λ p n at. is.idle p (next_back u p n) (ap (λ k. p / k) (sym u.pages.same_size) ∙ at);
   copied = λ p h held at.
       let was : held_at seg p ≡ Some h = ap (λ (l : List (Option Held)). get_or l p None) (sym held_is) ∙ held in
-      let w = is.copied p h was (ap (λ k. p / k) (sym u.pages.same_size) ∙ at) in
-      (
+      let w = is.copied p h was (ap (λ k. p / k) (sym u.pages.same_size) ∙ at) in (
         w.0,
         u.victim ∙ (w.1 ∙ ap (λ k. Some (w.0 / k)) (sym u.pages.same_size)),
         (λ e. w.2 (ap (λ k. w.0 / k) (sym u.pages.same_size) ∙ e)),
@@ -139,16 +134,14 @@ copied_spare {before} {h} {seg} {mid} {new} {value} {old} {c} u l victim dead wi
       (λ gone. absurd (none-some k gone.1))
       (λ there. ⊎_elim
       (λ here.
-      let in_block : seg.copy_next / seg.size ≡ is.block = ap (λ q. q / seg.size) (sym here.0) ∙ (ap (λ n. p / n) (sym size) ∙ at) in
-      (
+      let in_block : seg.copy_next / seg.size ≡ is.block = ap (λ q. q / seg.size) (sym here.0) ∙ (ap (λ n. p / n) (sym size) ∙ at) in (
         before,
         now_in before victim,
         (λ e. dead.apart (victim ∙ ap (λ b. Some b) (ap (λ n. before / n) (sym size) ∙ (e ∙ sym in_block)))),
         ap shown_by (program_others cut before (λ e. dead.apart (victim ∙ ap (λ q. Some (q / seg.size)) e))) ∙ (same ∙ ap (λ q. shown_by (page_at c q)) (sym here.0)),
       ))
       (λ away.
-      let w = is.copied p k away.1 (ap (λ n. p / n) (sym size) ∙ at) in
-      (
+      let w = is.copied p k away.1 (ap (λ n. p / n) (sym size) ∙ at) in (
         w.0,
         now_in w.0 w.1,
         (λ e. w.2 (ap (λ n. w.0 / n) (sym size) ∙ e)),

@@ -16,7 +16,7 @@ use Rattle.nl_pseg.specs.declared.cleaned.Erasure.{Erasure}
 use Rattle.nl_pseg.specs.declared.cleaned.Erasure.TheVariants as the
 use Rattle.nl_pseg.specs.declared.held.Held.{Held}
 use Rattle.nl_pseg.specs.declared.state.State.{State}
-use Rattle.nl_pseg.proofs.Images.{erase_others}
+use Rattle.nl_pseg.proofs.Images.{erase_others, shows_same}
 use Rattle.nl_pseg.proofs.Numbers.{block_of}
 use Rattle.nl_pseg.proofs.States.{kept_block, next_block}
 use Rattle.nl_pseg.proofs.Tables.{use_here}
@@ -30,10 +30,6 @@ keeps_beside seg block g same cut p = ⊎_elim
 
 pub beside_same : (seg : Physical) (block : ℕ) (image : Image) → KeepsBeside seg block image image
 beside_same seg block image p = inl refl
-
--- a page that shows what it did
-shows_same : (h : Held) {x y : Page} → y ≡ x → shown_by x ≡ Some (h.tag, h.stamp, main_of x) → shown_by y ≡ Some (h.tag, h.stamp, main_of y)
-shows_same h {x} {y} same shows = subst (λ (q : Page). shown_by q ≡ Some (h.tag, h.stamp, main_of q)) (sym same) shows
 
 module _ (s : State) (is : IsFormed s) (tied : IsTied s) (block : ℕ) (named : s.victim ≡ Some block) where
   has : HasBlock s.blocks block

@@ -84,12 +84,12 @@ module _ (s : State) (is : IsFormed s) (tied : IsTied s) where
     few_wait : waiting (seen s) ≤ length (seen s).pairs
     few_wait =
         let most = waits_few s.blocks.size s.names.pairs s.blocks.blocks s.blocks.first (λ i less retired.
-            let at = at_row i less in
-            let b = s.blocks.first + i in
-            let r : is_retired_state (block_at s.blocks b).state ≡ true = ap (λ (row : BlockRow). is_retired_state row.state) at.1 ∙ retired in
-            let count = tied.named.waits b _ at.0 (retired_is (block_at s.blocks b).state r) in
-            let some = (table.each (b - s.blocks.first) no_row (let w = at.0.below in omega (arith, w, less))).names r in
-            omega (arith, count, some)) in
+        let at = at_row i less in
+        let b = s.blocks.first + i in
+        let r : is_retired_state (block_at s.blocks b).state ≡ true = ap (λ (row : BlockRow). is_retired_state row.state) at.1 ∙ retired in
+        let count = tied.named.waits b _ at.0 (retired_is (block_at s.blocks b).state r) in
+        let some = (table.each (b - s.blocks.first) no_row (let w = at.0.below in omega (arith, w, less))).names r in
+        omega (arith, count, some)) in
         let all = count_by-le-length (λ (p : Link). nat_le s.blocks.first (p.from / s.blocks.size)) s.names.pairs in
         let count : length (map turn s.names.pairs) ≡ length s.names.pairs = length-map s.names.pairs turn in
         omega (arith, most, all, count)
@@ -111,17 +111,17 @@ module _ (s : State) (is : IsFormed s) (tied : IsTied s) where
         let n = length s.blocks.blocks in
         let size = s.blocks.size in
         let sum = all_covered s.held.items size s.blocks.blocks s.blocks.first (λ i less.
-            let at = at_row i less in
-            let b = s.blocks.first + i in
-            let d : dead_count (row_at s.blocks.blocks i) ≡ dead_count (block_at s.blocks b) = ap dead_count (sym at.1) in
-            let w = dead_is s is table b at.0 in
-            (omega (arith, d, w), not_waiting i less, λ v. no_victim b at.0 (ap (λ (row : BlockRow). row.state) at.1 ∙ v))) in
+        let at = at_row i less in
+        let b = s.blocks.first + i in
+        let d : dead_count (row_at s.blocks.blocks i) ≡ dead_count (block_at s.blocks b) = ap dead_count (sym at.1) in
+        let w = dead_is s is table b at.0 in
+        (omega (arith, d, w), not_waiting i less, λ v. no_victim b at.0 (ap (λ (row : BlockRow). row.state) at.1 ∙ v))) in
         let actives : count_by (λ (r : BlockRow). is_active r.state) s.blocks.blocks ≤ 1 = one_of (λ (r : BlockRow). is_active r.state) s.blocks.blocks no_row s.active s.blocks.first (λ i less yes.
-            let at = at_row i less in
-            (tied.phases.one_active (s.blocks.first + i) at.0 (ap (λ (row : BlockRow). row.state) at.1 ∙ active_is (row_at s.blocks.blocks i).state yes)).0) in
+        let at = at_row i less in
+        (tied.phases.one_active (s.blocks.first + i) at.0 (ap (λ (row : BlockRow). row.state) at.1 ∙ active_is (row_at s.blocks.blocks i).state yes)).0) in
         let targets : count_by (λ (r : BlockRow). is_target r.state) s.blocks.blocks ≤ 1 = one_of (λ (r : BlockRow). is_target r.state) s.blocks.blocks no_row s.target s.blocks.first (λ i less yes.
-            let at = at_row i less in
-            (tied.phases.one_target (s.blocks.first + i) at.0 (ap (λ (row : BlockRow). row.state) at.1 ∙ target_is (row_at s.blocks.blocks i).state yes)).0) in
+        let at = at_row i less in
+        (tied.phases.one_target (s.blocks.first + i) at.0 (ap (λ (row : BlockRow). row.state) at.1 ∙ target_is (row_at s.blocks.blocks i).state yes)).0) in
         let all : run s.held.items 0 (s.blocks.first * size + n * size) ≡ live_in s.held.items = ap (run s.held.items 0) (pages_of) ∙ run_all s.held.items in
         let parts = run_plus s.held.items 0 (s.blocks.first * size) (n * size) in
         let from : run s.held.items (0 + s.blocks.first * size) (n * size) ≡ run s.held.items (s.blocks.first * size) (n * size) = ap (λ k. run s.held.items k (n * size)) (omega arith) in

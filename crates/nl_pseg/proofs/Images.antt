@@ -98,7 +98,7 @@ module _ {seg mid : Physical} {a b : Image} (dead : (p : ℕ) → IsDead mid p �
   takes_then {page} {value} {c} second = record { dead = dead page second.dead; has = second.has; others = λ p ne. after c p (second.others p ne) }
 
 -- what a live page shows stays where the page does
-shows_same : (h : Held) {x y : Page} → y ≡ x → shown_by x ≡ Some (h.tag, h.stamp, main_of x) → shown_by y ≡ Some (h.tag, h.stamp, main_of y)
+pub shows_same : (h : Held) {x y : Page} → y ≡ x → shown_by x ≡ Some (h.tag, h.stamp, main_of x) → shown_by y ≡ Some (h.tag, h.stamp, main_of y)
 shows_same h {x} {y} same shows = subst (λ (q : Page). shown_by q ≡ Some (h.tag, h.stamp, main_of q)) (sym same) shows
 
 -- the next page was used

@@ -29,7 +29,7 @@ use Rattle.nl_pseg.specs.declared.held.Held.{Held}
 use Rattle.nl_pseg.specs.declared.state.State.{State}
 use Rattle.nl_pseg.proofs.Begun.{told_length}
 use Rattle.nl_pseg.proofs.Forms.{formed_page, use_places}
-use Rattle.nl_pseg.proofs.Left.{left_is}
+use Rattle.nl_pseg.proofs.Left.{left_is, there_is}
 use Rattle.nl_pseg.proofs.Named.{names_added}
 use Rattle.nl_pseg.proofs.Numbers.{in_block}
 use Rattle.nl_pseg.proofs.Rows.{dead_here, num, waiting_used}
@@ -39,19 +39,15 @@ use Rattle.nl_pseg.proofs.Tables.{has_same, use_here}
 use Rattle.nl_pseg.proofs.Tied.{back, named_on, old_is, phases_same}
 
 -- a link of the pairs that were led on is one that was, or goes to the new page
-link_led : (xs : List Link) (old new : ℕ) (l : Link) → HasLink (map (led_on old new) xs) l → (x : Link) × HasLink xs x × (l ≡ led_on old new x)
+pub link_led : (xs : List Link) (old new : ℕ) (l : Link) → HasLink (map (led_on old new) xs) l → (x : Link) × HasLink xs x × (l ≡ led_on old new x)
 link_led xs old new l has =
     let less : has.0 < length xs = subst (λ k. has.0 < k) (length-map xs (led_on old new)) has.1 in
     (link_at xs has.0, (has.0, less, refl), sym has.2 ∙ get_or-map (led_on old new) xs has.0 no_link no_link less)
 
-old_led : (xs : List Link) (old new name : ℕ) → IsOld (map (led_on old new) xs) name → IsOld xs name
+pub old_led : (xs : List Link) (old new name : ℕ) → IsOld (map (led_on old new) xs) name → IsOld xs name
 old_led xs old new name is =
     let less : is.0 < length xs = subst (λ k. is.0 < k) (length-map xs (led_on old new)) is.1 in
     (is.0, less, sym (ap (λ (l : Link). l.from) (get_or-map (led_on old new) xs is.0 no_link no_link less)) ∙ is.2)
-
-some_of : {A : Type 0} (o : Option A) → IsSome o → (x : A) × (o ≡ Some x)
-some_of None some = absurd (true≢false (sym some))
-some_of (Some x) some = (x, refl)
 
 module _ (s : State) (is : IsFormed s) (tied : IsTied s) (before after : ℕ) (victim : s.victim ≡ Some (before / s.blocks.size)) (live : IsSome (held_at (seen s) before)) (there : IsSome (held_at (seen s) after)) (apart : before ≡ after → ⊥) where
   abbrev pairs : List Link
@@ -61,10 +57,10 @@ module _ (s : State) (is : IsFormed s) (tied : IsTied s) (before after : ℕ) (v
   added = insert pairs (place_of pairs before) (pair before after)
 
   h : (h : Held) × (held_at (seen s) before ≡ Some h)
-  h = some_of (held_at (seen s) before) live
+  h = there_is (held_at (seen s) before) live
 
   k : (h : Held) × (held_at (seen s) after ≡ Some h)
-  k = some_of (held_at (seen s) after) there
+  k = there_is (held_at (seen s) after) there
 
   few : place_of pairs before ≤ length pairs
   few = count_by-le-length (λ (p : Link). nat_lt p.from before) pairs
@@ -117,7 +113,7 @@ module _ (s : State) (is : IsFormed s) (tied : IsTied s) (before after : ℕ) (v
     stays p x ne held = get_or-set_other s.held.items before p None None ne ∙ held
 
     standing : (name : ℕ) → IsOld names.pairs name → IsStanding (seen new) name
-    standing name old = ⊎_elim here there_is (old_back name (subst (λ l. IsOld l name) pairs_now old))
+    standing name old = ⊎_elim here stays_old (old_back name (subst (λ l. IsOld l name) pairs_now old))
       where
         used : (p : ℕ) → (use_in s.blocks (p / s.blocks.size)).is_free ≡ false → (use_in t (p / t.size)).is_free ≡ false
         used p in_use = ap (λ (u : Use). u.is_free) (same.uses (p / t.size)) ∙ (ap (λ n. (use_in s.blocks (p / n)).is_free) size ∙ in_use)
@@ -129,8 +125,8 @@ module _ (s : State) (is : IsFormed s) (tied : IsTied s) (before after : ℕ) (v
           copy_behind = λ n. tied.behind before h.0 h.1 (copies before n);
         })
 
-        there_is : IsOld s.names.pairs name → IsStanding (seen new) name
-        there_is old_was =
+        stays_old : IsOld s.names.pairs name → IsStanding (seen new) name
+        stays_old old_was =
             let w = tied.named.standing name old_was in
             record { in_use = used name w.in_use; behind = λ n. w.behind (nexts name n); copy_behind = λ n. w.copy_behind (copies name n) }
 

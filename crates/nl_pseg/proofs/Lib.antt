@@ -6,6 +6,7 @@ pub mod After
 pub mod Wrote
 pub mod Overwrote
 pub mod Served
+pub mod LedFrom
 pub mod Holds
 pub mod Sums
 pub mod Runs

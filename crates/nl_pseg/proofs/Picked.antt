@@ -68,6 +68,14 @@ module _ (s : State) where
         let b = dead_here s.blocks other o.0 in
         let m = is.most other o in
         omega (arith, a, b, m);
+    first_most = λ no other from less sealed.
+        let below = is.sealed.0.below in
+        let o = to_sealed other from (omega (arith, less, below)) sealed in
+        let a = dead_here s.blocks block is.sealed.0 in
+        let b = dead_here s.blocks other o.0 in
+        let m = is.first other o less in
+        omega (arith, a, b, m);
+    first_least = λ yes. absurd (true≢false (sym yes));
     least = λ yes. absurd (true≢false (sym yes));
     worn = λ yes. absurd (true≢false (sym yes));
   }
@@ -79,6 +87,14 @@ module _ (s : State) where
     sealed = sealed_here block is.sealed.0 ∙ is.sealed.1;
     some = λ no. absurd (true≢false no);
     most = λ no. absurd (true≢false no);
+    first_most = λ no. absurd (true≢false no);
+    first_least = λ yes other from less sealed.
+        let below = is.sealed.0.below in
+        let o = to_sealed other from (omega (arith, less, below)) sealed in
+        let a = wear_here block is.sealed.0 in
+        let b = wear_here other o.0 in
+        let m = is.first other o less in
+        omega (arith, a, b, m);
     least = λ yes other from below sealed.
         let o = to_sealed other from below sealed in
         let a = wear_here block is.sealed.0 in

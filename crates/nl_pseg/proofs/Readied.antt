@@ -12,15 +12,12 @@ use Rattle.nl_pseg.specs.Steps.{Restated, SameUse, aimed_at}
 use Rattle.nl_pseg.specs.declared.held.Held.{Held}
 use Rattle.nl_pseg.specs.declared.state.State.{State}
 use Rattle.nl_pseg.proofs.Forms.{formed_restated, same_pages, same_unspent}
+use Rattle.nl_pseg.proofs.Images.{shows_same}
 use Rattle.nl_pseg.proofs.Numbers.{block_of}
 use Rattle.nl_pseg.proofs.Segments.{unspent_taken}
 use Rattle.nl_pseg.proofs.States.{next_block}
 use Rattle.nl_pseg.proofs.Tables.{free_kept}
 use Rattle.nl_pseg.proofs.Taken.{free_other}
-
--- a page that shows what it did
-shows_same : (h : Held) {x y : Page} → y ≡ x → shown_by x ≡ Some (h.tag, h.stamp, main_of x) → shown_by y ≡ Some (h.tag, h.stamp, main_of y)
-shows_same h {x} {y} same shows = subst (λ (q : Page). shown_by q ≡ Some (h.tag, h.stamp, main_of q)) (sym same) shows
 
 module _ (s : State) (is : IsFormed s) (block : ℕ) (has : HasBlock s.blocks block) (free : (use_in s.blocks block).is_free ≡ true) where
   free_next : (p : ℕ) → IsNext (seen s) p → p / s.blocks.size ≡ block → ⊥

@@ -11,7 +11,7 @@ use Rattle.nl_blocks.proofs.TableLaws.{block_at-with_block_other, block_at-with_
 use Rattle.nl_remap.specs.Table.{IsOld}
 use Rattle.nl_pseg.specs.Cleaning.{Erases}
 use Rattle.nl_pseg.specs.OldNames.{names_among}
-use Rattle.nl_pseg.specs.Segment.{Row, Use, IsNext, IsNextCopy, IsOldName, held_at, is_free, is_kept, is_waiting, row_in, soiled, use_at} 
+use Rattle.nl_pseg.specs.Segment.{Row, Use, IsNext, IsNextCopy, IsOldName, held_at, is_free, is_kept, is_waiting, row_in, soiled, use_at}
 use Rattle.nl_pseg.specs.Seen.{HasPhases, IsFormed, IsNamed, IsStanding, IsTied, is_kept_state, row_of, seen, use_in, use_of}
 use Rattle.nl_pseg.specs.Space.{gain_of, left_of}
 use Rattle.nl_pseg.specs.Steps.{SameMarks, SameNumbers}

@@ -1,5 +1,5 @@
 -- The least volume, and a segment of it with its medium.
-use Rattle.std.proofs.Common.{◌≡◌, ℕ, ◌≤◌, ◌<◌, ◌*◌, None, Option, List, get_or, replicate, refl, sym, ◌∙◌, ap, subst, arith, IsTrue}
+use Rattle.std.proofs.Common.{◌≡◌, ℕ, ◌≤◌, ◌<◌, ◌*◌, ◌/◌, None, Option, List, [], length, get_or, replicate, refl, sym, ◌∙◌, ap, subst, arith, IsTrue}
 use Rattle.std.proofs.lemmas.Option.{none-some}
 use Rattle.nl_field.specs.Numbers.{is_legal, shape_for}
 use Rattle.nl_field.specs.Page.{Image}
@@ -7,8 +7,7 @@ use Rattle.nl_field.specs.declared.shape.Shape.{Shape}
 use Rattle.nl_nand.specs.declared.geometry.Geometry.{Geometry}
 use Rattle.nl_nand.specs.Nand.{IsBlank}
 use Rattle.nl_pseg.specs.Rig.{IsRig}
-use Rattle.nl_pseg.specs.Segment.{Physical, IsDead, IsPhysicalOf, SamePages}
-use Rattle.nl_pseg.specs.Seen.{Fits}
+use Rattle.nl_pseg.specs.Segment.{Physical, IsDead, IsPhysicalOf}
 use Rattle.nl_pseg.specs.declared.held.Held.{Held}
 use Rattle.nl_pseg.proofs.News.{all_none}
 
@@ -29,21 +28,6 @@ least shape is = record {
   pages = ap (λ (s : Shape). s.pages) is;
 }
 
-pub rig_fits : {geometry : Geometry} {image : Image} {seg : Physical} → IsRig geometry image seg → Fits geometry seg
-rig_fits {geometry} {image} {seg} is = record {
-  pages = ap (λ (g : Geometry). g.pages) is.numbers ∙ sym is.size;
-  blocks = let b : geometry.blocks ≡ 32 = ap (λ (g : Geometry). g.blocks) is.numbers in let e = is.blocks in omega (arith, b, e);
-}
-
-pub kept_rig : {old new : Geometry} {before after : Image} {seg next : Physical} → IsRig old before seg → new ≡ old → SamePages seg next → IsPhysicalOf after next → IsRig new after next
-kept_rig is same pages segment = record {
-  numbers = same ∙ is.numbers;
-  first = pages.same_first ∙ is.first;
-  blocks = pages.same_blocks ∙ is.blocks;
-  size = pages.same_size ∙ is.size;
-  segment = segment;
-}
-
 pub new_rig : (shape : Shape) (geometry : Geometry) (image : Image) (seg : Physical) → IsLeast shape → geometry ≡ record { blocks = 32; pages = 32 } → IsBlank image → seg.held ≡ replicate (shape.blocks * shape.pages) None → seg.first ≡ shape.vblocks → seg.blocks ≡ shape.blocks → seg.size ≡ shape.pages
     → IsRig geometry image seg
 new_rig shape geometry image seg least_is numbers blank held first blocks size = record {
@@ -54,12 +38,13 @@ new_rig shape geometry image seg least_is numbers blank held first blocks size =
   segment = record {
     holds = λ p h named. absurd (none-some h (sym (ap (λ (l : List (Option Held)). get_or l p None) held ∙ all_none (shape.blocks * shape.pages) p) ∙ named));
     blank = λ p taken. blank p;
+    blank_copy = λ p next. blank p;
   };
 }
 
 -- no page of a new segment is live
-pub new_dead : (shape : Shape) (seg : Physical) (page : ℕ) → IsLeast shape → seg.held ≡ replicate (shape.blocks * shape.pages) None → seg.first ≡ shape.vblocks → seg.blocks ≡ shape.blocks → seg.size ≡ shape.pages → 256 ≤ page → page < 1024 → IsDead seg page
-new_dead shape seg page least_is held first blocks size from below =
+pub new_dead : (shape : Shape) (seg : Physical) (page : ℕ) → IsLeast shape → seg.held ≡ replicate (shape.blocks * shape.pages) None → seg.first ≡ shape.vblocks → seg.blocks ≡ shape.blocks → seg.size ≡ shape.pages → seg.pairs ≡ [] → seg.victim ≡ None → 256 ≤ page → page < 1024 → IsDead seg page
+new_dead shape seg page least_is held first blocks size pairs victim from below =
     let f = first ∙ least_is.first in
     let b = blocks ∙ least_is.blocks in
     let s = size ∙ least_is.pages in
@@ -68,4 +53,6 @@ new_dead shape seg page least_is held first blocks size from below =
     record {
       within = (omega (arith, low, from), omega (arith, high, below));
       dead = ap (λ (l : List (Option Held)). get_or l page None) held ∙ all_none (shape.blocks * shape.pages) page;
+      own = λ old. let none : length seg.pairs ≡ 0 = ap (λ (ps : List (ℕ × ℕ)). length ps) pairs in let less = old.1.1 in omega (arith, none, less);
+      apart = λ at. none-some (page / seg.size) (sym victim ∙ at);
     }

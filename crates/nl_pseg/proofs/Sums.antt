@@ -155,11 +155,11 @@ module _ (held : List (Option Held)) (size : ℕ) where
       let sum : dead_count row + run held (b * size) size ≡ size = subst (λ k. dead_count row + run held k size ≡ size) first h.0 in
       let here = covers row.state (dead_count row) (run held (b * size) size) size sum h.1 h.2 in
       let rest = all_covered rows (suc b) (λ i less.
-          let w = each (suc i) (omega (arith, less)) in
-          let at : (b + suc i) * size ≡ (suc b + i) * size = omega arith in
-          (subst (λ k. dead_count (row_at rows i) + run held k size ≡ size) at w.0, w.1, w.2)) in
+      let w = each (suc i) (omega (arith, less)) in
+      let at : (b + suc i) * size ≡ (suc b + i) * size = omega arith in
+      (subst (λ k. dead_count (row_at rows i) + run held k size ≡ size) at w.0, w.1, w.2)) in
       let e : sum_by (λ r. cond (is_sealed_state r.state) r.dead 0) (map row_of (row ∷ rows)) ≡ cond (is_sealed_state row.state) (dead_count row) 0 + sum_by (λ r. cond (is_sealed_state r.state) r.dead 0) (map row_of rows)
-              = sum_by-cons (λ r. cond (is_sealed_state r.state) r.dead 0) (row_of row) (map row_of rows) in
+      = sum_by-cons (λ r. cond (is_sealed_state r.state) r.dead 0) (row_of row) (map row_of rows) in
       let f : count_by is_free (row ∷ rows) ≡ num (is_free_state row.state) + count_by is_free rows = sum_by-cons (λ r. num (is_free r)) row rows in
       let g : count_by (λ (r : BlockRow). is_active r.state) (row ∷ rows) ≡ num (is_active row.state) + count_by (λ (r : BlockRow). is_active r.state) rows = sum_by-cons (λ (r : BlockRow). num (is_active r.state)) row rows in
       let t : count_by (λ (r : BlockRow). is_target r.state) (row ∷ rows) ≡ num (is_target row.state) + count_by (λ (r : BlockRow). is_target r.state) rows = sum_by-cons (λ (r : BlockRow). num (is_target r.state)) row rows in

@@ -5,11 +5,11 @@ use Rattle.std.proofs.lemmas.List.{get_or-set_same, get_or-set_other, get_or-map
 use Rattle.nl_blocks.specs.declared.states.BlockState.{BlockState}
 use Rattle.nl_blocks.specs.declared.states.BlockState.TheVariants as the
 use Rattle.nl_blocks.specs.declared.states.Page.{Page}
-use Rattle.nl_blocks.specs.Table.{BlockRow, Table, HasBlock, HasPage, block_at, new_page, no_row, page_at, with_block, after_erase, is_free, is_free_state, free_count}
+use Rattle.nl_blocks.specs.Table.{BlockRow, Table, HasBlock, HasPage, block_at, new_page, no_row, page_at, with_block, after_erase, in_state, is_free, is_free_state, free_count}
 use Rattle.nl_blocks.proofs.TableLaws.{sum_by-with_block, block_at-with_block_other}
 use Rattle.nl_pseg.specs.Segment.{Use, no_use, use_at}
 use Rattle.nl_pseg.specs.Seen.{is_kept_state, use_of, use_in, use_with}
-use Rattle.nl_pseg.specs.Steps.{IsTold, SameMarks, SameNumbers, SameUse, Restated, told_state}
+use Rattle.nl_pseg.specs.Steps.{IsPut, IsTold, SameMarks, SameNumbers, SameUse, Restated, told_state}
 
 abbrev num : Bool → ℕ
 num b = cond b 1 0
@@ -219,3 +219,53 @@ used_state the.Target free waits = (refl, refl, refl)
 used_state the.Sealed free waits = (refl, refl, refl)
 used_state the.Victim free waits = (refl, refl, refl)
 used_state (the.Retired names) free waits = absurd (waits names refl)
+
+-- a block is in another state, and kept where it was
+pub put_block : (t n : Table) (block : ℕ) (state now : BlockState) → HasBlock t block → n ≡ with_block t block (in_state (block_at t block) now) → now ≡ state → is_kept_state now ≡ is_kept_state (block_at t block).state → IsPut block state t n
+put_block t n block state now has made is kept = subst (λ u. IsPut block state t u) (sym made) (record {
+  numbers = record { same_first = refl; same_size = refl; same_count = length-set t.blocks (block - t.first) row };
+  here = ap (λ (r : BlockRow). r.state) (row_here t block row has) ∙ is;
+  states = λ other has_other ne. ap (λ (r : BlockRow). r.state) (block_at-with_block_other t block other row has has_other ne);
+  kept = λ other. ⊎_elim
+      (λ e. ap (λ b. (use_in made_table b).is_kept) e ∙ (ap (λ (u : Use). u.is_kept) here ∙ (kept ∙ (ap (λ (u : Use). u.is_kept) (sym was) ∙ ap (λ b. (use_in t b).is_kept) (sym e)))))
+      (λ ne. ap (λ (u : Use). u.is_kept) (use_other t block other row has ne))
+      (cases_eq other block);
+  wears = λ other. ⊎_elim
+      (λ e. ap (λ b. (use_in made_table b).wear) e ∙ (ap (λ (u : Use). u.wear) here ∙ (ap (λ (u : Use). u.wear) (sym was) ∙ ap (λ b. (use_in t b).wear) (sym e))))
+      (λ ne. ap (λ (u : Use). u.wear) (use_other t block other row has ne))
+      (cases_eq other block);
+  frees = λ other ne. ap (λ (u : Use). u.is_free) (use_other t block other row has ne);
+  total =
+      let sums = sum_by-with_block (λ r. cond (is_free r) 1 0) t block row has in
+      let before : num (use_in t block).is_free ≡ num (is_free (block_at t block)) = ap (λ (u : Use). num u.is_free) was in
+      let after : num (is_free_state now) ≡ num (is_free_state state) = ap (λ (b : BlockState). num (is_free_state b)) is in
+      omega (arith, sums, before, after);
+  marks = same_marks t block row has (λ k. refl);
+})
+  where
+    row : BlockRow
+    row = in_state (block_at t block) now
+
+    made_table : Table
+    made_table = with_block t block row
+
+    here : use_in made_table block ≡ use_of row
+    here = use_here made_table block (with_has t block block row has) ∙ ap use_of (row_here t block row has)
+
+    was : use_in t block ≡ use_of (block_at t block)
+    was = use_here t block has
+
+-- nothing changed
+pub put_same : (t : Table) (block : ℕ) (state : BlockState) → HasBlock t block → (block_at t block).state ≡ state → is_free_state state ≡ false → IsPut block state t t
+put_same t block state has is free = record {
+  numbers = record { same_first = refl; same_size = refl; same_count = refl };
+  here = is;
+  states = λ other has_other ne. refl;
+  kept = λ other. refl;
+  wears = λ other. refl;
+  frees = λ other ne. refl;
+  total =
+      let a : num (use_in t block).is_free ≡ num (is_free_state state) = ap (λ (u : Use). num u.is_free) (use_here t block has) ∙ ap (λ (b : BlockState). num (is_free_state b)) is in
+      omega (arith, a);
+  marks = record { same = λ p has_page. refl };
+}

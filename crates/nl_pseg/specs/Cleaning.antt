@@ -29,12 +29,14 @@ abbrev pub without_name : ℕ → List (ℕ × ℕ) → List (ℕ × ℕ)
 without_name name pairs = filter (λ (pair : ℕ × ℕ). not (pair.0 == name)) pairs
 
 -- The block of the segment is Sealed. A cold one is the least worn of these, and one block of the segment was erased at least 16
--- times more; another has the most pages that are not live, and has one.
+-- times more; another has the most pages that are not live, and has one. Of equals it is the one of the least number.
 pub record IsChosen (cold : Bool) (seg : Physical) (block : ℕ) : Type 0 where
   pub from : seg.first ≤ block
   pub below : block < seg.blocks
   pub sealed : is_sealed seg block ≡ true
   pub some : cold ≡ false → 0 < dead_in seg block
+  pub first_most : cold ≡ false → (other : ℕ) → seg.first ≤ other → other < block → is_sealed seg other ≡ true → dead_in seg other < dead_in seg block
+  pub first_least : cold ≡ true → (other : ℕ) → seg.first ≤ other → other < block → is_sealed seg other ≡ true → wear_of seg block < wear_of seg other
   pub most : cold ≡ false → (other : ℕ) → seg.first ≤ other → other < seg.blocks → is_sealed seg other ≡ true → dead_in seg other ≤ dead_in seg block
   pub least : cold ≡ true → (other : ℕ) → seg.first ≤ other → other < seg.blocks → is_sealed seg other ≡ true → wear_of seg block ≤ wear_of seg other
   pub worn : cold ≡ true → (other : ℕ) × (seg.first ≤ other) × (other < seg.blocks) × (wear_of seg block + 16 ≤ wear_of seg other)

@@ -1,6 +1,7 @@
 -- What the steps of a call do to the table of blocks and to the segment.
-use Rattle.std.specs.Prelude.{◌≡◌, ◌⊎◌, ℕ, ◌+◌, ◌-◌, ◌*◌, ◌/◌, ◌^◌, ◌<◌, ◌≤◌, ◌==◌, if◌then◌else◌, min, Bool, true, false, cond, List, length, slice_set, Option, Some, None}
+use Rattle.std.specs.Prelude.{◌≡◌, ◌⊎◌, ℕ, ◌+◌, ◌-◌, ◌*◌, ◌/◌, ◌^◌, ◌<◌, ◌≤◌, ◌==◌, if◌then◌else◌, min, Bool, true, false, cond, List, length, slice_set, Option, Some, None, unwrap_or}
 use Rattle.nl_field.specs.CrashStates.{LeavesOnly}
+use Rattle.nl_field.specs.Live.{resolve}
 use Rattle.nl_field.specs.Live.{resolve}
 use Rattle.nl_field.specs.Page.{Image, Page, erased, written, page_at}
 use Rattle.nl_field.specs.declared.answers.Named.{Named}
@@ -11,12 +12,12 @@ use Rattle.nl_nand.specs.declared.answers.WriteAnswer.TheVariants as wrote
 use Rattle.nl_blocks.specs.declared.states.BlockState.{BlockState}
 use Rattle.nl_blocks.specs.declared.states.BlockState.TheVariants.{Free, Active, Target, Sealed, Victim, Retired}
 use Rattle.nl_blocks.specs.declared.states.PageState.{PageState}
-use Rattle.nl_blocks.specs.Table.{Table, HasBlock, block_at, free_count, HasPage}
+use Rattle.nl_blocks.specs.Table.{Table, HasBlock, block_at, free_count, is_free_state, HasPage}
 use Rattle.nl_blocks.specs.Table.{page_at as page_in}
 use Rattle.nl_pseg.specs.Answers.{IfPlaced, IsFault, IsPlaced}
 use Rattle.nl_pseg.specs.Effects.{Crashes, Keeps, Programmed}
 use Rattle.nl_pseg.specs.Pages.{page_with}
-use Rattle.nl_pseg.specs.Segment.{InSegment, Physical, IsClean, IsDead, IsNext, IsPhysicalOf, IsReady, IsSpent, IsUnspent, KeepsBlock, SameNames, SamePages, TakenAsErased, erasures, is_free, is_kept, is_soiled, is_waiting, soiled, use_at, wear_of, without_target, IsOldName}
+use Rattle.nl_pseg.specs.Segment.{InSegment, Physical, IsClean, IsDead, IsNext, IsNextCopy, IsPhysicalOf, IsReady, IsSpent, IsUnspent, KeepsBlock, SameNames, SamePages, TakenAsErased, erasures, is_free, is_kept, is_soiled, is_waiting, soiled, use_at, wear_of, without_target, names_another_free, IsOldName}
 use Rattle.nl_pseg.specs.Space.{gain_of, landing, left_of, waiting}
 use Rattle.nl_pseg.specs.Seen.{IsTied, use_in, use_with}
 use Rattle.nl_pseg.specs.declared.held.Held.{Held}
@@ -52,6 +53,12 @@ pub record Restated (block : ℕ) (free : Bool) (wear : ℕ) (old new : Table) :
   pub total : free_count new + cond (use_in old block).is_free 1 0 ≡ free_count old + cond free 1 0
   pub marks : SameMarks old new
 
+-- the same blocks and pages
+pub record SameRange (old new : Physical) : Type 0 where
+  pub range_first : new.first ≡ old.first
+  pub range_blocks : new.blocks ≡ old.blocks
+  pub range_size : new.size ≡ old.size
+
 -- the state of a block that is erased before use
 abbrev pub told_state : BlockState → BlockState
 told_state Free = Free
@@ -70,12 +77,81 @@ pub record IsTold (block : ℕ) (wear : ℕ) (old new : Table) : Type 0 where
   pub total : free_count new ≡ free_count old
   pub marks : SameMarks old new
 
+-- the state of a block in which one old name more stands, and in which nothing more is programmed
+abbrev pub aside_state : BlockState → BlockState
+aside_state Free = Retired 1
+aside_state Active = Sealed
+aside_state Target = Sealed
+aside_state Sealed = Sealed
+aside_state Victim = Victim
+aside_state (Retired names) = Retired (names + 1)
+
+-- one block is in this state, and is kept for the cleaner where it was; the others are as before
+pub record IsPut (block : ℕ) (state : BlockState) (old new : Table) : Type 0 where
+  pub numbers : SameNumbers old new
+  pub here : (block_at new block).state ≡ state
+  pub states : (other : ℕ) → HasBlock old other → (other ≡ block → ⊥) → (block_at new other).state ≡ (block_at old other).state
+  pub kept : (other : ℕ) → (use_in new other).is_kept ≡ (use_in old other).is_kept
+  pub wears : (other : ℕ) → (use_in new other).wear ≡ (use_in old other).wear
+  pub frees : (other : ℕ) → (other ≡ block → ⊥) → (use_in new other).is_free ≡ (use_in old other).is_free
+  pub total : free_count new + cond (use_in old block).is_free 1 0 ≡ free_count old + cond (is_free_state state) 1 0
+  pub marks : SameMarks old new
+
 -- nothing more is programmed in this block, and the pages of another one that are programmed next are the same
 pub record IsIdle (block : ℕ) (old new : State) : Type 0 where
   pub active : new.active ≡ old.active
   pub target : new.target ≡ old.target
   pub used : ((block ≡ old.active) × (new.used ≡ old.blocks.size)) ⊎ ((block ≡ old.active → ⊥) × (new.used ≡ old.used))
   pub filled : ((block ≡ old.target) × (new.filled ≡ old.blocks.size)) ⊎ ((block ≡ old.target → ⊥) × (new.filled ≡ old.filled))
+
+-- The block is set aside for one old name more, where it is one of the table.
+pub record IsAside (block : ℕ) (old new : State) : Type 0 where
+  pub same : new ≡ record old { blocks = new.blocks; used = new.used; filled = new.filled }
+  pub idle : IsIdle block old new
+  pub put : IsPut block (aside_state (block_at old.blocks block).state) old.blocks new.blocks
+
+-- The name leads to this page. Nothing more is programmed in the block of the name, which waits for it where it was Free.
+pub record LeadsFrom (name page : ℕ) (old new : Physical) : Type 0 where
+  pub range : SameRange old new
+  pub held : new.held ≡ old.held
+  pub leads : resolve new.pairs name ≡ page
+  pub ways : (other : ℕ) → (other ≡ name → ⊥) → resolve new.pairs other ≡ resolve old.pairs other
+  pub olds : (other : ℕ) → IsOldName new other → (other ≡ name) ⊎ IsOldName old other
+  pub more : (length new.pairs ≡ length old.pairs + 1) × (new.pair_room + 1 ≡ old.pair_room)
+  pub victim : new.victim ≡ old.victim
+  pub kept : (block : ℕ) → is_kept new block ≡ is_kept old block
+  pub wears : (block : ℕ) → wear_of new block ≡ wear_of old block
+  pub frees : (block : ℕ) → (block ≡ name / old.size → ⊥) → is_free new block ≡ is_free old block
+  pub here : is_free new (name / old.size) ≡ false
+  pub free : new.free + cond (is_free old (name / old.size)) 1 0 ≡ old.free
+  pub soiled : new.soiled ≡ old.soiled
+  pub left : new.left ≤ old.left
+  pub next : (p : ℕ) → IsNext new p → IsNext old p
+  pub still : (p : ℕ) → IsNext old p → (p / old.size ≡ name / old.size → ⊥) → IsNext new p
+  pub copies : (p : ℕ) → IsNextCopy new p → IsNextCopy old p
+
+-- The page holds what the pointer and the owner say. Nothing more is programmed in its block, nor in that of the pointer's name where
+-- this is another page: then the name leads to the page, and a block of it that was Free waits.
+pub record Loads (page : ℕ) (at : Pointer) (tag : Tag) (old new : Physical) : Type 0 where
+  pub held : new.held ≡ slice_set old.held page (Some (record { tag = tag; stamp = at.stamp }))
+  pub leads : resolve new.pairs at.name ≡ page
+  pub ways : (name : ℕ) → (name ≡ at.name → ⊥) → resolve new.pairs name ≡ resolve old.pairs name
+  pub pairs : at.name ≡ page → new.pairs ≡ old.pairs
+  pub olds : (name : ℕ) → IsOldName new name → (name ≡ at.name) ⊎ IsOldName old name
+  pub more : (at.name ≡ page → ⊥) → (length new.pairs ≡ length old.pairs + 1) × (new.pair_room + 1 ≡ old.pair_room)
+  pub range : SameRange old new
+  pub victim : new.victim ≡ old.victim
+  pub here : is_free new (page / old.size) ≡ false
+  pub name_here : (at.name ≡ page → ⊥) → is_free new (at.name / old.size) ≡ false
+  pub free : new.free + cond (is_free old (page / old.size)) 1 0 + cond (names_another_free old page at.name) 1 0 ≡ old.free
+  pub left : new.left ≤ old.left
+  pub others : (block : ℕ) → (block ≡ page / old.size → ⊥) → (is_kept new block ≡ is_kept old block) × ((block ≡ at.name / old.size → ⊥) → is_free new block ≡ is_free old block)
+  pub same_soiled : (block : ℕ) → soiled new block ≡ soiled old block
+  pub wear : wear_of new (page / old.size) ≡ unwrap_or (soiled old (page / old.size)) (wear_of old (page / old.size))
+  pub wears : (block : ℕ) → (block ≡ page / old.size → ⊥) → wear_of new block ≡ wear_of old block
+  pub erased : (p : ℕ) → TakenAsErased new p → TakenAsErased old p × (p / old.size ≡ page / old.size → ⊥)
+  pub still : (p : ℕ) → TakenAsErased old p → (p / old.size ≡ page / old.size → ⊥) → (IsNext old p → p / old.size ≡ at.name / old.size → ⊥) → TakenAsErased new p
+  pub copies : (p : ℕ) → IsNextCopy new p → IsNextCopy old p
 
 -- A block was taken that was Free, where the block that was written to is full, and no page of it is used.
 pub record IsTaking (s : State) (block : ℕ) : Type 0 where
@@ -85,12 +161,6 @@ pub record IsTaking (s : State) (block : ℕ) : Type 0 where
   pub had : HasBlock table block
   pub was_free : (use_in table block).is_free ≡ true
   pub full : s.blocks.size ≤ s.used
-
--- the same blocks and pages
-pub record SameRange (old new : Physical) : Type 0 where
-  pub range_first : new.first ≡ old.first
-  pub range_blocks : new.blocks ≡ old.blocks
-  pub range_size : new.size ≡ old.size
 
 -- Apart from one block, what is taken as erased stays. Nothing of that block is taken as erased then.
 pub record IsApart (block : ℕ) (old new : Physical) : Type 0 where

@@ -144,13 +144,7 @@ impl State {
     }
 
     /// Programs the buffer as the copy of a live page of the victim.
-    fn land<M: Nand>(
-        &mut self,
-        media: &mut M,
-        before: u32,
-        held: Held,
-        buf: &mut PageBuf,
-    ) -> Copied
+    fn land<M: Nand>(&mut self, media: &mut M, before: u32, held: Held, buf: &mut PageBuf) -> Copied
         requires formed { IsFormed self.old }
         requires tied { IsTied self.old }
         requires few { HasFewPairs (seen self.old) }

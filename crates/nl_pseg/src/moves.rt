@@ -1,4 +1,9 @@
 // A victim is begun, its live pages are moved, and it is erased.
+ghost use Rattle.std.specs.Prelude.{◌≡◌, ◌+◌, ◌*◌};
+ghost use Rattle.nl_nand.specs.Memory.{contents_of, geometry_of};
+ghost use Rattle.nl_pseg.specs.Rig.{IsRig};
+ghost use Rattle.nl_pseg.specs.Space.{gain_of, left_of, victims};
+
 use crate::{Copied, Erasure, PSeg};
 use nl_field::{FailList, Named, NamedRead, PageBuf, Pointer, SpareRec, Tag, shape_of, spare_of};
 use nl_nand::{Cut, FormAnswer, MemNand, Nand, ReadAnswer, Stop};
@@ -44,7 +49,9 @@ struct Rig {
     seg: PSeg,
     media: MemNand,
     buf: PageBuf,
-    stamp: u64,
+    stamp: u32,
+    ghost is: { IsRig (geometry_of media) (contents_of media) seg },
+    ghost victim: { left_of seg + gain_of seg ≡ victims seg * seg.size },
 }
 
 fn owner(index: u32) -> Tag {
@@ -83,18 +90,34 @@ fn made(alloc: Global, reads: FailList, writes: FailList, stop: Option<Stop>) ->
 impl Rig {
     fn write(&mut self, count: u32) -> Seen {
         for _ in 0..count {
-            let index = (self.stamp % 1_000_000) as u32;
-            self.buf.clear();
-            self.buf.set_main(0, &[(index % 256) as u8]);
-            self.stamp += 1;
-            let answer = self
-                .seg
-                .nameless_write(&mut self.media, owner(index), &self.buf, self.stamp);
-            if !matches!(answer, Named::Placed(_)) {
+            if !self.write_one() {
                 return Seen::No;
             }
         }
         Seen::Yes
+    }
+
+    /// Writes a page whose first byte is the owner's index, under a number that is one more.
+    fn write_one(&mut self) -> bool {
+        let index = self.stamp;
+        self.buf.clear();
+        self.buf.set_main(0, &[(index % 256) as u8]);
+        self.stamp = index.wrapping_add(1);
+        let answer = self.seg.nameless_write(
+            &mut self.media,
+            owner(index),
+            &self.buf,
+            u64::from(index) + 1,
+        );
+        matches!(answer, Named::Placed(_))
+    }
+
+    fn begin(&mut self, cold: bool) -> bool {
+        self.seg.begin(cold)
+    }
+
+    fn drop_name(&mut self, name: u32) -> bool {
+        self.seg.drop_name(name)
     }
 
     fn free(&mut self, name: u32, stamp: u64) -> Seen {
@@ -105,7 +128,11 @@ impl Rig {
         }
     }
 
+    /// Moves a page, while a block is Free.
     fn copy(&mut self) -> Seen {
+        if self.seg.free_blocks() == 0 {
+            return Seen::No;
+        }
         match self.seg.copy_one(&mut self.media, &mut self.buf) {
             Copied::Moved {
                 before,
@@ -134,7 +161,7 @@ impl Rig {
     }
 
     fn read(&mut self, name: u32, stamp: u64) -> Seen {
-        let tag = owner((stamp % 1_000_000) as u32 - 1);
+        let tag = owner(((stamp % 1_000_000) as u32).wrapping_sub(1));
         match self.seg.physical_read(&mut self.media, Pointer { name, stamp }, tag, &mut self.buf) {
             NamedRead::Done => Seen::Byte(self.buf.main()[0]),
             NamedRead::NotLive => Seen::NotLive,
@@ -145,8 +172,8 @@ impl Rig {
 
     fn step(&mut self, step: Step) -> Seen {
         let yes = match step {
-            Step::Begin(cold) => self.seg.begin(cold),
-            Step::Drop(name) => self.seg.drop_name(name),
+            Step::Begin(cold) => self.begin(cold),
+            Step::Drop(name) => self.drop_name(name),
             Step::Copy => return self.copy(),
             Step::Erase => return self.erase(),
             Step::Read(name, stamp) => return self.read(name, stamp),
@@ -284,7 +311,11 @@ fn moves_fail(rt: HostRuntime) -> Result<(), Fail> {
 
 /// The number of the record on a page, 0 where there is none.
 fn stamp_on(media: &mut MemNand, page: u32, buf: &mut PageBuf) -> u64 {
-    let ReadAnswer::Written = media.read(page, buf) else {
+    let numbers = media.geometry();
+    if numbers.blocks != 32 || numbers.pages != 32 {
+        return 0;
+    }
+    let ReadAnswer::Written = media.read(page % 1024, buf) else {
         return 0;
     };
     match spare_of(buf.spare()) {
@@ -316,7 +347,7 @@ fn moves_are_stopped(rt: HostRuntime) -> Result<(), Fail> {
             cut: *cut,
         });
         let mut rig = made(alloc, FailList::new(alloc), FailList::new(alloc), stop)?;
-        rig.seg.begin(false);
+        rig.begin(false);
         rig.copy();
         rig.copy();
         rig.erase();

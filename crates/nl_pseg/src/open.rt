@@ -1,14 +1,14 @@
-ghost use Rattle.std.specs.Prelude.{◌≡◌, ◌⊎◌, ℕ, ◌+◌, ◌*◌, ◌/◌, ◌<◌, ◌≤◌, ◌^◌, min, cond, ◌-◌, true, false, length, slice_set, slice_index_or, None, Some, unwrap_or, IsTrue};
+ghost use Rattle.std.specs.Prelude.{◌≡◌, ◌⊎◌, ℕ, ◌+◌, ◌*◌, ◌/◌, ◌<◌, ◌≤◌, ◌^◌, min, cond, ◌-◌, true, false, length, slice_set, slice_index_or, None, Some, unwrap_or, IsSome, IsTrue};
 ghost use Rattle.nl_field.specs.Spelling.{is_stamp};
-ghost use Rattle.nl_blocks.specs.Table.{HasBlock, free_count};
-ghost use Rattle.nl_pseg.specs.Segment.{IsDead, IsNext, IsNextCopy, TakenAsErased};
+ghost use Rattle.nl_blocks.specs.Table.{HasBlock, block_at, free_count, names_of};
+ghost use Rattle.nl_remap.specs.Table.{IsOld};
+ghost use Rattle.nl_pseg.specs.Segment.{CanLead, IsDead, IsNext, IsNextCopy, TakenAsErased, held_at};
 ghost use Rattle.nl_pseg.specs.Seen.{seen, use_in, IsFormed, IsTied};
-ghost use Rattle.nl_pseg.specs.Steps.{IsIdle};
+ghost use Rattle.nl_pseg.specs.Steps.{IsAside, IsIdle, LeadsFrom, Loads};
 
 use crate::held::Held;
 use crate::state::State;
-use crate::table::{mark, shut, tell};
-use nl_blocks::BlockState;
+use crate::table::{mark, set_aside, shut, tell};
 use nl_field::{Pointer, Tag};
 
 impl State {
@@ -77,7 +77,26 @@ impl State {
         }
     }
 
-    pub fn load(&mut self, page: u32, stamp: u64, tag: Tag)
+    /// The page holds what the pointer and the owner say.
+    pub fn load_as(&mut self, page: u32, at: Pointer, tag: Tag)
+        requires formed { IsFormed self.old }
+        requires tied { IsTied self.old }
+        requires none { self.old.victim ≡ None }
+        requires dead { IsDead (seen self.old) page }
+        requires stamp { IsTrue (is_stamp at.stamp) }
+        requires away { (at.name ≡ page → ⊥) → CanLead (seen self.old) at.name }
+        ensures formed { IsFormed self.new }
+        ensures tied { IsTied self.new }
+        ensures loads { Loads page at tag (seen self.old) (seen self.new) }
+    {
+        self.load(page, at.stamp, tag);
+        if at.name == page {
+            return;
+        }
+        self.lead_from(at.name, page);
+    }
+
+    fn load(&mut self, page: u32, stamp: u64, tag: Tag)
         requires formed { IsFormed self.old }
         requires tied { IsTied self.old }
         requires none { self.old.victim ≡ None }
@@ -111,26 +130,37 @@ impl State {
         self.held[page as usize] = Some(Held { tag, stamp });
     }
 
-    /// The page is live under a name that is another page's number. The block of that page is not given out while it stands there.
-    pub fn load_moved(&mut self, page: u32, at: Pointer, tag: Tag) {
-        self.load(page, at.stamp, tag);
-        let block = at.name / self.blocks.pages();
-        self.set_aside(block);
-        self.names.add(at.name, page);
-    }
-
     /// Nothing more is programmed in the block of an old name, which waits for it where it is Free.
-    fn set_aside(&mut self, block: u32) {
-        if block < self.blocks.first() || block >= self.blocks.first() + self.blocks.count() {
+    fn set_aside(&mut self, block: u32)
+        requires formed { IsFormed self.old }
+        requires few { HasBlock self.old.blocks block → names_of (block_at self.old.blocks block).state + 1 < 2 ^ 32 }
+        ensures formed { IsFormed self.new }
+        ensures aside { ((HasBlock self.old.blocks block → ⊥) × (self.new ≡ self.old)) ⊎ (HasBlock self.old.blocks block × IsAside block self.old self.new) }
+    {
+        if block < self.blocks.first() || block - self.blocks.first() >= self.blocks.count() {
             return;
         }
         self.close(block);
-        match self.blocks.state(block) {
-            BlockState::Active | BlockState::Target => self.blocks.seal(block),
-            BlockState::Free => self.blocks.freed(block, 1),
-            BlockState::Retired(names) => self.blocks.freed(block, names + 1),
-            BlockState::Sealed | BlockState::Victim => {}
-        }
+        set_aside(&mut self.blocks, block);
+    }
+
+    /// The name leads to this page.
+    fn lead_from(&mut self, name: u32, page: u32)
+        requires formed { IsFormed self.old }
+        requires tied { IsTied self.old }
+        requires none { self.old.victim ≡ None }
+        requires room { 0 < self.old.names.room }
+        requires fresh { IsOld self.old.names.pairs name → ⊥ }
+        requires dead { held_at (seen self.old) name ≡ None }
+        requires there { IsSome (held_at (seen self.old) page) }
+        ensures formed { IsFormed self.new }
+        ensures tied { IsTied self.new }
+        ensures led { LeadsFrom name page (seen self.old) (seen self.new) }
+    {
+        let _ = self.names.len();
+        let block = name / self.blocks.pages();
+        self.set_aside(block);
+        self.names.add(name, page);
     }
 
     pub fn soil(&mut self, block: u32, wear: u32)

@@ -109,11 +109,9 @@ impl PSeg {
         ensures spare { (image : Image) → 1 ≤ self.new.free + waiting self.new → HasSpare image self.new }
         ensures kept_dead { KeptAreDead self.new }
     {
-        if at.name == page {
-            self.state.load(page, at.stamp, tag);
-        } else {
-            self.state.load_moved(page, at, tag);
-        }
+        self.state.load_as(page, at, tag);
+        self.state.table();
+        self.state.whole();
     }
 
     /// Serves an opening: the pages of this block, which was erased so often, do not all read as erased. Where no page of it is

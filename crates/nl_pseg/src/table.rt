@@ -1,8 +1,8 @@
 // Steps on the table of blocks.
-ghost use Rattle.std.specs.Prelude.{◌≡◌, ◌/◌, ◌≤◌, ◌+◌, ◌-◌, ◌^◌, ℕ, min, cond, true, false};
+ghost use Rattle.std.specs.Prelude.{◌≡◌, ◌/◌, ◌≤◌, ◌<◌, ◌+◌, ◌-◌, ◌^◌, ℕ, min, cond, true, false};
 ghost use Rattle.nl_blocks.specs.Table.{HasBlock, after_erase, block_at, free_count, in_state, is_retired_state, names_of, with_block, with_page};
 ghost use Rattle.nl_pseg.specs.Seen.{use_in};
-ghost use Rattle.nl_pseg.specs.Steps.{IsMarked, IsTold, Restated, SameMarks, SameNumbers, SameUse, told_state};
+ghost use Rattle.nl_pseg.specs.Steps.{IsMarked, IsPut, IsTold, Restated, SameMarks, SameNumbers, SameUse, aside_state, told_state};
 
 use nl_blocks::{BlockState, Blocks, PageState};
 
@@ -156,5 +156,19 @@ pub fn tell(blocks: &mut Blocks, block: u32, wear: u32)
         BlockState::Free => give_back(blocks, block, wear.saturating_add(1)),
         BlockState::Retired(names) => wait_with(blocks, block, wear.saturating_add(1), names),
         _ => shut(blocks, block, wear),
+    }
+}
+
+/// The block waits for one old name more, where it is Free or waits. Another one that is in use takes no more pages.
+pub fn set_aside(blocks: &mut Blocks, block: u32)
+    requires has { HasBlock blocks.old block }
+    requires few { names_of (block_at blocks.old block).state + 1 < 2 ^ 32 }
+    ensures { IsPut block (aside_state (block_at blocks.old block).state) blocks.old blocks.new }
+{
+    match blocks.state(block) {
+        BlockState::Free => blocks.freed(block, 1),
+        BlockState::Retired(names) => blocks.freed(block, names + 1),
+        BlockState::Active | BlockState::Target => blocks.seal(block),
+        BlockState::Sealed | BlockState::Victim => {}
     }
 }

@@ -51,7 +51,8 @@ fn owner(index: u32) -> Tag {
 
 /// A blank medium with a new segment.
 fn fresh(alloc: Global, reads: FailList, writes: FailList) -> Result<Rig, Fail>
-    ensures { IfOk result (λ rig. (page : ℕ) → held_at rig.seg page ≡ None) }
+    ensures none { IfOk result (λ rig. (page : ℕ) → held_at rig.seg page ≡ None) }
+    ensures victim { IfOk result (λ rig. rig.seg.victim ≡ None) }
 {
     let Some(shape) = shape_of(32, 32) else {
         return Err(Fail::from("no shape"));
@@ -132,7 +133,8 @@ impl Rig {
 
     /// Whether a program fails. Then what is live stays.
     fn write_fails(&mut self) -> bool
-        ensures { IsTrue result → self.new.seg.held ≡ self.old.seg.held }
+        ensures live { IsTrue result → self.new.seg.held ≡ self.old.seg.held }
+        ensures victim { self.new.seg.victim ≡ self.old.seg.victim }
     {
         matches!(
             self.seg
@@ -142,13 +144,16 @@ impl Rig {
     }
 
     fn give_back(&mut self)
-        requires { (page : ℕ) → held_at self.old.seg page ≡ None }
+        requires none { (page : ℕ) → held_at self.old.seg page ≡ None }
+        requires no_victim { self.old.seg.victim ≡ None }
     {
         self.seg.give_back();
     }
 
     /// Tells of each block that it was never erased, and does not read as erased.
-    fn soil(&mut self) {
+    fn soil(&mut self)
+        requires { self.old.seg.victim ≡ None }
+    {
         for block in 8..32 {
             self.seg.soiled(block, 0);
         }

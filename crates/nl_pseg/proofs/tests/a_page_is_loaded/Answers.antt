@@ -11,4 +11,4 @@ new-requires-clause-numbers g c = (least c.in-Some.shape c.in-Some.ensures.numbe
 pub load-requires-clause-dead : goal.load-requires-clause-dead
 load-requires-clause-dead g c =
     let e = c.in_ok-seg.ensures in
-    new_dead c.in-Some.shape c.in_ok-seg.seg 300 (least c.in-Some.shape c.in-Some.ensures.numbers) e.live e.first e.blocks e.pages (omega arith) (omega arith)
+    new_dead c.in-Some.shape c.in_ok-seg.seg 300 (least c.in-Some.shape c.in-Some.ensures.numbers) e.live e.first e.blocks e.pages e.pairs e.victim (omega arith) (omega arith)
