@@ -9,7 +9,7 @@ use Rattle.std.proofs.lemmas.List.Folds.{list_any-append}
 use Rattle.std.proofs.lemmas.Option.{get_or_from_slice_get, none-some, same_Some, slice_get_within}
 use Rattle.nl_field.specs.Space.{is_outside}
 use Rattle.nl_field.specs.declared.pointer.Pointer.{Pointer}
-use Rattle.nl_pseg.specs.Segment.{InSegment, Physical, held_at, is_free}
+use Rattle.nl_pseg.specs.Segment.{InSegment, Physical, held_at, is_free, is_kept}
 use Rattle.nl_pseg.specs.declared.held.Held.{Held}
 use Rattle.nl_device.specs.Kept.{IsKept, KeptPages, is_at_name, spare_among}
 use Rattle.nl_device.specs.Retain.{AreRetained, CanLoad, CanRetain, IsFoundIn, IsFresh, IsSegmentFor, Loads, Retains, held_for, is_needed, is_taken, lies_in, needed_blocks, place_for, spare_for}
@@ -86,7 +86,7 @@ retains_none kept pointers seg same fresh = record {
   no_pairs = fresh.no_pairs;
   busy = λ block from below. fresh.each block (omega (arith, from, same.first)) (omega (arith, below, same.blocks));
   counted = omega (arith, fresh.count, same.first, same.blocks, count_none (is_taken kept (take 0 pointers)) kept.first kept.count (λ block. refl));
-  free_before = λ block free. free;
+  kept_before = λ block kept. kept;
   same_soiled = λ block. refl;
   left = omega arith;
   erased = λ q taken. taken;
@@ -182,7 +182,10 @@ retains_more kept copies pointers at p old seg new is can fresh first retains he
           let low : kept.first ≤ p.name / kept.size = subst (λ n. kept.first ≤ n / kept.size) t.page t.of.from_first in
           let high : p.name / kept.size < kept.first + kept.count = subst (λ n. n / kept.size < kept.first + kept.count) t.page t.of.to_last in
           count_more kept pointers at p seg new here size loads low high (retains.busy (p.name / kept.size) low high) retains.counted;
-      free_before = λ b free. retains.free_before b (still b free);
+      kept_before = λ b is_kept_now. retains.kept_before b (⊎_elim
+          (λ same. absurd (true≢false (sym is_kept_now ∙ (ap (is_kept new) (same ∙ ap (λ n. p.name / n) (sym loads.same_size)) ∙ loads.whole.pages.in_use p.name h here_now))))
+          (λ other. sym (loads.others_kept b other) ∙ is_kept_now)
+          (cases_eq b (p.name / seg.size)));
       same_soiled = λ b. loads.same_soiled b ∙ retains.same_soiled b;
       left = omega (arith, loads.left, retains.left);
       erased = λ q taken. retains.erased q (loads.erased q taken);
@@ -193,13 +196,6 @@ retains_more kept copies pointers at p old seg new is can fresh first retains he
       kept_block = λ k some. loads.kept_block some;
       kept_dead = λ dead. loads.kept_dead;
     }
-  where
-    still : (b : ℕ) → is_free new b ≡ true → is_free seg b ≡ true
-    still b free =
-        ⊎_elim
-        (λ same. absurd (true≢false (sym free ∙ ap (λ k. is_free new k) same ∙ loads.here)))
-        (λ other. sym (loads.others b other) ∙ free)
-        (cases_eq b (p.name / seg.size))
 
 pub are_retained : (kept : KeptPages) (copies : BTreeMap ℕ Copies) (pointers : List Pointer) (at : ℕ) (old seg : Physical) → IsKept kept copies → CanRetain kept pointers → Retains kept pointers at old seg → length pointers ≤ at
     → AreRetained kept pointers seg

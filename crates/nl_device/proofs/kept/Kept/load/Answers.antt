@@ -57,6 +57,7 @@ returns c =
       here = subst (λ n. is_free new (n / old.size) ≡ false) e l.here;
       free = omega (arith, own);
       others = λ block other. (l.others block (λ same. other (same ∙ ap (λ n. n / old.size) e))).1 other;
+      others_kept = λ block other. (l.others block (λ same. other (same ∙ ap (λ n. n / old.size) e))).0;
       same_soiled = l.soiled;
       left = l.left;
       erased = λ q taken. (l.erased q taken).0;
