@@ -9,18 +9,9 @@ use Rattle.nl_iface.specs.declared.Callback.{Callback}
 use Rattle.nl_iface.specs.Moves.{Acknowledges}
 use Rattle.nl_iface.specs.Space.{NamesGone}
 use Rattle.nl_pseg.specs.Segment.{Physical}
-use Rattle.nl_device.specs.Callbacks.{IsUnhandled, callbacks_of, handled_in, names_with}
+use Rattle.nl_device.specs.Callbacks.{IsUnhandled, callbacks_of, handled_in}
+use Rattle.nl_device.specs.State.{at_has, has_at}
 use Rattle.nl_device.specs.Space.{space_of}
-
-pub has_at : (es : List Entry) (i : ℕ) → i < length es → Has (callbacks_of es) (entry_at es i).callback
-has_at [] i lt = absurd (omega (arith, lt))
-has_at (e ∷ es) zero lt = inl refl
-has_at (e ∷ es) (suc i) lt = inr (has_at es i (omega (arith, lt)))
-
-pub at_has : (es : List Entry) (c : Callback) → Has (callbacks_of es) c → (i : ℕ) × (i < length es) × ((entry_at es i).callback ≡ c)
-at_has [] c h = absurd h
-at_has (e ∷ es) c (inl is) = (zero, omega arith, is)
-at_has (e ∷ es) c (inr h) = let r = at_has es c h in let lt = r.1 in (suc r.0, omega (arith, lt), r.2)
 
 -- the callback of a number
 pub called_some : (es : List Entry) (number : ℕ) (o : Option Callback) → IfSome o (HasCallback es) → IfSome o (λ c. c.number ≡ number) → IfSome o (λ c. Has (callbacks_of es) c × (c.number ≡ number))
@@ -62,25 +53,6 @@ pub least_none : (es : List Entry) (posted : ℕ) (o : Option ℕ) → IsTable e
 least_none es posted None table w = λ n u. w n (waiting_of es posted n table u)
 least_none es posted (Some n) table w = tt
 
--- where none is pending, none leads to a page
-pub none_beside : (pairs : List (ℕ × ℕ)) (es : List Entry) (p : ℕ) → es ≡ [] → callbacks_of es ≡ callbacks_beside pairs (callbacks_of es) p
-none_beside pairs es p none = subst (λ (l : List Entry). callbacks_of l ≡ callbacks_beside pairs (callbacks_of l) p) (sym none) refl
-
+-- where none is pending
 pub no_callback : (es : List Entry) (c : Callback) → es ≡ [] → Has (callbacks_of es) c → ⊥
 no_callback es c none has = subst (λ (l : List Entry). Has (callbacks_of l) c) none has
-
-pub none_pending : (es : List Entry) (number : ℕ) → es ≡ [] → IsPending es number → ⊥
-none_pending es number none p = let lt = p.1 in let e = ap (λ (l : List Entry). length l) none in omega (arith, lt, e)
-
--- where none is pending, an acknowledgement changes nothing
-pub none_acknowledged : (pseg : Physical) (table : PendingTable) (upto : ℕ) → table.callbacks ≡ [] → NamesGone (space_of pseg) (space_of pseg) → Acknowledges upto (names_with pseg table) (names_with pseg table)
-none_acknowledged pseg table upto none space = record {
-  live = λ q. refl;
-  gone = λ c has over. absurd (no_callback table.callbacks c none has);
-  ways = λ n off. refl;
-  only = λ c has. absurd (no_callback table.callbacks c none has);
-  kept = λ c has off. has;
-  handled = λ c has. refl;
-  posted = refl;
-  space = space;
-}

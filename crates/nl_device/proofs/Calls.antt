@@ -12,13 +12,15 @@ use Rattle.nl_iface.specs.Left.{HoldsLive}
 use Rattle.nl_iface.specs.Names.{has_stamp, leads}
 use Rattle.nl_iface.specs.Stored.{NamedPage, Stored, stored_in}
 use Rattle.nl_device.specs.Shown.{bytes_at, found_in, live_page, names_of}
-use Rattle.nl_pseg.specs.Segment.{InSegment, IsLive, IsPhysicalOf, KeepsBlock, KeptAreDead, Physical, SamePages, held_at, stamp_in, without_target}
+use Rattle.nl_pseg.specs.Segment.{HasSpare, InSegment, IsLive, IsPhysicalOf, Physical, SamePages, held_at, stamp_in}
 use Rattle.nl_pseg.specs.declared.held.Held.{Held}
 use Rattle.nl_vseg.specs.Segment.{Segment}
 use Rattle.nl_device.specs.Kept.{KeptPages, forgotten}
-use Rattle.nl_device.specs.Device.{HasFound, HasFree, HasLive, HasSegments, HasSpareBlock, IsDevice, IsOnMedium}
+use Rattle.nl_device.specs.Device.{HasFound, HasLive, HasSegments, HasSpareBlock, IsDevice, IsOnMedium}
 use Rattle.nl_device.proofs.Forms.{begins}
 use Rattle.nl_device.proofs.Laws.{names_are}
+use Rattle.nl_device.specs.Callbacks.{AreCalled}
+use Rattle.nl_device.proofs.Leaving.{NamesHold}
 use Rattle.nl_device.proofs.Made.{made_medium}
 use Rattle.nl_device.proofs.Naming.{map_same, shows_same, shows_still, virtual_kept}
 use Rattle.nl_device.proofs.Spacing.{space_is}
@@ -73,17 +75,15 @@ pub found_beyond : (kept : KeptPages) (shape : Shape) (old new : Image) → ((p 
     → HoldsLive (found_in kept) (λ p. bytes_at (shape.vblocks * shape.pages) old p) (stored_in old) → HoldsLive (found_in kept) (λ p. bytes_at (shape.vblocks * shape.pages) new p) (stored_in new)
 found_beyond kept shape old new named bytes holds p page is = named p ∙ holds p page is ∙ (λ i. Some (record { tag = page.tag; stamp = page.stamp; bytes = sym (bytes p) i }))
 
-pub device_with : {geometry now : Geometry} {tells : Type 0} {image c : Image} {shape : Shape} {vseg : Segment} {old new : Physical} {pending : PendingTable} {kept left : KeptPages} {next after : ℕ} → IsDevice geometry tells image shape vseg old pending kept next
-    → HasFound shape left after → (tells → HoldsLive (found_in left) (λ p. bytes_at (shape.vblocks * shape.pages) c p) (stored_in c)) → now ≡ geometry → SamePages old new → length new.held ≡ length old.held → HasLive new → HasFree new → HasSpareBlock new → new.pairs ≡ old.pairs → next ≤ after → ((p : ℕ) (h : Held) → held_at new p ≡ Some h → h.stamp < after)
-    → (tells → IsOnMedium shape after c vseg new) → IsDevice now tells c shape vseg new pending left after
-device_with f found stored is same held live free spare pairs rises stamps medium = record {
+pub device_with : {geometry now : Geometry} {tells : Type 0} {image c : Image} {shape : Shape} {vseg : Segment} {old new : Physical} {pending now_pending : PendingTable} {kept left : KeptPages} {next after : ℕ} → IsDevice geometry tells image shape vseg old pending kept next
+    → HasFound shape left after → (tells → HoldsLive (found_in left) (λ p. bytes_at (shape.vblocks * shape.pages) c p) (stored_in c)) → now ≡ geometry → SamePages old new → length new.held ≡ length old.held → HasLive new → HasSpareBlock new → AreCalled new now_pending → next ≤ after → ((p : ℕ) (h : Held) → held_at new p ≡ Some h → h.stamp < after)
+    → (tells → IsOnMedium shape after c vseg new) → IsDevice now tells c shape vseg new now_pending left after
+device_with f found stored is same held live spare called rises stamps medium = record {
   segments = named_segments f.segments is same held;
   mapped = f.mapped;
   live = live;
-  free = free;
   spare = spare;
-  no_pairs = pairs ∙ f.no_pairs;
-  no_callbacks = f.no_callbacks;
+  called = called;
   stamp = record {
     some = let s = f.stamp.some in omega (arith, s, rises);
     addresses = λ v t has. let lt = f.stamp.addresses v t has in omega (arith, lt, rises);
@@ -93,22 +93,22 @@ device_with f found stored is same held live free spare pairs rises stamps mediu
   found_stored = stored;
   legal = f.legal;
   unwritten = f.unwritten;
-  names = names_are (named_segments f.segments is same held) _ live (space_is _ free spare.whole) stamps;
+  names = names_are (named_segments f.segments is same held) _ live (space_is _ spare) stamps;
   medium = medium;
 }
 
 -- the medium, where the pages of the virtual segment are as before
 pub medium_with : {geometry now : Geometry} {image c : Image} {shape : Shape} {vseg : Segment} {old new : Physical} {pending : PendingTable} {kept : KeptPages} {next after : ℕ} {tells : Type 0} → IsDevice geometry tells image shape vseg old pending kept next → tells
-    → now ≡ geometry → SamePages old new → length new.held ≡ length old.held → ImageOf now c → HasLive new → ((p : ℕ) → p < old.first * old.size → page_at c p ≡ page_at image p) → IsPhysicalOf c new → next ≤ after → new.pairs ≡ old.pairs → HasSpareBlock new
+    → now ≡ geometry → SamePages old new → length new.held ≡ length old.held → ImageOf now c → HasLive new → ((p : ℕ) → p < old.first * old.size → page_at c p ≡ page_at image p) → IsPhysicalOf c new → next ≤ after → HasSpareBlock new → HasSpare c new → NamesHold shape (names_of new) (stored_in c)
     → ((p : ℕ) (page : NamedPage) → (stored_in c).named p ≡ Some page → page.stamp + 1 ≤ after) → IsOnMedium shape after c vseg new
-medium_with {geometry} {now} {image} {c} {shape} {vseg} {old} {new} {pending} {kept} {next} {after} f t is same held fits live low physical rises pairs spare named =
+medium_with {geometry} {now} {image} {c} {shape} {vseg} {old} {new} {pending} {kept} {next} {after} f t is same held fits live low physical rises spare on names named =
     let below : (p : ℕ) → p < shape.vblocks * shape.pages → page_at c p ≡ page_at image p = λ p lt. low p (subst (λ n. p < n) (sym (begins f.segments)) lt) in
     let under : (p : ℕ) → p < vseg.bound → page_at c p ≡ page_at image p = λ p lt. below p (subst (λ n. p < n) f.segments.virtual_bound lt) in
     made_medium (named_segments f.segments is same held) fits live
     (virtual_kept image c vseg f.mapped under (f.medium t).virtual_is) physical
     (λ v s main has. shows_still (shape.vblocks * shape.pages) image c below v s main ((f.medium t).there v s main (sym (map_same image c vseg f.mapped under v) ∙ has)))
     (λ v s main shows. let lt = (f.medium t).below v s main (shows_same (shape.vblocks * shape.pages) image c below v s main shows) in omega (arith, lt, rises))
-    named (pairs ∙ f.no_pairs) spare
+    named spare on names
 
 -- what is held where a pointer leads
 pub held_from : (o : Option Held) (s : ℕ) → stamp_in o ≡ Some s → (h : Held) × (o ≡ Some h) × (h.stamp ≡ s)
@@ -118,10 +118,6 @@ held_from (Some h) s is = (h, refl, same_Some h.stamp s is)
 -- pages of the segment are below the end of the medium
 pub in_within : {geometry : Geometry} {shape : Shape} {vseg : Segment} {pseg : Physical} → HasSegments geometry shape vseg pseg → (p : ℕ) → InSegment pseg p → p < length pseg.held
 in_within has p is = subst (λ n. p < n) ((λ i. has.physical_blocks i * has.physical_pages i) ∙ sym has.physical_held) is.1
-
--- without a pair none leads to a page
-pub no_pair : (pairs : List (ℕ × ℕ)) (place : ℕ) → pairs ≡ [] → without_target place pairs ≡ pairs
-no_pair pairs place none = ap (without_target place) none ∙ sym none
 
 leads_from : (o : Option Held) (s : ℕ) → has_stamp (live_page o) s ≡ true → stamp_in o ≡ Some s
 leads_from None s is = absurd (false≢true is)
@@ -140,3 +136,21 @@ is_leads seg at is = leads_to (held_at seg (resolve seg.pairs at.name)) at.stamp
 
 pub live_or : (seg : Physical) (at : Pointer) → IsLive seg at ⊎ (IsLive seg at → ⊥)
 live_or seg at = ⊎_elim (λ is. inl (leads_is seg at is)) (λ fails. inr (λ is. false≢true (sym fails ∙ is_leads seg at is))) (cases_Bool (leads (names_of seg) at))
+
+-- the device with other callbacks
+pub device_called : {geometry : Geometry} {tells : Type 0} {image : Image} {shape : Shape} {vseg : Segment} {pseg : Physical} {pending now_pending : PendingTable} {kept : KeptPages} {next : ℕ} → IsDevice geometry tells image shape vseg pseg pending kept next → AreCalled pseg now_pending
+    → IsDevice geometry tells image shape vseg pseg now_pending kept next
+device_called f called = record {
+  segments = f.segments;
+  mapped = f.mapped;
+  live = f.live;
+  spare = f.spare;
+  called = called;
+  stamp = f.stamp;
+  found = f.found;
+  found_stored = f.found_stored;
+  legal = f.legal;
+  unwritten = f.unwritten;
+  names = f.names;
+  medium = f.medium;
+}

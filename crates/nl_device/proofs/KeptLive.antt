@@ -10,7 +10,7 @@ use Rattle.nl_iface.specs.Names.{Has, LivePage}
 use Rattle.nl_pseg.specs.Segment.{Physical, held_at}
 use Rattle.nl_pseg.specs.declared.held.Held.{Held}
 use Rattle.nl_device.specs.Kept.{KeptPages, has_stamp, is_at_name}
-use Rattle.nl_device.specs.Laws.{held_of}
+use Rattle.nl_device.specs.State.{held_of}
 use Rattle.nl_device.specs.Retain.{AreRetained, CanRetain, IsFoundIn, held_for, place_for, retained_at, spare_for}
 use Rattle.nl_device.specs.Shown.{found_by_number, found_on, live_page, names_of}
 use Rattle.nl_device.specs.Space.{space_of}

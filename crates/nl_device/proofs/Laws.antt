@@ -18,7 +18,7 @@ use Rattle.nl_pseg.specs.declared.held.Held.{Held}
 use Rattle.nl_vseg.specs.Places.{stamp_for, stamp_in_place}
 use Rattle.nl_vseg.specs.Segment.{Segment}
 use Rattle.nl_device.specs.Device.{HasLive, HasSegments, HasSpareBlock}
-use Rattle.nl_device.specs.Laws.{held_of}
+use Rattle.nl_device.specs.State.{held_of}
 use Rattle.nl_device.specs.Shown.{live_page, names_of}
 use Rattle.nl_device.specs.Space.{live_in, space_of}
 use Rattle.nl_device.proofs.Counted.{live_counts}
@@ -89,27 +89,3 @@ module _ {geometry : Geometry} {shape : Shape} {vseg : Segment} {pseg : Physical
   -- no address beyond the last has a stamp
   pub no_stamp_beyond : (v : ℕ) → shape.vaddrs ≤ v → stamp_for vseg.places v ≡ None
   no_stamp_beyond v past = ap stamp_in_place (get_or_past vseg.places v None (let e = segments.addresses in omega (arith, e, past)))
-
-  -- The spare block of the segment can be done without, where the place of each live page holds it.
-  pub leaves_pages : pseg.pairs ≡ [] → HasSpareBlock pseg → (bytes : ℕ → List ℕ) (c : Stored) → HoldsLive (names_of pseg).live bytes c → LeavesPages shape (names_of pseg) bytes c
-  leaves_pages none spare bytes c holds = record {
-    spare = spare.block.block;
-    from = subst (λ n. n ≤ spare.block.block) segments.physical_first spare.block.from;
-    below = subst (λ n. spare.block.block < n) (segments.physical_blocks ∙ sym segments.split) spare.block.below;
-    held = λ p page live. (p, away p page live, holds p page live);
-    own = λ name page live. inr (there name page live);
-    stale = [];
-    few = omega arith;
-    at_names = λ name page live. inl (there name page live);
-  }
-    where
-      away : (p : ℕ) (page : LivePage) → (names_of pseg).live p ≡ Some page → p / shape.pages ≡ spare.block.block → ⊥
-      away p page live at =
-          let h = held_of (held_at pseg p) page live in
-          let kept : is_kept pseg spare.block.block ≡ true = ⊎_elim (λ is. is) (λ hand. absurd (none-some spare.block.block (sym spare.none_in_hand ∙ hand))) spare.block.kept in
-          true≢false (sym kept ∙ (ap (is_kept pseg) (sym at ∙ ap (λ n. p / n) (sym segments.physical_pages)) ∙ spare.dead p h.0 h.1))
-
-      there : (name : ℕ) (page : LivePage) → (names_of pseg).live (led (names_of pseg) name) ≡ Some page → HoldsStamp c name page.stamp
-      there name page live =
-          let at : (names_of pseg).live name ≡ Some page = ap (λ ps. (names_of pseg).live (resolve ps name)) (sym none) ∙ live in
-          (record { tag = page.tag; stamp = page.stamp; bytes = bytes name }, holds name page at, refl)

@@ -105,7 +105,6 @@ live_kept old new live same blank is = record {
     split : (p : ℕ) (h : Held) → held_at new p ≡ Some h → held_at old p ≡ Some h
     split p h has = ap (λ (l : List (Option Held)). get_or l p None) (sym is) ∙ has
 
--- what is taken as erased, where no page was given out
 -- where there is no pair no block waits for names
 pub none_wait : (seg : Physical) → IsWhole seg → seg.pairs ≡ [] → waiting seg ≡ 0
 none_wait seg whole none = let few = whole.numbers.few_wait in let e = ap (λ (l : List (ℕ × ℕ)). length l) none in omega (arith, few, e)
@@ -113,15 +112,6 @@ none_wait seg whole none = let few = whole.numbers.few_wait in let e = ap (λ (l
 -- and no name is an old one
 pub no_old : (pairs : List (ℕ × ℕ)) (name : ℕ) → pairs ≡ [] → (target : ℕ) × Contains pairs (name, target) → ⊥
 no_old pairs name none = subst (λ (l : List (ℕ × ℕ)). (target : ℕ) × Contains l (name, target) → ⊥) (sym none) (λ old. let lt = old.1.1 in absurd (omega (arith, lt)))
-
-pub unspent_blank : (old new : Physical) → SamePages old new → IsUnspent old new → (p : ℕ) → TakenAsErased new p → TakenAsErased old p
-unspent_blank old new same is p taken = ⊎_elim
-    (λ next. let n = is.next in let l = is.left in inl (omega (arith, next.0, n), omega (arith, next.1, n, l)))
-    (λ free.
-    let at : is_kept old (p / old.size) ≡ true = sym (is.same_kept (p / old.size)) ∙ (ap (λ n. is_kept new (p / n)) (sym same.same_size) ∙ free.0) in
-    let un : is_some (soiled old (p / old.size)) ≡ false = ap is_some (sym (is.same_soiled (p / old.size))) ∙ (ap (λ n. is_some (soiled new (p / n))) (sym same.same_size) ∙ free.1) in
-    inr (at, un))
-    taken
 
 -- what is held after a new page in place of another one
 pub swap_held : (held : List (Option Held)) (name place : ℕ) (x : Held) (q : ℕ) (h : Held) → name < length held → place < length held → get_or (set (set held name (Some x)) place None) q None ≡ Some h
@@ -153,3 +143,36 @@ swap_below old new name place next after tag below within is under one p h has =
 
 pub same_below_still : (old new : Physical) (next after : ℕ) → new.held ≡ old.held → ((p : ℕ) (h : Held) → held_at old p ≡ Some h → h.stamp < next) → next ≤ after → (p : ℕ) (h : Held) → held_at new p ≡ Some h → h.stamp < after
 same_below_still old new next after is under rises p h has = let lt = under p h (ap (λ (l : List (Option Held)). get_or l p None) (sym is) ∙ has) in omega (arith, lt, rises)
+
+-- the pages that were live are, and one more
+pub more_keeps : (old new : Physical) (name : ℕ) (x : Held) → held_at old name ≡ None → new.held ≡ set old.held name (Some x) → (p : ℕ) (h : Held) → held_at old p ≡ Some h → held_at new p ≡ Some h
+more_keeps old new name x dead is p h has =
+    ap (λ (l : List (Option Held)). get_or l p None) is
+    ∙ (get_or-set_other old.held name p (Some x) None (λ same. none-some h (sym dead ∙ (ap (held_at old) (sym same) ∙ has))) ∙ has)
+
+pub more_less : (old new : Physical) (name : ℕ) (x : Held) → name < length old.held → new.held ≡ set old.held name (Some x) → (p : ℕ) (h : Held) → held_at new p ≡ Some h → (held_at old p ≡ Some h) ⊎ (p ≡ name)
+more_less old new name x below is p h has = ⊎_elim (λ here. inr here.0) (λ was. inl was.1) (set_held old.held name x p h below (ap (λ (l : List (Option Held)). get_or l p None) (sym is) ∙ has))
+
+-- and another one less
+pub swap_keeps : (old new : Physical) (name place : ℕ) (x : Held) → held_at old name ≡ None → new.held ≡ set (set old.held name (Some x)) place None → (p : ℕ) (h : Held) → (p ≡ place → ⊥) → held_at old p ≡ Some h → held_at new p ≡ Some h
+swap_keeps old new name place x dead is p h far has =
+    ap (λ (l : List (Option Held)). get_or l p None) is
+    ∙ (get_or-set_other (set old.held name (Some x)) place p None None far
+    ∙ (get_or-set_other old.held name p (Some x) None (λ same. none-some h (sym dead ∙ (ap (held_at old) (sym same) ∙ has))) ∙ has))
+
+pub swap_less : (old new : Physical) (name place : ℕ) (x : Held) → name < length old.held → place < length old.held → new.held ≡ set (set old.held name (Some x)) place None → (p : ℕ) (h : Held) → held_at new p ≡ Some h → (held_at old p ≡ Some h) ⊎ (p ≡ name)
+swap_less old new name place x below within is p h has = ⊎_elim (λ here. inr here.0) (λ was. inl was.1) (swap_held old.held name place x p h below within (ap (λ (l : List (Option Held)). get_or l p None) (sym is) ∙ has))
+
+-- one less
+pub less_keeps : (old new : Physical) (place : ℕ) → new.held ≡ set old.held place None → (p : ℕ) (h : Held) → (p ≡ place → ⊥) → held_at old p ≡ Some h → held_at new p ≡ Some h
+less_keeps old new place is p h far has = ap (λ (l : List (Option Held)). get_or l p None) is ∙ (get_or-set_other old.held place p None None far ∙ has)
+
+pub less_before : (old new : Physical) (place : ℕ) → place < length old.held → new.held ≡ set old.held place None → (p : ℕ) (h : Held) → held_at new p ≡ Some h → held_at old p ≡ Some h
+less_before old new place below is p h has = (clear_held old.held place p h below (ap (λ (l : List (Option Held)). get_or l p None) (sym is) ∙ has)).1
+
+-- the same pages
+pub same_before : (old new : Physical) → new.held ≡ old.held → (p : ℕ) (h : Held) → held_at new p ≡ Some h → held_at old p ≡ Some h
+same_before old new is p h has = ap (λ (l : List (Option Held)). get_or l p None) (sym is) ∙ has
+
+pub same_keeps : (old new : Physical) → new.held ≡ old.held → (p : ℕ) (h : Held) → held_at old p ≡ Some h → held_at new p ≡ Some h
+same_keeps old new is p h has = ap (λ (l : List (Option Held)). get_or l p None) is ∙ has

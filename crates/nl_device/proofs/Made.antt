@@ -8,15 +8,15 @@ use Rattle.nl_nand.specs.declared.geometry.Geometry.{Geometry}
 use Rattle.nl_iface.specs.Left.{HoldsLive}
 use Rattle.nl_iface.specs.Stored.{NamedPage, stored_in}
 use Rattle.nl_pseg.specs.Pages.{main_of}
-use Rattle.nl_pseg.specs.Segment.{IsPhysicalOf, Physical, held_at}
+use Rattle.nl_pseg.specs.Segment.{HasSpare, IsPhysicalOf, Physical, held_at}
 use Rattle.nl_vseg.specs.Pages.{Shows}
 use Rattle.nl_vseg.specs.Places.{map_of}
 use Rattle.nl_vseg.specs.Segment.{IsSegmentOf, Segment}
 use Rattle.nl_device.specs.Device.{HasLive, HasSegments, HasSpareBlock, IsOnMedium}
-use Rattle.nl_device.specs.Laws.{held_of}
+use Rattle.nl_device.specs.State.{held_of}
 use Rattle.nl_device.specs.Shown.{IsStray, bytes_at, names_of}
 use Rattle.nl_device.proofs.Forms.{begins, beyond_in, named_from, shape_is, stores_map}
-use Rattle.nl_device.proofs.Laws.{leaves_pages}
+use Rattle.nl_device.proofs.Leaving.{NamesHold, leaves_pages}
 use Rattle.nl_device.proofs.PhysicalPages.{named_of}
 use Rattle.nl_device.proofs.Writes.{each_or}
 
@@ -35,8 +35,8 @@ live_held {geometry} {shape} {vseg} {pseg} {image} segments fit live is p page h
 pub made_medium : {geometry : Geometry} {shape : Shape} {vseg : Segment} {pseg : Physical} {image : Image} {next : ℕ} → HasSegments geometry shape vseg pseg → ImageOf geometry image → HasLive pseg
     → IsSegmentOf image vseg → IsPhysicalOf image pseg
     → ((v s : ℕ) (main : List ℕ) → map_of vseg.places image v ≡ Some (s, main) → Shows (shape.vblocks * shape.pages) image v s main)
-    → ((v t : ℕ) (n : List ℕ) → Shows (shape.vblocks * shape.pages) image v t n → t < next) → ((p : ℕ) (page : NamedPage) → (stored_in image).named p ≡ Some page → page.stamp + 1 ≤ next) → pseg.pairs ≡ [] → HasSpareBlock pseg → IsOnMedium shape next image vseg pseg
-made_medium {geometry} {shape} {vseg} {pseg} {image} {next} segments fit live virtual_is physical_is there below named none spare = record {
+    → ((v t : ℕ) (n : List ℕ) → Shows (shape.vblocks * shape.pages) image v t n → t < next) → ((p : ℕ) (page : NamedPage) → (stored_in image).named p ≡ Some page → page.stamp + 1 ≤ next) → HasSpareBlock pseg → HasSpare image pseg → NamesHold shape (names_of pseg) (stored_in image) → IsOnMedium shape next image vseg pseg
+made_medium {geometry} {shape} {vseg} {pseg} {image} {next} segments fit live virtual_is physical_is there below named spare on names = record {
   virtual_is = virtual_is;
   physical_is = physical_is;
   there = there;
@@ -45,6 +45,7 @@ made_medium {geometry} {shape} {vseg} {pseg} {image} {next} segments fit live vi
       there (each_or (shape.vblocks * shape.pages) image (λ u. map_of vseg.places image u));
   holds = live_held segments fit live physical_is;
   beyond = beyond_in shape image (shape_is segments fit);
-  pages = leaves_pages segments none spare (λ p. bytes_at (shape.vblocks * shape.pages) image p) (stored_in image) (live_held segments fit live physical_is);
+  pages = leaves_pages segments fit live spare on (λ p. bytes_at (shape.vblocks * shape.pages) image p) (live_held segments fit live physical_is) names;
+  spare = on;
   named_below = named;
 }

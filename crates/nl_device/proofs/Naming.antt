@@ -1,5 +1,6 @@
 -- What a write under a new name leaves of the medium.
 use Rattle.std.proofs.Common.{◌≡◌, ◌⊎◌, inl, inr, ⊎_elim, ℕ, ◌+◌, ◌*◌, ◌/◌, ◌<◌, ◌≤◌, nat_lt, cond, List, [], Option, Some, None, refl, sym, ◌∙◌, ap, subst, arith}
+use Rattle.std.specs.Prelude.{Contains}
 use Rattle.std.proofs.lemmas.Bool.{cases_lt, cases_eq}
 use Rattle.std.proofs.lemmas.Option.{none-some, same_Some}
 use Rattle.nl_field.specs.Page.{Image, Page, erased, written, page_at}
@@ -13,7 +14,8 @@ use Rattle.nl_iface.specs.Names.{IsNew}
 use Rattle.nl_iface.specs.Stored.{NamedPage, Value, stored_in, Stored}
 use Rattle.nl_pseg.specs.Effects.{Keeps, Places, Programmed, Takes}
 use Rattle.nl_pseg.specs.Pages.{IsUnreadable, main_of, page_with, shown_by}
-use Rattle.nl_pseg.specs.Segment.{IsDead, IsPhysicalOf, Physical, held_at, wear_of}
+use Rattle.nl_pseg.specs.Segment.{HasSpare, IsDead, IsPhysicalOf, Physical, held_at, wear_of}
+use Rattle.nl_pseg.specs.Space.{IsWhole}
 use Rattle.nl_pseg.specs.declared.held.Held.{Held}
 use Rattle.nl_vseg.specs.Maps.{Dominated}
 use Rattle.nl_vseg.specs.Pages.{Shows, fact_of}
@@ -22,8 +24,10 @@ use Rattle.nl_vseg.specs.Places.{map_of, place_of, value_at}
 use Rattle.nl_vseg.specs.Segment.{IsSegmentOf, Segment}
 use Rattle.nl_vseg.specs.declared.place.Place.{Place}
 use Rattle.nl_device.specs.Device.{HasLive, HasMapped, HasSegments, HasSpareBlock}
-use Rattle.nl_device.specs.Laws.{held_of, leaves_as}
-use Rattle.nl_device.proofs.Laws.{leaves_pages}
+use Rattle.nl_device.specs.Laws.{leaves_as}
+use Rattle.nl_device.specs.State.{held_of}
+use Rattle.nl_device.specs.State.{to_itself}
+use Rattle.nl_device.proofs.Leaving.{NamesHold, leaves_pages, led_before, named_either, names_still, spare_either}
 use Rattle.nl_device.specs.Shown.{IsStray, bytes_at, live_page, names_of}
 use Rattle.nl_device.proofs.Forms.{as_firm, begins, named_below, named_from, same_below, same_form, shape_is}
 use Rattle.nl_device.proofs.Made.{live_held}
@@ -128,12 +132,12 @@ module _ (geometry : Geometry) (shape : Shape) (vseg : Segment) (seg : Physical)
   dead_live : (p : ℕ) → IsDead seg p → (names_of seg).live p ≡ None
   dead_live p dead = ap live_page dead.dead
 
-  is_new_page : seg.pairs ≡ [] → (page : ℕ) → IsDead seg page → IsNew shape (names_of seg) page
-  is_new_page none page dead = record {
+  is_new_page : (page : ℕ) → IsDead seg page → IsNew shape (names_of seg) page
+  is_new_page page dead = record {
     low = subst (λ n. n ≤ page) first_is dead.within.0;
     high = subst (λ n. page < n) (λ i. segments.physical_blocks i * segments.physical_pages i) dead.within.1;
     dead = dead_live page dead;
-    own = ap (λ ps. resolve ps page) none;
+    own = to_itself seg.pairs page dead.own;
   }
 
   -- the page that was programmed holds what it shows
@@ -143,37 +147,38 @@ module _ (geometry : Geometry) (shape : Shape) (vseg : Segment) (seg : Physical)
       named_from shape c (shape_is segments c_fits) page (subst (λ n. n ≤ page) first_is k.dead.within.0) ∙ (ap (λ p. named_of (shown_by p)) k.has ∙ ap named_of shows)
 
   -- what a stop leaves of a page
-  pub tried_page : (page stamp : ℕ) (tag : Tag) (main : List ℕ) → seg.pairs ≡ [] → Keeps seg old c ⊎ Places seg page tag stamp main old c → (p : ℕ) → IsTried shape (names_of seg) (record { tag = tag; stamp = stamp; bytes = main }) (stored_in old) (stored_in c) p
-  tried_page page stamp tag main none (inl k) p = ⊎_elim
+  pub tried_page : (page stamp : ℕ) (tag : Tag) (main : List ℕ) → Keeps seg old c ⊎ Places seg page tag stamp main old c → (p : ℕ) → IsTried shape (names_of seg) (record { tag = tag; stamp = stamp; bytes = main }) (stored_in old) (stored_in c) p
+  tried_page page stamp tag main (inl k) p = ⊎_elim
       (λ same. inl (named_same p same))
-      (λ dead. inr (inl (record { dead = dead_live p dead.0; own = ap (λ ps. resolve ps p) none }, named_none p dead.1)))
+      (λ dead. inr (inl (record { dead = dead_live p dead.0; own = to_itself seg.pairs p dead.0.own }, named_none p dead.1)))
       (k.each p)
-  tried_page page stamp tag main none (inr k) p = ⊎_elim
+  tried_page page stamp tag main (inr k) p = ⊎_elim
       (λ here. inr (inr (
-        subst (IsNew shape (names_of seg)) (sym here) (is_new_page none page k.takes.dead),
+        subst (IsNew shape (names_of seg)) (sym here) (is_new_page page k.takes.dead),
         ap (stored_in c).named here ∙ programmed_named page tag stamp (wear_of seg (page / seg.size)) main k.shows k.takes,
       )))
       (λ ne. ⊎_elim
       (λ same. inl (named_same p same))
-      (λ dead. inr (inl (record { dead = dead_live p dead.0; own = ap (λ ps. resolve ps p) none }, named_none p dead.1)))
+      (λ dead. inr (inl (record { dead = dead_live p dead.0; own = to_itself seg.pairs p dead.0.own }, named_none p dead.1)))
       (k.takes.others p ne))
       (cases_eq p page)
 
-  pub leaves_tried : (page stamp : ℕ) (tag : Tag) (main : List ℕ) → seg.pairs ≡ [] → HasSpareBlock seg → Keeps seg old c ⊎ Places seg page tag stamp main old c
+  pub leaves_tried : (page stamp : ℕ) (tag : Tag) (main : List ℕ) → HasSpareBlock seg → HasSpare old seg → NamesHold shape (names_of seg) (stored_in old) → Keeps seg old c ⊎ Places seg page tag stamp main old c
       → LeavesTried shape (names_of seg) (λ p. bytes_at (shape.vblocks * shape.pages) old p) (record { tag = tag; stamp = stamp; bytes = main }) (stored_in old) (stored_in c)
-  leaves_tried page stamp tag main none spare k =
+  leaves_tried page stamp tag main spare on names k =
       let holds = holds_live (either_live (to_takes k)) in
       record {
         same_virtual = record { values = addresses_same (either_low (to_takes k)); firm = firm_kept (either_low (to_takes k)) };
         holds = holds;
-        pages = leaves_pages segments none spare (λ p. bytes_at (shape.vblocks * shape.pages) old p) (stored_in c) holds;
-        others = tried_page page stamp tag main none k;
+        pages = leaves_pages segments c_fits live spare (spare_either seg old c (either_each (to_takes k)) on) (λ p. bytes_at (shape.vblocks * shape.pages) old p) holds
+            (names_still names (λ name page has. inl (has, named_same name (named_either seg old c (either_each (to_takes k)) name page has))));
+        others = tried_page page stamp tag main k;
       }
 
   -- no page has a stamp from this one on
-  pub below_after : (page stamp after : ℕ) (tag : Tag) (main : List ℕ) → seg.pairs ≡ [] → Keeps seg old c ⊎ Places seg page tag stamp main old c → ((p : ℕ) (n : NamedPage) → (stored_in old).named p ≡ Some n → n.stamp + 1 ≤ after) → stamp + 1 ≤ after
+  pub below_after : (page stamp after : ℕ) (tag : Tag) (main : List ℕ) → Keeps seg old c ⊎ Places seg page tag stamp main old c → ((p : ℕ) (n : NamedPage) → (stored_in old).named p ≡ Some n → n.stamp + 1 ≤ after) → stamp + 1 ≤ after
       → (p : ℕ) (n : NamedPage) → (stored_in c).named p ≡ Some n → n.stamp + 1 ≤ after
-  below_after page stamp after tag main none k was new p n is = by (tried_page page stamp tag main none k p)
+  below_after page stamp after tag main k was new p n is = by (tried_page page stamp tag main k p)
     where
       by : IsTried shape (names_of seg) (record { tag = tag; stamp = stamp; bytes = main }) (stored_in old) (stored_in c) p → n.stamp + 1 ≤ after
       by (inl same) = was p n (sym same ∙ is)
@@ -181,8 +186,16 @@ module _ (geometry : Geometry) (shape : Shape) (vseg : Segment) (seg : Physical)
       by (inr (inr here)) = subst (λ (x : NamedPage). x.stamp + 1 ≤ after) (same_Some (record { tag = tag; stamp = stamp; bytes = main }) n (sym here.1 ∙ is)) new
 
   -- a new name
-  pub is_new : seg.pairs ≡ [] → (page : ℕ) → IsDead seg page → IsNew shape (names_of seg) page
-  is_new none page dead = is_new_page none page dead
+  pub is_new : (page : ℕ) → IsDead seg page → IsNew shape (names_of seg) page
+  is_new page dead = is_new_page page dead
+
+  -- What the names lead to holds its stamps still, after a call of which each new page is on the medium.
+  pub names_after : (new : Physical) → IsWhole seg → ((p : ℕ) → (page_at c p ≡ page_at old p) ⊎ IsDead seg p) → ((n t : ℕ) → Contains new.pairs (n, t) → Contains seg.pairs (n, t)) → (New : ℕ → Type 0) → ((p : ℕ) → New p → held_at seg p ≡ None)
+      → ((p : ℕ) (h : Held) → held_at new p ≡ Some h → (held_at seg p ≡ Some h) ⊎ New p) → (bytes : ℕ → List ℕ) → HoldsLive (names_of new).live bytes (stored_in c) → NamesHold shape (names_of seg) (stored_in old) → NamesHold shape (names_of new) (stored_in c)
+  names_after new whole either fewer New fresh less bytes holds names = names_still names (λ name page has. ⊎_elim
+      (λ was. inl (was, named_same name (named_either seg old c either name page was)))
+      (λ made. inr (record { tag = page.tag; stamp = page.stamp; bytes = bytes name }, holds name page made.1, refl))
+      (led_before seg new whole fewer New fresh less name page has))
 
   pub in_block : (name : ℕ) (value : Page) → Programmed seg name value old c → ChangesInBlock shape.pages name (stored_in old) (stored_in c)
   in_block name value k p ne = ⊎_elim

@@ -17,7 +17,7 @@ use Rattle.nl_field.specs.declared.spare.SpareRec.TheVariants.{Virtual, Physical
 use Rattle.nl_iface.specs.Stored.{NamedPage, stored_in, value_on}
 use Rattle.nl_nand.specs.Nand.{ImageOf}
 use Rattle.nl_nand.specs.declared.geometry.Geometry.{Geometry}
-use Rattle.nl_pseg.specs.Segment.{IsPhysicalOf, Physical as Named}
+use Rattle.nl_pseg.specs.Segment.{HasSpare, IsPhysicalOf, Physical as Named}
 use Rattle.nl_scan.specs.Tables.{IsTableOf, Table, greatest_stamp}
 use Rattle.nl_vseg.proofs.Members.{In, enumerate_from_at, enumerate_to, filter_map_from, filter_map_to, filter_to, find_in}
 use Rattle.nl_vseg.proofs.Places.{in_block}
@@ -27,8 +27,10 @@ use Rattle.nl_vseg.specs.Segment.{IsSegmentOf, Segment, is_blank}
 use Rattle.nl_vseg.specs.declared.place.Place.{Place}
 use Rattle.nl_device.specs.Device.{HasLive, HasSegments, HasSpareBlock, IsOnMedium}
 use Rattle.nl_device.specs.Opening.{IsOpenedVirtual, SaysErased, needed_of, pick_of, place_on}
+use Rattle.nl_device.specs.Shown.{bytes_at}
+use Rattle.nl_device.proofs.Leaving.{names_alone}
 use Rattle.nl_device.proofs.Forms.{shape_is}
-use Rattle.nl_device.proofs.Made.{made_medium}
+use Rattle.nl_device.proofs.Made.{live_held, made_medium}
 use Rattle.nl_device.proofs.OpenedImage.{fold_has, own_on, pages_is, pick_is}
 use Rattle.nl_device.proofs.OpenedSpare.{spare_is}
 use Rattle.nl_device.proofs.PhysicalPages.{page_is}
@@ -218,9 +220,9 @@ module _ (image : Image) (t : Table) (vseg : Segment) (is : IsTableOf image t) (
 
 -- the medium of a device that was opened so
 pub opened_on : {geometry : Geometry} {shape : Shape} {vseg : Segment} {pseg : Named} {image : Image} (t : Table) → HasSegments geometry shape vseg pseg → ImageOf geometry image → HasLive pseg → IsPhysicalOf image pseg
-    → IsTableOf image t → IsOpenedVirtual shape t vseg → ((p : ℕ) (page : NamedPage) → (stored_in image).named p ≡ Some page → page.stamp + 1 ≤ 1 + greatest_stamp t.seen) → pseg.pairs ≡ [] → HasSpareBlock pseg
+    → IsTableOf image t → IsOpenedVirtual shape t vseg → ((p : ℕ) (page : NamedPage) → (stored_in image).named p ≡ Some page → page.stamp + 1 ≤ 1 + greatest_stamp t.seen) → pseg.pairs ≡ [] → HasSpareBlock pseg → HasSpare image pseg
     → IsOnMedium shape (1 + greatest_stamp t.seen) image vseg pseg
-opened_on {geometry} {shape} {vseg} {pseg} {image} t segments fit live physical is opened named none spare =
+opened_on {geometry} {shape} {vseg} {pseg} {image} t segments fit live physical is opened named none spare on =
     let e = shape_is segments fit in
     let own = subst (λ s. IsOpenedVirtual s t vseg) (sym e) opened in
     let some : 0 < (shape_of_image image).pages = subst (λ (s : Shape). 0 < s.pages) (sym e) segments.some in
@@ -230,4 +232,4 @@ opened_on {geometry} {shape} {vseg} {pseg} {image} t segments fit live physical 
     made_medium segments fit live (opened_segment image t vseg is own some few) physical
     (subst (λ s. (v n : ℕ) (main : List ℕ) → map_of vseg.places image v ≡ Some (n, main) → Shows (first_physical s) image v n main) e (opened_there image t vseg is own))
     (λ v s n shows. opened_below image t is (shape.vblocks * shape.pages) v s n shows)
-    named none spare
+    named spare on (names_alone shape pseg (λ p. bytes_at (shape.vblocks * shape.pages) image p) (stored_in image) none (live_held segments fit live physical))

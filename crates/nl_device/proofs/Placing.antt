@@ -11,10 +11,9 @@ use Rattle.nl_iface.specs.Space.{WriteFailed}
 use Rattle.nl_pseg.specs.Answers.{IfPlaced, IsFault, IsPlaced, Names}
 use Rattle.nl_pseg.specs.Segment.{IsClean, IsReady, IsSpent, IsUnspent, Physical, SamePages, room}
 use Rattle.nl_pseg.specs.Space.{HasRoomForVictim, SameCleaning}
-use Rattle.nl_device.specs.Device.{HasFree}
 use Rattle.nl_device.specs.Space.{space_of}
 use Rattle.nl_device.specs.Stamps.{is_tried}
-use Rattle.nl_device.proofs.Spacing.{spent_free, unspent_free, write_failed}
+use Rattle.nl_device.proofs.Spacing.{write_failed}
 
 pub placed_map : (answer : Named) (P Q : Pointer → Type 0) → IfPlaced answer P → ((at : Pointer) → answer ≡ named.Placed at → P at → Q at) → shown.IfPlaced answer Q
 placed_map (named.Placed at) P Q h by = by at refl h
@@ -142,16 +141,6 @@ named_rises answer tried now next clock clock_now faults faults_now is tried_is 
         stays : now ≡ next + 0 → StampRises ⊥ next now clock clock_now faults faults_now
         stays none = record { never_falls = omega (arith, none); at_most_one = omega (arith, none); taken = λ t. absurd t; stays = λ un. omega (arith, none); paid = λ small few. omega (arith, none, later, more) }
     by named.NoPage none strict fails = record { never_falls = omega (arith, none); at_most_one = omega (arith, none); taken = λ t. absurd t; stays = λ un. omega (arith, none); paid = λ small few. omega (arith, none, later, more) }
-
--- a block stays Free
-pub free_after : (answer : Named) (old new : Physical) → HasFree old → SamePages old new → (IsPlaced answer → IsSpent old new) → (IsFault answer → IsSpent old new ⊎ (IsUnspent old new × (IsReady old → ⊥)))
-    → ((answer ≡ named.NotLive) ⊎ (answer ≡ named.NoPage) → new ≡ old) → HasFree new
-free_after answer old new has same spent fails kept = by (ended answer)
-  where
-    by : Ended answer → HasFree new
-    by (placed is t) = spent_free old new has same (spent is)
-    by (failed is t) = ⊎_elim (λ s. spent_free old new has same s) (λ u. unspent_free old new has same u.0) (fails is)
-    by (refused is un) = subst HasFree (sym (kept is)) has
 
 -- the next stamp
 pub after_tried : (answer : Named) (tried : Bool) (next now : ℕ) → now ≡ next + cond tried 1 0 → tried ≡ is_tried answer → is_tried answer ≡ true → now ≡ next + 1

@@ -7,7 +7,6 @@ use Rattle.nl_field.specs.Live.{resolve}
 use Rattle.nl_field.specs.declared.pointer.Tag.{Tag}
 use Rattle.nl_callbacks.specs.Pending.{IsPending, PendingTable, callback_of, entry_at, new_entry, number_of, place_of}
 use Rattle.nl_callbacks.specs.declared.entry.Entry.{Entry}
-use Rattle.nl_iface.proofs.Tables.{at_tail}
 use Rattle.nl_iface.specs.Moves.{Copies}
 use Rattle.nl_iface.specs.Names.{Has}
 use Rattle.nl_iface.specs.declared.Callback.{Callback}
@@ -16,7 +15,7 @@ use Rattle.nl_pseg.specs.Segment.{IsOldName, Physical, held_at}
 use Rattle.nl_pseg.specs.declared.held.Held.{Held}
 use Rattle.nl_device.specs.Callbacks.{callbacks_of, handled_in, names_with}
 use Rattle.nl_device.specs.Shown.{live_page}
-use Rattle.nl_device.proofs.Called.{at_has}
+use Rattle.nl_device.specs.State.{at_has, to_itself}
 use Rattle.nl_device.proofs.Living.{swap_live}
 
 -- a callback that is put among the others
@@ -50,14 +49,6 @@ pub handled_old : (es : List Entry) (at : ℕ) (e : Entry) (n : ℕ) → number_
 handled_old es zero e n off = cond-false (number_of e == n) e.transaction (handled_in es n) (ne_eqb (number_of e) n off)
 handled_old [] (suc at) e n off = cond-false (number_of e == n) e.transaction None (ne_eqb (number_of e) n off)
 handled_old (x ∷ es) (suc at) e n off = ap (λ o. cond (number_of x == n) x.transaction o) (handled_old es at e n off)
-
--- a name that is no old one leads to itself
-pub to_itself : (pairs : List (ℕ × ℕ)) (n : ℕ) → ((target : ℕ) × Contains pairs (n, target) → ⊥) → resolve pairs n ≡ n
-to_itself [] n off = refl
-to_itself (x ∷ xs) n off = ⊎_elim
-    (λ (same : x.0 ≡ n). absurd (off (x.1, (zero, omega arith, λ i. (same i, x.1)))))
-    (λ (far : x.0 ≢ n). at_tail x xs n far ∙ to_itself xs n (λ old. let lt = old.1.1 in off (old.0, (suc old.1.0, omega (arith, lt), old.1.2))))
-    (cases_eq x.0 n)
 
 -- a move shows one page moved, under one new callback
 pub copies : (before after number : ℕ) (tag : Tag) (stamp : ℕ) (old new : Physical) (t u : PendingTable) → Moves before after (record { tag = tag; stamp = stamp }) old new

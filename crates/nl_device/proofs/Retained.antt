@@ -22,9 +22,9 @@ use Rattle.nl_field.specs.Medium.{first_physical}
 use Rattle.nl_scan.specs.Tables.{greatest_stamp}
 use Rattle.nl_field.specs.declared.seen.Seen.{Seen}
 use Rattle.nl_vseg.specs.Segment.{Segment}
-use Rattle.nl_device.specs.Device.{HasFound, HasFree, HasLive, HasSegments, HasSpareBlock, IsDevice}
+use Rattle.nl_device.specs.Device.{HasFound, HasLive, HasSegments, HasSpareBlock, IsDevice}
 use Rattle.nl_device.specs.Kept.{KeptPages, kept_pages}
-use Rattle.nl_device.specs.Laws.{held_of}
+use Rattle.nl_device.specs.State.{held_of}
 use Rattle.nl_device.specs.Retain.{IsFoundIn, IsFresh, IsSegmentFor}
 use Rattle.nl_device.specs.Shown.{bytes_at, found_in, live_page, names_of}
 use Rattle.nl_device.specs.Space.{live_in, space_of}
@@ -33,7 +33,9 @@ use Rattle.nl_device.proofs.Alone.{found_passes}
 use Rattle.nl_device.proofs.Found.{kept_below}
 use Rattle.nl_device.proofs.Forms.{begins, named_from, shape_is}
 use Rattle.nl_device.proofs.Laws.{names_are}
-use Rattle.nl_device.proofs.Made.{bytes_from, made_medium}
+use Rattle.nl_device.proofs.Made.{bytes_from, live_held, made_medium}
+use Rattle.nl_device.proofs.Leaving.{names_alone, spare_idle}
+use Rattle.nl_device.specs.Callbacks.{AreCalled}
 use Rattle.nl_device.proofs.PhysicalPages.{named_of}
 use Rattle.nl_device.proofs.Spacing.{free_is, space_is}
 use Rattle.nl_callbacks.specs.Pending.{PendingTable}
@@ -122,10 +124,10 @@ held_on {shape = shape} {kept = kept} {image = image} segments fit was holds fro
 }
 
 pub retained_device : {geometry : Geometry} {tells : Type 0} {image : Image} {shape : Shape} {vseg : Segment} {old new : Physical} {pending : PendingTable} {kept : KeptPages} {next : ℕ} → IsDevice geometry tells image shape vseg old pending kept next
-    → IsSegmentFor kept new → length new.held ≡ length old.held → new.pairs ≡ [] → 1 ≤ new.free → HasSpareBlock new → new.left ≤ old.left → ((page : ℕ) (h : Held) → held_at new page ≡ Some h → IsFoundIn kept new page h)
+    → IsSegmentFor kept new → length new.held ≡ length old.held → new.pairs ≡ [] → HasSpareBlock new → new.victim ≡ None → new.left ≡ 0 → AreCalled new pending → ((page : ℕ) (h : Held) → held_at new page ≡ Some h → IsFoundIn kept new page h)
     → ((p q : ℕ) (g h : Held) → held_at new p ≡ Some g → held_at new q ≡ Some h → g.stamp ≡ h.stamp → p ≡ q) → ((p : ℕ) → TakenAsErased new p → TakenAsErased old p) → ((p : ℕ) → IsNextCopy new p → IsNextCopy old p) → (tells → ImageOf geometry image)
     → IsDevice geometry tells image shape vseg new pending kept next
-retained_device {geometry} {tells} {image} {shape} {vseg} {old} {new} {pending} {kept} {next} f same pages pairs some spare left from differ erased copies fit =
+retained_device {geometry} {tells} {image} {shape} {vseg} {old} {new} {pending} {kept} {next} f same pages pairs spare hand left called from differ erased copies fit =
     let first : new.first ≡ old.first = same.first ∙ f.found.first ∙ sym f.segments.physical_first in
     let blocks : new.blocks ≡ old.blocks = same.blocks ∙ (λ i. f.found.first i + f.found.count i) ∙ f.segments.split ∙ sym f.segments.physical_blocks in
     let size : new.size ≡ old.size = same.size ∙ f.found.size ∙ sym f.segments.physical_pages in
@@ -155,24 +157,22 @@ retained_device {geometry} {tells} {image} {shape} {vseg} {old} {new} {pending} 
     let k : KeptPage = record { page = p; stamp = h.stamp; tag = h.tag } in
     let one = found_passes (λ (q : KeptPage). q.page == p) kept.pages k (from p h held).found in
     subst (λ (q : KeptPage). q.stamp < next) (one.is k) (f.found.below one.at k one.within) in
-    let free : HasFree new = record { kept = some; left = let l = f.free.left in omega (arith, l, left, size) } in
     record {
       segments = segments;
       mapped = f.mapped;
       live = live;
-      free = free;
       spare = spare;
-      no_pairs = pairs;
-      no_callbacks = f.no_callbacks;
+      called = called;
       stamp = record { some = f.stamp.some; addresses = f.stamp.addresses; live = below };
       found = f.found;
       found_stored = f.found_stored;
       legal = f.legal;
       unwritten = f.unwritten;
-      names = names_are segments next live (space_is new free spare.whole) below;
-      medium = λ t. made_medium segments (fit t) live (f.medium t).virtual_is
-          (held_on {new = new} f.segments (fit t) (f.medium t).physical_is (f.found_stored t) from (λ page within. subst (λ n. n ≤ page) (begins segments) within.0) erased copies)
-          (f.medium t).there (f.medium t).below (f.medium t).named_below pairs spare;
+      names = names_are segments next live (space_is new spare) below;
+      medium = λ t.
+          let physical = held_on {new = new} f.segments (fit t) (f.medium t).physical_is (f.found_stored t) from (λ page within. subst (λ n. n ≤ page) (begins segments) within.0) erased copies in
+          made_medium segments (fit t) live (f.medium t).virtual_is physical (f.medium t).there (f.medium t).below (f.medium t).named_below spare (spare_idle new image spare.whole spare.block hand left)
+          (names_alone shape new (λ p. bytes_at (shape.vblocks * shape.pages) image p) (stored_in image) pairs (live_held segments (fit t) live physical));
     }
 
 -- what is kept of a scan at the start of a device

@@ -1,6 +1,6 @@
 -- One pointer more is live, and all of them.
 use Rattle.std.proofs.Common.{◌≡◌, ◌++◌, ◌||◌, take, ℕ, zero, suc, ◌+◌, ◌/◌, ◌<◌, ◌≤◌, Bool, true, false, not, List, [], ◌∷◌, length, get_or, set, Option, Some, None, option_map, refl, sym, ◌∙◌, ap, subst, arith, ⊎_elim, inl, inr}
-use Rattle.std.specs.Prelude.{◌==◌, IsSome, filter, find, is_some, slice_get}
+use Rattle.std.specs.Prelude.{◌==◌, IsSome, filter, find, slice_get}
 use Rattle.std.specs.List.{count_by, list_any, range_with_len}
 use Rattle.std.specs.BTreeMap.{BTreeMap}
 use Rattle.std.proofs.lemmas.Bool.{cases_Bool, cases_eq, cases_lt, cond-false, cond-true, true≢false}
@@ -86,7 +86,7 @@ retains_none kept pointers seg same fresh = record {
   no_pairs = fresh.no_pairs;
   busy = λ block from below. fresh.each block (omega (arith, from, same.first)) (omega (arith, below, same.blocks));
   counted = omega (arith, fresh.count, same.first, same.blocks, count_none (is_taken kept (take 0 pointers)) kept.first kept.count (λ block. refl));
-  free_before = λ block free. free;
+  kept_before = λ block kept. kept;
   same_soiled = λ block. refl;
   left = omega arith;
   erased = λ q taken. taken;
@@ -96,7 +96,6 @@ retains_none kept pointers seg same fresh = record {
   unchanged = λ none. refl;
   kept_block = λ k some. k;
   kept_dead = λ dead. dead;
-  clean = λ clean. clean;
 }
 
 -- the blocks that are taken with one pointer more
@@ -183,7 +182,10 @@ retains_more kept copies pointers at p old seg new is can fresh first retains he
           let low : kept.first ≤ p.name / kept.size = subst (λ n. kept.first ≤ n / kept.size) t.page t.of.from_first in
           let high : p.name / kept.size < kept.first + kept.count = subst (λ n. n / kept.size < kept.first + kept.count) t.page t.of.to_last in
           count_more kept pointers at p seg new here size loads low high (retains.busy (p.name / kept.size) low high) retains.counted;
-      free_before = λ b free. retains.free_before b (still b free);
+      kept_before = λ b is_kept_now. retains.kept_before b (⊎_elim
+          (λ same. absurd (true≢false (sym is_kept_now ∙ (ap (is_kept new) (same ∙ ap (λ n. p.name / n) (sym loads.same_size)) ∙ loads.whole.pages.in_use p.name h here_now))))
+          (λ other. sym (loads.others_kept b other) ∙ is_kept_now)
+          (cases_eq b (p.name / seg.size)));
       same_soiled = λ b. loads.same_soiled b ∙ retains.same_soiled b;
       left = omega (arith, loads.left, retains.left);
       erased = λ q taken. retains.erased q (loads.erased q taken);
@@ -193,20 +195,7 @@ retains_more kept copies pointers at p old seg new is can fresh first retains he
       unchanged = λ none. absurd (omega (arith, none));
       kept_block = λ k some. loads.kept_block some;
       kept_dead = λ dead. loads.kept_dead;
-      clean = λ clean b kept.
-          let off : is_kept new (p.name / seg.size) ≡ false = subst (λ n. is_kept new (p.name / n) ≡ false) loads.same_size (loads.kept_dead p.name h here_now) in
-          ap is_some (loads.same_soiled b) ∙ retains.clean clean b (⊎_elim
-              (λ same. absurd (true≢false (sym kept ∙ (ap (is_kept new) same ∙ off))))
-              (λ other. sym (loads.others_kept b other) ∙ kept)
-              (cases_eq b (p.name / seg.size)));
     }
-  where
-    still : (b : ℕ) → is_free new b ≡ true → is_free seg b ≡ true
-    still b free =
-        ⊎_elim
-        (λ same. absurd (true≢false (sym free ∙ ap (λ k. is_free new k) same ∙ loads.here)))
-        (λ other. sym (loads.others b other) ∙ free)
-        (cases_eq b (p.name / seg.size))
 
 pub are_retained : (kept : KeptPages) (copies : BTreeMap ℕ Copies) (pointers : List Pointer) (at : ℕ) (old seg : Physical) → IsKept kept copies → CanRetain kept pointers → Retains kept pointers at old seg → length pointers ≤ at
     → AreRetained kept pointers seg

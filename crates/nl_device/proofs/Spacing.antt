@@ -7,50 +7,13 @@ use Rattle.nl_iface.specs.Space.{Freed, IsSpace, Lessened, NoneRetired, SameSegm
 use Rattle.nl_pseg.specs.Segment.{IsSpent, IsUnspent, Physical, SamePages, room}
 use Rattle.nl_pseg.specs.declared.held.Held.{Held}
 use Rattle.nl_pseg.specs.Space.{GivesBack, HasRoomForVictim, IsWhole, Lessens, SameCleaning, waiting}
-use Rattle.nl_device.specs.Device.{HasFree}
+use Rattle.nl_device.specs.Device.{HasSpareBlock}
 use Rattle.nl_device.specs.Space.{live_in, space_of}
 use Rattle.nl_device.proofs.SpaceSteps.{is_space, lessened, page_gone, same_segment}
 
--- One page of the block that is written to, or of a Free block: a block is Free still.
-spent_numbers : (s left free left' free' : ℕ) → 1 ≤ free → left ≤ s → left' + (free' - 1) * s + 1 ≡ left + (free - 1) * s → free' + cond (nat_le 1 left) 0 1 ≡ free → (1 ≤ free') × (left' ≤ s)
-spent_numbers s left free left' free' some fits room taken = by (cases_lt 0 left)
-  where
-    opened : (k : ℕ) → free' ≡ k → left ≡ 0 → free' + 1 ≡ free → (1 ≤ free') × (left' ≤ s)
-    opened zero none empty more =
-        let e : (free - 1) * s ≡ 0 * s = ap (λ n. n * s) (omega (arith, none, more)) in
-        let f : (free' - 1) * s ≡ 0 * s = ap (λ n. n * s) (omega (arith, none)) in
-        absurd (omega (arith, room, empty, e, f))
-    opened (suc k) is empty more =
-        let e : (free - 1) * s ≡ (k + 1) * s = ap (λ n. n * s) (omega (arith, is, more)) in
-        let f : (free' - 1) * s ≡ k * s = ap (λ n. n * s) (omega (arith, is)) in
-        let m : (k + 1) * s ≡ k * s + 1 * s = add-mul k 1 s in
-        (omega (arith, is), omega (arith, room, empty, e, f, m))
-
-    by : (0 < left) ⊎ (left ≤ 0) → (1 ≤ free') × (left' ≤ s)
-    by (inl more) =
-        let same : free' ≡ free = let e = ap (λ b. free' + cond b 0 1) (le-leb 1 left (omega (arith, more))) in omega (arith, e, taken) in
-        let f : (free' - 1) * s ≡ (free - 1) * s = ap (λ n. (n - 1) * s) same in
-        (omega (arith, same, some), omega (arith, room, fits, f))
-    by (inr none) =
-        let more : free' + 1 ≡ free = let e = ap (λ b. free' + cond b 0 1) (lt-leb 1 left (omega (arith, none))) in omega (arith, e, taken) in
-        opened free' refl (omega (arith, none)) more
-
-pub spent_free : (old new : Physical) → HasFree old → SamePages old new → IsSpent old new → HasFree new
-spent_free old new has same is =
-    let size = same.same_size in
-    let e : new.left + (new.free - 1) * old.size + 1 ≡ old.left + (old.free - 1) * old.size = ap (λ n. new.left + (new.free - 1) * n + 1) (sym size) ∙ is.room in
-    let r = spent_numbers old.size old.left old.free new.left new.free has.kept has.left e is.taken in
-    record { kept = r.0; left = subst (λ n. new.left ≤ n) (sym size) r.1 }
-
-pub unspent_free : (old new : Physical) → HasFree old → SamePages old new → IsUnspent old new → HasFree new
-unspent_free old new has same is = record {
-  kept = subst (λ n. 1 ≤ n) (sym is.free) has.kept;
-  left = let a = is.left in let b = same.same_size in let c = has.left in omega (arith, a, b, c);
-}
-
--- where a block is Free the numbers are right
-pub space_is : (seg : Physical) → HasFree seg → IsWhole seg → IsSpace (space_of seg)
-space_is seg has whole = is_space seg whole (let k = has.kept in omega (arith, k))
+-- where a block is kept the numbers are right
+pub space_is : (seg : Physical) → HasSpareBlock seg → IsSpace (space_of seg)
+space_is seg has = is_space seg has.whole (has.whole.numbers.kept has.block)
 
 -- a page is live now
 pub one_more : (held : List (Option Held)) (p : ℕ) (h : Held) → p < length held → get_or held p None ≡ None → live_in (set held p (Some h)) ≡ live_in held + 1
@@ -85,14 +48,28 @@ still_lessens old new same lands = record {
   lands = lands;
 }
 
-pub wrote : (gone : ℕ) (old new : Physical) → SamePages old new → Lessens gone old new → waiting new ≡ waiting old → IsSpent old new → live_in new.held + gone ≡ live_in old.held + 1 → new.pairs ≡ old.pairs → Wrote gone (space_of old) (space_of new)
+pub wrote : (old new : Physical) → SamePages old new → Lessens 0 old new → waiting new ≡ waiting old → IsSpent old new → live_in new.held + 0 ≡ live_in old.held + 1 → new.pairs ≡ old.pairs → Wrote 0 (space_of old) (space_of new)
 unfolding space_of
-wrote gone old new same fewer waits is live pairs = record {
+wrote old new same fewer waits is live pairs = record {
   same = same_pages old new same;
-  lessened = lessened gone old new (no_more old.pairs new.pairs pairs) fewer;
+  lessened = lessened 0 old new (no_more old.pairs new.pairs pairs) fewer;
   live = live;
   room = λ none. let r = is.room in omega (arith, r);
   exact = λ none either. (waits, is.room);
+}
+
+-- a page was placed in place of another one
+pub wrote_over : (old new : Physical) → SamePages old new → Lessens 1 old new → room old ≤ room new + 1 → (waiting old ≡ 0 → IsSpent old new) → live_in new.held + 1 ≡ live_in old.held + 1 → length new.pairs ≤ length old.pairs → Wrote 1 (space_of old) (space_of new)
+unfolding space_of
+wrote_over old new same fewer room spent live pairs = record {
+  same = same_pages old new same;
+  lessened = lessened 1 old new pairs fewer;
+  live = live;
+  room = λ none. room;
+  exact = λ none either. ⊎_elim
+      (λ one. absurd (omega (arith, one)))
+      (λ waits. let few = fewer.fewer_wait in (omega (arith, waits, few), (spent waits).room))
+      either;
 }
 
 pub write_failed : (old new : Physical) → SamePages old new → SameCleaning old new → (HasRoomForVictim old → HasRoomForVictim new) → IsSpent old new ⊎ IsUnspent old new → new.held ≡ old.held → new.pairs ≡ old.pairs → WriteFailed (space_of old) (space_of new)
@@ -110,8 +87,8 @@ write_failed old new same cleaning lands spent held pairs = record {
     unspent_room : (old new : Physical) → SamePages old new → IsUnspent old new → room new ≡ room old
     unspent_room old new same is = λ i. is.left i + (is.free i - 1) * same.same_size i
 
-pub freed : (old new : Physical) → SamePages old new → Lessens 1 old new → GivesBack old new → live_in new.held + 1 ≡ live_in old.held → new.pairs ≡ old.pairs → Freed (space_of old) (space_of new)
-freed old new same fewer back live pairs = page_gone old new same live (no_more old.pairs new.pairs pairs) fewer back
+pub freed : (old new : Physical) → SamePages old new → Lessens 1 old new → GivesBack old new → live_in new.held + 1 ≡ live_in old.held → length new.pairs ≤ length old.pairs → Freed (space_of old) (space_of new)
+freed old new same fewer back live pairs = page_gone old new same live pairs fewer back
 
 -- one page more is live
 pub wrote_one : (old new : Physical) (at : ℕ) (h : Held) → SamePages old new → SameCleaning old new → (HasRoomForVictim old → HasRoomForVictim new) → IsSpent old new → at < length old.held → get_or old.held at None ≡ None → new.held ≡ set old.held at (Some h) → new.pairs ≡ old.pairs
@@ -119,7 +96,7 @@ pub wrote_one : (old new : Physical) (at : ℕ) (h : Held) → SamePages old new
 wrote_one old new at h same cleaning lands is below dead held pairs =
     let e = ap live_in held in
     let m = one_more old.held at h below dead in
-    wrote 0 old new same (still_lessens old new cleaning lands) cleaning.same_waiting is (omega (arith, e, m)) pairs
+    wrote old new same (still_lessens old new cleaning lands) cleaning.same_waiting is (omega (arith, e, m)) pairs
 
 -- a page is live in place of another one
 pub one_for_one : (held : List (Option Held)) (p q : ℕ) (h x : Held) → p < length held → q < length held → (q ≡ p → ⊥) → get_or held p None ≡ None → get_or held q None ≡ Some x → live_in (set (set held p (Some h)) q None) + 1 ≡ live_in held + 1
@@ -156,3 +133,19 @@ names_gone seg = record {
 pub pairs_is : (seg : Physical) → (space_of seg).pairs ≡ length seg.pairs
 unfolding space_of
 pairs_is seg = refl
+
+-- a victim in hand, or none
+pub none_victim : (seg : Physical) → seg.victim ≡ None → (space_of seg).victim ≡ 0
+unfolding space_of
+none_victim seg none = ap (λ (o : Option ℕ). cond (is_some o) 1 0) none
+
+pub victim_none : (seg : Physical) → (space_of seg).victim ≡ 0 → seg.victim ≡ None
+unfolding space_of
+victim_none seg is = by seg.victim is
+  where
+    count : Option ℕ → ℕ
+    count o = cond (is_some o) 1 0
+
+    by : (o : Option ℕ) → count o ≡ 0 → o ≡ None
+    by None e = refl
+    by (Some v) e = absurd (omega (arith, e))

@@ -14,6 +14,8 @@ use Rattle.nl_iface.specs.Space.{IsSpace}
 use Rattle.nl_iface.specs.Stored.{stored_in}
 use Rattle.nl_nand.specs.declared.geometry.Geometry.{Geometry}
 use Rattle.nl_pseg.proofs.Numbers.{block_from}
+use Rattle.nl_device.proofs.Calling.{called_none}
+use Rattle.nl_device.proofs.Leaving.{none_in_hand}
 use Rattle.nl_device.proofs.Bounds.{some_pages, two_blocks}
 use Rattle.nl_pseg.specs.Segment.{Physical}
 use Rattle.nl_pseg.specs.declared.held.Held.{Held}
@@ -23,7 +25,7 @@ use Rattle.nl_vseg.proofs.Members.{In}
 use Rattle.nl_vseg.specs.Places.{place_of, stamp_in_place}
 use Rattle.nl_vseg.specs.Segment.{Segment}
 use Rattle.nl_vseg.specs.declared.place.Place.{Place}
-use Rattle.nl_device.specs.Device.{HasFree, HasLive, HasMapped, HasSegments, HasSpareBlock, IsDevice, IsNextStamp, IsOnMedium}
+use Rattle.nl_device.specs.Device.{HasLive, HasMapped, HasSegments, HasSpareBlock, IsDevice, IsNextStamp, IsOnMedium}
 use Rattle.nl_device.specs.Opening.{FitsShape, IsOpenedPhysical, IsOpenedVirtual, needed_of, owns_of, pick_of, place_on}
 use Rattle.nl_field.specs.Medium.{first_physical}
 use Rattle.nl_device.specs.Kept.{KeptPages, kept_pages}
@@ -115,9 +117,6 @@ module _ (shape : Shape) (t : Table) (pseg : Physical) (p : IsOpenedPhysical sha
     differ = λ q r g h is. absurd (none-some g (sym (none_at (shape.blocks * shape.pages) q pseg.held p.none_held) ∙ is));
   }
 
-  pub free_some : HasFree pseg
-  free_some = let free = p.free_is in let left = p.left_is in let two = two_blocks roomy in record { kept = omega (arith, free, two); left = omega (arith, left) }
-
   pub free_space : (space_of pseg).free ≡ shape.pblocks
   unfolding space_of
   free_space = p.free_is
@@ -144,7 +143,7 @@ pub opened_device : (geometry : Geometry) (shape : Shape) (t : Table) (vseg : Se
     → IsOpenedVirtual shape t vseg → IsOpenedPhysical shape t pseg → (HasSegments geometry shape vseg pseg → HasLive pseg → HasSpareBlock pseg → tells → IsOnMedium shape (1 + greatest_stamp t.seen) image vseg pseg)
     → kept ≡ record { first = shape.vblocks; count = shape.pblocks; size = shape.pages; pages = kept_pages (first_physical shape) t.seen }
     → (tells → HoldsLive (found_in kept) (λ p. bytes_at (shape.vblocks * shape.pages) image p) (stored_in image))
-    → pending.callbacks ≡ [] → IsDevice geometry tells image shape vseg pseg pending kept (1 + greatest_stamp t.seen)
+    → pending ≡ record { callbacks = []; posted = 0; room = 4 * shape.pages } → IsDevice geometry tells image shape vseg pseg pending kept (1 + greatest_stamp t.seen)
 opened_device geometry shape t vseg pseg pending kept tells image legal e fits o p medium found stored none =
     let x = for_shape shape geometry.blocks geometry.pages e in
     let roomy : ShapeBounds shape = subst ShapeBounds (sym e) (bounds geometry.blocks geometry.pages legal) in
@@ -165,20 +164,18 @@ opened_device geometry shape t vseg pseg pending kept tells image legal e fits o
       physical_held = ap (λ (l : List (Option Held)). length l) p.none_held ∙ length-replicate (shape.blocks * shape.pages) None;
     } in
     let live = live_none shape t pseg p roomy in
-    let spare : HasSpareBlock pseg = record { whole = p.whole; none_in_hand = p.none_in_hand; block = p.kept_block; dead = λ page h held. absurd (none-some h (sym (none_at (shape.blocks * shape.pages) page pseg.held p.none_held) ∙ held)) } in
+    let spare : HasSpareBlock pseg = record { whole = p.whole; block = p.kept_block; in_hand = none_in_hand pseg p.none_in_hand } in
     record {
       segments = segments;
       mapped = mapped shape t vseg o fits;
       live = live;
-      free = free_some shape t pseg p roomy;
       spare = spare;
-      no_pairs = p.no_pairs;
-      no_callbacks = none;
+      called = called_none pseg pending p.no_pairs (ap (λ (x : PendingTable). x.callbacks) none) (let few = ap (λ (x : PendingTable). length x.callbacks) none in let room = ap (λ (x : PendingTable). x.room) none in let size = p.size_is in omega (arith, few, room, size));
       stamp = next_is shape t vseg o pseg p;
       found = has_found shape kept t.seen found;
       found_stored = stored;
       legal = shape_is_legal segments;
       unwritten = no_stamp_beyond segments;
-      names = names_are segments (1 + greatest_stamp t.seen) live (space_is pseg (free_some shape t pseg p roomy) p.whole) (λ page h held. absurd (none-some h (sym (none_at (shape.blocks * shape.pages) page pseg.held p.none_held) ∙ held)));
+      names = names_are segments (1 + greatest_stamp t.seen) live (space_is pseg spare) (λ page h held. absurd (none-some h (sym (none_at (shape.blocks * shape.pages) page pseg.held p.none_held) ∙ held)));
       medium = λ tell. medium segments live spare tell;
     }

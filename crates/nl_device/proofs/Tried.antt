@@ -11,16 +11,21 @@ use Rattle.nl_iface.specs.Left.{HoldsLive}
 use Rattle.nl_iface.specs.Names.{IsNew}
 use Rattle.nl_iface.specs.Stored.{NamedPage, stored_in}
 use Rattle.nl_pseg.specs.Effects.{Keeps, Places}
-use Rattle.nl_pseg.specs.Segment.{IsDead, IsPhysicalOf, Physical, SamePages, held_at}
+use Rattle.std.specs.Prelude.{Contains}
+use Rattle.nl_pseg.specs.Segment.{HasSpare, IsDead, IsPhysicalOf, Physical, SamePages, held_at}
 use Rattle.nl_pseg.specs.declared.held.Held.{Held}
 use Rattle.nl_vseg.specs.Segment.{Segment}
-use Rattle.nl_device.specs.Device.{HasFree, HasLive, HasSegments, HasSpareBlock, IsDevice}
+use Rattle.nl_device.specs.Device.{HasLive, HasSegments, HasSpareBlock, IsDevice}
 use Rattle.nl_device.specs.Kept.{KeptPages, forgotten}
 use Rattle.nl_device.specs.Shown.{bytes_at, found_in, live_page, names_of}
 use Rattle.nl_device.specs.Stamps.{is_tried}
-use Rattle.nl_device.proofs.Calls.{device_with, found_after, medium_with, stored_after}
+use Rattle.nl_device.proofs.Calls.{device_with, found_after, medium_with, named_segments, stored_after}
 use Rattle.nl_device.proofs.Forms.{begins}
-use Rattle.nl_device.proofs.Naming.{below_after, either_low, to_takes}
+use Rattle.nl_device.proofs.Naming.{below_after, either_each, either_low, names_after, to_takes}
+use Rattle.nl_device.proofs.Leaving.{names_in}
+use Rattle.nl_device.proofs.Made.{live_held}
+use Rattle.nl_device.specs.Callbacks.{AreCalled}
+use Rattle.nl_device.specs.State.{to_itself}
 use Rattle.nl_callbacks.specs.Pending.{PendingTable}
 
 -- what is kept of the scan, and the next stamp, where nothing was tried
@@ -31,12 +36,12 @@ pub next_untried : (tried : Bool) (now next : ℕ) → now ≡ next + cond tried
 next_untried tried now next is un = let e : next + cond tried 1 0 ≡ next + 0 = ap (λ b. next + cond b 1 0) un in omega (arith, is, e)
 
 -- the page of a new name
-pub new_name : {geometry : Geometry} {shape : Shape} {vseg : Segment} {pseg : Physical} → HasSegments geometry shape vseg pseg → pseg.pairs ≡ [] → (page : ℕ) → IsDead pseg page → IsNew shape (names_of pseg) page
-new_name segments none page dead = record {
+pub new_name : {geometry : Geometry} {shape : Shape} {vseg : Segment} {pseg : Physical} → HasSegments geometry shape vseg pseg → (page : ℕ) → IsDead pseg page → IsNew shape (names_of pseg) page
+new_name {geometry} {shape} {vseg} {pseg} segments page dead = record {
   low = subst (λ n. n ≤ page) (begins segments) dead.within.0;
   high = subst (λ n. page < n) (λ i. segments.physical_blocks i * segments.physical_pages i) dead.within.1;
   dead = ap live_page dead.dead;
-  own = ap (λ ps. resolve ps page) none;
+  own = to_itself pseg.pairs page dead.own;
 }
 
 module _ {geometry now : Geometry} {tells : Type 0} {image c : Image} {shape : Shape} {vseg : Segment} {old : Physical} {pending : PendingTable} {kept left : KeptPages} {next after : ℕ} (answer : Named) (tried : Bool) (tag : Tag) (main : List ℕ) (f : IsDevice geometry tells image shape vseg old pending kept next)
@@ -60,10 +65,15 @@ module _ {geometry now : Geometry} {tells : Type 0} {image c : Image} {shape : S
       by true e p page is =
           let one : after ≡ next + 1 = is_after ∙ ap (λ b. next + cond b 1 0) e in
           let k = either t in
-          below_after geometry shape vseg old image c f.segments (old_fits t) (subst (λ n. ImageOf n c) same_geometry (fits t)) f.live (f.medium t).physical_is k.0 next after tag main f.no_pairs k.1 was (omega (arith, one)) p page is
+          below_after geometry shape vseg old image c f.segments (old_fits t) (subst (λ n. ImageOf n c) same_geometry (fits t)) f.live (f.medium t).physical_is k.0 next after tag main k.1 was (omega (arith, one)) p page is
 
-  pub tried_device : (new : Physical) → SamePages old new → length new.held ≡ length old.held → HasLive new → HasFree new → HasSpareBlock new → new.pairs ≡ old.pairs → ((p : ℕ) (h : Held) → held_at new p ≡ Some h → h.stamp < after) → (tells → IsPhysicalOf c new)
-      → IsDevice now tells c shape vseg new pending left after
-  tried_device new same count live free spare pairs stamps physical =
-      device_with f (found_after kept left tried is_left shape next after rises f.found) stored same_geometry same count live free spare pairs rises stamps
-      (λ t. medium_with f t same_geometry same count (fits t) live (either_low (to_takes (either t).1)) (physical t) rises pairs spare (named_below t))
+  pub tried_device : (new : Physical) (now_pending : PendingTable) → SamePages old new → length new.held ≡ length old.held → HasLive new → HasSpareBlock new → AreCalled new now_pending → ((p : ℕ) (h : Held) → held_at new p ≡ Some h → h.stamp < after) → (tells → IsPhysicalOf c new) → (tells → HasSpare image old → HasSpare c new)
+      → ((n t : ℕ) → Contains new.pairs (n, t) → Contains old.pairs (n, t)) → (New : ℕ → Type 0) → ((p : ℕ) → New p → held_at old p ≡ None) → ((p : ℕ) (h : Held) → held_at new p ≡ Some h → (held_at old p ≡ Some h) ⊎ New p) → IsDevice now tells c shape vseg new now_pending left after
+  tried_device new now_pending same count live spare called stamps physical on fewer New fresh less =
+      device_with f (found_after kept left tried is_left shape next after rises f.found) stored same_geometry same count live spare called rises stamps
+      (λ t.
+      let fit = subst (λ n. ImageOf n c) same_geometry (fits t) in
+      let segments = named_segments f.segments refl same count in
+      medium_with f t same_geometry same count (fits t) live (either_low (to_takes (either t).1)) (physical t) rises spare (on t (f.medium t).spare)
+      (names_after geometry shape vseg old image c f.segments (old_fits t) fit f.live (f.medium t).physical_is new f.spare.whole (either_each (to_takes (either t).1)) fewer New fresh less (λ p. bytes_at (shape.vblocks * shape.pages) c p) (live_held segments fit live (physical t)) (names_in (f.medium t).pages))
+      (named_below t))

@@ -1,5 +1,5 @@
 -- What holds of the tables of a device, and of a medium that tells its contents.
-use Rattle.std.specs.Prelude.{◌≡◌, ℕ, ◌+◌, ◌-◌, ◌*◌, ◌<◌, ◌≤◌, List, [], length, true, None, Some, IsTrue, All}
+use Rattle.std.specs.Prelude.{◌≡◌, ℕ, ◌+◌, ◌-◌, ◌*◌, ◌<◌, ◌≤◌, List, length, true, None, Some, IsTrue, All}
 use Rattle.nl_field.specs.Numbers.{is_legal, shape_for}
 use Rattle.nl_field.specs.Page.{Image}
 use Rattle.nl_field.specs.declared.shape.Shape.{Shape}
@@ -7,10 +7,11 @@ use Rattle.nl_iface.specs.Device.{IsVolumeShape}
 use Rattle.nl_iface.specs.Left.{HoldsLive, LeavesPages}
 use Rattle.nl_iface.specs.Names.{IsNames}
 use Rattle.nl_iface.specs.Stored.{NamedPage, NoneBeyond, Shows as StoresMap, stored_in}
+use Rattle.nl_device.specs.Callbacks.{AreCalled}
 use Rattle.nl_device.specs.Kept.{KeptPages}
 use Rattle.nl_device.specs.Shown.{IsStray, bytes_at, found_in, names_of}
 use Rattle.nl_nand.specs.declared.geometry.Geometry.{Geometry}
-use Rattle.nl_pseg.specs.Segment.{InSegment, IsPhysicalOf, KeepsBlock, KeptAreDead, Physical, TakenAsErased, held_at}
+use Rattle.nl_pseg.specs.Segment.{HasSpare, InSegment, IsPhysicalOf, KeepsBlock, Physical, TakenAsErased, held_at}
 use Rattle.nl_pseg.specs.Space.{IsWhole}
 use Rattle.nl_pseg.specs.declared.held.Held.{Held}
 use Rattle.nl_vseg.specs.Pages.{Shows}
@@ -46,17 +47,11 @@ pub record HasLive (pseg : Physical) : Type 0 where
   pub blank_in : (p : ℕ) → TakenAsErased pseg p → InSegment pseg p
   pub differ : (p q : ℕ) (g h : Held) → held_at pseg p ≡ Some g → held_at pseg q ≡ Some h → g.stamp ≡ h.stamp → p ≡ q
 
--- a block is Free
-pub record HasFree (pseg : Physical) : Type 0 where
-  pub kept : 1 ≤ pseg.free
-  pub left : pseg.left ≤ pseg.size
-
--- No block is in hand to be cleaned. Some block of the segment holds no live page, so that it can be done without.
+-- Some block of the segment can be done without: it is kept for the cleaner, or it is the victim, which is a block of the segment.
 pub record HasSpareBlock (pseg : Physical) : Type 0 where
   pub whole : IsWhole pseg
-  pub none_in_hand : pseg.victim ≡ None
   pub block : KeepsBlock pseg
-  pub dead : KeptAreDead pseg
+  pub in_hand : (victim : ℕ) → pseg.victim ≡ Some victim → (pseg.first ≤ victim) × (victim < pseg.blocks)
 
 -- Every stamp is below the next one.
 pub record IsNextStamp (next : ℕ) (vseg : Segment) (pseg : Physical) : Type 0 where
@@ -65,8 +60,8 @@ pub record IsNextStamp (next : ℕ) (vseg : Segment) (pseg : Physical) : Type 0 
   pub live : (p : ℕ) (h : Held) → held_at pseg p ≡ Some h → h.stamp < next
 
 -- The image is one of both segments. It shows each value of the map, and no stamp of an address from the next one on. So it stores
--- the map's value of each address, or a stray one, and each live page, which a stop is to leave. No page under a name has the next
--- stamp or a later one.
+-- the map's value of each address, or a stray one, and each live page, which a stop is to leave: some block can be done without. No
+-- page under a name has the next stamp or a later one.
 pub record IsOnMedium (shape : Shape) (next : ℕ) (image : Image) (vseg : Segment) (pseg : Physical) : Type 0 where
   pub virtual_is : IsSegmentOf image vseg
   pub physical_is : IsPhysicalOf image pseg
@@ -76,6 +71,7 @@ pub record IsOnMedium (shape : Shape) (next : ℕ) (image : Image) (vseg : Segme
   pub holds : HoldsLive (names_of pseg).live (λ p. bytes_at (shape.vblocks * shape.pages) image p) (stored_in image)
   pub beyond : NoneBeyond shape.vaddrs (stored_in image)
   pub pages : LeavesPages shape (names_of pseg) (λ p. bytes_at (shape.vblocks * shape.pages) image p) (stored_in image)
+  pub spare : HasSpare image pseg
   pub named_below : (p : ℕ) (page : NamedPage) → (stored_in image).named p ≡ Some page → page.stamp + 1 ≤ next
 
 -- The pages that the scan found are those of the physical segment, and their stamps are below the next one.
@@ -90,10 +86,8 @@ pub record IsDevice (geometry : Geometry) (tells : Type 0) (image : Image) (shap
   pub segments : HasSegments geometry shape vseg pseg
   pub mapped : HasMapped vseg
   pub live : HasLive pseg
-  pub free : HasFree pseg
   pub spare : HasSpareBlock pseg
-  pub no_pairs : pseg.pairs ≡ []
-  pub no_callbacks : pending.callbacks ≡ []
+  pub called : AreCalled pseg pending
   pub stamp : IsNextStamp next vseg pseg
   pub found : HasFound shape kept next
   pub found_stored : tells → HoldsLive (found_in kept) (λ p. bytes_at (shape.vblocks * shape.pages) image p) (stored_in image)

@@ -12,3 +12,4 @@ pub mod Space
 pub mod Spread
 pub mod Stamps
 pub mod Started
+pub mod State

@@ -3,7 +3,7 @@ use Rattle.std.specs.Prelude.{◌≡◌, ◌≢◌, ℕ, ◌+◌, ◌*◌, ◌/�
 use Rattle.std.specs.List.{AllPairs, count_by, list_any, range_with_len}
 use Rattle.nl_field.specs.declared.pointer.Pointer.{Pointer}
 use Rattle.nl_field.specs.declared.shape.Shape.{Shape}
-use Rattle.nl_pseg.specs.Segment.{InSegment, IsNewStamp, KeepsBlock, KeptAreDead, IsNextCopy, Physical, TakenAsErased, held_at, is_free, soiled, IsClean, is_kept}
+use Rattle.nl_pseg.specs.Segment.{InSegment, IsNewStamp, KeepsBlock, KeptAreDead, IsNextCopy, Physical, TakenAsErased, held_at, is_free, soiled, is_kept}
 use Rattle.nl_pseg.specs.Space.{IsWhole}
 use Rattle.nl_pseg.specs.declared.held.Held.{Held}
 use Rattle.nl_iface.specs.declared.counts.Counts.{Ghosts}
@@ -135,7 +135,7 @@ pub record Retains (kept : KeptPages) (pointers : List Pointer) (at : ℕ) (old 
   pub no_pairs : seg.pairs ≡ []
   pub busy : (block : ℕ) → kept.first ≤ block → block < kept.first + kept.count → is_free seg block ≡ not (is_taken kept (take at pointers) block)
   pub counted : kept.count ≡ seg.free + count_by (is_taken kept (take at pointers)) (range_with_len kept.first kept.count)
-  pub free_before : (block : ℕ) → is_free seg block ≡ true → is_free old block ≡ true
+  pub kept_before : (block : ℕ) → is_kept seg block ≡ true → is_kept old block ≡ true
   pub same_soiled : (block : ℕ) → soiled seg block ≡ soiled old block
   pub left : seg.left ≤ old.left
   pub erased : (q : ℕ) → TakenAsErased seg q → TakenAsErased old q
@@ -145,7 +145,6 @@ pub record Retains (kept : KeptPages) (pointers : List Pointer) (at : ℕ) (old 
   pub unchanged : at ≡ 0 → seg ≡ old
   pub kept_block : KeepsBlock old → 1 ≤ seg.free → KeepsBlock seg
   pub kept_dead : KeptAreDead old → KeptAreDead seg
-  pub clean : IsClean old → IsClean seg
 
 -- every block of the segment is Free
 abbrev pub HasAllFree : Shape → Names → Type 0

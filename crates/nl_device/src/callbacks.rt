@@ -1,5 +1,7 @@
-ghost use Rattle.std.specs.Prelude.{◌≡◌, ◌≢◌, ◌≤◌, ℕ, [], IfNone, IfSome, true, false};
-ghost use Rattle.nl_device.specs.Callbacks.{IsUnhandled};
+ghost use Rattle.std.specs.Prelude.{◌≡◌, ◌≢◌, ◌+◌, ◌≤◌, ◌==◌, ◌||◌, not, ℕ, [], filter, length, IfNone, IfSome, true, false};
+ghost use Rattle.nl_callbacks.specs.Pending.{IsTable, number_of, unacknowledged};
+ghost use Rattle.nl_device.specs.Callbacks.{AreCalled, DropsNames, IsUnhandled, NamesDiffer, is_led};
+ghost use Rattle.nl_pseg.specs.Space.{IsWhole};
 ghost use Rattle.nl_iface.specs.Calls.{KeepsMedium};
 ghost use Rattle.nl_iface.specs.Moves.{Acknowledges, Marks};
 ghost use Rattle.nl_iface.specs.Names.{Has};
@@ -13,12 +15,50 @@ use nl_pseg::PSeg;
 
 /// Takes away each callback that was handled by a transaction up to this one, with its old name.
 fn drop_over(pending: &mut Pending, pseg: &mut PSeg, upto: u64)
-    requires none { pending.old.callbacks ≡ [] }
-    ensures pending { pending.new ≡ pending.old }
-    ensures pseg { pseg.new ≡ pseg.old }
+    requires whole { IsWhole pseg.old }
+    requires called { AreCalled pseg.old pending.old }
+    ensures dropped { DropsNames pseg.old pseg.new pending.new }
+    ensures callbacks { pending.new.callbacks ≡ unacknowledged upto pending.old.callbacks }
+    ensures posted { pending.new.posted ≡ pending.old.posted }
 {
     'over: while let Some(name) = pending.acknowledge_next(upto) {
         pseg.drop_name(name);
+    }
+}
+
+/// Takes the callback of this number away, where its old name leads to no other page.
+fn cancel_one(pending: &mut Pending, pseg: &PSeg, number: u64)
+    requires numbers { IsTable pending.old.callbacks pending.old.posted }
+    requires names { NamesDiffer pending.old.callbacks }
+    ensures numbers { IsTable pending.new.callbacks pending.new.posted }
+    ensures callbacks { pending.new.callbacks ≡ filter (λ e. is_led pseg.now.pairs e || not (number_of e == number)) pending.old.callbacks }
+    ensures posted { pending.new.posted ≡ pending.old.posted }
+    ensures room { length pending.new.callbacks + pending.new.room ≡ length pending.old.callbacks + pending.old.room }
+{
+    if let Some(callback) = pending.get(number) {
+        if pseg.resolve(callback.before) == callback.before {
+            pending.cancel(callback.before);
+        }
+    }
+}
+
+/// Takes away each callback whose old name leads to no other page, where there may be `some`.
+pub fn cancel_gone(pending: &mut Pending, pseg: &PSeg, some: bool)
+    requires numbers { IsTable pending.old.callbacks pending.old.posted }
+    requires names { NamesDiffer pending.old.callbacks }
+    requires none { some ≡ false → filter (is_led pseg.now.pairs) pending.old.callbacks ≡ pending.old.callbacks }
+    ensures numbers { IsTable pending.new.callbacks pending.new.posted }
+    ensures callbacks { pending.new.callbacks ≡ filter (is_led pseg.now.pairs) pending.old.callbacks }
+    ensures posted { pending.new.posted ≡ pending.old.posted }
+    ensures room { length pending.new.callbacks + pending.new.room ≡ length pending.old.callbacks + pending.old.room }
+{
+    if some {
+        let last = pending.posted();
+        let mut number = 0;
+        'each: while number < last {
+            number += 1;
+            cancel_one(pending, pseg, number);
+        }
     }
 }
 

@@ -1,5 +1,6 @@
 ghost use Rattle.nl_device.specs.Laws.{leaves_as, names_as, state_is};
 
+use crate::callbacks::cancel_gone;
 use crate::device::Device;
 use crate::stamps::{is_tried, stamp_after};
 use nl_field::{Named, NamedRead, PageBuf, Pointer, Tag};
@@ -9,7 +10,7 @@ use nl_nand::Nand;
 impl<M: Nand> NamedPages for Device<M> {
     ghost state = { λ s f. state_is (Self.bytes s) (Self.map s) f };
 
-    ghost tables = { λ s f. names_as s.pseg s.pending f.no_callbacks f.names };
+    ghost tables = { λ s f. names_as s.pseg s.pending f.called.numbers f.names };
 
     ghost stores_pages = { λ s t f. record { holds = (f.medium t).holds; pages = leaves_as s.pseg s.pending (f.medium t).pages; named_below = (f.medium t).named_below } };
 
@@ -24,10 +25,13 @@ impl<M: Nand> NamedPages for Device<M> {
     }
 
     fn nameless_overwrite(&mut self, old: Pointer, tag: Tag, from: &PageBuf) -> Named {
+        let place = self.pseg.resolve(old.name);
+        let moved = self.pseg.name_of(place).is_some();
         let answer = self
             .pseg
             .nameless_overwrite(&mut self.media, old, tag, from, self.next);
         let taken = is_tried(&answer);
+        cancel_gone(&mut self.pending, &self.pseg, moved);
         self.kept.forget_after(taken);
         self.next = stamp_after(self.next, taken);
         answer
@@ -38,7 +42,11 @@ impl<M: Nand> NamedPages for Device<M> {
     }
 
     fn free(&mut self, at: Pointer) -> bool {
-        self.pseg.free(at)
+        let place = self.pseg.resolve(at.name);
+        let moved = self.pseg.name_of(place).is_some();
+        let freed = self.pseg.free(at);
+        cancel_gone(&mut self.pending, &self.pseg, moved);
+        freed
     }
 
     fn resolve(&self, name: u32) -> u32 {

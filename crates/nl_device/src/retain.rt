@@ -8,7 +8,7 @@ use nl_iface::Counts;
 use nl_nand::Nand;
 
 impl<M: Nand> Device<M> {
-    /// Serves an opening, while no page is live: exactly the listed pointers are live afterwards, each at its place. This is its
+    /// Serves an opening, while no page is live and no block is in hand: exactly the listed pointers are live afterwards, each at its place. This is its
     /// name, where that page has its stamp and is outside the spare block of the segment, and else the least page of its stamp
     /// outside it. Where that is not its name, the pointer has a pair and a pending callback. A block in which none has its place
     /// is Free, and is erased before use where it was in use, or waits for its names. Needs a spare block for the stamps of the
@@ -17,6 +17,7 @@ impl<M: Nand> Device<M> {
     /// pages it keeps until a page is programmed under a name. It takes no memory, and the medium is not touched.
     pub fn retain(&mut self, kept: &PointerList)
         requires formed { ⟦<Device<M> as Counts>⟧.formed self.old }
+        requires idle { (⟦<Device<M> as Counts>⟧.names self.old).space.victim ≡ 0 }
         requires no_live { (p : ℕ) → (⟦<Device<M> as Counts>⟧.names self.old).live p ≡ None }
         requires can { CanRetain (kept_of self.old) kept.now.items }
         ensures formed { ⟦<Device<M> as Counts>⟧.formed self.new }

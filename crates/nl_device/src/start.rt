@@ -1,4 +1,4 @@
-ghost use Rattle.std.specs.Prelude.{◌≡◌, ◌+◌, ◌<◌, ◌≤◌, ℕ, [], None, Some, option_map, true, IfOk, IsTrue};
+ghost use Rattle.std.specs.Prelude.{◌*◌, ◌≡◌, ◌+◌, ◌<◌, ◌≤◌, ℕ, [], None, Some, option_map, true, IfOk, IsTrue};
 ghost use Rattle.std.specs.List.{list_all};
 ghost use Rattle.nl_field.specs.CrashStates.{Rose};
 ghost use Rattle.nl_field.specs.Numbers.{is_legal, shape_for};
@@ -69,7 +69,7 @@ fn after_scan(alloc: Global, shape: &Shape, tables: &ScanTables) -> Result<Parts
     requires fits { FitsShape shape.now tables.now }
     ensures virtuals { IfOk result (λ p. IsOpenedVirtual shape.now tables.now p.vseg) }
     ensures physicals { IfOk result (λ p. IsOpenedPhysical shape.now tables.now p.pseg) }
-    ensures pending { IfOk result (λ p. p.pending.callbacks ≡ []) }
+    ensures pending { IfOk result (λ p. p.pending ≡ record { callbacks = []; posted = 0; room = 4 * shape.now.pages }) }
     ensures kept { IfOk result (λ p. p.kept ≡ kept_of_scan shape.now tables.now.seen) }
 {
     let Opened { vseg, pseg } = open(alloc, shape, tables)?;

@@ -1,28 +1,46 @@
-use Rattle.std.proofs.Common.{◌≡◌, ℕ, [], List, Some, refl, sym, ap, subst}
-use Rattle.nl_callbacks.specs.declared.entry.Entry.{Entry}
-use Rattle.nl_callbacks.specs.Pending.{PendingTable}
-use Rattle.nl_iface.specs.Moves.{Acknowledges}
-use Rattle.nl_iface.specs.Names.{Has, Names}
-use Rattle.nl_iface.specs.declared.Callback.{Callback}
-use Rattle.nl_pseg.specs.Segment.{IsClean, Physical}
-use Rattle.nl_device.specs.Callbacks.{callbacks_of, names_with}
-use Rattle.nl_device.specs.Device.{IsDevice}
-use Rattle.nl_device.proofs.Called.{none_acknowledged}
-use Rattle.nl_device.proofs.Spacing.{names_gone}
+use Rattle.std.proofs.Common.{◌≡◌, ◌⊎◌, inl, ◌*◌, ◌+◌, ◌∙◌, ℕ, List, Option, Some, None, ap, arith, get_or, length, refl, subst, sym}
+use Rattle.nl_device.specs.Device.{HasSpareBlock, IsDevice}
+use Rattle.nl_device.specs.Shown.{bytes_at}
+use Rattle.nl_pseg.specs.Segment.{held_at}
+use Rattle.nl_pseg.specs.declared.held.Held.{Held}
+use Rattle.nl_device.proofs.Calls.{device_with, medium_with, named_segments}
+use Rattle.nl_device.proofs.Dropping.{acknowledged}
+use Rattle.nl_device.proofs.Leaving.{hand_kept, names_in}
+use Rattle.nl_device.proofs.Living.{live_kept, same_before}
+use Rattle.nl_device.proofs.Made.{live_held}
+use Rattle.nl_device.proofs.Naming.{names_after}
 use Rattle.nl_device.proofs.device.Device.acknowledge.Goals as goal
+
+pub drop_over-requires : goal.drop_over-requires
+drop_over-requires g c = record { whole = c.requires.formed.spare.whole; called = c.requires.formed.called }
 
 pub returns-clause-formed : goal.returns-clause-formed
 returns-clause-formed g c =
     let d = c.args.self.now in
-    subst (λ p. IsDevice (g.M.Nand.geometry d.media) g.M.Nand.tells (g.M.Nand.contents d.media) d.shape d.vseg c.drop_over.new.pseg p d.kept d.next) (sym c.drop_over.ensures.pending)
-    (subst (λ (s : Physical). IsDevice (g.M.Nand.geometry d.media) g.M.Nand.tells (g.M.Nand.contents d.media) d.shape d.vseg s d.pending d.kept d.next) (sym c.drop_over.ensures.pseg) c.requires.formed)
+    let f = c.requires.formed in
+    let e = c.drop_over.ensures.dropped in
+    let new = c.drop_over.new.pseg in
+    let spare : HasSpareBlock new = record { whole = e.whole; block = e.block f.spare.block; in_hand = hand_kept d.pseg new e.same.same_first e.same.same_blocks e.victim f.spare } in
+    let live = live_kept d.pseg new f.live e.same e.whole.pages.erased_within e.held in
+    let count : length new.held ≡ length d.pseg.held = ap (λ (l : List (Option Held)). length l) e.held in
+    device_with f f.found f.found_stored refl e.same count live spare e.called (omega arith)
+    (λ p h has. f.stamp.live p h (same_before d.pseg new e.held p h has))
+    (λ t.
+    let image = g.M.Nand.contents d.media in
+    let fit = g.met.M.Nand.contents_fit d.media t in
+    let physical = e.segment image (f.medium t).physical_is in
+    medium_with f t refl e.same count fit live (λ p lt. refl) physical (omega arith) spare (e.spare image (f.medium t).spare)
+    (names_after (g.M.Nand.geometry d.media) d.shape d.vseg d.pseg image image f.segments fit fit f.live (f.medium t).physical_is new f.spare.whole (λ p. inl refl)
+    e.fewer (λ p. ⊥) (λ p off. absurd off) (λ p x has. inl (same_before d.pseg new e.held p x has))
+    (λ p. bytes_at (d.shape.vblocks * d.shape.pages) image p) (live_held (named_segments f.segments refl e.same count) fit live physical) (names_in (f.medium t).pages))
+    (f.medium t).named_below)
 
 pub returns-clause-acknowledged : goal.returns-clause-acknowledged
 returns-clause-acknowledged g c =
     let d = c.args.self.now in
     let f = c.requires.formed in
-    subst (λ p. Acknowledges c.args.upto (names_with d.pseg d.pending) (names_with c.drop_over.new.pseg p)) (sym c.drop_over.ensures.pending)
-    (subst (λ (s : Physical). Acknowledges c.args.upto (names_with d.pseg d.pending) (names_with s d.pending)) (sym c.drop_over.ensures.pseg) (none_acknowledged d.pseg d.pending c.args.upto f.no_callbacks (names_gone d.pseg)))
+    let e = c.drop_over.ensures in
+    acknowledged c.args.upto d.pseg c.drop_over.new.pseg d.pending c.drop_over.new.pending f.spare.whole f.called e.dropped e.callbacks e.posted
 
 pub returns-clause-kept : goal.returns-clause-kept
 returns-clause-kept g c = record {
@@ -32,7 +50,7 @@ returns-clause-kept g c = record {
   bytes = λ t p. refl;
   found = refl;
   next_stamp = refl;
-  clean = λ clean. subst (λ (s : Physical). IsClean s) (sym c.drop_over.ensures.pseg) clean;
+  clean = c.drop_over.ensures.dropped.clean;
   clock = refl;
   write_faults = refl;
 }

@@ -1,4 +1,4 @@
-use Rattle.std.proofs.Common.{◌+◌, ◌≤◌, ◌∙◌, inl, ⊎_elim, ℕ, List, Option, None, get_or, ap, arith, length, refl, subst, sym}
+use Rattle.std.proofs.Common.{◌*◌, ◌+◌, ◌≤◌, ◌∙◌, inl, ⊎_elim, ℕ, List, Option, None, get_or, ap, arith, length, refl, subst, sym}
 use Rattle.nl_pseg.specs.Segment.{IsClean, Physical}
 use Rattle.nl_pseg.specs.declared.held.Held.{Held}
 use Rattle.nl_device.specs.Device.{HasSpareBlock, IsDevice}
@@ -6,13 +6,15 @@ use Rattle.nl_device.specs.Retain.{IsSegmentFor}
 use Rattle.nl_device.specs.Shown.{found_by_number, names_of}
 use Rattle.nl_device.proofs.KeptLive.{retains_are, retains_with}
 use Rattle.nl_device.proofs.Retained.{all_free, free_some, is_fresh, live_is, none_dead, none_held, retained_device, room_is, segment_for}
-use Rattle.nl_device.proofs.Spacing.{free_is, waiting_is}
+use Rattle.nl_device.proofs.Spacing.{free_is, victim_none, waiting_is}
+use Rattle.nl_device.proofs.Calling.{called_none, none_called, none_paired}
+use Rattle.nl_device.proofs.Leaving.{none_in_hand}
 use Rattle.nl_device.specs.Callbacks.{names_with}
 use Rattle.nl_device.proofs.Living.{none_wait}
 use Rattle.nl_device.proofs.device.Device.retain.Goals as goal
 
 pub give_back-requires : goal.give_back-requires
-give_back-requires g c = record { none = none_held c.args.self.now.pseg c.requires.no_live; no_victim = c.requires.formed.spare.none_in_hand }
+give_back-requires g c = record { none = none_held c.args.self.now.pseg c.requires.no_live; no_victim = victim_none c.args.self.now.pseg c.requires.idle }
 
 pub retain-requires-clause-segment : goal.retain-requires-clause-segment
 retain-requires-clause-segment g c =
@@ -23,7 +25,7 @@ retain-requires-clause-segment g c =
 pub retain-requires-clause-fresh : goal.retain-requires-clause-fresh
 retain-requires-clause-fresh g c =
     let b = c.give_back.ensures in
-    is_fresh c.requires.formed.segments c.requires.formed.no_pairs c.requires.no_live b.live b.pairs b.blocks b.pages b.free
+    is_fresh c.requires.formed.segments (none_paired c.args.self.now.pseg c.requires.formed.spare.whole (none_held c.args.self.now.pseg c.requires.no_live)) c.requires.no_live b.live b.pairs b.blocks b.pages b.free
     (λ block from below. (b.each block (let e = b.first in omega (arith, e, from)) (let e = b.blocks in omega (arith, e, below))).0) b.left b.whole b.victim
 
 pub returns-clause-formed : goal.returns-clause-formed
@@ -32,15 +34,17 @@ returns-clause-formed g c =
     let b = c.give_back.ensures in
     let e = c.retain.ensures in
     let some_free : 1 ≤ c.give_back.new.self.free = free_some c.give_back.new.self c.requires.formed.segments b.first b.blocks b.free in
-    let spare : HasSpareBlock c.retain.new.pseg = record { whole = e.whole; none_in_hand = e.none_in_hand; block = e.kept_block (b.kept (omega (arith, some_free))); dead = e.kept_dead (none_dead c.give_back.new.self (λ page. ap (λ (h : List (Option Held)). get_or h page None) b.live ∙ none_held d.pseg c.requires.no_live page)) } in
+    let spare : HasSpareBlock c.retain.new.pseg = record { whole = e.whole; block = e.kept_block (b.kept (omega (arith, some_free))); in_hand = none_in_hand c.retain.new.pseg e.none_in_hand } in
+    let empty = none_called d.pseg d.pending c.requires.formed.called (none_held d.pseg c.requires.no_live) in
     subst (λ k. IsDevice (g.M.Nand.geometry d.media) g.M.Nand.tells (g.M.Nand.contents d.media) d.shape d.vseg c.retain.new.pseg d.pending k d.next) (sym e.same)
-    (retained_device c.requires.formed e.segment (e.pages ∙ ap length b.live) e.pairs e.some_free spare (let l = e.left in let z = b.left in omega (arith, l, z)) e.from e.differ (λ p taken. b.erased p (e.erased p taken)) (λ p taken. let here = e.copies p taken in let zero = b.copies in absurd (omega (arith, here.0, here.1, zero)))
+    (retained_device c.requires.formed e.segment (e.pages ∙ ap length b.live) e.pairs spare e.none_in_hand (let l = e.left in let z = b.left in omega (arith, l, z))
+    (called_none c.retain.new.pseg d.pending e.pairs empty (c.requires.formed.called.room ∙ ap (λ n. 4 * n) (sym (e.segment.size ∙ sym (segment_for c.requires.formed.segments c.requires.formed.found).size)))) e.from e.differ (λ p taken. b.erased p (e.erased p taken)) (λ p taken. let here = e.copies p taken in let zero = b.copies in absurd (omega (arith, here.0, here.1, zero)))
     (λ t. g.met.M.Nand.contents_fit d.media t))
 
 pub returns-clause-retained : goal.returns-clause-retained
 returns-clause-retained g c =
     let e = c.retain.ensures in
-    retains_with c.retain.new.pseg c.args.self.now.pending c.requires.formed.no_callbacks (retains_are c.args.self.now.kept c.args.kept.now.items c.retain.new.pseg c.requires.can e.retained e.from e.pairs (live_is c.retain.new.pseg ∙ e.live))
+    retains_with c.retain.new.pseg c.args.self.now.pending (none_called c.args.self.now.pseg c.args.self.now.pending c.requires.formed.called (none_held c.args.self.now.pseg c.requires.no_live)) (retains_are c.args.self.now.kept c.args.kept.now.items c.retain.new.pseg c.requires.can e.retained e.from e.pairs (live_is c.retain.new.pseg ∙ e.live))
 
 pub returns-clause-pairs : goal.returns-clause-pairs
 returns-clause-pairs g c =

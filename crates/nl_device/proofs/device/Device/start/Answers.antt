@@ -22,7 +22,10 @@ use Rattle.nl_device.proofs.OpenedNames.{none_held, opened_names}
 use Rattle.nl_device.proofs.Ready.{can_none, found_holds, named_after}
 use Rattle.nl_device.proofs.SeenSpare.{seen_keeps}
 use Rattle.nl_device.proofs.Starting.{for_shape, free_space, opened_device, room_space}
+use Rattle.nl_callbacks.specs.Pending.{PendingTable}
 use Rattle.nl_device.specs.Callbacks.{callbacks_of}
+use Rattle.nl_device.proofs.Leaving.{spare_idle}
+use Rattle.nl_device.proofs.Spacing.{none_victim}
 use Rattle.nl_device.proofs.device.Device.start.Goals as goal
 
 -- the numbers of the volume are those of the medium
@@ -58,7 +61,8 @@ returns-in-Ok-clause-started g c =
       numbers = c.legal_shape-shape.ensures ∙ ap (λ (n : Geometry). shape_for n.blocks n.pages) c.geometry.ensures;
       live = λ p. ap live_page (none_held shape t pseg physicals p);
       pairs = physicals.no_pairs;
-      pending = ap callbacks_of c.in-Ok.ensures.pending;
+      pending = ap (λ (x : PendingTable). callbacks_of x.callbacks) c.in-Ok.ensures.pending;
+      victim = none_victim pseg physicals.none_in_hand;
       free = free_space shape t pseg physicals roomy;
       room = room_space shape t pseg physicals roomy;
       stamp = c.next_stamp-next.ensures;
@@ -101,7 +105,7 @@ returns-in-Ok-clause-formed g c =
     let is = table_now image (g.M.Nand.contents c.args.media) t c.scan.ensures.only_reads.same_contents (c.in-Tables.ensures.tables tell) in
     let e = shape_is segments fit in
     let physical = opened_names image t pseg is (subst (λ s. IsOpenedPhysical s t pseg) (sym e) c.in-Ok.ensures.physicals) (subst (λ (s : Shape). 0 < s.pages) (sym e) segments.some) in
-    opened_on t segments fit live physical is c.in-Ok.ensures.virtuals (named_after shape image t c.in-Ok.field-0.kept e is c.in-Ok.ensures.kept) c.in-Ok.ensures.physicals.no_pairs spare)
+    opened_on t segments fit live physical is c.in-Ok.ensures.virtuals (named_after shape image t c.in-Ok.field-0.kept e is c.in-Ok.ensures.kept) c.in-Ok.ensures.physicals.no_pairs spare (spare_idle pseg image spare.whole spare.block c.in-Ok.ensures.physicals.none_in_hand c.in-Ok.ensures.physicals.left_is))
     c.in-Ok.ensures.kept
     (λ tell.
     found_holds shape image t c.in-Ok.field-0.kept (image_shape shape c.geometry.result geometry image c.legal_shape-shape.ensures (c.geometry.ensures ∙ sym same) (g.met.M.Nand.contents_fit media tell))

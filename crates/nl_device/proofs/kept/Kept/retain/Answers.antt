@@ -1,4 +1,4 @@
-use Rattle.std.proofs.Common.{arith, subst, sym}
+use Rattle.std.proofs.Common.{◌∙◌, ap, arith, is_some, subst, sym}
 use Rattle.nl_device.specs.Kept.{IsKept}
 use Rattle.nl_device.specs.Retain.{CanLoad, Loads}
 use Rattle.nl_device.proofs.Retaining.{are_retained, can_load, found_in, free_blocks, live_differ, one_free, retains_more, retains_none}
@@ -51,8 +51,10 @@ returns-clause-kept_block c k =
     c.listed.invariant.retains.kept_block k
     (one_free c.args.self.now c.self.inside.copies c.args.list.now.items c.listed.at c.args.pseg.now c.listed.pseg is c.requires.can c.listed.invariant.retains (omega (arith, c.listed-test.false, c.len-at-end.ensures.count)))
 
-pub returns-clause-clean : goal.returns-clause-clean
-returns-clause-clean c clean = c.listed.invariant.retains.clean clean
-
 pub returns-clause-kept_dead : goal.returns-clause-kept_dead
 returns-clause-kept_dead c dead = c.listed.invariant.retains.kept_dead dead
+
+pub returns-clause-clean : goal.returns-clause-clean
+returns-clause-clean c clean block kept =
+    let r = c.listed.invariant.retains in
+    ap is_some (r.same_soiled block) ∙ clean block (r.kept_before block kept)

@@ -1,23 +1,53 @@
-use Rattle.std.proofs.Common.{◌≡◌, ◌+◌, ⊎_elim, true, false, refl, sym, ap, ◌∙◌, subst, arith, length, get_or, set, is_some, List, Option, None}
-use Rattle.std.proofs.lemmas.Bool.{OnFalse_at, OnTrue_at, cases_Bool}
+use Rattle.std.proofs.Common.{◌≡◌, ◌≢◌, ◌⊎◌, inl, inr, ◌+◌, ◌*◌, ◌≤◌, ⊎_elim, ℕ, true, false, refl, sym, ap, ◌∙◌, subst, arith, length, get_or, set, is_some, List, Option, Some, None}
+use Rattle.std.specs.Prelude.{Contains, IfNone, filter}
+use Rattle.std.proofs.lemmas.Bool.{OnFalse_at, OnTrue_at, cases_Bool, true≢false}
 use Rattle.std.proofs.lemmas.List.{length-set}
+use Rattle.nl_callbacks.specs.Pending.{PendingTable}
+use Rattle.nl_callbacks.specs.declared.entry.Entry.{Entry}
 use Rattle.nl_field.specs.Live.{resolve}
-use Rattle.nl_pseg.specs.Segment.{held_at}
-use Rattle.nl_device.specs.Shown.{live_page}
+use Rattle.nl_pseg.specs.Segment.{IsOldName, Physical, held_at}
 use Rattle.nl_pseg.specs.declared.held.Held.{Held}
+use Rattle.nl_device.specs.Callbacks.{AreCalled, callbacks_of, handled_in, is_led, names_with}
 use Rattle.nl_device.specs.Device.{HasSpareBlock, IsDevice}
+use Rattle.nl_device.specs.Shown.{bytes_at, live_page}
 use Rattle.nl_device.specs.Space.{live_in}
-use Rattle.nl_device.proofs.Calls.{device_with, held_from, in_within, medium_with, no_pair}
-use Rattle.nl_device.proofs.Living.{clear_held, clear_live, live_less, moved_in, none_wait, unspent_blank}
-use Rattle.nl_device.proofs.Spacing.{freed, one_less, unspent_free}
-use Rattle.nl_device.proofs.Called.{none_beside}
+use Rattle.nl_device.proofs.Calling.{all_led, beside_length, called_less, called_same, handled_less, none_gone, pair_before, pending_less}
+use Rattle.nl_device.proofs.Calls.{device_called, device_with, held_from, in_within, medium_with, named_segments}
+use Rattle.nl_device.proofs.Leaving.{hand_kept, names_in}
+use Rattle.nl_device.proofs.Living.{clear_held, clear_live, less_before, less_keeps, live_less, moved_in}
+use Rattle.nl_device.proofs.Made.{live_held}
+use Rattle.nl_device.proofs.Naming.{names_after}
+use Rattle.nl_device.proofs.Spacing.{freed, one_less}
 use Rattle.nl_device.proofs.named_pages.DeviceNamedPages.free.Goals as goal
+
+-- a name that leads to the page was found, where there is one
+none_leads : (o : Option ℕ) (pairs : List (ℕ × ℕ)) (place : ℕ) → is_some o ≡ false → IfNone o ((name : ℕ) → Contains pairs (name, place) → ⊥) → (name : ℕ) → Contains pairs (name, place) → ⊥
+none_leads None pairs place un off = off
+none_leads (Some n) pairs place un off = absurd (true≢false un)
+
+pub cancel_gone-requires-clause-none : goal.cancel_gone-requires-clause-none
+cancel_gone-requires-clause-none g c un =
+    let d = c.args.self.now in
+    let f = c.requires.formed in
+    let e = c.free-freed.ensures in
+    let new = c.free-freed.new.self in
+    let place = resolve d.pseg.pairs c.args.at.name in
+    ⊎_elim
+    (λ is. none_gone d.pseg new place d.pending f.called f.spare.whole e.whole (OnTrue_at is e.pairs)
+    (subst (λ p. (name : ℕ) → Contains d.pseg.pairs (name, p) → ⊥) c.resolve-place.ensures (none_leads c.name_of.result d.pseg.pairs c.resolve-place.result (sym c.is_some-moved.ensures ∙ un) c.name_of.ensures.none)))
+    (λ is. all_led d.pseg d.pending new.pairs (ap (λ (s : Physical). s.pairs) (OnFalse_at is e.kept)) f.called f.spare.whole)
+    (cases_Bool c.free-freed.result)
+
+pub cancel_gone-requires-clause-names : goal.cancel_gone-requires-clause-names
+cancel_gone-requires-clause-names g c = c.requires.formed.called.once
 
 pub returns-clause-freed : goal.returns-clause-freed
 returns-clause-freed g c is =
     let d = c.args.self.now in
     let f = c.requires.formed in
-    let e = c.free.ensures in
+    let e = c.free-freed.ensures in
+    let k = c.cancel_gone.ensures in
+    let new = c.free-freed.new.self in
     let place = resolve d.pseg.pairs c.args.at.name in
     let h = held_from (held_at d.pseg place) c.args.at.stamp (e.found.0 is) in
     let below = in_within f.segments place (f.live.in_segment place h.0 h.1) in
@@ -26,12 +56,22 @@ returns-clause-freed g c is =
       names = record {
         live = λ q. ap (λ (l : List (Option Held)). live_page (get_or l q None)) (OnTrue_at is e.freed) ∙ clear_live d.pseg.held place below q;
         pairs = pairs;
-        pending = none_beside d.pseg.pairs d.pending.callbacks place f.no_callbacks;
-        handled = λ x has. refl;
-        posted = refl;
+        pending = pending_less d.pseg new place d.pending f.called f.spare.whole e.whole pairs c.cancel_gone.new.pending k.callbacks;
+        handled = handled_less d.pseg new place d.pending f.called f.spare.whole e.whole pairs c.cancel_gone.new.pending k.callbacks;
+        posted = k.posted;
       };
-      space = freed d.pseg c.free.new.self e.pages e.space e.back (ap (λ (l : List (Option Held)). live_in l + 1) (OnTrue_at is e.freed) ∙ one_less d.pseg.held place h.0 below h.1) (pairs ∙ no_pair d.pseg.pairs place f.no_pairs);
+      space = freed d.pseg new e.pages e.space e.back (ap (λ (l : List (Option Held)). live_in l + 1) (OnTrue_at is e.freed) ∙ one_less d.pseg.held place h.0 below h.1)
+          (subst (λ (l : List (ℕ × ℕ)). length l ≤ length d.pseg.pairs) (sym pairs) (beside_length d.pseg.pairs place));
     }
+
+pub returns-clause-refused : goal.returns-clause-refused
+returns-clause-refused g c is =
+    let d = c.args.self.now in
+    let f = c.requires.formed in
+    let k = c.cancel_gone.ensures in
+    let same = OnFalse_at is c.free-freed.ensures.kept in
+    let callbacks = k.callbacks ∙ all_led d.pseg d.pending c.free-freed.new.self.pairs (ap (λ (s : Physical). s.pairs) same) f.called f.spare.whole in
+    λ i. names_with (same i) (record { callbacks = callbacks i; posted = k.posted i; room = 0 })
 
 pub returns-clause-kept : goal.returns-clause-kept
 returns-clause-kept g c = record {
@@ -41,7 +81,7 @@ returns-clause-kept g c = record {
   bytes = λ t p. refl;
   found = refl;
   next_stamp = refl;
-  clean = c.free.ensures.clean;
+  clean = c.free-freed.ensures.clean;
   clock = refl;
   write_faults = refl;
 }
@@ -50,23 +90,35 @@ pub returns-clause-formed : goal.returns-clause-formed
 returns-clause-formed g c =
     let d = c.args.self.now in
     let f = c.requires.formed in
-    let e = c.free.ensures in
-    let new = c.free.new.self in
+    let e = c.free-freed.ensures in
+    let k = c.cancel_gone.ensures in
+    let new = c.free-freed.new.self in
+    let pend = c.cancel_gone.new.pending in
     let place = resolve d.pseg.pairs c.args.at.name in
-    let space = e.back.same (none_wait d.pseg f.spare.whole f.no_pairs) in
-    let hand = e.space.victim ∙ f.spare.none_in_hand in
     ⊎_elim
-    (λ (is : c.free.result ≡ true).
+    (λ (is : c.free-freed.result ≡ true).
     let h = held_from (held_at d.pseg place) c.args.at.stamp (e.found.0 is) in
     let below = in_within f.segments place (f.live.in_segment place h.0 h.1) in
     let held : new.held ≡ set d.pseg.held place None = OnTrue_at is e.freed in
-    let live = live_less d.pseg new place f.live e.pages (λ p taken. moved_in d.pseg new e.pages p (f.live.blank_in p (unspent_blank d.pseg new e.pages space p taken))) below held in
+    let live = live_less d.pseg new place f.live e.pages e.whole.pages.erased_within below held in
     let count : length new.held ≡ length d.pseg.held = ap (λ (l : List (Option Held)). length l) held ∙ length-set d.pseg.held place None in
-    let pairs = OnTrue_at is e.pairs ∙ no_pair d.pseg.pairs place f.no_pairs in
-    let spare : HasSpareBlock new = record { whole = e.whole; none_in_hand = hand; block = e.kept_block f.spare.block; dead = e.kept_dead } in
-    device_with f f.found f.found_stored refl e.pages count live (unspent_free d.pseg new f.free e.pages space) spare
-    pairs (omega arith)
+    let pairs = OnTrue_at is e.pairs in
+    let spare : HasSpareBlock new = record { whole = e.whole; block = e.kept_block f.spare.block; in_hand = hand_kept d.pseg new e.pages.same_first e.pages.same_blocks e.space.victim f.spare } in
+    let called : AreCalled new pend = called_less d.pseg new place d.pending f.called f.spare.whole e.whole pairs pend k.callbacks k.numbers k.room e.pages.same_size (less_keeps d.pseg new place held) in
+    device_with f f.found f.found_stored refl e.pages count live spare called (omega arith)
     (λ p x has. f.stamp.live p x (clear_held d.pseg.held place p x below (ap (λ (l : List (Option Held)). get_or l p None) (sym held) ∙ has)).1)
-    (λ t. medium_with f t refl e.pages count (g.met.M.Nand.contents_fit d.media t) live (λ p lt. refl) (e.segment (g.M.Nand.contents d.media) (f.medium t).physical_is) (omega arith) pairs spare (f.medium t).named_below))
-    (λ (is : c.free.result ≡ false). subst (λ s. IsDevice (g.M.Nand.geometry d.media) g.M.Nand.tells (g.M.Nand.contents d.media) d.shape d.vseg s d.pending d.kept d.next) (sym (OnFalse_at is e.kept)) f)
-    (cases_Bool c.free.result)
+    (λ t.
+    let image = g.M.Nand.contents d.media in
+    let fit = g.met.M.Nand.contents_fit d.media t in
+    let physical = e.segment image (f.medium t).physical_is in
+    medium_with f t refl e.pages count fit live (λ p lt. refl) physical (omega arith) spare (e.spare image (f.medium t).spare)
+    (names_after (g.M.Nand.geometry d.media) d.shape d.vseg d.pseg image image f.segments fit fit f.live (f.medium t).physical_is new f.spare.whole (λ p. inl refl)
+    (pair_before d.pseg new place d.pending f.called f.spare.whole e.whole pairs) (λ p. ⊥) (λ p off. absurd off) (λ p x has. inl (less_before d.pseg new place below held p x has))
+    (λ p. bytes_at (d.shape.vblocks * d.shape.pages) image p) (live_held (named_segments f.segments refl e.pages count) fit live physical) (names_in (f.medium t).pages))
+    (f.medium t).named_below))
+    (λ (is : c.free-freed.result ≡ false).
+    let same = OnFalse_at is e.kept in
+    let callbacks = k.callbacks ∙ all_led d.pseg d.pending new.pairs (ap (λ (s : Physical). s.pairs) same) f.called f.spare.whole in
+    subst (λ s. IsDevice (g.M.Nand.geometry d.media) g.M.Nand.tells (g.M.Nand.contents d.media) d.shape d.vseg s pend d.kept d.next) (sym same)
+    (device_called f (called_same d.pseg d.pseg d.pending pend f.called (ap callbacks_of callbacks) k.numbers k.room refl refl (λ p h x. x))))
+    (cases_Bool c.free-freed.result)

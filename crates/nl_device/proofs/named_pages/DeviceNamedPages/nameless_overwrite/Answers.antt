@@ -1,5 +1,5 @@
 use Rattle.std.proofs.Common.{◌≡◌, ◌⊎◌, inl, inr, ⊎_elim, refl, sym, ap, ◌∙◌, subst, ℕ, ◌+◌, ◌*◌, ◌/◌, ◌≤◌, ◌<◌, arith, length, get_or, set, cond, Bool, true, false, List, Option, Some, None}
-use Rattle.std.specs.Prelude.{◌↔◌}
+use Rattle.std.specs.Prelude.{◌↔◌, Contains, IfNone, is_some}
 use Rattle.std.proofs.lemmas.Bool.{cases_Bool, false≢true}
 use Rattle.std.proofs.lemmas.List.{get_or-set_other, get_or-set_same, length-set}
 use Rattle.std.proofs.lemmas.Option.{none-some}
@@ -21,21 +21,42 @@ use Rattle.nl_pseg.specs.Segment.{IsClean, IsLive, Physical, held_at, wear_of}
 use Rattle.nl_pseg.specs.declared.held.Held.{Held}
 use Rattle.nl_device.specs.Device.{HasFound, HasSpareBlock}
 use Rattle.nl_device.specs.Kept.{KeptPages}
-use Rattle.nl_device.specs.Laws.{held_of}
+use Rattle.nl_device.specs.State.{held_of}
 use Rattle.nl_device.specs.Shown.{bytes_at, found_by_number, found_in, live_page, names_of}
 use Rattle.nl_device.specs.Space.{live_in}
 use Rattle.nl_device.specs.Stamps.{is_tried}
-use Rattle.nl_device.proofs.Calls.{device_with, found_after, held_from, in_within, is_leads, leads_is, live_or, medium_with, no_pair, stored_after}
+use Rattle.nl_device.proofs.Calls.{device_with, found_after, held_from, in_within, is_leads, leads_is, live_or, medium_with, stored_after}
 use Rattle.nl_device.proofs.Forms.{begins, lift}
-use Rattle.nl_device.proofs.Living.{live_kept, live_more, live_swap, more_below, none_wait, same_below_still, set_live, swap_below, swap_live}
+use Rattle.nl_device.proofs.Living.{live_kept, live_more, live_swap, more_below, same_before, same_below_still, same_keeps, set_live, swap_below, swap_keeps, swap_less, swap_live}
 use Rattle.nl_device.proofs.Made.{bytes_from}
 use Rattle.nl_device.proofs.Naming.{below_after, either_live, either_low, in_block, is_new, leaves_tried, live_bytes, map_same, placed_takes, programmed_named, shown_from, stray_same, to_takes, new_as, tried_as}
-use Rattle.nl_device.proofs.Placing.{after_rises, after_tried, cases_tried, counted, fault_room, fault_space, free_after, from_placed, if_not_placed, if_refused, named_has, named_rises, not_touched, not_tried, placed_at, placed_both, placed_map, placed_or, placed_yes, room_is, to_placed, tried_placed}
-use Rattle.nl_device.proofs.Spacing.{none_retired, one_for_one, wrote, wrote_one}
+use Rattle.nl_device.proofs.Placing.{after_rises, after_tried, cases_tried, counted, fault_room, fault_space, from_placed, if_not_placed, if_refused, named_has, named_rises, not_touched, not_tried, placed_at, placed_both, placed_map, placed_or, placed_yes, room_is, to_placed, tried_placed}
+use Rattle.nl_device.proofs.Spacing.{none_retired, one_for_one, wrote_over}
 use Rattle.nl_device.proofs.Tried.{kept_untried, new_name, next_untried, tried_device}
-use Rattle.nl_device.specs.Callbacks.{names_with}
-use Rattle.nl_device.proofs.Called.{none_beside}
+use Rattle.nl_device.specs.Callbacks.{callbacks_of, handled_in, names_with}
+use Rattle.nl_device.proofs.Calling.{all_led, beside_length, called_less, called_same, handled_less, none_gone, pair_before, pending_less}
+use Rattle.nl_device.proofs.Leaving.{hand_kept, names_in}
 use Rattle.nl_device.proofs.named_pages.DeviceNamedPages.nameless_overwrite.Goals as goal
+
+none_leads : (o : Option ℕ) (pairs : List (ℕ × ℕ)) (place : ℕ) → is_some o ≡ false → IfNone o ((name : ℕ) → Contains pairs (name, place) → ⊥) → (name : ℕ) → Contains pairs (name, place) → ⊥
+none_leads None pairs place un off = off
+none_leads (Some n) pairs place un off = absurd (false≢true (sym un))
+
+pub cancel_gone-requires-clause-none : goal.cancel_gone-requires-clause-none
+cancel_gone-requires-clause-none g c un =
+    let d = c.args.self.now in
+    let f = c.requires.formed in
+    let e = c.nameless_overwrite-answer.ensures in
+    let new = c.nameless_overwrite-answer.new.self in
+    let place = resolve d.pseg.pairs c.args.old.name in
+    ⊎_elim
+    (λ at. none_gone d.pseg new place d.pending f.called f.spare.whole e.whole (e.pairs (placed_yes c.nameless_overwrite-answer.result at.0 at.1))
+    (subst (λ p. (name : ℕ) → Contains d.pseg.pairs (name, p) → ⊥) c.resolve-place.ensures (none_leads c.name_of.result d.pseg.pairs c.resolve-place.result (sym c.is_some-moved.ensures ∙ un) c.name_of.ensures.none)))
+    (λ un_placed. all_led d.pseg d.pending new.pairs (e.same_pairs un_placed) f.called f.spare.whole)
+    (placed_or c.nameless_overwrite-answer.result)
+
+pub cancel_gone-requires-clause-names : goal.cancel_gone-requires-clause-names
+cancel_gone-requires-clause-names g c = c.requires.formed.called.once
 
 leads_or : (seg : Physical) (at : Pointer) (answer : Named) → (answer ≡ named.NotLive) ↔ (IsLive seg at → ⊥) → (answer ≡ named.NotLive) ↔ (leads (names_of seg) at ≡ false)
 leads_or seg at answer is = (
@@ -86,15 +107,16 @@ returns-clause-placed g c =
     let swapped = one_for_one d.pseg.held at.name place (record { tag = c.args.tag; stamp = d.next }) h.0 below within (λ same. differ d.pseg at.name place h.0 dead.0.dead h.1 (sym same)) dead.0.dead h.1 in
     record {
       stamp = dead.1;
-      is_new = new_as d.pseg d.pending (new_name f.segments f.no_pairs at.name dead.0);
+      is_new = new_as d.pseg d.pending (new_name f.segments at.name dead.0);
       names = record {
         live = λ q. ap (λ (l : List (Option Held)). live_page (get_or l q None)) held ∙ swap_live d.pseg.held at.name place c.args.tag d.next below within (differ d.pseg at.name place h.0 dead.0.dead h.1) q;
         pairs = e.pairs yes_placed;
-        pending = none_beside d.pseg.pairs d.pending.callbacks place f.no_callbacks;
-        handled = λ x has. refl;
-        posted = refl;
+        pending = pending_less d.pseg seg place d.pending f.called f.spare.whole e.whole (e.pairs yes_placed) c.cancel_gone.new.pending c.cancel_gone.ensures.callbacks;
+        handled = handled_less d.pseg seg place d.pending f.called f.spare.whole e.whole (e.pairs yes_placed) c.cancel_gone.new.pending c.cancel_gone.ensures.callbacks;
+        posted = c.cancel_gone.ensures.posted;
       };
-      space = wrote 1 d.pseg seg e.pages (subst (λ a. Lessens (cond (is_placed a) 1 0) d.pseg seg) is e.space) (none_wait seg e.whole (e.pairs yes_placed ∙ no_pair d.pseg.pairs place f.no_pairs ∙ f.no_pairs) ∙ sym (none_wait d.pseg f.spare.whole f.no_pairs)) (e.spent yes_placed (none_wait d.pseg f.spare.whole f.no_pairs)) (ap (λ (l : List (Option Held)). live_in l + 1) held ∙ swapped) (e.pairs yes_placed ∙ no_pair d.pseg.pairs place f.no_pairs);
+      space = wrote_over d.pseg seg e.pages (subst (λ a. Lessens (cond (is_placed a) 1 0) d.pseg seg) is e.space) (e.room yes_placed) (e.spent yes_placed) (ap (λ (l : List (Option Held)). live_in l + 1) held ∙ swapped)
+          (subst (λ (l : List (ℕ × ℕ)). length l ≤ length d.pseg.pairs) (sym (e.pairs yes_placed)) (beside_length d.pseg.pairs place));
       bytes = λ t. let p = placed_at c.nameless_overwrite-answer.result _ at is (e.programmed t) in
           bytes_from (d.shape.vblocks * d.shape.pages) new at.name (subst (λ n. n ≤ at.name) (begins f.segments) p.dead.within.0) ∙ ap main_of p.has;
       block = λ t none. let p = placed_at c.nameless_overwrite-answer.result _ at is (e.programmed t) in
@@ -105,8 +127,10 @@ pub returns-clause-none : goal.returns-clause-none
 returns-clause-none g c un =
     let e = c.nameless_overwrite-answer.ensures in
     let un_placed : IsPlaced c.nameless_overwrite-answer.result → ⊥ = λ is. un (from_placed c.nameless_overwrite-answer.result is) in
+    let d = c.args.self.now in
+    let callbacks_stay = λ (un : IsPlaced c.nameless_overwrite-answer.result → ⊥). c.cancel_gone.ensures.callbacks ∙ all_led d.pseg d.pending c.nameless_overwrite-answer.new.self.pairs (e.same_pairs un) c.requires.formed.called c.requires.formed.spare.whole in
     record {
-      tables = record { live = λ q. ap (λ (l : List (Option Held)). live_page (get_or l q None)) (e.same un_placed); pairs = e.same_pairs un_placed; pending = refl; handled = λ n. refl; posted = refl };
+      tables = record { live = λ q. ap (λ (l : List (Option Held)). live_page (get_or l q None)) (e.same un_placed); pairs = e.same_pairs un_placed; pending = ap callbacks_of (callbacks_stay un_placed); handled = λ n. ap (λ l. handled_in l n) (callbacks_stay un_placed); posted = c.cancel_gone.ensures.posted };
       fault = fault_space c.nameless_overwrite-answer.result c.args.self.now.pseg c.nameless_overwrite-answer.new.self e.pages e.cleaning (λ un. e.space.lands) e.failed e.same e.same_pairs;
     }
 
@@ -115,6 +139,7 @@ returns-clause-refused g c = if_refused c.nameless_overwrite-answer.result _ (λ
     let d = c.args.self.now in
     let e = c.nameless_overwrite-answer.ensures in
     let same = e.refused is in
+    let callbacks = c.cancel_gone.ensures.callbacks ∙ all_led d.pseg d.pending c.nameless_overwrite-answer.new.self.pairs (ap (λ (s : Physical). s.pairs) same.0) c.requires.formed.called c.requires.formed.spare.whole in
     let untried : c.is_tried-taken.result ≡ false = c.is_tried-taken.ensures ∙ not_tried c.nameless_overwrite-answer.result is in
     let kept = kept_untried d.kept c.forget_after.new.self c.is_tried-taken.result c.forget_after.ensures untried in
     let next = next_untried c.is_tried-taken.result c.stamp_after-self.result d.next c.stamp_after-self.ensures untried in
@@ -139,7 +164,7 @@ returns-clause-refused g c = if_refused c.nameless_overwrite-answer.result _ (λ
         clock = ap g.M.Nand.clock same.1;
         write_faults = ap g.M.Nand.write_faults same.1;
       };
-      names = ap (λ (s : Physical). names_with s d.pending) same.0;
+      names = λ i. names_with (same.0 i) (record { callbacks = callbacks i; posted = c.cancel_gone.ensures.posted i; room = 0 });
     })
 
 pub returns-clause-left : goal.returns-clause-left
@@ -156,7 +181,7 @@ returns-clause-left g c t =
     let old_fits = g.met.M.Nand.contents_fit d.media t in
     let value : ℕ → Page = λ p. written (page_with main c.args.tag d.next (wear_of d.pseg (p / d.pseg.size))) in
     let leaves = λ (image : Image) (fits : ImageOf (g.M.Nand.geometry d.media) image) (x : Keeps d.pseg old image ⊎ Places d.pseg k.page c.args.tag d.next main old image).
-    tried_as d.pseg d.pending (leaves_tried (g.M.Nand.geometry d.media) d.shape d.vseg d.pseg old image f.segments old_fits fits f.live (f.medium t).physical_is k.page d.next c.args.tag main f.no_pairs f.spare x) in
+    tried_as d.pseg d.pending (leaves_tried (g.M.Nand.geometry d.media) d.shape d.vseg d.pseg old image f.segments old_fits fits f.live (f.medium t).physical_is k.page d.next c.args.tag main f.spare (f.medium t).spare (names_in (f.medium t).pages) x) in
     let there = λ (image : Image) (fits : ImageOf (g.M.Nand.geometry d.media) image) (x : Places d.pseg k.page c.args.tag d.next main old image).
     named_has answer k.page d.next (λ n. (stored_in image).named n ≡ Some (record { tag = c.args.tag; stamp = d.next; bytes = main })) k.named
     (programmed_named (g.M.Nand.geometry d.media) d.shape d.vseg d.pseg old image f.segments old_fits fits f.live (f.medium t).physical_is k.page c.args.tag d.next (wear_of d.pseg (k.page / d.pseg.size)) main x.shows x.takes) in
@@ -244,9 +269,9 @@ returns-clause-formed g c =
     let answer = c.nameless_overwrite-answer.result in
     let next = c.stamp_after-self.result in
     let rises : d.next ≤ next = after_rises c.is_tried-taken.result d.next next c.stamp_after-self.ensures in
-    let hand = e.space.victim ∙ f.spare.none_in_hand in
-    let spare : HasSpareBlock seg = record { whole = e.whole; none_in_hand = hand; block = e.kept f.spare.block; dead = e.kept_dead } in
-    let free = free_after answer d.pseg seg f.free e.pages (λ placed. e.spent placed (none_wait d.pseg f.spare.whole f.no_pairs)) e.failed (λ r. (e.refused r).0) in
+    let spare : HasSpareBlock seg = record { whole = e.whole; block = e.kept f.spare.block; in_hand = hand_kept d.pseg seg e.pages.same_first e.pages.same_blocks e.space.victim f.spare } in
+    let k = c.cancel_gone.ensures in
+    let pend = c.cancel_gone.new.pending in
     let device = tried_device answer c.is_tried-taken.result c.args.tag c.args.from.now.main f e.geometry (g.met.M.Nand.contents_fit d.media) (g.met.M.Nand.contents_fit c.nameless_overwrite-answer.new.media) (λ t. ((e.crash t).page, (e.crash t).either))
     (λ un. not_touched answer un (λ r. ap g.M.Nand.contents (e.refused r).1)) c.forget_after.ensures c.stamp_after-self.ensures c.is_tried-taken.ensures in
     let place = resolve d.pseg.pairs c.args.old.name in
@@ -258,10 +283,17 @@ returns-clause-formed g c =
     let h = old_held d.pseg c.args.old answer at.0 at.1 e.live.1 in
     let within = in_within f.segments place (f.live.in_segment place h.0 h.1) in
     let one = after_tried answer c.is_tried-taken.result d.next next c.stamp_after-self.ensures c.is_tried-taken.ensures (tried_placed answer (placed_yes answer at.0 at.1)) in
-    device seg e.pages (ap (λ (l : List (Option Held)). length l) held ∙ (length-set (set d.pseg.held at.0.name _) place None ∙ length-set d.pseg.held at.0.name _))
-    (live_swap d.pseg seg at.0.name place d.next c.args.tag f.live e.pages e.within dead.0.within below within f.stamp.live held) free spare (e.pairs (placed_yes answer at.0 at.1) ∙ no_pair d.pseg.pairs place f.no_pairs)
-    (swap_below d.pseg seg at.0.name place d.next next c.args.tag below within held f.stamp.live one) e.segment)
+    let x : Held = record { tag = c.args.tag; stamp = d.next } in
+    let pairs = e.pairs (placed_yes answer at.0 at.1) in
+    device seg pend e.pages (ap (λ (l : List (Option Held)). length l) held ∙ (length-set (set d.pseg.held at.0.name _) place None ∙ length-set d.pseg.held at.0.name _))
+    (live_swap d.pseg seg at.0.name place d.next c.args.tag f.live e.pages e.within dead.0.within below within f.stamp.live held) spare
+    (called_less d.pseg seg place d.pending f.called f.spare.whole e.whole pairs pend k.callbacks k.numbers k.room e.pages.same_size (swap_keeps d.pseg seg at.0.name place x dead.0.dead held))
+    (swap_below d.pseg seg at.0.name place d.next next c.args.tag below within held f.stamp.live one) e.segment e.spare
+    (pair_before d.pseg seg place d.pending f.called f.spare.whole e.whole pairs) (λ p. p ≡ at.0.name) (λ p here. ap (held_at d.pseg) here ∙ dead.0.dead) (swap_less d.pseg seg at.0.name place x below within held))
     (λ un.
     let held = e.same un in
-    device seg e.pages (ap (λ (l : List (Option Held)). length l) held) (live_kept d.pseg seg f.live e.pages e.within held) free spare (e.same_pairs un) (same_below_still d.pseg seg d.next next held f.stamp.live rises) e.segment)
+    let pairs = e.same_pairs un in
+    device seg pend e.pages (ap (λ (l : List (Option Held)). length l) held) (live_kept d.pseg seg f.live e.pages e.within held) spare
+    (called_same d.pseg seg d.pending pend f.called (ap callbacks_of (k.callbacks ∙ all_led d.pseg d.pending seg.pairs pairs f.called f.spare.whole)) k.numbers k.room pairs e.pages.same_size (same_keeps d.pseg seg held))
+    (same_below_still d.pseg seg d.next next held f.stamp.live rises) e.segment e.spare (λ n x h. subst (λ (l : List (ℕ × ℕ)). Contains l (n, x)) pairs h) (λ p. ⊥) (λ p off. absurd off) (λ p h has. inl (same_before d.pseg seg held p h has)))
     (placed_or answer)

@@ -18,19 +18,23 @@ use Rattle.nl_pseg.specs.Segment.{IsClean, IsLive, Physical, held_at, wear_of}
 use Rattle.nl_pseg.specs.declared.held.Held.{Held}
 use Rattle.nl_device.specs.Device.{HasFound, HasSpareBlock}
 use Rattle.nl_device.specs.Kept.{KeptPages}
-use Rattle.nl_device.specs.Laws.{held_of}
+use Rattle.nl_device.specs.State.{held_of}
 use Rattle.nl_device.specs.Shown.{bytes_at, found_by_number, found_in, live_page, names_of}
 use Rattle.nl_device.specs.Space.{live_in}
 use Rattle.nl_device.specs.Stamps.{is_tried}
-use Rattle.nl_device.proofs.Calls.{device_with, found_after, held_from, in_within, is_leads, leads_is, live_or, medium_with, no_pair, stored_after}
+use Rattle.nl_device.proofs.Calls.{device_with, found_after, held_from, in_within, is_leads, leads_is, live_or, medium_with, stored_after}
 use Rattle.nl_device.proofs.Forms.{begins, lift}
 use Rattle.nl_device.proofs.Living.{live_kept, live_more, live_swap, more_below, same_below_still, set_live, swap_below, swap_live}
 use Rattle.nl_device.proofs.Made.{bytes_from}
 use Rattle.nl_device.proofs.Naming.{below_after, either_live, either_low, in_block, is_new, leaves_tried, live_bytes, map_same, placed_takes, programmed_named, shown_from, stray_same, to_takes, new_as, tried_as}
-use Rattle.nl_device.proofs.Placing.{after_rises, after_tried, cases_tried, counted, fault_room, fault_space, free_after, from_placed, if_not_placed, if_refused, named_has, named_rises, not_touched, not_tried, placed_at, placed_both, placed_map, placed_or, placed_yes, room_is, to_placed, tried_placed}
+use Rattle.nl_device.proofs.Placing.{after_rises, after_tried, cases_tried, counted, fault_room, fault_space, from_placed, if_not_placed, if_refused, named_has, named_rises, not_touched, not_tried, placed_at, placed_both, placed_map, placed_or, placed_yes, room_is, to_placed, tried_placed}
 use Rattle.nl_device.proofs.Spacing.{none_retired, one_for_one, wrote, wrote_one}
 use Rattle.nl_device.proofs.Tried.{kept_untried, new_name, next_untried, tried_device}
 use Rattle.nl_device.specs.Callbacks.{names_with}
+use Rattle.std.specs.Prelude.{Contains}
+use Rattle.nl_device.proofs.Calling.{called_same}
+use Rattle.nl_device.proofs.Leaving.{hand_kept, names_in}
+use Rattle.nl_device.proofs.Living.{more_keeps, more_less, same_before, same_keeps}
 use Rattle.nl_device.proofs.named_pages.DeviceNamedPages.nameless_write.Goals as goal
 
 pub returns-clause-not_live : goal.returns-clause-not_live
@@ -53,7 +57,7 @@ returns-clause-placed g c =
     let below = in_within f.segments at.name dead.0.within in
     record {
       stamp = dead.1;
-      is_new = new_as d.pseg d.pending (new_name f.segments f.no_pairs at.name dead.0);
+      is_new = new_as d.pseg d.pending (new_name f.segments at.name dead.0);
       names = record {
         live = λ q. ap (λ (l : List (Option Held)). live_page (get_or l q None)) held ∙ set_live d.pseg.held at.name c.args.tag d.next below q;
         pairs = e.pairs;
@@ -128,7 +132,7 @@ returns-clause-left g c t =
     let old_fits = g.met.M.Nand.contents_fit d.media t in
     let value : ℕ → Page = λ p. written (page_with main c.args.tag d.next (wear_of d.pseg (p / d.pseg.size))) in
     let leaves = λ (image : Image) (fits : ImageOf (g.M.Nand.geometry d.media) image) (x : Keeps d.pseg old image ⊎ Places d.pseg k.page c.args.tag d.next main old image).
-    tried_as d.pseg d.pending (leaves_tried (g.M.Nand.geometry d.media) d.shape d.vseg d.pseg old image f.segments old_fits fits f.live (f.medium t).physical_is k.page d.next c.args.tag main f.no_pairs f.spare x) in
+    tried_as d.pseg d.pending (leaves_tried (g.M.Nand.geometry d.media) d.shape d.vseg d.pseg old image f.segments old_fits fits f.live (f.medium t).physical_is k.page d.next c.args.tag main f.spare (f.medium t).spare (names_in (f.medium t).pages) x) in
     let there = λ (image : Image) (fits : ImageOf (g.M.Nand.geometry d.media) image) (x : Places d.pseg k.page c.args.tag d.next main old image).
     named_has answer k.page d.next (λ n. (stored_in image).named n ≡ Some (record { tag = c.args.tag; stamp = d.next; bytes = main })) k.named
     (programmed_named (g.M.Nand.geometry d.media) d.shape d.vseg d.pseg old image f.segments old_fits fits f.live (f.medium t).physical_is k.page c.args.tag d.next (wear_of d.pseg (k.page / d.pseg.size)) main x.shows x.takes) in
@@ -213,9 +217,8 @@ returns-clause-formed g c =
     let answer = c.nameless_write-answer.result in
     let next = c.stamp_after-self.result in
     let rises : d.next ≤ next = after_rises c.is_tried-tried.result d.next next c.stamp_after-self.ensures in
-    let hand = e.cleaning.victim ∙ f.spare.none_in_hand in
-    let spare : HasSpareBlock seg = record { whole = e.whole; none_in_hand = hand; block = e.kept f.spare.block; dead = e.kept_dead } in
-    let free = free_after answer d.pseg seg f.free e.pages e.spent e.failed (λ r. (e.refused (no_page_of c.nameless_write-answer.result e.live r)).0) in
+    let spare : HasSpareBlock seg = record { whole = e.whole; block = e.kept f.spare.block; in_hand = hand_kept d.pseg seg e.pages.same_first e.pages.same_blocks e.cleaning.victim f.spare } in
+    let fewer = λ (n x : ℕ) (h : Contains seg.pairs (n, x)). subst (λ (l : List (ℕ × ℕ)). Contains l (n, x)) e.pairs h in
     let device = tried_device answer c.is_tried-tried.result c.args.tag c.args.from.now.main f e.geometry (g.met.M.Nand.contents_fit d.media) (g.met.M.Nand.contents_fit c.nameless_write-answer.new.media) (λ t. ((e.crash t).page, (e.crash t).either))
     (λ un. not_touched answer un (λ r. ap g.M.Nand.contents (e.refused (no_page_of c.nameless_write-answer.result e.live r)).1)) c.forget_after.ensures c.stamp_after-self.ensures c.is_tried-tried.ensures in
     ⊎_elim
@@ -224,9 +227,13 @@ returns-clause-formed g c =
     let held = placed_at answer _ at.0 at.1 e.held in
     let below = in_within f.segments at.0.name dead.0.within in
     let one = after_tried answer c.is_tried-tried.result d.next next c.stamp_after-self.ensures c.is_tried-tried.ensures (tried_placed answer (placed_yes answer at.0 at.1)) in
-    device seg e.pages (ap (λ (l : List (Option Held)). length l) held ∙ length-set d.pseg.held at.0.name _) (live_more d.pseg seg at.0.name d.next c.args.tag f.live e.pages e.within dead.0.within below f.stamp.live held) free spare e.pairs
-    (more_below d.pseg seg at.0.name d.next next c.args.tag below held f.stamp.live one) e.segment)
+    let x : Held = record { tag = c.args.tag; stamp = d.next } in
+    device seg d.pending e.pages (ap (λ (l : List (Option Held)). length l) held ∙ length-set d.pseg.held at.0.name _) (live_more d.pseg seg at.0.name d.next c.args.tag f.live e.pages e.within dead.0.within below f.stamp.live held) spare
+    (called_same d.pseg seg d.pending d.pending f.called refl f.called.numbers refl e.pairs e.pages.same_size (more_keeps d.pseg seg at.0.name x dead.0.dead held))
+    (more_below d.pseg seg at.0.name d.next next c.args.tag below held f.stamp.live one) e.segment e.spare fewer (λ p. p ≡ at.0.name) (λ p here. ap (held_at d.pseg) here ∙ dead.0.dead) (more_less d.pseg seg at.0.name x below held))
     (λ un.
     let held = e.same un in
-    device seg e.pages (ap (λ (l : List (Option Held)). length l) held) (live_kept d.pseg seg f.live e.pages e.within held) free spare e.pairs (same_below_still d.pseg seg d.next next held f.stamp.live rises) e.segment)
+    device seg d.pending e.pages (ap (λ (l : List (Option Held)). length l) held) (live_kept d.pseg seg f.live e.pages e.within held) spare
+    (called_same d.pseg seg d.pending d.pending f.called refl f.called.numbers refl e.pairs e.pages.same_size (same_keeps d.pseg seg held))
+    (same_below_still d.pseg seg d.next next held f.stamp.live rises) e.segment e.spare fewer (λ p. ⊥) (λ p off. absurd off) (λ p h has. inl (same_before d.pseg seg held p h has)))
     (placed_or answer)

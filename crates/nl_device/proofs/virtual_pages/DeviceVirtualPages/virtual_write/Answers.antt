@@ -11,6 +11,7 @@ use Rattle.nl_device.proofs.Laws.{names_are, no_stamp_beyond}
 use Rattle.nl_device.proofs.Made.{made_medium}
 use Rattle.nl_device.proofs.Forms.{begins, kept_segments, lift, same_from, shape_is}
 use Rattle.nl_device.proofs.Writes.{beyond_of, bytes_same, done_or, keeps_below, keeps_leaves, keeps_there, next_rises, next_taken, none_stray, physical_kept, rose_or, stamps_done, stray_done, stray_failed, stray_kept, takes_below, takes_leaves, takes_there, with_there, write_rises}
+use Rattle.nl_device.proofs.Leaving.{names_in, names_still, spare_kept, victim_from}
 use Rattle.nl_device.proofs.virtual_pages.DeviceVirtualPages.virtual_write.Goals as goal
 
 pub returns-clause-left : goal.returns-clause-left
@@ -143,10 +144,8 @@ returns-clause-formed g c =
       segments = kept_segments f.segments e.geometry e.numbers;
       mapped = record { places_in = e.below; blank_in = e.within };
       live = f.live;
-      free = f.free;
       spare = f.spare;
-      no_pairs = f.no_pairs;
-      no_callbacks = f.no_callbacks;
+      called = f.called;
       legal = f.legal;
       unwritten = no_stamp_beyond (kept_segments f.segments e.geometry e.numbers);
       names = names_are (kept_segments f.segments e.geometry e.numbers) next f.live f.names.space (λ p h held. let lt = f.stamp.live p h held in omega (arith, lt, rises));
@@ -191,5 +190,9 @@ returns-clause-formed g c =
           let same = same_from d.shape old new (shape_is f.segments (g.met.M.Nand.contents_fit d.media t)) (shape_is f.segments now_fits) beyond in
           let was = on.named_below p page (sym (same p) ∙ is) in
           omega (arith, was, rises))
-          f.no_pairs f.spare;
+          f.spare
+          (spare_kept d.pseg old new
+          (λ p h has. beyond p (subst (λ n. n ≤ p) (begins f.segments) (f.live.in_segment p h has).0))
+          (λ q hand. beyond q (victim_from f.segments f.spare q hand)) on.spare)
+          (names_still (names_in on.pages) (λ name page live. inl (live, same_from d.shape old new (shape_is f.segments (g.met.M.Nand.contents_fit d.media t)) (shape_is f.segments now_fits) beyond name)));
     }

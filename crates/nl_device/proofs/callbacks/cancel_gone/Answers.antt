@@ -1,0 +1,40 @@
+use Rattle.std.proofs.Common.{arith, ◌≡◌, ◌+◌, ◌≤◌, ◌<◌, ◌==◌, ◌||◌, ◌∙◌, not, nat_lt, List, ap, filter, refl, subst, sym}
+use Rattle.nl_callbacks.specs.Pending.{number_of}
+use Rattle.nl_callbacks.specs.declared.entry.Entry.{Entry}
+use Rattle.nl_field.specs.Live.{resolve}
+use Rattle.nl_device.specs.Callbacks.{NamesDiffer, is_led}
+use Rattle.nl_device.proofs.Lists.{all_through, is_left, names_differ, none_yet, one_more_through}
+use Rattle.nl_device.proofs.callbacks.cancel_gone.Goals as goal
+
+pub each-init : goal.each-init
+each-init c = record {
+  numbers = c.requires.numbers;
+  posted = refl;
+  last = c.posted-last.ensures;
+  here = omega arith;
+  kept = none_yet c.args.pseg.now.pairs c.args.pending.now.callbacks c.args.pending.now.posted c.requires.numbers;
+  room = refl;
+}
+
+pub each-preserved : goal.each-preserved
+each-preserved c =
+    let e = c.cancel_one.ensures in
+    let k = c.each.invariant in
+    let pairs = c.args.pseg.now.pairs in
+    record {
+      numbers = e.numbers;
+      posted = e.posted ∙ k.posted;
+      last = k.last;
+      here = let lt = c.each-test.true in omega (arith, lt);
+      kept = e.callbacks ∙ (ap (λ (l : List Entry). filter (λ x. is_led pairs x || not (number_of x == c.each.number + 1)) l) k.kept ∙ one_more_through pairs c.args.pending.now.callbacks c.each.number);
+      room = e.room ∙ k.room;
+    }
+
+pub returns-after-each-clause-callbacks : goal.returns-after-each-clause-callbacks
+returns-after-each-clause-callbacks c =
+    let k = c.each.invariant in
+    k.kept ∙ all_through c.args.pseg.now.pairs c.args.pending.now.callbacks c.args.pending.now.posted c.each.number c.requires.numbers (let past = c.each-test.false in let last = k.last in omega (arith, past, last))
+
+pub cancel_one-requires-clause-names : goal.cancel_one-requires-clause-names
+cancel_one-requires-clause-names c =
+    subst NamesDiffer (sym c.each.invariant.kept) (names_differ (λ x. not (resolve c.args.pseg.now.pairs x.before == x.before) || nat_lt c.each.number x.number) c.args.pending.now.callbacks c.requires.names)
