@@ -1,17 +1,13 @@
 -- What is seen of two states, where names are gone.
-use Rattle.std.proofs.Common.{◌≡◌, ◌⊎◌, ⊎_elim, ℕ, ◌+◌, ◌*◌, ◌<◌, ◌≤◌, Option, Some, None, List, length, get_or, set, refl, sym, ◌∙◌, ap, arith}
-use Rattle.std.proofs.lemmas.Option.{none-some}
+use Rattle.std.proofs.Common.{◌≡◌, ℕ, ◌+◌, ◌≤◌, None, get_or, arith}
 use Rattle.nl_blocks.specs.Table.{IsTable}
-use Rattle.nl_pseg.specs.Segment.{held_at}
 use Rattle.nl_pseg.specs.Seen.{IsFormed, IsTied, seen}
 use Rattle.nl_pseg.specs.Space.{GivesBack, HasFewPairs, Lessens, gain_of, left_of, reach}
 use Rattle.nl_pseg.specs.Steps.{Ends, NamesGone}
-use Rattle.nl_pseg.specs.declared.held.Held.{Held}
 use Rattle.nl_pseg.specs.declared.state.State.{State}
 use Rattle.nl_pseg.proofs.Ended.{few_on, gone_back, gone_lessens, same_reach}
 use Rattle.nl_pseg.proofs.Holds.{holds_whole}
 use Rattle.nl_pseg.proofs.Lefts.{gain_by, left_ended, left_same}
-use Rattle.nl_pseg.proofs.Segments.{set_held}
 use Rattle.nl_pseg.proofs.States.{within_length}
 
 module _ (s x : State) (is : IsFormed s) (tied : IsTied s) (table : IsTable s.blocks) (few : HasFewPairs (seen s)) (now : IsFormed x) (tied_now : IsTied x) (table_now : IsTable x.blocks) where

@@ -1,16 +1,16 @@
 -- A Free block that was taken for copies.
-use Rattle.std.proofs.Common.{◌≡◌, ◌⊎◌, inl, inr, ⊎_elim, ℕ, ◌+◌, ◌-◌, ◌*◌, ◌/◌, ◌%◌, ◌<◌, ◌≤◌, ◌&&◌, not, cond, count_by, sum_by, Bool, true, false, Option, Some, None, List, length, map, get_or, is_some, refl, sym, ◌∙◌, ap, subst, arith}
+use Rattle.std.proofs.Common.{◌≡◌, ⊎_elim, ℕ, ◌+◌, ◌-◌, ◌*◌, ◌/◌, ◌%◌, ◌<◌, ◌≤◌, ◌&&◌, not, Bool, true, false, Option, Some, None, length, get_or, is_some, refl, sym, ◌∙◌, ap, subst, arith}
 use Rattle.std.specs.Vec.{with_item}
 use Rattle.std.proofs.lemmas.Bool.{cases_eq, true≢false}
 use Rattle.std.proofs.lemmas.List.{get_or-set_other}
 use Rattle.nl_blocks.specs.declared.states.Page.{Page}
 use Rattle.nl_blocks.specs.declared.states.PageState.{PageState}
-use Rattle.nl_blocks.specs.declared.states.BlockState.TheVariants.{Active, Retired, Target, Victim}
+use Rattle.nl_blocks.specs.declared.states.BlockState.TheVariants.{Target, Victim}
 use Rattle.nl_blocks.specs.Table.{Table, HasBlock, HasPage, IsTable, block_at, dead_count, free_count, is_dead_state, new_page, page_at}
 use Rattle.nl_blocks.proofs.TableLaws.{page_in}
 use Rattle.nl_blocks.proofs.TableProofs.{row_size}
-use Rattle.nl_pseg.specs.Segment.{Physical, Use, IsClean, IsNext, IsNextCopy, held_at}
-use Rattle.nl_pseg.specs.Seen.{HasPhases, IsFormed, IsNamed, IsStanding, IsTied, seen, use_in}
+use Rattle.nl_pseg.specs.Segment.{Physical, Use, IsNext, IsNextCopy, held_at}
+use Rattle.nl_pseg.specs.Seen.{HasPhases, IsFormed, IsNamed, IsTied, seen, use_in}
 use Rattle.nl_pseg.specs.Space.{dead_in, gain_of, left_of}
 use Rattle.nl_pseg.specs.Steps.{IsReadied, IsTargeted, Restated, SameMarks, SameNumbers, SameUse, aimed_at}
 use Rattle.nl_pseg.specs.declared.held.Held.{Held}

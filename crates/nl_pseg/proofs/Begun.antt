@@ -1,16 +1,16 @@
 -- What is seen of a segment after a victim was taken.
-use Rattle.std.proofs.Common.{◌≡◌, inl, inr, ⊎_elim, ℕ, ◌+◌, ◌-◌, ◌*◌, ◌/◌, ◌<◌, ◌≤◌, ◌&&◌, not, cond, count_by, sum_by, Option, Some, None, Bool, true, false, List, length, map, option_map, unwrap_or, refl, sym, ◌∙◌, ap, subst, arith}
+use Rattle.std.proofs.Common.{◌≡◌, ℕ, ◌+◌, ◌-◌, ◌*◌, ◌<◌, ◌≤◌, ◌&&◌, not, cond, count_by, sum_by, Some, None, List, length, map, refl, ◌∙◌, ap, arith}
 use Rattle.std.proofs.lemmas.List.{length-map}
 use Rattle.nl_blocks.specs.declared.states.BlockState.{BlockState}
 use Rattle.nl_blocks.specs.declared.states.BlockState.TheVariants.{Sealed, Victim}
-use Rattle.nl_blocks.specs.Table.{BlockRow, Table, HasBlock, IsTable, block_at, dead_count, free_count, in_state, is_sealed_state, with_block}
+use Rattle.nl_blocks.specs.Table.{Table, HasBlock, IsTable, block_at, dead_count, free_count, in_state, is_sealed_state, with_block}
 use Rattle.nl_blocks.proofs.TableLaws.{block_at-with_block_same, sum_by-with_block}
 use Rattle.nl_remap.specs.declared.links.Link.{Link}
 use Rattle.nl_remap.specs.Table.{told}
 use Rattle.nl_pseg.specs.Cleaning.{Begins}
-use Rattle.nl_pseg.specs.Segment.{Row, Use, row_in}
+use Rattle.nl_pseg.specs.Segment.{Use, row_in}
 use Rattle.nl_pseg.specs.Seen.{row_of, seen, use_of}
-use Rattle.nl_pseg.specs.Space.{HasFewPairs, gain_of, left_of}
+use Rattle.nl_pseg.specs.Space.{HasFewPairs, gain_of}
 use Rattle.nl_pseg.specs.Steps.{SameUse}
 use Rattle.nl_pseg.specs.declared.state.State.{State}
 use Rattle.nl_pseg.proofs.Numbers.{block_from}

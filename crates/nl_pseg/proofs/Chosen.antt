@@ -1,12 +1,12 @@
 -- The pairs, and what the blocks are used for, after a victim was taken.
-use Rattle.std.proofs.Common.{◌≡◌, ◌⊎◌, inl, inr, ⊎_elim, ℕ, ◌+◌, ◌-◌, ◌*◌, ◌/◌, ◌<◌, ◌≤◌, Option, Some, None, List, length, refl, sym, ◌∙◌, ap, subst, arith}
+use Rattle.std.proofs.Common.{◌≡◌, ⊎_elim, ℕ, ◌*◌, ◌/◌, Some, None, refl, sym, ◌∙◌, ap, subst, arith}
 use Rattle.std.proofs.lemmas.Bool.{cases_eq}
 use Rattle.std.proofs.lemmas.Option.{none-some, same_Some}
 use Rattle.nl_blocks.specs.declared.states.BlockState.{BlockState}
 use Rattle.nl_blocks.specs.declared.states.BlockState.TheVariants.{Active, Retired, Sealed, Target, Victim}
 use Rattle.nl_blocks.specs.Table.{Table, HasBlock, block_at}
 use Rattle.nl_pseg.specs.Segment.{Use, IsNext, IsNextCopy}
-use Rattle.nl_pseg.specs.Seen.{HasPhases, IsNamed, IsStanding, IsTied, seen, use_in}
+use Rattle.nl_pseg.specs.Seen.{IsTied, seen, use_in}
 use Rattle.nl_pseg.specs.Steps.{SameUse}
 use Rattle.nl_pseg.specs.declared.state.State.{State}
 use Rattle.nl_pseg.proofs.Tables.{has_same}

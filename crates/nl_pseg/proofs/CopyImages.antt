@@ -1,8 +1,8 @@
 -- What the program of a copy leaves of the images of a segment.
-use Rattle.std.proofs.Common.{◌≡◌, ◌⊎◌, inl, inr, ⊎_elim, ℕ, ◌+◌, ◌*◌, ◌/◌, ◌<◌, ◌≤◌, true, false, Option, Some, None, List, length, get_or, set, refl, sym, ◌∙◌, ap, subst, arith, is_some}
-use Rattle.std.proofs.lemmas.Bool.{cases_eq, true≢false}
-use Rattle.std.proofs.lemmas.Option.{none-some, same_Some}
-use Rattle.nl_field.specs.Page.{Image, Page, erased, page_at}
+use Rattle.std.proofs.Common.{◌≡◌, inl, inr, ⊎_elim, ℕ, ◌+◌, ◌/◌, ◌<◌, ◌≤◌, true, false, Option, Some, None, List, length, get_or, refl, sym, ◌∙◌, ap, subst, arith}
+use Rattle.std.proofs.lemmas.Bool.{true≢false}
+use Rattle.std.proofs.lemmas.Option.{none-some}
+use Rattle.nl_field.specs.Page.{Image, Page, page_at}
 use Rattle.nl_nand.specs.Nand.{Cut}
 use Rattle.nl_pseg.specs.Effects.{Keeps}
 use Rattle.nl_pseg.specs.Pages.{main_of, shown_by}
@@ -11,7 +11,7 @@ use Rattle.nl_pseg.specs.Seen.{IsFormed, IsTied, seen}
 use Rattle.nl_pseg.specs.Steps.{IsCopyUsed, IsLed, IsReadied}
 use Rattle.nl_pseg.specs.declared.held.Held.{Held}
 use Rattle.nl_pseg.specs.declared.state.State.{State}
-use Rattle.nl_pseg.proofs.CopyUsed.{copy_apart, copy_behind, copy_block, copy_in_use, copy_segment, is_copy}
+use Rattle.nl_pseg.proofs.CopyUsed.{copy_apart, copy_block, copy_in_use, copy_segment, is_copy}
 use Rattle.nl_pseg.proofs.Images.{program_others, shows_same}
 use Rattle.nl_pseg.proofs.Segments.{set_held}
 use Rattle.nl_pseg.proofs.Tied.{old_is}

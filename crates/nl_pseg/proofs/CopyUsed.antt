@@ -1,16 +1,15 @@
 -- The next page for copies was used.
-use Rattle.std.proofs.Common.{◌≡◌, ◌⊎◌, inl, inr, ⊎_elim, ℕ, ◌+◌, ◌-◌, ◌*◌, ◌/◌, ◌^◌, ◌<◌, ◌≤◌, false, Option, Some, None, List, IfSome, IsTrue, length, get_or, set, refl, sym, ◌∙◌, ap, subst, arith, length-set}
+use Rattle.std.proofs.Common.{◌≡◌, ◌⊎◌, inl, inr, ⊎_elim, ℕ, ◌+◌, ◌-◌, ◌*◌, ◌/◌, ◌^◌, ◌<◌, ◌≤◌, false, Option, Some, None, IfSome, IsTrue, length, set, refl, sym, ◌∙◌, ap, subst, arith, length-set}
 use Rattle.std.specs.Vec.{with_item}
 use Rattle.std.proofs.lemmas.Bool.{cases_eq, cases_lt}
 use Rattle.std.proofs.lemmas.List.{get_or-set_other}
-use Rattle.std.proofs.lemmas.Option.{none-some, same_Some}
 use Rattle.nl_field.specs.Spelling.{is_stamp}
 use Rattle.nl_blocks.specs.declared.states.BlockState.{BlockState}
 use Rattle.nl_blocks.specs.declared.states.BlockState.TheVariants.{Active, Retired, Sealed, Target, Victim}
 use Rattle.nl_blocks.specs.Table.{Table, HasBlock, HasPage, IsTable, block_at}
 use Rattle.nl_blocks.specs.Table.{page_at as page_in}
 use Rattle.nl_pseg.specs.Segment.{Use, InSegment, IsNext, IsNextCopy, held_at, is_kept, use_at}
-use Rattle.nl_pseg.specs.Seen.{AreMarked, ArePlaces, HasPhases, IsFormed, IsNamed, IsPlace, IsStanding, IsTied, is_kept_state, seen}
+use Rattle.nl_pseg.specs.Seen.{AreMarked, ArePlaces, HasPhases, IsFormed, IsNamed, IsTied, is_kept_state, seen}
 use Rattle.nl_pseg.specs.Steps.{IsCopyUsed, SameUse}
 use Rattle.nl_pseg.specs.declared.held.Held.{Held}
 use Rattle.nl_pseg.specs.declared.state.State.{State}

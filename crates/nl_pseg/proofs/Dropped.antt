@@ -1,5 +1,5 @@
 -- How a state goes on as a name is gone.
-use Rattle.std.proofs.Common.{◌≡◌, ◌⊎◌, inl, inr, ⊎_elim, ℕ, zero, suc, ◌+◌, ◌-◌, ◌*◌, ◌/◌, ◌^◌, ◌<◌, ◌≤◌, ◌==◌, cond, eq-eqb, ne_eqb, Bool, true, false, Option, Some, None, List, length, remove, refl, sym, ◌∙◌, ap, subst, arith}
+use Rattle.std.proofs.Common.{◌≡◌, ◌⊎◌, inl, inr, ⊎_elim, ℕ, zero, suc, ◌+◌, ◌-◌, ◌*◌, ◌/◌, ◌<◌, ◌==◌, cond, eq-eqb, ne_eqb, Bool, true, false, Some, List, length, remove, refl, sym, ◌∙◌, ap, subst, arith}
 use Rattle.std.proofs.lemmas.Bool.{cases_eq, true≢false}
 use Rattle.std.proofs.lemmas.List.Edits.{length-remove}
 use Rattle.nl_blocks.specs.declared.states.BlockState.{BlockState}
@@ -12,7 +12,7 @@ use Rattle.nl_remap.proofs.LinksProofs.{HasLink-remove_back}
 use Rattle.nl_remap.proofs.TableProofs.{IsOld-remove_back}
 use Rattle.nl_pseg.specs.OldNames.{NameTable, names_among}
 use Rattle.nl_pseg.specs.Segment.{Use, IsNext, IsNextCopy, held_at}
-use Rattle.nl_pseg.specs.Seen.{HasPhases, IsFormed, IsNamed, IsTied, seen, use_in}
+use Rattle.nl_pseg.specs.Seen.{IsFormed, IsTied, seen, use_in}
 use Rattle.nl_pseg.specs.Steps.{SameMarks, SameNumbers}
 use Rattle.nl_pseg.specs.declared.held.Held.{Held}
 use Rattle.nl_pseg.specs.declared.state.State.{State}

@@ -1,5 +1,5 @@
 -- The names of a page are dropped, one by one.
-use Rattle.std.proofs.Common.{◌≡◌, ℕ, ◌+◌, ◌==◌, not, Bool, true, false, filter, map, List, [], ◌∷◌, length, remove, refl, sym, ◌∙◌, ap, arith, ◌<◌, cond, zero, suc, eq-eqb, ne_eqb}
+use Rattle.std.proofs.Common.{◌≡◌, ℕ, ◌==◌, not, Bool, true, false, List, [], ◌∷◌, length, remove, refl, sym, ◌∙◌, ap, arith, ◌<◌, cond, zero, suc, eq-eqb, ne_eqb}
 use Rattle.std.proofs.lemmas.List.Edits.{length-remove}
 use Rattle.nl_remap.specs.Links.{link_at}
 use Rattle.nl_remap.specs.Table.{IsOld, IsRemap, beside, place_of, told}

@@ -1,10 +1,10 @@
 -- What is seen of a segment as a page is live no longer, or as names are gone.
-use Rattle.std.proofs.Common.{◌≡◌, ◌⊎◌, inl, inr, ⊎_elim, ℕ, zero, suc, ◌+◌, ◌-◌, ◌*◌, ◌/◌, ◌<◌, ◌≤◌, ◌==◌, not, Bool, true, false, cond, is_some, filter, remove, map, Option, Some, None, List, [], ◌∷◌, length, get_or, set, Contains, refl, sym, ◌∙◌, ap, subst, arith, eq-eqb, ne_eqb}
-use Rattle.std.proofs.lemmas.Bool.{cases_Bool, cases_eq, true≢false}
+use Rattle.std.proofs.Common.{◌≡◌, ◌⊎◌, inl, inr, ⊎_elim, ℕ, ◌+◌, ◌-◌, ◌*◌, ◌/◌, ◌<◌, ◌≤◌, true, false, is_some, Option, Some, None, List, length, get_or, set, Contains, refl, sym, ◌∙◌, ap, subst, arith}
+use Rattle.std.proofs.lemmas.Bool.{cases_Bool, true≢false}
 use Rattle.std.proofs.lemmas.Option.{none-some}
 use Rattle.nl_field.specs.Page.{Image}
-use Rattle.nl_pseg.specs.Segment.{HasSpare, InSegment, IsClean, InVictim, IsNext, IsOldName, IsPhysicalOf, IsUnspent, KeepsBlock, Physical, SameNames, SamePages, TakenAsErased, held_at, is_free, is_kept, is_soiled, is_waiting, room, soiled, without_target}
-use Rattle.nl_pseg.specs.Space.{GivesBack, HasFewPairs, HasRoomForVictim, Lessens, gain_of, landing, left_of, reach, victims, waiting}
+use Rattle.nl_pseg.specs.Segment.{HasSpare, InSegment, IsClean, IsNext, IsPhysicalOf, IsUnspent, KeepsBlock, Physical, SameNames, SamePages, TakenAsErased, held_at, is_free, is_kept, is_soiled, is_waiting, room, without_target}
+use Rattle.nl_pseg.specs.Space.{GivesBack, HasFewPairs, Lessens, gain_of, landing, left_of, reach, victims, waiting}
 use Rattle.nl_pseg.specs.Steps.{Ends, NamesGone}
 use Rattle.nl_pseg.specs.declared.held.Held.{Held}
 use Rattle.nl_pseg.proofs.Numbers.{block_from}

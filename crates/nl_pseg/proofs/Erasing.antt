@@ -1,22 +1,20 @@
 -- What an erase of a victim leaves of the images of a segment.
-use Rattle.std.proofs.Common.{◌≡◌, ◌⊎◌, inl, inr, ⊎_elim, ℕ, ◌+◌, ◌*◌, ◌/◌, ◌<◌, ◌≤◌, Bool, true, false, Option, Some, None, get_or, is_some, refl, sym, ◌∙◌, ap, subst, arith, List}
+use Rattle.std.proofs.Common.{◌≡◌, ◌⊎◌, inl, inr, ⊎_elim, ℕ, ◌+◌, ◌*◌, ◌/◌, ◌<◌, ◌≤◌, false, Option, Some, None, get_or, is_some, refl, sym, ◌∙◌, ap, subst, arith, List}
 use Rattle.std.proofs.lemmas.Bool.{cases_eq, true≢false}
 use Rattle.std.proofs.lemmas.Option.{none-some}
 use Rattle.nl_blocks.specs.declared.states.BlockState.{BlockState}
-use Rattle.nl_blocks.specs.declared.states.BlockState.TheVariants.{Active, Victim}
+use Rattle.nl_blocks.specs.declared.states.BlockState.TheVariants.{Victim}
 use Rattle.nl_blocks.specs.Table.{HasBlock, block_at}
-use Rattle.nl_field.specs.Page.{Image, Page, erased, page_at}
+use Rattle.nl_field.specs.Page.{Image, erased, page_at}
 use Rattle.nl_nand.specs.Nand.{Cut}
 use Rattle.nl_pseg.specs.Cleaning.{Erases, KeepsBeside}
-use Rattle.nl_pseg.specs.Pages.{main_of, shown_by}
-use Rattle.nl_pseg.specs.Segment.{HasSpare, IsClean, IsNext, IsNextCopy, IsPhysicalOf, KeepsBlock, Physical, TakenAsErased, Use, held_at, is_free, is_kept, is_soiled, soiled}
+use Rattle.nl_pseg.specs.Segment.{HasSpare, IsClean, IsNext, IsNextCopy, IsPhysicalOf, KeepsBlock, Physical, TakenAsErased, Use, held_at, is_kept, is_soiled, soiled}
 use Rattle.nl_pseg.specs.Seen.{IsFormed, IsTied, is_kept_state, seen}
-use Rattle.nl_pseg.specs.Space.{left_of, victims}
 use Rattle.nl_pseg.specs.declared.cleaned.Erasure.{Erasure}
 use Rattle.nl_pseg.specs.declared.cleaned.Erasure.TheVariants as the
 use Rattle.nl_pseg.specs.declared.held.Held.{Held}
 use Rattle.nl_pseg.specs.declared.state.State.{State}
-use Rattle.nl_pseg.proofs.Images.{erase_others, shows_same}
+use Rattle.nl_pseg.proofs.Images.{shows_same}
 use Rattle.nl_pseg.proofs.Numbers.{block_of}
 use Rattle.nl_pseg.proofs.States.{kept_block, next_block}
 use Rattle.nl_pseg.proofs.Tables.{use_here}

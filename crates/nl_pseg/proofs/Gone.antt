@@ -1,16 +1,16 @@
 -- What is seen of a segment as names are gone.
-use Rattle.std.proofs.Common.{◌≡◌, ◌⊎◌, inl, inr, ⊎_elim, ℕ, zero, suc, ◌+◌, ◌-◌, ◌*◌, ◌/◌, ◌<◌, ◌≤◌, ◌&&◌, not, nat_le, cond, count_by, Bool, true, false, List, [], ◌∷◌, Contains, length, map, get_or, refl, sym, ◌∙◌, ap, subst, arith}
-use Rattle.std.proofs.lemmas.Bool.{cases_Bool, le-leb, true≢false}
+use Rattle.std.proofs.Common.{◌≡◌, ⊎_elim, ℕ, zero, suc, ◌+◌, ◌-◌, ◌*◌, ◌<◌, ◌≤◌, ◌&&◌, not, cond, count_by, Bool, true, false, List, [], ◌∷◌, Contains, length, map, get_or, refl, sym, ◌∙◌, ap, subst, arith}
+use Rattle.std.proofs.lemmas.Bool.{cases_Bool, true≢false}
 use Rattle.std.proofs.lemmas.List.{get_or-map, length-map}
 use Rattle.std.proofs.lemmas.List.Sums.{sum_by-cons}
 use Rattle.nl_blocks.specs.declared.states.BlockState.{BlockState}
 use Rattle.nl_blocks.specs.declared.states.BlockState.TheVariants as the
-use Rattle.nl_blocks.specs.Table.{BlockRow, Table, free_count, is_free, is_free_state}
+use Rattle.nl_blocks.specs.Table.{BlockRow, Table, is_free, is_free_state}
 use Rattle.nl_remap.specs.Links.{link_at, no_link}
 use Rattle.nl_remap.specs.Table.{IsOld, told}
 use Rattle.nl_remap.specs.declared.links.Link.{Link}
 use Rattle.nl_pseg.specs.OldNames.{NameTable}
-use Rattle.nl_pseg.specs.Segment.{Use, IsOldName, no_use}
+use Rattle.nl_pseg.specs.Segment.{Use, no_use}
 use Rattle.nl_pseg.specs.Seen.{is_kept_state, seen, use_in, use_of}
 use Rattle.nl_pseg.specs.Steps.{NamesGone, SameNumbers}
 use Rattle.nl_pseg.specs.declared.state.State.{State}

@@ -1,26 +1,24 @@
 -- What holds of each segment.
-use Rattle.std.proofs.Common.{◌≡◌, ◌⊎◌, inl, inr, ⊎_elim, ℕ, ◌+◌, ◌-◌, ◌*◌, ◌/◌, ◌<◌, ◌≤◌, nat_le, Bool, true, false, cond, Option, Some, None, List, length, get_or, map, count_by, sum_by, Contains, refl, sym, ◌∙◌, ap, subst, arith}
+use Rattle.std.proofs.Common.{◌≡◌, ⊎_elim, ℕ, ◌+◌, ◌-◌, ◌*◌, ◌/◌, ◌<◌, ◌≤◌, nat_le, Bool, true, false, cond, Option, Some, None, List, length, get_or, map, count_by, Contains, refl, sym, ◌∙◌, ap, subst, arith}
 use Rattle.std.proofs.lemmas.Bool.{cases_Bool, true≢false}
 use Rattle.std.proofs.lemmas.List.{get_or-map, length-map}
 use Rattle.std.proofs.lemmas.List.Sums.{count_by-le-length, get_or-le-sum_by}
 use Rattle.nl_blocks.specs.declared.states.BlockState.{BlockState}
 use Rattle.nl_blocks.specs.declared.states.BlockState.TheVariants as the
-use Rattle.nl_blocks.specs.Table.{BlockRow, HasBlock, IsTable, block_at, dead_count, is_free, is_retired_state, is_sealed_state, no_row, row_at}
+use Rattle.nl_blocks.specs.Table.{BlockRow, HasBlock, IsTable, block_at, dead_count, is_free, is_retired_state, no_row, row_at}
 use Rattle.nl_remap.specs.Links.{HasLink, link_at, no_link}
 use Rattle.nl_remap.specs.Table.{pair}
 use Rattle.nl_remap.specs.declared.links.Link.{Link}
-use Rattle.nl_pseg.specs.OldNames.{names_among}
-use Rattle.nl_pseg.specs.Segment.{Use, IsNextCopy, InSegment, KeepsBlock, no_use}
-use Rattle.nl_pseg.specs.Seen.{IsFormed, IsTied, row_of, seen, use_of}
-use Rattle.nl_pseg.specs.Space.{HasFewPairs, HasNumbers, HasPages, IsWhole, dead_in, dead_pages, gain_of, left_of, live_in, victims, waiting}
-use Rattle.nl_pseg.specs.declared.held.Held.{Held}
+use Rattle.nl_pseg.specs.Segment.{Use, KeepsBlock, no_use}
+use Rattle.nl_pseg.specs.Seen.{IsFormed, IsTied, seen, use_of}
+use Rattle.nl_pseg.specs.Space.{HasFewPairs, HasPages, IsWhole, dead_pages, gain_of, left_of, live_in, victims, waiting}
 use Rattle.nl_pseg.specs.declared.state.State.{State}
 use Rattle.nl_pseg.proofs.Dropped.{retired_is}
 use Rattle.nl_pseg.proofs.Gone.{all_kept, kept, waits}
 use Rattle.nl_pseg.proofs.Runs.{dead_is, dead_seen, run, run_all, run_plus}
 use Rattle.nl_pseg.proofs.Segments.{kept_within}
 use Rattle.nl_pseg.proofs.States.{block_segment, taken_segment}
-use Rattle.nl_pseg.proofs.Sums.{active_is, all_covered, is_active, is_target, none_of, one_of, some_of, target_is, waits_few}
+use Rattle.nl_pseg.proofs.Sums.{active_is, all_covered, is_active, is_target, one_of, some_of, target_is, waits_few}
 use Rattle.nl_pseg.proofs.Tables.{use_from}
 use Rattle.nl_pseg.proofs.Tied.{copy_target, old_is}
 

@@ -1,29 +1,28 @@
 -- A live page of the victim that is at another page now.
-use Rattle.std.proofs.Common.{◌≡◌, ◌⊎◌, inl, inr, ⊎_elim, ℕ, ◌+◌, ◌-◌, ◌*◌, ◌/◌, ◌%◌, ◌<◌, ◌≤◌, ◌==◌, if◌then◌else◌, nat_lt, cond, count_by, Bool, true, false, Option, Some, None, Contains, List, IsSome, length, map, insert, get_or, set, refl, sym, ◌∙◌, ap, subst, arith, length-set, eq-eqb, ne_eqb}
+use Rattle.std.proofs.Common.{◌≡◌, ◌⊎◌, inl, inr, ⊎_elim, ℕ, ◌+◌, ◌-◌, ◌*◌, ◌/◌, ◌%◌, ◌<◌, ◌≤◌, ◌==◌, if◌then◌else◌, nat_lt, cond, true, false, Some, None, List, IsSome, length, map, insert, get_or, refl, sym, ◌∙◌, ap, subst, arith, length-set, eq-eqb, ne_eqb}
 use Rattle.std.specs.Vec.{with_item}
-use Rattle.std.proofs.lemmas.Bool.{cases_eq, cases_lt, true≢false}
-use Rattle.std.proofs.lemmas.List.{get_or-set_other, get_or-set_same, length-map, get_or-map}
+use Rattle.std.proofs.lemmas.Bool.{cases_eq}
+use Rattle.std.proofs.lemmas.List.{get_or-set_other, length-map, get_or-map}
 use Rattle.std.proofs.lemmas.List.Edits.{length-insert}
 use Rattle.std.proofs.lemmas.List.Sums.{count_by-le-length, sum_by-set}
-use Rattle.std.proofs.lemmas.Nat.{div-add-mod'}
-use Rattle.std.proofs.lemmas.Option.{none-some, same_Some}
+use Rattle.std.proofs.lemmas.Option.{none-some}
 use Rattle.nl_blocks.specs.declared.states.BlockState.{BlockState}
-use Rattle.nl_blocks.specs.declared.states.BlockState.TheVariants.{Active, Retired, Target, Victim}
+use Rattle.nl_blocks.specs.declared.states.BlockState.TheVariants.{Victim}
 use Rattle.nl_blocks.specs.declared.states.Page.{Page}
 use Rattle.nl_blocks.specs.declared.states.PageState.{PageState}
 use Rattle.nl_blocks.specs.declared.states.PageState.TheVariants.{Dead, Live}
-use Rattle.nl_blocks.specs.Table.{BlockRow, Table, HasBlock, HasPage, IsTable, block_at, dead_count, is_dead, is_dead_state, is_free_state, new_page, with_mark, with_page}
+use Rattle.nl_blocks.specs.Table.{BlockRow, Table, HasBlock, IsTable, block_at, dead_count, is_dead, is_dead_state, is_free_state, new_page, with_mark, with_page}
 use Rattle.nl_blocks.proofs.TableLaws.{block_at-with_block_same}
 use Rattle.nl_blocks.proofs.TableProofs.{row_size}
 use Rattle.nl_remap.specs.declared.links.Link.{Link}
 use Rattle.nl_remap.specs.Links.{HasLink, link_at, no_link}
-use Rattle.nl_remap.specs.Table.{IsOld, IsRemap, led, led_on, pair, place_of, told}
+use Rattle.nl_remap.specs.Table.{IsOld, IsRemap, led, led_on, pair, place_of}
 use Rattle.nl_remap.proofs.LinksProofs.{HasLink-insert_back}
 use Rattle.nl_remap.proofs.TableProofs.{IsOld-insert_back}
 use Rattle.nl_pseg.specs.OldNames.{NameTable, names_among}
-use Rattle.nl_pseg.specs.Segment.{Use, IsNext, IsNextCopy, IsOldName, held_at, use_at}
-use Rattle.nl_pseg.specs.Seen.{AreMarked, HasPhases, IsFormed, IsNamed, IsStanding, IsTied, is_kept_state, seen, state_for, use_in}
-use Rattle.nl_pseg.specs.Space.{dead_in, gain_of, left_of}
+use Rattle.nl_pseg.specs.Segment.{Use, IsNext, IsNextCopy, IsOldName, held_at}
+use Rattle.nl_pseg.specs.Seen.{IsFormed, IsNamed, IsStanding, IsTied, seen, state_for, use_in}
+use Rattle.nl_pseg.specs.Space.{gain_of}
 use Rattle.nl_pseg.specs.Steps.{IsLed, IsMarked, SameUse}
 use Rattle.nl_pseg.specs.declared.held.Held.{Held}
 use Rattle.nl_pseg.specs.declared.state.State.{State}
@@ -31,12 +30,11 @@ use Rattle.nl_pseg.proofs.Begun.{told_length}
 use Rattle.nl_pseg.proofs.Forms.{formed_page, use_places}
 use Rattle.nl_pseg.proofs.Left.{left_is, there_is}
 use Rattle.nl_pseg.proofs.Named.{names_added}
-use Rattle.nl_pseg.proofs.Numbers.{in_block}
 use Rattle.nl_pseg.proofs.Rows.{dead_here, num, waiting_used}
 use Rattle.nl_pseg.proofs.Segments.{ended_places, set_held}
-use Rattle.nl_pseg.proofs.States.{segment_block, within_length}
+use Rattle.nl_pseg.proofs.States.{within_length}
 use Rattle.nl_pseg.proofs.Tables.{has_same, use_here}
-use Rattle.nl_pseg.proofs.Tied.{back, named_on, old_is, phases_same}
+use Rattle.nl_pseg.proofs.Tied.{back, old_is, phases_same}
 
 -- a link of the pairs that were led on is one that was, or goes to the new page
 pub link_led : (xs : List Link) (old new : ℕ) (l : Link) → HasLink (map (led_on old new) xs) l → (x : Link) × HasLink xs x × (l ≡ led_on old new x)

@@ -1,24 +1,23 @@
 -- A name of another page leads to a page that an opening found.
-use Rattle.std.proofs.Common.{◌≡◌, ◌⊎◌, inl, inr, ⊎_elim, ℕ, zero, suc, ◌+◌, ◌-◌, ◌*◌, ◌/◌, ◌<◌, ◌≤◌, ◌==◌, if◌then◌else◌, nat_lt, Bool, true, false, cond, count_by, Option, Some, None, IsSome, List, [], ◌∷◌, length, map, insert, get_or, refl, sym, ◌∙◌, ap, subst, arith, eq-eqb, ne_eqb}
+use Rattle.std.proofs.Common.{◌≡◌, ◌⊎◌, inl, inr, ⊎_elim, ℕ, zero, suc, ◌+◌, ◌-◌, ◌*◌, ◌/◌, ◌<◌, ◌≤◌, ◌==◌, if◌then◌else◌, nat_lt, Bool, false, cond, Option, Some, None, IsSome, List, [], ◌∷◌, length, map, insert, get_or, refl, sym, ◌∙◌, ap, subst, arith, eq-eqb, ne_eqb}
 use Rattle.std.proofs.lemmas.Bool.{cases_Bool, cases_eq, true≢false}
 use Rattle.std.proofs.lemmas.List.{length-map}
 use Rattle.std.proofs.lemmas.List.Edits.{length-insert}
 use Rattle.std.proofs.lemmas.List.Sums.{count_by-le-length, sum_by-cons}
 use Rattle.std.proofs.lemmas.Option.{none-some}
-use Rattle.nl_field.specs.Live.{resolve}
 use Rattle.nl_blocks.specs.declared.states.BlockState.{BlockState}
 use Rattle.nl_blocks.specs.declared.states.BlockState.TheVariants as the
 use Rattle.nl_blocks.specs.Table.{HasBlock, block_at, free_count, is_free_state, names_of}
 use Rattle.nl_remap.specs.declared.links.Link.{Link}
 use Rattle.nl_remap.specs.Links.{HasLink, link_at}
-use Rattle.nl_remap.specs.Table.{IsOld, IsRemap, led, led_on, pair, place_of, told}
+use Rattle.nl_remap.specs.Table.{IsOld, IsRemap, led, led_on, pair, place_of}
 use Rattle.nl_remap.proofs.LinksProofs.{HasLink-insert_back, same_link}
 use Rattle.nl_remap.proofs.TableProofs.{IsOld-insert_back}
 use Rattle.nl_remap.proofs.Ways.{led_has, led_not}
 use Rattle.nl_pseg.specs.OldNames.{NameTable, names_among}
-use Rattle.nl_pseg.specs.Segment.{IsNext, IsNextCopy, Use, held_at, is_free, is_kept}
+use Rattle.nl_pseg.specs.Segment.{IsNext, IsNextCopy, Use, held_at}
 use Rattle.nl_pseg.specs.Seen.{HasPhases, IsFormed, IsNamed, IsStanding, IsTied, seen, use_in}
-use Rattle.nl_pseg.specs.Steps.{IsAside, IsIdle, LeadsFrom, SameMarks, SameNumbers, aside_state}
+use Rattle.nl_pseg.specs.Steps.{IsAside, IsIdle, LeadsFrom, SameNumbers, aside_state}
 use Rattle.nl_pseg.specs.declared.held.Held.{Held}
 use Rattle.nl_pseg.specs.declared.state.State.{State}
 use Rattle.nl_pseg.proofs.Dropped.{formed_names}
@@ -27,9 +26,9 @@ use Rattle.nl_pseg.proofs.Led.{link_led, old_led}
 use Rattle.nl_pseg.proofs.Named.{names_added}
 use Rattle.nl_pseg.proofs.Numbers.{block_of}
 use Rattle.nl_pseg.proofs.Served.{IsSet, idle_copy, idle_next, served_phases}
-use Rattle.nl_pseg.proofs.States.{block_segment, kept_block, segment_block}
-use Rattle.nl_pseg.proofs.Tables.{free_kept, free_state_is, has_same, use_here}
-use Rattle.nl_pseg.proofs.Tied.{back, copy_target}
+use Rattle.nl_pseg.proofs.States.{kept_block}
+use Rattle.nl_pseg.proofs.Tables.{free_kept, has_same, use_here}
+use Rattle.nl_pseg.proofs.Tied.{back}
 
 abbrev num : Bool → ℕ
 num b = cond b 1 0

@@ -1,7 +1,6 @@
 -- How many pages of the victim are live, as pages die or are written.
-use Rattle.std.proofs.Common.{◌≡◌, ◌⊎◌, inl, inr, ⊎_elim, ℕ, ◌+◌, ◌*◌, ◌<◌, ◌≤◌, Option, Some, None, List, length, get_or, set, unwrap_or, option_map, refl, sym, ◌∙◌, ap, arith}
+use Rattle.std.proofs.Common.{◌≡◌, ℕ, ◌+◌, ◌*◌, ◌<◌, ◌≤◌, Option, Some, None, List, length, get_or, set, unwrap_or, option_map, refl, sym, ◌∙◌, ap, arith}
 use Rattle.nl_blocks.specs.Table.{IsTable}
-use Rattle.nl_pseg.specs.Segment.{Physical, held_at}
 use Rattle.nl_pseg.specs.Seen.{IsFormed, IsTied, seen}
 use Rattle.nl_pseg.specs.Space.{IsWhole, gain_of, left_of, victims}
 use Rattle.nl_pseg.specs.declared.held.Held.{Held}

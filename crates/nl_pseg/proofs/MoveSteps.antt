@@ -1,6 +1,6 @@
 -- How a live page is moved: it is read, a block takes copies, and the copy is programmed.
-use Rattle.std.proofs.Common.{◌≡◌, ◌⊎◌, inl, inr, ⊎_elim, ℕ, ◌+◌, ◌*◌, ◌/◌, ◌<◌, ◌≤◌, true, Option, Some, None, List, refl, sym, ◌∙◌, ap, subst, arith}
-use Rattle.nl_field.specs.CrashStates.{Earlier, LeavesOnly, Rose, Turns, saturated}
+use Rattle.std.proofs.Common.{◌≡◌, ◌⊎◌, inl, inr, ⊎_elim, ℕ, ◌+◌, ◌/◌, ◌≤◌, List, refl, sym, ◌∙◌, ap, subst, arith}
+use Rattle.nl_field.specs.CrashStates.{Earlier, Turns, saturated}
 use Rattle.nl_field.specs.Page.{Image, page_at, written}
 use Rattle.nl_field.specs.declared.answers.Named.TheVariants as named
 use Rattle.nl_field.specs.declared.pointer.Tag.{Tag}

@@ -1,15 +1,14 @@
 -- What is seen of a segment after a live page of the victim was moved, or was not.
-use Rattle.std.proofs.Common.{◌≡◌, ◌⊎◌, inl, inr, ⊎_elim, ℕ, ◌+◌, ◌-◌, ◌*◌, ◌/◌, ◌<◌, ◌≤◌, ◌==◌, if◌then◌else◌, Option, Some, None, Contains, List, length, get_or, set, refl, sym, ◌∙◌, ap, subst, arith, is_some}
-use Rattle.std.proofs.lemmas.Bool.{true≢false}
+use Rattle.std.proofs.Common.{◌≡◌, inl, inr, ⊎_elim, ℕ, ◌+◌, ◌-◌, ◌*◌, ◌/◌, ◌≤◌, ◌==◌, if◌then◌else◌, Option, Some, None, Contains, List, length, get_or, set, refl, sym, ◌∙◌, ap, subst, arith, is_some}
 use Rattle.std.proofs.lemmas.List.{set-get_or}
 use Rattle.nl_field.specs.Live.{resolve}
 use Rattle.nl_pseg.specs.Cleaning.{Moves, MovesNone}
-use Rattle.nl_pseg.specs.Segment.{InVictim, IsClean, IsDead, IsOldName, Physical, Use, held_at, is_kept, room}
-use Rattle.nl_pseg.specs.Space.{HasFewPairs, HasRoomForVictim, left_of, reach, victims, waiting}
+use Rattle.nl_pseg.specs.Segment.{InVictim, IsClean, IsDead, Physical, Use, held_at, room}
+use Rattle.nl_pseg.specs.Space.{HasFewPairs, HasRoomForVictim, reach, victims, waiting}
 use Rattle.nl_pseg.specs.Steps.{IsCopyUsed, IsLed, IsReadied}
 use Rattle.nl_pseg.specs.declared.held.Held.{Held}
 use Rattle.nl_pseg.proofs.Numbers.{block_from}
-use Rattle.nl_pseg.proofs.Segments.{pages_back, pages_then, range_of, within_same}
+use Rattle.nl_pseg.proofs.Segments.{pages_back, range_of, within_same}
 
 abbrev names_in : ℕ → List (ℕ × ℕ) → Type 0
 names_in name ps = (target : ℕ) × Contains ps (name, target)

@@ -1,14 +1,13 @@
 -- How many old names stand in a block.
-use Rattle.std.proofs.Common.{◌≡◌, ◌⊎◌, inl, inr, ⊎_elim, ℕ, zero, suc, ◌+◌, ◌-◌, ◌*◌, ◌/◌, ◌^◌, ◌<◌, ◌≤◌, ◌==◌, cond, Bool, true, false, List, [], ◌∷◌, length, insert, remove, map, get_or, refl, sym, ◌∙◌, ap, subst, arith, eq-eqb}
+use Rattle.std.proofs.Common.{◌≡◌, ℕ, ◌+◌, ◌-◌, ◌/◌, ◌<◌, ◌≤◌, ◌==◌, cond, Bool, true, false, List, [], ◌∷◌, length, insert, remove, map, get_or, refl, sym, ◌∙◌, ap, subst, arith, eq-eqb}
 use Rattle.std.proofs.lemmas.List.Edits.{length-insert, length-remove}
 use Rattle.std.proofs.lemmas.List.Sums.{sum_by-cons, sum_by-insert, sum_by-remove}
 use Rattle.std.proofs.lemmas.List.{length-map}
 use Rattle.nl_remap.specs.declared.links.Link.{Link}
 use Rattle.nl_remap.specs.Links.{link_at, no_link}
 use Rattle.nl_remap.specs.Table.{IsOld, IsRemap, led_on, pair, place_of}
-use Rattle.nl_remap.proofs.TableProofs.{place_counts}
 use Rattle.nl_remap.proofs.Ways.{place_is}
-use Rattle.nl_pseg.specs.OldNames.{AreCounted, IsKept, names_among}
+use Rattle.nl_pseg.specs.OldNames.{IsKept, names_among}
 
 abbrev weight : ℕ → ℕ → Link → ℕ
 weight size block p = cond (p.from / size == block) 1 0

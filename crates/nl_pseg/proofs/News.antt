@@ -14,7 +14,7 @@ use Rattle.nl_remap.specs.Links.{HasLink}
 use Rattle.nl_remap.specs.Table.{IsOld, IsRemap, told}
 use Rattle.nl_pseg.specs.OldNames.{NameTable}
 use Rattle.nl_pseg.specs.Segment.{Use, InSegment, KeepsBlock, TakenAsErased, no_use, room, use_at}
-use Rattle.nl_pseg.specs.Seen.{IsFormed, IsTied, new_segment, row_of, seen, use_in, use_of, use_with, state_for}
+use Rattle.nl_pseg.specs.Seen.{IsFormed, IsTied, new_segment, row_of, seen, use_of, use_with, state_for}
 use Rattle.nl_pseg.specs.declared.held.Held.{Held}
 use Rattle.nl_pseg.specs.declared.state.State.{State}
 use Rattle.nl_pseg.proofs.Numbers.{in_block, block_below}

@@ -1,6 +1,6 @@
 -- What is seen of two states, where a page was written over another one.
-use Rattle.std.proofs.Common.{◌≡◌, ◌⊎◌, inl, inr, ⊎_elim, ℕ, ◌+◌, ◌-◌, ◌*◌, ◌<◌, ◌≤◌, Bool, cond, is_some, Option, Some, None, List, length, set, length-set, refl, sym, ◌∙◌, ap, subst, arith}
-use Rattle.nl_field.specs.Page.{Image, page_at}
+use Rattle.std.proofs.Common.{◌≡◌, ◌⊎◌, inl, inr, ⊎_elim, ℕ, ◌+◌, ◌-◌, ◌*◌, ◌<◌, ◌≤◌, Bool, cond, is_some, Option, None, List, length, set, length-set, refl, sym, ◌∙◌, ap, subst, arith}
+use Rattle.nl_field.specs.Page.{Image}
 use Rattle.nl_field.specs.declared.answers.Named.{Named}
 use Rattle.nl_field.specs.declared.answers.Named.TheVariants as the
 use Rattle.nl_field.specs.declared.pointer.Pointer.{Pointer}
@@ -8,9 +8,9 @@ use Rattle.nl_field.specs.declared.pointer.Tag.{Tag}
 use Rattle.nl_blocks.specs.Table.{IsTable}
 use Rattle.nl_pseg.specs.Answers.{IfPlaced, IsFault, IsPlaced, is_placed}
 use Rattle.nl_pseg.specs.Effects.{Crashes}
-use Rattle.nl_pseg.specs.Segment.{HasSpare, IsClean, IsReady, IsSpent, IsUnspent, KeepsBlock, Physical, SamePages, is_kept, room, without_target}
+use Rattle.nl_pseg.specs.Segment.{HasSpare, IsClean, IsReady, IsSpent, IsUnspent, KeepsBlock, Physical, SamePages, room, without_target}
 use Rattle.nl_pseg.specs.Seen.{IsFormed, IsTied, seen}
-use Rattle.nl_pseg.specs.Space.{HasFewPairs, HasRoomForVictim, Lessens, SameCleaning, left_of, waiting}
+use Rattle.nl_pseg.specs.Space.{HasFewPairs, Lessens, SameCleaning, left_of, waiting}
 use Rattle.nl_pseg.specs.Steps.{Ends, Placing, WritesOver}
 use Rattle.nl_pseg.specs.declared.held.Held.{Held}
 use Rattle.nl_pseg.specs.declared.state.State.{State}

@@ -1,6 +1,6 @@
 -- Which block is the next victim.
-use Rattle.std.proofs.Common.{◌≡◌, inl, inr, ⊎_elim, ℕ, zero, suc, ◌+◌, ◌-◌, ◌<◌, ◌≤◌, cond, sum_by, Option, Some, None, IfSome, IfNone, Bool, true, false, List, [], ◌∷◌, length, map, get_or, refl, sym, ◌∙◌, ap, subst, arith}
-use Rattle.std.proofs.lemmas.Bool.{cases_Bool, true≢false}
+use Rattle.std.proofs.Common.{◌≡◌, ℕ, zero, suc, ◌+◌, ◌<◌, ◌≤◌, cond, sum_by, Option, Some, None, IfSome, IfNone, Bool, true, false, List, [], ◌∷◌, length, get_or, refl, sym, ◌∙◌, ap, arith}
+use Rattle.std.proofs.lemmas.Bool.{true≢false}
 use Rattle.std.proofs.lemmas.List.Sums.{sum_by-cons}
 use Rattle.nl_blocks.specs.declared.states.BlockState.{BlockState}
 use Rattle.nl_blocks.specs.declared.states.BlockState.TheVariants as the
@@ -9,7 +9,6 @@ use Rattle.nl_victim.specs.Victims.{IsColdest, IsLevel, IsMostDead, IsSealed}
 use Rattle.nl_pseg.specs.Cleaning.{IsChosen, NoneChosen}
 use Rattle.nl_pseg.specs.Segment.{Row, Use, is_sealed, wear_of}
 use Rattle.nl_pseg.specs.Seen.{row_of, seen}
-use Rattle.nl_pseg.specs.Space.{dead_in, dead_pages}
 use Rattle.nl_pseg.specs.declared.state.State.{State}
 use Rattle.nl_pseg.proofs.Rows.{dead_here, known_here, sum_map, to_gain}
 use Rattle.nl_pseg.proofs.Tables.{use_here}

@@ -14,7 +14,7 @@ use Rattle.nl_nand.proofs.Crashes.{turns_later, weaken}
 use Rattle.nl_pseg.specs.Answers.{IfPlaced, IsPlaced}
 use Rattle.nl_pseg.specs.Effects.{Crashes, Keeps, Places, Programmed, Takes}
 use Rattle.nl_pseg.specs.Pages.{page_with, shown_by}
-use Rattle.nl_pseg.specs.Segment.{Physical, Use, IsClean, IsDead, IsNext, IsSpent, is_waiting, IsUnspent, KeepsBlock, SameNames, SamePages, held_at, is_free, is_kept, is_soiled, room, soiled, wear_of}
+use Rattle.nl_pseg.specs.Segment.{Physical, Use, IsClean, IsDead, IsNext, IsSpent, is_waiting, KeepsBlock, SameNames, SamePages, held_at, is_free, is_kept, is_soiled, room, soiled, wear_of}
 use Rattle.nl_pseg.specs.Steps.{IsAlone, IsOpened, IsUsed, Opening, OpeningOn, Placing, PlacingOn}
 use Rattle.nl_pseg.specs.declared.held.Held.{Held}
 use Rattle.nl_pseg.proofs.Images.{keeps_then, takes_then}

@@ -1,13 +1,12 @@
 -- What taking a block for copies leaves of the images of a segment.
-use Rattle.std.proofs.Common.{◌≡◌, ◌⊎◌, inl, inr, ⊎_elim, ℕ, ◌+◌, ◌-◌, ◌*◌, ◌/◌, ◌<◌, ◌≤◌, true, false, Option, Some, None, List, get_or, is_some, refl, sym, ◌∙◌, ap, subst, arith}
+use Rattle.std.proofs.Common.{◌≡◌, inl, inr, ⊎_elim, ℕ, ◌*◌, ◌/◌, ◌<◌, ◌≤◌, true, false, Some, None, is_some, refl, sym, ◌∙◌, ap, arith}
 use Rattle.std.proofs.lemmas.Bool.{cases_eq, true≢false}
 use Rattle.std.proofs.lemmas.List.{get_or-set_other}
-use Rattle.nl_field.specs.Page.{Image, Page, erased, page_at}
+use Rattle.nl_field.specs.Page.{Image, erased, page_at}
 use Rattle.nl_blocks.specs.declared.states.BlockState.TheVariants.{Active}
-use Rattle.nl_blocks.specs.Table.{Table, HasBlock, IsTable}
-use Rattle.nl_pseg.specs.Pages.{main_of, shown_by}
+use Rattle.nl_blocks.specs.Table.{Table, HasBlock}
 use Rattle.nl_pseg.specs.Segment.{Physical, Use, IsNext, IsPhysicalOf, TakenAsErased, held_at, is_kept, is_soiled}
-use Rattle.nl_pseg.specs.Seen.{IsFormed, IsTied, seen, use_in}
+use Rattle.nl_pseg.specs.Seen.{IsFormed, seen, use_in}
 use Rattle.nl_pseg.specs.Steps.{Restated, SameUse, aimed_at}
 use Rattle.nl_pseg.specs.declared.held.Held.{Held}
 use Rattle.nl_pseg.specs.declared.state.State.{State}

@@ -1,29 +1,28 @@
 -- A victim that was erased.
-use Rattle.std.proofs.Common.{◌≡◌, ◌⊎◌, inl, inr, ⊎_elim, ℕ, zero, suc, ◌+◌, ◌-◌, ◌*◌, ◌/◌, ◌^◌, ◌<◌, ◌≤◌, ◌&&◌, not, min, cond, count_by, sum_by, Option, Some, None, Bool, true, false, List, length, map, get_or, set, option_map, unwrap_or, refl, sym, ◌∙◌, ap, subst, arith}
-use Rattle.std.proofs.lemmas.Bool.{cases_eq, cases_lt, true≢false}
+use Rattle.std.proofs.Common.{◌≡◌, ◌⊎◌, inl, inr, ⊎_elim, ℕ, zero, suc, ◌+◌, ◌-◌, ◌*◌, ◌/◌, ◌<◌, ◌≤◌, ◌&&◌, not, count_by, Some, None, true, false, map, refl, sym, ◌∙◌, ap, subst, arith}
+use Rattle.std.proofs.lemmas.Bool.{cases_eq, true≢false}
 use Rattle.std.proofs.lemmas.List.{get_or-set_other, get_or-set_same, length-set}
 use Rattle.std.proofs.lemmas.Option.{none-some, same_Some}
 use Rattle.std.specs.Vec.{with_item}
 use Rattle.nl_blocks.specs.declared.states.BlockState.{BlockState}
 use Rattle.nl_blocks.specs.declared.states.BlockState.TheVariants.{Active, Free, Retired, Target, Victim}
-use Rattle.nl_blocks.specs.Table.{BlockRow, Table, HasBlock, IsTable, after_erase, block_at, dead_count, erased_row, free_count, is_free_state, with_block, worn}
+use Rattle.nl_blocks.specs.Table.{BlockRow, Table, HasBlock, IsTable, after_erase, block_at, erased_row, free_count, is_free_state, with_block, worn}
 use Rattle.nl_blocks.proofs.TableLaws.{block_at-with_block_other, block_at-with_block_same, sum_by-with_block}
 use Rattle.nl_remap.specs.Table.{IsOld}
 use Rattle.nl_pseg.specs.Cleaning.{Erases}
 use Rattle.nl_pseg.specs.OldNames.{names_among}
-use Rattle.nl_pseg.specs.Segment.{Row, Use, IsNext, IsNextCopy, IsOldName, held_at, is_free, is_kept, is_waiting, row_in, soiled, use_at}
-use Rattle.nl_pseg.specs.Seen.{HasPhases, IsFormed, IsNamed, IsStanding, IsTied, is_kept_state, row_of, seen, use_in, use_of}
+use Rattle.nl_pseg.specs.Segment.{Use, held_at, row_in}
+use Rattle.nl_pseg.specs.Seen.{HasPhases, IsFormed, IsNamed, IsTied, is_kept_state, row_of, seen, use_in, use_of}
 use Rattle.nl_pseg.specs.Space.{gain_of, left_of}
 use Rattle.nl_pseg.specs.Steps.{SameMarks, SameNumbers}
-use Rattle.nl_pseg.specs.declared.held.Held.{Held}
 use Rattle.nl_pseg.specs.declared.state.State.{State}
 use Rattle.nl_pseg.proofs.Forms.{formed_marks, formed_table}
 use Rattle.nl_pseg.proofs.Left.{none_live}
 use Rattle.nl_pseg.proofs.Named.{names_some}
-use Rattle.nl_pseg.proofs.Numbers.{block_from, in_block}
+use Rattle.nl_pseg.proofs.Numbers.{block_from}
 use Rattle.nl_pseg.proofs.Rows.{dead_here, num, sum_map, waits}
 use Rattle.nl_pseg.proofs.Tables.{has_same, row_here, same_marks, use_here, use_other, with_has}
-use Rattle.nl_pseg.proofs.Tied.{back, named_on, old_is}
+use Rattle.nl_pseg.proofs.Tied.{back, old_is}
 
 kept_after : (n : ℕ) → is_kept_state (after_erase n) ≡ true
 kept_after zero = refl

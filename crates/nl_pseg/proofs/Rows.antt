@@ -1,9 +1,9 @@
 -- What cleaning knows of the blocks of a table, and sums over them.
-use Rattle.std.proofs.Common.{◌≡◌, ◌⊎◌, inl, inr, ⊎_elim, ℕ, zero, suc, ◌+◌, ◌-◌, ◌*◌, ◌/◌, ◌<◌, ◌≤◌, ◌&&◌, not, nat_le, cond, count_by, sum_by, Bool, true, false, List, [], ◌∷◌, length, map, get_or, refl, sym, ◌∙◌, ap, subst, arith}
+use Rattle.std.proofs.Common.{◌≡◌, ℕ, zero, suc, ◌+◌, ◌-◌, ◌<◌, ◌≤◌, ◌&&◌, not, nat_le, cond, count_by, sum_by, Bool, List, [], ◌∷◌, length, map, get_or, refl, sym, ◌∙◌, ap, subst, arith}
 use Rattle.std.proofs.lemmas.Bool.{cond-true, le-leb}
 use Rattle.std.proofs.lemmas.List.{get_or-map, length-map}
 use Rattle.std.proofs.lemmas.List.Sums.{count_by-le-length, sum_by-cons}
-use Rattle.nl_blocks.specs.Table.{BlockRow, Table, HasBlock, IsTable, block_at, dead_count, is_dead, is_sealed_state}
+use Rattle.nl_blocks.specs.Table.{Table, HasBlock, IsTable, block_at, dead_count, is_dead, is_sealed_state}
 use Rattle.nl_blocks.specs.Table.{no_row as no_block}
 use Rattle.nl_blocks.proofs.TableProofs.{row_size}
 use Rattle.nl_pseg.specs.Segment.{Row, Use, no_row, no_use, row_in}

@@ -1,18 +1,16 @@
 -- How many pages of a block are live.
-use Rattle.std.proofs.Common.{◌≡◌, ◌⊎◌, inl, inr, ⊎_elim, ℕ, zero, suc, ◌+◌, ◌-◌, ◌*◌, ◌/◌, ◌%◌, ◌<◌, ◌≤◌, nat_le, Bool, true, false, cond, is_some, Option, Some, None, List, [], ◌∷◌, length, get_or, set, map, count_by, refl, sym, ◌∙◌, ap, subst, arith}
+use Rattle.std.proofs.Common.{◌≡◌, ⊎_elim, ℕ, zero, suc, ◌+◌, ◌-◌, ◌*◌, ◌/◌, ◌%◌, ◌<◌, ◌≤◌, nat_le, Bool, cond, is_some, Option, Some, None, List, [], ◌∷◌, length, get_or, set, map, count_by, refl, sym, ◌∙◌, ap, subst, arith}
 use Rattle.std.proofs.lemmas.Bool.{cases_eq, le-leb, cond-true}
 use Rattle.std.proofs.lemmas.List.{get_or-map, get_or-set_same, get_or-set_other}
 use Rattle.std.proofs.lemmas.List.Sums.{sum_by-cons}
 use Rattle.std.proofs.lemmas.Nat.{div-mul-add, mod-mul-add}
 use Rattle.nl_blocks.specs.declared.states.Page.{Page}
-use Rattle.nl_blocks.specs.declared.states.PageState.{PageState}
-use Rattle.nl_blocks.specs.declared.states.PageState.TheVariants as the
 use Rattle.nl_blocks.specs.Table.{Table, HasBlock, IsTable, block_at, dead_count, is_dead, is_dead_state, new_page, page_at}
 use Rattle.nl_blocks.specs.Table.{no_row as no_block}
 use Rattle.nl_blocks.proofs.TableProofs.{row_size}
 use Rattle.nl_pseg.specs.Segment.{Row, no_row, row_in}
 use Rattle.nl_pseg.specs.Seen.{IsFormed, row_of, seen, state_for}
-use Rattle.nl_pseg.specs.Space.{dead_in, left_of, live_in}
+use Rattle.nl_pseg.specs.Space.{dead_in, live_in}
 use Rattle.nl_pseg.specs.declared.held.Held.{Held}
 use Rattle.nl_pseg.specs.declared.state.State.{State}
 

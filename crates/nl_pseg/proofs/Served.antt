@@ -1,16 +1,14 @@
 -- The pairs, and what the blocks are used for, after an opening was told of a block.
-use Rattle.std.proofs.Common.{◌≡◌, ◌⊎◌, inl, inr, ⊎_elim, ℕ, ◌+◌, ◌-◌, ◌*◌, ◌/◌, ◌<◌, ◌≤◌, false, Option, Some, None, List, length, refl, sym, ◌∙◌, ap, subst, arith}
+use Rattle.std.proofs.Common.{◌≡◌, ◌⊎◌, ⊎_elim, ℕ, ◌*◌, ◌/◌, false, Some, None, sym, ◌∙◌, ap, subst, arith}
 use Rattle.std.proofs.lemmas.Bool.{cases_eq}
 use Rattle.std.proofs.lemmas.Option.{none-some}
 use Rattle.nl_blocks.specs.declared.states.BlockState.{BlockState}
 use Rattle.nl_blocks.specs.declared.states.BlockState.TheVariants.{Active, Retired, Sealed, Target, Victim}
 use Rattle.nl_blocks.specs.declared.states.BlockState.TheVariants as the
 use Rattle.nl_blocks.specs.Table.{Table, HasBlock, block_at}
-use Rattle.nl_remap.specs.Links.{HasLink}
 use Rattle.nl_remap.specs.Table.{IsOld}
-use Rattle.nl_remap.specs.declared.links.Link.{Link}
 use Rattle.nl_pseg.specs.Segment.{IsNext, IsNextCopy, Use, held_at}
-use Rattle.nl_pseg.specs.Seen.{HasPhases, IsNamed, IsStanding, IsTied, seen, use_in}
+use Rattle.nl_pseg.specs.Seen.{HasPhases, IsTied, seen, use_in}
 use Rattle.nl_pseg.specs.Steps.{IsIdle, IsTold, SameNumbers, told_state}
 use Rattle.nl_pseg.specs.declared.held.Held.{Held}
 use Rattle.nl_pseg.specs.declared.state.State.{State}

@@ -7,7 +7,6 @@ use Rattle.nl_blocks.specs.declared.states.BlockState.{BlockState}
 use Rattle.nl_blocks.specs.Table.{HasBlock}
 use Rattle.nl_pseg.specs.Segment.{Use, IsNext, InSegment, KeptAreDead, TakenAsErased, is_kept, no_use, use_at}
 use Rattle.nl_pseg.specs.Seen.{IsFormed, is_kept_state, seen, use_of}
-use Rattle.nl_pseg.specs.declared.held.Held.{Held}
 use Rattle.nl_pseg.specs.declared.state.State.{State}
 use Rattle.nl_pseg.proofs.Numbers.{in_block, block_of, block_below, block_from}
 use Rattle.nl_pseg.proofs.Tables.{use_before, use_from, use_here}

@@ -1,15 +1,13 @@
 -- The pairs, and what the blocks are used for, after a Free block was taken, or was Free again.
-use Rattle.std.proofs.Common.{◌≡◌, ◌⊎◌, inl, inr, ⊎_elim, ℕ, ◌+◌, ◌-◌, ◌*◌, ◌/◌, ◌<◌, ◌≤◌, true, false, Option, Some, None, List, length, refl, sym, ◌∙◌, ap, subst, arith}
+use Rattle.std.proofs.Common.{◌≡◌, ⊎_elim, ℕ, ◌*◌, ◌/◌, ◌<◌, true, false, None, refl, sym, ◌∙◌, ap, arith}
 use Rattle.std.specs.Vec.{with_item}
 use Rattle.std.proofs.lemmas.Bool.{cases_eq, true≢false}
 use Rattle.nl_blocks.specs.declared.states.BlockState.{BlockState}
 use Rattle.nl_blocks.specs.declared.states.BlockState.TheVariants.{Active, Retired, Target, Victim}
 use Rattle.nl_blocks.specs.Table.{Table, HasBlock, block_at, is_free_state}
-use Rattle.nl_remap.specs.Table.{IsOld}
-use Rattle.nl_pseg.specs.Segment.{Use, IsNext, IsNextCopy, held_at, is_free, use_at}
-use Rattle.nl_pseg.specs.Seen.{HasPhases, IsFormed, IsNamed, IsStanding, IsTied, seen, use_in}
-use Rattle.nl_pseg.specs.Steps.{IsTaking, Restated, SameUse}
-use Rattle.nl_pseg.specs.declared.held.Held.{Held}
+use Rattle.nl_pseg.specs.Segment.{Use, IsNext, IsNextCopy}
+use Rattle.nl_pseg.specs.Seen.{HasPhases, IsNamed, IsTied, seen, use_in}
+use Rattle.nl_pseg.specs.Steps.{IsTaking, SameUse}
 use Rattle.nl_pseg.specs.declared.state.State.{State}
 use Rattle.nl_pseg.proofs.Numbers.{block_of}
 use Rattle.nl_pseg.proofs.Tables.{has_same, use_here}

@@ -1,21 +1,20 @@
 -- What is seen of two states, where a page was written.
-use Rattle.std.proofs.Common.{◌≡◌, ◌⊎◌, ⊎_elim, ℕ, ◌+◌, ◌*◌, ◌/◌, ◌<◌, ◌≤◌, true, Option, Some, None, List, length, get_or, set, cond, is_some, refl, sym, ◌∙◌, ap, subst, arith}
+use Rattle.std.proofs.Common.{◌≡◌, ⊎_elim, ℕ, ◌+◌, ◌*◌, ◌/◌, ◌<◌, ◌≤◌, true, Option, Some, None, List, length, get_or, set, cond, is_some, refl, sym, ◌∙◌, ap, subst, arith}
 use Rattle.std.proofs.lemmas.Bool.{cases_eq, true≢false}
 use Rattle.std.proofs.lemmas.List.{get_or-set_other}
 use Rattle.std.proofs.lemmas.Option.{none-some}
 use Rattle.nl_field.specs.Page.{Image, page_at}
 use Rattle.nl_field.specs.declared.answers.Named.{Named}
 use Rattle.nl_field.specs.declared.answers.Named.TheVariants as the
-use Rattle.nl_field.specs.declared.pointer.Pointer.{Pointer}
 use Rattle.nl_field.specs.declared.pointer.Tag.{Tag}
 use Rattle.nl_blocks.specs.Table.{IsTable}
-use Rattle.nl_pseg.specs.Answers.{IfPlaced, IsPlaced}
-use Rattle.nl_pseg.specs.Effects.{Crashes, Keeps, Places}
+use Rattle.nl_pseg.specs.Answers.{IfPlaced}
+use Rattle.nl_pseg.specs.Effects.{Crashes}
 use Rattle.nl_pseg.specs.Pages.{shown_by}
-use Rattle.nl_pseg.specs.Segment.{HasSpare, InVictim, IsDead, IsNext, Physical, Use, held_at, is_kept}
+use Rattle.nl_pseg.specs.Segment.{HasSpare, IsDead, IsNext, Physical, Use, held_at, is_kept}
 use Rattle.nl_pseg.specs.Seen.{IsFormed, IsTied, seen}
-use Rattle.nl_pseg.specs.Space.{HasFewPairs, HasRoomForVictim, IsWhole, SameCleaning, gain_of, landing, left_of, victims, waiting}
-use Rattle.nl_pseg.specs.Steps.{LeavesFree, Placing}
+use Rattle.nl_pseg.specs.Space.{HasFewPairs, HasRoomForVictim, IsWhole, SameCleaning, left_of, victims, waiting}
+use Rattle.nl_pseg.specs.Steps.{Placing}
 use Rattle.nl_pseg.specs.declared.held.Held.{Held}
 use Rattle.nl_pseg.specs.declared.state.State.{State}
 use Rattle.nl_pseg.proofs.Ended.{few_on}

@@ -1,18 +1,16 @@
 -- What the calls of cleaning do to a segment and its medium.
-use Rattle.std.specs.Prelude.{◌≡◌, ◌⊎◌, ℕ, ◌+◌, ◌-◌, ◌*◌, ◌/◌, ◌^◌, ◌<◌, ◌≤◌, ◌==◌, if◌then◌else◌, min, ⊤, Bool, true, false, List, length, filter, not, slice_set, Option, Some, None}
+use Rattle.std.specs.Prelude.{◌≡◌, ◌⊎◌, ℕ, ◌+◌, ◌-◌, ◌*◌, ◌/◌, ◌^◌, ◌<◌, ◌≤◌, ◌==◌, if◌then◌else◌, min, ⊤, Bool, true, false, List, length, filter, not, slice_set, Some, None}
 use Rattle.nl_field.specs.CrashStates.{Earlier, Rose, saturated}
 use Rattle.nl_field.specs.Live.{resolve}
-use Rattle.nl_field.specs.Page.{Image, erased, page_at, written}
+use Rattle.nl_field.specs.Page.{Image, page_at}
 use Rattle.nl_field.specs.declared.answers.Named.{Named}
 use Rattle.nl_field.specs.declared.answers.Named.TheVariants as named
-use Rattle.nl_field.specs.declared.pointer.Tag.{Tag}
-use Rattle.nl_pseg.specs.Effects.{Crashes, Programmed}
-use Rattle.nl_pseg.specs.Pages.{IsUnreadable, main_of, page_with}
-use Rattle.nl_pseg.specs.Segment.{HasSpare, InVictim, IsDead, IsOldName, Physical, held_at, is_free, is_kept, is_sealed, is_waiting, room, row_at, soiled, wear_of}
-use Rattle.nl_pseg.specs.Space.{HasRoomForVictim, SameCleaning, dead_in, dead_pages, gain_of, landing, left_of, reach, victims, waiting}
+use Rattle.nl_pseg.specs.Effects.{Crashes}
+use Rattle.nl_pseg.specs.Pages.{IsUnreadable, main_of}
+use Rattle.nl_pseg.specs.Segment.{InVictim, IsDead, IsOldName, Physical, held_at, is_free, is_kept, is_sealed, is_waiting, room, soiled, wear_of}
+use Rattle.nl_pseg.specs.Space.{HasRoomForVictim, dead_in, dead_pages, left_of, reach, victims, waiting}
 use Rattle.nl_pseg.specs.declared.cleaned.Copied.{Copied}
 use Rattle.nl_pseg.specs.declared.cleaned.Copied.TheVariants as copy
-use Rattle.nl_pseg.specs.declared.cleaned.Erasure.{Erasure}
 use Rattle.nl_pseg.specs.declared.held.Held.{Held}
 
 -- the same pages and names

@@ -1,5 +1,5 @@
 -- Old names: where they lead, and how many stand in a block.
-use Rattle.std.specs.Prelude.{◌≡◌, ℕ, ◌+◌, ◌/◌, ◌<◌, ◌≤◌, ◌^◌, ◌==◌, List, cond, length, sum_by, slice_index_or}
+use Rattle.std.specs.Prelude.{◌≡◌, ℕ, ◌+◌, ◌/◌, ◌<◌, ◌^◌, ◌==◌, List, cond, length, sum_by, slice_index_or}
 use Rattle.nl_remap.specs.Table.{IsRemap}
 use Rattle.nl_remap.specs.declared.links.Link.{Link}
 

@@ -1,5 +1,5 @@
 -- The numbers of a segment's space, and how they go on.
-use Rattle.std.specs.Prelude.{◌≡◌, ◌⊎◌, ℕ, ◌+◌, ◌-◌, ◌*◌, ◌/◌, ◌<◌, ◌≤◌, ◌&&◌, not, true, false, cond, List, [], length, sum_by, count_by, Contains, AllPairs, Option, Some, None, is_some, option_map, unwrap_or}
+use Rattle.std.specs.Prelude.{◌≡◌, ◌⊎◌, ℕ, ◌+◌, ◌-◌, ◌*◌, ◌/◌, ◌≤◌, ◌&&◌, not, true, false, cond, List, length, sum_by, count_by, Contains, AllPairs, Option, Some, is_some, option_map, unwrap_or}
 use Rattle.nl_blocks.specs.Table.{is_sealed_state}
 use Rattle.nl_pseg.specs.Segment.{InSegment, IsOldName, IsUnspent, KeepsBlock, Physical, IsNextCopy, TakenAsErased, held_at, is_free, is_kept, is_waiting, room, row_at, soiled}
 use Rattle.nl_pseg.specs.declared.held.Held.{Held}

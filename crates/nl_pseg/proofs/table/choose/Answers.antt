@@ -1,11 +1,10 @@
 use Rattle.std.proofs.Common.{refl, sym, ap, subst}
 use Rattle.nl_blocks.specs.declared.states.BlockState.{BlockState}
 use Rattle.nl_blocks.specs.declared.states.BlockState.TheVariants.{Victim}
-use Rattle.nl_blocks.specs.Table.{BlockRow, Table, block_at, in_state}
-use Rattle.nl_blocks.proofs.TableLaws.{block_at-with_block_other}
+use Rattle.nl_blocks.specs.Table.{block_at, in_state}
 use Rattle.nl_pseg.specs.Seen.{use_of}
 use Rattle.nl_pseg.specs.Steps.{SameMarks, SameUse}
-use Rattle.nl_pseg.proofs.Tables.{row_here, same_marks, same_row}
+use Rattle.nl_pseg.proofs.Tables.{same_marks, same_row}
 use Rattle.nl_pseg.proofs.table.choose.Goals as goal
 
 pub returns-clause-same : goal.returns-clause-same

@@ -1,4 +1,4 @@
-use Rattle.std.proofs.Common.{◌≡◌, ⊎_elim, ◌+◌, refl, sym, ◌∙◌, ap, arith, ◌<◌}
+use Rattle.std.proofs.Common.{◌≡◌, ⊎_elim, ◌+◌, sym, ◌∙◌, ap, arith, ◌<◌}
 use Rattle.nl_blocks.specs.declared.states.BlockState.{BlockState}
 use Rattle.nl_blocks.specs.declared.states.BlockState.TheVariants.{Active, Free, Retired, Sealed, Target, Victim}
 use Rattle.nl_blocks.specs.Table.{after_erase, block_at, is_free_state}

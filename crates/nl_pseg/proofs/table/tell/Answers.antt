@@ -1,10 +1,10 @@
-use Rattle.std.proofs.Common.{◌≡◌, ℕ, ◌+◌, ◌-◌, ◌^◌, min, Bool, true, false, cond, refl, sym, ◌∙◌, ap, subst}
+use Rattle.std.proofs.Common.{◌≡◌, ◌+◌, min, Bool, true, false, cond, sym, ◌∙◌, ap, subst}
 use Rattle.nl_blocks.specs.declared.states.BlockState.{BlockState}
 use Rattle.nl_blocks.specs.declared.states.BlockState.TheVariants.{Free, Retired}
 use Rattle.nl_blocks.specs.Table.{block_at, is_free_state}
 use Rattle.nl_pseg.specs.Segment.{Use}
 use Rattle.nl_pseg.specs.Seen.{is_kept_state, use_in}
-use Rattle.nl_pseg.specs.Steps.{IsTold, Restated, told_state}
+use Rattle.nl_pseg.specs.Steps.{IsTold, told_state}
 use Rattle.nl_pseg.proofs.Tables.{free_state_is, has_same, told_restated, use_here, used_state}
 use Rattle.nl_pseg.proofs.table.tell.Goals as goal
 

@@ -1,8 +1,7 @@
-use Rattle.std.proofs.Common.{◌≡◌, ◌<◌, ℕ, zero, suc, refl, sym, ◌∙◌, ap, subst, arith, ◌-◌}
+use Rattle.std.proofs.Common.{◌≡◌, ◌<◌, refl, sym, ◌∙◌, ap, subst, arith, ◌-◌}
 use Rattle.nl_blocks.specs.declared.states.BlockState.TheVariants.{Retired}
 use Rattle.nl_blocks.specs.Table.{BlockRow, after_erase, block_at, is_retired_state, names_of, no_row}
 use Rattle.nl_blocks.specs.declared.states.BlockState.{BlockState}
-use Rattle.nl_pseg.specs.Segment.{Use}
 use Rattle.nl_pseg.specs.Seen.{use_of}
 use Rattle.nl_pseg.specs.Steps.{IsTold}
 use Rattle.nl_pseg.proofs.Tables.{after_some, row_here, told_block, use_here}

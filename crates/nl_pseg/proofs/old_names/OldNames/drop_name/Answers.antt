@@ -1,4 +1,4 @@
-use Rattle.std.proofs.Common.{rules, ◌≡◌, ◌+◌, ap, remove, true}
+use Rattle.std.proofs.Common.{rules, ◌≡◌, ◌+◌, ap, remove}
 use Rattle.nl_remap.specs.Table.{IsOld, RemapTable, place_of}
 use Rattle.nl_pseg.proofs.Named.{kept_take}
 use Rattle.nl_pseg.proofs.old_names.OldNames.drop_name.Goals as goal

@@ -1,5 +1,4 @@
-use Rattle.std.proofs.Common.{◌≡◌, ◌↔◌, ℕ, Contains, List, get_or, None, refl, sym, ◌∙◌, ap, subst, IsTrue}
-use Rattle.std.specs.Bool.{OnTrue}
+use Rattle.std.proofs.Common.{◌≡◌, ◌↔◌, get_or, None, sym, ◌∙◌, ap, subst, IsTrue}
 use Rattle.std.proofs.lemmas.Bool.{OnTrue_at, OnTrue_from}
 use Rattle.nl_field.specs.Page.{Image}
 use Rattle.nl_remap.specs.Table.{told}

@@ -1,8 +1,6 @@
-use Rattle.std.proofs.Common.{◌≡◌, ◌⊎◌, ⊎_elim, ◌↔◌, ℕ, None, List, Option, set, refl, sym, ◌∙◌, ap, subst, IsTrue}
-use Rattle.std.specs.Bool.{OnTrue}
+use Rattle.std.proofs.Common.{◌≡◌, ⊎_elim, ◌↔◌, None, set, refl, sym, ◌∙◌, ap, subst, IsTrue}
 use Rattle.std.proofs.lemmas.Bool.{OnFalse_at, OnTrue_at, OnTrue_from, cases_Bool}
 use Rattle.nl_field.specs.Live.{resolve}
-use Rattle.nl_field.specs.Page.{Image}
 use Rattle.nl_pseg.specs.Segment.{HasSpare, IsClean, IsLive, IsPhysicalOf, KeepsBlock, Physical, SamePages, without_target}
 use Rattle.nl_pseg.specs.Seen.{seen}
 use Rattle.nl_pseg.specs.Space.{GivesBack, HasFewPairs, Lessens}

@@ -1,6 +1,6 @@
-use Rattle.std.proofs.Common.{◌≡◌, ◌⊎◌, inl, ℕ, ◌+◌, ◌/◌, ◌<◌, ◌≤◌, cond, false, length, Some, set, sym, ◌∙◌, ap, subst, unwrap_or}
+use Rattle.std.proofs.Common.{◌≡◌, ◌⊎◌, inl, ℕ, ◌+◌, ◌/◌, ◌≤◌, cond, false, length, Some, set, ◌∙◌, ap, subst, unwrap_or}
 use Rattle.nl_field.specs.Live.{resolve}
-use Rattle.nl_pseg.specs.Segment.{IsNext, IsNextCopy, IsOldName, Physical, TakenAsErased, Use, is_free, is_kept, names_another_free, soiled, use_at, wear_of}
+use Rattle.nl_pseg.specs.Segment.{IsNext, IsNextCopy, IsOldName, Physical, TakenAsErased, Use, is_free, is_kept, names_another_free, soiled, wear_of}
 use Rattle.nl_pseg.specs.Seen.{seen}
 use Rattle.nl_pseg.proofs.Ended.{few_none}
 use Rattle.nl_pseg.proofs.Holds.{kept_some}

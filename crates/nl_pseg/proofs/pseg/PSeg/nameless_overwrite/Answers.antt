@@ -1,4 +1,4 @@
-use Rattle.std.proofs.Common.{◌≡◌, ◌⊎◌, ◌↔◌, ◌+◌, ◌≤◌, Some, None, set, sym, ◌∙◌, ap, cond, subst}
+use Rattle.std.proofs.Common.{◌≡◌, ◌⊎◌, ◌↔◌, ◌+◌, ◌≤◌, Some, None, set, ◌∙◌, ap, cond, subst}
 use Rattle.nl_field.specs.Live.{resolve}
 use Rattle.nl_field.specs.declared.answers.Named.TheVariants.{NoPage, NotLive}
 use Rattle.nl_pseg.specs.Answers.{IfPlaced, IsFault, IsPlaced, is_placed}

@@ -1,5 +1,4 @@
-use Rattle.std.proofs.Common.{◌≡◌, ◌⊎◌, inl, inr, ⊎_elim, ◌+◌, ◌-◌, ◌^◌, ◌||◌, ◌<◌, ◌≤◌, min, ◌/◌, Bool, cond, List, Option, Some, None, get_or, refl, sym, ◌∙◌, ap, subst}
-use Rattle.nl_field.specs.Page.{Image}
+use Rattle.std.proofs.Common.{◌≡◌, inl, inr, ⊎_elim, ◌+◌, ◌-◌, ◌^◌, ◌||◌, ◌<◌, ◌≤◌, min, ◌/◌, Bool, cond, List, Option, Some, None, get_or, sym, ◌∙◌, ap, subst}
 use Rattle.nl_pseg.specs.Segment.{HasSpare, IsNextCopy, KeepsBlock, Physical, TakenAsErased, is_free, is_waiting, wear_of}
 use Rattle.nl_pseg.specs.Seen.{seen}
 use Rattle.nl_pseg.specs.declared.held.Held.{Held}

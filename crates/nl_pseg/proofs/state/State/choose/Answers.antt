@@ -1,4 +1,4 @@
-use Rattle.std.proofs.Common.{◌≡◌, ◌⊎◌, ⊎_elim, ℕ, ◌+◌, ◌*◌, ◌/◌, ◌<◌, ◌≤◌, Some, None, refl, sym, ◌∙◌, ap, arith}
+use Rattle.std.proofs.Common.{sym, ◌∙◌, ap}
 use Rattle.nl_blocks.specs.Table.{block_at}
 use Rattle.nl_pseg.proofs.Begun.{begins, few_begun}
 use Rattle.nl_pseg.proofs.Chosen.{chosen_tied}

@@ -1,5 +1,5 @@
-use Rattle.std.proofs.Common.{◌≡◌, ⊎_elim, ℕ, ◌+◌, ◌<◌, ◌≤◌, inr, Some, refl, sym, ◌∙◌, ap, arith}
-use Rattle.nl_pseg.specs.Segment.{KeepsBlock, held_at}
+use Rattle.std.proofs.Common.{◌≡◌, ⊎_elim, inr, Some, refl, sym, ◌∙◌, ap, arith}
+use Rattle.nl_pseg.specs.Segment.{held_at}
 use Rattle.nl_pseg.specs.Seen.{seen}
 use Rattle.nl_pseg.proofs.Left.{left_is, none_live, some_live}
 use Rattle.nl_pseg.proofs.MoveSteps.{moved_if, moved_or_not}

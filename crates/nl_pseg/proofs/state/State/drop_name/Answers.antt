@@ -1,4 +1,4 @@
-use Rattle.std.proofs.Common.{rules, ◌≡◌, ◌⊎◌, inl, inr, ⊎_elim, ℕ, ◌+◌, ◌-◌, ◌/◌, true, false, refl, sym, ◌∙◌, ap, subst, remove, length, arith}
+use Rattle.std.proofs.Common.{rules, ◌≡◌, inl, inr, ⊎_elim, ◌+◌, ◌-◌, ◌/◌, refl, sym, ◌∙◌, ap, subst, remove, length, arith}
 use Rattle.std.proofs.lemmas.Bool.{cases_eq, true≢false}
 use Rattle.nl_blocks.specs.Table.{HasBlock, after_erase, block_at, is_retired_state, names_of}
 use Rattle.nl_remap.specs.Table.{IsOld, place_of}

@@ -1,11 +1,11 @@
-use Rattle.std.proofs.Common.{◌≡◌, ℕ, ◌+◌, ◌*◌, ◌/◌, ◌<◌, ◌≤◌, Some, None, refl, sym, ◌∙◌, ap, subst, arith}
+use Rattle.std.proofs.Common.{◌+◌, ◌*◌, ◌<◌, ◌≤◌, refl, sym, ◌∙◌, subst, arith}
 use Rattle.std.proofs.lemmas.Option.{same_Some}
 use Rattle.nl_field.specs.Page.{Image, erased}
 use Rattle.nl_nand.specs.ImageLaws.{filled_cut}
-use Rattle.nl_nand.specs.Nand.{Cut, block_start}
-use Rattle.nl_nand.proofs.Crashes.{leaves_cut, operation}
+use Rattle.nl_nand.specs.Nand.{Cut}
+use Rattle.nl_nand.proofs.Crashes.{operation}
 use Rattle.nl_pseg.specs.Cleaning.{KeepsBeside}
-use Rattle.nl_pseg.specs.Segment.{IsPhysicalOf, held_at}
+use Rattle.nl_pseg.specs.Segment.{held_at}
 use Rattle.nl_pseg.specs.Seen.{seen}
 use Rattle.nl_pseg.proofs.Erasing.{cut_segment, dead_spare, done_segment, done_spare, keeps_beside}
 use Rattle.nl_pseg.proofs.Images.{erase_others}

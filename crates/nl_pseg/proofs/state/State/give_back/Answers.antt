@@ -1,14 +1,13 @@
-use Rattle.std.proofs.Common.{◌≡◌, ◌⊎◌, inl, ℕ, ◌+◌, ◌-◌, ◌/◌, ◌^◌, ◌<◌, ◌≤◌, min, List, Option, Some, None, length, get_or, set, unwrap_or, is_some, refl, sym, ◌∙◌, ap, subst, arith, true, false}
+use Rattle.std.proofs.Common.{◌≡◌, inl, ℕ, ◌+◌, ◌-◌, ◌^◌, ◌<◌, min, List, Option, Some, None, length, get_or, is_some, refl, sym, ◌∙◌, ap, subst, arith}
 use Rattle.std.specs.Vec.{with_item}
 use Rattle.std.proofs.lemmas.Bool.{true≢false}
 use Rattle.std.proofs.lemmas.List.{get_or-set_same, get_or-set_other}
 use Rattle.std.proofs.lemmas.Option.{none-some}
 use Rattle.nl_blocks.specs.declared.states.BlockState.TheVariants.{Free}
 use Rattle.nl_blocks.specs.Table.{HasBlock, Table, block_at}
-use Rattle.nl_remap.specs.Links.{HasLink, link_at}
-use Rattle.nl_remap.specs.Table.{IsOld, told}
-use Rattle.nl_pseg.specs.OldNames.{NameTable}
-use Rattle.nl_pseg.specs.Segment.{Use, held_at}
+use Rattle.nl_remap.specs.Links.{link_at}
+use Rattle.nl_remap.specs.Table.{told}
+use Rattle.nl_pseg.specs.Segment.{Use}
 use Rattle.nl_pseg.specs.Seen.{seen, use_in}
 use Rattle.nl_pseg.specs.Steps.{IsApart, IsIdle, SameNumbers}
 use Rattle.nl_pseg.specs.declared.held.Held.{Held}

@@ -1,13 +1,13 @@
-use Rattle.std.proofs.Common.{◌≡◌, ℕ, ◌+◌, ◌*◌, ◌/◌, ◌<◌, ◌≤◌, Option, Some, None, List, length, get_or, set, refl, sym, ◌∙◌, ap, subst, arith, is_some, length-set}
+use Rattle.std.proofs.Common.{◌≡◌, ℕ, ◌+◌, ◌*◌, ◌/◌, ◌<◌, Option, Some, None, List, length, get_or, refl, sym, ◌∙◌, ap, subst, arith, is_some, length-set}
 use Rattle.std.proofs.lemmas.List.{get_or-set_same}
 use Rattle.std.proofs.lemmas.Option.{none-some}
 use Rattle.nl_field.specs.Page.{page_at, written}
 use Rattle.nl_field.specs.declared.answers.Named.TheVariants.{Fault, Placed}
 use Rattle.nl_nand.specs.ImageLaws.{filled_cut}
-use Rattle.nl_nand.specs.Nand.{CanProgram, Cut}
+use Rattle.nl_nand.specs.Nand.{Cut}
 use Rattle.nl_pseg.specs.Cleaning.{Moves}
 use Rattle.nl_pseg.specs.Pages.{page_with, shown_by}
-use Rattle.nl_pseg.specs.Segment.{HasSpare, IsDead, Physical, Use, held_at, wear_of}
+use Rattle.nl_pseg.specs.Segment.{IsDead, Physical, Use, held_at, wear_of}
 use Rattle.nl_pseg.specs.Seen.{seen, use_in}
 use Rattle.nl_pseg.specs.Steps.{IsAlone, IsCopyUsed, IsLed}
 use Rattle.nl_pseg.specs.declared.held.Held.{Held}

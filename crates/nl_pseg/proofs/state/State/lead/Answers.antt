@@ -1,5 +1,4 @@
-use Rattle.std.proofs.Common.{◌≡◌, ◌+◌, ◌*◌, ◌/◌, ◌<◌, None, length, refl, sym, ◌∙◌, ap, subst, arith}
-use Rattle.nl_blocks.specs.declared.states.PageState.TheVariants.{Dead}
+use Rattle.std.proofs.Common.{◌/◌}
 use Rattle.nl_pseg.proofs.Led.{fresh, fresh_after, led_formed, led_now, led_tied}
 use Rattle.nl_pseg.proofs.state.State.lead.Goals as goal
 

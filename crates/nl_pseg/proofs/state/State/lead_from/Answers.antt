@@ -1,8 +1,7 @@
-use Rattle.std.proofs.Common.{◌≡◌, ◌⊎◌, ℕ, ◌+◌, ◌-◌, ◌/◌, ◌<◌, ◌≤◌, ◌==◌, if◌then◌else◌, List, length, map, insert, refl, sym, ◌∙◌, ap, subst, arith}
+use Rattle.std.proofs.Common.{◌≡◌, ◌⊎◌, ℕ, ◌-◌, ◌/◌, ◌==◌, if◌then◌else◌, length, map, insert, ap, subst, arith}
 use Rattle.nl_blocks.specs.Table.{HasBlock, block_at}
 use Rattle.nl_remap.specs.Table.{led, led_on, pair, place_of}
-use Rattle.nl_pseg.specs.OldNames.{NameTable, names_among}
-use Rattle.nl_pseg.specs.Seen.{seen}
+use Rattle.nl_pseg.specs.OldNames.{NameTable}
 use Rattle.nl_pseg.specs.Steps.{IsAside}
 use Rattle.nl_pseg.specs.declared.state.State.{State}
 use Rattle.nl_pseg.proofs.LedFrom.{SetAside, from_formed, from_leads, from_tied, names_most, set_aside_is}

@@ -1,4 +1,4 @@
-use Rattle.std.proofs.Common.{◌≡◌, ◌⊎◌, inl, inr, ⊎_elim, ◌+◌, ◌*◌, ◌/◌, ◌<◌, false, List, Option, Some, None, length, set, get_or, refl, sym, ◌∙◌, ap, subst, arith, unwrap_or}
+use Rattle.std.proofs.Common.{◌≡◌, inl, inr, ⊎_elim, ◌+◌, ◌*◌, ◌/◌, ◌<◌, false, List, Option, Some, None, length, set, get_or, refl, sym, ◌∙◌, ap, subst, arith, unwrap_or}
 use Rattle.std.specs.Vec.{with_item}
 use Rattle.std.proofs.lemmas.List.{get_or-set_other}
 use Rattle.std.proofs.lemmas.Option.{none-some}

@@ -1,13 +1,12 @@
-use Rattle.std.proofs.Common.{◌≡◌, ◌⊎◌, inl, inr, ⊎_elim, ℕ, ◌+◌, ◌/◌, ◌<◌, ◌≤◌, ◌==◌, ◌&&◌, not, true, false, Bool, cond, List, Option, Some, None, IsSome, length, get_or, set, is_some, Contains, refl, sym, ◌∙◌, ap, subst, arith, eq-eqb, ne_eqb}
+use Rattle.std.proofs.Common.{◌≡◌, inl, inr, ⊎_elim, ℕ, ◌/◌, ◌==◌, ◌&&◌, not, false, Bool, cond, List, Option, Some, None, length, get_or, is_some, Contains, sym, ◌∙◌, ap, subst, arith, eq-eqb, ne_eqb}
 use Rattle.nl_field.specs.Live.{resolve}
 use Rattle.std.proofs.lemmas.Bool.{cases_eq}
 use Rattle.std.proofs.lemmas.List.{get_or-set_other, get_or-set_same}
 use Rattle.nl_remap.specs.Table.{IsOld, told}
 use Rattle.nl_remap.proofs.Ways.{led_not}
 use Rattle.nl_pseg.specs.OldNames.{NameTable}
-use Rattle.nl_pseg.specs.Segment.{IsNext, IsOldName, TakenAsErased, held_at, is_free, is_kept, is_soiled, names_another_free}
+use Rattle.nl_pseg.specs.Segment.{IsOldName, TakenAsErased, is_free, is_kept, is_soiled, names_another_free}
 use Rattle.nl_pseg.specs.Seen.{seen}
-use Rattle.nl_pseg.specs.Steps.{Loads}
 use Rattle.nl_pseg.specs.declared.held.Held.{Held}
 use Rattle.nl_pseg.proofs.Gone.{old_told}
 use Rattle.nl_pseg.proofs.States.{within_length}

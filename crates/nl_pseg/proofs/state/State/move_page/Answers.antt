@@ -1,9 +1,9 @@
-use Rattle.std.proofs.Common.{◌≡◌, ◌⊎◌, ⊎_elim, ℕ, ◌+◌, ◌/◌, ◌<◌, ◌≤◌, Option, Some, None, List, get_or, refl, sym, ◌∙◌, ap, subst, arith}
+use Rattle.std.proofs.Common.{◌≡◌, ⊎_elim, ℕ, ◌/◌, Option, Some, None, List, get_or, sym, ◌∙◌, ap, subst, arith}
 use Rattle.std.proofs.lemmas.Option.{none-some}
 use Rattle.nl_field.specs.Page.{page_at, written}
 use Rattle.nl_pseg.specs.Cleaning.{IsMoved, programmed_by}
 use Rattle.nl_pseg.specs.Effects.{Crashes, Programmed}
-use Rattle.nl_pseg.specs.Pages.{main_of, page_with, shown_by}
+use Rattle.nl_pseg.specs.Pages.{main_of, page_with}
 use Rattle.nl_pseg.specs.Segment.{held_at, wear_of}
 use Rattle.nl_pseg.specs.Seen.{seen}
 use Rattle.nl_pseg.specs.Steps.{ReadiedOn}

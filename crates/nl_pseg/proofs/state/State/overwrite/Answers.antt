@@ -1,4 +1,4 @@
-use Rattle.std.proofs.Common.{◌≡◌, ⊎_elim, refl, Some, set, subst}
+use Rattle.std.proofs.Common.{⊎_elim, refl, Some, set, subst}
 use Rattle.nl_field.specs.declared.answers.Named.TheVariants.{NoPage, NotLive}
 use Rattle.nl_field.specs.declared.pointer.Pointer.{Pointer}
 use Rattle.nl_pseg.specs.Effects.{Crashes}

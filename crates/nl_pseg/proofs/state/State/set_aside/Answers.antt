@@ -1,4 +1,4 @@
-use Rattle.std.proofs.Common.{◌/◌, ◌<◌, sym, ◌∙◌}
+use Rattle.std.proofs.Common.{◌/◌, sym, ◌∙◌}
 use Rattle.nl_pseg.proofs.Forms.{formed_table}
 use Rattle.nl_pseg.proofs.state.State.set_aside.Goals as goal
 

@@ -3,7 +3,7 @@ use Rattle.std.specs.Vec.{with_item}
 use Rattle.std.proofs.lemmas.Bool.{true≢false}
 use Rattle.std.proofs.lemmas.List.{get_or-set_same, get_or-set_other}
 use Rattle.nl_blocks.specs.Table.{HasBlock, Table, block_at}
-use Rattle.nl_pseg.specs.Segment.{Use, is_kept}
+use Rattle.nl_pseg.specs.Segment.{Use}
 use Rattle.nl_pseg.specs.Seen.{seen, use_in}
 use Rattle.nl_pseg.specs.Steps.{IsApart, IsIdle, SameNumbers, told_state}
 use Rattle.nl_pseg.proofs.Forms.{formed_marks, formed_table, next_is, left_is}

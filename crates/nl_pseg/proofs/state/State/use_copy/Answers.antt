@@ -1,4 +1,4 @@
-use Rattle.std.proofs.Common.{◌≡◌, ⊎_elim, ℕ, ◌+◌, ◌/◌, ◌*◌, ◌<◌, length, set, refl, sym, ◌∙◌, ap, subst, arith, ne_eqb, eq-eqb, cond, is_some, Option, Some, None}
+use Rattle.std.proofs.Common.{◌≡◌, ⊎_elim, ℕ, ◌+◌, ◌/◌, ◌*◌, ◌<◌, length, refl, sym, ◌∙◌, ap, subst, arith, ne_eqb, eq-eqb, cond, is_some, Option, Some, None}
 use Rattle.std.proofs.lemmas.Bool.{cases_lt}
 use Rattle.nl_blocks.specs.declared.states.PageState.TheVariants.{Dead, Live}
 use Rattle.nl_pseg.specs.Seen.{state_for}

@@ -1,4 +1,4 @@
-use Rattle.std.proofs.Common.{◌≡◌, ◌⊎◌, inl, inr, ⊎_elim, ◌+◌, ◌-◌, ◌*◌, ◌<◌, ◌^◌, length, set, refl, sym, ◌∙◌, ap, subst, arith, length-set, ne_eqb, eq-eqb, cond, is_some, Option, Some, None}
+use Rattle.std.proofs.Common.{◌≡◌, inl, inr, ⊎_elim, ◌+◌, ◌-◌, ◌*◌, ◌<◌, ◌^◌, length, set, refl, sym, ◌∙◌, ap, subst, arith, length-set, ne_eqb, eq-eqb, cond, is_some, Option, Some, None}
 use Rattle.std.specs.Vec.{with_item}
 use Rattle.nl_pseg.specs.Segment.{Use}
 use Rattle.nl_pseg.specs.Seen.{seen, state_for}
