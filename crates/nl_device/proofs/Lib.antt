@@ -4,6 +4,7 @@ pub mod Blanks
 pub mod Bounds
 pub mod Called
 pub mod Calls
+pub mod Begun
 pub mod Counted
 pub mod Dropping
 pub mod Firm

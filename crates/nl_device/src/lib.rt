@@ -2,6 +2,7 @@
 #![tactic(auto)]
 
 mod callbacks;
+mod cleaning;
 mod counts;
 mod device;
 mod kept;

@@ -86,6 +86,7 @@ fn is_page(page: &Page, number: u32, stamp: u64) -> bool
 fn reopened(alloc: Global, media: MemNand) -> Result<Device<MemNand>, Fail>
     ensures formed { IfOk result (λ d. ⟦<Device<MemNand> as Counts>⟧.formed d) }
     ensures live { IfOk result (λ d. (p : ℕ) → (⟦<Device<MemNand> as Counts>⟧.names d).live p ≡ None) }
+    ensures idle { IfOk result (λ d. (⟦<Device<MemNand> as Counts>⟧.names d).space.victim ≡ 0) }
     ensures can { IfOk result (λ d. CanRetain (kept_of d) (record { name = 257; stamp = 2 } ∷ [])) }
 {
     let geometry = media.geometry();

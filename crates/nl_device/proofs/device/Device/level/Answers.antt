@@ -1,0 +1,69 @@
+use Rattle.std.proofs.Common.{◌≡◌, ◌⊎◌, inl, inr, ⊎_elim, ◌*◌, ◌<◌, ◌∙◌, true, false, List, Option, None, ap, arith, get_or, refl, subst, sym}
+use Rattle.std.proofs.lemmas.Bool.{OnFalse_at, OnTrue_at, cases_Bool}
+use Rattle.nl_pseg.specs.Segment.{Physical}
+use Rattle.nl_pseg.specs.declared.held.Held.{Held}
+use Rattle.nl_device.specs.Callbacks.{names_with}
+use Rattle.nl_device.specs.Device.{IsDevice}
+use Rattle.nl_device.specs.Shown.{live_page}
+use Rattle.nl_device.proofs.Begun.{begun_device, space_size, space_victim}
+use Rattle.nl_device.proofs.SpaceSteps.{begun}
+use Rattle.nl_device.proofs.Spacing.{free_is, pairs_is}
+use Rattle.nl_device.proofs.device.Device.level.Goals as goal
+
+pub returns-clause-formed : goal.returns-clause-formed
+returns-clause-formed g c =
+    let d = c.args.self.now in
+    let f = c.requires.formed in
+    let e = c.begin.ensures in
+    ⊎_elim
+    (λ (is : c.begin.result ≡ true). let b = OnTrue_at is e.begun in begun_device f (λ t. g.met.M.Nand.contents_fit d.media t) c.begin.new.self true b.0 b.1 b.2 e.whole e.kept e.segment e.spare)
+    (λ (is : c.begin.result ≡ false). subst (λ s. IsDevice (g.M.Nand.geometry d.media) g.M.Nand.tells (g.M.Nand.contents d.media) d.shape d.vseg s d.pending d.kept d.next) (sym (OnFalse_at is e.none)) f)
+    (cases_Bool c.begin.result)
+
+pub returns-clause-begun : goal.returns-clause-begun
+returns-clause-begun g c is =
+    let b = OnTrue_at is c.begin.ensures.begun in
+    record {
+      tables = record { live = λ q. ap (λ (l : List (Option Held)). live_page (get_or l q None)) b.2.tables.same_held; pairs = b.2.tables.same_pairs; pending = refl; handled = λ n. refl; posted = refl };
+      space = begun b.0 c.args.self.now.pseg c.begin.new.self b.2;
+      medium = record {
+        virtual = record { same_shape = refl; same_stamps = λ v. refl; same_map = λ t v. refl; no_failed = λ t v x stray. stray; spare = λ s. s };
+        contents = λ t. refl;
+        left = λ t m i l. l;
+        bytes = λ t p. refl;
+        found = refl;
+        next_stamp = refl;
+        clean = c.begin.ensures.clean;
+        clock = refl;
+        write_faults = refl;
+      };
+    }
+
+pub returns-clause-none : goal.returns-clause-none
+returns-clause-none g c is = record {
+  medium = record {
+    virtual = record { same_shape = refl; same_stamps = λ v. refl; same_map = λ t v. refl; no_failed = λ t v x stray. stray; spare = λ s. s };
+    contents = λ t. refl;
+    left = λ t m i l. l;
+    bytes = λ t p. refl;
+    found = refl;
+    next_stamp = refl;
+    clean = c.begin.ensures.clean;
+    clock = refl;
+    write_faults = refl;
+  };
+  names = ap (λ (s : Physical). names_with s c.args.self.now.pending) (OnFalse_at is c.begin.ensures.none);
+}
+
+pub returns-clause-cannot : goal.returns-clause-cannot
+returns-clause-cannot g c why =
+    let seg = c.args.self.now.pseg in
+    let victim = space_victim seg in
+    let size = space_size seg in
+    let pairs = pairs_is seg in
+    let free = free_is seg in
+    ⊎_elim
+    (λ (is : c.begin.result ≡ true). absurd (c.begin.ensures.cannot.0 is
+    (⊎_elim (λ hand. inl (sym victim ∙ hand)) (λ rest. ⊎_elim (λ many. inr (inl (omega (arith, many, size, pairs)))) (λ none. inr (inr (inl (sym free ∙ none)))) rest) why)))
+    (λ (is : c.begin.result ≡ false). is)
+    (cases_Bool c.begin.result)
