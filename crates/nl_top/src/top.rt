@@ -204,6 +204,7 @@ fn run_device<K: Sink, M: Nand>(
     requires no_pairs { (⟦<Device<M> as VirtualPages>⟧.names device).pairs ≡ [] }
     requires no_live { (p : ℕ) → (⟦<Device<M> as VirtualPages>⟧.names device).live p ≡ None }
     requires free { (⟦<Device<M> as VirtualPages>⟧.names device).space.free ≡ (⟦<Device<M> as VirtualPages>⟧.shape device).pblocks }
+    requires idle { (⟦<Device<M> as VirtualPages>⟧.names device).space.victim ≡ 0 }
     requires nothing { CanRetain (kept_of device) [] }
     requires numbers { shape ≡ ⟦<Device<M> as VirtualPages>⟧.shape device }
     requires some { 0 < shape.pages }
