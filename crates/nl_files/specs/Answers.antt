@@ -5,6 +5,8 @@ use Rattle.nl_field.specs.declared.inode.InodeRec.{InodeRec}
 use Rattle.nl_field.specs.declared.pointer.Pointer.{Pointer}
 use Rattle.nl_meta.specs.Committed.{VirtualMap}
 use Rattle.nl_meta.specs.Nodes.{pointer_at, slots_of}
+use Rattle.nl_files.specs.declared.answer.CountPages.{CountPages}
+use Rattle.nl_files.specs.declared.answer.CountPages.TheVariants as counted
 use Rattle.nl_files.specs.declared.answer.FileAnswer.{FileAnswer}
 use Rattle.nl_files.specs.declared.answer.FileAnswer.TheVariants as answer
 use Rattle.nl_files.specs.declared.answer.Looked.{Looked}
@@ -34,7 +36,23 @@ IsLost answer.Done = ⊥
 IsLost answer.Fault = ⊥
 IsLost (answer.Lost w f) = ⊤
 
--- the same of a look
+-- the same of a count, and how many pages it counts
+abbrev pub IfPages : CountPages → (ℕ → Type 0) → Type 0
+IfPages (counted.Pages n) P = P n
+IfPages counted.Fault P = ⊤
+IfPages (counted.Lost w f) P = ⊤
+
+abbrev pub LosesCount : (ℕ → Type 0) → CountPages → Type 0
+LosesCount wanted (counted.Pages n) = ⊤
+LosesCount wanted counted.Fault = ⊤
+LosesCount wanted (counted.Lost w f) = wanted w × (f ≡ w → ⊥)
+
+abbrev pub IsLostCount : CountPages → Type 0
+IsLostCount (counted.Pages n) = ⊥
+IsLostCount counted.Fault = ⊥
+IsLostCount (counted.Lost w f) = ⊤
+
+-- the same of a look, and what it finds
 abbrev pub IfAt : Looked → (Option Pointer → Type 0) → Type 0
 IfAt (looked.At found) P = P found
 IfAt looked.Fault P = ⊤

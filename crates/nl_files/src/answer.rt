@@ -10,6 +10,16 @@ pub enum FileAnswer {
     Lost { wanted: u64, found: u64 },
 }
 
+/// How many page indexes of a file have a pointer.
+#[derive(Clone, Copy, Debug, PartialEq, Eq)]
+pub enum CountPages {
+    Pages(u32),
+    /// A read failed.
+    Fault,
+    /// A page read does not hold the wanted sequence number.
+    Lost { wanted: u64, found: u64 },
+}
+
 // What a look at one page index finds.
 #[derive(Clone, Copy, Debug, PartialEq, Eq)]
 pub(crate) enum Looked {

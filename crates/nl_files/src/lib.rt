@@ -2,8 +2,10 @@
 #![tactic(auto)]
 
 mod answer;
+mod gathering;
 mod pages;
 mod reading;
 
-pub use answer::FileAnswer;
+pub use answer::{CountPages, FileAnswer};
+pub use gathering::{count_pages, gather};
 pub use reading::read;
