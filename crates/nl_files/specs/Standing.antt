@@ -11,6 +11,7 @@ use Rattle.nl_meta.specs.Committed.{VirtualMap}
 use Rattle.nl_meta.specs.Nodes.{pointer_at, slots_of}
 use Rattle.nl_meta.specs.Pages.{Pages, page_of}
 use Rattle.nl_meta.specs.Running.{CleanIsStored, RunsAlike, running_over}
+use Rattle.nl_meta.specs.Steps.{Keeps}
 use Rattle.nl_indirect.specs.Ranges.{HasPointers, IsFileRecord}
 
 -- what the device has at each address
@@ -51,3 +52,7 @@ pub record KeepsPages {D : Type 0} (g : Ghosts D) (s : D) (old new : Pages) : Ty
   pub frozen : new.frozen ≡ old.frozen
   pub alike : g.tells → RunsAlike (device_map g s) old new
   pub there : (u : ℕ) → g.tells ⊎ (page_of new u ≡ page_of old u)
+
+-- The page of an address was touched, where it is not 0, and other pages may have made room for it.
+abbrev pub LoadsAt : ℕ → Pages → Pages → Type 0
+LoadsAt a old new = (a ≡ 0 → new ≡ old) × (a ≢ 0 → Keeps a old new)

@@ -8,4 +8,5 @@ mod reading;
 
 pub use answer::{CountPages, FileAnswer};
 pub use gathering::{count_pages, gather};
+pub use pages::prepare;
 pub use reading::read;

@@ -1,12 +1,12 @@
-ghost use Rattle.std.specs.Prelude.{◌≡◌, ◌<◌, ℕ, ⊤, Some, length};
+ghost use Rattle.std.specs.Prelude.{◌≡◌, ◌<◌, ◌≤◌, ◌+◌, ℕ, ⊤, Some, length};
 ghost use Rattle.nl_iface.specs.Calls.{OnlyReads, ReadsCounted};
 ghost use Rattle.nl_meta.specs.Nodes.{pointer_at};
 ghost use Rattle.nl_meta.specs.Pages.{page_of};
 ghost use Rattle.nl_meta.specs.Running.{CleanIsStored};
 ghost use Rattle.nl_meta.specs.Steps.{Keeps};
-ghost use Rattle.nl_indirect.specs.Ranges.{HasPointers, HasRange, some_pointer};
+ghost use Rattle.nl_indirect.specs.Ranges.{HasPointers, HasRange, address_of, some_pointer};
 ghost use Rattle.nl_files.specs.Answers.{IfAt, IsLost, IsLostLook, IsPageStamp, Loses, LosesLook};
-ghost use Rattle.nl_files.specs.Standing.{FileStands, IsAtHand, KeepsPages, device_map, running_map};
+ghost use Rattle.nl_files.specs.Standing.{FileStands, IsAtHand, KeepsPages, LoadsAt, device_map, running_map};
 
 use crate::answer::{FileAnswer, Looked};
 use nl_field::InodeRec;
@@ -42,6 +42,33 @@ pub(crate) fn load<D: NamedPages>(device: &mut D, meta: &mut Meta, vaddr: u32) -
     }
 }
 
+/// Makes the pages resident that have the pointers of these page indexes, of which there are at most 17.
+pub fn prepare<D: NamedPages>(
+    device: &mut D,
+    meta: &mut Meta,
+    rec: &InodeRec,
+    first: u32,
+    last: u32,
+) -> FileAnswer
+    requires formed { D.formed device.old }
+    requires order { first ≤ last }
+    requires few { last ≤ first + 16 }
+    requires within { last < 4104 }
+    requires stands { FileStands D.Counts device.old rec.now meta.old }
+    ensures formed { D.formed device.new }
+    ensures kept { OnlyReads D.Counts device.old device.new }
+    ensures pages { KeepsPages D.Counts device.old meta.old meta.new }
+    ensures ready { result ≡ FileAnswer.Done → (i : ℕ) → first ≤ i → i ≤ last → HasRange (page_of meta.new) rec.now i }
+    ensures faults { ReadsCounted D.Counts (result ≡ FileAnswer.Fault) device.old device.new }
+    ensures lost { Loses (IsPageStamp (D.stamps device.old) rec.now) result }
+    ensures told { D.tells → IsLost result → ⊥ }
+{
+    match load_range(device, meta, rec, first) {
+        FileAnswer::Done => load_range(device, meta, rec, last),
+        other => other,
+    }
+}
+
 // Makes the page resident that has the pointer of an index, where one has it.
 pub(crate) fn load_range<D: NamedPages>(
     device: &mut D,
@@ -56,6 +83,7 @@ pub(crate) fn load_range<D: NamedPages>(
     ensures kept { OnlyReads D.Counts device.old device.new }
     ensures pages { KeepsPages D.Counts device.old meta.old meta.new }
     ensures ready { result ≡ FileAnswer.Done → HasRange (page_of meta.new) rec.now index }
+    ensures touched { LoadsAt (address_of rec.now index) meta.old meta.new }
     ensures faults { ReadsCounted D.Counts (result ≡ FileAnswer.Fault) device.old device.new }
     ensures lost { Loses (IsPageStamp (D.stamps device.old) rec.now) result }
     ensures told { D.tells → IsLost result → ⊥ }
