@@ -116,7 +116,8 @@ fn gather_one<D: NamedPages>(
     }
 }
 
-fn add(freeing: &mut PointerList, pointer: Pointer)
+// Adds a pointer to a list that has room for it.
+pub(crate) fn add(freeing: &mut PointerList, pointer: Pointer)
     requires room { 0 < freeing.old.room }
     requires few { length freeing.old.items + 1 < 2 ^ 32 }
     ensures items { freeing.new.items ≡ freeing.old.items ++ pointer ∷ [] }

@@ -3,10 +3,13 @@
 
 mod answer;
 mod gathering;
+mod installing;
+pub mod laws;
 mod pages;
 mod reading;
 
 pub use answer::{CountPages, FileAnswer};
 pub use gathering::{count_pages, gather};
+pub use installing::install;
 pub use pages::prepare;
 pub use reading::read;
