@@ -14,42 +14,42 @@ use Rattle.nl_meta.specs.Nodes.{pointer_at, slots_of}
 use Rattle.nl_meta.specs.Pages.{Pages}
 use Rattle.nl_indirect.specs.Ranges.{IsFileRecord}
 use Rattle.nl_indirect.proofs.Records.{file-parts}
-use Rattle.nl_files.specs.Answers.{Loses}
+use Rattle.nl_files.specs.Answers.{LosesFile}
 use Rattle.nl_files.specs.declared.answer.FileAnswer.{FileAnswer}
 use Rattle.nl_files.specs.declared.answer.FileAnswer.TheVariants as answer
 use Rattle.nl_files.proofs.Keeping.{keeps-then, pointer-then}
-use Rattle.nl_files.specs.Reading.{IsWanted, byte_at, page_bytes}
-use Rattle.nl_files.specs.Standing.{FileStands, KeepsPages, running_map}
+use Rattle.nl_files.specs.Reading.{IsWanted, byte_at, file_page}
+use Rattle.nl_files.specs.Standing.{FileStands, KeepsRunning, running_map}
 
 -- the first bytes of the file from an offset on stand in the list
 pub record IsFilled {D : Type 0} (g : Ghosts D) (s t : D) (p q : Pages) (rec : InodeRec) (at count done : ℕ) (out : List ℕ) : Type 0 where
   pub formed : g.formed t
   pub reads : OnlyReads g s t
   pub faults : g.read_faults t ≡ g.read_faults s
-  pub keeps : KeepsPages g s p q
+  pub keeps : KeepsRunning g s p q
   pub len : length out ≡ count
   pub most : done ≤ count
-  pub bytes : g.tells → (k : ℕ) → k < done → slice_index out k ≡ byte_at (page_bytes g s (running_map g s p) rec) (at + k)
+  pub bytes : g.tells → (k : ℕ) → k < done → slice_index out k ≡ byte_at (file_page g s (running_map g s p) rec) (at + k)
 
 pub file-size : (rec : InodeRec) → IsFileRecord rec → rec.size ≤ 16809984
 file-size rec is = leb-true rec.size 16809984 (file-parts rec is).size
 
 -- a stamp that is wanted once pages were made resident was so before
-pub wanted-then : {D : Type 0} (g : Ghosts D) (s t : D) (rec : InodeRec) (p q : Pages) → OnlyReads g s t → KeepsPages g s p q → FileStands g s rec p → (w : ℕ)
+pub wanted-then : {D : Type 0} (g : Ghosts D) (s t : D) (rec : InodeRec) (p q : Pages) → OnlyReads g s t → KeepsRunning g s p q → FileStands g s rec p → (w : ℕ)
     → IsWanted g t (running_map g t q) rec w → IsWanted g s (running_map g s p) rec w
 wanted-then g s t rec p q reads keeps stands w (inl x) = inl (record { at = x.at; not_zero = x.not_zero; stamp = sym (reads.medium.virtual.same_stamps (slice_index (slots_of rec) x.at)) ∙ x.stamp })
 wanted-then g s t rec p q reads keeps stands w (inr x) =
     let same = pointer-then g s t rec p q reads keeps stands x.at in
     inr (record { at = x.at; below = x.below; some = ap is_none_pointer (sym same) ∙ x.some; stamp = ap (λ (at : Pointer). at.stamp) (sym same) ∙ x.stamp })
 
-pub loses-by : (P Q : ℕ → Type 0) → ((w : ℕ) → P w → Q w) → (a : FileAnswer) → Loses P a → Loses Q a
+pub loses-by : (P Q : ℕ → Type 0) → ((w : ℕ) → P w → Q w) → (a : FileAnswer) → LosesFile P a → LosesFile Q a
 loses-by P Q each answer.Done l = l
 loses-by P Q each answer.Fault l = l
 loses-by P Q each (answer.Lost w f) l = (each w l.0, l.1)
 
 -- the bytes of a page are those that it had before
-pub page-then : {D : Type 0} (g : Ghosts D) (s t : D) (rec : InodeRec) (p q : Pages) → g.tells → OnlyReads g s t → KeepsPages g s p q → FileStands g s rec p → (i : ℕ)
-    → page_bytes g t (running_map g t q) rec i ≡ page_bytes g s (running_map g s p) rec i
+pub page-then : {D : Type 0} (g : Ghosts D) (s t : D) (rec : InodeRec) (p q : Pages) → g.tells → OnlyReads g s t → KeepsRunning g s p q → FileStands g s rec p → (i : ℕ)
+    → file_page g t (running_map g t q) rec i ≡ file_page g s (running_map g s p) rec i
 page-then {D = D} g s t rec p q tells reads keeps stands i =
     ap (λ (at : Pointer). cond (is_none_pointer at) (zeros 4096) (g.bytes t (place_of (g.names t) at))) (pointer-then g s t rec p q reads keeps stands i)
     ∙ ap (λ (names : Names). cond (is_none_pointer here) (zeros 4096) (g.bytes t (place_of names here))) reads.names
@@ -77,8 +77,8 @@ filled-on page at done count main out new some within is before same copied k be
         ∙ ap (λ n. slice_index (page n) ((at + k) % 4096)) quotient
 
 pub filled-then : {D : Type 0} (g : Ghosts D) (s t u : D) (p q r : Pages) (rec : InodeRec) (at size done count : ℕ) (main out new : List ℕ) → FileStands g s rec p
-    → IsFilled g s t p q rec at size done out → g.formed u → OnlyReads g t u → g.read_faults u ≡ g.read_faults t → KeepsPages g t q r
-    → (g.tells → main ≡ page_bytes g t (running_map g t q) rec ((at + done) / 4096))
+    → IsFilled g s t p q rec at size done out → g.formed u → OnlyReads g t u → g.read_faults u ≡ g.read_faults t → KeepsRunning g t q r
+    → (g.tells → main ≡ file_page g t (running_map g t q) rec ((at + done) / 4096))
     → 0 < count → done + count ≤ size → (at + done) % 4096 + count ≤ 4096 → length new ≡ size → ((k : ℕ) → k < done → slice_index new k ≡ slice_index out k)
     → ((k : ℕ) → k < count → slice_index new (done + k) ≡ slice_index main ((at + done) % 4096 + k))
     → IsFilled g s u p r rec at size (done + count) new
@@ -90,7 +90,7 @@ filled-then g s t u p q r rec at size done count main out new stands is formed r
   len = whole;
   most = most;
   bytes = λ tells.
-      filled-on (page_bytes g s (running_map g s p) rec) at done count main out new some within
+      filled-on (file_page g s (running_map g s p) rec) at done count main out new some within
       (page tells ∙ page-then g s t rec p q tells is.reads is.keeps stands ((at + done) / 4096)) (is.bytes tells) same copied;
 }
 

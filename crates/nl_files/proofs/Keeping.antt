@@ -24,7 +24,7 @@ use Rattle.nl_inode.specs.declared.answer.Fetch.{Fetch}
 use Rattle.nl_inode.specs.declared.answer.Fetch.TheVariants as fetch
 use Rattle.nl_indirect.specs.Ranges.{HasPointers, range_of, slot_of}
 use Rattle.nl_indirect.proofs.Pointing.{at-node, in-range, no-page, runs, same-page}
-use Rattle.nl_files.specs.Standing.{FileStands, IsAtHand, KeepsPages, PointersLead, device_map, running_map, tag_of}
+use Rattle.nl_files.specs.Standing.{FileStands, IsAtHand, KeepsRunning, PointersLead, device_map, running_map, tag_of}
 
 is-ready : Fetch → Bool
 is-ready fetch.Ready = true
@@ -108,10 +108,10 @@ module _ {D : Type 0} (g : Ghosts D) where
   tells-of p v (inl t) gone = t
   tells-of p v (inr there) gone = absurd (both_ways false refl (ap is_some (sym gone) ∙ there))
 
-  pub keeps-touched : (s : D) (p : Pages) (v : ℕ) → (g.tells → CleanIsStored (device_map g s) p) → KeepsPages g s p (record p { recent = touched v p.recent })
+  pub keeps-touched : (s : D) (p : Pages) (v : ℕ) → (g.tells → CleanIsStored (device_map g s) p) → KeepsRunning g s p (record p { recent = touched v p.recent })
   keeps-touched s p v clean = record { count = refl; dirty = refl; frozen = refl; alike = λ t. (laws_of (device_map g s) p (clean t)).touched v; there = λ u. inr refl }
 
-  pub keeps-admitted : (s : D) (p q : Pages) (v : ℕ) (bytes : List ℕ) → (g.tells → CleanIsStored (device_map g s) p) → g.tells → page_of p v ≡ None → device_map g s v ≡ Some bytes → Admits v bytes p q → KeepsPages g s p q
+  pub keeps-admitted : (s : D) (p q : Pages) (v : ℕ) (bytes : List ℕ) → (g.tells → CleanIsStored (device_map g s) p) → g.tells → page_of p v ≡ None → device_map g s v ≡ Some bytes → Admits v bytes p q → KeepsRunning g s p q
   keeps-admitted s p q v bytes clean t gone is admits = record {
     count = admits.keeps.count;
     dirty = admits.dirty;
@@ -120,7 +120,7 @@ module _ {D : Type 0} (g : Ghosts D) where
     there = λ u. inl t;
   }
 
-  pub keeps-missed : (s : D) (p q : Pages) (v : ℕ) → (g.tells → CleanIsStored (device_map g s) p) → IsAtHand g.tells p v → page_of p v ≡ None → Misses v p q → KeepsPages g s p q
+  pub keeps-missed : (s : D) (p q : Pages) (v : ℕ) → (g.tells → CleanIsStored (device_map g s) p) → IsAtHand g.tells p v → page_of p v ≡ None → Misses v p q → KeepsRunning g s p q
   keeps-missed s p q v clean at gone misses = record {
     count = misses.keeps.count;
     dirty = misses.dirty;
@@ -132,7 +132,7 @@ module _ {D : Type 0} (g : Ghosts D) where
   gone-some : (p : Pages) (v : ℕ) → page_of p v ≡ None → is_some (page_of p v) ≡ true → ⊥
   gone-some p v gone there = both_ways false refl (ap is_some (sym gone) ∙ there)
 
-  pub fetched-keeps : (s : D) (p q : Pages) (v : ℕ) → (g.tells → CleanIsStored (device_map g s) p) → IsAtHand g.tells p v → page_of p v ≡ None → Fetches g.tells (device_map g s v) v p q → KeepsPages g s p q
+  pub fetched-keeps : (s : D) (p q : Pages) (v : ℕ) → (g.tells → CleanIsStored (device_map g s) p) → IsAtHand g.tells p v → page_of p v ≡ None → Fetches g.tells (device_map g s v) v p q → KeepsRunning g s p q
   fetched-keeps s p q v clean at gone (inl x) = absurd (gone-some p v gone x.0)
   fetched-keeps s p q v clean at gone (inr x) = let t = tells-of p v at gone in keeps-admitted s p q v x.1 clean t gone (x.2 t) x.3
 
@@ -148,10 +148,10 @@ module _ {D : Type 0} (g : Ghosts D) where
       ap (λ (shape : Shape). map_bytes shape (g.map t) u) reads.medium.virtual.same_shape
       ∙ ap (λ (o : Option Value). cond (nat_lt u (g.shape s).vaddrs) (or_zeros (g.shape s) u (option_map (λ x. x.1) o)) None) (reads.medium.virtual.same_map tells u)
 
-  pub keeps-none : (s : D) (p : Pages) → (g.tells → CleanIsStored (device_map g s) p) → KeepsPages g s p p
+  pub keeps-none : (s : D) (p : Pages) → (g.tells → CleanIsStored (device_map g s) p) → KeepsRunning g s p p
   keeps-none s p clean = record { count = refl; dirty = refl; frozen = refl; alike = λ t. record { same = λ u. refl; clean = clean t }; there = λ u. inr refl }
 
-  pub keeps-then : (s t : D) (p q r : Pages) → OnlyReads g s t → KeepsPages g s p q → KeepsPages g t q r → KeepsPages g s p r
+  pub keeps-then : (s t : D) (p q r : Pages) → OnlyReads g s t → KeepsRunning g s p q → KeepsRunning g t q r → KeepsRunning g s p r
   keeps-then s t p q r reads k l = record {
     count = l.count ∙ k.count;
     dirty = l.dirty ∙ k.dirty;
@@ -165,7 +165,7 @@ module _ {D : Type 0} (g : Ghosts D) where
       by u (inr x) (inl tells) = inl tells
       by u (inr x) (inr y) = inr (y ∙ x)
 
-  module _ (s t : D) (rec : InodeRec) (p q : Pages) (reads : OnlyReads g s t) (keeps : KeepsPages g s p q) where
+  module _ (s t : D) (rec : InodeRec) (p q : Pages) (reads : OnlyReads g s t) (keeps : KeepsRunning g s p q) where
     told : g.tells → (a : ℕ) → running_map g t q a ≡ running_map g s p a
     told tells a = over (device_map g s) (device_map g t) q a (same-device s t reads tells a) ∙ (keeps.alike tells).same a
 

@@ -26,15 +26,15 @@ pub record IsPointerStamp (pages : VirtualMap) (rec : InodeRec) (w : ℕ) : Type
   pub stamp : (pointer_at pages rec at).stamp ≡ w
 
 -- Lost tells a stamp that is wanted, and another one that was found.
-abbrev pub Loses : (ℕ → Type 0) → FileAnswer → Type 0
-Loses wanted answer.Done = ⊤
-Loses wanted answer.Fault = ⊤
-Loses wanted (answer.Lost w f) = wanted w × (f ≡ w → ⊥)
+abbrev pub LosesFile : (ℕ → Type 0) → FileAnswer → Type 0
+LosesFile wanted answer.Done = ⊤
+LosesFile wanted answer.Fault = ⊤
+LosesFile wanted (answer.Lost w f) = wanted w × (f ≡ w → ⊥)
 
-abbrev pub IsLost : FileAnswer → Type 0
-IsLost answer.Done = ⊥
-IsLost answer.Fault = ⊥
-IsLost (answer.Lost w f) = ⊤
+abbrev pub IsLostFile : FileAnswer → Type 0
+IsLostFile answer.Done = ⊥
+IsLostFile answer.Fault = ⊥
+IsLostFile (answer.Lost w f) = ⊤
 
 -- the same of a count, and how many pages it counts
 abbrev pub IfPages : CountPages → (ℕ → Type 0) → Type 0

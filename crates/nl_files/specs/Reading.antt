@@ -10,8 +10,8 @@ use Rattle.nl_meta.specs.Nodes.{pointer_at}
 use Rattle.nl_files.specs.Answers.{IsPageStamp, IsPointerStamp}
 
 -- the bytes of a page index: those of the page to which its pointer leads, and zeros where it has none
-abbrev pub page_bytes : {D : Type 0} → Ghosts D → D → VirtualMap → InodeRec → ℕ → List ℕ
-page_bytes g s pages rec index =
+abbrev pub file_page : {D : Type 0} → Ghosts D → D → VirtualMap → InodeRec → ℕ → List ℕ
+file_page g s pages rec index =
     if is_none_pointer (pointer_at pages rec index) then zeros 4096 else g.bytes s (place_of (g.names s) (pointer_at pages rec index))
 
 -- the byte of a file at an offset, by the bytes of its pages

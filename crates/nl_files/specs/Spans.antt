@@ -16,5 +16,5 @@ abbrev pub pointers_from : VirtualMap → InodeRec → ℕ → List Pointer
 pointers_from pages rec from = pointers_of_span pages rec from (4104 - from)
 
 -- the pointer, where it is one
-abbrev pub shown : Pointer → List Pointer
-shown p = if not (is_none_pointer p) then p ∷ [] else []
+abbrev pub as_list : Pointer → List Pointer
+as_list p = if not (is_none_pointer p) then p ∷ [] else []

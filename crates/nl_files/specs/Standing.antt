@@ -46,7 +46,7 @@ PointersLead names ino rec pages =
     → IsRef names always (wants_tagged (tag_of ino rec i, pointer_at pages rec i)) (pointer_at pages rec i).name
 
 -- The pages run on as they did: no address changes where the device tells what it has, and else no page.
-pub record KeepsPages {D : Type 0} (g : Ghosts D) (s : D) (old new : Pages) : Type 0 where
+pub record KeepsRunning {D : Type 0} (g : Ghosts D) (s : D) (old new : Pages) : Type 0 where
   pub count : length new.running ≡ length old.running
   pub dirty : new.dirty ≡ old.dirty
   pub frozen : new.frozen ≡ old.frozen

@@ -1,9 +1,9 @@
 ghost use Rattle.std.specs.Prelude.{◌≡◌, ◌<◌, ◌≤◌, ◌+◌, ◌^◌, ◌++◌, ◌∷◌, [], if◌then◌else◌, is_some, length};
 ghost use Rattle.nl_iface.specs.Calls.{OnlyReads, ReadsCounted};
 ghost use Rattle.nl_meta.specs.Nodes.{pointer_at};
-ghost use Rattle.nl_files.specs.Answers.{IfPages, IsLost, IsLostCount, IsPageStamp, Loses, LosesCount};
-ghost use Rattle.nl_files.specs.Spans.{pointers_from, shown};
-ghost use Rattle.nl_files.specs.Standing.{FileStands, KeepsPages, running_map};
+ghost use Rattle.nl_files.specs.Answers.{IfPages, IsLostFile, IsLostCount, IsPageStamp, LosesFile, LosesCount};
+ghost use Rattle.nl_files.specs.Spans.{pointers_from, as_list};
+ghost use Rattle.nl_files.specs.Standing.{FileStands, KeepsRunning, running_map};
 
 use crate::answer::{CountPages, FileAnswer, Looked};
 use crate::pages::look;
@@ -19,7 +19,7 @@ pub fn count_pages<D: NamedPages>(device: &mut D, meta: &mut Meta, rec: &InodeRe
     requires stands { FileStands D.Counts device.old rec.now meta.old }
     ensures formed { D.formed device.new }
     ensures kept { OnlyReads D.Counts device.old device.new }
-    ensures pages { KeepsPages D.Counts device.old meta.old meta.new }
+    ensures pages { KeepsRunning D.Counts device.old meta.old meta.new }
     ensures count { IfPages result (λ n. n ≡ length (pointers_from (running_map D.Counts device.old meta.old) rec.now 0)) }
     ensures faults { ReadsCounted D.Counts (result ≡ CountPages.Fault) device.old device.new }
     ensures lost { LosesCount (IsPageStamp (D.stamps device.old) rec.now) result }
@@ -61,13 +61,13 @@ pub fn gather<D: NamedPages>(
     requires few { length freeing.old.items + freeing.old.room < 2 ^ 32 }
     ensures formed { D.formed device.new }
     ensures kept { OnlyReads D.Counts device.old device.new }
-    ensures pages { KeepsPages D.Counts device.old meta.old meta.new }
+    ensures pages { KeepsRunning D.Counts device.old meta.old meta.new }
     ensures done { result ≡ FileAnswer.Done → freeing.new.items ≡ freeing.old.items ++ pointers_from (running_map D.Counts device.old meta.old) rec.now from }
     ensures refused { (result ≡ FileAnswer.Done → ⊥) → freeing.new.items ≡ freeing.old.items }
     ensures room { length freeing.old.items + freeing.old.room ≤ length freeing.new.items + freeing.new.room }
     ensures faults { ReadsCounted D.Counts (result ≡ FileAnswer.Fault) device.old device.new }
-    ensures lost { Loses (IsPageStamp (D.stamps device.old) rec.now) result }
-    ensures told { D.tells → IsLost result → ⊥ }
+    ensures lost { LosesFile (IsPageStamp (D.stamps device.old) rec.now) result }
+    ensures told { D.tells → IsLostFile result → ⊥ }
 {
     let before = freeing.len();
     for index in from..INDEXES {
@@ -93,17 +93,17 @@ fn gather_one<D: NamedPages>(
     requires formed { D.formed device.old }
     requires within { index < 4104 }
     requires stands { FileStands D.Counts device.old rec.now meta.old }
-    requires room { length (shown (pointer_at (running_map D.Counts device.old meta.old) rec.now index)) ≤ freeing.old.room }
-    requires few { length freeing.old.items + length (shown (pointer_at (running_map D.Counts device.old meta.old) rec.now index)) < 2 ^ 32 }
+    requires room { length (as_list (pointer_at (running_map D.Counts device.old meta.old) rec.now index)) ≤ freeing.old.room }
+    requires few { length freeing.old.items + length (as_list (pointer_at (running_map D.Counts device.old meta.old) rec.now index)) < 2 ^ 32 }
     ensures formed { D.formed device.new }
     ensures kept { OnlyReads D.Counts device.old device.new }
-    ensures pages { KeepsPages D.Counts device.old meta.old meta.new }
-    ensures done { result ≡ FileAnswer.Done → freeing.new.items ≡ freeing.old.items ++ shown (pointer_at (running_map D.Counts device.old meta.old) rec.now index) }
+    ensures pages { KeepsRunning D.Counts device.old meta.old meta.new }
+    ensures done { result ≡ FileAnswer.Done → freeing.new.items ≡ freeing.old.items ++ as_list (pointer_at (running_map D.Counts device.old meta.old) rec.now index) }
     ensures refused { (result ≡ FileAnswer.Done → ⊥) → freeing.new ≡ freeing.old }
     ensures room { length freeing.old.items + freeing.old.room ≤ length freeing.new.items + freeing.new.room }
     ensures faults { ReadsCounted D.Counts (result ≡ FileAnswer.Fault) device.old device.new }
-    ensures lost { Loses (IsPageStamp (D.stamps device.old) rec.now) result }
-    ensures told { D.tells → IsLost result → ⊥ }
+    ensures lost { LosesFile (IsPageStamp (D.stamps device.old) rec.now) result }
+    ensures told { D.tells → IsLostFile result → ⊥ }
 {
     match look(device, meta, rec, index) {
         Looked::At(None) => FileAnswer::Done,

@@ -8,7 +8,7 @@ ghost use Rattle.nl_meta.specs.Running.{running_over};
 ghost use Rattle.nl_indirect.specs.Ranges.{HasRange, IsFileRecord, address_of};
 ghost use Rattle.nl_indirect.specs.Storing.{Begins};
 ghost use Rattle.nl_files.specs.Installing.{FreeAreNew, HasFree, Installs, Takes};
-ghost use Rattle.nl_files.specs.Spans.{shown};
+ghost use Rattle.nl_files.specs.Spans.{as_list};
 
 use crate::gathering::add;
 use nl_field::{InodeRec, Pointer, PointerList};
@@ -39,7 +39,7 @@ pub fn install(
     requires place { 0 < freeing.old.room }
     requires few { length freeing.old.items + 1 < 2 ^ 32 }
     ensures installed { Installs index to rec.old rec.new meta.old meta.new nodes.old nodes.new }
-    ensures freeing { (device : VirtualMap) → freeing.new.items ≡ freeing.old.items ++ shown (pointer_at (running_over device meta.old) rec.old index) }
+    ensures freeing { (device : VirtualMap) → freeing.new.items ≡ freeing.old.items ++ as_list (pointer_at (running_over device meta.old) rec.old index) }
     ensures left { length freeing.old.items + freeing.old.room ≤ length freeing.new.items + freeing.new.room }
 {
     let had = lookup(rec, meta, index);

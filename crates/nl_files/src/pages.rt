@@ -1,12 +1,13 @@
-ghost use Rattle.std.specs.Prelude.{◌≡◌, ◌<◌, ◌≤◌, ◌+◌, ℕ, ⊤, Some, length};
+ghost use Rattle.std.specs.Prelude.{◌≡◌, ◌<◌, ◌≤◌, ◌+◌, ◌≢◌, ℕ, Some, length, take};
+ghost use Rattle.nl_field.specs.Members.{Has};
 ghost use Rattle.nl_iface.specs.Calls.{OnlyReads, ReadsCounted};
 ghost use Rattle.nl_meta.specs.Nodes.{pointer_at};
 ghost use Rattle.nl_meta.specs.Pages.{page_of};
 ghost use Rattle.nl_meta.specs.Running.{CleanIsStored};
 ghost use Rattle.nl_meta.specs.Steps.{Keeps};
 ghost use Rattle.nl_indirect.specs.Ranges.{HasPointers, HasRange, address_of, some_pointer};
-ghost use Rattle.nl_files.specs.Answers.{IfAt, IsLost, IsLostLook, IsPageStamp, Loses, LosesLook};
-ghost use Rattle.nl_files.specs.Standing.{FileStands, IsAtHand, KeepsPages, LoadsAt, device_map, running_map};
+ghost use Rattle.nl_files.specs.Answers.{IfAt, IsLostFile, IsLostLook, IsPageStamp, LosesFile, LosesLook};
+ghost use Rattle.nl_files.specs.Standing.{FileStands, IsAtHand, KeepsRunning, LoadsAt, device_map, running_map};
 
 use crate::answer::{FileAnswer, Looked};
 use nl_field::InodeRec;
@@ -24,12 +25,12 @@ pub(crate) fn load<D: NamedPages>(device: &mut D, meta: &mut Meta, vaddr: u32) -
     requires at_hand { IsAtHand D.tells meta.old vaddr }
     ensures formed { D.formed device.new }
     ensures kept { OnlyReads D.Counts device.old device.new }
-    ensures pages { KeepsPages D.Counts device.old meta.old meta.new }
+    ensures pages { KeepsRunning D.Counts device.old meta.old meta.new }
     ensures others { Keeps vaddr meta.old meta.new }
     ensures ready { result ≡ FileAnswer.Done → HasPointers (page_of meta.new) vaddr }
     ensures faults { ReadsCounted D.Counts (result ≡ FileAnswer.Fault) device.old device.new }
-    ensures lost { Loses (λ w. D.stamps device.old vaddr ≡ Some w) result }
-    ensures told { D.tells → IsLost result → ⊥ }
+    ensures lost { LosesFile (λ w. D.stamps device.old vaddr ≡ Some w) result }
+    ensures told { D.tells → IsLostFile result → ⊥ }
 {
     if meta.resident(vaddr) {
         meta.touch(vaddr);
@@ -42,7 +43,8 @@ pub(crate) fn load<D: NamedPages>(device: &mut D, meta: &mut Meta, vaddr: u32) -
     }
 }
 
-/// Makes the pages resident that have the pointers of these page indexes, of which there are at most 17.
+/// Makes the pages resident that have the pointers of these page indexes, of which there are at most 17. They are the last that were
+/// touched, so a few pages that are made resident later put none of them out.
 pub fn prepare<D: NamedPages>(
     device: &mut D,
     meta: &mut Meta,
@@ -57,11 +59,12 @@ pub fn prepare<D: NamedPages>(
     requires stands { FileStands D.Counts device.old rec.now meta.old }
     ensures formed { D.formed device.new }
     ensures kept { OnlyReads D.Counts device.old device.new }
-    ensures pages { KeepsPages D.Counts device.old meta.old meta.new }
+    ensures pages { KeepsRunning D.Counts device.old meta.old meta.new }
     ensures ready { result ≡ FileAnswer.Done → (i : ℕ) → first ≤ i → i ≤ last → HasRange (page_of meta.new) rec.now i }
+    ensures recent { result ≡ FileAnswer.Done → (i : ℕ) → first ≤ i → i ≤ last → address_of rec.now i ≢ 0 → Has (take 2 meta.new.recent) (address_of rec.now i) }
     ensures faults { ReadsCounted D.Counts (result ≡ FileAnswer.Fault) device.old device.new }
-    ensures lost { Loses (IsPageStamp (D.stamps device.old) rec.now) result }
-    ensures told { D.tells → IsLost result → ⊥ }
+    ensures lost { LosesFile (IsPageStamp (D.stamps device.old) rec.now) result }
+    ensures told { D.tells → IsLostFile result → ⊥ }
 {
     match load_range(device, meta, rec, first) {
         FileAnswer::Done => load_range(device, meta, rec, last),
@@ -81,12 +84,12 @@ pub(crate) fn load_range<D: NamedPages>(
     requires stands { FileStands D.Counts device.old rec.now meta.old }
     ensures formed { D.formed device.new }
     ensures kept { OnlyReads D.Counts device.old device.new }
-    ensures pages { KeepsPages D.Counts device.old meta.old meta.new }
+    ensures pages { KeepsRunning D.Counts device.old meta.old meta.new }
     ensures ready { result ≡ FileAnswer.Done → HasRange (page_of meta.new) rec.now index }
     ensures touched { LoadsAt (address_of rec.now index) meta.old meta.new }
     ensures faults { ReadsCounted D.Counts (result ≡ FileAnswer.Fault) device.old device.new }
-    ensures lost { Loses (IsPageStamp (D.stamps device.old) rec.now) result }
-    ensures told { D.tells → IsLost result → ⊥ }
+    ensures lost { LosesFile (IsPageStamp (D.stamps device.old) rec.now) result }
+    ensures told { D.tells → IsLostFile result → ⊥ }
 {
     let address = page_address(rec, index);
     if address == 0 {
@@ -107,7 +110,7 @@ pub(crate) fn look<D: NamedPages>(
     requires stands { FileStands D.Counts device.old rec.now meta.old }
     ensures formed { D.formed device.new }
     ensures kept { OnlyReads D.Counts device.old device.new }
-    ensures pages { KeepsPages D.Counts device.old meta.old meta.new }
+    ensures pages { KeepsRunning D.Counts device.old meta.old meta.new }
     ensures at { IfAt result (λ found. found ≡ some_pointer (pointer_at (running_map D.Counts device.old meta.old) rec.now index)) }
     ensures faults { ReadsCounted D.Counts (result ≡ Looked.Fault) device.old device.new }
     ensures lost { LosesLook (IsPageStamp (D.stamps device.old) rec.now) result }

@@ -3,9 +3,9 @@ ghost use Rattle.nl_field.specs.Pointers.{is_none_pointer};
 ghost use Rattle.nl_iface.specs.Calls.{OnlyReads, ReadsCounted};
 ghost use Rattle.nl_iface.specs.Holders.{IsRef, always, wants_tagged};
 ghost use Rattle.nl_iface.specs.Names.{place_of};
-ghost use Rattle.nl_files.specs.Answers.{IsLost, Loses};
-ghost use Rattle.nl_files.specs.Reading.{AreBytesFrom, IsWanted, page_bytes};
-ghost use Rattle.nl_files.specs.Standing.{FileStands, KeepsPages, PointersLead, running_map};
+ghost use Rattle.nl_files.specs.Answers.{IsLostFile, LosesFile};
+ghost use Rattle.nl_files.specs.Reading.{AreBytesFrom, IsWanted, file_page};
+ghost use Rattle.nl_files.specs.Standing.{FileStands, KeepsRunning, PointersLead, running_map};
 
 use crate::answer::{FileAnswer, Looked};
 use crate::pages::look;
@@ -32,12 +32,12 @@ pub fn read<D: NamedPages>(
     requires leads { PointersLead (D.names device.old) ino rec.now (running_map D.Counts device.old meta.old) }
     ensures formed { D.formed device.new }
     ensures kept { OnlyReads D.Counts device.old device.new }
-    ensures pages { KeepsPages D.Counts device.old meta.old meta.new }
+    ensures pages { KeepsRunning D.Counts device.old meta.old meta.new }
     ensures len { length out.new ≡ length out.old }
-    ensures bytes { D.tells → result ≡ FileAnswer.Done → AreBytesFrom (page_bytes D.Counts device.old (running_map D.Counts device.old meta.old) rec.now) at out.new }
+    ensures bytes { D.tells → result ≡ FileAnswer.Done → AreBytesFrom (file_page D.Counts device.old (running_map D.Counts device.old meta.old) rec.now) at out.new }
     ensures faults { ReadsCounted D.Counts (result ≡ FileAnswer.Fault) device.old device.new }
-    ensures lost { Loses (IsWanted D.Counts device.old (running_map D.Counts device.old meta.old) rec.now) result }
-    ensures told { D.tells → IsLost result → ⊥ }
+    ensures lost { LosesFile (IsWanted D.Counts device.old (running_map D.Counts device.old meta.old) rec.now) result }
+    ensures told { D.tells → IsLostFile result → ⊥ }
 {
     let mut done = 0;
     while done < out.len() {
@@ -82,11 +82,11 @@ fn read_page<D: NamedPages>(
     requires leads { PointersLead (D.names device.old) ino rec.now (running_map D.Counts device.old meta.old) }
     ensures formed { D.formed device.new }
     ensures kept { OnlyReads D.Counts device.old device.new }
-    ensures pages { KeepsPages D.Counts device.old meta.old meta.new }
-    ensures bytes { D.tells → result ≡ FileAnswer.Done → buf.new.main ≡ page_bytes D.Counts device.old (running_map D.Counts device.old meta.old) rec.now index }
+    ensures pages { KeepsRunning D.Counts device.old meta.old meta.new }
+    ensures bytes { D.tells → result ≡ FileAnswer.Done → buf.new.main ≡ file_page D.Counts device.old (running_map D.Counts device.old meta.old) rec.now index }
     ensures faults { ReadsCounted D.Counts (result ≡ FileAnswer.Fault) device.old device.new }
-    ensures lost { Loses (IsWanted D.Counts device.old (running_map D.Counts device.old meta.old) rec.now) result }
-    ensures told { D.tells → IsLost result → ⊥ }
+    ensures lost { LosesFile (IsWanted D.Counts device.old (running_map D.Counts device.old meta.old) rec.now) result }
+    ensures told { D.tells → IsLostFile result → ⊥ }
 {
     match look(device, meta, rec, index) {
         Looked::At(None) => {
@@ -114,8 +114,8 @@ fn read_at<D: NamedPages>(device: &mut D, at: Pointer, tag: Tag, buf: &mut PageB
     ensures kept { OnlyReads D.Counts device.old device.new }
     ensures bytes { D.tells → result ≡ FileAnswer.Done → buf.new.main ≡ D.bytes device.old (place_of (D.names device.old) at) }
     ensures faults { ReadsCounted D.Counts (result ≡ FileAnswer.Fault) device.old device.new }
-    ensures lost { Loses (λ w. at.stamp ≡ w) result }
-    ensures told { D.tells → IsLost result → ⊥ }
+    ensures lost { LosesFile (λ w. at.stamp ≡ w) result }
+    ensures told { D.tells → IsLostFile result → ⊥ }
 {
     match device.physical_read(at, tag, buf) {
         NamedRead::Done => FileAnswer::Done,

@@ -1,7 +1,7 @@
 use Rattle.std.proofs.Common.{refl, sym, ◌∙◌, subst}
 use Rattle.nl_inode.proofs.FetchFacts.{none-of}
 use Rattle.nl_files.proofs.Keeping.{address-below, address-written, fault-not-ready, fetched-keeps, fetched-pointers, keeps-missed, keeps-touched, resident-pointers}
-use Rattle.nl_files.specs.Standing.{KeepsPages, device_map}
+use Rattle.nl_files.specs.Standing.{KeepsRunning, device_map}
 use Rattle.nl_meta.specs.Pages.{Pages}
 use Rattle.nl_indirect.specs.Ranges.{HasPointers}
 use Rattle.nl_meta.specs.Pages.{page_of}
@@ -9,7 +9,7 @@ use Rattle.nl_files.proofs.pages.load.Goals as goal
 
 pub returns-then-resident-clause-pages : goal.returns-then-resident-clause-pages
 returns-then-resident-clause-pages g c =
-    subst (λ (p : Pages). KeepsPages g.D.Counts c.args.device.now c.args.meta.now p) (sym c.touch.ensures) (keeps-touched g.D.Counts c.args.device.now c.args.meta.now c.args.vaddr c.requires.clean)
+    subst (λ (p : Pages). KeepsRunning g.D.Counts c.args.device.now c.args.meta.now p) (sym c.touch.ensures) (keeps-touched g.D.Counts c.args.device.now c.args.meta.now c.args.vaddr c.requires.clean)
 
 pub returns-then-resident-clause-ready : goal.returns-then-resident-clause-ready
 returns-then-resident-clause-ready g c = λ e.
