@@ -6,11 +6,13 @@ use Rattle.std.specs.List.{enumerate_from, range_with_len}
 use Rattle.nl_field.specs.Pointers.{is_none_pointer, no_pointer}
 use Rattle.nl_field.specs.declared.inode.InodeRec.{InodeRec}
 use Rattle.nl_field.specs.declared.pointer.Pointer.{Pointer}
+use Rattle.nl_iface.specs.declared.counts.Counts.{Ghosts}
 use Rattle.nl_meta.specs.Committed.{VirtualMap}
 use Rattle.nl_meta.specs.Nodes.{pointer_at, pointers_at, pointers_of_inode}
 use Rattle.nl_meta.proofs.SlotProofs.{at_index, pointers_length}
 use Rattle.nl_indirect.proofs.Records.{file-parts}
-use Rattle.nl_files.specs.Laws.{AllAreOfNode, GoodAddressesHavePages}
+use Rattle.nl_files.specs.Laws.{AllAreOfNode, FilesStandOn, GoodAddressesHavePages}
+use Rattle.nl_files.proofs.Keeping.{leads-then, pointer-then, stands-then}
 use Rattle.nl_files.specs.Spans.{pointers_of_span}
 
 pub good_addresses_have_pages : GoodAddressesHavePages
@@ -57,3 +59,10 @@ all_are_of_node pages rec file =
     let sixteen = parts.addresses in
     let whole : length (rec.direct ++ flat_map (pointers_at pages) rec.addresses) ≡ 4104 = length-append rec.direct (flat_map (pointers_at pages) rec.addresses) ∙ (omega (arith, lengths, direct, sixteen)) in
     ap (filter (λ p. not (is_none_pointer p))) (by_index pages rec 4104 parts.direct whole) ∙ numbered 0 (rec.direct ++ flat_map (pointers_at pages) rec.addresses)
+
+pub files_stand_on : {D : Type 0} (g : Ghosts D) → FilesStandOn g
+files_stand_on g s t rec p q reads keeps stands = record {
+  stands = stands-then g s t rec p q reads keeps stands;
+  pointers = pointer-then g s t rec p q reads keeps stands;
+  leads = leads-then g s t rec p q reads keeps stands;
+}

@@ -7,6 +7,8 @@ mod installing;
 pub mod laws;
 mod pages;
 mod reading;
+#[cfg(test)]
+mod tests;
 
 pub use answer::{CountPages, FileAnswer};
 pub use gathering::{count_pages, gather};

@@ -52,7 +52,7 @@ pub fn read<D: NamedPages>(
 }
 
 // Puts the bytes of a page from an offset on into a list of bytes, as many as there are and have room behind the place. How many.
-fn copy(out: &mut [u8], place: usize, page: &PageBuf, offset: usize) -> usize
+pub(crate) fn copy(out: &mut [u8], place: usize, page: &PageBuf, offset: usize) -> usize
     requires room { place < length out.old }
     requires inside { offset < 4096 }
     ensures len { length out.new ≡ length out.old }
