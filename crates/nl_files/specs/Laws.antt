@@ -1,0 +1,33 @@
+-- What a volume gives for the calls of this crate.
+use Rattle.std.specs.Prelude.{◌≡◌, ◌≢◌, ℕ, slice_index, map}
+use Rattle.nl_field.specs.declared.inode.InodeRec.{InodeRec}
+use Rattle.nl_field.specs.declared.shape.Shape.{Shape}
+use Rattle.nl_meta.specs.Committed.{VirtualMap}
+use Rattle.nl_iface.specs.Calls.{OnlyReads}
+use Rattle.nl_iface.specs.declared.counts.Counts.{Ghosts}
+use Rattle.nl_meta.specs.Nodes.{pointer_at, pointers_of_inode, slots_of}
+use Rattle.nl_meta.specs.Pages.{Pages}
+use Rattle.nl_indirect.specs.FileLaws.{AddressesGood}
+use Rattle.nl_indirect.specs.Ranges.{HasPointers, IsFileRecord}
+use Rattle.nl_files.specs.Spans.{pointers_from}
+use Rattle.nl_files.specs.Standing.{FileStands, KeepsRunning, PointersLead, running_map}
+
+-- A file whose addresses are good has a page that spells pointers at each of them.
+abbrev pub GoodAddressesHavePages : Type 0
+GoodAddressesHavePages =
+    (shape : Shape) (pages : VirtualMap) (rec : InodeRec) → AddressesGood shape pages rec
+    → (r : ℕ) → slice_index (slots_of rec) r ≢ 0 → HasPointers pages (slice_index (slots_of rec) r)
+
+-- The pointers from index 0 on are those that the file has in the graph of nodes.
+abbrev pub AllAreOfNode : Type 0
+AllAreOfNode = (pages : VirtualMap) (rec : InodeRec) → IsFileRecord rec → pointers_from pages rec 0 ≡ map (λ p. p.1) (pointers_of_inode pages rec)
+
+-- A file stands on, with the pointers that it had, and they still lead.
+pub record StandsAs {D : Type 0} (g : Ghosts D) (s t : D) (rec : InodeRec) (p q : Pages) : Type 0 where
+  pub stands : FileStands g t rec q
+  pub pointers : (i : ℕ) → pointer_at (running_map g t q) rec i ≡ pointer_at (running_map g s p) rec i
+  pub leads : (ino : ℕ) → PointersLead (g.names s) ino rec (running_map g s p) → PointersLead (g.names t) ino rec (running_map g t q)
+
+-- Each file does after calls that only read.
+abbrev pub FilesStandOn : {D : Type 0} → Ghosts D → Type 0
+FilesStandOn {D} g = (s t : D) (rec : InodeRec) (p q : Pages) → OnlyReads g s t → KeepsRunning g s p q → FileStands g s rec p → StandsAs g s t rec p q

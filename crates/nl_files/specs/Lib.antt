@@ -1,0 +1,6 @@
+pub mod Answers
+pub mod Installing
+pub mod Laws
+pub mod Reading
+pub mod Spans
+pub mod Standing

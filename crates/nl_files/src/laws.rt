@@ -1,0 +1,19 @@
+//! Laws of the definitions. Each function stands for the law that its contract names.
+ghost use Rattle.nl_files.specs.Laws.{AllAreOfNode, FilesStandOn, GoodAddressesHavePages};
+
+use nl_iface::NamedPages;
+
+// What calls need of a file's pages holds where its addresses are good.
+pub fn good_addresses_have_pages()
+    ensures { GoodAddressesHavePages }
+{}
+
+// The pointers of a file by index are those of its node.
+pub fn all_are_of_node()
+    ensures { AllAreOfNode }
+{}
+
+// A file stands on after each call of this crate that only reads, with the pointers that it had.
+pub fn files_stand_on<D: NamedPages>()
+    ensures { FilesStandOn D.Counts }
+{}

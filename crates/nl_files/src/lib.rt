@@ -1,0 +1,17 @@
+//! The bytes and the pages of one file, over any device.
+#![tactic(auto)]
+
+mod answer;
+mod gathering;
+mod installing;
+pub mod laws;
+mod pages;
+mod reading;
+#[cfg(test)]
+mod tests;
+
+pub use answer::{CountPages, FileAnswer};
+pub use gathering::{count_pages, gather};
+pub use installing::install;
+pub use pages::prepare;
+pub use reading::read;
