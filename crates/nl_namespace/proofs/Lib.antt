@@ -1,5 +1,6 @@
 mod Entries
 mod Graphs
+mod GraphStays
 mod Holds
 mod Kept
 mod Rows

@@ -56,7 +56,7 @@ module _ (shape : Shape) (bounds : ShapeBounds shape) (old new : VirtualMap) (sa
   unfolding bytes_of_node
   node-bytes n h = ap (λ (o : Option (List ℕ)). slot_at (λ v. o) 256 0 (n % 16)) (same (67 + n / 16) (inl (inode-address shape n h)))
 
-  inode-same : (n : ℕ) → n < 16 * shape.inode_pages → inode_at new n ≡ inode_at old n
+  pub inode-same : (n : ℕ) → n < 16 * shape.inode_pages → inode_at new n ≡ inode_at old n
   unfolding inode_at
   inode-same n h = ap inode_of (node-bytes n h)
 
