@@ -66,7 +66,7 @@ module _ {D : Type 0} (g : Ghosts D) (s : D) (p : Pages) where
   abbrev pub graph : Graph
   graph = graph_of (g.shape s) (running_on g s p)
 
-  body-is : (n : ℕ) (rec : InodeRec) → IsNodeOf g s p n rec → (k : Kind) → rec.kind ≡ k → (graph n).body ≡ body_of (running_on g s p) rec k
+  pub body-is : (n : ℕ) (rec : InodeRec) → IsNodeOf g s p n rec → (k : Kind) → rec.kind ≡ k → (graph n).body ≡ body_of (running_on g s p) rec k
   unfolding graph_of
   body-is n rec is k kind =
       ap (λ (o : Option InodeRec). (node_from (running_on g s p) o).body) (cond-true (nat_lt n (g.shape s).nodes) _ _ (lt-ltb _ _ is.below) ∙ is.spelled)

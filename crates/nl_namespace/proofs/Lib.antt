@@ -3,6 +3,9 @@ mod Graphs
 mod GraphStays
 mod Holds
 mod Kept
+mod Printed
+mod Texts
+mod Order
 mod Rows
 mod SameNeeded
 mod TreeWalks

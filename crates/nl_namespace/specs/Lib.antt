@@ -1,4 +1,5 @@
 pub mod Holding
+pub mod Listing
 pub mod Paths
 pub mod PathLaws
 pub mod Reading

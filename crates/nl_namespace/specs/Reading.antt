@@ -2,6 +2,8 @@
 use Rattle.std.specs.Prelude.{◌≡◌, ℕ, ⊤, Option, Some, None, Result, Ok, Err}
 use Rattle.nl_iface.specs.Counting.{FailuresCounted}
 use Rattle.nl_iface.specs.declared.counts.Counts.{Ghosts}
+use Rattle.nl_namespace.specs.declared.answer.Listing.{Listing}
+use Rattle.nl_namespace.specs.declared.answer.Listing.TheVariants as listing
 use Rattle.nl_namespace.specs.declared.answer.Look.{Look}
 use Rattle.nl_namespace.specs.declared.answer.Look.TheVariants as look
 use Rattle.nl_namespace.specs.declared.answer.Stop.{Stop}
@@ -13,6 +15,11 @@ look_stop look.Missing = None
 look_stop (look.No refusal) = None
 look_stop look.Fault = Some stop.Fault
 look_stop (look.Lost w f) = Some (stop.Lost w f)
+
+abbrev pub listing_stop : Listing → Option Stop
+listing_stop (listing.Listed n) = None
+listing_stop listing.Fault = Some stop.Fault
+listing_stop (listing.Lost w f) = Some (stop.Lost w f)
 
 abbrev pub stop_of : {X : Type 0} → Result X Stop → Option Stop
 stop_of (Ok x) = None

@@ -56,3 +56,7 @@ IsUsed g s p n = (rec : InodeRec) × IsNodeOf g s p n rec
 -- a directory has this record
 abbrev pub IsDirectoryOf : {D : Type 0} → Ghosts D → D → Pages → InodeRec → Type 0
 IsDirectoryOf g s p rec = (n : ℕ) × IsNodeOf g s p n rec × (rec.kind ≡ Dir)
+
+-- the node is a directory
+abbrev pub IsDirectoryAt : {D : Type 0} → Ghosts D → D → Pages → ℕ → Type 0
+IsDirectoryAt g s p n = (rec : InodeRec) × IsNodeOf g s p n rec × (rec.kind ≡ Dir)

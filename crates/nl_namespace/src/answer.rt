@@ -13,6 +13,17 @@ pub enum Look {
     Lost { wanted: u64, found: u64 },
 }
 
+/// How the names of a directory were listed.
+#[derive(Clone, Copy, Debug, PartialEq, Eq)]
+pub enum Listing {
+    /// So many.
+    Listed(u32),
+    /// A read failed.
+    Fault,
+    /// A page does not hold the sequence number under which its address was written.
+    Lost { wanted: u64, found: u64 },
+}
+
 /// Why a call that reads pages ends early.
 #[derive(Clone, Copy, Debug, PartialEq, Eq)]
 pub enum Stop {
