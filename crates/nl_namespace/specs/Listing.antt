@@ -20,11 +20,12 @@ use Rattle.nl_namespace.specs.declared.answer.Listing.TheVariants as listing
 abbrev pub is_before : EntryRec → EntryRec → Bool
 is_before a b = is_lt (slice_cmp nat_cmp a.name b.name)
 
--- behind an entry, or behind none
+-- the second comes behind the first; each does where there is no first
 abbrev pub is_after : Option EntryRec → EntryRec → Bool
 is_after None e = true
 is_after (Some a) e = is_before a e
 
+-- behind the name of a directory
 abbrev pub mark_of : NodeBody → List ℕ
 mark_of unused = []
 mark_of (file_node size pointers) = []
@@ -57,11 +58,12 @@ abbrev pub IsNext : List EntryRec → Option EntryRec → Option EntryRec → Ty
 IsNext entries after None = (f : EntryRec) → Has entries f → is_after after f ≡ false
 IsNext entries after (Some e) = Has entries e × (is_after after e ≡ true) × ((f : EntryRec) → Has entries f → is_after after f ≡ true → is_before f e ≡ false)
 
--- before the best one so far, or the first
+-- the first comes before the second, or there is no second
 abbrev pub is_first : EntryRec → Option EntryRec → Bool
 is_first e None = true
 is_first e (Some b) = is_before e b
 
+-- behind the name of a node of that kind
 abbrev pub kind_mark : Kind → List ℕ
 kind_mark Unused = []
 kind_mark File = []
