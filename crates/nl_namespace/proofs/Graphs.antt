@@ -31,7 +31,7 @@ tests-agree x y = by (names_eq x y) (bytes_eq y x) refl refl
     by true false e f = absurd (both_ways _ f ((bytes_eq-Decides y x).1 (sym (eq_name x y e))))
     by false true e f = absurd (both_ways _ e (name_eq x y (sym ((bytes_eq-Decides y x).0 f))))
 
-named-by : (name : List ℕ) (es : List EntryRec) → node_named name (map (λ e. (e.name, e.ino)) es) ≡ option_map (λ (e : EntryRec). e.ino) (find (λ e. bytes_eq e.name name) es)
+pub named-by : (name : List ℕ) (es : List EntryRec) → node_named name (map (λ e. (e.name, e.ino)) es) ≡ option_map (λ (e : EntryRec). e.ino) (find (λ e. bytes_eq e.name name) es)
 named-by name [] = refl
 named-by name (e ∷ es) =
     ap (λ (b : Bool). cond b (Some e.ino) (node_named name (map (λ e. (e.name, e.ino)) es))) (tests-agree name e.name)

@@ -8,5 +8,6 @@ mod Texts
 mod Order
 mod Rows
 mod SameNeeded
+mod TreeLists
 mod TreeWalks
 mod Walks

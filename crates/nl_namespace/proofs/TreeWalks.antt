@@ -16,7 +16,7 @@ use Rattle.nl_namespace.specs.declared.answer.Look.TheVariants as look
 
 module _ (bytes_of : ℕ → List ℕ) (graph : Graph) (tree : Tree) (represents : Represents bytes_of graph tree) where
   -- what stands under a name of a directory
-  under : (at : List (List ℕ)) (n : ℕ) (name : List ℕ) → node_reached graph 0 at ≡ Some n
+  pub under : (at : List (List ℕ)) (n : ℕ) (name : List ℕ) → node_reached graph 0 at ≡ Some n
       → node_reached graph 0 (at ++ name ∷ []) ≡ node_named name (entries_in (graph n).body)
   unfolding node_reached
   under at n name e = reached-append graph 0 at (name ∷ []) ∙ ap (option_and_then (λ m. node_reached graph m (name ∷ []))) e ∙ one_name (node_named name (entries_in (graph n).body))

@@ -1,5 +1,5 @@
 //! Laws of the definitions. Each function stands for the law that its contract names.
-ghost use Rattle.nl_namespace.specs.PathLaws.{LooksInTree};
+ghost use Rattle.nl_namespace.specs.PathLaws.{ListsInTree, LooksInTree};
 ghost use Rattle.nl_namespace.specs.RunningLaws.{RunsStay};
 
 use nl_iface::VirtualPages;
@@ -7,6 +7,11 @@ use nl_iface::VirtualPages;
 /// A path is answered as the tree answers it for which the nodes stand.
 pub fn looks_in_tree()
     ensures { LooksInTree }
+{}
+
+/// What is listed stands in the tree under the path of the directory, and nothing else does.
+pub fn lists_in_tree()
+    ensures { ListsInTree }
 {}
 
 /// Where a call leaves a volume as it was, names can be looked up in it again, and it runs on through the next call too.
