@@ -1,0 +1,8 @@
+pub mod Holding
+pub mod Listing
+pub mod Paths
+pub mod PathLaws
+pub mod Reading
+pub mod Running
+pub mod RunningLaws
+pub mod Stepping

@@ -1,0 +1,12 @@
+//! Paths: what a chain of names leads to, and what a directory lists, in the running pages over a device.
+#![tactic(auto)]
+
+mod answer;
+mod hold;
+pub mod laws;
+mod names;
+mod walk;
+
+pub use answer::{Listing, Look, Stop};
+pub use names::list;
+pub use walk::look;
