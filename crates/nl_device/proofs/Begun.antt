@@ -1,5 +1,5 @@
 -- A block is taken as the victim.
-use Rattle.std.proofs.Common.{◌≡◌, ◌⊎◌, inl, inr, ⊎_elim, ℕ, ◌+◌, ◌*◌, ◌<◌, ◌≤◌, Bool, true, false, cond, is_some, List, length, Option, Some, None, refl, sym, ◌∙◌, ap, subst, arith}
+use Rattle.std.proofs.Common.{◌≡◌, inl, ℕ, ◌*◌, ◌<◌, ◌≤◌, Bool, List, length, Option, refl, sym, ◌∙◌, ap, subst, arith}
 use Rattle.std.specs.Prelude.{Contains}
 use Rattle.std.proofs.lemmas.Option.{same_Some}
 use Rattle.nl_field.specs.Page.{Image}
@@ -7,9 +7,8 @@ use Rattle.nl_field.specs.declared.shape.Shape.{Shape}
 use Rattle.nl_nand.specs.Nand.{ImageOf}
 use Rattle.nl_nand.specs.declared.geometry.Geometry.{Geometry}
 use Rattle.nl_callbacks.specs.Pending.{PendingTable}
-use Rattle.nl_iface.specs.Stored.{stored_in}
 use Rattle.nl_pseg.specs.Cleaning.{Begins, IsChosen}
-use Rattle.nl_pseg.specs.Segment.{HasSpare, IsPhysicalOf, KeepsBlock, Physical, SamePages, held_at}
+use Rattle.nl_pseg.specs.Segment.{HasSpare, IsPhysicalOf, KeepsBlock, Physical, SamePages}
 use Rattle.nl_pseg.specs.Space.{IsWhole, victims}
 use Rattle.nl_pseg.specs.declared.held.Held.{Held}
 use Rattle.nl_vseg.specs.Segment.{Segment}

@@ -1,5 +1,5 @@
 -- What the bounds of a shape give to its segments.
-use Rattle.std.proofs.Common.{inl, inr, ℕ, ◌*◌, ◌<◌, ◌≤◌, arith, mul-le-mul_right}
+use Rattle.std.proofs.Common.{inl, inr, ◌*◌, ◌<◌, ◌≤◌, arith, mul-le-mul_right}
 use Rattle.std.proofs.lemmas.Bool.{cases_lt}
 use Rattle.nl_field.specs.Numbers.{ShapeBounds}
 use Rattle.nl_field.specs.declared.shape.Shape.{Shape}

@@ -1,17 +1,13 @@
 -- The pending callbacks that a device shows: by place in the table, and as a list.
-use Rattle.std.proofs.Common.{◌≡◌, ◌≢◌, ◌⊎◌, inl, inr, ⊎_elim, ℕ, zero, suc, ◌+◌, ◌<◌, ◌≤◌, ◌==◌, false, cond, List, [], ◌∷◌, length, map, Option, Some, None, refl, sym, ◌∙◌, ap, subst, arith, eq-eqb, ne_eqb}
-use Rattle.std.specs.Prelude.{filter, IfNone, IfSome}
+use Rattle.std.proofs.Common.{◌≡◌, ◌≢◌, ℕ, zero, suc, ◌<◌, ◌≤◌, ◌==◌, false, List, [], ◌∷◌, length, Option, Some, None, refl, sym, ◌∙◌, ap, subst, arith, eq-eqb, ne_eqb}
+use Rattle.std.specs.Prelude.{IfNone, IfSome}
 use Rattle.std.proofs.lemmas.Bool.{cond-true, cond-false}
-use Rattle.nl_callbacks.specs.Pending.{HasCallback, IsPending, IsTable, IsWaiting, PendingTable, entry_at, number_of}
+use Rattle.nl_callbacks.specs.Pending.{HasCallback, IsPending, IsTable, IsWaiting, entry_at, number_of}
 use Rattle.nl_callbacks.specs.declared.entry.Entry.{Entry}
-use Rattle.nl_iface.specs.Names.{Has, callbacks_beside}
+use Rattle.nl_iface.specs.Names.{Has}
 use Rattle.nl_iface.specs.declared.Callback.{Callback}
-use Rattle.nl_iface.specs.Moves.{Acknowledges}
-use Rattle.nl_iface.specs.Space.{NamesGone}
-use Rattle.nl_pseg.specs.Segment.{Physical}
 use Rattle.nl_device.specs.Callbacks.{IsUnhandled, callbacks_of, handled_in}
 use Rattle.nl_device.specs.State.{at_has, has_at}
-use Rattle.nl_device.specs.Space.{space_of}
 
 -- the callback of a number
 pub called_some : (es : List Entry) (number : ℕ) (o : Option Callback) → IfSome o (HasCallback es) → IfSome o (λ c. c.number ≡ number) → IfSome o (λ c. Has (callbacks_of es) c × (c.number ≡ number))

@@ -1,8 +1,8 @@
 -- Old names and pending callbacks stay one to one.
-use Rattle.std.proofs.Common.{◌≡◌, ◌≢◌, ◌⊎◌, inl, inr, ⊎_elim, ℕ, zero, suc, ◌+◌, ◌*◌, ◌<◌, ◌≤◌, ◌==◌, ◌&&◌, ◌||◌, Bool, true, false, not, cond, List, [], ◌∷◌, length, Option, Some, None, refl, sym, ◌∙◌, ap, subst, arith, eq-eqb, ne_eqb, eqb-true}
+use Rattle.std.proofs.Common.{◌≡◌, ◌≢◌, inl, ⊎_elim, ℕ, zero, suc, ◌+◌, ◌*◌, ◌≤◌, ◌==◌, ◌&&◌, ◌||◌, Bool, true, false, not, cond, List, [], ◌∷◌, length, Some, None, refl, sym, ◌∙◌, ap, subst, arith, eq-eqb, ne_eqb, eqb-true}
 use Rattle.std.specs.Prelude.{Contains, filter}
 use Rattle.std.specs.List.{list_any}
-use Rattle.std.proofs.lemmas.Bool.{cases_Bool, cases_eq, true≢false}
+use Rattle.std.proofs.lemmas.Bool.{cases_eq, true≢false}
 use Rattle.std.proofs.lemmas.Option.{none-some}
 use Rattle.nl_callbacks.specs.Pending.{IsTable, PendingTable, entry_at}
 use Rattle.nl_callbacks.specs.declared.entry.Entry.{Entry}
@@ -12,7 +12,7 @@ use Rattle.nl_iface.specs.declared.Callback.{Callback}
 use Rattle.nl_pseg.specs.Segment.{IsOldName, Physical, held_at, without_target}
 use Rattle.nl_pseg.specs.Space.{IsWhole}
 use Rattle.nl_pseg.specs.declared.held.Held.{Held}
-use Rattle.nl_device.specs.Callbacks.{AreCalled, NamesDiffer, callbacks_of, handled_in, held_by, is_led}
+use Rattle.nl_device.specs.Callbacks.{AreCalled, callbacks_of, handled_in, is_led}
 use Rattle.nl_device.specs.State.{has_at, led_by, old_or}
 use Rattle.nl_device.proofs.Lists.{filter_all, has_kept, kept_handled, kept_has, kept_list}
 

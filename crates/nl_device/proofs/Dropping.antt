@@ -1,9 +1,7 @@
 -- A callback is gone, and its old name.
-use Rattle.std.proofs.Common.{◌≡◌, ◌≢◌, ◌⊎◌, inl, inr, ⊎_elim, ℕ, zero, suc, ◌+◌, ◌-◌, ◌*◌, ◌<◌, ◌≤◌, ◌==◌, nat_le, Bool, true, false, not, cond, List, [], ◌∷◌, length, remove, set, get_or, Option, Some, None, refl, sym, ◌∙◌, ap, subst, arith, eq-eqb, ne_eqb, eqb-true}
+use Rattle.std.proofs.Common.{◌≡◌, ◌≢◌, inl, inr, ⊎_elim, ℕ, zero, suc, ◌<◌, ◌≤◌, ◌==◌, Bool, true, false, not, cond, List, [], ◌∷◌, length, get_or, Option, Some, None, refl, sym, ◌∙◌, ap, subst, arith, eq-eqb, ne_eqb, eqb-true}
 use Rattle.std.specs.Prelude.{Contains, filter}
-use Rattle.std.specs.Bool.{OnTrue}
-use Rattle.std.proofs.lemmas.Bool.{cases_Bool, cases_eq, cases_lt, cond-true, cond-false, le-leb, lt-leb, true≢false}
-use Rattle.std.proofs.lemmas.Option.{none-some, same_Some}
+use Rattle.std.proofs.lemmas.Bool.{cases_Bool, cases_lt, cond-true, cond-false, le-leb, lt-leb, true≢false}
 use Rattle.std.proofs.lemmas.List.Edits.{length-remove}
 use Rattle.nl_callbacks.specs.Pending.{IsTable, PendingTable, entry_at, is_over, number_of, unacknowledged, without}
 use Rattle.nl_callbacks.specs.declared.entry.Entry.{Entry}
@@ -16,7 +14,7 @@ use Rattle.nl_pseg.specs.Cleaning.{without_name}
 use Rattle.nl_pseg.specs.Segment.{IsOldName, Physical, held_at}
 use Rattle.nl_pseg.specs.Space.{IsWhole}
 use Rattle.nl_pseg.specs.declared.held.Held.{Held}
-use Rattle.nl_device.specs.Callbacks.{AreCalled, DropsNames, NamesDiffer, callbacks_of, handled_in, names_with}
+use Rattle.nl_device.specs.Callbacks.{AreCalled, DropsNames, callbacks_of, handled_in, names_with}
 use Rattle.nl_device.specs.Shown.{live_page}
 use Rattle.nl_device.specs.State.{at_has, at_once, has_at, led_by, old_or, to_itself}
 use Rattle.nl_device.proofs.Called.{handled_at}

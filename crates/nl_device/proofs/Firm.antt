@@ -1,7 +1,7 @@
 -- A write by a virtual address leaves the virtual segment firm: its pages of one stamp are the same, and it has a spare block.
 use Rattle.std.proofs.Common.{◌≡◌, ◌⊎◌, inl, inr, ⊎_elim, ℕ, zero, suc, ◌+◌, ◌*◌, ◌/◌, ◌<◌, ◌≤◌, ◌==◌, ◌∙◌, nat_lt, Bool, true, false, not, ◌&&◌, ◌||◌, List, [], ◌∷◌, find, Option, Some, None, is_some, bytes_eq, refl, sym, ap, subst, arith, eq-eqb, ne_eqb}
 use Rattle.std.specs.List.{list_all, list_any, range_with_len}
-use Rattle.std.proofs.lemmas.Bool.{and_from, and_parts, cases_Bool, cases_eq, cond-true, cond-false, eqb-false, eqb-true, false≢true, lt-ltb, not-true, not_from_false, not_from_true, or_cases, or_left, or_right}
+use Rattle.std.proofs.lemmas.Bool.{and_from, and_parts, cases_Bool, cases_eq, cond-true, cond-false, eqb-false, false≢true, lt-ltb, not-true, not_from_false, not_from_true, or_cases, or_left, or_right}
 use Rattle.std.proofs.lemmas.Option.{none-some}
 use Rattle.std.proofs.lemmas.Slice.Eq.{bytes_eq-Decides}
 use Rattle.nl_field.specs.Medium.{Readable, address_of, address_on, first_physical, is_virtual_rec, shape_of_image, stamp_on, virtual_pages, readable_pages}

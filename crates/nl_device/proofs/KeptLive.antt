@@ -1,7 +1,7 @@
 -- The listed pointers as they are shown once they are live.
-use Rattle.std.proofs.Common.{◌≡◌, ◌⊎◌, inl, inr, ℕ, zero, suc, ◌<◌, ◌==◌, ◌∙◌, true, false, Bool, cond, List, [], ◌∷◌, length, map, Option, Some, None, refl, sym, ap, subst, eqb-true}
+use Rattle.std.proofs.Common.{◌≡◌, inl, inr, ℕ, zero, suc, ◌==◌, ◌∙◌, true, false, Bool, cond, List, [], ◌∷◌, length, map, Option, Some, None, refl, sym, ap, subst, eqb-true}
 use Rattle.std.specs.Prelude.{find, option_map, slice_get, unwrap_or}
-use Rattle.std.proofs.lemmas.Bool.{cases_Bool, cond-true, cond-false, true≢false}
+use Rattle.std.proofs.lemmas.Bool.{true≢false}
 use Rattle.std.proofs.lemmas.Option.{none-some, same_Some}
 use Rattle.nl_field.specs.Live.{resolve}
 use Rattle.nl_field.specs.declared.pointer.Pointer.{Pointer}
@@ -9,9 +9,9 @@ use Rattle.nl_iface.specs.Moves.{Retains}
 use Rattle.nl_iface.specs.Names.{Has, LivePage}
 use Rattle.nl_pseg.specs.Segment.{Physical, held_at}
 use Rattle.nl_pseg.specs.declared.held.Held.{Held}
-use Rattle.nl_device.specs.Kept.{KeptPages, has_stamp, is_at_name}
+use Rattle.nl_device.specs.Kept.{KeptPages, has_stamp}
 use Rattle.nl_device.specs.State.{held_of}
-use Rattle.nl_device.specs.Retain.{AreRetained, CanRetain, IsFoundIn, held_for, place_for, retained_at, spare_for}
+use Rattle.nl_device.specs.Retain.{AreRetained, CanRetain, IsFoundIn, place_for, retained_at, spare_for}
 use Rattle.nl_device.specs.Shown.{found_by_number, found_on, live_page, names_of}
 use Rattle.nl_device.specs.Space.{space_of}
 use Rattle.nl_device.specs.declared.kept.page.KeptPage.{KeptPage}

@@ -1,23 +1,19 @@
 -- What holds of the tables of a device, and of a medium that stores them.
-use Rattle.std.proofs.Common.{arith, inl, inr, ◌≡◌, ℕ, ◌+◌, ◌*◌, ◌-◌, ◌/◌, ◌<◌, ◌≤◌, ◌∙◌, Bool, List, [], Option, Some, None, length, is_some, refl, sym, ap, subst, add-mul, zero-add, IsTrue, ⊎_elim, true}
+use Rattle.std.proofs.Common.{arith, ◌≡◌, ℕ, ◌+◌, ◌*◌, ◌-◌, ◌<◌, ◌≤◌, ◌∙◌, Bool, Option, Some, None, length, is_some, refl, sym, ap, subst, add-mul, zero-add, IsTrue}
 use Rattle.std.specs.List.{count_by, range_with_len}
-use Rattle.std.proofs.lemmas.Bool.{true≢false}
 use Rattle.std.proofs.lemmas.List.{get_or_past}
 use Rattle.std.proofs.lemmas.Option.{none-some}
-use Rattle.nl_field.specs.Live.{resolve}
 use Rattle.nl_field.specs.Numbers.{is_legal, shape_for}
 use Rattle.nl_field.specs.declared.shape.Shape.{Shape}
 use Rattle.nl_nand.specs.declared.geometry.Geometry.{Geometry}
 use Rattle.nl_iface.specs.Device.{IsVolumeShape}
-use Rattle.nl_iface.specs.Left.{HoldsLive, HoldsStamp, LeavesPages}
-use Rattle.nl_iface.specs.Names.{IsNames, LivePage, led}
+use Rattle.nl_iface.specs.Names.{IsNames}
 use Rattle.nl_iface.specs.Space.{IsSpace}
-use Rattle.nl_iface.specs.Stored.{Stored}
-use Rattle.nl_pseg.specs.Segment.{Physical, held_at, is_kept}
+use Rattle.nl_pseg.specs.Segment.{Physical, held_at}
 use Rattle.nl_pseg.specs.declared.held.Held.{Held}
 use Rattle.nl_vseg.specs.Places.{stamp_for, stamp_in_place}
 use Rattle.nl_vseg.specs.Segment.{Segment}
-use Rattle.nl_device.specs.Device.{HasLive, HasSegments, HasSpareBlock}
+use Rattle.nl_device.specs.Device.{HasLive, HasSegments}
 use Rattle.nl_device.specs.State.{held_of}
 use Rattle.nl_device.specs.Shown.{live_page, names_of}
 use Rattle.nl_device.specs.Space.{live_in, space_of}

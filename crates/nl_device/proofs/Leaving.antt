@@ -1,5 +1,5 @@
 -- What is left of the live pages: the spare block, the pages of old names.
-use Rattle.std.proofs.Common.{◌≡◌, ◌≢◌, ◌⊎◌, inl, inr, ⊎_elim, ℕ, ◌+◌, ◌*◌, ◌/◌, ◌<◌, ◌≤◌, true, List, [], length, Option, Some, None, refl, sym, ◌∙◌, ap, subst, arith, mul-le-mul_right}
+use Rattle.std.proofs.Common.{◌≡◌, ◌⊎◌, inl, inr, ⊎_elim, ℕ, ◌*◌, ◌/◌, ◌<◌, ◌≤◌, true, List, [], length, Some, None, refl, sym, ◌∙◌, ap, subst, arith, mul-le-mul_right}
 use Rattle.std.specs.Prelude.{Contains}
 use Rattle.std.proofs.Math.Nat.{div-mul-le_self}
 use Rattle.std.proofs.lemmas.Bool.{cases_eq, true≢false}
@@ -11,7 +11,7 @@ use Rattle.nl_nand.specs.Nand.{ImageOf}
 use Rattle.nl_nand.specs.declared.geometry.Geometry.{Geometry}
 use Rattle.nl_iface.specs.Left.{HeldBeside, HoldsLive, HoldsStamp, LeavesPages}
 use Rattle.nl_iface.specs.Names.{Has, LivePage, Names, led}
-use Rattle.nl_iface.specs.Stored.{NamedPage, Stored, stored_in}
+use Rattle.nl_iface.specs.Stored.{Stored, stored_in}
 use Rattle.nl_pseg.specs.Pages.{shown_by}
 use Rattle.nl_pseg.specs.Segment.{HasSpare, InVictim, IsDead, KeepsBlock, Physical, held_at, is_kept}
 use Rattle.nl_pseg.specs.Space.{IsWhole}

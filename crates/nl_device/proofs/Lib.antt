@@ -23,6 +23,8 @@ pub mod Living
 pub mod Loading
 pub mod Lookups
 pub mod Made
+pub mod Moved
+pub mod Moving
 pub mod Naming
 pub mod Noting
 pub mod Opened

@@ -1,14 +1,14 @@
 -- Lists of pending callbacks, filtered.
-use Rattle.std.proofs.Common.{◌≡◌, ◌≢◌, ◌⊎◌, inl, inr, ⊎_elim, ℕ, zero, suc, ◌+◌, ◌<◌, ◌≤◌, ◌==◌, ◌&&◌, ◌||◌, Bool, true, false, not, nat_lt, cond, List, [], ◌∷◌, length, remove, Option, Some, None, refl, sym, ◌∙◌, ap, subst, arith, eq-eqb, ne_eqb, eqb-true}
+use Rattle.std.proofs.Common.{◌≡◌, ◌≢◌, ◌⊎◌, inl, inr, ⊎_elim, ℕ, zero, suc, ◌+◌, ◌<◌, ◌≤◌, ◌==◌, ◌&&◌, ◌||◌, Bool, true, false, not, nat_lt, cond, List, [], ◌∷◌, length, remove, refl, sym, ◌∙◌, ap, arith, eq-eqb, ne_eqb}
 use Rattle.std.specs.Prelude.{filter}
-use Rattle.std.proofs.lemmas.Bool.{cases_Bool, cases_eq, cases_lt, cond-true, cond-false, lt-ltb, le-ltb, true≢false}
-use Rattle.nl_callbacks.specs.Pending.{Cancels, IsTable, PendingTable, entry_at, number_of, without}
+use Rattle.std.proofs.lemmas.Bool.{cases_eq, cases_lt, cond-true, cond-false, lt-ltb, le-ltb, true≢false}
+use Rattle.nl_callbacks.specs.Pending.{IsTable, entry_at, number_of}
 use Rattle.nl_callbacks.specs.declared.entry.Entry.{Entry}
 use Rattle.nl_field.specs.Live.{resolve}
 use Rattle.nl_iface.specs.Names.{Has}
 use Rattle.nl_iface.specs.declared.Callback.{Callback}
 use Rattle.nl_device.specs.Callbacks.{NamesDiffer, callbacks_of, handled_in, is_led}
-use Rattle.nl_device.specs.State.{at_has, at_once, given_of, has_at}
+use Rattle.nl_device.specs.State.{at_has, at_once, has_at}
 
 -- each item passes
 pub filter_all : (p : Entry → Bool) (es : List Entry) → ((i : ℕ) → i < length es → p (entry_at es i) ≡ true) → filter p es ≡ es

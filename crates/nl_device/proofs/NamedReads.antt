@@ -1,14 +1,13 @@
 -- What the read of a pointer answers.
-use Rattle.std.proofs.Common.{◌≡◌, ◌⊎◌, inl, inr, ⊎_elim, ℕ, ◌∙◌, true, false, List, Option, Some, None, refl, sym, ap, subst, eq-eqb, eqb-true, ne_eqb}
-use Rattle.std.specs.Prelude.{◌↔◌, ◌==◌}
-use Rattle.std.proofs.lemmas.Bool.{cases_Bool, false≢true}
-use Rattle.std.proofs.lemmas.Option.{none-some, same_Some}
+use Rattle.std.proofs.Common.{◌≡◌, ◌⊎◌, ⊎_elim, ℕ, ◌∙◌, true, false, Option, Some, None, refl, sym, ap, subst, eq-eqb, ne_eqb}
+use Rattle.std.specs.Prelude.{◌↔◌}
+use Rattle.std.proofs.lemmas.Bool.{false≢true}
 use Rattle.nl_field.specs.Page.{PageBytes}
 use Rattle.nl_field.specs.declared.answers.NamedRead.{NamedRead}
 use Rattle.nl_field.specs.declared.answers.NamedRead.TheVariants as read
 use Rattle.nl_field.specs.declared.pointer.Tag.{Tag}
 use Rattle.nl_iface.specs.Answers.{IsLostPage, LosesPage}
-use Rattle.nl_iface.specs.Names.{LivePage, has_stamp, has_tag}
+use Rattle.nl_iface.specs.Names.{has_stamp, has_tag}
 use Rattle.nl_pseg.specs.Answers.{ReadsHeld}
 use Rattle.nl_pseg.specs.declared.held.Held.{Held}
 use Rattle.nl_device.specs.Shown.{live_page}

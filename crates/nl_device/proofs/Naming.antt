@@ -3,8 +3,7 @@ use Rattle.std.proofs.Common.{◌≡◌, ◌⊎◌, inl, inr, ⊎_elim, ℕ, ◌
 use Rattle.std.specs.Prelude.{Contains}
 use Rattle.std.proofs.lemmas.Bool.{cases_lt, cases_eq}
 use Rattle.std.proofs.lemmas.Option.{none-some, same_Some}
-use Rattle.nl_field.specs.Page.{Image, Page, erased, written, page_at}
-use Rattle.nl_field.specs.Live.{resolve}
+use Rattle.nl_field.specs.Page.{Image, Page, written, page_at}
 use Rattle.nl_field.specs.declared.pointer.Tag.{Tag}
 use Rattle.nl_field.specs.declared.shape.Shape.{Shape}
 use Rattle.nl_nand.specs.Nand.{ImageOf}
@@ -105,7 +104,7 @@ module _ (geometry : Geometry) (shape : Shape) (vseg : Segment) (seg : Physical)
   first_is = begins segments
 
   -- a page that is as it was
-  named_same : (p : ℕ) → page_at c p ≡ page_at old p → (stored_in c).named p ≡ (stored_in old).named p
+  pub named_same : (p : ℕ) → page_at c p ≡ page_at old p → (stored_in c).named p ≡ (stored_in old).named p
   named_same p same = ⊎_elim
       (λ lt. named_below shape c (shape_is segments c_fits) p lt ∙ sym (named_below shape old (shape_is segments old_fits) p lt))
       (λ le. named_from shape c (shape_is segments c_fits) p le ∙ (ap (λ page. named_of (shown_by page)) same ∙ sym (named_from shape old (shape_is segments old_fits) p le)))

@@ -1,7 +1,7 @@
 -- The answers of a write under a new name.
 use Rattle.std.proofs.Common.{◌≡◌, ◌⊎◌, inl, inr, ⊎_elim, ℕ, ◌+◌, ◌<◌, ◌≤◌, Bool, true, false, cond, refl, sym, ◌∙◌, ap, subst, arith}
 use Rattle.std.proofs.lemmas.Bool.{false≢true}
-use Rattle.nl_field.specs.CrashStates.{Earlier, saturated, top}
+use Rattle.nl_field.specs.CrashStates.{Earlier, saturated}
 use Rattle.nl_field.specs.declared.answers.Named.{Named}
 use Rattle.nl_field.specs.declared.answers.Named.TheVariants as named
 use Rattle.nl_field.specs.declared.pointer.Pointer.{Pointer}

@@ -1,17 +1,14 @@
 -- A move as the names show it: the page at its new place, the pairs led on, and one callback posted.
-use Rattle.std.proofs.Common.{◌≡◌, ◌≢◌, ◌⊎◌, inl, inr, ⊎_elim, ℕ, zero, suc, ◌+◌, ◌-◌, ◌^◌, ◌<◌, ◌≤◌, ◌==◌, min, Bool, true, false, cond, List, [], ◌∷◌, length, get_or, set, insert, Option, Some, None, option_map, refl, sym, ◌∙◌, ap, subst, arith, eq-eqb, ne_eqb}
-use Rattle.std.specs.Prelude.{Contains, find, unwrap_or, if◌then◌else◌}
-use Rattle.std.proofs.lemmas.Bool.{cases_eq, cond-true, cond-false}
-use Rattle.nl_field.specs.CrashStates.{top}
-use Rattle.nl_field.specs.Live.{resolve}
+use Rattle.std.proofs.Common.{◌≡◌, ◌≢◌, ◌⊎◌, inl, inr, ⊎_elim, ℕ, zero, suc, ◌+◌, ◌-◌, ◌^◌, ◌<◌, ◌==◌, min, cond, List, [], ◌∷◌, length, get_or, insert, Option, Some, None, refl, sym, ◌∙◌, ap, subst, arith, eq-eqb, ne_eqb}
+use Rattle.std.proofs.lemmas.Bool.{cond-true, cond-false}
 use Rattle.nl_field.specs.declared.pointer.Tag.{Tag}
-use Rattle.nl_callbacks.specs.Pending.{IsPending, PendingTable, callback_of, entry_at, new_entry, number_of, place_of}
+use Rattle.nl_callbacks.specs.Pending.{IsPending, PendingTable, callback_of, new_entry, number_of, place_of}
 use Rattle.nl_callbacks.specs.declared.entry.Entry.{Entry}
 use Rattle.nl_iface.specs.Moves.{Copies}
 use Rattle.nl_iface.specs.Names.{Has}
 use Rattle.nl_iface.specs.declared.Callback.{Callback}
 use Rattle.nl_pseg.specs.Cleaning.{Moves}
-use Rattle.nl_pseg.specs.Segment.{IsOldName, Physical, held_at}
+use Rattle.nl_pseg.specs.Segment.{Physical, held_at}
 use Rattle.nl_pseg.specs.declared.held.Held.{Held}
 use Rattle.nl_device.specs.Callbacks.{callbacks_of, handled_in, names_with}
 use Rattle.nl_device.specs.Shown.{live_page}

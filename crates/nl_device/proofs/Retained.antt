@@ -1,9 +1,8 @@
 -- The device once the listed pointers are live.
-use Rattle.std.proofs.Common.{◌≡◌, ℕ, ◌+◌, ◌-◌, ◌*◌, ◌<◌, ◌≤◌, true, List, [], Option, Some, None, get_or, length, refl, sym, ◌∙◌, ap, subst, arith, add-mul, ◌⊎◌, ⊎_elim}
+use Rattle.std.proofs.Common.{◌≡◌, ℕ, ◌+◌, ◌-◌, ◌*◌, ◌<◌, ◌≤◌, true, List, [], Option, Some, None, get_or, length, refl, sym, ◌∙◌, ap, subst, arith, add-mul}
 use Rattle.std.specs.Prelude.{All, ◌==◌, find, option_map}
 use Rattle.std.proofs.lemmas.Option.{none-some, same_Some}
 use Rattle.nl_field.specs.Page.{Image, page_at}
-use Rattle.nl_field.specs.declared.pointer.Pointer.{Pointer}
 use Rattle.nl_field.specs.declared.pointer.Tag.{Tag}
 use Rattle.nl_field.specs.declared.shape.Shape.{Shape}
 use Rattle.nl_nand.specs.Nand.{ImageOf}
@@ -16,7 +15,7 @@ use Rattle.nl_field.specs.Numbers.{ShapeBounds}
 use Rattle.nl_field.proofs.Bounds.{bounds}
 use Rattle.nl_device.proofs.Bounds.{two_blocks}
 use Rattle.nl_pseg.specs.Segment.{InSegment, IsPhysicalOf, KeptAreDead, Physical, IsNextCopy, TakenAsErased, held_at, is_free}
-use Rattle.nl_pseg.specs.Space.{IsWhole, waiting}
+use Rattle.nl_pseg.specs.Space.{IsWhole}
 use Rattle.nl_pseg.specs.declared.held.Held.{Held}
 use Rattle.nl_field.specs.Medium.{first_physical}
 use Rattle.nl_scan.specs.Tables.{greatest_stamp}
@@ -24,7 +23,6 @@ use Rattle.nl_field.specs.declared.seen.Seen.{Seen}
 use Rattle.nl_vseg.specs.Segment.{Segment}
 use Rattle.nl_device.specs.Device.{HasFound, HasLive, HasSegments, HasSpareBlock, IsDevice}
 use Rattle.nl_device.specs.Kept.{KeptPages, kept_pages}
-use Rattle.nl_device.specs.State.{held_of}
 use Rattle.nl_device.specs.Retain.{IsFoundIn, IsFresh, IsSegmentFor}
 use Rattle.nl_device.specs.Shown.{bytes_at, found_in, live_page, names_of}
 use Rattle.nl_device.specs.Space.{live_in, space_of}

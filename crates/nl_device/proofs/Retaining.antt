@@ -1,5 +1,5 @@
 -- One pointer more is live, and all of them.
-use Rattle.std.proofs.Common.{◌≡◌, ◌++◌, ◌||◌, take, ℕ, zero, suc, ◌+◌, ◌/◌, ◌<◌, ◌≤◌, Bool, true, false, not, List, [], ◌∷◌, length, get_or, set, Option, Some, None, option_map, refl, sym, ◌∙◌, ap, subst, arith, ⊎_elim, inl, inr}
+use Rattle.std.proofs.Common.{◌≡◌, ◌++◌, ◌||◌, take, ℕ, zero, suc, ◌+◌, ◌/◌, ◌<◌, ◌≤◌, Bool, true, false, not, List, [], ◌∷◌, length, get_or, set, Option, Some, None, option_map, refl, sym, ◌∙◌, ap, subst, arith, ⊎_elim}
 use Rattle.std.specs.Prelude.{◌==◌, IsSome, filter, find, slice_get}
 use Rattle.std.specs.List.{count_by, list_any, range_with_len}
 use Rattle.std.specs.BTreeMap.{BTreeMap}

@@ -1,6 +1,6 @@
 -- The virtual segment keeps a spare block where a scan sees one.
-use Rattle.std.proofs.Common.{◌≡◌, inl, inr, ⊎_elim, ℕ, zero, suc, ◌+◌, ◌*◌, ◌/◌, ◌<◌, ◌≤◌, ◌==◌, ◌∙◌, nat_lt, Bool, true, false, not, ◌&&◌, ◌||◌, cond, List, [], ◌∷◌, map, filter, find, length, Option, Some, None, option_map, refl, sym, ap, subst, arith, eq-eqb, eqb-true, ne_eqb, mul-le-mul_right}
-use Rattle.std.specs.List.{cons_option, list_all, list_any, range_with_len}
+use Rattle.std.proofs.Common.{◌≡◌, inl, inr, ℕ, ◌+◌, ◌*◌, ◌/◌, ◌<◌, ◌≤◌, ◌==◌, ◌∙◌, nat_lt, Bool, true, false, not, ◌&&◌, ◌||◌, List, [], ◌∷◌, map, filter, find, length, Option, Some, None, option_map, refl, sym, ap, subst, arith, eq-eqb, eqb-true, ne_eqb, mul-le-mul_right}
+use Rattle.std.specs.List.{list_all, list_any, range_with_len}
 use Rattle.std.proofs.lemmas.Bool.{and_from, and_parts, cases_lt, cond-true, eqb-false, false≢true, ltb-true, not-true, not_from_false, true≢false}
 use Rattle.std.proofs.lemmas.List.{get_or_past}
 use Rattle.std.proofs.lemmas.Option.{none-some, same_Some}
@@ -20,7 +20,7 @@ use Rattle.nl_vseg.specs.Places.{place_of}
 use Rattle.nl_vseg.specs.Segment.{KeepsSpare, Segment}
 use Rattle.nl_vseg.specs.declared.place.Place.{Place}
 use Rattle.nl_device.specs.Opening.{IsOpenedVirtual, Tabulates, first_outside, needed_of, newest_of, or_else, owns_of, pick_of, place_on, spread_in}
-use Rattle.nl_device.specs.Spread.{AreGrouped, GroupLiesIn, IsSpread, is_alone_in, spare_of, spread_at, spread_more}
+use Rattle.nl_device.specs.Spread.{AreGrouped, GroupLiesIn, IsSpread, is_alone_in, spare_of, spread_at}
 use Rattle.nl_device.specs.declared.opening.own.Own.{Own}
 use Rattle.nl_device.specs.declared.opening.spare.Spread.{Spread}
 use Rattle.nl_device.specs.declared.opening.spare.Spread.TheVariants.{Nowhere, In as Inside, Several}

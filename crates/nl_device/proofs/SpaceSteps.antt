@@ -1,10 +1,10 @@
 -- The numbers of the space over the calls of cleaning, by the contracts of the segment.
-use Rattle.std.proofs.Common.{◌≡◌, ◌⊎◌, inl, inr, ⊎_elim, ℕ, ◌+◌, ◌-◌, ◌*◌, ◌/◌, ◌<◌, ◌≤◌, Bool, true, false, cond, List, Option, Some, None, is_some, length, get_or, set, refl, sym, ◌∙◌, ap, subst, arith, mul-le-mul_right, add-mul}
+use Rattle.std.proofs.Common.{◌≡◌, ◌⊎◌, ⊎_elim, ℕ, ◌+◌, ◌-◌, ◌*◌, ◌<◌, ◌≤◌, Bool, true, false, cond, List, Option, is_some, length, refl, ◌∙◌, ap, arith, mul-le-mul_right, add-mul}
 use Rattle.std.proofs.lemmas.Bool.{cases_Bool}
-use Rattle.nl_iface.specs.Space.{Begun, CanLand, Copied, Erased, Freed, IsSpace, Lessened, NamesGone, NoneRetired, SameSegment, Space}
+use Rattle.nl_iface.specs.Space.{Begun, Copied, Erased, Freed, IsSpace, Lessened, NamesGone, SameSegment}
 use Rattle.nl_pseg.specs.Cleaning.{Begins, Erases, Moves}
-use Rattle.nl_pseg.specs.Segment.{IsUnspent, Physical, SamePages, room}
-use Rattle.nl_pseg.specs.Space.{GivesBack, HasRoomForVictim, IsWhole, Lessens, dead_in, gain_of, landing, left_of, live_in, reach, victims, waiting}
+use Rattle.nl_pseg.specs.Segment.{Physical, SamePages}
+use Rattle.nl_pseg.specs.Space.{GivesBack, IsWhole, Lessens, dead_in, landing, left_of, live_in, reach, victims, waiting}
 use Rattle.nl_pseg.specs.declared.held.Held.{Held}
 use Rattle.nl_device.specs.Space.{space_of}
 

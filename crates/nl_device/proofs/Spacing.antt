@@ -1,12 +1,11 @@
 -- The numbers of the space after a call.
-use Rattle.std.proofs.Common.{◌≡◌, ◌⊎◌, inl, inr, ⊎_elim, ℕ, zero, suc, ◌+◌, ◌-◌, ◌*◌, ◌<◌, ◌≤◌, nat_le, Bool, true, false, cond, List, [], Option, Some, None, is_some, length, get_or, set, refl, sym, ◌∙◌, ap, subst, arith, mul-le-mul_right, add-mul}
-use Rattle.std.proofs.lemmas.Bool.{cases_lt, le-leb, lt-leb}
+use Rattle.std.proofs.Common.{◌≡◌, ◌⊎◌, ⊎_elim, ℕ, ◌+◌, ◌-◌, ◌*◌, ◌<◌, ◌≤◌, cond, List, Option, Some, None, is_some, length, get_or, set, refl, sym, ◌∙◌, ap, subst, arith}
 use Rattle.std.proofs.lemmas.List.{get_or-set_other, length-set}
 use Rattle.std.proofs.lemmas.List.Sums.{sum_by-set}
-use Rattle.nl_iface.specs.Space.{Freed, IsSpace, Lessened, NoneRetired, SameSegment, WriteFailed, Wrote, NamesGone}
+use Rattle.nl_iface.specs.Space.{Freed, IsSpace, NoneRetired, SameSegment, WriteFailed, Wrote, NamesGone}
 use Rattle.nl_pseg.specs.Segment.{IsSpent, IsUnspent, Physical, SamePages, room}
 use Rattle.nl_pseg.specs.declared.held.Held.{Held}
-use Rattle.nl_pseg.specs.Space.{GivesBack, HasRoomForVictim, IsWhole, Lessens, SameCleaning, waiting}
+use Rattle.nl_pseg.specs.Space.{GivesBack, HasRoomForVictim, Lessens, SameCleaning, waiting}
 use Rattle.nl_device.specs.Device.{HasSpareBlock}
 use Rattle.nl_device.specs.Space.{live_in, space_of}
 use Rattle.nl_device.proofs.SpaceSteps.{is_space, lessened, page_gone, same_segment}

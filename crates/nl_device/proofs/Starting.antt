@@ -10,10 +10,8 @@ use Rattle.nl_field.proofs.Bounds.{bounds}
 use Rattle.nl_field.specs.SpareRecord.{stamp_of}
 use Rattle.nl_field.specs.declared.shape.Shape.{Shape}
 use Rattle.nl_iface.specs.Left.{HoldsLive}
-use Rattle.nl_iface.specs.Space.{IsSpace}
 use Rattle.nl_iface.specs.Stored.{stored_in}
 use Rattle.nl_nand.specs.declared.geometry.Geometry.{Geometry}
-use Rattle.nl_pseg.proofs.Numbers.{block_from}
 use Rattle.nl_device.proofs.Calling.{called_none}
 use Rattle.nl_device.proofs.Leaving.{none_in_hand}
 use Rattle.nl_device.proofs.Bounds.{some_pages, two_blocks}

@@ -1,7 +1,6 @@
 -- The device after a write under a new name, whether its page was tried or not.
-use Rattle.std.proofs.Common.{◌≡◌, ◌⊎◌, inl, inr, ℕ, ◌+◌, ◌*◌, ◌<◌, ◌≤◌, ◌∙◌, Bool, true, false, cond, List, [], Option, Some, None, length, get_or, set, refl, sym, ap, subst, arith}
-use Rattle.nl_field.specs.Live.{resolve}
-use Rattle.nl_field.specs.Page.{Image, page_at}
+use Rattle.std.proofs.Common.{◌≡◌, ◌⊎◌, ℕ, ◌+◌, ◌*◌, ◌<◌, ◌≤◌, ◌∙◌, Bool, true, false, cond, List, Some, None, length, refl, sym, ap, subst, arith}
+use Rattle.nl_field.specs.Page.{Image}
 use Rattle.nl_field.specs.declared.answers.Named.{Named}
 use Rattle.nl_field.specs.declared.pointer.Tag.{Tag}
 use Rattle.nl_field.specs.declared.shape.Shape.{Shape}

@@ -1,5 +1,5 @@
 -- What a device shows of its pending callbacks.
-use Rattle.std.specs.Prelude.{◌≡◌, ◌≢◌, ℕ, ◌+◌, ◌*◌, ◌==◌, Bool, not, if◌then◌else◌, List, [], ◌∷◌, length, map, Option, Some, None, Contains}
+use Rattle.std.specs.Prelude.{◌≡◌, ℕ, ◌+◌, ◌*◌, ◌==◌, Bool, not, if◌then◌else◌, List, [], ◌∷◌, length, map, Option, Some, None, Contains}
 use Rattle.nl_callbacks.specs.Pending.{IsTable, PendingTable}
 use Rattle.nl_callbacks.specs.declared.entry.Entry.{Entry}
 use Rattle.nl_field.specs.Live.{resolve}

@@ -1,5 +1,5 @@
 -- The numbers of a physical segment's space.
-use Rattle.std.specs.Prelude.{ℕ, ◌-◌, ◌*◌, length}
+use Rattle.std.specs.Prelude.{◌-◌, ◌*◌, length}
 use Rattle.nl_iface.specs.Space.{Space}
 use Rattle.nl_pseg.specs.Segment.{Physical, room}
 pub use Rattle.nl_pseg.specs.Space.{live_in}

@@ -1,5 +1,5 @@
 -- Where old names and pending callbacks are one to one, the names, the pages and the callbacks are a state of a device.
-use Rattle.std.proofs.Common.{◌≡◌, ◌≢◌, ◌⊎◌, inl, inr, ⊎_elim, ℕ, zero, suc, ◌+◌, ◌*◌, ◌<◌, ◌≤◌, ◌==◌, Bool, true, false, cond, List, [], ◌∷◌, length, map, get_or, count_by, Option, Some, None, refl, sym, ◌∙◌, ap, subst, arith, eq-eqb, ne_eqb}
+use Rattle.std.proofs.Common.{◌≡◌, ◌≢◌, ◌⊎◌, inl, inr, ⊎_elim, ℕ, zero, suc, ◌+◌, ◌<◌, ◌≤◌, ◌==◌, Bool, true, false, cond, List, [], ◌∷◌, length, map, get_or, count_by, Option, Some, None, refl, sym, ◌∙◌, ap, subst, arith, eq-eqb, ne_eqb}
 use Rattle.std.specs.Prelude.{AllPairs, Contains, find, option_map, unwrap_or}
 use Rattle.std.specs.List.{AllByRecursion}
 use Rattle.std.proofs.lemmas.Bool.{cases_Bool, cases_eq, cases_lt, cond-true, cond-false, eqb-true}
@@ -12,10 +12,10 @@ use Rattle.nl_iface.specs.Device.{IsDeviceState, IsTold, entry_with, state_of}
 use Rattle.nl_iface.specs.Names.{Has, LivePage}
 use Rattle.nl_iface.specs.Stored.{Value}
 use Rattle.nl_iface.specs.declared.Callback.{Callback}
-use Rattle.nl_pseg.specs.Segment.{IsOldName, Physical, held_at}
+use Rattle.nl_pseg.specs.Segment.{Physical, held_at}
 use Rattle.nl_pseg.specs.Space.{IsWhole}
 use Rattle.nl_pseg.specs.declared.held.Held.{Held}
-use Rattle.nl_device.specs.Callbacks.{AreCalled, callbacks_of, handled_in, held_by, names_with}
+use Rattle.nl_device.specs.Callbacks.{AreCalled, callbacks_of, handled_in, names_with}
 use Rattle.nl_device.specs.Device.{HasLive}
 use Rattle.nl_device.specs.Shown.{live_page}
 

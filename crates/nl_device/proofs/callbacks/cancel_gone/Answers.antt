@@ -1,9 +1,9 @@
-use Rattle.std.proofs.Common.{arith, ◌≡◌, ◌+◌, ◌≤◌, ◌<◌, ◌==◌, ◌||◌, ◌∙◌, not, nat_lt, List, ap, filter, refl, subst, sym}
+use Rattle.std.proofs.Common.{arith, ◌+◌, ◌==◌, ◌||◌, ◌∙◌, not, nat_lt, List, ap, filter, refl, subst, sym}
 use Rattle.nl_callbacks.specs.Pending.{number_of}
 use Rattle.nl_callbacks.specs.declared.entry.Entry.{Entry}
 use Rattle.nl_field.specs.Live.{resolve}
 use Rattle.nl_device.specs.Callbacks.{NamesDiffer, is_led}
-use Rattle.nl_device.proofs.Lists.{all_through, is_left, names_differ, none_yet, one_more_through}
+use Rattle.nl_device.proofs.Lists.{all_through, names_differ, none_yet, one_more_through}
 use Rattle.nl_device.proofs.callbacks.cancel_gone.Goals as goal
 
 pub each-init : goal.each-init

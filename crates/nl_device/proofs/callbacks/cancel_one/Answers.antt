@@ -1,6 +1,6 @@
-use Rattle.std.proofs.Common.{◌≡◌, ◌∙◌, ◌⊎◌, ⊎_elim, true, false, ap, refl, subst, sym}
-use Rattle.std.proofs.lemmas.Bool.{OnFalse_at, OnTrue_at, cases_Bool}
-use Rattle.nl_callbacks.specs.Pending.{PendingTable, entry_at}
+use Rattle.std.proofs.Common.{◌∙◌, ap, subst, sym}
+use Rattle.std.proofs.lemmas.Bool.{OnTrue_at}
+use Rattle.nl_callbacks.specs.Pending.{PendingTable}
 use Rattle.nl_iface.specs.Names.{Has}
 use Rattle.nl_iface.specs.declared.Callback.{Callback}
 use Rattle.nl_device.specs.Callbacks.{callbacks_of}

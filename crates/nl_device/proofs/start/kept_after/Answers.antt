@@ -1,4 +1,4 @@
-use Rattle.std.proofs.Common.{◌≡◌, ◌+◌, ◌*◌, ◌<◌, ◌^◌, sym, subst, All, arith}
+use Rattle.std.proofs.Common.{◌*◌, sym, subst, All, arith}
 use Rattle.nl_field.specs.Numbers.{ShapeBounds}
 use Rattle.nl_field.proofs.Bounds.{bounds}
 use Rattle.nl_scan.specs.Tables.{IsSeen}

@@ -1,7 +1,6 @@
-use Rattle.std.proofs.Common.{◌≡◌, ◌⊎◌, inl, ◌*◌, ◌+◌, ◌∙◌, ℕ, List, Option, Some, None, ap, arith, get_or, length, refl, subst, sym}
-use Rattle.nl_device.specs.Device.{HasSpareBlock, IsDevice}
+use Rattle.std.proofs.Common.{◌≡◌, inl, ◌*◌, List, Option, ap, arith, length, refl}
+use Rattle.nl_device.specs.Device.{HasSpareBlock}
 use Rattle.nl_device.specs.Shown.{bytes_at}
-use Rattle.nl_pseg.specs.Segment.{held_at}
 use Rattle.nl_pseg.specs.declared.held.Held.{Held}
 use Rattle.nl_device.proofs.Calls.{device_with, medium_with, named_segments}
 use Rattle.nl_device.proofs.Dropping.{acknowledged}

@@ -1,8 +1,7 @@
-use Rattle.std.proofs.Common.{◌≡◌, ◌∙◌, ◌+◌, ⊎_elim, true, false, List, length, refl, sym, ap, subst, set}
+use Rattle.std.proofs.Common.{◌≡◌, ◌∙◌, ◌+◌, ⊎_elim, true, false, length, refl, sym, ap, subst}
 use Rattle.std.proofs.lemmas.Bool.{OnFalse_at, OnTrue_at, cases_Bool, true≢false}
 use Rattle.std.proofs.lemmas.List.{length-set}
 use Rattle.nl_callbacks.specs.Pending.{PendingTable, entry_at, marked, place_of}
-use Rattle.nl_callbacks.specs.declared.entry.Entry.{Entry}
 use Rattle.nl_iface.specs.declared.Callback.{Callback}
 use Rattle.nl_device.specs.Callbacks.{callbacks_of, names_with}
 use Rattle.nl_device.specs.Device.{IsDevice}

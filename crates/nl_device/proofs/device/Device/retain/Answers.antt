@@ -1,11 +1,10 @@
-use Rattle.std.proofs.Common.{◌*◌, ◌+◌, ◌≤◌, ◌∙◌, inl, ⊎_elim, ℕ, List, Option, None, get_or, ap, arith, length, refl, subst, sym}
+use Rattle.std.proofs.Common.{◌*◌, ◌≤◌, ◌∙◌, ℕ, List, ap, arith, length, refl, subst, sym}
 use Rattle.nl_pseg.specs.Segment.{IsClean, Physical}
-use Rattle.nl_pseg.specs.declared.held.Held.{Held}
 use Rattle.nl_device.specs.Device.{HasSpareBlock, IsDevice}
 use Rattle.nl_device.specs.Retain.{IsSegmentFor}
-use Rattle.nl_device.specs.Shown.{found_by_number, names_of}
+use Rattle.nl_device.specs.Shown.{found_by_number}
 use Rattle.nl_device.proofs.KeptLive.{retains_are, retains_with}
-use Rattle.nl_device.proofs.Retained.{all_free, free_some, is_fresh, live_is, none_dead, none_held, retained_device, room_is, segment_for}
+use Rattle.nl_device.proofs.Retained.{all_free, free_some, is_fresh, live_is, none_held, retained_device, room_is, segment_for}
 use Rattle.nl_device.proofs.Spacing.{free_is, victim_none, waiting_is}
 use Rattle.nl_device.proofs.Calling.{called_none, none_called, none_paired}
 use Rattle.nl_device.proofs.Leaving.{none_in_hand}

@@ -1,4 +1,4 @@
-use Rattle.std.proofs.Common.{◌≡◌, ◌<◌, ◌∙◌, refl, sym, ap, subst, IsTrue, arith}
+use Rattle.std.proofs.Common.{◌≡◌, ◌<◌, ◌∙◌, sym, ap, subst, IsTrue, arith}
 use Rattle.nl_field.specs.Numbers.{ShapeBounds, is_legal, shape_for}
 use Rattle.nl_field.proofs.Bounds.{bounds}
 use Rattle.nl_field.specs.Page.{Image}

@@ -1,4 +1,4 @@
-use Rattle.std.proofs.Common.{◌≡◌, ◌/◌, Some, ap, set, subst, sym, ◌∙◌, false, cond, ◌+◌, ◌≤◌, ◌&&◌, not, refl, arith, eq-eqb}
+use Rattle.std.proofs.Common.{◌≡◌, ◌/◌, Some, ap, set, subst, sym, ◌∙◌, false, cond, ◌+◌, ◌&&◌, not, refl, arith, eq-eqb}
 use Rattle.std.specs.Prelude.{◌==◌, find, option_map}
 use Rattle.std.proofs.lemmas.Option.{none-some, same_Some}
 use Rattle.nl_field.specs.Spelling.{is_stamp}

@@ -1,20 +1,18 @@
-use Rattle.std.proofs.Common.{◌≡◌, ◌≢◌, ◌⊎◌, inl, inr, ◌+◌, ◌*◌, ◌≤◌, ⊎_elim, ℕ, true, false, refl, sym, ap, ◌∙◌, subst, arith, length, get_or, set, is_some, List, Option, Some, None}
-use Rattle.std.specs.Prelude.{Contains, IfNone, filter}
+use Rattle.std.proofs.Common.{◌≡◌, inl, ◌+◌, ◌*◌, ◌≤◌, ⊎_elim, ℕ, true, false, refl, sym, ap, ◌∙◌, subst, arith, length, get_or, set, is_some, List, Option, Some, None}
+use Rattle.std.specs.Prelude.{Contains, IfNone}
 use Rattle.std.proofs.lemmas.Bool.{OnFalse_at, OnTrue_at, cases_Bool, true≢false}
 use Rattle.std.proofs.lemmas.List.{length-set}
-use Rattle.nl_callbacks.specs.Pending.{PendingTable}
-use Rattle.nl_callbacks.specs.declared.entry.Entry.{Entry}
 use Rattle.nl_field.specs.Live.{resolve}
-use Rattle.nl_pseg.specs.Segment.{IsOldName, Physical, held_at}
+use Rattle.nl_pseg.specs.Segment.{Physical, held_at}
 use Rattle.nl_pseg.specs.declared.held.Held.{Held}
-use Rattle.nl_device.specs.Callbacks.{AreCalled, callbacks_of, handled_in, is_led, names_with}
+use Rattle.nl_device.specs.Callbacks.{AreCalled, callbacks_of, names_with}
 use Rattle.nl_device.specs.Device.{HasSpareBlock, IsDevice}
 use Rattle.nl_device.specs.Shown.{bytes_at, live_page}
 use Rattle.nl_device.specs.Space.{live_in}
 use Rattle.nl_device.proofs.Calling.{all_led, beside_length, called_less, called_same, handled_less, none_gone, pair_before, pending_less}
 use Rattle.nl_device.proofs.Calls.{device_called, device_with, held_from, in_within, medium_with, named_segments}
 use Rattle.nl_device.proofs.Leaving.{hand_kept, names_in}
-use Rattle.nl_device.proofs.Living.{clear_held, clear_live, less_before, less_keeps, live_less, moved_in}
+use Rattle.nl_device.proofs.Living.{clear_held, clear_live, less_before, less_keeps, live_less}
 use Rattle.nl_device.proofs.Made.{live_held}
 use Rattle.nl_device.proofs.Naming.{names_after}
 use Rattle.nl_device.proofs.Spacing.{freed, one_less}

@@ -1,34 +1,26 @@
-use Rattle.std.proofs.Common.{◌≡◌, ◌⊎◌, inl, inr, ⊎_elim, refl, sym, ap, ◌∙◌, subst, ℕ, ◌+◌, ◌*◌, ◌/◌, ◌≤◌, ◌<◌, arith, length, get_or, set, cond, Bool, true, false, List, Option, Some, None}
-use Rattle.std.proofs.lemmas.Bool.{false≢true}
-use Rattle.std.proofs.lemmas.List.{get_or-set_other, get_or-set_same, length-set}
-use Rattle.std.proofs.lemmas.Option.{none-some}
+use Rattle.std.proofs.Common.{◌≡◌, ◌⊎◌, inl, inr, ⊎_elim, refl, sym, ap, ◌∙◌, subst, ℕ, ◌*◌, ◌/◌, ◌≤◌, ◌<◌, length, get_or, false, List, Option, Some, None}
+use Rattle.std.proofs.lemmas.List.{get_or-set_same, length-set}
 use Rattle.nl_field.specs.Page.{Image, Page, written, page_at}
-use Rattle.nl_field.specs.Live.{resolve}
 use Rattle.nl_field.specs.declared.answers.Named.{Named}
 use Rattle.nl_field.specs.declared.answers.Named.TheVariants as named
 use Rattle.nl_field.specs.declared.pointer.Pointer.{Pointer}
 use Rattle.nl_nand.specs.Nand.{ImageOf}
-use Rattle.nl_iface.specs.Answers as shown
-use Rattle.nl_iface.specs.Left.{HoldsLive}
-use Rattle.nl_iface.specs.Stored.{NamedPage, stored_in}
+use Rattle.nl_iface.specs.Stored.{stored_in}
 use Rattle.nl_pseg.specs.Answers.{IsPlaced}
-use Rattle.nl_pseg.specs.Effects.{Keeps, Places, Programmed, Takes}
-use Rattle.nl_pseg.specs.Pages.{main_of, page_with, shown_by}
-use Rattle.nl_pseg.specs.Segment.{IsClean, IsLive, Physical, held_at, wear_of}
+use Rattle.nl_pseg.specs.Effects.{Keeps, Places, Programmed}
+use Rattle.nl_pseg.specs.Pages.{main_of, page_with}
+use Rattle.nl_pseg.specs.Segment.{IsClean, Physical, held_at, wear_of}
 use Rattle.nl_pseg.specs.declared.held.Held.{Held}
-use Rattle.nl_device.specs.Device.{HasFound, HasSpareBlock}
-use Rattle.nl_device.specs.Kept.{KeptPages}
+use Rattle.nl_device.specs.Device.{HasSpareBlock}
 use Rattle.nl_device.specs.State.{held_of}
-use Rattle.nl_device.specs.Shown.{bytes_at, found_by_number, found_in, live_page, names_of}
-use Rattle.nl_device.specs.Space.{live_in}
-use Rattle.nl_device.specs.Stamps.{is_tried}
-use Rattle.nl_device.proofs.Calls.{device_with, found_after, held_from, in_within, is_leads, leads_is, live_or, medium_with, stored_after}
+use Rattle.nl_device.specs.Shown.{bytes_at, found_by_number, live_page}
+use Rattle.nl_device.proofs.Calls.{in_within}
 use Rattle.nl_device.proofs.Forms.{begins, lift}
-use Rattle.nl_device.proofs.Living.{live_kept, live_more, live_swap, more_below, same_below_still, set_live, swap_below, swap_live}
+use Rattle.nl_device.proofs.Living.{live_kept, live_more, more_below, same_below_still, set_live}
 use Rattle.nl_device.proofs.Made.{bytes_from}
-use Rattle.nl_device.proofs.Naming.{below_after, either_live, either_low, in_block, is_new, leaves_tried, live_bytes, map_same, placed_takes, programmed_named, shown_from, stray_same, to_takes, new_as, tried_as}
-use Rattle.nl_device.proofs.Placing.{after_rises, after_tried, cases_tried, counted, fault_room, fault_space, from_placed, if_not_placed, if_refused, named_has, named_rises, not_touched, not_tried, placed_at, placed_both, placed_map, placed_or, placed_yes, room_is, to_placed, tried_placed}
-use Rattle.nl_device.proofs.Spacing.{none_retired, one_for_one, wrote, wrote_one}
+use Rattle.nl_device.proofs.Naming.{either_live, either_low, in_block, leaves_tried, live_bytes, map_same, placed_takes, programmed_named, shown_from, stray_same, to_takes, new_as, tried_as}
+use Rattle.nl_device.proofs.Placing.{after_rises, after_tried, counted, fault_room, fault_space, from_placed, if_not_placed, if_refused, named_has, named_rises, not_touched, not_tried, placed_at, placed_both, placed_or, placed_yes, room_is, to_placed, tried_placed}
+use Rattle.nl_device.proofs.Spacing.{none_retired, wrote_one}
 use Rattle.nl_device.proofs.Tried.{kept_untried, new_name, next_untried, tried_device}
 use Rattle.nl_device.specs.Callbacks.{names_with}
 use Rattle.std.specs.Prelude.{Contains}

@@ -1,4 +1,4 @@
-use Rattle.std.proofs.Common.{◌≡◌, ◌*◌, ◌≤◌, ◌∙◌, Option, Some, ap, refl, subst, sym}
+use Rattle.std.proofs.Common.{◌*◌, ◌≤◌, ◌∙◌, Option, ap, refl, subst, sym}
 use Rattle.nl_field.specs.Live.{resolve}
 use Rattle.nl_iface.specs.Names.{has_tag}
 use Rattle.nl_pseg.specs.Pages.{main_of}

@@ -1,4 +1,4 @@
-use Rattle.std.proofs.Common.{inl, inr, ℕ, ◌+◌, ◌*◌, ◌/◌, ◌<◌, ◌≤◌, ◌∙◌, sym, subst, refl, arith}
+use Rattle.std.proofs.Common.{inl, inr, ℕ, ◌*◌, ◌/◌, ◌<◌, ◌≤◌, ◌∙◌, sym, subst, refl, arith}
 use Rattle.std.proofs.lemmas.Bool.{cases_lt}
 use Rattle.std.proofs.lemmas.Nat.{div_below}
 use Rattle.nl_pseg.proofs.Numbers.{block_below, in_block}

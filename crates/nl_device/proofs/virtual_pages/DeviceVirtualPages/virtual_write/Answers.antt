@@ -1,8 +1,8 @@
-use Rattle.std.proofs.Common.{◌≡◌, inl, inr, ⊎_elim, ℕ, ◌+◌, ◌*◌, ◌<◌, ◌≤◌, Option, refl, sym, ◌∙◌, subst, arith}
-use Rattle.nl_field.specs.CrashStates.{Rose, Turns}
+use Rattle.std.proofs.Common.{◌≡◌, inl, inr, ⊎_elim, ℕ, ◌+◌, ◌*◌, ◌≤◌, Option, refl, sym, ◌∙◌, subst, arith}
+use Rattle.nl_field.specs.CrashStates.{Rose}
 use Rattle.nl_field.specs.Page.{Image}
 use Rattle.nl_field.specs.declared.answers.VirtualWrite.TheVariants as write
-use Rattle.nl_iface.specs.Stored.{NamedPage, Value, stored_in}
+use Rattle.nl_iface.specs.Stored.{Value}
 use Rattle.nl_nand.specs.Nand.{ImageOf}
 use Rattle.nl_vseg.specs.Effects.{Keeps, Takes}
 use Rattle.nl_vseg.specs.Places.{map_of, stamp_for}

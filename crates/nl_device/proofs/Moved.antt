@@ -1,0 +1,118 @@
+-- The device after a move, or after one that failed.
+use Rattle.std.proofs.Common.{◌≡◌, ◌⊎◌, inl, inr, ⊎_elim, ℕ, ◌+◌, ◌*◌, ◌<◌, ◌≤◌, Bool, true, false, cond, is_some, List, length, insert, set, Option, Some, None, refl, sym, ◌∙◌, ap, subst, arith}
+use Rattle.std.specs.Prelude.{Contains}
+use Rattle.std.specs.Bool.{OnFalse, OnTrue}
+use Rattle.std.proofs.lemmas.Bool.{OnFalse_at, OnTrue_at, cases_Bool, true≢false}
+use Rattle.std.proofs.lemmas.List.{length-set}
+use Rattle.nl_field.specs.Page.{Image, page_at}
+use Rattle.nl_field.specs.declared.shape.Shape.{Shape}
+use Rattle.nl_nand.specs.Nand.{ImageOf}
+use Rattle.nl_nand.specs.declared.geometry.Geometry.{Geometry}
+use Rattle.nl_callbacks.specs.Pending.{IsTable, PendingTable, callback_of, new_entry, place_of}
+use Rattle.nl_iface.specs.Left.{HoldsLive}
+use Rattle.nl_iface.specs.Stored.{NamedPage, stored_in}
+use Rattle.nl_pseg.specs.Cleaning.{Begins, CrashesMove, IsChosen, Moves, MovesNone}
+use Rattle.nl_pseg.specs.Pages.{main_of}
+use Rattle.nl_pseg.specs.declared.cleaned.Copied.{Copied}
+use Rattle.nl_pseg.specs.Effects.{Keeps, Places}
+use Rattle.nl_pseg.specs.Segment.{HasSpare, IsPhysicalOf, KeepsBlock, Physical, SamePages, held_at}
+use Rattle.nl_pseg.specs.Space.{IsWhole, victims}
+use Rattle.nl_pseg.specs.declared.held.Held.{Held}
+use Rattle.nl_vseg.specs.Segment.{Segment}
+use Rattle.nl_device.specs.Device.{HasSpareBlock, IsDevice}
+use Rattle.nl_device.specs.Kept.{KeptPages, forgotten}
+use Rattle.nl_device.specs.Shown.{bytes_at, found_in}
+use Rattle.nl_device.proofs.Begun.{begun_device}
+use Rattle.nl_device.proofs.Calling.{called_same}
+use Rattle.nl_device.proofs.Calls.{device_with, found_after, in_within, medium_with, named_segments, stored_after}
+use Rattle.nl_device.proofs.Leaving.{hand_kept, named_either, names_in, names_still}
+use Rattle.nl_device.proofs.Living.{live_kept, same_before, same_keeps}
+use Rattle.nl_device.proofs.Made.{live_held}
+use Rattle.nl_device.proofs.Moving.{called_moved, few_called, led_moved, live_moved, moved_below}
+use Rattle.nl_device.proofs.Naming.{below_after, either_each, either_low, named_same, names_after, to_takes}
+
+-- with a victim in hand, if one could be begun
+pub taken_device : {geometry : Geometry} {tells : Type 0} {image : Image} {shape : Shape} {vseg : Segment} {old : Physical} {pending : PendingTable} {kept : KeptPages} {next : ℕ} → IsDevice geometry tells image shape vseg old pending kept next → (tells → ImageOf geometry image)
+    → (new : Physical) (cold began : Bool) → OnTrue began ((block : ℕ) × IsChosen cold old block × Begins block old new) → OnFalse began (new ≡ old) → IsWhole new → (KeepsBlock old → KeepsBlock new) → ((i : Image) → IsPhysicalOf i old → IsPhysicalOf i new) → ((i : Image) → HasSpare i old → HasSpare i new)
+    → IsDevice geometry tells image shape vseg new pending kept next
+taken_device {geometry} {tells} {image} {shape} {vseg} {old} {pending} {kept} {next} f fits new cold began begun none whole keeps segment on = ⊎_elim
+    (λ is. let b = OnTrue_at is begun in begun_device f fits new cold b.0 b.1 b.2 whole keeps segment on)
+    (λ is. subst (λ s. IsDevice geometry tells image shape vseg s pending kept next) (sym (OnFalse_at is none)) f)
+    (cases_Bool began)
+
+-- there is room for one more callback
+pub post_room : {geometry : Geometry} {tells : Type 0} {image : Image} {shape : Shape} {vseg : Segment} {old new : Physical} {pending : PendingTable} {kept : KeptPages} {next before after : ℕ} {h : Held} → IsDevice geometry tells image shape vseg old pending kept next → Moves before after h old new → 0 < pending.room
+post_room {geometry} {tells} {image} {shape} {vseg} {old} {new} {pending} {kept} {next} {before} {after} {h} f m =
+    let few = few_called pending.callbacks old.pairs f.called.numbers.rising f.called.once f.called.old in
+    let one : victims old ≡ 1 = ap (λ (o : Option ℕ). cond (is_some o) 1 0) m.in_victim in
+    let busy = f.spare.whole.numbers.busy one in
+    let left = m.left in
+    let room = f.called.room in
+    let some = f.segments.some in
+    let size = f.segments.physical_pages in
+    omega (arith, few, busy, left, room, some, size)
+
+-- The image is as it was but for dead pages, or has a copy of a live page more.
+pub record MayCopy (seg : Physical) (old c : Image) : Type 0 where
+  pub place : ℕ
+  pub page : Held
+  pub was : held_at seg place ≡ Some page
+  pub main : List ℕ
+  pub tried : ℕ
+  pub either : Keeps seg old c ⊎ Places seg tried page.tag page.stamp main old c
+
+-- what a move may leave
+pub may_copy : {M : Type 0} {clock : M → ℕ} {contents : M → Image} {left : M → ℕ → Image → Type 0} {seg : Physical} {old new : M} {answer : Copied} → CrashesMove clock contents left seg old new answer → MayCopy seg (contents old) (contents new)
+may_copy {M} {clock} {contents} {left} {seg} {old} {new} {answer} k = record { place = k.before; page = k.h; was = k.was; main = main_of (page_at (contents old) k.before); tried = k.crash.page; either = k.crash.either }
+
+module _ {geometry now : Geometry} {tells : Type 0} {image c : Image} {shape : Shape} {vseg : Segment} {old : Physical} {pending : PendingTable} {kept : KeptPages} {next : ℕ} (f : IsDevice geometry tells image shape vseg old pending kept next) (same_geometry : now ≡ geometry) (old_fits : tells → ImageOf geometry image) (fits : tells → ImageOf now c)
+    (new : Physical) (whole : IsWhole new) (keeps : KeepsBlock old → KeepsBlock new) (segment : tells → IsPhysicalOf c new) (on : tells → HasSpare image old → HasSpare c new) (made : tells → MayCopy old image c) where
+  below_next : tells → (p : ℕ) (page : NamedPage) → (stored_in c).named p ≡ Some page → page.stamp + 1 ≤ next
+  below_next t p page is =
+      let k = made t in
+      let lt = f.stamp.live k.place k.page k.was in
+      below_after geometry shape vseg old image c f.segments (old_fits t) (subst (λ n. ImageOf n c) same_geometry (fits t)) f.live (f.medium t).physical_is k.tried k.page.stamp next k.page.tag k.main k.either (f.medium t).named_below (omega (arith, lt)) p page is
+
+  stored : tells → HoldsLive (found_in (forgotten kept)) (λ p. bytes_at (shape.vblocks * shape.pages) c p) (stored_in c)
+  stored t = stored_after kept (forgotten kept) true refl (λ p. bytes_at (shape.vblocks * shape.pages) c p) (stored_in c) (λ un. absurd (true≢false un))
+
+  pub moved_device : (at after : ℕ) (h : Held) → Moves at after h old new → (u : PendingTable) (number : ℕ) → IsTable u.callbacks u.posted → u.callbacks ≡ insert pending.callbacks (place_of pending.callbacks number) (new_entry (callback_of number at after h.tag h.stamp)) → length u.callbacks + u.room ≡ length pending.callbacks + pending.room
+      → IsDevice now tells c shape vseg new u (forgotten kept) next
+  moved_device at after h m u number table inserted room =
+      let same : SamePages old new = record { same_first = m.same_first; same_blocks = m.same_blocks; same_size = m.same_size; same_wear = m.same_wear } in
+      let within = in_within f.segments at (f.live.in_segment at h m.was) in
+      let below = in_within f.segments after m.dead.within in
+      let live = live_moved at after h old new m f.spare.whole whole within below f.live in
+      let count : length new.held ≡ length old.held = ap (λ (l : List (Option Held)). length l) m.held ∙ (length-set (set old.held after (Some h)) at None ∙ length-set old.held after (Some h)) in
+      let spare : HasSpareBlock new = record { whole = whole; block = keeps f.spare.block; in_hand = hand_kept old new m.same_first m.same_blocks m.victim f.spare } in
+      device_with f (found_after kept (forgotten kept) true refl shape next next (omega arith) f.found) stored same_geometry same count live spare
+      (called_moved at after h old new m f.spare.whole whole within below pending u number f.called table inserted room) (omega arith)
+      (moved_below at after h old new m f.spare.whole whole within below next f.stamp.live)
+      (λ t.
+      let fit = subst (λ n. ImageOf n c) same_geometry (fits t) in
+      let pages = either_each (to_takes (made t).either) in
+      let holds = live_held (named_segments f.segments refl same count) fit live (segment t) in
+      medium_with f t same_geometry same count (fits t) live (either_low (to_takes (made t).either)) (segment t) (omega arith) spare (on t (f.medium t).spare)
+      (names_still (names_in (f.medium t).pages) (λ name page has. ⊎_elim
+      (λ led. inl (led, named_same geometry shape vseg old image c f.segments (old_fits t) fit f.live (f.medium t).physical_is name (named_either old image c pages name page led)))
+      (λ here. inr (record { tag = page.tag; stamp = page.stamp; bytes = bytes_at (shape.vblocks * shape.pages) c name }, holds name page here, refl))
+      (led_moved at after h old new m f.spare.whole whole within below name page has)))
+      (below_next t))
+
+  pub unmoved_device : MovesNone old new → IsDevice now tells c shape vseg new pending (forgotten kept) next
+  unmoved_device m =
+      let same : SamePages old new = record { same_first = m.tables.same_first; same_blocks = m.tables.same_blocks; same_size = m.tables.same_size; same_wear = m.same_wear } in
+      let held = m.tables.same_held in
+      let live = live_kept old new f.live same whole.pages.erased_within held in
+      let count : length new.held ≡ length old.held = ap (λ (l : List (Option Held)). length l) held in
+      let spare : HasSpareBlock new = record { whole = whole; block = keeps f.spare.block; in_hand = hand_kept old new m.tables.same_first m.tables.same_blocks m.victim f.spare } in
+      device_with f (found_after kept (forgotten kept) true refl shape next next (omega arith) f.found) stored same_geometry same count live spare
+      (called_same old new pending pending f.called refl f.called.numbers refl m.tables.same_pairs m.tables.same_size (same_keeps old new held)) (omega arith)
+      (λ p x has. f.stamp.live p x (same_before old new held p x has))
+      (λ t.
+      let fit = subst (λ n. ImageOf n c) same_geometry (fits t) in
+      medium_with f t same_geometry same count (fits t) live (either_low (to_takes (made t).either)) (segment t) (omega arith) spare (on t (f.medium t).spare)
+      (names_after geometry shape vseg old image c f.segments (old_fits t) fit f.live (f.medium t).physical_is new f.spare.whole (either_each (to_takes (made t).either))
+      (λ n x k. subst (λ (l : List (ℕ × ℕ)). Contains l (n, x)) m.tables.same_pairs k) (λ p. ⊥) (λ p off. absurd off) (λ p x has. inl (same_before old new held p x has))
+      (λ p. bytes_at (shape.vblocks * shape.pages) c p) (live_held (named_segments f.segments refl same count) fit live (segment t)) (names_in (f.medium t).pages))
+      (below_next t))
