@@ -98,10 +98,13 @@ waits : (m t : Space) → m.waiting ≡ 0 → Erased m t → t.waiting ≤ 1
 waits m t none e = ⊎_elim (λ free. let w = free.1 in omega (arith, w, none)) (λ held. let w = held.1 in omega (arith, w, none)) e.blocks
 
 idle : (a t : Space) → a.waiting ≡ 0 → Cleans a t → (t.victim ≡ 0) × (t.waiting ≤ 1)
-idle a t none (inl did) = (did.2.victim, ⊎_elim
-    (λ same. waits did.0 t (ap (λ (x : Space). x.waiting) same ∙ none) did.2)
-    (λ moves. waits did.0 t (moves.waiting ∙ none) did.2)
-    did.1)
+idle a t none (inl did) = (
+  did.2.victim,
+  ⊎_elim
+      (λ same. waits did.0 t (ap (λ (x : Space). x.waiting) same ∙ none) did.2)
+      (λ moves. waits did.0 t (moves.waiting ∙ none) did.2)
+      did.1,
+)
 idle a t none (inr kept) = (ap (λ (x : Space). x.victim) kept.2 ∙ kept.1, let w = ap (λ (x : Space). x.waiting) kept.2 in omega (arith, w, none))
 
 pub rounds_end : RoundsEnd
