@@ -15,6 +15,7 @@ use Rattle.nl_pseg.specs.Space.{HasFewPairs, HasPages, IsWhole, dead_pages, gain
 use Rattle.nl_pseg.specs.declared.held.Held.{Held}
 use Rattle.nl_pseg.specs.declared.state.State.{State}
 use Rattle.nl_pseg.proofs.Dropped.{retired_is}
+use Rattle.nl_pseg.proofs.Erasing.{apart_next}
 use Rattle.nl_pseg.proofs.Gone.{all_kept, kept, waits}
 use Rattle.nl_pseg.proofs.Left.{left_is, some_live}
 use Rattle.nl_pseg.proofs.Runs.{dead_is, dead_seen, run, run_all, run_plus}
@@ -68,6 +69,7 @@ module _ (s : State) (is : IsFormed s) (tied : IsTied s) where
         let up = tied.named.remap.rising i j less b in
         let e : (link_at s.names.pairs i).from ≡ (link_at s.names.pairs j).from = sym x ∙ (same ∙ y) in
         omega (arith, up, e);
+    victim_idle = λ page next at. apart_next s is tied (page / s.blocks.size) at page next refl;
     no_name_free = λ name old free. true≢false (sym free ∙ (tied.named.standing name (old_is s name old)).in_use);
   }
 
