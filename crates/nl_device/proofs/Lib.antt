@@ -55,3 +55,4 @@ pub mod Starting
 pub mod Tried
 pub mod VirtualPages
 pub mod Writes
+pub mod Wiped

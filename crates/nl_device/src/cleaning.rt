@@ -1,15 +1,16 @@
-ghost use Rattle.std.specs.Prelude.{◌≡◌, ◌↔◌, ◌⊎◌, ◌*◌, ◌<◌, ◌≤◌, ℕ, IsTrue, Some, true, false};
+ghost use Rattle.std.specs.Prelude.{◌≡◌, ◌↔◌, ◌⊎◌, ◌+◌, ◌*◌, ◌<◌, ◌≤◌, ℕ, IsTrue, Some, true, false};
 ghost use Rattle.nl_device.specs.Medium.{CannotLevel};
-ghost use Rattle.nl_field.specs.CrashStates.{Earlier, Rose};
+ghost use Rattle.nl_field.specs.CrashStates.{Earlier, Rose, saturated};
 ghost use Rattle.nl_iface.specs.Calls.{CallCounted, KeepsMedium, OnlyReads};
-ghost use Rattle.nl_iface.specs.Moves.{Begins, Copies, FailsToCopy, HasCopied, HasNothingToCopy, KeepsCleaning, LeavesMove, MovesPage};
+ghost use Rattle.nl_iface.specs.Moves.{Begins, Copies, EraseFails, ErasesAtStops, ErasesVictim, FailsToCopy, HasCopied, HasNothingToCopy, KeepsCleaning, LeavesMove, MovesPage};
 ghost use Rattle.nl_iface.specs.Names.{LivePage};
 ghost use Rattle.nl_iface.specs.Space.{CanLand};
+ghost use Rattle.nl_nand.specs.Nand.{FaultsCounted};
 
 use crate::device::Device;
 use nl_iface::Counts;
 use nl_nand::Nand;
-use nl_pseg::Copied;
+use nl_pseg::{Copied, Erasure};
 
 /// What a copy answers.
 #[derive(Clone, Copy, Debug, PartialEq, Eq)]
@@ -85,6 +86,37 @@ impl<M: Nand> Device<M> {
             Copied::Fault => {
                 self.kept.forget_after(true);
                 Copying::Fault
+            }
+        }
+    }
+
+    /// Erases the victim, where no page of it is live: its block is Free, or waits for the old names that stand in it. `Nothing`
+    /// exactly where no victim without live pages is in hand; `Fault` only where the erase failed, and then the victim stays in hand.
+    pub fn erase(&mut self) -> Erasure
+        requires formed { ⟦<Device<M> as Counts>⟧.formed self.old }
+        ensures formed { ⟦<Device<M> as Counts>⟧.formed self.new }
+        ensures nothing { let space = (⟦<Device<M> as Counts>⟧.names self.old).space in result ≡ Erasure.Nothing ↔ ((space.victim ≡ 1) × (space.left ≡ 0) → ⊥) }
+        ensures none { result ≡ Erasure.Nothing → OnlyReads ⟦<Device<M> as Counts>⟧ self.old self.new }
+        ensures done { result ≡ Erasure.Done → ErasesVictim ⟦<Device<M> as Counts>⟧ self.old self.new }
+        ensures failed { result ≡ Erasure.Fault → EraseFails (⟦<Device<M> as Counts>⟧.names self.old).space (⟦<Device<M> as Counts>⟧.names self.new).space }
+        ensures same { (result ≡ Erasure.Done → ⊥) → ⟦<Device<M> as Counts>⟧.names self.new ≡ ⟦<Device<M> as Counts>⟧.names self.old }
+        ensures left { M.tells → ErasesAtStops ⟦<Device<M> as Counts>⟧ self.old self.new }
+        ensures kept { KeepsCleaning ⟦<Device<M> as Counts>⟧ self.old self.new }
+        ensures clock { (result ≡ Erasure.Done → ⟦<Device<M> as Counts>⟧.clock self.new ≡ saturated (⟦<Device<M> as Counts>⟧.clock self.old + 1)) × ((result ≡ Erasure.Done → ⊥) → ⟦<Device<M> as Counts>⟧.clock self.new ≡ ⟦<Device<M> as Counts>⟧.clock self.old) }
+        ensures read_faults { ⟦<Device<M> as Counts>⟧.read_faults self.new ≡ ⟦<Device<M> as Counts>⟧.read_faults self.old }
+        ensures write_faults { FaultsCounted (⟦<Device<M> as Counts>⟧.write_faults self.old) (⟦<Device<M> as Counts>⟧.write_faults self.new) (result ≡ Erasure.Fault) }
+    {
+        let _ = self.media.clock();
+        let erased = self.pseg.erase_victim(&mut self.media);
+        match erased {
+            Erasure::Done => {
+                self.kept.forget_after(true);
+                Erasure::Done
+            }
+            Erasure::Nothing => Erasure::Nothing,
+            Erasure::Fault => {
+                self.kept.forget_after(true);
+                Erasure::Fault
             }
         }
     }
