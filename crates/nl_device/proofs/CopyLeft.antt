@@ -1,17 +1,22 @@
--- What a copy leaves at a stop, and what it leaves where it failed.
-use Rattle.std.proofs.Common.{◌≡◌, ◌⊎◌, ◌*◌, ◌≤◌, ◌∙◌, ℕ, cond, is_some, Bool, false, List, Option, Some, None, get_or, length, refl, sym, ap, subst}
+-- What a copy leaves at a stop, and what it leaves where it failed or moved nothing.
+use Rattle.std.proofs.Common.{◌≡◌, ◌⊎◌, inl, inr, ◌*◌, ◌≤◌, ◌∙◌, ℕ, arith, cond, is_some, Bool, false, List, Option, Some, None, get_or, length, refl, sym, ap, subst}
 use Rattle.std.specs.Bool.{OnFalse, OnTrue}
 use Rattle.nl_callbacks.specs.Pending.{PendingTable}
 use Rattle.nl_field.specs.Page.{Image, page_at}
 use Rattle.nl_field.specs.declared.shape.Shape.{Shape}
 use Rattle.nl_iface.specs.Left.{LeavesTried}
-use Rattle.nl_iface.specs.Moves.{TakesVictim, copy_of}
+use Rattle.nl_iface.specs.Calls.{KeepsMedium}
+use Rattle.nl_iface.specs.Moves.{HasCopied, KeepsCleaning, MovesPage, TakesVictim, copy_of}
+use Rattle.nl_iface.specs.declared.counts.Counts.{Ghosts}
 use Rattle.nl_iface.specs.Names.{LivePage, SameTables}
 use Rattle.nl_iface.specs.Space.{Copied, Space, Wasted}
 use Rattle.nl_iface.specs.Stored.{stored_in}
 use Rattle.nl_nand.specs.Nand.{ImageOf}
 use Rattle.nl_nand.specs.declared.geometry.Geometry.{Geometry}
-use Rattle.nl_pseg.specs.Cleaning.{Begins, IsChosen, MovesNone}
+use Rattle.nl_iface.specs.Counting.{EitherCounted}
+use Rattle.nl_pseg.specs.Cleaning.{Begins, CountedMove, IsChosen, MovesNone}
+use Rattle.nl_pseg.specs.declared.cleaned.Copied.{Copied as Answer}
+use Rattle.nl_pseg.specs.declared.cleaned.Copied.TheVariants as the
 use Rattle.nl_pseg.specs.Effects.{Keeps, Places}
 use Rattle.nl_pseg.specs.Pages.{main_of}
 use Rattle.nl_pseg.specs.Segment.{Physical, held_at}
@@ -77,3 +82,22 @@ pub failed_space : (old mid new : Physical) (began : Bool) → OnTrue began ((bl
 failed_space old mid new began begun none m was is some =
     let one = in_hand mid was some in
     (takes_victim old mid began begun none one, wasted mid new m was is one)
+
+-- its counts of failures
+pub copy_counted : {M : Type 0} {clock reads writes : M → ℕ} {clean : Type 0} {old new : M} {answer : Answer} → CountedMove clock reads writes clean old new answer
+    → {failed exact : Type 0} → (failed → answer ≡ the.Fault) → (answer ≡ the.Fault → failed) → EitherCounted exact (reads old) (reads new) (writes old) (writes new) failed
+copy_counted n to from = record {
+  reads_never_fall = n.reads;
+  writes_never_fall = n.writes;
+  cause = λ fault. n.failed (to fault);
+  stays = λ exact un. n.well (λ fault. un (from fault));
+}
+
+-- where a victim was begun that has no live page, no page was moved
+pub begun_medium : {D : Type 0} (g : Ghosts D) {old new : D} → (MovesPage g old new → ⊥) → HasCopied g old new → KeepsMedium g old new
+begun_medium g un (inl moves) = absurd (un moves)
+begun_medium g un (inr began) = began.0.medium
+
+-- a medium that is kept is kept in cleaning
+pub still_cleans : {D : Type 0} (g : Ghosts D) {old new : D} → KeepsMedium g old new → KeepsCleaning g old new
+still_cleans g m = record { virtual = m.virtual; bytes = λ t q page is. m.bytes t q; clean = m.clean; next_stamp = m.next_stamp; clock = let e = m.clock in omega (arith, e) }

@@ -31,7 +31,7 @@ use Rattle.nl_device.specs.State.{held_of}
 use Rattle.nl_device.specs.declared.cleaning.Copying.{Copying}
 use Rattle.nl_device.specs.declared.cleaning.Copying.TheVariants as now
 use Rattle.nl_device.proofs.Forms.{begins, lift}
-use Rattle.nl_device.proofs.CopyLeft.{copy_left, copy_there, failed_space, failed_tables, not_copied}
+use Rattle.nl_device.proofs.CopyLeft.{begun_medium, copy_counted, copy_left, copy_there, failed_space, failed_tables, not_copied, still_cleans}
 use Rattle.nl_device.proofs.Idle.{idle_mid, land_can, left_is, mid_idle, mid_lands}
 use Rattle.nl_device.proofs.Naming.{either_live, either_low, live_bytes, map_same, stray_same, to_takes}
 use Rattle.nl_device.proofs.Moving.{here_now, insert_length}
@@ -113,15 +113,9 @@ returns-in-Moved-clause-kept g c =
 pub returns-in-Moved-clause-nothing : goal.returns-in-Moved-clause-nothing
 returns-in-Moved-clause-nothing g c =
     let b = c.begin-began.ensures in (
-      (λ is. absurd (other is)),
-      (λ idle. absurd (apart c.in-Moved.before c.in-Moved.after c.in-Moved.tag c.in-Moved.stamp (sym c.in-Moved.is ∙ c.copy_one-answer.ensures.nothing.1 (idle_mid c.args.self.now.pseg c.begin-began.new.self c.begin-began.result b.cannot b.none c.requires.formed.spare.whole idle).1))),
+      (λ is. absurd (cc is)),
+      (λ idle. absurd (cc (c.in-Moved.is, c.copy_one-answer.ensures.nothing.1 (idle_mid c.args.self.now.pseg c.begin-began.new.self c.begin-began.result b.cannot b.none c.requires.formed.spare.whole idle).1))),
     )
-  where
-    apart : (before after : ℕ) (tag : Tag) (stamp : ℕ) → copy.Moved before after tag stamp ≡ copy.Nothing → ⊥
-    apart before after tag stamp e = cc
-
-    other : now.Did ≡ now.Nothing → ⊥
-    other e = cc
 
 pub returns-in-Lost-clause-kept : goal.returns-in-Lost-clause-kept
 returns-in-Lost-clause-kept g c =
@@ -158,15 +152,9 @@ returns-in-Lost-clause-kept g c =
 pub returns-in-Lost-clause-nothing : goal.returns-in-Lost-clause-nothing
 returns-in-Lost-clause-nothing g c =
     let b = c.begin-began.ensures in (
-      (λ is. absurd (other c.in-Lost.wanted c.in-Lost.found is)),
-      (λ idle. absurd (apart c.in-Lost.wanted c.in-Lost.found (sym c.in-Lost.is ∙ c.copy_one-answer.ensures.nothing.1 (idle_mid c.args.self.now.pseg c.begin-began.new.self c.begin-began.result b.cannot b.none c.requires.formed.spare.whole idle).1))),
+      (λ is. absurd (cc is)),
+      (λ idle. absurd (cc (c.in-Lost.is, c.copy_one-answer.ensures.nothing.1 (idle_mid c.args.self.now.pseg c.begin-began.new.self c.begin-began.result b.cannot b.none c.requires.formed.spare.whole idle).1))),
     )
-  where
-    apart : (wanted found : ℕ) → copy.Lost wanted found ≡ copy.Nothing → ⊥
-    apart wanted found e = cc
-
-    other : (wanted found : ℕ) → now.Lost wanted found ≡ now.Nothing → ⊥
-    other wanted found e = cc
 
 pub returns-in-Fault-clause-kept : goal.returns-in-Fault-clause-kept
 returns-in-Fault-clause-kept g c =
@@ -203,15 +191,9 @@ returns-in-Fault-clause-kept g c =
 pub returns-in-Fault-clause-nothing : goal.returns-in-Fault-clause-nothing
 returns-in-Fault-clause-nothing g c =
     let b = c.begin-began.ensures in (
-      (λ is. absurd (other is)),
-      (λ idle. absurd (apart (sym c.in-Fault.is ∙ c.copy_one-answer.ensures.nothing.1 (idle_mid c.args.self.now.pseg c.begin-began.new.self c.begin-began.result b.cannot b.none c.requires.formed.spare.whole idle).1))),
+      (λ is. absurd (cc is)),
+      (λ idle. absurd (cc (c.in-Fault.is, c.copy_one-answer.ensures.nothing.1 (idle_mid c.args.self.now.pseg c.begin-began.new.self c.begin-began.result b.cannot b.none c.requires.formed.spare.whole idle).1))),
     )
-  where
-    apart : copy.Fault ≡ copy.Nothing → ⊥
-    apart e = cc
-
-    other : now.Fault ≡ now.Nothing → ⊥
-    other e = cc
 
 pub returns-in-Lost-clause-formed : goal.returns-in-Lost-clause-formed
 returns-in-Lost-clause-formed g c =
@@ -254,42 +236,6 @@ returns-then-began-clause-formed g c =
     subst (λ m. IsDevice (g.M.Nand.geometry m) g.M.Nand.tells (g.M.Nand.contents m) d.shape d.vseg c.copy_one-answer.new.self d.pending d.kept d.next) (sym r.1)
     (subst (λ (s : Physical). IsDevice (g.M.Nand.geometry d.media) g.M.Nand.tells (g.M.Nand.contents d.media) d.shape d.vseg s d.pending d.kept d.next) (sym r.0) mid)
 
-pub returns-then-began-clause-kept : goal.returns-then-began-clause-kept
-returns-then-began-clause-kept g c =
-    let d = c.args.self.now in
-    let r = c.copy_one-answer.ensures.refused c.in-Nothing.is in
-    record {
-      virtual = record {
-        same_shape = refl;
-        same_stamps = λ v. refl;
-        same_map = λ t v. ap (λ m. map_of d.vseg.places (g.M.Nand.contents m) v) r.1;
-        no_failed = λ t v x stray. subst (λ m. IsStray (d.shape.vblocks * d.shape.pages) (g.M.Nand.contents m) (λ u. map_of d.vseg.places (g.M.Nand.contents m) u) v x) r.1 stray;
-        spare = λ s. s;
-      };
-      bytes = λ t q page is. ap (λ m. bytes_at (d.shape.vblocks * d.shape.pages) (g.M.Nand.contents m) q) r.1;
-      clean = λ clean. c.copy_one-answer.ensures.clean (c.begin-began.ensures.clean clean);
-      next_stamp = refl;
-      clock = c.copy_one-answer.ensures.counts.later;
-    }
-
-pub returns-else-began-clause-kept : goal.returns-else-began-clause-kept
-returns-else-began-clause-kept g c =
-    let d = c.args.self.now in
-    let r = c.copy_one-answer.ensures.refused c.in-Nothing.is in
-    record {
-      virtual = record {
-        same_shape = refl;
-        same_stamps = λ v. refl;
-        same_map = λ t v. ap (λ m. map_of d.vseg.places (g.M.Nand.contents m) v) r.1;
-        no_failed = λ t v x stray. subst (λ m. IsStray (d.shape.vblocks * d.shape.pages) (g.M.Nand.contents m) (λ u. map_of d.vseg.places (g.M.Nand.contents m) u) v x) r.1 stray;
-        spare = λ s. s;
-      };
-      bytes = λ t q page is. ap (λ m. bytes_at (d.shape.vblocks * d.shape.pages) (g.M.Nand.contents m) q) r.1;
-      clean = λ clean. c.copy_one-answer.ensures.clean (c.begin-began.ensures.clean clean);
-      next_stamp = refl;
-      clock = c.copy_one-answer.ensures.counts.later;
-    }
-
 pub returns-then-began-clause-did : goal.returns-then-began-clause-did
 returns-then-began-clause-did g c is =
     let d = c.args.self.now in
@@ -327,6 +273,41 @@ returns-then-began-clause-did g c is =
       },
       ap (λ (s : Physical). (space_of s).left) r.0 ∙ (left_is c.begin-began.new.self ∙ e.nothing.0 c.in-Nothing.is),
     )
+
+pub returns-else-began-clause-none : goal.returns-else-began-clause-none
+returns-else-began-clause-none g c is =
+    let d = c.args.self.now in
+    let r = c.copy_one-answer.ensures.refused c.in-Nothing.is in
+    record {
+      medium = record {
+        virtual = record {
+          same_shape = refl;
+          same_stamps = λ v. refl;
+          same_map = λ t v. ap (λ m. map_of d.vseg.places (g.M.Nand.contents m) v) r.1;
+          no_failed = λ t v x stray. subst (λ m. IsStray (d.shape.vblocks * d.shape.pages) (g.M.Nand.contents m) (λ u. map_of d.vseg.places (g.M.Nand.contents m) u) v x) r.1 stray;
+          spare = λ s. s;
+        };
+        contents = λ t. ap g.M.Nand.contents r.1;
+        left = λ t m i l. subst (λ x. g.M.Nand.left x m i) r.1 l;
+        bytes = λ t p. ap (λ m. bytes_at (d.shape.vblocks * d.shape.pages) (g.M.Nand.contents m) p) r.1;
+        found = refl;
+        next_stamp = refl;
+        clean = λ clean. c.copy_one-answer.ensures.clean (c.begin-began.ensures.clean clean);
+        clock = ap g.M.Nand.clock r.1;
+        write_faults = ap g.M.Nand.write_faults r.1;
+      };
+      names = ap (λ (s : Physical). names_with s d.pending) (r.0 ∙ OnFalse_at c.if-began.false c.begin-began.ensures.none);
+    }
+
+pub returns-then-began-clause-kept : goal.returns-then-began-clause-kept
+returns-then-began-clause-kept g c = 
+    let d = c.args.self.now in
+    let b = c.begin-began.ensures in
+    let tables = mid_tables d.pseg c.begin-began.new.self c.begin-began.result b.begun b.none in
+    still_cleans _ (begun_medium _ (λ m. not_copied d.pseg c.copy_one-answer.new.self m.taken (ap (λ (s : Physical). s.pairs) (c.copy_one-answer.ensures.refused c.in-Nothing.is).0 ∙ tables.1) m.takes m.space) (returns-then-began-clause-did g c refl))
+
+pub returns-else-began-clause-kept : goal.returns-else-began-clause-kept
+returns-else-began-clause-kept g c = still_cleans _ (returns-else-began-clause-none g c refl).medium
 
 pub returns-in-Moved-clause-did : goal.returns-in-Moved-clause-did
 returns-in-Moved-clause-did g c is =
@@ -367,26 +348,11 @@ returns-in-Moved-clause-did g c is =
     })
 
 pub returns-then-began-clause-left : goal.returns-then-began-clause-left
-returns-then-began-clause-left g c t =
+returns-then-began-clause-left g c t = 
     let d = c.args.self.now in
-    let r = c.copy_one-answer.ensures.refused c.in-Nothing.is in
-    inr (record {
-        virtual = record {
-          same_shape = refl;
-          same_stamps = λ v. refl;
-          same_map = λ t v. ap (λ m. map_of d.vseg.places (g.M.Nand.contents m) v) r.1;
-          no_failed = λ t v x stray. subst (λ m. IsStray (d.shape.vblocks * d.shape.pages) (g.M.Nand.contents m) (λ u. map_of d.vseg.places (g.M.Nand.contents m) u) v x) r.1 stray;
-          spare = λ s. s;
-        };
-        contents = λ t. ap g.M.Nand.contents r.1;
-        left = λ t m i l. subst (λ x. g.M.Nand.left x m i) r.1 l;
-        bytes = λ t p. ap (λ m. bytes_at (d.shape.vblocks * d.shape.pages) (g.M.Nand.contents m) p) r.1;
-        found = refl;
-        next_stamp = refl;
-        clean = λ clean. c.copy_one-answer.ensures.clean (c.begin-began.ensures.clean clean);
-        clock = ap g.M.Nand.clock r.1;
-        write_faults = ap g.M.Nand.write_faults r.1;
-      })
+    let b = c.begin-began.ensures in
+    let tables = mid_tables d.pseg c.begin-began.new.self c.begin-began.result b.begun b.none in
+    inr (begun_medium _ (λ m. not_copied d.pseg c.copy_one-answer.new.self m.taken (ap (λ (s : Physical). s.pairs) (c.copy_one-answer.ensures.refused c.in-Nothing.is).0 ∙ tables.1) m.takes m.space) (returns-then-began-clause-did g c refl))
 
 pub returns-then-began-clause-lands : goal.returns-then-began-clause-lands
 returns-then-began-clause-lands g c = ⊎_elim (λ rose. inl rose) (λ room. inr (land_can c.copy_one-answer.new.self room)) c.copy_one-answer.ensures.lands
@@ -399,42 +365,10 @@ returns-then-began-clause-later g c m =
     absurd (not_copied d.pseg c.copy_one-answer.new.self m.taken (ap (λ (s : Physical). s.pairs) (c.copy_one-answer.ensures.refused c.in-Nothing.is).0 ∙ tables.1) m.takes m.space)
 
 pub returns-then-began-clause-faults : goal.returns-then-began-clause-faults
-returns-then-began-clause-faults g c =
-    let n = c.copy_one-answer.ensures.counts in
-    record {
-      reads_never_fall = n.reads;
-      writes_never_fall = n.writes;
-      cause = λ fault. absurd (other fault);
-      stays = λ exact un. n.well (λ fault. apart (sym c.in-Nothing.is ∙ fault));
-    }
-  where
-    other : now.Did ≡ now.Fault → ⊥
-    other e = cc
-
-    apart : copy.Nothing ≡ copy.Fault → ⊥
-    apart e = cc
+returns-then-began-clause-faults g c = copy_counted c.copy_one-answer.ensures.counts (λ fault. absurd (cc fault)) (λ fault. absurd (cc (fault, c.in-Nothing.is)))
 
 pub returns-else-began-clause-left : goal.returns-else-began-clause-left
-returns-else-began-clause-left g c t =
-    let d = c.args.self.now in
-    let r = c.copy_one-answer.ensures.refused c.in-Nothing.is in
-    inr (record {
-        virtual = record {
-          same_shape = refl;
-          same_stamps = λ v. refl;
-          same_map = λ t v. ap (λ m. map_of d.vseg.places (g.M.Nand.contents m) v) r.1;
-          no_failed = λ t v x stray. subst (λ m. IsStray (d.shape.vblocks * d.shape.pages) (g.M.Nand.contents m) (λ u. map_of d.vseg.places (g.M.Nand.contents m) u) v x) r.1 stray;
-          spare = λ s. s;
-        };
-        contents = λ t. ap g.M.Nand.contents r.1;
-        left = λ t m i l. subst (λ x. g.M.Nand.left x m i) r.1 l;
-        bytes = λ t p. ap (λ m. bytes_at (d.shape.vblocks * d.shape.pages) (g.M.Nand.contents m) p) r.1;
-        found = refl;
-        next_stamp = refl;
-        clean = λ clean. c.copy_one-answer.ensures.clean (c.begin-began.ensures.clean clean);
-        clock = ap g.M.Nand.clock r.1;
-        write_faults = ap g.M.Nand.write_faults r.1;
-      })
+returns-else-began-clause-left g c t = inr (returns-else-began-clause-none g c refl).medium
 
 pub returns-else-began-clause-lands : goal.returns-else-began-clause-lands
 returns-else-began-clause-lands g c = ⊎_elim (λ rose. inl rose) (λ room. inr (land_can c.copy_one-answer.new.self room)) c.copy_one-answer.ensures.lands
@@ -447,45 +381,7 @@ returns-else-began-clause-later g c m =
     absurd (not_copied d.pseg c.copy_one-answer.new.self m.taken (ap (λ (s : Physical). s.pairs) (c.copy_one-answer.ensures.refused c.in-Nothing.is).0 ∙ tables.1) m.takes m.space)
 
 pub returns-else-began-clause-faults : goal.returns-else-began-clause-faults
-returns-else-began-clause-faults g c =
-    let n = c.copy_one-answer.ensures.counts in
-    record {
-      reads_never_fall = n.reads;
-      writes_never_fall = n.writes;
-      cause = λ fault. absurd (other fault);
-      stays = λ exact un. n.well (λ fault. apart (sym c.in-Nothing.is ∙ fault));
-    }
-  where
-    other : now.Nothing ≡ now.Fault → ⊥
-    other e = cc
-
-    apart : copy.Nothing ≡ copy.Fault → ⊥
-    apart e = cc
-
-pub returns-else-began-clause-none : goal.returns-else-began-clause-none
-returns-else-began-clause-none g c is =
-    let d = c.args.self.now in
-    let r = c.copy_one-answer.ensures.refused c.in-Nothing.is in
-    record {
-      medium = record {
-        virtual = record {
-          same_shape = refl;
-          same_stamps = λ v. refl;
-          same_map = λ t v. ap (λ m. map_of d.vseg.places (g.M.Nand.contents m) v) r.1;
-          no_failed = λ t v x stray. subst (λ m. IsStray (d.shape.vblocks * d.shape.pages) (g.M.Nand.contents m) (λ u. map_of d.vseg.places (g.M.Nand.contents m) u) v x) r.1 stray;
-          spare = λ s. s;
-        };
-        contents = λ t. ap g.M.Nand.contents r.1;
-        left = λ t m i l. subst (λ x. g.M.Nand.left x m i) r.1 l;
-        bytes = λ t p. ap (λ m. bytes_at (d.shape.vblocks * d.shape.pages) (g.M.Nand.contents m) p) r.1;
-        found = refl;
-        next_stamp = refl;
-        clean = λ clean. c.copy_one-answer.ensures.clean (c.begin-began.ensures.clean clean);
-        clock = ap g.M.Nand.clock r.1;
-        write_faults = ap g.M.Nand.write_faults r.1;
-      };
-      names = ap (λ (s : Physical). names_with s d.pending) (r.0 ∙ OnFalse_at c.if-began.false c.begin-began.ensures.none);
-    }
+returns-else-began-clause-faults g c = copy_counted c.copy_one-answer.ensures.counts (λ fault. absurd (cc fault)) (λ fault. absurd (cc (fault, c.in-Nothing.is)))
 
 pub returns-in-Moved-clause-lands : goal.returns-in-Moved-clause-lands
 returns-in-Moved-clause-lands g c = ⊎_elim (λ rose. inl rose) (λ room. inr (land_can c.copy_one-answer.new.self room)) c.copy_one-answer.ensures.lands
@@ -494,20 +390,7 @@ pub returns-in-Moved-clause-later : goal.returns-in-Moved-clause-later
 returns-in-Moved-clause-later g c m = c.in-Moved.ensures.counts.moved tt
 
 pub returns-in-Moved-clause-faults : goal.returns-in-Moved-clause-faults
-returns-in-Moved-clause-faults g c =
-    let n = c.copy_one-answer.ensures.counts in
-    record {
-      reads_never_fall = n.reads;
-      writes_never_fall = n.writes;
-      cause = λ fault. absurd (other fault);
-      stays = λ exact un. n.well (λ fault. apart c.in-Moved.before c.in-Moved.after c.in-Moved.tag c.in-Moved.stamp (sym c.in-Moved.is ∙ fault));
-    }
-  where
-    other : now.Did ≡ now.Fault → ⊥
-    other e = cc
-
-    apart : (before after : ℕ) (tag : Tag) (stamp : ℕ) → copy.Moved before after tag stamp ≡ copy.Fault → ⊥
-    apart before after tag stamp e = cc
+returns-in-Moved-clause-faults g c = copy_counted c.copy_one-answer.ensures.counts (λ fault. absurd (cc fault)) (λ fault. absurd (cc (fault, c.in-Moved.is)))
 
 pub returns-in-Moved-clause-left : goal.returns-in-Moved-clause-left
 returns-in-Moved-clause-left g c t =
@@ -616,20 +499,7 @@ returns-in-Lost-clause-later g c moves =
     absurd (not_copied d.pseg c.copy_one-answer.new.self moves.taken (kept.tables.same_pairs ∙ tables.1) moves.takes moves.space)
 
 pub returns-in-Lost-clause-faults : goal.returns-in-Lost-clause-faults
-returns-in-Lost-clause-faults g c =
-    let n = c.copy_one-answer.ensures.counts in
-    record {
-      reads_never_fall = n.reads;
-      writes_never_fall = n.writes;
-      cause = λ fault. absurd (other c.in-Lost.wanted c.in-Lost.found fault);
-      stays = λ exact un. n.well (λ fault. apart c.in-Lost.wanted c.in-Lost.found (sym c.in-Lost.is ∙ fault));
-    }
-  where
-    other : (wanted found : ℕ) → now.Lost wanted found ≡ now.Fault → ⊥
-    other wanted found e = cc
-
-    apart : (wanted found : ℕ) → copy.Lost wanted found ≡ copy.Fault → ⊥
-    apart wanted found e = cc
+returns-in-Lost-clause-faults g c = copy_counted c.copy_one-answer.ensures.counts (λ fault. absurd (cc fault)) (λ fault. absurd (cc (fault, c.in-Lost.is)))
 
 pub returns-in-Lost-clause-told : goal.returns-in-Lost-clause-told
 returns-in-Lost-clause-told g c t w found is = c.copy_one-answer.ensures.told t c.in-Lost.wanted c.in-Lost.found c.in-Lost.is
@@ -709,11 +579,5 @@ returns-in-Fault-clause-later g c moves =
     absurd (not_copied d.pseg c.copy_one-answer.new.self moves.taken (kept.tables.same_pairs ∙ tables.1) moves.takes moves.space)
 
 pub returns-in-Fault-clause-faults : goal.returns-in-Fault-clause-faults
-returns-in-Fault-clause-faults g c =
-    let n = c.copy_one-answer.ensures.counts in
-    record {
-      reads_never_fall = n.reads;
-      writes_never_fall = n.writes;
-      cause = λ fault. n.failed c.in-Fault.is;
-      stays = λ exact un. absurd (un refl);
-    }
+returns-in-Fault-clause-faults g c = copy_counted c.copy_one-answer.ensures.counts (λ fault. c.in-Fault.is) (λ fault. refl)
+

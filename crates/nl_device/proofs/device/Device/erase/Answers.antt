@@ -14,6 +14,7 @@ use Rattle.nl_device.specs.Device.{IsDevice}
 use Rattle.nl_device.specs.Shown.{IsStray, bytes_at, live_page}
 use Rattle.nl_device.specs.Space.{space_of}
 use Rattle.nl_device.specs.State.{held_of}
+use Rattle.nl_device.proofs.CopyLeft.{still_cleans}
 use Rattle.nl_device.proofs.Forms.{begins, lift}
 use Rattle.nl_device.proofs.Idle.{left_is}
 use Rattle.nl_device.proofs.Naming.{live_bytes, map_same, stray_same}
@@ -271,21 +272,4 @@ returns-in-Nothing-clause-left g c t =
     record { later = omega (arith, clock); each = λ m i l. inl (subst (λ x. g.M.Nand.left x m i) r l) }
 
 pub returns-in-Nothing-clause-kept : goal.returns-in-Nothing-clause-kept
-returns-in-Nothing-clause-kept g c =
-    let d = c.args.self.now in
-    let e = c.erase_victim-erased.ensures in
-    let r = e.refused c.in-Nothing.is in
-    let clock = ap g.M.Nand.clock r in
-    record {
-      virtual = record {
-        same_shape = refl;
-        same_stamps = λ v. refl;
-        same_map = λ t v. ap (λ m. map_of d.vseg.places (g.M.Nand.contents m) v) r;
-        no_failed = λ t v x stray. subst (λ m. IsStray (d.shape.vblocks * d.shape.pages) (g.M.Nand.contents m) (λ u. map_of d.vseg.places (g.M.Nand.contents m) u) v x) r stray;
-        spare = λ s. s;
-      };
-      bytes = λ t q page is. ap (λ m. bytes_at (d.shape.vblocks * d.shape.pages) (g.M.Nand.contents m) q) r;
-      clean = e.clean;
-      next_stamp = refl;
-      clock = omega (arith, clock);
-    }
+returns-in-Nothing-clause-kept g c = still_cleans _ (returns-in-Nothing-clause-none g c refl).medium
