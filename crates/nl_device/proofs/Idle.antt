@@ -1,5 +1,5 @@
 -- When there is nothing to copy.
-use Rattle.std.proofs.Common.{◌≡◌, ◌⊎◌, inl, inr, ⊎_elim, ℕ, ◌+◌, ◌*◌, ◌<◌, ◌≤◌, Bool, true, false, cond, is_some, List, length, Option, Some, None, refl, sym, ◌∙◌, ap, subst, arith, mul-le-mul_right}
+use Rattle.std.proofs.Common.{◌≡◌, ◌⊎◌, inl, inr, ⊎_elim, ℕ, ◌+◌, ◌*◌, ◌<◌, ◌≤◌, Bool, true, false, cond, is_some, List, length, Option, Some, None, refl, sym, ◌∙◌, ap, subst, arith}
 use Rattle.std.specs.Prelude.{◌↔◌, IsTrue}
 use Rattle.std.specs.Bool.{OnFalse, OnTrue}
 use Rattle.std.proofs.lemmas.Bool.{OnFalse_at, OnTrue_at, cases_Bool, cases_eq, cases_lt, true≢false}
@@ -81,17 +81,3 @@ mid_reason seg off left = ⊎_elim
 -- and where none was begun, nor had one in hand a live page, there is nothing to copy
 pub mid_idle : (old mid : Physical) (began : Bool) → IsTrue began ↔ (CannotBegin false old → ⊥) → OnFalse began (mid ≡ old) → began ≡ false → left_of mid ≡ 0 → HasNothingToCopy (space_of old)
 mid_idle old mid began cannot none un left = mid_reason old (λ off. true≢false (sym (cannot.1 off) ∙ un)) (ap left_of (sym (OnFalse_at un none)) ∙ left)
-
--- where a block is Free a block's pages can land
-pub lands_free : (seg : Physical) → IsWhole seg → (seg.free ≡ 0 → ⊥) → CanLand (space_of seg)
-unfolding space_of
-lands_free seg whole some =
-    let few : victims seg ≤ 1 = one (is_some seg.victim) in
-    let hand : victims seg * seg.size ≤ 1 * seg.size = mul-le-mul_right seg.size few in
-    let room : 1 * seg.size ≤ seg.free * seg.size = mul-le-mul_right seg.size (omega (arith, some)) in
-    let victim = whole.numbers.victim in
-    omega (arith, hand, room, victim)
-  where
-    one : (b : Bool) → cond b 1 0 ≤ 1
-    one true = omega arith
-    one false = omega arith

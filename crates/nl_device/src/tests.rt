@@ -4,14 +4,13 @@ ghost use Rattle.nl_nand.specs.Memory.{contents_of, geometry_of};
 ghost use Rattle.nl_nand.specs.Nand.{IsBlank};
 ghost use Rattle.nl_device.specs.Retain.{CanRetain, kept_of};
 
-use crate::{Copying, Device, Started};
+use crate::{Device, Started};
 use nl_field::{
     FailList, Named, NamedRead, PageBuf, Pointer, PointerList, SpareRec, Tag, VirtualRead,
     VirtualWrite,
 };
-use nl_iface::{Callback, Counts, NamedPages, VirtualPages};
+use nl_iface::{Counts, NamedPages, VirtualPages};
 use nl_nand::{FormAnswer, MemNand, Nand};
-use nl_pseg::Erasure;
 use nl_scan::Seen as Page;
 use std::alloc::Global;
 use std::test::Fail;
@@ -309,112 +308,5 @@ fn a_page_is_retained(rt: HostRuntime) -> Result<(), Fail> {
     );
     assert_eq!(rt; read(&mut device, &mut buf, at(256, 1), TAG), Seen::NotLive);
     assert_eq!(rt; write(&mut device, &mut buf, 99), Seen::At(288, 3));
-    Ok(())
-}
-
-fn free(device: &mut Device<MemNand>, name: u32, stamp: u64) -> bool
-    requires { ⟦<Device<MemNand> as Counts>⟧.formed device.old }
-    ensures { ⟦<Device<MemNand> as Counts>⟧.formed device.new }
-{
-    device.free(at(name, stamp))
-}
-
-/// Moves a page, while a block is Free.
-fn copy(device: &mut Device<MemNand>) -> Copying
-    requires { ⟦<Device<MemNand> as Counts>⟧.formed device.old }
-    ensures { ⟦<Device<MemNand> as Counts>⟧.formed device.new }
-{
-    if device.free_blocks() == 0 {
-        return Copying::Nothing;
-    }
-    device.copy()
-}
-
-fn erase(device: &mut Device<MemNand>) -> Erasure
-    requires { ⟦<Device<MemNand> as Counts>⟧.formed device.old }
-    ensures { ⟦<Device<MemNand> as Counts>⟧.formed device.new }
-{
-    device.erase()
-}
-
-/// A device of which block 8 was written whole and one page of block 9. Of block 8 only pages 258 and 270 are live.
-fn written(alloc: Global, buf: &mut PageBuf) -> Result<Device<MemNand>, Fail>
-    ensures { IfOk result (λ d. ⟦<Device<MemNand> as Counts>⟧.formed d) }
-{
-    let media = blank(alloc)?;
-    let mut device = started(alloc, media)?;
-    for byte in 0..33u8 {
-        write(&mut device, buf, byte);
-    }
-    for n in 0..32u32 {
-        if n != 2 && n != 14 {
-            free(&mut device, 256 + n, u64::from(n) + 1);
-        }
-    }
-    Ok(device)
-}
-
-// The victim is block 8, and its copies go to block 10.
-#[test]
-fn a_victim_is_cleaned(rt: HostRuntime) -> Result<(), Fail> {
-    let alloc = rt.alloc();
-    let mut buf = PageBuf::new(alloc)?;
-    let mut device = written(alloc, &mut buf)?;
-    assert_eq!(rt; device.free_blocks(), 22);
-    let erased = erase(&mut device);
-    assert_eq!(rt; erased, Erasure::Nothing);
-    let copied = copy(&mut device);
-    assert_eq!(rt; copied, Copying::Did);
-    assert_eq!(rt; device.resolve(258), 320);
-    assert_eq!(rt; device.free_blocks(), 21);
-    let erased = erase(&mut device);
-    assert_eq!(rt; erased, Erasure::Nothing);
-    let copied = copy(&mut device);
-    assert_eq!(rt; copied, Copying::Did);
-    let copied = copy(&mut device);
-    assert_eq!(rt; copied, Copying::Nothing);
-    assert_eq!(rt; device.pairs(), 2);
-    assert_eq!(rt; device.posted(), 2);
-    assert_eq!(rt;
-        device.callback(2),
-        Some(
-            Callback {
-                number: 2,
-                before: 270,
-                after: 321,
-                tag: TAG,
-                stamp: 15,
-            },
-        )
-    );
-    let erased = erase(&mut device);
-    assert_eq!(rt; erased, Erasure::Done);
-    let erased = erase(&mut device);
-    assert_eq!(rt; erased, Erasure::Nothing);
-    assert_eq!(rt; device.free_blocks(), 21);
-    assert_eq!(rt;
-        read(&mut device, &mut buf, at(258, 3), TAG),
-        Seen::Byte(2)
-    );
-    // Once both callbacks were handled the block is Free.
-    assert!(rt; device.handled(1, 7));
-    assert!(rt; device.handled(2, 8));
-    device.acknowledge(7);
-    assert_eq!(rt; device.pairs(), 1);
-    assert_eq!(rt; device.resolve(258), 258);
-    assert_eq!(rt; device.free_blocks(), 21);
-    device.acknowledge(8);
-    assert_eq!(rt; device.free_blocks(), 22);
-    assert_eq!(rt;
-        read(&mut device, &mut buf, at(258, 3), TAG),
-        Seen::NotLive
-    );
-    assert_eq!(rt;
-        read(&mut device, &mut buf, at(321, 15), TAG),
-        Seen::Byte(14)
-    );
-    assert_eq!(rt; device.next_stamp(), 34);
-    let media = device.into_media();
-    assert_eq!(rt; media.clock(), 33 + 2 + 1);
     Ok(())
 }
