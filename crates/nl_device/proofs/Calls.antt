@@ -26,8 +26,9 @@ use Rattle.nl_device.proofs.Naming.{map_same, shows_same, shows_still, virtual_k
 use Rattle.nl_device.proofs.Spacing.{space_is}
 use Rattle.nl_callbacks.specs.Pending.{PendingTable}
 
-pub named_segments : {geometry now : Geometry} {shape : Shape} {vseg : Segment} {old new : Physical} → HasSegments geometry shape vseg old → now ≡ geometry → SamePages old new → length new.held ≡ length old.held → HasSegments now shape vseg new
-named_segments {geometry} {now} {shape} {vseg} {old} {new} has is same held = subst (λ n. HasSegments n shape vseg new) (sym is) (record {
+-- the two segments, after a call of the second
+pub named_in : {geometry now : Geometry} {shape : Shape} {vseg : Segment} {old new : Physical} → HasSegments geometry shape vseg old → now ≡ geometry → new.first ≡ old.first → new.blocks ≡ old.blocks → new.size ≡ old.size → length new.held ≡ length old.held → HasSegments now shape vseg new
+named_in {geometry} {now} {shape} {vseg} {old} {new} has is first blocks size held = subst (λ n. HasSegments n shape vseg new) (sym is) (record {
   legal = has.legal;
   numbers = has.numbers;
   blocks = has.blocks;
@@ -38,11 +39,14 @@ named_segments {geometry} {now} {shape} {vseg} {old} {new} has is same held = su
   virtual_pages = has.virtual_pages;
   virtual_bound = has.virtual_bound;
   addresses = has.addresses;
-  physical_first = same.same_first ∙ has.physical_first;
-  physical_blocks = same.same_blocks ∙ has.physical_blocks;
-  physical_pages = same.same_size ∙ has.physical_pages;
+  physical_first = first ∙ has.physical_first;
+  physical_blocks = blocks ∙ has.physical_blocks;
+  physical_pages = size ∙ has.physical_pages;
   physical_held = held ∙ has.physical_held;
 })
+
+pub named_segments : {geometry now : Geometry} {shape : Shape} {vseg : Segment} {old new : Physical} → HasSegments geometry shape vseg old → now ≡ geometry → SamePages old new → length new.held ≡ length old.held → HasSegments now shape vseg new
+named_segments has is same held = named_in has is same.same_first same.same_blocks same.same_size held
 
 -- what the scan found stays below a next stamp that rises
 pub found_still : {shape : Shape} {kept : KeptPages} {next after : ℕ} → HasFound shape kept next → next ≤ after → HasFound shape kept after
@@ -75,11 +79,11 @@ pub found_beyond : (kept : KeptPages) (shape : Shape) (old new : Image) → ((p 
     → HoldsLive (found_in kept) (λ p. bytes_at (shape.vblocks * shape.pages) old p) (stored_in old) → HoldsLive (found_in kept) (λ p. bytes_at (shape.vblocks * shape.pages) new p) (stored_in new)
 found_beyond kept shape old new named bytes holds p page is = named p ∙ holds p page is ∙ (λ i. Some (record { tag = page.tag; stamp = page.stamp; bytes = sym (bytes p) i }))
 
-pub device_with : {geometry now : Geometry} {tells : Type 0} {image c : Image} {shape : Shape} {vseg : Segment} {old new : Physical} {pending now_pending : PendingTable} {kept left : KeptPages} {next after : ℕ} → IsDevice geometry tells image shape vseg old pending kept next
-    → HasFound shape left after → (tells → HoldsLive (found_in left) (λ p. bytes_at (shape.vblocks * shape.pages) c p) (stored_in c)) → now ≡ geometry → SamePages old new → length new.held ≡ length old.held → HasLive new → HasSpareBlock new → AreCalled new now_pending → next ≤ after → ((p : ℕ) (h : Held) → held_at new p ≡ Some h → h.stamp < after)
+pub device_of : {geometry now : Geometry} {tells : Type 0} {image c : Image} {shape : Shape} {vseg : Segment} {old new : Physical} {pending now_pending : PendingTable} {kept left : KeptPages} {next after : ℕ} → IsDevice geometry tells image shape vseg old pending kept next
+    → HasSegments now shape vseg new → HasFound shape left after → (tells → HoldsLive (found_in left) (λ p. bytes_at (shape.vblocks * shape.pages) c p) (stored_in c)) → HasLive new → HasSpareBlock new → AreCalled new now_pending → next ≤ after → ((p : ℕ) (h : Held) → held_at new p ≡ Some h → h.stamp < after)
     → (tells → IsOnMedium shape after c vseg new) → IsDevice now tells c shape vseg new now_pending left after
-device_with f found stored is same held live spare called rises stamps medium = record {
-  segments = named_segments f.segments is same held;
+device_of f segments found stored live spare called rises stamps medium = record {
+  segments = segments;
   mapped = f.mapped;
   live = live;
   spare = spare;
@@ -93,22 +97,32 @@ device_with f found stored is same held live spare called rises stamps medium = 
   found_stored = stored;
   legal = f.legal;
   unwritten = f.unwritten;
-  names = names_are (named_segments f.segments is same held) _ live (space_is _ spare) stamps;
+  names = names_are segments _ live (space_is _ spare) stamps;
   medium = medium;
 }
 
+pub device_with : {geometry now : Geometry} {tells : Type 0} {image c : Image} {shape : Shape} {vseg : Segment} {old new : Physical} {pending now_pending : PendingTable} {kept left : KeptPages} {next after : ℕ} → IsDevice geometry tells image shape vseg old pending kept next
+    → HasFound shape left after → (tells → HoldsLive (found_in left) (λ p. bytes_at (shape.vblocks * shape.pages) c p) (stored_in c)) → now ≡ geometry → SamePages old new → length new.held ≡ length old.held → HasLive new → HasSpareBlock new → AreCalled new now_pending → next ≤ after → ((p : ℕ) (h : Held) → held_at new p ≡ Some h → h.stamp < after)
+    → (tells → IsOnMedium shape after c vseg new) → IsDevice now tells c shape vseg new now_pending left after
+device_with f found stored is same held live spare called rises stamps medium = device_of f (named_segments f.segments is same held) found stored live spare called rises stamps medium
+
 -- the medium, where the pages of the virtual segment are as before
-pub medium_with : {geometry now : Geometry} {image c : Image} {shape : Shape} {vseg : Segment} {old new : Physical} {pending : PendingTable} {kept : KeptPages} {next after : ℕ} {tells : Type 0} → IsDevice geometry tells image shape vseg old pending kept next → tells
-    → now ≡ geometry → SamePages old new → length new.held ≡ length old.held → ImageOf now c → HasLive new → ((p : ℕ) → p < old.first * old.size → page_at c p ≡ page_at image p) → IsPhysicalOf c new → next ≤ after → HasSpareBlock new → HasSpare c new → NamesHold shape (names_of new) (stored_in c)
+pub medium_of : {geometry now : Geometry} {image c : Image} {shape : Shape} {vseg : Segment} {old new : Physical} {pending : PendingTable} {kept : KeptPages} {next after : ℕ} {tells : Type 0} → IsDevice geometry tells image shape vseg old pending kept next → tells
+    → HasSegments now shape vseg new → ImageOf now c → HasLive new → ((p : ℕ) → p < old.first * old.size → page_at c p ≡ page_at image p) → IsPhysicalOf c new → next ≤ after → HasSpareBlock new → HasSpare c new → NamesHold shape (names_of new) (stored_in c)
     → ((p : ℕ) (page : NamedPage) → (stored_in c).named p ≡ Some page → page.stamp + 1 ≤ after) → IsOnMedium shape after c vseg new
-medium_with {geometry} {now} {image} {c} {shape} {vseg} {old} {new} {pending} {kept} {next} {after} f t is same held fits live low physical rises spare on names named =
+medium_of {geometry} {now} {image} {c} {shape} {vseg} {old} {new} {pending} {kept} {next} {after} f t segments fits live low physical rises spare on names named =
     let below : (p : ℕ) → p < shape.vblocks * shape.pages → page_at c p ≡ page_at image p = λ p lt. low p (subst (λ n. p < n) (sym (begins f.segments)) lt) in
     let under : (p : ℕ) → p < vseg.bound → page_at c p ≡ page_at image p = λ p lt. below p (subst (λ n. p < n) f.segments.virtual_bound lt) in
-    made_medium (named_segments f.segments is same held) fits live
+    made_medium segments fits live
     (virtual_kept image c vseg f.mapped under (f.medium t).virtual_is) physical
     (λ v s main has. shows_still (shape.vblocks * shape.pages) image c below v s main ((f.medium t).there v s main (sym (map_same image c vseg f.mapped under v) ∙ has)))
     (λ v s main shows. let lt = (f.medium t).below v s main (shows_same (shape.vblocks * shape.pages) image c below v s main shows) in omega (arith, lt, rises))
     named spare on names
+
+pub medium_with : {geometry now : Geometry} {image c : Image} {shape : Shape} {vseg : Segment} {old new : Physical} {pending : PendingTable} {kept : KeptPages} {next after : ℕ} {tells : Type 0} → IsDevice geometry tells image shape vseg old pending kept next → tells
+    → now ≡ geometry → SamePages old new → length new.held ≡ length old.held → ImageOf now c → HasLive new → ((p : ℕ) → p < old.first * old.size → page_at c p ≡ page_at image p) → IsPhysicalOf c new → next ≤ after → HasSpareBlock new → HasSpare c new → NamesHold shape (names_of new) (stored_in c)
+    → ((p : ℕ) (page : NamedPage) → (stored_in c).named p ≡ Some page → page.stamp + 1 ≤ after) → IsOnMedium shape after c vseg new
+medium_with f t is same held fits live low physical rises spare on names named = medium_of f t (named_segments f.segments is same held) fits live low physical rises spare on names named
 
 -- what is held where a pointer leads
 pub held_from : (o : Option Held) (s : ℕ) → stamp_in o ≡ Some s → (h : Held) × (o ≡ Some h) × (h.stamp ≡ s)

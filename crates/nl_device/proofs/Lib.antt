@@ -5,6 +5,7 @@ pub mod Bounds
 pub mod Called
 pub mod Calls
 pub mod Begun
+pub mod CopyLeft
 pub mod Counted
 pub mod Dropping
 pub mod Firm
@@ -14,6 +15,7 @@ pub mod FoundStored
 pub mod Gathered
 pub mod KeptLive
 pub mod Handling
+pub mod Idle
 pub mod Keys
 pub mod Lists
 pub mod Leaving
@@ -53,3 +55,4 @@ pub mod Starting
 pub mod Tried
 pub mod VirtualPages
 pub mod Writes
+pub mod Wiped

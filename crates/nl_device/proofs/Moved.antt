@@ -1,6 +1,6 @@
 -- The device after a move, or after one that failed.
-use Rattle.std.proofs.Common.{◌≡◌, ◌⊎◌, inl, inr, ⊎_elim, ℕ, ◌+◌, ◌*◌, ◌<◌, ◌≤◌, Bool, true, false, cond, is_some, List, length, insert, set, Option, Some, None, refl, sym, ◌∙◌, ap, subst, arith}
-use Rattle.std.specs.Prelude.{Contains}
+use Rattle.std.proofs.Common.{◌≡◌, ◌⊎◌, inl, inr, ⊎_elim, ℕ, ◌+◌, ◌*◌, ◌<◌, ◌≤◌, Bool, true, false, cond, is_some, get_or, List, length, insert, set, Option, Some, None, refl, sym, ◌∙◌, ap, subst, arith}
+use Rattle.std.specs.Prelude.{Contains, ◌==◌, if◌then◌else◌}
 use Rattle.std.specs.Bool.{OnFalse, OnTrue}
 use Rattle.std.proofs.lemmas.Bool.{OnFalse_at, OnTrue_at, cases_Bool, true≢false}
 use Rattle.std.proofs.lemmas.List.{length-set}
@@ -9,8 +9,15 @@ use Rattle.nl_field.specs.declared.shape.Shape.{Shape}
 use Rattle.nl_nand.specs.Nand.{ImageOf}
 use Rattle.nl_nand.specs.declared.geometry.Geometry.{Geometry}
 use Rattle.nl_callbacks.specs.Pending.{IsTable, PendingTable, callback_of, new_entry, place_of}
-use Rattle.nl_iface.specs.Left.{HoldsLive}
-use Rattle.nl_iface.specs.Stored.{NamedPage, stored_in}
+use Rattle.nl_field.specs.Live.{resolve}
+use Rattle.nl_iface.specs.Moves.{Copies, TakesVictim}
+use Rattle.nl_iface.specs.Names.{Names, told_page, with_page, without_page}
+use Rattle.nl_iface.specs.declared.Callback.{Callback}
+use Rattle.nl_device.specs.Callbacks.{names_with}
+use Rattle.nl_device.specs.Space.{space_of}
+use Rattle.nl_device.proofs.SpaceSteps.{begun, begun_gains}
+use Rattle.nl_iface.specs.Left.{HoldsLive, IsTried, LeavesTried}
+use Rattle.nl_iface.specs.Stored.{NamedPage, Stored, stored_in}
 use Rattle.nl_pseg.specs.Cleaning.{Begins, CrashesMove, IsChosen, Moves, MovesNone}
 use Rattle.nl_pseg.specs.Pages.{main_of}
 use Rattle.nl_pseg.specs.declared.cleaned.Copied.{Copied}
@@ -21,7 +28,7 @@ use Rattle.nl_pseg.specs.declared.held.Held.{Held}
 use Rattle.nl_vseg.specs.Segment.{Segment}
 use Rattle.nl_device.specs.Device.{HasSpareBlock, IsDevice}
 use Rattle.nl_device.specs.Kept.{KeptPages, forgotten}
-use Rattle.nl_device.specs.Shown.{bytes_at, found_in}
+use Rattle.nl_device.specs.Shown.{bytes_at, found_in, live_page, names_of}
 use Rattle.nl_device.proofs.Begun.{begun_device}
 use Rattle.nl_device.proofs.Calling.{called_same}
 use Rattle.nl_device.proofs.Calls.{device_with, found_after, in_within, medium_with, named_segments, stored_after}
@@ -38,6 +45,13 @@ pub taken_device : {geometry : Geometry} {tells : Type 0} {image : Image} {shape
 taken_device {geometry} {tells} {image} {shape} {vseg} {old} {pending} {kept} {next} f fits new cold began begun none whole keeps segment on = ⊎_elim
     (λ is. let b = OnTrue_at is begun in begun_device f fits new cold b.0 b.1 b.2 whole keeps segment on)
     (λ is. subst (λ s. IsDevice geometry tells image shape vseg s pending kept next) (sym (OnFalse_at is none)) f)
+    (cases_Bool began)
+
+-- the live pages are the same then
+pub mid_held : (old mid : Physical) (began : Bool) → OnTrue began ((block : ℕ) × IsChosen false old block × Begins block old mid) → OnFalse began (mid ≡ old) → (p : ℕ) (h : Held) → held_at old p ≡ Some h → held_at mid p ≡ Some h
+mid_held old mid began begun none p h has = ⊎_elim
+    (λ is. let b : (block : ℕ) × IsChosen false old block × Begins block old mid = OnTrue_at is begun in same_keeps old mid b.2.tables.same_held p h has)
+    (λ is. subst (λ (s : Physical). held_at s p ≡ Some h) (sym (OnFalse_at is none)) has)
     (cases_Bool began)
 
 -- there is room for one more callback
@@ -116,3 +130,77 @@ module _ {geometry now : Geometry} {tells : Type 0} {image c : Image} {shape : S
       (λ n x k. subst (λ (l : List (ℕ × ℕ)). Contains l (n, x)) m.tables.same_pairs k) (λ p. ⊥) (λ p off. absurd off) (λ p x has. inl (same_before old new held p x has))
       (λ p. bytes_at (shape.vblocks * shape.pages) c p) (live_held (named_segments f.segments refl same count) fit live (segment t)) (names_in (f.medium t).pages))
       (below_next t))
+
+-- the tables of a device with a victim in hand are those before
+pub mid_tables : (old mid : Physical) (began : Bool) → OnTrue began ((block : ℕ) × IsChosen false old block × Begins block old mid) → OnFalse began (mid ≡ old) → (mid.held ≡ old.held) × (mid.pairs ≡ old.pairs)
+mid_tables old mid began begun none = ⊎_elim
+    (λ is. let b : (block : ℕ) × IsChosen false old block × Begins block old mid = OnTrue_at is begun in (b.2.tables.same_held, b.2.tables.same_pairs))
+    (λ is. let e = OnFalse_at is none in (ap (λ (s : Physical). s.held) e, ap (λ (s : Physical). s.pairs) e))
+    (cases_Bool began)
+
+-- so a move from there is one from before
+pub copies_from : (c : Callback) (old mid : Physical) (t : PendingTable) (n : Names) → mid.held ≡ old.held → mid.pairs ≡ old.pairs → Copies c (names_with mid t) n → Copies c (names_with old t) n
+copies_from c old mid t n held pairs k = record {
+  was = ap (λ (l : List (Option Held)). live_page (get_or l c.before None)) (sym held) ∙ k.was;
+  dead = ap (λ (l : List (Option Held)). live_page (get_or l c.after None)) (sym held) ∙ k.dead;
+  own = ap (λ ps. resolve ps c.after) (sym pairs) ∙ k.own;
+  live = λ q. k.live q ∙ ap (λ (l : List (Option Held)). with_page (without_page (λ p. live_page (get_or l p None)) c.before) c.after (told_page c) q) held;
+  ways = λ m. k.ways m ∙ ap (λ ps. if resolve ps m == c.before then c.after else resolve ps m) pairs;
+  added = k.added;
+  kept = k.kept;
+  only = k.only;
+  new_number = k.new_number;
+  numbered = k.numbered;
+  stands = k.stands;
+  unhandled = k.unhandled;
+  handled = k.handled;
+}
+
+victim_one : (seg : Physical) → victims seg ≡ 1 → (space_of seg).victim ≡ 1
+unfolding space_of
+victim_one seg one = one
+
+-- a victim is in hand, or was begun with a dead page
+pub takes_victim : (old mid : Physical) (began : Bool) → OnTrue began ((block : ℕ) × IsChosen false old block × Begins block old mid) → OnFalse began (mid ≡ old) → victims mid ≡ 1 → TakesVictim (space_of old) (space_of mid)
+takes_victim old mid began begun_is none one = ⊎_elim
+    (λ is. let b : (block : ℕ) × IsChosen false old block × Begins block old mid = OnTrue_at is begun_is in inr (begun b.0 old mid b.2, begun_gains b.0 old mid b.2 (b.1.some refl)))
+    (λ is. let e = OnFalse_at is none in inl (victim_one old (ap victims (sym e) ∙ one), ap space_of e))
+    (cases_Bool began)
+
+-- what a stop leaves of the pages there is what it leaves of those before
+pub tried_from : {shape : Shape} {bytes : ℕ → List ℕ} {n : NamedPage} {c0 c : Stored} (old mid : Physical) (t : PendingTable) → mid.held ≡ old.held → mid.pairs ≡ old.pairs → LeavesTried shape (names_of mid) bytes n c0 c → LeavesTried shape (names_with old t) bytes n c0 c
+tried_from {shape} {bytes} {n} {c0} {c} old mid t held pairs l = record {
+  same_virtual = l.same_virtual;
+  holds = λ p page is. l.holds p page (here p ∙ is);
+  pages = record {
+    spare = l.pages.spare;
+    from = l.pages.from;
+    below = l.pages.below;
+    held = λ p page is. l.pages.held p page (here p ∙ is);
+    own = λ m page is. l.pages.own m page (there m ∙ is);
+    stale = l.pages.stale;
+    few = l.pages.few;
+    at_names = λ m page is. l.pages.at_names m page (there m ∙ is);
+  };
+  others = λ p. by p (l.others p);
+}
+  where
+    here : (p : ℕ) → live_page (held_at mid p) ≡ live_page (held_at old p)
+    here p = ap (λ (l : List (Option Held)). live_page (get_or l p None)) held
+
+    there : (m : ℕ) → live_page (held_at mid (resolve mid.pairs m)) ≡ live_page (held_at old (resolve old.pairs m))
+    there m = λ i. live_page (get_or (held i) (resolve (pairs i) m) None)
+
+    led_own : (p : ℕ) → resolve mid.pairs p ≡ p → resolve old.pairs p ≡ p
+    led_own p own = ap (λ ps. resolve ps p) (sym pairs) ∙ own
+
+    by : (p : ℕ) → IsTried shape (names_of mid) n c0 c p → IsTried shape (names_with old t) n c0 c p
+    by p (inl same) = inl same
+    by p (inr (inl gone)) = inr (inl (record { dead = sym (live_page_here p) ∙ gone.0.dead; own = ap (λ ps. resolve ps p) (sym pairs) ∙ gone.0.own }, gone.1))
+      where
+        live_page_here : (p : ℕ) → live_page (held_at mid p) ≡ live_page (held_at old p)
+        live_page_here p = ap (λ (l : List (Option Held)). live_page (get_or l p None)) held
+    by p (inr (inr new)) = inr (inr (record { low = new.0.low; high = new.0.high; dead = sym (live_page_here p) ∙ new.0.dead; own = ap (λ ps. resolve ps p) (sym pairs) ∙ new.0.own }, new.1))
+      where
+        live_page_here : (p : ℕ) → live_page (held_at mid p) ≡ live_page (held_at old p)
+        live_page_here p = ap (λ (l : List (Option Held)). live_page (get_or l p None)) held

@@ -111,19 +111,19 @@ module _ (geometry : Geometry) (shape : Shape) (vseg : Segment) (seg : Physical)
       (cases_lt p (shape.vblocks * shape.pages))
 
   -- a page of the segment from which nothing is read
-  named_none : (p : ℕ) → IsUnreadable (page_at c p) → (stored_in c).named p ≡ None
+  pub named_none : (p : ℕ) → IsUnreadable (page_at c p) → (stored_in c).named p ≡ None
   named_none p un = ⊎_elim
       (λ lt. named_below shape c (shape_is segments c_fits) p lt)
       (λ le. named_from shape c (shape_is segments c_fits) p le ∙ unread (page_at c p) un)
       (cases_lt p (shape.vblocks * shape.pages))
 
-  addresses_same : ((p : ℕ) → p < seg.first * seg.size → page_at c p ≡ page_at old p) → (v : ℕ) → (stored_in c).virtual v ≡ (stored_in old).virtual v
+  pub addresses_same : ((p : ℕ) → p < seg.first * seg.size → page_at c p ≡ page_at old p) → (v : ℕ) → (stored_in c).virtual v ≡ (stored_in old).virtual v
   addresses_same same = same_below shape old c (shape_is segments old_fits) (same_form old c old_fits c_fits) (subst (λ n. (p : ℕ) → p < n → page_at c p ≡ page_at old p) first_is same)
 
-  firm_kept : ((p : ℕ) → p < seg.first * seg.size → page_at c p ≡ page_at old p) → (stored_in c).firm ≡ (stored_in old).firm
+  pub firm_kept : ((p : ℕ) → p < seg.first * seg.size → page_at c p ≡ page_at old p) → (stored_in c).firm ≡ (stored_in old).firm
   firm_kept same = as_firm shape old c (shape_is segments old_fits) (same_form old c old_fits c_fits) (subst (λ n. (p : ℕ) → p < n → page_at c p ≡ page_at old p) first_is same)
 
-  holds_live : ((p : ℕ) (h : Held) → held_at seg p ≡ Some h → page_at c p ≡ page_at old p) → HoldsLive (names_of seg).live (λ p. bytes_at (shape.vblocks * shape.pages) old p) (stored_in c)
+  pub holds_live : ((p : ℕ) (h : Held) → held_at seg p ≡ Some h → page_at c p ≡ page_at old p) → HoldsLive (names_of seg).live (λ p. bytes_at (shape.vblocks * shape.pages) old p) (stored_in c)
   holds_live same p page has =
       let h = held_of (held_at seg p) page has in
       named_same p (same p h.0 h.1) ∙ live_held segments old_fits live is p page has

@@ -1,8 +1,9 @@
 -- The numbers of the space over the calls of cleaning, by the contracts of the segment.
-use Rattle.std.proofs.Common.{◌≡◌, ◌⊎◌, ⊎_elim, ℕ, ◌+◌, ◌-◌, ◌*◌, ◌<◌, ◌≤◌, Bool, true, false, cond, List, Option, is_some, length, refl, ◌∙◌, ap, arith, mul-le-mul_right, add-mul}
+use Rattle.std.proofs.Common.{◌≡◌, ◌⊎◌, inl, inr, ⊎_elim, ℕ, ◌+◌, ◌-◌, ◌*◌, ◌<◌, ◌≤◌, Bool, true, false, cond, List, Option, is_some, length, refl, ◌∙◌, ap, arith, mul-le-mul_right, add-mul}
 use Rattle.std.proofs.lemmas.Bool.{cases_Bool}
-use Rattle.nl_iface.specs.Space.{Begun, Copied, Erased, Freed, IsSpace, Lessened, NamesGone, SameSegment}
-use Rattle.nl_pseg.specs.Cleaning.{Begins, Erases, Moves}
+use Rattle.nl_iface.specs.Moves.{TakesVictim}
+use Rattle.nl_iface.specs.Space.{Begun, Copied, Erased, Freed, IsSpace, Lessened, NamesGone, SameSegment, Space, Wasted}
+use Rattle.nl_pseg.specs.Cleaning.{Begins, Erases, Moves, MovesNone}
 use Rattle.nl_pseg.specs.Segment.{Physical, SamePages}
 use Rattle.nl_pseg.specs.Space.{GivesBack, IsWhole, Lessens, dead_in, landing, left_of, live_in, reach, victims, waiting}
 use Rattle.nl_pseg.specs.declared.held.Held.{Held}
@@ -106,6 +107,37 @@ copied before after h old new m live = record {
   reach = λ none. m.same_reach;
   room = λ none. m.room_most;
 }
+
+-- a copy failed
+pub wasted : (old new : Physical) → MovesNone old new → IsWhole old → IsWhole new → victims old ≡ 1 → Wasted (space_of old) (space_of new)
+unfolding space_of
+wasted old new m was is one =
+    let size = m.tables.same_size in
+    let victim : victims new ≡ victims old = ap (λ (o : Option ℕ). cond (is_some o) 1 0) m.victim in
+    let waits : waiting new * new.size ≡ waiting old * old.size = (λ i. m.same_waiting i * size i) in
+    let hand : victims new * new.size ≡ victims old * old.size = (λ i. victim i * size i) in
+    let a : (new.free + waiting new) * new.size ≡ new.free * new.size + waiting new * new.size = add-mul new.free (waiting new) new.size in
+    let b : (old.free + waiting old) * old.size ≡ old.free * old.size + waiting old * old.size = add-mul old.free (waiting old) old.size in
+    let left = m.left in
+    let gain_was = was.numbers.victim in
+    let gain_is = is.numbers.victim in
+    let less = m.less_landing in
+    let most = m.landing_most in
+    record {
+      same = same_segment old new m.tables.same_first m.tables.same_blocks size;
+      in_hand = one;
+      victim = victim ∙ one;
+      tables = (ap (λ (l : List (ℕ × ℕ)). length l) m.tables.same_pairs, ap live_in m.tables.same_held, left, m.same_waiting);
+      landing = less;
+      reach = omega (arith, waits, hand, a, b, left, gain_was, gain_is, less);
+      reach_most = λ none. omega (arith, waits, hand, a, b, left, gain_was, gain_is, most);
+      room = λ none. m.room_most;
+    }
+
+-- what takes a victim takes no pair, and a move adds one
+pub not_moved : (s m t : Space) → TakesVictim s m → Copied m t → t.pairs ≡ s.pairs → ⊥
+not_moved s m t (inl same) k pairs = let e = ap (λ (x : Space). x.pairs) same.1 in let more = k.pairs in omega (arith, e, more, pairs)
+not_moved s m t (inr begun) k pairs = let e = begun.0.others.2 in let more = k.pairs in omega (arith, e, more, pairs)
 
 -- the victim was erased: its block is Free, or it waits
 pub erased : (block : ℕ) (old new : Physical) → Erases block old new

@@ -1,6 +1,6 @@
 use crate::kept::Kept;
 use nl_callbacks::Pending;
-use nl_field::Shape;
+use nl_field::{PageBuf, Shape};
 use nl_nand::Nand;
 use nl_pseg::PSeg;
 use nl_vseg::VSeg;
@@ -18,4 +18,6 @@ pub struct Device<M: Nand> {
     pub(crate) next: u64,
     /// What the scan of its start saw in the physical segment, until a page is programmed there: a block may be erased then.
     pub(crate) kept: Kept,
+    /// The page that a move reads.
+    pub(crate) buf: PageBuf,
 }

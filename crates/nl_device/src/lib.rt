@@ -18,5 +18,6 @@ mod tests;
 mod told;
 mod virtual_pages;
 
+pub use cleaning::Copying;
 pub use device::Device;
 pub use start::Started;

@@ -18,7 +18,7 @@ use crate::device::Device;
 use crate::kept::Kept;
 use crate::opening::segments::{Opened, open};
 use nl_callbacks::Pending;
-use nl_field::{Memory, Shape, shape_of};
+use nl_field::{Memory, PageBuf, Shape, shape_of};
 use nl_iface::Counts;
 use nl_nand::{Geometry, Nand};
 use nl_pseg::PSeg;
@@ -51,6 +51,7 @@ struct Parts {
     pseg: PSeg,
     pending: Pending,
     kept: Kept,
+    buf: PageBuf,
 }
 
 // What a device keeps of a scan.
@@ -75,11 +76,13 @@ fn after_scan(alloc: Global, shape: &Shape, tables: &ScanTables) -> Result<Parts
     let Opened { vseg, pseg } = open(alloc, shape, tables)?;
     let pending = Pending::new(alloc, 4 * shape.pages)?;
     let kept = kept_after(alloc, shape, tables)?;
+    let buf = PageBuf::new(alloc)?;
     Ok(Parts {
         vseg,
         pseg,
         pending,
         kept,
+        buf,
     })
 }
 
@@ -116,6 +119,7 @@ impl<M: Nand> Device<M> {
                         pseg,
                         pending,
                         kept,
+                        buf,
                     },
                 ) => {
                     let next = tables.next_stamp();
@@ -128,6 +132,7 @@ impl<M: Nand> Device<M> {
                             pending,
                             next,
                             kept,
+                            buf,
                         },
                         tables,
                     )

@@ -18,6 +18,7 @@ impl<M: Nand> Device<M> {
             pending: _,
             next: _,
             kept: _,
+            buf: _,
         } = self;
         media
     }

@@ -9,12 +9,15 @@ use Rattle.nl_blocks.specs.Table.{BlockRow, HasBlock, IsTable, block_at, dead_co
 use Rattle.nl_remap.specs.Links.{HasLink, link_at, no_link}
 use Rattle.nl_remap.specs.Table.{pair}
 use Rattle.nl_remap.specs.declared.links.Link.{Link}
-use Rattle.nl_pseg.specs.Segment.{Use, KeepsBlock, no_use}
+use Rattle.nl_pseg.specs.Segment.{InVictim, Use, KeepsBlock, held_at, no_use}
 use Rattle.nl_pseg.specs.Seen.{IsFormed, IsTied, seen, use_of}
 use Rattle.nl_pseg.specs.Space.{HasFewPairs, HasPages, IsWhole, dead_pages, gain_of, left_of, live_in, victims, waiting}
+use Rattle.nl_pseg.specs.declared.held.Held.{Held}
 use Rattle.nl_pseg.specs.declared.state.State.{State}
 use Rattle.nl_pseg.proofs.Dropped.{retired_is}
+use Rattle.nl_pseg.proofs.Erasing.{apart_next}
 use Rattle.nl_pseg.proofs.Gone.{all_kept, kept, waits}
+use Rattle.nl_pseg.proofs.Left.{left_is, some_live}
 use Rattle.nl_pseg.proofs.Runs.{dead_is, dead_seen, run, run_all, run_plus}
 use Rattle.nl_pseg.proofs.Segments.{kept_within}
 use Rattle.nl_pseg.proofs.States.{block_segment, taken_segment}
@@ -66,6 +69,7 @@ module _ (s : State) (is : IsFormed s) (tied : IsTied s) where
         let up = tied.named.remap.rising i j less b in
         let e : (link_at s.names.pairs i).from ≡ (link_at s.names.pairs j).from = sym x ∙ (same ∙ y) in
         omega (arith, up, e);
+    victim_idle = λ page next at. apart_next s is tied (page / s.blocks.size) at page next refl;
     no_name_free = λ name old free. true≢false (sym free ∙ (tied.named.standing name (old_is s name old)).in_use);
   }
 
@@ -78,6 +82,13 @@ module _ (s : State) (is : IsFormed s) (tied : IsTied s) where
     victim_is (Some b) e =
         let sum = dead_seen s is table b (tied.phases.victim_in b e).0 in
         omega (arith, sum)
+
+    none_left : left_of (seen s) ≡ 0 → (page : ℕ) (h : Held) → held_at (seen s) page ≡ Some h → InVictim (seen s) page → ⊥
+    none_left none page h held at =
+        let has = (tied.phases.victim_in (page / s.blocks.size) at).0 in
+        let few = some_live s is table (page / s.blocks.size) has page h refl held in
+        let left = left_is s (page / s.blocks.size) has at in
+        omega (arith, few, left, none)
 
     few_wait : waiting (seen s) ≤ length (seen s).pairs
     few_wait =
@@ -161,6 +172,7 @@ module _ (s : State) (is : IsFormed s) (tied : IsTied s) where
         left = omega arith;
         copy_left = omega arith;
         victim = victim_is s.victim refl;
+        none_left = none_left;
         pairs = let count : length (map turn s.names.pairs) ≡ length s.names.pairs = length-map s.names.pairs turn in let r = tied.named.room in omega (arith, count, r);
         busy = few;
         few_wait = few_wait;

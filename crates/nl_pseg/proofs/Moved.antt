@@ -4,7 +4,7 @@ use Rattle.std.proofs.lemmas.List.{set-get_or}
 use Rattle.nl_field.specs.Live.{resolve}
 use Rattle.nl_pseg.specs.Cleaning.{Moves, MovesNone}
 use Rattle.nl_pseg.specs.Segment.{InVictim, IsClean, IsDead, Physical, Use, held_at, room}
-use Rattle.nl_pseg.specs.Space.{HasFewPairs, HasRoomForVictim, reach, victims, waiting}
+use Rattle.nl_pseg.specs.Space.{HasFewPairs, HasRoomForVictim, landing, reach, victims, waiting}
 use Rattle.nl_pseg.specs.Steps.{IsCopyUsed, IsLed, IsReadied}
 use Rattle.nl_pseg.specs.declared.held.Held.{Held}
 use Rattle.nl_pseg.proofs.Numbers.{block_from}
@@ -72,6 +72,12 @@ module _ {seg new : Physical} (u : IsCopyUsed None seg new) where
   pub unmoved_held : held_at seg seg.copy_next ≡ None → new.held ≡ seg.held
   unmoved_held dead = u.held ∙ (ap (set seg.held seg.copy_next) (sym dead) ∙ set-get_or seg.held seg.copy_next None)
 
+  landing_less : landing new + 1 ≡ landing seg
+  landing_less =
+      let blocks : new.free * new.size ≡ seg.free * seg.size = (λ i. u.free i * u.pages.same_size i) in
+      let l = u.copy_left in
+      omega (arith, blocks, l)
+
   pub unmoved : held_at seg seg.copy_next ≡ None → MovesNone seg new
   unmoved dead = record {
     tables = record { same_first = u.pages.same_first; same_blocks = u.pages.same_blocks; same_size = u.pages.same_size; same_held = unmoved_held dead; same_pairs = u.pairs; same_room = u.pair_room };
@@ -79,6 +85,8 @@ module _ {seg new : Physical} (u : IsCopyUsed None seg new) where
     victim = u.victim;
     same_waiting = u.waits;
     left = u.left;
+    less_landing = let l = landing_less in omega (arith, l);
+    landing_most = let l = landing_less in omega (arith, l);
     less_room = let r = unmoved_room in omega (arith, r);
     room_most = let r = unmoved_room in omega (arith, r);
   }
@@ -167,6 +175,8 @@ module _ {seg mid : Physical} (r : IsReadied seg mid) where
         victim = m.victim ∙ r.victim;
         same_waiting = m.same_waiting ∙ r.waits;
         left = m.left ∙ r.left;
+        less_landing = let e = r.lands in let a = m.less_landing in omega (arith, e, a);
+        landing_most = let e = r.lands in let a = m.landing_most in omega (arith, e, a);
         less_room = omega (arith, same, w.0, left);
         room_most = omega (arith, same, w.1, left);
       }
@@ -178,6 +188,8 @@ still_none seg = record {
   victim = refl;
   same_waiting = refl;
   left = refl;
+  less_landing = omega arith;
+  landing_most = omega arith;
   less_room = omega arith;
   room_most = omega arith;
 }

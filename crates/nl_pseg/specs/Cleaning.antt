@@ -8,7 +8,7 @@ use Rattle.nl_field.specs.declared.answers.Named.TheVariants as named
 use Rattle.nl_pseg.specs.Effects.{Crashes}
 use Rattle.nl_pseg.specs.Pages.{IsUnreadable, main_of}
 use Rattle.nl_pseg.specs.Segment.{InVictim, IsDead, IsOldName, Physical, held_at, is_free, is_kept, is_sealed, is_waiting, room, soiled, wear_of}
-use Rattle.nl_pseg.specs.Space.{HasRoomForVictim, dead_in, dead_pages, left_of, reach, victims, waiting}
+use Rattle.nl_pseg.specs.Space.{HasRoomForVictim, dead_in, dead_pages, landing, left_of, reach, victims, waiting}
 use Rattle.nl_pseg.specs.declared.cleaned.Copied.{Copied}
 use Rattle.nl_pseg.specs.declared.cleaned.Copied.TheVariants as copy
 use Rattle.nl_pseg.specs.declared.held.Held.{Held}
@@ -97,6 +97,8 @@ pub record MovesNone (old new : Physical) : Type 0 where
   pub victim : new.victim ≡ old.victim
   pub same_waiting : waiting new ≡ waiting old
   pub left : left_of new ≡ left_of old
+  pub less_landing : landing new ≤ landing old
+  pub landing_most : landing old ≤ landing new + 1
   pub less_room : room new ≤ room old
   pub room_most : room old ≤ room new + old.size
 

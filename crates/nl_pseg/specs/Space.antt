@@ -1,7 +1,7 @@
 -- The numbers of a segment's space, and how they go on.
 use Rattle.std.specs.Prelude.{◌≡◌, ◌⊎◌, ℕ, ◌+◌, ◌-◌, ◌*◌, ◌/◌, ◌≤◌, ◌&&◌, not, true, false, cond, List, length, sum_by, count_by, Contains, AllPairs, Option, Some, is_some, option_map, unwrap_or}
 use Rattle.nl_blocks.specs.Table.{is_sealed_state}
-use Rattle.nl_pseg.specs.Segment.{InSegment, IsOldName, IsUnspent, KeepsBlock, Physical, IsNextCopy, TakenAsErased, held_at, is_free, is_kept, is_waiting, room, row_at, soiled}
+use Rattle.nl_pseg.specs.Segment.{InSegment, InVictim, IsOldName, IsUnspent, KeepsBlock, Physical, IsNext, IsNextCopy, TakenAsErased, held_at, is_free, is_kept, is_waiting, room, row_at, soiled}
 use Rattle.nl_pseg.specs.declared.held.Held.{Held}
 
 -- how many pages are live
@@ -50,7 +50,7 @@ HasFewPairs seg = victims seg ≡ 1 → length seg.pairs + left_of seg ≤ 3 * s
 
 -- What holds of each segment, of its pages: what is live or taken as erased lies in the segment; a live page is in a block that is in
 -- use, and its number is no old name; each pair leads to a live page, and old names differ; no old name stands in a block that is
--- Free.
+-- Free; no page that is programmed next is in the victim.
 pub record HasPages (seg : Physical) : Type 0 where
   pub live_within : (page : ℕ) (h : Held) → held_at seg page ≡ Some h → InSegment seg page
   pub erased_within : (page : ℕ) → TakenAsErased seg page → InSegment seg page
@@ -60,14 +60,16 @@ pub record HasPages (seg : Physical) : Type 0 where
   pub to_live : (name target : ℕ) → Contains seg.pairs (name, target) → (h : Held) × (held_at seg target ≡ Some h)
   pub one_target : AllPairs (λ (p q : ℕ × ℕ). p.0 ≡ q.0 → ⊥) seg.pairs
   pub no_name_free : (name : ℕ) → IsOldName seg name → is_free seg (name / seg.size) ≡ true → ⊥
+  pub victim_idle : (page : ℕ) → IsNext seg page → InVictim seg page → ⊥
 
--- And of its numbers: there are at most 4 pairs for each page of a block, and with a victim in hand at most 3 with its live pages; a
--- block that waits has a name; where a block is kept for the cleaner, one is Free, waits, or is the victim; and but for three blocks
+-- And of its numbers: each live page of a victim is counted; there are at most 4 pairs for each page of a block, and with a victim in
+-- hand at most 3 with its live pages; a block that waits has a name; where a block is kept for the cleaner, one is Free, waits, or is the victim; and but for three blocks
 -- all pages are live, dead, or in blocks that are Free.
 pub record HasNumbers (seg : Physical) : Type 0 where
   pub left : seg.left ≤ seg.size
   pub copy_left : seg.copy_left ≤ seg.size
   pub victim : left_of seg + gain_of seg ≡ victims seg * seg.size
+  pub none_left : left_of seg ≡ 0 → (page : ℕ) (h : Held) → held_at seg page ≡ Some h → InVictim seg page → ⊥
   pub pairs : length seg.pairs + seg.pair_room ≡ 4 * seg.size
   pub busy : HasFewPairs seg
   pub few_wait : waiting seg ≤ length seg.pairs
