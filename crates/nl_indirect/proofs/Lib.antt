@@ -1,4 +1,5 @@
 pub mod Cases
+pub mod Cut
 pub mod Fresh
 pub mod LawProofs
 pub mod Maps
@@ -7,3 +8,4 @@ pub mod Pointing
 pub mod Records
 pub mod Spelled
 pub mod Tested
+pub mod Truncated
