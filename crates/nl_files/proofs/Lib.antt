@@ -1,4 +1,6 @@
+pub mod CutToSize
 pub mod Filling
+pub mod GivingBack
 pub mod Installed
 pub mod Keeping
 pub mod LawProofs

@@ -1,5 +1,5 @@
 -- A page of pointers that is cut at a slot.
-use Rattle.std.proofs.Common.{◌≡◌, ◌≢◌, ℕ, ◌+◌, ◌≤◌, ◌<◌, List, length, refl, sym, ap, ◌∙◌, subst, Some, false, IsSome, ◌⊎◌, inl, inr, arith}
+use Rattle.std.proofs.Common.{◌≡◌, ◌≢◌, ℕ, ◌+◌, ◌≤◌, ◌<◌, List, length, refl, sym, ap, ◌∙◌, subst, Some, IsSome, ◌⊎◌, inl, inr, arith}
 use Rattle.std.proofs.lemmas.Bool.{cases_eq, cases_lt}
 use Rattle.nl_field.specs.Pointers.{indirect_of, is_none_pointer, no_pointer, pointer_bytes, pointer_fields, pointer_of}
 use Rattle.nl_field.specs.Spelling.{u32_at, u32_bytes, u64_at, u64_bytes}
@@ -7,7 +7,7 @@ use Rattle.nl_meta.specs.Nodes.{slot_in}
 use Rattle.nl_meta.specs.SlotLaws.{with_slot}
 use Rattle.nl_indirect.specs.Ranges.{pointer_in}
 use Rattle.nl_indirect.specs.Truncating.{CutsSlots, HasBefore}
-use Rattle.nl_indirect.proofs.Spelled.{HoldsSome, Spells, is-indirect, kept-slot, put-slot, with-length}
+use Rattle.nl_indirect.proofs.Spelled.{Spells, is-indirect, kept-slot, put-slot, with-length}
 
 -- the slots from one up to another have no pointer
 pub record CutsUpTo (slot upto : ℕ) (old new : List ℕ) : Type 0 where

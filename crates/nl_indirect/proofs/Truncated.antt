@@ -1,14 +1,11 @@
 -- Each way that the pointers of a file are taken away from an index on.
-use Rattle.std.proofs.Common.{◌≡◌, ◌≢◌, ℕ, zero, suc, ◌+◌, ◌-◌, ◌≤◌, ◌<◌, true, nat_le, List, [], ◌∷◌, ◌++◌, length, take, replicate, get_or, refl, sym, ap, ◌∙◌, subst, Option, Some, ◌⊎◌, inl, inr, arith, unwrap_or}
+use Rattle.std.proofs.Common.{◌≡◌, ◌≢◌, ℕ, zero, suc, ◌+◌, ◌-◌, ◌≤◌, ◌<◌, true, List, [], ◌++◌, length, take, replicate, get_or, refl, sym, ap, ◌∙◌, subst, Option, Some, ◌⊎◌, inl, inr, arith, unwrap_or}
 use Rattle.std.proofs.lemmas.Bool.{cases_eq, cases_lt}
 use Rattle.std.proofs.lemmas.List.{get_or-take, get_or-replicate, length-append, length-replicate, length-take-le}
 use Rattle.std.proofs.Math.Seq.{get_or-append_right}
 use Rattle.std.proofs.Math.ListN.{get_or-append}
-use Rattle.std.specs.List.{list_all}
-use Rattle.nl_field.specs.Pointers.{is_none_pointer, is_pointer, no_pointer}
+use Rattle.nl_field.specs.Pointers.{is_pointer, no_pointer}
 use Rattle.nl_field.specs.declared.inode.InodeRec.{InodeRec}
-use Rattle.nl_field.specs.declared.inode.Kind.TheVariants.{File}
-use Rattle.nl_field.specs.declared.pointer.Pointer.{Pointer}
 use Rattle.nl_meta.specs.Committed.{VirtualMap}
 use Rattle.nl_meta.specs.Nodes.{pointer_at, pointer_in_page}
 use Rattle.nl_meta.specs.Pages.{Pages, page_of}
@@ -131,7 +128,7 @@ module _ (was : InodeRec) (file : IsFileRecord was) (from : ℕ) (old : Pages) w
     file = file-cut-ranges mid 0 (omega arith) mid-file;
     generation = refl;
     size = refl;
-    addresses = λ r. inr (none r);
+    addresses = record { behind = λ r h. none r; before = λ r h. absurd (omega (arith, h, low)); either = λ r. inr (none r) };
     pages = record { same = λ e. refl; written = λ far. absurd (far (address-node is from low)); one_more = omega arith };
   }
     where
@@ -171,7 +168,11 @@ module _ (was : InodeRec) (file : IsFileRecord was) (from : ℕ) (old : Pages) w
       file = file-cut-ranges was (range_of from) most file;
       generation = refl;
       size = refl;
-      addresses = range-either was (range_of from) most file;
+      addresses = record {
+        behind = λ r h. none r (omega (arith, h, high));
+        before = λ r h. range-kept was (range_of from) most file r (omega (arith, h));
+        either = range-either was (range_of from) most file;
+      };
       pages = record { same = λ e. refl; written = λ far. absurd (far (address-range is from high ∙ none (range_of from) (omega arith))); one_more = omega arith };
     }
       where
@@ -293,7 +294,11 @@ module _ (was : InodeRec) (file : IsFileRecord was) (from : ℕ) (old : Pages) w
         file = file-cut-ranges was (range_of from + 1) most file;
         generation = refl;
         size = refl;
-        addresses = range-either was (range_of from + 1) most file;
+        addresses = record {
+          behind = λ r h. range-gone was (range_of from + 1) most file r (omega (arith, h, high, slotted));
+          before = λ r h. range-kept was (range_of from + 1) most file r (omega (arith, h));
+          either = range-either was (range_of from + 1) most file;
+        };
         pages = record {
           same = λ e. absurd (far (sym address ∙ e));
           written = λ z. (

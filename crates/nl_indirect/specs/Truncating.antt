@@ -1,5 +1,5 @@
 -- What it means that the pointers of a file are taken away from an index on.
-use Rattle.std.specs.Prelude.{◌≡◌, ◌≢◌, ◌⊎◌, ℕ, ◌+◌, ◌≤◌, ◌<◌, true, false, List, [], length, slice_index, Some, unwrap_or}
+use Rattle.std.specs.Prelude.{◌≡◌, ◌≢◌, ◌⊎◌, ℕ, ◌+◌, ◌*◌, ◌≤◌, ◌<◌, true, false, List, [], length, slice_index, Some, unwrap_or}
 use Rattle.nl_field.specs.Pointers.{is_none_pointer, no_pointer, pointer_bytes}
 use Rattle.nl_field.specs.declared.inode.InodeRec.{InodeRec}
 use Rattle.nl_meta.specs.Committed.{VirtualMap}
@@ -43,6 +43,12 @@ pub record TakesFrom (from : ℕ) (was is : InodeRec) (old new : VirtualMap) : T
   pub spelled : (r : ℕ) → slice_index (slots_of is) r ≢ 0 → HasPointers old (slice_index (slots_of is) r) → HasPointers new (slice_index (slots_of is) r)
   pub pages : DiffersInPage (address_of is from) old new
 
+-- The ranges behind an index have no page, those before it have the page that they had, and that of the index may have lost it.
+pub record CutsAddresses (from : ℕ) (was is : List ℕ) : Type 0 where
+  pub behind : (r : ℕ) → from ≤ 8 + 256 * r → slice_index is r ≡ 0
+  pub before : (r : ℕ) → 8 + 256 * r + 256 ≤ from → slice_index is r ≡ slice_index was r
+  pub either : (r : ℕ) → (slice_index is r ≡ slice_index was r) ⊎ (slice_index is r ≡ 0)
+
 -- How the pages change. The page of the index is at address a after the call, and no page has the index where that is 0.
 pub record TruncatesPages (slot : ℕ) (a : ℕ) (old new : Pages) : Type 0 where
   -- without a page none changes,
@@ -56,10 +62,10 @@ pub record Truncates (from : ℕ) (was is : InodeRec) (old new : Pages) : Type 0
   -- over any device the pointers from the index on are taken away, and each other index and each other page has what it had,
   pub pointers : (device : VirtualMap) → CleanIsStored device old → TakesFrom from was is (running_over device old) (running_over device new)
   pub clean : (device : VirtualMap) → CleanIsStored device old → CleanIsStored device new
-  -- the record is still a file's, with the addresses that it had but for those that are its no longer,
+  -- the record is still a file's,
   pub file : IsFileRecord is
   pub generation : is.generation ≡ was.generation
   pub size : is.size ≡ was.size
-  pub addresses : (r : ℕ) → (slice_index (slots_of is) r ≡ slice_index (slots_of was) r) ⊎ (slice_index (slots_of is) r ≡ 0)
+  pub addresses : CutsAddresses from (slots_of was) (slots_of is)
   -- and one page at most was written
   pub pages : TruncatesPages (slot_of from) (address_of is from) old new

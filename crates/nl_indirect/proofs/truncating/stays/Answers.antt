@@ -1,9 +1,8 @@
-use Rattle.std.proofs.Common.{◌≡◌, ℕ, ◌/◌, ◌∙◌, not, true, false, ◌==◌, get_or, sym, ap, arith, List, Bool, refl}
-use Rattle.std.proofs.lemmas.Bool.{both_ways, eqb-true}
+use Rattle.std.proofs.Common.{ℕ, ◌∙◌, get_or, ap, arith}
 use Rattle.nl_field.specs.Pointers.{is_none_pointer}
 use Rattle.nl_meta.specs.Nodes.{pointer_in_page}
 use Rattle.nl_meta.specs.Running.{running_over}
-use Rattle.nl_indirect.specs.Ranges.{range_of, slot_of}
+use Rattle.nl_indirect.specs.Ranges.{slot_of}
 use Rattle.nl_indirect.proofs.Pointing.{in-range, no-page, on-page, runs}
 use Rattle.nl_indirect.proofs.truncating.stays.Goals as goal
 

@@ -1,9 +1,9 @@
-use Rattle.std.proofs.Common.{◌≡◌, ◌≢◌, ◌+◌, ◌∙◌, IsSome, refl, sym, ap, subst, arith, get_or, length, unwrap_or, List, [], Option, Some, ℕ}
+use Rattle.std.proofs.Common.{◌+◌, ◌∙◌, IsSome, sym, ap, subst, length, unwrap_or, List, [], Option, ℕ}
 use Rattle.nl_field.specs.declared.inode.InodeRec.{InodeRec}
 use Rattle.nl_field.specs.Pointers.{indirect_of}
 use Rattle.nl_meta.specs.Pages.{Pages, page_of}
 use Rattle.nl_meta.proofs.Lists.{some_in}
-use Rattle.nl_indirect.specs.Ranges.{HasPointers, HasRange, IsFileRecord, address_of, range_of, slot_of}
+use Rattle.nl_indirect.specs.Ranges.{HasRange, range_of, slot_of}
 use Rattle.nl_indirect.specs.Truncating.{CutsSlots, StaysBefore, Truncates}
 use Rattle.nl_indirect.proofs.Pointing.{address-range}
 use Rattle.nl_indirect.proofs.Spelled.{Spells, spells}
