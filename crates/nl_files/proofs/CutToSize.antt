@@ -22,7 +22,7 @@ use Rattle.nl_indirect.proofs.Cases.{to-some}
 use Rattle.nl_indirect.proofs.Fresh.{dirty_has_room, one-more, with-twice}
 use Rattle.nl_indirect.proofs.Pointing.{address-node, address-range, in-range, no-page, runs}
 use Rattle.nl_indirect.proofs.Records.{FileParts, file-parts, file-spelled}
-use Rattle.nl_files.specs.Cutting.{Cuts, CutsPointers, GivesBack, Rewrites}
+use Rattle.nl_files.specs.Cutting.{Cuts, CutsPointers, GivesBack, IsPartial, Rewrites}
 
 -- ---- where the cut falls
 
@@ -55,7 +55,7 @@ pub record Places (size : ℕ) (partial : Option Pointer) (was mid : InodeRec) (
   pub range : HasRange (page_of next) mid (size / 4096)
   pub room : address_of mid (size / 4096) ≢ 0 → has_room next (address_of mid (size / 4096)) ≡ true
 
-pub places-none : (size : ℕ) (was : InodeRec) (old : Pages) → IsFileRecord was → HasRange (page_of old) was (size / 4096)
+places-none : (size : ℕ) (was : InodeRec) (old : Pages) → IsFileRecord was → HasRange (page_of old) was (size / 4096)
     → (address_of was (size / 4096) ≢ 0 → has_room old (address_of was (size / 4096)) ≡ true) → Places size None was was old old
 places-none size was old file range room = record {
   pointers = λ device clean. record { replaced = tt; others = λ i h. refl; spelled = λ v far has. has; pages = λ v h. refl };
@@ -94,7 +94,7 @@ module _ (size : ℕ) (to : Pointer) (was mid : InodeRec) (old next : Pages) (sp
       subst (λ (a : ℕ). HasPointers (running_over device next) a) (sym e) (record { bytes = p.bytes; there = runs device next (address_of mid index) p.bytes p.there; spelled = p.spelled })
   spells-on device clean v far has (inr off) = record { bytes = has.bytes; there = (stores.pointers device clean).pages v (λ e. absurd (off e)) ∙ has.there; spelled = has.spelled }
 
-  pub places-some : size % 4096 ≢ 0 → Places size (Some to) was mid old next
+  places-some : size % 4096 ≢ 0 → Places size (Some to) was mid old next
   places-some within = record {
     pointers = λ device clean. let p = stores.pointers device clean in record {
       replaced = p.at;
@@ -113,10 +113,21 @@ module _ (size : ℕ) (to : Pointer) (was mid : InodeRec) (old next : Pages) (sp
     room = λ far. dirty_has_room (address_of mid index) old next (ap (λ (p : Pages). p.dirty) (stores.pages.written far refl));
   }
 
--- the same of values that are alike
-pub places-as : (size : ℕ) (partial o : Option Pointer) (was mid is : InodeRec) (old next new : Pages) → partial ≡ o → mid ≡ is → next ≡ new → Places size o was is old new → Places size partial was mid old next
-places-as size partial o was mid is old next new e f g places =
-    subst (λ (p : Option Pointer). Places size p was mid old next) (sym e) (subst (λ (r : InodeRec). Places size o was r old next) (sym f) (subst (λ (p : Pages). Places size o was is old p) (sym g) places))
+module _ (size : ℕ) (partial : Option Pointer) (was mid : InodeRec) (old next : Pages) where
+  as-place : (o : Option Pointer) (is : InodeRec) (new : Pages) → partial ≡ o → mid ≡ is → next ≡ new → Places size o was is old new → Places size partial was mid old next
+  as-place o is new e f g places =
+      subst (λ (p : Option Pointer). Places size p was mid old next) (sym e) (subst (λ (r : InodeRec). Places size o was r old next) (sym f) (subst (λ (p : Pages). Places size o was is old p) (sym g) places))
+
+  -- a pointer is given and was stored
+  pub placed : (to : Pointer) (is : InodeRec) (new : Pages) → partial ≡ Some to → mid ≡ is → next ≡ new → IfSome partial (IsPartial size was) → Stores (size / 4096) to None was is old new Done → Places size partial was mid old next
+  placed to is new e f g if stores =
+      let part : IsPartial size was to = subst (λ (o : Option Pointer). IfSome o (IsPartial size was)) e if in
+      as-place (Some to) is new e f g (places-some size to was is old new part.spelled stores part.within)
+
+  -- none is
+  pub not-placed : partial ≡ None → mid ≡ was → next ≡ old → IsFileRecord was → HasRange (page_of old) was (size / 4096)
+      → (address_of was (size / 4096) ≢ 0 → has_room old (address_of was (size / 4096)) ≡ true) → Places size partial was mid old next
+  not-placed e f g file range room = as-place None was old e f g (places-none size was old file range room)
 
 -- ---- both
 
@@ -241,8 +252,8 @@ module _ (size : ℕ) (partial : Option Pointer) (was mid is : InodeRec) (old ne
     abbrev three : VirtualMap
     three = running_over device new
 
-    placed : PlacesPointer last partial was mid one two
-    placed = places.pointers device clean
+    place : PlacesPointer last partial was mid one two
+    place = places.pointers device clean
 
     taken : TakesFrom from mid is two three
     taken = cuts.pointers device (places.clean device clean)
@@ -251,10 +262,10 @@ module _ (size : ℕ) (partial : Option Pointer) (was mid is : InodeRec) (old ne
     replaced None e = tt
     replaced (Some p) e =
         pointer-sized three is size last ∙ taken.kept last (let w = places.within (ap is_some e) in omega (arith, w))
-        ∙ subst (λ (o : Option Pointer). IfSome o (λ p. pointer_at two mid last ≡ p)) e placed.replaced
+        ∙ subst (λ (o : Option Pointer). IfSome o (λ p. pointer_at two mid last ≡ p)) e place.replaced
 
     pages : (v : ℕ) → (v ≡ address_of is last → v ≡ 0) → three v ≡ one v
-    pages v h = taken.pages v (λ e. at-from e (cases_eq (address_of is from) 0)) ∙ placed.pages v (λ some e. h (e ∙ sym (stays some)))
+    pages v h = taken.pages v (λ e. at-from e (cases_eq (address_of is from) 0)) ∙ place.pages v (λ some e. h (e ∙ sym (stays some)))
       where
         at-from : v ≡ address_of is from → (address_of is from ≡ 0) ⊎ (address_of is from ≡ 0 → ⊥) → v ≡ 0
         at-from e (inl z) = e ∙ z
@@ -264,8 +275,8 @@ module _ (size : ℕ) (partial : Option Pointer) (was mid is : InodeRec) (old ne
     cuts-pointers = record {
       gone = λ i h. pointer-sized three is size i ∙ taken.gone i h;
       replaced = replaced partial refl;
-      kept = λ i h k. pointer-sized three is size i ∙ taken.kept i h ∙ placed.others i k;
-      spelled = λ r far has. taken.spelled r far (placed.spelled (slice_index (slots_of is) r) far has);
+      kept = λ i h k. pointer-sized three is size i ∙ taken.kept i h ∙ place.others i k;
+      spelled = λ r far has. taken.spelled r far (place.spelled (slice_index (slots_of is) r) far has);
       pages = pages;
     }
 
