@@ -1,27 +1,27 @@
 -- A file that is cut: the page in which it ends is replaced, and then the pointers behind it are taken away.
-use Rattle.std.proofs.Common.{◌≡◌, ◌≢◌, ℕ, zero, suc, ◌+◌, ◌-◌, ◌*◌, ◌/◌, ◌%◌, ◌≤◌, ◌<◌, true, false, min, List, [], ◌∷◌, length, get_or, refl, sym, ap, ◌∙◌, subst, Option, Some, None, is_some, ◌⊎◌, inl, inr, arith}
+use Rattle.std.proofs.Common.{◌≡◌, ◌≢◌, ℕ, zero, suc, ◌+◌, ◌/◌, ◌%◌, ◌≤◌, ◌<◌, true, false, List, [], ◌∷◌, length, get_or, refl, sym, ap, ◌∙◌, subst, Option, Some, None, is_some, ◌⊎◌, inl, inr, arith}
 use Rattle.std.proofs.Math.ListN.{set}
 use Rattle.std.proofs.lemmas.Bool.{both_ways, cases_eq, cases_lt, le-leb}
 use Rattle.std.specs.Int.{div_ceil}
 use Rattle.std.specs.Prelude.{IfSome, IsSome, IsTrue, slice_index}
-use Rattle.nl_field.specs.Pointers.{is_none_pointer, no_pointer}
+use Rattle.nl_field.specs.Pointers.{is_none_pointer}
 use Rattle.nl_field.specs.Spelling.{is_stamp}
 use Rattle.nl_field.specs.declared.inode.InodeRec.{InodeRec}
 use Rattle.nl_field.specs.declared.pointer.Pointer.{Pointer}
 use Rattle.nl_meta.specs.Committed.{VirtualMap}
 use Rattle.nl_meta.specs.Nodes.{pointer_at, slots_of}
-use Rattle.nl_meta.specs.Pages.{Pages, besides_0, has_room, page_of, with_address}
+use Rattle.nl_meta.specs.Pages.{Pages, besides_0, has_room, page_of}
 use Rattle.nl_meta.specs.Running.{CleanIsStored, running_over}
 use Rattle.nl_meta.specs.Steps.{with_dirty}
 use Rattle.nl_inode.specs.Nodes.{Spaces}
 use Rattle.nl_indirect.specs.Ranges.{HasPointers, HasRange, IsFileRecord, address_of, range_of, slot_of}
 use Rattle.nl_indirect.specs.Storing.{Stores}
-use Rattle.nl_indirect.specs.Truncating.{CutsAddresses, TakesFrom, Truncates}
+use Rattle.nl_indirect.specs.Truncating.{TakesFrom, Truncates}
 use Rattle.nl_indirect.specs.declared.answer.Stored.TheVariants.{Done}
 use Rattle.nl_indirect.proofs.Cases.{to-some}
 use Rattle.nl_indirect.proofs.Fresh.{dirty_has_room, one-more, with-twice}
 use Rattle.nl_indirect.proofs.Pointing.{address-node, address-range, in-range, no-page, runs}
-use Rattle.nl_indirect.proofs.Records.{FileParts, file-parts, file-spelled}
+use Rattle.nl_indirect.proofs.Records.{file-parts, file-spelled}
 use Rattle.nl_files.specs.Cutting.{Cuts, CutsPointers, GivesBack, IsPartial, Rewrites}
 
 -- ---- where the cut falls

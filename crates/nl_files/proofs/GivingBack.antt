@@ -1,9 +1,9 @@
 -- The addresses that a file lost, given back one after another.
-use Rattle.std.proofs.Common.{◌≡◌, ◌≢◌, ℕ, ◌+◌, ◌-◌, ◌≤◌, ◌<◌, Bool, true, false, ◌&&◌, nat_le, List, length, get_or, zero, suc, [], ◌∷◌, refl, sym, ap, ◌∙◌, subst, ◌⊎◌, inl, inr, arith}
+use Rattle.std.proofs.Common.{◌≡◌, ◌≢◌, ℕ, ◌+◌, ◌-◌, ◌≤◌, ◌<◌, true, ◌&&◌, nat_le, List, length, get_or, zero, suc, [], ◌∷◌, refl, sym, ap, ◌∙◌, ◌⊎◌, inl, inr, arith}
 use Rattle.std.proofs.lemmas.Bool.{cases_eq, cases_lt, le-leb, lt-leb}
 use Rattle.nl_inode.specs.Free.{is_free}
 use Rattle.nl_inode.specs.Nodes.{AddressBecomes, Spaces, is_free_address}
-use Rattle.nl_files.specs.Cutting.{AreOfPool, GivesBack, LosesAddress}
+use Rattle.nl_files.specs.Cutting.{GivesBack, LosesAddress}
 
 -- those of the first places
 pub record GivesUpTo (n : ℕ) (was is : List ℕ) (s t : Spaces) : Type 0 where

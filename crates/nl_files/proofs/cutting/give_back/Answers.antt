@@ -1,6 +1,5 @@
-use Rattle.std.proofs.Common.{◌≡◌, ◌≢◌, ◌+◌, ◌≤◌, refl, sym, ap, subst, ◌∙◌, ℕ, get_or, arith}
+use Rattle.std.proofs.Common.{◌≡◌, ◌+◌, sym, ap, subst, ◌∙◌, ℕ, get_or, arith}
 use Rattle.nl_inode.specs.Nodes.{Spaces}
-use Rattle.nl_files.specs.Cutting.{LosesAddress}
 use Rattle.nl_files.proofs.GivingBack.{GivesUpTo, gives-all, gives-nothing, gives-one}
 use Rattle.nl_files.proofs.cutting.give_back.Goals as goal
 use Rattle.nl_files.proofs.cutting.give_back.Goals.{then-was-range-ne0+then-is-range-eq0, else-was-range-ne0, else-was-range-ne0-via-then-was-range-ne0+else-is-range-eq0, else-was-range-ne0-via-else-was-range-ne0}
