@@ -1,3 +1,4 @@
+pub mod CutLaw
 pub mod CutToSize
 pub mod Filling
 pub mod GivingBack

@@ -1,4 +1,5 @@
 pub mod Answers
+pub mod CutLaws
 pub mod Cutting
 pub mod Installing
 pub mod Laws

@@ -3,6 +3,7 @@ pub mod Cut
 pub mod Fresh
 pub mod LawProofs
 pub mod Maps
+pub mod OtherNodes
 pub mod PointerLaw
 pub mod Pointing
 pub mod Records

@@ -33,10 +33,10 @@ returns-clause-cut c =
     let at = placed c.args.size c.args.partial c.args.rec.now c.match-partial.rec c.args.meta.now c.match-partial.meta in
     let not = not-placed c.args.size c.args.partial c.args.rec.now c.match-partial.rec c.args.meta.now c.match-partial.meta in
     let is : Places c.args.size c.args.partial c.args.rec.now c.match-partial.rec c.args.meta.now c.match-partial.meta =
-        elim c.match-partial.branch [
-          | in-Some w ↦ at w.in-Some.to w.replace.new.rec w.replace.new.meta w.in-Some.is w.rec-is w.meta-is r.partial w.replace.ensures.stored
-          | in_default w ↦ not w.in_default.is w.rec-is w.meta-is r.file r.range r.room
-        ]
+    elim c.match-partial.branch [
+      | in-Some w ↦ at w.in-Some.to w.replace.new.rec w.replace.new.meta w.in-Some.is w.rec-is w.meta-is r.partial w.replace.ensures.stored
+      | in_default w ↦ not w.in_default.is w.rec-is w.meta-is r.file r.range r.room
+    ]
     in
     let cuts = subst (λ (from : ℕ). Truncates from c.match-partial.rec c.truncate.new.rec c.match-partial.meta c.truncate.new.meta) c.div_ceil.ensures c.truncate.ensures in
     cuts-file c.args.size c.args.partial c.args.rec.now c.match-partial.rec c.truncate.new.rec c.args.meta.now c.match-partial.meta c.truncate.new.meta is cuts
