@@ -9,7 +9,7 @@ use Rattle.nl_field.specs.declared.inode.Kind.{Kind}
 use Rattle.nl_field.specs.declared.inode.Kind.TheVariants.{Unused, File, Dir}
 use Rattle.nl_field.specs.declared.shape.Shape.{Shape}
 use Rattle.nl_meta.specs.Committed.{VirtualMap}
-use Rattle.nl_meta.specs.Consistent.{AddressAt, AddressesRight, IsNode}
+use Rattle.nl_meta.specs.Consistent.{AddressesRight, IsNode}
 use Rattle.nl_meta.specs.Nodes.{body_of, graph_of, inode_at, node_from, pointer_at, slots_of}
 use Rattle.nl_meta.specs.SlotLaws.{ChangesSlot}
 use Rattle.nl_meta.proofs.SlotProofs.{one_slot}

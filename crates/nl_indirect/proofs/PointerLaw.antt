@@ -1,28 +1,24 @@
 -- Once the record is written back, one pointer of one file changed.
-use Rattle.std.proofs.Common.{◌≡◌, ◌≢◌, ℕ, ◌+◌, ◌/◌, ◌%◌, ◌≤◌, ◌<◌, cond, nat_lt, refl, sym, ap, ◌∙◌, subst, Option, Some, None, IfSome, unwrap_or, ◌⊎◌, inl, inr, arith}
-use Rattle.std.proofs.lemmas.Bool.{cases_eq, cases_lt, cond-true, cond-false, le-ltb, lt-ltb}
+use Rattle.std.proofs.Common.{◌≡◌, ◌≢◌, ℕ, ◌+◌, ◌≤◌, ◌<◌, refl, sym, ap, ◌∙◌, subst, Option, Some, None, IfSome, unwrap_or, ◌⊎◌, inl, inr}
+use Rattle.std.proofs.lemmas.Bool.{cases_eq, cases_lt}
 use Rattle.std.specs.Prelude.{slice_index}
-use Rattle.nl_field.specs.Inode.{inode_of}
 use Rattle.nl_field.specs.declared.inode.InodeRec.{InodeRec}
-use Rattle.nl_field.specs.declared.inode.Kind.{Kind}
-use Rattle.nl_field.specs.declared.inode.Kind.TheVariants.{Unused, File, Dir}
 use Rattle.nl_field.specs.declared.pointer.Pointer.{Pointer}
 use Rattle.nl_field.specs.declared.shape.Shape.{Shape}
 use Rattle.nl_meta.specs.Committed.{VirtualMap}
 use Rattle.nl_meta.specs.Consistent.{AddressAt, IsNode}
-use Rattle.nl_meta.specs.Nodes.{body_of, graph_of, inode_at, node_from, pointer_at, slots_of}
+use Rattle.nl_meta.specs.Nodes.{slots_of}
 use Rattle.nl_meta.specs.Pages.{Pages}
 use Rattle.nl_meta.specs.PointerLists.{ChangesPointer, tagged_by}
 use Rattle.nl_meta.specs.Running.{running_over}
-use Rattle.nl_meta.proofs.SlotProofs.{one_slot}
-use Rattle.nl_indirect.specs.FileLaws.{AddressesGood, NodeLaws, OnePointerStored, PageLaws, StoresAt}
-use Rattle.nl_indirect.specs.Ranges.{address_of, range_of, slot_of}
+use Rattle.nl_indirect.specs.FileLaws.{AddressesGood, NodeLaws, OnePointerStored, StoresAt}
+use Rattle.nl_indirect.specs.Ranges.{address_of, range_of}
 use Rattle.nl_indirect.specs.Storing.{Answers, StoresPointer, or_none}
 use Rattle.nl_indirect.specs.declared.answer.Stored.{Stored}
 use Rattle.nl_indirect.specs.declared.answer.Stored.TheVariants.{Done, Emptied}
 use Rattle.nl_indirect.proofs.LawProofs.{at-slot, file_of_node, stored_file}
 use Rattle.nl_indirect.proofs.OtherNodes.{after-same, pointer-same, same-graph}
-use Rattle.nl_indirect.proofs.Pointing.{address-node, address-range, at-node, in-range, same-page}
+use Rattle.nl_indirect.proofs.Pointing.{address-node, address-range}
 use Rattle.nl_indirect.proofs.Records.{FileParts, file-parts}
 
 module _ (shape : Shape) (device : VirtualMap) (n index : ℕ) (to : Option Pointer) (fresh : Option ℕ) (was is : InodeRec) (old new : Pages) (answer : Stored) (after : VirtualMap)
