@@ -4,7 +4,7 @@ use Rattle.std.proofs.lemmas.Bool.{both_ways, cases_Bool, cases_eq, cases_lt}
 use Rattle.std.specs.Prelude.{slice_get, slice_index}
 use Rattle.nl_field.specs.declared.inode.InodeRec.{InodeRec}
 use Rattle.nl_field.specs.declared.inode.Kind.{Kind}
-use Rattle.nl_field.specs.declared.inode.Kind.TheVariants.{Unused, File}
+use Rattle.nl_field.specs.declared.inode.Kind.TheVariants.{Unused, File, Dir}
 use Rattle.nl_field.specs.declared.pointer.Pointer.{Pointer}
 use Rattle.nl_field.specs.declared.shape.Shape.{Shape}
 use Rattle.nl_meta.specs.Committed.{VirtualMap}
@@ -121,15 +121,15 @@ module _ (shape : Shape) (device : VirtualMap) (n size : ℕ) (partial : Option 
     free-unused : is_free_address t a ≡ true → Uses shape after a → ⊥
     free-unused f (k, slot, x) = by (cases_eq k n)
       where
-        no : (AddressAt shape one k slot a) → (Lost → ⊥) → ⊥
-        no u kept = (are.each a above below).0 (sym (at.cuts.given.others a kept) ∙ f) (k, slot, u)
+        clash : (AddressAt shape one k slot a) → (Lost → ⊥) → ⊥
+        clash u kept = (are.each a above below).0 (sym (at.cuts.given.others a kept) ∙ f) (k, slot, u)
 
         by : (k ≡ n) ⊎ (k ≡ n → ⊥) → ⊥
-        by (inr off) = let u = other-was k slot a off x in no u (λ l. off (at.right.one_use k slot n l.at a u (lost-had l)).0)
+        by (inr off) = let u = other-was k slot a off x in clash u (λ l. off (at.right.one_use k slot n l.at a u (lost-had l)).0)
         by (inl e) =
             let y : AddressAt shape after n slot a = subst (λ (m : ℕ). AddressAt shape after m slot a) e x in
             let u : AddressAt shape one n slot a = has slot a x.not_zero (its-is slot a y) in
-            no (subst (λ (m : ℕ). AddressAt shape one m slot a) (sym e) u)
+            clash (subst (λ (m : ℕ). AddressAt shape one m slot a) (sym e) u)
             (λ l. x.not_zero (sym (its-is slot a y) ∙ ap (λ (r : ℕ). slice_index (slots_of is) r) (at.right.one_use n slot n l.at a u (lost-had l)).1 ∙ l.gone))
 
     unused-free : (Uses shape after a → ⊥) → is_free_address t a ≡ true
@@ -137,10 +137,10 @@ module _ (shape : Shape) (device : VirtualMap) (n size : ℕ) (partial : Option 
       where
         by : (is_free_address t a ≡ true) ⊎ (is_free_address t a ≡ false) → is_free_address t a ≡ true
         by (inl e) = e
-        by (inr no) = at.cuts.given.others a kept ∙ (are.each a above below).1 unused
+        by (inr taken) = at.cuts.given.others a kept ∙ (are.each a above below).1 unused
           where
             kept : Lost → ⊥
-            kept l = both_ways (is_free_address t a) no (at.cuts.given.given a l)
+            kept l = both_ways (is_free_address t a) taken (at.cuts.given.given a l)
 
             unused : Uses shape one a → ⊥
             unused (k, slot, x) = at-node (cases_eq k n)
