@@ -1,5 +1,5 @@
 -- Once the record is written back, one file is cut.
-use Rattle.std.proofs.Common.{◌≡◌, ◌≢◌, ◌↔◌, ℕ, zero, suc, ◌+◌, ◌/◌, ◌%◌, ◌≤◌, ◌<◌, Bool, true, false, List, [], ◌∷◌, refl, sym, ap, ◌∙◌, subst, Option, Some, None, ◌⊎◌, inl, inr, arith}
+use Rattle.std.proofs.Common.{◌≡◌, ◌≢◌, ℕ, zero, suc, ◌+◌, ◌/◌, ◌≤◌, ◌<◌, true, false, List, [], ◌∷◌, refl, sym, ap, ◌∙◌, subst, Option, Some, ◌⊎◌, inl, inr}
 use Rattle.std.proofs.lemmas.Bool.{both_ways, cases_Bool, cases_eq, cases_lt}
 use Rattle.std.specs.Prelude.{slice_get, slice_index}
 use Rattle.nl_field.specs.declared.inode.InodeRec.{InodeRec}
@@ -9,13 +9,12 @@ use Rattle.nl_field.specs.declared.pointer.Pointer.{Pointer}
 use Rattle.nl_field.specs.declared.shape.Shape.{Shape}
 use Rattle.nl_meta.specs.Committed.{VirtualMap}
 use Rattle.nl_meta.specs.Consistent.{AddressAt, IsNode}
-use Rattle.nl_meta.specs.Nodes.{graph_of, inode_at, pointer_at, slots_of}
+use Rattle.nl_meta.specs.Nodes.{inode_at, slots_of}
 use Rattle.nl_meta.specs.Pages.{Pages}
 use Rattle.nl_meta.specs.Running.{running_over}
 use Rattle.nl_meta.proofs.Lists.{none_some, some_in}
 use Rattle.nl_inode.specs.FreeLaws.{PoolIsFree, Uses}
 use Rattle.nl_inode.specs.Nodes.{Spaces, is_free_address}
-use Rattle.nl_indirect.specs.FileLaws.{NodeLaws}
 use Rattle.nl_indirect.specs.Ranges.{address_of, range_of}
 use Rattle.nl_indirect.proofs.LawProofs.{at-slot, file_of_node}
 use Rattle.nl_indirect.proofs.OtherNodes.{after-same, pointer-same, same-graph, same-record}
