@@ -1,4 +1,7 @@
+pub mod CutLaw
+pub mod CutToSize
 pub mod Filling
+pub mod GivingBack
 pub mod Installed
 pub mod Keeping
 pub mod LawProofs

@@ -1,4 +1,6 @@
 pub mod Answers
+pub mod CutLaws
+pub mod Cutting
 pub mod Installing
 pub mod Laws
 pub mod Reading

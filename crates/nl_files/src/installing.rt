@@ -1,4 +1,4 @@
-ghost use Rattle.std.specs.Prelude.{◌≡◌, ◌≢◌, ◌↔◌, ◌<◌, ◌≤◌, ◌+◌, ◌^◌, ◌++◌, IsSome, IsTrue, Some, true, length};
+ghost use Rattle.std.specs.Prelude.{◌≡◌, ◌≢◌, ◌↔◌, ◌<◌, ◌≤◌, ◌+◌, ◌^◌, ◌++◌, IfSome, IsSome, IsTrue, Some, true, length};
 ghost use Rattle.nl_field.specs.Spelling.{is_stamp};
 ghost use Rattle.nl_field.specs.declared.pointer.Pointer.{Pointer as PointerOf};
 ghost use Rattle.nl_meta.specs.Committed.{VirtualMap};
@@ -6,7 +6,8 @@ ghost use Rattle.nl_meta.specs.Nodes.{pointer_at};
 ghost use Rattle.nl_meta.specs.Pages.{has_room, page_of};
 ghost use Rattle.nl_meta.specs.Running.{running_over};
 ghost use Rattle.nl_indirect.specs.Ranges.{HasRange, IsFileRecord, address_of};
-ghost use Rattle.nl_indirect.specs.Storing.{Begins};
+ghost use Rattle.nl_indirect.specs.Storing.{Begins, IsForNew, Stores};
+ghost use Rattle.nl_indirect.specs.declared.answer.Stored.TheVariants.{Done};
 ghost use Rattle.nl_files.specs.Installing.{FreeAreNew, HasFree, Installs, Takes};
 ghost use Rattle.nl_files.specs.Spans.{as_list};
 
@@ -42,8 +43,33 @@ pub fn install(
     ensures freeing { (device : VirtualMap) → freeing.new.items ≡ freeing.old.items ++ as_list (pointer_at (running_over device meta.old) rec.old index) }
     ensures left { length freeing.old.items + freeing.old.room ≤ length freeing.new.items + freeing.new.room }
 {
-    let had = lookup(rec, meta, index);
     let fresh = fresh_for(nodes, rec, index);
+    replace(meta, rec, index, to, fresh, freeing);
+}
+
+// The index has the pointer, and the one that it had stands behind those of the list.
+pub(crate) fn replace(
+    meta: &mut Meta,
+    rec: &mut InodeRec,
+    index: u32,
+    to: Pointer,
+    fresh: Option<u32>,
+    freeing: &mut PointerList,
+)
+    requires within { index < 4104 }
+    requires file { IsFileRecord rec.old }
+    requires range { HasRange (page_of meta.old) rec.old index }
+    requires to { IsTrue (is_stamp to.stamp) }
+    requires room { address_of rec.old index ≢ 0 → has_room meta.old (address_of rec.old index) ≡ true }
+    requires begins { IsSome fresh ↔ Begins rec.old index (Some to) }
+    requires fresh { IfSome fresh (IsForNew meta.old rec.old) }
+    requires place { 0 < freeing.old.room }
+    requires few { length freeing.old.items + 1 < 2 ^ 32 }
+    ensures stored { Stores index to fresh rec.old rec.new meta.old meta.new Done }
+    ensures freeing { (device : VirtualMap) → freeing.new.items ≡ freeing.old.items ++ as_list (pointer_at (running_over device meta.old) rec.old index) }
+    ensures left { length freeing.old.items + freeing.old.room ≤ length freeing.new.items + freeing.new.room }
+{
+    let had = lookup(rec, meta, index);
     store(rec, meta, index, Some(to), fresh);
     if let Some(pointer) = had {
         add(freeing, pointer);

@@ -1,4 +1,5 @@
 //! Laws of the definitions. Each function stands for the law that its contract names.
+ghost use Rattle.nl_files.specs.CutLaws.{OneFileIsCut};
 ghost use Rattle.nl_files.specs.Laws.{AllAreOfNode, FilesStandOn, GoodAddressesHavePages};
 
 use nl_iface::NamedPages;
@@ -16,4 +17,10 @@ pub fn all_are_of_node()
 // A file stands on after each call of this crate that only reads, with the pointers that it had.
 pub fn files_stand_on<D: NamedPages>()
     ensures { FilesStandOn D.Counts }
+{}
+
+// Once the record is written back, one file has the pointers that a cut left, no other node changed, and what is free of the pool is
+// exactly what no node has.
+pub fn one_file_is_cut()
+    ensures { OneFileIsCut }
 {}

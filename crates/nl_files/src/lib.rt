@@ -2,6 +2,7 @@
 #![tactic(auto)]
 
 mod answer;
+mod cutting;
 mod gathering;
 mod installing;
 pub mod laws;
@@ -11,6 +12,7 @@ mod reading;
 mod tests;
 
 pub use answer::{CountPages, FileAnswer};
+pub use cutting::cut;
 pub use gathering::{count_pages, gather};
 pub use installing::install;
 pub use pages::prepare;

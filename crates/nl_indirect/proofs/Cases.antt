@@ -38,14 +38,14 @@ past (x ∷ xs) zero h = absurd (omega (arith, h))
 past (x ∷ xs) (suc v) h = past xs v (omega (arith, h))
 
 -- a page that is there has an address
-inside : (p : Pages) (v : ℕ) (bytes : List ℕ) → page_of p v ≡ Some bytes → v < length p.running
+pub inside : (p : Pages) (v : ℕ) (bytes : List ℕ) → page_of p v ≡ Some bytes → v < length p.running
 inside p v bytes is = by (cases_lt v (length p.running))
   where
     by : (v < length p.running) ⊎ (length p.running ≤ v) → v < length p.running
     by (inl h) = h
     by (inr h) = absurd (none_some bytes (sym (past p.running v h) ∙ is))
 
-dirtied : (p : Pages) (v : ℕ) (bytes : List ℕ) → v < length p.running → page_of (with_dirty p v bytes) v ≡ Some bytes
+pub dirtied : (p : Pages) (v : ℕ) (bytes : List ℕ) → v < length p.running → page_of (with_dirty p v bytes) v ≡ Some bytes
 dirtied p v bytes h = get_or-set_same p.running v (Some bytes) None h
 
 -- ---- what is stored

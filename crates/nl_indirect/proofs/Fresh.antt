@@ -48,7 +48,7 @@ module _ (s t : ℕ → Bool) where
       by true e rest = ap (λ b. cond b (x ∷ filter t (filter s xs)) (filter t (filter s xs))) (h x e) ∙ rest
       by false e rest = rest
 
-with-twice : (v : ℕ) (xs : List ℕ) → with_address v (with_address v xs) ≡ with_address v xs
+pub with-twice : (v : ℕ) (xs : List ℕ) → with_address v (with_address v xs) ≡ with_address v xs
 unfolding with_address
 with-twice v xs = λ i. low i ++ v ∷ high i
   where

@@ -1,9 +1,12 @@
 pub mod Cases
+pub mod Cut
 pub mod Fresh
 pub mod LawProofs
 pub mod Maps
+pub mod OtherNodes
 pub mod PointerLaw
 pub mod Pointing
 pub mod Records
 pub mod Spelled
 pub mod Tested
+pub mod Truncated

@@ -90,11 +90,11 @@ back (suc n) bytes len each =
     rest : (j : ℕ) → j < n → pointer_bytes (pointer_in (drop 16 bytes) j) ≡ slot_in 16 j (drop 16 bytes)
     rest j h = subst (λ (s : List ℕ). pointer_bytes (pointer_fields s) ≡ s) (next j) (each (suc j) (omega (arith, h)))
 
-all-rows : (xs : List Pointer) → ((j : ℕ) → j < length xs → is_pointer (get_or xs j no_pointer) ≡ true) → list_all is_pointer xs ≡ true
+pub all-rows : (xs : List Pointer) → ((j : ℕ) → j < length xs → is_pointer (get_or xs j no_pointer) ≡ true) → list_all is_pointer xs ≡ true
 all-rows [] each = refl
 all-rows (x ∷ xs) each = and_from (is_pointer x) (list_all is_pointer xs) (each 0 (omega arith)) (all-rows xs (λ j h. each (suc j) (omega (arith, h))))
 
-row-all : (xs : List Pointer) → list_all is_pointer xs ≡ true → (j : ℕ) → j < length xs → is_pointer (get_or xs j no_pointer) ≡ true
+pub row-all : (xs : List Pointer) → list_all is_pointer xs ≡ true → (j : ℕ) → j < length xs → is_pointer (get_or xs j no_pointer) ≡ true
 row-all [] all j h = absurd (omega (arith, h))
 row-all (x ∷ xs) all zero h = (and_parts (is_pointer x) (list_all is_pointer xs) all).0
 row-all (x ∷ xs) all (suc j) h = row-all xs (and_parts (is_pointer x) (list_all is_pointer xs) all).1 j (omega (arith, h))
@@ -213,7 +213,7 @@ module _ (bytes : List ℕ) (whole : length bytes ≡ 4096) (i : ℕ) (below : i
       fields : pointer_of (pointer_bytes p) ≡ Some p → pointer_of (pointer_bytes p) ≡ Some (pointer_fields (pointer_bytes p))
       fields is = let q = of-parts (pointer_bytes p) (ap is_some is) in from-parts (pointer_bytes p) q.0 q.1
 
-  with-length : length (with_slot 16 i (pointer_bytes p) bytes) ≡ length bytes
+  pub with-length : length (with_slot 16 i (pointer_bytes p) bytes) ≡ length bytes
   with-length =
       let a = length-append (take (16 * i) bytes ++ pointer_bytes p) (drop (16 * i + 16) bytes) in
       let b = length-append (take (16 * i) bytes) (pointer_bytes p) in

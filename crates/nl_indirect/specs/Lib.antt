@@ -2,3 +2,4 @@ pub mod Examples
 pub mod FileLaws
 pub mod Ranges
 pub mod Storing
+pub mod Truncating

@@ -7,6 +7,8 @@ mod page;
 mod pointers;
 #[cfg(test)]
 mod tests;
+mod truncating;
 
 pub use answer::Stored;
 pub use pointers::{lookup, page_address, store};
+pub use truncating::truncate;

@@ -1,35 +1,11 @@
-use Rattle.std.proofs.Common.{◌∙◌, sym, ap, List, ◌++◌}
-use Rattle.std.proofs.lemmas.List.{append-nil}
-use Rattle.nl_field.specs.declared.pointer.Pointer.{Pointer}
-use Rattle.nl_meta.specs.Nodes.{pointer_at}
-use Rattle.nl_meta.specs.Running.{running_over}
-use Rattle.nl_files.proofs.Installed.{stores-done}
-use Rattle.nl_files.proofs.Progress.{as_list-none, as_list-some}
 use Rattle.nl_files.proofs.installing.install.Goals as goal
 
-pub store-requires-clause-begins : goal.store-requires-clause-begins
-store-requires-clause-begins c = c.fresh_for-fresh.ensures.begins c.args.to
+pub replace-requires-clause-begins : goal.replace-requires-clause-begins
+replace-requires-clause-begins c = c.fresh_for-fresh.ensures.begins c.args.to
 
-pub returns-in-Some-clause-installed : goal.returns-in-Some-clause-installed
-returns-in-Some-clause-installed c = record {
+pub returns-clause-installed : goal.returns-clause-installed
+returns-clause-installed c = record {
   fresh = c.fresh_for-fresh.result;
   taken = c.fresh_for-fresh.ensures.taken;
-  stores = stores-done c.args.index c.args.to c.fresh_for-fresh.result c.args.rec.now c.store.new.rec c.args.meta.now c.store.new.meta c.store.result c.requires.to c.store.ensures;
+  stores = c.replace.ensures.stored;
 }
-
-pub returns-in-Some-clause-freeing : goal.returns-in-Some-clause-freeing
-returns-in-Some-clause-freeing c = λ device.
-    c.add.ensures.items
-    ∙ ap (λ (l : List Pointer). c.args.freeing.now.items ++ l) (sym (as_list-some (pointer_at (running_over device c.args.meta.now) c.args.rec.now c.args.index) c.in-Some.pointer (sym c.in-Some.is ∙ c.lookup-had.ensures.running device)))
-
-pub returns-in_default-clause-installed : goal.returns-in_default-clause-installed
-returns-in_default-clause-installed c = record {
-  fresh = c.fresh_for-fresh.result;
-  taken = c.fresh_for-fresh.ensures.taken;
-  stores = stores-done c.args.index c.args.to c.fresh_for-fresh.result c.args.rec.now c.store.new.rec c.args.meta.now c.store.new.meta c.store.result c.requires.to c.store.ensures;
-}
-
-pub returns-in_default-clause-freeing : goal.returns-in_default-clause-freeing
-returns-in_default-clause-freeing c = λ device.
-    sym (append-nil c.args.freeing.now.items)
-    ∙ ap (λ (l : List Pointer). c.args.freeing.now.items ++ l) (sym (as_list-none (pointer_at (running_over device c.args.meta.now) c.args.rec.now c.args.index) (sym c.in_default.is ∙ c.lookup-had.ensures.running device)))
