@@ -72,7 +72,6 @@ can_second = record {
   names_differ = λ i j d before within. absurd (omega (arith, before, within));
   own = owned;
   few_lost = omega arith;
-  room = omega arith;
 }
   where
     owned : All (λ p. owns_name kept_two p ≡ true) (record { name = 257; stamp = 2 } ∷ [])
