@@ -103,7 +103,7 @@ returns-clause-called c =
           let posts = c.call.ensures.away (λ same. far (e ∙ sym same)) in (
             posts.0,
             subst (λ call. Posts call c.args.pending.now c.call.new.pending)
-            (ap (λ t. callback_of posts.0 p.name page t p.stamp) tag ∙ ap (λ n. callback_of posts.0 p.name n (tag_on kept n) p.stamp) (sym e))
-            posts.1,
+                (ap (λ t. callback_of posts.0 p.name page t p.stamp) tag ∙ ap (λ n. callback_of posts.0 p.name n (tag_on kept n) p.stamp) (sym e))
+                posts.1,
           );
     }
