@@ -3,7 +3,7 @@ use Rattle.std.proofs.Common.{◌≡◌, ◌≢◌, ℕ, zero, suc, ◌+◌, ◌
 use Rattle.std.proofs.lemmas.Bool.{cases_eq, eq-eqb, ne_eqb}
 use Rattle.nl_field.specs.Members.{Has}
 use Rattle.nl_meta.specs.Pages.{Pages, first_most, page_of, touched}
-use Rattle.nl_namespace.specs.Holding.{HoldsPage}
+use Rattle.nl_running.specs.Holding.{HoldsPage}
 
 longer : (u n : ℕ) (ys : List ℕ) → Has (take n ys) u → Has (take (suc n) ys) u
 longer u zero ys h = absurd h

@@ -1,7 +1,7 @@
 use Rattle.std.proofs.Common.{◌≡◌, ◌<◌, ℕ, get_or, take, IsSome}
 use Rattle.nl_field.specs.Members.{Has}
 use Rattle.nl_meta.specs.Pages.{page_of}
-use Rattle.nl_namespace.specs.Running.{RunsOn}
+use Rattle.nl_running.specs.Running.{RunsOn}
 use Rattle.nl_namespace.proofs.hold.hold_entries.Given as goal
 
 abbrev pub invariant-loop-row : goal.invariant-loop-row

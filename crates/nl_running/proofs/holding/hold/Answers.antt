@@ -4,9 +4,9 @@ use Rattle.nl_inode.specs.declared.answer.Fetch.TheVariants as fetch
 use Rattle.nl_inode.proofs.FetchFacts.{none-of}
 use Rattle.nl_meta.specs.Pages.{Pages}
 use Rattle.nl_meta.proofs.Lists.{map_none}
-use Rattle.nl_namespace.specs.Running.{RunsOn}
-use Rattle.nl_namespace.proofs.Holds.{fetched-runs, missed-runs, reads-none, touched-runs, within-volume, written-or-nodes}
-use Rattle.nl_namespace.proofs.hold.hold.Goals as goal
+use Rattle.nl_running.specs.Running.{RunsOn}
+use Rattle.nl_running.proofs.Holds.{fetched-runs, missed-runs, reads-none, touched-runs, within-volume, written-or-nodes}
+use Rattle.nl_running.proofs.holding.hold.Goals as goal
 
 pub returns-then-resident-clause-kept : goal.returns-then-resident-clause-kept
 returns-then-resident-clause-kept g c =

@@ -15,7 +15,7 @@ use Rattle.nl_meta.specs.Pages.{Pages, page_of, touched}
 use Rattle.nl_meta.specs.Running.{CleanIsStored, RunsAlike, or_stored, running_over}
 use Rattle.nl_meta.proofs.Lists.{none_some}
 use Rattle.nl_meta.proofs.RunningProofs.{running_map}
-use Rattle.nl_namespace.specs.Running.{IsNeeded, Runs, RunsOn, running_on, stored_on}
+use Rattle.nl_running.specs.Running.{IsNeeded, Runs, RunsOn, running_on, stored_on}
 
 pub bounds-of : (shape : Shape) → IsVolumeShape shape → ShapeBounds shape
 bounds-of shape is = subst ShapeBounds (sym is.numbers) (bounds shape.blocks shape.pages is.legal)
