@@ -1,6 +1,6 @@
 -- A page that is touched or fetched leaves the running map.
-use Rattle.std.proofs.Common.{◌≡◌, ℕ, ◌+◌, ◌<◌, Bool, true, false, cond, nat_le, List, length, refl, sym, ap, subst, ◌∙◌, Option, Some, None, inl, inr, arith, nat_lt, option_map}
-use Rattle.std.proofs.lemmas.Bool.{and_parts, ltb-true}
+use Rattle.std.proofs.Common.{◌≡◌, ℕ, ◌+◌, ◌<◌, Bool, true, false, cond, nat_le, List, length, refl, sym, ap, subst, ◌∙◌, Option, Some, None, IsSome, is_some, inl, inr, arith, nat_lt, option_map}
+use Rattle.std.proofs.lemmas.Bool.{and_parts, both_ways, ltb-true}
 use Rattle.nl_field.specs.Bytes.{zeros}
 use Rattle.nl_field.specs.Numbers.{ShapeBounds}
 use Rattle.nl_field.specs.Virtual.{is_inode_address, map_bytes, or_zeros}
@@ -15,6 +15,8 @@ use Rattle.nl_meta.specs.Pages.{Pages, page_of, touched}
 use Rattle.nl_meta.specs.Running.{CleanIsStored, RunsAlike, or_stored, running_over}
 use Rattle.nl_meta.proofs.Lists.{none_some}
 use Rattle.nl_meta.proofs.RunningProofs.{running_map}
+use Rattle.nl_meta.specs.Steps.{Keeps}
+use Rattle.nl_running.specs.Holding.{HoldsPage}
 use Rattle.nl_running.specs.Running.{IsNeeded, Runs, RunsOn, running_on, stored_on}
 
 pub bounds-of : (shape : Shape) → IsVolumeShape shape → ShapeBounds shape
@@ -24,6 +26,19 @@ by-cases : (a b : Bool) (bytes : List ℕ) → cond a (cond b (Some (zeros 4096)
 by-cases true true bytes x = refl
 by-cases true false bytes x = absurd (none_some bytes x)
 by-cases false b bytes x = absurd (none_some bytes x)
+
+-- a page that is resident is another one than one that was not
+stays-but : (p q : Pages) (v : ℕ) → page_of p v ≡ None → Keeps v p q → (u : ℕ) → IsSome (page_of p u) → page_of q u ≡ page_of p u
+stays-but p q v gone keeps u there = keeps.others u (λ e. both_ways _ refl (ap is_some (sym gone) ∙ ap (λ (w : ℕ). is_some (page_of p w)) (sym e) ∙ there))
+
+-- what a fetch makes resident, and what stays
+pub fetched-holds : (tells : Type 0) (stored : Option (List ℕ)) (v : ℕ) (p q : Pages) → Fetches tells stored v p q → HoldsPage v p q
+fetched-holds tells stored v p q (inl x) = subst (λ (n : Pages). HoldsPage v p n) (sym x.1) (record { there = x.0; recent = refl; stays = λ u h. h })
+fetched-holds tells stored v p q (inr (gone, bytes, is, admits)) = record {
+  there = ap is_some admits.page;
+  recent = admits.keeps.recent;
+  stays = λ u h. ap is_some (stays-but p q v gone admits.keeps u h) ∙ h;
+}
 
 pub reads-none : {D : Type 0} (g : Ghosts D) (s : D) → OnlyReads g s s
 reads-none g s = record {
@@ -75,6 +90,7 @@ module _ {D : Type 0} (g : Ghosts D) (s : D) (p : Pages) (runs : Runs g s p) whe
     frozen = refl;
     needed = λ u need. there-touched v t reads u need (page_of p u) refl;
     told = λ told u. told-touched v t reads told u;
+    stays = λ u h. refl;
     absent = runs.absent;
     clean = λ told. clean-moved t (record p { recent = touched v p.recent }) reads told (record { each = (runs.clean told).each });
   }
@@ -87,18 +103,21 @@ module _ {D : Type 0} (g : Ghosts D) (s : D) (p : Pages) (runs : Runs g s p) whe
     frozen = refl;
     needed = λ u need. refl;
     told = λ told u. refl;
+    stays = λ u h. refl;
     absent = runs.absent;
     clean = runs.clean;
   }
 
-  told-runs : (t : D) (q : Pages) → OnlyReads g s t → g.tells → length q.running ≡ length p.running → q.dirty ≡ p.dirty → q.frozen ≡ p.frozen → RunsAlike (stored_on g s) p q → RunsOn g s p t q
-  told-runs t q reads told count dirty frozen alike = record {
+  told-runs : (t : D) (q : Pages) → OnlyReads g s t → g.tells → length q.running ≡ length p.running → q.dirty ≡ p.dirty → q.frozen ≡ p.frozen
+      → ((u : ℕ) → IsSome (page_of p u) → page_of q u ≡ page_of p u) → RunsAlike (stored_on g s) p q → RunsOn g s p t q
+  told-runs t q reads told count dirty frozen stays alike = record {
     reads = reads;
     count = count;
     dirty = dirty;
     frozen = frozen;
     needed = λ u need. moved t q reads told u ∙ alike.same u;
     told = λ told u. moved t q reads told u ∙ alike.same u;
+    stays = stays;
     absent = λ u need gone. told;
     clean = λ told. clean-moved t q reads told alike.clean;
   }
@@ -107,13 +126,13 @@ module _ {D : Type 0} (g : Ghosts D) (s : D) (p : Pages) (runs : Runs g s p) whe
     pub missed-runs : (t : D) (q : Pages) → OnlyReads g s t → FetchesNone v p q → RunsOn g s p t q
     missed-runs t q reads none =
         let told = runs.absent v need none.0 in
-        told-runs t q reads told none.1.keeps.count none.1.dirty none.1.keeps.frozen ((running_map (stored_on g s) p (runs.clean told)).missed v q none.0 none.1)
+        told-runs t q reads told none.1.keeps.count none.1.dirty none.1.keeps.frozen (stays-but p q v none.0 none.1.keeps) ((running_map (stored_on g s) p (runs.clean told)).missed v q none.0 none.1)
 
     pub fetched-runs : (t : D) (q : Pages) → OnlyReads g s t → Fetches g.tells (stored_on g s v) v p q → RunsOn g s p t q
     fetched-runs t q reads (inl there) = subst (λ (n : Pages). RunsOn g s p t n) (sym there.1) (touched-runs v t reads)
     fetched-runs t q reads (inr (gone, bytes, is, admits)) =
         let told = runs.absent v need gone in
-        told-runs t q reads told admits.keeps.count admits.dirty admits.keeps.frozen ((running_map (stored_on g s) p (runs.clean told)).admitted v bytes q (is told) gone admits)
+        told-runs t q reads told admits.keeps.count admits.dirty admits.keeps.frozen (stays-but p q v gone admits.keeps) ((running_map (stored_on g s) p (runs.clean told)).admitted v bytes q (is told) gone admits)
 
     -- an address that is not resident is one of the volume, and was written or has nodes
     pub within-volume : IsVolumeShape (g.shape s) → v < (g.shape s).vaddrs

@@ -1,5 +1,5 @@
 -- When names can be looked up in a volume that runs over a device, and that a call leaves it as it was.
-use Rattle.std.specs.Prelude.{◌≡◌, ◌⊎◌, ℕ, true, length, None}
+use Rattle.std.specs.Prelude.{◌≡◌, ◌⊎◌, ℕ, true, length, None, IsSome}
 use Rattle.nl_field.specs.Virtual.{is_inode_address, map_bytes}
 use Rattle.nl_field.specs.declared.inode.InodeRec.{InodeRec}
 use Rattle.nl_field.specs.declared.inode.Kind.TheVariants.{Dir}
@@ -35,7 +35,7 @@ pub record Runs {D : Type 0} (g : Ghosts D) (s : D) (p : Pages) : Type 0 where
   pub clean : g.tells → CleanIsStored (stored_on g s) p
 
 -- The device was only read, and no page changed: each of those addresses has what it had, and so has every other one where the device
--- tells. Pages may have become resident, or no longer be.
+-- tells. Each resident page stays, and pages may have become resident.
 pub record RunsOn {D : Type 0} (g : Ghosts D) (s : D) (p : Pages) (t : D) (q : Pages) : Type 0 where
   pub reads : OnlyReads g s t
   pub count : length q.running ≡ length p.running
@@ -43,6 +43,7 @@ pub record RunsOn {D : Type 0} (g : Ghosts D) (s : D) (p : Pages) (t : D) (q : P
   pub frozen : q.frozen ≡ p.frozen
   pub needed : (v : ℕ) → IsNeeded (g.shape s) (running_on g s p) v → running_on g t q v ≡ running_on g s p v
   pub told : g.tells → (v : ℕ) → running_on g t q v ≡ running_on g s p v
+  pub stays : (v : ℕ) → IsSome (page_of p v) → page_of q v ≡ page_of p v
   pub absent : (v : ℕ) → IsNeeded (g.shape s) (running_on g s p) v → page_of q v ≡ None → g.tells
   pub clean : g.tells → CleanIsStored (stored_on g t) q
 

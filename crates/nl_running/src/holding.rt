@@ -19,10 +19,6 @@ pub fn hold<D: VirtualPages>(device: &mut D, meta: &mut Meta, vaddr: u32) -> Res
     ensures reads { Reads D.Counts device.old device.new (stop_of result) }
     ensures there { IfOk result (λ u. HoldsPage vaddr meta.old meta.new) }
 {
-    if meta.resident(vaddr) {
-        meta.touch(vaddr);
-        return Ok(());
-    }
     match fetch(device, meta, vaddr) {
         Fetch::Ready => Ok(()),
         Fetch::Fault => Err(Stop::Fault),
