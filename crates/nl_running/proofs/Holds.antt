@@ -16,8 +16,8 @@ use Rattle.nl_meta.specs.Running.{CleanIsStored, RunsAlike, or_stored, running_o
 use Rattle.nl_meta.proofs.Lists.{none_some}
 use Rattle.nl_meta.proofs.RunningProofs.{running_map}
 use Rattle.nl_meta.specs.Steps.{Keeps}
-use Rattle.nl_namespace.specs.Holding.{HoldsPage}
-use Rattle.nl_namespace.specs.Running.{IsNeeded, Runs, RunsOn, running_on, stored_on}
+use Rattle.nl_running.specs.Holding.{HoldsPage}
+use Rattle.nl_running.specs.Running.{IsNeeded, Runs, RunsOn, running_on, stored_on}
 
 pub bounds-of : (shape : Shape) → IsVolumeShape shape → ShapeBounds shape
 bounds-of shape is = subst ShapeBounds (sym is.numbers) (bounds shape.blocks shape.pages is.legal)

@@ -2,8 +2,8 @@ use Rattle.std.proofs.Common.{◌≡◌, refl, ◌∙◌}
 use Rattle.nl_iface.specs.Stored.{Value}
 use Rattle.nl_inode.specs.declared.answer.Fetch.TheVariants as fetch
 use Rattle.nl_meta.proofs.Lists.{map_none}
-use Rattle.nl_namespace.proofs.Holds.{fetched-holds, fetched-runs, missed-runs, within-volume, written-or-nodes}
-use Rattle.nl_namespace.proofs.hold.hold.Goals as goal
+use Rattle.nl_running.proofs.Holds.{fetched-holds, fetched-runs, missed-runs, within-volume, written-or-nodes}
+use Rattle.nl_running.proofs.holding.hold.Goals as goal
 
 pub fetch-requires-clause-within : goal.fetch-requires-clause-within
 fetch-requires-clause-within g c =

@@ -12,8 +12,8 @@ use Rattle.nl_meta.specs.Nodes.{bytes_of_node, inode_at, slot_at}
 use Rattle.nl_meta.specs.Pages.{Pages, page_of}
 use Rattle.nl_meta.specs.Running.{or_stored, running_over}
 use Rattle.nl_inode.specs.Nodes.{page_of_node}
-use Rattle.nl_namespace.specs.Running.{IsNeeded, IsNodeOf, Runs, RunsOn, running_on, stored_on}
-use Rattle.nl_namespace.proofs.SameNeeded.{addresses-right, entries-right, inode-address, needed-from, needed-to, node-from, node-to, nodes-right}
+use Rattle.nl_running.specs.Running.{IsNeeded, IsNodeOf, Runs, RunsOn, running_on, stored_on}
+use Rattle.nl_running.proofs.SameNeeded.{addresses-right, entries-right, inode-address, needed-from, needed-to, node-from, node-to, nodes-right}
 
 or-there : (o stored : Option (List ℕ)) → IsSome o → or_stored o stored ≡ o
 or-there (Some bytes) stored h = refl

@@ -5,7 +5,7 @@ use Rattle.nl_iface.specs.Device.{IsVolumeShape}
 use Rattle.nl_iface.specs.declared.counts.Counts.{Ghosts}
 use Rattle.nl_meta.specs.Nodes.{graph_of}
 use Rattle.nl_meta.specs.Pages.{Pages}
-use Rattle.nl_namespace.specs.Running.{IsNodeOf, Runs, RunsOn, running_on}
+use Rattle.nl_running.specs.Running.{IsNodeOf, Runs, RunsOn, running_on}
 
 pub record StaysRunning {D : Type 0} (g : Ghosts D) (s : D) (p : Pages) (t : D) (q : Pages) : Type 0 where
   pub runs : Runs g s p → Runs g t q

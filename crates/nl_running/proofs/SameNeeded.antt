@@ -22,7 +22,7 @@ use Rattle.nl_dir.specs.ListLaws.{Lists, ListsRight, ReachedByLists}
 use Rattle.nl_dir.proofs.LawProofs.{only_own_pages}
 use Rattle.nl_dir.proofs.ListProofs.{entries_by_lists}
 use Rattle.nl_dir.proofs.Records.{true_false}
-use Rattle.nl_namespace.specs.Running.{IsNeeded}
+use Rattle.nl_running.specs.Running.{IsNeeded}
 
 -- the first addresses of a directory are not 0
 pub slot-filled : (n : ℕ) (xs : List ℕ) (k : ℕ) → are_filled n xs ≡ true → k < n → (slice_get xs k ≡ Some (get_or xs k 0)) × (get_or xs k 0 ≢ 0)

@@ -1,11 +1,11 @@
 use Rattle.std.proofs.Common.{◌∙◌, ap}
 use Rattle.nl_field.specs.declared.shape.Shape.{Shape}
 use Rattle.nl_meta.specs.Nodes.{graph_of}
-use Rattle.nl_namespace.specs.Running.{running_on}
-use Rattle.nl_namespace.proofs.GraphStays.{graph-same}
-use Rattle.nl_namespace.proofs.Holds.{bounds-of}
-use Rattle.nl_namespace.proofs.Kept.{kept-then, runs-then, used-on}
-use Rattle.nl_namespace.proofs.laws.runs_stay.Goals as goal
+use Rattle.nl_running.specs.Running.{running_on}
+use Rattle.nl_running.proofs.GraphStays.{graph-same}
+use Rattle.nl_running.proofs.Holds.{bounds-of}
+use Rattle.nl_running.proofs.Kept.{kept-then, runs-then, used-on}
+use Rattle.nl_running.proofs.laws.runs_stay.Goals as goal
 
 pub returns : goal.returns
 returns g c = λ s p t q is on. record {

@@ -2,10 +2,10 @@ use Rattle.std.proofs.Common.{◌≡◌, sym, ap, ◌∙◌, is_some, inl, subst
 use Rattle.nl_field.specs.declared.inode.InodeRec.{InodeRec}
 use Rattle.nl_field.specs.declared.inode.Kind.TheVariants.{Unused}
 use Rattle.nl_meta.proofs.Lists.{some_in}
-use Rattle.nl_namespace.proofs.Holds.{bounds-of}
-use Rattle.nl_namespace.proofs.Kept.{inode-resident}
-use Rattle.nl_namespace.proofs.SameNeeded.{inode-address}
-use Rattle.nl_namespace.proofs.hold.node.Goals as goal
+use Rattle.nl_running.proofs.Holds.{bounds-of}
+use Rattle.nl_running.proofs.Kept.{inode-resident}
+use Rattle.nl_running.proofs.SameNeeded.{inode-address}
+use Rattle.nl_running.proofs.holding.node.Goals as goal
 
 pub hold-requires-clause-needed : goal.hold-requires-clause-needed
 hold-requires-clause-needed g c =

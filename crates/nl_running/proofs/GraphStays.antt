@@ -15,8 +15,8 @@ use Rattle.nl_field.specs.declared.shape.Shape.{Shape}
 use Rattle.nl_meta.specs.Committed.{VirtualMap}
 use Rattle.nl_meta.specs.Consistent.{IsNode}
 use Rattle.nl_meta.specs.Nodes.{body_of, graph_of, inode_at, node_from, pointers_at, pointers_of_inode, slots_of}
-use Rattle.nl_namespace.specs.Running.{IsNeeded}
-use Rattle.nl_namespace.proofs.SameNeeded.{entries-same, inode-same}
+use Rattle.nl_running.specs.Running.{IsNeeded}
+use Rattle.nl_running.proofs.SameNeeded.{entries-same, inode-same}
 
 page-pointers : (old new : VirtualMap) (a : ℕ) → (a ≢ 0 → new a ≡ old a) → pointers_at new a ≡ pointers_at old a
 page-pointers old new a same = by (cases_eq a 0)
