@@ -45,9 +45,11 @@ above_after a s best (q ∷ pages) = by (address_of q.rec == a) (above_after a s
   where
     rest : Bool
     rest = list_any (λ q. address_of q.rec == a && nat_lt s (stamp_of q.rec)) pages
+
     grouped : (x y z : Bool) → ((x || y) || z) ≡ (x || (y || z))
     grouped true y z = refl
     grouped false y z = refl
+
     by : (b : Bool) → nat_lt s (fold (with_stamp a) (max best (stamp_of q.rec)) pages) ≡ (nat_lt s (max best (stamp_of q.rec)) || list_any (λ q. address_of q.rec == a && nat_lt s (stamp_of q.rec)) pages)
         → nat_lt s (fold (with_stamp a) best pages) ≡ (nat_lt s best || list_any (λ q. address_of q.rec == a && nat_lt s (stamp_of q.rec)) pages)
         → nat_lt s (fold (with_stamp a) (cond b (max best (stamp_of q.rec)) best) pages) ≡ (nat_lt s best || ((b && nat_lt s (stamp_of q.rec)) || list_any (λ q. address_of q.rec == a && nat_lt s (stamp_of q.rec)) pages))

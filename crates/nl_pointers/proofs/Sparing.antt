@@ -55,9 +55,11 @@ other_after block a s spread (q ∷ pages) = by (q.address == a && q.stamp == s)
     grouped true y z = refl
     grouped false true z = refl
     grouped false false z = refl
+
     skipped : (x y z : Bool) → (x || z) ≡ (x || ((y && false) || z))
     skipped x true z = refl
     skipped x false z = refl
+
     by : (b : Bool) → has_other block (fold (with_copy a s) (spread_more spread q.block) pages) ≡ (has_other block (spread_more spread q.block) || list_any (is_elsewhere block a s) pages)
         → has_other block (fold (with_copy a s) spread pages) ≡ (has_other block spread || list_any (is_elsewhere block a s) pages)
         → has_other block (fold (with_copy a s) (cond b (spread_more spread q.block) spread) pages) ≡ (has_other block spread || ((not (q.block == block) && b) || list_any (is_elsewhere block a s) pages))
@@ -80,9 +82,11 @@ one_page pages block r = ap (λ x. not (r.block == block && r.is_needed) || x) (
   where
     spread : Spread
     spread = spread_among pages r.address r.stamp
+
     double : (x : Bool) → x ≡ not (not x)
     double true = refl
     double false = refl
+
     by : (here : Bool) → (r.block == block) ≡ here → (needed : Bool) → (not (here && needed) || has_other block (spread_among pages r.address r.stamp)) ≡ not (here && (needed && not (has_other r.block (spread_among pages r.address r.stamp))))
     by true is true = ap (λ b. has_other b (spread_among pages r.address r.stamp)) (sym (number_is r.block block is)) ∙ double (has_other r.block (spread_among pages r.address r.stamp))
     by true is false = refl
@@ -111,6 +115,7 @@ each_block f first (m ∷ marks) each =
     by : (x y : Bool) → not (x && y) ≡ (not x || not y)
     by true y = refl
     by false y = refl
+
     double : (x : Bool) → not (not x) ≡ x
     double true = refl
     double false = refl

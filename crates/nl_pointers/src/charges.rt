@@ -8,5 +8,9 @@ use nl_field::Shape;
 pub fn charge_fault(shape: &Shape, held: &HeldList) -> Option<u32>
     ensures { result ≡ zero_where (nat_lt shape.now.cap (length held.now)) }
 {
-    if shape.cap < held.len() { Some(0) } else { None }
+    if shape.cap < held.len() {
+        Some(0)
+    } else {
+        None
+    }
 }
