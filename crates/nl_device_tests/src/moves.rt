@@ -1,12 +1,13 @@
 // A victim is begun, its live pages are moved, and it is erased.
 ghost use Rattle.std.specs.Prelude.{◌≡◌, ◌+◌, ◌*◌};
+ghost use Rattle.nl_device_tests.specs.Rigs.{HasNames};
 ghost use Rattle.nl_nand.specs.Memory.{contents_of, geometry_of};
-ghost use Rattle.nl_pseg.specs.Rig.{IsRig};
 ghost use Rattle.nl_pseg.specs.Space.{gain_of, left_of, victims};
 
-use crate::{Copied, Erasure, PSeg};
-use nl_field::{FailList, Named, NamedRead, PageBuf, Pointer, SpareRec, Tag, shape_of, spare_of};
-use nl_nand::{Cut, FormAnswer, MemNand, Nand, ReadAnswer, Stop};
+use crate::medium::{blank, least};
+use nl_field::{FailList, Named, NamedRead, PageBuf, Pointer, SpareRec, Tag, spare_of};
+use nl_nand::{Cut, MemNand, Nand, ReadAnswer, Stop};
+use nl_pseg::{Copied, Erasure, PSeg};
 use std::alloc::Global;
 use std::test::Fail;
 
@@ -50,7 +51,7 @@ struct Rig {
     media: MemNand,
     buf: PageBuf,
     stamp: u32,
-    ghost is: { IsRig (geometry_of media) (contents_of media) seg },
+    ghost is: { HasNames (geometry_of media) (contents_of media) seg },
     ghost victim: { left_of seg + gain_of seg ≡ victims seg * seg.size },
 }
 
@@ -62,22 +63,21 @@ fn owner(index: u32) -> Tag {
     }
 }
 
-fn made(alloc: Global, reads: FailList, writes: FailList, stop: Option<Stop>) -> Result<Rig, Fail> {
-    let Some(shape) = shape_of(32, 32) else {
-        return Err(Fail::from("no shape"));
-    };
+fn fresh(alloc: Global, reads: FailList, writes: FailList, stop: Option<Stop>) -> Result<Rig, Fail> {
+    let shape = least()?;
     let buf = PageBuf::new(alloc)?;
     let seg = PSeg::new(alloc, &shape)?;
-    let mut media = MemNand::new(alloc, reads, writes, stop);
-    let FormAnswer::Done = media.form(32, 32) else {
-        return Err(Fail::from("not formed"));
-    };
-    let mut rig = Rig {
+    let media = blank(alloc, reads, writes, stop)?;
+    Ok(Rig {
         seg,
         media,
         buf,
         stamp: 0,
-    };
+    })
+}
+
+fn made(alloc: Global, reads: FailList, writes: FailList, stop: Option<Stop>) -> Result<Rig, Fail> {
+    let mut rig = fresh(alloc, reads, writes, stop)?;
     rig.write(33);
     for at in 0..32u32 {
         if at != 2 && at != 14 {

@@ -1,11 +1,13 @@
+// Pages of a segment, named by their places.
 ghost use Rattle.std.specs.Prelude.{◌≡◌, ℕ, IfOk, IsTrue, None};
+ghost use Rattle.nl_device_tests.specs.Rigs.{HasNames};
 ghost use Rattle.nl_nand.specs.Memory.{contents_of, geometry_of};
-ghost use Rattle.nl_pseg.specs.Rig.{IsRig};
 ghost use Rattle.nl_pseg.specs.Segment.{held_at};
 
-use crate::PSeg;
-use nl_field::{FailList, Named, NamedRead, PageBuf, Pointer, SpareRec, Tag, shape_of, spare_of};
-use nl_nand::{FormAnswer, MemNand, Nand, ReadAnswer};
+use crate::medium::{blank, least};
+use nl_field::{FailList, Named, NamedRead, PageBuf, Pointer, SpareRec, Tag, spare_of};
+use nl_nand::{MemNand, Nand, ReadAnswer};
+use nl_pseg::PSeg;
 use std::alloc::Global;
 use std::test::Fail;
 
@@ -38,7 +40,7 @@ struct Rig {
     seg: PSeg,
     media: MemNand,
     buf: PageBuf,
-    ghost is: { IsRig (geometry_of media) (contents_of media) seg },
+    ghost is: { HasNames (geometry_of media) (contents_of media) seg },
 }
 
 fn owner(index: u32) -> Tag {
@@ -54,16 +56,11 @@ fn fresh(alloc: Global, reads: FailList, writes: FailList) -> Result<Rig, Fail>
     ensures none { IfOk result (λ rig. (page : ℕ) → held_at rig.seg page ≡ None) }
     ensures victim { IfOk result (λ rig. rig.seg.victim ≡ None) }
 {
-    let Some(shape) = shape_of(32, 32) else {
-        return Err(Fail::from("no shape"));
-    };
+    let shape = least()?;
     let buf = PageBuf::new(alloc)?;
     let seg = PSeg::new(alloc, &shape)?;
-    let mut media = MemNand::new(alloc, reads, writes, None);
-    match media.form(32, 32) {
-        FormAnswer::Done => Ok(Rig { seg, media, buf }),
-        _ => Err(Fail::from("not formed")),
-    }
+    let media = blank(alloc, reads, writes, None)?;
+    Ok(Rig { seg, media, buf })
 }
 
 fn told(answer: Named) -> Seen {
@@ -301,19 +298,25 @@ fn blocks_are_given_back(rt: HostRuntime) -> Result<(), Fail> {
     Ok(())
 }
 
-// A page is loaded, read by its name and freed.
+/// A segment in which one page is loaded.
+fn loaded(alloc: Global, at: Pointer) -> Result<PSeg, Fail>
+    requires { at ≡ record { name = 300; stamp = 9 } }
+{
+    let shape = least()?;
+    let mut seg = PSeg::new(alloc, &shape)?;
+    seg.load(300, at, owner(7));
+    Ok(seg)
+}
+
+// A page is loaded and freed.
 #[test]
 fn a_page_is_loaded(rt: HostRuntime) -> Result<(), Fail> {
     let alloc = rt.alloc();
-    let Some(shape) = shape_of(32, 32) else {
-        return Err(Fail::from("no shape"));
-    };
-    let mut seg = PSeg::new(alloc, &shape)?;
     let at = Pointer {
         name: 300,
         stamp: 9,
     };
-    seg.load(300, at, owner(7));
+    let mut seg = loaded(alloc, at)?;
     assert_eq!(rt; seg.free_blocks(), 23);
     assert_eq!(rt; seg.resolve(300), 300);
     assert_eq!(rt; seg.pairs(), 0);

@@ -1,10 +1,12 @@
-ghost use Rattle.std.specs.Prelude.{◌≡◌, IfOk};
+// Pages of a segment by their addresses.
+ghost use Rattle.std.specs.Prelude.{◌≡◌};
+ghost use Rattle.nl_device_tests.specs.Rigs.{HasAddresses};
 ghost use Rattle.nl_nand.specs.Memory.{contents_of, geometry_of};
-ghost use Rattle.nl_vseg.specs.Rig.{IsRig};
 
-use crate::VSeg;
-use nl_field::{FailList, PageBuf, SpareRec, VirtualRead, VirtualWrite, shape_of, spare_of};
-use nl_nand::{Cut, FormAnswer, MemNand, Nand, ReadAnswer, Stop};
+use crate::medium::{blank, least};
+use nl_field::{FailList, PageBuf, SpareRec, VirtualRead, VirtualWrite, spare_of};
+use nl_nand::{Cut, MemNand, Nand, ReadAnswer, Stop};
+use nl_vseg::VSeg;
 use std::alloc::Global;
 use std::test::Fail;
 
@@ -24,6 +26,7 @@ struct Rig {
     seg: VSeg,
     media: MemNand,
     buf: PageBuf,
+    ghost is: { HasAddresses (geometry_of media) (contents_of media) seg },
 }
 
 /// A medium after a stop.
@@ -36,24 +39,16 @@ struct Left {
 
 /// A blank medium with a new segment.
 fn fresh(alloc: Global, reads: FailList, writes: FailList, stop: Option<Stop>) -> Result<Rig, Fail>
-    ensures { IfOk result (λ r. IsRig (geometry_of r.media) (contents_of r.media) r.seg) }
 {
-    let Some(shape) = shape_of(32, 32) else {
-        return Err(Fail::from("no shape"));
-    };
+    let shape = least()?;
     let buf = PageBuf::new(alloc)?;
     let seg = VSeg::new(alloc, &shape)?;
-    let mut media = MemNand::new(alloc, reads, writes, stop);
-    match media.form(32, 32) {
-        FormAnswer::Done => Ok(Rig { seg, media, buf }),
-        _ => Err(Fail::from("not formed")),
-    }
+    let media = blank(alloc, reads, writes, stop)?;
+    Ok(Rig { seg, media, buf })
 }
 
 impl Rig {
     fn write(&mut self, vaddr: u32, byte: u8, stamp: u32) -> Seen
-        requires { IsRig (geometry_of self.old.media) (contents_of self.old.media) self.old.seg }
-        ensures { IsRig (geometry_of self.new.media) (contents_of self.new.media) self.new.seg }
     {
         self.buf.clear();
         self.buf.set_main(0, &[byte]);
@@ -69,8 +64,6 @@ impl Rig {
     }
 
     fn read(&mut self, vaddr: u32) -> Seen
-        requires { IsRig (geometry_of self.old.media) (contents_of self.old.media) self.old.seg }
-        ensures { IsRig (geometry_of self.new.media) (contents_of self.new.media) self.new.seg }
     {
         match self
             .seg
@@ -85,8 +78,6 @@ impl Rig {
 
     /// So many writes, each of the byte of its number; the number of the first one that is not done.
     fn fill(&mut self, count: u32) -> u32
-        requires { IsRig (geometry_of self.old.media) (contents_of self.old.media) self.old.seg }
-        ensures { IsRig (geometry_of self.new.media) (contents_of self.new.media) self.new.seg }
     {
         for number in 0..count {
             if self.write(address(number), (number % 251) as u8, number) != Seen::Wrote {
@@ -106,7 +97,6 @@ impl Rig {
     }
 
     fn restart(self) -> Left
-        requires { IsRig (geometry_of self.media) (contents_of self.media) self.seg }
     {
         let Rig { seg: _, media, buf } = self;
         Left {

@@ -1,0 +1,4 @@
+pub mod Blank
+pub mod Reopened
+pub mod Retaining
+pub mod Rigs
