@@ -155,8 +155,7 @@ impl Pending {
         ensures least { IfSome result (λ next. (other : ℕ) → IsPending self.now.callbacks other → number < other → next ≤ other) }
         ensures none { IfNone result ((other : ℕ) → IsPending self.now.callbacks other → other ≤ number) }
     {
-        let _room = self.room;
-        if number == u64::MAX {
+        if number >= self.posted {
             return None;
         }
         let at = entry_place(&self.entries, number + 1);

@@ -298,12 +298,14 @@ fn blocks_are_given_back(rt: HostRuntime) -> Result<(), Fail> {
     Ok(())
 }
 
-/// A segment in which one page is loaded.
-fn loaded(alloc: Global, at: Pointer) -> Result<PSeg, Fail>
-    requires { at ≡ record { name = 300; stamp = 9 } }
-{
+/// A segment in which page 300 is loaded, with number 9.
+fn loaded(alloc: Global) -> Result<PSeg, Fail> {
     let shape = least()?;
     let mut seg = PSeg::new(alloc, &shape)?;
+    let at = Pointer {
+        name: 300,
+        stamp: 9,
+    };
     seg.load(300, at, owner(7));
     Ok(seg)
 }
@@ -316,11 +318,13 @@ fn a_page_is_loaded(rt: HostRuntime) -> Result<(), Fail> {
         name: 300,
         stamp: 9,
     };
-    let mut seg = loaded(alloc, at)?;
+    let mut seg = loaded(alloc)?;
     assert_eq!(rt; seg.free_blocks(), 23);
     assert_eq!(rt; seg.resolve(300), 300);
     assert_eq!(rt; seg.pairs(), 0);
+    assert!(rt; seg.is_live(at));
     assert!(rt; seg.free(at));
+    assert!(rt; !seg.is_live(at));
     assert!(rt; !seg.free(at));
     Ok(())
 }
