@@ -29,10 +29,10 @@ each-preserved c =
       room = e.room ∙ k.room;
     }
 
-pub returns-after-each-clause-callbacks : goal.returns-after-each-clause-callbacks
-returns-after-each-clause-callbacks c =
+pub returns-in_default-clause-callbacks : goal.returns-in_default-clause-callbacks
+returns-in_default-clause-callbacks c =
     let k = c.each.invariant in
-    k.kept ∙ none_through c.args.pseg.now.pairs c.args.pending.now.callbacks c.each.number (subst (λ (l : List Entry). (other : ℕ) → IsPending l other → other ≤ c.each.number) k.kept c.each-test.none)
+    k.kept ∙ none_through c.args.pseg.now.pairs c.args.pending.now.callbacks c.each.number (subst (λ (l : List Entry). (other : ℕ) → IsPending l other → other ≤ c.each.number) k.kept c.in_default.ensures.none)
 
 pub cancel_one-requires-clause-names : goal.cancel_one-requires-clause-names
 cancel_one-requires-clause-names c =
