@@ -1,5 +1,5 @@
 -- What a copy leaves at a stop, and what it leaves where it failed or moved nothing.
-use Rattle.std.proofs.Common.{◌≡◌, ◌⊎◌, inl, inr, ◌*◌, ◌≤◌, ◌∙◌, ℕ, arith, cond, is_some, Bool, false, List, Option, Some, None, get_or, length, refl, sym, ap, subst}
+use Rattle.std.proofs.Common.{◌≡◌, ◌⊎◌, inl, inr, ◌*◌, ◌≤◌, ◌∙◌, ℕ, arith, Bool, false, List, Option, Some, None, get_or, length, refl, sym, ap, subst}
 use Rattle.std.specs.Bool.{OnFalse, OnTrue}
 use Rattle.nl_callbacks.specs.Pending.{PendingTable}
 use Rattle.nl_field.specs.Page.{Image, page_at}

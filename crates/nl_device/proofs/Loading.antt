@@ -1,5 +1,5 @@
 -- A pointer's place is a page of its stamp.
-use Rattle.std.proofs.Common.{◌≡◌, ℕ, ◌+◌, ◌*◌, ◌<◌, ◌≤◌, ◌&&◌, ◌||◌, not, Bool, true, false, List, Option, Some, None, length, get_or, option_map, unwrap_or, refl, sym, ◌∙◌, ap, subst, arith, ⊎_elim}
+use Rattle.std.proofs.Common.{◌≡◌, ℕ, ◌+◌, ◌*◌, ◌<◌, ◌≤◌, ◌&&◌, ◌||◌, not, Bool, true, false, Option, Some, None, option_map, unwrap_or, refl, sym, ◌∙◌, ap, subst, ⊎_elim}
 use Rattle.std.specs.Prelude.{◌==◌, IsSome, find}
 use Rattle.std.specs.BTreeMap.{BTreeMap}
 use Rattle.std.specs.List.{list_any}
@@ -14,7 +14,7 @@ use Rattle.nl_device.specs.Retain.{IsSegmentFor, is_lost, owns_name, placed_at}
 use Rattle.nl_device.specs.declared.kept.copies.Copies.{Copies}
 use Rattle.nl_device.specs.declared.kept.page.KeptPage.{KeptPage}
 use Rattle.nl_device.proofs.Alone.{any_one, both, found_passes}
-use Rattle.nl_device.proofs.Lookups.{found_at, is_number, number_is, stamp_of_found, stamp_of_none}
+use Rattle.nl_device.proofs.Lookups.{found_at, number_is, stamp_of_found, stamp_of_none}
 use Rattle.nl_device.proofs.Places.{least}
 
 -- the page was found, has the stamp of the pointer, and is outside the spare block

@@ -10,7 +10,7 @@ use Rattle.nl_field.specs.Page.{Image, page_at}
 use Rattle.nl_field.specs.declared.shape.Shape.{Shape}
 use Rattle.nl_iface.specs.Left.{HoldsLive, LeavesPages}
 use Rattle.nl_iface.specs.Moves.{LeavesErased}
-use Rattle.nl_iface.specs.Names.{Has, LivePage, led}
+use Rattle.nl_iface.specs.Names.{Has}
 use Rattle.nl_iface.specs.Stored.{NamedPage, stored_in}
 use Rattle.nl_nand.specs.Nand.{ImageOf}
 use Rattle.nl_nand.specs.declared.geometry.Geometry.{Geometry}

@@ -1,5 +1,5 @@
 -- One callback more.
-use Rattle.std.specs.Prelude.{◌≡◌, ℕ, ◌+◌, ◌-◌, ◌^◌, ◌<◌, ◌++◌, ◌∷◌, [], insert, min}
+use Rattle.std.specs.Prelude.{◌≡◌, ◌+◌, ◌-◌, ◌^◌, ◌<◌, ◌++◌, ◌∷◌, [], insert, min}
 use Rattle.nl_callbacks.specs.Pending.{IsPending, IsTable, PendingTable, new_entry, place_of}
 use Rattle.nl_iface.specs.declared.Callback.{Callback}
 

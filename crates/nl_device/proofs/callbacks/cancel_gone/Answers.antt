@@ -1,4 +1,4 @@
-use Rattle.std.proofs.Common.{arith, ◌≤◌, ◌<◌, ◌==◌, ◌||◌, ◌∙◌, ℕ, not, nat_lt, List, ap, filter, refl, subst, sym}
+use Rattle.std.proofs.Common.{◌≤◌, ◌<◌, ◌==◌, ◌||◌, ◌∙◌, ℕ, not, nat_lt, List, ap, filter, refl, subst, sym}
 use Rattle.nl_callbacks.specs.Pending.{IsPending, number_of}
 use Rattle.nl_callbacks.specs.declared.entry.Entry.{Entry}
 use Rattle.nl_field.specs.Live.{resolve}

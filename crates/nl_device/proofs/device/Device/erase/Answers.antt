@@ -1,8 +1,7 @@
-use Rattle.std.proofs.Common.{◌≡◌, ◌∙◌, ◌*◌, ◌≤◌, ◌+◌, ◌<◌, ◌^◌, ℕ, get_or, length, List, Option, Some, None, inl, inr, refl, sym, ap, subst, arith}
+use Rattle.std.proofs.Common.{◌≡◌, ◌∙◌, ◌*◌, ◌≤◌, ◌<◌, ◌^◌, ℕ, get_or, List, Option, Some, None, inl, refl, sym, ap, subst, arith}
 use Rattle.std.proofs.lemmas.Option.{none-some}
-use Rattle.nl_field.specs.Page.{Image}
 use Rattle.nl_nand.specs.Nand.{ImageOf}
-use Rattle.nl_pseg.specs.Cleaning.{Erases, KeepsBeside}
+use Rattle.nl_pseg.specs.Cleaning.{Erases}
 use Rattle.nl_pseg.specs.Segment.{Physical, held_at}
 use Rattle.nl_iface.specs.Space.{Space}
 use Rattle.nl_pseg.specs.Space.{left_of}

@@ -1,20 +1,20 @@
-use Rattle.std.proofs.Common.{◌≡◌, ◌+◌, ◌*◌, ◌^◌, ◌<◌, ◌≤◌, ◌∙◌, ℕ, List, [], ap, arith, length, map, refl, is_some, subst, sym}
+use Rattle.std.proofs.Common.{◌≤◌, ◌∙◌, List, ap, arith, length, refl, is_some, subst, sym}
 use Rattle.std.specs.Prelude.{filter}
 use Rattle.std.proofs.lemmas.List.{take_all}
 use Rattle.nl_field.specs.declared.pointer.Pointer.{Pointer}
 use Rattle.nl_callbacks.specs.declared.entry.Entry.{Entry}
-use Rattle.nl_pseg.specs.Segment.{IsClean, KeepsBlock, Physical}
+use Rattle.nl_pseg.specs.Segment.{IsClean}
 use Rattle.nl_device.specs.Device.{HasSpareBlock, IsDevice}
-use Rattle.nl_device.specs.Retain.{IsSegmentFor, calls_beside, is_moved, moved_among, needed_blocks, spare_for}
+use Rattle.nl_device.specs.Retain.{IsSegmentFor, is_moved, moved_among, needed_blocks, spare_for}
 use Rattle.nl_device.specs.Shown.{found_by_number}
-use Rattle.nl_device.proofs.CallsMade.{called_listed, calls_count}
+use Rattle.nl_device.proofs.CallsMade.{called_listed}
 use Rattle.nl_device.proofs.KeptLive.{are_called, names_hold, reopened, retains_are}
 use Rattle.nl_device.proofs.Retained.{all_free, free_some, is_fresh, none_held, retained_device, segment_for}
 use Rattle.nl_device.proofs.Retaining.{counted, found_in, live_differ, some_kept}
 use Rattle.nl_device.proofs.Spacing.{victim_none}
 use Rattle.nl_device.proofs.Calling.{none_called, none_paired}
 use Rattle.nl_device.proofs.Leaving.{none_in_hand}
-use Rattle.nl_device.specs.Callbacks.{callbacks_of, names_with}
+use Rattle.nl_device.specs.Callbacks.{names_with}
 use Rattle.nl_device.proofs.device.Device.retain.Goals as goal
 
 pub give_back-requires : goal.give_back-requires

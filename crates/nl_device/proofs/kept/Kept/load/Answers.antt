@@ -1,4 +1,4 @@
-use Rattle.std.proofs.Common.{◌≡◌, ◌≢◌, ℕ, ◌/◌, inl, inr, ⊎_elim, Option, Some, None, ap, arith, option_map, set, subst, sym, ◌∙◌, unwrap_or, refl}
+use Rattle.std.proofs.Common.{◌≡◌, ℕ, ◌/◌, inl, inr, ⊎_elim, Some, None, ap, option_map, set, subst, sym, ◌∙◌, unwrap_or}
 use Rattle.std.specs.Prelude.{◌==◌, Contains, IsTrue, find}
 use Rattle.std.proofs.lemmas.Bool.{cases_eq}
 use Rattle.std.proofs.lemmas.Option.{none-some, same_Some}

@@ -1,4 +1,4 @@
-use Rattle.std.proofs.Common.{◌≡◌, ◌^◌, ◌<◌, ◌∙◌, ap, arith, length, subst, sym}
+use Rattle.std.proofs.Common.{◌^◌, ◌<◌, subst, sym}
 use Rattle.nl_device.specs.Kept.{IsKept}
 use Rattle.nl_device.specs.Retain.{CanLoad, IsCalled, Loads, placed_at, spare_for}
 use Rattle.nl_device.proofs.CallsMade.{called_more, called_none}
