@@ -1,13 +1,13 @@
 // Pages of a segment by their addresses.
 ghost use Rattle.std.specs.Prelude.{◌≡◌};
-ghost use Rattle.nl_device_tests.specs.Rigs.{HasAddresses};
-ghost use Rattle.nl_nand.specs.Memory.{contents_of, geometry_of};
+ghost use Rattle.nl_nand.specs.Memory.{geometry_of};
 
 use crate::medium::{blank, least};
 use nl_field::{FailList, PageBuf, SpareRec, VirtualRead, VirtualWrite, spare_of};
 use nl_nand::{Cut, MemNand, Nand, ReadAnswer, Stop};
 use nl_vseg::VSeg;
 use std::alloc::Global;
+use std::marker::Model;
 use std::test::Fail;
 
 /// What a call answered, with the first byte that a read found.
@@ -26,7 +26,17 @@ struct Rig {
     seg: VSeg,
     media: MemNand,
     buf: PageBuf,
-    ghost is: { HasAddresses (geometry_of media) (contents_of media) seg },
+}
+
+impl Model for Rig {
+    ghost use Rattle.nl_device_tests.specs.Rigs.{HasAddresses};
+    ghost use Rattle.nl_nand.specs.Memory.{contents_of, geometry_of};
+
+    ghost Value = { Unit {0} };
+
+    ghost view = { λ r. tt };
+
+    ghost invariant = { λ r. HasAddresses (geometry_of r.media) (contents_of r.media) r.seg };
 }
 
 /// A medium after a stop.
