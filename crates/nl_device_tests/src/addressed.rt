@@ -48,8 +48,12 @@ struct Left {
 }
 
 /// A blank medium with a new segment.
-fn fresh(alloc: Global, reads: FailList, writes: FailList, stop: Option<Stop>) -> Result<Rig, Fail>
-{
+fn fresh(
+    alloc: Global,
+    reads: FailList,
+    writes: FailList,
+    stop: Option<Stop>,
+) -> Result<Rig, Fail> {
     let shape = least()?;
     let buf = PageBuf::new(alloc)?;
     let seg = VSeg::new(alloc, &shape)?;
@@ -58,8 +62,7 @@ fn fresh(alloc: Global, reads: FailList, writes: FailList, stop: Option<Stop>) -
 }
 
 impl Rig {
-    fn write(&mut self, vaddr: u32, byte: u8, stamp: u32) -> Seen
-    {
+    fn write(&mut self, vaddr: u32, byte: u8, stamp: u32) -> Seen {
         self.buf.clear();
         self.buf.set_main(0, &[byte]);
         let stamp = u64::from(stamp) + 1;
@@ -73,8 +76,7 @@ impl Rig {
         }
     }
 
-    fn read(&mut self, vaddr: u32) -> Seen
-    {
+    fn read(&mut self, vaddr: u32) -> Seen {
         match self
             .seg
             .virtual_read(&mut self.media, vaddr % 103, &mut self.buf)
@@ -87,8 +89,7 @@ impl Rig {
     }
 
     /// So many writes, each of the byte of its number; the number of the first one that is not done.
-    fn fill(&mut self, count: u32) -> u32
-    {
+    fn fill(&mut self, count: u32) -> u32 {
         for number in 0..count {
             if self.write(address(number), (number % 251) as u8, number) != Seen::Wrote {
                 return number;
@@ -106,8 +107,7 @@ impl Rig {
         )
     }
 
-    fn restart(self) -> Left
-    {
+    fn restart(self) -> Left {
         let Rig { seg: _, media, buf } = self;
         Left {
             media: media.restart(None),
