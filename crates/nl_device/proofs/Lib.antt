@@ -46,6 +46,7 @@ pub mod Ranges
 pub mod NamedReads
 pub mod Ready
 pub mod Reopened
+pub mod Retainable
 pub mod Retained
 pub mod Retaining
 pub mod SeenSpare
