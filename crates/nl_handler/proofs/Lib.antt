@@ -1,0 +1,4 @@
+mod Found
+mod Lists
+mod Renaming
+mod Stored
