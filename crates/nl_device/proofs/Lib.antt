@@ -1,6 +1,5 @@
 pub mod Agreed
 pub mod Alone
-pub mod Blanks
 pub mod Bounds
 pub mod Called
 pub mod Calls
