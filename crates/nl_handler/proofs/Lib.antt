@@ -1,4 +1,11 @@
+mod Finding
 mod Found
+mod HoldersRenamed
 mod Lists
+mod Physical
+mod Reading
+mod Renamed
+mod RenamedOn
 mod Renaming
+mod Rewritten
 mod Stored

@@ -1,7 +1,8 @@
 -- What a callback finds, and what its handling does.
-use Rattle.std.specs.Prelude.{◌≡◌, ◌≢◌, ◌⊎◌, ℕ, ◌+◌, ◌/◌, ◌==◌, ◌<◌, Bool, true, false, not, ◌&&◌, if◌then◌else◌, List, length, Option, Some, None, IsSome}
+use Rattle.std.specs.Prelude.{◌≡◌, ◌≢◌, ◌⊎◌, ℕ, ◌+◌, ◌/◌, ◌==◌, ◌<◌, Bool, true, false, not, ◌&&◌, if◌then◌else◌, List, length, Option, Some, None, IsSome, IsTrue}
 use Rattle.std.specs.List.{list_any}
 use Rattle.nl_field.specs.Pointers.{is_none_pointer}
+use Rattle.nl_field.specs.Spelling.{is_stamp}
 use Rattle.nl_field.specs.declared.inode.InodeRec.{InodeRec}
 use Rattle.nl_field.specs.declared.inode.Kind.TheVariants.{File}
 use Rattle.nl_field.specs.declared.pointer.Pointer.{Pointer}
@@ -67,12 +68,15 @@ pub record RenamesPointer (shape : Shape) (old new : VirtualMap) (tag : Tag) (st
   pub changes : ChangesFile shape old new tag.ino was is
   pub pointer : ChangesPointer shape old new tag.ino tag.index was is
   pub size : is.size ≡ was.size
+  pub spelled : IsTrue (is_stamp stamp)
   pub now : pointer_at new is tag.index ≡ record { name = name; stamp = stamp }
 
--- The device was only read. One page is dirty that may not have been so, and every other resident page is as it was.
+-- The device was only read. One page is dirty that may not have been so, for which there was room, and every other resident page is as
+-- it was.
 pub record RenamesOn {D : Type 0} (g : Ghosts D) (s : D) (p : Pages) (t : D) (q : Pages) (tag : Tag) (stamp name : ℕ) : Type 0 where
   pub reads : OnlyReads g s t
   pub renames : RenamesPointer (g.shape s) (running_on g s p) (running_on g t q) tag stamp name
+  pub room : has_room p (page_holding tag renames.was) ≡ true
   pub count : length q.running ≡ length p.running
   pub frozen : q.frozen ≡ p.frozen
   pub dirty : q.dirty ≡ with_address (page_holding tag renames.was) p.dirty

@@ -1,0 +1,26 @@
+-- The place to which the old name of a pending callback leads.
+use Rattle.std.proofs.Common.{◌≡◌, ℕ, ◌*◌, ◌≤◌, ◌<◌, Bool, true, ◌&&◌, ◌||◌, nat_le, nat_lt, sym, ap, subst, ◌∙◌}
+use Rattle.std.proofs.Math.Bool.{or-true}
+use Rattle.std.proofs.lemmas.Bool.{and_from, le-leb, lt-ltb}
+use Rattle.std.specs.Prelude.{IsTrue}
+use Rattle.nl_field.specs.Live.{resolve}
+use Rattle.nl_field.specs.Medium.{first_physical}
+use Rattle.nl_field.specs.Pointers.{is_none_pointer}
+use Rattle.nl_field.specs.declared.pointer.Pointer.{Pointer}
+use Rattle.nl_field.specs.declared.shape.Shape.{Shape}
+use Rattle.nl_iface.specs.Names.{Has, IsNames, IsTable, Names, led, told_page}
+use Rattle.nl_iface.specs.declared.Callback.{Callback}
+use Rattle.nl_meta.specs.Nodes.{is_physical_name}
+
+module _ (shape : Shape) (next : ℕ) (names : Names) (tables : IsNames shape next names) (table : IsTable names) (c : Callback) (pending : Has names.pending c) (to stamp : ℕ) (is : to ≡ resolve names.pairs c.before) where
+  low : first_physical shape ≤ to
+  low = subst (λ (n : ℕ). first_physical shape ≤ n) (sym is) (tables.from_first (led names c.before) (told_page c) (table.called c pending))
+
+  high : to < shape.blocks * shape.pages
+  high = subst (λ (n : ℕ). n < shape.blocks * shape.pages) (sym is) (tables.to_last (led names c.before) (told_page c) (table.called c pending))
+
+  pub led-physical : IsTrue (is_physical_name shape (record { name = to; stamp = stamp }))
+  led-physical =
+      ap (λ (b : Bool). is_none_pointer (record { name = to; stamp = stamp }) || b)
+      (and_from (nat_le (first_physical shape) to) (nat_lt to (shape.blocks * shape.pages)) (le-leb (first_physical shape) to low) (lt-ltb to (shape.blocks * shape.pages) high))
+      ∙ or-true (is_none_pointer (record { name = to; stamp = stamp }))
