@@ -1,6 +1,7 @@
 -- A holder of a live page that has another name.
 use Rattle.std.proofs.Common.{◌≡◌, ◌≢◌, ℕ, ◌≤◌, ◌==◌, false, true, not, List, [], ◌∷◌, ◌++◌, map, refl, sym, ap, subst, ◌∙◌, Some}
 use Rattle.std.proofs.lemmas.Bool.{and_parts, cond-false, cond-true, eq-eqb, eqb-true, ne_eqb, not-true}
+use Rattle.std.proofs.lemmas.List.{append_assoc}
 use Rattle.nl_field.specs.Pointers.{is_none_pointer}
 use Rattle.nl_field.specs.declared.pointer.Pointer.{Pointer}
 use Rattle.nl_field.specs.declared.pointer.Tag.{Tag}
@@ -44,10 +45,10 @@ module _ (shape : Shape) (old new : VirtualMap) (tag : Tag) (stamp name : ℕ) (
   shown-is = cond-false (is_none_pointer is) [] ((its, is) ∷ []) (to-some (Some is) r.spelled refl)
 
   list-was : tagged_in shape old ≡ one.front ++ (its, was) ∷ one.behind
-  list-was = one.was ∙ ap (λ (m : List (Tag × Pointer)). one.front ++ (m ++ one.behind)) shown-was
+  list-was = one.was ∙ append_assoc one.front (shown its was) one.behind ∙ ap (λ (m : List (Tag × Pointer)). one.front ++ (m ++ one.behind)) shown-was
 
   list-is : tagged_in shape new ≡ one.front ++ (its, is) ∷ one.behind
-  list-is = one.is ∙ ap (λ (k : Pointer). one.front ++ (shown its k ++ one.behind)) r.now ∙ ap (λ (m : List (Tag × Pointer)). one.front ++ (m ++ one.behind)) shown-is
+  list-is = one.is ∙ append_assoc one.front (shown its (pointer_at new r.is tag.index)) one.behind ∙ ap (λ (k : Pointer). one.front ++ (shown its k ++ one.behind)) r.now ∙ ap (λ (m : List (Tag × Pointer)). one.front ++ (m ++ one.behind)) shown-is
 
   stored : Renames tagged wants_tagged stamp name (tagged_in shape old) (tagged_in shape new)
   stored =

@@ -5,12 +5,12 @@ use Rattle.nl_field.specs.declared.inode.InodeRec.{InodeRec}
 use Rattle.nl_field.specs.declared.pointer.Pointer.{Pointer}
 use Rattle.nl_iface.proofs.Tables.{is_table}
 use Rattle.nl_meta.specs.Nodes.{is_physical_name}
-use Rattle.nl_meta.specs.Pages.{Pages}
+use Rattle.nl_meta.specs.Pages.{Pages, has_room}
 use Rattle.nl_running.specs.Running.{Runs, running_on}
 use Rattle.nl_running.proofs.Holds.{bounds-of}
 use Rattle.nl_running.proofs.Kept.{runs-then}
 use Rattle.nl_handler.specs.Changing.{IsAtHand}
-use Rattle.nl_handler.specs.Handling.{HasTagged, HoldsTagged}
+use Rattle.nl_handler.specs.Handling.{HasTagged, HoldsTagged, page_holding}
 use Rattle.nl_handler.proofs.Physical.{led-physical}
 use Rattle.nl_handler.proofs.RenamedOn.{renames-on, runs-on}
 use Rattle.nl_handler.proofs.metadata.rename_stored.Goals as goal
@@ -46,7 +46,7 @@ returns-then-rename-clause-stored g c =
     led-physical (g.D.Counts.shape s) (g.D.Counts.next_stamp s) (g.D.Counts.names s) (g.met.D.NamedPages.tables s c.requires.formed) table c.args.callback.now c.requires.pending c.args.to c.args.callback.now.stamp c.requires.to in
     renames-on g.D.Counts s p (bounds-of (g.D.Counts.shape s) (g.met.D.VirtualPages.numbers s c.requires.formed)) c.requires.runs c.find.new.device c.find.new.meta c.in-Ok-Some.ensures.kept c.args.callback.now.tag to c.in-Ok-Some.rec found.0 found.1 found.2 physical c.rename.new.meta
     (c.rename.ensures.done c.if-rename.true)
-    (sym c.rename.ensures.room ∙ c.if-rename.true)
+    (sym {b = has_room c.find.new.meta (page_holding c.args.callback.now.tag c.in-Ok-Some.rec)} c.rename.ensures.room ∙ c.if-rename.true)
 
 pub returns-else-rename-clause-runs : goal.returns-else-rename-clause-runs
 returns-else-rename-clause-runs g c =
