@@ -1,7 +1,7 @@
 -- The file of a tag, and the page that has its pointer.
 use Rattle.std.proofs.Common.{◌≡◌, ◌≢◌, ◌⊎◌, inl, inr, ℕ, ◌+◌, ◌*◌, ◌/◌, ◌≤◌, ◌<◌, Option, Some, IsSome, is_some, Result, Ok, Err, IfOk, refl, sym, ap, subst, ◌∙◌, arith}
 use Rattle.std.proofs.lemmas.Bool.{cases_lt}
-use Rattle.std.specs.Prelude.{slice_index}
+use Rattle.std.specs.Prelude.{MatchOption, slice_index}
 use Rattle.nl_field.specs.Numbers.{ShapeBounds}
 use Rattle.nl_field.specs.declared.inode.InodeRec.{InodeRec}
 use Rattle.nl_field.specs.declared.inode.Kind.TheVariants.{File, Unused}
@@ -23,6 +23,10 @@ use Rattle.nl_handler.specs.Handling.{IsTagged, TagsFile}
 pub if-ok : {T E : Type 0} {P Q : T → Type 0} (r : Result T E) → ((x : T) → P x → Q x) → IfOk r P → IfOk r Q
 if-ok (Ok x) f h = f x h
 if-ok (Err e) f h = h
+
+-- what is said of an option that is there
+pub if-some : {X : Type 0} (P : Type 0) (Q : X → Type 0) (o : Option X) (x : X) → o ≡ Some x → MatchOption o P Q → Q x
+if-some P Q o x e h = subst (λ k. MatchOption k P Q) e h
 
 pub file-unused : File ≡ Unused → ⊥
 file-unused e = cc

@@ -1,5 +1,7 @@
 mod Finding
 mod Found
+mod HandlerKeeps
+mod HolderPlace
 mod HoldersRenamed
 mod Lists
 mod Physical

@@ -8,8 +8,11 @@ use Rattle.nl_field.specs.Medium.{first_physical}
 use Rattle.nl_field.specs.Pointers.{is_none_pointer}
 use Rattle.nl_field.specs.declared.pointer.Pointer.{Pointer}
 use Rattle.nl_field.specs.declared.shape.Shape.{Shape}
+use Rattle.nl_iface.specs.Device.{IsDeviceState, state_of}
 use Rattle.nl_iface.specs.Names.{Has, IsNames, IsTable, Names, led, told_page}
 use Rattle.nl_iface.specs.declared.Callback.{Callback}
+use Rattle.nl_iface.specs.declared.counts.Counts.{Ghosts}
+use Rattle.nl_iface.proofs.Tables.{is_table}
 use Rattle.nl_meta.specs.Nodes.{is_physical_name}
 
 module _ (shape : Shape) (next : ℕ) (names : Names) (tables : IsNames shape next names) (table : IsTable names) (c : Callback) (pending : Has names.pending c) (to stamp : ℕ) (is : to ≡ resolve names.pairs c.before) where
@@ -19,8 +22,14 @@ module _ (shape : Shape) (next : ℕ) (names : Names) (tables : IsNames shape ne
   high : to < shape.blocks * shape.pages
   high = subst (λ (n : ℕ). n < shape.blocks * shape.pages) (sym is) (tables.to_last (led names c.before) (told_page c) (table.called c pending))
 
-  pub led-physical : IsTrue (is_physical_name shape (record { name = to; stamp = stamp }))
+  led-physical : IsTrue (is_physical_name shape (record { name = to; stamp = stamp }))
   led-physical =
       ap (λ (b : Bool). is_none_pointer (record { name = to; stamp = stamp }) || b)
       (and_from (nat_le (first_physical shape) to) (nat_lt to (shape.blocks * shape.pages)) (le-leb (first_physical shape) to low) (lt-ltb to (shape.blocks * shape.pages) high))
       ∙ or-true (is_none_pointer (record { name = to; stamp = stamp }))
+
+-- the same over a device
+pub called-physical : {D : Type 0} (g : Ghosts D) (s : D) → IsDeviceState (g.shape s).pages (state_of (g.names s) (g.bytes s) (g.map s) (g.next_stamp s)) → IsNames (g.shape s) (g.next_stamp s) (g.names s)
+    → (c : Callback) → Has (g.names s).pending c → (to stamp : ℕ) → to ≡ resolve (g.names s).pairs c.before → IsTrue (is_physical_name (g.shape s) (record { name = to; stamp = stamp }))
+called-physical g s state tables c pending to stamp is =
+    led-physical (g.shape s) (g.next_stamp s) (g.names s) tables (is_table (g.shape s).pages (g.next_stamp s) (g.names s) (g.bytes s) (g.map s) state) c pending to stamp is
