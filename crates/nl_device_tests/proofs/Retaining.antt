@@ -42,7 +42,6 @@ can_written = record {
   names_differ = names_differ 258 270 (λ e. omega (arith, e)) (λ e. omega (arith, e)) (λ e. omega (arith, e));
   own = each_of (λ p. owns_name (of_least WRITTEN) p ≡ true) _ _ _ refl refl refl;
   few_lost = omega arith;
-  room = omega arith;
 }
 
 pub can_one_copied : CanRetain (of_least ONE_COPIED) (three 258 270)
@@ -54,7 +53,6 @@ can_one_copied = record {
   names_differ = names_differ 258 270 (λ e. omega (arith, e)) (λ e. omega (arith, e)) (λ e. omega (arith, e));
   own = each_of (λ p. owns_name (of_least ONE_COPIED) p ≡ true) _ _ _ refl refl refl;
   few_lost = omega arith;
-  room = omega arith;
 }
 
 pub can_copied : CanRetain (of_least COPIED) (three 320 321)
@@ -66,7 +64,6 @@ can_copied = record {
   names_differ = names_differ 320 321 (λ e. omega (arith, e)) (λ e. omega (arith, e)) (λ e. omega (arith, e));
   own = each_of (λ p. owns_name (of_least COPIED) p ≡ true) _ _ _ refl refl refl;
   few_lost = omega arith;
-  room = omega arith;
 }
 
 pub can_erased : CanRetain (of_least ERASED) (three 320 321)
@@ -78,5 +75,4 @@ can_erased = record {
   names_differ = names_differ 320 321 (λ e. omega (arith, e)) (λ e. omega (arith, e)) (λ e. omega (arith, e));
   own = each_of (λ p. owns_name (of_least ERASED) p ≡ true) _ _ _ refl refl refl;
   few_lost = omega arith;
-  room = omega arith;
 }

@@ -1,13 +1,13 @@
 // Pages of a segment by their addresses.
 ghost use Rattle.std.specs.Prelude.{◌≡◌};
-ghost use Rattle.nl_device_tests.specs.Rigs.{HasAddresses};
-ghost use Rattle.nl_nand.specs.Memory.{contents_of, geometry_of};
+ghost use Rattle.nl_nand.specs.Memory.{geometry_of};
 
 use crate::medium::{blank, least};
 use nl_field::{FailList, PageBuf, SpareRec, VirtualRead, VirtualWrite, spare_of};
 use nl_nand::{Cut, MemNand, Nand, ReadAnswer, Stop};
 use nl_vseg::VSeg;
 use std::alloc::Global;
+use std::marker::Model;
 use std::test::Fail;
 
 /// What a call answered, with the first byte that a read found.
@@ -26,7 +26,17 @@ struct Rig {
     seg: VSeg,
     media: MemNand,
     buf: PageBuf,
-    ghost is: { HasAddresses (geometry_of media) (contents_of media) seg },
+}
+
+impl Model for Rig {
+    ghost use Rattle.nl_device_tests.specs.Rigs.{HasAddresses};
+    ghost use Rattle.nl_nand.specs.Memory.{contents_of, geometry_of};
+
+    ghost Value = { Unit {0} };
+
+    ghost view = { λ r. tt };
+
+    ghost invariant = { λ r. HasAddresses (geometry_of r.media) (contents_of r.media) r.seg };
 }
 
 /// A medium after a stop.
@@ -38,8 +48,12 @@ struct Left {
 }
 
 /// A blank medium with a new segment.
-fn fresh(alloc: Global, reads: FailList, writes: FailList, stop: Option<Stop>) -> Result<Rig, Fail>
-{
+fn fresh(
+    alloc: Global,
+    reads: FailList,
+    writes: FailList,
+    stop: Option<Stop>,
+) -> Result<Rig, Fail> {
     let shape = least()?;
     let buf = PageBuf::new(alloc)?;
     let seg = VSeg::new(alloc, &shape)?;
@@ -48,8 +62,7 @@ fn fresh(alloc: Global, reads: FailList, writes: FailList, stop: Option<Stop>) -
 }
 
 impl Rig {
-    fn write(&mut self, vaddr: u32, byte: u8, stamp: u32) -> Seen
-    {
+    fn write(&mut self, vaddr: u32, byte: u8, stamp: u32) -> Seen {
         self.buf.clear();
         self.buf.set_main(0, &[byte]);
         let stamp = u64::from(stamp) + 1;
@@ -63,8 +76,7 @@ impl Rig {
         }
     }
 
-    fn read(&mut self, vaddr: u32) -> Seen
-    {
+    fn read(&mut self, vaddr: u32) -> Seen {
         match self
             .seg
             .virtual_read(&mut self.media, vaddr % 103, &mut self.buf)
@@ -77,8 +89,7 @@ impl Rig {
     }
 
     /// So many writes, each of the byte of its number; the number of the first one that is not done.
-    fn fill(&mut self, count: u32) -> u32
-    {
+    fn fill(&mut self, count: u32) -> u32 {
         for number in 0..count {
             if self.write(address(number), (number % 251) as u8, number) != Seen::Wrote {
                 return number;
@@ -96,8 +107,7 @@ impl Rig {
         )
     }
 
-    fn restart(self) -> Left
-    {
+    fn restart(self) -> Left {
         let Rig { seg: _, media, buf } = self;
         Left {
             media: media.restart(None),

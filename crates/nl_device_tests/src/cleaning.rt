@@ -7,17 +7,20 @@ use std::test::Fail;
 
 /// A device of which block 8 was written whole, and one page of block 9. Page `n` of block 8 begins with `n` and has stamp `n + 1`;
 /// of these only pages 258 and 270 are live.
-pub fn made(alloc: Global, reads: FailList, writes: FailList, stop: Option<Stop>) -> Result<Rig, Fail> {
+pub fn made(
+    alloc: Global,
+    reads: FailList,
+    writes: FailList,
+    stop: Option<Stop>,
+) -> Result<Rig, Fail> {
     let mut rig = fresh(alloc, reads, writes, stop)?;
     rig.writes(33);
     for n in 0..32u32 {
         if n != 2 && n != 14 {
-            rig.free(
-                Pointer {
-                    name: 256 + n,
-                    stamp: u64::from(n) + 1,
-                },
-            );
+            rig.free(Pointer {
+                name: 256 + n,
+                stamp: u64::from(n) + 1,
+            });
         }
     }
     Ok(rig)

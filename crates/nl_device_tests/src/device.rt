@@ -1,6 +1,5 @@
 // A device: pages under names, and pages by address.
 ghost use Rattle.std.specs.Prelude.{◌≡◌, ◌<◌, ℕ, IfOk, IsTrue};
-ghost use Rattle.nl_device_tests.specs.Rigs.{IsFormed};
 ghost use Rattle.nl_nand.specs.Memory.{contents_of, geometry_of};
 ghost use Rattle.nl_nand.specs.Nand.{IsBlank};
 
@@ -13,6 +12,7 @@ use nl_iface::{Counts, NamedPages, VirtualPages};
 use nl_nand::{MemNand, Stop};
 use nl_pseg::Erasure;
 use std::alloc::Global;
+use std::marker::Model;
 use std::test::Fail;
 
 /// A call, with the name of a pointer and its stamp, and with the first byte of a page.
@@ -80,7 +80,16 @@ const OTHER: Tag = Tag {
 pub struct Rig {
     pub device: Device<MemNand>,
     pub buf: PageBuf,
-    ghost formed: { IsFormed device },
+}
+
+impl Model for Rig {
+    ghost use Rattle.nl_device_tests.specs.Rigs.{IsFormed};
+
+    ghost Value = { Unit {0} };
+
+    ghost view = { λ r. tt };
+
+    ghost invariant = { λ r. IsFormed r.device };
 }
 
 fn started(alloc: Global, media: MemNand) -> Result<Device<MemNand>, Fail>

@@ -63,7 +63,12 @@ fn owner(index: u32) -> Tag {
     }
 }
 
-fn fresh(alloc: Global, reads: FailList, writes: FailList, stop: Option<Stop>) -> Result<Rig, Fail> {
+fn fresh(
+    alloc: Global,
+    reads: FailList,
+    writes: FailList,
+    stop: Option<Stop>,
+) -> Result<Rig, Fail> {
     let shape = least()?;
     let buf = PageBuf::new(alloc)?;
     let seg = PSeg::new(alloc, &shape)?;

@@ -129,11 +129,7 @@ const COPIED: [(u32, u64); 35] = [
 ];
 
 /// And block 8 was erased.
-const ERASED: [(u32, u64); 3] = [
-    (288, 33),
-    (320, 3),
-    (321, 15),
-];
+const ERASED: [(u32, u64); 3] = [(288, 33), (320, 3), (321, 15)];
 
 /// Which of these pages there are, and whether the pointers have the new names.
 #[derive(Clone, Copy, Debug)]
@@ -217,24 +213,18 @@ fn pointers(alloc: Global, first: u32, second: u32) -> Result<PointerList, Fail>
     ensures { IfOk result (λ l. l.items ≡ record { name = first; stamp = 3 } ∷ record { name = second; stamp = 15 } ∷ record { name = 288; stamp = 33 } ∷ []) }
 {
     let mut list = PointerList::new(alloc);
-    list.push(
-        Pointer {
-            name: first,
-            stamp: 3,
-        },
-    )?;
-    list.push(
-        Pointer {
-            name: second,
-            stamp: 15,
-        },
-    )?;
-    list.push(
-        Pointer {
-            name: 288,
-            stamp: 33,
-        },
-    )?;
+    list.push(Pointer {
+        name: first,
+        stamp: 3,
+    })?;
+    list.push(Pointer {
+        name: second,
+        stamp: 15,
+    })?;
+    list.push(Pointer {
+        name: 288,
+        stamp: 33,
+    })?;
     Ok(list)
 }
 
@@ -318,11 +308,7 @@ fn a_cleaning_is_stopped(rt: HostRuntime) -> Result<(), Fail> {
             (Step::Write(7), Seen::At(*next, 34)),
         ];
         for (step, want) in steps.iter() {
-            assert_eq!(rt;
-                rig.step(*step),
-                *want,
-                "{operation} {cut:?} {step:?}"
-            );
+            assert_eq!(rt; rig.step(*step), *want, "{operation} {cut:?} {step:?}");
         }
     }
     Ok(())

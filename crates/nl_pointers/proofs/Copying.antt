@@ -1,13 +1,13 @@
 -- The pages of the segments, and which of them are needed.
-use Rattle.std.proofs.Common.{◌≡◌, ℕ, ◌/◌, max, Bool, true, false, not, ◌&&◌, ◌||◌, cond, List, [], ◌∷◌, Option, Some, None, map, unwrap_or, refl, sym, ◌∙◌, ap, arith}
+use Rattle.std.proofs.Common.{◌≡◌, ℕ, ◌/◌, max, Bool, true, false, not, ◌&&◌, ◌||◌, cond, List, [], ◌∷◌, Some, map, unwrap_or, refl, sym, ◌∙◌, ap, arith}
 use Rattle.std.specs.Prelude.{◌==◌, nat_lt, find, fold, is_some}
 use Rattle.std.specs.List.{list_all, list_any, range_with_len}
 use Rattle.std.specs.BTreeMap.{BTreeMap, Updates, get}
-use Rattle.std.specs.Ordering.{is_eq, nat_cmp}
+use Rattle.std.specs.Ordering.{nat_cmp}
 use Rattle.std.proofs.lemmas.Bool.Decides.{nat_tests}
 use Rattle.nl_field.specs.Medium.{address_of}
 use Rattle.nl_field.specs.ScanList.{on_list, physical_seen, physical_spare_seen, virtual_seen, virtual_spare_seen}
-use Rattle.nl_field.specs.Space.{has_greatest_among, physical_spare_among, spare_among, virtual_spare_among}
+use Rattle.nl_field.specs.Space.{has_greatest_among, spare_among}
 use Rattle.nl_field.specs.SpareRecord.{stamp_of}
 use Rattle.nl_field.specs.declared.seen.Seen.{Seen}
 use Rattle.nl_field.specs.declared.shape.Shape.{Shape}

@@ -1,5 +1,5 @@
 -- Equal keys, and tables with one more of them.
-use Rattle.std.proofs.Common.{◌≡◌, ℕ, Bool, true, false, ◌&&◌, ◌||◌, cond, refl, sym, ◌∙◌, ap, arith}
+use Rattle.std.proofs.Common.{◌≡◌, ℕ, Bool, true, false, ◌&&◌, ◌||◌, cond, refl, ◌∙◌, ap, arith}
 use Rattle.std.specs.Prelude.{◌==◌}
 use Rattle.std.specs.Ordering.{is_eq, nat_cmp, ordering_then}
 use Rattle.std.specs.declared.cmp.Ordering.{Ordering}
@@ -7,8 +7,8 @@ use Rattle.std.specs.declared.cmp.Ordering.TheVariants.{Less, Equal, Greater}
 use Rattle.std.proofs.lemmas.Bool.Decides.{nat_tests}
 use Rattle.nl_field.specs.declared.pointer.Tag.{Tag}
 use Rattle.nl_meta.specs.Walk.{tag_eq}
-use Rattle.nl_pointers.specs.Owners.{PageKey, key_cmp, key_of}
-use Rattle.nl_pointers.specs.Places.{PlaceKey, pair_cmp, place_key}
+use Rattle.nl_pointers.specs.Owners.{key_cmp, key_of}
+use Rattle.nl_pointers.specs.Places.{pair_cmp, place_key}
 
 pub number_is : (n m : ℕ) → (n == m) ≡ true → n ≡ m
 number_is n m is = grind (arith, nat_tests)

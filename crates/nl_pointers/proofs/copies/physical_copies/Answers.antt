@@ -1,4 +1,4 @@
-use Rattle.std.proofs.Common.{List, ap, arith, drop, map, sym, ◌++◌, ◌+◌, ◌∙◌}
+use Rattle.std.proofs.Common.{List, ap, arith, drop, map, ◌++◌, ◌+◌, ◌∙◌}
 use Rattle.nl_field.specs.SpareRecord.{stamp_of}
 use Rattle.nl_field.specs.declared.seen.Seen.{Seen}
 use Rattle.nl_pointers.specs.Copies.{is_stamp_of, physical_copies, physical_copy}

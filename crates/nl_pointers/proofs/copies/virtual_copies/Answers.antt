@@ -1,7 +1,5 @@
-use Rattle.std.proofs.Common.{List, ap, arith, drop, map, not, sym, unwrap_or, ◌++◌, ◌+◌, ◌∙◌}
+use Rattle.std.proofs.Common.{List, ap, arith, drop, map, not, ◌++◌, ◌+◌, ◌∙◌}
 use Rattle.std.specs.Prelude.{nat_lt}
-use Rattle.std.specs.BTreeMap.{get}
-use Rattle.std.specs.Ordering.{nat_cmp}
 use Rattle.nl_field.specs.Medium.{address_of}
 use Rattle.nl_field.specs.ScanList.{on_list}
 use Rattle.nl_field.specs.Space.{has_greatest_among}
@@ -10,7 +8,7 @@ use Rattle.nl_field.specs.declared.seen.Seen.{Seen}
 use Rattle.nl_pointers.specs.Copies.{virtual_copies, virtual_copy}
 use Rattle.nl_pointers.specs.declared.spare.PageCopy.{PageCopy}
 use Rattle.nl_pointers.proofs.Copying.{greatest_test}
-use Rattle.nl_pointers.proofs.Rests.{drop_read, mapped_all, mapped_more}
+use Rattle.nl_pointers.proofs.Rests.{drop_read, mapped_more}
 use Rattle.nl_pointers.proofs.copies.virtual_copies.Goals as goal
 
 pub pages-init : goal.pages-init

@@ -1,7 +1,5 @@
-use Rattle.std.proofs.Common.{Some, None, cond, is_some, not, sym, ◌*◌, ◌∙◌}
-use Rattle.std.specs.Prelude.{nat_lt}
+use Rattle.std.proofs.Common.{Some, None, cond, is_some, sym, ◌*◌, ◌∙◌}
 use Rattle.std.proofs.lemmas.Bool.{le-ltb, lt-ltb}
-use Rattle.nl_field.specs.ScanList.{virtual_spare_seen}
 use Rattle.nl_meta.specs.Walk.{spare_beside}
 use Rattle.nl_pointers.proofs.Crowding.{count_lost, crowded_by, crowded_is}
 use Rattle.nl_pointers.proofs.crowded.crowded_fault.Goals as goal

@@ -1,4 +1,4 @@
-use Rattle.std.proofs.Common.{List, ap, arith, drop, subst, sym, ◌+◌, ◌∷◌, ◌∙◌}
+use Rattle.std.proofs.Common.{List, ap, drop, subst, sym, ◌+◌, ◌∷◌, ◌∙◌}
 use Rattle.nl_meta.specs.Nodes.{Held}
 use Rattle.nl_meta.specs.Walk.{pointer_fault}
 use Rattle.nl_pointers.specs.Held.{held_of}

@@ -1,4 +1,4 @@
-use Rattle.std.proofs.Common.{List, ap, arith, drop, length, map, refl, sym, ◌++◌, ◌+◌, ◌∙◌}
+use Rattle.std.proofs.Common.{List, ap, arith, drop, length, map, refl, ◌++◌, ◌+◌, ◌∙◌}
 use Rattle.std.proofs.lemmas.List.{length_push}
 use Rattle.nl_field.specs.declared.pointer.Pointer.{Pointer}
 use Rattle.nl_meta.specs.Nodes.{Held}
