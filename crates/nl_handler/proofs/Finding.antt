@@ -1,5 +1,5 @@
 -- What is found in the file of a tag, after calls that leave the volume as it was.
-use Rattle.std.proofs.Common.{◌≡◌, ◌≢◌, ◌⊎◌, inl, inr, ℕ, ◌≤◌, ◌<◌, Bool, true, false, not, cond, ◌&&◌, ◌||◌, ◌==◌, List, length, get_or, Option, Some, None, IsSome, is_some, refl, sym, ap, subst, ◌∙◌, arith}
+use Rattle.std.proofs.Common.{◌≡◌, ◌≢◌, ◌⊎◌, inl, inr, ℕ, ◌≤◌, ◌<◌, Bool, true, false, not, cond, ◌&&◌, ◌||◌, ◌==◌, List, Option, Some, None, IsSome, is_some, refl, sym, ap, subst, ◌∙◌, arith}
 use Rattle.std.proofs.lemmas.Bool.{and_parts, both_ways, cases_eq, cases_lt, eqb-true, not-true}
 use Rattle.std.specs.Prelude.{IsTrue, bytes_eq, slice_index}
 use Rattle.nl_field.specs.Numbers.{ShapeBounds}
@@ -102,7 +102,7 @@ pointer-spelled pages rec i file range some = stamp-of (pointer_at pages rec i) 
         there : pointer_at pages rec i ≡ pointer_in has.bytes (slot_of i)
         there = in-range pages rec i high
             ∙ on-page pages (slice_index (slots_of rec) (range_of i)) (slot_of i) has.bytes (λ z. far (address-range rec i high ∙ z))
-              (ap pages (sym (address-range rec i high)) ∙ has.there)
+            (ap pages (sym (address-range rec i high)) ∙ has.there)
 
 -- ---- what is found
 

@@ -1,7 +1,7 @@
 -- The file of a tag, and the page that has its pointer.
-use Rattle.std.proofs.Common.{◌≡◌, ◌≢◌, ◌⊎◌, inl, inr, ℕ, ◌+◌, ◌*◌, ◌/◌, ◌≤◌, ◌<◌, Option, Some, IsSome, is_some, Result, Ok, Err, IfOk, refl, sym, ap, subst, ◌∙◌, arith}
+use Rattle.std.proofs.Common.{◌≡◌, ◌≢◌, ◌⊎◌, inl, inr, ℕ, ◌+◌, ◌/◌, ◌≤◌, ◌<◌, Option, Some, IsSome, is_some, Result, Ok, Err, IfOk, sym, ap, subst, ◌∙◌, arith}
 use Rattle.std.proofs.lemmas.Bool.{cases_lt}
-use Rattle.std.specs.Prelude.{MatchOption, slice_index}
+use Rattle.std.specs.Prelude.{MatchOption}
 use Rattle.nl_field.specs.Numbers.{ShapeBounds}
 use Rattle.nl_field.specs.declared.inode.InodeRec.{InodeRec}
 use Rattle.nl_field.specs.declared.inode.Kind.TheVariants.{File, Unused}

@@ -1,5 +1,5 @@
 -- A volume that holds its pages still does where a callback was handled.
-use Rattle.std.proofs.Common.{◌≡◌, ◌≢◌, ◌⊎◌, inl, inr, ℕ, ◌+◌, ◌≤◌, ◌==◌, ◌&&◌, ◌||◌, Bool, true, false, not, List, [], ◌∷◌, ◌++◌, map, Some, refl, sym, ap, subst, ◌∙◌, arith}
+use Rattle.std.proofs.Common.{◌≡◌, ◌≢◌, ◌⊎◌, inl, inr, ℕ, ◌+◌, ◌≤◌, ◌==◌, ◌&&◌, ◌||◌, Bool, true, false, not, List, [], ◌∷◌, map, Some, refl, sym, ap, subst, ◌∙◌, arith}
 use Rattle.std.proofs.lemmas.Bool.{and_from, both_ways, cases_Bool, cases_eq, eq-eqb, ne_eqb}
 use Rattle.std.specs.List.{list_any}
 use Rattle.nl_field.specs.Pointers.{is_none_pointer}
@@ -118,11 +118,14 @@ module _ {D : Type 0} (g : Ghosts D) (s : D) (p : Pages) (t : D) (q : Pages) (fl
 
   -- so the metadata has it where the tag says
   holds-tagged : 1 ≤ times tagged c.stamp running → HoldsTagged (g.shape s) (running_on g s p) c.tag c.stamp
-  holds-tagged h = (at.rec, record {
-    file = subst (λ (tag : Tag). TagsFile (g.shape s) (running_on g s p) tag at.rec) same at.file;
-    pointer = ap (λ (k : Pointer). not (is_none_pointer k) && (k.stamp == c.stamp)) (ap (λ (tag : Tag). pointer_at (running_on g s p) at.rec tag.index) (sym same) ∙ at.at)
-        ∙ and_from (not (is_none_pointer x.0.1)) (x.0.1.stamp == c.stamp) (ap not at.some) (eq-eqb x.0.1.stamp c.stamp x.2);
-  })
+  holds-tagged h = (
+    at.rec,
+    record {
+      file = subst (λ (tag : Tag). TagsFile (g.shape s) (running_on g s p) tag at.rec) same at.file;
+      pointer = ap (λ (k : Pointer). not (is_none_pointer k) && (k.stamp == c.stamp)) (ap (λ (tag : Tag). pointer_at (running_on g s p) at.rec tag.index) (sym same) ∙ at.at)
+          ∙ and_from (not (is_none_pointer x.0.1)) (x.0.1.stamp == c.stamp) (ap not at.some) (eq-eqb x.0.1.stamp c.stamp x.2);
+    },
+  )
     where
       x : (h : Tag × Pointer) × Has running h × (h.1.stamp ≡ c.stamp)
       x = times_has tagged running c.stamp h

@@ -1,14 +1,14 @@
 -- A holder of a live page that has another name.
-use Rattle.std.proofs.Common.{◌≡◌, ◌≢◌, ℕ, ◌≤◌, ◌==◌, false, true, not, List, [], ◌∷◌, ◌++◌, map, refl, sym, ap, subst, ◌∙◌, Some}
+use Rattle.std.proofs.Common.{◌≡◌, ◌≢◌, ℕ, ◌≤◌, ◌==◌, true, not, List, [], ◌∷◌, ◌++◌, refl, sym, ap, subst, ◌∙◌, Some}
 use Rattle.std.proofs.lemmas.Bool.{and_parts, cond-false, cond-true, eq-eqb, eqb-true, ne_eqb, not-true}
 use Rattle.std.proofs.lemmas.List.{append_assoc}
 use Rattle.nl_field.specs.Pointers.{is_none_pointer}
 use Rattle.nl_field.specs.declared.pointer.Pointer.{Pointer}
 use Rattle.nl_field.specs.declared.pointer.Tag.{Tag}
 use Rattle.nl_field.specs.declared.shape.Shape.{Shape}
-use Rattle.nl_flight.specs.Flight.{InFlight, carried, renamed, renamed_pointer}
+use Rattle.nl_flight.specs.Flight.{carried, renamed_pointer}
 use Rattle.nl_flight.proofs.Carried.{renames as carried-renames}
-use Rattle.nl_holders.specs.Lists.{Renames, SameBehind}
+use Rattle.nl_holders.specs.Lists.{Renames}
 use Rattle.nl_holders.proofs.Lists.{behind_map, renames_at, renames_map}
 use Rattle.nl_iface.specs.Holders.{plain, tagged, times, wants, wants_tagged}
 use Rattle.nl_indirect.proofs.Cases.{to-some}
@@ -73,6 +73,7 @@ flight_renames stamp name flight =
     (λ h e. (named-hit stamp name h.1 e, e, λ page w. w)) (λ h far. λ i. (h.0, named-miss stamp name h.1 far i)))
 
 pub freeing_renames : FreeingRenames
-freeing_renames stamp name list =
-    (renames_map plain wants stamp name (renamed_pointer stamp name) list (λ p e. (named-hit stamp name p e, e, λ page w. w)) (λ p far. named-miss stamp name p far),
-    behind_map plain (renamed_pointer stamp name) list (λ p. refl))
+freeing_renames stamp name list = (
+  renames_map plain wants stamp name (renamed_pointer stamp name) list (λ p e. (named-hit stamp name p e, e, λ page w. w)) (λ p far. named-miss stamp name p far),
+  behind_map plain (renamed_pointer stamp name) list (λ p. refl),
+)

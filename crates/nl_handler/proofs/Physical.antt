@@ -1,12 +1,11 @@
 -- The place to which the old name of a pending callback leads.
-use Rattle.std.proofs.Common.{◌≡◌, ℕ, ◌*◌, ◌≤◌, ◌<◌, Bool, true, ◌&&◌, ◌||◌, nat_le, nat_lt, sym, ap, subst, ◌∙◌}
+use Rattle.std.proofs.Common.{◌≡◌, ℕ, ◌*◌, ◌≤◌, ◌<◌, Bool, ◌||◌, nat_le, nat_lt, sym, ap, subst, ◌∙◌}
 use Rattle.std.proofs.Math.Bool.{or-true}
 use Rattle.std.proofs.lemmas.Bool.{and_from, le-leb, lt-ltb}
 use Rattle.std.specs.Prelude.{IsTrue}
 use Rattle.nl_field.specs.Live.{resolve}
 use Rattle.nl_field.specs.Medium.{first_physical}
 use Rattle.nl_field.specs.Pointers.{is_none_pointer}
-use Rattle.nl_field.specs.declared.pointer.Pointer.{Pointer}
 use Rattle.nl_field.specs.declared.shape.Shape.{Shape}
 use Rattle.nl_iface.specs.Device.{IsDeviceState, state_of}
 use Rattle.nl_iface.specs.Names.{Has, IsNames, IsTable, Names, led, told_page}

@@ -1,5 +1,5 @@
 -- What it means for a volume that a pointer in memory has another name: over any device, one pointer of one file changed, and all is right.
-use Rattle.std.proofs.Common.{◌≡◌, ◌≢◌, ◌⊎◌, inl, inr, ℕ, zero, suc, ◌+◌, ◌*◌, ◌/◌, ◌%◌, ◌≤◌, ◌<◌, ◌==◌, true, false, List, [], ◌∷◌, length, get_or, Option, Some, None, IsSome, is_some, unwrap_or, refl, sym, ap, subst, ◌∙◌, arith}
+use Rattle.std.proofs.Common.{◌≡◌, ◌≢◌, ◌⊎◌, inl, inr, ℕ, zero, suc, ◌+◌, ◌*◌, ◌/◌, ◌%◌, ◌≤◌, ◌<◌, ◌==◌, List, [], ◌∷◌, length, get_or, Option, Some, None, IsSome, is_some, unwrap_or, refl, sym, ap, subst, ◌∙◌, arith}
 use Rattle.std.proofs.lemmas.Bool.{cases_eq, cases_lt, cond-false, cond-true, eq-eqb, ne_eqb}
 use Rattle.std.proofs.lemmas.List.{ext_get_or}
 use Rattle.std.specs.Prelude.{IsTrue, slice_get, slice_index}
@@ -9,14 +9,13 @@ use Rattle.nl_field.specs.Numbers.{ShapeBounds}
 use Rattle.nl_field.specs.Pointers.{no_pointer, pointer_bytes}
 use Rattle.nl_field.specs.Spelling.{is_stamp}
 use Rattle.nl_field.specs.declared.inode.InodeRec.{InodeRec}
-use Rattle.nl_field.specs.declared.inode.Kind.{Kind}
 use Rattle.nl_field.specs.declared.inode.Kind.TheVariants.{File, Unused}
 use Rattle.nl_field.specs.declared.pointer.Pointer.{Pointer}
 use Rattle.nl_field.specs.declared.pointer.Tag.{Tag}
 use Rattle.nl_field.specs.declared.shape.Shape.{Shape}
 use Rattle.nl_inode.specs.Nodes.{PutsNode, page_of_node}
 use Rattle.nl_indirect.specs.FileLaws.{AddressesGood, NodeLaws, StoresOver}
-use Rattle.nl_indirect.specs.Ranges.{HasPointers, IsFileRecord, address_of, range_of, slot_of}
+use Rattle.nl_indirect.specs.Ranges.{address_of, range_of, slot_of}
 use Rattle.nl_indirect.specs.Storing.{StoresPointer}
 use Rattle.nl_indirect.specs.declared.answer.Stored.TheVariants.{Done}
 use Rattle.nl_indirect.proofs.LawProofs.{at-slot, file_of_node, other_nodes, stored_file}

@@ -1,5 +1,5 @@
 -- A volume that runs over a device goes on where a pointer in memory was renamed.
-use Rattle.std.proofs.Common.{◌≡◌, ◌≢◌, ◌⊎◌, inl, inr, ℕ, ◌+◌, ◌*◌, ◌/◌, ◌%◌, ◌≤◌, ◌<◌, ◌==◌, ◌||◌, nat_lt, true, length, List, [], unwrap_or, Option, Some, None, IsSome, is_some, refl, sym, ap, subst, ◌∙◌, arith}
+use Rattle.std.proofs.Common.{◌≡◌, ◌≢◌, ◌⊎◌, inl, inr, ℕ, ◌+◌, ◌*◌, ◌/◌, ◌%◌, ◌<◌, ◌==◌, ◌||◌, nat_lt, true, length, List, [], unwrap_or, Option, Some, None, is_some, refl, sym, ap, subst, ◌∙◌, arith}
 use Rattle.std.proofs.lemmas.Bool.{both_ways, cases_eq}
 use Rattle.std.specs.List.{list_any}
 use Rattle.std.specs.Prelude.{IsTrue}
@@ -14,20 +14,20 @@ use Rattle.nl_field.specs.declared.shape.Shape.{Shape}
 use Rattle.nl_iface.specs.declared.counts.Counts.{Ghosts}
 use Rattle.nl_indirect.proofs.Pointing.{runs as runs-there}
 use Rattle.nl_meta.specs.Committed.{VirtualMap}
-use Rattle.nl_meta.specs.Consistent.{AddressAt, AddressesRight, EntriesRight, IsNode, NodesRight}
-use Rattle.nl_meta.specs.Nodes.{bytes_of_node, graph_of, inode_at, is_physical_name, pointer_at, slot_in}
+use Rattle.nl_meta.specs.Consistent.{AddressAt, AddressesRight, EntriesRight, NodesRight}
+use Rattle.nl_meta.specs.Nodes.{bytes_of_node, inode_at, is_physical_name, pointer_at, slot_in}
 use Rattle.nl_meta.specs.Pages.{Pages, besides_0, has_room, most, page_of, with_address}
 use Rattle.nl_meta.specs.PointerLists.{ChangesPointer, tagged_by}
 use Rattle.nl_meta.specs.Running.{CleanIsStored, running_over}
-use Rattle.nl_running.specs.FileLaws.{ChangesFile, IsRight, StaysRight}
+use Rattle.nl_running.specs.FileLaws.{ChangesFile, IsRight}
 use Rattle.nl_running.specs.Running.{IsNeeded, Runs, RunsOn, running_on, stored_on}
 use Rattle.nl_running.proofs.FileChanges.{one_file_changes}
 use Rattle.nl_running.proofs.GraphStays.{graph-same}
 use Rattle.nl_running.proofs.Kept.{runs-then}
-use Rattle.nl_running.proofs.SameNeeded.{addresses-right, entries-right, inode-address, inode-same, node-to, nodes-right}
+use Rattle.nl_running.proofs.SameNeeded.{addresses-right, entries-right, inode-address, node-to, nodes-right}
 use Rattle.nl_handler.specs.Changing.{IsAtHand, RenamesIn}
 use Rattle.nl_handler.specs.Handling.{HasTagged, RenamesOn, RenamesPointer, TagsFile, page_holding}
-use Rattle.nl_handler.proofs.Finding.{pointers-same, slot-needed}
+use Rattle.nl_handler.proofs.Finding.{pointers-same}
 use Rattle.nl_handler.proofs.Renamed.{file-changes, own-had, pointer-changes, pointer-now, rewritten}
 use Rattle.nl_handler.proofs.Rewritten.{Rewritten, clean, count, dirty, frozen, others, over-running, over-twice, resident}
 

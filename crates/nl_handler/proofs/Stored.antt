@@ -1,5 +1,5 @@
 -- What is stored in place of a pointer.
-use Rattle.std.proofs.Common.{◌≡◌, ◌≢◌, ◌⊎◌, inl, inr, ℕ, ◌≤◌, ◌<◌, true, false, is_some, Option, Some, None, refl, sym, ap, ◌∙◌}
+use Rattle.std.proofs.Common.{◌≡◌, ◌⊎◌, inl, inr, ℕ, ◌≤◌, ◌<◌, Option, Some, None, refl, sym, ap, ◌∙◌}
 use Rattle.std.proofs.lemmas.Bool.{both_ways, cases_lt}
 use Rattle.std.specs.Prelude.{IsTrue}
 use Rattle.nl_field.specs.Pointers.{is_none_pointer, no_pointer}
@@ -10,7 +10,7 @@ use Rattle.nl_field.specs.declared.pointer.Tag.{Tag}
 use Rattle.nl_meta.specs.Nodes.{pointer_at}
 use Rattle.nl_meta.specs.Pages.{Pages, page_of}
 use Rattle.nl_meta.specs.Running.{CleanIsStored, running_over}
-use Rattle.nl_indirect.specs.Ranges.{address_of, slot_of}
+use Rattle.nl_indirect.specs.Ranges.{slot_of}
 use Rattle.nl_indirect.specs.Storing.{Begins, Stores}
 use Rattle.nl_indirect.specs.declared.answer.Stored.{Stored}
 use Rattle.nl_indirect.specs.declared.answer.Stored.TheVariants.{Done, Emptied}

@@ -1,5 +1,5 @@
 -- What is done to the pages in memory.
-use Rattle.std.specs.Prelude.{◌≡◌, ◌≢◌, ℕ, ◌+◌, ◌/◌, ◌<◌, None, Some, IsSome, IsTrue, false}
+use Rattle.std.specs.Prelude.{◌≡◌, ◌≢◌, None, IsSome, false}
 use Rattle.nl_field.specs.Pointers.{is_none_pointer}
 use Rattle.nl_field.specs.declared.inode.InodeRec.{InodeRec}
 use Rattle.nl_field.specs.declared.pointer.Pointer.{Pointer}

@@ -1,4 +1,4 @@
-use Rattle.std.proofs.Common.{◌≡◌, ◌∙◌, ℕ, ◌≤◌, ◌<◌, length, ap, arith}
+use Rattle.std.proofs.Common.{◌∙◌, ◌<◌, length, ap, arith}
 use Rattle.nl_field.specs.PointerItems.{PointerItems}
 use Rattle.nl_handler.proofs.Renaming.{found-hit, found-miss, renamed-hit, renamed-miss}
 use Rattle.nl_handler.proofs.handling.rename_all.Goals as goal
@@ -6,7 +6,7 @@ use Rattle.nl_handler.proofs.handling.rename_all.Goals.{then-pointer-stamp, else
 
 pub loop-at-preserved : goal.loop-at-preserved
 loop-at-preserved c = elim c.if-pointer-stamp.branch [
-  then-pointer-stamp w ↦
+  | then-pointer-stamp w ↦
       let same = w.if-pointer-stamp.true in
       let i = c.loop-at.invariant in
       record {

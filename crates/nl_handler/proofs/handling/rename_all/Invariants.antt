@@ -1,4 +1,4 @@
-use Rattle.std.proofs.Common.{◌≡◌, ◌==◌, ◌++◌, ℕ, map, take, drop}
+use Rattle.std.proofs.Common.{◌≡◌, ◌==◌, ◌++◌, map, take, drop}
 use Rattle.std.specs.List.{list_any}
 use Rattle.nl_flight.specs.Flight.{renamed_pointer}
 use Rattle.nl_handler.proofs.handling.rename_all.Given as goal

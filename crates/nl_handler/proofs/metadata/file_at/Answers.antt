@@ -1,4 +1,3 @@
-use Rattle.std.proofs.Common.{◌≡◌, ℕ, true, false, sym, ◌∙◌}
 use Rattle.std.proofs.lemmas.Bool.{both_ways}
 use Rattle.nl_running.proofs.Holds.{bounds-of}
 use Rattle.nl_handler.proofs.Found.{get-spelled, is-file, is-no-file, node-needed}

@@ -57,10 +57,11 @@ returns-then-has_stamp-clause-found g c =
     let second : RunsOn g.D.Counts c.file_at.new.device c.file_at.new.meta c.hold_range.new.device c.hold_range.new.meta = c.in-Ok.ensures.kept in
     let on = kept-then g.D.Counts s c.args.meta.now c.file_at.new.device c.file_at.new.meta b c.in-Ok-Some.ensures.kept c.hold_range.new.device c.hold_range.new.meta second in
     let node : IsSome (page_of c.hold_range.new.meta (page_of_node c.args.tag.now.ino)) =
-    ap is_some (second.stays (page_of_node c.args.tag.now.ino) c.in-Ok-Some.ensures.there) ∙ c.in-Ok-Some.ensures.there in
-    (has-tagged g.D.Counts s c.args.meta.now b c.requires.runs c.args.tag.now c.in-Ok-Some.rec file c.hold_range.new.device c.hold_range.new.meta on c.args.stamp c.has_stamp.result c.has_stamp.ensures c.if-has_stamp.true,
-    at-hand g.D.Counts s c.args.meta.now b c.requires.runs c.args.tag.now c.in-Ok-Some.rec file c.hold_range.new.device c.hold_range.new.meta on c.args.stamp c.has_stamp.result c.has_stamp.ensures c.if-has_stamp.true node c.in-Ok.ensures.there,
-    stamp-spelled g.D.Counts s c.args.meta.now b c.requires.runs c.args.tag.now c.in-Ok-Some.rec file c.hold_range.new.device c.hold_range.new.meta on c.args.stamp c.has_stamp.result c.has_stamp.ensures c.if-has_stamp.true node c.in-Ok.ensures.there)
+    ap is_some (second.stays (page_of_node c.args.tag.now.ino) c.in-Ok-Some.ensures.there) ∙ c.in-Ok-Some.ensures.there in (
+      has-tagged g.D.Counts s c.args.meta.now b c.requires.runs c.args.tag.now c.in-Ok-Some.rec file c.hold_range.new.device c.hold_range.new.meta on c.args.stamp c.has_stamp.result c.has_stamp.ensures c.if-has_stamp.true,
+      at-hand g.D.Counts s c.args.meta.now b c.requires.runs c.args.tag.now c.in-Ok-Some.rec file c.hold_range.new.device c.hold_range.new.meta on c.args.stamp c.has_stamp.result c.has_stamp.ensures c.if-has_stamp.true node c.in-Ok.ensures.there,
+      stamp-spelled g.D.Counts s c.args.meta.now b c.requires.runs c.args.tag.now c.in-Ok-Some.rec file c.hold_range.new.device c.hold_range.new.meta on c.args.stamp c.has_stamp.result c.has_stamp.ensures c.if-has_stamp.true node c.in-Ok.ensures.there,
+    )
 
 pub returns-else-has_stamp-clause-found : goal.returns-else-has_stamp-clause-found
 returns-else-has_stamp-clause-found g c =

@@ -1,5 +1,5 @@
-use Rattle.std.proofs.Common.{◌≡◌, ◌≢◌, ℕ, ◌∙◌, sym, subst, IsSome}
-use Rattle.nl_indirect.specs.Ranges.{HasRange, address_of}
+use Rattle.std.proofs.Common.{ℕ, ◌∙◌, sym, subst, IsSome}
+use Rattle.nl_indirect.specs.Ranges.{HasRange}
 use Rattle.nl_meta.specs.Pages.{page_of}
 use Rattle.nl_running.specs.Holding.{HoldsPage}
 use Rattle.nl_running.specs.Running.{IsNeeded, running_on}

@@ -1,4 +1,4 @@
-use Rattle.std.proofs.Common.{◌≡◌, ◌∙◌, refl, true, false, Some}
+use Rattle.std.proofs.Common.{◌∙◌, refl, Some}
 use Rattle.nl_handler.proofs.Stored.{begins-not, stores-done}
 use Rattle.nl_handler.proofs.metadata.rename.Goals as goal
 
