@@ -1,0 +1,13 @@
+mod Finding
+mod Found
+mod HandlerKeeps
+mod HolderPlace
+mod HoldersRenamed
+mod Lists
+mod Physical
+mod Reading
+mod Renamed
+mod RenamedOn
+mod Renaming
+mod Rewritten
+mod Stored

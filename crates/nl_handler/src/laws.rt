@@ -1,0 +1,17 @@
+//! Laws of the definitions. Each function stands for the laws that its contract names.
+ghost use Rattle.nl_handler.specs.Laws.{FlightRenames, FreeingRenames, HandlerKeeps, StoredRenames};
+
+use nl_iface::NamedPages;
+
+/// Of those that hold live pages, one has another name, and wants the page that it wanted.
+pub fn holders_renamed()
+    ensures stored { StoredRenames }
+    ensures flight { FlightRenames }
+    ensures freeing { FreeingRenames }
+{}
+
+/// Where each live page is held once, the page of a callback that is pending has a holder, so that `handle` never answers `Gone`, and
+/// where it answers `Renamed` the holders are those before, one under the name.
+pub fn handler_keeps<D: NamedPages>()
+    ensures { HandlerKeeps D.Counts }
+{}
