@@ -1,11 +1,13 @@
 mod Entries
 mod Graphs
+mod FreeLists
 mod GraphStays
 mod Holds
 mod Kept
 mod Printed
 mod Texts
 mod Order
+mod Rooms
 mod Rows
 mod SameNeeded
 mod TreeLists

@@ -1,7 +1,11 @@
+pub mod Changing
+pub mod Entering
 pub mod Holding
 pub mod Listing
+pub mod Naming
 pub mod Paths
 pub mod PathLaws
+pub mod Placing
 pub mod Reading
 pub mod Running
 pub mod RunningLaws

@@ -2,6 +2,8 @@
 use Rattle.std.specs.Prelude.{◌≡◌, ℕ, ⊤, Option, Some, None, Result, Ok, Err}
 use Rattle.nl_iface.specs.Counting.{FailuresCounted}
 use Rattle.nl_iface.specs.declared.counts.Counts.{Ghosts}
+use Rattle.nl_namespace.specs.declared.answer.Change.{Change}
+use Rattle.nl_namespace.specs.declared.answer.Change.TheVariants as change
 use Rattle.nl_namespace.specs.declared.answer.Listing.{Listing}
 use Rattle.nl_namespace.specs.declared.answer.Listing.TheVariants as listing
 use Rattle.nl_namespace.specs.declared.answer.Look.{Look}
@@ -20,6 +22,12 @@ abbrev pub listing_stop : Listing → Option Stop
 listing_stop (listing.Listed n) = None
 listing_stop listing.Fault = Some stop.Fault
 listing_stop (listing.Lost w f) = Some (stop.Lost w f)
+
+abbrev pub change_stop : Change → Option Stop
+change_stop (change.Changed gone) = None
+change_stop (change.No refusal) = None
+change_stop change.Fault = Some stop.Fault
+change_stop (change.Lost w f) = Some (stop.Lost w f)
 
 abbrev pub stop_of : {X : Type 0} → Result X Stop → Option Stop
 stop_of (Ok x) = None

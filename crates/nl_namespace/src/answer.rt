@@ -24,6 +24,18 @@ pub enum Listing {
     Lost { wanted: u64, found: u64 },
 }
 
+/// How the names were changed.
+#[derive(Clone, Copy, Debug, PartialEq, Eq)]
+pub enum Change {
+    /// Done, and the node that lost its name, if one did.
+    Changed { gone: Option<u32> },
+    No(Refusal),
+    /// A read failed.
+    Fault,
+    /// A page does not hold the sequence number under which its address was written.
+    Lost { wanted: u64, found: u64 },
+}
+
 /// Why a call that reads pages ends early.
 #[derive(Clone, Copy, Debug, PartialEq, Eq)]
 pub enum Stop {

@@ -2,11 +2,14 @@
 #![tactic(auto)]
 
 mod answer;
+mod entering;
+mod free;
 mod hold;
 pub mod laws;
 mod names;
+mod place;
 mod walk;
 
-pub use answer::{Listing, Look, Stop};
+pub use answer::{Change, Listing, Look, Stop};
 pub use names::list;
 pub use walk::look;
