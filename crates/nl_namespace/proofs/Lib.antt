@@ -1,15 +1,11 @@
 mod Entries
 mod Graphs
 mod FreeLists
-mod GraphStays
-mod Holds
-mod Kept
 mod Printed
 mod Texts
 mod Order
 mod Rooms
 mod Rows
-mod SameNeeded
 mod TreeLists
 mod TreeWalks
 mod Walks

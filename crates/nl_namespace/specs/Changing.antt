@@ -13,7 +13,7 @@ use Rattle.nl_meta.specs.Consistent.{AddressesRight, EntriesRight, NodesRight}
 use Rattle.nl_meta.specs.Nodes.{graph_of}
 use Rattle.nl_meta.specs.Pages.{Pages, besides_0, page_of}
 use Rattle.nl_meta.specs.Running.{CleanIsStored}
-use Rattle.nl_namespace.specs.Running.{IsNeeded, IsNodeOf, RunsOn, running_on, stored_on}
+use Rattle.nl_running.specs.Running.{IsNeeded, IsNodeOf, RunsOn, running_on, stored_on}
 use Rattle.nl_namespace.specs.declared.answer.Change.{Change}
 use Rattle.nl_namespace.specs.declared.answer.Change.TheVariants as change
 

@@ -7,6 +7,4 @@ pub mod Paths
 pub mod PathLaws
 pub mod Placing
 pub mod Reading
-pub mod Running
-pub mod RunningLaws
 pub mod Stepping

@@ -9,7 +9,7 @@ use Rattle.nl_meta.specs.Pages.{Pages, page_of}
 use Rattle.nl_namespace.specs.Holding.{HasEntries}
 use Rattle.nl_namespace.specs.Naming.{NameIn}
 use Rattle.nl_namespace.specs.Paths.{walk_refusal}
-use Rattle.nl_namespace.specs.Running.{IsNodeOf, running_on}
+use Rattle.nl_running.specs.Running.{IsNodeOf, running_on}
 use Rattle.nl_namespace.specs.declared.place.Place.{Place}
 use Rattle.nl_namespace.specs.declared.place.Spot.{Spot}
 use Rattle.nl_namespace.specs.declared.place.Spot.TheVariants as spot

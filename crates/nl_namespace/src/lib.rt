@@ -10,6 +10,7 @@ mod names;
 mod place;
 mod walk;
 
-pub use answer::{Change, Listing, Look, Stop};
+pub use answer::{Change, Listing, Look};
 pub use names::list;
+pub use nl_running::Stop;
 pub use walk::look;

@@ -1,9 +1,9 @@
 ghost use Rattle.std.specs.Prelude.{◌≡◌, ◌≢◌, ◌-◌, [], length, IfOk, slice_get, Some};
 ghost use Rattle.nl_namespace.specs.Placing.{IfHeld, IsPlace, IsHeld, IsSpot};
-ghost use Rattle.nl_namespace.specs.Reading.{Reads, stop_of};
-ghost use Rattle.nl_namespace.specs.Running.{Runs, RunsOn};
+ghost use Rattle.nl_running.specs.Reading.{Reads, stop_of};
+ghost use Rattle.nl_running.specs.Running.{Runs, RunsOn};
 
-use crate::answer::Stop;
+use nl_running::Stop;
 use nl_field::{EntryRec, InodeRec};
 use nl_iface::VirtualPages;
 use nl_inode::Nodes;

@@ -1,0 +1,4 @@
+pub mod GraphStays
+pub mod Holds
+pub mod Kept
+pub mod SameNeeded

@@ -1,0 +1,4 @@
+pub mod Holding
+pub mod Reading
+pub mod Running
+pub mod RunningLaws
