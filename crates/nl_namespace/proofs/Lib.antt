@@ -1,6 +1,7 @@
 mod Entries
 mod Graphs
 mod FreeLists
+mod NodeChanges
 mod Printed
 mod Texts
 mod Order

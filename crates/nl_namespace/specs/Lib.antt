@@ -8,3 +8,4 @@ pub mod PathLaws
 pub mod Placing
 pub mod Reading
 pub mod Stepping
+pub mod Scratch
