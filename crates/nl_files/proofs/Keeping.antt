@@ -65,7 +65,7 @@ admitted-pointers device p q v bytes has gone is new = record { bytes = has.byte
 
 -- ---- an address that has bytes
 
-in-list : (xs : List (Option (List ℕ))) (v : ℕ) (bytes : List ℕ) → get_or xs v None ≡ Some bytes → v < length xs
+pub in-list : (xs : List (Option (List ℕ))) (v : ℕ) (bytes : List ℕ) → get_or xs v None ≡ Some bytes → v < length xs
 in-list [] v bytes is = absurd (none_some bytes is)
 in-list (x ∷ xs) zero bytes is = omega arith
 in-list (x ∷ xs) (suc v) bytes is = let h = in-list xs v bytes is in omega (arith, h)

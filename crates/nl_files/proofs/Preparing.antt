@@ -4,7 +4,6 @@ use Rattle.std.proofs.lemmas.Bool.{cases_eq, cases_lt, cond-true, ne_eqb}
 use Rattle.nl_field.specs.Members.{Has}
 use Rattle.nl_field.specs.declared.inode.InodeRec.{InodeRec}
 use Rattle.nl_meta.specs.Pages.{Pages, first_most, page_of, touched}
-use Rattle.nl_meta.specs.Steps.{Keeps, PutsOut}
 use Rattle.nl_indirect.specs.Ranges.{HasPointers, HasRange, address_of, range_of}
 use Rattle.nl_indirect.proofs.Pointing.{address-node, address-range}
 use Rattle.nl_files.specs.Standing.{LoadsAt}

@@ -25,7 +25,7 @@ page-pointers old new a same = by (cases_eq a 0)
     by (inl e) = cond-true (a == 0) _ _ (eq-eqb a 0 e) ∙ sym (cond-true (a == 0) _ _ (eq-eqb a 0 e))
     by (inr far) = ap (λ (o : Option (List ℕ)). cond (a == 0) (replicate 256 no_pointer) (pointers 256 (unwrap_or o []))) (same far)
 
-all-pointers : (old new : VirtualMap) (xs : List ℕ) → ((k a : ℕ) → slice_get xs k ≡ Some a → a ≢ 0 → new a ≡ old a) → flat_map (pointers_at new) xs ≡ flat_map (pointers_at old) xs
+pub all-pointers : (old new : VirtualMap) (xs : List ℕ) → ((k a : ℕ) → slice_get xs k ≡ Some a → a ≢ 0 → new a ≡ old a) → flat_map (pointers_at new) xs ≡ flat_map (pointers_at old) xs
 all-pointers old new [] same = refl
 all-pointers old new (x ∷ xs) same =
     ap (λ (ps : List Pointer). ps ++ flat_map (pointers_at new) xs) (page-pointers old new x (same 0 x refl))

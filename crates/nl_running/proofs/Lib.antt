@@ -1,3 +1,4 @@
+pub mod FileChanges
 pub mod GraphStays
 pub mod Holds
 pub mod Kept

@@ -1,3 +1,4 @@
+pub mod FileLaws
 pub mod Holding
 pub mod Reading
 pub mod Running
