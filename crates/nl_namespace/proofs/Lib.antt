@@ -1,7 +1,11 @@
+mod Chains
+mod DirectoryChanges
 mod Entries
 mod Graphs
 mod FreeLists
 mod NodeChanges
+mod Parents
+mod Placed
 mod Printed
 mod Texts
 mod Order

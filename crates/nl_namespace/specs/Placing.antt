@@ -1,5 +1,5 @@
 -- Where a path has its last name, and what stands there in memory.
-use Rattle.std.specs.Prelude.{◌≡◌, ℕ, ◌-◌, ⊤, List, length, slice_get, Some, None, Option, IsSome}
+use Rattle.std.specs.Prelude.{◌≡◌, ℕ, ◌-◌, ⊤, List, [], ◌∷◌, length, slice_get, Some, None, Option, IsSome}
 use Rattle.nl_field.specs.declared.inode.InodeRec.{InodeRec}
 use Rattle.nl_field.specs.declared.inode.Kind.TheVariants.{Dir, File}
 use Rattle.nl_iface.specs.declared.counts.Counts.{Ghosts}
@@ -20,6 +20,7 @@ use Rattle.nl_namespace.specs.declared.place.Spot.TheVariants as spot
 pub record IsPlace {D : Type 0} (g : Ghosts D) (s : D) (p : Pages) (path : List (List ℕ)) (place : Place) : Type 0 where
   pub name : List ℕ
   pub named : NameIn (graph_of (g.shape s) (running_on g s p)) path place.dir name
+  pub walked : walk_refusal (graph_of (g.shape s) (running_on g s p)) 0 path ≡ None
   pub is_node : IsNodeOf g s p place.dir place.rec
   pub is_dir : place.rec.kind ≡ Dir
   pub entry : entry_named (running_on g s p) place.rec name ≡ place.entry
@@ -33,6 +34,7 @@ pub record IsParentAt {D : Type 0} (g : Ghosts D) (s : D) (p : Pages) (path : Li
   pub name : List ℕ
   pub last : slice_get path (length path - 1) ≡ Some name
   pub named : NameIn (graph_of (g.shape s) (running_on g s p)) path n name
+  pub walked : walk_refusal (graph_of (g.shape s) (running_on g s p)) 0 path ≡ walk_refusal (graph_of (g.shape s) (running_on g s p)) n (name ∷ [])
   pub used : IsUsed g s p n
 
 abbrev pub IsParent : {D : Type 0} → Ghosts D → D → Pages → List (List ℕ) → Parent → Type 0

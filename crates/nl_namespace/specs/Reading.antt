@@ -22,7 +22,7 @@ listing_stop listing.Fault = Some stop.Fault
 listing_stop (listing.Lost w f) = Some (stop.Lost w f)
 
 abbrev pub change_stop : Change → Option Stop
-change_stop (change.Changed gone) = None
+change_stop (change.Changed _) = None
 change_stop (change.No refusal) = None
 change_stop change.Fault = Some stop.Fault
 change_stop (change.Lost w f) = Some (stop.Lost w f)

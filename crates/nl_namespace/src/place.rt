@@ -53,15 +53,17 @@ pub(crate) fn locate<D: VirtualPages>(
     ensures kept { RunsOn D.Counts device.old meta.old device.new meta.new }
     ensures reads { Reads D.Counts device.old device.new (stop_of result) }
 {
-    match walk_to_parent(device, meta, nodes, path)? {
-        Parent::At(dir) => {
+    match walk_to_parent(device, meta, nodes, path) {
+        Ok(Parent::At(dir)) => {
             let last = path.get(path.len() - 1);
-            match enter(device, meta, nodes, dir, last.bytes())? {
-                Some(place) => Ok(Spot::At(place)),
-                None => Ok(Spot::No(Refusal::Enotdir)),
+            match enter(device, meta, nodes, dir, last.bytes()) {
+                Ok(Some(place)) => Ok(Spot::At(place)),
+                Ok(None) => Ok(Spot::No(Refusal::Enotdir)),
+                Err(stop) => Err(stop),
             }
         }
-        Parent::No(refusal) => Ok(Spot::No(refusal)),
+        Ok(Parent::No(refusal)) => Ok(Spot::No(refusal)),
+        Err(stop) => Err(stop),
     }
 }
 
@@ -82,10 +84,11 @@ fn walk_to_parent<D: VirtualPages>(
 {
     let mut at = 0;
     for i in 0..path.len() - 1 {
-        match follow(device, meta, nodes, at, path.get(i).bytes())? {
-            Step::To(ino) => at = ino,
-            Step::Missing => return Ok(Parent::No(Refusal::Enoent)),
-            Step::File => return Ok(Parent::No(Refusal::Enotdir)),
+        match follow(device, meta, nodes, at, path.get(i).bytes()) {
+            Ok(Step::To(ino)) => at = ino,
+            Ok(Step::Missing) => return Ok(Parent::No(Refusal::Enoent)),
+            Ok(Step::File) => return Ok(Parent::No(Refusal::Enotdir)),
+            Err(stop) => return Err(stop),
         }
     }
     Ok(Parent::At(at))
@@ -108,14 +111,21 @@ fn enter<D: VirtualPages>(
     ensures kept { RunsOn D.Counts device.old meta.old device.new meta.new }
     ensures reads { Reads D.Counts device.old device.new (stop_of result) }
 {
-    let rec = record(device, meta, nodes, dir)?;
+    let rec = match record(device, meta, nodes, dir) {
+        Ok(rec) => rec,
+        Err(stop) => return Err(stop),
+    };
     match rec.kind {
         Kind::Dir => {}
         _ => return Ok(None),
     }
-    hold_entries(device, meta, &rec)?;
-    let entry = find(&rec, meta, name);
-    Ok(Some(Place { dir, rec, entry }))
+    match hold_entries(device, meta, &rec) {
+        Ok(()) => {
+            let entry = find(&rec, meta, name);
+            Ok(Some(Place { dir, rec, entry }))
+        }
+        Err(stop) => Err(stop),
+    }
 }
 
 /// The record of a used node, whose page is resident.
@@ -134,6 +144,8 @@ pub(crate) fn record<D: VirtualPages>(
     ensures kept { RunsOn D.Counts device.old meta.old device.new meta.new }
     ensures reads { Reads D.Counts device.old device.new (stop_of result) }
 {
-    hold(device, meta, 67 + ino / 16)?;
-    Ok(nodes.get(meta, ino))
+    match hold(device, meta, 67 + ino / 16) {
+        Ok(()) => Ok(nodes.get(meta, ino)),
+        Err(stop) => Err(stop),
+    }
 }
