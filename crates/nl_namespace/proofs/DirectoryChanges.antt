@@ -78,12 +78,19 @@ not-file e = cc
 one-node : (m n : ℕ) → 67 + m / 16 ≡ 67 + n / 16 → m % 16 ≡ n % 16 → m ≡ n
 one-node m n e f = omega arith
 
-module _ (shape : Shape) (bounds : ShapeBounds shape) (device : VirtualMap) (d : ℕ) (was is : InodeRec) (changed : List ℕ) (old between new : Pages)
-    (rewrites : Rewrites d was is changed old between new) (formed : Formed shape (running_over device old)) (is-node : IsNode shape (running_over device old) d was) (was-dir : was.kind ≡ Dir) (row : ℕ)
-    -- the pages that changed were the directory's, or are new
-    (own : (u : ℕ) → Has changed u → ((k : ℕ) × HasAddress was k u) ⊎ IsNew shape (running_over device old) u)
-    -- and so are the addresses of the record
-    (from : (k a : ℕ) → HasAddress is k a → HasAddress was k a ⊎ ((k ≡ row) × IsNew shape (running_over device old) a × Has changed a)) where
+-- Directory d has such a change.
+pub record DirStep (shape : Shape) (device : VirtualMap) (d : ℕ) (was is : InodeRec) (changed : List ℕ) (old between new : Pages) (row : ℕ) : Type 0 where
+  pub rewrites : Rewrites d was is changed old between new
+  pub formed : Formed shape (running_over device old)
+  pub is_node : IsNode shape (running_over device old) d was
+  pub was_dir : was.kind ≡ Dir
+  -- the pages that changed were the directory's, or are new
+  pub own : (u : ℕ) → Has changed u → ((k : ℕ) × HasAddress was k u) ⊎ IsNew shape (running_over device old) u
+  -- and so are the addresses of the record
+  pub from : (k a : ℕ) → HasAddress is k a → HasAddress was k a ⊎ ((k ≡ row) × IsNew shape (running_over device old) a × Has changed a)
+  pub generation : is.generation ≡ was.generation
+
+module _ (shape : Shape) (bounds : ShapeBounds shape) (device : VirtualMap) (d : ℕ) (was is : InodeRec) (changed : List ℕ) (old between new : Pages) (row : ℕ) (step : DirStep shape device d was is changed old between new row) where
   abbrev one : VirtualMap
   one = running_over device old
 
@@ -94,46 +101,46 @@ module _ (shape : Shape) (bounds : ShapeBounds shape) (device : VirtualMap) (d :
   v = page_of_node d
 
   had : (k a : ℕ) → HasAddress was k a → AddressAt shape one d k a
-  had k a h = record { rec = was; is_node = is-node; in_slot = h.0; not_zero = h.1 }
+  had k a h = record { rec = was; is_node = step.is_node; in_slot = h.0; not_zero = h.1 }
 
   changed-in-pool : (u : ℕ) → Has changed u → 67 + shape.inode_pages ≤ u
-  changed-in-pool u h = by (own u h)
+  changed-in-pool u h = by (step.own u h)
     where
       by : ((k : ℕ) × HasAddress was k u) ⊎ IsNew shape one u → 67 + shape.inode_pages ≤ u
-      by (inl x) = (formed.addresses.good d x.0 u (had x.0 u x.1)).from_pool
+      by (inl x) = (step.formed.addresses.good d x.0 u (had x.0 u x.1)).from_pool
       by (inr x) = x.from_pool
 
   in-pool : (k a : ℕ) → HasAddress is k a → (67 + shape.inode_pages ≤ a) × (a < shape.vaddrs)
-  in-pool k a h = by (from k a h)
+  in-pool k a h = by (step.from k a h)
     where
       by : HasAddress was k a ⊎ ((k ≡ row) × IsNew shape one a × Has changed a) → (67 + shape.inode_pages ≤ a) × (a < shape.vaddrs)
-      by (inl x) = let g = formed.addresses.good d k a (had k a x) in (g.from_pool, g.in_pool)
+      by (inl x) = let g = step.formed.addresses.good d k a (had k a x) in (g.from_pool, g.in_pool)
       by (inr x) = (x.1.from_pool, x.1.in_pool)
 
   node-page-low : v < 67 + shape.inode_pages
-  node-page-low = let h = is-node.below in let f = bounds.places in omega (arith, h, f)
+  node-page-low = let h = step.is_node.below in let f = bounds.places in omega (arith, h, f)
 
   not-node-page : (a : ℕ) → 67 + shape.inode_pages ≤ a → a ≢ v
   not-node-page a h e = let l = node-page-low in omega (arith, h, e, l)
 
   node-between : IsSome (page_of between v)
-  node-between = ap is_some (rewrites.pages.others v (λ h. let p = changed-in-pool v h in let l = node-page-low in omega (arith, p, l))) ∙ rewrites.node_there
+  node-between = ap is_some (step.rewrites.pages.others v (λ h. let p = changed-in-pool v h in let l = node-page-low in omega (arith, p, l))) ∙ step.rewrites.node_there
 
   pub node-after : IsSome (page_of new v)
-  node-after = ap (λ (p : Pages). is_some (page_of p v)) rewrites.puts.page ∙ ap is_some (page-at between v _ (below-length between v node-between))
+  node-after = ap (λ (p : Pages). is_some (page_of p v)) step.rewrites.puts.page ∙ ap is_some (page-at between v _ (below-length between v node-between))
 
   -- a page that did not change
   kept-page : (u : ℕ) → (Has changed u → ⊥) → u ≢ v → two u ≡ one u
-  kept-page u none far = over-same device old new u (rewrites.puts.others.others u far ∙ rewrites.pages.others u none)
+  kept-page u none far = over-same device old new u (step.rewrites.puts.others.others u far ∙ step.rewrites.pages.others u none)
 
   other-page : (k slot a : ℕ) → k ≢ d → AddressAt shape one k slot a → two a ≡ one a
-  other-page k slot a far at = kept-page a none (not-node-page a (formed.addresses.good k slot a at).from_pool)
+  other-page k slot a far at = kept-page a none (not-node-page a (step.formed.addresses.good k slot a at).from_pool)
     where
       none : Has changed a → ⊥
-      none h = by (own a h)
+      none h = by (step.own a h)
         where
           by : ((i : ℕ) × HasAddress was i a) ⊎ IsNew shape one a → ⊥
-          by (inl x) = far (formed.addresses.one_use k slot d x.0 a at (had x.0 a x.1)).0
+          by (inl x) = far (step.formed.addresses.one_use k slot d x.0 a at (had x.0 a x.1)).0
           by (inr x) = x.unused (k, slot, at)
 
   other-node : (k : ℕ) → k < 16 * shape.inode_pages → k ≢ d → bytes_of_node two k ≡ bytes_of_node one k
@@ -147,21 +154,21 @@ module _ (shape : Shape) (bounds : ShapeBounds shape) (device : VirtualMap) (d :
       by (inr off) = ap (λ (o : Option (List ℕ)). slot_at (λ u. o) 256 0 (k % 16)) (kept-page (67 + k / 16) (λ x. let p = changed-in-pool (67 + k / 16) x in omega (arith, p, low)) off)
       by (inl e) =
           ap (λ (o : Option (List ℕ)). slot_at (λ u. o) 256 0 (k % 16)) (over-there device new (67 + k / 16) (subst (λ (u : ℕ). IsSome (page_of new u)) (sym e) node-after))
-          ∙ one_slot.node v (d % 16) (page_of between) (page_of new) rewrites.puts.others k (λ x y. far (one-node k d x y))
-          ∙ ap (λ (o : Option (List ℕ)). slot_at (λ u. o) 256 0 (k % 16)) (rewrites.pages.others (67 + k / 16) (λ x. let p = changed-in-pool (67 + k / 16) x in omega (arith, p, low)))
-          ∙ sym (ap (λ (o : Option (List ℕ)). slot_at (λ u. o) 256 0 (k % 16)) (over-there device old (67 + k / 16) (subst (λ (u : ℕ). IsSome (page_of old u)) (sym e) rewrites.node_there)))
+          ∙ one_slot.node v (d % 16) (page_of between) (page_of new) step.rewrites.puts.others k (λ x y. far (one-node k d x y))
+          ∙ ap (λ (o : Option (List ℕ)). slot_at (λ u. o) 256 0 (k % 16)) (step.rewrites.pages.others (67 + k / 16) (λ x. let p = changed-in-pool (67 + k / 16) x in omega (arith, p, low)))
+          ∙ sym (ap (λ (o : Option (List ℕ)). slot_at (λ u. o) 256 0 (k % 16)) (over-there device old (67 + k / 16) (subst (λ (u : ℕ). IsSome (page_of old u)) (sym e) step.rewrites.node_there)))
 
   node-is : inode_at two d ≡ Some is
   unfolding inode_at bytes_of_node
-  node-is = ap (λ (o : Option (List ℕ)). inode_of (slot_at (λ u. o) 256 0 (d % 16))) (over-there device new v node-after) ∙ rewrites.puts.node
+  node-is = ap (λ (o : Option (List ℕ)). inode_of (slot_at (λ u. o) 256 0 (d % 16))) (over-there device new v node-after) ∙ step.rewrites.puts.node
 
   -- the pages of the directory afterwards
   place-page : (i : ℕ) → i < is.size → two (address_of_place is i) ≡ page_of between (address_of_place is i)
   place-page i h =
-      let s = slot-filled (div_ceil is.size 64) is.addresses (i / 64) (filled_of is rewrites.after.places.spelled rewrites.after.places.is_dir) (omega (arith, h)) in
+      let s = slot-filled (div_ceil is.size 64) is.addresses (i / 64) (filled_of is step.rewrites.after.places.spelled step.rewrites.after.places.is_dir) (omega (arith, h)) in
       let p = in-pool (i / 64) (address_of_place is i) s in
-      let same = rewrites.puts.others.others (address_of_place is i) (not-node-page (address_of_place is i) p.0) in
-      over-there device new (address_of_place is i) (ap is_some same ∙ rewrites.after.places.there i h) ∙ same
+      let same = step.rewrites.puts.others.others (address_of_place is i) (not-node-page (address_of_place is i) p.0) in
+      over-there device new (address_of_place is i) (ap is_some same ∙ step.rewrites.after.places.there i h) ∙ same
 
   pub own-after : OwnPages is (page_of between) two
   own-after = only_own_pages is (page_of between) two place-page
@@ -176,48 +183,48 @@ module _ (shape : Shape) (bounds : ShapeBounds shape) (device : VirtualMap) (d :
   pub changes : ChangesNode shape d is one two
   changes = record {
     same = record { nodes = other-node; pages = other-page };
-    below = is-node.below;
+    below = step.is_node.below;
     node = node-is;
-    physical = subst (NamesPhysical shape) (sym rewrites.direct) physical;
-    root = λ e. rewrites.after.places.is_dir;
+    physical = subst (NamesPhysical shape) (sym step.rewrites.direct) physical;
+    root = λ e. step.rewrites.after.places.is_dir;
     good = good;
     one_use = one-use;
     apart = apart;
-    directory = λ e. own-after.directory rewrites.after;
+    directory = λ e. own-after.directory step.rewrites.after;
   }
     where
       physical : NamesPhysical shape was.direct
-      physical = let r = formed.nodes.spelled d is-node.below in subst (λ (z : InodeRec). NamesPhysical shape z.direct) (some_in r.0 was (sym r.1 ∙ is-node.spelled)) r.2
+      physical = let r = step.formed.nodes.spelled d step.is_node.below in subst (λ (z : InodeRec). NamesPhysical shape z.direct) (some_in r.0 was (sym r.1 ∙ step.is_node.spelled)) r.2
 
       there : (k a : ℕ) → HasAddress is k a → Has changed a ⊎ (Has changed a → ⊥) → IsSome (two a)
       there k a h (inl x) =
-          let same = rewrites.puts.others.others a (not-node-page a (in-pool k a h).0) in
-          let some = ap is_some same ∙ rewrites.pages.there a x in
+          let same = step.rewrites.puts.others.others a (not-node-page a (in-pool k a h).0) in
+          let some = ap is_some same ∙ step.rewrites.pages.there a x in
           ap is_some (over-there device new a some) ∙ some
-      there k a h (inr none) = by (from k a h)
+      there k a h (inr none) = by (step.from k a h)
         where
           by : HasAddress was k a ⊎ ((k ≡ row) × IsNew shape one a × Has changed a) → IsSome (two a)
-          by (inl x) = ap is_some (kept-page a none (not-node-page a (in-pool k a h).0) ∙ (formed.addresses.good d k a (had k a x)).committed)
+          by (inl x) = ap is_some (kept-page a none (not-node-page a (in-pool k a h).0) ∙ (step.formed.addresses.good d k a (had k a x)).committed)
           by (inr x) = absurd (none x.2)
 
       good : (k a : ℕ) → HasAddress is k a → GoodAddress shape two is.kind a
       good k a h =
           let p = in-pool k a h in
           let b = some-of (two a) (there k a h (has-or-not changed a)) in
-          record { from_pool = p.0; in_pool = p.1; bytes = b.0; committed = b.1; spelled = λ f. absurd (not-file (sym rewrites.after.places.is_dir ∙ f)) }
+          record { from_pool = p.0; in_pool = p.1; bytes = b.0; committed = b.1; spelled = λ f. absurd (not-file (sym step.rewrites.after.places.is_dir ∙ f)) }
 
       one-use : (i j a : ℕ) → HasAddress is i a → HasAddress is j a → i ≡ j
-      one-use i j a h l = by (from i a h) (from j a l)
+      one-use i j a h l = by (step.from i a h) (step.from j a l)
         where
           by : HasAddress was i a ⊎ ((i ≡ row) × IsNew shape one a × Has changed a) → HasAddress was j a ⊎ ((j ≡ row) × IsNew shape one a × Has changed a) → i ≡ j
-          by (inl x) (inl y) = (formed.addresses.one_use d i d j a (had i a x) (had j a y)).1
+          by (inl x) (inl y) = (step.formed.addresses.one_use d i d j a (had i a x) (had j a y)).1
           by (inl x) (inr y) = absurd (y.1.unused (d, i, had i a x))
           by (inr x) (inl y) = absurd (x.1.unused (d, j, had j a y))
           by (inr x) (inr y) = x.0 ∙ sym y.0
 
       apart : (i a k slot : ℕ) → HasAddress is i a → k ≢ d → AddressAt shape one k slot a → ⊥
-      apart i a k slot h far at = by (from i a h)
+      apart i a k slot h far at = by (step.from i a h)
         where
           by : HasAddress was i a ⊎ ((i ≡ row) × IsNew shape one a × Has changed a) → ⊥
-          by (inl x) = far (formed.addresses.one_use k slot d i a at (had i a x)).0
+          by (inl x) = far (step.formed.addresses.one_use k slot d i a at (had i a x)).0
           by (inr x) = x.1.unused (k, slot, at)

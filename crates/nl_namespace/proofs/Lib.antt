@@ -1,5 +1,6 @@
 mod Chains
 mod DirectoryChanges
+mod DirectorySteps
 mod Entries
 mod Graphs
 mod FreeLists
@@ -7,6 +8,8 @@ mod NodeChanges
 mod Parents
 mod Placed
 mod Printed
+mod PutSteps
+mod States
 mod Texts
 mod Order
 mod Rooms
