@@ -75,7 +75,7 @@ has-or-not (x ∷ xs) a = by (cases_eq x a) (has-or-not xs a)
 not-file : Dir ≡ File → ⊥
 not-file e = cc
 
-one-node : (m n : ℕ) → 67 + m / 16 ≡ 67 + n / 16 → m % 16 ≡ n % 16 → m ≡ n
+pub one-node : (m n : ℕ) → 67 + m / 16 ≡ 67 + n / 16 → m % 16 ≡ n % 16 → m ≡ n
 one-node m n e f = omega arith
 
 -- Directory d has such a change.

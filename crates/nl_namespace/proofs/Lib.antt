@@ -7,9 +7,12 @@ mod FreeLists
 mod NodeChanges
 mod Parents
 mod Placed
+mod NodeSteps
+mod Links
 mod Printed
 mod PutSteps
 mod States
+mod TakeSteps
 mod Texts
 mod Order
 mod Rooms

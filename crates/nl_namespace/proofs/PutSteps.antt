@@ -249,3 +249,17 @@ module _ (shape : Shape) (bounds : ShapeBounds shape) (device : VirtualMap) (d :
       lists : (e : EntryRec) → Has (entries_of_inode (page_of p) rec) e ⊎ (e ≡ entry) → Has (entries_of_inode (page_of p) rec) e ⊎ GoodEntry shape one e
       lists e (inl h) = inl h
       lists e (inr same) = inr (subst (GoodEntry shape one) (sym same) good)
+
+  -- a page that is needed was so before, or is resident
+  pub put-needs : (b : ℕ) → Uses shape two b → Uses shape one b ⊎ IsSome (page_of q b)
+  put-needs b u = by puts.fresh refl
+    where
+      new : (a : ℕ) → puts.fresh ≡ Some a → (a ≡ b) ⊎ (a ≡ b → ⊥) → Uses shape one b ⊎ IsSome (page_of q b)
+      new a e (inl h) =
+          let there = puts.inserts.pages.there a (inl (new-page a e)) in
+          inr (subst (λ (v : ℕ). IsSome (page_of q v)) h ((follows-node device d is puts.between q ((follows-pages device changed p puts.between puts.inserts.pages).there (page_of_node d) puts.has.node_there) puts.puts).there a there))
+      new a e (inr far) = inl ((same-uses b (λ z. far (some_in a b (sym e ∙ z)))).0 u)
+
+      by : (o : Option ℕ) → puts.fresh ≡ o → Uses shape one b ⊎ IsSome (page_of q b)
+      by None e = inl ((same-uses b (λ z. none_some b (sym e ∙ z))).0 u)
+      by (Some a) e = new a e (cases_eq a b)

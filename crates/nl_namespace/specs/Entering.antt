@@ -60,6 +60,7 @@ pub record HasNamed (n : ℕ) (name : List ℕ) (p : Pages) (free : Spaces) : Ty
 pub record TakesOut (n : ℕ) (name : List ℕ) (old new : Pages) (s t : Spaces) : Type 0 where
   pub rec : InodeRec
   pub has : HasDirectory n rec 3 old
+  pub there : IsSome (entry_named (page_of old) rec name)
   pub given : Option ℕ
   pub gives : Gives given s t
   pub between : Pages

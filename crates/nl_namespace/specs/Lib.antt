@@ -2,6 +2,7 @@ pub mod Changing
 pub mod Entering
 pub mod Holding
 pub mod Listing
+pub mod Making
 pub mod Naming
 pub mod Paths
 pub mod PathLaws
