@@ -9,6 +9,8 @@ mod Parents
 mod Placed
 mod NodeSteps
 mod Links
+mod MakeFits
+mod MakeSteps
 mod Printed
 mod PutSteps
 mod States

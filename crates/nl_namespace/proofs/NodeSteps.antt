@@ -167,6 +167,9 @@ module _ (shape : Shape) (bounds : ShapeBounds shape) (device : VirtualMap) (n :
   pub new-keeps : (k : ℕ) (r : InodeRec) → k ≢ n → IsNode shape one k r → IsNode shape two k r
   new-keeps k r far at = node-other shape bounds one two n same k r far at
 
+  pub new-back : (k : ℕ) (r : InodeRec) → k ≢ n → IsNode shape two k r → IsNode shape one k r
+  new-back k r far at = node-back shape bounds one two n same k r far at
+
   pub new-node : IsNode shape two n is
   new-node = record { below = below; spelled = node-is; used = used }
 

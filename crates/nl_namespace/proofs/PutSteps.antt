@@ -34,7 +34,7 @@ use Rattle.nl_tree.specs.GraphLaws.{entry_at}
 use Rattle.nl_namespace.specs.Entering.{PutsIn, Takes}
 use Rattle.nl_namespace.proofs.DirectoryChanges.{DirStep, IsNew, Rewrites, has-or-not, over-there}
 use Rattle.nl_namespace.proofs.DirectorySteps.{change, entry-after, entry-before, good-after, graph-stays, is-after, node-stays, nodes-after, uses-from, uses-here, uses-other, uses-to}
-use Rattle.nl_namespace.proofs.NodeChanges.{formed-then}
+use Rattle.nl_namespace.proofs.NodeChanges.{formed-then, node-back}
 use Rattle.nl_namespace.proofs.States.{AllGood, Follows, State, follows-then}
 
 -- ---- pages that follow
@@ -171,6 +171,9 @@ module _ (shape : Shape) (bounds : ShapeBounds shape) (device : VirtualMap) (d :
 
   pub put-node : (k : ℕ) (r : InodeRec) → k ≢ d → IsNode shape one k r → IsNode shape two k r
   put-node k r far at = node-stays shape bounds device d rec is changed p puts.between q (rec.size / 64) step k r far at
+
+  pub put-back : (k : ℕ) (r : InodeRec) → k ≢ d → IsNode shape two k r → IsNode shape one k r
+  put-back k r far at = node-back shape bounds one two d (change shape bounds device d rec is changed p puts.between q (rec.size / 64) step).same k r far at
 
   pub put-dir : IsNode shape two d is
   put-dir = is-after shape bounds device d rec is changed p puts.between q (rec.size / 64) step

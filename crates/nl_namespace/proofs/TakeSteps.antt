@@ -29,7 +29,7 @@ use Rattle.nl_tree.specs.GraphLaws.{entry_at}
 use Rattle.nl_namespace.specs.Entering.{Gives, TakesOut}
 use Rattle.nl_namespace.proofs.DirectoryChanges.{DirStep, IsNew}
 use Rattle.nl_namespace.proofs.DirectorySteps.{change, entry-after, entry-before, good-after, graph-stays, is-after, node-stays, nodes-after, uses-from, uses-here, uses-to}
-use Rattle.nl_namespace.proofs.NodeChanges.{formed-then}
+use Rattle.nl_namespace.proofs.NodeChanges.{formed-then, node-back}
 use Rattle.nl_namespace.proofs.PutSteps.{dir-used, follows-node, follows-pages, node-over}
 use Rattle.nl_namespace.proofs.Rooms.{few-changed, some-places}
 use Rattle.nl_namespace.proofs.States.{AllGood, Follows, State, follows-then}
@@ -139,6 +139,9 @@ module _ (shape : Shape) (bounds : ShapeBounds shape) (device : VirtualMap) (d :
 
   pub take-node : (k : ℕ) (r : InodeRec) → k ≢ d → IsNode shape one k r → IsNode shape two k r
   take-node k r far at = node-stays shape bounds device d rec is changed p takes.between q 0 step k r far at
+
+  pub take-back : (k : ℕ) (r : InodeRec) → k ≢ d → IsNode shape two k r → IsNode shape one k r
+  take-back k r far at = node-back shape bounds one two d (change shape bounds device d rec is changed p takes.between q 0 step).same k r far at
 
   pub take-dir : IsNode shape two d is
   take-dir = is-after shape bounds device d rec is changed p takes.between q 0 step

@@ -51,7 +51,7 @@ pub record Changes {D : Type 0} (g : Ghosts D) (s : D) (p : Pages) (t : D) (q : 
   pub few : length (besides_0 q.dirty) ≤ length (besides_0 p.dirty) + 8
   pub runs : RunsBut g t q gone
   -- the node that lost its name still counts as used
-  pub free : FreeFits g t q free
+  pub fits : FreeFits g t q free
   pub files : (n : ℕ) (rec : InodeRec) → IsNodeOf g s p n rec → rec.kind ≡ File → FileStays g s p t q n rec
 
 -- what a call leaves: all as it was, unless it was done

@@ -4,6 +4,8 @@
 mod answer;
 mod entering;
 mod free;
+mod lengths;
+mod naming;
 mod hold;
 pub mod laws;
 mod names;
