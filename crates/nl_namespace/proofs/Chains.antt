@@ -6,11 +6,14 @@ use Rattle.nl_iface.specs.Counting.{FailuresCounted}
 use Rattle.nl_iface.specs.Device.{IsVolumeShape}
 use Rattle.nl_iface.specs.declared.counts.Counts.{Ghosts}
 use Rattle.nl_field.specs.declared.inode.InodeRec.{InodeRec}
+use Rattle.nl_field.specs.declared.shape.Shape.{Shape}
+use Rattle.nl_meta.specs.Nodes.{graph_of}
 use Rattle.nl_meta.specs.Pages.{Pages}
 use Rattle.nl_running.specs.Reading.{Reads}
-use Rattle.nl_running.specs.Running.{IsNodeOf, IsUsed, Runs, RunsOn}
+use Rattle.nl_running.specs.Running.{IsNodeOf, IsUsed, Runs, RunsOn, running_on}
 use Rattle.nl_running.specs.declared.answer.Stop.{Stop}
 use Rattle.nl_running.specs.declared.answer.Stop.TheVariants as stop
+use Rattle.nl_running.proofs.GraphStays.{graph-same}
 use Rattle.nl_running.proofs.Holds.{bounds-of}
 use Rattle.nl_running.proofs.Kept.{kept-then, runs-then, used-back, used-on}
 
@@ -26,6 +29,11 @@ module _ {D : Type 0} (g : Ghosts D) (s : D) (p : Pages) (t : D) (q : Pages) (sh
 
   pub then-used : (n : ℕ) → IsUsed g s p n → IsUsed g t q n
   then-used n u = (u.0, then-node n u.0 u.1)
+
+  pub then-graph : graph_of (g.shape t) (running_on g t q) ≡ graph_of (g.shape s) (running_on g s p)
+  then-graph =
+      ap (λ (n : Shape). graph_of n (running_on g t q)) on.reads.medium.virtual.same_shape
+      ∙ graph-same (g.shape s) (bounds-of (g.shape s) shape) (running_on g s p) (running_on g t q) on.needed
 
   pub node-before : (n : ℕ) (rec : InodeRec) → IsNodeOf g t q n rec → IsNodeOf g s p n rec
   node-before n rec is = used-back g s p t q (bounds-of (g.shape s) shape) on n rec is

@@ -10,6 +10,7 @@ mod Placed
 mod NodeSteps
 mod Links
 mod MakeFits
+mod MakeReady
 mod MakeSteps
 mod Printed
 mod PutSteps

@@ -7,6 +7,7 @@ use Rattle.nl_field.specs.declared.inode.Kind.{Kind}
 use Rattle.nl_field.specs.declared.inode.Kind.TheVariants.{Dir, File, Unused}
 use Rattle.nl_meta.specs.Nodes.{address_of_place, entry_named, inode_at}
 use Rattle.nl_meta.specs.Pages.{Pages, page_of}
+use Rattle.nl_inode.specs.Free.{IsLeast}
 use Rattle.nl_inode.specs.Nodes.{NodeBecomes, PutsNode, Spaces, page_of_node, taken_as}
 use Rattle.nl_tree.specs.Tree.{Node, directory, file}
 use Rattle.nl_namespace.specs.Entering.{FreeAreNew, HasDirectory, HasFreeAddress, PutsIn}
@@ -41,3 +42,9 @@ pub record MakesIn (n m : ℕ) (kind : Kind) (name : List ℕ) (old new : Pages)
   pub entry : EntryRec
   pub is_entry : (entry.ino ≡ m) × (entry.generation ≡ (generation + 1) % 2 ^ 32) × (entry.name ≡ name)
   pub puts : PutsIn n entry between new free t
+
+-- The node is the least free one, and a directory of so many entries has room for it.
+pub record HasSpare (free : Spaces) (count m : ℕ) : Type 0 where
+  pub least : IsLeast m free.nodes
+  pub few : count < 1024
+  pub address : count % 64 ≡ 0 → HasFreeAddress free

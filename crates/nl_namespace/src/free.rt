@@ -1,9 +1,14 @@
-ghost use Rattle.std.specs.Prelude.{◌≡◌, MatchBool, MatchOption, true};
+ghost use Rattle.std.specs.Prelude.{◌≡◌, ◌≤◌, IfErr, IfOk, MatchBool, MatchOption};
 ghost use Rattle.nl_inode.specs.Free.{IsLeast, NoneFree};
-ghost use Rattle.nl_inode.specs.Nodes.{is_free_address};
 ghost use Rattle.nl_namespace.specs.Entering.{HasFreeAddress};
+ghost use Rattle.nl_namespace.specs.Making.{HasSpare};
+ghost use Rattle.nl_namespace.specs.Naming.{IsFull};
 
 use nl_inode::Nodes;
+use nl_tree::Space;
+
+/// The most entries of a directory.
+const MOST: u64 = 1024;
 
 /// The least free node, which stays free.
 pub(crate) fn least_node(nodes: &mut Nodes) -> Option<u32>
@@ -28,5 +33,27 @@ pub(crate) fn has_address(nodes: &mut Nodes) -> bool
             true
         }
         None => false,
+    }
+}
+
+/// The least free node, where a directory of so many entries has room for it; or what there is not enough of.
+pub(crate) fn room_for(nodes: &mut Nodes, count: u64) -> Result<u32, Space>
+    requires { count ≤ 1024 }
+    ensures spare { IfOk result (HasSpare nodes.old count) }
+    ensures full { IfErr result (IsFull nodes.old count) }
+    ensures same { nodes.new ≡ nodes.old }
+{
+    if count == MOST {
+        return Err(Space::Dir);
+    }
+    match least_node(nodes) {
+        Some(ino) => {
+            if count % 64 == 0 && !has_address(nodes) {
+                Err(Space::Meta)
+            } else {
+                Ok(ino)
+            }
+        }
+        None => Err(Space::Nodes),
     }
 }

@@ -5,6 +5,7 @@ mod answer;
 mod entering;
 mod free;
 mod lengths;
+mod making;
 mod naming;
 mod hold;
 pub mod laws;
@@ -13,6 +14,7 @@ mod place;
 mod walk;
 
 pub use answer::{Change, Listing, Look};
+pub use making::make;
 pub use names::list;
 pub use nl_running::Stop;
 pub use walk::look;

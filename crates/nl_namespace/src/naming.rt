@@ -1,4 +1,6 @@
-ghost use Rattle.std.specs.Prelude.{◌≢◌};
+ghost use Rattle.std.specs.Prelude.{◌≡◌, ◌≢◌, ◌&&◌, nat_le, IsTrue, length};
+ghost use Rattle.nl_field.specs.Names.{is_name};
+ghost use Rattle.nl_field.specs.Numbers.{max_name};
 ghost use Rattle.nl_namespace.specs.Making.{FitsNew, MakesIn};
 
 use crate::entering::{put, put_in};
@@ -29,4 +31,15 @@ pub(crate) fn name_node(
         name,
     };
     put_in(meta, nodes, dir, &entry);
+}
+
+/// The name of these bytes, which are one.
+pub(crate) fn name_of(bytes: &[u8]) -> Name
+    requires { IsTrue (is_name bytes.now && nat_le (length bytes.now) max_name) }
+    ensures { result ≡ bytes.now }
+{
+    match Name::of(bytes) {
+        Some(name) => name,
+        None => unreachable!(),
+    }
 }
