@@ -9,6 +9,7 @@ mod Parents
 mod Placed
 mod NodeSteps
 mod Links
+mod MakeDone
 mod MakeFits
 mod MakeReady
 mod MakeSteps
