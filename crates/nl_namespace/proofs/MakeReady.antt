@@ -225,7 +225,7 @@ module _ {D : Type 0} (g : Ghosts D) (s : D) (p : Pages) (t : D) (q : Pages) (vo
       after n slot a x = record { rec = x.rec; is_node = then-node g s p t q volume on n x.rec x.is_node; in_slot = x.in_slot; not_zero = x.not_zero }
 
   pub changes-after : (u : D) (r : Pages) (free : Spaces) (gone : Option ℕ) → Changes g t q u r free gone → Changes g s p u r free gone
-  changes-after u r free gone c = record {
+  changes-after u r free lost c = record {
     reads = reads_then g s t u on.reads c.reads;
     frozen = c.frozen ∙ on.frozen;
     few = let f = c.few in let e = ap (λ (ds : List ℕ). length (besides_0 ds)) on.dirty in omega (arith, f, e);
@@ -237,7 +237,7 @@ module _ {D : Type 0} (g : Ghosts D) (s : D) (p : Pages) (t : D) (q : Pages) (vo
   }
 
   pub leaves-after : (u : D) (r : Pages) (free after : Spaces) (answer : Change) → Leaves g t q free u r after answer → Leaves g s p free u r after answer
-  leaves-after u r free after (change.Changed gone) l = changes-after u r after gone l
+  leaves-after u r free after (change.Changed lost) l = changes-after u r after lost l
   leaves-after u r free after (change.No refusal) l = (then-on g s p t q volume on u r l.0, l.1)
   leaves-after u r free after change.Fault l = (then-on g s p t q volume on u r l.0, l.1)
   leaves-after u r free after (change.Lost w f) l = (then-on g s p t q volume on u r l.0, l.1)

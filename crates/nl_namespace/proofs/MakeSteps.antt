@@ -267,7 +267,7 @@ module _ {D : Type 0} (g : Ghosts D) (s : D) (p q : Pages) (free after : Spaces)
       files : (k : ℕ) (rec : InodeRec) → IsNodeOf g s p k rec → rec.kind ≡ File → FileStays g s p s q k rec
       files k rec is file =
           let off : k ≢ m = λ e. unused rec (subst (λ (i : ℕ). IsNode shape one i rec) e is) in
-          let far : k ≢ n = λ e. not-dir (ap (λ (r : InodeRec). r.kind) (some_in place.rec rec (sym at.is_node.spelled ∙ ap (inode_at one) (sym e) ∙ is.spelled)) ) in
+          let far : k ≢ n = λ e. not-dir (ap (λ (r : InodeRec). r.kind) (some_in place.rec rec (sym at.is_node.spelled ∙ ap (inode_at one) (sym e) ∙ is.spelled))) in
           record {
             is_node = put-node shape bounds device n makes.entry makes.between q makes.free after state1 at.is_node.below makes.puts k rec far
                 (new-keeps shape bounds device m kind makes.generation p makes.between free makes.free state below used unused there makes.node makes.taken k rec off is);

@@ -9,4 +9,3 @@ pub mod PathLaws
 pub mod Placing
 pub mod Reading
 pub mod Stepping
-pub mod Scratch

@@ -1,5 +1,4 @@
 //! Laws of the definitions. Each function stands for the law that its contract names.
-ghost use Rattle.nl_namespace.specs.Scratch.{Scratch};
 ghost use Rattle.nl_namespace.specs.PathLaws.{ListsInTree, LooksInTree};
 
 /// A path is answered as the tree answers it for which the nodes stand.
@@ -10,8 +9,4 @@ pub fn looks_in_tree()
 /// What is listed stands in the tree under the path of the directory, and nothing else does.
 pub fn lists_in_tree()
     ensures { ListsInTree }
-{}
-
-pub fn scratch()
-    ensures { Scratch }
 {}

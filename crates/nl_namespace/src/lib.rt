@@ -4,12 +4,12 @@
 mod answer;
 mod entering;
 mod free;
-mod lengths;
-mod making;
-mod naming;
 mod hold;
 pub mod laws;
+mod lengths;
+mod making;
 mod names;
+mod naming;
 mod place;
 mod walk;
 

@@ -1,3 +1,0 @@
-use Rattle.std.specs.Prelude.{ℕ, ◌≡◌}
-abbrev pub Scratch : Type 0
-Scratch = (n : ℕ) → n ≡ n
