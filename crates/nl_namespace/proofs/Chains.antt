@@ -1,7 +1,6 @@
 -- One reading call after the other.
 use Rattle.std.proofs.Common.{◌≡◌, ℕ, sym, ap, subst, ◌∙◌, Option, Some, None}
 use Rattle.std.specs.Prelude.{⊤}
-use Rattle.nl_iface.specs.Calls.{OnlyReads}
 use Rattle.nl_iface.specs.Counting.{FailuresCounted}
 use Rattle.nl_iface.specs.Device.{IsVolumeShape}
 use Rattle.nl_iface.specs.declared.counts.Counts.{Ghosts}

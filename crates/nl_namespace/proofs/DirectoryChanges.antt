@@ -1,5 +1,5 @@
 -- A directory whose pages changed, and whose record was written back, in the running map over a device.
-use Rattle.std.proofs.Common.{◌≡◌, ◌≢◌, ℕ, ◌+◌, ◌*◌, ◌/◌, ◌%◌, ◌≤◌, ◌<◌, List, [], ◌∷◌, length, get_or, refl, sym, ap, subst, ◌∙◌, Option, Some, None, is_some, IsSome, ◌⊎◌, inl, inr, arith, bytes_eq}
+use Rattle.std.proofs.Common.{◌≡◌, ◌≢◌, ℕ, ◌+◌, ◌*◌, ◌/◌, ◌%◌, ◌≤◌, ◌<◌, List, [], ◌∷◌, refl, sym, ap, subst, ◌∙◌, Option, Some, None, is_some, IsSome, ◌⊎◌, inl, inr, arith, bytes_eq}
 use Rattle.std.proofs.lemmas.Bool.{both_ways, cases_eq}
 use Rattle.std.specs.Int.{div_ceil}
 use Rattle.std.specs.Prelude.{find}
@@ -7,8 +7,7 @@ use Rattle.nl_field.specs.Members.{Has}
 use Rattle.nl_field.specs.Numbers.{ShapeBounds}
 use Rattle.nl_field.specs.declared.entry.EntryRec.{EntryRec}
 use Rattle.nl_field.specs.declared.inode.InodeRec.{InodeRec}
-use Rattle.nl_field.specs.declared.inode.Kind.{Kind}
-use Rattle.nl_field.specs.declared.inode.Kind.TheVariants.{Dir, File, Unused}
+use Rattle.nl_field.specs.declared.inode.Kind.TheVariants.{Dir, File}
 use Rattle.nl_field.specs.declared.shape.Shape.{Shape}
 use Rattle.nl_meta.specs.Committed.{VirtualMap}
 use Rattle.nl_meta.specs.Consistent.{AddressAt, GoodAddress, IsNode, NamesPhysical}
@@ -29,7 +28,7 @@ use Rattle.nl_dir.proofs.LawProofs.{only_own_pages}
 use Rattle.nl_dir.proofs.PlaceFacts.{below-length, page-at}
 use Rattle.nl_field.specs.Inode.{inode_of}
 use Rattle.nl_running.proofs.SameNeeded.{slot-filled}
-use Rattle.nl_namespace.proofs.NodeChanges.{ChangesNode, Formed, SameBut}
+use Rattle.nl_namespace.proofs.NodeChanges.{ChangesNode, Formed}
 
 -- The pages of directory d changed, and then its record.
 pub record Rewrites (d : ℕ) (was is : InodeRec) (changed : List ℕ) (old between new : Pages) : Type 0 where

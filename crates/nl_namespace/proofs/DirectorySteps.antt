@@ -1,5 +1,5 @@
 -- What such a change of a directory does to the entries, to what is free, and to the nodes as a graph.
-use Rattle.std.proofs.Common.{◌≡◌, ◌≢◌, ℕ, ◌+◌, ◌≤◌, ◌<◌, Bool, true, false, List, [], ◌∷◌, length, map, refl, sym, ap, subst, ◌∙◌, Option, Some, None, option_map, is_some, IsSome, ◌⊎◌, inl, inr, arith, bytes_eq}
+use Rattle.std.proofs.Common.{◌≡◌, ◌≢◌, ℕ, ◌<◌, Bool, true, List, map, sym, ap, subst, ◌∙◌, Some, option_map, ◌⊎◌, inl, inr, bytes_eq}
 use Rattle.std.proofs.lemmas.Bool.{cases_eq}
 use Rattle.std.specs.Prelude.{◌↔◌, find, slice_get}
 use Rattle.nl_field.specs.Graph.{GraphNode, NodeBody, directory_node}
@@ -20,14 +20,13 @@ use Rattle.nl_inode.specs.Free.{is_free}
 use Rattle.nl_inode.specs.FreeLaws.{NodesAreFree, Uses}
 use Rattle.nl_inode.specs.Nodes.{Spaces, is_free_node}
 use Rattle.nl_dir.specs.AfterLaws.{HasAddress}
-use Rattle.nl_dir.specs.ListLaws.{Lists}
 use Rattle.nl_dir.proofs.LawProofs.{resident_is_running}
 use Rattle.nl_tree.specs.GraphLaws.{entry_at}
 use Rattle.nl_tree.specs.Represents.{entries_in, node_named, node_of}
 use Rattle.nl_tree.specs.Tree.{directory}
-use Rattle.nl_namespace.proofs.DirectoryChanges.{DirStep, IsNew, changes, entries-after}
+use Rattle.nl_namespace.proofs.DirectoryChanges.{DirStep, changes, entries-after}
 use Rattle.nl_namespace.proofs.Graphs.{named-by}
-use Rattle.nl_namespace.proofs.NodeChanges.{ChangesNode, Formed, address-other, graph-at, graph-other, node-back, node-other, own-other, uses-then}
+use Rattle.nl_namespace.proofs.NodeChanges.{ChangesNode, address-other, graph-at, graph-other, node-back, node-other, own-other, uses-then}
 use Rattle.nl_namespace.proofs.States.{AllGood}
 
 dir-used : (k : Kind) → k ≡ Dir → k ≢ Unused

@@ -19,8 +19,11 @@ mod States
 mod TakeSteps
 mod Texts
 mod Order
+mod RemoveDone
+mod RemoveSteps
 mod Rooms
 mod Rows
+mod TreeChanges
 mod TreeLists
 mod TreeWalks
 mod Walks

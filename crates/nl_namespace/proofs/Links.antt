@@ -1,8 +1,8 @@
 -- From the nodes as a graph to what is right about the entries of a volume, and back.
-use Rattle.std.proofs.Common.{◌≡◌, ◌≢◌, ℕ, ◌<◌, Bool, true, false, cond, List, [], ◌∷◌, map, refl, sym, ap, subst, ◌∙◌, Option, Some, None, option_map, option_and_then, IsSome, ◌⊎◌, inl, inr, bytes_eq, nat_lt}
-use Rattle.std.proofs.lemmas.Bool.{cases_eq, cond-true, lt-ltb, ltb-true}
+use Rattle.std.proofs.Common.{◌≡◌, ◌≢◌, ℕ, ◌<◌, Bool, true, false, cond, List, [], ◌∷◌, refl, sym, ap, subst, ◌∙◌, Option, Some, None, option_map, option_and_then, bytes_eq, nat_lt}
+use Rattle.std.proofs.lemmas.Bool.{ltb-true}
 use Rattle.std.specs.Prelude.{find}
-use Rattle.nl_field.specs.Graph.{Graph, GraphNode, NodeBody}
+use Rattle.nl_field.specs.Graph.{Graph}
 use Rattle.nl_field.specs.Members.{Has}
 use Rattle.nl_field.specs.declared.entry.EntryRec.{EntryRec}
 use Rattle.nl_field.specs.declared.inode.InodeRec.{InodeRec}
@@ -10,18 +10,16 @@ use Rattle.nl_field.specs.declared.inode.Kind.{Kind}
 use Rattle.nl_field.specs.declared.inode.Kind.TheVariants.{Dir, File, Unused}
 use Rattle.nl_field.specs.declared.shape.Shape.{Shape}
 use Rattle.nl_meta.specs.Committed.{VirtualMap}
-use Rattle.nl_meta.specs.Consistent.{AddressesRight, EntriesRight, GoodEntry, IsNode, NodesRight}
+use Rattle.nl_meta.specs.Consistent.{IsNode}
 use Rattle.nl_meta.specs.Nodes.{body_of, entries_of_inode, entry_named, graph_of, inode_at, node_from}
 use Rattle.nl_meta.proofs.Lists.{member-find, none_some, some_in}
 use Rattle.nl_dir.specs.Directory.{IsDirectory}
 use Rattle.nl_dir.specs.ListLaws.{Lists, ListsRight, ReachedByLists}
 use Rattle.nl_dir.proofs.LawProofs.{entries_in_order}
 use Rattle.nl_dir.proofs.EntryLists.{named-same}
-use Rattle.nl_dir.proofs.ListProofs.{entries_by_lists}
 use Rattle.nl_tree.specs.GraphLaws.{NamedOnce, entry_at}
 use Rattle.nl_tree.specs.Represents.{entries_in, node_named, node_reached}
 use Rattle.nl_namespace.proofs.DirectorySteps.{dir-entry}
-use Rattle.nl_namespace.proofs.NodeChanges.{Formed}
 use Rattle.nl_namespace.proofs.States.{AllGood}
 
 -- a chain of entries leads from node 0 to the node

@@ -1,11 +1,11 @@
 -- A directory after a free node was given a record.
-use Rattle.std.proofs.Common.{◌≡◌, ℕ, ◌+◌, ◌-◌, ◌%◌, ◌≤◌, ◌<◌, Bool, true, false, ◌&&◌, nat_le, List, length, refl, sym, ap, subst, ◌∙◌, Option, Some, None, arith, bytes_eq}
+use Rattle.std.proofs.Common.{◌≡◌, ℕ, ◌-◌, ◌%◌, ◌<◌, false, ◌&&◌, nat_le, List, sym, ap, subst, ◌∙◌, None, arith, bytes_eq}
 use Rattle.std.specs.Prelude.{find}
 use Rattle.nl_field.specs.Inode.{inode_of}
 use Rattle.nl_field.specs.declared.entry.EntryRec.{EntryRec}
 use Rattle.nl_field.specs.declared.inode.InodeRec.{InodeRec}
 use Rattle.nl_meta.specs.Committed.{VirtualMap}
-use Rattle.nl_meta.specs.Nodes.{bytes_of_node, entry_named, inode_at}
+use Rattle.nl_meta.specs.Nodes.{entry_named, inode_at}
 use Rattle.nl_meta.specs.Pages.{Pages, page_of}
 use Rattle.nl_meta.proofs.SlotProofs.{one_slot}
 use Rattle.nl_inode.specs.Free.{is_free}

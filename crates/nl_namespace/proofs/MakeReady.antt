@@ -1,25 +1,18 @@
 -- What a directory gives for a new name, where it is held.
-use Rattle.std.proofs.Common.{◌≡◌, ◌≢◌, ℕ, suc, ◌+◌, ◌-◌, ◌*◌, ◌/◌, ◌%◌, ◌≤◌, ◌<◌, Bool, true, false, ◌||◌, ◌&&◌, nat_le, nat_lt, cond, List, [], ◌∷◌, ◌++◌, length, map, get_or, refl, sym, ap, subst, ◌∙◌, Option, Some, None, option_map, is_some, IsSome, ◌⊎◌, inl, inr, arith, bytes_eq}
-use Rattle.std.proofs.lemmas.Bool.{and_parts, cases_eq}
-use Rattle.std.specs.List.{list_any}
+use Rattle.std.proofs.Common.{◌≡◌, ◌≢◌, ℕ, suc, ◌+◌, ◌-◌, ◌/◌, ◌≤◌, ◌<◌, Bool, true, false, List, [], ◌∷◌, ◌++◌, length, map, refl, sym, ap, subst, ◌∙◌, Option, Some, None, option_map, is_some, IsSome, arith, bytes_eq}
 use Rattle.std.specs.Prelude.{find, slice_get}
 use Rattle.nl_field.specs.Graph.{Graph, NodeBody}
-use Rattle.nl_field.specs.Numbers.{ShapeBounds}
 use Rattle.nl_field.specs.declared.entry.EntryRec.{EntryRec}
-use Rattle.nl_field.specs.declared.inode.InodeRec.{InodeRec}
-use Rattle.nl_field.specs.declared.inode.Kind.TheVariants.{Dir}
 use Rattle.nl_field.specs.declared.shape.Shape.{Shape}
 use Rattle.nl_iface.specs.Device.{IsVolumeShape}
 use Rattle.nl_iface.specs.declared.counts.Counts.{Ghosts}
 use Rattle.nl_meta.specs.Consistent.{AddressAt}
-use Rattle.nl_meta.specs.Nodes.{address_of_place, entries_of_inode, entry_named, graph_of, inode_at}
+use Rattle.nl_meta.specs.Nodes.{address_of_place, entries_of_inode, entry_named, graph_of}
 use Rattle.nl_meta.proofs.Lists.{some_in}
 use Rattle.nl_meta.specs.Pages.{Pages, besides_0, page_of}
 use Rattle.nl_inode.specs.Nodes.{Spaces, is_free_address, page_of_node}
 use Rattle.nl_inode.proofs.MarkTree.{set-below}
-use Rattle.nl_inode.specs.FreeLaws.{Uses}
 use Rattle.nl_dir.specs.Directory.{HasRoomFor, IsDirectory}
-use Rattle.nl_dir.specs.DirectoryLaws.{OwnPages}
 use Rattle.nl_dir.proofs.LawProofs.{entries_in_order, resident_is_running}
 use Rattle.nl_tree.specs.Represents.{entries_in, node_reached}
 use Rattle.nl_tree.specs.Step.{first_of, is_too_long, when}
@@ -31,12 +24,12 @@ use Rattle.nl_tree.proofs.ChangeProofs.{at_end}
 use Rattle.nl_running.specs.Running.{IsNodeOf, Runs, RunsOn, running_on, stored_on}
 use Rattle.nl_running.proofs.Holds.{bounds-of}
 use Rattle.nl_running.proofs.SameNeeded.{own}
-use Rattle.nl_namespace.specs.Changing.{Changes, FileStays, FreeFits, Leaves}
-use Rattle.nl_namespace.specs.Entering.{FreeAreNew, HasDirectory, HasFreeAddress}
+use Rattle.nl_namespace.specs.Changing.{Changes, FreeFits, Leaves}
+use Rattle.nl_namespace.specs.Entering.{FreeAreNew, HasDirectory}
 use Rattle.nl_namespace.specs.Making.{FitsNew, HasSpare}
 use Rattle.nl_namespace.specs.Naming.{IsFull, LacksRoom, MakesNode, NameIn, refusal_of_name}
 use Rattle.nl_namespace.specs.Paths.{walk_refusal}
-use Rattle.nl_namespace.specs.Placing.{IsHeld, IsPlace}
+use Rattle.nl_namespace.specs.Placing.{IsPlace}
 use Rattle.nl_namespace.specs.declared.place.Place.{Place}
 use Rattle.nl_namespace.specs.declared.answer.Change.{Change}
 use Rattle.nl_namespace.specs.declared.answer.Change.TheVariants as change
@@ -140,7 +133,7 @@ module _ {D : Type 0} (g : Ghosts D) (s : D) (p : Pages) (volume : IsVolumeShape
       has_room = fits;
     }
 
-    named-there : entry_named (page_of p) place.rec at.name ≡ place.entry
+    pub named-there : entry_named (page_of p) place.rec at.name ≡ place.entry
     unfolding entry_named
     named-there = sym (ap (λ (es : List EntryRec). find (λ e. bytes_eq e.name at.name) es) (resident_is_running (stored_on g s) p place.rec there).entries) ∙ at.entry
 

@@ -1,5 +1,5 @@
 -- A node under a new name, in a volume that runs over a device.
-use Rattle.std.proofs.Common.{◌≡◌, ◌≢◌, ℕ, ◌+◌, ◌%◌, ◌^◌, ◌≤◌, ◌<◌, Bool, true, false, cond, List, [], ◌∷◌, length, refl, sym, ap, subst, ◌∙◌, Option, Some, None, option_map, is_some, IsSome, ◌⊎◌, inl, inr, arith}
+use Rattle.std.proofs.Common.{◌≡◌, ◌≢◌, ℕ, ◌<◌, Bool, true, false, cond, List, [], refl, sym, ap, subst, ◌∙◌, Option, Some, None, option_map, is_some, IsSome, ◌⊎◌, inl, inr, arith}
 use Rattle.std.proofs.lemmas.Bool.{cases_eq}
 use Rattle.std.specs.Ordering.{eq_by_cmp, nat_cmp}
 use Rattle.std.specs.Cmp.Lexicographic.{slice_cmp}
@@ -25,7 +25,6 @@ use Rattle.nl_dir.specs.ListLaws.{ListsRight}
 use Rattle.nl_dir.proofs.ListProofs.{entries_by_lists}
 use Rattle.nl_tree.specs.GraphLaws.{AddsEntry, NamedOnce, entry_at}
 use Rattle.nl_tree.specs.Represents.{node_of}
-use Rattle.nl_tree.specs.Tree.{Node}
 use Rattle.nl_tree.proofs.ChangeProofs.{graph_changes}
 use Rattle.nl_tree.proofs.GraphProofs.{eq_name, name_eq, names_eq}
 use Rattle.nl_running.specs.Running.{IsNeeded, IsNodeOf, Runs, running_on, stored_on}
@@ -38,7 +37,7 @@ use Rattle.nl_namespace.specs.declared.place.Place.{Place}
 use Rattle.nl_namespace.proofs.DirectorySteps.{dir-entry, dir-node}
 use Rattle.nl_namespace.proofs.Links.{Led, entry-listed, led-of-lists, lists-of-graph, once-of-lists}
 use Rattle.nl_namespace.proofs.NodeSteps.{new-back, new-body, new-childless, new-follows, new-keeps, new-node, new-others, new-state, new-uses, not-root}
-use Rattle.nl_namespace.proofs.PutSteps.{put-at, put-back, put-dir, put-else, put-follows, put-needs, put-node, put-others, put-state, put-was}
+use Rattle.nl_namespace.proofs.PutSteps.{put-at, put-back, put-dir, put-else, put-follows, put-needs, put-node, put-others, put-state}
 use Rattle.nl_namespace.proofs.States.{Follows, State, follows-then}
 
 -- ---- any volume

@@ -1,13 +1,12 @@
 -- One node has another record and other pages: what that does to the nodes, addresses and directories of a volume.
-use Rattle.std.proofs.Common.{◌≡◌, ◌≢◌, ℕ, zero, suc, ◌+◌, ◌*◌, ◌/◌, ◌%◌, ◌≤◌, ◌<◌, Bool, true, false, not, ◌==◌, cond, List, [], ◌∷◌, ◌++◌, map, filter, replicate, unwrap_or, get_or, refl, sym, ap, subst, ◌∙◌, Option, Some, None, ◌⊎◌, inl, inr, arith, nat_lt}
+use Rattle.std.proofs.Common.{◌≡◌, ◌≢◌, ℕ, suc, ◌*◌, ◌/◌, ◌≤◌, ◌<◌, Bool, true, false, not, ◌==◌, cond, List, [], ◌∷◌, ◌++◌, map, filter, replicate, unwrap_or, get_or, refl, sym, ap, subst, ◌∙◌, Option, Some, None, ◌⊎◌, inl, inr, arith, nat_lt}
 use Rattle.std.proofs.lemmas.Bool.{cases_eq, cond-true, eq-eqb, lt-ltb, ltb-true}
 use Rattle.std.specs.Int.{div_ceil}
 use Rattle.std.specs.List.{enumerate_from, flat_map}
 use Rattle.std.specs.Prelude.{slice_get}
 use Rattle.nl_field.specs.Bytes.{all_zero}
-use Rattle.nl_field.specs.Graph.{Graph, GraphNode, NodeBody, directory_node, file_node}
+use Rattle.nl_field.specs.Graph.{GraphNode, NodeBody, directory_node, file_node}
 use Rattle.nl_field.specs.Inode.{inode_of}
-use Rattle.nl_field.specs.Members.{Has}
 use Rattle.nl_field.specs.Numbers.{ShapeBounds}
 use Rattle.nl_field.specs.Pointers.{is_none_pointer, no_pointer, pointers}
 use Rattle.nl_field.specs.declared.entry.EntryRec.{EntryRec}
@@ -18,7 +17,7 @@ use Rattle.nl_field.specs.declared.pointer.Pointer.{Pointer}
 use Rattle.nl_field.specs.declared.shape.Shape.{Shape}
 use Rattle.nl_meta.specs.Committed.{VirtualMap}
 use Rattle.nl_meta.specs.Consistent.{AddressAt, AddressesRight, GoodAddress, IsNode, NamesPhysical, NodesRight}
-use Rattle.nl_meta.specs.Nodes.{address_of_place, body_of, bytes_of_node, entries_of_inode, graph_of, inode_at, node_from, pointers_at, pointers_of_inode, slots_of}
+use Rattle.nl_meta.specs.Nodes.{address_of_place, body_of, bytes_of_node, graph_of, inode_at, node_from, pointers_at, pointers_of_inode, slots_of}
 use Rattle.nl_meta.proofs.AddressProofs.{filled_of, inode_spelled}
 use Rattle.nl_meta.proofs.Lists.{some_in}
 use Rattle.nl_inode.specs.FreeLaws.{Uses}

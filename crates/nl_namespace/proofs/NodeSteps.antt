@@ -1,15 +1,14 @@
 -- A free node that is given a record without pages.
-use Rattle.std.proofs.Common.{◌≡◌, ◌≢◌, ℕ, zero, suc, ◌+◌, ◌-◌, ◌/◌, ◌%◌, ◌≤◌, ◌<◌, Bool, true, false, not, ◌==◌, ◌||◌, ◌&&◌, nat_le, cond, List, [], ◌∷◌, ◌++◌, length, map, filter, replicate, refl, sym, ap, subst, ◌∙◌, Option, Some, None, is_some, IsSome, ◌⊎◌, inl, inr, arith}
+use Rattle.std.proofs.Common.{◌≡◌, ◌≢◌, ℕ, zero, suc, ◌+◌, ◌-◌, ◌%◌, ◌≤◌, ◌<◌, Bool, true, false, not, ◌==◌, ◌||◌, ◌&&◌, nat_le, cond, List, [], ◌∷◌, ◌++◌, length, map, filter, replicate, refl, sym, ap, subst, ◌∙◌, Option, Some, None, IsSome, ◌⊎◌, inl, inr, arith}
 use Rattle.std.proofs.lemmas.Bool.{and_parts, cases_eq, cond-true, eqb-true, eq-eqb}
-use Rattle.std.specs.List.{enumerate_from, flat_map, range_with_len}
+use Rattle.std.specs.List.{enumerate_from, flat_map}
 use Rattle.std.specs.Prelude.{◌↔◌, slice_get}
 use Rattle.nl_field.specs.Bytes.{all_zero, zeros}
-use Rattle.nl_field.specs.FileContent.{empty_file}
-use Rattle.nl_field.specs.Graph.{GraphNode, NodeBody, directory_node, file_node}
+use Rattle.nl_field.specs.Graph.{GraphNode, NodeBody, file_node}
 use Rattle.nl_field.specs.Inode.{are_filled, is_inode, is_inode_of_kind}
 use Rattle.nl_field.specs.Members.{Has}
 use Rattle.nl_field.specs.Numbers.{ShapeBounds}
-use Rattle.nl_field.specs.Pointers.{is_none_pointer, is_pointer, no_pointer}
+use Rattle.nl_field.specs.Pointers.{is_none_pointer, no_pointer}
 use Rattle.nl_field.specs.declared.entry.EntryRec.{EntryRec}
 use Rattle.nl_field.specs.declared.inode.InodeRec.{InodeRec}
 use Rattle.nl_field.specs.declared.inode.Kind.{Kind}
@@ -17,26 +16,24 @@ use Rattle.nl_field.specs.declared.inode.Kind.TheVariants.{Dir, File, Unused}
 use Rattle.nl_field.specs.declared.pointer.Pointer.{Pointer}
 use Rattle.nl_field.specs.declared.shape.Shape.{Shape}
 use Rattle.nl_meta.specs.Committed.{VirtualMap}
-use Rattle.nl_meta.specs.Consistent.{AddressAt, GoodEntry, IsNode, NamesPhysical}
-use Rattle.nl_meta.specs.Nodes.{body_of, bytes_of_node, entries_of_inode, graph_of, inode_at, pointers_at, pointers_of_inode, slot_at, slots_of}
+use Rattle.nl_meta.specs.Consistent.{AddressAt, GoodEntry, IsNode}
+use Rattle.nl_meta.specs.Nodes.{body_of, entries_of_inode, graph_of, inode_at, pointers_at, pointers_of_inode, slot_at}
 use Rattle.nl_meta.specs.Pages.{Pages, page_of}
 use Rattle.nl_meta.specs.Running.{running_over}
 use Rattle.nl_meta.proofs.Lists.{member-append, member-flat, none_some, some_in}
 use Rattle.nl_meta.proofs.SlotProofs.{one_slot}
 use Rattle.nl_inode.specs.Free.{is_free}
-use Rattle.nl_inode.specs.FreeLaws.{NodeIs, NodesAreFree, PoolIsFree, Uses}
+use Rattle.nl_inode.specs.FreeLaws.{NodeIs, PoolIsFree, Uses}
 use Rattle.nl_inode.specs.Nodes.{NodeBecomes, PutsNode, Spaces, is_free_address, page_of_node, taken_as}
 use Rattle.nl_inode.proofs.FreeProofs.{free_is_unused}
 use Rattle.nl_dir.specs.AfterLaws.{HasAddress}
-use Rattle.nl_dir.specs.ListLaws.{Lists}
 use Rattle.nl_dir.proofs.LawProofs.{empty_is_directory}
 use Rattle.nl_dir.proofs.PlaceFacts.{zeros-zero}
 use Rattle.nl_tree.specs.GraphLaws.{entry_at}
 use Rattle.nl_tree.specs.Represents.{entries_in, node_named, node_of}
-use Rattle.nl_tree.specs.Tree.{Node, directory, file}
 use Rattle.nl_namespace.specs.Making.{empty_node}
 use Rattle.nl_namespace.proofs.DirectoryChanges.{one-node, over-same, over-there}
-use Rattle.nl_namespace.proofs.NodeChanges.{ChangesNode, Formed, SameBut, address-other, formed-then, graph-at, graph-other, node-back, node-other, own-other, uses-then}
+use Rattle.nl_namespace.proofs.NodeChanges.{ChangesNode, SameBut, address-other, formed-then, graph-at, graph-other, node-back, node-other, own-other, uses-then}
 use Rattle.nl_namespace.proofs.PutSteps.{follows-node, node-over}
 use Rattle.nl_namespace.proofs.States.{AllGood, Follows, State}
 

@@ -1,8 +1,7 @@
 -- The names of a path before its last, and the walk along them.
-use Rattle.std.proofs.Common.{◌≡◌, ◌≢◌, ℕ, zero, suc, ◌+◌, ◌-◌, ◌≤◌, ◌<◌, List, [], ◌∷◌, ◌++◌, take, drop, length, refl, sym, ap, ◌∙◌, Option, Some, None, option_map, option_and_then, arith}
+use Rattle.std.proofs.Common.{◌≡◌, ◌≢◌, ℕ, zero, suc, ◌+◌, ◌≤◌, ◌<◌, List, [], ◌∷◌, ◌++◌, take, drop, length, refl, sym, ap, ◌∙◌, Some, option_and_then, arith}
 use Rattle.std.specs.Prelude.{slice_get}
 use Rattle.nl_field.specs.Graph.{Graph}
-use Rattle.nl_field.specs.declared.entry.EntryRec.{EntryRec}
 use Rattle.nl_tree.specs.GraphLaws.{entry_at}
 use Rattle.nl_tree.specs.Represents.{node_reached}
 use Rattle.nl_tree.proofs.ChangeProofs.{at_end}

@@ -1,9 +1,8 @@
 -- An entry that is put into a directory.
-use Rattle.std.proofs.Common.{◌≡◌, ◌≢◌, ℕ, ◌+◌, ◌-◌, ◌*◌, ◌/◌, ◌%◌, ◌≤◌, ◌<◌, Bool, true, false, ◌&&◌, List, [], ◌∷◌, length, nat_le, refl, sym, ap, subst, ◌∙◌, Option, Some, None, option_map, is_some, IsSome, ◌⊎◌, inl, inr, arith}
+use Rattle.std.proofs.Common.{◌≡◌, ◌≢◌, ℕ, ◌+◌, ◌-◌, ◌/◌, ◌%◌, ◌≤◌, ◌<◌, true, List, [], ◌∷◌, length, nat_le, refl, sym, ap, subst, ◌∙◌, Option, Some, None, option_map, is_some, IsSome, ◌⊎◌, inl, inr, arith}
 use Rattle.std.proofs.lemmas.Bool.{and_parts, cases_eq, leb-true}
 use Rattle.std.specs.Int.{div_ceil}
 use Rattle.std.specs.Prelude.{◌↔◌}
-use Rattle.nl_field.specs.Graph.{Graph}
 use Rattle.nl_field.specs.Inode.{inode_of}
 use Rattle.nl_field.specs.Members.{Has}
 use Rattle.nl_field.specs.Numbers.{ShapeBounds}
@@ -14,12 +13,12 @@ use Rattle.nl_field.specs.declared.inode.Kind.TheVariants.{Dir, Unused}
 use Rattle.nl_field.specs.declared.shape.Shape.{Shape}
 use Rattle.nl_meta.specs.Committed.{VirtualMap}
 use Rattle.nl_meta.specs.Consistent.{AddressAt, GoodEntry, IsNode}
-use Rattle.nl_meta.specs.Nodes.{address_of_place, bytes_of_node, entries_of_inode, entry_named, graph_of, inode_at, slot_at}
+use Rattle.nl_meta.specs.Nodes.{address_of_place, bytes_of_node, entries_of_inode, graph_of, inode_at, slot_at}
 use Rattle.nl_meta.specs.Pages.{Pages, besides_0, page_of, with_address}
-use Rattle.nl_meta.specs.Running.{CleanIsStored, running_over}
+use Rattle.nl_meta.specs.Running.{running_over}
 use Rattle.nl_meta.proofs.Lists.{none_some, some_in}
-use Rattle.nl_inode.specs.FreeLaws.{NodesAreFree, PoolIsFree, Uses}
-use Rattle.nl_inode.specs.Nodes.{AddressBecomes, PutsNode, Spaces, is_free_address, page_of_node}
+use Rattle.nl_inode.specs.FreeLaws.{PoolIsFree, Uses}
+use Rattle.nl_inode.specs.Nodes.{PutsNode, Spaces, is_free_address, page_of_node}
 use Rattle.nl_inode.proofs.FreeProofs.{free_is_unused}
 use Rattle.nl_inode.proofs.MarkTree.{set-below}
 use Rattle.nl_dir.specs.AfterLaws.{AddressesAfter, HasAddress}
@@ -32,10 +31,10 @@ use Rattle.nl_dir.proofs.Records.{SpelledDir, new-address, none-fits, spelled-di
 use Rattle.nl_running.proofs.SameNeeded.{slot-filled}
 use Rattle.nl_tree.specs.GraphLaws.{entry_at}
 use Rattle.nl_namespace.specs.Entering.{PutsIn, Takes}
-use Rattle.nl_namespace.proofs.DirectoryChanges.{DirStep, IsNew, Rewrites, has-or-not, over-there}
-use Rattle.nl_namespace.proofs.DirectorySteps.{change, entry-after, entry-before, good-after, graph-stays, is-after, node-stays, nodes-after, uses-from, uses-here, uses-other, uses-to}
+use Rattle.nl_namespace.proofs.DirectoryChanges.{DirStep, IsNew, has-or-not, over-there}
+use Rattle.nl_namespace.proofs.DirectorySteps.{change, entry-after, entry-before, good-after, graph-stays, is-after, node-stays, nodes-after, uses-from, uses-here, uses-to}
 use Rattle.nl_namespace.proofs.NodeChanges.{formed-then, node-back}
-use Rattle.nl_namespace.proofs.States.{AllGood, Follows, State, follows-then}
+use Rattle.nl_namespace.proofs.States.{Follows, State, follows-then}
 
 -- ---- pages that follow
 

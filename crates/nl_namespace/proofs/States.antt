@@ -1,33 +1,15 @@
 -- The running map over a device as entries are put in and taken out, and nodes are given records.
-use Rattle.std.proofs.Common.{◌≡◌, ◌≢◌, ℕ, ◌+◌, ◌-◌, ◌/◌, ◌%◌, ◌≤◌, ◌<◌, Bool, true, false, ◌==◌, cond, List, [], ◌∷◌, ◌++◌, length, map, refl, sym, ap, subst, ◌∙◌, Option, Some, None, option_map, is_some, IsSome, ◌⊎◌, inl, inr, arith}
-use Rattle.std.proofs.lemmas.Bool.{cases_eq}
-use Rattle.std.specs.List.{list_any}
-use Rattle.nl_field.specs.Graph.{GraphNode, NodeBody, directory_node}
-use Rattle.nl_field.specs.Members.{Has}
-use Rattle.nl_field.specs.Numbers.{ShapeBounds}
+use Rattle.std.proofs.Common.{◌≡◌, ℕ, ◌+◌, ◌≤◌, length, ◌∙◌, IsSome, arith}
 use Rattle.nl_field.specs.declared.entry.EntryRec.{EntryRec}
-use Rattle.nl_field.specs.declared.inode.InodeRec.{InodeRec}
-use Rattle.nl_field.specs.declared.inode.Kind.TheVariants.{Dir, File, Unused}
 use Rattle.nl_field.specs.declared.shape.Shape.{Shape}
 use Rattle.nl_meta.specs.Committed.{VirtualMap}
-use Rattle.nl_meta.specs.Consistent.{AddressAt, GoodEntry, IsNode}
-use Rattle.nl_meta.specs.Nodes.{address_of_place, body_of, entries_of_inode, entry_named, graph_of, inode_at, node_from}
+use Rattle.nl_meta.specs.Consistent.{GoodEntry}
 use Rattle.nl_meta.specs.Pages.{Pages, besides_0, page_of}
 use Rattle.nl_meta.specs.Running.{CleanIsStored, running_over}
-use Rattle.nl_meta.proofs.Lists.{none_some, some_in}
-use Rattle.nl_inode.specs.FreeLaws.{NodeIs, NodesAreFree, PoolIsFree, Uses}
-use Rattle.nl_inode.specs.Nodes.{AddressBecomes, PutsNode, Spaces, is_free_address, is_free_node, page_of_node}
-use Rattle.nl_inode.proofs.FreeProofs.{free_is_unused}
-use Rattle.nl_dir.specs.AfterLaws.{HasAddress}
-use Rattle.nl_dir.specs.Changes.{ChangesPages, InsertsEntry, RemovesEntry}
-use Rattle.nl_dir.specs.Directory.{FitsFresh, HasRoomFor, IsDirectory, longer, shorter}
+use Rattle.nl_inode.specs.FreeLaws.{NodesAreFree, PoolIsFree}
+use Rattle.nl_inode.specs.Nodes.{Spaces}
 use Rattle.nl_dir.specs.ListLaws.{Lists}
-use Rattle.nl_dir.proofs.AfterProofs.{addresses_of_changed, lists_inserted, lists_removed}
-use Rattle.nl_dir.proofs.LawProofs.{changed_pages_run, resident_is_running}
-use Rattle.nl_dir.proofs.PlaceFacts.{below-length, one-dirtier, one-page}
-use Rattle.nl_namespace.specs.Entering.{HasDirectory, PutsIn, TakesOut}
-use Rattle.nl_namespace.proofs.DirectoryChanges.{IsNew, Rewrites, over-there}
-use Rattle.nl_namespace.proofs.NodeChanges.{ChangesNode, Formed, SameBut}
+use Rattle.nl_namespace.proofs.NodeChanges.{Formed}
 
 -- Every entry names a used node but 0, under its generation.
 abbrev pub AllGood : Shape → VirtualMap → Type 0

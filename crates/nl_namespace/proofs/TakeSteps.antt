@@ -1,22 +1,20 @@
 -- An entry that is taken out of a directory.
-use Rattle.std.proofs.Common.{◌≡◌, ◌≢◌, ℕ, zero, suc, ◌+◌, ◌-◌, ◌*◌, ◌/◌, ◌%◌, ◌≤◌, ◌<◌, Bool, true, false, ◌==◌, cond, List, [], ◌∷◌, ◌++◌, length, refl, sym, ap, subst, ◌∙◌, Option, Some, None, option_map, is_some, IsSome, ◌⊎◌, inl, inr, arith, bytes_eq}
-use Rattle.std.proofs.lemmas.Bool.{cases_eq, cond-true}
+use Rattle.std.proofs.Common.{◌≡◌, ◌≢◌, ℕ, ◌+◌, ◌-◌, ◌/◌, ◌≤◌, ◌<◌, Bool, true, false, ◌==◌, cond, List, [], ◌∷◌, length, refl, sym, ap, subst, ◌∙◌, Option, Some, None, option_map, IsSome, ◌⊎◌, inl, inr, arith, bytes_eq}
 use Rattle.std.specs.Int.{div_ceil}
 use Rattle.std.specs.Prelude.{◌↔◌, position}
 use Rattle.nl_field.specs.Members.{Has}
 use Rattle.nl_field.specs.Numbers.{ShapeBounds}
 use Rattle.nl_field.specs.declared.entry.EntryRec.{EntryRec}
 use Rattle.nl_field.specs.declared.inode.InodeRec.{InodeRec}
-use Rattle.nl_field.specs.declared.inode.Kind.TheVariants.{Dir}
 use Rattle.nl_field.specs.declared.shape.Shape.{Shape}
 use Rattle.nl_meta.specs.Committed.{VirtualMap}
 use Rattle.nl_meta.specs.Consistent.{AddressAt, IsNode}
-use Rattle.nl_meta.specs.Nodes.{address_of_place, entries_of_inode, entry_named, graph_of, inode_at}
+use Rattle.nl_meta.specs.Nodes.{address_of_place, entries_of_inode, entry_named, graph_of}
 use Rattle.nl_meta.specs.Pages.{Pages, page_of}
 use Rattle.nl_meta.specs.Running.{running_over}
 use Rattle.nl_meta.proofs.Lists.{member-append, none_some, some_in}
 use Rattle.nl_inode.specs.FreeLaws.{PoolIsFree, Uses}
-use Rattle.nl_inode.specs.Nodes.{AddressBecomes, Spaces, page_of_node}
+use Rattle.nl_inode.specs.Nodes.{Spaces, page_of_node}
 use Rattle.nl_inode.proofs.FreeProofs.{free_is_unused}
 use Rattle.nl_dir.specs.AfterLaws.{AddressesAfter, HasAddress}
 use Rattle.nl_dir.specs.Changes.{changed_by_removal}
@@ -32,7 +30,7 @@ use Rattle.nl_namespace.proofs.DirectorySteps.{change, entry-after, entry-before
 use Rattle.nl_namespace.proofs.NodeChanges.{formed-then, node-back}
 use Rattle.nl_namespace.proofs.PutSteps.{dir-used, follows-node, follows-pages, node-over}
 use Rattle.nl_namespace.proofs.Rooms.{few-changed, some-places}
-use Rattle.nl_namespace.proofs.States.{AllGood, Follows, State, follows-then}
+use Rattle.nl_namespace.proofs.States.{Follows, State, follows-then}
 
 -- the place of a name that is there is one of the directory
 named-below : (pages : VirtualMap) (rec : InodeRec) (name : List ℕ) (i : ℕ) → IsDirectory pages rec → IsSome (entry_named pages rec name) → position (λ e. bytes_eq e.name name) (entries_of_inode pages rec) ≡ Some i → i < rec.size

@@ -1,6 +1,5 @@
 -- What a call that changes names does to a volume that runs over a device.
-use Rattle.std.specs.Prelude.{◌≡◌, ℕ, ◌+◌, ◌≤◌, List, length, Option, Some, None}
-use Rattle.nl_field.specs.Members.{Has}
+use Rattle.std.specs.Prelude.{◌≡◌, ℕ, ◌+◌, ◌≤◌, length, Option, Some, None}
 use Rattle.nl_field.specs.declared.inode.InodeRec.{InodeRec}
 use Rattle.nl_field.specs.declared.inode.Kind.TheVariants.{File, Unused}
 use Rattle.nl_field.specs.declared.shape.Shape.{Shape}

@@ -1,3 +1,4 @@
+pub mod ChangeLaws
 pub mod Changing
 pub mod Entering
 pub mod Holding

@@ -1,5 +1,5 @@
 -- A free node under a new name.
-use Rattle.std.specs.Prelude.{◌≡◌, ◌≢◌, ℕ, ◌+◌, ◌%◌, ◌^◌, ◌<◌, false, List, length, IsSome, Some, None}
+use Rattle.std.specs.Prelude.{◌≡◌, ◌≢◌, ℕ, ◌+◌, ◌%◌, ◌^◌, ◌<◌, false, List, length, IsSome, None}
 use Rattle.nl_field.specs.FileContent.{empty_file}
 use Rattle.nl_field.specs.declared.entry.EntryRec.{EntryRec}
 use Rattle.nl_field.specs.declared.inode.InodeRec.{InodeRec}

@@ -11,10 +11,12 @@ mod making;
 mod names;
 mod naming;
 mod place;
+mod removing;
 mod walk;
 
 pub use answer::{Change, Listing, Look};
 pub use making::make;
 pub use names::list;
 pub use nl_running::Stop;
+pub use removing::remove;
 pub use walk::look;

@@ -1,4 +1,4 @@
-use Rattle.std.proofs.Common.{ℕ, ◌≤◌, arith}
+use Rattle.std.proofs.Common.{arith}
 use Rattle.nl_dir.proofs.LawProofs.{change_takes_room}
 use Rattle.nl_dir.proofs.PlaceFacts.{room-for}
 use Rattle.nl_inode.specs.Nodes.{page_of_node}

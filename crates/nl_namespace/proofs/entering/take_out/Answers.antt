@@ -1,4 +1,4 @@
-use Rattle.std.proofs.Common.{ℕ, ◌+◌, ◌≤◌, ◌<◌, length, sym, subst, ◌∙◌, arith}
+use Rattle.std.proofs.Common.{◌+◌, ◌≤◌, ◌<◌, length, sym, subst, ◌∙◌, arith}
 use Rattle.nl_dir.proofs.PlaceFacts.{room-for}
 use Rattle.nl_inode.specs.Nodes.{Spaces, page_of_node}
 use Rattle.nl_namespace.proofs.Rooms.{few-changed, removed-of-pool, room-left}

@@ -1,7 +1,6 @@
-use Rattle.std.proofs.Common.{◌≡◌, ◌≢◌, ℕ, ◌+◌, ◌-◌, ◌≤◌, ◌<◌, List, [], length, refl, sym, ap, subst, ◌∙◌, Some, None, is_some, inl, inr, true, false, arith, rules}
+use Rattle.std.proofs.Common.{◌≡◌, ℕ, ◌-◌, List, length, refl, sym, ap, subst, ◌∙◌, Some, None, is_some, inl, true, false, arith, rules}
 use Rattle.std.specs.Prelude.{slice_get}
 use Rattle.nl_field.specs.Graph.{Graph}
-use Rattle.nl_iface.specs.declared.counts.Counts.{Ghosts}
 use Rattle.nl_meta.specs.Nodes.{graph_of}
 use Rattle.nl_meta.specs.Pages.{besides_0}
 use Rattle.nl_tree.specs.Represents.{node_reached}

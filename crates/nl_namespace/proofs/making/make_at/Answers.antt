@@ -1,13 +1,9 @@
-use Rattle.std.proofs.Common.{◌≡◌, ◌≢◌, ℕ, ◌+◌, ◌-◌, ◌≤◌, ◌<◌, List, length, refl, sym, ap, subst, ◌∙◌, is_some, IsSome, Some, None, inl, inr, arith}
-use Rattle.nl_meta.specs.Nodes.{address_of_place}
-use Rattle.nl_meta.specs.Pages.{besides_0, page_of}
+use Rattle.std.proofs.Common.{ℕ, List, refl, sym, subst, inl, inr, arith}
 use Rattle.nl_inode.specs.Nodes.{Spaces}
 use Rattle.nl_inode.proofs.MarkTree.{set-below}
-use Rattle.nl_dir.specs.Directory.{HasRoomFor}
-use Rattle.nl_running.proofs.Holds.{bounds-of, none-runs}
+use Rattle.nl_running.proofs.Holds.{bounds-of}
 use Rattle.nl_running.proofs.SameNeeded.{inode-address}
 use Rattle.nl_namespace.specs.Making.{FitsNew, MakesIn}
-use Rattle.nl_namespace.proofs.Chains.{then-runs}
 use Rattle.nl_namespace.proofs.MakeDone.{made-changes, made-fits, made-name}
 use Rattle.nl_namespace.proofs.MakeReady.{lacks, size-fits}
 use Rattle.nl_namespace.proofs.making.make_at.Goals as goal

@@ -1,6 +1,5 @@
-use Rattle.std.proofs.Common.{◌≡◌, refl, sym, ap, ◌∙◌, is_some, Some}
+use Rattle.std.proofs.Common.{refl, sym, ap, ◌∙◌, is_some, Some}
 use Rattle.nl_inode.specs.Nodes.{page_of_node}
-use Rattle.nl_meta.specs.Pages.{page_of}
 use Rattle.nl_running.proofs.Holds.{bounds-of}
 use Rattle.nl_namespace.proofs.Chains.{then-node, then-on, then-reads, then-runs}
 use Rattle.nl_namespace.proofs.Entries.{has-before, named-held}

@@ -1,9 +1,8 @@
-use Rattle.std.proofs.Common.{◌≡◌, ℕ, ◌-◌, List, length, refl, sym, ap, subst, ◌∙◌, Some, arith}
+use Rattle.std.proofs.Common.{ℕ, ◌-◌, sym, ap, subst, ◌∙◌, Some}
 use Rattle.std.specs.Prelude.{slice_get}
 use Rattle.nl_meta.proofs.Lists.{some_in}
 use Rattle.nl_namespace.specs.Placing.{Enters, IfEntered, IsParent}
 use Rattle.nl_namespace.proofs.Chains.{then-on, then-reads, then-runs, then-used}
-use Rattle.nl_namespace.proofs.Parents.{not-empty}
 use Rattle.nl_namespace.proofs.Placed.{file-spot, held-before, placed-at}
 use Rattle.nl_namespace.proofs.place.locate.Goals as goal
 
