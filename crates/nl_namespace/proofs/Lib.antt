@@ -25,5 +25,6 @@ mod Rooms
 mod Rows
 mod TreeChanges
 mod TreeLists
+mod TreeRmdir
 mod TreeWalks
 mod Walks

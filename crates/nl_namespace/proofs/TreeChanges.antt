@@ -34,14 +34,14 @@ four None None None None None = refl
 
 module _ (bytes_of : ℕ → List ℕ) (graph : Graph) (tree : Tree) (stands : StandsFor bytes_of graph tree) (path : List (List ℕ)) where
   -- what stands at the path
-  at-path : node_at tree path ≡ option_and_then (λ n. node_of bytes_of (graph n).body) (node_reached graph 0 path)
+  pub at-path : node_at tree path ≡ option_and_then (λ n. node_of bytes_of (graph n).body) (node_reached graph 0 path)
   at-path = stands.represents path
 
   some-same : (o : Option ℕ) → node_reached graph 0 path ≡ o → is_some (option_and_then (λ n. node_of bytes_of (graph n).body) o) ≡ is_some o
   some-same None e = refl
   some-same (Some n) e = stands.used path n e
 
-  none-same : (o : Option ℕ) → node_reached graph 0 path ≡ o → is_none (option_and_then (λ n. node_of bytes_of (graph n).body) o) ≡ is_none o
+  pub none-same : (o : Option ℕ) → node_reached graph 0 path ≡ o → is_none (option_and_then (λ n. node_of bytes_of (graph n).body) o) ≡ is_none o
   none-same None e = refl
   none-same (Some n) e = of (node_of bytes_of (graph n).body) (stands.used path n e)
     where

@@ -2,11 +2,11 @@
 use Rattle.std.specs.Prelude.{◌≡◌, ◌⊎◌, ℕ, ⊤, List, [], ◌∷◌, Some, None, IsSome}
 use Rattle.nl_field.specs.Graph.{Graph}
 use Rattle.nl_field.specs.declared.inode.Kind.{Kind}
-use Rattle.nl_field.specs.declared.inode.Kind.TheVariants.{File}
+use Rattle.nl_field.specs.declared.inode.Kind.TheVariants.{Dir, File}
 use Rattle.nl_inode.specs.Nodes.{Spaces}
 use Rattle.nl_tree.specs.GraphLaws.{NamedOnce}
 use Rattle.nl_tree.specs.Represents.{node_of, node_reached, Represents}
-use Rattle.nl_tree.specs.Step.{first_of, is_too_long, refusal_of_file, refusal_of_new, when}
+use Rattle.nl_tree.specs.Step.{first_of, is_too_long, refusal_of_file, refusal_of_new, refusal_of_rmdir, when}
 use Rattle.nl_tree.specs.Tree.{Node, Tree, directory, node_at, with_new, without}
 use Rattle.nl_tree.specs.declared.reply.Refusal.TheVariants.{Enametoolong, Enospc}
 use Rattle.nl_tree.specs.declared.reply.Space.{Space}
@@ -56,3 +56,14 @@ IsUnlinked tree path (change.Lost w f) = ⊤
 abbrev pub UnlinksInTree : Type 0
 UnlinksInTree = (bytes_of : ℕ → List ℕ) (old new : Graph) (tree : Tree) (path : List (List ℕ)) (answer : Change)
     → StandsFor bytes_of old tree → RemovesName File old new path answer → IsUnlinked tree path answer
+
+-- A directory loses its name where the tree does not refuse it, and else the refusal is the tree's.
+abbrev pub IsRmdirOf : Tree → List (List ℕ) → Change → Type 0
+IsRmdirOf tree path (change.Changed _) = first_of (when (is_too_long path) Enametoolong ∷ refusal_of_rmdir tree path ∷ []) ≡ None
+IsRmdirOf tree path (change.No refusal) = first_of (when (is_too_long path) Enametoolong ∷ refusal_of_rmdir tree path ∷ []) ≡ Some refusal
+IsRmdirOf tree path change.Fault = ⊤
+IsRmdirOf tree path (change.Lost w f) = ⊤
+
+abbrev pub RmdirsInTree : Type 0
+RmdirsInTree = (bytes_of : ℕ → List ℕ) (old new : Graph) (tree : Tree) (path : List (List ℕ)) (answer : Change)
+    → StandsFor bytes_of old tree → RemovesName Dir old new path answer → IsRmdirOf tree path answer

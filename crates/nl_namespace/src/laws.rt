@@ -1,5 +1,5 @@
 //! Laws of the definitions. Each function stands for the law that its contract names.
-ghost use Rattle.nl_namespace.specs.ChangeLaws.{MakesInTree, RemovesInTree, UnlinksInTree};
+ghost use Rattle.nl_namespace.specs.ChangeLaws.{MakesInTree, RemovesInTree, RmdirsInTree, UnlinksInTree};
 ghost use Rattle.nl_namespace.specs.PathLaws.{ListsInTree, LooksInTree};
 
 /// A path is answered as the tree answers it for which the nodes stand.
@@ -17,8 +17,9 @@ pub fn makes_in_tree()
     ensures { MakesInTree }
 {}
 
-/// A name that is taken away is gone from the tree, and the refusals of an unlink are the tree's.
+/// A name that is taken away is gone from the tree, and the refusals are those of the tree.
 pub fn removes_in_tree()
     ensures removed { RemovesInTree }
     ensures unlinked { UnlinksInTree }
+    ensures rmdir { RmdirsInTree }
 {}
