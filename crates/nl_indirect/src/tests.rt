@@ -4,7 +4,7 @@ ghost use Rattle.nl_indirect.specs.Examples.{IsTested};
 ghost use Rattle.nl_indirect.specs.Ranges.{range_of};
 ghost use Rattle.nl_indirect.specs.Storing.{Begins};
 
-use crate::{Stored, lookup, page_address, store};
+use crate::{Stored, lookup, page_address, store, truncate};
 use nl_field::{InodeRec, Kind, Memory, Pointer, Shape};
 use nl_meta::Meta;
 use std::alloc::Global;
@@ -222,6 +222,55 @@ fn pointers_of_a_range(rt: HostRuntime) -> Result<(), Fail> {
     ];
     for ((index, stamp), expected) in rows {
         assert_eq!(rt; step(&mut rec, &mut meta, index, stamp), expected);
+    }
+    Ok(())
+}
+
+// Takes away the pointers from an index on that is at most the first behind the first range.
+fn cut(rec: &mut InodeRec, meta: &mut Meta, from: u32)
+    requires { IsTested 0 rec.old meta.old }
+{
+    if from <= 264 {
+        truncate(rec, meta, from);
+    }
+}
+
+// A file with pointers at the indexes 7 and 263, and at 8 where its sequence number is not 0, is cut: the sequence number at index 7, the
+// address of the first range, and the bytes of its page where the sequence numbers of its first and its last slot begin.
+fn cut_from(
+    alloc: Global,
+    first: u64,
+    from: u32,
+) -> Result<(u64, u32, Option<u8>, Option<u8>), Memory> {
+    let mut meta = blank(alloc, 0)?;
+    let mut rec = EMPTY;
+    run(&mut rec, &mut meta, 0, 7, 4);
+    run(&mut rec, &mut meta, 0, 263, 6);
+    run(&mut rec, &mut meta, 0, 8, first);
+    cut(&mut rec, &mut meta, from);
+    Ok((
+        rec.direct[7].stamp,
+        rec.addresses[0],
+        byte_at(&meta, 8),
+        byte_at(&meta, 4088),
+    ))
+}
+
+// A page is cut where a pointer before the index stays, and else it is the file's no longer.
+#[test]
+fn pointers_from_an_index_on(rt: HostRuntime) -> Result<(), Fail> {
+    let rows = [
+        (5, 264, (4, 71, Some(5), Some(6))),
+        (5, 263, (4, 71, Some(5), Some(0))),
+        (5, 9, (4, 71, Some(5), Some(0))),
+        (5, 8, (4, 0, Some(5), Some(6))),
+        (5, 7, (0, 0, Some(5), Some(6))),
+        (5, 0, (0, 0, Some(5), Some(6))),
+        (0, 264, (4, 71, Some(0), Some(6))),
+        (0, 263, (4, 0, Some(0), Some(6))),
+    ];
+    for (first, from, expected) in rows {
+        assert_eq!(rt; cut_from(rt.alloc(), first, from)?, expected);
     }
     Ok(())
 }

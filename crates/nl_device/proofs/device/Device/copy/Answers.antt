@@ -300,7 +300,7 @@ returns-else-began-clause-none g c is =
     }
 
 pub returns-then-began-clause-kept : goal.returns-then-began-clause-kept
-returns-then-began-clause-kept g c = 
+returns-then-began-clause-kept g c =
     let d = c.args.self.now in
     let b = c.begin-began.ensures in
     let tables = mid_tables d.pseg c.begin-began.new.self c.begin-began.result b.begun b.none in
@@ -348,7 +348,7 @@ returns-in-Moved-clause-did g c is =
     })
 
 pub returns-then-began-clause-left : goal.returns-then-began-clause-left
-returns-then-began-clause-left g c t = 
+returns-then-began-clause-left g c t =
     let d = c.args.self.now in
     let b = c.begin-began.ensures in
     let tables = mid_tables d.pseg c.begin-began.new.self c.begin-began.result b.begun b.none in
@@ -436,9 +436,11 @@ returns-in-Moved-clause-left g c t =
       now = inr (
         call,
         names,
-        (copy_left mid t (fits t) k.before k.crash.page k.h k.was d.pseg tables.0 tables.1 image_now fit k.crash.either,
-        ((returns-in-Moved-clause-formed g c).medium t).holds after (record { tag = h.tag; stamp = h.stamp }) (ap live_page (here_now before after h seg new m b.whole e.whole within below))
-            ∙ (λ i. Some (record { tag = h.tag; stamp = h.stamp; bytes = bytes i }))),
+        (
+          copy_left mid t (fits t) k.before k.crash.page k.h k.was d.pseg tables.0 tables.1 image_now fit k.crash.either,
+          ((returns-in-Moved-clause-formed g c).medium t).holds after (record { tag = h.tag; stamp = h.stamp }) (ap live_page (here_now before after h seg new m b.whole e.whole within below))
+              ∙ (λ i. Some (record { tag = h.tag; stamp = h.stamp; bytes = bytes i })),
+        ),
       );
     })
   where
@@ -478,10 +480,14 @@ returns-in-Lost-clause-left g c t =
     inl (record {
       stops = lift (λ d. d.media) _ _ k.crash.crash (λ m image l turned.
           let here = subst (λ n. ImageOf n image) e.geometry (g.met.M.Nand.left_fits c.copy_one-answer.new.media m image t l) in
-          inl ((λ moves. absurd (not_copied d.pseg new moves.taken (kept.tables.same_pairs ∙ tables.1) moves.takes moves.space)),
-          copy_left mid t (fits t) k.before k.crash.page k.h k.was d.pseg tables.0 tables.1 image here (⊎_elim (λ was. inl was.1) (λ places. inr places) turned)));
-      now = inl ((λ moves. not_copied d.pseg new moves.taken (kept.tables.same_pairs ∙ tables.1) moves.takes moves.space),
-          copy_left mid t (fits t) k.before k.crash.page k.h k.was d.pseg tables.0 tables.1 (g.M.Nand.contents c.copy_one-answer.new.media) fit k.crash.either);
+          inl (
+            (λ moves. absurd (not_copied d.pseg new moves.taken (kept.tables.same_pairs ∙ tables.1) moves.takes moves.space)),
+            copy_left mid t (fits t) k.before k.crash.page k.h k.was d.pseg tables.0 tables.1 image here (⊎_elim (λ was. inl was.1) (λ places. inr places) turned),
+          ));
+      now = inl (
+        (λ moves. not_copied d.pseg new moves.taken (kept.tables.same_pairs ∙ tables.1) moves.takes moves.space),
+        copy_left mid t (fits t) k.before k.crash.page k.h k.was d.pseg tables.0 tables.1 (g.M.Nand.contents c.copy_one-answer.new.media) fit k.crash.either,
+      );
     })
   where
     apart : (wanted found : ℕ) → copy.Lost wanted found ≡ copy.Nothing → ⊥
@@ -558,10 +564,14 @@ returns-in-Fault-clause-left g c t =
     inl (record {
       stops = lift (λ d. d.media) _ _ k.crash.crash (λ m image l turned.
           let here = subst (λ n. ImageOf n image) e.geometry (g.met.M.Nand.left_fits c.copy_one-answer.new.media m image t l) in
-          inl ((λ moves. absurd (not_copied d.pseg new moves.taken (kept.tables.same_pairs ∙ tables.1) moves.takes moves.space)),
-          copy_left mid t (fits t) k.before k.crash.page k.h k.was d.pseg tables.0 tables.1 image here (⊎_elim (λ was. inl was.1) (λ places. inr places) turned)));
-      now = inl ((λ moves. not_copied d.pseg new moves.taken (kept.tables.same_pairs ∙ tables.1) moves.takes moves.space),
-          copy_left mid t (fits t) k.before k.crash.page k.h k.was d.pseg tables.0 tables.1 (g.M.Nand.contents c.copy_one-answer.new.media) fit k.crash.either);
+          inl (
+            (λ moves. absurd (not_copied d.pseg new moves.taken (kept.tables.same_pairs ∙ tables.1) moves.takes moves.space)),
+            copy_left mid t (fits t) k.before k.crash.page k.h k.was d.pseg tables.0 tables.1 image here (⊎_elim (λ was. inl was.1) (λ places. inr places) turned),
+          ));
+      now = inl (
+        (λ moves. not_copied d.pseg new moves.taken (kept.tables.same_pairs ∙ tables.1) moves.takes moves.space),
+        copy_left mid t (fits t) k.before k.crash.page k.h k.was d.pseg tables.0 tables.1 (g.M.Nand.contents c.copy_one-answer.new.media) fit k.crash.either,
+      );
     })
   where
     apart : copy.Fault ≡ copy.Nothing → ⊥
@@ -580,4 +590,3 @@ returns-in-Fault-clause-later g c moves =
 
 pub returns-in-Fault-clause-faults : goal.returns-in-Fault-clause-faults
 returns-in-Fault-clause-faults g c = copy_counted c.copy_one-answer.ensures.counts (λ fault. c.in-Fault.is) (λ fault. refl)
-
