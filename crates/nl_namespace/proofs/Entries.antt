@@ -30,6 +30,10 @@ module _ {D : Type 0} (g : Ghosts D) (s : D) (p : Pages) (t : D) (q : Pages) (bo
   named-held r name has =
       ap (λ (es : List EntryRec). find (λ e. bytes_eq e.name name) es) (has.entries ∙ (own (g.shape s) bounds (running_on g s p) (running_on g t q) on.needed n rec is dir).entries)
 
+  -- they are those that it had before
+  pub has-before : (r : Pages) → HasEntries g t q r rec → HasEntries g s p r rec
+  has-before r has = record { directory = has.directory; entries = has.entries ∙ (own (g.shape s) bounds (running_on g s p) (running_on g t q) on.needed n rec is dir).entries }
+
 -- what a name has in a directory, before a call that leaves it
 pub directory-back : {D : Type 0} (g : Ghosts D) (s : D) (p : Pages) (t : D) (q : Pages) → ShapeBounds (g.shape s) → RunsOn g s p t q → (n : ℕ) (name : List ℕ) (o : Option EntryRec)
     → InDirectory g t q n name o → InDirectory g s p n name o

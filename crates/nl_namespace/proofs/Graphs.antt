@@ -13,6 +13,7 @@ use Rattle.nl_iface.specs.declared.counts.Counts.{Ghosts}
 use Rattle.nl_meta.specs.Nodes.{body_of, entries_of_inode, entry_named, graph_of, node_from}
 use Rattle.nl_meta.specs.Pages.{Pages}
 use Rattle.nl_meta.proofs.Lists.{member-find}
+use Rattle.nl_tree.specs.GraphLaws.{entry_at}
 use Rattle.nl_tree.specs.Represents.{entries_in, node_named, node_reached}
 use Rattle.nl_tree.specs.declared.reply.Refusal.TheVariants.{Enotdir}
 use Rattle.nl_tree.proofs.GraphProofs.{eq_name, name_eq, names_eq}
@@ -79,6 +80,10 @@ module _ {D : Type 0} (g : Ghosts D) (s : D) (p : Pages) where
 
     dir-body : (o : Option EntryRec) → (d : InDirectory g s p n name o) → (graph n).body ≡ body_of (running_on g s p) d.rec Dir
     dir-body o d = body-is n d.rec d.is_node Dir d.is_dir
+
+    -- the node that the entry names
+    pub entry-is : (o : Option EntryRec) → InDirectory g s p n name o → entry_at graph n name ≡ option_map (λ (e : EntryRec). e.ino) o
+    entry-is o d = ap (λ (b : NodeBody). node_named name (entries_in b)) (dir-body o d) ∙ named-is o d
 
     pub reached-by : (o : Option EntryRec) → InDirectory g s p n name o → (names : List (List ℕ))
         → node_reached graph n (name ∷ names) ≡ option_and_then (λ m. node_reached graph m names) (option_map (λ (e : EntryRec). e.ino) o)

@@ -1,6 +1,12 @@
+pub mod ChangeLaws
+pub mod Changing
+pub mod Entering
 pub mod Holding
 pub mod Listing
+pub mod Making
+pub mod Naming
 pub mod Paths
 pub mod PathLaws
+pub mod Placing
 pub mod Reading
 pub mod Stepping

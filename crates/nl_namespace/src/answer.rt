@@ -23,3 +23,15 @@ pub enum Listing {
     /// A page does not hold the sequence number under which its address was written.
     Lost { wanted: u64, found: u64 },
 }
+
+/// How the names were changed.
+#[derive(Clone, Copy, Debug, PartialEq, Eq)]
+pub enum Change {
+    /// Done, and the node that lost its name, if one did.
+    Changed { gone: Option<u32> },
+    No(Refusal),
+    /// A read failed.
+    Fault,
+    /// A page does not hold the sequence number under which its address was written.
+    Lost { wanted: u64, found: u64 },
+}

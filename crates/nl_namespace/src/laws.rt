@@ -1,4 +1,5 @@
 //! Laws of the definitions. Each function stands for the law that its contract names.
+ghost use Rattle.nl_namespace.specs.ChangeLaws.{MakesInTree, RemovesInTree, RmdirsInTree, UnlinksInTree};
 ghost use Rattle.nl_namespace.specs.PathLaws.{ListsInTree, LooksInTree};
 
 /// A path is answered as the tree answers it for which the nodes stand.
@@ -9,4 +10,16 @@ pub fn looks_in_tree()
 /// What is listed stands in the tree under the path of the directory, and nothing else does.
 pub fn lists_in_tree()
     ensures { ListsInTree }
+{}
+
+/// A node is made in the tree for which the nodes stand, under the same refusals.
+pub fn makes_in_tree()
+    ensures { MakesInTree }
+{}
+
+/// A name that is taken away is gone from the tree, and the refusals are those of the tree.
+pub fn removes_in_tree()
+    ensures removed { RemovesInTree }
+    ensures unlinked { UnlinksInTree }
+    ensures rmdir { RmdirsInTree }
 {}

@@ -2,12 +2,21 @@
 #![tactic(auto)]
 
 mod answer;
+mod entering;
+mod free;
 mod hold;
 pub mod laws;
+mod lengths;
+mod making;
 mod names;
+mod naming;
+mod place;
+mod removing;
 mod walk;
 
-pub use answer::{Listing, Look};
+pub use answer::{Change, Listing, Look};
+pub use making::make;
 pub use names::list;
 pub use nl_running::Stop;
+pub use removing::remove;
 pub use walk::look;

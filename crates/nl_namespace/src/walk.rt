@@ -57,7 +57,7 @@ pub fn look<D: VirtualPages>(device: &mut D, meta: &mut Meta, nodes: &Nodes, pat
 }
 
 /// What a name leads to in a used node.
-fn follow<D: VirtualPages>(
+pub(crate) fn follow<D: VirtualPages>(
     device: &mut D,
     meta: &mut Meta,
     nodes: &Nodes,

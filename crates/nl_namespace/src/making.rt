@@ -1,0 +1,103 @@
+ghost use Rattle.std.specs.Prelude.{◌≡◌, ◌≢◌, ◌-◌, ◌&&◌, nat_le, None, Some, IsTrue, length, slice_get};
+ghost use Rattle.nl_dir.specs.Directory.{HasRoomFor};
+ghost use Rattle.nl_meta.specs.Nodes.{graph_of};
+ghost use Rattle.nl_tree.specs.Calls.{AreNames};
+ghost use Rattle.nl_namespace.specs.Changing.{FreeFits, Leaves};
+ghost use Rattle.nl_namespace.specs.Making.{empty_node};
+ghost use Rattle.nl_field.specs.Names.{is_name};
+ghost use Rattle.nl_field.specs.Numbers.{max_name};
+ghost use Rattle.nl_namespace.specs.Naming.{MakesNode, refusal_of_name};
+ghost use Rattle.nl_namespace.specs.Placing.{IsHeld, IsPlace};
+ghost use Rattle.nl_namespace.specs.Reading.{change_stop};
+ghost use Rattle.nl_running.specs.Reading.{Reads};
+ghost use Rattle.nl_running.specs.Running.{Runs, running_on};
+
+use crate::answer::Change;
+use crate::free::room_for;
+use crate::lengths::is_long;
+use crate::naming::{name_node, name_of};
+use crate::place::{Place, Spot, locate};
+use nl_field::Kind;
+use nl_iface::VirtualPages;
+use nl_inode::Nodes;
+use nl_meta::Meta;
+use nl_running::{Stop, hold};
+use nl_tree::{Path, Refusal};
+
+/// Makes an empty directory, or an empty file, under a path. A refusal, a read that failed and a page that is lost leave all as it was.
+pub fn make<D: VirtualPages>(
+    device: &mut D,
+    meta: &mut Meta,
+    nodes: &mut Nodes,
+    path: &Path,
+    kind: Kind,
+) -> Change
+    requires formed { D.formed device.old }
+    requires runs { Runs D.Counts device.old meta.old }
+    requires free { FreeFits D.Counts device.old meta.old nodes.old }
+    requires room { HasRoomFor 8 meta.old }
+    requires names { AreNames path.now }
+    requires used { kind ≢ Kind.Unused }
+    ensures formed { D.formed device.new }
+    ensures answer { MakesNode nodes.old (graph_of (D.shape device.old) (running_on D.Counts device.old meta.old)) (graph_of (D.shape device.new) (running_on D.Counts device.new meta.new)) path.now (empty_node kind) result }
+    ensures left { Leaves D.Counts device.old meta.old nodes.old device.new meta.new nodes.new result }
+    ensures reads { Reads D.Counts device.old device.new (change_stop result) }
+{
+    if is_long(path.names()) {
+        return Change::No(Refusal::Enametoolong);
+    }
+    if path.len() == 0 {
+        return Change::No(Refusal::Eexist);
+    }
+    match locate(device, meta, nodes, path) {
+        Ok(Spot::At(place)) => match place.entry {
+            Some(_) => Change::No(Refusal::Eexist),
+            None => {
+                let last = path.get(path.len() - 1);
+                make_at(device, meta, nodes, path, &place, last.bytes(), kind)
+            }
+        },
+        Ok(Spot::No(refusal)) => Change::No(refusal),
+        Err(Stop::Fault) => Change::Fault,
+        Err(Stop::Lost { wanted, found }) => Change::Lost { wanted, found },
+    }
+}
+
+/// Makes it in a directory without an entry of the last name.
+fn make_at<D: VirtualPages>(
+    device: &mut D,
+    meta: &mut Meta,
+    nodes: &mut Nodes,
+    path: &Path,
+    place: &Place,
+    name: &[u8],
+    kind: Kind,
+) -> Change
+    requires formed { D.formed device.old }
+    requires runs { Runs D.Counts device.old meta.old }
+    requires free { FreeFits D.Counts device.old meta.old nodes.old }
+    requires room { HasRoomFor 8 meta.old }
+    requires named { IsTrue (is_name name.now && nat_le (length name.now) max_name) }
+    requires last { slice_get path.now (length path.now - 1) ≡ Some name.now }
+    requires place { IsPlace D.Counts device.old meta.old path.now place.now }
+    requires held { IsHeld D.Counts device.old meta.old meta.old place.now.dir place.now.rec }
+    requires absent { place.now.entry ≡ None }
+    requires unrefused { refusal_of_name (graph_of (D.shape device.old) (running_on D.Counts device.old meta.old)) path.now ≡ None }
+    requires used { kind ≢ Kind.Unused }
+    ensures formed { D.formed device.new }
+    ensures answer { MakesNode nodes.old (graph_of (D.shape device.old) (running_on D.Counts device.old meta.old)) (graph_of (D.shape device.new) (running_on D.Counts device.new meta.new)) path.now (empty_node kind) result }
+    ensures left { Leaves D.Counts device.old meta.old nodes.old device.new meta.new nodes.new result }
+    ensures reads { Reads D.Counts device.old device.new (change_stop result) }
+{
+    match room_for(nodes, place.rec.size) {
+        Ok(ino) => match hold(device, meta, 67 + ino / 16) {
+            Ok(()) => {
+                name_node(meta, nodes, place.dir, ino, kind, name_of(name));
+                Change::Changed { gone: None }
+            }
+            Err(Stop::Fault) => Change::Fault,
+            Err(Stop::Lost { wanted, found }) => Change::Lost { wanted, found },
+        },
+        Err(space) => Change::No(Refusal::Enospc(space)),
+    }
+}
