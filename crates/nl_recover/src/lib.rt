@@ -1,0 +1,11 @@
+//! The walk of an opening: it reads the metadata of a volume, and tells the first place at fault, or what a volume is begun with.
+#![tactic(auto)]
+
+mod addresses;
+mod look;
+mod nodes;
+mod stamps;
+
+pub use addresses::pages_fault;
+pub use nodes::{inode_fault, super_fault};
+pub use stamps::stamp_fault;
