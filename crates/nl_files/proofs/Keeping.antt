@@ -1,5 +1,5 @@
 -- How the pages of a file stay at hand.
-use Rattle.std.proofs.Common.{◌≡◌, ◌≢◌, ◌⊎◌, inl, inr, ℕ, ◌≤◌, ◌<◌, Bool, true, false, cond, List, is_some, Option, Some, None, option_map, nat_lt, refl, sym, ap, ◌∙◌, subst}
+use Rattle.std.proofs.Common.{◌≡◌, ◌≢◌, ◌⊎◌, inl, inr, ℕ, zero, suc, ◌≤◌, ◌<◌, Bool, true, false, arith, cond, List, [], ◌∷◌, get_or, length, is_some, Option, Some, None, option_map, nat_lt, refl, sym, ap, ◌∙◌, subst}
 use Rattle.std.specs.Prelude.{slice_index}
 use Rattle.std.proofs.lemmas.Bool.{both_ways, cases_Bool, cases_eq, cases_lt, cond-true, cond-false, ltb-true}
 use Rattle.nl_field.specs.Pointers.{is_none_pointer}
@@ -16,7 +16,7 @@ use Rattle.nl_meta.specs.Committed.{VirtualMap}
 use Rattle.nl_meta.specs.Nodes.{pointer_at, slots_of}
 use Rattle.nl_meta.specs.Pages.{Pages, page_of, touched}
 use Rattle.nl_meta.specs.Running.{CleanIsStored, RunsAlike, or_stored, running_over}
-use Rattle.nl_meta.specs.Steps.{Admits, Misses}
+use Rattle.nl_meta.specs.Steps.{Admits, Keeps, Misses}
 use Rattle.nl_meta.proofs.Lists.{map_none, none_some}
 use Rattle.nl_meta.proofs.RunningProofs.{running_map as laws_of}
 use Rattle.nl_inode.specs.Fetching.{Fetches}
@@ -65,13 +65,22 @@ admitted-pointers device p q v bytes has gone is new = record { bytes = has.byte
 
 -- ---- an address that has bytes
 
-pub address-below : (shape : Shape) (map : ℕ → Option Value) (p : Pages) (v : ℕ) → HasPointers (running_over (map_bytes shape map) p) v → page_of p v ≡ None → v < shape.vaddrs
+pub in-list : (xs : List (Option (List ℕ))) (v : ℕ) (bytes : List ℕ) → get_or xs v None ≡ Some bytes → v < length xs
+in-list [] v bytes is = absurd (none_some bytes is)
+in-list (x ∷ xs) zero bytes is = omega arith
+in-list (x ∷ xs) (suc v) bytes is = let h = in-list xs v bytes is in omega (arith, h)
+
+pub address-below : (shape : Shape) (map : ℕ → Option Value) (p : Pages) (v : ℕ) → length p.running ≡ shape.vaddrs → HasPointers (running_over (map_bytes shape map) p) v → v < shape.vaddrs
 unfolding map_bytes
-address-below shape map p v has gone = by (cases_Bool (nat_lt v shape.vaddrs))
+address-below shape map p v count has = at (page_of p v) refl
   where
-    by : (nat_lt v shape.vaddrs ≡ true) ⊎ (nat_lt v shape.vaddrs ≡ false) → v < shape.vaddrs
-    by (inl e) = ltb-true v shape.vaddrs e
-    by (inr e) = absurd (none_some has.bytes (sym (cond-false (nat_lt v shape.vaddrs) _ _ e) ∙ sym (absent (map_bytes shape map) p v gone) ∙ has.there))
+    by : page_of p v ≡ None → (nat_lt v shape.vaddrs ≡ true) ⊎ (nat_lt v shape.vaddrs ≡ false) → v < shape.vaddrs
+    by gone (inl e) = ltb-true v shape.vaddrs e
+    by gone (inr e) = absurd (none_some has.bytes (sym (cond-false (nat_lt v shape.vaddrs) _ _ e) ∙ sym (absent (map_bytes shape map) p v gone) ∙ has.there))
+
+    at : (o : Option (List ℕ)) → page_of p v ≡ o → v < shape.vaddrs
+    at None gone = by gone (cases_Bool (nat_lt v shape.vaddrs))
+    at (Some bytes) is = subst (λ (n : ℕ). v < n) count (in-list p.running v bytes is)
 
 unwritten : (shape : Shape) (v : ℕ) (bytes : List ℕ) → or_zeros shape v None ≡ Some bytes → is_inode_address shape v ≡ true
 unwritten shape v bytes is = by (cases_Bool (is_inode_address shape v))
@@ -101,6 +110,15 @@ runs-alike d e p q same alike = record {
 runs-then : (d : VirtualMap) (p q r : Pages) → RunsAlike d p q → RunsAlike d q r → RunsAlike d p r
 runs-then d p q r k l = record { same = λ u. l.same u ∙ k.same u; clean = l.clean }
 
+-- a page that is resident is another one
+stays-but : (p q : Pages) (v : ℕ) → page_of p v ≡ None → Keeps v p q → (u : ℕ) → is_some (page_of p u) ≡ true → page_of q u ≡ page_of p u
+stays-but p q v gone keeps u there = keeps.others u (λ e. both_ways false refl (ap is_some (sym gone) ∙ ap (λ (w : ℕ). is_some (page_of p w)) (sym e) ∙ there))
+
+-- what a fetch leaves of the other pages
+pub fetched-others : (tells : Type 0) (stored : Option (List ℕ)) (p q : Pages) (v : ℕ) → Fetches tells stored v p q → Keeps v p q
+fetched-others tells stored p q v (inl x) = subst (λ (r : Pages). Keeps v p r) (sym x.1) (record { count = refl; frozen = refl; recent = refl; others = λ u far. refl })
+fetched-others tells stored p q v (inr x) = x.3.keeps
+
 module _ {D : Type 0} (g : Ghosts D) where
   -- ---- a page is made resident
 
@@ -109,7 +127,7 @@ module _ {D : Type 0} (g : Ghosts D) where
   tells-of p v (inr there) gone = absurd (both_ways false refl (ap is_some (sym gone) ∙ there))
 
   pub keeps-touched : (s : D) (p : Pages) (v : ℕ) → (g.tells → CleanIsStored (device_map g s) p) → KeepsRunning g s p (record p { recent = touched v p.recent })
-  keeps-touched s p v clean = record { count = refl; dirty = refl; frozen = refl; alike = λ t. (laws_of (device_map g s) p (clean t)).touched v; there = λ u. inr refl }
+  keeps-touched s p v clean = record { count = refl; dirty = refl; frozen = refl; alike = λ t. (laws_of (device_map g s) p (clean t)).touched v; there = λ u. inr refl; stays = λ u there. refl }
 
   pub keeps-admitted : (s : D) (p q : Pages) (v : ℕ) (bytes : List ℕ) → (g.tells → CleanIsStored (device_map g s) p) → g.tells → page_of p v ≡ None → device_map g s v ≡ Some bytes → Admits v bytes p q → KeepsRunning g s p q
   keeps-admitted s p q v bytes clean t gone is admits = record {
@@ -118,6 +136,7 @@ module _ {D : Type 0} (g : Ghosts D) where
     frozen = admits.keeps.frozen;
     alike = λ u. (laws_of (device_map g s) p (clean t)).admitted v bytes q is gone admits;
     there = λ u. inl t;
+    stays = λ u there. stays-but p q v gone admits.keeps u there;
   }
 
   pub keeps-missed : (s : D) (p q : Pages) (v : ℕ) → (g.tells → CleanIsStored (device_map g s) p) → IsAtHand g.tells p v → page_of p v ≡ None → Misses v p q → KeepsRunning g s p q
@@ -127,18 +146,16 @@ module _ {D : Type 0} (g : Ghosts D) where
     frozen = misses.keeps.frozen;
     alike = λ t. (laws_of (device_map g s) p (clean t)).missed v q gone misses;
     there = λ u. inl (tells-of p v at gone);
+    stays = λ u there. stays-but p q v gone misses.keeps u there;
   }
 
-  gone-some : (p : Pages) (v : ℕ) → page_of p v ≡ None → is_some (page_of p v) ≡ true → ⊥
-  gone-some p v gone there = both_ways false refl (ap is_some (sym gone) ∙ there)
+  pub fetched-keeps : (s : D) (p q : Pages) (v : ℕ) → (g.tells → CleanIsStored (device_map g s) p) → IsAtHand g.tells p v → Fetches g.tells (device_map g s v) v p q → KeepsRunning g s p q
+  fetched-keeps s p q v clean at (inl x) = subst (λ (r : Pages). KeepsRunning g s p r) (sym x.1) (keeps-touched s p v clean)
+  fetched-keeps s p q v clean at (inr x) = let t = tells-of p v at x.0 in keeps-admitted s p q v x.1 clean t x.0 (x.2 t) x.3
 
-  pub fetched-keeps : (s : D) (p q : Pages) (v : ℕ) → (g.tells → CleanIsStored (device_map g s) p) → IsAtHand g.tells p v → page_of p v ≡ None → Fetches g.tells (device_map g s v) v p q → KeepsRunning g s p q
-  fetched-keeps s p q v clean at gone (inl x) = absurd (gone-some p v gone x.0)
-  fetched-keeps s p q v clean at gone (inr x) = let t = tells-of p v at gone in keeps-admitted s p q v x.1 clean t gone (x.2 t) x.3
-
-  pub fetched-pointers : (s : D) (p q : Pages) (v : ℕ) → IsAtHand g.tells p v → HasPointers (running_map g s p) v → page_of p v ≡ None → Fetches g.tells (device_map g s v) v p q → HasPointers (page_of q) v
-  fetched-pointers s p q v at has gone (inl x) = absurd (gone-some p v gone x.0)
-  fetched-pointers s p q v at has gone (inr x) = admitted-pointers (device_map g s) p q v x.1 has gone (x.2 (tells-of p v at gone)) x.3.page
+  pub fetched-pointers : (s : D) (p q : Pages) (v : ℕ) → IsAtHand g.tells p v → HasPointers (running_map g s p) v → Fetches g.tells (device_map g s v) v p q → HasPointers (page_of q) v
+  fetched-pointers s p q v at has (inl x) = subst (λ (r : Pages). HasPointers (page_of r) v) (sym x.1) (resident-pointers (device_map g s) p v has x.0)
+  fetched-pointers s p q v at has (inr x) = admitted-pointers (device_map g s) p q v x.1 has x.0 (x.2 (tells-of p v at x.0)) x.3.page
 
   -- ---- one call after another
 
@@ -149,7 +166,7 @@ module _ {D : Type 0} (g : Ghosts D) where
       ∙ ap (λ (o : Option Value). cond (nat_lt u (g.shape s).vaddrs) (or_zeros (g.shape s) u (option_map (λ x. x.1) o)) None) (reads.medium.virtual.same_map tells u)
 
   pub keeps-none : (s : D) (p : Pages) → (g.tells → CleanIsStored (device_map g s) p) → KeepsRunning g s p p
-  keeps-none s p clean = record { count = refl; dirty = refl; frozen = refl; alike = λ t. record { same = λ u. refl; clean = clean t }; there = λ u. inr refl }
+  keeps-none s p clean = record { count = refl; dirty = refl; frozen = refl; alike = λ t. record { same = λ u. refl; clean = clean t }; there = λ u. inr refl; stays = λ u there. refl }
 
   pub keeps-then : (s t : D) (p q r : Pages) → OnlyReads g s t → KeepsRunning g s p q → KeepsRunning g t q r → KeepsRunning g s p r
   keeps-then s t p q r reads k l = record {
@@ -158,6 +175,7 @@ module _ {D : Type 0} (g : Ghosts D) where
     frozen = l.frozen ∙ k.frozen;
     alike = λ tells. runs-then (device_map g s) p q r (k.alike tells) (runs-alike (device_map g s) (device_map g t) q r (same-device s t reads tells) (l.alike tells));
     there = λ u. by u (k.there u) (l.there u);
+    stays = λ u there. l.stays u (ap is_some (k.stays u there) ∙ there) ∙ k.stays u there;
   }
     where
       by : (u : ℕ) → g.tells ⊎ (page_of q u ≡ page_of p u) → g.tells ⊎ (page_of r u ≡ page_of q u) → g.tells ⊎ (page_of r u ≡ page_of p u)
@@ -171,19 +189,11 @@ module _ {D : Type 0} (g : Ghosts D) where
 
     same-at : (a : ℕ) → IsAtHand g.tells p a → running_map g t q a ≡ running_map g s p a
     same-at a (inl tells) = told tells a
-    same-at a (inr there) = by (keeps.there a)
-      where
-        by : g.tells ⊎ (page_of q a ≡ page_of p a) → running_map g t q a ≡ running_map g s p a
-        by (inl tells) = told tells a
-        by (inr same) = resident (device_map g s) (device_map g t) p q a same there
+    same-at a (inr there) = resident (device_map g s) (device_map g t) p q a (keeps.stays a there) there
 
     still : (a : ℕ) → IsAtHand g.tells p a → IsAtHand g.tells q a
     still a (inl tells) = inl tells
-    still a (inr there) = by (keeps.there a)
-      where
-        by : g.tells ⊎ (page_of q a ≡ page_of p a) → IsAtHand g.tells q a
-        by (inl tells) = inl tells
-        by (inr same) = inr (ap is_some same ∙ there)
+    still a (inr there) = inr (ap is_some (keeps.stays a there) ∙ there)
 
     module _ (stands : FileStands g s rec p) where
       pub stands-then : FileStands g t rec q

@@ -7,3 +7,4 @@ pub mod Keeping
 pub mod LawProofs
 pub mod Preparing
 pub mod Progress
+pub mod StandingOn

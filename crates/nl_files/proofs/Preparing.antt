@@ -4,28 +4,17 @@ use Rattle.std.proofs.lemmas.Bool.{cases_eq, cases_lt, cond-true, ne_eqb}
 use Rattle.nl_field.specs.Members.{Has}
 use Rattle.nl_field.specs.declared.inode.InodeRec.{InodeRec}
 use Rattle.nl_meta.specs.Pages.{Pages, first_most, page_of, touched}
-use Rattle.nl_meta.specs.Steps.{Keeps, PutsOut}
 use Rattle.nl_indirect.specs.Ranges.{HasPointers, HasRange, address_of, range_of}
 use Rattle.nl_indirect.proofs.Pointing.{address-node, address-range}
 use Rattle.nl_files.specs.Standing.{LoadsAt}
-
--- what was touched before the last is still among the last touched
-recent-stays : (a b : ℕ) (xs : List ℕ) → a ≢ b → Has (touched b (touched a xs)) a
-unfolding touched first_most
-recent-stays a b xs far = inr (subst (λ (l : List ℕ). Has (take 62 l) a) (sym (cond-true (not (a == b)) _ _ (ap not (ne_eqb a b far)))) (inl refl))
 
 module _ (p q r : Pages) (a b : ℕ) (to_a : LoadsAt a p q) (to_b : LoadsAt b q r) (far : a ≢ 0) (has : HasPointers (page_of q) a) (last : b ≢ 0 → HasPointers (page_of r) b) where
   both : HasPointers (page_of r) a
   both = by (cases_eq b 0)
     where
-      other : (keeps : Keeps b q r) → a ≢ b → (page_of r a ≡ page_of q a) ⊎ PutsOut q r a → HasPointers (page_of r) a
-      other keeps apart (inl same) = record { bytes = has.bytes; there = same ∙ has.there; spelled = has.spelled }
-      other keeps apart (inr out) =
-          absurd (out.not_recent (subst (λ (l : List ℕ). Has l a) (sym (keeps.recent ∙ ap (touched b) (to_a.1 far).recent)) (recent-stays a b p.recent apart)))
-
       at : b ≢ 0 → (a ≡ b) ⊎ (a ≢ b) → HasPointers (page_of r) a
       at some (inl e) = subst (λ (v : ℕ). HasPointers (page_of r) v) (sym e) (last some)
-      at some (inr apart) = other (to_b.1 some) apart ((to_b.1 some).others a apart)
+      at some (inr apart) = record { bytes = has.bytes; there = (to_b.1 some).others a apart ∙ has.there; spelled = has.spelled }
 
       by : (b ≡ 0) ⊎ (b ≢ 0) → HasPointers (page_of r) a
       by (inl none) = subst (λ (pages : Pages). HasPointers (page_of pages) a) (sym (to_b.0 none)) has

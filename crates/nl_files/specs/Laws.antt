@@ -1,14 +1,18 @@
 -- What a volume gives for the calls of this crate.
-use Rattle.std.specs.Prelude.{◌≡◌, ◌≢◌, ℕ, slice_index, map}
+use Rattle.std.specs.Prelude.{◌≡◌, ◌≢◌, ℕ, slice_index, map, Option}
 use Rattle.nl_field.specs.declared.inode.InodeRec.{InodeRec}
+use Rattle.nl_field.specs.declared.pointer.Pointer.{Pointer}
 use Rattle.nl_field.specs.declared.shape.Shape.{Shape}
 use Rattle.nl_meta.specs.Committed.{VirtualMap}
 use Rattle.nl_iface.specs.Calls.{OnlyReads}
 use Rattle.nl_iface.specs.declared.counts.Counts.{Ghosts}
 use Rattle.nl_meta.specs.Nodes.{pointer_at, pointers_of_inode, slots_of}
-use Rattle.nl_meta.specs.Pages.{Pages}
+use Rattle.nl_meta.specs.Pages.{Pages, page_of}
+use Rattle.nl_inode.specs.Nodes.{Spaces}
 use Rattle.nl_indirect.specs.FileLaws.{AddressesGood}
-use Rattle.nl_indirect.specs.Ranges.{HasPointers, IsFileRecord}
+use Rattle.nl_indirect.specs.Ranges.{HasPointers, HasRange, IsFileRecord}
+use Rattle.nl_files.specs.Cutting.{Cuts}
+use Rattle.nl_files.specs.Installing.{Installs}
 use Rattle.nl_files.specs.Spans.{pointers_from}
 use Rattle.nl_files.specs.Standing.{FileStands, KeepsRunning, PointersLead, running_map}
 
@@ -27,6 +31,20 @@ pub record StandsAs {D : Type 0} (g : Ghosts D) (s t : D) (rec : InodeRec) (p q 
   pub stands : FileStands g t rec q
   pub pointers : (i : ℕ) → pointer_at (running_map g t q) rec i ≡ pointer_at (running_map g s p) rec i
   pub leads : (ino : ℕ) → PointersLead (g.names s) ino rec (running_map g s p) → PointersLead (g.names t) ino rec (running_map g t q)
+
+-- A file that gets another record stands on over the same device, whatever that tells, and each page index whose pages were resident has
+-- its page resident.
+pub record StandsAfter {D : Type 0} (g : Ghosts D) (s : D) (was is : InodeRec) (p q : Pages) : Type 0 where
+  pub stands : FileStands g s was p → FileStands g s is q
+  pub ranges : (i : ℕ) → HasRange (page_of p) was i → HasRange (page_of q) is i
+
+-- So it does where a pointer is installed,
+abbrev pub InstalledStands : {D : Type 0} → Ghosts D → Type 0
+InstalledStands {D} g = (s : D) (index : ℕ) (to : Pointer) (was is : InodeRec) (p q : Pages) (t u : Spaces) → Installs index to was is p q t u → StandsAfter g s was is p q
+
+-- and where it is cut.
+abbrev pub CutStands : {D : Type 0} → Ghosts D → Type 0
+CutStands {D} g = (s : D) (size : ℕ) (partial : Option Pointer) (was is : InodeRec) (p q : Pages) (t u : Spaces) → Cuts size partial was is p q t u → StandsAfter g s was is p q
 
 -- Each file does after calls that only read.
 abbrev pub FilesStandOn : {D : Type 0} → Ghosts D → Type 0

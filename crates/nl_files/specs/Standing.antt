@@ -45,14 +45,15 @@ PointersLead names ino rec pages =
     (i : ℕ) → i < 4104 → is_none_pointer (pointer_at pages rec i) ≡ false
     → IsRef names always (wants_tagged (tag_of ino rec i, pointer_at pages rec i)) (pointer_at pages rec i).name
 
--- The pages run on as they did: no address changes where the device tells what it has, and else no page.
+-- The pages run on as they did: no address changes where the device tells what it has, and else no page. Each resident page stays.
 pub record KeepsRunning {D : Type 0} (g : Ghosts D) (s : D) (old new : Pages) : Type 0 where
   pub count : length new.running ≡ length old.running
   pub dirty : new.dirty ≡ old.dirty
   pub frozen : new.frozen ≡ old.frozen
   pub alike : g.tells → RunsAlike (device_map g s) old new
   pub there : (u : ℕ) → g.tells ⊎ (page_of new u ≡ page_of old u)
+  pub stays : (u : ℕ) → IsSome (page_of old u) → page_of new u ≡ page_of old u
 
--- The page of an address was touched, where it is not 0, and other pages may have made room for it.
+-- The page of an address was touched, where it is not 0, and each other page stays.
 abbrev pub LoadsAt : ℕ → Pages → Pages → Type 0
 LoadsAt a old new = (a ≡ 0 → new ≡ old) × (a ≢ 0 → Keeps a old new)

@@ -1,6 +1,6 @@
 //! Laws of the definitions. Each function stands for the law that its contract names.
 ghost use Rattle.nl_files.specs.CutLaws.{OneFileIsCut};
-ghost use Rattle.nl_files.specs.Laws.{AllAreOfNode, FilesStandOn, GoodAddressesHavePages};
+ghost use Rattle.nl_files.specs.Laws.{AllAreOfNode, CutStands, FilesStandOn, GoodAddressesHavePages, InstalledStands};
 
 use nl_iface::NamedPages;
 
@@ -17,6 +17,12 @@ pub fn all_are_of_node()
 // A file stands on after each call of this crate that only reads, with the pointers that it had.
 pub fn files_stand_on<D: NamedPages>()
     ensures { FilesStandOn D.Counts }
+{}
+
+// A file stands on after `install` and `cut`, over any device.
+pub fn written_files_stand_on<D: NamedPages>()
+    ensures installed { InstalledStands D.Counts }
+    ensures cut { CutStands D.Counts }
 {}
 
 // Once the record is written back, one file has the pointers that a cut left, no other node changed, and what is free of the pool is

@@ -32,10 +32,6 @@ pub(crate) fn load<D: NamedPages>(device: &mut D, meta: &mut Meta, vaddr: u32) -
     ensures lost { LosesFile (λ w. D.stamps device.old vaddr ≡ Some w) result }
     ensures told { D.tells → IsLostFile result → ⊥ }
 {
-    if meta.resident(vaddr) {
-        meta.touch(vaddr);
-        return FileAnswer::Done;
-    }
     match fetch(device, meta, vaddr) {
         Fetch::Ready => FileAnswer::Done,
         Fetch::Fault => FileAnswer::Fault,
@@ -44,7 +40,7 @@ pub(crate) fn load<D: NamedPages>(device: &mut D, meta: &mut Meta, vaddr: u32) -
 }
 
 /// Makes the pages resident that have the pointers of these page indexes, of which there are at most 17. They are the last that were
-/// touched, so a few pages that are made resident later put none of them out.
+/// touched.
 pub fn prepare<D: NamedPages>(
     device: &mut D,
     meta: &mut Meta,

@@ -1,11 +1,11 @@
 -- A page that is new, and the list of dirty pages with one more.
-use Rattle.std.proofs.Common.{◌≡◌, ◌≢◌, ℕ, ◌+◌, ◌≤◌, ◌<◌, Bool, true, false, not, ◌||◌, ◌==◌, cond, refl, ap, ◌∙◌, List, [], ◌∷◌, ◌++◌, filter, length, nat_lt, Some, None, ◌⊎◌, inl, inr, arith, length-append}
+use Rattle.std.proofs.Common.{◌≡◌, ℕ, ◌+◌, ◌≤◌, ◌<◌, Bool, true, false, not, ◌||◌, ◌==◌, cond, refl, ap, ◌∙◌, List, [], ◌∷◌, ◌++◌, filter, length, nat_lt, Some, None, arith, length-append}
 use Rattle.std.proofs.lemmas.Bool.{cond-false, le-ltb, ltb-true}
 use Rattle.std.proofs.lemmas.List.{append-nil, get_or-set_same, get_or-set_other, length-set}
 use Rattle.std.proofs.lemmas.List.Elements.{filter-append}
 use Rattle.std.specs.List.{list_any}
-use Rattle.nl_meta.specs.Pages.{Pages, above, below, besides_0, has_room, most, page_of, with_address}
-use Rattle.nl_meta.specs.Steps.{Freshens, PutsOut, with_dirty}
+use Rattle.nl_meta.specs.Pages.{Pages, above, below, besides_0, has_room, most, with_address}
+use Rattle.nl_meta.specs.Steps.{Freshens, with_dirty}
 use Rattle.nl_meta.proofs.Rising.{split}
 use Rattle.nl_meta.proofs.RunningProofs.{not-with}
 use Rattle.nl_indirect.specs.Storing.{HasNewPage}
@@ -93,13 +93,6 @@ new-page v bytes old blank inside is = record {
     count = length-set blank.running v (Some bytes) ∙ is.keeps.count;
     frozen = is.keeps.frozen;
     recent = is.keeps.recent;
-    others = λ u far. others u far (is.keeps.others u far);
+    others = λ u far. get_or-set_other blank.running v u (Some bytes) None far ∙ is.keeps.others u far;
   };
 }
-  where
-    same : (u : ℕ) → u ≢ v → page_of (with_dirty blank v bytes) u ≡ page_of blank u
-    same u far = get_or-set_other blank.running v u (Some bytes) None far
-
-    others : (u : ℕ) → u ≢ v → (page_of blank u ≡ page_of old u) ⊎ PutsOut old blank u → (page_of (with_dirty blank v bytes) u ≡ page_of old u) ⊎ PutsOut old (with_dirty blank v bytes) u
-    others u far (inl e) = inl (same u far ∙ e)
-    others u far (inr out) = inr (record { gone = same u far ∙ out.gone; clean = out.clean; not_frozen = out.not_frozen; not_recent = out.not_recent })

@@ -1,6 +1,6 @@
 -- What is free stays what the pages do not use.
-use Rattle.std.proofs.Common.{◌≡◌, ◌≢◌, ℕ, ◌+◌, ◌-◌, ◌%◌, ◌/◌, ◌≤◌, ◌<◌, Bool, true, false, ◌&&◌, List, nat_le, refl, subst, sym, ap, ◌∙◌, Some, ◌⊎◌, inl, inr, arith}
-use Rattle.std.proofs.lemmas.Bool.{both_ways, cases_eq, le-leb}
+use Rattle.std.proofs.Common.{◌≡◌, ◌≢◌, ℕ, ◌+◌, ◌-◌, ◌%◌, ◌/◌, ◌≤◌, ◌<◌, Bool, true, false, ◌&&◌, nat_le, refl, subst, sym, ap, ◌∙◌, ◌⊎◌, inl, inr, arith}
+use Rattle.std.proofs.lemmas.Bool.{cases_eq, le-leb}
 use Rattle.std.specs.Prelude.{◌↔◌}
 use Rattle.nl_field.specs.Inode.{inode_of}
 use Rattle.nl_field.specs.declared.inode.InodeRec.{InodeRec}
@@ -8,12 +8,12 @@ use Rattle.nl_field.specs.declared.inode.Kind.TheVariants.{Unused}
 use Rattle.nl_field.specs.declared.shape.Shape.{Shape}
 use Rattle.nl_meta.specs.Committed.{VirtualMap}
 use Rattle.nl_meta.specs.Consistent.{IsNode}
-use Rattle.nl_meta.specs.Nodes.{bytes_of_node, inode_at}
+use Rattle.nl_meta.specs.Nodes.{inode_at}
 use Rattle.nl_meta.proofs.Lists.{some_in}
 use Rattle.nl_meta.proofs.SlotProofs.{one_slot}
 use Rattle.nl_inode.specs.Free.{is_free}
 use Rattle.nl_inode.specs.FreeLaws.{FreeIsUnused, NodeIs, NodesAreFree, PoolIsFree, Uses, UsesOthers}
-use Rattle.nl_inode.specs.Nodes.{AddressBecomes, NodeBecomes, Spaces, is_free_address, is_free_node, page_of_node}
+use Rattle.nl_inode.specs.Nodes.{AddressBecomes, Spaces, is_free_address, is_free_node, page_of_node}
 
 same-node : (n : ℕ) (rec : InodeRec) (old new : VirtualMap) → NodeIs n rec old new → (m : ℕ) → m ≢ n → inode_at new m ≡ inode_at old m
 unfolding inode_at

@@ -2,6 +2,7 @@ ghost use Rattle.std.specs.Prelude.{◌≡◌, ◌<◌, ⊤, Some, None, true, l
 ghost use Rattle.nl_field.specs.Virtual.{is_inode_address, map_bytes};
 ghost use Rattle.nl_iface.specs.Calls.{OnlyReads};
 ghost use Rattle.nl_iface.specs.Counting.{FailuresCounted};
+ghost use Rattle.nl_meta.specs.Pages.{page_of};
 ghost use Rattle.nl_inode.specs.Fetching.{Fetches, FetchesNone, IsLostFetch, LosesFetch};
 
 use crate::answer::Fetch;
@@ -9,13 +10,13 @@ use nl_field::{PageBuf, VirtualRead};
 use nl_iface::VirtualPages;
 use nl_meta::Meta;
 
-/// Makes the page of an address resident, and touches it. The address was written, or has nodes. After `Fault` and `Lost` each page
-/// is as before.
+/// Makes the page of an address resident, and touches it. An address that is not resident was written, or has nodes. After `Fault`
+/// and `Lost` each page is as before.
 pub fn fetch<D: VirtualPages>(device: &mut D, meta: &mut Meta, vaddr: u32) -> Fetch
     requires formed { D.formed device.old }
     requires within { vaddr < (D.shape device.old).vaddrs }
     requires count { length meta.old.running ≡ (D.shape device.old).vaddrs }
-    requires stored { D.stamps device.old vaddr ≡ None → is_inode_address (D.shape device.old) vaddr ≡ true }
+    requires stored { page_of meta.old vaddr ≡ None → D.stamps device.old vaddr ≡ None → is_inode_address (D.shape device.old) vaddr ≡ true }
     ensures formed { D.formed device.new }
     ensures device { OnlyReads D.Counts device.old device.new }
     ensures ready { result ≡ Fetch.Ready → Fetches D.tells (map_bytes (D.shape device.old) (D.map device.old) vaddr) vaddr meta.old meta.new }

@@ -1,16 +1,16 @@
 -- The running map over a device.
 use Rattle.std.proofs.Common.{◌≡◌, ◌≢◌, ℕ, ◌<◌, Bool, true, false, ◌==◌, List, [], ◌∷◌, ◌++◌, length, get_or, refl, sym, ap, subst, ◌∙◌, Option, Some, None, IsSome, is_some, ◌⊎◌, inl, inr, nat_lt}
 use Rattle.std.proofs.Math.ListN.{set}
-use Rattle.std.proofs.lemmas.Bool.{cases_eq, cases_order, eq-eqb, ne_eqb, eqb-false, lt-ltb, both_ways}
+use Rattle.std.proofs.lemmas.Bool.{cases_eq, cases_order, eqb-false, lt-ltb, both_ways}
 use Rattle.std.proofs.lemmas.List.{get_or-set_same, get_or-set_other, length-set}
 use Rattle.std.specs.List.{list_any}
 use Rattle.nl_field.specs.Bytes.{zeros}
 use Rattle.nl_field.specs.Members.{Has}
 use Rattle.nl_meta.specs.Committed.{VirtualMap}
 use Rattle.nl_meta.specs.Pages.{Pages, above, below, dirty_pages, is_dirty, is_frozen, none_frozen, page_of, touched, with_address}
-use Rattle.nl_meta.specs.Running.{AdmitsPage, MissesPage, CleanIsStored, DiffersAt, RunningLaws, RunningMap, RunsAlike, RunsWith, or_stored, running_over}
-use Rattle.nl_meta.specs.Steps.{Admits, Freshens, Keeps, Misses, PutsOut, with_admitted, with_dirty, with_restored, without_page}
-use Rattle.nl_meta.proofs.Lists.{any-none, none-any, none_some, some_in, filter-member, append-member-left, append-member-right}
+use Rattle.nl_meta.specs.Running.{AdmitsPage, MissesPage, CleanIsStored, DiffersAt, RunningMap, RunsAlike, RunsWith, or_stored, running_over}
+use Rattle.nl_meta.specs.Steps.{Admits, Keeps, Misses, with_dirty, with_restored}
+use Rattle.nl_meta.proofs.Lists.{any-none, none-any, none_some, filter-member, append-member-left, append-member-right}
 
 -- ---- a list with one more
 
@@ -43,26 +43,14 @@ not-last v xs u e = (
 -- ---- the laws
 
 module _ (device : VirtualMap) (p : Pages) (clean : CleanIsStored device p) where
-  -- another address of a call that may put pages out
+  -- another address has what it had
   stays : (v : ℕ) (new : Pages) → Keeps v p new → (u : ℕ) → u ≢ v → running_over device new u ≡ running_over device p u
   unfolding running_over
-  stays v new keeps u far = by (keeps.others u far)
-    where
-      of : (o : Option (List ℕ)) → page_of p u ≡ o → PutsOut p new u → or_stored (page_of new u) (device u) ≡ or_stored (page_of p u) (device u)
-      of None is out = ap (λ o. or_stored o (device u)) (out.gone ∙ sym is)
-      of (Some bytes) is out = ap (λ o. or_stored o (device u)) out.gone ∙ clean.each u bytes is out.clean out.not_frozen ∙ ap (λ o. or_stored o (device u)) (sym is)
-
-      by : (page_of new u ≡ page_of p u) ⊎ PutsOut p new u → or_stored (page_of new u) (device u) ≡ or_stored (page_of p u) (device u)
-      by (inl e) = ap (λ o. or_stored o (device u)) e
-      by (inr out) = of (page_of p u) refl out
+  stays v new keeps u far = ap (λ o. or_stored o (device u)) (keeps.others u far)
 
   -- and what it has there is the device's, where it is clean
   stored : (v : ℕ) (new : Pages) → Keeps v p new → (u : ℕ) → u ≢ v → (bytes : List ℕ) → page_of new u ≡ Some bytes → is_dirty p u ≡ false → is_frozen p u ≡ false → device u ≡ Some bytes
-  stored v new keeps u far bytes is d f = by (keeps.others u far)
-    where
-      by : (page_of new u ≡ page_of p u) ⊎ PutsOut p new u → device u ≡ Some bytes
-      by (inl e) = clean.each u bytes (sym e ∙ is) d f
-      by (inr out) = absurd (none_some bytes (sym out.gone ∙ is))
+  stored v new keeps u far bytes is d f = clean.each u bytes (sym (keeps.others u far) ∙ is) d f
 
   here : (v : ℕ) (bytes : List ℕ) (new : Pages) → page_of new v ≡ Some bytes → running_over device new v ≡ Some bytes
   unfolding running_over
@@ -193,7 +181,7 @@ admits_page v bytes p below = record {
     count = length-set p.running v (Some bytes);
     frozen = refl;
     recent = refl;
-    others = λ u far. inl (get_or-set_other p.running v u (Some bytes) None far);
+    others = λ u far. get_or-set_other p.running v u (Some bytes) None far;
   };
 }
 
@@ -205,6 +193,6 @@ misses_page v bytes p below gone = record {
     count = length-set (set p.running v (Some bytes)) v None ∙ length-set p.running v (Some bytes);
     frozen = refl;
     recent = refl;
-    others = λ u far. inl (get_or-set_other (set p.running v (Some bytes)) v u None None far ∙ get_or-set_other p.running v u (Some bytes) None far);
+    others = λ u far. get_or-set_other (set p.running v (Some bytes)) v u None None far ∙ get_or-set_other p.running v u (Some bytes) None far;
   };
 }

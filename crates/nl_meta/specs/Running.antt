@@ -3,7 +3,7 @@
 use Rattle.std.specs.Prelude.{◌≡◌, ◌≢◌, ◌⊎◌, ℕ, ◌<◌, true, false, [], List, length, Option, Some, None, IsSome}
 use Rattle.nl_field.specs.Bytes.{zeros}
 use Rattle.nl_meta.specs.Committed.{VirtualMap}
-use Rattle.nl_meta.specs.Pages.{Pages, dirty_pages, frozen_at, is_dirty, is_frozen, none_frozen, page_of, touched}
+use Rattle.nl_meta.specs.Pages.{Pages, dirty_pages, is_dirty, is_frozen, none_frozen, page_of, touched}
 use Rattle.nl_meta.specs.Steps.{Admits, Freshens, Misses, with_admitted, with_dirty, with_restored, without_page}
 
 abbrev pub or_stored : Option (List ℕ) → Option (List ℕ) → Option (List ℕ)

@@ -1,8 +1,7 @@
 -- What the calls do to the pages, and what that means for a volume over any device.
-use Rattle.std.specs.Prelude.{◌≡◌, ◌≢◌, ◌⊎◌, ℕ, false, List, length, slice_set, Some, None}
+use Rattle.std.specs.Prelude.{◌≡◌, ◌≢◌, ℕ, List, length, slice_set, Some, None}
 use Rattle.nl_field.specs.Bytes.{zeros}
-use Rattle.nl_field.specs.Members.{Has}
-use Rattle.nl_meta.specs.Pages.{Pages, page_of, is_dirty, is_frozen, with_address, touched, with_image}
+use Rattle.nl_meta.specs.Pages.{Pages, page_of, with_address, touched, with_image}
 
 -- the running page of an address replaced
 abbrev pub with_page : Pages → ℕ → List ℕ → Pages
@@ -24,19 +23,12 @@ with_restored p v bytes = record p { running = slice_set p.running v (Some bytes
 abbrev pub without_page : Pages → ℕ → Pages
 without_page p v = record p { running = slice_set p.running v None }
 
--- A page is put out: one that is neither dirty nor frozen, and not among those that were touched last.
-pub record PutsOut (old new : Pages) (u : ℕ) : Type 0 where
-  pub gone : page_of new u ≡ None
-  pub clean : is_dirty old u ≡ false
-  pub not_frozen : is_frozen old u ≡ false
-  pub not_recent : Has new.recent u → ⊥
-
--- What a call does to other addresses that may need the room of a page.
+-- What a call that makes a page resident does to the other addresses: their pages stay.
 pub record Keeps (v : ℕ) (old new : Pages) : Type 0 where
   pub count : length new.running ≡ length old.running
   pub frozen : new.frozen ≡ old.frozen
   pub recent : new.recent ≡ touched v old.recent
-  pub others : (u : ℕ) → u ≢ v → (page_of new u ≡ page_of old u) ⊎ PutsOut old new u
+  pub others : (u : ℕ) → u ≢ v → page_of new u ≡ page_of old u
 
 -- The address has this page, which is clean.
 pub record Admits (v : ℕ) (bytes : List ℕ) (old new : Pages) : Type 0 where

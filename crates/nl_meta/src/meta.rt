@@ -213,8 +213,9 @@ impl Meta {
         self.frozen.push(vaddr);
     }
 
-    // Whether the page of the address may become dirty.
-    fn has_room(&self, vaddr: u32) -> bool
+    /// Whether the page of an address may become dirty: it is that of address 0, or dirty already, or fewer than 63 besides address 0
+    /// are.
+    pub fn has_room(&self, vaddr: u32) -> bool
         ensures { result ≡ has_room self.now vaddr }
     {
         vaddr == 0 || contains(&self.dirty, vaddr) || others(&self.dirty) < MOST

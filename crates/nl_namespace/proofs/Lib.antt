@@ -1,13 +1,9 @@
 mod Entries
 mod Graphs
-mod GraphStays
-mod Holds
-mod Kept
 mod Printed
 mod Texts
 mod Order
 mod Rows
-mod SameNeeded
 mod TreeLists
 mod TreeWalks
 mod Walks

@@ -1,18 +1,11 @@
--- Pages that a call needs at once.
-use Rattle.std.specs.Prelude.{◌≡◌, ℕ, IsSome}
-use Rattle.nl_field.specs.Members.{Has}
+-- The pages of a directory.
+use Rattle.std.specs.Prelude.{◌≡◌}
 use Rattle.nl_field.specs.declared.inode.InodeRec.{InodeRec}
 use Rattle.nl_iface.specs.declared.counts.Counts.{Ghosts}
 use Rattle.nl_meta.specs.Nodes.{entries_of_inode}
-use Rattle.nl_meta.specs.Pages.{Pages, page_of, touched}
+use Rattle.nl_meta.specs.Pages.{Pages, page_of}
 use Rattle.nl_dir.specs.Directory.{IsDirectory}
-use Rattle.nl_namespace.specs.Running.{running_on}
-
--- The address is resident and touched, and none of those that were touched last was put out.
-pub record HoldsPage (v : ℕ) (old new : Pages) : Type 0 where
-  pub there : IsSome (page_of new v)
-  pub recent : new.recent ≡ touched v old.recent
-  pub stays : (u : ℕ) → Has new.recent u → IsSome (page_of old u) → IsSome (page_of new u)
+use Rattle.nl_running.specs.Running.{running_on}
 
 -- The directory is one in memory, with the entries that it had.
 pub record HasEntries {D : Type 0} (g : Ghosts D) (s : D) (old new : Pages) (rec : InodeRec) : Type 0 where

@@ -3,6 +3,4 @@ pub mod Listing
 pub mod Paths
 pub mod PathLaws
 pub mod Reading
-pub mod Running
-pub mod RunningLaws
 pub mod Stepping

@@ -7,6 +7,7 @@ pub mod laws;
 mod names;
 mod walk;
 
-pub use answer::{Listing, Look, Stop};
+pub use answer::{Listing, Look};
 pub use names::list;
+pub use nl_running::Stop;
 pub use walk::look;

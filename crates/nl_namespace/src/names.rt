@@ -5,16 +5,18 @@ ghost use Rattle.nl_meta.specs.Nodes.{entries_of_inode, graph_of};
 ghost use Rattle.nl_meta.specs.Pages.{page_of};
 ghost use Rattle.nl_dir.specs.Directory.{IsDirectory};
 ghost use Rattle.nl_namespace.specs.Listing.{IfListed, IsListing, IsNext, ListsNames, is_after, is_before, is_first, kind_mark, text_of};
-ghost use Rattle.nl_namespace.specs.Reading.{Reads, listing_stop, stop_of};
-ghost use Rattle.nl_namespace.specs.Running.{IsDirectoryOf, IsDirectoryAt, Runs, RunsOn, running_on};
+ghost use Rattle.nl_namespace.specs.Reading.{listing_stop};
+ghost use Rattle.nl_running.specs.Reading.{Reads, stop_of};
+ghost use Rattle.nl_running.specs.Running.{IsDirectoryOf, IsDirectoryAt, Runs, RunsOn, running_on};
 
-use crate::answer::{Listing, Stop};
-use crate::hold::{hold_entries, node};
+use crate::answer::Listing;
+use crate::hold::hold_entries;
 use nl_dir::entry_at;
 use nl_field::{EntryRec, InodeRec, Kind};
 use nl_iface::VirtualPages;
 use nl_inode::Nodes;
 use nl_meta::Meta;
+use nl_running::{Stop, node};
 use nl_tree::ReplyBuf;
 use std::cmp::Ordering;
 

@@ -13,3 +13,6 @@ returns-else-ne-clause-ready g c = λ e. inr (
   (λ t. c.load-answer.ensures.page t e),
   admits_page c.args.vaddr c.load-answer.new.page.main c.args.meta.now (subst (λ (n : ℕ). c.args.vaddr < n) (sym c.requires.count) c.requires.within),
 )
+
+pub load-answer-requires-clause-stored : goal.load-answer-requires-clause-stored
+load-answer-requires-clause-stored g c = c.requires.stored (none-of _ (sym c.resident.ensures ∙ c.if-resident.false))

@@ -1,4 +1,4 @@
-use Rattle.std.proofs.Common.{◌≡◌, ◌+◌, ◌<◌, subst, sym, ◌∙◌, length, arith, false, ℕ}
+use Rattle.std.proofs.Common.{◌<◌, subst, sym, arith, ℕ}
 use Rattle.nl_meta.proofs.Kept.{count-less, resident-below}
 use Rattle.nl_meta.proofs.meta.drop_place.Goals as goal
 

@@ -1,7 +1,6 @@
-use Rattle.std.proofs.Common.{◌≡◌, ◌<◌, ℕ, get_or, take, IsSome}
-use Rattle.nl_field.specs.Members.{Has}
+use Rattle.std.proofs.Common.{◌≡◌, ◌<◌, ℕ, get_or, IsSome}
 use Rattle.nl_meta.specs.Pages.{page_of}
-use Rattle.nl_namespace.specs.Running.{RunsOn}
+use Rattle.nl_running.specs.Running.{RunsOn}
 use Rattle.nl_namespace.proofs.hold.hold_entries.Given as goal
 
 abbrev pub invariant-loop-row : goal.invariant-loop-row
@@ -9,5 +8,5 @@ invariant-loop-row g l = record {
   formed : g.D.Counts.formed l.device;
   kept : RunsOn g.D.Counts l.initial.device l.initial.meta l.device l.meta;
   faults : g.D.Counts.read_faults l.device ≡ g.D.Counts.read_faults l.initial.device;
-  there : (i : ℕ) → i < l.row → IsSome (page_of l.meta (get_or l.rec.addresses i 0)) × Has (take l.row l.meta.recent) (get_or l.rec.addresses i 0);
+  there : (i : ℕ) → i < l.row → IsSome (page_of l.meta (get_or l.rec.addresses i 0));
 }

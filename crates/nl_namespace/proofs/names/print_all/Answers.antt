@@ -8,10 +8,10 @@ use Rattle.nl_meta.specs.Nodes.{entries_of_inode}
 use Rattle.nl_dir.proofs.LawProofs.{entries_in_order}
 use Rattle.nl_dir.proofs.Records.{spelled-dir}
 use Rattle.nl_namespace.specs.Listing.{IsListing, IsNext, is_after, text_of}
-use Rattle.nl_namespace.specs.Running.{running_on}
+use Rattle.nl_running.specs.Running.{running_on}
 use Rattle.nl_namespace.proofs.Graphs.{graph}
-use Rattle.nl_namespace.proofs.Holds.{bounds-of, none-runs}
-use Rattle.nl_namespace.proofs.Kept.{kept-then, runs-then, used-on}
+use Rattle.nl_running.proofs.Holds.{bounds-of, none-runs}
+use Rattle.nl_running.proofs.Kept.{kept-then, runs-then, used-on}
 use Rattle.nl_namespace.proofs.Printed.{PrintedTo, all-printed, count-all, fewer-left, none-left, none-printed, printed-more}
 use Rattle.nl_namespace.proofs.Texts.{directory-of, entries-on, graph-on, names-differ}
 use Rattle.nl_namespace.proofs.names.print_all.Goals as goal

@@ -1,7 +1,7 @@
 use Rattle.std.proofs.Common.{◌≡◌, ◌+◌, ◌*◌, ◌≤◌, length}
 use Rattle.nl_meta.specs.Nodes.{entries_of_inode}
 use Rattle.nl_namespace.specs.Listing.{is_after}
-use Rattle.nl_namespace.specs.Running.{RunsOn, running_on}
+use Rattle.nl_running.specs.Running.{RunsOn, running_on}
 use Rattle.nl_namespace.proofs.Graphs.{graph}
 use Rattle.nl_namespace.proofs.Printed.{PrintedTo, count_of}
 use Rattle.nl_namespace.proofs.names.print_all.Given as goal

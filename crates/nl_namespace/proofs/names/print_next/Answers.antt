@@ -6,8 +6,8 @@ use Rattle.nl_meta.proofs.AddressProofs.{inode_spelled}
 use Rattle.nl_dir.proofs.Records.{spelled-dir}
 use Rattle.nl_namespace.specs.Listing.{kind_mark, text_of}
 use Rattle.nl_namespace.proofs.Graphs.{graph}
-use Rattle.nl_namespace.proofs.Holds.{bounds-of}
-use Rattle.nl_namespace.proofs.Kept.{kept-then, runs-then, used-back, used-on}
+use Rattle.nl_running.proofs.Holds.{bounds-of}
+use Rattle.nl_running.proofs.Kept.{kept-then, runs-then, used-back, used-on}
 use Rattle.nl_namespace.proofs.Texts.{listed-used, one-text}
 use Rattle.nl_namespace.proofs.names.print_next.Goals as goal
 

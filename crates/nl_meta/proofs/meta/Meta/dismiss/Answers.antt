@@ -1,4 +1,4 @@
-use Rattle.std.proofs.Common.{◌≡◌, List, Bool, ℕ, IsSome, false, ap, subst, sym, ◌∙◌, length, filter, map, take}
+use Rattle.std.proofs.Common.{List, Bool, IsSome, ap, subst, sym, ◌∙◌, length, filter, map, take}
 use Rattle.nl_meta.specs.Inside.{IsKept, slots}
 use Rattle.nl_meta.specs.Pages.{Pages, is_dirty, page_of}
 use Rattle.nl_meta.specs.Steps.{without_page}

@@ -1,0 +1,10 @@
+pub mod Choices
+pub mod FreeLists
+pub mod HoldingSteps
+pub mod InWords
+pub mod LawProofs
+pub mod Lists
+pub mod MarkSteps
+pub mod OpeningStep
+pub mod TableSteps
+pub mod Words

@@ -1,0 +1,5 @@
+pub mod Examples
+pub mod Holding
+pub mod Laws
+pub mod Lists
+pub mod Opening

@@ -1,0 +1,5 @@
+pub mod FileLaws
+pub mod Holding
+pub mod Reading
+pub mod Running
+pub mod RunningLaws
