@@ -29,6 +29,18 @@ range-more n = range-grows 0 n n 1 (omega arith)
 abbrev pub upto : {X : Type 0} → (ℕ → List X) → ℕ → List X
 upto f n = flat_map f (range_with_len 0 n)
 
+pub grows : {X : Type 0} (f : ℕ → List X) (n : ℕ) → upto f (n + 1) ≡ upto f n ++ f n
+grows {X} f n = ap (flat_map f) (range-more n) ∙ flat_map-append f (range_with_len 0 n) (n ∷ []) ∙ ap (λ (ys : List X). upto f n ++ ys) (end (f n))
+  where
+    end : (ys : List X) → ys ++ [] ≡ ys
+    end [] = refl
+    end (y ∷ ys) = ap (λ zs. y ∷ zs) (end ys)
+
+pub splits : {X : Type 0} (f : ℕ → List X) (n all : ℕ) → n < all → upto f all ≡ (upto f n ++ f n) ++ flat_map f (range_with_len (n + 1) (all - n - 1))
+splits f n all h =
+    ap (flat_map f) (range-split n all h) ∙ flat_map-append f (range_with_len 0 n) (n ∷ range_with_len (n + 1) (all - n - 1))
+    ∙ sym (append_assoc (upto f n) (f n) (flat_map f (range_with_len (n + 1) (all - n - 1))))
+
 -- ---- lists that are joined
 
 module _ {X S : Type 0} (bad : S → X → Bool) (next : S → X → S) where
@@ -97,24 +109,12 @@ module _ {X S : Type 0} (bad : S → X → Bool) (next : S → X → S) (place :
       by (Some x) is e = e ∙ sym (ap (option_map place) (some-append bad next s xs ys x is))
 
   module _ (f : ℕ → List X) where
-    upto-more : (n : ℕ) → upto f (n + 1) ≡ upto f n ++ f n
-    upto-more n = ap (flat_map f) (range-more n) ∙ flat_map-append f (range_with_len 0 n) (n ∷ []) ∙ ap (λ (ys : List X). upto f n ++ ys) (end (f n))
-      where
-        end : (ys : List X) → ys ++ [] ≡ ys
-        end [] = refl
-        end (y ∷ ys) = ap (λ zs. y ∷ zs) (end ys)
-
-    upto-split : (n all : ℕ) → n < all → upto f all ≡ (upto f n ++ f n) ++ flat_map f (range_with_len (n + 1) (all - n - 1))
-    upto-split n all h =
-        ap (flat_map f) (range-split n all h) ∙ flat_map-append f (range_with_len 0 n) (n ∷ range_with_len (n + 1) (all - n - 1))
-        ∙ sym (append_assoc (upto f n) (f n) (flat_map f (range_with_len (n + 1) (all - n - 1))))
-
     pub upto-next : (s t u : S) (n : ℕ) → Goes s t (upto f n) None → Goes t u (f n) None → Goes s u (upto f (n + 1)) None
-    upto-next s t u n a b = subst (λ (xs : List X). Goes s u xs None) (sym (upto-more n)) (pass-then s t u (upto f n) (f n) None a b)
+    upto-next s t u n a b = subst (λ (xs : List X). Goes s u xs None) (sym (grows f n)) (pass-then s t u (upto f n) (f n) None a b)
 
     pub upto-stops : (s t u : S) (n all p : ℕ) → n < all → Goes s t (upto f n) None → Goes t u (f n) (Some p) → Goes s u (upto f all) (Some p)
     upto-stops s t u n all p h a b =
-        subst (λ (xs : List X). Goes s u xs (Some p)) (sym (upto-split n all h)) (pass-stop s u (upto f n ++ f n) _ p (pass-then s t u (upto f n) (f n) (Some p) a b))
+        subst (λ (xs : List X). Goes s u xs (Some p)) (sym (splits f n all h)) (pass-stop s u (upto f n ++ f n) _ p (pass-then s t u (upto f n) (f n) (Some p) a b))
 
 -- ---- looking back, and what was gathered
 

@@ -1,3 +1,5 @@
 pub mod Addresses
+pub mod Entries
 pub mod Phases
+pub mod Reaching
 pub mod Scanning

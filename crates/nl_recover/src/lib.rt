@@ -2,10 +2,14 @@
 #![tactic(auto)]
 
 mod addresses;
+mod entries;
 mod look;
 mod nodes;
+mod reach;
 mod stamps;
 
 pub use addresses::pages_fault;
+pub use entries::entry_fault;
 pub use nodes::{inode_fault, super_fault};
+pub use reach::reach_fault;
 pub use stamps::stamp_fault;
