@@ -17,10 +17,10 @@ use Rattle.nl_meta.specs.Committed.{VirtualMap}
 use Rattle.nl_meta.specs.Nodes.{address_of_place, bytes_of_place, inode_at, slot_in}
 use Rattle.nl_meta.specs.Walk.{EntryPlace, Naming, all_places, entry_fault, first_after, has_generation, is_bad_naming, is_bad_place, is_dir_kind, is_used_kind, naming_of, places_of, used_nodes}
 use Rattle.nl_meta.proofs.Lists.{map_none, member-map, member-some, none-any, none_some, some_in, true_false}
-use Rattle.nl_dir.proofs.PlaceFacts.{shown}
 use Rattle.nl_recover.specs.Entries.{Named, NamesSlot, PassesPlaces, dir_of_place, is_bad_among, is_bad_entry, named_by, place_there, places_in, with_entry, with_place}
 use Rattle.nl_recover.specs.Scanning.{first_with, gathered}
 use Rattle.nl_recover.proofs.AddressFacts.{of-nodes}
+use Rattle.nl_recover.proofs.PlacesThere.{place-is}
 use Rattle.nl_recover.proofs.Scans.{grows, pass-bad, pass-good, pass-nil, splits, upto}
 
 -- ---- tests
@@ -293,27 +293,14 @@ module _ (shape : Shape) (pages : VirtualMap) where
 
   -- ---- one place
 
-  pub place-absent : (n : ℕ) (rec : InodeRec) (i a : ℕ) → a ≡ address_of_place rec i → is_some (pages a) ≡ false → place_there pages n rec i ≡ []
-  place-absent n rec i a at gone =
-      ap (λ b. cond b (record { dir = n; is_entry = nat_lt i rec.size; bytes = bytes_of_place pages rec i } ∷ []) []) (ap (λ (v : ℕ). is_some (pages v)) (sym at) ∙ gone)
-
-  pub place-is : (n : ℕ) (rec : InodeRec) (i a : ℕ) (main : List ℕ) → a ≡ address_of_place rec i → pages a ≡ Some main
-      → place_there pages n rec i ≡ record { dir = n; is_entry = nat_lt i rec.size; bytes = slot_in 64 (i % 64) main } ∷ []
-  place-is n rec i a main at is =
-      ap (λ b. cond b (record { dir = n; is_entry = nat_lt i rec.size; bytes = bytes_of_place pages rec i } ∷ []) []) (ap is_some there)
-      ∙ ap (λ (bytes : List ℕ). record { dir = n; is_entry = nat_lt i rec.size; bytes = bytes } ∷ []) (shown pages rec i main there)
-    where
-      there : pages (address_of_place rec i) ≡ Some main
-      there = ap pages (sym at) ∙ is
-
   pub place-bad : (n : ℕ) (rec : InodeRec) (i a : ℕ) (main : List ℕ) (s t : Named) → a ≡ address_of_place rec i → pages a ≡ Some main
       → NamesSlot shape pages s t (nat_lt i rec.size) (slot_in 64 (i % 64) main) true → PassesPlaces shape pages s t (place_there pages n rec i) (Some n)
   place-bad n rec i a main s t at is names =
-      subst (λ (ps : List EntryPlace). PassesPlaces shape pages s t ps (Some n)) (sym (place-is n rec i a main at is))
+      subst (λ (ps : List EntryPlace). PassesPlaces shape pages s t ps (Some n)) (sym (place-is pages n rec i a at main is))
       (pass-bad (is_bad_among shape pages) with_place dir_of_place s t (record { dir = n; is_entry = nat_lt i rec.size; bytes = slot_in 64 (i % 64) main }) (sym names.answer))
 
   pub place-good : (n : ℕ) (rec : InodeRec) (i a : ℕ) (main : List ℕ) (s t : Named) → a ≡ address_of_place rec i → pages a ≡ Some main
       → NamesSlot shape pages s t (nat_lt i rec.size) (slot_in 64 (i % 64) main) false → PassesPlaces shape pages s t (place_there pages n rec i) None
   place-good n rec i a main s t at is names =
-      subst (λ (ps : List EntryPlace). PassesPlaces shape pages s t ps None) (sym (place-is n rec i a main at is))
+      subst (λ (ps : List EntryPlace). PassesPlaces shape pages s t ps None) (sym (place-is pages n rec i a at main is))
       (pass-good (is_bad_among shape pages) with_place dir_of_place s t (record { dir = n; is_entry = nat_lt i rec.size; bytes = slot_in 64 (i % 64) main }) (sym names.answer) (names.named refl))

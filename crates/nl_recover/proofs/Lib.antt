@@ -2,6 +2,7 @@ pub mod AddressFacts
 pub mod EntryFacts
 pub mod Firsts
 pub mod LookFacts
+pub mod PlacesThere
 pub mod PointerPages
 pub mod ReachFacts
 pub mod Scans

@@ -1,9 +1,9 @@
 -- The nodes that a walk with a queue marks are those that a chain of entries reaches.
-use Rattle.std.proofs.Common.{◌≡◌, ◌≢◌, ℕ, zero, suc, ◌+◌, ◌-◌, ◌%◌, ◌<◌, ◌≤◌, Bool, true, false, not, ◌&&◌, ◌||◌, cond, List, [], ◌∷◌, ◌++◌, length, map, filter, filter_map, flat_map, find, replicate, get_or, set, refl, sym, ap, subst, ◌∙◌, Option, Some, None, option_map, is_some, ◌⊎◌, inl, inr, arith, ◌==◌, nat_lt, length-append}
-use Rattle.std.proofs.lemmas.Bool.{and_from, and_parts, cases_Bool, cases_eq, cases_lt, eq-eqb, eqb-true, le-ltb, lt-ltb, ltb-true, not-false, not-true, or_cases, or_left, or_right}
+use Rattle.std.proofs.Common.{◌≡◌, ◌≢◌, ℕ, zero, suc, ◌+◌, ◌-◌, ◌<◌, ◌≤◌, Bool, true, false, not, ◌&&◌, ◌||◌, cond, List, [], ◌∷◌, ◌++◌, length, map, filter, filter_map, flat_map, find, replicate, get_or, set, refl, sym, ap, subst, ◌∙◌, Option, Some, None, option_map, ◌⊎◌, inl, inr, arith, ◌==◌, nat_lt, length-append}
+use Rattle.std.proofs.lemmas.Bool.{and_from, and_parts, cases_Bool, cases_eq, cases_lt, eq-eqb, eqb-true, lt-ltb, ltb-true, not-false, not-true, or_cases, or_left, or_right}
 use Rattle.std.proofs.lemmas.List.{get_or-set_other, get_or-set_same, length-replicate, length-set}
 use Rattle.std.proofs.lemmas.List.Elements.{filter_map-append}
-use Rattle.std.specs.Prelude.{option_to_list}
+use Rattle.std.proofs.lemmas.Option.{get_or_from_slice_get, slice_get_read}
 use Rattle.std.specs.List.{cons_option, list_any, range_with_len}
 use Rattle.nl_field.specs.EntryRecord.{entry_of}
 use Rattle.nl_field.specs.Members.{Has}
@@ -11,14 +11,14 @@ use Rattle.nl_field.specs.declared.entry.EntryRec.{EntryRec}
 use Rattle.nl_field.specs.declared.inode.InodeRec.{InodeRec}
 use Rattle.nl_field.specs.declared.shape.Shape.{Shape}
 use Rattle.nl_meta.specs.Committed.{VirtualMap}
-use Rattle.nl_meta.specs.Nodes.{address_of_place, inode_at, slot_in}
+use Rattle.nl_meta.specs.Nodes.{inode_at}
 use Rattle.nl_meta.specs.Walk.{EntryPlace, Naming, all_places, is_reached, is_used_kind, naming_of, reach_fault, used_nodes}
 use Rattle.nl_meta.proofs.Kept.{count-more, count-none}
 use Rattle.nl_meta.proofs.Lists.{any_member, flat-member, member-flat, member-range, member-some, member_any, none_some, range-member, some-member, some_in, true_false}
-use Rattle.nl_recover.specs.Entries.{place_there, places_in}
+use Rattle.nl_recover.specs.Entries.{places_in}
 use Rattle.nl_recover.specs.Reaching.{Reached, is_used_record, reached_by, target_of, targets_of, with_node}
 use Rattle.nl_recover.specs.Scanning.{gathered}
-use Rattle.nl_recover.proofs.EntryFacts.{dirs, listed, of_number, place-absent, place-is}
+use Rattle.nl_recover.proofs.EntryFacts.{dirs, listed, of_number}
 use Rattle.nl_recover.proofs.Firsts.{find-filter, first_in_range, none_in_range}
 use Rattle.nl_recover.proofs.Scans.{gathered-append, grows, upto}
 
@@ -59,7 +59,7 @@ module _ (ns : List Naming) where
 -- ---- entries and what they name
 
 target-spelled : (d : ℕ) (b : Bool) (o : Option EntryRec) (t : ℕ) → cond b (option_map (λ e. e.ino) o) None ≡ Some t
-    → (e : EntryRec) × (cond b (option_map (λ e. (d, e)) o) None ≡ Some (d, e)) × (e.ino ≡ t)
+    → (e : EntryRec) × (cond b (option_map {U = Naming} (λ e. (d, e)) o) None ≡ Some (d, e)) × (e.ino ≡ t)
 target-spelled d true None t e = absurd (none_some t e)
 target-spelled d true (Some r) t e = (r, refl, some_in _ _ e)
 target-spelled d false o t e = absurd (none_some t e)
@@ -208,7 +208,7 @@ module _ (shape : Shape) (pages : VirtualMap) where
           grows = r2.1;
           named = λ u mu _. elim mu as (λ mu. get_or (set s.marks t true) u false ≡ true) [
               | inl is ↦ ap (λ (k : ℕ). get_or (set s.marks t true) k false) (sym is) ∙ get_or-set_same s.marks t true false (subst (λ (n : ℕ). t < n) (sym r.size) inside)
-              | inr no ↦ absurd no
+              | inr other ↦ absurd other
             ];
         })
       by (inr e) = subst (λ b. Visits h (t ∷ []) s (cond b (pushed s t) s)) (sym e) (record {
@@ -216,7 +216,7 @@ module _ (shape : Shape) (pages : VirtualMap) where
         grows = stays s;
         named = λ u mu u_in. elim mu as (λ mu. get_or s.marks u false ≡ true) [
             | inl is ↦ ap (λ (k : ℕ). get_or s.marks k false) (sym is) ∙ already s t (subst (λ (k : ℕ). k < shape.nodes) (sym is) u_in) e
-            | inr no ↦ absurd no
+            | inr other ↦ absurd other
           ];
       })
 
@@ -343,16 +343,16 @@ module _ (shape : Shape) (pages : VirtualMap) where
   abbrev pub is_used_at : ℕ → Bool
   is_used_at n = is_used_record (inode_at pages n)
 
-  used-one : (n : ℕ) (rest : List (ℕ × InodeRec)) (ns : List ℕ) → map (λ x. x.0) (filter (λ x. is_used_kind x.1.kind) rest) ≡ ns
-      → (o : Option InodeRec) → map (λ x. x.0) (filter (λ x. is_used_kind x.1.kind) (cons_option (option_map (λ rec. (n, rec)) o) rest)) ≡ cond (is_used_record o) (n ∷ ns) ns
+  used-one : (n : ℕ) (rest : List (ℕ × InodeRec)) (ns : List ℕ) → map (λ (x : ℕ × InodeRec). x.0) (filter (λ x. is_used_kind x.1.kind) rest) ≡ ns
+      → (o : Option InodeRec) → map (λ (x : ℕ × InodeRec). x.0) (filter (λ x. is_used_kind x.1.kind) (cons_option (option_map (λ rec. (n, rec)) o) rest)) ≡ cond (is_used_record o) (n ∷ ns) ns
   used-one n rest ns is None = is
   used-one n rest ns is (Some rec) =
-      elim (is_used_kind rec.kind) as (λ b. map (λ x. x.0) (cond b ((n, rec) ∷ filter (λ x. is_used_kind x.1.kind) rest) (filter (λ x. is_used_kind x.1.kind) rest)) ≡ cond b (n ∷ ns) ns) [
+      elim (is_used_kind rec.kind) as (λ b. map (λ (x : ℕ × InodeRec). x.0) (cond b ((n, rec) ∷ filter (λ x. is_used_kind x.1.kind) rest) (filter (λ x. is_used_kind x.1.kind) rest)) ≡ cond b (n ∷ ns) ns) [
         | true ↦ ap (λ (ms : List ℕ). n ∷ ms) is
         | false ↦ is
       ]
 
-  used-numbers : (ns : List ℕ) → map (λ x. x.0) (filter (λ x. is_used_kind x.1.kind) (filter_map (λ n. option_map (λ rec. (n, rec)) (inode_at pages n)) ns)) ≡ filter is_used_at ns
+  used-numbers : (ns : List ℕ) → map (λ (x : ℕ × InodeRec). x.0) (filter (λ x. is_used_kind x.1.kind) (filter_map (λ n. option_map (λ rec. (n, rec)) (inode_at pages n)) ns)) ≡ filter is_used_at ns
   used-numbers [] = refl
   used-numbers (n ∷ ns) = used-one n (filter_map (λ n. option_map (λ rec. (n, rec)) (inode_at pages n)) ns) (filter is_used_at ns) (used-numbers ns) (inode_at pages n)
 
@@ -380,31 +380,6 @@ module _ (shape : Shape) (pages : VirtualMap) where
 
   -- ---- one directory, place by place
 
-  single : {X : Type 0} (o : Option X) → cons_option o [] ≡ option_to_list o
-  single None = refl
-  single (Some x) = refl
-
-  pub target-here : (n : ℕ) (rec : InodeRec) (i a : ℕ) (main : List ℕ) → a ≡ address_of_place rec i → pages a ≡ Some main
-      → filter_map target_of (place_there pages n rec i) ≡ option_to_list (cond (nat_lt i rec.size) (option_map (λ e. e.ino) (entry_of (slot_in 64 (i % 64) main))) None)
-  target-here n rec i a main at is =
-      ap (filter_map target_of) (place-is shape pages n rec i a main at is) ∙ single (cond (nat_lt i rec.size) (option_map (λ e. e.ino) (entry_of (slot_in 64 (i % 64) main))) None)
-
-  pub none-here : (n : ℕ) (rec : InodeRec) (i a : ℕ) → a ≡ address_of_place rec i → is_some (pages a) ≡ false → [] ≡ filter_map target_of (place_there pages n rec i)
-  none-here n rec i a at gone = sym (ap (filter_map target_of) (place-absent shape pages n rec i a at gone))
-
-  pub behind-here : (n : ℕ) (rec : InodeRec) (i a : ℕ) (main : List ℕ) → a ≡ address_of_place rec i → pages a ≡ Some main → rec.size ≤ i → [] ≡ filter_map target_of (place_there pages n rec i)
-  behind-here n rec i a main at is h =
-      sym (target-here n rec i a main at is ∙ ap (λ b. option_to_list (cond b (option_map (λ (e : EntryRec). e.ino) (entry_of (slot_in 64 (i % 64) main))) None)) (le-ltb-false i rec.size h))
-    where
-      le-ltb-false : (i n : ℕ) → n ≤ i → nat_lt i n ≡ false
-      le-ltb-false i n h = le-ltb n i h
-
-  pub entry-here : (n : ℕ) (rec : InodeRec) (i a : ℕ) (main : List ℕ) (o : Option EntryRec) → a ≡ address_of_place rec i → pages a ≡ Some main → i < rec.size → o ≡ entry_of (slot_in 64 (i % 64) main)
-      → option_to_list (option_map (λ e. e.ino) o) ≡ filter_map target_of (place_there pages n rec i)
-  entry-here n rec i a main o at is h e =
-      sym (target-here n rec i a main at is ∙ ap (λ b. option_to_list (cond b (option_map (λ (e : EntryRec). e.ino) (entry_of (slot_in 64 (i % 64) main))) None)) (lt-ltb i rec.size h)
-      ∙ ap (λ (o : Option EntryRec). option_to_list (option_map (λ e. e.ino) o)) (sym e))
-
   pub places-step : (f : ℕ → List EntryPlace) (n : ℕ) (s t u : Reached) → t ≡ gathered (with_node shape.nodes) s (filter_map target_of (upto f n))
       → u ≡ gathered (with_node shape.nodes) t (filter_map target_of (f n)) → u ≡ gathered (with_node shape.nodes) s (filter_map target_of (upto f (n + 1)))
   places-step f n s t u a b =
@@ -419,3 +394,18 @@ module _ (shape : Shape) (pages : VirtualMap) where
   pub one-named : (s u : Reached) (t : ℕ) (ts : List ℕ) → t ∷ [] ≡ ts → u ≡ with_node shape.nodes s t → u ≡ gathered (with_node shape.nodes) s ts
   unfolding gathered
   one-named s u t ts e is = is ∙ ap (gathered (with_node shape.nodes) s) e
+
+unset : (n k : ℕ) → get_or (replicate n false) k false ≡ false
+unset zero k = refl
+unset (suc n) zero = refl
+unset (suc n) (suc k) = unset n k
+
+pub begins : (shape : Shape) (pages : VirtualMap) (marks : List Bool) (queue : List ℕ) → 0 < shape.nodes → marks ≡ replicate shape.nodes false → queue ≡ 0 ∷ []
+    → Reaches shape pages 0 (reached_by (set marks 0 true) queue)
+begins shape pages marks queue some is at =
+    subst (λ (l : List ℕ). Reaches shape pages 0 (reached_by (set marks 0 true) l)) (sym at)
+    (at-root shape pages marks (ap length is ∙ length-replicate shape.nodes false) (λ k. ap (λ (l : List Bool). get_or l k false) is ∙ unset shape.nodes k)
+    (ap (λ (l : List Bool). length (filter (λ b. b) l)) is ∙ count-none shape.nodes) some)
+
+pub read-at : (xs : List ℕ) (i x : ℕ) → i < length xs → x ≡ get_or xs i x → x ≡ get_or xs i 0
+read-at xs i x h e = sym (get_or_from_slice_get xs i x 0 (slice_get_read xs (length xs) i x refl h e))

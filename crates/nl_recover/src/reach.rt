@@ -1,4 +1,4 @@
-ghost use Rattle.std.specs.Prelude.{◌≡◌, ◌<◌, ◌&&◌, ℕ, false, not, filter_map, length, slice_index_or, IfOk, IsTrue, OnOk, option_to_list};
+ghost use Rattle.std.specs.Prelude.{◌≡◌, ◌<◌, ◌&&◌, ℕ, false, not, filter_map, length, replicate, slice_index_or, IfOk, IsTrue, OnOk, option_to_list};
 ghost use Rattle.nl_field.specs.Inode.{is_inode};
 ghost use Rattle.nl_field.specs.Numbers.{ShapeBounds};
 ghost use Rattle.nl_meta.specs.Nodes.{inode_at};
@@ -49,7 +49,7 @@ fn reach(alloc: Global, shape: &Shape, meta: &Meta) -> Result<Vec<bool>, Memory>
     ensures size { IfOk result (λ v. length v.items ≡ shape.now.nodes) }
     ensures marks { IfOk result (λ v. (n : ℕ) → n < shape.now.nodes → slice_index_or v.items n false ≡ is_reached (filter_map naming_of (all_places shape.now (page_of meta.now))) shape.now.nodes n) }
 {
-    let mut marks = vec![in alloc; false; shape.nodes as usize]?;
+    let mut marks = unmarked(alloc, shape.nodes as usize)?;
     let mut queue = Vec::new(alloc);
     marks[0] = true;
     queue.push(0)?;
@@ -60,6 +60,12 @@ fn reach(alloc: Global, shape: &Shape, meta: &Meta) -> Result<Vec<bool>, Memory>
         next += 1;
     }
     Ok(marks)
+}
+
+fn unmarked(alloc: Global, count: usize) -> Result<Vec<bool>, Memory>
+    ensures { IfOk result (λ v. v.items ≡ replicate count false) }
+{
+    Ok(vec![in alloc; false; count]?)
 }
 
 // Marks the nodes that the entries of a directory name.
