@@ -1,6 +1,7 @@
 pub mod AddressFacts
 pub mod EntryFacts
 pub mod Firsts
+pub mod HeldFacts
 pub mod LookFacts
 pub mod PlacesThere
 pub mod PointerPages

@@ -9,7 +9,7 @@ use Rattle.nl_recover.specs.Scanning.{Passes, first_with, gathered}
 
 -- ---- ranges
 
-range-grows : (a b n k : ℕ) → b ≡ a + n → range_with_len a (n + k) ≡ range_with_len a n ++ range_with_len b k
+pub range-grows : (a b n k : ℕ) → b ≡ a + n → range_with_len a (n + k) ≡ range_with_len a n ++ range_with_len b k
 range-grows a b zero k e = ap (λ (m : ℕ). range_with_len a m) (omega arith) ∙ ap (λ (m : ℕ). range_with_len m k) (omega (arith, e))
 range-grows a b (suc n) k e = ap (λ (m : ℕ). range_with_len a m) at ∙ ap (λ (ms : List ℕ). a ∷ ms) (range-grows (a + 1) b n k (omega (arith, e)))
   where

@@ -3,13 +3,17 @@
 
 mod addresses;
 mod entries;
+mod held;
 mod look;
 mod nodes;
 mod reach;
 mod stamps;
+mod walk;
 
 pub use addresses::pages_fault;
 pub use entries::entry_fault;
+pub use held::held_pointers;
 pub use nodes::{inode_fault, super_fault};
 pub use reach::reach_fault;
 pub use stamps::stamp_fault;
+pub use walk::{Outcome, walk_pages};
