@@ -2,7 +2,7 @@
 use Rattle.std.proofs.Common.{◌≡◌, ℕ, ◌+◌, ◌<◌, Bool, true, false, not, ◌&&◌, ◌||◌, cond, List, [], ◌∷◌, ◌++◌, length, take, drop, map, filter, filter_map, flat_map, get_or, set, refl, sym, ap, subst, ◌∙◌, Option, Some, None, option_map, is_none, if◌then◌else◌, ◌⊎◌, inl, inr, arith, ◌==◌, nat_le, nat_lt}
 use Rattle.std.proofs.lemmas.Bool.{and_parts, cases_Bool, cases_eq, eq-eqb, ltb-true, ne_eqb, not-false, or_parts}
 use Rattle.std.proofs.lemmas.List.Elements.{filter-append, filter_more}
-use Rattle.std.proofs.lemmas.List.{ get_or-set_other, get_or-set_same, length-set, map-append, take-append-drop}
+use Rattle.std.proofs.lemmas.List.{get_or-set_other, get_or-set_same, length-set, map-append, take-append-drop}
 use Rattle.std.specs.List.{cons_option, list_any, range_with_len}
 use Rattle.nl_field.specs.Pointers.{indirect_of}
 use Rattle.nl_field.specs.declared.inode.InodeRec.{InodeRec}

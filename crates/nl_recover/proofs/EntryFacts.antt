@@ -146,8 +146,7 @@ module _ (shape : Shape) (pages : VirtualMap) where
       × NamesAgree n (filter_map naming_of (onto ps (p ∷ earlier))) (gathered with_place (with_place s p) ps)) [
         | true ↦ λ _ e. absurd (none_some p (sym e))
         | false ↦ λ good e.
-            let r = run-none n (p ∷ earlier) (with_place s p) ps (place-more n earlier s p agree (in_dir p (inl refl)) good) (λ p m. in_dir p (inr m)) e in
-            (
+            let r = run-none n (p ∷ earlier) (with_place s p) ps (place-more n earlier s p agree (in_dir p (inl refl)) good) (λ p m. in_dir p (inr m)) e in (
               (λ qs. ap (λ b. cond b (Some p) (first_after (is_bad_place shape pages) (p ∷ earlier) (ps ++ qs))) (same-place n earlier s p agree (in_dir p (inl refl)) ∙ good) ∙ r.0 qs),
               r.1,
             )

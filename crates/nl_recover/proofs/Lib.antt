@@ -8,3 +8,4 @@ pub mod PointerPages
 pub mod ReachFacts
 pub mod Scans
 pub mod StampFacts
+pub mod WalkFacts

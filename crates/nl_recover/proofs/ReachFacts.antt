@@ -200,24 +200,24 @@ module _ (shape : Shape) (pages : VirtualMap) where
     where
       by : ((nat_lt t shape.nodes && not (get_or s.marks t false)) ≡ true) ⊎ ((nat_lt t shape.nodes && not (get_or s.marks t false)) ≡ false) → Visits h (t ∷ []) s (with_node shape.nodes s t)
       by (inl e) = subst (λ b. Visits h (t ∷ []) s (cond b (pushed s t) s)) (sym e) (
-        let p = and_parts (nat_lt t shape.nodes) _ e in
-        let inside = ltb-true _ _ p.0 in
-        let r2 = push h t s r below m inside (not-true _ p.1) in
-        record {
-          reaches = r2.0;
-          grows = r2.1;
-          named = λ u mu _. elim mu as (λ mu. get_or (set s.marks t true) u false ≡ true) [
+          let p = and_parts (nat_lt t shape.nodes) _ e in
+          let inside = ltb-true _ _ p.0 in
+          let r2 = push h t s r below m inside (not-true _ p.1) in
+          record {
+            reaches = r2.0;
+            grows = r2.1;
+            named = λ u mu _. elim mu as (λ mu. get_or (set s.marks t true) u false ≡ true) [
               | inl is ↦ ap (λ (k : ℕ). get_or (set s.marks t true) k false) (sym is) ∙ get_or-set_same s.marks t true false (subst (λ (n : ℕ). t < n) (sym r.size) inside)
               | inr other ↦ absurd other
             ];
-        })
+          })
       by (inr e) = subst (λ b. Visits h (t ∷ []) s (cond b (pushed s t) s)) (sym e) (record {
         reaches = r;
         grows = stays s;
         named = λ u mu u_in. elim mu as (λ mu. get_or s.marks u false ≡ true) [
-            | inl is ↦ ap (λ (k : ℕ). get_or s.marks k false) (sym is) ∙ already s t (subst (λ (k : ℕ). k < shape.nodes) (sym is) u_in) e
-            | inr other ↦ absurd other
-          ];
+          | inl is ↦ ap (λ (k : ℕ). get_or s.marks k false) (sym is) ∙ already s t (subst (λ (k : ℕ). k < shape.nodes) (sym is) u_in) e
+          | inr other ↦ absurd other
+        ];
       })
 
   then-grows : (s u v : Reached) → Grows s u → Grows u v → Grows s v
@@ -243,9 +243,9 @@ module _ (shape : Shape) (pages : VirtualMap) where
         reaches = rest.reaches;
         grows = then-grows s (with_node shape.nodes s t) _ v.grows rest.grows;
         named = λ u m u_in. elim m as (λ m. get_or (gathered (with_node shape.nodes) (with_node shape.nodes s t) ts).marks u false ≡ true) [
-            | inl is ↦ rest.grows.marked u (v.named u (inl is) u_in)
-            | inr m ↦ rest.named u m u_in
-          ];
+          | inl is ↦ rest.grows.marked u (v.named u (inl is) u_in)
+          | inr m ↦ rest.named u m u_in
+        ];
       }
 
   -- one directory of the queue more is done

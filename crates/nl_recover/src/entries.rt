@@ -131,7 +131,15 @@ fn place_fault(
         return Ok(None);
     }
     let is_entry = (place as u64) < rec.size;
-    match slot_fault(shape, meta, nodes, names, meta.page(address), place % 64, is_entry) {
+    match slot_fault(
+        shape,
+        meta,
+        nodes,
+        names,
+        meta.page(address),
+        place % 64,
+        is_entry,
+    ) {
         Ok(true) => Ok(Some(ino)),
         Ok(false) => Ok(None),
         Err(memory) => Err(memory),

@@ -10,5 +10,5 @@ abbrev pub invariant-loop-place : goal.invariant-loop-place
 invariant-loop-place l = record {
   size : length l.marks.items ≡ length l.initial.marks.items;
   visited : reached_by l.marks.items l.queue.items
-  ≡ gathered (with_node l.shape.nodes) (reached_by l.initial.marks.items l.initial.queue.items) (filter_map target_of (upto (place_there (page_of l.meta) l.dir l.rec) l.place));
+      ≡ gathered (with_node l.shape.nodes) (reached_by l.initial.marks.items l.initial.queue.items) (filter_map target_of (upto (place_there (page_of l.meta) l.dir l.rec) l.place));
 }
