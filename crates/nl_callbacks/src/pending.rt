@@ -148,6 +148,23 @@ impl Pending {
         }
     }
 
+    /// The least number of a pending callback above this one. None exactly where there is none.
+    pub fn above(&self, number: u64) -> Option<u64>
+        ensures some { IfSome result (IsPending self.now.callbacks) }
+        ensures above { IfSome result (λ next. number < next) }
+        ensures least { IfSome result (λ next. (other : ℕ) → IsPending self.now.callbacks other → number < other → next ≤ other) }
+        ensures none { IfNone result ((other : ℕ) → IsPending self.now.callbacks other → other ≤ number) }
+    {
+        if number >= self.posted {
+            return None;
+        }
+        let at = entry_place(&self.entries, number + 1);
+        if at == self.entries.len() {
+            return None;
+        }
+        Some(self.entries[at].callback.number)
+    }
+
     /// The least number of a callback that was not handled. None exactly where none is unhandled.
     pub fn least(&self) -> Option<u64>
         ensures some { IfSome result (IsWaiting self.now.callbacks) }

@@ -8,7 +8,6 @@ use Rattle.nl_field.specs.declared.pointer.Pointer.{Pointer}
 use Rattle.nl_field.specs.declared.shape.Shape.{Shape}
 use Rattle.nl_nand.specs.Nand.{ImageOf}
 use Rattle.nl_nand.specs.declared.geometry.Geometry.{Geometry}
-use Rattle.nl_iface.specs.Left.{HoldsLive}
 use Rattle.nl_iface.specs.Names.{has_stamp, leads}
 use Rattle.nl_iface.specs.Stored.{NamedPage, Stored, stored_in}
 use Rattle.nl_device.specs.Shown.{bytes_at, found_in, live_page, names_of}
@@ -16,7 +15,7 @@ use Rattle.nl_pseg.specs.Segment.{HasSpare, InSegment, IsLive, IsPhysicalOf, Phy
 use Rattle.nl_pseg.specs.declared.held.Held.{Held}
 use Rattle.nl_vseg.specs.Segment.{Segment}
 use Rattle.nl_device.specs.Kept.{KeptPages, forgotten}
-use Rattle.nl_device.specs.Device.{HasFound, HasLive, HasSegments, HasSpareBlock, IsDevice, IsOnMedium}
+use Rattle.nl_device.specs.Device.{HasFound, HasLive, HasSegments, HasSpareBlock, IsDevice, IsFoundStored, IsOnMedium}
 use Rattle.nl_device.proofs.Forms.{begins}
 use Rattle.nl_device.proofs.Laws.{names_are}
 use Rattle.nl_device.specs.Callbacks.{AreCalled}
@@ -56,9 +55,9 @@ found_still f rises = record { first = f.first; count = f.count; size = f.size; 
 found_none : (kept : KeptPages) (shape : Shape) (next after : ℕ) → HasFound shape kept next → HasFound shape (forgotten kept) after
 found_none kept shape next after f = record { first = f.first; count = f.count; size = f.size; below = λ i d within. absurd (omega (arith, within)) }
 
-none_stored : (kept : KeptPages) (bytes : ℕ → List ℕ) (c : Stored) → HoldsLive (found_in (forgotten kept)) bytes c
+none_stored : (kept : KeptPages) (bytes : ℕ → List ℕ) (c : Stored) → IsFoundStored (forgotten kept) bytes c
 unfolding found_in
-none_stored kept bytes c p page has = absurd (none-some page has)
+none_stored kept bytes c = record { holds = λ p page has. absurd (none-some page has); only = λ p none. inl refl }
 
 pub found_after : (kept left : KeptPages) (tried : Bool) → left ≡ cond tried (forgotten kept) kept → (shape : Shape) (next after : ℕ) → next ≤ after → HasFound shape kept next → HasFound shape left after
 found_after kept left tried is shape next after rises f = subst (λ k. HasFound shape k after) (sym is) (by tried)
@@ -67,20 +66,23 @@ found_after kept left tried is shape next after rises f = subst (λ k. HasFound 
     by true = found_none kept shape next after f
     by false = found_still f rises
 
-pub stored_after : (kept left : KeptPages) (tried : Bool) → left ≡ cond tried (forgotten kept) kept → (bytes : ℕ → List ℕ) (c : Stored) → (tried ≡ false → HoldsLive (found_in kept) bytes c) → HoldsLive (found_in left) bytes c
-stored_after kept left tried is bytes c still = subst (λ k. HoldsLive (found_in k) bytes c) (sym is) (by tried refl)
+pub stored_after : (kept left : KeptPages) (tried : Bool) → left ≡ cond tried (forgotten kept) kept → (bytes : ℕ → List ℕ) (c : Stored) → (tried ≡ false → IsFoundStored kept bytes c) → IsFoundStored left bytes c
+stored_after kept left tried is bytes c still = subst (λ k. IsFoundStored k bytes c) (sym is) (by tried refl)
   where
-    by : (b : Bool) → tried ≡ b → HoldsLive (found_in (cond b (forgotten kept) kept)) bytes c
+    by : (b : Bool) → tried ≡ b → IsFoundStored (cond b (forgotten kept) kept) bytes c
     by true e = none_stored kept bytes c
     by false e = still e
 
 -- what was found is stored still, where the pages of the physical segment are as before
 pub found_beyond : (kept : KeptPages) (shape : Shape) (old new : Image) → ((p : ℕ) → (stored_in new).named p ≡ (stored_in old).named p) → ((p : ℕ) → bytes_at (shape.vblocks * shape.pages) new p ≡ bytes_at (shape.vblocks * shape.pages) old p)
-    → HoldsLive (found_in kept) (λ p. bytes_at (shape.vblocks * shape.pages) old p) (stored_in old) → HoldsLive (found_in kept) (λ p. bytes_at (shape.vblocks * shape.pages) new p) (stored_in new)
-found_beyond kept shape old new named bytes holds p page is = named p ∙ holds p page is ∙ (λ i. Some (record { tag = page.tag; stamp = page.stamp; bytes = sym (bytes p) i }))
+    → IsFoundStored kept (λ p. bytes_at (shape.vblocks * shape.pages) old p) (stored_in old) → IsFoundStored kept (λ p. bytes_at (shape.vblocks * shape.pages) new p) (stored_in new)
+found_beyond kept shape old new named bytes stored = record {
+  holds = λ p page is. named p ∙ stored.holds p page is ∙ (λ i. Some (record { tag = page.tag; stamp = page.stamp; bytes = sym (bytes p) i }));
+  only = λ p none. ⊎_elim (λ empty. inl empty) (λ nothing. inr (named p ∙ nothing)) (stored.only p none);
+}
 
 pub device_of : {geometry now : Geometry} {tells : Type 0} {image c : Image} {shape : Shape} {vseg : Segment} {old new : Physical} {pending now_pending : PendingTable} {kept left : KeptPages} {next after : ℕ} → IsDevice geometry tells image shape vseg old pending kept next
-    → HasSegments now shape vseg new → HasFound shape left after → (tells → HoldsLive (found_in left) (λ p. bytes_at (shape.vblocks * shape.pages) c p) (stored_in c)) → HasLive new → HasSpareBlock new → AreCalled new now_pending → next ≤ after → ((p : ℕ) (h : Held) → held_at new p ≡ Some h → h.stamp < after)
+    → HasSegments now shape vseg new → HasFound shape left after → (tells → IsFoundStored left (λ p. bytes_at (shape.vblocks * shape.pages) c p) (stored_in c)) → HasLive new → HasSpareBlock new → AreCalled new now_pending → next ≤ after → ((p : ℕ) (h : Held) → held_at new p ≡ Some h → h.stamp < after)
     → (tells → IsOnMedium shape after c vseg new) → IsDevice now tells c shape vseg new now_pending left after
 device_of f segments found stored live spare called rises stamps medium = record {
   segments = segments;
@@ -102,7 +104,7 @@ device_of f segments found stored live spare called rises stamps medium = record
 }
 
 pub device_with : {geometry now : Geometry} {tells : Type 0} {image c : Image} {shape : Shape} {vseg : Segment} {old new : Physical} {pending now_pending : PendingTable} {kept left : KeptPages} {next after : ℕ} → IsDevice geometry tells image shape vseg old pending kept next
-    → HasFound shape left after → (tells → HoldsLive (found_in left) (λ p. bytes_at (shape.vblocks * shape.pages) c p) (stored_in c)) → now ≡ geometry → SamePages old new → length new.held ≡ length old.held → HasLive new → HasSpareBlock new → AreCalled new now_pending → next ≤ after → ((p : ℕ) (h : Held) → held_at new p ≡ Some h → h.stamp < after)
+    → HasFound shape left after → (tells → IsFoundStored left (λ p. bytes_at (shape.vblocks * shape.pages) c p) (stored_in c)) → now ≡ geometry → SamePages old new → length new.held ≡ length old.held → HasLive new → HasSpareBlock new → AreCalled new now_pending → next ≤ after → ((p : ℕ) (h : Held) → held_at new p ≡ Some h → h.stamp < after)
     → (tells → IsOnMedium shape after c vseg new) → IsDevice now tells c shape vseg new now_pending left after
 device_with f found stored is same held live spare called rises stamps medium = device_of f (named_segments f.segments is same held) found stored live spare called rises stamps medium
 

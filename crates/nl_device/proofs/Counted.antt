@@ -1,5 +1,5 @@
 -- How many numbers of a range pass a test, and how many pages are live.
-use Rattle.std.proofs.Common.{◌≡◌, ℕ, zero, suc, ◌+◌, ◌<◌, ◌≤◌, Bool, true, false, cond, List, [], ◌∷◌, length, get_or, Option, Some, None, is_some, refl, sym, ◌∙◌, ap, arith, ⊎_elim}
+use Rattle.std.proofs.Common.{◌≡◌, ℕ, zero, suc, ◌+◌, ◌<◌, ◌≤◌, Bool, true, false, not, cond, List, [], ◌∷◌, length, get_or, Option, Some, None, is_some, refl, sym, ◌∙◌, ap, arith, ⊎_elim}
 use Rattle.std.specs.Prelude.{find}
 use Rattle.std.specs.List.{count_by, range_with_len}
 use Rattle.std.proofs.lemmas.Bool.{cases_Bool, cases_eq, cond-false, cond-true}
@@ -29,6 +29,19 @@ count_none f first (suc n) none =
     let here : bit (f first) ≡ 0 = ap bit (none first) in
     let rest = count_none f (first + 1) n none in
     omega (arith, count_next f first n, here, rest)
+
+-- what passes one test fails the other
+pub count_other : (f g : ℕ → Bool) (first n : ℕ) → ((x : ℕ) → first ≤ x → x < first + n → g x ≡ not (f x)) → count_by g (range_with_len first n) + count_by f (range_with_len first n) ≡ n
+count_other f g first zero other = refl
+count_other f g first (suc n) other =
+    let here : bit (g first) ≡ bit (not (f first)) = ap bit (other first (omega arith) (omega arith)) in
+    let one = either (f first) in
+    let rest = count_other f g (first + 1) n (λ x low high. other x (omega (arith, low)) (omega (arith, high))) in
+    omega (arith, count_next f first n, count_next g first n, here, one, rest)
+  where
+    either : (b : Bool) → bit (not b) + bit b ≡ 1
+    either true = refl
+    either false = refl
 
 -- one of the numbers passes no longer
 pub count_less : (f g : ℕ → Bool) (first n at : ℕ) → first ≤ at → at < first + n → ((x : ℕ) → (x ≡ at → ⊥) → g x ≡ f x) → g at ≡ false

@@ -5,7 +5,7 @@ use Rattle.std.specs.List.{cons_option, list_all, list_any, range_with_len}
 use Rattle.std.proofs.lemmas.List.Elements.{All-cons, All-nil}
 use Rattle.nl_field.specs.Medium.{Readable, first_physical, is_physical_rec, readable_pages, shape_of_image}
 use Rattle.nl_field.specs.Page.{Image}
-use Rattle.nl_field.specs.ScanList.{holds_seen, physical_seen, physical_spare_seen, place_seen, seen_of}
+use Rattle.nl_field.specs.ScanList.{holds_seen, is_lost_seen, owns_seen, physical_seen, physical_spare_seen, place_seen, seen_of}
 use Rattle.nl_field.specs.Space.{is_outside}
 use Rattle.nl_field.specs.SpareRecord.{stamp_of}
 use Rattle.nl_field.specs.declared.pointer.Pointer.{Pointer}
@@ -17,6 +17,7 @@ use Rattle.nl_field.specs.declared.spare.SpareRec.TheVariants.{Virtual, Physical
 use Rattle.nl_scan.specs.Tables.{IsTableOf, Table, greatest_stamp}
 use Rattle.nl_field.proofs.ScanLists.{each as listed}
 use Rattle.nl_device.specs.Kept.{KeptPages, has_stamp, kept_from, kept_of_scan, kept_pages, place_among, spare_among, with_record}
+use Rattle.nl_device.specs.Retain.{is_lost, owns_name}
 use Rattle.nl_device.specs.declared.kept.page.KeptPage.{KeptPage}
 use Rattle.nl_device.proofs.Gathered.{all_kept}
 
@@ -113,6 +114,16 @@ place_is shape seen spare p =
     let low = first_physical shape in
     λ i. cond (any_same low (λ page stamp. page == p.name && stamp == p.stamp) seen i && is_outside shape.pages spare p.name) (Some p.name)
     (find_same low (λ page stamp. stamp == p.stamp && is_outside shape.pages spare page) seen i)
+
+-- a pointer is lost, and owns its name, as the list tells
+pub lost_is : (shape : Shape) (seen : List Seen) (p : Pointer) → is_lost (kept_of_scan shape seen) p ≡ is_lost_seen shape seen p
+unfolding has_stamp holds_seen kept_pages physical_seen
+lost_is shape seen p = ap not (any_same (first_physical shape) (λ page stamp. page == p.name && stamp == p.stamp) seen)
+
+pub owns_is : (shape : Shape) (seen : List Seen) (p : Pointer) → owns_name (kept_of_scan shape seen) p ≡ owns_seen shape seen p
+unfolding has_stamp holds_seen owns_seen kept_pages physical_seen
+owns_is shape seen p =
+    λ i. any_same (first_physical shape) (λ page stamp. page == p.name && stamp == p.stamp) seen i || not (any_same (first_physical shape) (λ page stamp. page == p.name) seen i)
 
 -- what is kept of a scan of this image
 pub record IsOf (image : Image) (kept : KeptPages) : Type 0 where

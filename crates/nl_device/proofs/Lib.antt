@@ -1,13 +1,14 @@
 pub mod Agreed
 pub mod Alone
-pub mod Blanks
 pub mod Bounds
 pub mod Called
 pub mod Calls
+pub mod CallsMade
 pub mod Begun
 pub mod CopyLeft
 pub mod Counted
 pub mod Dropping
+pub mod FewMoved
 pub mod Firm
 pub mod Forms
 pub mod Found
@@ -44,6 +45,7 @@ pub mod Posting
 pub mod Ranges
 pub mod NamedReads
 pub mod Ready
+pub mod Reopened
 pub mod Retained
 pub mod Retaining
 pub mod SeenSpare

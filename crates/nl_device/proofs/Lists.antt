@@ -2,7 +2,7 @@
 use Rattle.std.proofs.Common.{◌≡◌, ◌≢◌, ◌⊎◌, inl, inr, ⊎_elim, ℕ, zero, suc, ◌+◌, ◌<◌, ◌≤◌, ◌==◌, ◌&&◌, ◌||◌, Bool, true, false, not, nat_lt, cond, List, [], ◌∷◌, length, remove, refl, sym, ◌∙◌, ap, arith, eq-eqb, ne_eqb}
 use Rattle.std.specs.Prelude.{filter}
 use Rattle.std.proofs.lemmas.Bool.{cases_eq, cases_lt, cond-true, cond-false, lt-ltb, le-ltb, true≢false}
-use Rattle.nl_callbacks.specs.Pending.{IsTable, entry_at, number_of}
+use Rattle.nl_callbacks.specs.Pending.{IsPending, IsTable, entry_at, number_of}
 use Rattle.nl_callbacks.specs.declared.entry.Entry.{Entry}
 use Rattle.nl_field.specs.Live.{resolve}
 use Rattle.nl_iface.specs.Names.{Has}
@@ -107,26 +107,34 @@ none_yet pairs es posted t = sym (filter_all (is_left pairs 0) es (λ i within. 
     or_true true is = refl
     or_true false is = is
 
-pub all_through : (pairs : List (ℕ × ℕ)) (es : List Entry) (posted number : ℕ) → IsTable es posted → posted ≤ number → filter (is_left pairs number) es ≡ filter (is_led pairs) es
-all_through pairs es posted number t past = filter_same (is_left pairs number) (is_led pairs) es (λ i within.
-    let g = t.given i within in
-    or_false (is_led pairs (entry_at es i)) (le-ltb number (number_of (entry_at es i)) (let most = g.1 in omega (arith, most, past))))
-  where
-    or_false : (a : Bool) {b : Bool} → b ≡ false → (a || b) ≡ a
-    or_false true is = refl
-    or_false false is = is
+-- a callback that is left is one of those that are left
+left_pends : (pairs : List (ℕ × ℕ)) (es : List Entry) (number i : ℕ) → i < length es → is_left pairs number (entry_at es i) ≡ true → IsPending (filter (is_left pairs number) es) (number_of (entry_at es i))
+left_pends pairs es number i within is =
+    let c = (entry_at es i).callback in
+    let r = at_has (filter (is_left pairs number) es) c (has_kept (λ x. not (resolve pairs x.before == x.before) || nat_lt number x.number) es c (has_at es i within) is) in
+    (r.0, r.1, ap (λ (x : Callback). x.number) r.2)
 
-pub one_more_through : (pairs : List (ℕ × ℕ)) (es : List Entry) (number : ℕ) → filter (λ e. is_led pairs e || not (number_of e == number + 1)) (filter (is_left pairs number) es) ≡ filter (is_left pairs (number + 1)) es
-one_more_through pairs es number =
-    filter_then (λ e. is_led pairs e || not (number_of e == number + 1)) (is_left pairs number) es
-    ∙ filter_same _ (is_left pairs (number + 1)) es (λ i within. by (is_led pairs (entry_at es i)) (number_of (entry_at es i)))
+pub none_through : (pairs : List (ℕ × ℕ)) (es : List Entry) (number : ℕ) → ((other : ℕ) → IsPending (filter (is_left pairs number) es) other → other ≤ number) → filter (is_left pairs number) es ≡ filter (is_led pairs) es
+none_through pairs es number none = filter_same (is_left pairs number) (is_led pairs) es (λ i within.
+    by (is_led pairs (entry_at es i)) (number_of (entry_at es i)) (λ left. none (number_of (entry_at es i)) (left_pends pairs es number i within left)))
   where
-    by : (a : Bool) (n : ℕ) → ((a || nat_lt number n) && (a || not (n == number + 1))) ≡ (a || nat_lt (number + 1) n)
-    by true n = refl
-    by false n = ⊎_elim
-        (λ (is : n ≡ number + 1). ap (λ b. nat_lt number n && not b) (eq-eqb n (number + 1) is) ∙ (and_false (nat_lt number n) ∙ sym (le-ltb (number + 1) n (omega (arith, is)))))
-        (λ (far : n ≢ number + 1). ap (λ b. nat_lt number n && not b) (ne_eqb n (number + 1) far) ∙ (and_true (nat_lt number n) ∙ past n far))
-        (cases_eq n (number + 1))
+    by : (a : Bool) (n : ℕ) → ((a || nat_lt number n) ≡ true → n ≤ number) → (a || nat_lt number n) ≡ a
+    by true n past = refl
+    by false n past = ⊎_elim (λ lt. let le = past (lt-ltb number n lt) in absurd (omega (arith, lt, le))) (λ le. le-ltb number n le) (cases_lt number n)
+
+pub next_through : (pairs : List (ℕ × ℕ)) (es : List Entry) (number next : ℕ) → number < next → ((other : ℕ) → IsPending (filter (is_left pairs number) es) other → number < other → next ≤ other)
+    → filter (λ e. is_led pairs e || not (number_of e == next)) (filter (is_left pairs number) es) ≡ filter (is_left pairs next) es
+next_through pairs es number next less least =
+    filter_then (λ e. is_led pairs e || not (number_of e == next)) (is_left pairs number) es
+    ∙ filter_same _ (is_left pairs next) es (λ i within.
+    by (is_led pairs (entry_at es i)) (number_of (entry_at es i)) (λ left more. least (number_of (entry_at es i)) (left_pends pairs es number i within left) more))
+  where
+    by : (a : Bool) (n : ℕ) → ((a || nat_lt number n) ≡ true → number < n → next ≤ n) → ((a || nat_lt number n) && (a || not (n == next))) ≡ (a || nat_lt next n)
+    by true n from = refl
+    by false n from = ⊎_elim
+        (λ (is : n ≡ next). ap (λ b. nat_lt number n && not b) (eq-eqb n next is) ∙ (and_false (nat_lt number n) ∙ sym (le-ltb next n (omega (arith, is)))))
+        (λ (far : n ≢ next). ap (λ b. nat_lt number n && not b) (ne_eqb n next far) ∙ (and_true (nat_lt number n) ∙ past far))
+        (cases_eq n next)
       where
         and_false : (b : Bool) → (b && false) ≡ false
         and_false true = refl
@@ -136,14 +144,14 @@ one_more_through pairs es number =
         and_true true = refl
         and_true false = refl
 
-        past : (n : ℕ) → n ≢ number + 1 → nat_lt number n ≡ nat_lt (number + 1) n
-        past n far = ⊎_elim
-            (λ lt. lt-ltb number n lt ∙ sym (lt-ltb (number + 1) n (more lt)))
-            (λ le. le-ltb number n le ∙ sym (le-ltb (number + 1) n (omega (arith, le))))
+        above : n ≢ next → next ≤ n → next < n
+        above far more = ⊎_elim (λ lt. lt) (λ le. absurd (far (omega (arith, le, more)))) (cases_lt next n)
+
+        past : n ≢ next → nat_lt number n ≡ nat_lt next n
+        past far = ⊎_elim
+            (λ lt. let more = from (lt-ltb number n lt) lt in lt-ltb number n lt ∙ sym (lt-ltb next n (above far more)))
+            (λ le. le-ltb number n le ∙ sym (le-ltb next n (omega (arith, le, less))))
             (cases_lt number n)
-          where
-            more : number < n → number + 1 < n
-            more lt = ⊎_elim (λ less. less) (λ le. absurd (far (omega (arith, lt, le)))) (cases_lt (number + 1) n)
 
 -- ---- one callback is gone through
 

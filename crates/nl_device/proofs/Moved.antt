@@ -16,7 +16,7 @@ use Rattle.nl_iface.specs.declared.Callback.{Callback}
 use Rattle.nl_device.specs.Callbacks.{names_with}
 use Rattle.nl_device.specs.Space.{space_of}
 use Rattle.nl_device.proofs.SpaceSteps.{begun, begun_gains}
-use Rattle.nl_iface.specs.Left.{HoldsLive, IsTried, LeavesTried}
+use Rattle.nl_iface.specs.Left.{IsTried, LeavesTried}
 use Rattle.nl_iface.specs.Stored.{NamedPage, Stored, stored_in}
 use Rattle.nl_pseg.specs.Cleaning.{Begins, CrashesMove, IsChosen, Moves, MovesNone}
 use Rattle.nl_pseg.specs.Pages.{main_of}
@@ -26,9 +26,9 @@ use Rattle.nl_pseg.specs.Segment.{HasSpare, IsPhysicalOf, KeepsBlock, Physical, 
 use Rattle.nl_pseg.specs.Space.{IsWhole, victims}
 use Rattle.nl_pseg.specs.declared.held.Held.{Held}
 use Rattle.nl_vseg.specs.Segment.{Segment}
-use Rattle.nl_device.specs.Device.{HasSpareBlock, IsDevice}
+use Rattle.nl_device.specs.Device.{HasSpareBlock, IsDevice, IsFoundStored}
 use Rattle.nl_device.specs.Kept.{KeptPages, forgotten}
-use Rattle.nl_device.specs.Shown.{bytes_at, found_in, live_page, names_of}
+use Rattle.nl_device.specs.Shown.{bytes_at, live_page, names_of}
 use Rattle.nl_device.proofs.Begun.{begun_device}
 use Rattle.nl_device.proofs.Calling.{called_same}
 use Rattle.nl_device.proofs.Calls.{device_with, found_after, in_within, medium_with, named_segments, stored_after}
@@ -87,7 +87,7 @@ module _ {geometry now : Geometry} {tells : Type 0} {image c : Image} {shape : S
       let lt = f.stamp.live k.place k.page k.was in
       below_after geometry shape vseg old image c f.segments (old_fits t) (subst (λ n. ImageOf n c) same_geometry (fits t)) f.live (f.medium t).physical_is k.tried k.page.stamp next k.page.tag k.main k.either (f.medium t).named_below (omega (arith, lt)) p page is
 
-  stored : tells → HoldsLive (found_in (forgotten kept)) (λ p. bytes_at (shape.vblocks * shape.pages) c p) (stored_in c)
+  stored : tells → IsFoundStored (forgotten kept) (λ p. bytes_at (shape.vblocks * shape.pages) c p) (stored_in c)
   stored t = stored_after kept (forgotten kept) true refl (λ p. bytes_at (shape.vblocks * shape.pages) c p) (stored_in c) (λ un. absurd (true≢false un))
 
   pub moved_device : (at after : ℕ) (h : Held) → Moves at after h old new → (u : PendingTable) (number : ℕ) → IsTable u.callbacks u.posted → u.callbacks ≡ insert pending.callbacks (place_of pending.callbacks number) (new_entry (callback_of number at after h.tag h.stamp)) → length u.callbacks + u.room ≡ length pending.callbacks + pending.room

@@ -11,11 +11,11 @@ use Rattle.nl_field.specs.SpareRecord.{spare_rec_of}
 use Rattle.nl_field.specs.declared.shape.Shape.{Shape}
 use Rattle.nl_field.specs.declared.spare.SpareRec.{SpareRec}
 use Rattle.nl_field.specs.declared.spare.SpareRec.TheVariants.{Virtual, Physical}
-use Rattle.nl_iface.specs.Left.{HoldsLive}
 use Rattle.nl_iface.specs.Names.{LivePage}
 use Rattle.nl_iface.specs.Stored.{NamedPage, stored_in}
 use Rattle.nl_pseg.specs.Pages.{main_of, shown_by, shown_with}
 use Rattle.nl_scan.specs.Tables.{IsTableOf, Table, greatest_stamp}
+use Rattle.nl_device.specs.Device.{IsFoundStored}
 use Rattle.nl_device.specs.Kept.{KeptPages, kept_pages, spare_among}
 use Rattle.nl_device.specs.Retain.{CanRetain, spare_for}
 use Rattle.nl_device.specs.Shown.{bytes_at, found_in, found_on}
@@ -80,11 +80,19 @@ named_after shape image t kept e is same p n stored =
 -- what was kept of a scan of the medium is stored there
 pub found_holds : (shape : Shape) (image : Image) (t : Table) (kept : KeptPages) → shape_of_image image ≡ shape → IsTableOf image t
     → kept ≡ record { first = shape.vblocks; count = shape.pblocks; size = shape.pages; pages = kept_pages (first_physical shape) t.seen }
-    → HoldsLive (found_in kept) (bytes_at (shape.vblocks * shape.pages) image) (stored_in image)
-found_holds shape image t kept e is same p page found =
+    → IsFoundStored kept (bytes_at (shape.vblocks * shape.pages) image) (stored_in image)
+found_holds shape image t kept e is same =
     let of = kept_of shape image t kept e is same in
-    let s = stored_found image kept p page of found in
-    s.1 ∙ (λ i. Some (record { tag = s.2 i; stamp = s.3 i; bytes = stored_bytes shape image e p s.0 s.1 i }))
+    record {
+      holds = λ p page found.
+          let s = stored_found image kept p page of found in
+          s.1 ∙ (λ i. Some (record { tag = s.2 i; stamp = s.3 i; bytes = stored_bytes shape image e p s.0 s.1 i }));
+      only = λ p none. inr (none_stored ((stored_in image).named p) (sym (found_named image kept p of) ∙ none));
+    }
+  where
+    none_stored : (o : Option NamedPage) → without_bytes o ≡ None → o ≡ None
+    none_stored None is = refl
+    none_stored (Some n) is = absurd (none-some (record { tag = n.tag; stamp = n.stamp }) (sym is))
 
 every : {X : Type 0} (f : X → Bool) (xs : List X) → ((x : X) → f x ≡ true) → list_all f xs ≡ true
 every f [] yes_each = refl
@@ -122,5 +130,4 @@ can_none kept count is some =
       names_differ = search rules;
       own = All-nil _;
       few_lost = omega arith;
-      room = omega arith;
     }

@@ -14,7 +14,7 @@ use Rattle.nl_pseg.specs.Pages.{main_of, shown_by}
 use Rattle.nl_field.specs.Numbers.{ShapeBounds}
 use Rattle.nl_field.proofs.Bounds.{bounds}
 use Rattle.nl_device.proofs.Bounds.{two_blocks}
-use Rattle.nl_pseg.specs.Segment.{InSegment, IsPhysicalOf, KeptAreDead, Physical, IsNextCopy, TakenAsErased, held_at, is_free}
+use Rattle.nl_pseg.specs.Segment.{InSegment, IsPhysicalOf, KeptAreDead, Physical, IsNextCopy, TakenAsErased, held_at, is_kept}
 use Rattle.nl_pseg.specs.Space.{IsWhole}
 use Rattle.nl_pseg.specs.declared.held.Held.{Held}
 use Rattle.nl_field.specs.Medium.{first_physical}
@@ -32,7 +32,7 @@ use Rattle.nl_device.proofs.Found.{kept_below}
 use Rattle.nl_device.proofs.Forms.{begins, named_from, shape_is}
 use Rattle.nl_device.proofs.Laws.{names_are}
 use Rattle.nl_device.proofs.Made.{bytes_from, live_held, made_medium}
-use Rattle.nl_device.proofs.Leaving.{names_alone, spare_idle}
+use Rattle.nl_device.proofs.Leaving.{NamesHold, spare_idle}
 use Rattle.nl_device.specs.Callbacks.{AreCalled}
 use Rattle.nl_device.proofs.PhysicalPages.{named_of}
 use Rattle.nl_device.proofs.Spacing.{free_is, space_is}
@@ -61,13 +61,11 @@ pub all_free : {geometry : Geometry} {shape : Shape} {vseg : Segment} {pseg : Ph
 all_free {pseg = pseg} has free = (λ i. has.physical_first i + (sym (free_is pseg) ∙ free) i) ∙ has.split ∙ sym has.physical_blocks
 
 pub is_fresh : {geometry : Geometry} {shape : Shape} {vseg : Segment} {old new : Physical} → HasSegments geometry shape vseg old → old.pairs ≡ [] → ((p : ℕ) → (names_of old).live p ≡ None) → new.held ≡ old.held → new.pairs ≡ old.pairs → new.blocks ≡ old.blocks
-    → new.size ≡ old.size → new.first + new.free ≡ new.blocks → ((block : ℕ) → new.first ≤ block → block < new.blocks → is_free new block ≡ true) → new.left ≡ 0 → IsWhole new → new.victim ≡ None → IsFresh new
-is_fresh {old = old} has none dead held pairs blocks size count each left whole hand = record {
+    → new.size ≡ old.size → ((block : ℕ) → new.first ≤ block → block < new.blocks → is_kept new block ≡ true) → IsWhole new → new.victim ≡ None → IsFresh new
+is_fresh {old = old} has none dead held pairs blocks size each whole hand = record {
   whole = whole;
   none_in_hand = hand;
-  count = count;
   each = each;
-  none_left = left;
   no_live = λ page. ap (λ (h : List (Option Held)). get_or h page None) held ∙ none_held old dead page;
   pages = ap length held ∙ has.physical_held ∙ (λ i. sym (blocks ∙ has.physical_blocks) i * sym (size ∙ has.physical_pages) i);
   no_pairs = pairs ∙ none;
@@ -88,12 +86,9 @@ pub none_dead : (seg : Physical) → ((page : ℕ) → held_at seg page ≡ None
 none_dead seg none page h held = absurd (none-some h (sym (none page) ∙ held))
 
 -- no block is written to
-pub room_is : (seg : Physical) → 1 ≤ seg.free → seg.left ≡ 0 → (space_of seg).room + (space_of seg).block ≡ (space_of seg).free * (space_of seg).block
+pub room_is : (seg : Physical) → seg.left ≡ 0 → (space_of seg).room ≡ ((space_of seg).free - (space_of seg).keep) * (space_of seg).block
 unfolding space_of
-room_is seg some left =
-    let e : (seg.free - 1) * seg.size + 1 * seg.size ≡ (seg.free - 1 + 1) * seg.size = sym (add-mul (seg.free - 1) 1 seg.size) in
-    let f : (seg.free - 1 + 1) * seg.size ≡ seg.free * seg.size = ap (λ n. n * seg.size) (omega (arith, some)) in
-    omega (arith, e, f, left)
+room_is seg left = omega (arith, left)
 
 named_back : (o : Option (Tag × ℕ × List ℕ)) (n : NamedPage) → named_of o ≡ Some n → o ≡ Some (n.tag, n.stamp, n.bytes)
 named_back None n is = absurd (none-some n is)
@@ -121,11 +116,11 @@ held_on {shape = shape} {kept = kept} {image = image} segments fit was holds fro
   blank = λ page taken. was.blank page (erased page taken);
 }
 
-pub retained_device : {geometry : Geometry} {tells : Type 0} {image : Image} {shape : Shape} {vseg : Segment} {old new : Physical} {pending : PendingTable} {kept : KeptPages} {next : ℕ} → IsDevice geometry tells image shape vseg old pending kept next
-    → IsSegmentFor kept new → length new.held ≡ length old.held → new.pairs ≡ [] → HasSpareBlock new → new.victim ≡ None → new.left ≡ 0 → AreCalled new pending → ((page : ℕ) (h : Held) → held_at new page ≡ Some h → IsFoundIn kept new page h)
+pub retained_device : {geometry : Geometry} {tells : Type 0} {image : Image} {shape : Shape} {vseg : Segment} {old new : Physical} {pending now : PendingTable} {kept : KeptPages} {next : ℕ} → IsDevice geometry tells image shape vseg old pending kept next
+    → IsSegmentFor kept new → length new.held ≡ length old.held → HasSpareBlock new → new.victim ≡ None → new.left ≡ 0 → AreCalled new now → ((page : ℕ) (h : Held) → held_at new page ≡ Some h → IsFoundIn kept new page h)
     → ((p q : ℕ) (g h : Held) → held_at new p ≡ Some g → held_at new q ≡ Some h → g.stamp ≡ h.stamp → p ≡ q) → ((p : ℕ) → TakenAsErased new p → TakenAsErased old p) → ((p : ℕ) → IsNextCopy new p → IsNextCopy old p) → (tells → ImageOf geometry image)
-    → IsDevice geometry tells image shape vseg new pending kept next
-retained_device {geometry} {tells} {image} {shape} {vseg} {old} {new} {pending} {kept} {next} f same pages pairs spare hand left called from differ erased copies fit =
+    → (tells → HoldsLive (names_of new).live (λ p. bytes_at (shape.vblocks * shape.pages) image p) (stored_in image) → NamesHold shape (names_of new) (stored_in image)) → IsDevice geometry tells image shape vseg new now kept next
+retained_device {geometry} {tells} {image} {shape} {vseg} {old} {new} {pending} {now} {kept} {next} f same pages spare hand left called from differ erased copies fit hold =
     let first : new.first ≡ old.first = same.first ∙ f.found.first ∙ sym f.segments.physical_first in
     let blocks : new.blocks ≡ old.blocks = same.blocks ∙ (λ i. f.found.first i + f.found.count i) ∙ f.segments.split ∙ sym f.segments.physical_blocks in
     let size : new.size ≡ old.size = same.size ∙ f.found.size ∙ sym f.segments.physical_pages in
@@ -168,9 +163,9 @@ retained_device {geometry} {tells} {image} {shape} {vseg} {old} {new} {pending} 
       unwritten = f.unwritten;
       names = names_are segments next live (space_is new spare) below;
       medium = λ t.
-          let physical = held_on {new = new} f.segments (fit t) (f.medium t).physical_is (f.found_stored t) from (λ page within. subst (λ n. n ≤ page) (begins segments) within.0) erased copies in
+          let physical = held_on {new = new} f.segments (fit t) (f.medium t).physical_is (f.found_stored t).holds from (λ page within. subst (λ n. n ≤ page) (begins segments) within.0) erased copies in
           made_medium segments (fit t) live (f.medium t).virtual_is physical (f.medium t).there (f.medium t).below (f.medium t).named_below spare (spare_idle new image spare.whole spare.block hand left)
-          (names_alone shape new (λ p. bytes_at (shape.vblocks * shape.pages) image p) (stored_in image) pairs (live_held segments (fit t) live physical));
+          (hold t (live_held segments (fit t) live physical));
     }
 
 -- what is kept of a scan at the start of a device

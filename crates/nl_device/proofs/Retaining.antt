@@ -1,92 +1,132 @@
 -- One pointer more is live, and all of them.
-use Rattle.std.proofs.Common.{◌≡◌, ◌++◌, ◌||◌, take, ℕ, zero, suc, ◌+◌, ◌/◌, ◌<◌, ◌≤◌, Bool, true, false, not, List, [], ◌∷◌, length, get_or, set, Option, Some, None, option_map, refl, sym, ◌∙◌, ap, subst, arith, ⊎_elim}
-use Rattle.std.specs.Prelude.{◌==◌, IsSome, filter, find, slice_get}
+use Rattle.std.proofs.Common.{◌≡◌, ◌≢◌, ◌⊎◌, ◌++◌, ◌||◌, take, ℕ, zero, suc, ◌+◌, ◌-◌, ◌*◌, ◌/◌, ◌<◌, ◌≤◌, ◌==◌, Bool, true, false, not, List, [], ◌∷◌, length, get_or, set, Option, Some, None, option_map, refl, sym, ◌∙◌, ap, subst, arith, ⊎_elim, eq-eqb, ne_eqb}
+use Rattle.std.specs.Prelude.{IsSome, filter, find, slice_get}
 use Rattle.std.specs.List.{count_by, list_any, range_with_len}
 use Rattle.std.specs.BTreeMap.{BTreeMap}
-use Rattle.std.proofs.lemmas.Bool.{cases_Bool, cases_eq, cases_lt, cond-false, cond-true, true≢false}
+use Rattle.std.proofs.lemmas.Bool.{cases_Bool, cases_eq, cases_lt, true≢false}
 use Rattle.std.proofs.lemmas.List.{get_or-set_other, get_or-set_same, length-set, take_all, take_more}
 use Rattle.std.proofs.lemmas.List.Folds.{list_any-append}
 use Rattle.std.proofs.lemmas.Option.{get_or_from_slice_get, none-some, same_Some, slice_get_within}
+use Rattle.nl_field.specs.Live.{resolve}
 use Rattle.nl_field.specs.Space.{is_outside}
 use Rattle.nl_field.specs.declared.pointer.Pointer.{Pointer}
-use Rattle.nl_pseg.specs.Segment.{InSegment, Physical, held_at, is_free, is_kept}
+use Rattle.nl_callbacks.specs.Pending.{PendingTable}
+use Rattle.nl_pseg.specs.Segment.{InSegment, IsOldName, Physical, held_at, is_kept}
+use Rattle.nl_pseg.specs.Space.{waiting}
 use Rattle.nl_pseg.specs.declared.held.Held.{Held}
-use Rattle.nl_device.specs.Kept.{IsKept, KeptPages, is_at_name, spare_among}
-use Rattle.nl_device.specs.Retain.{AreRetained, CanLoad, CanRetain, IsFoundIn, IsFresh, IsSegmentFor, Loads, Retains, held_for, is_needed, is_taken, lies_in, needed_blocks, place_for, spare_for}
+use Rattle.nl_device.specs.Kept.{IsKept, KeptPages, place_among, spare_among}
+use Rattle.nl_device.specs.Retain.{CanLoad, CanRetain, HasCalled, HasLoaded, IsFoundIn, IsFresh, IsSegmentFor, Loads, held_for, is_moved, is_taken, lies_in, needed_blocks, owns_name, place_for, retained_at, spare_for}
 use Rattle.nl_device.specs.declared.kept.copies.Copies.{Copies}
 use Rattle.nl_device.specs.declared.kept.page.KeptPage.{KeptPage}
 use Rattle.nl_device.specs.Space.{live_in}
 use Rattle.nl_device.proofs.Alone.{or_false, or_true}
-use Rattle.nl_device.proofs.Counted.{bit, count_all_but, count_less, count_none, count_same, found_between, live_none}
-use Rattle.nl_device.proofs.Loading.{IsThere, in_segment, place_is, there}
+use Rattle.nl_device.proofs.Counted.{bit, count_all_but, count_other, found_between, live_none}
+use Rattle.nl_device.proofs.FewMoved.{one_more_moved, room_for}
+use Rattle.nl_device.proofs.Loading.{IsThere, in_segment, owned, place_is, there}
 use Rattle.nl_device.proofs.Lookups.{is_number, other_number}
+use Rattle.nl_device.proofs.Living.{no_old}
 use Rattle.nl_device.proofs.Spacing.{one_more}
 
--- none of a list of which none is kept by a filter passes
-all_fail : (p : Pointer → Bool) (xs : List Pointer) (at : ℕ) (x : Pointer) → length (filter p xs) ≤ 0 → slice_get xs at ≡ Some x → p x ≡ false
-all_fail p [] at x none is = absurd (none-some x is)
-all_fail p (y ∷ ys) zero x none is =
-    ⊎_elim
-    (λ yes. absurd (let e = ap (λ (l : List Pointer). length l) (cond-true (p y) (y ∷ filter p ys) (filter p ys) yes) in omega (arith, none, e)))
-    (λ fails. ap p (sym (same_Some y x is)) ∙ fails)
-    (cases_Bool (p y))
-all_fail p (y ∷ ys) (suc at) x none is =
-    ⊎_elim
-    (λ yes. absurd (let e = ap (λ (l : List Pointer). length l) (cond-true (p y) (y ∷ filter p ys) (filter p ys) yes) in omega (arith, none, e)))
-    (λ fails. all_fail p ys at x (subst (λ (l : List Pointer). length l ≤ 0) (cond-false (p y) (y ∷ filter p ys) (filter p ys) fails) none) is)
-    (cases_Bool (p y))
+module _ (kept : KeptPages) (copies : BTreeMap ℕ Copies) (pointers : List Pointer) (is : IsKept kept copies) (can : CanRetain kept pointers) where
+  abbrev Listed : ℕ → Pointer → Type 0
+  Listed i p = slice_get pointers i ≡ Some p
 
-not_not : (b : Bool) → not b ≡ false → b ≡ true
-not_not true is = refl
-not_not false is = sym is
+  abbrev place : Pointer → ℕ
+  place p = retained_at kept pointers p
 
-pub at_name : (kept : KeptPages) (pointers : List Pointer) (at : ℕ) (p : Pointer) → CanRetain kept pointers → slice_get pointers at ≡ Some p → is_at_name kept (spare_for kept pointers) p ≡ true
-at_name kept pointers at p can is = not_not (is_at_name kept (spare_for kept pointers) p) (all_fail (λ q. not (is_at_name kept (spare_for kept pointers) q)) pointers at p can.room is)
+  pub stamps_differ : (i j : ℕ) (p q : Pointer) → i < j → Listed i p → Listed j q → p.stamp ≡ q.stamp → ⊥
+  stamps_differ i j p q less first second same =
+      can.differ i j p less (slice_get_within pointers j q second)
+      (ap (λ (r : Pointer). r.stamp) (get_or_from_slice_get pointers i p p first) ∙ same ∙ ap (λ (r : Pointer). r.stamp) (sym (get_or_from_slice_get pointers j q p second)))
 
-stamps_differ : (kept : KeptPages) (pointers : List Pointer) (i j : ℕ) (p q : Pointer) → CanRetain kept pointers → i < j → slice_get pointers i ≡ Some p → slice_get pointers j ≡ Some q → p.stamp ≡ q.stamp → ⊥
-stamps_differ kept pointers i j p q can less first second same =
-    can.differ i j p less (slice_get_within pointers j q second)
-    (ap (λ (r : Pointer). r.stamp) (get_or_from_slice_get pointers i p p first) ∙ same ∙ ap (λ (r : Pointer). r.stamp) (sym (get_or_from_slice_get pointers j q p second)))
+  pub names_differ : (i j : ℕ) (p q : Pointer) → i < j → Listed i p → Listed j q → p.name ≡ q.name → ⊥
+  names_differ i j p q less first second same =
+      can.names_differ i j p less (slice_get_within pointers j q second)
+      (ap (λ (r : Pointer). r.name) (get_or_from_slice_get pointers i p p first) ∙ same ∙ ap (λ (r : Pointer). r.name) (sym (get_or_from_slice_get pointers j q p second)))
 
--- two pointers whose pages are those of one name have one stamp
-same_stamp : (kept : KeptPages) (spare : Option ℕ) (p q : Pointer) → IsThere kept spare p → IsThere kept spare q → p.name ≡ q.name → p.stamp ≡ q.stamp
-same_stamp kept spare p q a b same =
-    let e : a.kept_page ≡ b.kept_page = same_Some a.kept_page b.kept_page (sym a.found ∙ ap (λ n. find (λ (k : KeptPage). k.page == n) kept.pages) same ∙ b.found) in
-    sym a.stamp ∙ ap (λ (k : KeptPage). k.stamp) e ∙ b.stamp
+  -- pointers of one stamp are one
+  pub same_pointer : (i j : ℕ) (p q : Pointer) → Listed i p → Listed j q → p.stamp ≡ q.stamp → (i ≡ j) × (p ≡ q)
+  same_pointer i j p q first second same = ⊎_elim
+      (λ less. absurd (stamps_differ i j p q less first second same))
+      (λ past. ⊎_elim
+      (λ one. (one, same_Some p q (sym first ∙ ap (slice_get pointers) one ∙ second)))
+      (λ apart. absurd (stamps_differ j i q p (omega (arith, past, apart)) second first (sym same)))
+      (cases_eq i j))
+      (cases_lt i j)
 
-pub can_load : (kept : KeptPages) (copies : BTreeMap ℕ Copies) (pointers : List Pointer) (at : ℕ) (p : Pointer) (old seg : Physical) → IsKept kept copies → CanRetain kept pointers → Retains kept pointers at old seg
-    → slice_get pointers at ≡ Some p → CanLoad kept (spare_for kept pointers) p seg
-can_load kept copies pointers at p old seg is can retains here =
-    let spare = spare_for kept pointers in
-    let t = there kept copies spare p is (at_name kept pointers at p can here) in
-    record {
-      at_name = at_name kept pointers at p can here;
-      dead = by (held_at seg p.name) refl t;
-      new_stamp = λ page h held same.
-          let one = retains.only page h held in
-          stamps_differ kept pointers one.0 at one.1 p can one.2 one.3 here (sym one.5 ∙ same);
-      no_pairs = retains.no_pairs;
-      none_in_hand = retains.none_in_hand;
-    }
-  where
-    by : (o : Option Held) → held_at seg p.name ≡ o → IsThere kept (spare_for kept pointers) p → o ≡ None
-    by None held t = refl
-    by (Some h) held t =
-        let one = retains.only p.name h held in
-        let u = there kept copies (spare_for kept pointers) one.1 is (at_name kept pointers one.0 one.1 can one.3) in
-        absurd (stamps_differ kept pointers one.0 at one.1 p can one.2 one.3 here (same_stamp kept (spare_for kept pointers) one.1 p u t one.4))
+  pub placed_for : (i : ℕ) (p : Pointer) → Listed i p → place_for kept pointers p ≡ Some (place p)
+  placed_for i p here = place_is kept (spare_for kept pointers) p
+      (subst (λ (q : Pointer). IsSome (place_for kept pointers q)) (get_or_from_slice_get pointers i p p here) (can.placed i p (slice_get_within pointers i p here)))
 
-pub retains_none : (kept : KeptPages) (pointers : List Pointer) (seg : Physical) → IsSegmentFor kept seg → IsFresh seg → Retains kept pointers 0 seg seg
-retains_none kept pointers seg same fresh = record {
+  pub there_at : (i : ℕ) (p : Pointer) → Listed i p → IsThere kept (spare_for kept pointers) p (place p)
+  there_at i p here = there kept copies (spare_for kept pointers) p (place p) is (placed_for i p here)
+
+  pub owns : (i : ℕ) (p : Pointer) → Listed i p → (k : KeptPage) → find (λ k. k.page == p.name) kept.pages ≡ Some k → k.stamp ≡ p.stamp
+  owns i p here k found = owned kept copies p k is (can_own i p here) found
+    where
+      can_own : (i : ℕ) (p : Pointer) → Listed i p → owns_name kept p ≡ true
+      can_own i p here = subst (λ (q : Pointer). owns_name kept q ≡ true) (get_or_from_slice_get pointers i p p here) (can.own i p (slice_get_within pointers i p here))
+
+  -- two pointers whose places are one have one stamp
+  pub same_place : (i j : ℕ) (p q : Pointer) → Listed i p → Listed j q → place p ≡ place q → p.stamp ≡ q.stamp
+  same_place i j p q first second same =
+      let a = there_at i p first in
+      let b = there_at j q second in
+      let e : a.kept_page ≡ b.kept_page = same_Some a.kept_page b.kept_page (sym a.found ∙ ap (λ n. find (λ (k : KeptPage). k.page == n) kept.pages) same ∙ b.found) in
+      sym a.stamp ∙ ap (λ (k : KeptPage). k.stamp) e ∙ b.stamp
+
+  -- and so have two of which one has its place at the other's name
+  pub same_owner : (i j : ℕ) (p q : Pointer) → Listed i p → Listed j q → place p ≡ q.name → p.stamp ≡ q.stamp
+  same_owner i j p q first second same =
+      let a = there_at i p first in
+      sym a.stamp ∙ owns j q second a.kept_page (ap (λ n. find (λ (k : KeptPage). k.page == n) kept.pages) (sym same) ∙ a.found)
+
+  pub can_load : (at : ℕ) (p : Pointer) (old seg : Physical) (t_old t : PendingTable) → HasLoaded kept pointers at old seg → HasCalled kept pointers at seg t_old t → Listed at p → CanLoad kept (spare_for kept pointers) p seg t
+  can_load at p old seg t_old t loaded called here = record {
+    page = place p;
+    place = placed_for at p here;
+    dead = none_held (held_at seg (place p)) (λ h held.
+        let one = loaded.only (place p) h held in
+        stamps_differ one.0 at one.1 p one.2 one.3 here (same_place one.0 at one.1 p one.3 here one.4));
+    own = λ old_name.
+        let one = loaded.olds (place p) old_name in
+        stamps_differ one.0 at one.1 p one.2 one.3 here (sym (same_owner at one.0 p one.1 here one.3 (sym one.4)));
+    new_stamp = λ page h held same.
+        let one = loaded.only page h held in
+        stamps_differ one.0 at one.1 p one.2 one.3 here (sym one.5 ∙ same);
+    lead = λ away. record {
+      room = let r = roomy away in let pairs = loaded.pairs in let all = loaded.whole.numbers.pairs in let size = loaded.segment.size in omega (arith, r, pairs, all, size);
+      dead = none_held (held_at seg p.name) (λ h held.
+          let one = loaded.only p.name h held in
+          stamps_differ one.0 at one.1 p one.2 one.3 here (same_owner one.0 at one.1 p one.3 here one.4));
+      fresh = λ old_name.
+          let one = loaded.olds p.name old_name in
+          names_differ one.0 at one.1 p one.2 one.3 here one.4;
+    };
+    room = λ away. let r = roomy away in let count = called.count in let all = called.room in omega (arith, r, count, all);
+    none_in_hand = loaded.none_in_hand;
+  }
+    where
+      none_held : (o : Option Held) → ((h : Held) → o ≡ Some h → ⊥) → o ≡ None
+      none_held None off = refl
+      none_held (Some h) off = absurd (off h refl)
+
+      roomy : p.name ≢ place p → length (filter (is_moved kept (spare_for kept pointers)) (take at pointers)) < 4 * kept.size
+      roomy away = room_for kept pointers at p is.some can here (ap not (ne_eqb (place p) p.name (λ same. away (sym same))))
+
+-- before the first pointer
+pub loaded_none : (kept : KeptPages) (pointers : List Pointer) (seg : Physical) → IsSegmentFor kept seg → IsFresh seg → HasLoaded kept pointers 0 seg seg
+loaded_none kept pointers seg same fresh = record {
   segment = same;
   listed = λ i p less is. absurd (omega (arith, less));
   only = λ page h held. absurd (none-some h (sym (fresh.no_live page) ∙ held));
+  ways = λ i p less is. absurd (omega (arith, less));
+  olds = λ name old_name. absurd (no_old seg.pairs name fresh.no_pairs old_name);
   live = live_none seg.held fresh.no_live;
   pages = refl;
-  no_pairs = fresh.no_pairs;
-  busy = λ block from below. fresh.each block (omega (arith, from, same.first)) (omega (arith, below, same.blocks));
-  counted = omega (arith, fresh.count, same.first, same.blocks, count_none (is_taken kept (take 0 pointers)) kept.first kept.count (λ block. refl));
-  kept_before = λ block kept. kept;
+  pairs = ap (λ (l : List (ℕ × ℕ)). length l) fresh.no_pairs;
+  blocks = λ block from below. fresh.each block (omega (arith, from, same.first)) (omega (arith, below, same.blocks));
+  kept_before = λ block is. is;
   same_soiled = λ block. refl;
   left = omega arith;
   erased = λ q taken. taken;
@@ -99,180 +139,177 @@ retains_none kept pointers seg same fresh = record {
 }
 
 -- the blocks that are taken with one pointer more
-taken_more : (kept : KeptPages) (pointers : List Pointer) (at : ℕ) (p : Pointer) (block : ℕ) → slice_get pointers at ≡ Some p
-    → is_taken kept (take (at + 1) pointers) block ≡ (is_taken kept (take at pointers) block || p.name / kept.size == block)
-taken_more kept pointers at p block here =
-    ap (list_any (λ q. q.name / kept.size == block)) (take_more pointers at p (slice_get_within pointers at p here) ∙ ap (λ q. take at pointers ++ q ∷ []) (get_or_from_slice_get pointers at p p here))
-    ∙ list_any-append (λ q. q.name / kept.size == block) (take at pointers) (p ∷ [])
-    ∙ ap (λ b. is_taken kept (take at pointers) block || b) (or_false (p.name / kept.size == block))
+taken_more : (kept : KeptPages) (spare : Option ℕ) (pointers : List Pointer) (at : ℕ) (p : Pointer) (page block : ℕ) → slice_get pointers at ≡ Some p → place_among kept spare p ≡ Some page
+    → is_taken kept spare (take (at + 1) pointers) block ≡ (is_taken kept spare (take at pointers) block || page / kept.size == block)
+taken_more kept spare pointers at p page block here placed =
+    let test : Pointer → Bool = λ q. lies_in kept.size block (place_among kept spare q) in
+    ap (list_any test) (take_more pointers at p (slice_get_within pointers at p here) ∙ ap (λ q. take at pointers ++ q ∷ []) (get_or_from_slice_get pointers at p p here))
+    ∙ list_any-append test (take at pointers) (p ∷ [])
+    ∙ ap (λ b. is_taken kept spare (take at pointers) block || b) (or_false (lies_in kept.size block (place_among kept spare p)) ∙ ap (lies_in kept.size block) placed)
 
-outside_is : (size block page : ℕ) → is_outside size (Some block) page ≡ true → block ≡ page / size → ⊥
-outside_is size block page outside same = true≢false (sym outside ∙ ap not (is_number (page / size) block (sym same)))
+module _ (kept : KeptPages) (copies : BTreeMap ℕ Copies) (pointers : List Pointer) (is : IsKept kept copies) (can : CanRetain kept pointers) (at : ℕ) (p : Pointer) (old seg new : Physical) (t_old t : PendingTable)
+    (fresh : IsFresh old) (first : IsSegmentFor kept old) (loaded : HasLoaded kept pointers at old seg) (called : HasCalled kept pointers at seg t_old t) (here : slice_get pointers at ≡ Some p) (loads : Loads kept (retained_at kept pointers p) p seg new) where
+  able : CanLoad kept (spare_for kept pointers) p seg t
+  able = can_load kept copies pointers is can at p old seg t_old t loaded called here
 
-busy_more : (kept : KeptPages) (pointers : List Pointer) (at : ℕ) (p : Pointer) (seg new : Physical) (block : ℕ) → slice_get pointers at ≡ Some p → seg.size ≡ kept.size → Loads kept p seg new
-    → is_free seg block ≡ not (is_taken kept (take at pointers) block) → is_free new block ≡ not (is_taken kept (take (at + 1) pointers) block)
-busy_more kept pointers at p seg new block here size loads busy =
-    let more = taken_more kept pointers at p block here in
-    ⊎_elim
-    (λ same.
-    let b : p.name / kept.size ≡ block = ap (λ n. p.name / n) (sym size) ∙ sym same in
-    ap (is_free new) same ∙ loads.here ∙ sym (ap not (more ∙ (λ i. is_taken kept (take at pointers) block || is_number (p.name / kept.size) block b i) ∙ or_true (is_taken kept (take at pointers) block))))
-    (λ other.
-    loads.others block other ∙ busy
-    ∙ sym (ap not (more ∙ (λ i. is_taken kept (take at pointers) block || other_number (p.name / kept.size) block (λ e. other (sym e ∙ ap (λ n. p.name / n) (sym size))) i) ∙ or_false (is_taken kept (take at pointers) block))))
-    (cases_eq block (p.name / seg.size))
+  is_there : IsThere kept (spare_for kept pointers) p (retained_at kept pointers p)
+  is_there = there_at kept copies pointers is can at p here
 
-count_more : (kept : KeptPages) (pointers : List Pointer) (at : ℕ) (p : Pointer) (seg new : Physical) → slice_get pointers at ≡ Some p → seg.size ≡ kept.size → Loads kept p seg new
-    → kept.first ≤ p.name / kept.size → p.name / kept.size < kept.first + kept.count
-    → is_free seg (p.name / kept.size) ≡ not (is_taken kept (take at pointers) (p.name / kept.size)) → kept.count ≡ seg.free + count_by (is_taken kept (take at pointers)) (range_with_len kept.first kept.count)
-    → kept.count ≡ new.free + count_by (is_taken kept (take (at + 1) pointers)) (range_with_len kept.first kept.count)
-count_more kept pointers at p seg new here size loads low high busy counted =
-    let b = p.name / kept.size in
-    let free : new.free + bit (is_free seg b) ≡ seg.free = subst (λ n. new.free + bit (is_free seg (p.name / n)) ≡ seg.free) size loads.free in
-    let more = taken_more kept pointers at p in
-    ⊎_elim
-    (λ yes.
-    let same = count_same (is_taken kept (take at pointers)) (is_taken kept (take (at + 1) pointers)) kept.first kept.count
-    (λ x l h. more x here ∙ ⊎_elim (λ at_x. (λ i. is_taken kept (take at pointers) x || is_number b x at_x i) ∙ or_true (is_taken kept (take at pointers) x) ∙ sym (ap (is_taken kept (take at pointers)) (sym at_x) ∙ yes))
-    (λ other. (λ i. is_taken kept (take at pointers) x || other_number b x other i) ∙ or_false (is_taken kept (take at pointers) x)) (cases_eq b x)) in
-    let none : bit (is_free seg b) ≡ 0 = ap bit (busy ∙ ap not yes) in
-    omega (arith, same, none, free, counted))
-    (λ not_yet.
-    let less = count_less (is_taken kept (take (at + 1) pointers)) (is_taken kept (take at pointers)) kept.first kept.count b low high
-    (λ x other. sym (more x here ∙ (λ i. is_taken kept (take at pointers) x || other_number b x (λ e. other (sym e)) i) ∙ or_false (is_taken kept (take at pointers) x))) not_yet in
-    let one : bit (is_taken kept (take (at + 1) pointers) b) ≡ 1 = ap bit (more b here ∙ (λ i. is_taken kept (take at pointers) b || is_number b b refl i) ∙ or_true (is_taken kept (take at pointers) b)) in
-    let was : bit (is_free seg b) ≡ 1 = ap bit (busy ∙ ap not not_yet) in
-    omega (arith, less, one, was, free, counted))
-    (cases_Bool (is_taken kept (take at pointers) b))
+  value : held_for kept (retained_at kept pointers p) p ≡ Some (record { tag = is_there.kept_page.tag; stamp = p.stamp })
+  value = ap (option_map {U = Held} (λ (k : KeptPage). record { tag = k.tag; stamp = p.stamp })) is_there.found
 
-pub retains_more : (kept : KeptPages) (copies : BTreeMap ℕ Copies) (pointers : List Pointer) (at : ℕ) (p : Pointer) (old seg new : Physical) → IsKept kept copies → CanRetain kept pointers → IsFresh old → IsSegmentFor kept old
-    → Retains kept pointers at old seg → slice_get pointers at ≡ Some p → Loads kept p seg new → Retains kept pointers (at + 1) old new
-retains_more kept copies pointers at p old seg new is can fresh first retains here loads =
-    let spare = spare_for kept pointers in
-    let t = there kept copies spare p is (at_name kept pointers at p can here) in
-    let able = can_load kept copies pointers at p old seg is can retains here in
-    let h : Held = record { tag = t.kept_page.tag; stamp = p.stamp } in
-    let value : held_for kept p.name p ≡ Some h = ap (option_map (λ (k : KeptPage). record { tag = k.tag; stamp = p.stamp })) t.found in
-    let inside : p.name < length seg.held = (let w = (in_segment kept copies spare p old is first t).1 in omega (arith, w, retains.pages, fresh.pages)) in
-    let put : new.held ≡ set seg.held p.name (Some h) = loads.live ∙ ap (set seg.held p.name) value in
-    let here_now : held_at new p.name ≡ Some h = ap (λ l. get_or l p.name None) put ∙ get_or-set_same seg.held p.name (Some h) None inside in
-    let there_still : (q : ℕ) → (q ≡ p.name → ⊥) → held_at new q ≡ held_at seg q = (λ q other. ap (λ l. get_or l q None) put ∙ get_or-set_other seg.held p.name q (Some h) None other) in
-    let size : seg.size ≡ kept.size = retains.segment.size in
-    let block : p.name / seg.size ≡ t.kept_page.page / kept.size = ap (λ n. p.name / n) size ∙ ap (λ n. n / kept.size) (sym t.page) in
-    record {
-      segment = record { first = loads.same_first ∙ retains.segment.first; blocks = loads.same_blocks ∙ retains.segment.blocks; size = loads.same_size ∙ size };
-      listed = λ i q less at_i.
-          ⊎_elim
-          (λ same. let e = same_Some p q (sym here ∙ ap (slice_get pointers) (sym same) ∙ at_i) in subst (λ (r : Pointer). held_at new r.name ≡ held_for kept r.name r) e (here_now ∙ sym value))
-          (λ apart.
-          let u = there kept copies spare q is (at_name kept pointers i q can at_i) in
-          there_still q.name (λ same. stamps_differ kept pointers i at q p can (omega (arith, less, apart)) at_i here (same_stamp kept spare q p u t same))
-          ∙ retains.listed i q (omega (arith, less, apart)) at_i)
-          (cases_eq i at);
-      only = λ page g held.
-          ⊎_elim
-          (λ same. (at, p, omega arith, here, sym same, ap (λ (x : Held). x.stamp) (sym (same_Some h g (sym here_now ∙ ap (λ n. held_at new n) (sym same) ∙ held)))))
-          (λ other. let one = retains.only page g (sym (there_still page other) ∙ held) in (one.0, one.1, omega (arith, one.2), one.3, one.4, one.5))
-          (cases_eq page p.name);
-      live = ap live_in put ∙ one_more seg.held p.name h inside able.dead ∙ ap (λ n. n + 1) retains.live;
-      pages = ap length put ∙ length-set seg.held p.name (Some h) ∙ retains.pages;
-      no_pairs = loads.pairs ∙ retains.no_pairs;
-      busy = λ b from below. busy_more kept pointers at p seg new b here size loads (retains.busy b from below);
-      counted =
-          let low : kept.first ≤ p.name / kept.size = subst (λ n. kept.first ≤ n / kept.size) t.page t.of.from_first in
-          let high : p.name / kept.size < kept.first + kept.count = subst (λ n. n / kept.size < kept.first + kept.count) t.page t.of.to_last in
-          count_more kept pointers at p seg new here size loads low high (retains.busy (p.name / kept.size) low high) retains.counted;
-      kept_before = λ b is_kept_now. retains.kept_before b (⊎_elim
-          (λ same. absurd (true≢false (sym is_kept_now ∙ (ap (is_kept new) (same ∙ ap (λ n. p.name / n) (sym loads.same_size)) ∙ loads.whole.pages.in_use p.name h here_now))))
-          (λ other. sym (loads.others_kept b other) ∙ is_kept_now)
-          (cases_eq b (p.name / seg.size)));
-      same_soiled = λ b. loads.same_soiled b ∙ retains.same_soiled b;
-      left = omega (arith, loads.left, retains.left);
-      erased = λ q taken. retains.erased q (loads.erased q taken);
-      copies = λ q taken. retains.copies q (loads.copies q taken);
-      whole = loads.whole;
-      none_in_hand = loads.none_in_hand;
-      unchanged = λ none. absurd (omega (arith, none));
-      kept_block = λ k some. loads.kept_block some;
-      kept_dead = λ dead. loads.kept_dead;
-    }
+  inside : retained_at kept pointers p < length seg.held
+  inside = let w = (in_segment kept copies (spare_for kept pointers) p (retained_at kept pointers p) old is first is_there).1 in let a = loaded.pages in let b = fresh.pages in omega (arith, w, a, b)
 
-pub are_retained : (kept : KeptPages) (copies : BTreeMap ℕ Copies) (pointers : List Pointer) (at : ℕ) (old seg : Physical) → IsKept kept copies → CanRetain kept pointers → Retains kept pointers at old seg → length pointers ≤ at
-    → AreRetained kept pointers seg
-are_retained kept copies pointers at old seg is can retains all = record {
-  listed = λ i page p here place.
-      let e : page ≡ p.name = same_Some page p.name (sym place ∙ place_is kept (spare_for kept pointers) p (at_name kept pointers i p can here)) in
-      subst (λ n. held_at seg n ≡ held_for kept n p) (sym e) (retains.listed i p (omega (arith, slice_get_within pointers i p here, all)) here);
-  only = λ page h held.
-      let one = retains.only page h held in
-      (one.0, one.1, one.3, place_is kept (spare_for kept pointers) one.1 (at_name kept pointers one.0 one.1 can one.3) ∙ ap (λ n. Some n) one.4);
-}
+  put : new.held ≡ set seg.held (retained_at kept pointers p) (Some (record { tag = is_there.kept_page.tag; stamp = p.stamp }))
+  put = loads.live ∙ ap (set seg.held (retained_at kept pointers p)) value
 
--- no listed name lies in the spare block
-spare_untaken : (kept : KeptPages) (pointers rest : List Pointer) (block : ℕ) → ((i : ℕ) (p : Pointer) → slice_get rest i ≡ Some p → is_outside kept.size (Some block) p.name ≡ true) → is_taken kept rest block ≡ false
-spare_untaken kept pointers [] block all = refl
-spare_untaken kept pointers (p ∷ rest) block all =
-    let here : (p.name / kept.size == block) ≡ false = other_number (p.name / kept.size) block (λ same. outside_is kept.size block p.name (all zero p refl) (sym same)) in
-    λ i. here i || spare_untaken kept pointers rest block (λ j. all (suc j)) i
+  here_now : held_at new (retained_at kept pointers p) ≡ Some (record { tag = is_there.kept_page.tag; stamp = p.stamp })
+  here_now = ap (λ l. get_or l (retained_at kept pointers p) None) put ∙ get_or-set_same seg.held (retained_at kept pointers p) (Some (record { tag = is_there.kept_page.tag; stamp = p.stamp })) None inside
 
-pub one_free : (kept : KeptPages) (copies : BTreeMap ℕ Copies) (pointers : List Pointer) (at : ℕ) (old seg : Physical) → IsKept kept copies → CanRetain kept pointers → Retains kept pointers at old seg → length pointers ≤ at → 1 ≤ seg.free
-unfolding spare_among
-one_free kept copies pointers at old seg is can retains past = by (spare_for kept pointers) refl can.spare
-  where
-    by : (o : Option ℕ) → spare_for kept pointers ≡ o → IsSome o → 1 ≤ seg.free
-    by None none some = absurd (true≢false (sym some))
-    by (Some block) found some =
-        let within = found_between _ kept.first kept.count block found in
-        let untaken : is_taken kept (take at pointers) block ≡ false =
-        ap (λ (l : List Pointer). is_taken kept l block) (take_all at pointers past)
-        ∙ spare_untaken kept pointers pointers block (λ i p here. ap (λ o. is_outside kept.size o p.name) (sym found) ∙ (there kept copies (spare_for kept pointers) p is (at_name kept pointers i p can here)).outside) in
-        let all = count_all_but (is_taken kept (take at pointers)) kept.first kept.count block within.0 within.1 untaken in
-        omega (arith, all, retains.counted)
+  pub there_still : (q : ℕ) → q ≢ retained_at kept pointers p → held_at new q ≡ held_at seg q
+  there_still q other = ap (λ l. get_or l q None) put ∙ get_or-set_other seg.held (retained_at kept pointers p) q (Some (record { tag = is_there.kept_page.tag; stamp = p.stamp })) None other
 
--- where each place is the name, the blocks of places are those of names
-needed_is : (kept : KeptPages) (pointers rest : List Pointer) (block : ℕ) → ((i : ℕ) (p : Pointer) → slice_get rest i ≡ Some p → place_for kept pointers p ≡ Some p.name)
-    → list_any (λ p. lies_in kept.size block (place_for kept pointers p)) rest ≡ is_taken kept rest block
-needed_is kept pointers [] block all = refl
-needed_is kept pointers (p ∷ rest) block all =
-    let here : lies_in kept.size block (place_for kept pointers p) ≡ (p.name / kept.size == block) = ap (lies_in kept.size block) (all zero p refl) in
-    λ i. here i || needed_is kept pointers rest block (λ j. all (suc j)) i
+  pub held_now : held_at new (retained_at kept pointers p) ≡ held_for kept (retained_at kept pointers p) p
+  held_now = here_now ∙ sym value
 
--- each block without a place is Free
-pub free_blocks : (kept : KeptPages) (copies : BTreeMap ℕ Copies) (pointers : List Pointer) (at : ℕ) (old seg : Physical) → IsKept kept copies → CanRetain kept pointers → Retains kept pointers at old seg → length pointers ≤ at
-    → seg.free + needed_blocks kept pointers ≡ kept.count
-unfolding needed_blocks
-free_blocks kept copies pointers at old seg is can retains past =
-    let same = count_same (is_taken kept (take at pointers)) (is_needed kept pointers) kept.first kept.count
-    (λ block low high. needed_is kept pointers pointers block (λ i p here. place_is kept (spare_for kept pointers) p (at_name kept pointers i p can here)) ∙ ap (λ (l : List Pointer). is_taken kept l block) (sym (take_all at pointers past))) in
-    let counted = retains.counted in
-    omega (arith, same, counted)
+  -- an earlier one has another place
+  pub apart : (i : ℕ) (q : Pointer) → i < at → slice_get pointers i ≡ Some q → retained_at kept pointers q ≢ retained_at kept pointers p
+  apart i q less listed same = stamps_differ kept copies pointers is can i at q p less listed here (same_place kept copies pointers is can i at q p listed here same)
 
--- what is live was found on its page
-pub found_in : (kept : KeptPages) (copies : BTreeMap ℕ Copies) (pointers : List Pointer) (at : ℕ) (old seg : Physical) → IsKept kept copies → CanRetain kept pointers → Retains kept pointers at old seg
-    → (page : ℕ) (h : Held) → held_at seg page ≡ Some h → IsFoundIn kept seg page h
-found_in kept copies pointers at old seg is can retains page h held =
-    let one = retains.only page h held in
-    let t = there kept copies (spare_for kept pointers) one.1 is (at_name kept pointers one.0 one.1 can one.3) in
-    let value : held_for kept one.1.name one.1 ≡ Some (record { tag = t.kept_page.tag; stamp = one.1.stamp }) = ap (option_map {U = Held} (λ (k : KeptPage). record { tag = k.tag; stamp = one.1.stamp })) t.found in
-    let e : record { tag = t.kept_page.tag; stamp = one.1.stamp } ≡ h =
-    same_Some (record { tag = t.kept_page.tag; stamp = one.1.stamp }) h (sym value ∙ sym (retains.listed one.0 one.1 one.2 one.3) ∙ ap (held_at seg) one.4 ∙ held) in
-    record {
-      within = subst (InSegment seg) one.4 (in_segment kept copies (spare_for kept pointers) one.1 seg is retains.segment t);
-      found = ap (λ n. find (λ (k : KeptPage). k.page == n) kept.pages) (sym one.4) ∙ t.found
-          ∙ (λ i. Some (record { page = (t.page ∙ one.4) i; stamp = (t.stamp ∙ ap (λ (x : Held). x.stamp) e) i; tag = ap (λ (x : Held). x.tag) e i }));
-    }
+  blocks_more : (block : ℕ) → is_kept seg block ≡ not (is_taken kept (spare_for kept pointers) (take at pointers) block) → is_kept new block ≡ not (is_taken kept (spare_for kept pointers) (take (at + 1) pointers) block)
+  blocks_more block was =
+      let taken = is_taken kept (spare_for kept pointers) (take at pointers) block in
+      let more = taken_more kept (spare_for kept pointers) pointers at p (retained_at kept pointers p) block here (placed_for kept copies pointers is can at p here) in
+      let size = loaded.segment.size in
+      ⊎_elim
+      (λ (same : block ≡ retained_at kept pointers p / seg.size).
+      let b : retained_at kept pointers p / kept.size ≡ block = ap (λ n. retained_at kept pointers p / n) (sym size) ∙ sym same in
+      ap (is_kept new) (same ∙ ap (λ n. retained_at kept pointers p / n) (sym loads.same_size)) ∙ loads.whole.pages.in_use (retained_at kept pointers p) (record { tag = is_there.kept_page.tag; stamp = p.stamp }) here_now
+      ∙ sym (ap not (more ∙ (λ i. taken || is_number (retained_at kept pointers p / kept.size) block b i) ∙ or_true taken)))
+      (λ other.
+      loads.others_kept block other ∙ was
+      ∙ sym (ap not (more ∙ (λ i. taken || other_number (retained_at kept pointers p / kept.size) block (λ e. other (sym e ∙ ap (λ n. retained_at kept pointers p / n) (sym size))) i) ∙ or_false taken)))
+      (cases_eq block (retained_at kept pointers p / seg.size))
 
--- no two live pages share a stamp
-pub live_differ : (kept : KeptPages) (pointers : List Pointer) (at : ℕ) (old seg : Physical) → CanRetain kept pointers → Retains kept pointers at old seg
-    → (p q : ℕ) (g h : Held) → held_at seg p ≡ Some g → held_at seg q ≡ Some h → g.stamp ≡ h.stamp → p ≡ q
-live_differ kept pointers at old seg can retains p q g h p_held q_held same =
-    let a = retains.only p g p_held in
-    let b = retains.only q h q_held in
-    let e : a.1.stamp ≡ b.1.stamp = sym a.5 ∙ same ∙ b.5 in
-    ⊎_elim
-    (λ less. absurd (stamps_differ kept pointers a.0 b.0 a.1 b.1 can less a.3 b.3 e))
-    (λ past. ⊎_elim
-    (λ one. let x : a.1 ≡ b.1 = same_Some a.1 b.1 (sym a.3 ∙ ap (slice_get pointers) one ∙ b.3) in sym a.4 ∙ ap (λ (r : Pointer). r.name) x ∙ b.4)
-    (λ apart. absurd (stamps_differ kept pointers b.0 a.0 b.1 a.1 can (omega (arith, past, apart)) b.3 a.3 (sym e)))
-    (cases_eq a.0 b.0))
-    (cases_lt a.0 b.0)
+  pairs_more : length new.pairs ≡ length (filter (is_moved kept (spare_for kept pointers)) (take (at + 1) pointers))
+  pairs_more =
+      let more = one_more_moved kept pointers at p here in
+      let was = loaded.pairs in
+      ⊎_elim
+      (λ (same : retained_at kept pointers p ≡ p.name).
+      let none : bit (is_moved kept (spare_for kept pointers) p) ≡ 0 = ap (λ b. bit (not b)) (eq-eqb (retained_at kept pointers p) p.name same) in
+      let e = ap (λ (l : List (ℕ × ℕ)). length l) (loads.own (sym same)) in
+      omega (arith, more, was, none, e))
+      (λ (away : retained_at kept pointers p ≢ p.name).
+      let one : bit (is_moved kept (spare_for kept pointers) p) ≡ 1 = ap (λ b. bit (not b)) (ne_eqb (retained_at kept pointers p) p.name away) in
+      let e = loads.more (λ same. away (sym same)) in
+      omega (arith, more, was, one, e))
+      (cases_eq (retained_at kept pointers p) p.name)
+
+  pub loaded_more : HasLoaded kept pointers (at + 1) old new
+  loaded_more = record {
+    segment = record { first = loads.same_first ∙ loaded.segment.first; blocks = loads.same_blocks ∙ loaded.segment.blocks; size = loads.same_size ∙ loaded.segment.size };
+    listed = λ i q less listed. ⊎_elim
+        (λ same. let e = same_Some p q (sym here ∙ ap (slice_get pointers) (sym same) ∙ listed) in subst (λ (r : Pointer). held_at new (retained_at kept pointers r) ≡ held_for kept (retained_at kept pointers r) r) e held_now)
+        (λ other. let before : i < at = omega (arith, less, other) in there_still (retained_at kept pointers q) (apart i q before listed) ∙ loaded.listed i q before listed)
+        (cases_eq i at);
+    only = λ q g held. ⊎_elim
+        (λ same. (at, p, omega arith, here, sym same, ap (λ (x : Held). x.stamp) (sym (same_Some (record { tag = is_there.kept_page.tag; stamp = p.stamp }) g (sym here_now ∙ ap (λ n. held_at new n) (sym same) ∙ held)))))
+        (λ other. let one = loaded.only q g (sym (there_still q other) ∙ held) in let lt = one.2 in (one.0, one.1, omega (arith, lt), one.3, one.4, one.5))
+        (cases_eq q (retained_at kept pointers p));
+    ways = λ i q less listed. ⊎_elim
+        (λ same. let e = same_Some p q (sym here ∙ ap (slice_get pointers) (sym same) ∙ listed) in subst (λ (r : Pointer). resolve new.pairs r.name ≡ retained_at kept pointers r) e loads.leads)
+        (λ other. let before : i < at = omega (arith, less, other) in loads.names q.name (names_differ kept copies pointers is can i at q p before listed here) ∙ loaded.ways i q before listed)
+        (cases_eq i at);
+    olds = λ name old_name. ⊎_elim
+        (λ mine. (at, p, omega arith, here, sym mine.0, λ same. mine.1 (sym mine.0 ∙ sym same)))
+        (λ was. let one = loaded.olds name was in let lt = one.2 in (one.0, one.1, omega (arith, lt), one.3, one.4, one.5))
+        (loads.olds name old_name);
+    live = ap live_in put ∙ one_more seg.held (retained_at kept pointers p) (record { tag = is_there.kept_page.tag; stamp = p.stamp }) inside (ap (held_at seg) (sym (same_page able.page able.place)) ∙ able.dead) ∙ ap (λ n. n + 1) loaded.live;
+    pages = ap length put ∙ length-set seg.held (retained_at kept pointers p) (Some (record { tag = is_there.kept_page.tag; stamp = p.stamp })) ∙ loaded.pages;
+    pairs = pairs_more;
+    blocks = λ block from below. blocks_more block (loaded.blocks block from below);
+    kept_before = λ block kept_now. loaded.kept_before block (⊎_elim
+        (λ same. absurd (true≢false (sym kept_now ∙ (ap (is_kept new) (same ∙ ap (λ n. retained_at kept pointers p / n) (sym loads.same_size)) ∙ loads.whole.pages.in_use (retained_at kept pointers p) (record { tag = is_there.kept_page.tag; stamp = p.stamp }) here_now))))
+        (λ other. sym (loads.others_kept block other) ∙ kept_now)
+        (cases_eq block (retained_at kept pointers p / seg.size)));
+    same_soiled = λ block. loads.same_soiled block ∙ loaded.same_soiled block;
+    left = let a = loads.left in let b = loaded.left in omega (arith, a, b);
+    erased = λ q taken. loaded.erased q (loads.erased q taken);
+    copies = λ q taken. loaded.copies q (loads.copies q taken);
+    whole = loads.whole;
+    none_in_hand = loads.none_in_hand;
+    unchanged = λ none. absurd (omega (arith, none));
+    kept_block = λ k some. loads.kept_block some;
+    kept_dead = λ dead. loads.kept_dead;
+  }
+    where
+      same_page : (q : ℕ) → place_among kept (spare_for kept pointers) p ≡ Some q → q ≡ retained_at kept pointers p
+      same_page q placed = same_Some q (retained_at kept pointers p) (sym placed ∙ placed_for kept copies pointers is can at p here)
+
+-- no listed pointer has its place in the spare block
+outside_is : (size block page : ℕ) → is_outside size (Some block) page ≡ true → page / size ≡ block → ⊥
+outside_is size block page outside same = true≢false (sym outside ∙ ap not (is_number (page / size) block same))
+
+spare_untaken : (kept : KeptPages) (spare : Option ℕ) (rest : List Pointer) (block : ℕ) → ((i : ℕ) (p : Pointer) → slice_get rest i ≡ Some p → (page : ℕ) × (place_among kept spare p ≡ Some page) × (page / kept.size ≡ block → ⊥)) → is_taken kept spare rest block ≡ false
+spare_untaken kept spare [] block all = refl
+spare_untaken kept spare (p ∷ rest) block all =
+    let one = all zero p refl in
+    let here : lies_in kept.size block (place_among kept spare p) ≡ false = ap (lies_in kept.size block) one.1 ∙ other_number (one.0 / kept.size) block one.2 in
+    λ i. here i || spare_untaken kept spare rest block (λ j. all (suc j)) i
+
+module _ (kept : KeptPages) (copies : BTreeMap ℕ Copies) (pointers : List Pointer) (is : IsKept kept copies) (can : CanRetain kept pointers) (old seg : Physical) (loaded : HasLoaded kept pointers (length pointers) old seg) where
+  taken_all : (block : ℕ) → is_taken kept (spare_for kept pointers) (take (length pointers) pointers) block ≡ is_taken kept (spare_for kept pointers) pointers block
+  taken_all block = ap (λ (l : List Pointer). is_taken kept (spare_for kept pointers) l block) (take_all (length pointers) pointers (omega arith))
+
+  -- each block without a place is Free, or waits for names
+  pub counted : seg.free + waiting seg + needed_blocks kept pointers ≡ kept.count
+  unfolding needed_blocks
+  counted =
+      let all = loaded.whole.numbers.counted in
+      let range : seg.blocks ≡ kept.first + kept.count = loaded.segment.blocks in
+      let first = loaded.segment.first in
+      let many : seg.blocks - seg.first ≡ kept.count = omega (arith, range, first) in
+      let same : count_by (is_kept seg) (range_with_len seg.first (seg.blocks - seg.first)) ≡ count_by (is_kept seg) (range_with_len kept.first kept.count) = (λ i. count_by (is_kept seg) (range_with_len (first i) (many i))) in
+      let other : count_by (is_kept seg) (range_with_len kept.first kept.count) + needed_blocks kept pointers ≡ kept.count = count_other (is_taken kept (spare_for kept pointers) pointers) (is_kept seg) kept.first kept.count (λ block from below. loaded.blocks block from below ∙ ap not (taken_all block)) in
+      omega (arith, all, same, other)
+
+  -- and the spare block is one
+  pub some_kept : 1 ≤ seg.free + waiting seg
+  unfolding spare_among needed_blocks
+  some_kept = by (spare_for kept pointers) refl can.spare
+    where
+      by : (o : Option ℕ) → spare_for kept pointers ≡ o → IsSome o → 1 ≤ seg.free + waiting seg
+      by None none some = absurd (true≢false (sym some))
+      by (Some block) found some =
+          let within = found_between _ kept.first kept.count block found in
+          let untaken : is_taken kept (spare_for kept pointers) pointers block ≡ false = spare_untaken kept (spare_for kept pointers) pointers block (λ i p here. (
+            retained_at kept pointers p,
+            placed_for kept copies pointers is can i p here,
+            outside_is kept.size block (retained_at kept pointers p) (ap (λ o. is_outside kept.size o (retained_at kept pointers p)) (sym found) ∙ (there_at kept copies pointers is can i p here).outside),
+          )) in
+          let few : needed_blocks kept pointers + 1 ≤ kept.count = count_all_but (is_taken kept (spare_for kept pointers) pointers) kept.first kept.count block within.0 within.1 untaken in
+          let all = counted in
+          omega (arith, few, all)
+
+  -- what is live was found on its page
+  pub found_in : (page : ℕ) (h : Held) → held_at seg page ≡ Some h → IsFoundIn kept seg page h
+  found_in page h held =
+      let one = loaded.only page h held in
+      let t = there_at kept copies pointers is can one.0 one.1 one.3 in
+      let value : held_for kept (retained_at kept pointers one.1) one.1 ≡ Some (record { tag = t.kept_page.tag; stamp = one.1.stamp }) = ap (option_map {U = Held} (λ (k : KeptPage). record { tag = k.tag; stamp = one.1.stamp })) t.found in
+      let e : record { tag = t.kept_page.tag; stamp = one.1.stamp } ≡ h = same_Some (record { tag = t.kept_page.tag; stamp = one.1.stamp }) h (sym value ∙ sym (loaded.listed one.0 one.1 one.2 one.3) ∙ ap (held_at seg) one.4 ∙ held) in
+      record {
+        within = subst (InSegment seg) one.4 (in_segment kept copies (spare_for kept pointers) one.1 (retained_at kept pointers one.1) seg is loaded.segment t);
+        found = ap (λ n. find (λ (k : KeptPage). k.page == n) kept.pages) (sym one.4) ∙ t.found
+            ∙ (λ i. Some (record { page = (t.page_is ∙ one.4) i; stamp = (t.stamp ∙ ap (λ (x : Held). x.stamp) e) i; tag = ap (λ (x : Held). x.tag) e i }));
+      }
+
+  -- no two live pages share a stamp
+  pub live_differ : (p q : ℕ) (g h : Held) → held_at seg p ≡ Some g → held_at seg q ≡ Some h → g.stamp ≡ h.stamp → p ≡ q
+  live_differ p q g h p_held q_held same =
+      let a = loaded.only p g p_held in
+      let b = loaded.only q h q_held in
+      let x = (same_pointer kept copies pointers is can a.0 b.0 a.1 b.1 a.3 b.3 (sym a.5 ∙ same ∙ b.5)).1 in
+      sym a.4 ∙ ap (retained_at kept pointers) x ∙ b.4

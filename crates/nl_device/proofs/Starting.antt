@@ -9,7 +9,6 @@ use Rattle.nl_field.specs.Numbers.{ShapeBounds, is_legal, shape_for}
 use Rattle.nl_field.proofs.Bounds.{bounds}
 use Rattle.nl_field.specs.SpareRecord.{stamp_of}
 use Rattle.nl_field.specs.declared.shape.Shape.{Shape}
-use Rattle.nl_iface.specs.Left.{HoldsLive}
 use Rattle.nl_iface.specs.Stored.{stored_in}
 use Rattle.nl_nand.specs.declared.geometry.Geometry.{Geometry}
 use Rattle.nl_device.proofs.Calling.{called_none}
@@ -23,11 +22,11 @@ use Rattle.nl_vseg.proofs.Members.{In}
 use Rattle.nl_vseg.specs.Places.{place_of, stamp_in_place}
 use Rattle.nl_vseg.specs.Segment.{Segment}
 use Rattle.nl_vseg.specs.declared.place.Place.{Place}
-use Rattle.nl_device.specs.Device.{HasLive, HasMapped, HasSegments, HasSpareBlock, IsDevice, IsNextStamp, IsOnMedium}
+use Rattle.nl_device.specs.Device.{HasLive, HasMapped, HasSegments, HasSpareBlock, IsDevice, IsFoundStored, IsNextStamp, IsOnMedium}
 use Rattle.nl_device.specs.Opening.{FitsShape, IsOpenedPhysical, IsOpenedVirtual, needed_of, owns_of, pick_of, place_on}
 use Rattle.nl_field.specs.Medium.{first_physical}
 use Rattle.nl_device.specs.Kept.{KeptPages, kept_pages}
-use Rattle.nl_device.specs.Shown.{bytes_at, found_in}
+use Rattle.nl_device.specs.Shown.{bytes_at}
 use Rattle.nl_device.proofs.Laws.{names_are, no_stamp_beyond, shape_is_legal}
 use Rattle.nl_device.proofs.Retained.{has_found}
 use Rattle.nl_device.specs.Space.{space_of}
@@ -140,7 +139,7 @@ module _ (shape : Shape) (t : Table) (pseg : Physical) (p : IsOpenedPhysical sha
 pub opened_device : (geometry : Geometry) (shape : Shape) (t : Table) (vseg : Segment) (pseg : Physical) (pending : PendingTable) (kept : KeptPages) (tells : Type 0) (image : Image) → IsTrue (is_legal geometry.blocks geometry.pages) → shape ≡ shape_for geometry.blocks geometry.pages → FitsShape shape t
     → IsOpenedVirtual shape t vseg → IsOpenedPhysical shape t pseg → (HasSegments geometry shape vseg pseg → HasLive pseg → HasSpareBlock pseg → tells → IsOnMedium shape (1 + greatest_stamp t.seen) image vseg pseg)
     → kept ≡ record { first = shape.vblocks; count = shape.pblocks; size = shape.pages; pages = kept_pages (first_physical shape) t.seen }
-    → (tells → HoldsLive (found_in kept) (λ p. bytes_at (shape.vblocks * shape.pages) image p) (stored_in image))
+    → (tells → IsFoundStored kept (λ p. bytes_at (shape.vblocks * shape.pages) image p) (stored_in image))
     → pending ≡ record { callbacks = []; posted = 0; room = 4 * shape.pages } → IsDevice geometry tells image shape vseg pseg pending kept (1 + greatest_stamp t.seen)
 opened_device geometry shape t vseg pseg pending kept tells image legal e fits o p medium found stored none =
     let x = for_shape shape geometry.blocks geometry.pages e in

@@ -6,7 +6,6 @@ use Rattle.nl_field.specs.declared.pointer.Tag.{Tag}
 use Rattle.nl_field.specs.declared.shape.Shape.{Shape}
 use Rattle.nl_nand.specs.Nand.{ImageOf}
 use Rattle.nl_nand.specs.declared.geometry.Geometry.{Geometry}
-use Rattle.nl_iface.specs.Left.{HoldsLive}
 use Rattle.nl_iface.specs.Names.{IsNew}
 use Rattle.nl_iface.specs.Stored.{NamedPage, stored_in}
 use Rattle.nl_pseg.specs.Effects.{Keeps, Places}
@@ -14,9 +13,9 @@ use Rattle.std.specs.Prelude.{Contains}
 use Rattle.nl_pseg.specs.Segment.{HasSpare, IsDead, IsPhysicalOf, Physical, SamePages, held_at}
 use Rattle.nl_pseg.specs.declared.held.Held.{Held}
 use Rattle.nl_vseg.specs.Segment.{Segment}
-use Rattle.nl_device.specs.Device.{HasLive, HasSegments, HasSpareBlock, IsDevice}
+use Rattle.nl_device.specs.Device.{HasLive, HasSegments, HasSpareBlock, IsDevice, IsFoundStored}
 use Rattle.nl_device.specs.Kept.{KeptPages, forgotten}
-use Rattle.nl_device.specs.Shown.{bytes_at, found_in, live_page, names_of}
+use Rattle.nl_device.specs.Shown.{bytes_at, live_page, names_of}
 use Rattle.nl_device.specs.Stamps.{is_tried}
 use Rattle.nl_device.proofs.Calls.{device_with, found_after, medium_with, named_segments, stored_after}
 use Rattle.nl_device.proofs.Forms.{begins}
@@ -49,9 +48,9 @@ module _ {geometry now : Geometry} {tells : Type 0} {image c : Image} {shape : S
   rises : next ≤ after
   rises = omega (arith, is_after)
 
-  stored : tells → HoldsLive (found_in left) (λ p. bytes_at (shape.vblocks * shape.pages) c p) (stored_in c)
+  stored : tells → IsFoundStored left (λ p. bytes_at (shape.vblocks * shape.pages) c p) (stored_in c)
   stored t = stored_after kept left tried is_left (λ p. bytes_at (shape.vblocks * shape.pages) c p) (stored_in c)
-      (λ un. subst (λ (i : Image). HoldsLive (found_in kept) (λ p. bytes_at (shape.vblocks * shape.pages) i p) (stored_in i)) (sym (untouched (sym tried_is ∙ un))) (f.found_stored t))
+      (λ un. subst (λ (i : Image). IsFoundStored kept (λ p. bytes_at (shape.vblocks * shape.pages) i p) (stored_in i)) (sym (untouched (sym tried_is ∙ un))) (f.found_stored t))
 
   named_below : tells → (p : ℕ) (page : NamedPage) → (stored_in c).named p ≡ Some page → page.stamp + 1 ≤ after
   named_below t = by tried refl

@@ -20,10 +20,10 @@ use Rattle.nl_pseg.specs.Space.{IsWhole, left_of, victims}
 use Rattle.nl_pseg.specs.declared.held.Held.{Held}
 use Rattle.nl_vseg.specs.Segment.{Segment}
 use Rattle.nl_device.specs.Callbacks.{names_with}
-use Rattle.nl_device.specs.Device.{HasLive, HasSpareBlock, IsDevice}
+use Rattle.nl_device.specs.Device.{HasLive, HasSpareBlock, IsDevice, IsFoundStored}
 use Rattle.nl_device.specs.Kept.{KeptPages, forgotten}
 use Rattle.nl_device.specs.Laws.{leaves_as}
-use Rattle.nl_device.specs.Shown.{bytes_at, found_in, live_page, names_of}
+use Rattle.nl_device.specs.Shown.{bytes_at, live_page, names_of}
 use Rattle.nl_device.specs.Space.{space_of}
 use Rattle.nl_device.specs.State.{old_or}
 use Rattle.nl_device.proofs.Calling.{called_same}
@@ -160,7 +160,7 @@ wiped_device {geometry} {now} {tells} {image} {c} {shape} {vseg} {old} {pending}
       differ = λ p q g h p_has q_has same. f.live.differ p q g h (same_before old new held p g p_has) (same_before old new held q h q_has) same;
     } in
     let spare : HasSpareBlock new = record { whole = whole; block = kept_block; in_hand = hand } in
-    let stored : tells → HoldsLive (found_in (forgotten kept)) (λ p. bytes_at (shape.vblocks * shape.pages) c p) (stored_in c) = λ t. stored_after kept (forgotten kept) true refl (λ p. bytes_at (shape.vblocks * shape.pages) c p) (stored_in c) (λ un. absurd (true≢false un)) in
+    let stored : tells → IsFoundStored (forgotten kept) (λ p. bytes_at (shape.vblocks * shape.pages) c p) (stored_in c) = λ t. stored_after kept (forgotten kept) true refl (λ p. bytes_at (shape.vblocks * shape.pages) c p) (stored_in c) (λ un. absurd (true≢false un)) in
     device_of f segments (found_after kept (forgotten kept) true refl shape next next (omega arith) f.found) stored live spare
     (called_same old new pending pending f.called refl f.called.numbers refl pairs size (same_keeps old new held)) (omega arith)
     (λ p h has. f.stamp.live p h (same_before old new held p h has))

@@ -1,12 +1,12 @@
 -- What holds of the tables of a device, and of a medium that tells its contents.
-use Rattle.std.specs.Prelude.{◌≡◌, ℕ, ◌+◌, ◌-◌, ◌*◌, ◌<◌, ◌≤◌, List, length, true, None, Some, IsTrue, All}
+use Rattle.std.specs.Prelude.{◌≡◌, ◌⊎◌, ℕ, ◌+◌, ◌-◌, ◌*◌, ◌<◌, ◌≤◌, List, [], length, true, None, Some, IsTrue, All}
 use Rattle.nl_field.specs.Numbers.{is_legal, shape_for}
 use Rattle.nl_field.specs.Page.{Image}
 use Rattle.nl_field.specs.declared.shape.Shape.{Shape}
 use Rattle.nl_iface.specs.Device.{IsVolumeShape}
 use Rattle.nl_iface.specs.Left.{HoldsLive, LeavesPages}
 use Rattle.nl_iface.specs.Names.{IsNames}
-use Rattle.nl_iface.specs.Stored.{NamedPage, NoneBeyond, Shows as StoresMap, stored_in}
+use Rattle.nl_iface.specs.Stored.{NamedPage, NoneBeyond, Shows as StoresMap, Stored, stored_in}
 use Rattle.nl_device.specs.Callbacks.{AreCalled}
 use Rattle.nl_device.specs.Kept.{KeptPages}
 use Rattle.nl_device.specs.Shown.{IsStray, bytes_at, found_in, names_of}
@@ -81,6 +81,11 @@ pub record HasFound (shape : Shape) (kept : KeptPages) (next : ℕ) : Type 0 whe
   pub size : kept.size ≡ shape.pages
   pub below : All (λ k. k.stamp < next) kept.pages
 
+-- What the scan found is stored. Where it was not forgotten, nothing else is stored under a name.
+pub record IsFoundStored (kept : KeptPages) (bytes : ℕ → List ℕ) (c : Stored) : Type 0 where
+  pub holds : HoldsLive (found_in kept) bytes c
+  pub only : (p : ℕ) → found_in kept p ≡ None → (kept.pages ≡ []) ⊎ (c.named p ≡ None)
+
 -- The tables stand for the medium, and for the names that are shown. What the scan found, and was not forgotten since, is stored.
 pub record IsDevice (geometry : Geometry) (tells : Type 0) (image : Image) (shape : Shape) (vseg : Segment) (pseg : Physical) (pending : PendingTable) (kept : KeptPages) (next : ℕ) : Type 0 where
   pub segments : HasSegments geometry shape vseg pseg
@@ -90,7 +95,7 @@ pub record IsDevice (geometry : Geometry) (tells : Type 0) (image : Image) (shap
   pub called : AreCalled pseg pending
   pub stamp : IsNextStamp next vseg pseg
   pub found : HasFound shape kept next
-  pub found_stored : tells → HoldsLive (found_in kept) (λ p. bytes_at (shape.vblocks * shape.pages) image p) (stored_in image)
+  pub found_stored : tells → IsFoundStored kept (λ p. bytes_at (shape.vblocks * shape.pages) image p) (stored_in image)
   pub legal : IsVolumeShape shape
   pub unwritten : (v : ℕ) → shape.vaddrs ≤ v → stamp_for vseg.places v ≡ None
   pub names : IsNames shape next (names_of pseg)

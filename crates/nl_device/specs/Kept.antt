@@ -72,6 +72,10 @@ pub record IsKept (kept : KeptPages) (copies : BTreeMap ℕ Copies) : Type 0 whe
   pub within : All (IsOfSegment kept.first kept.count kept.size) kept.pages
   pub noted : AreNoted kept.size kept.pages copies
 
+-- of what is kept the copies can be noted
+abbrev pub HasCopies : KeptPages → Type 0
+HasCopies kept = (copies : BTreeMap ℕ Copies) × IsKept kept copies
+
 -- The least block of the segment each page of which that has one of these stamps has a copy in another block.
 unfoldable pub spare_among : KeptPages → List ℕ → Option ℕ
 spare_among kept stamps =

@@ -6,6 +6,8 @@ pub mod Laws
 pub mod Marks
 pub mod Medium
 pub mod Opening
+pub mod Posting
+pub mod Reopened
 pub mod Retain
 pub mod Shown
 pub mod Space

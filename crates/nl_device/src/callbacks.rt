@@ -53,11 +53,10 @@ pub fn cancel_gone(pending: &mut Pending, pseg: &PSeg, some: bool)
     ensures room { length pending.new.callbacks + pending.new.room ≡ length pending.old.callbacks + pending.old.room }
 {
     if some {
-        let last = pending.posted();
         let mut number = 0;
-        'each: while number < last {
-            number += 1;
-            cancel_one(pending, pseg, number);
+        'each: while let Some(next) = pending.above(number) {
+            cancel_one(pending, pseg, next);
+            number = next;
         }
     }
 }

@@ -13,8 +13,6 @@ mod retain;
 pub mod scan_laws;
 mod stamps;
 mod start;
-#[cfg(test)]
-mod tests;
 mod told;
 mod virtual_pages;
 

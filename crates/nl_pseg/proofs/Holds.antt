@@ -1,15 +1,16 @@
 -- What holds of each segment.
-use Rattle.std.proofs.Common.{◌≡◌, ⊎_elim, ℕ, ◌+◌, ◌-◌, ◌*◌, ◌/◌, ◌<◌, ◌≤◌, nat_le, Bool, true, false, cond, Option, Some, None, List, length, get_or, map, count_by, Contains, refl, sym, ◌∙◌, ap, subst, arith}
+use Rattle.std.proofs.Common.{◌≡◌, ⊎_elim, ℕ, zero, suc, [], ◌∷◌, ◌<◌, ◌+◌, ◌-◌, ◌*◌, ◌/◌, ◌≤◌, nat_le, Bool, true, false, cond, Option, Some, None, List, length, get_or, map, count_by, Contains, refl, sym, ◌∙◌, ap, subst, arith}
 use Rattle.std.proofs.lemmas.Bool.{cases_Bool, true≢false}
 use Rattle.std.proofs.lemmas.List.{get_or-map, length-map}
-use Rattle.std.proofs.lemmas.List.Sums.{count_by-le-length, get_or-le-sum_by}
+use Rattle.std.proofs.lemmas.List.Sums.{count_by-le-length, get_or-le-sum_by, sum_by-cons}
+use Rattle.std.specs.List.{range_with_len}
 use Rattle.nl_blocks.specs.declared.states.BlockState.{BlockState}
 use Rattle.nl_blocks.specs.declared.states.BlockState.TheVariants as the
 use Rattle.nl_blocks.specs.Table.{BlockRow, HasBlock, IsTable, block_at, dead_count, is_free, is_retired_state, no_row, row_at}
 use Rattle.nl_remap.specs.Links.{HasLink, link_at, no_link}
 use Rattle.nl_remap.specs.Table.{pair}
 use Rattle.nl_remap.specs.declared.links.Link.{Link}
-use Rattle.nl_pseg.specs.Segment.{InVictim, Use, KeepsBlock, held_at, no_use}
+use Rattle.nl_pseg.specs.Segment.{InVictim, Use, KeepsBlock, held_at, is_kept, no_use}
 use Rattle.nl_pseg.specs.Seen.{IsFormed, IsTied, seen, use_of}
 use Rattle.nl_pseg.specs.Space.{HasFewPairs, HasPages, IsWhole, dead_pages, gain_of, left_of, live_in, victims, waiting}
 use Rattle.nl_pseg.specs.declared.held.Held.{Held}
@@ -37,6 +38,16 @@ link_is ps name target has =
     let within : has.0 < length ps = subst (λ k. has.0 < k) (length-map ps turn) has.1 in
     let e : turn (link_at ps has.0) ≡ (name, target) = sym (get_or-map turn ps has.0 no_link (name, target) within) ∙ has.2 in
     (has.0, within, (λ i. record { from = (e i).0; to = (e i).1 }))
+
+-- the uses that are kept, by the numbers of their blocks
+by_place : (f : ℕ → Bool) (uses : List Use) (first : ℕ) → ((i : ℕ) → i < length uses → f (first + i) ≡ (get_or uses i no_use).is_kept) → count_by kept uses ≡ count_by f (range_with_len first (length uses))
+by_place f [] first each = refl
+by_place f (u ∷ us) first each =
+    let a : count_by kept (u ∷ us) ≡ num (kept u) + count_by kept us = sum_by-cons (λ x. num (kept x)) u us in
+    let b : count_by f (range_with_len first (suc (length us))) ≡ num (f first) + count_by f (range_with_len (first + 1) (length us)) = sum_by-cons (λ x. num (f x)) first (range_with_len (first + 1) (length us)) in
+    let here : num (f first) ≡ num (kept u) = ap num (ap f (omega arith) ∙ each zero (omega arith)) in
+    let rest = by_place f us (first + 1) (λ i within. ap f (omega arith) ∙ each (suc i) (omega (arith, within))) in
+    omega (arith, a, b, here, rest)
 
 module _ (s : State) (is : IsFormed s) where
   -- some block is kept, where one is Free or waits
@@ -165,6 +176,15 @@ module _ (s : State) (is : IsFormed s) (tied : IsTied s) where
             let spread : ((f + a + t) + ((1 - a) + (1 - t))) * size ≡ (f + a + t) * size + ((1 - a) + (1 - t)) * size = omega arith in
             omega (arith, sum, less, same, more, spread)
 
+    counted : (seen s).free + waiting (seen s) ≡ count_by (is_kept (seen s)) (range_with_len s.blocks.first (s.blocks.first + length s.blocks.blocks - s.blocks.first))
+    counted =
+        let uses = map use_of s.blocks.blocks in
+        let size = length-map s.blocks.blocks use_of in
+        let many : s.blocks.first + length s.blocks.blocks - s.blocks.first ≡ length uses = omega (arith, size) in
+        all_kept s.blocks.blocks
+        ∙ (by_place (is_kept (seen s)) uses s.blocks.first (λ i within. ap (λ (u : Use). u.is_kept) (use_from s.blocks.first uses (s.blocks.first + i) (omega arith)) ∙ ap (λ k. (get_or uses k no_use).is_kept) (omega arith))
+        ∙ ap (λ n. count_by (is_kept (seen s)) (range_with_len s.blocks.first n)) (sym many))
+
     pub holds_whole : IsWhole (seen s)
     holds_whole = record {
       pages = has_pages;
@@ -176,6 +196,7 @@ module _ (s : State) (is : IsFormed s) (tied : IsTied s) where
         pairs = let count : length (map turn s.names.pairs) ≡ length s.names.pairs = length-map s.names.pairs turn in let r = tied.named.room in omega (arith, count, r);
         busy = few;
         few_wait = few_wait;
+        counted = counted;
         kept = kept_counts;
         dead = dead;
       };

@@ -39,7 +39,6 @@ pub mod News
 pub mod Numbers
 pub mod Openings
 pub mod Placings
-pub mod Rigs
 pub mod Segments
 pub mod Shapes
 pub mod States

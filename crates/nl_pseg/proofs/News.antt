@@ -18,7 +18,8 @@ use Rattle.nl_pseg.specs.Seen.{IsFormed, IsTied, new_segment, row_of, seen, use_
 use Rattle.nl_pseg.specs.declared.held.Held.{Held}
 use Rattle.nl_pseg.specs.declared.state.State.{State}
 use Rattle.nl_pseg.proofs.Numbers.{in_block, block_below}
-use Rattle.nl_pseg.proofs.Shapes.{IsRoomy}
+use Rattle.nl_field.specs.Numbers.{ShapeBounds}
+use Rattle.nl_pseg.proofs.Shapes.{few_pages, some_pages, two_blocks}
 use Rattle.nl_pseg.proofs.Tables.{use_before, use_from}
 
 all_free : (count size : ℕ) → count_by is_free (replicate count (new_row size)) ≡ count
@@ -64,11 +65,11 @@ abbrev pub new_names : Shape → NameTable
 new_names shape = record { pairs = []; room = 4 * shape.pages; size = shape.pages; blocks = shape.blocks }
 
 -- a state with these is that segment
-module _ (shape : Shape) (roomy : IsRoomy shape) (s : State) (table : s.blocks ≡ new_table shape.vblocks shape.pblocks shape.pages) (held : s.held.items ≡ replicate (shape.blocks * shape.pages) None)
+module _ (shape : Shape) (roomy : ShapeBounds shape) (s : State) (table : s.blocks ≡ new_table shape.vblocks shape.pblocks shape.pages) (held : s.held.items ≡ replicate (shape.blocks * shape.pages) None)
     (soiled : s.soiled.items ≡ replicate shape.blocks None) (active : s.active ≡ shape.vblocks) (used : s.used ≡ shape.pages) (target : s.target ≡ shape.vblocks) (filled : s.filled ≡ shape.pages)
     (victim : s.victim ≡ None) (names : s.names ≡ new_names shape) where
   last : s.blocks.first + length s.blocks.blocks ≡ shape.blocks
-  last = ap (λ (t : Table). t.first + length t.blocks) table ∙ (ap (λ n. shape.vblocks + n) (length-replicate shape.pblocks (new_row shape.pages)) ∙ roomy.all)
+  last = ap (λ (t : Table). t.first + length t.blocks) table ∙ (ap (λ n. shape.vblocks + n) (length-replicate shape.pblocks (new_row shape.pages)) ∙ roomy.segments)
 
   size : s.blocks.size ≡ shape.pages
   size = ap (λ (t : Table). t.size) table
@@ -115,18 +116,18 @@ module _ (shape : Shape) (roomy : IsRoomy shape) (s : State) (table : s.blocks �
 
   has_first : HasBlock s.blocks shape.vblocks
   has_first =
-      let many = roomy.blocks in
-      let all = roomy.all in
+      let many = two_blocks roomy in
+      let all = roomy.segments in
       let end = last in
       let first : s.blocks.first ≡ shape.vblocks = ap (λ (t : Table). t.first) table in
       record { from = omega (arith, first); below = omega (arith, end, many, all) }
 
   pub new_formed : IsFormed s
   new_formed =
-      let some = roomy.some in
+      let some = some_pages roomy in
       record {
         some = omega (arith, size, some);
-        numbers = subst (λ k. k < 2 ^ 32) (λ i. sym last i * sym size i) roomy.numbers;
+        numbers = subst (λ k. k < 2 ^ 32) (λ i. sym last i * sym size i) (few_pages roomy);
         pages = ap length held ∙ (length-replicate {A = Option Held} (shape.blocks * shape.pages) None ∙ (λ i. sym last i * sym size i));
         marks = ap length soiled ∙ (length-replicate {A = Option ℕ} shape.blocks None ∙ sym last);
         active_in = subst (HasBlock s.blocks) (sym active) has_first;
@@ -175,21 +176,21 @@ module _ (shape : Shape) (roomy : IsRoomy shape) (s : State) (table : s.blocks �
   }
 
 -- what a new segment has
-module _ (shape : Shape) (roomy : IsRoomy shape) where
+module _ (shape : Shape) (roomy : ShapeBounds shape) where
   pub new_use : (block : ℕ) → shape.vblocks ≤ block → block < shape.blocks → use_at shape.vblocks (replicate shape.pblocks (use_with true 0)) block ≡ use_with true 0
   new_use block from below =
-      let all = roomy.all in
+      let all = roomy.segments in
       use_from shape.vblocks (replicate shape.pblocks (use_with true 0)) block from ∙ get_or-replicate shape.pblocks (block - shape.vblocks) (use_with true 0) no_use (omega (arith, from, below, all))
 
   pub new_kept : KeepsBlock (new_segment shape)
   new_kept =
-      let all = roomy.all in
-      let many = roomy.blocks in
+      let all = roomy.segments in
+      let many = two_blocks roomy in
       record { block = shape.vblocks; from = omega arith; below = omega (arith, all, many); kept = inl (ap (λ (u : Use). u.is_kept) (new_use shape.vblocks (omega arith) (omega (arith, all, many)))) }
 
   pub new_room : room (new_segment shape) + shape.pages ≡ shape.pblocks * shape.pages
   new_room =
-      let many = roomy.blocks in
+      let many = two_blocks roomy in
       let e : (shape.pblocks - 1) + 1 ≡ shape.pblocks = omega (arith, many) in
       subst (λ k. 0 + (shape.pblocks - 1) * shape.pages + shape.pages ≡ k * shape.pages) e (omega arith)
 
@@ -203,13 +204,13 @@ module _ (shape : Shape) (roomy : IsRoomy shape) where
 
   pub new_taken : (p : ℕ) → InSegment (new_segment shape) p → TakenAsErased (new_segment shape) p
   new_taken p within =
-      let below = div_below p shape.pages shape.blocks roomy.some within.1 in
+      let below = div_below p shape.pages shape.blocks (some_pages roomy) within.1 in
       inr (ap (λ (u : Use). u.is_kept) (new_use (p / shape.pages) from below), new_clean (p / shape.pages))
     where
       from : shape.vblocks ≤ p / shape.pages
       from = elim (cases_lt (p / shape.pages) shape.vblocks) [
         | inl lt ↦
-            let here = in_block p shape.pages (p / shape.pages) roomy.some refl in
+            let here = in_block p shape.pages (p / shape.pages) (some_pages roomy) refl in
             let low = block_below (p / shape.pages) shape.vblocks shape.pages lt in
             absurd (omega (arith, here.1, low, within.0))
         | inr ge ↦ ge

@@ -5,6 +5,5 @@ pub mod Pages
 pub mod Segment
 pub mod Space
 pub mod Cleaning
-pub mod Rig
 pub mod Seen
 pub mod Steps

@@ -1,5 +1,6 @@
 -- The numbers of a segment's space, and how they go on.
 use Rattle.std.specs.Prelude.{◌≡◌, ◌⊎◌, ℕ, ◌+◌, ◌-◌, ◌*◌, ◌/◌, ◌≤◌, ◌&&◌, not, true, false, cond, List, length, sum_by, count_by, Contains, AllPairs, Option, Some, is_some, option_map, unwrap_or}
+use Rattle.std.specs.List.{range_with_len}
 use Rattle.nl_blocks.specs.Table.{is_sealed_state}
 use Rattle.nl_pseg.specs.Segment.{InSegment, InVictim, IsOldName, IsUnspent, KeepsBlock, Physical, IsNext, IsNextCopy, TakenAsErased, held_at, is_free, is_kept, is_waiting, room, row_at, soiled}
 use Rattle.nl_pseg.specs.declared.held.Held.{Held}
@@ -63,8 +64,8 @@ pub record HasPages (seg : Physical) : Type 0 where
   pub victim_idle : (page : ℕ) → IsNext seg page → InVictim seg page → ⊥
 
 -- And of its numbers: each live page of a victim is counted; there are at most 4 pairs for each page of a block, and with a victim in
--- hand at most 3 with its live pages; a block that waits has a name; where a block is kept for the cleaner, one is Free, waits, or is the victim; and but for three blocks
--- all pages are live, dead, or in blocks that are Free.
+-- hand at most 3 with its live pages; a block that waits has a name; the blocks that are kept for the cleaner are Free or wait, and where there is one or it is in
+-- hand, one is Free, waits, or is the victim; and but for three blocks all pages are live, dead, or in blocks that are Free.
 pub record HasNumbers (seg : Physical) : Type 0 where
   pub left : seg.left ≤ seg.size
   pub copy_left : seg.copy_left ≤ seg.size
@@ -73,6 +74,7 @@ pub record HasNumbers (seg : Physical) : Type 0 where
   pub pairs : length seg.pairs + seg.pair_room ≡ 4 * seg.size
   pub busy : HasFewPairs seg
   pub few_wait : waiting seg ≤ length seg.pairs
+  pub counted : seg.free + waiting seg ≡ count_by (is_kept seg) (range_with_len seg.first (seg.blocks - seg.first))
   pub kept : KeepsBlock seg → 1 ≤ seg.free + waiting seg + victims seg
   pub dead : waiting seg ≡ 0 → victims seg ≡ 0 → (seg.blocks - seg.first) * seg.size ≤ live_in seg.held + dead_pages seg + (seg.free + 2) * seg.size
 

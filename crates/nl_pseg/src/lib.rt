@@ -10,8 +10,6 @@ mod erase;
 mod find;
 mod give_back;
 mod held;
-#[cfg(test)]
-mod moves;
 mod names;
 mod old_names;
 mod open;
@@ -21,8 +19,6 @@ mod read;
 mod room;
 mod state;
 mod table;
-#[cfg(test)]
-mod tests;
 mod write;
 
 pub use cleaned::{Copied, Erasure};

@@ -213,6 +213,13 @@ impl PSeg {
         dropped
     }
 
+    /// Whether the pointer leads to a live page of its write sequence number.
+    pub fn is_live(&self, at: Pointer) -> bool
+        ensures { IsTrue result ↔ IsLive self.now at }
+    {
+        self.state.place_of(at).is_some()
+    }
+
     /// The number of Free blocks.
     pub fn free_blocks(&self) -> u32
         ensures { result ≡ self.now.free }

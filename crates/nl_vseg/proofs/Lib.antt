@@ -11,7 +11,6 @@ pub mod Passing
 pub mod Places
 pub mod ReadPlaces
 pub mod Records
-pub mod Rigs
 pub mod Segments
 pub mod Shapes
 pub mod Spares

@@ -6,7 +6,6 @@ pub mod Maps
 pub mod Operations
 pub mod Pages
 pub mod Places
-pub mod Rig
 pub mod Seen
 pub mod Segment
 pub mod Writes

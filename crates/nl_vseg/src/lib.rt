@@ -9,8 +9,6 @@ mod place;
 mod read;
 mod room;
 mod state;
-#[cfg(test)]
-mod tests;
 mod victim;
 mod vseg;
 mod write;

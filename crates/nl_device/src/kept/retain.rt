@@ -1,14 +1,24 @@
-ghost use Rattle.std.specs.Prelude.{◌≡◌, ◌≤◌, cond, ◌+◌, ℕ, [], length, None, Some};
-ghost use Rattle.nl_device.specs.Retain.{AreRetained, CanLoad, CanRetain, IsFoundIn, IsFresh, IsSegmentFor, Loads, Retains, needed_blocks};
-ghost use Rattle.nl_device.specs.Kept.{forgotten};
-ghost use Rattle.nl_device.specs.Space.{live_in};
-ghost use Rattle.nl_pseg.specs.Segment.{IsClean, IsNextCopy, KeepsBlock, KeptAreDead, TakenAsErased, held_at};
-ghost use Rattle.nl_pseg.specs.Space.{IsWhole};
-ghost use Rattle.nl_pseg.specs.declared.held.Held.{Held};
+ghost use Rattle.std.specs.Prelude.{◌≡◌, ◌≢◌, ℕ, ◌<◌, cond, length};
+ghost use Rattle.nl_callbacks.specs.Pending.{callback_of};
+ghost use Rattle.nl_device.specs.Posting.{Posts};
+ghost use Rattle.nl_device.specs.Retain.{CanLoad, CanRetain, HasCalled, HasLoaded, IsCalled, IsFresh, IsIdle, IsSegmentFor, Loads, placed_at};
+ghost use Rattle.nl_device.specs.Kept.{HasCopies, forgotten};
 
 use super::Kept;
-use nl_field::{Pointer, PointerList};
+use nl_callbacks::Pending;
+use nl_field::{Pointer, PointerList, Tag};
 use nl_pseg::PSeg;
+
+/// A callback tells where the page of the pointer's name is now, where it is another page.
+fn call(pending: &mut Pending, at: &Pointer, page: u32, tag: Tag)
+    requires { at.now.name ≢ page → 0 < pending.old.room }
+    ensures here { at.now.name ≡ page → pending.new ≡ pending.old }
+    ensures away { at.now.name ≢ page → (number : ℕ) × Posts (callback_of number at.now.name page tag at.now.stamp) pending.old pending.new }
+{
+    if page != at.name {
+        pending.post(at.name, page, tag, at.stamp);
+    }
+}
 
 impl Kept {
     /// Keeps no page.
@@ -29,11 +39,12 @@ impl Kept {
         }
     }
 
-    /// The place of a pointer is live. It is its name.
-    fn load(&self, pseg: &mut PSeg, spare: Option<u32>, at: &Pointer)
+    /// The place of a pointer is live. Where it is not its name, the name leads to it, and a callback tells so.
+    fn load(&self, pseg: &mut PSeg, pending: &mut Pending, spare: Option<u32>, at: &Pointer)
         requires segment { IsSegmentFor self.now pseg.old }
-        requires can { CanLoad self.now spare at.now pseg.old }
-        ensures { Loads self.now at.now pseg.old pseg.new }
+        requires can { CanLoad self.now spare at.now pseg.old pending.old }
+        ensures loaded { Loads self.now (placed_at self.now spare at.now) at.now pseg.old pseg.new }
+        ensures called { IsCalled self.now spare at.now pending.old pending.new }
     {
         let _ = &self.first;
         let Some(page) = self.place(spare, at) else {
@@ -43,37 +54,26 @@ impl Kept {
             return;
         };
         pseg.load(page, *at, kept.tag);
+        call(pending, at, page, kept.tag);
     }
 
-    /// Exactly the listed pointers are live afterwards, each at its place.
-    pub(crate) fn retain(&mut self, pseg: &mut PSeg, list: &PointerList)
+    /// Exactly the listed pointers are live afterwards, each at its place. Those whose places are not their names have pairs and
+    /// callbacks.
+    pub(crate) fn retain(&mut self, pseg: &mut PSeg, pending: &mut Pending, list: &PointerList)
         requires segment { IsSegmentFor self.old pseg.old }
         requires fresh { IsFresh pseg.old }
+        requires idle { IsIdle self.old pending.old }
         requires can { CanRetain self.old list.now.items }
-        ensures retained { AreRetained self.old list.now.items pseg.new }
-        ensures from { (page : ℕ) (h : Held) → held_at pseg.new page ≡ Some h → IsFoundIn self.old pseg.new page h }
-        ensures differ { (p q : ℕ) (g h : Held) → held_at pseg.new p ≡ Some g → held_at pseg.new q ≡ Some h → g.stamp ≡ h.stamp → p ≡ q }
-        ensures live { live_in pseg.new.held ≡ length list.now.items }
-        ensures segment { IsSegmentFor self.old pseg.new }
-        ensures pages { length pseg.new.held ≡ length pseg.old.held }
-        ensures pairs { pseg.new.pairs ≡ [] }
-        ensures some_free { 1 ≤ pseg.new.free }
-        ensures free { pseg.new.free + needed_blocks self.old list.now.items ≡ self.old.count }
-        ensures left { pseg.new.left ≤ pseg.old.left }
-        ensures erased { (p : ℕ) → TakenAsErased pseg.new p → TakenAsErased pseg.old p }
-        ensures copies { (p : ℕ) → IsNextCopy pseg.new p → IsNextCopy pseg.old p }
-        ensures whole { IsWhole pseg.new }
-        ensures none_in_hand { pseg.new.victim ≡ None }
-        ensures clean { IsClean pseg.old → IsClean pseg.new }
-        ensures none { list.now.items ≡ [] → pseg.new ≡ pseg.old }
-        ensures kept_block { KeepsBlock pseg.old → KeepsBlock pseg.new }
-        ensures kept_dead { KeptAreDead pseg.old → KeptAreDead pseg.new }
+        ensures loaded { HasLoaded self.old list.now.items (length list.now.items) pseg.old pseg.new }
+        ensures called { HasCalled self.old list.now.items (length list.now.items) pseg.new pending.old pending.new }
+        ensures kept { HasCopies self.old }
         ensures same { self.new ≡ self.old }
     {
         let _ = &self.first;
+        let _ = pending.posted();
         let spare = self.spare(list);
         'listed: for at in 0..list.len() {
-            self.load(pseg, spare, list.get(at));
+            self.load(pseg, pending, spare, list.get(at));
         }
     }
 }

@@ -1,4 +1,4 @@
-use Rattle.std.proofs.Common.{◌-◌, ◌≡◌, ◌+◌, ◌≤◌, filter, length}
+use Rattle.std.proofs.Common.{◌-◌, ◌≡◌, ◌+◌, filter, length}
 use Rattle.nl_callbacks.specs.Pending.{IsTable}
 use Rattle.nl_device.proofs.Lists.{is_left}
 use Rattle.nl_device.proofs.callbacks.cancel_gone.Given as goal
@@ -7,11 +7,9 @@ abbrev pub invariant-each : goal.invariant-each
 invariant-each l = record {
   numbers : IsTable l.pending.callbacks l.pending.posted;
   posted : l.pending.posted ≡ l.initial.pending.posted;
-  last : l.last ≡ l.initial.pending.posted;
-  here : l.number ≤ l.last;
   kept : l.pending.callbacks ≡ filter (is_left l.pseg.pairs l.number) l.initial.pending.callbacks;
   room : length l.pending.callbacks + l.pending.room ≡ length l.initial.pending.callbacks + l.initial.pending.room;
 }
 
 abbrev pub decreases-each : goal.decreases-each
-decreases-each l = l.last - l.number
+decreases-each l = l.pending.posted - l.number

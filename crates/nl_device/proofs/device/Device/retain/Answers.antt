@@ -1,15 +1,20 @@
-use Rattle.std.proofs.Common.{◌*◌, ◌≤◌, ◌∙◌, ℕ, List, ap, arith, length, refl, subst, sym}
-use Rattle.nl_pseg.specs.Segment.{IsClean, Physical}
+use Rattle.std.proofs.Common.{◌≡◌, ◌+◌, ◌*◌, ◌^◌, ◌<◌, ◌≤◌, ◌∙◌, ℕ, List, [], ap, arith, length, map, refl, is_some, subst, sym}
+use Rattle.std.specs.Prelude.{filter}
+use Rattle.std.proofs.lemmas.List.{take_all}
+use Rattle.nl_field.specs.declared.pointer.Pointer.{Pointer}
+use Rattle.nl_callbacks.specs.declared.entry.Entry.{Entry}
+use Rattle.nl_pseg.specs.Segment.{IsClean, KeepsBlock, Physical}
 use Rattle.nl_device.specs.Device.{HasSpareBlock, IsDevice}
-use Rattle.nl_device.specs.Retain.{IsSegmentFor}
+use Rattle.nl_device.specs.Retain.{IsSegmentFor, calls_beside, is_moved, moved_among, needed_blocks, spare_for}
 use Rattle.nl_device.specs.Shown.{found_by_number}
-use Rattle.nl_device.proofs.KeptLive.{retains_are, retains_with}
-use Rattle.nl_device.proofs.Retained.{all_free, free_some, is_fresh, live_is, none_held, retained_device, room_is, segment_for}
-use Rattle.nl_device.proofs.Spacing.{free_is, victim_none, waiting_is}
-use Rattle.nl_device.proofs.Calling.{called_none, none_called, none_paired}
+use Rattle.nl_device.proofs.CallsMade.{called_listed, calls_count}
+use Rattle.nl_device.proofs.KeptLive.{are_called, names_hold, reopened, retains_are}
+use Rattle.nl_device.proofs.Retained.{all_free, free_some, is_fresh, none_held, retained_device, segment_for}
+use Rattle.nl_device.proofs.Retaining.{counted, found_in, live_differ, some_kept}
+use Rattle.nl_device.proofs.Spacing.{victim_none}
+use Rattle.nl_device.proofs.Calling.{none_called, none_paired}
 use Rattle.nl_device.proofs.Leaving.{none_in_hand}
-use Rattle.nl_device.specs.Callbacks.{names_with}
-use Rattle.nl_device.proofs.Living.{none_wait}
+use Rattle.nl_device.specs.Callbacks.{callbacks_of, names_with}
 use Rattle.nl_device.proofs.device.Device.retain.Goals as goal
 
 pub give_back-requires : goal.give_back-requires
@@ -24,41 +29,60 @@ retain-requires-clause-segment g c =
 pub retain-requires-clause-fresh : goal.retain-requires-clause-fresh
 retain-requires-clause-fresh g c =
     let b = c.give_back.ensures in
-    is_fresh c.requires.formed.segments (none_paired c.args.self.now.pseg c.requires.formed.spare.whole (none_held c.args.self.now.pseg c.requires.no_live)) c.requires.no_live b.live b.pairs b.blocks b.pages b.free
-    (λ block from below. (b.each block (let e = b.first in omega (arith, e, from)) (let e = b.blocks in omega (arith, e, below))).0) b.left b.whole b.victim
+    is_fresh c.requires.formed.segments (none_paired c.args.self.now.pseg c.requires.formed.spare.whole (none_held c.args.self.now.pseg c.requires.no_live)) c.requires.no_live b.live b.pairs b.blocks b.pages
+    (λ block from below. (b.each block (let e = b.first in omega (arith, e, from)) (let e = b.blocks in omega (arith, e, below))).1) b.whole b.victim
+
+pub retain-requires-clause-idle : goal.retain-requires-clause-idle
+retain-requires-clause-idle g c =
+    let d = c.args.self.now in
+    let empty = none_called d.pseg d.pending c.requires.formed.called (none_held d.pseg c.requires.no_live) in
+    let few = ap (λ (l : List Entry). length l) empty in
+    let room = c.requires.formed.called.room in
+    let size = (segment_for c.requires.formed.segments c.requires.formed.found).size in
+    record { empty = empty; room = omega (arith, few, room, size) }
 
 pub returns-clause-formed : goal.returns-clause-formed
 returns-clause-formed g c =
     let d = c.args.self.now in
     let b = c.give_back.ensures in
     let e = c.retain.ensures in
-    let some_free : 1 ≤ c.give_back.new.self.free = free_some c.give_back.new.self c.requires.formed.segments b.first b.blocks b.free in
-    let spare : HasSpareBlock c.retain.new.pseg = record { whole = e.whole; block = e.kept_block (b.kept (omega (arith, some_free))); in_hand = none_in_hand c.retain.new.pseg e.none_in_hand } in
-    let empty = none_called d.pseg d.pending c.requires.formed.called (none_held d.pseg c.requires.no_live) in
-    subst (λ k. IsDevice (g.M.Nand.geometry d.media) g.M.Nand.tells (g.M.Nand.contents d.media) d.shape d.vseg c.retain.new.pseg d.pending k d.next) (sym e.same)
-    (retained_device c.requires.formed e.segment (e.pages ∙ ap length b.live) e.pairs spare e.none_in_hand (let l = e.left in let z = b.left in omega (arith, l, z))
-    (called_none c.retain.new.pseg d.pending e.pairs empty (c.requires.formed.called.room ∙ ap (λ n. 4 * n) (sym (e.segment.size ∙ sym (segment_for c.requires.formed.segments c.requires.formed.found).size)))) e.from e.differ (λ p taken. b.erased p (e.erased p taken)) (λ p taken. let here = e.copies p taken in let zero = b.copies in absurd (omega (arith, here.0, here.1, zero)))
-    (λ t. g.met.M.Nand.contents_fit d.media t))
+    let k = e.kept in
+    let seg = c.retain.new.pseg in
+    let start = c.give_back.new.self in
+    let some_free : 1 ≤ start.free = free_some start c.requires.formed.segments b.first b.blocks b.free in
+    let spare : HasSpareBlock seg = record { whole = e.loaded.whole; block = e.loaded.kept_block (b.kept some_free) (some_kept d.kept k.0 c.args.kept.now.items k.1 c.requires.can start seg e.loaded); in_hand = none_in_hand seg e.loaded.none_in_hand } in
+    subst (λ k. IsDevice (g.M.Nand.geometry d.media) g.M.Nand.tells (g.M.Nand.contents d.media) d.shape d.vseg seg c.retain.new.pending k d.next) (sym e.same)
+    (retained_device c.requires.formed e.loaded.segment (e.loaded.pages ∙ ap length b.live) spare e.loaded.none_in_hand (let l = e.loaded.left in let z = b.left in omega (arith, l, z))
+    (are_called d.kept k.0 c.args.kept.now.items k.1 c.requires.can start seg e.loaded d.pending c.retain.new.pending e.called)
+    (found_in d.kept k.0 c.args.kept.now.items k.1 c.requires.can start seg e.loaded) (live_differ d.kept k.0 c.args.kept.now.items k.1 c.requires.can start seg e.loaded)
+    (λ p taken. b.erased p (e.loaded.erased p taken)) (λ p taken. let here = e.loaded.copies p taken in let zero = b.copies in absurd (omega (arith, here.0, here.1, zero)))
+    (λ t. g.met.M.Nand.contents_fit d.media t)
+    (λ t holds. names_hold d.kept k.0 c.args.kept.now.items k.1 c.requires.can start seg e.loaded d.shape _ _ c.requires.formed.found.size (c.requires.formed.found_stored t) holds))
 
 pub returns-clause-retained : goal.returns-clause-retained
 returns-clause-retained g c =
-    let e = c.retain.ensures in
-    retains_with c.retain.new.pseg c.args.self.now.pending (none_called c.args.self.now.pseg c.args.self.now.pending c.requires.formed.called (none_held c.args.self.now.pseg c.requires.no_live)) (retains_are c.args.self.now.kept c.args.kept.now.items c.retain.new.pseg c.requires.can e.retained e.from e.pairs (live_is c.retain.new.pseg ∙ e.live))
-
-pub returns-clause-pairs : goal.returns-clause-pairs
-returns-clause-pairs g c =
-    let none = c.requires.can.room in
-    let e = ap (λ (ps : List (ℕ × ℕ)). length ps) c.retain.ensures.pairs in
-    omega (arith, none, e)
-
-pub returns-clause-blocks : goal.returns-clause-blocks
-returns-clause-blocks g c =
     let d = c.args.self.now in
-    let free = free_is c.retain.new.pseg in
-    let waits = waiting_is c.retain.new.pseg ∙ none_wait c.retain.new.pseg c.retain.ensures.whole c.retain.ensures.pairs in
-    let needed = c.retain.ensures.free in
-    let count = c.requires.formed.found.count in
-    omega (arith, free, waits, needed, count)
+    let e = c.retain.ensures in
+    retains_are d.kept e.kept.0 c.args.kept.now.items e.kept.1 c.requires.can c.give_back.new.self c.retain.new.pseg e.loaded d.pending c.retain.new.pending e.called
+
+pub returns-clause-posted : goal.returns-clause-posted
+returns-clause-posted g c few =
+    let d = c.args.self.now in
+    called_listed d.kept c.args.kept.now.items c.retain.new.pseg d.pending c.retain.new.pending c.retain.ensures.called few
+
+pub returns-clause-space : goal.returns-clause-space
+returns-clause-space g c =
+    let d = c.args.self.now in
+    let items = c.args.kept.now.items in
+    let b = c.give_back.ensures in
+    let e = c.retain.ensures in
+    let seg = c.retain.new.pseg in
+    let start = c.give_back.new.self in
+    let some_free : 1 ≤ start.free = free_some start c.requires.formed.segments b.first b.blocks b.free in
+    let spare : HasSpareBlock seg = record { whole = e.loaded.whole; block = e.loaded.kept_block (b.kept some_free) (some_kept d.kept e.kept.0 items e.kept.1 c.requires.can start seg e.loaded); in_hand = none_in_hand seg e.loaded.none_in_hand } in
+    reopened seg d.shape.pblocks (needed_blocks d.kept items) (length (moved_among d.kept items)) spare e.loaded.none_in_hand (let l = e.loaded.left in let z = b.left in omega (arith, l, z))
+    (counted d.kept e.kept.0 items e.kept.1 c.requires.can start seg e.loaded ∙ c.requires.formed.found.count)
+    (e.loaded.pairs ∙ ap (λ (l : List Pointer). length (filter (is_moved d.kept (spare_for d.kept items)) l)) (take_all (length items) items (omega arith)))
 
 pub returns-clause-medium : goal.returns-clause-medium
 returns-clause-medium g c = record {
@@ -73,11 +97,14 @@ returns-clause-medium g c = record {
   write_faults = refl;
 }
 
-pub returns-clause-room : goal.returns-clause-room
-returns-clause-room g c = let l = c.retain.ensures.left in let z = c.give_back.ensures.left in room_is c.retain.new.pseg c.retain.ensures.some_free (omega (arith, l, z))
-
 pub returns-clause-none : goal.returns-clause-none
-returns-clause-none g c all empty = ap (λ (s : Physical). names_with s c.args.self.now.pending) (c.retain.ensures.none empty ∙ c.give_back.ensures.same (all_free c.requires.formed.segments all))
+returns-clause-none g c all empty =
+    let e = c.retain.ensures in
+    let count = ap (λ (l : List Pointer). length l) empty in
+    (λ i. names_with ((e.loaded.unchanged count ∙ c.give_back.ensures.same (all_free c.requires.formed.segments all)) i) (e.called.unchanged count i))
 
 pub returns-clause-clean : goal.returns-clause-clean
-returns-clause-clean g c all clean = c.retain.ensures.clean (subst IsClean (sym (c.give_back.ensures.same (all_free c.requires.formed.segments all))) clean)
+returns-clause-clean g c all clean block kept =
+    let e = c.retain.ensures in
+    let was = subst IsClean (sym (c.give_back.ensures.same (all_free c.requires.formed.segments all))) clean in
+    ap is_some (e.loaded.same_soiled block) ∙ was block (e.loaded.kept_before block kept)

@@ -1,4 +1,4 @@
-use Rattle.std.proofs.Common.{◌≡◌, inl, inr, ⊎_elim, ◌+◌, ◌-◌, ◌^◌, ◌||◌, ◌<◌, ◌≤◌, min, ◌/◌, Bool, cond, List, Option, Some, None, get_or, sym, ◌∙◌, ap, subst}
+use Rattle.std.proofs.Common.{◌≡◌, inl, inr, ⊎_elim, ℕ, ◌+◌, ◌-◌, ◌^◌, ◌||◌, ◌<◌, ◌≤◌, min, ◌/◌, Bool, cond, List, Option, Some, None, get_or, sym, ◌∙◌, ap, subst}
 use Rattle.nl_pseg.specs.Segment.{HasSpare, IsNextCopy, KeepsBlock, Physical, TakenAsErased, is_free, is_waiting, wear_of}
 use Rattle.nl_pseg.specs.Seen.{seen}
 use Rattle.nl_pseg.specs.declared.held.Held.{Held}
@@ -54,3 +54,6 @@ returns-clause-erased c p taken =
 
 pub returns-clause-copies : goal.returns-clause-copies
 returns-clause-copies c p next = subst (λ (o : Physical). IsNextCopy o p × (p / o.size ≡ c.args.block → ⊥)) c.self.view_is (c.soil.ensures.copies p next)
+
+pub returns-clause-still : goal.returns-clause-still
+returns-clause-still c = subst (λ (s : Physical). (p : ℕ) → TakenAsErased s p → (p / s.size ≡ c.args.block → ⊥) → TakenAsErased (seen c.soil.new.self) p) c.self.view_is c.soil.ensures.still

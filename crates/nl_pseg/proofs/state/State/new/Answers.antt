@@ -1,27 +1,27 @@
 use Rattle.std.proofs.Common.{◌*◌, ◌^◌, ◌<◌, None, refl, sym, subst}
 use Rattle.nl_pseg.specs.declared.state.State.{State}
 use Rattle.nl_pseg.proofs.News.{new_formed, new_seen, new_tied}
-use Rattle.nl_pseg.proofs.Shapes.{IsRoomy, is_roomy}
+use Rattle.nl_pseg.proofs.Shapes.{few_pages, legal_bounds}
 use Rattle.nl_pseg.proofs.state.State.new.Goals as goal
 
 pub new-requires-clause-numbers : goal.new-requires-clause-numbers
 new-requires-clause-numbers c =
-    let roomy = subst IsRoomy (sym c.requires.numbers) (is_roomy c.args.shape.now.blocks c.args.shape.now.pages c.requires.legal) in
-    subst (λ n. n * c.args.shape.now.pages < 2 ^ 32) (sym roomy.all) roomy.numbers
+    let roomy = legal_bounds c.args.shape.now c.requires.legal c.requires.numbers in
+    subst (λ n. n * c.args.shape.now.pages < 2 ^ 32) (sym roomy.segments) (few_pages roomy)
 
 pub returns-clause-formed : goal.returns-clause-formed
 returns-clause-formed c =
-    let roomy = subst IsRoomy (sym c.requires.numbers) (is_roomy c.args.shape.now.blocks c.args.shape.now.pages c.requires.legal) in
+    let roomy = legal_bounds c.args.shape.now c.requires.legal c.requires.numbers in
     new_formed c.args.shape.now roomy _ c.in_ok-new.ensures c.in_ok-no_pages.ensures c.in_ok-no_marks.ensures refl refl refl refl refl c.in_ok-new-2.ensures
 
 pub returns-clause-tied : goal.returns-clause-tied
 returns-clause-tied c =
-    let roomy = subst IsRoomy (sym c.requires.numbers) (is_roomy c.args.shape.now.blocks c.args.shape.now.pages c.requires.legal) in
+    let roomy = legal_bounds c.args.shape.now c.requires.legal c.requires.numbers in
     new_tied c.args.shape.now roomy _ c.in_ok-new.ensures c.in_ok-no_pages.ensures c.in_ok-no_marks.ensures refl refl refl refl refl c.in_ok-new-2.ensures
 
 pub returns-clause-seen : goal.returns-clause-seen
 returns-clause-seen c =
-    let roomy = subst IsRoomy (sym c.requires.numbers) (is_roomy c.args.shape.now.blocks c.args.shape.now.pages c.requires.legal) in
+    let roomy = legal_bounds c.args.shape.now c.requires.legal c.requires.numbers in
     let x : State = record {
       held = c.in_ok-no_pages.field-0;
       blocks = c.in_ok-new.field-0;

@@ -1,0 +1,10 @@
+use Rattle.std.proofs.Common.{List, subst, sym}
+use Rattle.nl_field.specs.declared.pointer.Pointer.{Pointer}
+use Rattle.nl_device.specs.Retain.{CanRetain}
+use Rattle.nl_device_tests.specs.Reopened.{of_least}
+use Rattle.nl_device_tests.specs.declared.TheConstants.{ERASED}
+use Rattle.nl_device_tests.proofs.Retaining.{can_erased}
+use Rattle.nl_device_tests.proofs.reopening.open_erased.Goals as goal
+
+pub reopened-requires : goal.reopened-requires
+reopened-requires c = subst (λ (l : List Pointer). CanRetain (of_least ERASED) l) (sym c.in_ok-list.ensures) can_erased
