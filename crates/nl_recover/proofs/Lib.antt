@@ -1,7 +1,9 @@
 pub mod AddressFacts
+pub mod Alike
 pub mod EntryFacts
 pub mod Firsts
 pub mod HeldFacts
+pub mod LoadFacts
 pub mod LookFacts
 pub mod PlacesThere
 pub mod PointerPages

@@ -6,12 +6,13 @@ use Rattle.nl_meta.specs.Walk.{first_fault}
 use Rattle.nl_meta.proofs.Lists.{none_some}
 use Rattle.nl_recover.specs.Walking.{place_in}
 
-module _ (fault : What → Option ℕ) where
-  abbrev or-later : What → Option ℕ → Option Place → Option Place
-  or-later w None later = later
-  or-later w (Some n) later = Some (place_in w n)
+-- the place of a phase, or else a later one
+abbrev pub or-later : What → Option ℕ → Option Place → Option Place
+or-later w None later = later
+or-later w (Some n) later = Some (place_in w n)
 
-  first : (w : What) (ws : List What) → first_fault fault (w ∷ ws) ≡ or-later w (fault w) (first_fault fault ws)
+module _ (fault : What → Option ℕ) where
+  pub first : (w : What) (ws : List What) → first_fault fault (w ∷ ws) ≡ or-later w (fault w) (first_fault fault ws)
   first w ws = by (fault w)
     where
       by : (o : Option ℕ) → elim o as (λ o. Option Place) [ None ↦ first_fault fault ws | Some n ↦ Some (place_in w n) ] ≡ or-later w o (first_fault fault ws)

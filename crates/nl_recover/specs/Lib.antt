@@ -1,6 +1,9 @@
 pub mod Addresses
 pub mod Entries
+pub mod Filling
 pub mod Held
+pub mod Loading
+pub mod Looking
 pub mod Phases
 pub mod Reaching
 pub mod Scanning

@@ -4,6 +4,8 @@
 mod addresses;
 mod entries;
 mod held;
+pub mod laws;
+mod loading;
 mod look;
 mod nodes;
 mod reach;
