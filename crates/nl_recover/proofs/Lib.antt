@@ -5,6 +5,7 @@ pub mod Firsts
 pub mod HeldFacts
 pub mod LoadFacts
 pub mod LookFacts
+pub mod NodesLoaded
 pub mod PlacesThere
 pub mod PointerPages
 pub mod ReachFacts

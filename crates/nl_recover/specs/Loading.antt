@@ -1,10 +1,7 @@
 -- What it means that pages of a device become resident.
-use Rattle.std.specs.Prelude.{◌≡◌, ◌⊎◌, ℕ, ◌+◌, ◌/◌, ◌<◌, ◌≤◌, true, List, length, Option, Some, None, IsSome, IsTrue}
-use Rattle.nl_field.specs.Members.{Has}
-use Rattle.nl_field.specs.declared.inode.InodeRec.{InodeRec}
+use Rattle.std.specs.Prelude.{◌≡◌, ◌⊎◌, ℕ, ◌+◌, ◌<◌, ◌≤◌, length, IsSome}
 use Rattle.nl_field.specs.declared.shape.Shape.{Shape}
 use Rattle.nl_meta.specs.Committed.{VirtualMap}
-use Rattle.nl_meta.specs.Nodes.{inode_at, slots_of}
 use Rattle.nl_meta.specs.Pages.{Pages, page_of}
 use Rattle.nl_meta.specs.Running.{running_over}
 
@@ -23,3 +20,7 @@ Settled tells stored old new u = tells → page_of new u ≡ running_over stored
 -- the super page and the pages of nodes
 abbrev pub IsTableAddress : Shape → ℕ → Type 0
 IsTableAddress shape u = (u ≡ 0) ⊎ ((67 ≤ u) × (u < 67 + shape.inode_pages))
+
+-- an address of the pool
+abbrev pub IsPoolAddress : Shape → ℕ → Type 0
+IsPoolAddress shape a = (67 + shape.inode_pages ≤ a) × (a < shape.vaddrs)

@@ -1,10 +1,13 @@
-ghost use Rattle.std.specs.Prelude.{◌≡◌, ◌<◌, ◌≤◌, ℕ, false, true, length};
+ghost use Rattle.std.specs.Prelude.{◌≡◌, ◌<◌, ◌≤◌, ℕ, false, true, length, slice_index};
 ghost use Rattle.nl_field.specs.Numbers.{ShapeBounds};
 ghost use Rattle.nl_field.specs.Virtual.{is_inode_address, map_bytes};
 ghost use Rattle.nl_iface.specs.Calls.{OnlyReads, ReadsCounted};
+ghost use Rattle.nl_meta.specs.Consistent.{AddressAt};
+ghost use Rattle.nl_meta.specs.Pages.{page_of};
 ghost use Rattle.nl_recover.specs.Filling.{FillsFrom};
-ghost use Rattle.nl_recover.specs.Loading.{IsTableAddress, Loads, Settled};
+ghost use Rattle.nl_recover.specs.Loading.{IsPoolAddress, IsTableAddress, Loads, Settled};
 
+use crate::look::inode;
 use nl_field::{PageBuf, Shape, VirtualRead};
 use nl_iface::VirtualPages;
 use nl_meta::Meta;
@@ -61,6 +64,100 @@ fn load_range<D: VirtualPages>(
         return false;
     }
     load_range(device, meta, shape, from + 1, to)
+}
+
+/// Makes the pages of addresses of used nodes resident, from one node on up to another. False exactly where a read failed.
+pub(crate) fn load_nodes<D: VirtualPages>(
+    device: &mut D,
+    meta: &mut Meta,
+    shape: &Shape,
+    from: u32,
+    to: u32,
+) -> bool
+    requires formed { D.formed device.old }
+    requires shape { shape.now ≡ D.shape device.old }
+    requires bounds { ShapeBounds shape.now }
+    requires count { length meta.old.running ≡ shape.now.vaddrs }
+    ensures formed { D.formed device.new }
+    ensures device { OnlyReads D.Counts device.old device.new }
+    ensures faults { ReadsCounted D.Counts (result ≡ false) device.old device.new }
+    ensures loads { result ≡ true → Loads D.tells (map_bytes (D.shape device.old) (D.map device.old)) meta.old meta.new }
+    ensures settled { result ≡ true → (n slot a : ℕ) → from ≤ n → n < to → AddressAt shape.now (page_of meta.old) n slot a → IsPoolAddress shape.now a → Settled D.tells (map_bytes (D.shape device.old) (D.map device.old)) meta.old meta.new a }
+{
+    if to <= from {
+        return true;
+    }
+    if !load_node(device, meta, shape, from) {
+        return false;
+    }
+    load_nodes(device, meta, shape, from + 1, to)
+}
+
+fn load_node<D: VirtualPages>(device: &mut D, meta: &mut Meta, shape: &Shape, ino: u32) -> bool
+    requires formed { D.formed device.old }
+    requires shape { shape.now ≡ D.shape device.old }
+    requires bounds { ShapeBounds shape.now }
+    requires count { length meta.old.running ≡ shape.now.vaddrs }
+    ensures formed { D.formed device.new }
+    ensures device { OnlyReads D.Counts device.old device.new }
+    ensures faults { ReadsCounted D.Counts (result ≡ false) device.old device.new }
+    ensures loads { result ≡ true → Loads D.tells (map_bytes (D.shape device.old) (D.map device.old)) meta.old meta.new }
+    ensures settled { result ≡ true → (slot a : ℕ) → AddressAt shape.now (page_of meta.old) ino slot a → IsPoolAddress shape.now a → Settled D.tells (map_bytes (D.shape device.old) (D.map device.old)) meta.old meta.new a }
+{
+    match inode(meta, ino) {
+        Some(rec) => load_addresses(device, meta, shape, &rec.addresses, 0),
+        None => true,
+    }
+}
+
+/// Makes the pages of those addresses, from a place on, resident that lie in the pool. False exactly where a read failed.
+fn load_addresses<D: VirtualPages>(
+    device: &mut D,
+    meta: &mut Meta,
+    shape: &Shape,
+    addresses: &[u32],
+    from: usize,
+) -> bool
+    requires formed { D.formed device.old }
+    requires shape { shape.now ≡ D.shape device.old }
+    requires bounds { ShapeBounds shape.now }
+    requires count { length meta.old.running ≡ shape.now.vaddrs }
+    ensures formed { D.formed device.new }
+    ensures device { OnlyReads D.Counts device.old device.new }
+    ensures faults { ReadsCounted D.Counts (result ≡ false) device.old device.new }
+    ensures loads { result ≡ true → Loads D.tells (map_bytes (D.shape device.old) (D.map device.old)) meta.old meta.new }
+    ensures settled { result ≡ true → (k : ℕ) → from ≤ k → k < length addresses.now → IsPoolAddress shape.now (slice_index addresses.now k) → Settled D.tells (map_bytes (D.shape device.old) (D.map device.old)) meta.old meta.new (slice_index addresses.now k) }
+{
+    if addresses.len() <= from {
+        return true;
+    }
+    if !load_address(device, meta, shape, addresses[from]) {
+        return false;
+    }
+    load_addresses(device, meta, shape, addresses, from + 1)
+}
+
+/// Makes the page of an address of the pool resident, where it has one. False exactly where its read failed.
+fn load_address<D: VirtualPages>(
+    device: &mut D,
+    meta: &mut Meta,
+    shape: &Shape,
+    address: u32,
+) -> bool
+    requires formed { D.formed device.old }
+    requires shape { shape.now ≡ D.shape device.old }
+    requires bounds { ShapeBounds shape.now }
+    requires count { length meta.old.running ≡ shape.now.vaddrs }
+    ensures formed { D.formed device.new }
+    ensures device { OnlyReads D.Counts device.old device.new }
+    ensures faults { ReadsCounted D.Counts (result ≡ false) device.old device.new }
+    ensures loads { result ≡ true → Loads D.tells (map_bytes (D.shape device.old) (D.map device.old)) meta.old meta.new }
+    ensures settled { result ≡ true → IsPoolAddress shape.now address → Settled D.tells (map_bytes (D.shape device.old) (D.map device.old)) meta.old meta.new address }
+{
+    if address < 67 + shape.inode_pages || shape.vaddrs <= address {
+        return true;
+    }
+    load_page(device, meta, address, shape)
 }
 
 /// Makes the page of an address resident, where it has one. False exactly where its read failed.
