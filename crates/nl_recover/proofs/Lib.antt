@@ -2,6 +2,7 @@ pub mod AddressFacts
 pub mod Alike
 pub mod EntryFacts
 pub mod Firsts
+pub mod FreeFacts
 pub mod HeldFacts
 pub mod LoadFacts
 pub mod LookFacts

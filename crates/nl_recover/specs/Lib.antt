@@ -1,6 +1,7 @@
 pub mod Addresses
 pub mod Entries
 pub mod Filling
+pub mod Freeing
 pub mod Held
 pub mod Loading
 pub mod Looking

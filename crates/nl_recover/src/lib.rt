@@ -3,6 +3,7 @@
 
 mod addresses;
 mod entries;
+mod free;
 mod held;
 pub mod laws;
 mod loading;
@@ -16,6 +17,7 @@ mod walk;
 
 pub use addresses::pages_fault;
 pub use entries::entry_fault;
+pub use free::free_lists;
 pub use held::held_pointers;
 pub use nodes::{inode_fault, super_fault};
 pub use reach::reach_fault;
