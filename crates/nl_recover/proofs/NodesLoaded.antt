@@ -1,8 +1,9 @@
 -- The addresses of nodes, as pages become resident.
-use Rattle.std.proofs.Common.{◌≡◌, ◌≢◌, ℕ, zero, suc, ◌+◌, ◌/◌, ◌%◌, ◌<◌, ◌≤◌, List, [], ◌∷◌, length, get_or, refl, sym, ap, subst, ◌∙◌, Option, Some, None, IsSome, is_some, unwrap_or, arith}
+use Rattle.std.proofs.Common.{◌≡◌, ◌≢◌, ℕ, zero, suc, ◌+◌, ◌/◌, ◌%◌, ◌<◌, ◌≤◌, List, [], ◌∷◌, length, get_or, refl, sym, ap, subst, ◌∙◌, Option, Some, None, IsSome, is_some, unwrap_or, inr, arith}
 use Rattle.std.proofs.lemmas.Bool.{both_ways}
 use Rattle.std.specs.Prelude.{slice_get}
 use Rattle.nl_field.specs.Inode.{inode_of}
+use Rattle.nl_field.specs.Numbers.{ShapeBounds}
 use Rattle.nl_field.specs.declared.inode.InodeRec.{InodeRec}
 use Rattle.nl_field.specs.declared.shape.Shape.{Shape}
 use Rattle.nl_meta.specs.Committed.{VirtualMap}
@@ -10,7 +11,7 @@ use Rattle.nl_meta.specs.Consistent.{AddressAt, IsNode}
 use Rattle.nl_meta.specs.Nodes.{bytes_of_node, inode_at, slot_in}
 use Rattle.nl_meta.specs.Pages.{Pages, page_of}
 use Rattle.nl_meta.proofs.Lists.{none_some, some_in}
-use Rattle.nl_recover.specs.Loading.{IsPoolAddress, Loads}
+use Rattle.nl_recover.specs.Loading.{IsPoolAddress, IsTableAddress, Loads}
 use Rattle.nl_recover.proofs.LookFacts.{inode-none}
 
 at-place : (xs : List ℕ) (k a : ℕ) → slice_get xs k ≡ Some a → (k < length xs) × (get_or xs k 0 ≡ a)
@@ -54,6 +55,19 @@ still-at tells stored shape p q loads n slot a at = record {
     spelled = same-node (page_of p) (page_of q) n (loads.kept (67 + n / 16) (there (page_of p) n at.rec at.is_node.spelled)) ∙ at.is_node.spelled;
     used = at.is_node.used;
   };
+  in_slot = at.in_slot;
+  not_zero = at.not_zero;
+}
+
+-- The page of a node is one of those of nodes.
+pub table-of : (shape : Shape) → ShapeBounds shape → (n : ℕ) → n < shape.nodes → IsTableAddress shape (67 + n / 16)
+table-of shape bounds n h = inr (omega arith, let places = bounds.places in omega (arith, h, places))
+
+-- An address of a node stands in memory, where the node's page does.
+pub in-memory : (shape : Shape) (pages : VirtualMap) (q : Pages) (n slot a : ℕ) → page_of q (67 + n / 16) ≡ pages (67 + n / 16) → AddressAt shape pages n slot a → AddressAt shape (page_of q) n slot a
+in-memory shape pages q n slot a same at = record {
+  rec = at.rec;
+  is_node = record { below = at.is_node.below; spelled = same-node pages (page_of q) n same ∙ at.is_node.spelled; used = at.is_node.used };
   in_slot = at.in_slot;
   not_zero = at.not_zero;
 }

@@ -19,6 +19,7 @@ pub use addresses::pages_fault;
 pub use entries::entry_fault;
 pub use free::free_lists;
 pub use held::held_pointers;
+pub use loading::load;
 pub use nodes::{inode_fault, super_fault};
 pub use reach::reach_fault;
 pub use stamps::stamp_fault;

@@ -4,8 +4,10 @@ ghost use Rattle.nl_field.specs.Virtual.{is_inode_address, map_bytes};
 ghost use Rattle.nl_iface.specs.Calls.{OnlyReads, ReadsCounted};
 ghost use Rattle.nl_meta.specs.Consistent.{AddressAt};
 ghost use Rattle.nl_meta.specs.Pages.{page_of};
+ghost use Rattle.nl_meta.specs.Running.{running_over};
 ghost use Rattle.nl_recover.specs.Filling.{FillsFrom};
 ghost use Rattle.nl_recover.specs.Loading.{IsPoolAddress, IsTableAddress, Loads, Settled};
+ghost use Rattle.nl_recover.specs.Looking.{LooksAlike};
 
 use crate::look::inode;
 use nl_field::{PageBuf, Shape, VirtualRead};
@@ -21,8 +23,27 @@ pub(crate) enum Fill {
     Fault,
 }
 
+/// Makes resident what a walk looks at: the super page, the pages of nodes, and the addresses of used nodes that lie in the pool. Then
+/// the resident pages are alike to what the volume has over the device, wherever a walk looks. False exactly where a read failed.
+pub fn load<D: VirtualPages>(device: &mut D, meta: &mut Meta, shape: &Shape) -> bool
+    requires formed { D.formed device.old }
+    requires shape { shape.now ≡ D.shape device.old }
+    requires bounds { ShapeBounds shape.now }
+    requires count { length meta.old.running ≡ shape.now.vaddrs }
+    ensures formed { D.formed device.new }
+    ensures device { OnlyReads D.Counts device.old device.new }
+    ensures faults { ReadsCounted D.Counts (result ≡ false) device.old device.new }
+    ensures loads { result ≡ true → Loads D.tells (map_bytes (D.shape device.old) (D.map device.old)) meta.old meta.new }
+    ensures alike { D.tells → result ≡ true → LooksAlike shape.now (running_over (map_bytes (D.shape device.old) (D.map device.old)) meta.old) (page_of meta.new) }
+{
+    if !load_tables(device, meta, shape) {
+        return false;
+    }
+    load_nodes(device, meta, shape, 0, shape.nodes)
+}
+
 /// Makes the super page and the pages of nodes resident. False exactly where a read failed.
-pub(crate) fn load_tables<D: VirtualPages>(device: &mut D, meta: &mut Meta, shape: &Shape) -> bool
+fn load_tables<D: VirtualPages>(device: &mut D, meta: &mut Meta, shape: &Shape) -> bool
     requires formed { D.formed device.old }
     requires shape { shape.now ≡ D.shape device.old }
     requires bounds { ShapeBounds shape.now }
@@ -67,7 +88,7 @@ fn load_range<D: VirtualPages>(
 }
 
 /// Makes the pages of addresses of used nodes resident, from one node on up to another. False exactly where a read failed.
-pub(crate) fn load_nodes<D: VirtualPages>(
+fn load_nodes<D: VirtualPages>(
     device: &mut D,
     meta: &mut Meta,
     shape: &Shape,
@@ -161,7 +182,7 @@ fn load_address<D: VirtualPages>(
 }
 
 /// Makes the page of an address resident, where it has one. False exactly where its read failed.
-pub(crate) fn load_page<D: VirtualPages>(
+fn load_page<D: VirtualPages>(
     device: &mut D,
     meta: &mut Meta,
     vaddr: u32,
