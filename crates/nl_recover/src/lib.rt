@@ -11,8 +11,6 @@ mod look;
 mod nodes;
 mod reach;
 mod stamps;
-#[cfg(test)]
-mod tests;
 mod walk;
 
 pub use addresses::pages_fault;
