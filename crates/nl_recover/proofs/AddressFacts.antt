@@ -1,5 +1,5 @@
 -- Marks of addresses tell what looking back at all earlier addresses would.
-use Rattle.std.proofs.Common.{◌≡◌, ℕ, ◌+◌, ◌<◌, Bool, true, false, not, ◌&&◌, ◌||◌, cond, List, [], ◌∷◌, ◌++◌, length, take, drop, map, filter, filter_map, flat_map, get_or, set, refl, sym, ap, subst, ◌∙◌, Option, Some, None, option_map, is_none, if◌then◌else◌, ◌⊎◌, inl, inr, arith, ◌==◌, nat_le, nat_lt}
+use Rattle.std.proofs.Common.{◌≡◌, ℕ, ◌+◌, ◌<◌, Bool, true, false, not, ◌&&◌, ◌||◌, cond, List, [], ◌∷◌, ◌++◌, length, take, drop, map, filter, filter_map, flat_map, get_or, set, refl, sym, ap, subst, ◌∙◌, Option, Some, None, option_map, is_none, if◌then◌else◌, ◌⊎◌, inl, inr, ◌==◌, nat_le, nat_lt}
 use Rattle.std.proofs.lemmas.Bool.{and_parts, cases_Bool, cases_eq, eq-eqb, ltb-true, ne_eqb, not-false, or_parts}
 use Rattle.std.proofs.lemmas.List.Elements.{filter-append, filter_more}
 use Rattle.std.proofs.lemmas.List.{get_or-set_other, get_or-set_same, length-set, map-append, take-append-drop}
@@ -14,7 +14,7 @@ use Rattle.nl_meta.specs.Nodes.{bytes_at, inode_at}
 use Rattle.nl_meta.specs.Walk.{addresses_of, first_after, is_bad_address, is_good_indirect, is_used_kind, pages_fault, used_nodes}
 use Rattle.nl_recover.specs.Addresses.{PassesAddresses, address_at, addresses_in, is_bad_marked, listed, with_mark}
 use Rattle.nl_recover.specs.Scanning.{first_with}
-use Rattle.nl_recover.proofs.Scans.{gathers, pass-bad, pass-good, pass-nil, pass-stop, pass-then, upto}
+use Rattle.nl_recover.proofs.Scans.{gathers, pass-bad, pass-good, pass-nil, pass-stop, pass-then}
 
 -- ---- used nodes
 

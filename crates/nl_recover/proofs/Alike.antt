@@ -1,6 +1,6 @@
 -- A walk over two maps of pages that are alike where it looks.
-use Rattle.std.proofs.Common.{◌≡◌, ◌≢◌, ℕ, zero, suc, ◌+◌, ◌*◌, ◌/◌, ◌%◌, ◌<◌, ◌≤◌, Bool, true, false, not, ◌&&◌, ◌||◌, cond, List, [], ◌∷◌, ◌++◌, length, map, filter, filter_map, flat_map, find, replicate, refl, sym, ap, subst, ◌∙◌, Option, Some, None, option_map, is_none, is_some, unwrap_or, ◌⊎◌, inl, inr, arith, ◌==◌, nat_le, nat_lt}
-use Rattle.std.proofs.lemmas.Bool.{and_parts, cases_Bool, eq-eqb, eqb-false, leb-true, ltb-true, ne_eqb, not-true}
+use Rattle.std.proofs.Common.{◌≡◌, ◌≢◌, ℕ, zero, suc, ◌+◌, ◌*◌, ◌/◌, ◌%◌, ◌<◌, ◌≤◌, Bool, true, false, not, ◌&&◌, ◌||◌, cond, List, [], ◌∷◌, ◌++◌, length, map, filter, filter_map, flat_map, find, replicate, refl, sym, ap, ◌∙◌, Option, Some, None, option_map, is_none, is_some, unwrap_or, ◌⊎◌, inl, inr, arith, ◌==◌, nat_le, nat_lt}
+use Rattle.std.proofs.lemmas.Bool.{and_parts, cases_Bool, eqb-false, leb-true, ltb-true, not-true}
 use Rattle.std.specs.Int.{div_ceil}
 use Rattle.std.specs.List.{cons_option, enumerate_from, list_any, range_with_len}
 use Rattle.std.specs.Prelude.{bytes_eq, option_and_then, slice_get, slice_index}
@@ -16,7 +16,6 @@ use Rattle.nl_field.specs.declared.inode.InodeRec.{InodeRec}
 use Rattle.nl_field.specs.declared.inode.Kind.{Kind}
 use Rattle.nl_field.specs.declared.inode.Kind.TheVariants.{Dir, File, Unused}
 use Rattle.nl_field.specs.declared.pointer.Pointer.{Pointer}
-use Rattle.nl_field.specs.declared.place.Place.{Place}
 use Rattle.nl_field.specs.declared.place.What.{What}
 use Rattle.nl_field.specs.declared.place.What.TheVariants.{Super, Stamp, Inode, Pages as PagesPhase, Entry, Pointer as PointerPhase, Names, Charges, Crowded}
 use Rattle.nl_field.specs.declared.seen.Seen.{Seen}
@@ -25,15 +24,13 @@ use Rattle.nl_field.specs.ScanList.{physical_seen}
 use Rattle.nl_meta.specs.Committed.{VirtualMap}
 use Rattle.nl_meta.specs.Consistent.{AddressAt, AddressesRight, IsNode}
 use Rattle.nl_meta.specs.Nodes.{Held, address_of_place, body_of, bytes_at, bytes_of_node, bytes_of_place, held_by, held_in, inode_at, node_from, pointers_at, pointers_of_inode, slot_in, slots_of, super_of_pages}
-use Rattle.nl_meta.specs.Walk.{EntryPlace, addresses_of, all_places, crowded_fault, entry_fault, fault_in, first_after, first_fault, has_generation, inode_fault, is_bad_address, is_bad_naming, is_bad_place, is_dir_kind, is_file_kind, is_good_indirect, is_good_inode, is_reached, is_super_of, is_used_kind, name_fault, naming_of, or_then, pages_fault, places_of, pointer_fault, reach_fault, stamp_fault, used_nodes, walk_over, zero_where}
+use Rattle.nl_meta.specs.Walk.{EntryPlace, addresses_of, all_places, crowded_fault, entry_fault, fault_in, first_after, first_fault, has_generation, inode_fault, is_bad_address, is_bad_naming, is_bad_place, is_dir_kind, is_file_kind, is_good_indirect, is_good_inode, is_reached, is_super_of, is_used_kind, name_fault, naming_of, or_then, pages_fault, places_of, pointer_fault, reach_fault, used_nodes, walk_over, zero_where}
 use Rattle.nl_meta.proofs.AddressProofs.{addresses, filled_of, inode_spelled, member_address}
-use Rattle.nl_meta.proofs.Lists.{member-filter, member-range, some_in, true_false}
+use Rattle.nl_meta.proofs.Lists.{member-filter, member-range, true_false}
 use Rattle.nl_meta.proofs.NodeProofs.{dir_kind, used_is}
 use Rattle.nl_recover.specs.Held.{held_at, held_entry}
 use Rattle.nl_recover.specs.Looking.{LooksAlike, WalksAlike}
-use Rattle.nl_recover.specs.Walking.{place_in}
 use Rattle.nl_recover.proofs.HeldFacts.{all-held}
-use Rattle.nl_recover.proofs.Scans.{upto}
 use Rattle.nl_recover.proofs.WalkFacts.{first, or-later}
 
 -- ---- lists
@@ -309,16 +306,16 @@ module _ (shape : Shape) (old new : VirtualMap) (bounds : ShapeBounds shape) (sa
     unfolding walk_over
     walk-same =
         next-same Super (Stamp ∷ Inode ∷ PagesPhase ∷ Entry ∷ PointerPhase ∷ Names ∷ Charges ∷ Crowded ∷ []) super-phase (λ _.
-          next-same Stamp (Inode ∷ PagesPhase ∷ Entry ∷ PointerPhase ∷ Names ∷ Charges ∷ Crowded ∷ []) stamp-phase (λ _.
-            next-same Inode (PagesPhase ∷ Entry ∷ PointerPhase ∷ Names ∷ Charges ∷ Crowded ∷ []) inode-phase (λ _.
-              next-same PagesPhase (Entry ∷ PointerPhase ∷ Names ∷ Charges ∷ Crowded ∷ []) pages-phase (λ e. rest (right-of e)))))
+        next-same Stamp (Inode ∷ PagesPhase ∷ Entry ∷ PointerPhase ∷ Names ∷ Charges ∷ Crowded ∷ []) stamp-phase (λ _.
+        next-same Inode (PagesPhase ∷ Entry ∷ PointerPhase ∷ Names ∷ Charges ∷ Crowded ∷ []) inode-phase (λ _.
+        next-same PagesPhase (Entry ∷ PointerPhase ∷ Names ∷ Charges ∷ Crowded ∷ []) pages-phase (λ e. rest (right-of e)))))
       where
         rest : AddressesRight shape old → first_fault f (Entry ∷ PointerPhase ∷ Names ∷ Charges ∷ Crowded ∷ []) ≡ first_fault g (Entry ∷ PointerPhase ∷ Names ∷ Charges ∷ Crowded ∷ [])
         rest right =
             next-same Entry (PointerPhase ∷ Names ∷ Charges ∷ Crowded ∷ []) (entry-phase right) (λ _.
-              next-same PointerPhase (Names ∷ Charges ∷ Crowded ∷ []) (pointer-phase right) (λ _.
-                next-same Names (Charges ∷ Crowded ∷ []) (name-phase right) (λ _.
-                  next-same Charges (Crowded ∷ []) (charge-phase right) (λ _. next-same Crowded [] (crowded-phase right) (λ _. refl)))))
+            next-same PointerPhase (Names ∷ Charges ∷ Crowded ∷ []) (pointer-phase right) (λ _.
+            next-same Names (Charges ∷ Crowded ∷ []) (name-phase right) (λ _.
+            next-same Charges (Crowded ∷ []) (charge-phase right) (λ _. next-same Crowded [] (crowded-phase right) (λ _. refl)))))
 
 pub walks_alike : WalksAlike
 walks_alike shape old new seen bounds same = walk-same shape old new bounds same seen

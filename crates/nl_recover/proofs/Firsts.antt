@@ -1,5 +1,5 @@
 -- The first element that passes a test, as a loop comes to it.
-use Rattle.std.proofs.Common.{◌≡◌, ℕ, zero, suc, ◌+◌, ◌≤◌, ◌<◌, Bool, true, false, ◌&&◌, cond, List, [], ◌∷◌, find, filter, take, refl, sym, ap, ◌∙◌, Option, Some, None, inl, inr, ◌⊎◌, arith, add-one}
+use Rattle.std.proofs.Common.{◌≡◌, ℕ, zero, suc, ◌+◌, ◌≤◌, ◌<◌, Bool, true, false, ◌&&◌, cond, List, [], ◌∷◌, find, filter, take, refl, sym, ap, ◌∙◌, Some, None, inl, inr, ◌⊎◌, arith, add-one}
 use Rattle.std.proofs.lemmas.Bool.{cases_eq, cond-false, cond-true}
 use Rattle.std.specs.List.{range_with_len, slice_get}
 use Rattle.nl_meta.proofs.Lists.{none-find, member-range, none_some, some_in}

@@ -1,18 +1,17 @@
 -- What is free is what no used node has.
-use Rattle.std.proofs.Common.{◌≡◌, ◌≢◌, ℕ, zero, suc, ◌+◌, ◌-◌, ◌<◌, ◌≤◌, Bool, true, false, not, ◌&&◌, ◌||◌, cond, List, [], ◌∷◌, ◌++◌, length, take, get_or, flat_map, refl, sym, ap, subst, ◌∙◌, Option, Some, None, ◌⊎◌, inl, inr, arith, ◌==◌, nat_le, nat_lt}
-use Rattle.std.proofs.lemmas.Bool.{and_from, and_parts, cases_Bool, cases_eq, cases_lt, eq-eqb, eqb-true, le-leb, le-ltb, lt-ltb, ne_eqb, not-false, not-true}
+use Rattle.std.proofs.Common.{◌≡◌, ◌≢◌, ℕ, zero, suc, ◌+◌, ◌-◌, ◌<◌, ◌≤◌, Bool, true, false, not, ◌&&◌, ◌||◌, cond, List, [], ◌∷◌, ◌++◌, length, refl, sym, ap, subst, ◌∙◌, Option, Some, None, ◌⊎◌, inl, inr, arith, ◌==◌, nat_le, nat_lt}
+use Rattle.std.proofs.lemmas.Bool.{and_parts, cases_Bool, cases_eq, cases_lt, eq-eqb, eqb-true, le-leb, le-ltb, lt-ltb, ne_eqb, not-true}
 use Rattle.std.proofs.lemmas.List.Folds.{list_any-append}
 use Rattle.std.specs.List.{list_any, range_with_len}
 use Rattle.std.specs.Prelude.{slice_get}
 use Rattle.nl_field.specs.Members.{Has}
 use Rattle.nl_field.specs.declared.inode.InodeRec.{InodeRec}
-use Rattle.nl_field.specs.declared.inode.Kind.{Kind}
 use Rattle.nl_field.specs.declared.shape.Shape.{Shape}
 use Rattle.nl_meta.specs.Committed.{VirtualMap}
 use Rattle.nl_meta.specs.Consistent.{AddressAt, IsNode}
-use Rattle.nl_meta.specs.Nodes.{inode_at, slots_of}
+use Rattle.nl_meta.specs.Nodes.{inode_at}
 use Rattle.nl_meta.specs.Walk.{is_used_kind}
-use Rattle.nl_meta.proofs.Lists.{any_member, flat-member, member-flat, member-range, member_any, none-any, none_some, range-member, some_in, true_false}
+use Rattle.nl_meta.proofs.Lists.{any_member, flat-member, member-flat, member-range, member_any, none_some, range-member, some_in, true_false}
 use Rattle.nl_meta.proofs.NodeProofs.{kind_used, used_kind}
 use Rattle.nl_inode.specs.Free.{is_free}
 use Rattle.nl_inode.specs.Nodes.{AddressBecomes, AreFree, NodeBecomes, Spaces, is_free_address, is_free_node}

@@ -1,10 +1,9 @@
 -- The list of all pointers, index by index and node by node.
-use Rattle.std.proofs.Common.{◌≡◌, ◌≢◌, ℕ, zero, suc, ◌+◌, ◌-◌, ◌*◌, ◌/◌, ◌%◌, ◌<◌, ◌≤◌, Bool, true, false, not, cond, List, [], ◌∷◌, ◌++◌, length, map, filter, flat_map, get_or, refl, sym, ap, subst, ◌∙◌, Option, Some, None, is_some, ◌⊎◌, inl, inr, arith, ◌==◌, nat_lt, append_assoc, length-append}
+use Rattle.std.proofs.Common.{◌≡◌, ◌≢◌, ℕ, zero, suc, ◌+◌, ◌-◌, ◌*◌, ◌/◌, ◌%◌, ◌<◌, ◌≤◌, Bool, true, false, not, cond, List, [], ◌∷◌, ◌++◌, length, map, filter, flat_map, get_or, refl, sym, ap, subst, ◌∙◌, Option, Some, None, is_some, ◌⊎◌, inl, inr, arith, nat_lt, append_assoc, length-append}
 use Rattle.std.proofs.lemmas.Bool.{cond-false, cases_lt, cond-true, le-ltb, lt-ltb}
 use Rattle.std.proofs.lemmas.Grind.{flat_map-append}
 use Rattle.std.specs.List.{enumerate_from, range_with_len}
 use Rattle.std.specs.Prelude.{slice_index}
-use Rattle.nl_field.specs.Inode.{is_inode}
 use Rattle.nl_field.specs.Members.{Has}
 use Rattle.nl_field.specs.Pointers.{is_none_pointer, no_pointer}
 use Rattle.nl_field.specs.declared.inode.InodeRec.{InodeRec}
@@ -14,7 +13,7 @@ use Rattle.nl_field.specs.declared.pointer.Pointer.{Pointer}
 use Rattle.nl_field.specs.declared.shape.Shape.{Shape}
 use Rattle.nl_meta.specs.Committed.{VirtualMap}
 use Rattle.nl_meta.specs.Consistent.{AddressesRight, IsNode}
-use Rattle.nl_meta.specs.Nodes.{Held, body_of, graph_of, held_by, held_in, inode_at, node_from, pointer_at, pointer_in_page, pointers_at, pointers_in, pointers_of, pointers_of_inode, size_of, slots_of}
+use Rattle.nl_meta.specs.Nodes.{Held, body_of, graph_of, held_by, held_in, inode_at, node_from, pointer_at, pointer_in_page, pointers_at, pointers_of, pointers_of_inode, slots_of}
 use Rattle.nl_meta.proofs.Lists.{member-range, none_some, some_in}
 use Rattle.nl_meta.proofs.SlotProofs.{at_index, pointers_length}
 use Rattle.nl_indirect.specs.Ranges.{HasPointers, HasRange, IsFileRecord, address_of, some_pointer}

@@ -1,5 +1,5 @@
 -- Pages of a device that become resident, one after the other.
-use Rattle.std.proofs.Common.{◌≡◌, ◌≢◌, ℕ, ◌<◌, true, false, cond, List, length, get_or, set, refl, sym, ap, subst, ◌∙◌, Option, Some, None, IsSome, is_some, option_map, ◌⊎◌, inl, inr, nat_lt}
+use Rattle.std.proofs.Common.{◌≡◌, ℕ, ◌<◌, false, cond, List, length, get_or, set, refl, sym, ap, subst, ◌∙◌, Option, Some, None, IsSome, is_some, option_map, ◌⊎◌, inl, inr, nat_lt}
 use Rattle.std.proofs.lemmas.Bool.{both_ways, cases_eq, cond-false, cond-true, lt-ltb}
 use Rattle.std.proofs.lemmas.List.{get_or-set_other, get_or-set_same, length-set}
 use Rattle.nl_field.specs.Virtual.{is_inode_address, map_bytes, or_zeros}
@@ -92,8 +92,8 @@ module _ (tells : Type 0) where
       where
         by : (u : ℕ) → (u ≡ v) ⊎ (u ≡ v → ⊥) → (page_of (with_admitted p v bytes) u ≡ page_of p u) ⊎ (tells → page_of (with_admitted p v bytes) u ≡ or_stored (page_of p u) (stored u))
         by u (inl e) = inr (λ t.
-          ap (λ (w : ℕ). get_or (set p.running v (Some bytes)) w None) e ∙ get_or-set_same p.running v (Some bytes) None below
-          ∙ sym (ap (λ (w : ℕ). or_stored (page_of p w) (stored w)) e ∙ ap (λ (o : Option (List ℕ)). or_stored o (stored v)) gone ∙ is t))
+            ap (λ (w : ℕ). get_or (set p.running v (Some bytes)) w None) e ∙ get_or-set_same p.running v (Some bytes) None below
+            ∙ sym (ap (λ (w : ℕ). or_stored (page_of p w) (stored w)) e ∙ ap (λ (o : Option (List ℕ)). or_stored o (stored v)) gone ∙ is t))
         by u (inr far) = inl (get_or-set_other p.running v u (Some bytes) None far)
 
     pub admitted-settled : (tells → stored v ≡ Some bytes) → Settled tells stored p (with_admitted p v bytes) v

@@ -1,5 +1,5 @@
 -- What the resident pages have, and what is not there where a page is not.
-use Rattle.std.proofs.Common.{◌≡◌, ℕ, zero, suc, ◌+◌, ◌*◌, ◌/◌, ◌%◌, ◌&&◌, Bool, true, false, cond, List, [], drop, take, refl, sym, ap, ◌∙◌, Option, Some, None, unwrap_or}
+use Rattle.std.proofs.Common.{◌≡◌, ℕ, zero, suc, ◌+◌, ◌*◌, ◌/◌, ◌%◌, ◌&&◌, Bool, true, false, cond, List, [], take, refl, sym, ap, ◌∙◌, Option, Some, None, unwrap_or}
 use Rattle.std.proofs.Math.Seq.{drop-nil}
 use Rattle.nl_field.specs.Bytes.{all_zero}
 use Rattle.nl_field.specs.Inode.{inode_bytes, inode_fields, inode_of, is_inode}

@@ -8,7 +8,6 @@ use Rattle.nl_field.specs.declared.entry.EntryRec.{EntryRec}
 use Rattle.nl_field.specs.declared.inode.InodeRec.{InodeRec}
 use Rattle.nl_meta.specs.Committed.{VirtualMap}
 use Rattle.nl_meta.specs.Nodes.{address_of_place, bytes_of_place, slot_in}
-use Rattle.nl_meta.specs.Walk.{EntryPlace}
 use Rattle.nl_dir.proofs.PlaceFacts.{shown}
 use Rattle.nl_recover.specs.Entries.{place_there}
 use Rattle.nl_recover.specs.Reaching.{target_of}

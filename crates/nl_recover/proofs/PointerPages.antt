@@ -1,5 +1,5 @@
 -- Whether a page has pointers, slot by slot.
-use Rattle.std.proofs.Common.{◌≡◌, ℕ, zero, suc, ◌+◌, ◌<◌, Bool, true, false, not, ◌&&◌, ◌||◌, cond, List, [], ◌∷◌, length, get_or, refl, sym, ap, subst, ◌∙◌, Option, Some, None, IsSome, is_some, ◌⊎◌, inl, inr, arith, below_more}
+use Rattle.std.proofs.Common.{◌≡◌, ℕ, zero, suc, ◌+◌, ◌<◌, Bool, true, false, not, ◌&&◌, ◌||◌, cond, List, [], ◌∷◌, length, get_or, refl, sym, ap, subst, ◌∙◌, Option, Some, None, IsSome, ◌⊎◌, inl, inr, arith, below_more}
 use Rattle.std.proofs.lemmas.Bool.{and_from, and_parts, cases_Bool, not-false, not-true, or_cases, or_parts}
 use Rattle.std.specs.List.{list_all}
 use Rattle.std.specs.Prelude.{bytes_eq}
@@ -12,7 +12,7 @@ use Rattle.nl_meta.specs.Walk.{is_good_indirect}
 use Rattle.nl_meta.proofs.Lists.{none_some, some_in, true_false}
 use Rattle.nl_indirect.specs.Ranges.{pointer_in}
 use Rattle.nl_recover.specs.Addresses.{SpelledAt}
-use Rattle.nl_indirect.proofs.Spelled.{HoldsSome, Spells, holds-some, indirect-is, is-indirect, row, spells}
+use Rattle.nl_indirect.proofs.Spelled.{holds-some, indirect-is, is-indirect, row, spells}
 
 -- ---- what a loop over the slots has seen
 

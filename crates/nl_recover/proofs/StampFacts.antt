@@ -1,5 +1,5 @@
 -- The first page that does not agree with a lower one, segment by segment.
-use Rattle.std.proofs.Common.{◌≡◌, ℕ, List, find, not, sym, ap, ◌∙◌, Some, None, option_map}
+use Rattle.std.proofs.Common.{◌≡◌, List, find, not, ap, option_map}
 use Rattle.nl_field.specs.ScanList.{physical_seen, virtual_seen}
 use Rattle.nl_field.specs.declared.seen.Seen.{Seen}
 use Rattle.nl_field.specs.declared.shape.Shape.{Shape}

@@ -1,6 +1,6 @@
 -- The entries of directories, as a walk comes to them that marks the nodes that were named and holds the names of the directory that
 -- it is in.
-use Rattle.std.specs.Prelude.{◌≡◌, ℕ, ◌*◌, ◌==◌, nat_lt, Bool, true, false, not, ◌||◌, if◌then◌else◌, List, [], ◌∷◌, ◌++◌, slice_index_or, slice_set, bytes_eq, Option, Some, None, is_some}
+use Rattle.std.specs.Prelude.{◌≡◌, ℕ, ◌==◌, nat_lt, Bool, true, false, not, ◌||◌, if◌then◌else◌, List, [], ◌∷◌, ◌++◌, slice_index_or, slice_set, bytes_eq, Option, Some, None, is_some}
 use Rattle.std.specs.List.{list_any}
 use Rattle.nl_field.specs.Bytes.{all_zero}
 use Rattle.nl_field.specs.EntryRecord.{entry_of}

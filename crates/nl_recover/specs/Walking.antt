@@ -1,5 +1,5 @@
 -- What a walk over the resident pages answers.
-use Rattle.std.specs.Prelude.{◌≡◌, ℕ, List, Option, Some, None}
+use Rattle.std.specs.Prelude.{◌≡◌, ℕ, Option, Some, None}
 use Rattle.nl_field.specs.declared.place.Place.{Place}
 use Rattle.nl_field.specs.declared.place.What.{What}
 use Rattle.nl_field.specs.declared.shape.Shape.{Shape}

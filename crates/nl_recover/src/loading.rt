@@ -182,12 +182,7 @@ fn load_address<D: VirtualPages>(
 }
 
 /// Makes the page of an address resident, where it has one. False exactly where its read failed.
-fn load_page<D: VirtualPages>(
-    device: &mut D,
-    meta: &mut Meta,
-    vaddr: u32,
-    shape: &Shape,
-) -> bool
+fn load_page<D: VirtualPages>(device: &mut D, meta: &mut Meta, vaddr: u32, shape: &Shape) -> bool
     requires formed { D.formed device.old }
     requires shape { shape.now ≡ D.shape device.old }
     requires within { vaddr < shape.now.vaddrs }
@@ -214,7 +209,12 @@ fn load_page<D: VirtualPages>(
 }
 
 // Reads the page of an address, zeros where nodes have it and it was never written.
-fn read_into<D: VirtualPages>(device: &mut D, vaddr: u32, is_inode: bool, page: &mut PageBuf) -> Fill
+fn read_into<D: VirtualPages>(
+    device: &mut D,
+    vaddr: u32,
+    is_inode: bool,
+    page: &mut PageBuf,
+) -> Fill
     requires formed { D.formed device.old }
     requires within { vaddr < (D.shape device.old).vaddrs }
     requires inode { is_inode ≡ is_inode_address (D.shape device.old) vaddr }

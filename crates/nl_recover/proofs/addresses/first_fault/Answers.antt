@@ -1,4 +1,4 @@
-use Rattle.std.proofs.Common.{◌≡◌, ◌∙◌, List, Bool, ℕ, Option, None, Some, [], ap, length, option_map, refl, subst, sym, arith}
+use Rattle.std.proofs.Common.{◌≡◌, ◌∙◌, ℕ, None, [], refl, subst, sym, arith}
 use Rattle.nl_meta.specs.Pages.{page_of}
 use Rattle.nl_recover.specs.Addresses.{PassesAddresses, address_at, is_bad_marked, with_mark}
 use Rattle.nl_recover.proofs.AddressFacts.{first_address, no-marks, node-none, of_number}

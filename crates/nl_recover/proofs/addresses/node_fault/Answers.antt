@@ -1,7 +1,6 @@
-use Rattle.std.proofs.Common.{◌∙◌, refl, sym}
+use Rattle.std.proofs.Common.{sym}
 use Rattle.nl_meta.specs.Nodes.{inode_at}
 use Rattle.nl_meta.specs.Pages.{page_of}
-use Rattle.nl_recover.specs.Addresses.{addresses_in}
 use Rattle.nl_recover.proofs.AddressFacts.{no-addresses, node-none, unused-addresses}
 use Rattle.nl_recover.proofs.addresses.node_fault.Goals as goal
 

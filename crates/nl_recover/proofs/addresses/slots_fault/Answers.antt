@@ -1,4 +1,4 @@
-use Rattle.std.proofs.Common.{◌≡◌, ◌∙◌, List, Bool, ℕ, None, [], ap, length, refl, subst, sym, arith}
+use Rattle.std.proofs.Common.{◌∙◌, List, ℕ, None, [], refl, subst, arith}
 use Rattle.std.proofs.lemmas.List.{take_all}
 use Rattle.nl_meta.specs.Pages.{page_of}
 use Rattle.nl_recover.specs.Addresses.{PassesAddresses, listed}

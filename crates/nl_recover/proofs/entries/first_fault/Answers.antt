@@ -1,4 +1,4 @@
-use Rattle.std.proofs.Common.{◌≡◌, arith}
+use Rattle.std.proofs.Common.{arith}
 use Rattle.nl_meta.specs.Pages.{page_of}
 use Rattle.nl_recover.specs.Entries.{named_by}
 use Rattle.nl_recover.proofs.EntryFacts.{passed-all, passed-more, passed-none, passed-stops}

@@ -1,4 +1,4 @@
-use Rattle.std.proofs.Common.{ℕ, ◌≡◌, ◌<◌, ◌≤◌, ◌+◌, arith}
+use Rattle.std.proofs.Common.{arith}
 use Rattle.nl_recover.proofs.FreeFacts.{takes-one, takes-outside}
 use Rattle.nl_recover.proofs.free.use_address.Goals as goal
 

@@ -1,4 +1,4 @@
-use Rattle.std.proofs.Common.{◌+◌, ◌++◌, ◌∷◌, [], List, ℕ, get_or, sym, subst, take, arith}
+use Rattle.std.proofs.Common.{◌∷◌, [], List, ℕ, get_or, sym, subst, take, arith}
 use Rattle.std.proofs.lemmas.List.{take_all, take_more}
 use Rattle.nl_recover.specs.Freeing.{TakesAddresses}
 use Rattle.nl_recover.proofs.FreeFacts.{takes-none, takes-then}

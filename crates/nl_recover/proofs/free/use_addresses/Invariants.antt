@@ -1,5 +1,5 @@
 use Rattle.std.proofs.Common.{take}
-use Rattle.nl_recover.specs.Freeing.{SpacesOf, TakesAddresses}
+use Rattle.nl_recover.specs.Freeing.{TakesAddresses}
 use Rattle.nl_recover.proofs.free.use_addresses.Given as goal
 
 abbrev pub invariant-loop-address : goal.invariant-loop-address

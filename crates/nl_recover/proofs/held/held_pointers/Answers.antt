@@ -1,4 +1,4 @@
-use Rattle.std.proofs.Common.{◌≡◌, ◌∙◌, ◌++◌, ℕ, List, ap, sym, arith}
+use Rattle.std.proofs.Common.{◌≡◌, ◌∙◌, ◌++◌, List, ap, sym, arith}
 use Rattle.nl_meta.specs.Nodes.{Held}
 use Rattle.nl_meta.specs.Pages.{page_of}
 use Rattle.nl_recover.specs.Held.{held_at}

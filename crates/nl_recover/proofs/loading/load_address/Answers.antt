@@ -1,6 +1,3 @@
-use Rattle.std.proofs.Common.{arith}
-use Rattle.nl_field.specs.Virtual.{map_bytes}
-use Rattle.nl_recover.proofs.LoadFacts.{loads-none}
 use Rattle.nl_recover.proofs.loading.load_address.Goals as goal
 
 pub returns-clause-settled : goal.returns-clause-settled

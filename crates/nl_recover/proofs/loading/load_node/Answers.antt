@@ -1,4 +1,3 @@
-use Rattle.std.proofs.Common.{◌≡◌, ◌∙◌, Some, sym}
 use Rattle.nl_field.specs.Virtual.{map_bytes}
 use Rattle.nl_meta.specs.Pages.{page_of}
 use Rattle.nl_recover.specs.Loading.{Settled}

@@ -1,4 +1,4 @@
-use Rattle.std.proofs.Common.{◌∙◌, sym, arith}
+use Rattle.std.proofs.Common.{◌∙◌, sym}
 use Rattle.nl_meta.specs.Pages.{page_of}
 use Rattle.nl_recover.proofs.ReachFacts.{lost-here, none-lost}
 use Rattle.nl_recover.proofs.reach.first_unreached.Goals as goal

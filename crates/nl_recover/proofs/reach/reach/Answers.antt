@@ -1,4 +1,4 @@
-use Rattle.std.proofs.Common.{◌≡◌, ◌<◌, ◌∙◌, ◌++◌, ◌∷◌, [], List, ℕ, ap, arith}
+use Rattle.std.proofs.Common.{◌∙◌, ◌++◌, ◌∷◌, [], List, ℕ, ap, arith}
 use Rattle.nl_meta.specs.Pages.{page_of}
 use Rattle.nl_recover.specs.Reaching.{reached_by, targets_of, with_node}
 use Rattle.nl_recover.specs.Scanning.{gathered}

@@ -1,6 +1,6 @@
-use Rattle.std.proofs.Common.{◌∙◌, Some, None, ap, sym}
+use Rattle.std.proofs.Common.{◌∙◌, Some, None, sym}
 use Rattle.nl_meta.specs.Pages.{page_of}
-use Rattle.nl_recover.proofs.PlacesThere.{behind-here, entry-here, none-here}
+use Rattle.nl_recover.proofs.PlacesThere.{entry-here, none-here}
 use Rattle.nl_recover.proofs.reach.target.Goals as goal
 
 pub returns-then-not-resident : goal.returns-then-not-resident

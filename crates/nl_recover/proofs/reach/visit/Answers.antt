@@ -1,7 +1,6 @@
-use Rattle.std.proofs.Common.{List, ap, filter_map, sym}
+use Rattle.std.proofs.Common.{ap, filter_map, sym}
 use Rattle.nl_meta.specs.Nodes.{inode_at}
 use Rattle.nl_meta.specs.Pages.{page_of}
-use Rattle.nl_meta.specs.Walk.{EntryPlace}
 use Rattle.nl_recover.specs.Reaching.{reached_by, target_of}
 use Rattle.nl_recover.proofs.EntryFacts.{file-places, no-places, unused-places}
 use Rattle.nl_recover.proofs.LookFacts.{spelled}

@@ -1,4 +1,4 @@
-use Rattle.std.proofs.Common.{◌≡◌, ◌∙◌, ℕ, List, ap, filter_map, refl, sym, subst, arith}
+use Rattle.std.proofs.Common.{◌≡◌, ◌∙◌, ℕ, List, ap, filter_map, refl, sym, arith}
 use Rattle.nl_meta.specs.Pages.{page_of}
 use Rattle.nl_meta.specs.Walk.{EntryPlace}
 use Rattle.nl_recover.specs.Entries.{place_there}

@@ -1,4 +1,4 @@
-use Rattle.std.proofs.Common.{◌∙◌, sym, ap, option_map, find, take, arith}
+use Rattle.std.proofs.Common.{◌∙◌, sym, ap, option_map, find, arith}
 use Rattle.std.proofs.lemmas.List.{take_all}
 use Rattle.nl_recover.specs.Phases.{is_physical_apart}
 use Rattle.nl_recover.proofs.Firsts.{first_at, none_more}
