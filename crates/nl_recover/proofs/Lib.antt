@@ -1,0 +1,15 @@
+pub mod AddressFacts
+pub mod Alike
+pub mod EntryFacts
+pub mod Firsts
+pub mod FreeFacts
+pub mod HeldFacts
+pub mod LoadFacts
+pub mod LookFacts
+pub mod NodesLoaded
+pub mod PlacesThere
+pub mod PointerPages
+pub mod ReachFacts
+pub mod Scans
+pub mod StampFacts
+pub mod WalkFacts

@@ -1,0 +1,17 @@
+use Rattle.std.proofs.Common.{inl, inr, ℕ, sym, subst}
+use Rattle.nl_field.specs.Virtual.{map_bytes}
+use Rattle.nl_recover.specs.Loading.{Settled}
+use Rattle.nl_recover.proofs.LoadFacts.{loads-then, same-bytes, settled-later, settled-stays}
+use Rattle.nl_recover.proofs.loading.load_tables.Goals as goal
+
+pub returns-clause-loads : goal.returns-clause-loads
+returns-clause-loads g c = λ e. loads-then g.D.Counts.tells (map_bytes (g.D.Counts.shape c.args.device.now) (g.D.Counts.map c.args.device.now)) (map_bytes (g.D.Counts.shape c.load_page.new.device) (g.D.Counts.map c.load_page.new.device)) (λ t v. same-bytes _ _ _ _ v c.load_page.ensures.device.medium.virtual.same_shape (c.load_page.ensures.device.medium.virtual.same_map t v)) c.args.meta.now c.load_page.new.meta c.load_range.new.meta (c.load_page.ensures.loads c.if-not-load_page.false) (c.load_range.ensures.loads e)
+
+pub returns-clause-settled : goal.returns-clause-settled
+returns-clause-settled g c = λ e u at.
+    elim at as (λ _. Settled g.D.Counts.tells (map_bytes (g.D.Counts.shape c.args.device.now) (g.D.Counts.map c.args.device.now)) c.args.meta.now c.load_range.new.meta u) [
+      | inl is ↦ settled-stays g.D.Counts.tells (map_bytes (g.D.Counts.shape c.args.device.now) (g.D.Counts.map c.args.device.now)) (map_bytes (g.D.Counts.shape c.load_page.new.device) (g.D.Counts.map c.load_page.new.device)) (λ t v. same-bytes _ _ _ _ v c.load_page.ensures.device.medium.virtual.same_shape (c.load_page.ensures.device.medium.virtual.same_map t v)) c.args.meta.now c.load_page.new.meta c.load_range.new.meta u
+          (subst (λ (v : ℕ). Settled g.D.Counts.tells (map_bytes (g.D.Counts.shape c.args.device.now) (g.D.Counts.map c.args.device.now)) c.args.meta.now c.load_page.new.meta v) (sym is) (c.load_page.ensures.settled c.if-not-load_page.false))
+          (c.load_page.ensures.loads c.if-not-load_page.false) (c.load_range.ensures.loads e)
+      | inr within ↦ settled-later g.D.Counts.tells (map_bytes (g.D.Counts.shape c.args.device.now) (g.D.Counts.map c.args.device.now)) (map_bytes (g.D.Counts.shape c.load_page.new.device) (g.D.Counts.map c.load_page.new.device)) (λ t v. same-bytes _ _ _ _ v c.load_page.ensures.device.medium.virtual.same_shape (c.load_page.ensures.device.medium.virtual.same_map t v)) c.args.meta.now c.load_page.new.meta c.load_range.new.meta u (c.load_page.ensures.loads c.if-not-load_page.false) (c.load_range.ensures.settled e u within.0 within.1)
+    ]

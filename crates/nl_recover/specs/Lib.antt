@@ -1,0 +1,11 @@
+pub mod Addresses
+pub mod Entries
+pub mod Filling
+pub mod Freeing
+pub mod Held
+pub mod Loading
+pub mod Looking
+pub mod Phases
+pub mod Reaching
+pub mod Scanning
+pub mod Walking
