@@ -1,5 +1,0 @@
-pub mod Blank
-pub mod Landing
-pub mod Reopened
-pub mod Retaining
-pub mod Rigs
