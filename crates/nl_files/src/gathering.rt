@@ -9,9 +9,8 @@ use crate::answer::{CountPages, FileAnswer, Looked};
 use crate::pages::look;
 use nl_field::{InodeRec, Pointer, PointerList};
 use nl_iface::NamedPages;
+use nl_indirect::INDEXES;
 use nl_meta::Meta;
-
-const INDEXES: u32 = 4104;
 
 /// How many page indexes of a file have a pointer.
 pub fn count_pages<D: NamedPages>(device: &mut D, meta: &mut Meta, rec: &InodeRec) -> CountPages

@@ -17,12 +17,10 @@ ghost use Rattle.nl_handler.specs.Handling.{HandlesStored, HasTagged, HoldsTagge
 use crate::answer::Handled;
 use nl_field::{InodeRec, Kind, Pointer, Tag};
 use nl_iface::{Callback, NamedPages};
-use nl_indirect::{lookup, page_address, store};
+use nl_indirect::{INDEXES, lookup, page_address, store};
 use nl_inode::Nodes;
 use nl_meta::Meta;
 use nl_running::{Stop, hold};
-
-const INDEXES: u32 = 4104;
 
 /// The pointer of a callback's sequence number in the metadata gets a name.
 pub(crate) fn rename_stored<D: NamedPages>(

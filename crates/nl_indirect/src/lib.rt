@@ -10,5 +10,5 @@ mod tests;
 mod truncating;
 
 pub use answer::Stored;
-pub use pointers::{lookup, page_address, store};
+pub use pointers::{INDEXES, lookup, page_address, store};
 pub use truncating::truncate;

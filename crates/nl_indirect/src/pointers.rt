@@ -22,6 +22,9 @@ const SLOTS: u32 = 256;
 
 const NONE: Pointer = Pointer { name: 0, stamp: 0 };
 
+/// How many page indexes a file has: 8 in its node, and 16 ranges of 256.
+pub const INDEXES: u32 = 4104;
+
 /// The address of the page that has the pointer of a page index, of which a file has 4104. 0 where the node has it, or where the
 /// range of 256 indexes has no page.
 pub fn page_address(rec: &InodeRec, index: u32) -> u32

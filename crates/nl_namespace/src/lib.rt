@@ -6,7 +6,6 @@ mod entering;
 mod free;
 mod hold;
 pub mod laws;
-mod lengths;
 mod making;
 mod names;
 mod naming;

@@ -14,7 +14,6 @@ ghost use Rattle.nl_running.specs.Running.{Runs, running_on};
 
 use crate::answer::Change;
 use crate::free::room_for;
-use crate::lengths::is_long;
 use crate::naming::{name_node, name_of};
 use crate::place::{Place, Spot, locate};
 use nl_field::Kind;
@@ -22,7 +21,7 @@ use nl_iface::VirtualPages;
 use nl_inode::Nodes;
 use nl_meta::Meta;
 use nl_running::{Stop, hold};
-use nl_tree::{Path, Refusal};
+use nl_tree::{Path, Refusal, is_long};
 
 /// Makes an empty directory, or an empty file, under a path. A refusal, a read that failed and a page that is lost leave all as it was.
 pub fn make<D: VirtualPages>(

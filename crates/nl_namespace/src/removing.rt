@@ -11,14 +11,13 @@ ghost use Rattle.nl_running.specs.Running.{Runs, running_on};
 
 use crate::answer::Change;
 use crate::entering::take_out;
-use crate::lengths::is_long;
 use crate::place::{Place, Spot, locate, record};
 use nl_field::{EntryRec, InodeRec, Kind};
 use nl_iface::VirtualPages;
 use nl_inode::Nodes;
 use nl_meta::Meta;
 use nl_running::Stop;
-use nl_tree::{Path, Refusal};
+use nl_tree::{Path, Refusal, is_long};
 
 /// Takes its name from a file, or from an empty directory: the node at a path that is of that kind. Its record and its pages stay as they
 /// are, and its number counts as used. A refusal, a read that failed and a page that is lost leave all as it was.

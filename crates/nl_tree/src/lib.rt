@@ -3,6 +3,7 @@
 
 mod call;
 pub mod laws;
+mod lengths;
 mod lines;
 mod names;
 pub mod order_rows;
@@ -17,6 +18,7 @@ mod turn;
 mod walk_path;
 
 pub use call::{Call, Line};
+pub use lengths::is_long;
 pub use lines::Lines;
 pub use names::Names;
 pub use path::Path;

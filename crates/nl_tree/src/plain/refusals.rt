@@ -11,10 +11,8 @@ ghost use Rattle.nl_tree.specs.Step.{when, is_too_long, paths_of};
 
 use super::entries::{Entry, count_entries, find};
 use super::names::{are_equal, is_under};
-use crate::{Call, Path, Refusal};
-use nl_field::{MAX_FILE_SIZE, MAX_NAME, Text};
-
-const MAX_PATH: usize = 1023;
+use crate::{Call, Path, Refusal, is_long};
+use nl_field::{MAX_FILE_SIZE, Text};
 
 /// The first that holds.
 pub(crate) fn first_of(refusals: &[Option<Refusal>]) -> Option<Refusal>
@@ -236,25 +234,6 @@ pub(crate) fn of_call(tree: &[Entry], call: &Call) -> Option<Refusal>
         Call::List(path) => of_list(tree, path.names()),
         Call::Sync | Call::Clean => None,
     }
-}
-
-/// A path or a name that is too long.
-#[tactic(auto, unfolding(crate::specs::Step::is_too_long))]
-pub(crate) fn is_long(path: &[Text]) -> bool
-    ensures { result ≡ is_too_long path.now }
-{
-    let mut total = 0;
-    'names: for name in path {
-        let len = name.bytes().len();
-        if len > MAX_NAME {
-            return true;
-        }
-        total += 1 + len;
-        if total > MAX_PATH {
-            return true;
-        }
-    }
-    false
 }
 
 pub(crate) fn has_long_path(call: &Call) -> bool

@@ -6,8 +6,8 @@ use nl_field::{MAX_NAME, Text};
 const MAX_PATH: usize = 1023;
 
 /// Whether a path has more than 1023 bytes, with a slash before each name, or a name more than 55.
-#[tactic(auto, unfolding(nl_tree::specs::Step::is_too_long))]
-pub(crate) fn is_long(path: &[Text]) -> bool
+#[tactic(auto, unfolding(crate::specs::Step::is_too_long))]
+pub fn is_long(path: &[Text]) -> bool
     ensures { result ≡ is_too_long path.now }
 {
     let mut total = 0;

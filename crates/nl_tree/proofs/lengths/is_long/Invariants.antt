@@ -1,7 +1,7 @@
 use Rattle.std.proofs.Common.{◌≡◌, ◌+◌, ◌≤◌, drop, sum_by, length, nat_lt}
 use Rattle.std.specs.List.{list_any}
 use Rattle.nl_field.specs.Numbers.{max_name, max_path}
-use Rattle.nl_tree.proofs.plain.refusals.is_long.Given as goal
+use Rattle.nl_tree.proofs.lengths.is_long.Given as goal
 
 abbrev pub invariant-names : goal.invariant-names
 invariant-names l =
