@@ -11,7 +11,7 @@ use Rattle.nl_tree.specs.Causes.{fault_sum}
 use Rattle.nl_tree.specs.declared.reply.FaultReply.{FaultReply}
 use Rattle.nl_tree.specs.declared.reply.FaultReply.TheVariants.{Eio, Erofs, Eworn, Edamaged}
 use Rattle.nl_tree.specs.declared.call.Line.{Line}
-use Rattle.nl_core.specs.Formatted.{IsFormatted}
+use Rattle.nl_sound.specs.Formatted.{IsFormatted}
 use Rattle.nl_top.specs.declared.command.Command.{Command}
 use Rattle.nl_top.specs.declared.command.Command.TheVariants.{Run, Format}
 use Rattle.nl_top.specs.declared.lists.Ordered.{Ordered}

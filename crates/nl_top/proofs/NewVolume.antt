@@ -10,7 +10,7 @@ use Rattle.nl_field.specs.Scan.{next_stamp_of}
 use Rattle.nl_field.specs.SpareRecord.{fits_spare}
 use Rattle.nl_field.specs.declared.shape.Shape.{Shape}
 use Rattle.nl_field.specs.declared.spare.SpareRec.TheVariants.{Virtual}
-use Rattle.nl_core.specs.Formatted.{formatted_root, formatted_super, IsFormatted}
+use Rattle.nl_sound.specs.Formatted.{formatted_root, formatted_super, IsFormatted}
 use Rattle.nl_nand.specs.Nand.{ImageOf}
 use Rattle.nl_nand.specs.declared.geometry.Geometry.{Geometry}
 use Rattle.nl_scan.specs.Tables.{Table, IsTableOf, greatest_stamp}

@@ -5,9 +5,9 @@ use Rattle.nl_field.specs.Page.{Image}
 use Rattle.nl_tree.specs.Tree.{empty_tree}
 use Rattle.nl_nand.specs.Nand.{ImageOf}
 use Rattle.nl_nand.specs.declared.geometry.Geometry.{Geometry}
-use Rattle.nl_core.specs.Formatted.{IsFormatted}
-use Rattle.nl_core.specs.Stands.{SoundAs}
-use Rattle.nl_core.proofs.FormattedProofs.{formatted_is_sound}
+use Rattle.nl_sound.specs.Formatted.{IsFormatted}
+use Rattle.nl_sound.specs.Stands.{SoundAs}
+use Rattle.nl_sound.proofs.FormattedProofs.{formatted_is_sound}
 
 pub sound_medium : (geometry : Geometry) (blocks pages : ℕ) (image : Image) → ImageOf geometry image → geometry ≡ record { blocks = blocks; pages = pages }
     → IsTrue (is_legal blocks pages) → IsFormatted blocks pages image → SoundAs image 0 empty_tree

@@ -7,7 +7,7 @@ ghost use Rattle.nl_field.specs.SpareRecord.{spare_bytes};
 ghost use Rattle.nl_field.specs.declared.spare.SpareRec.TheVariants.{Virtual};
 ghost use Rattle.nl_nand.specs.Nand.{FaultsCounted};
 ghost use Rattle.nl_top.specs.Files.{IsErasedFrom};
-ghost use Rattle.nl_core.specs.Formatted.{formatted_root, formatted_super, IsFormatted};
+ghost use Rattle.nl_sound.specs.Formatted.{formatted_root, formatted_super, IsFormatted};
 
 use nl_field::{InodeRec, Kind, PageBuf, Pointer, SpareRec, SuperRec, spare_into};
 use nl_nand::{FormAnswer, Nand, ReadAnswer, WriteAnswer};
@@ -31,7 +31,7 @@ fn put_spare(page: &mut PageBuf, vaddr: u32, stamp: u64)
 }
 
 /// The first inode page of a new volume: an empty root.
-#[tactic(auto, unfolding(nl_core::specs::Formatted::formatted_root))]
+#[tactic(auto, unfolding(nl_sound::specs::Formatted::formatted_root))]
 pub fn put_root(page: &mut PageBuf)
     ensures { page.new ≡ formatted_root }
 {
@@ -48,7 +48,7 @@ pub fn put_root(page: &mut PageBuf)
 }
 
 /// The super page of a new volume.
-#[tactic(auto, unfolding(nl_core::specs::Formatted::formatted_super))]
+#[tactic(auto, unfolding(nl_sound::specs::Formatted::formatted_super))]
 pub fn put_super(page: &mut PageBuf, blocks: u32, pages: u32)
     ensures { page.new ≡ formatted_super blocks pages }
 {

@@ -4,7 +4,7 @@ ghost use Rattle.nl_field.specs.CrashStates.{Rose};
 ghost use Rattle.nl_field.specs.Numbers.{is_legal, shape_for};
 ghost use Rattle.nl_io.specs.Streams.{Writes};
 ghost use Rattle.nl_tree.specs.declared.call.Line.{Line};
-ghost use Rattle.nl_core.specs.Formatted.{IsFormatted};
+ghost use Rattle.nl_sound.specs.Formatted.{IsFormatted};
 ghost use Rattle.nl_device.specs.Retain.{CanRetain, kept_of};
 ghost use Rattle.nl_top.specs.Command.{command_of};
 ghost use Rattle.nl_top.specs.Files.{IsRoomy};

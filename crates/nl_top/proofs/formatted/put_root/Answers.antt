@@ -3,7 +3,7 @@ use Rattle.std.proofs.lemmas.List.{drop-replicate}
 use Rattle.nl_field.specs.Bytes.{zeros}
 use Rattle.nl_field.specs.Examples.{root_inode}
 use Rattle.nl_field.specs.Inode.{inode_bytes, is_inode_of_kind, are_filled}
-use Rattle.nl_core.specs.Formatted.{formatted_root}
+use Rattle.nl_sound.specs.Formatted.{formatted_root}
 use Rattle.nl_top.proofs.formatted.put_root.Goals as goal
 
 pub into_page-requires-clause-spelled : goal.into_page-requires-clause-spelled

@@ -4,9 +4,9 @@ use Rattle.nl_field.specs.Numbers.{is_legal}
 use Rattle.nl_nand.specs.declared.geometry.Geometry.{Geometry}
 use Rattle.nl_tree.specs.Tree.{empty_tree}
 use Rattle.nl_tree.specs.declared.call.Line.{Line}
-use Rattle.nl_core.specs.Formatted.{IsFormatted}
+use Rattle.nl_sound.specs.Formatted.{IsFormatted}
 use Rattle.nl_top.specs.declared.lists.Ordered.{Ordered}
-use Rattle.nl_core.specs.Stands.{SoundAs}
+use Rattle.nl_sound.specs.Stands.{SoundAs}
 use Rattle.nl_top.specs.declared.command.Command.{Command}
 use Rattle.nl_top.specs.declared.command.Command.TheVariants.{Run, Format}
 use Rattle.nl_top.specs.Command.{command_of}

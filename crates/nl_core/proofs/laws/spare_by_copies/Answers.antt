@@ -1,5 +1,0 @@
-use Rattle.nl_core.proofs.SpareProofs.{spare_by_copies}
-use Rattle.nl_core.proofs.laws.spare_by_copies.Goals as goal
-
-pub returns : goal.returns
-returns c = spare_by_copies
