@@ -30,8 +30,8 @@ pub record FailingStands (opening : Opening) (history : List Entry) (calls done 
   pub since : NeverFall (opening_counts opening) (failing_counts faults)
 
 -- one page of each line, or none of the line that the worker has staged
-abbrev pub left_to_stage : List ℕ → ℕ → ℕ → ℕ
-left_to_stage staged worker line = if slice_index_or staged worker 0 == line then 0 else 1
+abbrev pub pages_to_stage : List ℕ → ℕ → ℕ → ℕ
+pages_to_stage staged worker line = if slice_index_or staged worker 0 == line then 0 else 1
 
 -- it refuses nothing before it is tried
 abbrev pub refuses_none : FaultState

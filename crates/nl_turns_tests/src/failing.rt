@@ -46,7 +46,7 @@ impl Kept for FailingVolume {
 impl Served for FailingVolume {
     ghost use Rattle.std.specs.Prelude.{⊤};
     ghost use Rattle.std.specs.Prelude.{None, refl};
-    ghost use Rattle.nl_turns_tests.specs.Failing.{failing_counts, left_to_stage, refuses_none};
+    ghost use Rattle.nl_turns_tests.specs.Failing.{failing_counts, pages_to_stage, refuses_none};
 
     ghost tells = { ⊤ };
 
@@ -56,7 +56,7 @@ impl Served for FailingVolume {
 
     ghost read_only = { λ _. None };
 
-    ghost to_stage = { λ v. left_to_stage v.staged };
+    ghost to_stage = { λ v. pages_to_stage v.staged };
 
     ghost posted = { λ v. v.posted };
 

@@ -1,6 +1,7 @@
 pub mod Splits
 pub mod GoingOn
 pub mod Turned
+pub mod Telling
 pub mod Epochs
 pub mod ReplyBytes
 pub mod Filings

@@ -1,4 +1,5 @@
 pub mod Placed
+pub mod Gates
 pub mod Table
 pub mod Filing
 pub mod Worked

@@ -1,9 +1,10 @@
 ghost use Rattle.std.specs.Prelude.{◌≡◌, ◌<◌, ◌||◌, true, false};
 ghost use Rattle.nl_turns.specs.Served.{duty_entry};
 ghost use Rattle.nl_workers.specs.Placed.{HasPassed};
+ghost use Rattle.nl_workers.specs.Gates.{told_of_task};
 ghost use Rattle.nl_workers.specs.Duties.{MayClean, HasCleaned, MayHandle, HasHandled, is_lost, is_copy};
 
-use crate::gate::{Gate, GatePlace};
+use crate::gate::{Gate, GatePlace, Told, tell};
 use crate::outbox::Outbox;
 use crate::stop::StopFlag;
 use nl_callbacks::{NoticePass, Notices};
@@ -123,12 +124,15 @@ fn handle_turn<V: Served, R: Wait>(
     answer
 }
 
-/// Calls the gate after a task that did something, and else lets others run.
-fn rest<G: Gate>(gate: &G, worker: u8, answer: DutyAnswer) {
+/// Tells the gate of a task that did something, and else lets others run.
+fn rest<G: Gate>(gate: &G, worker: u8, answer: DutyAnswer) -> Option<Told>
+    ensures { result ≡ told_of_task worker answer }
+{
     if matches!(answer, DutyAnswer::Did) {
-        gate.at(worker, 0, GatePlace::After);
+        Some(tell(gate, worker, 0, GatePlace::After))
     } else {
         thread::yield_now();
+        None
     }
 }
 

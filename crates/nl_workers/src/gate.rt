@@ -1,3 +1,5 @@
+ghost use Rattle.std.specs.Prelude.{◌≡◌};
+
 /// Where a worker stands with a line.
 #[derive(Clone, Copy, Debug, PartialEq, Eq)]
 pub enum GatePlace {
@@ -20,4 +22,24 @@ pub struct NoGate;
 
 impl Gate for NoGate {
     fn at(&self, _worker: u8, _line: u32, _place: GatePlace) {}
+}
+
+/// A step of which a gate was told. Only `tell` makes one.
+#[derive(Clone, Copy, Debug, PartialEq, Eq)]
+pub(crate) struct Told {
+    worker: u8,
+    line: u32,
+    place: GatePlace,
+}
+
+/// Tells the gate.
+pub(crate) fn tell<G: Gate>(gate: &G, worker: u8, line: u32, place: GatePlace) -> Told
+    ensures { result ≡ record { worker = worker; line = line; place = place } }
+{
+    gate.at(worker, line, place);
+    Told {
+        worker,
+        line,
+        place,
+    }
 }
