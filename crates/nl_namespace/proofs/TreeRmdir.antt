@@ -47,7 +47,7 @@ behind None (Some q) c r z w = refl
 behind None None (Some q) r z w = refl
 behind None None None r z w = refl
 
-same-behind : (a b c : Option Refusal) (r : Refusal) (z w : Option Refusal) → first_of (a ∷ b ∷ c ∷ Some r ∷ z ∷ []) ≡ first_of (a ∷ b ∷ c ∷ Some r ∷ w ∷ [])
+pub same-behind : (a b c : Option Refusal) (r : Refusal) (z w : Option Refusal) → first_of (a ∷ b ∷ c ∷ Some r ∷ z ∷ []) ≡ first_of (a ∷ b ∷ c ∷ Some r ∷ w ∷ [])
 same-behind (Some q) b c r z w = refl
 same-behind None (Some q) c r z w = refl
 same-behind None None (Some q) r z w = refl
@@ -124,7 +124,7 @@ module _ (bytes_of : ℕ → List ℕ) (graph : Graph) (tree : Tree) (stands : S
           ap (node_at (entries_of tree path)) (sym parts ∙ ap (λ (r : List (List ℕ)). path ++ r) rest.1) ∙ under-name rest.0
           ∙ ap (λ (b : NodeBody). option_and_then (λ m. node_of bytes_of (graph m).body) (node_named rest.0 (entries_in b))) body
 
-  nonempty-same : (es : List (List ℕ × ℕ)) → (graph n).body ≡ directory_node es → nat_lt 0 (length (entries_of tree path)) ≡ nat_lt 0 (length es)
+  pub nonempty-same : (es : List (List ℕ × ℕ)) → (graph n).body ≡ directory_node es → nat_lt 0 (length (entries_of tree path)) ≡ nat_lt 0 (length es)
   nonempty-same [] body = no-entry body (entries_of tree path) refl
   nonempty-same ((x, k) ∷ es) body = some-entry x k es body (entries_of tree path) refl ∙ sym (lt-ltb 0 (length ((x, k) ∷ es)) (omega arith))
 
