@@ -36,3 +36,4 @@ mod MovedGraphs
 mod MoveDone
 mod MoveRefusals
 mod TreeRenames
+mod TreeCalls

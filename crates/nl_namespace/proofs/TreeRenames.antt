@@ -20,7 +20,7 @@ use Rattle.nl_namespace.proofs.TreeChanges.{at-path, four, none-same}
 use Rattle.nl_namespace.proofs.TreeRmdir.{nonempty-same, same-behind}
 use Rattle.nl_namespace.proofs.TreeWalks.{walk-is}
 
-or-nothing : (b : Bool) → (b || false) ≡ b
+pub or-nothing : (b : Bool) → (b || false) ≡ b
 or-nothing true = refl
 or-nothing false = refl
 

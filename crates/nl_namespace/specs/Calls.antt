@@ -44,7 +44,7 @@ ChangesNames free old new _ answer = ⊥
 -- The tree's refusals in their order, before any room is asked for: there is none where the call was done, and the nodes then stand for the
 -- tree that it leaves. Else the refusal is the first of them, or there is none and no room.
 abbrev pub IsStep : (ℕ → List ℕ) → Graph → Tree → Call → Change → Type 0
-IsStep bytes_of new tree call (change.Changed gone) =
+IsStep bytes_of new tree call (change.Changed lost) =
     (first_of (when (list_any is_too_long (paths_of call)) Enametoolong ∷ own_refusal tree call ∷ []) ≡ None) × Represents bytes_of new (effect_of tree call).tree
 IsStep bytes_of new tree call (change.No refusal) =
     (first_of (when (list_any is_too_long (paths_of call)) Enametoolong ∷ own_refusal tree call ∷ []) ≡ Some refusal)

@@ -1,4 +1,5 @@
 //! Laws of the definitions. Each function stands for the law that its contract names.
+ghost use Rattle.nl_namespace.specs.Calls.{ChangesInTree};
 ghost use Rattle.nl_namespace.specs.ChangeLaws.{MakesInTree, RemovesInTree, RenamesInTree, RmdirsInTree, UnlinksInTree};
 ghost use Rattle.nl_namespace.specs.PathLaws.{ListsInTree, LooksInTree};
 
@@ -27,4 +28,9 @@ pub fn removes_in_tree()
 /// What is under a path that is renamed is under the other, and the refusals are those of the tree.
 pub fn renames_in_tree()
     ensures { RenamesInTree }
+{}
+
+/// A call that changes names answers as the step of the tree for which the nodes stand, and leaves the nodes of the tree that it leaves.
+pub fn changes_in_tree()
+    ensures { ChangesInTree }
 {}
