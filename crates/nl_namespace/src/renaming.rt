@@ -18,7 +18,6 @@ use crate::answer::Change;
 use crate::entering::{put_in, take_out};
 use crate::finding::{Found, There, find_node};
 use crate::free::has_address;
-use crate::lengths::is_long;
 use crate::naming::name_of;
 use crate::same_paths::{are_one, lies_under};
 use nl_field::{EntryRec, InodeRec, Kind, Name};
@@ -26,7 +25,7 @@ use nl_iface::VirtualPages;
 use nl_inode::Nodes;
 use nl_meta::Meta;
 use nl_running::Stop;
-use nl_tree::{Path, Refusal, Space};
+use nl_tree::{Path, Refusal, Space, is_long};
 
 /// Gives a file or a directory, with all that is under it, another path. A file, or an empty directory, that stood there loses its name,
 /// and its record and its pages stay as they are. A refusal, a read that failed and a page that is lost leave all as it was.
