@@ -16,7 +16,6 @@ use Rattle.nl_inode.specs.FreeLaws.{Uses}
 use Rattle.nl_inode.specs.Nodes.{Spaces}
 use Rattle.nl_tree.specs.GraphLaws.{entry_at}
 use Rattle.nl_tree.specs.Represents.{node_of}
-use Rattle.nl_tree.proofs.ChangeProofs.{is_same_name}
 use Rattle.nl_namespace.specs.Entering.{PutsIn, TakesOut}
 use Rattle.nl_namespace.proofs.DirectorySteps.{dir-node}
 use Rattle.nl_namespace.proofs.PutSteps.{put-at, put-back, put-dir, put-else, put-follows, put-needs, put-node, put-others, put-was}

@@ -1,8 +1,7 @@
 -- Directories whose pages are in memory, as entries are put into them and taken out.
-use Rattle.std.proofs.Common.{◌≡◌, ◌≢◌, ℕ, ◌+◌, ◌-◌, ◌/◌, ◌%◌, ◌≤◌, ◌<◌, Bool, true, false, ◌==◌, ◌&&◌, cond, nat_le, List, length, refl, sym, ap, subst, ◌∙◌, Option, Some, None, option_map, is_some, IsSome, ◌⊎◌, inl, inr, arith, bytes_eq}
+use Rattle.std.proofs.Common.{◌≡◌, ◌≢◌, ℕ, ◌+◌, ◌-◌, ◌/◌, ◌%◌, ◌≤◌, ◌<◌, Bool, true, ◌&&◌, cond, nat_le, List, length, refl, sym, ap, subst, ◌∙◌, Option, Some, None, option_map, IsSome, ◌⊎◌, inl, inr, arith, bytes_eq}
 use Rattle.std.proofs.lemmas.Bool.{and_parts, cases_eq, eq-eqb, le-leb}
 use Rattle.std.specs.Prelude.{find}
-use Rattle.nl_field.specs.Graph.{Graph}
 use Rattle.nl_field.specs.Numbers.{ShapeBounds}
 use Rattle.nl_field.specs.declared.entry.EntryRec.{EntryRec}
 use Rattle.nl_field.specs.declared.inode.InodeRec.{InodeRec}
@@ -10,14 +9,14 @@ use Rattle.nl_field.specs.declared.inode.Kind.TheVariants.{Dir}
 use Rattle.nl_field.specs.declared.shape.Shape.{Shape}
 use Rattle.nl_meta.specs.Committed.{VirtualMap}
 use Rattle.nl_meta.specs.Consistent.{AddressAt, IsNode}
-use Rattle.nl_meta.specs.Nodes.{address_of_place, entries_of_inode, entry_named, graph_of}
+use Rattle.nl_meta.specs.Nodes.{address_of_place, entry_named, graph_of}
 use Rattle.nl_meta.specs.Pages.{Pages, page_of}
 use Rattle.nl_meta.specs.Running.{running_over}
-use Rattle.nl_meta.proofs.Lists.{none_some, some_in}
+use Rattle.nl_meta.proofs.Lists.{none_some}
 use Rattle.nl_inode.specs.Free.{is_free}
 use Rattle.nl_inode.specs.Nodes.{AddressBecomes, Spaces, is_free_address, page_of_node}
 use Rattle.nl_dir.specs.Changes.{changed_by_removal}
-use Rattle.nl_dir.specs.Directory.{HasRoomFor, IsDirectory, given_up, last_alone, shorter}
+use Rattle.nl_dir.specs.Directory.{HasRoomFor, last_alone, shorter}
 use Rattle.nl_dir.proofs.LawProofs.{resident_is_running}
 use Rattle.nl_dir.proofs.Records.{spelled-dir}
 use Rattle.nl_tree.specs.GraphLaws.{entry_at}

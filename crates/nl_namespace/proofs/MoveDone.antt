@@ -1,6 +1,6 @@
 -- A name that is moved, from what was found to what is left.
-use Rattle.std.proofs.Common.{◌≡◌, ◌≢◌, ℕ, ◌+◌, ◌-◌, ◌%◌, ◌≤◌, ◌<◌, Bool, true, false, nat_lt, List, [], ◌∷◌, ◌++◌, drop, length, refl, sym, ap, subst, ◌∙◌, Option, Some, None, option_and_then, option_map, is_some, IsSome, ◌⊎◌, inl, inr, arith}
-use Rattle.std.proofs.lemmas.Bool.{cases_eq, ltb-false}
+use Rattle.std.proofs.Common.{◌≡◌, ◌≢◌, ℕ, ◌-◌, Bool, true, false, nat_lt, List, [], ◌∷◌, ◌++◌, drop, length, refl, sym, ap, subst, ◌∙◌, Option, Some, None, option_and_then, option_map, is_some, IsSome, ◌⊎◌, inl, inr, arith}
+use Rattle.std.proofs.lemmas.Bool.{ltb-false}
 use Rattle.std.proofs.lemmas.List.{append-nil, append_assoc}
 use Rattle.std.specs.Prelude.{slice_get}
 use Rattle.nl_field.specs.Graph.{Graph}
@@ -29,7 +29,7 @@ use Rattle.nl_tree.specs.declared.reply.Refusal.TheVariants.{Enotempty}
 use Rattle.nl_tree.proofs.ChangeProofs.{Ends, ends}
 use Rattle.nl_tree.proofs.GraphProofs.{from_back, from_turned_all, reached-append, tail_eq, turned-append, turned_onto}
 use Rattle.nl_tree.proofs.TreeProofs.{path_eq, under_parts}
-use Rattle.nl_running.specs.Running.{IsNodeOf, Runs, RunsOn, running_on, stored_on}
+use Rattle.nl_running.specs.Running.{Runs, RunsOn, running_on, stored_on}
 use Rattle.nl_running.proofs.Holds.{bounds-of}
 use Rattle.nl_namespace.specs.Changing.{Changes, FreeFits}
 use Rattle.nl_namespace.specs.Entering.{HasNamed, PutsIn, TakesOut}

@@ -1,5 +1,5 @@
 -- What the steps of a move need, from what stands in memory before them.
-use Rattle.std.proofs.Common.{◌≡◌, ◌≢◌, ℕ, ◌+◌, ◌%◌, ◌<◌, List, [], length, refl, sym, ap, subst, ◌∙◌, Option, Some, None, option_map, ◌⊎◌, inl, inr, arith, bytes_eq}
+use Rattle.std.proofs.Common.{◌≡◌, ◌≢◌, ℕ, ◌%◌, ◌<◌, List, sym, subst, ◌∙◌, Some, None, ◌⊎◌, inl, inr, arith, bytes_eq}
 use Rattle.std.proofs.lemmas.Bool.{cases_eq}
 use Rattle.nl_field.specs.Numbers.{ShapeBounds}
 use Rattle.nl_field.specs.declared.entry.EntryRec.{EntryRec}
@@ -7,15 +7,14 @@ use Rattle.nl_field.specs.declared.inode.InodeRec.{InodeRec}
 use Rattle.nl_field.specs.declared.shape.Shape.{Shape}
 use Rattle.nl_meta.specs.Committed.{VirtualMap}
 use Rattle.nl_meta.specs.Consistent.{GoodEntry}
-use Rattle.nl_meta.specs.Nodes.{entries_of_inode, entry_named, graph_of, inode_at}
-use Rattle.nl_meta.specs.Pages.{Pages, page_of}
+use Rattle.nl_meta.specs.Nodes.{entries_of_inode, entry_named, graph_of}
+use Rattle.nl_meta.specs.Pages.{Pages}
 use Rattle.nl_meta.specs.Running.{running_over}
 use Rattle.nl_meta.proofs.Lists.{member-find, some_in}
 use Rattle.nl_inode.specs.Nodes.{Spaces}
 use Rattle.nl_dir.specs.Directory.{HasRoomFor}
-use Rattle.nl_dir.specs.ListLaws.{Lists}
 use Rattle.nl_tree.specs.GraphLaws.{entry_at}
-use Rattle.nl_namespace.specs.Entering.{FitsBehind, HasFreeAddress, HasNamed, TakesOut}
+use Rattle.nl_namespace.specs.Entering.{HasFreeAddress, HasNamed}
 use Rattle.nl_namespace.specs.Finding.{FitsAfter, renamed}
 use Rattle.nl_namespace.proofs.EntrySteps.{EntryStep, taken-step}
 use Rattle.nl_namespace.proofs.HeldDirectories.{Held, Ready, behind-fits, has-held, named-fits, ready-here, ready-then}

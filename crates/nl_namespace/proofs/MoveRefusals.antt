@@ -1,5 +1,5 @@
 -- What refuses a rename, from what was found.
-use Rattle.std.proofs.Common.{◌≡◌, ◌≢◌, ℕ, ◌<◌, Bool, true, false, ◌||◌, ◌&&◌, cond, nat_lt, List, [], ◌∷◌, length, map, refl, sym, ap, subst, ◌∙◌, Option, Some, None, option_map, is_none, inl, inr, ◌+◌, ◌≤◌, arith}
+use Rattle.std.proofs.Common.{◌≡◌, ◌≢◌, ℕ, Bool, true, false, ◌||◌, ◌&&◌, cond, nat_lt, List, [], ◌∷◌, length, refl, sym, ap, subst, ◌∙◌, Option, Some, None, option_map, is_none, arith}
 use Rattle.std.specs.Prelude.{MatchBool}
 use Rattle.std.specs.Option.{option_map_or}
 use Rattle.nl_field.specs.Graph.{Graph, GraphNode, NodeBody, directory_node, file_node, unused}
@@ -20,7 +20,7 @@ use Rattle.nl_tree.specs.Tree.{is_at_or_under, is_root, paths_eq}
 use Rattle.nl_tree.specs.declared.reply.Refusal.{Refusal}
 use Rattle.nl_tree.specs.declared.reply.Refusal.TheVariants.{Einval, Enametoolong, Enoent, Enospc, Enotempty}
 use Rattle.nl_tree.specs.declared.reply.Space.{Space}
-use Rattle.nl_running.specs.Running.{IsNodeOf, Runs, RunsOn, running_on}
+use Rattle.nl_running.specs.Running.{Runs, RunsOn, running_on}
 use Rattle.nl_namespace.specs.Changing.{Changes, FreeFits}
 use Rattle.nl_namespace.specs.Finding.{IsThere, place_of}
 use Rattle.nl_namespace.specs.Moving.{CannotTake, LacksPlace, LacksRoomIn, MovesName, MovesOrStays, is_directory_body, refusal_of_place, refusal_of_rename, refusal_over, refusal_over_record}

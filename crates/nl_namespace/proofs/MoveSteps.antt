@@ -1,19 +1,19 @@
 -- A name that is moved, in a volume that runs over a device: what stood at the new path is out, and the entry is taken out and put in.
-use Rattle.std.proofs.Common.{◌≡◌, ◌≢◌, ℕ, ◌+◌, ◌≤◌, ◌<◌, true, false, List, [], ◌∷◌, ◌++◌, length, refl, sym, ap, subst, ◌∙◌, Option, Some, None, option_map, is_some, IsSome, ◌⊎◌, inl, inr, arith}
+use Rattle.std.proofs.Common.{◌≡◌, ◌≢◌, ℕ, ◌+◌, ◌≤◌, ◌<◌, true, false, List, [], ◌∷◌, ◌++◌, sym, ap, subst, ◌∙◌, Option, Some, None, option_map, is_some, IsSome, ◌⊎◌, inl, inr, arith}
 use Rattle.std.proofs.lemmas.Bool.{cases_eq}
 use Rattle.std.proofs.lemmas.List.{append-nil}
 use Rattle.nl_field.specs.Graph.{Graph}
 use Rattle.nl_field.specs.Numbers.{ShapeBounds}
 use Rattle.nl_field.specs.declared.entry.EntryRec.{EntryRec}
 use Rattle.nl_field.specs.declared.inode.InodeRec.{InodeRec}
-use Rattle.nl_field.specs.declared.inode.Kind.TheVariants.{Dir, File, Unused}
+use Rattle.nl_field.specs.declared.inode.Kind.TheVariants.{Dir, File}
 use Rattle.nl_field.specs.declared.shape.Shape.{Shape}
 use Rattle.nl_iface.specs.Device.{IsVolumeShape}
 use Rattle.nl_iface.specs.declared.counts.Counts.{Ghosts}
-use Rattle.nl_inode.specs.FreeLaws.{NodeIs, Uses}
+use Rattle.nl_inode.specs.FreeLaws.{Uses}
 use Rattle.nl_inode.specs.Nodes.{Spaces}
 use Rattle.nl_meta.specs.Committed.{VirtualMap}
-use Rattle.nl_meta.specs.Consistent.{EntriesRight, GoodEntry, IsNode}
+use Rattle.nl_meta.specs.Consistent.{GoodEntry, IsNode}
 use Rattle.nl_meta.specs.Nodes.{graph_of, inode_at}
 use Rattle.nl_meta.specs.Pages.{Pages, page_of}
 use Rattle.nl_meta.specs.Running.{running_over}
@@ -23,9 +23,9 @@ use Rattle.nl_tree.specs.GraphLaws.{NamedOnce, entry_at}
 use Rattle.nl_tree.specs.Tree.{is_at_or_under}
 use Rattle.nl_tree.proofs.GraphProofs.{one_path_to}
 use Rattle.nl_tree.proofs.TreeProofs.{under_append}
-use Rattle.nl_running.specs.Running.{IsNeeded, IsNodeOf, Runs, running_on, stored_on}
+use Rattle.nl_running.specs.Running.{IsNeeded, IsNodeOf, Runs, stored_on}
 use Rattle.nl_running.proofs.Holds.{bounds-of, reads-none}
-use Rattle.nl_namespace.specs.Changing.{Changes, EntriesBut, FileStays, FreeFits}
+use Rattle.nl_namespace.specs.Changing.{Changes, EntriesBut, FileStays}
 use Rattle.nl_namespace.specs.Entering.{PutsIn, TakesOut}
 use Rattle.nl_namespace.specs.Finding.{renamed}
 use Rattle.nl_namespace.specs.Moving.{MovesName}
@@ -38,7 +38,7 @@ use Rattle.nl_namespace.proofs.MakeSteps.{fits-of, led, lists, once}
 use Rattle.nl_namespace.proofs.MovedGraphs.{Named, childless, led-moved, led-to, moves, once-moved, unnamed}
 use Rattle.nl_namespace.proofs.PutSteps.{put-state}
 use Rattle.nl_namespace.proofs.RemoveSteps.{gone-before, right-without}
-use Rattle.nl_namespace.proofs.States.{AllGood, Follows, State, follows-then}
+use Rattle.nl_namespace.proofs.States.{Follows, State, follows-then}
 use Rattle.nl_namespace.proofs.TakeSteps.{take-good, take-state}
 
 -- names at two paths of which the second does not lie at or under the first

@@ -1,5 +1,5 @@
 -- An entry that is moved, in the nodes as a graph: what stood at its new name is taken out, then the entry, and then it is put in.
-use Rattle.std.proofs.Common.{◌≡◌, ◌≢◌, ℕ, Bool, true, false, List, [], ◌∷◌, ◌++◌, refl, sym, ap, subst, ◌∙◌, Option, Some, None, option_and_then, ◌⊎◌, inl, inr}
+use Rattle.std.proofs.Common.{◌≡◌, ◌≢◌, ℕ, true, false, List, [], ◌∷◌, ◌++◌, refl, sym, ap, subst, ◌∙◌, Option, Some, None, option_and_then, ◌⊎◌, inl, inr}
 use Rattle.std.proofs.lemmas.Bool.{cases_eq}
 use Rattle.std.proofs.lemmas.List.{append_assoc}
 use Rattle.nl_field.specs.Graph.{Graph}
@@ -8,7 +8,7 @@ use Rattle.nl_tree.specs.GraphChanges.{MovesEntry}
 use Rattle.nl_tree.specs.GraphLaws.{NamedOnce, entry_at}
 use Rattle.nl_tree.specs.Represents.{node_of, node_reached}
 use Rattle.nl_tree.specs.Tree.{is_at_or_under}
-use Rattle.nl_tree.proofs.ChangeProofs.{at_end, graph_changes, is_same_name, reached_step}
+use Rattle.nl_tree.proofs.ChangeProofs.{at_end, graph_changes, is_same_name}
 use Rattle.nl_tree.proofs.GraphProofs.{one_path_to}
 use Rattle.nl_tree.proofs.TreeProofs.{under_append}
 use Rattle.nl_namespace.proofs.Links.{Led}

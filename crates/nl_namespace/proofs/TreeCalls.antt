@@ -1,5 +1,5 @@
 -- A call that changes names is the step of the tree that the nodes stand for.
-use Rattle.std.proofs.Common.{◌≡◌, Bool, ◌||◌, false, List, [], ◌∷◌, ap, ◌∙◌, Option, Some, None, ◌⊎◌, inl, inr}
+use Rattle.std.proofs.Common.{◌≡◌, Bool, ◌||◌, false, [], ◌∷◌, ap, ◌∙◌, Option, Some, None, ◌⊎◌, inl, inr}
 use Rattle.nl_tree.specs.Step.{effect_of, first_of, is_too_long, own_refusal, when}
 use Rattle.nl_tree.specs.Tree.{directory, file}
 use Rattle.nl_tree.specs.declared.call.Call.TheVariants.{Clean, Create, Fill, List as ListCall, Mkdir, Read, Rename, Rmdir, Stat, Sync, Truncate, Unlink, Write}

@@ -10,11 +10,10 @@ use Rattle.nl_tree.specs.declared.reply.Refusal.{Refusal}
 use Rattle.nl_tree.specs.declared.reply.Refusal.TheVariants.{Einval, Eisdir, Enametoolong, Enoent, Enotdir, Enotempty}
 use Rattle.nl_tree.proofs.ChangeProofs.{graph_changes}
 use Rattle.nl_tree.proofs.TreeProofs.{under_append}
-use Rattle.nl_namespace.specs.ChangeLaws.{IsRenamed, RenamesInTree, StandsFor}
-use Rattle.nl_namespace.specs.Moving.{MovesName, MovesOrStays, RenamesName, is_directory_body, refusal_of_place, refusal_of_rename, refusal_over}
+use Rattle.nl_namespace.specs.ChangeLaws.{RenamesInTree, StandsFor}
+use Rattle.nl_namespace.specs.Moving.{MovesName, MovesOrStays, is_directory_body, refusal_of_place, refusal_of_rename, refusal_over}
 use Rattle.nl_namespace.specs.Naming.{body_at}
 use Rattle.nl_namespace.specs.Paths.{walk_refusal}
-use Rattle.nl_namespace.specs.declared.answer.Change.{Change}
 use Rattle.nl_namespace.specs.declared.answer.Change.TheVariants as change
 use Rattle.nl_namespace.proofs.TreeChanges.{at-path, four, none-same}
 use Rattle.nl_namespace.proofs.TreeRmdir.{nonempty-same, same-behind}

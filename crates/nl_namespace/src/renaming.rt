@@ -106,11 +106,24 @@ fn rename_to<D: VirtualPages>(
                 Change::Changed { gone: Some(gone) }
             }
         },
-        Ok(Found::Free(place)) => match lacks_room(nodes, old.dir, old.rec.size, place.dir, place.rec.size) {
+        Ok(Found::Free(place)) => match lacks_room(
+            nodes,
+            old.dir,
+            old.rec.size,
+            place.dir,
+            place.rec.size,
+        ) {
             Some(space) => Change::No(Refusal::Enospc(space)),
             None => {
                 let last = to.get(to.len() - 1);
-                move_entry(meta, nodes, old.dir, &old.entry, place.dir, name_of(last.bytes()));
+                move_entry(
+                    meta,
+                    nodes,
+                    old.dir,
+                    &old.entry,
+                    place.dir,
+                    name_of(last.bytes()),
+                );
                 Change::Changed { gone: None }
             }
         },
