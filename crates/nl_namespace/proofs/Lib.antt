@@ -28,3 +28,12 @@ mod TreeLists
 mod TreeRmdir
 mod TreeWalks
 mod Walks
+mod EntrySteps
+mod HeldDirectories
+mod MoveFits
+mod MoveSteps
+mod MovedGraphs
+mod MoveDone
+mod MoveRefusals
+mod TreeRenames
+mod TreeCalls

@@ -91,7 +91,7 @@ module _ {D : Type 0} (g : Ghosts D) (s : D) (p : Pages) (volume : IsVolumeShape
   pub is-directory : IsDirectory (running_on g s p) place.rec
   is-directory = (lists g s p runs).directories place.dir place.rec at.is_node at.is_dir
 
-  count-is : length (entries_in (graph place.dir).body) ≡ place.rec.size
+  pub count-is : length (entries_in (graph place.dir).body) ≡ place.rec.size
   count-is =
       ap (λ (b : NodeBody). length (entries_in b)) (dir-body (g.shape s) (running_on g s p) place.dir place.rec at.is_node at.is_dir)
       ∙ length-map (λ (e : EntryRec). (e.name, e.ino)) (entries_of_inode (running_on g s p) place.rec) ∙ (entries_in_order (running_on g s p) place.rec is-directory).count

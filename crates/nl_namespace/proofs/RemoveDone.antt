@@ -43,7 +43,7 @@ pub removal-is : (kind : Kind) (graph : Graph) (path : List (List ℕ)) (a b c :
     → refusal_of_removal kind graph path ≡ first_of (when a Enametoolong ∷ when b (root_refusal kind) ∷ w ∷ when c Enoent ∷ r ∷ [])
 removal-is kind graph path a b c w r ea eb ew ec er = λ i. first_of (when (ea i) Enametoolong ∷ when (eb i) (root_refusal kind) ∷ ew i ∷ when (ec i) Enoent ∷ er i ∷ [])
 
-length-map : {X Y : Type 0} (f : X → Y) (xs : List X) → length (map f xs) ≡ length xs
+pub length-map : {X Y : Type 0} (f : X → Y) (xs : List X) → length (map f xs) ≡ length xs
 length-map f [] = refl
 length-map f (x ∷ xs) = ap (λ (n : ℕ). suc n) (length-map f xs)
 

@@ -132,6 +132,14 @@ no-entries : (pages : VirtualMap) (rec : InodeRec) → rec.size ≡ 0 → entrie
 unfolding entries_of_inode
 no-entries pages rec e = ap (λ (n : ℕ). filter_map (λ i. entry_of (bytes_of_place pages rec i)) (range_with_len 0 n)) e
 
+-- a file, or a directory of no size, has no entries
+pub bare-childless : (shape : Shape) (pages : VirtualMap) (m : ℕ) (target : InodeRec) → IsNode shape pages m target → target.kind ≡ File ⊎ ((target.kind ≡ Dir) × (target.size ≡ 0)) → (x : List ℕ) → entry_at (graph_of shape pages) m x ≡ None
+bare-childless shape pages m target is bare x = by bare
+  where
+    by : target.kind ≡ File ⊎ ((target.kind ≡ Dir) × (target.size ≡ 0)) → entry_at (graph_of shape pages) m x ≡ None
+    by (inl f) = ap (λ (n : GraphNode). node_named x (entries_in n.body)) (graph-at shape pages m target is.below is.spelled) ∙ ap (λ (k : Kind). node_named x (entries_in (body_of pages target k))) f
+    by (inr d) = ap (λ (b : NodeBody). node_named x (entries_in b)) (dir-body shape pages m target is d.0) ∙ ap (λ (es : List EntryRec). node_named x (map (λ e. (e.name, e.ino)) es)) (no-entries pages target d.1)
+
 -- a page that is not resident was not before
 pub gone-before : (device : VirtualMap) (p q : Pages) (n : ℕ) → Follows device p q n → (v : ℕ) → page_of q v ≡ None → page_of p v ≡ None
 gone-before device p q n follows v e = of (page_of p v) refl
@@ -185,11 +193,7 @@ module _ {D : Type 0} (g : Ghosts D) (s : D) (p q : Pages) (free after : Spaces)
 
   -- the node has no entries
   childless : (x : List ℕ) → entry_at g0 m x ≡ None
-  childless x = by bare
-    where
-      by : target.kind ≡ File ⊎ ((target.kind ≡ Dir) × (target.size ≡ 0)) → entry_at g0 m x ≡ None
-      by (inl f) = ap (λ (n : GraphNode). node_named x (entries_in n.body)) (graph-at shape one m target is.below is.spelled) ∙ ap (λ (k : Kind). node_named x (entries_in (body_of one target k))) f
-      by (inr d) = ap (λ (b : NodeBody). node_named x (entries_in b)) (dir-body shape one m target is d.0) ∙ ap (λ (es : List EntryRec). node_named x (map (λ e. (e.name, e.ino)) es)) (no-entries one target d.1)
+  childless = bare-childless shape one m target is bare
 
   dir-is : m ≢ n
   dir-is e = none_some m (sym (childless at.name) ∙ ap (λ (k : ℕ). entry_at g0 k at.name) e ∙ was)

@@ -8,7 +8,7 @@ use Rattle.nl_field.specs.declared.entry.EntryRec.{EntryRec}
 use Rattle.nl_field.specs.declared.inode.InodeRec.{InodeRec}
 use Rattle.nl_field.specs.declared.shape.Shape.{Shape}
 use Rattle.nl_meta.specs.Committed.{VirtualMap}
-use Rattle.nl_meta.specs.Consistent.{AddressAt, IsNode}
+use Rattle.nl_meta.specs.Consistent.{AddressAt, GoodEntry, IsNode}
 use Rattle.nl_meta.specs.Nodes.{address_of_place, entries_of_inode, entry_named, graph_of}
 use Rattle.nl_meta.specs.Pages.{Pages, page_of}
 use Rattle.nl_meta.specs.Running.{running_over}
@@ -26,7 +26,7 @@ use Rattle.nl_running.proofs.SameNeeded.{slot-filled}
 use Rattle.nl_tree.specs.GraphLaws.{entry_at}
 use Rattle.nl_namespace.specs.Entering.{Gives, TakesOut}
 use Rattle.nl_namespace.proofs.DirectoryChanges.{DirStep, IsNew}
-use Rattle.nl_namespace.proofs.DirectorySteps.{change, entry-after, entry-before, good-after, graph-stays, is-after, node-stays, nodes-after, uses-from, uses-here, uses-to}
+use Rattle.nl_namespace.proofs.DirectorySteps.{change, entry-after, entry-before, good-after, graph-stays, is-after, node-stays, nodes-after, target-after, uses-from, uses-here, uses-to}
 use Rattle.nl_namespace.proofs.NodeChanges.{formed-then, node-back}
 use Rattle.nl_namespace.proofs.PutSteps.{dir-used, follows-node, follows-pages, node-over}
 use Rattle.nl_namespace.proofs.Rooms.{few-changed, some-places}
@@ -147,6 +147,9 @@ module _ (shape : Shape) (bounds : ShapeBounds shape) (device : VirtualMap) (d :
   pub take-was : IsNode shape one d rec
   take-was = is-node
 
+  pub take-good : (e : EntryRec) → GoodEntry shape one e → GoodEntry shape two e
+  take-good = target-after shape bounds device d rec is changed p takes.between q 0 step
+
   pub fewer-uses : (b : ℕ) → Uses shape two b → Uses shape one b
   fewer-uses b u = by (uses-from shape bounds device d rec is changed p takes.between q 0 step b u)
     where
@@ -188,7 +191,7 @@ module _ (shape : Shape) (bounds : ShapeBounds shape) (device : VirtualMap) (d :
       by (inl x) = ((after.removed some x.0 a).0 x.1).1 e
       by (inr x) = x.2 (state.formed.addresses.one_use x.0 x.1 d ((rec.size - 1) / 64) a x.3 had).0
 
-  given-low : (a : ℕ) → given_up rec ≡ Some a → 67 + shape.inode_pages ≤ a
+  pub given-low : (a : ℕ) → given_up rec ≡ Some a → 67 + shape.inode_pages ≤ a
   given-low a e = of (last_alone rec) e
     where
       of : (b : Bool) → cond b (Some (address_of_place rec (rec.size - 1))) None ≡ Some a → 67 + shape.inode_pages ≤ a

@@ -24,7 +24,7 @@ three None None (Some r) d = refl
 three None None None (Some r) = refl
 three None None None None = refl
 
-four : (a b c d e : Option Refusal) → first_of (a ∷ first_of (b ∷ c ∷ d ∷ e ∷ []) ∷ []) ≡ first_of (a ∷ b ∷ c ∷ d ∷ e ∷ [])
+pub four : (a b c d e : Option Refusal) → first_of (a ∷ first_of (b ∷ c ∷ d ∷ e ∷ []) ∷ []) ≡ first_of (a ∷ b ∷ c ∷ d ∷ e ∷ [])
 four (Some r) b c d e = refl
 four None (Some r) c d e = refl
 four None None (Some r) d e = refl

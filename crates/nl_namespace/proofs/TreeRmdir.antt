@@ -1,25 +1,22 @@
 -- A directory that loses its name, in the tree that the nodes stand for.
-use Rattle.std.proofs.Common.{◌≡◌, ◌≢◌, ℕ, zero, suc, ◌+◌, ◌<◌, ◌==◌, ◌&&◌, Bool, true, false, cond, List, [], ◌∷◌, ◌++◌, length, drop, nat_lt, refl, sym, ap, subst, ◌∙◌, Option, Some, None, option_and_then, is_none, is_some, IsSome, arith}
+use Rattle.std.proofs.Common.{◌≡◌, ℕ, zero, suc, ◌+◌, ◌==◌, ◌&&◌, Bool, true, false, cond, List, [], ◌∷◌, ◌++◌, length, drop, nat_lt, refl, sym, ap, ◌∙◌, Option, Some, None, option_and_then, is_none, is_some, arith}
 use Rattle.std.proofs.lemmas.Bool.{and_parts, eqb-true, lt-ltb}
 use Rattle.std.specs.Option.{option_map_or}
 use Rattle.nl_field.specs.Graph.{Graph, NodeBody, directory_node, file_node, unused}
 use Rattle.nl_field.specs.declared.inode.Kind.TheVariants.{Dir}
-use Rattle.nl_meta.proofs.Lists.{none_some}
-use Rattle.nl_tree.specs.EntriesLaws.{EntriesLaws}
 use Rattle.nl_tree.specs.GraphLaws.{entry_at}
 use Rattle.nl_tree.specs.Represents.{entries_in, node_named, node_of, node_reached}
 use Rattle.nl_tree.specs.Step.{first_of, is_too_long, missing, prefix_refusal, refusal_of_rmdir as tree_refusal_of_rmdir, when}
-use Rattle.nl_tree.specs.Tree.{Node, Tree, entries_of, is_at_or_under, is_file, is_root, node_at, paths_eq}
+use Rattle.nl_tree.specs.Tree.{Tree, entries_of, is_at_or_under, is_file, is_root, node_at}
 use Rattle.nl_tree.specs.declared.reply.Refusal.{Refusal}
 use Rattle.nl_tree.specs.declared.reply.Refusal.TheVariants.{Einval, Enametoolong, Enoent, Enotdir, Enotempty}
 use Rattle.nl_tree.proofs.ChangeProofs.{at_end}
 use Rattle.nl_tree.proofs.EntriesProofs.{entries_laws}
-use Rattle.nl_tree.proofs.GraphProofs.{name_eq, names_eq}
+use Rattle.nl_tree.proofs.GraphProofs.{name_eq}
 use Rattle.nl_tree.proofs.TreeProofs.{path_eq, under_parts}
-use Rattle.nl_namespace.specs.ChangeLaws.{IsRmdirOf, RmdirsInTree, StandsFor}
-use Rattle.nl_namespace.specs.Naming.{RemovesName, body_at, refusal_of_kind, refusal_of_removal}
+use Rattle.nl_namespace.specs.ChangeLaws.{RmdirsInTree, StandsFor}
+use Rattle.nl_namespace.specs.Naming.{refusal_of_kind, refusal_of_removal}
 use Rattle.nl_namespace.specs.Paths.{walk_refusal}
-use Rattle.nl_namespace.specs.declared.answer.Change.{Change}
 use Rattle.nl_namespace.specs.declared.answer.Change.TheVariants as change
 use Rattle.nl_namespace.proofs.TreeChanges.{at-path, none-same}
 use Rattle.nl_namespace.proofs.TreeWalks.{walk-is}
@@ -47,7 +44,7 @@ behind None (Some q) c r z w = refl
 behind None None (Some q) r z w = refl
 behind None None None r z w = refl
 
-same-behind : (a b c : Option Refusal) (r : Refusal) (z w : Option Refusal) → first_of (a ∷ b ∷ c ∷ Some r ∷ z ∷ []) ≡ first_of (a ∷ b ∷ c ∷ Some r ∷ w ∷ [])
+pub same-behind : (a b c : Option Refusal) (r : Refusal) (z w : Option Refusal) → first_of (a ∷ b ∷ c ∷ Some r ∷ z ∷ []) ≡ first_of (a ∷ b ∷ c ∷ Some r ∷ w ∷ [])
 same-behind (Some q) b c r z w = refl
 same-behind None (Some q) c r z w = refl
 same-behind None None (Some q) r z w = refl
@@ -124,7 +121,7 @@ module _ (bytes_of : ℕ → List ℕ) (graph : Graph) (tree : Tree) (stands : S
           ap (node_at (entries_of tree path)) (sym parts ∙ ap (λ (r : List (List ℕ)). path ++ r) rest.1) ∙ under-name rest.0
           ∙ ap (λ (b : NodeBody). option_and_then (λ m. node_of bytes_of (graph m).body) (node_named rest.0 (entries_in b))) body
 
-  nonempty-same : (es : List (List ℕ × ℕ)) → (graph n).body ≡ directory_node es → nat_lt 0 (length (entries_of tree path)) ≡ nat_lt 0 (length es)
+  pub nonempty-same : (es : List (List ℕ × ℕ)) → (graph n).body ≡ directory_node es → nat_lt 0 (length (entries_of tree path)) ≡ nat_lt 0 (length es)
   nonempty-same [] body = no-entry body (entries_of tree path) refl
   nonempty-same ((x, k) ∷ es) body = some-entry x k es body (entries_of tree path) refl ∙ sym (lt-ltb 0 (length ((x, k) ∷ es)) (omega arith))
 

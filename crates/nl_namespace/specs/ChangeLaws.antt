@@ -1,15 +1,17 @@
 -- What a change of names means for the tree that the nodes stand for.
-use Rattle.std.specs.Prelude.{◌≡◌, ◌⊎◌, ℕ, ⊤, List, [], ◌∷◌, Some, None, IsSome}
+use Rattle.std.specs.List.{list_any}
+use Rattle.std.specs.Prelude.{◌≡◌, ◌⊎◌, ℕ, ⊤, if◌then◌else◌, List, [], ◌∷◌, Some, None, IsSome}
 use Rattle.nl_field.specs.Graph.{Graph}
 use Rattle.nl_field.specs.declared.inode.Kind.{Kind}
 use Rattle.nl_field.specs.declared.inode.Kind.TheVariants.{Dir, File}
 use Rattle.nl_inode.specs.Nodes.{Spaces}
 use Rattle.nl_tree.specs.GraphLaws.{NamedOnce}
 use Rattle.nl_tree.specs.Represents.{node_of, node_reached, Represents}
-use Rattle.nl_tree.specs.Step.{first_of, is_too_long, refusal_of_file, refusal_of_new, refusal_of_rmdir, when}
-use Rattle.nl_tree.specs.Tree.{Node, Tree, directory, node_at, with_new, without}
+use Rattle.nl_tree.specs.Step.{first_of, is_too_long, refusal_of_file, refusal_of_new, refusal_of_rename, refusal_of_rmdir, when}
+use Rattle.nl_tree.specs.Tree.{Node, Tree, directory, node_at, paths_eq, with_new, with_renamed, without}
 use Rattle.nl_tree.specs.declared.reply.Refusal.TheVariants.{Enametoolong, Enospc}
 use Rattle.nl_tree.specs.declared.reply.Space.{Space}
+use Rattle.nl_namespace.specs.Moving.{RenamesName}
 use Rattle.nl_namespace.specs.Naming.{MakesNode, RemovesName}
 use Rattle.nl_namespace.specs.declared.answer.Change.{Change}
 use Rattle.nl_namespace.specs.declared.answer.Change.TheVariants as change
@@ -67,3 +69,18 @@ IsRmdirOf tree path (change.Lost w f) = ⊤
 abbrev pub RmdirsInTree : Type 0
 RmdirsInTree = (bytes_of : ℕ → List ℕ) (old new : Graph) (tree : Tree) (path : List (List ℕ)) (answer : Change)
     → StandsFor bytes_of old tree → RemovesName Dir old new path answer → IsRmdirOf tree path answer
+
+-- What was under the one path is under the other, or nothing changed where both are one; or the refusal is the tree's, or there was no room.
+abbrev pub IsRenamed : (ℕ → List ℕ) → Graph → Tree → List (List ℕ) → List (List ℕ) → Change → Type 0
+IsRenamed bytes_of new tree from to (change.Changed _) =
+    (first_of (when (list_any is_too_long (from ∷ to ∷ [])) Enametoolong ∷ refusal_of_rename tree from to ∷ []) ≡ None)
+    × Represents bytes_of new (if paths_eq from to then tree else with_renamed tree from to)
+IsRenamed bytes_of new tree from to (change.No refusal) =
+    (first_of (when (list_any is_too_long (from ∷ to ∷ [])) Enametoolong ∷ refusal_of_rename tree from to ∷ []) ≡ Some refusal)
+    ⊎ ((first_of (when (list_any is_too_long (from ∷ to ∷ [])) Enametoolong ∷ refusal_of_rename tree from to ∷ []) ≡ None) × ((space : Space) × (refusal ≡ Enospc space)))
+IsRenamed bytes_of new tree from to change.Fault = ⊤
+IsRenamed bytes_of new tree from to (change.Lost w f) = ⊤
+
+abbrev pub RenamesInTree : Type 0
+RenamesInTree = (bytes_of : ℕ → List ℕ) (free : Spaces) (old new : Graph) (tree : Tree) (from to : List (List ℕ)) (answer : Change)
+    → StandsFor bytes_of old tree → RenamesName free old new from to answer → IsRenamed bytes_of new tree from to answer

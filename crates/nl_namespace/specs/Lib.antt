@@ -1,9 +1,12 @@
+pub mod Calls
 pub mod ChangeLaws
 pub mod Changing
 pub mod Entering
+pub mod Finding
 pub mod Holding
 pub mod Listing
 pub mod Making
+pub mod Moving
 pub mod Naming
 pub mod Paths
 pub mod PathLaws

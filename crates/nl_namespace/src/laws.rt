@@ -1,5 +1,6 @@
 //! Laws of the definitions. Each function stands for the law that its contract names.
-ghost use Rattle.nl_namespace.specs.ChangeLaws.{MakesInTree, RemovesInTree, RmdirsInTree, UnlinksInTree};
+ghost use Rattle.nl_namespace.specs.Calls.{ChangesInTree};
+ghost use Rattle.nl_namespace.specs.ChangeLaws.{MakesInTree, RemovesInTree, RenamesInTree, RmdirsInTree, UnlinksInTree};
 ghost use Rattle.nl_namespace.specs.PathLaws.{ListsInTree, LooksInTree};
 
 /// A path is answered as the tree answers it for which the nodes stand.
@@ -22,4 +23,14 @@ pub fn removes_in_tree()
     ensures removed { RemovesInTree }
     ensures unlinked { UnlinksInTree }
     ensures rmdir { RmdirsInTree }
+{}
+
+/// What is under a path that is renamed is under the other, and the refusals are those of the tree.
+pub fn renames_in_tree()
+    ensures { RenamesInTree }
+{}
+
+/// A call that changes names answers as the step of the tree for which the nodes stand, and leaves the nodes of the tree that it leaves.
+pub fn changes_in_tree()
+    ensures { ChangesInTree }
 {}

@@ -2,7 +2,9 @@
 #![tactic(auto)]
 
 mod answer;
+mod changing;
 mod entering;
+mod finding;
 mod free;
 mod hold;
 pub mod laws;
@@ -11,11 +13,15 @@ mod names;
 mod naming;
 mod place;
 mod removing;
+mod renaming;
+mod same_paths;
 mod walk;
 
 pub use answer::{Change, Listing, Look};
+pub use changing::change;
 pub use making::make;
 pub use names::list;
 pub use nl_running::Stop;
 pub use removing::remove;
+pub use renaming::rename;
 pub use walk::look;
