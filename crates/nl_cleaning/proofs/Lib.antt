@@ -1,0 +1,5 @@
+mod Carrying
+mod Counting
+mod Device
+mod Emptying
+mod Steps
