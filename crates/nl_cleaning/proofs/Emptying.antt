@@ -64,11 +64,11 @@ taken_live s m (inr begun) = begun.0.others.3
 segment_then : {r s t : Space} → SameSegment r s → SameSegment s t → SameSegment r t
 segment_then a b = record { block = b.block ∙ a.block; all = b.all ∙ a.all; bad = (let x = a.bad in let y = b.bad in omega (arith, x, y)); kept = b.kept ∙ a.kept }
 
-moved_same : (s m : Space) → HasMoved s m → SameSegment s m
+pub moved_same : (s m : Space) → HasMoved s m → SameSegment s m
 moved_same s m (inl same) = subst (SameSegment s) (sym same) (record { block = refl; all = refl; bad = omega arith; kept = refl })
 moved_same s m (inr moves) = moves.same
 
-moved_live : (s m : Space) → HasMoved s m → m.live ≡ s.live
+pub moved_live : (s m : Space) → HasMoved s m → m.live ≡ s.live
 moved_live s m (inl same) = ap (λ (x : Space). x.live) same
 moved_live s m (inr moves) = moves.live
 

@@ -2,4 +2,5 @@ mod Carrying
 mod Counting
 mod Device
 mod Emptying
+mod Finishing
 mod Steps
