@@ -1,13 +1,13 @@
 -- How pages are carried from names to names.
-use Rattle.std.proofs.Common.{◌≡◌, ◌⊎◌, inl, inr, ⊎_elim, ℕ, ◌+◌, ◌<◌, ◌≤◌, ◌==◌, cond, Option, Some, None, refl, sym, ◌∙◌, ap, subst, arith, eq-eqb, ne_eqb}
+use Rattle.std.proofs.Common.{◌≡◌, ◌⊎◌, inl, inr, ⊎_elim, ℕ, ◌<◌, ◌≤◌, ◌==◌, Some, None, refl, sym, ◌∙◌, ap, subst, arith, eq-eqb, ne_eqb}
 use Rattle.std.proofs.lemmas.Bool.{cases_eq, cases_lt, cond-true, cond-false}
-use Rattle.std.proofs.lemmas.Option.{none-some, same_Some}
+use Rattle.std.proofs.lemmas.Option.{none-some}
 use Rattle.nl_field.specs.CrashStates.{top}
 use Rattle.nl_holders.specs.Holding.{Holding}
 use Rattle.nl_holders.specs.Laws.{Keeps}
 use Rattle.nl_holders.proofs.LawProofs.{copy_keeps, erase_keeps}
 use Rattle.nl_iface.specs.Moves.{Copies}
-use Rattle.nl_iface.specs.Names.{Has, LivePage, Names, SameTables, told_page, with_page, without_page}
+use Rattle.nl_iface.specs.Names.{Has, LivePage, Names, SameTables, told_page, without_page}
 use Rattle.nl_iface.specs.declared.Callback.{Callback}
 use Rattle.nl_cleaning.specs.Carried.{CarriesPages}
 

@@ -1,5 +1,5 @@
 -- The counts of failures of calls one after the other.
-use Rattle.std.proofs.Common.{◌⊎◌, inl, inr, ⊎_elim, ◌≤◌, ◌∙◌, refl, arith}
+use Rattle.std.proofs.Common.{inl, inr, ⊎_elim, ◌∙◌, refl, arith}
 use Rattle.nl_field.proofs.Crashes.{not_rose_first, not_rose_second, then_rose}
 use Rattle.nl_iface.specs.Calls.{CallCounted}
 use Rattle.nl_iface.specs.declared.counts.Counts.{Ghosts}

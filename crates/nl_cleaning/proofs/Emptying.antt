@@ -7,8 +7,8 @@ use Rattle.nl_field.specs.CrashStates.{Rose}
 use Rattle.nl_iface.proofs.RoundSteps.{moves_laws}
 use Rattle.nl_iface.proofs.Stops.{reads_then}
 use Rattle.nl_iface.specs.Calls.{CallCounted, KeepsMedium, OnlyReads, StoresPages, stored}
-use Rattle.nl_iface.specs.Moves.{Begins, FailsToCopy, HasCopied, HasNothingToCopy, KeepsCleaning, LeavesMove, MovesPage, TakesVictim}
-use Rattle.nl_iface.specs.Names.{LivePage, Names, SameTables}
+use Rattle.nl_iface.specs.Moves.{FailsToCopy, HasCopied, HasNothingToCopy, KeepsCleaning, LeavesMove, TakesVictim}
+use Rattle.nl_iface.specs.Names.{Names, SameTables}
 use Rattle.nl_iface.specs.Rounds.{Moves}
 use Rattle.nl_iface.specs.Space.{Begun, CanLand, Copied, NoneRetired, SameSegment, Space, Wasted}
 use Rattle.nl_iface.specs.declared.Callback.{Callback}

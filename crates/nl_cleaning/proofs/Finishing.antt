@@ -1,16 +1,13 @@
 -- The end of a cleaning: the victim is erased, or there was none.
-use Rattle.std.proofs.Common.{◌≡◌, ◌⊎◌, inl, inr, ⊎_elim, ℕ, ◌+◌, ◌*◌, ◌<◌, ◌≤◌, refl, sym, ◌∙◌, ap, subst, arith}
-use Rattle.nl_cleaning.specs.declared.cleaning.Cleaned.{Cleaned}
-use Rattle.nl_cleaning.specs.declared.cleaning.Cleaned.TheVariants as the
+use Rattle.std.proofs.Common.{◌≡◌, ◌⊎◌, inl, inr, ℕ, ◌+◌, ◌≤◌, sym, ◌∙◌, ap, subst, arith}
 use Rattle.nl_device.specs.declared.cleaning.Copying.{Copying}
-use Rattle.nl_device.specs.declared.cleaning.Copying.TheVariants.{Did, Nothing, Lost, Fault}
+use Rattle.nl_device.specs.declared.cleaning.Copying.TheVariants.{Did, Nothing, Fault}
 use Rattle.nl_field.proofs.Crashes.{then_rose}
-use Rattle.nl_field.specs.CrashStates.{Earlier, Rose, saturated, top}
-use Rattle.nl_iface.proofs.Stops.{reads_then}
+use Rattle.nl_field.specs.CrashStates.{Earlier, Rose, saturated}
 use Rattle.nl_iface.specs.Calls.{CallCounted, OnlyReads, Ticks, stored}
-use Rattle.nl_iface.specs.Moves.{ErasesAtStops, ErasesVictim, HasNothingToCopy, KeepsCleaning}
+use Rattle.nl_iface.specs.Moves.{ErasesAtStops, HasNothingToCopy, KeepsCleaning}
 use Rattle.nl_iface.specs.Names.{Names, SameTables}
-use Rattle.nl_iface.specs.Space.{CanLand, NoneRetired, Space}
+use Rattle.nl_iface.specs.Space.{NoneRetired, Space}
 use Rattle.nl_iface.specs.declared.counts.Counts.{Ghosts}
 use Rattle.nl_nand.specs.Nand.{FaultsCounted}
 use Rattle.nl_cleaning.specs.Carried.{KeepsHeld, KeepsStored}
@@ -18,7 +15,7 @@ use Rattle.nl_cleaning.specs.Spaces.{HasEmptied, HasMoved, StaysInHand}
 use Rattle.nl_cleaning.proofs.Carrying.{same_itself}
 use Rattle.nl_cleaning.proofs.Counting.{counted_as, counted_then}
 use Rattle.nl_cleaning.proofs.Emptying.{moved_live, moved_same}
-use Rattle.nl_cleaning.proofs.Steps.{erased_keeps, erased_stored, held_then, still_stored, stored_then}
+use Rattle.nl_cleaning.proofs.Steps.{erased_keeps, held_then}
 
 pub emptied_is : (a : Copying) (s t : Space) → (a ≡ Did) ⊎ (a ≡ Nothing) → HasEmptied a s t → HasMoved s t × HasNothingToCopy t
 emptied_is a s t (inl did) e = absurd (subst (λ x. HasEmptied x s t) did e)

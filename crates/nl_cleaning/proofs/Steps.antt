@@ -1,14 +1,14 @@
 -- What a move and an erase keep, and what a stop within them leaves.
-use Rattle.std.proofs.Common.{◌≡◌, ◌⊎◌, inl, inr, ⊎_elim, ℕ, ◌≤◌, List, Option, Some, None, refl, sym, ◌∙◌, ap, subst, arith}
+use Rattle.std.proofs.Common.{◌≡◌, ◌⊎◌, ⊎_elim, ℕ, List, Some, refl, sym, ◌∙◌, ap, subst, arith}
 use Rattle.std.proofs.lemmas.Option.{none-some}
 use Rattle.nl_field.proofs.Crashes.{then, turns_either, weaken}
 use Rattle.nl_field.specs.declared.shape.Shape.{Shape}
 use Rattle.nl_iface.proofs.Stops.{keeps_leave, keeps_virtual_then, tried_agree}
-use Rattle.nl_iface.specs.Calls.{KeepsMedium, Leaves, StoresPages, stored}
+use Rattle.nl_iface.specs.Calls.{KeepsMedium, StoresPages, stored}
 use Rattle.nl_iface.specs.Left.{LeavesPages}
-use Rattle.nl_iface.specs.Moves.{Copies, ErasesAtStops, KeepsCleaning, LeavesCopy, LeavesErased, LeavesMove, copy_of}
-use Rattle.nl_iface.specs.Names.{LivePage, Names, SameTables}
-use Rattle.nl_iface.specs.Stored.{NamedAgree, NamedPage, SameVirtual, Stored}
+use Rattle.nl_iface.specs.Moves.{ErasesAtStops, KeepsCleaning, LeavesCopy, LeavesErased, LeavesMove, copy_of}
+use Rattle.nl_iface.specs.Names.{Names, SameTables}
+use Rattle.nl_iface.specs.Stored.{NamedAgree, NamedPage, Stored}
 use Rattle.nl_iface.specs.declared.Callback.{Callback}
 use Rattle.nl_iface.specs.declared.counts.Counts.{Ghosts}
 use Rattle.nl_cleaning.specs.Carried.{CarriesPages, KeepsHeld, KeepsStored, LeavesHeld}

@@ -1,5 +1,5 @@
 -- The numbers of the space after a cleaning.
-use Rattle.std.specs.Prelude.{◌≡◌, ◌⊎◌, ℕ}
+use Rattle.std.specs.Prelude.{◌≡◌, ◌⊎◌}
 use Rattle.nl_cleaning.specs.declared.cleaning.Cleaned.{Cleaned}
 use Rattle.nl_cleaning.specs.declared.cleaning.Cleaned.TheVariants as the
 use Rattle.nl_device.specs.declared.cleaning.Copying.{Copying}

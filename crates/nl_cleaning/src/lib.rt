@@ -2,5 +2,6 @@
 #![tactic(auto)]
 
 mod cleaning;
+pub mod laws;
 
 pub use cleaning::{Cleaned, clean};

@@ -1,8 +1,4 @@
-use Rattle.std.proofs.Common.{◌≡◌, inl, inr, ℕ, refl, sym, ◌∙◌, ap, subst, arith}
-use Rattle.nl_cleaning.specs.Spaces.{CleansVictim}
-use Rattle.nl_cleaning.specs.declared.cleaning.Cleaned.{Cleaned}
-use Rattle.nl_cleaning.specs.declared.cleaning.Cleaned.TheVariants as the
-use Rattle.nl_device.specs.declared.cleaning.Copying.{Copying}
+use Rattle.std.proofs.Common.{◌≡◌, inl, inr, refl, sym, ◌∙◌, ap, subst, arith}
 use Rattle.nl_device.specs.declared.cleaning.Copying.TheVariants as copy
 use Rattle.nl_device.specs.contracts.counts.DeviceCounts.TheImpl.{ghosts}
 use Rattle.nl_iface.proofs.Stops.{reads_then}

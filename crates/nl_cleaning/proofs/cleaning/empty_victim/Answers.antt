@@ -1,7 +1,6 @@
-use Rattle.std.proofs.Common.{◌≡◌, ◌⊎◌, ℕ, inl, inr, ⊎_elim, ◌∙◌, subst, sym, arith}
+use Rattle.std.proofs.Common.{◌≡◌, ◌∙◌, sym, arith}
 use Rattle.nl_device.specs.Laws.{leaves_as}
-use Rattle.nl_device.specs.declared.cleaning.Copying.{Copying}
-use Rattle.nl_device.specs.declared.cleaning.Copying.TheVariants.{Did, Nothing, Lost, Fault}
+use Rattle.nl_device.specs.declared.cleaning.Copying.TheVariants.{Did, Nothing, Fault}
 use Rattle.nl_device.specs.contracts.counts.DeviceCounts.TheImpl.{ghosts}
 use Rattle.nl_iface.specs.Calls.{StoresPages}
 use Rattle.nl_cleaning.proofs.Counting.{counted_then}
