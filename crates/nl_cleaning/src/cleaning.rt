@@ -26,7 +26,7 @@ pub enum Cleaned {
 }
 
 /// Cleans one victim: the one in hand, or else the block with the most dead pages. Its live pages are moved, and it is erased. It
-/// needs that the live pages of the victim can land, and they still can, but where a write failed.
+/// needs that the live pages of the victim can land, and they still can, but where a write failed and it is not done.
 ///
 /// Each holder of a page holds it as before, also in what a stop within leaves. `Lost` and `Fault` leave the victim in hand, and
 /// the next call goes on with it.
@@ -39,7 +39,7 @@ pub fn clean<M: Nand>(device: &mut Device<M>) -> Cleaned
     ensures space { CleansVictim result (⟦<Device<M> as Counts>⟧.names device.old).space (⟦<Device<M> as Counts>⟧.names device.new).space }
     ensures held { KeepsHeld ⟦<Device<M> as Counts>⟧ device.old device.new }
     ensures stored { M.tells → ((result ≡ Cleaned.Fault) × Rose (⟦<Device<M> as Counts>⟧.write_faults device.old) (⟦<Device<M> as Counts>⟧.write_faults device.new)) ⊎ KeepsStored (stored ⟦<Device<M> as Counts>⟧ device.old) (stored ⟦<Device<M> as Counts>⟧ device.new) }
-    ensures lands { Rose (⟦<Device<M> as Counts>⟧.write_faults device.old) (⟦<Device<M> as Counts>⟧.write_faults device.new) ⊎ CanLand (⟦<Device<M> as Counts>⟧.names device.new).space }
+    ensures lands { ((result ≡ Cleaned.Done → ⊥) × Rose (⟦<Device<M> as Counts>⟧.write_faults device.old) (⟦<Device<M> as Counts>⟧.write_faults device.new)) ⊎ CanLand (⟦<Device<M> as Counts>⟧.names device.new).space }
     ensures lost { (w found : ℕ) → result ≡ Cleaned.Lost w found → (found ≡ w → ⊥) × ((p : ℕ) × (page : LivePage) × ((⟦<Device<M> as Counts>⟧.names device.old).live p ≡ Some page) × (page.stamp ≡ w)) }
     ensures told { M.tells → (w found : ℕ) → result ≡ Cleaned.Lost w found → ⊥ }
     ensures ticks { Ticks ⟦<Device<M> as Counts>⟧ (result ≡ Cleaned.Done) device.old device.new }

@@ -1,4 +1,4 @@
-use Rattle.std.proofs.Common.{◌≡◌, inl, inr, refl, sym, ◌∙◌, ap, subst, arith}
+use Rattle.std.proofs.Common.{◌≡◌, inl, inr, ⊎_elim, refl, sym, ◌∙◌, ap, subst, arith}
 use Rattle.nl_device.specs.declared.cleaning.Copying.TheVariants as copy
 use Rattle.nl_device.specs.contracts.counts.DeviceCounts.TheImpl.{ghosts}
 use Rattle.nl_iface.proofs.Stops.{reads_then}
@@ -26,6 +26,12 @@ returns-in-Lost-clause-faults g c = counted_as (ghosts g.row.M g.M.Nand g.M.Nand
   where
     apart : copy.Lost c.in-Lost.wanted c.in-Lost.found ≡ copy.Fault → ⊥
     apart e = cc
+
+pub returns-in-Lost-clause-lands : goal.returns-in-Lost-clause-lands
+returns-in-Lost-clause-lands g c = ⊎_elim (λ rose. inl (λ is. cc, rose)) (λ lands. inr lands) c.empty_victim.ensures.lands
+
+pub returns-in-Fault-clause-lands : goal.returns-in-Fault-clause-lands
+returns-in-Fault-clause-lands g c = ⊎_elim (λ rose. inl (λ is. cc, rose)) (λ lands. inr lands) c.empty_victim.ensures.lands
 
 pub returns-in-Fault-clause-nothing : goal.returns-in-Fault-clause-nothing
 returns-in-Fault-clause-nothing g c =
@@ -114,7 +120,7 @@ returns-in-Fault-erase g c =
       space = subst (λ (n : Names). StaysInHand (G.names s).space n.space) (sym same) (stays (G.names s).space (G.names t).space empty.0 one (none_bad s.pseg t.pseg));
       held = end_held G s t u e.stored e.held (same_names G t u same) f.left f.kept;
       stored = λ tells. inl (refl, rose);
-      lands = inl rose;
+      lands = inl (λ is. cc, rose);
       lost = λ w found is. cc;
       told = λ tells w found is. cc;
       ticks = end_ticks G _ s t u e.held.clock f.kept.clock (λ is. cc);
