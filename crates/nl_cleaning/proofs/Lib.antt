@@ -1,0 +1,6 @@
+mod Carrying
+mod Counting
+mod Device
+mod Emptying
+mod Finishing
+mod Steps
