@@ -4,6 +4,7 @@ ghost use Rattle.nl_iface.specs.Answers.{IsLost, LosesStamp};
 ghost use Rattle.nl_iface.specs.Calls.{CallCounted, DoneOrFailed, LeavesAt, OnlyReads, ReadsCounted, TakesStamp, Ticks};
 ghost use Rattle.nl_meta.specs.Committed.{next_number as number_of_next};
 ghost use Rattle.nl_journal.specs.Committing.{ahead_on, committed_on, finished_on};
+ghost use Rattle.nl_journal.specs.Homes.{WritesHome};
 ghost use Rattle.nl_journal.specs.Left.{CommitWrites, DirtyWrites, FinishWrites, UnitWrites};
 ghost use Rattle.nl_journal.specs.Opening.{Finds, commit_number, header_number, phase_found};
 ghost use Rattle.nl_journal.specs.Outcomes.{Agrees, bytes_of};
@@ -79,7 +80,8 @@ impl Journal {
 
     /// Does one write of the frozen transaction: the header, an image, the commit page, or a page copied home. After `Lost`
     /// and `Fault` the same unit is still to be done. Of the committed pages a stop within it leaves those of before or, where
-    /// the commit page is due, those with the frozen ones, and these once it is done.
+    /// the commit page is due, those with the frozen ones, and these once it is done. Whatever its number, it changes no page at
+    /// an address of the volume but that of one that it copies home.
     pub fn unit<D: VirtualPages>(&mut self, device: &mut D, meta: &mut Meta) -> Unit
         requires formed { D.formed device.old }
         requires spare { D.keeps_spare device.old }
@@ -90,6 +92,7 @@ impl Journal {
         ensures order { InOrder D.Counts device.new self.new meta.new.frozen }
         ensures advances { Advances result self.old self.new meta.old meta.new }
         ensures writes { D.tells → HasNumber self.old (length meta.old.frozen.addresses) → UnitWrites D.Counts (IsDone result) self.old self.new meta.old meta.new device.old device.new }
+        ensures home { D.tells → WritesHome self.old.phase meta.old.frozen (IsDone result) (D.shape device.old).vaddrs (bytes_of (D.map device.old)) (bytes_of (D.map device.new)) }
         ensures passes { Passes D.Counts (IsDone result) 1 device.old device.new }
         ensures lost { IfLostUnit result (OtherFound (D.stamps device.new)) }
         ensures told { D.tells → IfLostUnit result (λ w f. ⊥) }
