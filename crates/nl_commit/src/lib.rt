@@ -1,0 +1,7 @@
+//! The parts of a commit: the units of a transaction, and the pages that it gives up.
+#![tactic(auto)]
+
+mod freeing;
+pub mod laws;
+
+pub use freeing::free_first;
