@@ -114,7 +114,7 @@ module _ {D : Type 0} (g : Ghosts D) where
     clean-now tells = record { each = λ u bytes at d f. by u bytes (sym (page-same u) ∙ at) (ap (λ (n : Pages). is_dirty n u) (sym w.kept) ∙ d) f (is_frozen pages u) refl }
       where
         same-frozen : now.frozen ≡ pages.frozen → is_frozen now ≡ is_frozen pages
-        same-frozen e = ap (λ (x : Frozen) (v : ℕ). list_any (λ a. a == v) x.addresses) e
+        same-frozen e = let f : Frozen → ℕ → Bool = λ x v. list_any (λ a. a == v) x.addresses in ap f e
 
         by : (u : ℕ) (bytes : List ℕ) → page_of pages u ≡ Some bytes → is_dirty pages u ≡ false → is_frozen now u ≡ false → (b : Bool) → is_frozen pages u ≡ b → stored_on g t u ≡ Some bytes
         by u bytes at d f false none =

@@ -93,6 +93,7 @@ Waits old new = (new ≡ old) ⊎ (new ≡ record old { dirty = []; frozen = dir
 -- number of the last transaction that was begun stays.
 pub record Finishes (until : ℕ) (done : Type 0) (old new : Progress) (old_pages new_pages : Pages) : Type 0 where
   pub left : done → units_left new.phase (length new_pages.frozen.addresses) ≤ until
+  pub more : (done → ⊥) → until + 1 ≤ units_left new.phase (length new_pages.frozen.addresses)
   pub begun_stays : begun new (length new_pages.frozen.addresses) ≡ begun old (length old_pages.frozen.addresses)
   pub kept : new_pages ≡ record old_pages { frozen = new_pages.frozen }
   pub waits : (done → ⊥) → new_pages.frozen ≡ old_pages.frozen

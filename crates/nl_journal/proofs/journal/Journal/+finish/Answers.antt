@@ -72,6 +72,7 @@ returns-in_default g m c =
       order = f.order;
       finishes = record {
         left = f.finishes.left;
+        more = f.finishes.more;
         begun_stays = f.finishes.begun_stays ∙ begun_same;
         kept = f.finishes.kept ∙ ap (λ (n : Pages). record n { frozen = new_pages.frozen }) goes.2;
         waits = λ off. f.finishes.waits off ∙ (after ∙ frozen_waits p.phase pages.frozen (λ none. off (f.finishes.none (ap (λ (x : Frozen). x.addresses) (after ∙ none)))));
