@@ -1,4 +1,4 @@
 pub mod Frees
 pub mod Places
 pub mod Standing
-pub mod Completing
+pub mod CompletingSteps

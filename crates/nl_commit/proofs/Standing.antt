@@ -32,7 +32,7 @@ use Rattle.nl_meta.proofs.RunningProofs.{not-with, running_map}
 use Rattle.nl_running.specs.Running.{IsNeeded, Runs, running_on, stored_on}
 use Rattle.nl_running.proofs.GraphStays.{graph-same}
 use Rattle.nl_running.proofs.Holds.{bounds-of}
-use Rattle.nl_running.proofs.SameNeeded.{addresses-right, entries-right, needed-from, nodes-right}
+use Rattle.nl_running.proofs.SameNeeded.{addresses-right, entries-right, needed-from, needed-to, nodes-right}
 use Rattle.nl_commit.specs.Standing.{FreezingStands, HasFrozen, IsJournaled, MediumStands, StandsOn, SuperPageStands, WritesFrozen, WritingStands}
 use Rattle.nl_commit.proofs.Places.{absent_no_place, has_at, index_of, low_of, needed_home, no_place, resident_below, same_bytes, some_bytes}
 
@@ -148,7 +148,7 @@ module _ {D : Type 0} (g : Ghosts D) where
         (λ gone. no-home q.phase gone.0 now.frozen (bytes_of (g.map t))) w.frozen
       where
         absurd-or : now.frozen ≡ pages.frozen → now.frozen ≡ none_frozen → AreHome now.frozen (copied q.phase) (bytes_of (g.map t))
-        absurd-or stays none = no-home q.phase (phase_of_none q.phase (subst (λ (x : Frozen). IsPhase q.phase (length x.addresses)) none w.order.phase)) now.frozen (bytes_of (g.map t))
+        absurd-or kept none = no-home q.phase (phase_of_none q.phase (subst (λ (x : Frozen). IsPhase q.phase (length x.addresses)) none w.order.phase)) now.frozen (bytes_of (g.map t))
 
     pub writing-stands : StandsOn g s pages t q now
     writing-stands = record {
@@ -261,3 +261,12 @@ module _ {D : Type 0} (g : Ghosts D) where
 
       needed : (v : ℕ) → IsNeeded (g.shape s) (running_on g s pages) v → running_on g t pages v ≡ running_on g s pages v
       needed v need = running-same s t pages pages v refl (λ gone. stored (j.runs.absent v need gone) v)
+
+  -- ---- one step after the other
+
+  pub stands_then : (s m t : D) (q r : Progress) (pages mid now : Pages) → IsVolumeShape (g.shape s) → g.shape m ≡ g.shape s → StandsOn g s pages m q mid → StandsOn g m mid t r now → StandsOn g s pages t r now
+  stands_then s m t q r pages mid now volume same first next = record {
+    journaled = next.journaled;
+    needed = λ v need. next.needed v (subst (λ (h : Shape). IsNeeded h (running_on g m mid) v) (sym same) (needed-to (g.shape s) (bounds-of (g.shape s) volume) (running_on g s pages) (running_on g m mid) first.needed v need)) ∙ first.needed v need;
+    graph = next.graph ∙ first.graph;
+  }

@@ -1,3 +1,4 @@
 pub mod Freeing
 pub mod Standing
 pub mod Completing
+pub mod Counting

@@ -162,6 +162,20 @@ begun_step p q pages mid_pages some is_next is_after =
     ap (λ (s : Progress). begun s (length mid_pages.frozen.addresses)) is_next
     ∙ ap (λ (n : Pages). begun (next p (length pages.frozen.addresses)) (length n.frozen.addresses)) is_after ∙ begun_next p.phase p.number pages.frozen some
 
+-- and the number of the last one whose commit page was written
+number_next : (phase : Phase) (number pages : ℕ) → (next_number_in phase number ≡ number) ⊎ (next_number_in phase number ≡ begun_in phase number pages)
+number_next Header number pages = inl refl
+number_next (Image i) number pages = inl refl
+number_next Commit number pages = inr refl
+number_next (Home i) number pages = inl refl
+
+pub number_step : (p q r : Progress) (pages mid_pages : Pages) → q ≡ next p (length pages.frozen.addresses) → begun q (length mid_pages.frozen.addresses) ≡ begun p (length pages.frozen.addresses)
+    → (r.number ≡ q.number) ⊎ (r.number ≡ begun q (length mid_pages.frozen.addresses)) → (r.number ≡ p.number) ⊎ (r.number ≡ begun p (length pages.frozen.addresses))
+number_step p q r pages mid_pages is_next stays (inr all) = inr (all ∙ stays)
+number_step p q r pages mid_pages is_next stays (inl same) =
+    let is : r.number ≡ next_number_in p.phase p.number = same ∙ ap (λ (x : Progress). x.number) is_next in
+    ⊎_elim (λ e. inl (is ∙ e)) (λ e. inr (is ∙ e)) (number_next p.phase p.number (length pages.frozen.addresses))
+
 pub units_step : (p q : Progress) (pages mid_pages : Pages) → IsPhase p.phase (length pages.frozen.addresses) → 1 ≤ length pages.frozen.addresses → q ≡ next p (length pages.frozen.addresses)
     → mid_pages ≡ record pages { frozen = frozen_after p.phase pages.frozen } → units_left q.phase (length mid_pages.frozen.addresses) + 1 ≡ units_left p.phase (length pages.frozen.addresses)
 units_step p q pages mid_pages at some is_next is_after =

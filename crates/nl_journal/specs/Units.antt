@@ -95,6 +95,7 @@ pub record Finishes (until : ℕ) (done : Type 0) (old new : Progress) (old_page
   pub left : done → units_left new.phase (length new_pages.frozen.addresses) ≤ until
   pub more : (done → ⊥) → until + 1 ≤ units_left new.phase (length new_pages.frozen.addresses)
   pub begun_stays : begun new (length new_pages.frozen.addresses) ≡ begun old (length old_pages.frozen.addresses)
+  pub number : (new.number ≡ old.number) ⊎ (new.number ≡ begun old (length old_pages.frozen.addresses))
   pub kept : new_pages ≡ record old_pages { frozen = new_pages.frozen }
   pub waits : (done → ⊥) → new_pages.frozen ≡ old_pages.frozen
   pub frozen : (new_pages.frozen ≡ old_pages.frozen) ⊎ ((new.phase ≡ Header) × (new_pages.frozen ≡ none_frozen))

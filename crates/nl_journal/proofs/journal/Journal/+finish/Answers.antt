@@ -10,7 +10,7 @@ use Rattle.nl_journal.specs.Units.{IsDone, frozen_after}
 use Rattle.nl_journal.specs.declared.answers.Phase.TheVariants.{Header}
 use Rattle.nl_journal.specs.declared.answers.Unit.TheVariants as unit
 use Rattle.nl_journal.proofs.Finishing.{after_either, few_left, more_left, phase_of_none}
-use Rattle.nl_journal.proofs.FinishSteps.{begun_step, done_is, frozen_waits, no_addresses, some_frozen, units_step, writes_failed, writes_none, writes_step}
+use Rattle.nl_journal.proofs.FinishSteps.{begun_step, done_is, frozen_waits, no_addresses, number_step, some_frozen, units_step, writes_failed, writes_none, writes_step}
 use Rattle.nl_journal.proofs.HomeWrites.{home_failed, home_step}
 use Rattle.nl_journal.proofs.Passing.{counted_then, none_failed, passes_by, passes_most, passes_then}
 use Rattle.nl_journal.proofs.journal.Journal.+finish.Goals as goal
@@ -74,6 +74,7 @@ returns-in_default g m c =
         left = f.finishes.left;
         more = f.finishes.more;
         begun_stays = f.finishes.begun_stays ∙ begun_same;
+        number = number_step p q r pages mid_pages goes.1 begun_same f.finishes.number;
         kept = f.finishes.kept ∙ ap (λ (n : Pages). record n { frozen = new_pages.frozen }) goes.2;
         waits = λ off. f.finishes.waits off ∙ (after ∙ frozen_waits p.phase pages.frozen (λ none. off (f.finishes.none (ap (λ (x : Frozen). x.addresses) (after ∙ none)))));
         frozen = ⊎_elim
