@@ -1,8 +1,7 @@
 -- The commit page is written, and then the pages are copied home.
-use Rattle.std.proofs.Common.{◌≡◌, ◌⊎◌, true, inl, inr, ⊎_elim, ℕ, ◌+◌, ◌<◌, ◌≤◌, [], length, refl, sym, ◌∙◌, ap, subst, arith}
+use Rattle.std.proofs.Common.{◌≡◌, ◌⊎◌, true, inl, inr, ⊎_elim, ℕ, ◌≤◌, [], length, refl, sym, ◌∙◌, ap, arith}
 use Rattle.std.specs.Prelude.{⊤}
 use Rattle.nl_field.specs.CrashStates.{Turns}
-use Rattle.nl_field.specs.declared.shape.Shape.{Shape}
 use Rattle.nl_field.proofs.Crashes.{then, weaken}
 use Rattle.nl_iface.specs.Calls.{Leaves, stored}
 use Rattle.nl_iface.specs.Stored.{Stored, Value}
@@ -11,7 +10,6 @@ use Rattle.nl_journal.specs.Committing.{committed_on, finished, finished_on, is_
 use Rattle.nl_journal.specs.Left.{FinishWrites, LeavesEither, LeavesOne, LeavesRest}
 use Rattle.nl_journal.specs.Outcomes.{Agrees, bytes_of}
 use Rattle.nl_journal.specs.Homes.{BringsHome}
-use Rattle.nl_journal.specs.Passes.{Passes}
 use Rattle.nl_journal.specs.Progress.{IsPhase, Progress, begun, begun_in, units_left}
 use Rattle.nl_journal.specs.Standing.{InOrder}
 use Rattle.nl_journal.specs.Units.{Finishes}

@@ -5,13 +5,12 @@ use Rattle.std.proofs.lemmas.Bool.{both_ways, cases_Bool, cond-true, cond-false,
 use Rattle.nl_field.specs.declared.pointer.Pointer.{Pointer}
 use Rattle.nl_iface.specs.Calls.{Frees as FreesNamed}
 use Rattle.nl_iface.specs.declared.counts.Counts.{Ghosts}
-use Rattle.nl_iface.specs.Names.{Drops, Has, LivePage, Names, beside, has_stamp, leads, led, place_of}
-use Rattle.nl_holders.specs.Holding.{Holding, HoldsPages, KeepsCommitted}
-use Rattle.nl_holders.specs.Laws.{Keeps}
-use Rattle.nl_holders.proofs.FreeLists.{NotOld, OldDiffer, frees-from_lists, kept_none, old_differ_from}
+use Rattle.nl_iface.specs.Names.{Has, LivePage, Names, beside, has_stamp, leads, led, place_of}
+use Rattle.nl_holders.specs.Holding.{Holding, KeepsCommitted}
+use Rattle.nl_holders.proofs.FreeLists.{OldDiffer, frees-from_lists, kept_none, old_differ_from}
 use Rattle.nl_holders.proofs.HoldingSteps as steps
 use Rattle.nl_holders.proofs.Words.{Frees, Holds, from_words, to_words}
-use Rattle.nl_commit.specs.Freeing.{AreDue, FreeingKeeps, FreesAll, FreesEach, FreesOne, FreesPage}
+use Rattle.nl_commit.specs.Freeing.{FreeingKeeps, FreesAll, FreesEach, FreesOne, FreesPage}
 
 -- old names that differ do so without the pairs to one page
 differ_beside : (xs : List (ℕ × ℕ)) (p : ℕ) → OldDiffer xs → OldDiffer (beside xs p)

@@ -1,5 +1,5 @@
 -- Addresses of a transaction by place, and which pages of it are resident.
-use Rattle.std.proofs.Common.{◌≡◌, ◌⊎◌, inl, inr, ⊎_elim, ℕ, zero, suc, ◌+◌, ◌<◌, ◌≤◌, ◌==◌, nat_lt, Bool, true, false, cond, List, [], ◌∷◌, length, get_or, Option, Some, None, IsSome, is_some, option_map, unwrap_or, position, refl, sym, ◌∙◌, ap, subst, arith, eq-eqb}
+use Rattle.std.proofs.Common.{◌≡◌, inl, inr, ⊎_elim, ℕ, zero, suc, ◌+◌, ◌<◌, ◌≤◌, ◌==◌, nat_lt, Bool, true, false, cond, List, [], ◌∷◌, length, get_or, Option, Some, None, IsSome, is_some, unwrap_or, refl, sym, ◌∙◌, ap, arith, eq-eqb}
 use Rattle.std.specs.List.{list_any}
 use Rattle.std.proofs.lemmas.Bool.{both_ways, cases_lt, cond-true, and_parts, eqb-true, lt-ltb, ltb-true, leb-true, or_cases, or_left, or_right}
 use Rattle.std.proofs.lemmas.List.{get_or_past}
@@ -13,7 +13,7 @@ use Rattle.nl_iface.specs.Stored.{Value}
 use Rattle.nl_meta.specs.Committed.{VirtualMap}
 use Rattle.nl_meta.specs.Consistent.{AddressesRight}
 use Rattle.nl_meta.specs.Pages.{Frozen, Pages, page_of}
-use Rattle.nl_meta.proofs.Lists.{none_some, true_false}
+use Rattle.nl_meta.proofs.Lists.{true_false}
 use Rattle.nl_journal.specs.Outcomes.{IsHome, bytes_of}
 use Rattle.nl_journal.specs.Transaction.{place}
 use Rattle.nl_running.specs.Running.{IsNeeded}

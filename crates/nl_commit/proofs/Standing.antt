@@ -1,21 +1,18 @@
 -- The metadata stands on through each step of a commit.
-use Rattle.std.proofs.Common.{◌≡◌, ◌⊎◌, inl, inr, ⊎_elim, ℕ, ◌+◌, ◌<◌, ◌≤◌, ◌==◌, Bool, true, false, List, [], ◌∷◌, length, map, get_or, Option, Some, None, IsSome, is_some, option_map, unwrap_or, refl, sym, ◌∙◌, ap, subst, arith}
+use Rattle.std.proofs.Common.{◌≡◌, ◌⊎◌, inl, inr, ⊎_elim, ℕ, ◌<◌, ◌≤◌, ◌==◌, Bool, true, false, List, [], length, map, get_or, Option, Some, None, IsSome, is_some, option_map, unwrap_or, refl, sym, ◌∙◌, ap, subst, arith}
 use Rattle.std.specs.List.{list_any}
-use Rattle.std.proofs.lemmas.Bool.{both_ways, cases_Bool, cases_eq, cases_lt}
+use Rattle.std.proofs.lemmas.Bool.{both_ways, cases_eq, cases_lt}
 use Rattle.std.proofs.lemmas.List.{get_or-map, get_or-set_same, get_or-set_other, length-set}
-use Rattle.nl_field.specs.Graph.{Graph}
 use Rattle.nl_field.specs.Numbers.{ShapeBounds}
 use Rattle.nl_field.specs.Virtual.{map_bytes}
 use Rattle.nl_field.specs.declared.shape.Shape.{Shape}
-use Rattle.nl_iface.specs.Calls.{KeepsMedium}
 use Rattle.nl_iface.specs.Device.{IsVolumeShape}
 use Rattle.nl_iface.specs.Stored.{Value}
 use Rattle.nl_iface.specs.declared.counts.Counts.{Ghosts}
 use Rattle.nl_journal.specs.Homes.{AreHome, copied}
 use Rattle.nl_journal.specs.Outcomes.{IsHome, bytes_of}
 use Rattle.nl_journal.specs.Progress.{IsPhase, Progress}
-use Rattle.nl_journal.specs.Standing.{InOrder}
-use Rattle.nl_journal.specs.Transaction.{IsTransaction, main_at, place}
+use Rattle.nl_journal.specs.Transaction.{main_at, place}
 use Rattle.nl_journal.specs.declared.answers.Phase.{Phase}
 use Rattle.nl_journal.specs.declared.answers.Phase.TheVariants.{Header}
 use Rattle.nl_journal.proofs.Finishing.{phase_of_none}
@@ -24,10 +21,10 @@ use Rattle.nl_journal.proofs.InOrders.{stays}
 use Rattle.nl_meta.specs.Committed.{VirtualMap}
 use Rattle.nl_meta.specs.Consistent.{AddressesRight, EntriesRight, NodesRight}
 use Rattle.nl_meta.specs.Nodes.{graph_of}
-use Rattle.nl_meta.specs.Pages.{Frozen, IsPages, Pages, dirty_pages, is_dirty, is_frozen, none_frozen, page_of}
+use Rattle.nl_meta.specs.Pages.{Frozen, Pages, dirty_pages, is_dirty, is_frozen, none_frozen, page_of}
 use Rattle.nl_meta.specs.Running.{CleanIsStored, or_stored, running_over}
 use Rattle.nl_meta.specs.Steps.{with_dirty}
-use Rattle.nl_meta.proofs.Lists.{none_some, some_in}
+use Rattle.nl_meta.proofs.Lists.{some_in}
 use Rattle.nl_meta.proofs.RunningProofs.{not-with, running_map}
 use Rattle.nl_running.specs.Running.{IsNeeded, Runs, running_on, stored_on}
 use Rattle.nl_running.proofs.GraphStays.{graph-same}
@@ -122,10 +119,10 @@ module _ {D : Type 0} (g : Ghosts D) where
         by u bytes at d f true some =
             let i = index_of pages.frozen.addresses u some in
             ⊎_elim
-                (λ stays. absurd (frozen-then (same-frozen stays.0) u f some))
-                (λ home. stored-some s t u bytes w.same_shape (resident-home s p pages j u (ap is_some at)).below
-                (subst (λ (v : ℕ). bytes_of (g.map t) v ≡ Some (main_at pages.frozen.images i.0)) i.2 (home.1 i.0 i.1) ∙ ap (λ (m : List ℕ). Some m) (some_in (main_at pages.frozen.images i.0) bytes (image i ∙ at))))
-                ((w.home tells).brings (j.home tells))
+            (λ stays. absurd (frozen-then (same-frozen stays.0) u f some))
+            (λ home. stored-some s t u bytes w.same_shape (resident-home s p pages j u (ap is_some at)).below
+            (subst (λ (v : ℕ). bytes_of (g.map t) v ≡ Some (main_at pages.frozen.images i.0)) i.2 (home.1 i.0 i.1) ∙ ap (λ (m : List ℕ). Some m) (some_in (main_at pages.frozen.images i.0) bytes (image i ∙ at))))
+            ((w.home tells).brings (j.home tells))
           where
             image : (i : (i : ℕ) × (i < length pages.frozen.addresses) × (get_or pages.frozen.addresses i 0 ≡ u)) → Some (main_at pages.frozen.images i.0) ≡ page_of pages u
             image i = sym (j.frozen.unchanged i.0 i.1 (ap (is_dirty pages) i.2 ∙ d)) ∙ ap (page_of pages) i.2
@@ -170,12 +167,12 @@ module _ {D : Type 0} (g : Ghosts D) where
   -- ---- the dirty pages are frozen
 
   pub freezing_stands : FreezingStands g
-  freezing_stands s p pages volume j held none header t = record {
+  freezing_stands s p pages volume j held can = record {
     journaled = record {
       runs = runs-on s s pages now (bounds-of (g.shape s) volume) refl j.runs refl needed (λ v need gone. j.runs.absent v need gone)
-          (λ tells. let a = (running_map (stored_on g s) pages (j.runs.clean tells)).frozen (ap (λ (x : Frozen). x.addresses) none) in a.clean);
-      order = freezes g s p pages.frozen (dirty_pages pages) (ap (λ (x : Frozen). x.addresses) none) header t j.order;
-      home = λ tells. no-home p.phase header (dirty_pages pages) (bytes_of (g.map s));
+          (λ tells. let a = (running_map (stored_on g s) pages (j.runs.clean tells)).frozen (ap (λ (x : Frozen). x.addresses) can.none) in a.clean);
+      order = freezes g s p pages.frozen (dirty_pages pages) (ap (λ (x : Frozen). x.addresses) can.none) can.header can.dirty j.order;
+      home = λ tells. no-home p.phase can.header (dirty_pages pages) (bytes_of (g.map s));
       frozen = record { resident = λ i lt. held.dirty_there (get_or pages.dirty i 0) (has_at pages.dirty i lt); unchanged = λ i lt d. image i lt (page_of pages (get_or pages.dirty i 0)) refl (held.dirty_there (get_or pages.dirty i 0) (has_at pages.dirty i lt)) };
       super_page = j.super_page;
       apart = j.apart;

@@ -49,11 +49,17 @@ pub record WritesFrozen {D : Type 0} (g : Ghosts D) (s : D) (p : Progress) (page
 abbrev pub WritingStands : {D : Type 0} → Ghosts D → Type 0
 WritingStands {D} g = (s t : D) (p q : Progress) (pages now : Pages) → IsVolumeShape (g.shape s) → IsJournaled g s p pages → WritesFrozen g s p pages t q now → StandsOn g s pages t q now
 
--- The dirty pages are frozen, where nothing is.
+-- Nothing is frozen, and the dirty pages are a transaction.
+pub record CanFreeze (count : ℕ) (p : Progress) (pages : Pages) : Type 0 where
+  pub header : p.phase ≡ Header
+  pub none : pages.frozen ≡ none_frozen
+  pub dirty : IsTransaction count (dirty_pages pages)
+
+-- The dirty pages are frozen.
 abbrev pub FreezingStands : {D : Type 0} → Ghosts D → Type 0
 FreezingStands {D} g =
-    (s : D) (p : Progress) (pages : Pages) → IsVolumeShape (g.shape s) → IsJournaled g s p pages → IsPages pages → pages.frozen ≡ none_frozen → p.phase ≡ Header
-    → IsTransaction (g.shape s).vaddrs (dirty_pages pages) → StandsOn g s pages s p (record pages { dirty = []; frozen = dirty_pages pages })
+    (s : D) (p : Progress) (pages : Pages) → IsVolumeShape (g.shape s) → IsJournaled g s p pages → IsPages pages → CanFreeze (g.shape s).vaddrs p pages
+    → StandsOn g s pages s p (record pages { dirty = []; frozen = dirty_pages pages })
 
 -- The super page has other bytes.
 abbrev pub SuperPageStands : {D : Type 0} → Ghosts D → Type 0

@@ -4,30 +4,31 @@ ghost use Rattle.nl_iface.specs.Calls.{CallCounted};
 ghost use Rattle.nl_journal.specs.Left.{FinishWrites};
 ghost use Rattle.nl_journal.specs.Passes.{Passes};
 ghost use Rattle.nl_journal.specs.Progress.{HasNumber};
-ghost use Rattle.nl_journal.specs.Transaction.{IsTransaction};
 ghost use Rattle.nl_journal.specs.Units.{Finishes};
-ghost use Rattle.nl_meta.specs.Pages.{dirty_pages, none_frozen};
+ghost use Rattle.nl_meta.specs.Pages.{dirty_pages};
 ghost use Rattle.nl_commit.specs.Completing.{DecidesAt, StaysOpen};
 ghost use Rattle.nl_commit.specs.Counting.{with_frozen};
-ghost use Rattle.nl_commit.specs.Standing.{IsJournaled, StandsOn};
+ghost use Rattle.nl_commit.specs.Standing.{CanFreeze, IsJournaled, StandsOn};
 
 use crate::completing::{Completed, complete};
 use nl_field::VirtualWrite;
 use nl_iface::VirtualPages;
-use nl_journal::{Journal, Phase};
+use nl_journal::Journal;
 use nl_meta::Meta;
 
 /// Makes the dirty pages take effect at once, where nothing is frozen: it freezes them and completes their transaction. The metadata
 /// stands on as it runs. Of the committed pages a stop leaves those of before, or those with the dirty ones, and these from the moment
 /// on at which the commit page was finished. After `Lost` and `Fault` they are frozen.
-pub fn commit_changes<D: VirtualPages>(device: &mut D, journal: &mut Journal, meta: &mut Meta) -> Completed
+pub fn commit_changes<D: VirtualPages>(
+    device: &mut D,
+    journal: &mut Journal,
+    meta: &mut Meta,
+) -> Completed
     requires formed { D.formed device.old }
     requires spare { D.keeps_spare device.old }
     requires stamp { D.next_stamp device.old + 256 ≤ 2 ^ 63 }
     requires journaled { IsJournaled D.Counts device.old journal.old meta.old }
-    requires header { journal.old.phase ≡ Phase.Header }
-    requires none { meta.old.frozen ≡ none_frozen }
-    requires dirty { IsTransaction (D.shape device.old).vaddrs (dirty_pages meta.old) }
+    requires changes { CanFreeze (D.shape device.old).vaddrs journal.old meta.old }
     ensures formed { D.formed device.new }
     ensures stands { StandsOn D.Counts device.old meta.old device.new journal.new meta.new }
     ensures finishes { Finishes 0 (result.answer ≡ VirtualWrite.Done) journal.old journal.new (with_frozen meta.old) meta.new }

@@ -24,7 +24,11 @@ pub struct Completed {
 /// Does the units that are left of the frozen transaction, where there is one. The metadata stands on, and of the committed pages a
 /// stop leaves those of before, or those with the frozen ones, and these from the moment on at which the commit page was finished. After
 /// `Lost` and `Fault` the next unit is still to be done.
-pub fn complete<D: VirtualPages>(device: &mut D, journal: &mut Journal, meta: &mut Meta) -> Completed
+pub fn complete<D: VirtualPages>(
+    device: &mut D,
+    journal: &mut Journal,
+    meta: &mut Meta,
+) -> Completed
     requires formed { D.formed device.old }
     requires spare { D.keeps_spare device.old }
     requires stamp { D.next_stamp device.old + 256 ≤ 2 ^ 63 }

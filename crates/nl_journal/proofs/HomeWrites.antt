@@ -4,7 +4,7 @@ use Rattle.std.proofs.lemmas.Bool.{cases_eq, cond-true, cond-false, ltb-false, n
 use Rattle.std.proofs.lemmas.Option.{none-some}
 use Rattle.nl_meta.specs.Committed.{VirtualMap}
 use Rattle.nl_meta.specs.Pages.{Frozen, none_frozen}
-use Rattle.nl_journal.specs.Homes.{AreHome, BringsHome, HomeBy, WritesHome, copied, copied_next, with_bytes}
+use Rattle.nl_journal.specs.Homes.{AreHome, BringsHome, WritesHome, copied, copied_next, with_bytes}
 use Rattle.nl_journal.specs.Outcomes.{IsHome}
 use Rattle.nl_journal.specs.Progress.{IsPhase, Progress, next, next_number_in, next_phase}
 use Rattle.nl_journal.specs.Transaction.{IsFrozen, IsTransaction, main_at, place}
@@ -88,8 +88,10 @@ module _ (count : ℕ) (frozen now : Frozen) (r : Progress) (old mid new : Virtu
       → BringsHome count (record { number = k; phase = Home i }) r frozen now old new
   last_then i k q last header w rest = record {
     beside = λ v home none. rest.beside v home refl ∙ w.beside v home none;
-    brings = λ before. inr (⊎_elim (λ is. is.0) (λ is. is.0) (rest.brings (λ j lt. absurd (none j (subst (λ (x : Phase). j < copied x) header lt)))),
-    λ j lt. rest.beside (get_or frozen.addresses j 0) (t.home j lt) refl ∙ w.brings is_done before j (omega (arith, lt, last)));
+    brings = λ before. inr (
+      ⊎_elim (λ is. is.0) (λ is. is.0) (rest.brings (λ j lt. absurd (none j (subst (λ (x : Phase). j < copied x) header lt)))),
+      λ j lt. rest.beside (get_or frozen.addresses j 0) (t.home j lt) refl ∙ w.brings is_done before j (omega (arith, lt, last)),
+    );
   }
     where
       none : (j : ℕ) → j < 0 → ⊥

@@ -233,7 +233,12 @@ impl Journal {
     /// Does the units of the frozen transaction until at most so many are left, which are no more than its pages: 0 for all of them,
     /// and as many as its pages until the commit page is written. After `Lost` and `Fault` the next unit is still to be done. Of the
     /// committed pages a stop within it leaves those of before or those with the frozen ones, and these once it is done.
-    pub fn finish<D: VirtualPages>(&mut self, device: &mut D, meta: &mut Meta, until: u32) -> VirtualWrite
+    pub fn finish<D: VirtualPages>(
+        &mut self,
+        device: &mut D,
+        meta: &mut Meta,
+        until: u32,
+    ) -> VirtualWrite
         requires formed { D.formed device.old }
         requires spare { D.keeps_spare device.old }
         requires stamp { D.next_stamp device.old + units_left self.old.phase (length meta.old.frozen.addresses) ≤ 2 ^ 63 }

@@ -1,5 +1,4 @@
-use Rattle.std.proofs.Common.{◌≡◌, ◌+◌, ◌<◌, ◌∙◌, ◌++◌, ◌∷◌, [], List, length, sym, ap, subst, true, false, Bool, inl, inr, ◌⊎◌, arith, take, get_or}
-use Rattle.std.proofs.lemmas.Bool.{cases_Bool}
+use Rattle.std.proofs.Common.{◌≡◌, ◌+◌, ◌∙◌, ◌++◌, ◌∷◌, [], List, sym, ap, subst, arith, take}
 use Rattle.std.proofs.lemmas.List.{take_more}
 use Rattle.std.proofs.lemmas.Option.{get_or_from_slice_get}
 use Rattle.nl_field.specs.declared.pointer.Pointer.{Pointer}
@@ -27,4 +26,3 @@ loop-i-preserved g c =
       kept = keeps_medium_then G old mid new c.loop-i.invariant.kept c.free.ensures.kept;
       read_faults = c.free.ensures.read_faults ∙ c.loop-i.invariant.read_faults;
     }
-

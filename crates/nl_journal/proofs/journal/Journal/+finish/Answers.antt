@@ -1,4 +1,4 @@
-use Rattle.std.proofs.Common.{◌≡◌, ◌⊎◌, inl, inr, ⊎_elim, ◌+◌, ◌<◌, length, refl, sym, ◌∙◌, ap, subst, arith}
+use Rattle.std.proofs.Common.{◌≡◌, inl, inr, ⊎_elim, ◌+◌, ◌<◌, length, sym, ◌∙◌, ap, subst, arith}
 use Rattle.nl_field.specs.declared.answers.VirtualWrite.TheVariants as write
 use Rattle.nl_meta.specs.Pages.{Frozen, Pages, none_frozen}
 use Rattle.nl_field.specs.declared.shape.Shape.{Shape}
@@ -7,7 +7,6 @@ use Rattle.nl_journal.specs.Outcomes.{bytes_of}
 use Rattle.nl_journal.specs.Passes.{Passes}
 use Rattle.nl_journal.specs.Progress.{IsPhase, units_left}
 use Rattle.nl_journal.specs.Units.{IsDone, frozen_after}
-use Rattle.nl_journal.specs.declared.answers.Phase.TheVariants.{Header}
 use Rattle.nl_journal.specs.declared.answers.Unit.TheVariants as unit
 use Rattle.nl_journal.proofs.Finishing.{after_either, few_left, more_left, phase_of_none}
 use Rattle.nl_journal.proofs.FinishSteps.{begun_step, done_is, frozen_waits, no_addresses, number_step, some_frozen, units_step, writes_failed, writes_none, writes_step}
