@@ -2,3 +2,4 @@ pub mod Frees
 pub mod Places
 pub mod Standing
 pub mod CompletingSteps
+pub mod CommittingSteps

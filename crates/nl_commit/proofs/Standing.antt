@@ -12,9 +12,10 @@ use Rattle.nl_iface.specs.declared.counts.Counts.{Ghosts}
 use Rattle.nl_journal.specs.Homes.{AreHome, copied}
 use Rattle.nl_journal.specs.Outcomes.{IsHome, bytes_of}
 use Rattle.nl_journal.specs.Progress.{IsPhase, Progress}
-use Rattle.nl_journal.specs.Transaction.{main_at, place}
+use Rattle.nl_journal.specs.Transaction.{IsTransaction, main_at, place}
 use Rattle.nl_journal.specs.declared.answers.Phase.{Phase}
 use Rattle.nl_journal.specs.declared.answers.Phase.TheVariants.{Header}
+use Rattle.nl_journal.proofs.DirtyPages.{dirty_transaction}
 use Rattle.nl_journal.proofs.Finishing.{phase_of_none}
 use Rattle.nl_journal.proofs.Freezing.{freezes}
 use Rattle.nl_journal.proofs.InOrders.{stays}
@@ -30,7 +31,7 @@ use Rattle.nl_running.specs.Running.{IsNeeded, Runs, running_on, stored_on}
 use Rattle.nl_running.proofs.GraphStays.{graph-same}
 use Rattle.nl_running.proofs.Holds.{bounds-of}
 use Rattle.nl_running.proofs.SameNeeded.{addresses-right, entries-right, needed-from, needed-to, nodes-right}
-use Rattle.nl_commit.specs.Standing.{FreezingStands, HasFrozen, IsJournaled, MediumStands, StandsOn, SuperPageStands, WritesFrozen, WritingStands}
+use Rattle.nl_commit.specs.Standing.{ChangesCanFreeze, FreezingStands, HasFrozen, IsJournaled, MediumStands, StandsOn, SuperPageStands, WritesFrozen, WritingStands}
 use Rattle.nl_commit.proofs.Places.{absent_no_place, has_at, index_of, low_of, needed_home, no_place, resident_below, same_bytes, some_bytes}
 
 module _ {D : Type 0} (g : Ghosts D) where
@@ -191,6 +192,19 @@ module _ {D : Type 0} (g : Ghosts D) where
           → page_of pages (get_or pages.dirty i 0) ≡ Some (get_or (map (λ v. unwrap_or (page_of pages v) []) pages.dirty) i [])
       image i lt None is there = absurd (both_ways _ (ap is_some is) there)
       image i lt (Some bytes) is there = is ∙ ap (λ (m : List ℕ). Some m) (sym (get_or-map (λ v. unwrap_or (page_of pages v) []) pages.dirty i 0 [] lt ∙ ap (λ o. unwrap_or o []) is))
+
+  pub changes_can_freeze : ChangesCanFreeze g
+  changes_can_freeze s p pages j held first header none = record {
+    header = header;
+    none = none;
+    dirty = subst (λ (n : ℕ). IsTransaction n (dirty_pages pages)) j.runs.count (dirty_transaction pages held first (λ v low high. apart v low high (is_dirty pages v) refl));
+  }
+    where
+      apart : (v : ℕ) → 1 ≤ v → v < 67 → (b : Bool) → is_dirty pages v ≡ b → is_dirty pages v ≡ false
+      apart v low high false is = is
+      apart v low high true is =
+          let i = index_of pages.dirty v is in
+          absurd (both_ways _ (ap is_some (j.apart v low high)) (ap (λ (w : ℕ). is_some (page_of pages w)) (sym i.2) ∙ held.dirty_there (get_or pages.dirty i.0 0) (has_at pages.dirty i.0 i.1)))
 
   -- ---- the super page
 

@@ -1,6 +1,6 @@
 -- A transaction is completed: its commit page is written, and its pages are copied home.
 use Rattle.std.specs.Prelude.{◌≡◌, ℕ, ◌<◌, ◌≤◌, ⊤, length}
-use Rattle.nl_field.specs.CrashStates.{Turns}
+use Rattle.nl_field.specs.CrashStates.{Earlier, Turns}
 use Rattle.nl_iface.specs.Calls.{Leaves}
 use Rattle.nl_iface.specs.declared.counts.Counts.{Ghosts}
 use Rattle.nl_journal.specs.Committing.{committed_on, finished_on}
@@ -12,11 +12,12 @@ use Rattle.nl_meta.specs.Pages.{Frozen, Pages}
 abbrev pub IsOpen : Progress → Frozen → Type 0
 IsOpen p frozen = length frozen.addresses < units_left p.phase (length frozen.addresses)
 
--- The commit page was finished at this moment. The number is the transaction's, and a stop at that moment or a later one leaves its pages
+-- The commit page was finished at this moment, later than the call began. The number is the transaction's, and a stop at that moment or a later one leaves its pages
 -- committed.
 pub record DecidesAt {D : Type 0} (g : Ghosts D) (old new : D) (p q : Progress) (pages : Pages) (moment : ℕ) : Type 0 where
   pub was_open : IsOpen p pages.frozen
   pub number : q.number ≡ begun p (length pages.frozen.addresses)
+  pub later : Earlier (g.clock old) moment
   pub from : g.clock old ≤ moment
   pub to : moment ≤ g.clock new
   pub stops : g.tells → HasNumber p (length pages.frozen.addresses)

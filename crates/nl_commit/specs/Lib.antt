@@ -2,3 +2,4 @@ pub mod Freeing
 pub mod Standing
 pub mod Completing
 pub mod Counting
+pub mod Committing

@@ -1,5 +1,5 @@
 -- The metadata of a volume that runs, between two writes of its journal.
-use Rattle.std.specs.Prelude.{◌≡◌, ◌⊎◌, ℕ, ◌<◌, ◌≤◌, false, List, [], length, Some, None, IsSome, slice_index}
+use Rattle.std.specs.Prelude.{◌≡◌, ◌⊎◌, ℕ, ◌<◌, ◌≤◌, true, false, List, [], length, Some, None, IsSome, slice_index}
 use Rattle.nl_iface.specs.Calls.{KeepsMedium}
 use Rattle.nl_iface.specs.Device.{IsVolumeShape}
 use Rattle.nl_iface.specs.declared.counts.Counts.{Ghosts}
@@ -54,6 +54,12 @@ pub record CanFreeze (count : ℕ) (p : Progress) (pages : Pages) : Type 0 where
   pub header : p.phase ≡ Header
   pub none : pages.frozen ≡ none_frozen
   pub dirty : IsTransaction count (dirty_pages pages)
+
+-- They are where the super page is dirty.
+abbrev pub ChangesCanFreeze : {D : Type 0} → Ghosts D → Type 0
+ChangesCanFreeze {D} g =
+    (s : D) (p : Progress) (pages : Pages) → IsJournaled g s p pages → IsPages pages → is_dirty pages 0 ≡ true → p.phase ≡ Header → pages.frozen ≡ none_frozen
+    → CanFreeze (g.shape s).vaddrs p pages
 
 -- The dirty pages are frozen.
 abbrev pub FreezingStands : {D : Type 0} → Ghosts D → Type 0

@@ -2,12 +2,14 @@
 #![tactic(auto)]
 
 mod changes;
+mod committing;
 mod completing;
 mod freeing;
 pub mod laws;
 mod super_page;
 
 pub use changes::commit_changes;
+pub use committing::{Committed, commit};
 pub use completing::{Completed, complete};
 pub use freeing::free_first;
 pub use super_page::store_count;

@@ -1,6 +1,6 @@
 use Rattle.std.proofs.Common.{◌≡◌, ℕ, ⊎_elim, ◌+◌, ◌<◌, length, sym, ◌∙◌, subst, arith}
 use Rattle.std.specs.Prelude.{⊤}
-use Rattle.nl_field.specs.CrashStates.{Turns}
+use Rattle.nl_field.specs.CrashStates.{Earlier, Turns}
 use Rattle.nl_field.specs.declared.answers.VirtualWrite.TheVariants as write
 use Rattle.nl_iface.specs.Calls.{Leaves}
 use Rattle.nl_journal.specs.Committing.{committed_on, finished_on}
@@ -66,6 +66,7 @@ returns-in-Done-clause-decided g c =
     record {
       was_open = omega (arith, more, units, count);
       number = ⊎_elim (λ same. same ∙ number) (λ all. all ∙ e.finishes.begun_stays) f.finishes.number;
+      later = subst (λ (k : ℕ). Earlier (G.clock s) k) (sym at) (e.clock.later (c.in-Done.is, omega (arith, more, units)));
       from = omega (arith, at, a);
       to = omega (arith, at, b);
       stops = λ tells numbers. subst (λ (k : ℕ). Leaves G (Turns ⊤ k (LeavesEither G s (committed_on G s) (finished_on G s p pages)) (LeavesOne G s (finished_on G s p pages))) s t) (sym at)

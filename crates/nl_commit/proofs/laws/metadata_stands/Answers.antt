@@ -1,4 +1,4 @@
-use Rattle.nl_commit.proofs.Standing.{freezing_stands, medium_stands, super_page_stands, writing_stands}
+use Rattle.nl_commit.proofs.Standing.{changes_can_freeze, freezing_stands, medium_stands, super_page_stands, writing_stands}
 use Rattle.nl_commit.proofs.laws.metadata_stands.Goals as goal
 
 pub returns-clause-writing : goal.returns-clause-writing
@@ -12,3 +12,6 @@ returns-clause-super_page g c = super_page_stands g.D.Counts
 
 pub returns-clause-medium : goal.returns-clause-medium
 returns-clause-medium g c = medium_stands g.D.Counts
+
+pub returns-clause-changes : goal.returns-clause-changes
+returns-clause-changes g c = changes_can_freeze g.D.Counts
