@@ -27,7 +27,7 @@ at_none : (xs : List (ℕ × ℕ)) (n : ℕ) → NotOld n xs → resolve xs n �
 at_none [] n h = refl
 at_none (x ∷ xs) n h = at_tail x xs n h.0 ∙ at_none xs n h.1
 
-kept_none : (xs : List (ℕ × ℕ)) (p n : ℕ) → NotOld n xs → NotOld n (beside xs p)
+pub kept_none : (xs : List (ℕ × ℕ)) (p n : ℕ) → NotOld n xs → NotOld n (beside xs p)
 kept_none [] p n h = tt
 kept_none (x ∷ xs) p n h = by (kept_none xs p n h.1) (cases_Bool (not (x.1 == p)))
   where

@@ -110,13 +110,61 @@ aimed_or (Image i) frozen shape base c is = inl is
 aimed_or Commit frozen shape base c is = inr is
 aimed_or (Home i) frozen shape base c is = inl is
 
--- it goes on with the next one, or leaves all of the transaction
-pub last_or : (phase : Phase) (frozen : Frozen) (shape : Shape) (base : VirtualMap) → IsPhase phase (length frozen.addresses) → 1 ≤ length frozen.addresses
-    → (1 ≤ units_left (next_phase phase (length frozen.addresses)) (length (frozen_after phase frozen).addresses)) ⊎ ((c : Stored) → Commits shape (aimed phase frozen base) c → Commits shape (finished phase frozen base) c)
-last_or Header frozen shape base at some = inl (omega arith)
-last_or (Image i) frozen shape base at some = inl (let e = units_next (Image i) frozen at some in omega (arith, e, at))
-last_or Commit frozen shape base at some = inl (omega (arith, some))
-last_or (Home i) frozen shape base at some = inr (λ c is. is)
+-- the commit page was not written and is not, or the write leaves all of the transaction
+pub last_or : (phase : Phase) (frozen : Frozen) (shape : Shape) (base : VirtualMap)
+    → ((is_decided phase ≡ false) × (is_decided (next_phase phase (length frozen.addresses)) ≡ false)) ⊎ ((c : Stored) → Commits shape (aimed phase frozen base) c → Commits shape (finished phase frozen base) c)
+last_or Header frozen shape base = inl (refl, refl)
+last_or (Image i) frozen shape base = inl (refl, undecided_either (nat_lt (i + 1) (length frozen.addresses)) i)
+last_or Commit frozen shape base = inr (λ c is. is)
+last_or (Home i) frozen shape base = inr (λ c is. is)
+
+-- no more units are left than pages are frozen only where nothing is frozen, or the commit page is written
+pub few_left : (phase : Phase) (pages : ℕ) → IsPhase phase pages → units_left phase pages ≤ pages → ((phase ≡ Header) × (pages ≡ 0)) ⊎ (is_decided phase ≡ true)
+few_left Header zero at few = inl (refl, refl)
+few_left Header (suc n) at few = absurd (let e = header_units (suc n) (omega arith) in omega (arith, e, few))
+few_left (Image i) pages at few = absurd (let no : ⊥ = omega (arith, at, few) in no)
+few_left Commit pages at few = absurd (let no : ⊥ = omega (arith, few) in no)
+few_left (Home i) pages at few = inr refl
+
+-- more are left before it is written
+pub many_left : (phase : Phase) (pages : ℕ) → 1 ≤ pages → IsPhase phase pages → is_decided phase ≡ false → pages < units_left phase pages
+many_left Header pages some at undecided = let e = header_units pages some in omega (arith, e)
+many_left (Image i) pages some at undecided = omega (arith, at)
+many_left Commit pages some at undecided = omega arith
+many_left (Home i) pages some at undecided = absurd (let no : ⊥ = cc in no)
+
+-- what is frozen stays, or all of it is home
+pub after_either : (phase : Phase) (frozen : Frozen) → (frozen_after phase frozen ≡ frozen) ⊎ (frozen_after phase frozen ≡ none_frozen)
+after_either Header frozen = inl refl
+after_either (Image i) frozen = inl refl
+after_either Commit frozen = inl refl
+after_either (Home i) frozen = by (nat_lt (i + 1) (length frozen.addresses))
+  where
+    by : (b : Bool) → (cond b frozen none_frozen ≡ frozen) ⊎ (cond b frozen none_frozen ≡ none_frozen)
+    by true = inl refl
+    by false = inr refl
+
+-- it stays before the commit page
+after_undecided : (phase : Phase) (frozen : Frozen) → is_decided phase ≡ false → frozen_after phase frozen ≡ frozen
+after_undecided Header frozen is = refl
+after_undecided (Image i) frozen is = refl
+after_undecided Commit frozen is = refl
+after_undecided (Home i) frozen is = absurd (let no : ⊥ = cc in no)
+
+-- where nothing is frozen the header is due
+pub phase_of_none : (phase : Phase) → IsPhase phase 0 → phase ≡ Header
+phase_of_none Header at = refl
+phase_of_none (Image i) at = absurd (let no : ⊥ = omega (arith, at) in no)
+phase_of_none Commit at = absurd (let no : ⊥ = omega (arith, at) in no)
+phase_of_none (Home i) at = absurd (let no : ⊥ = omega (arith, at) in no)
+
+-- before the commit page more are left than pages are frozen
+pub more_left : (phase next : Phase) (frozen now : Frozen) (until : ℕ) → 1 ≤ length frozen.addresses → until ≤ length frozen.addresses → IsPhase next (length now.addresses) → now ≡ frozen_after phase frozen
+    → is_decided phase ≡ false → is_decided next ≡ false → until < units_left next (length now.addresses)
+more_left phase next frozen now until some most at is before undecided =
+    let same : length now.addresses ≡ length frozen.addresses = ap (λ (x : Frozen). length x.addresses) (is ∙ after_undecided phase frozen before) in
+    let many = many_left next (length now.addresses) (omega (arith, same, some)) at undecided in
+    omega (arith, many, same, most)
 
 pub commits_same : (shape : Shape) (f g : VirtualMap) (c : Stored) → Agrees shape.vaddrs f g → Commits shape f c → Commits shape g c
 commits_same shape f g c same is v home = is v home ∙ same v home

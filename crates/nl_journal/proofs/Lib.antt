@@ -14,3 +14,4 @@ pub mod Freezing
 pub mod DirtyPages
 pub mod Openings
 pub mod InOrders
+pub mod HomeWrites

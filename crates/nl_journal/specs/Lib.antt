@@ -4,6 +4,7 @@ pub mod Progress
 pub mod Standing
 pub mod Committing
 pub mod Units
+pub mod Homes
 pub mod Passes
 pub mod Left
 pub mod Opening

@@ -1,8 +1,8 @@
 -- What a unit writes and answers.
-use Rattle.std.specs.Prelude.{◌≡◌, ◌⊎◌, ⊤, ℕ, ◌+◌, nat_lt, if◌then◌else◌, [], List, length, Option, Some, slice_index}
+use Rattle.std.specs.Prelude.{◌≡◌, ◌⊎◌, ⊤, ℕ, ◌+◌, ◌≤◌, nat_lt, if◌then◌else◌, [], List, length, Option, Some, slice_index}
 use Rattle.nl_field.specs.Journal.{header_of, commit_of}
 use Rattle.nl_meta.specs.Pages.{Frozen, Pages, dirty_pages, none_frozen}
-use Rattle.nl_journal.specs.Progress.{Progress, begun, next, next_after, raised}
+use Rattle.nl_journal.specs.Progress.{Progress, begun, next, next_after, raised, units_left}
 use Rattle.nl_journal.specs.Transaction.{header, main_at}
 use Rattle.nl_journal.specs.declared.answers.Phase.{Phase}
 use Rattle.nl_journal.specs.declared.answers.Phase.TheVariants.{Header, Image, Commit, Home}
@@ -88,3 +88,15 @@ pub record Ends (number : ℕ) (old new : Progress) (old_pages new_pages : Pages
 -- The pages in memory after a commit that was not done: as before, or the dirty ones are frozen, since all that was frozen before is home.
 abbrev pub Waits : Pages → Pages → Type 0
 Waits old new = (new ≡ old) ⊎ (new ≡ record old { dirty = []; frozen = dirty_pages old })
+
+-- Units were done until at most so many are left. Of the metadata only the frozen pages change: all of them are home, or they stay. The
+-- number of the last transaction that was begun stays.
+pub record Finishes (until : ℕ) (done : Type 0) (old new : Progress) (old_pages new_pages : Pages) : Type 0 where
+  pub left : done → units_left new.phase (length new_pages.frozen.addresses) ≤ until
+  pub more : (done → ⊥) → until + 1 ≤ units_left new.phase (length new_pages.frozen.addresses)
+  pub begun_stays : begun new (length new_pages.frozen.addresses) ≡ begun old (length old_pages.frozen.addresses)
+  pub number : (new.number ≡ old.number) ⊎ (new.number ≡ begun old (length old_pages.frozen.addresses))
+  pub kept : new_pages ≡ record old_pages { frozen = new_pages.frozen }
+  pub waits : (done → ⊥) → new_pages.frozen ≡ old_pages.frozen
+  pub frozen : (new_pages.frozen ≡ old_pages.frozen) ⊎ ((new.phase ≡ Header) × (new_pages.frozen ≡ none_frozen))
+  pub none : old_pages.frozen.addresses ≡ [] → done

@@ -71,7 +71,7 @@ fn header_page(page: &mut PageBuf, number: u64, meta: &Meta)
 }
 
 /// How many pages are frozen.
-pub(crate) fn frozen_len(meta: &Meta) -> u32
+pub fn frozen_len(meta: &Meta) -> u32
     ensures count { result ≡ length meta.now.frozen.addresses }
     ensures most { result ≤ 64 }
 {

@@ -4,6 +4,7 @@ ghost use Rattle.nl_iface.specs.Answers.{IsLost, LosesStamp};
 ghost use Rattle.nl_iface.specs.Calls.{CallCounted, DoneOrFailed, LeavesAt, OnlyReads, ReadsCounted, TakesStamp, Ticks};
 ghost use Rattle.nl_meta.specs.Committed.{next_number as number_of_next};
 ghost use Rattle.nl_journal.specs.Committing.{ahead_on, committed_on, finished_on};
+ghost use Rattle.nl_journal.specs.Homes.{BringsHome, WritesHome};
 ghost use Rattle.nl_journal.specs.Left.{CommitWrites, DirtyWrites, FinishWrites, UnitWrites};
 ghost use Rattle.nl_journal.specs.Opening.{Finds, commit_number, header_number, phase_found};
 ghost use Rattle.nl_journal.specs.Outcomes.{Agrees, bytes_of};
@@ -11,7 +12,7 @@ ghost use Rattle.nl_journal.specs.Passes.{Passes};
 ghost use Rattle.nl_journal.specs.Progress.{HasNumber, IsPhase, Progress, begun, next, next_after as after, raised as raised_from, units_left};
 ghost use Rattle.nl_journal.specs.Standing.{InOrder};
 ghost use Rattle.nl_journal.specs.Transaction.{IsTransaction, head, mark};
-ghost use Rattle.nl_journal.specs.Units.{Advances, Ends, IfCommitted, IfLost, IfLostUnit, IsCommitted, IsDone, OtherFound, Waits, answer};
+ghost use Rattle.nl_journal.specs.Units.{Advances, Ends, Finishes, IfCommitted, IfLost, IfLostUnit, IsCommitted, IsDone, OtherFound, Waits, answer};
 ghost use Rattle.nl_meta.specs.Pages.{dirty_pages};
 
 use crate::due::{LAST, due, frozen_len, next_after};
@@ -79,7 +80,8 @@ impl Journal {
 
     /// Does one write of the frozen transaction: the header, an image, the commit page, or a page copied home. After `Lost`
     /// and `Fault` the same unit is still to be done. Of the committed pages a stop within it leaves those of before or, where
-    /// the commit page is due, those with the frozen ones, and these once it is done.
+    /// the commit page is due, those with the frozen ones, and these once it is done. Whatever its number, it changes no page at
+    /// an address of the volume but that of one that it copies home.
     pub fn unit<D: VirtualPages>(&mut self, device: &mut D, meta: &mut Meta) -> Unit
         requires formed { D.formed device.old }
         requires spare { D.keeps_spare device.old }
@@ -90,6 +92,7 @@ impl Journal {
         ensures order { InOrder D.Counts device.new self.new meta.new.frozen }
         ensures advances { Advances result self.old self.new meta.old meta.new }
         ensures writes { D.tells → HasNumber self.old (length meta.old.frozen.addresses) → UnitWrites D.Counts (IsDone result) self.old self.new meta.old meta.new device.old device.new }
+        ensures home { D.tells → WritesHome self.old.phase meta.old.frozen (IsDone result) (D.shape device.old).vaddrs (bytes_of (D.map device.old)) (bytes_of (D.map device.new)) }
         ensures passes { Passes D.Counts (IsDone result) 1 device.old device.new }
         ensures lost { IfLostUnit result (OtherFound (D.stamps device.new)) }
         ensures told { D.tells → IfLostUnit result (λ w f. ⊥) }
@@ -127,7 +130,7 @@ impl Journal {
         ensures clock { Ticks D.Counts (IsCommitted result) device.old device.new }
         ensures faults { CallCounted D.Counts (result ≡ Committing.Fault) device.old device.new }
     {
-        match self.finish(device, meta) {
+        match self.finish(device, meta, 0) {
             VirtualWrite::Done => self.commit_dirty(device, meta),
             VirtualWrite::Lost { wanted, found } => Committing::Lost { wanted, found },
             VirtualWrite::Fault => Committing::Fault,
@@ -227,35 +230,38 @@ impl Journal {
         }
     }
 
-    // Does the units that are left of the frozen transaction.
-    fn finish<D: VirtualPages>(&mut self, device: &mut D, meta: &mut Meta) -> VirtualWrite
+    /// Does the units of the frozen transaction until at most so many are left, which are no more than its pages: 0 for all of them,
+    /// and as many as its pages until the commit page is written. After `Lost` and `Fault` the next unit is still to be done. Of the
+    /// committed pages a stop within it leaves those of before or those with the frozen ones, and these once it is done.
+    pub fn finish<D: VirtualPages>(
+        &mut self,
+        device: &mut D,
+        meta: &mut Meta,
+        until: u32,
+    ) -> VirtualWrite
         requires formed { D.formed device.old }
         requires spare { D.keeps_spare device.old }
         requires stamp { D.next_stamp device.old + units_left self.old.phase (length meta.old.frozen.addresses) ≤ 2 ^ 63 }
         requires order { InOrder D.Counts device.old self.old meta.old.frozen }
+        requires until { until ≤ length meta.old.frozen.addresses }
         ensures formed { D.formed device.new }
         ensures order { InOrder D.Counts device.new self.new meta.new.frozen }
-        ensures done { result ≡ VirtualWrite.Done → (self.new.phase ≡ Phase.Header) × (meta.new.frozen.addresses ≡ []) }
-        ensures begun { begun self.new (length meta.new.frozen.addresses) ≡ begun self.old (length meta.old.frozen.addresses) }
-        ensures running { meta.new.running ≡ meta.old.running }
-        ensures dirty { meta.new.dirty ≡ meta.old.dirty }
-        ensures kept { meta.new ≡ record meta.old { frozen = meta.new.frozen } }
-        ensures waits { (result ≡ VirtualWrite.Done → ⊥) → meta.new.frozen ≡ meta.old.frozen }
-        ensures none { meta.old.frozen.addresses ≡ [] → result ≡ VirtualWrite.Done }
+        ensures finishes { Finishes until (result ≡ VirtualWrite.Done) self.old self.new meta.old meta.new }
         ensures writes { D.tells → HasNumber self.old (length meta.old.frozen.addresses) → FinishWrites D.Counts (result ≡ VirtualWrite.Done) self.old self.new meta.old meta.new device.old device.new }
+        ensures home { D.tells → BringsHome (D.shape device.old).vaddrs self.old self.new meta.old.frozen meta.new.frozen (bytes_of (D.map device.old)) (bytes_of (D.map device.new)) }
         ensures passes { Passes D.Counts (result ≡ VirtualWrite.Done) (units_left self.old.phase (length meta.old.frozen.addresses)) device.old device.new }
         ensures lost { LosesStamp (D.stamps device.new) result }
         ensures told { D.tells → IsLost result → ⊥ }
-        ensures clock { Ticks D.Counts ((result ≡ VirtualWrite.Done) × (1 ≤ units_left self.old.phase (length meta.old.frozen.addresses))) device.old device.new }
+        ensures clock { Ticks D.Counts ((result ≡ VirtualWrite.Done) × (until < units_left self.old.phase (length meta.old.frozen.addresses))) device.old device.new }
         ensures faults { CallCounted D.Counts (result ≡ VirtualWrite.Fault) device.old device.new }
     {
-        if self.left(meta) == 0 {
+        if self.left(meta) <= until {
             return VirtualWrite::Done;
         }
         match self.unit(device, meta) {
             Unit::Lost { wanted, found } => VirtualWrite::Lost { wanted, found },
             Unit::Fault => VirtualWrite::Fault,
-            _ => self.finish(device, meta),
+            _ => self.finish(device, meta, until),
         }
     }
 
@@ -282,7 +288,7 @@ impl Journal {
         ensures faults { CallCounted D.Counts (result ≡ Committing.Fault) device.old device.new }
     {
         meta.freeze();
-        match self.finish(device, meta) {
+        match self.finish(device, meta, 0) {
             VirtualWrite::Done => Committing::Done(self.number.min(LAST)),
             VirtualWrite::Lost { wanted, found } => Committing::Lost { wanted, found },
             VirtualWrite::Fault => Committing::Fault,

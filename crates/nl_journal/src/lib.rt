@@ -9,4 +9,5 @@ mod put;
 mod reading;
 
 pub use answers::{Committing, Phase, ReadBack, Unit};
+pub use due::frozen_len;
 pub use journal::Journal;

@@ -1,4 +1,5 @@
 ghost use Rattle.std.specs.Prelude.{◌≡◌, ◌⊎◌, ◌<◌, ◌≤◌, ◌+◌, ◌^◌, ℕ};
+ghost use Rattle.nl_journal.specs.Homes.{with_bytes};
 ghost use Rattle.nl_iface.specs.Answers.{IsLost, LosesStamp};
 ghost use Rattle.nl_iface.specs.Calls.{CallCounted, DoneOrFailed, LeavesAt, TakesStamp, Ticks, stored};
 ghost use Rattle.nl_iface.specs.Stored.{Stored};
@@ -19,6 +20,7 @@ pub(crate) fn put<D: VirtualPages>(device: &mut D, vaddr: u32, from: &PageBuf) -
     ensures done { D.tells → result ≡ VirtualWrite.Done → NoMore (Written (May (D.map device.old) (D.failed device.old)) vaddr from.now.main) (May (D.map device.new) (D.failed device.new)) }
     ensures undone { D.tells → (result ≡ VirtualWrite.Done → ⊥) → NoMore (Tried (May (D.map device.old) (D.failed device.old)) vaddr from.now.main) (May (D.map device.new) (D.failed device.new)) }
     ensures same { D.tells → (result ≡ VirtualWrite.Done → ⊥) → (v : ℕ) → bytes_of (D.map device.new) v ≡ bytes_of (D.map device.old) v }
+    ensures raw { D.tells → result ≡ VirtualWrite.Done → (v : ℕ) → bytes_of (D.map device.new) v ≡ with_bytes (bytes_of (D.map device.old)) vaddr from.now.main v }
     ensures left { D.tells → LeavesAt D.Counts (result ≡ VirtualWrite.Done)
         (λ (c : Stored). Within (D.shape device.old).vaddrs (May (D.map device.old) (D.failed device.old)) (bytes_of c.virtual)
         × LeavesRest (D.shape device.old).vaddrs (D.failed device.old) (stored D.Counts device.old) c)

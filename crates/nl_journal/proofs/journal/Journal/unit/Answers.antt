@@ -7,6 +7,8 @@ use Rattle.nl_journal.specs.Standing.{InOrder}
 use Rattle.nl_journal.specs.Units.{Advances, IsDone, IsDue}
 use Rattle.nl_journal.proofs.Addresses.{addresses_of}
 use Rattle.nl_journal.proofs.FrozenPages.{due_within}
+use Rattle.nl_journal.proofs.HomeWrites.{done_home, undone_home}
+use Rattle.nl_journal.specs.Outcomes.{bytes_of}
 use Rattle.nl_journal.proofs.UnitSteps.{done_order, done_writes, undone_order, undone_writes}
 use Rattle.nl_journal.proofs.journal.Journal.unit.Goals as goal
 
@@ -64,3 +66,20 @@ returns-in-Fault-clause-writes g c t numbers =
     subst (λ (q : Progress). UnitWrites g.D.Counts ⊥ c.args.self.now q c.args.meta.now c.args.meta.now old c.put.new.device) (sym c.self.view_is)
     (undone_writes g.D.Counts old c.put.new.device c.args.self.now c.args.meta.now v main (g.met.D.VirtualPages.numbers old c.requires.formed) c.requires.some c.requires.order due c.put.ensures.passes.named.same_shape
     (c.put.result ≡ write.Done) t numbers (c.put.ensures.undone t (failed_is c.put.result c.in-Fault.is)) (c.put.ensures.same t (failed_is c.put.result c.in-Fault.is)) (c.put.ensures.left t))
+
+pub returns-in-Done-clause-home : goal.returns-in-Done-clause-home
+returns-in-Done-clause-home g c t =
+    let G = g.D.Counts in
+    let old = c.args.device.now in
+    let frozen = c.args.meta.now.frozen in
+    let v = c.due-vaddr.result in
+    let main = c.due-vaddr.new.page.main in
+    let due = subst (λ (q : Progress). IsDue q.phase q.number frozen v main) c.self.view_is c.due-vaddr.ensures in
+    done_home c.args.self.now.phase c.args.self.now.number frozen v main (G.shape old).vaddrs (c.requires.order.pages c.requires.some) c.requires.order.phase due (IsDone c.advance.result) c.advance.ensures.done
+    (bytes_of (G.map old)) (bytes_of (G.map c.put.new.device)) (c.put.ensures.raw t c.in-Done.is)
+
+pub returns-in-Fault-clause-home : goal.returns-in-Fault-clause-home
+returns-in-Fault-clause-home g c t =
+    let G = g.D.Counts in
+    let old = c.args.device.now in
+    undone_home c.args.self.now.phase c.args.meta.now.frozen (G.shape old).vaddrs ⊥ (λ d. d) (bytes_of (G.map old)) (bytes_of (G.map c.put.new.device)) (c.put.ensures.same t (failed_is c.put.result c.in-Fault.is))

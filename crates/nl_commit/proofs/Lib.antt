@@ -1,0 +1,5 @@
+pub mod Frees
+pub mod Places
+pub mod Standing
+pub mod CompletingSteps
+pub mod CommittingSteps

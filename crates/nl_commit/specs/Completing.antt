@@ -1,0 +1,28 @@
+-- A transaction is completed: its commit page is written, and its pages are copied home.
+use Rattle.std.specs.Prelude.{◌≡◌, ℕ, ◌<◌, ◌≤◌, ⊤, length}
+use Rattle.nl_field.specs.CrashStates.{Earlier, Turns}
+use Rattle.nl_iface.specs.Calls.{Leaves}
+use Rattle.nl_iface.specs.declared.counts.Counts.{Ghosts}
+use Rattle.nl_journal.specs.Committing.{committed_on, finished_on}
+use Rattle.nl_journal.specs.Left.{LeavesEither, LeavesOne}
+use Rattle.nl_journal.specs.Progress.{HasNumber, Progress, begun, units_left}
+use Rattle.nl_meta.specs.Pages.{Frozen, Pages}
+
+-- Pages are frozen, and their commit page is still to be written.
+abbrev pub IsOpen : Progress → Frozen → Type 0
+IsOpen p frozen = length frozen.addresses < units_left p.phase (length frozen.addresses)
+
+-- The commit page was finished at this moment, later than the call began. The number is the transaction's, and a stop at that moment or a later one leaves its pages
+-- committed.
+pub record DecidesAt {D : Type 0} (g : Ghosts D) (old new : D) (p q : Progress) (pages : Pages) (moment : ℕ) : Type 0 where
+  pub was_open : IsOpen p pages.frozen
+  pub number : q.number ≡ begun p (length pages.frozen.addresses)
+  pub later : Earlier (g.clock old) moment
+  pub from : g.clock old ≤ moment
+  pub to : moment ≤ g.clock new
+  pub stops : g.tells → HasNumber p (length pages.frozen.addresses)
+      → Leaves g (Turns ⊤ moment (LeavesEither g old (committed_on g old) (finished_on g old p pages)) (LeavesOne g old (finished_on g old p pages))) old new
+
+-- It was not written: where it was to be written, it still is.
+abbrev pub StaysOpen : Progress → Progress → Frozen → Frozen → Type 0
+StaysOpen p q frozen now = IsOpen p frozen → IsOpen q now

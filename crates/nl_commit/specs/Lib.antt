@@ -1,0 +1,5 @@
+pub mod Freeing
+pub mod Standing
+pub mod Completing
+pub mod Counting
+pub mod Committing

@@ -1,0 +1,22 @@
+//! Laws of the definitions. Each function stands for the laws that its contract names.
+ghost use Rattle.nl_commit.specs.Freeing.{FreeingKeeps, FreesAll};
+ghost use Rattle.nl_commit.specs.Standing.{ChangesCanFreeze, FreezingStands, MediumStands, SuperPageStands, WritingStands};
+
+use nl_iface::VirtualPages;
+
+/// Where each live page is held once and the first of the pages that await their free are due, they are live, and once they are freed
+/// each live page is held once again, and what is committed leads.
+pub fn freeing_keeps()
+    ensures keeps { FreeingKeeps }
+    ensures all { FreesAll }
+{}
+
+/// A commit leaves the metadata as it runs: writes of the journal, the freezing of the dirty pages, which can be frozen where the super
+/// page is one of them, another super page, and what keeps the medium.
+pub fn metadata_stands<D: VirtualPages>()
+    ensures writing { WritingStands D.Counts }
+    ensures changes { ChangesCanFreeze D.Counts }
+    ensures freezing { FreezingStands D.Counts }
+    ensures super_page { SuperPageStands D.Counts }
+    ensures medium { MediumStands D.Counts }
+{}
