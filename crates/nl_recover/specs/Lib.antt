@@ -7,5 +7,7 @@ pub mod Loading
 pub mod Looking
 pub mod Phases
 pub mod Reaching
+pub mod Recovering
+pub mod Restoring
 pub mod Scanning
 pub mod Walking
