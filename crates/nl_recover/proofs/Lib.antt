@@ -13,6 +13,7 @@ pub mod PlacesThere
 pub mod PointerPages
 pub mod ReachFacts
 pub mod Restores
+pub mod Retains
 pub mod Scans
 pub mod StampFacts
 pub mod WalkFacts

@@ -9,5 +9,6 @@ pub mod Phases
 pub mod Reaching
 pub mod Recovering
 pub mod Restoring
+pub mod Retaining
 pub mod Scanning
 pub mod Walking
