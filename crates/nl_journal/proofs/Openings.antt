@@ -100,7 +100,7 @@ counting_by f g None m few same = refl
 counting_by f g (Some h) m few same = counts_same f g h m (few h refl) same
 
 -- which transaction counts is told by the journal's addresses
-counting_same : (shape : Shape) (f g : VirtualMap) → ((v : ℕ) → v < 67 → f v ≡ g v) → counting shape f ≡ counting shape g
+pub counting_same : (shape : Shape) (f g : VirtualMap) → ((v : ℕ) → v < 67 → f v ≡ g v) → counting shape f ≡ counting shape g
 counting_same shape f g same =
     counting_as shape f
     ∙ counting_by f g (head shape (f 1)) (mark (f 66)) (λ h is. (head_short shape (f 1) h is).1) (λ i lt. same (2 + i) (omega (arith, lt)))
@@ -158,7 +158,7 @@ counted_by f (Some x) (Some k) h is = by (cases_Bool (counts f x k))
         (ap Some same, ap (λ n. Some (record { number = n })) (sym (eqb-true x.number k.number q.0) ∙ ap (λ (r : HeaderRec). r.number) same))
     by (inr not_so) = absurd (none-some h (sym (cond-false (counts f x k) (Some x) None not_so) ∙ is))
 
-counting_is : (shape : Shape) (f : VirtualMap) (h : HeaderRec) → counting shape f ≡ Some h → (head shape (f 1) ≡ Some h) × (mark (f 66) ≡ Some (record { number = h.number }))
+pub counting_is : (shape : Shape) (f : VirtualMap) (h : HeaderRec) → counting shape f ≡ Some h → (head shape (f 1) ≡ Some h) × (mark (f 66) ≡ Some (record { number = h.number }))
 counting_is shape f h is = counted_by f (head shape (f 1)) (mark (f 66)) h (sym (counting_as shape f) ∙ is)
 
 -- a volume on which one counts: its pages are to be copied home

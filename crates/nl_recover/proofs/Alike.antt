@@ -88,7 +88,7 @@ module _ (shape : Shape) (old new : VirtualMap) (bounds : ShapeBounds shape) (sa
   below : (n : ℕ) → n < shape.nodes → n < 16 * shape.inode_pages
   below n h = let places = bounds.places in omega (arith, h, places)
 
-  super-same : super_of_pages new ≡ super_of_pages old
+  pub super-same : super_of_pages new ≡ super_of_pages old
   unfolding super_of_pages
   super-same = ap (option_and_then super_of) (same.tables 0 (inl refl))
 
@@ -243,7 +243,7 @@ module _ (shape : Shape) (old new : VirtualMap) (bounds : ShapeBounds shape) (sa
         by None is = refl
         by (Some rec) is = held-record n rec h is
 
-    held-same : held_in shape new ≡ held_in shape old
+    pub held-same : held_in shape new ≡ held_in shape old
     held-same = all-held shape new ∙ flat-same (held_at new) (held_at old) (range_with_len 0 shape.nodes) (λ n m. held-node n (omega (arith, (member-range n 0 shape.nodes m).1))) ∙ sym (all-held shape old)
 
   -- ---- the walk

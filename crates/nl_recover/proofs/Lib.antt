@@ -1,5 +1,7 @@
 pub mod AddressFacts
 pub mod Alike
+pub mod BackFacts
+pub mod BackStands
 pub mod EntryFacts
 pub mod Firsts
 pub mod FreeFacts
@@ -10,6 +12,9 @@ pub mod NodesLoaded
 pub mod PlacesThere
 pub mod PointerPages
 pub mod ReachFacts
+pub mod Restores
+pub mod Retains
 pub mod Scans
 pub mod StampFacts
 pub mod WalkFacts
+pub mod WalkedFacts

@@ -36,7 +36,7 @@ module _ (tells : Type 0) where
   loads-none stored p = record { count = refl; dirty = refl; frozen = refl; kept = λ u h. refl; each = λ u. inl refl }
 
   module _ (stored stored' : VirtualMap) (same : tells → (u : ℕ) → stored' u ≡ stored u) where
-    runs : (p q : Pages) (u : ℕ) → (page_of q u ≡ page_of p u) ⊎ (tells → page_of q u ≡ running_over stored p u) → tells → running_over stored' q u ≡ running_over stored p u
+    pub runs : (p q : Pages) (u : ℕ) → (page_of q u ≡ page_of p u) ⊎ (tells → page_of q u ≡ running_over stored p u) → tells → running_over stored' q u ≡ running_over stored p u
     unfolding running_over
     runs p q u (inl e) t = (λ i. or_stored (e i) (same t u i))
     runs p q u (inr e) t = (λ i. or_stored (e t i) (same t u i)) ∙ twice (page_of p u) (stored u)

@@ -34,14 +34,14 @@ slot-settled shape pages n rec slot a P is at pool each =
     r = at-place rec.addresses slot a (sym (ap (λ (z : InodeRec). slice_get z.addresses slot) same) ∙ at.in_slot)
 
 -- the page of a node that has a record is resident
-there : (pages : VirtualMap) (n : ℕ) (rec : InodeRec) → inode_at pages n ≡ Some rec → IsSome (pages (67 + n / 16))
+pub there : (pages : VirtualMap) (n : ℕ) (rec : InodeRec) → inode_at pages n ≡ Some rec → IsSome (pages (67 + n / 16))
 there pages n rec e = by (pages (67 + n / 16)) refl
   where
     by : (o : Option (List ℕ)) → pages (67 + n / 16) ≡ o → IsSome (pages (67 + n / 16))
     by None is = absurd (none_some rec (sym (inode-none pages n is) ∙ e))
     by (Some b) is = ap is_some is
 
-same-node : (old new : VirtualMap) (n : ℕ) → new (67 + n / 16) ≡ old (67 + n / 16) → inode_at new n ≡ inode_at old n
+pub same-node : (old new : VirtualMap) (n : ℕ) → new (67 + n / 16) ≡ old (67 + n / 16) → inode_at new n ≡ inode_at old n
 unfolding inode_at bytes_of_node
 same-node old new n e = ap (λ (o : Option (List ℕ)). inode_of (slot_in 256 (n % 16) (unwrap_or o []))) e
 

@@ -7,5 +7,8 @@ pub mod Loading
 pub mod Looking
 pub mod Phases
 pub mod Reaching
+pub mod Recovering
+pub mod Restoring
+pub mod Retaining
 pub mod Scanning
 pub mod Walking

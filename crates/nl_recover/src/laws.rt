@@ -1,7 +1,13 @@
 //! Laws of the definitions. Each function stands for the law that its contract names.
 ghost use Rattle.nl_recover.specs.Looking.{WalksAlike};
+ghost use Rattle.nl_recover.specs.Retaining.{KeptCanBeRetained};
 
 /// Two maps of pages that are alike where a walk looks have one first fault.
 pub fn walks_alike()
     ensures { WalksAlike }
+{}
+
+/// The pointers of a volume in which a walk found no fault are those that its device can retain.
+pub fn kept_can_be_retained()
+    ensures { KeptCanBeRetained }
 {}

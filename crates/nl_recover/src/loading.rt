@@ -208,8 +208,8 @@ fn load_page<D: VirtualPages>(device: &mut D, meta: &mut Meta, vaddr: u32, shape
     }
 }
 
-// Reads the page of an address, zeros where nodes have it and it was never written.
-fn read_into<D: VirtualPages>(
+/// Reads the page of an address, zeros where nodes have it and it was never written.
+pub(crate) fn read_into<D: VirtualPages>(
     device: &mut D,
     vaddr: u32,
     is_inode: bool,

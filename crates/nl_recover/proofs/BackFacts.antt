@@ -1,0 +1,192 @@
+-- The journal read back: the frozen pages are the images of the transaction that counts, and the running map is the committed one.
+use Rattle.std.proofs.Common.{◌≡◌, ◌⊎◌, inl, inr, ℕ, suc, ◌+◌, ◌<◌, ◌≤◌, ◌==◌, nat_lt, nat_le, ◌&&◌, Bool, true, false, max, List, [], ◌∷◌, length, get_or, refl, sym, ap, subst, ◌∙◌, Option, Some, None, option_and_then, option_map, is_some, arith}
+use Rattle.std.specs.Prelude.{slice_get}
+use Rattle.std.specs.List.{list_all, range_with_len}
+use Rattle.std.proofs.lemmas.Bool.{and_from, and_parts, cases_Bool, cond-false, cond-true, eqb-true, lt-ltb, ltb-true, leb-true, ne_eqb}
+use Rattle.std.proofs.lemmas.List.{take_all}
+use Rattle.std.proofs.lemmas.List.Folds.{list_all_at}
+use Rattle.std.proofs.lemmas.List.Quantifiers.{position-Some}
+use Rattle.std.proofs.lemmas.Option.{same_Some, slice_get-get_or}
+use Rattle.nl_field.specs.Journal.{are_home_addresses, header_of, is_header}
+use Rattle.nl_field.specs.Members.{Has}
+use Rattle.nl_field.specs.Spelling.{is_transaction_number}
+use Rattle.nl_field.specs.Virtual.{is_inode_address, map_bytes, or_zeros}
+use Rattle.nl_field.specs.declared.commit.CommitRec.{CommitRec}
+use Rattle.nl_field.specs.declared.header.HeaderRec.{HeaderRec}
+use Rattle.nl_field.specs.declared.shape.Shape.{Shape}
+use Rattle.nl_iface.specs.Stored.{Value}
+use Rattle.nl_meta.specs.Committed.{VirtualMap, committed, counting, home_or_image, next_number, within_volume}
+use Rattle.nl_meta.specs.Pages.{IsPages, Pages, no_pages, page_of}
+use Rattle.nl_meta.specs.Running.{or_stored, running_over}
+use Rattle.nl_meta.proofs.Kept.{position-has}
+use Rattle.nl_meta.proofs.Lists.{all-each, none-any, range-member, true_false}
+use Rattle.nl_journal.specs.Opening.{HasImages, are_there, commit_number, header_number}
+use Rattle.nl_journal.specs.Outcomes.{bytes_of}
+use Rattle.nl_journal.specs.Transaction.{IsTransaction, head, header, mark, place}
+use Rattle.nl_journal.proofs.Counted.{committed_alone, committed_over}
+use Rattle.nl_journal.proofs.DirtyPages.{transaction_of}
+use Rattle.nl_journal.proofs.Openings.{counting_is, counting_same, next_is, no_image, nothing_header, nothing_mark}
+use Rattle.nl_recover.specs.Restoring.{AreListed, AreRestored, IsAway}
+use Rattle.nl_recover.proofs.Restores.{none-at, restored-as}
+
+-- ---- the journal's addresses read as they are
+
+pub journal-bytes : (shape : Shape) (map : ℕ → Option Value) → 67 ≤ shape.vaddrs → (v : ℕ) → v < 67 → map_bytes shape map v ≡ bytes_of map v
+unfolding map_bytes
+journal-bytes shape map wide v lt =
+    cond-true (nat_lt v shape.vaddrs) (or_zeros shape v (option_map (λ (x : Value). x.1) (map v))) None (lt-ltb v shape.vaddrs (omega (arith, wide, lt)))
+    ∙ cond-false (is_inode_address shape v) _ (option_map (λ (x : Value). x.1) (map v)) (by (cases_Bool (nat_le 67 v)))
+  where
+    by : (nat_le 67 v ≡ true) ⊎ (nat_le 67 v ≡ false) → (nat_le 67 v && nat_lt v (67 + shape.inode_pages)) ≡ false
+    by (inl h) = absurd (let l = leb-true 67 v h in omega (arith, l, lt))
+    by (inr h) = ap (λ b. b && nat_lt v (67 + shape.inode_pages)) h
+
+-- ---- a transaction that is away does not count
+
+head-of : (shape : Shape) (f : VirtualMap) (main : List ℕ) (h : HeaderRec) → f 1 ≡ Some main → header_of main ≡ Some h → head shape (f 1) ≡ within_volume shape h
+head-of shape f main h at is = ap (head shape) at ∙ ap (option_and_then (within_volume shape)) is
+
+pub absent-counts : (shape : Shape) (f : VirtualMap) → f 1 ≡ None → counting shape f ≡ None
+absent-counts shape f at = nothing_header shape f (ap (head shape) at)
+
+pub unspelled-counts : (shape : Shape) (f : VirtualMap) (main : List ℕ) → f 1 ≡ Some main → header_of main ≡ None → counting shape f ≡ None
+unspelled-counts shape f main at is = nothing_header shape f (ap (head shape) at ∙ ap (option_and_then (within_volume shape)) is)
+
+pub away-counts : (shape : Shape) (f : VirtualMap) (main : List ℕ) (h : HeaderRec) → f 1 ≡ Some main → header_of main ≡ Some h → IsAway shape f h.addresses → counting shape f ≡ None
+away-counts shape f main h at is away = by (cases_Bool (list_all (λ a. nat_lt a shape.vaddrs) h.addresses)) away
+  where
+    gone : (i : ℕ) → i < length h.addresses → f (2 + i) ≡ None → are_there f 0 (length h.addresses) ≡ false
+    gone i lt none = no (cases_Bool (are_there f 0 (length h.addresses)))
+      where
+        no : (are_there f 0 (length h.addresses) ≡ true) ⊎ (are_there f 0 (length h.addresses) ≡ false) → are_there f 0 (length h.addresses) ≡ false
+        no (inr off) = off
+        no (inl on) = absurd (true_false (sym (all-each (λ i. is_some (f (2 + i))) (range_with_len 0 (length h.addresses)) on i (range-member i 0 (length h.addresses) (omega arith) (omega (arith, lt)))) ∙ ap is_some none))
+
+    marked : head shape (f 1) ≡ Some h → are_there f 0 (length h.addresses) ≡ false → (m : Option CommitRec) → mark (f 66) ≡ m → counting shape f ≡ None
+    marked begins off None ends = nothing_mark shape f ends
+    marked begins off (Some k) ends = no_image shape f h k begins ends off
+
+    by : (list_all (λ a. nat_lt a shape.vaddrs) h.addresses ≡ true) ⊎ (list_all (λ a. nat_lt a shape.vaddrs) h.addresses ≡ false) → IsAway shape f h.addresses → counting shape f ≡ None
+    by (inr off) away = nothing_header shape f (head-of shape f main h at is ∙ cond-false _ (Some h) None off)
+    by (inl on) (i, lt, inl far) = absurd (true_false (sym on ∙ list_all_at (λ a. nat_lt a shape.vaddrs) h.addresses i 0 lt (over (cases_Bool (nat_lt (get_or h.addresses i 0) shape.vaddrs)))))
+      where
+        over : (nat_lt (get_or h.addresses i 0) shape.vaddrs ≡ true) ⊎ (nat_lt (get_or h.addresses i 0) shape.vaddrs ≡ false) → nat_lt (get_or h.addresses i 0) shape.vaddrs ≡ false
+        over (inr off) = off
+        over (inl less) = absurd (let l = ltb-true (get_or h.addresses i 0) shape.vaddrs less in omega (arith, l, far))
+    by (inl on) (i, lt, inr none) = marked (head-of shape f main h at is ∙ cond-true _ (Some h) None on) (gone i lt none) (mark (f 66)) refl
+
+-- ---- one that is restored
+
+all-at : (p : ℕ → Bool) (xs : List ℕ) → ((i : ℕ) → i < length xs → p (get_or xs i 0) ≡ true) → list_all p xs ≡ true
+all-at p [] each = refl
+all-at p (x ∷ xs) each = and_from (p x) (list_all p xs) (each 0 (omega arith)) (all-at p xs (λ i lt. each (suc i) (omega (arith, lt))))
+
+below-all : (tells : Type 0) (shape : Shape) (stored : VirtualMap) (p : Pages) (xs : List ℕ) → length p.running ≡ shape.vaddrs → AreRestored tells stored xs (length xs) p → list_all (λ a. nat_lt a shape.vaddrs) xs ≡ true
+below-all tells shape stored p xs count r = all-at (λ a. nat_lt a shape.vaddrs) xs (λ i lt. lt-ltb (get_or xs i 0) shape.vaddrs (subst (λ (n : ℕ). get_or xs i 0 < n) count (r.below i lt)))
+
+pub listed-of : (tells : Type 0) (shape : Shape) (stored : VirtualMap) (p : Pages) (main : List ℕ) (h : HeaderRec) → length p.running ≡ shape.vaddrs → (tells → stored 1 ≡ Some main) → header_of main ≡ Some h → is_header h ≡ true
+    → AreRestored tells stored h.addresses (length h.addresses) p → AreListed tells shape stored p
+listed-of tells shape stored p main h count at is spelled r = record {
+  header = h;
+  spelled = spelled;
+  stands = λ t. head-of shape stored main h (at t) is ∙ cond-true _ (Some h) None (below-all tells shape stored p h.addresses count r);
+  restored = r;
+}
+
+-- beside another device
+pub counting-as : (shape : Shape) (f f' : VirtualMap) → ((v : ℕ) → f' v ≡ f v) → counting shape f' ≡ counting shape f
+counting-as shape f f' same = counting_same shape f' f (λ v _. same v)
+
+pub listed-as : (tells : Type 0) (shape : Shape) (stored stored' : VirtualMap) (p : Pages) → (tells → (v : ℕ) → stored' v ≡ stored v) → AreListed tells shape stored' p → AreListed tells shape stored p
+listed-as tells shape stored stored' p same l = record {
+  header = l.header;
+  spelled = l.spelled;
+  stands = λ t. ap (head shape) (sym (same t 1)) ∙ l.stands t;
+  restored = restored-as tells stored stored' l.header.addresses (length l.header.addresses) p same l.restored;
+}
+
+header-parts : (h : HeaderRec) → is_header h ≡ true → (1 ≤ length h.addresses) × (length h.addresses ≤ 64) × (are_home_addresses h.addresses ≡ true)
+header-parts h spelled =
+    let a = and_parts (is_transaction_number h.number && nat_le 1 (length h.addresses) && nat_le (length h.addresses) 64) (are_home_addresses h.addresses) spelled in
+    let b = and_parts (is_transaction_number h.number && nat_le 1 (length h.addresses)) (nat_le (length h.addresses) 64) a.0 in
+    let c = and_parts (is_transaction_number h.number) (nat_le 1 (length h.addresses)) b.0 in
+    (leb-true 1 (length h.addresses) c.1, leb-true (length h.addresses) 64 b.1, a.1)
+
+pub header-rises : (h : HeaderRec) → is_header h ≡ true → are_home_addresses h.addresses ≡ true
+header-rises h spelled = (header-parts h spelled).2
+
+module _ (tells : Type 0) (shape : Shape) (stored : VirtualMap) (p : Pages) (l : AreListed tells shape stored p) where
+  addresses-are : p.frozen.addresses ≡ l.header.addresses
+  addresses-are = l.restored.listed ∙ take_all (length l.header.addresses) l.header.addresses (omega arith)
+
+  spelled-parts : (1 ≤ length l.header.addresses) × (length l.header.addresses ≤ 64) × (are_home_addresses l.header.addresses ≡ true)
+  spelled-parts = header-parts l.header l.spelled
+
+  pub some-listed : 0 < length p.frozen.addresses
+  some-listed = let e = ap length addresses-are in let s = spelled-parts.0 in omega (arith, e, s)
+
+  pub few-listed : length p.frozen.addresses ≤ 64
+  few-listed = let e = ap length addresses-are in let s = spelled-parts.1 in omega (arith, e, s)
+
+  pub listed-transaction : IsPages p → length p.running ≡ shape.vaddrs → IsTransaction shape.vaddrs p.frozen
+  listed-transaction stands count =
+      let s = some-listed in
+      transaction_of shape.vaddrs p.frozen (omega (arith, s)) few-listed stands.frozen_images
+      (ap are_home_addresses addresses-are ∙ spelled-parts.2)
+      (ap (list_all (λ a. nat_lt a shape.vaddrs)) addresses-are ∙ below-all tells shape stored p l.header.addresses count l.restored)
+
+  -- where it is told what is stored, they are those of the transaction that counts
+  module _ (t : tells) (f : VirtualMap) (same : (v : ℕ) → v < 67 → stored v ≡ f v) (h : HeaderRec) (counts : counting shape f ≡ Some h) (number : ℕ) (next : number + 1 ≡ next_number shape f) where
+    begins : head shape (f 1) ≡ Some h
+    begins = (counting_is shape f h counts).0
+
+    header-is : l.header ≡ h
+    header-is = same_Some l.header h (sym (l.stands t) ∙ ap (head shape) (same 1 (omega arith)) ∙ begins)
+
+    number-is : h.number ≡ number
+    number-is =
+        let ends = (counting_is shape f h counts).1 in
+        let e : next_number shape f ≡ 1 + max h.number h.number = next_is shape f ∙ (λ i. 1 + max (header_number (begins i)) (commit_number (ends i))) in
+        omega (arith, e, next)
+
+    counted-as : counting shape f ≡ Some (header number p.frozen)
+    counted-as = counts ∙ (λ i. Some (record { number = number-is i; addresses = (ap (λ (r : HeaderRec). r.addresses) (sym header-is) ∙ sym addresses-are) i }))
+
+    image-at : (i : ℕ) → i < length p.frozen.addresses → slice_get p.frozen.images i ≡ stored (2 + i)
+    image-at i lt = l.restored.images t i (let e = ap length addresses-are in omega (arith, e, lt))
+
+    pub has-images : IsPages p → HasImages f number p.frozen shape
+    has-images stands = record {
+      counts = counted-as;
+      images = λ i lt.
+          let few = few-listed in
+          sym (same (2 + i) (omega (arith, lt, few))) ∙ sym (image-at i lt) ∙ slice_get-get_or p.frozen.images i [] (let e = stands.frozen_images in omega (arith, e, lt));
+    }
+
+    pub committed-is : IsPages p → (v : ℕ) → running_over stored p v ≡ committed shape stored v
+    unfolding running_over
+    committed-is stands v = by (place p.frozen v) refl ∙ sym (committed_over shape stored v number p.frozen (counting_same shape stored f same ∙ counted-as))
+      where
+        some : (o s : Option (List ℕ)) (x : List ℕ) → o ≡ Some x → or_stored o s ≡ o
+        some o s x is = ap (λ (q : Option (List ℕ)). or_stored q s) is ∙ sym is
+
+        by : (o : Option ℕ) → place p.frozen v ≡ o → or_stored (page_of p v) (stored v) ≡ home_or_image stored v (place p.frozen v)
+        by None is =
+            ap (λ (o : Option (List ℕ)). or_stored o (stored v)) (l.restored.others v (none-any (λ a. a == v) p.frozen.addresses (λ x m. ne_eqb x v (λ e. position-has p.frozen.addresses v (subst (Has p.frozen.addresses) e m) is))))
+            ∙ ap (home_or_image stored v) (sym is)
+        by (Some i) is =
+            let q = position-Some (λ a. a == v) p.frozen.addresses i 0 is in
+            let v-is : get_or l.header.addresses i 0 ≡ v = ap (λ (xs : List ℕ). get_or xs i 0) (sym addresses-are) ∙ eqb-true (get_or p.frozen.addresses i 0) v q.1 in
+            let at : page_of p v ≡ slice_get p.frozen.images i = ap (page_of p) (sym v-is) ∙ l.restored.each i (let e = ap length addresses-are in let lt = q.0 in omega (arith, e, lt)) in
+            some (page_of p v) (stored v) (get_or p.frozen.images i []) (at ∙ slice_get-get_or p.frozen.images i [] (let e = stands.frozen_images in let lt = q.0 in omega (arith, e, lt)))
+            ∙ at ∙ image-at i q.0 ∙ ap (home_or_image stored v) (sym is)
+
+-- ---- where none counts
+
+pub none-running : (count : ℕ) (v : ℕ) → page_of (no_pages count) v ≡ None
+unfolding no_pages
+none-running count v = none-at count v
+
+pub none-committed : (shape : Shape) (stored : VirtualMap) (p : Pages) → ((v : ℕ) → page_of p v ≡ None) → counting shape stored ≡ None → (v : ℕ) → running_over stored p v ≡ committed shape stored v
+unfolding running_over
+none-committed shape stored p none counts v = ap (λ (o : Option (List ℕ)). or_stored o (stored v)) (none v) ∙ sym (committed_alone shape stored v counts)

@@ -1,0 +1,85 @@
+-- What an opening answers.
+use Rattle.std.specs.Prelude.{◌≡◌, ⊤, ℕ, ◌+◌, List, [], map, Option, Some, None, IsSome}
+use Rattle.nl_field.specs.declared.place.Place.{Place}
+use Rattle.nl_field.specs.declared.seen.Seen.{Seen}
+use Rattle.nl_field.specs.declared.shape.Shape.{Shape}
+use Rattle.nl_field.specs.declared.super_page.SuperRec.{SuperRec}
+use Rattle.nl_iface.specs.Stored.{NoneFailed}
+use Rattle.nl_iface.specs.declared.counts.Counts.{Ghosts}
+use Rattle.nl_inode.specs.Nodes.{AreFree}
+use Rattle.nl_journal.specs.Outcomes.{bytes_of}
+use Rattle.nl_journal.specs.Progress.{Progress}
+use Rattle.nl_journal.specs.Standing.{InOrder}
+use Rattle.nl_meta.specs.Committed.{committed, next_number}
+use Rattle.nl_meta.specs.Consistent.{ConsistentOver}
+use Rattle.nl_meta.specs.Nodes.{held_in, super_of_pages}
+use Rattle.nl_meta.specs.Pages.{Pages, page_of}
+use Rattle.nl_meta.specs.Walk.{walk_over}
+use Rattle.nl_running.specs.Running.{IsNeeded, Runs, running_on, stored_on}
+use Rattle.nl_recover.specs.declared.opening.Recovered.{Recovered}
+use Rattle.nl_recover.specs.declared.opening.Recovered.TheVariants.{Ready, Damaged, Fault, Memory}
+use Rattle.nl_recover.specs.declared.opening.Walked.{Walked}
+
+-- What a volume is begun with over a device, beside what a scan saw.
+pub record IsWalked {D : Type 0} (g : Ghosts D) (s : D) (seen : List Seen) (w : Walked) : Type 0 where
+  -- the running pages, with the list of the scan, are consistent;
+  pub consistent : ConsistentOver (g.shape s) (running_on g s w.meta) seen
+  -- they are the committed ones, none of them is dirty, and each that is needed is resident,
+  pub same : g.tells → (v : ℕ) → running_on g s w.meta v ≡ committed (g.shape s) (stored_on g s) v
+  pub clean : w.meta.dirty ≡ []
+  pub resident : (v : ℕ) → IsNeeded (g.shape s) (running_on g s w.meta) v → IsSome (page_of w.meta v)
+  pub super_resident : IsSome (page_of w.meta 0)
+  pub runs : Runs g s w.meta
+  -- what they do not use is free;
+  pub free : AreFree (g.shape s) (running_on g s w.meta) w.nodes
+  -- these are the count of calls that the super page tells, and the pointers of files in the order of nodes and indexes;
+  pub count : (rec : SuperRec) × (super_of_pages (running_on g s w.meta) ≡ Some rec) × (rec.count ≡ w.count)
+  pub kept : w.kept.items ≡ map (λ h. h.pointer) (held_in (g.shape s) (running_on g s w.meta))
+  -- the next transaction has the next number, and the one that counts is frozen, its home copies left to be made, where no write of an
+  -- address failed before.
+  pub number : g.tells → w.journal.number + 1 ≡ next_number (g.shape s) (bytes_of (g.map s))
+  pub order : (g.tells → NoneFailed (g.shape s).vaddrs (g.failed s)) → InOrder g s w.journal w.meta.frozen
+
+abbrev pub IfReady : Recovered → (Walked → Type 0) → Type 0
+IfReady (Ready w) P = P w
+IfReady (Damaged place) P = ⊤
+IfReady Fault P = ⊤
+IfReady Memory P = ⊤
+
+abbrev pub IfDamaged : Recovered → (Place → Type 0) → Type 0
+IfDamaged (Ready w) P = ⊤
+IfDamaged (Damaged place) P = P place
+IfDamaged Fault P = ⊤
+IfDamaged Memory P = ⊤
+
+-- It is ready exactly where a walk finds no fault, and else damaged at the first one.
+abbrev pub Finds : Option Place → Recovered → Type 0
+Finds fault (Ready w) = fault ≡ None
+Finds fault (Damaged place) = fault ≡ Some place
+Finds fault Fault = ⊤
+Finds fault Memory = ⊤
+
+abbrev pub IsFault : Recovered → Type 0
+IsFault (Ready w) = ⊥
+IsFault (Damaged place) = ⊥
+IsFault Fault = ⊤
+IsFault Memory = ⊥
+
+abbrev pub count_in : Option SuperRec → ℕ
+count_in None = 0
+count_in (Some rec) = rec.count
+
+-- A walk over the pages that are resident found no fault, and this is what they tell.
+pub record Begins (shape : Shape) (seen : List Seen) (journal : Progress) (p : Pages) (w : Walked) : Type 0 where
+  pub sound : walk_over shape (page_of p) seen ≡ None
+  pub same_journal : w.journal ≡ journal
+  pub same_pages : w.meta ≡ p
+  pub free : AreFree shape (page_of p) w.nodes
+  pub count : w.count ≡ count_in (super_of_pages (page_of p))
+  pub kept : w.kept.items ≡ map (λ h. h.pointer) (held_in shape (page_of p))
+
+abbrev pub Walks : Shape → List Seen → Progress → Pages → Recovered → Type 0
+Walks shape seen journal p (Ready w) = Begins shape seen journal p w
+Walks shape seen journal p (Damaged place) = walk_over shape (page_of p) seen ≡ Some place
+Walks shape seen journal p Fault = ⊥
+Walks shape seen journal p Memory = ⊥

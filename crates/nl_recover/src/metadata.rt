@@ -1,0 +1,96 @@
+ghost use Rattle.std.specs.Prelude.{◌≡◌, IfOk};
+ghost use Rattle.nl_iface.specs.Calls.{OnlyReads, ReadsCounted};
+ghost use Rattle.nl_meta.specs.Pages.{no_pages};
+ghost use Rattle.nl_recover.specs.Restoring.{IfRead, IsFailed, IsRead};
+
+use crate::loading::load;
+use crate::restoring::{Restored, bring_back};
+use nl_field::{Memory, PageBuf, Shape};
+use nl_iface::VirtualPages;
+use nl_journal::Journal;
+use nl_meta::Meta;
+use std::alloc::Global;
+
+/// The journal of a volume, and its committed pages, as far as a walk looks at them.
+#[derive(Drop)]
+pub struct Metadata {
+    pub journal: Journal,
+    pub meta: Meta,
+}
+
+/// What reading them answers.
+#[derive(Drop)]
+pub enum ReadPages {
+    Done(Metadata),
+    /// A page of the journal was lost that was there before.
+    Lost,
+    /// A read failed.
+    Fault,
+    Memory,
+}
+
+/// Reads the journal, makes the images of the transaction that counts the frozen pages, and makes resident the committed pages at which
+/// a walk looks. The device is only read. `Lost` comes from a device alone that does not tell what it stores.
+pub fn read_pages<D: VirtualPages>(alloc: Global, device: &mut D, shape: &Shape) -> ReadPages
+    requires formed { D.formed device.old }
+    requires shape { shape.now ≡ D.shape device.old }
+    ensures formed { D.formed device.new }
+    ensures device { OnlyReads D.Counts device.old device.new }
+    ensures faults { ReadsCounted D.Counts (IsFailed result) device.old device.new }
+    ensures read { IfRead result (IsRead D.Counts device.new) }
+    ensures told { D.tells → result ≡ ReadPages.Lost → ⊥ }
+{
+    match empty_tables(alloc, shape) {
+        Ok(tables) => fill(device, tables, shape),
+        Err(Memory) => ReadPages::Memory,
+    }
+}
+
+// What is read into.
+#[derive(Drop)]
+struct Tables {
+    journal: Journal,
+    meta: Meta,
+    page: PageBuf,
+}
+
+fn empty_tables(alloc: Global, shape: &Shape) -> Result<Tables, Memory>
+    ensures { IfOk result (λ t. t.meta ≡ no_pages shape.now.vaddrs) }
+{
+    let journal = Journal::new(alloc)?;
+    let meta = Meta::new(alloc, *shape)?;
+    let page = PageBuf::new(alloc)?;
+    Ok(Tables {
+        journal,
+        meta,
+        page,
+    })
+}
+
+fn fill<D: VirtualPages>(device: &mut D, tables: Tables, shape: &Shape) -> ReadPages
+    requires formed { D.formed device.old }
+    requires shape { shape.now ≡ D.shape device.old }
+    requires none { tables.meta ≡ no_pages shape.now.vaddrs }
+    ensures formed { D.formed device.new }
+    ensures device { OnlyReads D.Counts device.old device.new }
+    ensures faults { ReadsCounted D.Counts (IsFailed result) device.old device.new }
+    ensures read { IfRead result (IsRead D.Counts device.new) }
+    ensures told { D.tells → result ≡ ReadPages.Lost → ⊥ }
+{
+    let Tables {
+        mut journal,
+        mut meta,
+        mut page,
+    } = tables;
+    match bring_back(device, &mut journal, &mut meta, &mut page, shape) {
+        Restored::Done => {
+            if load(device, &mut meta, shape) {
+                ReadPages::Done(Metadata { journal, meta })
+            } else {
+                ReadPages::Fault
+            }
+        }
+        Restored::Lost => ReadPages::Lost,
+        Restored::Fault => ReadPages::Fault,
+    }
+}
