@@ -13,7 +13,7 @@ mod MakeDone
 mod MakeFits
 mod MakeReady
 mod MakeSteps
-mod Printed
+mod Placing
 mod PutSteps
 mod States
 mod TakeSteps

@@ -11,7 +11,7 @@ use Rattle.std.specs.declared.cmp.Ordering.TheVariants.{Less, Equal, Greater}
 use Rattle.nl_field.specs.Members.{Has}
 use Rattle.nl_field.specs.declared.entry.EntryRec.{EntryRec}
 use Rattle.nl_meta.proofs.Lists.{some_in, none_some}
-use Rattle.nl_namespace.specs.Listing.{IsNext, is_after, is_before, is_first}
+use Rattle.nl_namespace.specs.Listing.{is_before}
 
 abbrev by-name : EntryRec → EntryRec → Ordering
 by-name a b = slice_cmp nat_cmp a.name b.name
@@ -54,7 +54,7 @@ same-name a b x y = by (by-name a b) refl
 
 -- ---- the first few of a list, with one more
 
-take-more : (es : List EntryRec) (k : ℕ) (e f : EntryRec) → slice_get es k ≡ Some e → Has (take (suc k) es) f → Has (take k es) f ⊎ (f ≡ e)
+pub take-more : (es : List EntryRec) (k : ℕ) (e f : EntryRec) → slice_get es k ≡ Some e → Has (take (suc k) es) f → Has (take k es) f ⊎ (f ≡ e)
 take-more [] k e f is h = absurd h
 take-more (x ∷ es) zero e f is (inl same) = inr (sym same ∙ some_in x e is)
 take-more (x ∷ es) zero e f is (inr h) = absurd h
@@ -65,13 +65,13 @@ take-more (x ∷ es) (suc k) e f is (inr h) = by (take-more es k e f is h)
     by (inl m) = inl (inr m)
     by (inr m) = inr m
 
-more-take : (es : List EntryRec) (k : ℕ) (f : EntryRec) → Has (take k es) f → Has (take (suc k) es) f
+pub more-take : (es : List EntryRec) (k : ℕ) (f : EntryRec) → Has (take k es) f → Has (take (suc k) es) f
 more-take es zero f h = absurd h
 more-take [] (suc k) f h = absurd h
 more-take (x ∷ es) (suc k) f (inl same) = inl same
 more-take (x ∷ es) (suc k) f (inr h) = inr (more-take es k f h)
 
-last-take : (es : List EntryRec) (k : ℕ) (e : EntryRec) → slice_get es k ≡ Some e → Has (take (suc k) es) e
+pub last-take : (es : List EntryRec) (k : ℕ) (e : EntryRec) → slice_get es k ≡ Some e → Has (take (suc k) es) e
 last-take [] k e is = absurd (none_some e is)
 last-take (x ∷ es) zero e is = inl (some_in x e is)
 last-take (x ∷ es) (suc k) e is = inr (last-take es k e is)
@@ -84,47 +84,3 @@ take-all (x ∷ es) zero h = absurd (none h)
     none : suc (length es) ≤ 0 → ⊥
     none h = omega (arith, h)
 take-all (x ∷ es) (suc n) h = ap (λ (ys : List EntryRec). x ∷ ys) (take-all es n (omega (arith, h)))
-
-one-more : (k : ℕ) → suc k ≡ k + 1
-one-more k = omega arith
-
-module _ (es : List EntryRec) (k : ℕ) (e : EntryRec) (after : Option EntryRec) (at : slice_get es k ≡ Some e) where
-  -- it does not come behind, or not before the best
-  none-still : ((f : EntryRec) → Has (take k es) f → is_after after f ≡ false) → is_after after e ≡ false → (f : EntryRec) → Has (take (suc k) es) f → is_after after f ≡ false
-  none-still next w f h = by (take-more es k e f at h)
-    where
-      by : Has (take k es) f ⊎ (f ≡ e) → is_after after f ≡ false
-      by (inl m) = next f m
-      by (inr same) = ap (is_after after) same ∙ w
-
-  one-still : (b : EntryRec) → ((f : EntryRec) → Has (take k es) f → is_after after f ≡ true → is_before f b ≡ false) → (is_after after e ≡ false) ⊎ (is_before e b ≡ false)
-      → (f : EntryRec) → Has (take (suc k) es) f → is_after after f ≡ true → is_before f b ≡ false
-  one-still b least why f h a = by why (take-more es k e f at h)
-    where
-      by : (is_after after e ≡ false) ⊎ (is_before e b ≡ false) → Has (take k es) f ⊎ (f ≡ e) → is_before f b ≡ false
-      by w (inl m) = least f m a
-      by (inl w) (inr same) = absurd (both_ways _ w (sym (ap (is_after after) same) ∙ a))
-      by (inr w) (inr same) = ap (λ x. is_before x b) same ∙ w
-
-  keeps : (best : Option EntryRec) → IsNext (take k es) after best → (is_after after e ≡ false) ⊎ (is_first e best ≡ false) → IsNext (take (suc k) es) after best
-  keeps None next (inl w) = none-still next w
-  keeps None next (inr w) = absurd (both_ways _ w refl)
-  keeps (Some b) next why = (more-take es k b next.0, next.1, one-still b next.2 why)
-
-  takes : (best : Option EntryRec) → IsNext (take k es) after best → is_after after e ≡ true → is_first e best ≡ true → IsNext (take (suc k) es) after (Some e)
-  takes best next behind first = (last-take es k e at, behind, λ f h a. by best next first (take-more es k e f at h) a)
-    where
-      by : {f : EntryRec} → (best : Option EntryRec) → IsNext (take k es) after best → is_first e best ≡ true → Has (take k es) f ⊎ (f ≡ e) → is_after after f ≡ true → is_before f e ≡ false
-      by best next first (inr same) a = ap (λ x. is_before x e) same ∙ irreflexive e
-      by {f} None next first (inl m) a = absurd (both_ways _ (next f m) a)
-      by {f} (Some b) next first (inl m) a = not-both (cases_Bool (is_before f e))
-        where
-          not-both : (is_before f e ≡ true) ⊎ (is_before f e ≡ false) → is_before f e ≡ false
-          not-both (inl t) = absurd (both_ways _ (next.2 f m a) (before-then f e b t first))
-          not-both (inr t) = t
-
-  pub next-kept : (best : Option EntryRec) → IsNext (take k es) after best → (is_after after e ≡ false) ⊎ (is_first e best ≡ false) → IsNext (take (k + 1) es) after best
-  next-kept best next why = subst (λ (n : ℕ). IsNext (take n es) after best) (one-more k) (keeps best next why)
-
-  pub next-taken : (best : Option EntryRec) → IsNext (take k es) after best → is_after after e ≡ true → is_first e best ≡ true → IsNext (take (k + 1) es) after (Some e)
-  next-taken best next behind first = subst (λ (n : ℕ). IsNext (take n es) after (Some e)) (one-more k) (takes best next behind first)

@@ -12,4 +12,5 @@ pub mod Paths
 pub mod PathLaws
 pub mod Placing
 pub mod Reading
+pub mod Sorting
 pub mod Stepping

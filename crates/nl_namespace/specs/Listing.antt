@@ -1,5 +1,5 @@
 -- The names of a directory as they are printed, in order.
-use Rattle.std.specs.Prelude.{◌≡◌, ◌↔◌, ℕ, ⊤, Bool, true, false, List, [], ◌∷◌, ◌++◌, length, Option, Some, None}
+use Rattle.std.specs.Prelude.{◌≡◌, ◌↔◌, ℕ, ⊤, Bool, true, List, [], ◌∷◌, ◌++◌, length, slice_get, Some}
 use Rattle.std.specs.List.{flat_map}
 use Rattle.std.specs.Ordering.{is_lt, nat_cmp}
 use Rattle.std.specs.Cmp.Lexicographic.{slice_cmp}
@@ -19,11 +19,6 @@ use Rattle.nl_namespace.specs.declared.answer.Listing.TheVariants as listing
 -- by the bytes of the names
 abbrev pub is_before : EntryRec → EntryRec → Bool
 is_before a b = is_lt (slice_cmp nat_cmp a.name b.name)
-
--- the second comes behind the first; each does where there is no first
-abbrev pub is_after : Option EntryRec → EntryRec → Bool
-is_after None e = true
-is_after (Some a) e = is_before a e
 
 -- behind the name of a directory
 abbrev pub mark_of : NodeBody → List ℕ
@@ -53,16 +48,6 @@ IfListed (listing.Listed n) P = P n
 IfListed listing.Fault P = ⊤
 IfListed (listing.Lost w f) P = ⊤
 
--- the entry that comes next behind one, None where there is none
-abbrev pub IsNext : List EntryRec → Option EntryRec → Option EntryRec → Type 0
-IsNext entries after None = (f : EntryRec) → Has entries f → is_after after f ≡ false
-IsNext entries after (Some e) = Has entries e × (is_after after e ≡ true) × ((f : EntryRec) → Has entries f → is_after after f ≡ true → is_before f e ≡ false)
-
--- the first comes before the second, or there is no second
-abbrev pub is_first : EntryRec → Option EntryRec → Bool
-is_first e None = true
-is_first e (Some b) = is_before e b
-
 -- behind the name of a node of that kind
 abbrev pub kind_mark : Kind → List ℕ
 kind_mark Unused = []
@@ -75,3 +60,9 @@ pub record ListsNames {D : Type 0} (g : Ghosts D) (s : D) (p : Pages) (n count :
   pub is_node : IsNodeOf g s p n rec
   pub is_dir : rec.kind ≡ Dir
   pub lists : IsListing (graph_of (g.shape s) (running_on g s p)) (entries_of_inode (running_on g s p) rec) count text
+
+-- The text has one entry more, the one at the place.
+pub record PrintsPlace (graph : Graph) (entries : List EntryRec) (place : ℕ) (old new : List ℕ) : Type 0 where
+  pub entry : EntryRec
+  pub at : slice_get entries place ≡ Some entry
+  pub printed : new ≡ old ++ text_of graph (entry ∷ [])

@@ -11,6 +11,7 @@ pub mod laws;
 mod making;
 mod names;
 mod naming;
+mod ordering;
 mod place;
 mod removing;
 mod renaming;

@@ -1,16 +1,14 @@
-ghost use Rattle.std.specs.Prelude.{◌≡◌, ◌<◌, ◌≤◌, ◌+◌, ◌++◌, ◌∷◌, [], ℕ, IfOk, List, length, true, if◌then◌else◌};
-ghost use Rattle.std.specs.Option.{option_to_list};
+ghost use Rattle.std.specs.Prelude.{◌≡◌, ◌<◌, ◌≤◌, ◌+◌, ◌++◌, ◌∷◌, [], ℕ, IfOk, length};
 ghost use Rattle.nl_field.specs.Numbers.{max_bytes};
 ghost use Rattle.nl_meta.specs.Nodes.{entries_of_inode, graph_of};
-ghost use Rattle.nl_meta.specs.Pages.{page_of};
-ghost use Rattle.nl_dir.specs.Directory.{IsDirectory};
-ghost use Rattle.nl_namespace.specs.Listing.{IfListed, IsListing, IsNext, ListsNames, is_after, is_before, is_first, kind_mark, text_of};
+ghost use Rattle.nl_namespace.specs.Listing.{IfListed, IsListing, ListsNames, PrintsPlace, kind_mark};
 ghost use Rattle.nl_namespace.specs.Reading.{listing_stop};
 ghost use Rattle.nl_running.specs.Reading.{Reads, stop_of};
 ghost use Rattle.nl_running.specs.Running.{IsDirectoryOf, IsDirectoryAt, Runs, RunsOn, running_on};
 
 use crate::answer::Listing;
 use crate::hold::hold_entries;
+use crate::ordering::in_order;
 use nl_dir::entry_at;
 use nl_field::{EntryRec, InodeRec, Kind};
 use nl_iface::VirtualPages;
@@ -18,10 +16,9 @@ use nl_inode::Nodes;
 use nl_meta::Meta;
 use nl_running::{Stop, node};
 use nl_tree::ReplyBuf;
-use std::cmp::Ordering;
 
-/// The names of a directory in the order of their bytes, each behind a space and with `/` behind a directory's. It looks at each
-/// entry once for each name. After `Fault` and `Lost` the buffer has some of the names.
+/// The names of a directory in the order of their bytes, each behind a space and with `/` behind a directory's. It takes no memory, and
+/// compares each name with some ten others. After `Fault` and `Lost` the buffer has some of the names.
 pub fn list<D: VirtualPages>(
     device: &mut D,
     meta: &mut Meta,
@@ -66,12 +63,15 @@ fn print_all<D: VirtualPages>(
     ensures kept { RunsOn D.Counts device.old meta.old device.new meta.new }
     ensures reads { Reads D.Counts device.old device.new (stop_of result) }
 {
+    match hold_entries(device, meta, rec) {
+        Ok(()) => {}
+        Err(stop) => return Err(stop),
+    }
+    let order = in_order(rec, meta);
     let count = size_of(rec);
-    let mut after = None;
     for i in 0..count {
-        match print_next(device, meta, nodes, rec, &after, out) {
-            Ok(Some(entry)) => after = Some(entry),
-            Ok(None) => return Ok(i),
+        match print_place(device, meta, nodes, rec, order.as_slice()[i as usize], out) {
+            Ok(()) => {}
             Err(stop) => return Err(stop),
         }
     }
@@ -79,42 +79,38 @@ fn print_all<D: VirtualPages>(
 }
 
 /// How many entries a directory has.
-fn size_of(rec: &InodeRec) -> u32
+pub(crate) fn size_of(rec: &InodeRec) -> u32
     requires { rec.now.size ≤ 1024 }
     ensures { result ≡ rec.now.size }
 {
     rec.size as u32
 }
 
-/// Adds the name that comes behind one.
-fn print_next<D: VirtualPages>(
+/// Adds the name at a place of a directory.
+fn print_place<D: VirtualPages>(
     device: &mut D,
     meta: &mut Meta,
     nodes: &Nodes,
     rec: &InodeRec,
-    after: &Option<EntryRec>,
+    place: u32,
     out: &mut ReplyBuf,
-) -> Result<Option<EntryRec>, Stop>
+) -> Result<(), Stop>
     requires formed { D.formed device.old }
     requires runs { Runs D.Counts device.old meta.old }
     requires directory { IsDirectoryOf D.Counts device.old meta.old rec.now }
+    requires below { place < rec.now.size }
     requires room { length out.old + 57 ≤ max_bytes }
     ensures formed { D.formed device.new }
-    ensures next { IfOk result (IsNext (entries_of_inode (running_on D.Counts device.old meta.old) rec.now) after.now) }
-    ensures printed { IfOk result (λ o. out.new ≡ out.old ++ text_of (graph_of (D.shape device.old) (running_on D.Counts device.old meta.old)) (option_to_list o)) }
-    ensures short { IfOk result (λ o. length out.new ≤ length out.old + 57) }
+    ensures printed { IfOk result (λ u. PrintsPlace (graph_of (D.shape device.old) (running_on D.Counts device.old meta.old)) (entries_of_inode (running_on D.Counts device.old meta.old) rec.now) place out.old out.new) }
+    ensures short { IfOk result (λ u. length out.new ≤ length out.old + 57) }
     ensures kept { RunsOn D.Counts device.old meta.old device.new meta.new }
     ensures reads { Reads D.Counts device.old device.new (stop_of result) }
 {
     hold_entries(device, meta, rec)?;
-    match next_entry(rec, meta, after) {
-        Some(entry) => {
-            let target = node(device, meta, nodes, entry.ino)?;
-            print(&entry, target.kind, out);
-            Ok(Some(entry))
-        }
-        None => Ok(None),
-    }
+    let entry = entry_at(rec, meta, place);
+    let target = node(device, meta, nodes, entry.ino)?;
+    print(&entry, target.kind, out);
+    Ok(())
 }
 
 /// Adds a space and the name, with `/` behind a directory's.
@@ -129,44 +125,4 @@ fn print(entry: &EntryRec, kind: Kind, out: &mut ReplyBuf)
         Kind::Dir => out.push(b'/'),
         _ => {}
     }
-}
-
-/// The entry that comes next behind one in the order of names.
-fn next_entry(rec: &InodeRec, meta: &Meta, after: &Option<EntryRec>) -> Option<EntryRec>
-    requires directory { IsDirectory (page_of meta.now) rec.now }
-    requires few { rec.now.size ≤ 1024 }
-    ensures { IsNext (entries_of_inode (page_of meta.now) rec.now) after.now result }
-{
-    let mut best = None;
-    for place in 0..size_of(rec) {
-        let entry = entry_at(rec, meta, place);
-        if comes_after(after, &entry) && comes_first(&entry, &best) {
-            best = Some(entry);
-        }
-    }
-    best
-}
-
-fn comes_after(after: &Option<EntryRec>, entry: &EntryRec) -> bool
-    ensures { result ≡ is_after after.now entry.now }
-{
-    match after {
-        Some(other) => comes_before(other, entry),
-        None => true,
-    }
-}
-
-fn comes_first(entry: &EntryRec, best: &Option<EntryRec>) -> bool
-    ensures { result ≡ is_first entry.now best.now }
-{
-    match best {
-        Some(other) => comes_before(entry, other),
-        None => true,
-    }
-}
-
-fn comes_before(a: &EntryRec, b: &EntryRec) -> bool
-    ensures { result ≡ is_before a.now b.now }
-{
-    a.name.bytes().cmp(b.name.bytes()) == Ordering::Less
 }

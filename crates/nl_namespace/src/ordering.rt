@@ -1,0 +1,65 @@
+//! The places of a directory in the order of their names.
+ghost use Rattle.std.specs.Prelude.{◌≡◌, ◌≤◌, length};
+ghost use Rattle.nl_meta.specs.Nodes.{entries_of_inode};
+ghost use Rattle.nl_meta.specs.Pages.{page_of};
+ghost use Rattle.nl_dir.specs.Directory.{IsDirectory};
+ghost use Rattle.nl_namespace.specs.Listing.{is_before};
+ghost use Rattle.nl_namespace.specs.Sorting.{IsOrder, Parts, entries_at};
+
+use crate::names::size_of;
+use arrayvec::ArrayVec;
+use nl_dir::entry_at;
+use nl_field::{EntryRec, InodeRec};
+use nl_meta::Meta;
+use std::cmp::Ordering;
+
+/// The places of the entries of a directory, by the bytes of their names. Each is put among those before it.
+pub(crate) fn in_order(rec: &InodeRec, meta: &Meta) -> ArrayVec<u32, 1024>
+    requires directory { IsDirectory (page_of meta.now) rec.now }
+    requires few { rec.now.size ≤ 1024 }
+    ensures { IsOrder (entries_of_inode (page_of meta.now) rec.now) rec.now.size result.items }
+{
+    let mut order = ArrayVec::new();
+    for place in 0..size_of(rec) {
+        let entry = entry_at(rec, meta, place);
+        let at = place_among(rec, meta, order.as_slice(), &entry, 0, order.len());
+        order.insert(at, place);
+    }
+    order
+}
+
+/// Where an entry comes among places in order: not before `low`, and not behind `high`.
+fn place_among(
+    rec: &InodeRec,
+    meta: &Meta,
+    order: &[u32],
+    entry: &EntryRec,
+    low: usize,
+    high: usize,
+) -> usize
+    requires directory { IsDirectory (page_of meta.now) rec.now }
+    requires few { length order.now ≤ rec.now.size }
+    requires order { IsOrder (entries_of_inode (page_of meta.now) rec.now) (length order.now) order.now }
+    requires range { low ≤ high }
+    requires inside { high ≤ length order.now }
+    requires parts { Parts (entries_at (entries_of_inode (page_of meta.now) rec.now) order.now) entry.now low high }
+    ensures inside { result ≤ length order.now }
+    ensures parts { Parts (entries_at (entries_of_inode (page_of meta.now) rec.now) order.now) entry.now result result }
+{
+    if low == high {
+        return low;
+    }
+    let middle = low + (high - low) / 2;
+    let other = entry_at(rec, meta, order[middle]);
+    if comes_before(&other, entry) {
+        place_among(rec, meta, order, entry, middle + 1, high)
+    } else {
+        place_among(rec, meta, order, entry, low, middle)
+    }
+}
+
+fn comes_before(a: &EntryRec, b: &EntryRec) -> bool
+    ensures { result ≡ is_before a.now b.now }
+{
+    a.name.bytes().cmp(b.name.bytes()) == Ordering::Less
+}
