@@ -102,6 +102,12 @@ RenamesName free old new from to (change.No refusal) = (refusal_of_rename old fr
 RenamesName free old new from to change.Fault = ⊤
 RenamesName free old new from to (change.Lost w f) = ⊤
 
+-- Neither path is too long, and the second is not the root.
+pub record AreAllowed (from to : List (List ℕ)) : Type 0 where
+  pub short : is_too_long from ≡ false
+  pub short_to : is_too_long to ≡ false
+  pub not_root : to ≢ []
+
 -- ---- room
 
 -- There is room for the entry, once the other directory is without it.

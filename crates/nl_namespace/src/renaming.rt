@@ -1,13 +1,12 @@
-ghost use Rattle.std.specs.Prelude.{◌≡◌, ◌≢◌, ◌≤◌, [], MatchBool, MatchOption, false};
+ghost use Rattle.std.specs.Prelude.{◌≡◌, ◌≢◌, ◌≤◌, MatchBool, MatchOption, false};
 ghost use Rattle.nl_dir.specs.Directory.{HasRoomFor};
 ghost use Rattle.nl_meta.specs.Nodes.{graph_of};
 ghost use Rattle.nl_tree.specs.Calls.{AreNames};
-ghost use Rattle.nl_tree.specs.Step.{is_too_long};
 ghost use Rattle.nl_tree.specs.Tree.{is_at_or_under, paths_eq};
 ghost use Rattle.nl_namespace.specs.Changing.{FreeFits, Leaves};
 ghost use Rattle.nl_namespace.specs.Entering.{HasNamed};
 ghost use Rattle.nl_namespace.specs.Finding.{FitsAfter, IsThere, MovesIn};
-ghost use Rattle.nl_namespace.specs.Moving.{CanTake, LacksRoomIn, RenamesName, refusal_over_record};
+ghost use Rattle.nl_namespace.specs.Moving.{AreAllowed, CanTake, LacksRoomIn, RenamesName, refusal_over_record};
 ghost use Rattle.nl_namespace.specs.Placing.{IsHeld};
 ghost use Rattle.nl_namespace.specs.Reading.{change_stop};
 ghost use Rattle.nl_running.specs.Reading.{Reads};
@@ -85,9 +84,7 @@ fn rename_to<D: VirtualPages>(
     requires names { AreNames to.now }
     requires there { IsThere D.Counts device.old meta.old from.now old.now }
     requires held { IsHeld D.Counts device.old meta.old meta.old old.now.dir old.now.rec }
-    requires short { is_too_long from.now ≡ false }
-    requires short_to { is_too_long to.now ≡ false }
-    requires not_root { to.now ≢ [] }
+    requires paths { AreAllowed from.now to.now }
     requires other { paths_eq from.now to.now ≡ false }
     requires not_under { old.now.node.kind ≡ Dir → is_at_or_under from.now to.now ≡ false }
     ensures formed { D.formed device.new }

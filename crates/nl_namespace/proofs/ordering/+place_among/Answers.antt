@@ -25,8 +25,7 @@ place_among-requires t c =
     let m : c.args.low + (c.args.high - c.args.low) / 2 < length c.args.order.now = omega (arith, n, r, i) in
     let es = entries_of_inode (page_of c.args.meta.now) c.args.rec.now in
     let at = listed-at es c.args.order.now (c.args.low + (c.args.high - c.args.low) / 2) (slice_index_or c.args.order.now (c.args.low + (c.args.high - c.args.low) / 2) 0) c.entry_at-other.result
-    (place-at-position c.args.order.now (c.args.low + (c.args.high - c.args.low) / 2) m) c.entry_at-other.ensures in
-    (
+    (place-at-position c.args.order.now (c.args.low + (c.args.high - c.args.low) / 2) m) c.entry_at-other.ensures in (
       omega (arith, n, r),
       (
         c.requires.directory,
@@ -54,8 +53,7 @@ place_among-requires-else-comes_before t c =
     let m : c.args.low + (c.args.high - c.args.low) / 2 < length c.args.order.now = omega (arith, n, r, i) in
     let es = entries_of_inode (page_of c.args.meta.now) c.args.rec.now in
     let at = listed-at es c.args.order.now (c.args.low + (c.args.high - c.args.low) / 2) (slice_index_or c.args.order.now (c.args.low + (c.args.high - c.args.low) / 2) 0) c.entry_at-other.result
-    (place-at-position c.args.order.now (c.args.low + (c.args.high - c.args.low) / 2) m) c.entry_at-other.ensures in
-    (
+    (place-at-position c.args.order.now (c.args.low + (c.args.high - c.args.low) / 2) m) c.entry_at-other.ensures in (
       omega (arith, n, r),
       (
         c.requires.directory,

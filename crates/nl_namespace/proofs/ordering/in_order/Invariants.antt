@@ -1,4 +1,3 @@
-use Rattle.std.proofs.Common.{◌≡◌}
 use Rattle.nl_meta.specs.Nodes.{entries_of_inode}
 use Rattle.nl_meta.specs.Pages.{page_of}
 use Rattle.nl_namespace.specs.Sorting.{IsOrder}

@@ -35,11 +35,12 @@ rename_to-requires-clause-there g c = there-then g.D.Counts c.args.device.now c.
 pub rename_to-requires-clause-held : goal.rename_to-requires-clause-held
 rename_to-requires-clause-held g c = held-then g.D.Counts c.args.device.now c.args.meta.now c.find_node.new.device c.find_node.new.meta (g.met.D.VirtualPages.numbers c.args.device.now c.requires.formed) c.in-Ok-At.ensures.kept c.in-Ok-At.old.dir c.in-Ok-At.old.rec (subst (IsFound g.D.Counts c.args.device.now c.args.meta.now c.args.from.now) c.in-Ok-At.field-0-is c.in-Ok-At.ensures.found).place.is_node (subst (IsFound g.D.Counts c.args.device.now c.args.meta.now c.args.from.now) c.in-Ok-At.field-0-is c.in-Ok-At.ensures.found).place.is_dir (subst (IfFound g.D.Counts c.args.device.now c.args.meta.now c.find_node.new.meta) c.in-Ok-At.field-0-is c.in-Ok-At.ensures.held)
 
-pub rename_to-requires-clause-short : goal.rename_to-requires-clause-short
-rename_to-requires-clause-short g c = (ap is_too_long (sym c.names.ensures) ∙ sym c.is_long.ensures ∙ c.if-is_long.false)
-
-pub rename_to-requires-clause-short_to : goal.rename_to-requires-clause-short_to
-rename_to-requires-clause-short_to g c = (ap is_too_long (sym c.names-else-is_long.ensures) ∙ sym c.is_long-else-is_long.ensures ∙ c.if-is_long-2.false)
+pub rename_to-requires-clause-paths : goal.rename_to-requires-clause-paths
+rename_to-requires-clause-paths g c = record {
+  short = (ap is_too_long (sym c.names.ensures) ∙ sym c.is_long.ensures ∙ c.if-is_long.false);
+  short_to = (ap is_too_long (sym c.names-else-is_long.ensures) ∙ sym c.is_long-else-is_long.ensures ∙ c.if-is_long-2.false);
+  not_root = λ e. c.if-len-eq0-2.false (c.len-else-len-eq0.ensures.count ∙ ap length e);
+}
 
 pub returns-else-is_directory-clause-answer : goal.returns-else-is_directory-clause-answer
 returns-else-is_directory-clause-answer g c = subst (λ (z : Graph). RenamesName c.args.nodes.now z (graph_of (g.D.Counts.shape c.rename_to.new.device) (running_on g.D.Counts c.rename_to.new.device c.rename_to.new.meta)) c.args.from.now c.args.to.now c.rename_to.result) (then-graph g.D.Counts c.args.device.now c.args.meta.now c.find_node.new.device c.find_node.new.meta (g.met.D.VirtualPages.numbers c.args.device.now c.requires.formed) c.in-Ok-At.ensures.kept) c.rename_to.ensures.answer
