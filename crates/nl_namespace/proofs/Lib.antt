@@ -37,3 +37,4 @@ mod MoveDone
 mod MoveRefusals
 mod TreeRenames
 mod TreeCalls
+mod Crowded

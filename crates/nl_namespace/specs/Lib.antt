@@ -12,5 +12,6 @@ pub mod Paths
 pub mod PathLaws
 pub mod Placing
 pub mod Reading
+pub mod RoomLaws
 pub mod Sorting
 pub mod Stepping

@@ -2,6 +2,7 @@
 ghost use Rattle.nl_namespace.specs.Calls.{ChangesInTree};
 ghost use Rattle.nl_namespace.specs.ChangeLaws.{MakesInTree, RemovesInTree, RenamesInTree, RmdirsInTree, UnlinksInTree};
 ghost use Rattle.nl_namespace.specs.PathLaws.{ListsInTree, LooksInTree};
+ghost use Rattle.nl_namespace.specs.RoomLaws.{NoneFreeIsCrowded};
 
 /// A path is answered as the tree answers it for which the nodes stand.
 pub fn looks_in_tree()
@@ -33,4 +34,9 @@ pub fn renames_in_tree()
 /// A call that changes names answers as the step of the tree for which the nodes stand, and leaves the nodes of the tree that it leaves.
 pub fn changes_in_tree()
     ensures { ChangesInTree }
+{}
+
+/// Where no number of a node is free, each node is used, and where no address is free, each address of the pool is.
+pub fn none_free_is_crowded()
+    ensures { NoneFreeIsCrowded }
 {}
