@@ -3,3 +3,4 @@ pub mod Places
 pub mod Standing
 pub mod CompletingSteps
 pub mod CommittingSteps
+pub mod HoldingOn

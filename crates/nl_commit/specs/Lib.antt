@@ -3,3 +3,4 @@ pub mod Standing
 pub mod Completing
 pub mod Counting
 pub mod Committing
+pub mod Holding

@@ -1,5 +1,6 @@
 //! Laws of the definitions. Each function stands for the laws that its contract names.
 ghost use Rattle.nl_commit.specs.Freeing.{FreeingKeeps, FreesAll};
+ghost use Rattle.nl_commit.specs.Holding.{HoldersStand};
 ghost use Rattle.nl_commit.specs.Standing.{ChangesCanFreeze, FreezingStands, MediumStands, SuperPageStands, WritingStands};
 
 use nl_iface::VirtualPages;
@@ -19,4 +20,9 @@ pub fn metadata_stands<D: VirtualPages>()
     ensures freezing { FreezingStands D.Counts }
     ensures super_page { SuperPageStands D.Counts }
     ensures medium { MediumStands D.Counts }
+{}
+
+/// Where the metadata stands on and no name changes, each live page is held as before, and what is committed leads.
+pub fn holders_stand<D: VirtualPages>()
+    ensures { HoldersStand D.Counts }
 {}
