@@ -1,0 +1,5 @@
+//! Small images, byte by byte, and what a check finds of them.
+#![tactic(auto)]
+
+#[cfg(test)]
+mod tests;
