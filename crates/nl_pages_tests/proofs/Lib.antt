@@ -1,0 +1,2 @@
+mod BlankMedium
+mod Standing
