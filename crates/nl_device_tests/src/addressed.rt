@@ -168,6 +168,38 @@ fn address(number: u32) -> u32 {
     }
 }
 
+impl Rig {
+    /// The first of these addresses whose page does not begin with the byte beside it.
+    fn differs(&mut self, rows: &[(u32, u8)]) -> Option<u32> {
+        for row in 0..rows.len() {
+            let (vaddr, byte) = rows[row];
+            if self.read(vaddr) != Seen::Byte(byte) {
+                return Some(vaddr);
+            }
+        }
+        None
+    }
+
+    /// 600 writes to 50 addresses, each read back; the first that is not done, or reads otherwise.
+    fn overwrites(&mut self) -> Option<u32> {
+        for round in 0u32..600 {
+            let vaddr = round * 7 % 50;
+            let byte = (round % 251) as u8;
+            if self.write(vaddr, byte, 225 + round) != Seen::Wrote {
+                return Some(round);
+            }
+            if self.read(vaddr) != Seen::Byte(byte) {
+                return Some(round);
+            }
+        }
+        None
+    }
+}
+
+const CLEANED: [(u32, u8); 4] = [(30, 7), (31, 31), (24, 127), (23, 223)];
+
+const LEFT_ALONE: [(u32, u8); 3] = [(62, 62), (94, 94), (102, 199)];
+
 #[test]
 fn pages_are_written_over_and_over(rt: HostRuntime) -> Result<(), Fail> {
     let alloc = rt.alloc();
@@ -178,18 +210,9 @@ fn pages_are_written_over_and_over(rt: HostRuntime) -> Result<(), Fail> {
     assert_eq!(rt; rig.counts(), (224, 0, 0));
     assert_eq!(rt; rig.write(30, 7, 224), Seen::Wrote);
     assert_eq!(rt; rig.counts(), (227, 0, 0));
-    for (v, byte) in [(30, 7), (31, 31), (24, 127), (23, 223)] {
-        assert_eq!(rt; rig.read(v), Seen::Byte(byte), "{v}");
-    }
-    for round in 0u32..600 {
-        let v = round * 7 % 50;
-        let byte = (round % 251) as u8;
-        assert_eq!(rt; rig.write(v, byte, 225 + round), Seen::Wrote);
-        assert_eq!(rt; rig.read(v), Seen::Byte(byte));
-    }
-    for (v, byte) in [(62, 62), (94, 94), (102, 199)] {
-        assert_eq!(rt; rig.read(v), Seen::Byte(byte), "{v}");
-    }
+    assert_eq!(rt; rig.differs(&CLEANED), None);
+    assert_eq!(rt; rig.overwrites(), None);
+    assert_eq!(rt; rig.differs(&LEFT_ALONE), None);
     Ok(())
 }
 
@@ -213,42 +236,72 @@ fn calls_fail(rt: HostRuntime) -> Result<(), Fail> {
     assert_eq!(rt; rig.counts(), (225, 1, 1));
     assert_eq!(rt; rig.read(30), Seen::Byte(30));
     assert_eq!(rt; rig.write(30, 7, 224), Seen::Wrote);
-    for (v, byte) in [(30, 7), (24, 127)] {
-        assert_eq!(rt; rig.read(v), Seen::Byte(byte), "{v}");
-    }
+    assert_eq!(rt; rig.differs(&CLEANED), None);
     Ok(())
 }
 
-// A write that copies a page, erases a block and programs a page is stopped within each of these.
+impl Left {
+    /// The first of these addresses whose newest page does not begin with the byte beside it.
+    fn differs(&mut self, rows: &[(u32, u8)]) -> Option<u32> {
+        for row in 0..rows.len() {
+            let (vaddr, byte) = rows[row];
+            if self.newest(vaddr) != Some(byte) {
+                return Some(vaddr);
+            }
+        }
+        None
+    }
+}
+
+/// What a write that copies a page, erases a block and programs a page leaves that is stopped within one of these; None where it was
+/// not stopped.
+fn stopped(alloc: Global, operation: u64, cut: Cut) -> Result<Option<Left>, Fail> {
+    let stop = Some(Stop { operation, cut });
+    let mut rig = fresh(alloc, FailList::new(alloc), FailList::new(alloc), stop)?;
+    if rig.fill(224) != 224 || rig.write(30, 7, 224) != Seen::Fault {
+        return Ok(None);
+    }
+    Ok(Some(rig.restart()))
+}
+
+const STANDS: [(u32, u8); 6] = [
+    (0, 200),
+    (23, 223),
+    (24, 127),
+    (31, 31),
+    (62, 62),
+    (102, 199),
+];
+
+const CUTS: [Cut; 5] = [
+    Cut::Before,
+    Cut::After,
+    Cut::Spoilt,
+    Cut::Mixed(4711),
+    Cut::Mixed(1235346792567894),
+];
+
+/// Whether each address has its page after such a stop; the address that was written may have its new page once that is programmed.
+fn stands(alloc: Global, operation: u64, cut: Cut) -> Result<bool, Fail> {
+    match stopped(alloc, operation, cut)? {
+        Some(mut left) => {
+            let now = left.newest(30);
+            let is_new = operation == 227 && now == Some(7);
+            Ok((now == Some(30) || is_new) && left.differs(&STANDS).is_none())
+        }
+        None => Ok(false),
+    }
+}
+
+// Such a write is stopped within each of its operations.
 #[test]
 fn a_write_is_stopped(rt: HostRuntime) -> Result<(), Fail> {
-    let alloc = rt.alloc();
     for operation in 225u64..228 {
-        for cut in [
-            Cut::Before,
-            Cut::After,
-            Cut::Spoilt,
-            Cut::Mixed(4711),
-            Cut::Mixed(1235346792567894),
-        ] {
-            let stop = Some(Stop { operation, cut });
-            let mut rig = fresh(alloc, FailList::new(alloc), FailList::new(alloc), stop)?;
-            assert_eq!(rt; rig.fill(224), 224);
-            assert_eq!(rt; rig.write(30, 7, 224), Seen::Fault);
-            let mut left = rig.restart();
-            let now = left.newest(30);
-            let new_may_stand = operation == 227 && now == Some(7);
-            assert!(rt; now == Some(30) || new_may_stand, "{operation} {cut:?}");
-            for (v, byte) in [
-                (0, 200),
-                (23, 223),
-                (24, 127),
-                (31, 31),
-                (62, 62),
-                (102, 199),
-            ] {
-                assert_eq!(rt; left.newest(v), Some(byte), "{operation} {cut:?} {v}");
-            }
+        for cut in 0..5usize {
+            assert!(rt;
+                stands(rt.alloc(), operation, CUTS[cut])?,
+                "{operation} {cut}"
+            );
         }
     }
     Ok(())

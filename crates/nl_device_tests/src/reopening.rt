@@ -117,24 +117,18 @@ fn pointers(alloc: Global, first: u32, second: u32) -> Result<PointerList, Fail>
     ensures { IfOk result (λ l. l.items ≡ record { name = first; stamp = 3 } ∷ record { name = second; stamp = 15 } ∷ record { name = 288; stamp = 33 } ∷ []) }
 {
     let mut list = PointerList::new(alloc);
-    list.push(
-        Pointer {
-            name: first,
-            stamp: 3,
-        },
-    )?;
-    list.push(
-        Pointer {
-            name: second,
-            stamp: 15,
-        },
-    )?;
-    list.push(
-        Pointer {
-            name: 288,
-            stamp: 33,
-        },
-    )?;
+    list.push(Pointer {
+        name: first,
+        stamp: 3,
+    })?;
+    list.push(Pointer {
+        name: second,
+        stamp: 15,
+    })?;
+    list.push(Pointer {
+        name: 288,
+        stamp: 33,
+    })?;
     Ok(list)
 }
 

@@ -1,2 +1,1 @@
-mod BlankMedium
 mod Standing

@@ -93,11 +93,19 @@ fn put_all(meta: &mut Meta, byte: u8) -> bool
     ensures count { length meta.new.running ≡ length meta.old.running }
     ensures frozen { meta.new.frozen ≡ meta.old.frozen }
 {
-    put(meta, 0, byte)
-        && put(meta, 67, byte)
-        && put(meta, 68, byte)
-        && put(meta, 71, byte)
-        && put(meta, 102, byte)
+    if !put(meta, 0, byte) {
+        return false;
+    }
+    if !put(meta, 67, byte) {
+        return false;
+    }
+    if !put(meta, 68, byte) {
+        return false;
+    }
+    if !put(meta, 71, byte) {
+        return false;
+    }
+    put(meta, 102, byte)
 }
 
 // Whether the page of an address begins with this byte then, and is dirty.

@@ -2,7 +2,7 @@ use Rattle.std.proofs.Common.{ap, sym, ◌∙◌, arith}
 use Rattle.nl_field.specs.Numbers.{shape_for}
 use Rattle.nl_nand.specs.Memory.{contents_of}
 use Rattle.nl_nand.specs.declared.geometry.Geometry.{Geometry}
-use Rattle.nl_pages_tests.proofs.BlankMedium.{blank_spare}
+use Rattle.nl_device_tests.proofs.Blank.{blank_spare}
 use Rattle.nl_pages_tests.proofs.Standing.{none-agree}
 use Rattle.nl_pages_tests.proofs.device.started.Goals as goal
 
