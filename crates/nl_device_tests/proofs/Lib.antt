@@ -1,0 +1,5 @@
+pub mod Blank
+pub mod Landing
+pub mod Reopened
+pub mod Retaining
+pub mod Rigs

@@ -1,0 +1,23 @@
+use Rattle.std.proofs.Common.{List, Option, None, get_or, sym, ◌∙◌, ap, arith}
+use Rattle.std.proofs.lemmas.Option.{none-some}
+use Rattle.nl_pseg.specs.declared.held.Held.{Held}
+use Rattle.nl_device_tests.proofs.named.Rig.give_back.Goals as goal
+
+pub invariant_of-self : goal.invariant_of-self
+invariant_of-self c =
+    let is = c.args.self.now.is in
+    let e = c.give_back.ensures in
+    let empty = e.copies in
+    record {
+      is = record {
+        numbers = is.numbers;
+        first = e.first ∙ is.first;
+        blocks = e.blocks ∙ is.blocks;
+        size = e.pages ∙ is.size;
+        segment = record {
+          holds = λ p h named. absurd (none-some h (sym (c.requires.none p) ∙ (ap (λ (l : List (Option Held)). get_or l p None) (sym e.live) ∙ named)));
+          blank = λ p taken. is.segment.blank p (e.erased p taken);
+          blank_copy = λ p next. absurd (omega (arith, empty, next.0, next.1));
+        };
+      };
+    }

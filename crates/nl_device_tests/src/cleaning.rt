@@ -1,0 +1,252 @@
+// A device that is cleaned.
+use crate::device::{Rig, Seen, Step, fresh};
+use nl_field::{FailList, Pointer};
+use nl_nand::Stop;
+use std::alloc::Global;
+use std::test::Fail;
+
+/// A device of which block 8 was written whole, and one page of block 9. Page `n` of block 8 begins with `n` and has stamp `n + 1`;
+/// of these only pages 258 and 270 are live.
+pub fn made(
+    alloc: Global,
+    reads: FailList,
+    writes: FailList,
+    stop: Option<Stop>,
+) -> Result<Rig, Fail> {
+    let mut rig = fresh(alloc, reads, writes, stop)?;
+    rig.writes(33);
+    for n in 0..32u32 {
+        if n != 2 && n != 14 {
+            rig.free(Pointer {
+                name: 256 + n,
+                stamp: u64::from(n) + 1,
+            });
+        }
+    }
+    Ok(rig)
+}
+
+const CLEANED: [(Step, Seen); 40] = [
+    (Step::FreeBlocks, Seen::Number(22)),
+    (Step::Erase, Seen::Nothing),
+    (Step::Copy, Seen::Did),
+    (Step::FreeBlocks, Seen::Number(21)),
+    (Step::Resolve(258), Seen::Number(320)),
+    (Step::Erase, Seen::Nothing),
+    // A victim is in hand.
+    (Step::Level, Seen::No),
+    (Step::IsLive(258, 3), Seen::Yes),
+    (Step::IsLive(320, 3), Seen::Yes),
+    (Step::IsLive(256, 1), Seen::No),
+    (Step::Copy, Seen::Did),
+    (Step::Copy, Seen::Nothing),
+    (Step::Pairs, Seen::Number(2)),
+    (Step::Posted, Seen::Number(2)),
+    (Step::Callback(1), Seen::Moved(258, 320, 3)),
+    (Step::Callback(2), Seen::Moved(270, 321, 15)),
+    (Step::Callback(3), Seen::No),
+    (Step::Erase, Seen::Did),
+    (Step::Erase, Seen::Nothing),
+    // The block waits for its two names.
+    (Step::FreeBlocks, Seen::Number(21)),
+    (Step::Read(258, 3), Seen::Byte(2)),
+    (Step::Read(320, 3), Seen::Byte(2)),
+    (Step::Least, Seen::Number(1)),
+    (Step::Handled(1, 7), Seen::Yes),
+    (Step::Least, Seen::Number(2)),
+    (Step::Acknowledge(6), Seen::Did),
+    (Step::Pairs, Seen::Number(2)),
+    (Step::Acknowledge(8), Seen::Did),
+    (Step::Pairs, Seen::Number(1)),
+    (Step::Callback(1), Seen::No),
+    (Step::Resolve(258), Seen::Number(258)),
+    (Step::Read(258, 3), Seen::NotLive),
+    (Step::IsLive(258, 3), Seen::No),
+    (Step::FreeBlocks, Seen::Number(21)),
+    (Step::Handled(2, 8), Seen::Yes),
+    (Step::Least, Seen::No),
+    (Step::Acknowledge(8), Seen::Did),
+    (Step::FreeBlocks, Seen::Number(22)),
+    (Step::Read(321, 15), Seen::Byte(14)),
+    (Step::NextStamp, Seen::Number(34)),
+];
+
+// The victim is block 8, and its pages go to block 10.
+#[test]
+fn a_victim_is_cleaned(rt: HostRuntime) -> Result<(), Fail> {
+    let alloc = rt.alloc();
+    let mut rig = made(alloc, FailList::new(alloc), FailList::new(alloc), None)?;
+    assert_eq!(rt; rig.differs(&CLEANED), None);
+    assert_eq!(rt; rig.counts(), (33 + 2 + 1, 0, 0));
+    Ok(())
+}
+
+const MOVED_TWICE: [(Step, Seen); 33] = [
+    (Step::Copies(2), Seen::Number(2)),
+    (Step::Erase, Seen::Did),
+    (Step::Writes(31), Seen::Number(31)),
+    // Each page of block 9 is live.
+    (Step::Copy, Seen::Nothing),
+    (Step::Free(288, 33), Seen::Yes),
+    (Step::Copies(32), Seen::Number(31)),
+    (Step::Callback(3), Seen::Moved(289, 322, 34)),
+    (Step::Callback(33), Seen::Moved(319, 352, 64)),
+    (Step::Erase, Seen::Did),
+    (Step::FreeBlocks, Seen::Number(20)),
+    (Step::Pairs, Seen::Number(33)),
+    (Step::Free(289, 34), Seen::Yes),
+    (Step::Callback(3), Seen::No),
+    (Step::Pairs, Seen::Number(32)),
+    // The victim is block 10, and both names of the page lead on.
+    (Step::Copy, Seen::Did),
+    (Step::Resolve(258), Seen::Number(353)),
+    (Step::Resolve(320), Seen::Number(353)),
+    (Step::Callback(1), Seen::Moved(258, 320, 3)),
+    (Step::Callback(34), Seen::Moved(320, 353, 3)),
+    (Step::Read(258, 3), Seen::Byte(2)),
+    (Step::Free(258, 3), Seen::Yes),
+    (Step::Callback(1), Seen::No),
+    (Step::Callback(34), Seen::No),
+    (Step::IsLive(320, 3), Seen::No),
+    (Step::Pairs, Seen::Number(31)),
+    // Page 321 is in the victim, and block 8 waits for its name 270 alone.
+    (Step::FreeBlocks, Seen::Number(20)),
+    (Step::Replace(270, 15, 77), Seen::At(384, 65)),
+    (Step::Callback(2), Seen::No),
+    (Step::Callback(4), Seen::Moved(290, 323, 35)),
+    (Step::Pairs, Seen::Number(30)),
+    (Step::FreeBlocks, Seen::Number(20)),
+    (Step::Read(384, 65), Seen::Byte(77)),
+    (Step::Posted, Seen::Number(34)),
+];
+
+// Blocks 8 and 9 are cleaned, and a page of block 8 moves a second time. A free or an overwrite by an old name ends each callback of
+// the page.
+#[test]
+fn moved_pages_are_freed(rt: HostRuntime) -> Result<(), Fail> {
+    let alloc = rt.alloc();
+    let mut rig = made(alloc, FailList::new(alloc), FailList::new(alloc), None)?;
+    assert_eq!(rt; rig.differs(&MOVED_TWICE), None);
+    Ok(())
+}
+
+const MANY_PAIRS: [(Step, Seen); 13] = [
+    (Step::Writes(129), Seen::Number(129)),
+    (Step::Free(256, 1), Seen::Yes),
+    (Step::Copies(32), Seen::Number(31)),
+    (Step::Erase, Seen::Did),
+    (Step::Free(288, 33), Seen::Yes),
+    (Step::Copies(32), Seen::Number(31)),
+    (Step::Erase, Seen::Did),
+    (Step::Free(320, 65), Seen::Yes),
+    (Step::Copies(32), Seen::Number(31)),
+    (Step::Erase, Seen::Did),
+    (Step::Free(352, 97), Seen::Yes),
+    (Step::Pairs, Seen::Number(93)),
+    (Step::Copy, Seen::Nothing),
+];
+
+const FEWER_PAIRS: [(Step, Seen); 8] = [
+    (Step::Acknowledge(2), Seen::Did),
+    (Step::Pairs, Seen::Number(65)),
+    (Step::Copy, Seen::Nothing),
+    (Step::Handled(29, 3), Seen::Yes),
+    (Step::Acknowledge(3), Seen::Did),
+    (Step::Pairs, Seen::Number(64)),
+    (Step::Copy, Seen::Did),
+    (Step::Pairs, Seen::Number(65)),
+];
+
+// Three blocks are cleaned that have one dead page each. Then there are more pairs than two blocks have pages.
+#[test]
+fn no_victim_is_begun_with_many_pairs(rt: HostRuntime) -> Result<(), Fail> {
+    let alloc = rt.alloc();
+    let mut rig = fresh(alloc, FailList::new(alloc), FailList::new(alloc), None)?;
+    assert_eq!(rt; rig.differs(&MANY_PAIRS), None);
+    for number in 1..29u64 {
+        assert_eq!(rt; rig.step(Step::Handled(number, 2)), Seen::Yes);
+    }
+    assert_eq!(rt; rig.differs(&FEWER_PAIRS), None);
+    Ok(())
+}
+
+const FAILED_MOVES: [(Step, Seen); 18] = [
+    (Step::Copy, Seen::Fault),
+    (Step::FreeBlocks, Seen::Number(22)),
+    (Step::Copy, Seen::Fault),
+    (Step::FreeBlocks, Seen::Number(21)),
+    (Step::Pairs, Seen::Number(0)),
+    (Step::Posted, Seen::Number(0)),
+    (Step::Read(258, 3), Seen::Byte(2)),
+    (Step::Copy, Seen::Did),
+    (Step::Callback(1), Seen::Moved(258, 321, 3)),
+    (Step::Copy, Seen::Did),
+    (Step::Callback(2), Seen::Moved(270, 322, 15)),
+    (Step::Erase, Seen::Fault),
+    (Step::Read(258, 3), Seen::Byte(2)),
+    (Step::Copy, Seen::Nothing),
+    (Step::Erase, Seen::Did),
+    (Step::Pairs, Seen::Number(2)),
+    (Step::FreeBlocks, Seen::Number(21)),
+    (Step::Read(270, 15), Seen::Byte(14)),
+];
+
+// The first read after the scan fails, the first program of a copy, and the first erase.
+#[test]
+fn moves_fail(rt: HostRuntime) -> Result<(), Fail> {
+    let alloc = rt.alloc();
+    let mut reads = FailList::new(alloc);
+    reads.push(1025)?;
+    let mut writes = FailList::new(alloc);
+    writes.push(34)?;
+    writes.push(37)?;
+    let mut rig = made(alloc, reads, writes, None)?;
+    assert_eq!(rt; rig.differs(&FAILED_MOVES), None);
+    assert_eq!(rt; rig.counts(), (33 + 2 + 1, 1, 2));
+    Ok(())
+}
+
+/// Writes a block full, frees its pages, and cleans it.
+fn worn(rig: &mut Rig) -> bool {
+    for _ in 0..32u32 {
+        match rig.write(1) {
+            Seen::At(name, stamp) => {
+                rig.free(Pointer { name, stamp });
+            }
+            _ => return false,
+        }
+    }
+    rig.copy() == Seen::Did && rig.erase() == Seen::Did
+}
+
+const LEVELLED: [(Step, Seen); 9] = [
+    (Step::Level, Seen::Yes),
+    (Step::Level, Seen::No),
+    (Step::Copy, Seen::Did),
+    (Step::Callback(1), Seen::Moved(256, 320, 1)),
+    (Step::Copies(32), Seen::Number(31)),
+    (Step::Erase, Seen::Did),
+    (Step::Pairs, Seen::Number(32)),
+    (Step::Read(287, 32), Seen::Byte(31)),
+    // Block 10 has the pages now, and was erased 15 times.
+    (Step::Level, Seen::No),
+];
+
+// Block 8 keeps its pages while blocks 9 to 31 are written and erased in turn. Once block 9 was erased 16 times, block 8 is taken
+// for the sake of wear. Its first page goes to block 10, the next one in turn.
+#[test]
+fn a_cold_block_is_taken(rt: HostRuntime) -> Result<(), Fail> {
+    let alloc = rt.alloc();
+    let mut rig = fresh(alloc, FailList::new(alloc), FailList::new(alloc), None)?;
+    assert_eq!(rt; rig.writes(32), Seen::Number(32));
+    for _ in 0..345u32 {
+        if !worn(&mut rig) {
+            return Err(Fail::from("not cleaned"));
+        }
+    }
+    assert_eq!(rt; rig.step(Step::Level), Seen::No);
+    assert!(rt; worn(&mut rig));
+    assert_eq!(rt; rig.differs(&LEVELLED), None);
+    assert_eq!(rt; rig.counts(), (32 + 346 * 33 + 32 + 1, 0, 0));
+    Ok(())
+}

@@ -1,0 +1,36 @@
+// The least volume.
+ghost use Rattle.std.specs.Prelude.{◌≡◌, IfOk};
+ghost use Rattle.nl_device_tests.specs.Rigs.{IsLeast};
+ghost use Rattle.nl_nand.specs.Memory.{contents_of, geometry_of};
+ghost use Rattle.nl_nand.specs.Nand.{IsBlank};
+
+use nl_field::{FailList, Shape, shape_of};
+use nl_nand::{FormAnswer, MemNand, Nand, Stop};
+use std::alloc::Global;
+use std::test::Fail;
+
+pub fn least() -> Result<Shape, Fail>
+    ensures { IfOk result IsLeast }
+{
+    match shape_of(32, 32) {
+        Some(shape) => Ok(shape),
+        None => Err(Fail::from("no shape")),
+    }
+}
+
+/// A blank medium of 32 blocks of 32 pages.
+pub fn blank(
+    alloc: Global,
+    reads: FailList,
+    writes: FailList,
+    stop: Option<Stop>,
+) -> Result<MemNand, Fail>
+    ensures numbers { IfOk result (λ m. geometry_of m ≡ record { blocks = 32; pages = 32 }) }
+    ensures erased { IfOk result (λ m. IsBlank (contents_of m)) }
+{
+    let mut media = MemNand::new(alloc, reads, writes, stop);
+    match media.form(32, 32) {
+        FormAnswer::Done => Ok(media),
+        _ => Err(Fail::from("not formed")),
+    }
+}

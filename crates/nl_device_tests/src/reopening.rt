@@ -1,0 +1,279 @@
+// A device that is opened again after its cleaning was stopped.
+ghost use Rattle.std.specs.Prelude.{◌≡◌, ◌∷◌, ◌+◌, ◌<◌, ◌≤◌, ℕ, [], IfOk, IsTrue, None};
+ghost use Rattle.nl_device.specs.Kept.{kept_from, kept_pages};
+ghost use Rattle.nl_device.specs.Retain.{CanRetain, kept_of};
+ghost use Rattle.nl_device_tests.specs.Reopened.{of_least, own_page, pages_from, wanted_at};
+
+use crate::cleaning::made;
+use crate::device::{Rig, Seen, Step, TAG};
+use nl_device::{Device, Started};
+use nl_field::{FailList, PageBuf, Pointer, PointerList, SpareRec};
+use nl_iface::Counts;
+use nl_nand::{Cut, MemNand, Nand, Stop};
+use nl_scan::{ScanTables, Seen as Page};
+use std::alloc::Global;
+use std::test::Fail;
+
+/// What the cleaning has done: it copied page 258, or pages 258 and 270, or erased their block too. In `Moved` and `Lost` the pointers have
+/// the old names still, though in `Lost` their block was erased.
+#[derive(Clone, Copy, Debug)]
+enum Left {
+    Written,
+    OneCopied,
+    Copied,
+    Erased,
+    Moved,
+    Lost,
+}
+
+/// Whether it is the page of that number, with this stamp and the owner of all pages.
+fn is_page(page: &Page, number: u32, stamp: u64) -> bool
+    ensures { IsTrue result → kept_from 256 page.now ≡ Some (own_page (number, stamp)) }
+{
+    match page.rec {
+        SpareRec::Virtual { .. } => false,
+        SpareRec::Physical {
+            tag,
+            stamp: found,
+            ..
+        } => number >= 256 && page.page == number && tag == TAG && found == stamp,
+    }
+}
+
+/// The pages that may be seen, by rising number, each with its stamp: the 33 that were written, and then the two copies.
+fn wanted(at: u32) -> (u32, u64)
+    requires { at < 40 }
+    ensures { result ≡ wanted_at at }
+{
+    if at < 33 {
+        (256 + at, at as u64 + 1)
+    } else if at == 33 {
+        (320, 3)
+    } else {
+        (321, 15)
+    }
+}
+
+/// Whether the scan saw so many of these pages, from this one on.
+fn are_seen(tables: &ScanTables, first: u32, count: u32) -> bool
+    requires { first + count ≤ 35 }
+    ensures { IsTrue result → kept_pages 256 tables.now.seen ≡ pages_from first count }
+{
+    if tables.len() != count {
+        return false;
+    }
+    for at in 0..count {
+        let (number, stamp) = wanted(first + at);
+        if !is_page(tables.get(at), number, stamp) {
+            return false;
+        }
+    }
+    true
+}
+
+/// A device that was started from a medium on which a scan sees these pages.
+fn scanned(alloc: Global, media: MemNand, first: u32, count: u32) -> Result<Device<MemNand>, Fail>
+    requires { first + count ≤ 35 }
+    ensures formed { IfOk result (λ d. ⟦<Device<MemNand> as Counts>⟧.formed d) }
+    ensures live { IfOk result (λ d. (p : ℕ) → (⟦<Device<MemNand> as Counts>⟧.names d).live p ≡ None) }
+    ensures idle { IfOk result (λ d. (⟦<Device<MemNand> as Counts>⟧.names d).space.victim ≡ 0) }
+    ensures kept { IfOk result (λ d. kept_of d ≡ of_least first count) }
+{
+    let geometry = media.geometry();
+    if geometry.blocks != 32 || geometry.pages != 32 {
+        return Err(Fail::from("other numbers"));
+    }
+    match Device::start(alloc, media) {
+        Started::Ready(device, tables) => {
+            if are_seen(&tables, first, count) {
+                Ok(device)
+            } else {
+                Err(Fail::from("other pages"))
+            }
+        }
+        _ => Err(Fail::from("not started")),
+    }
+}
+
+/// The device of a medium on which a scan sees these pages, with these pointers.
+fn reopened(
+    alloc: Global,
+    media: MemNand,
+    first: u32,
+    count: u32,
+    kept: &PointerList,
+) -> Result<Rig, Fail>
+    requires few { first + count ≤ 35 }
+    requires can { CanRetain (of_least first count) kept.now.items }
+{
+    let buf = PageBuf::new(alloc)?;
+    let mut device = scanned(alloc, media, first, count)?;
+    device.retain(kept);
+    Ok(Rig { device, buf })
+}
+
+/// The pointers of the three live pages; those of the two pages of the victim have these names.
+fn pointers(alloc: Global, first: u32, second: u32) -> Result<PointerList, Fail>
+    ensures { IfOk result (λ l. l.items ≡ record { name = first; stamp = 3 } ∷ record { name = second; stamp = 15 } ∷ record { name = 288; stamp = 33 } ∷ []) }
+{
+    let mut list = PointerList::new(alloc);
+    list.push(Pointer {
+        name: first,
+        stamp: 3,
+    })?;
+    list.push(Pointer {
+        name: second,
+        stamp: 15,
+    })?;
+    list.push(Pointer {
+        name: 288,
+        stamp: 33,
+    })?;
+    Ok(list)
+}
+
+fn open_written(alloc: Global, media: MemNand) -> Result<Rig, Fail> {
+    let list = pointers(alloc, 258, 270)?;
+    reopened(alloc, media, 0, 33, &list)
+}
+
+fn open_one_copied(alloc: Global, media: MemNand) -> Result<Rig, Fail> {
+    let list = pointers(alloc, 258, 270)?;
+    reopened(alloc, media, 0, 34, &list)
+}
+
+fn open_copied(alloc: Global, media: MemNand) -> Result<Rig, Fail> {
+    let list = pointers(alloc, 320, 321)?;
+    reopened(alloc, media, 0, 35, &list)
+}
+
+fn open_erased(alloc: Global, media: MemNand) -> Result<Rig, Fail> {
+    let list = pointers(alloc, 320, 321)?;
+    reopened(alloc, media, 32, 3, &list)
+}
+
+fn open_moved(alloc: Global, media: MemNand) -> Result<Rig, Fail> {
+    let list = pointers(alloc, 258, 270)?;
+    reopened(alloc, media, 0, 35, &list)
+}
+
+fn open_lost(alloc: Global, media: MemNand) -> Result<Rig, Fail> {
+    let list = pointers(alloc, 258, 270)?;
+    reopened(alloc, media, 32, 3, &list)
+}
+
+fn open(alloc: Global, media: MemNand, left: Left) -> Result<Rig, Fail> {
+    match left {
+        Left::Written => open_written(alloc, media),
+        Left::OneCopied => open_one_copied(alloc, media),
+        Left::Copied => open_copied(alloc, media),
+        Left::Erased => open_erased(alloc, media),
+        Left::Moved => open_moved(alloc, media),
+        Left::Lost => open_lost(alloc, media),
+    }
+}
+
+/// Two pages are moved and their block is erased, until this stop; then the device is opened again.
+fn stopped(alloc: Global, stop: Stop, left: Left) -> Result<Rig, Fail> {
+    let mut rig = made(
+        alloc,
+        FailList::new(alloc),
+        FailList::new(alloc),
+        Some(stop),
+    )?;
+    rig.copy();
+    rig.copy();
+    rig.erase();
+    let media = rig.restarted();
+    open(alloc, media, left)
+}
+
+/// What a device answers that was opened with these names of the two pages of the victim; `next` is the name of the next page.
+fn kept(rig: &mut Rig, first: u32, second: u32, next: u32) -> Option<(usize, Seen)> {
+    rig.differs(&[
+        (Step::FreeBlocks, Seen::Number(22)),
+        (Step::Pairs, Seen::Number(0)),
+        (Step::Read(first, 3), Seen::Byte(2)),
+        (Step::Read(second, 15), Seen::Byte(14)),
+        (Step::Read(288, 33), Seen::Byte(32)),
+        (Step::Read(256, 1), Seen::NotLive),
+        (Step::Write(7), Seen::At(next, 34)),
+    ])
+}
+
+/// The same with the old names of pages that were copied. Each of the two has a callback, in the order of the pointers, and their block
+/// waits for both names.
+fn led(rig: &mut Rig, next: u32) -> Option<(usize, Seen)> {
+    rig.differs(&[
+        (Step::FreeBlocks, Seen::Number(21)),
+        (Step::Pairs, Seen::Number(2)),
+        (Step::Posted, Seen::Number(2)),
+        (Step::Least, Seen::Number(1)),
+        (Step::Callback(1), Seen::Moved(258, 320, 3)),
+        (Step::Callback(2), Seen::Moved(270, 321, 15)),
+        (Step::Callback(3), Seen::No),
+        (Step::Resolve(258), Seen::Number(320)),
+        (Step::Resolve(288), Seen::Number(288)),
+        (Step::Read(258, 3), Seen::Byte(2)),
+        (Step::Read(321, 15), Seen::Byte(14)),
+        (Step::Read(288, 33), Seen::Byte(32)),
+        (Step::Read(256, 1), Seen::NotLive),
+        (Step::Handled(1, 7), Seen::Yes),
+        (Step::Handled(2, 8), Seen::Yes),
+        (Step::Acknowledge(7), Seen::Did),
+        (Step::Pairs, Seen::Number(1)),
+        (Step::FreeBlocks, Seen::Number(21)),
+        (Step::Acknowledge(8), Seen::Did),
+        (Step::Pairs, Seen::Number(0)),
+        (Step::FreeBlocks, Seen::Number(22)),
+        (Step::Read(258, 3), Seen::NotLive),
+        (Step::Read(320, 3), Seen::Byte(2)),
+        (Step::Write(7), Seen::At(next, 34)),
+    ])
+}
+
+fn answers(rig: &mut Rig, left: Left, next: u32) -> Option<(usize, Seen)> {
+    match left {
+        Left::Written | Left::OneCopied => kept(rig, 258, 270, next),
+        Left::Copied | Left::Erased => kept(rig, 320, 321, next),
+        Left::Moved | Left::Lost => led(rig, next),
+    }
+}
+
+/// Where a cleaning stops, with which cut, what is left then, and the name of the next page after an opening. The pages of a block that
+/// does not read as erased are given out after those of the other ones.
+const STOPS: [(u64, Cut, Left, u32); 13] = [
+    (34, Cut::Before, Left::Written, 320),
+    (34, Cut::After, Left::OneCopied, 352),
+    (34, Cut::Spoilt, Left::Written, 352),
+    (35, Cut::Before, Left::OneCopied, 352),
+    (35, Cut::After, Left::Copied, 352),
+    (35, Cut::Spoilt, Left::OneCopied, 352),
+    (36, Cut::Before, Left::Copied, 352),
+    (36, Cut::After, Left::Erased, 256),
+    (36, Cut::Spoilt, Left::Erased, 352),
+    // The callbacks were not handled: the old names lead to the copies, and the block of the names waits, until they are.
+    (35, Cut::After, Left::Moved, 352),
+    (36, Cut::Before, Left::Moved, 352),
+    (36, Cut::After, Left::Lost, 256),
+    (36, Cut::Spoilt, Left::Lost, 352),
+];
+
+// Two copies and the erase of their block, each stopped with each cut.
+#[test]
+fn a_cleaning_is_stopped(rt: HostRuntime) -> Result<(), Fail> {
+    let alloc = rt.alloc();
+    for (operation, cut, left, next) in STOPS.iter() {
+        let stop = Stop {
+            operation: *operation,
+            cut: *cut,
+        };
+        let mut rig = stopped(alloc, stop, *left)?;
+        assert_eq!(rt;
+            answers(&mut rig, *left, *next),
+            None,
+            "{operation} {cut:?}"
+        );
+    }
+    Ok(())
+}

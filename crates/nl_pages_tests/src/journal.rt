@@ -1,0 +1,198 @@
+ghost use Rattle.std.specs.Prelude.{◌≡◌, ◌<◌, ◌≤◌, [], ◌∷◌, IfOk, IsSome, IsTrue, length};
+ghost use Rattle.nl_field.specs.Numbers.{shape_for};
+ghost use Rattle.nl_meta.specs.Pages.{with_address};
+ghost use Rattle.nl_nand.specs.Memory.{contents_of, geometry_of};
+ghost use Rattle.nl_nand.specs.Nand.{IsBlank};
+ghost use Rattle.nl_pages_tests.specs.Standing.{Stands};
+
+use crate::device::{blank, started};
+use nl_device::{Device, Started};
+use nl_field::{FailList, Memory, PageBuf, VirtualRead, shape_of};
+use nl_iface::{Counts, VirtualPages};
+use nl_journal::{Committing, Journal, ReadBack};
+use nl_meta::Meta;
+use nl_nand::{Cut, MemNand, Nand, Stop};
+use std::alloc::Global;
+
+/// The pages that are committed: the super page, two of nodes, and the first and the last of the pool.
+const ADDRESSES: [u32; 5] = [0, 67, 68, 71, 102];
+
+/// A device with a journal and the metadata pages.
+#[derive(Drop)]
+pub struct Volume {
+    device: Device<MemNand>,
+    journal: Journal,
+    meta: Meta,
+}
+
+/// What an opening finds: which transaction counts, and the first byte of each committed page that has one.
+#[derive(Clone, Copy, Debug, PartialEq)]
+pub struct Stopped {
+    pub found: ReadBack,
+    pub bytes: [Option<u8>; 5],
+}
+
+/// Two commits of five pages each, the first of pages that begin with 1 and the second with 2, on a medium that stops within an
+/// operation. What an opening finds afterwards.
+pub fn stopped_at(alloc: Global, operation: u64, cut: Cut) -> Result<Stopped, Memory> {
+    let media = blank(alloc, FailList::new(alloc), Some(Stop { operation, cut }))?;
+    let mut volume = begin(alloc, media)?;
+    if commit_all(&mut volume, 1) {
+        commit_all(&mut volume, 2);
+    }
+    opened(alloc, volume.device.into_media().restart(None))
+}
+
+// The volume of a blank medium, before its first transaction.
+fn begin(alloc: Global, media: MemNand) -> Result<Volume, Memory>
+    requires numbers { geometry_of media ≡ record { blocks = 32; pages = 32 } }
+    requires erased { IsBlank (contents_of media) }
+    ensures { IfOk result (λ v. Stands ⟦<Device<MemNand> as Counts>⟧ v.device v.journal v.meta) }
+{
+    let mut device = started(alloc, media)?;
+    let mut journal = Journal::new(alloc)?;
+    match shape_of(32, 32) {
+        Some(shape) => {
+            let meta = Meta::new(alloc, shape)?;
+            match journal.read_back(&mut device, &shape) {
+                ReadBack::Nothing => Ok(Volume {
+                    device,
+                    journal,
+                    meta,
+                }),
+                _ => Err(Memory),
+            }
+        }
+        None => Err(Memory),
+    }
+}
+
+// Commits the pages, each of which begins with this byte. Whether it was done.
+fn commit_all(volume: &mut Volume, byte: u8) -> bool
+    requires { Stands ⟦<Device<MemNand> as Counts>⟧ volume.old.device volume.old.journal volume.old.meta }
+    ensures { IsTrue result → Stands ⟦<Device<MemNand> as Counts>⟧ volume.new.device volume.new.journal volume.new.meta }
+{
+    if volume.device.next_stamp() > 10_000 {
+        return false;
+    }
+    if !put_all(&mut volume.meta, byte) {
+        return false;
+    }
+    volume.meta.stands();
+    matches!(
+        volume.journal.commit(&mut volume.device, &mut volume.meta),
+        Committing::Done(_)
+    )
+}
+
+// Whether the pages begin with this byte then, and are the dirty ones.
+fn put_all(meta: &mut Meta, byte: u8) -> bool
+    requires count { length meta.old.running ≡ 103 }
+    requires clean { meta.old.dirty ≡ [] }
+    ensures dirty { IsTrue result → meta.new.dirty ≡ 0 ∷ 67 ∷ 68 ∷ 71 ∷ 102 ∷ [] }
+    ensures count { length meta.new.running ≡ length meta.old.running }
+    ensures frozen { meta.new.frozen ≡ meta.old.frozen }
+{
+    if !put(meta, 0, byte) {
+        return false;
+    }
+    if !put(meta, 67, byte) {
+        return false;
+    }
+    if !put(meta, 68, byte) {
+        return false;
+    }
+    if !put(meta, 71, byte) {
+        return false;
+    }
+    put(meta, 102, byte)
+}
+
+// Whether the page of an address begins with this byte then, and is dirty.
+fn put(meta: &mut Meta, vaddr: u32, byte: u8) -> bool
+    requires { vaddr < length meta.old.running }
+    ensures dirty { IsTrue result → meta.new.dirty ≡ with_address vaddr meta.old.dirty }
+    ensures count { length meta.new.running ≡ length meta.old.running }
+    ensures frozen { meta.new.frozen ≡ meta.old.frozen }
+{
+    if !meta.fresh(vaddr) {
+        return false;
+    }
+    match meta.page_mut(vaddr) {
+        Some(page) => {
+            page.set_main(0, &[byte]);
+            true
+        }
+        None => false,
+    }
+}
+
+// What an opening of a medium of 32 blocks of 32 pages finds.
+fn opened(alloc: Global, media: MemNand) -> Result<Stopped, Memory> {
+    let geometry = media.geometry();
+    if geometry.blocks != 32 || geometry.pages != 32 {
+        return Err(Memory);
+    }
+    match Device::start(alloc, media) {
+        Started::Ready(device, _) => read_all(alloc, device),
+        _ => Err(Memory),
+    }
+}
+
+fn read_all(alloc: Global, mut device: Device<MemNand>) -> Result<Stopped, Memory>
+    requires formed { ⟦<Device<MemNand> as Counts>⟧.formed device }
+    requires numbers { ⟦<Device<MemNand> as Counts>⟧.shape device ≡ shape_for 32 32 }
+{
+    let mut journal = Journal::new(alloc)?;
+    match shape_of(32, 32) {
+        Some(shape) => {
+            let found = journal.read_back(&mut device, &shape);
+            let bytes = bytes_of(alloc, &mut device, matches!(found, ReadBack::Agreed(_)))?;
+            Ok(Stopped { found, bytes })
+        }
+        None => Err(Memory),
+    }
+}
+
+// The first byte of each committed page: of its image, where a transaction counts, and else of the page at home.
+fn bytes_of(
+    alloc: Global,
+    device: &mut Device<MemNand>,
+    counts: bool,
+) -> Result<[Option<u8>; 5], Memory>
+    requires formed { ⟦<Device<MemNand> as Counts>⟧.formed device.old }
+    requires addresses { (⟦<Device<MemNand> as Counts>⟧.shape device.old).vaddrs ≡ 103 }
+{
+    let mut buf = PageBuf::new(alloc)?;
+    let first = byte_at(device, address(0, counts), &mut buf)?;
+    let second = byte_at(device, address(1, counts), &mut buf)?;
+    let third = byte_at(device, address(2, counts), &mut buf)?;
+    let fourth = byte_at(device, address(3, counts), &mut buf)?;
+    let fifth = byte_at(device, address(4, counts), &mut buf)?;
+    Ok([first, second, third, fourth, fifth])
+}
+
+fn address(place: usize, counts: bool) -> u32
+    requires { place < 5 }
+    ensures { result ≤ 102 }
+{
+    if counts {
+        2 + place as u32
+    } else {
+        ADDRESSES[place]
+    }
+}
+
+fn byte_at(device: &mut Device<MemNand>, vaddr: u32, buf: &mut PageBuf) -> Result<Option<u8>, Memory>
+    requires formed { ⟦<Device<MemNand> as Counts>⟧.formed device.old }
+    requires addresses { (⟦<Device<MemNand> as Counts>⟧.shape device.old).vaddrs ≡ 103 }
+    requires within { vaddr ≤ 102 }
+    ensures formed { ⟦<Device<MemNand> as Counts>⟧.formed device.new }
+    ensures addresses { (⟦<Device<MemNand> as Counts>⟧.shape device.new).vaddrs ≡ 103 }
+{
+    match device.virtual_read(vaddr, buf) {
+        VirtualRead::Done => Ok(Some(buf.main()[0])),
+        VirtualRead::Unmapped => Ok(None),
+        _ => Err(Memory),
+    }
+}
