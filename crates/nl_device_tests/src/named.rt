@@ -96,6 +96,14 @@ impl Rig {
     }
 }
 
+/// Two pages are written, for which a block is erased.
+fn writes_two(rig: &mut Rig) -> bool {
+    rig.write(0) == Some(256)
+        && rig.counts() == (2, 1)
+        && rig.write(1) == Some(257)
+        && rig.counts() == (3, 1)
+}
+
 // The first erase fails; then the block is erased before its first page is programmed.
 #[test]
 fn soiled_blocks_are_erased(rt: HostRuntime) -> Result<(), Fail> {
@@ -107,10 +115,7 @@ fn soiled_blocks_are_erased(rt: HostRuntime) -> Result<(), Fail> {
     assert_eq!(rt; rig.write(0), None);
     assert_eq!(rt; rig.counts(), (0, 1));
     assert_eq!(rt; rig.free_blocks(), 24);
-    assert_eq!(rt; rig.write(0), Some(256));
-    assert_eq!(rt; rig.counts(), (2, 1));
-    assert_eq!(rt; rig.write(1), Some(257));
-    assert_eq!(rt; rig.counts(), (3, 1));
+    assert!(rt; writes_two(&mut rig));
     let want = SpareRec::Physical {
         tag: TAG,
         stamp: 2,
