@@ -183,7 +183,11 @@ fn address(place: usize, counts: bool) -> u32
     }
 }
 
-fn byte_at(device: &mut Device<MemNand>, vaddr: u32, buf: &mut PageBuf) -> Result<Option<u8>, Memory>
+fn byte_at(
+    device: &mut Device<MemNand>,
+    vaddr: u32,
+    buf: &mut PageBuf,
+) -> Result<Option<u8>, Memory>
     requires formed { ⟦<Device<MemNand> as Counts>⟧.formed device.old }
     requires addresses { (⟦<Device<MemNand> as Counts>⟧.shape device.old).vaddrs ≡ 103 }
     requires within { vaddr ≤ 102 }

@@ -34,11 +34,7 @@ const ROWS: [Row; 8] = [
     Row {
         first: 7,
         last: 7,
-        found: [
-            ReadBack::Nothing,
-            ReadBack::Agreed(1),
-            ReadBack::Nothing,
-        ],
+        found: [ReadBack::Nothing, ReadBack::Agreed(1), ReadBack::Nothing],
         bytes: [NONE, FIRST, NONE],
     },
     Row {
@@ -50,11 +46,7 @@ const ROWS: [Row; 8] = [
     Row {
         first: 13,
         last: 13,
-        found: [
-            ReadBack::Agreed(1),
-            ReadBack::Nothing,
-            ReadBack::Agreed(1),
-        ],
+        found: [ReadBack::Agreed(1), ReadBack::Nothing, ReadBack::Agreed(1)],
         bytes: [FIRST; 3],
     },
     Row {
@@ -66,11 +58,7 @@ const ROWS: [Row; 8] = [
     Row {
         first: 19,
         last: 19,
-        found: [
-            ReadBack::Nothing,
-            ReadBack::Agreed(2),
-            ReadBack::Nothing,
-        ],
+        found: [ReadBack::Nothing, ReadBack::Agreed(2), ReadBack::Nothing],
         bytes: [FIRST, SECOND, FIRST],
     },
     Row {
