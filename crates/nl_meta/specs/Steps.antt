@@ -1,7 +1,7 @@
 -- What the calls do to the pages, and what that means for a volume over any device.
-use Rattle.std.specs.Prelude.{◌≡◌, ◌≢◌, ℕ, List, length, slice_set, Some, None}
+use Rattle.std.specs.Prelude.{◌≡◌, ◌≢◌, ◌⊎◌, ℕ, ◌≤◌, false, List, length, slice_set, Some, None, IsSome}
 use Rattle.nl_field.specs.Bytes.{zeros}
-use Rattle.nl_meta.specs.Pages.{Pages, page_of, with_address, touched, with_image}
+use Rattle.nl_meta.specs.Pages.{Pages, is_dirty, page_of, with_address, touched, with_image}
 
 -- the running page of an address replaced
 abbrev pub with_page : Pages → ℕ → List ℕ → Pages
@@ -47,3 +47,12 @@ pub record Freshens (v : ℕ) (old new : Pages) : Type 0 where
   pub page : page_of new v ≡ Some (zeros 4096)
   pub dirty : new.dirty ≡ with_address v old.dirty
   pub keeps : Keeps v old new
+
+-- The running pages change, and no frozen one. Each resident page stays so. One that is not dirty afterwards was not before, and is as it was.
+-- A page that became resident is none of the journal's.
+pub record ChangesPages (old new : Pages) : Type 0 where
+  pub same_frozen : new.frozen ≡ old.frozen
+  pub stays : (v : ℕ) → IsSome (page_of old v) → IsSome (page_of new v)
+  pub was_clean : (v : ℕ) → is_dirty new v ≡ false → is_dirty old v ≡ false
+  pub same_clean : (v : ℕ) → is_dirty new v ≡ false → IsSome (page_of old v) → page_of new v ≡ page_of old v
+  pub apart : (v : ℕ) → IsSome (page_of new v) → IsSome (page_of old v) ⊎ ((v ≡ 0) ⊎ (67 ≤ v))
