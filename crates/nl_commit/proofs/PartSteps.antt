@@ -12,7 +12,7 @@ use Rattle.nl_commit.specs.Standing.{StandsOn}
 
 module _ {D : Type 0} (g : Ghosts D) (s : D) (pages : Pages) where
   -- freezing changes no running page
-  frozen_runs : running_on g s (with_frozen pages) ≡ running_on g s pages
+  pub frozen_runs : running_on g s (with_frozen pages) ≡ running_on g s pages
   unfolding running_over
   frozen_runs = refl
 

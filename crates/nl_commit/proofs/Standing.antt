@@ -22,7 +22,7 @@ use Rattle.nl_journal.proofs.InOrders.{stays}
 use Rattle.nl_meta.specs.Committed.{VirtualMap}
 use Rattle.nl_meta.specs.Consistent.{AddressesRight, EntriesRight, NodesRight}
 use Rattle.nl_meta.specs.Nodes.{graph_of}
-use Rattle.nl_meta.specs.Pages.{Frozen, Pages, dirty_pages, is_dirty, is_frozen, none_frozen, page_of}
+use Rattle.nl_meta.specs.Pages.{Frozen, IsPages, Pages, dirty_pages, is_dirty, is_frozen, none_frozen, page_of}
 use Rattle.nl_meta.specs.Running.{CleanIsStored, or_stored, running_over}
 use Rattle.nl_meta.specs.Steps.{with_dirty}
 use Rattle.nl_meta.proofs.Lists.{some_in}
@@ -193,18 +193,19 @@ module _ {D : Type 0} (g : Ghosts D) where
       image i lt None is there = absurd (both_ways _ (ap is_some is) there)
       image i lt (Some bytes) is there = is ∙ ap (λ (m : List ℕ). Some m) (sym (get_or-map (λ v. unwrap_or (page_of pages v) []) pages.dirty i 0 [] lt ∙ ap (λ o. unwrap_or o []) is))
 
-  pub changes_can_freeze : ChangesCanFreeze g
-  changes_can_freeze s p pages j held first header none = record {
-    header = header;
-    none = none;
-    dirty = subst (λ (n : ℕ). IsTransaction n (dirty_pages pages)) j.runs.count (dirty_transaction pages held first (λ v low high. apart v low high (is_dirty pages v) refl));
-  }
+  -- the dirty pages are those of a transaction where the super page is one of them
+  pub dirty_is_a_transaction : (s : D) (p : Progress) (pages : Pages) → IsJournaled g s p pages → IsPages pages → is_dirty pages 0 ≡ true → IsTransaction (g.shape s).vaddrs (dirty_pages pages)
+  dirty_is_a_transaction s p pages j held first =
+      subst (λ (n : ℕ). IsTransaction n (dirty_pages pages)) j.runs.count (dirty_transaction pages held first (λ v low high. apart v low high (is_dirty pages v) refl))
     where
       apart : (v : ℕ) → 1 ≤ v → v < 67 → (b : Bool) → is_dirty pages v ≡ b → is_dirty pages v ≡ false
       apart v low high false is = is
       apart v low high true is =
           let i = index_of pages.dirty v is in
           absurd (both_ways _ (ap is_some (j.apart v low high)) (ap (λ (w : ℕ). is_some (page_of pages w)) (sym i.2) ∙ held.dirty_there (get_or pages.dirty i.0 0) (has_at pages.dirty i.0 i.1)))
+
+  pub changes_can_freeze : ChangesCanFreeze g
+  changes_can_freeze s p pages j held first header none = record { header = header; none = none; dirty = dirty_is_a_transaction s p pages j held first }
 
   -- ---- the super page
 

@@ -1,5 +1,5 @@
 -- A transaction is completed: its commit page is written, and its pages are copied home.
-use Rattle.std.specs.Prelude.{◌≡◌, ℕ, ◌<◌, ◌≤◌, ⊤, length}
+use Rattle.std.specs.Prelude.{◌≡◌, ℕ, ◌<◌, ◌≤◌, ⊤, length, Option, Some, None}
 use Rattle.nl_field.specs.CrashStates.{Earlier, Turns}
 use Rattle.nl_iface.specs.Calls.{Leaves}
 use Rattle.nl_iface.specs.Names.{SameTables}
@@ -29,6 +29,11 @@ pub record DecidesAt {D : Type 0} (g : Ghosts D) (old new : D) (p q : Progress) 
 -- It was not written: where it was to be written, it still is.
 abbrev pub StaysOpen : Progress → Progress → Frozen → Frozen → Type 0
 StaysOpen p q frozen now = IsOpen p frozen → IsOpen q now
+
+-- Whether it was finished: at a moment that is told, or not.
+abbrev pub IsDecided : Option ℕ → Progress → Progress → Frozen → Frozen → Type 0
+IsDecided None p q frozen now = StaysOpen p q frozen now
+IsDecided (Some moment) p q frozen now = IsOpen p frozen × (q.number ≡ begun p (length frozen.addresses))
 
 -- What completing says of the metadata and of who holds pages: the units that were left of the frozen transaction were done, or some of them.
 pub record Completes {D : Type 0} (g : Ghosts D) (done : Type 0) (s : D) (p : Progress) (pages : Pages) (t : D) (q : Progress) (now : Pages) : Type 0 where

@@ -24,7 +24,7 @@ use Rattle.nl_held.specs.Standing.{AheadIsRunning}
 use Rattle.nl_held.proofs.Reading.{reads_some, reads_stored}
 
 module _ {D : Type 0} (g : Ghosts D) (s : D) (pages : Pages) (v : ℕ) where
-  runs_some : (bytes : List ℕ) → page_of pages v ≡ Some bytes → running_on g s pages v ≡ Some bytes
+  pub runs_some : (bytes : List ℕ) → page_of pages v ≡ Some bytes → running_on g s pages v ≡ Some bytes
   unfolding running_over
   runs_some bytes is = ap (λ o. or_stored o (stored_on g s v)) is
 

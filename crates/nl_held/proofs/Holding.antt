@@ -61,7 +61,7 @@ module _ {D : Type 0} (g : Ghosts D) (answer : VirtualWrite) (s : D) (p : Progre
       )
 
 pub commits_hold : {D : Type 0} (g : Ghosts D) → CommitHolds g
-commits_hold g answer s t p r pages now v volume j is c = ⊎_elim
+commits_hold g answer earlier decided s t p r pages now v volume j is c = ⊎_elim
     (λ x. stopped g answer s p pages v volume j is t c.between r c.halfway now c.rest x.1 x.2 x.3 c.answer c.first x.0)
     (λ x. whole g answer s p pages v volume j is c.between t c.halfway r c.rest now c.answer c.first x.0 x.1 x.2) c.second
 
@@ -77,8 +77,8 @@ lowered g s p pages v is = record {
 }
 
 pub commit_keeps_held : {D : Type 0} (g : Ghosts D) → CommitKeepsHeld g
-commit_keeps_held g answer s t p r pages now flight freeing volume j h c =
-    let made = commits_hold g answer s t p r pages now h.holding volume j h.is_of c in
+commit_keeps_held g answer earlier decided s t p r pages now flight freeing volume j h c =
+    let made = commits_hold g answer earlier decided s t p r pages now h.holding volume j h.is_of c in
     let on = made.1 in
     let low = none_due made.0 in
     let holds = on.holds.keeps.holds h.holds in
@@ -93,8 +93,8 @@ commit_keeps_held g answer s t p r pages now flight freeing volume j h c =
     }
 
 pub freed_keeps_held : {D : Type 0} (g : Ghosts D) → FreedKeepsHeld g
-freed_keeps_held g answer s t u p r pages now flight freeing volume j h c done volume_t j_t shut differ kept frees =
-    let made = commits_hold g answer s t p r pages now h.holding volume j h.is_of c in
+freed_keeps_held g answer earlier decided s t u p r pages now flight freeing volume j h c done volume_t j_t shut differ kept frees =
+    let made = commits_hold g answer earlier decided s t p r pages now h.holding volume j h.is_of c in
     let w = made.0 in
     let on = made.1 in
     let waiting : w.freeing ≡ freeing = on.holds.same_freeing ∙ h.awaits in

@@ -7,3 +7,5 @@ pub mod Stopping
 pub mod Settling
 pub mod Holding
 pub mod Changing
+pub mod Trees
+pub mod CommitTrees

@@ -1,5 +1,5 @@
 -- A volume between two calls, as to who holds its live pages, and that a commit keeps it.
-use Rattle.std.specs.Prelude.{◌≡◌, ℕ, ◌+◌, ◌≤◌, List, [], length, map}
+use Rattle.std.specs.Prelude.{◌≡◌, ℕ, ◌+◌, ◌≤◌, List, [], length, map, Option}
 use Rattle.nl_field.specs.declared.answers.VirtualWrite.{VirtualWrite}
 use Rattle.nl_field.specs.declared.answers.VirtualWrite.TheVariants as write
 use Rattle.nl_field.specs.declared.pointer.Pointer.{Pointer}
@@ -46,20 +46,20 @@ pub record CommitsOn {D : Type 0} (g : Ghosts D) (done : Type 0) (p : Progress) 
 
 abbrev pub CommitHolds : {D : Type 0} → Ghosts D → Type 0
 CommitHolds {D} g =
-    (answer : VirtualWrite) (s t : D) (p r : Progress) (pages now : Pages) (v : Holding) → IsVolumeShape (g.shape s) → IsJournaled g s p pages → IsHoldingOn g s p pages v
-    → CommitsInParts g (answer ≡ write.Done) s p pages t r now → (w : Holding) × CommitsOn g (answer ≡ write.Done) p pages t r now v w
+    (answer : VirtualWrite) (earlier decided : Option ℕ) (s t : D) (p r : Progress) (pages now : Pages) (v : Holding) → IsVolumeShape (g.shape s) → IsJournaled g s p pages → IsHoldingOn g s p pages v
+    → CommitsInParts g (answer ≡ write.Done) earlier decided s p pages t r now → (w : Holding) × CommitsOn g (answer ≡ write.Done) p pages t r now v w
 
 -- So a commit leaves the volume held. Done or not, the same pages await their free.
 abbrev pub CommitKeepsHeld : {D : Type 0} → Ghosts D → Type 0
 CommitKeepsHeld {D} g =
-    (answer : VirtualWrite) (s t : D) (p r : Progress) (pages now : Pages) (flight : List (Tag × Pointer)) (freeing : List Pointer) → IsVolumeShape (g.shape s) → IsJournaled g s p pages
-    → IsHeldVolume g s p pages flight freeing → CommitsInParts g (answer ≡ write.Done) s p pages t r now → IsHeldVolume g t r now flight freeing
+    (answer : VirtualWrite) (earlier decided : Option ℕ) (s t : D) (p r : Progress) (pages now : Pages) (flight : List (Tag × Pointer)) (freeing : List Pointer) → IsVolumeShape (g.shape s) → IsJournaled g s p pages
+    → IsHeldVolume g s p pages flight freeing → CommitsInParts g (answer ≡ write.Done) earlier decided s p pages t r now → IsHeldVolume g t r now flight freeing
 
 -- Once it is done and all of them are freed, none awaits its free.
 abbrev pub FreedKeepsHeld : {D : Type 0} → Ghosts D → Type 0
 FreedKeepsHeld {D} g =
-    (answer : VirtualWrite) (s t u : D) (p r : Progress) (pages now : Pages) (flight : List (Tag × Pointer)) (freeing : List Pointer) → IsVolumeShape (g.shape s) → IsJournaled g s p pages → IsHeldVolume g s p pages flight freeing
-    → CommitsInParts g (answer ≡ write.Done) s p pages t r now → answer ≡ write.Done → IsVolumeShape (g.shape t) → IsJournaled g t r now → (IsOpen r now.frozen → ⊥) → OldNamesDiffer (g.names t) → KeepsMedium g t u
+    (answer : VirtualWrite) (earlier decided : Option ℕ) (s t u : D) (p r : Progress) (pages now : Pages) (flight : List (Tag × Pointer)) (freeing : List Pointer) → IsVolumeShape (g.shape s) → IsJournaled g s p pages → IsHeldVolume g s p pages flight freeing
+    → CommitsInParts g (answer ≡ write.Done) earlier decided s p pages t r now → answer ≡ write.Done → IsVolumeShape (g.shape t) → IsJournaled g t r now → (IsOpen r now.frozen → ⊥) → OldNamesDiffer (g.names t) → KeepsMedium g t u
     → FreesEach freeing (g.names t) (g.names u) → IsHeldVolume g u r now flight []
 
 -- And callbacks are acknowledged that transactions handled which count.

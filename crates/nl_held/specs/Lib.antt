@@ -3,3 +3,5 @@ pub mod CommittedLaws
 pub mod Standing
 pub mod SettlingLaws
 pub mod Held
+pub mod Trees
+pub mod TreeLaws

@@ -2,7 +2,9 @@
 ghost use Rattle.nl_held.specs.CommittedLaws.{CompletingHolds, FreezingHolds, SuperPageHolds};
 ghost use Rattle.nl_held.specs.Held.{AcknowledgedKeepsHeld, CommitHolds, CommitKeepsHeld, FreedKeepsHeld, OpeningIsHeld};
 ghost use Rattle.nl_held.specs.SettlingLaws.{AcknowledgesHold, AddressesHold, ChangesJournaled, FreesHold, MetadataHolds, NoneDue};
+ghost use Rattle.nl_held.specs.TreeLaws.{CommitGoes, CommitLeaves, CompletingGoes, FreezingGoes, SuperPageGoes};
 ghost use Rattle.nl_held.specs.Standing.{AheadIsRunning, CommittedReads, HeldLead, RunningLead, StandsAlike, StopsStand};
+
 
 use nl_iface::VirtualPages;
 
@@ -52,4 +54,14 @@ pub fn commits_keep_held<D: VirtualPages>()
 /// An opening leaves each live page held once, where no transaction is open and what runs is what is committed.
 pub fn opening_is_held<D: VirtualPages>()
     ensures { OpeningIsHeld D.Counts }
+{}
+
+/// The trees of a volume go on through a commit: through each of its parts, and whole. What a stop within it leaves opens as one of them,
+/// from the moment of the last commit page on as none earlier than what that one committed.
+pub fn trees_go_on<D: VirtualPages>()
+    ensures completing { CompletingGoes D.Counts }
+    ensures freezing { FreezingGoes D.Counts }
+    ensures super_page { SuperPageGoes D.Counts }
+    ensures commit { CommitGoes D.Counts }
+    ensures leaves { CommitLeaves D.Counts }
 {}

@@ -13,11 +13,11 @@ use Rattle.nl_journal.proofs.CommitSteps.{begun_header, begun_none, commit_faile
 use Rattle.nl_journal.proofs.FinishSteps.{all_finished}
 use Rattle.nl_journal.proofs.Passing.{none_failed, passes_most, passes_then}
 use Rattle.nl_commit.specs.Committing.{ChangesAt, EarlierAt}
-use Rattle.nl_commit.specs.Completing.{Completes, DecidesAt, StaysOpen}
+use Rattle.nl_commit.specs.Completing.{Completes, DecidesAt, IsDecided, StaysOpen}
 use Rattle.nl_commit.specs.Counting.{record_of, with_count, with_frozen}
 use Rattle.nl_commit.specs.Standing.{IsJournaled, StandsOn}
 use Rattle.nl_field.specs.SuperPage.{super_bytes}
-use Rattle.nl_commit.proofs.CommittingSteps.{changes_stops, done_later, earlier_by, earlier_stops, first_is_dirty, frozen_none, if_some, stopped_stops}
+use Rattle.nl_commit.proofs.CommittingSteps.{changes_stops, done_later, earlier_by, earlier_stops, first_is_dirty, frozen_none, if_some, is_decided_by, stopped_stops}
 use Rattle.nl_commit.proofs.PartSteps.{stands_frozen}
 use Rattle.nl_commit.proofs.Standing.{changes_can_freeze, stands_then, super_page_stands}
 use Rattle.nl_commit.proofs.committing.commit.Goals as goal
@@ -123,6 +123,7 @@ returns-in-Done-clause-commits g c =
         answer = c.complete-first.result.answer;
         first = subst (λ (n : Pages). Completes G D1 s p n m q mid) is
             (record { same_shape = e.passes.named.same_shape; tables = e.passes.named.tables; stands = e.stands; finishes = e.finishes; writes = e.writes });
+        first_decided = subst (λ (n : Pages). IsDecided c.complete-first.result.decided p q n.frozen mid.frozen) is (is_decided_by G s m p q c.store_count.new.meta mid.frozen c.complete-first.result.decided e.decided);
         second = inr (
           c.stands.ensures,
           can,
@@ -133,6 +134,7 @@ returns-in-Done-clause-commits g c =
             finishes = f.finishes;
             writes = f.writes;
           },
+          is_decided_by G m t q r (with_frozen mid) now.frozen c.commit_changes-rest.result.decided f.decided,
         );
       };
     }
@@ -291,7 +293,8 @@ returns-in_default g c =
           answer = c.complete-first.result.answer;
           first = subst (λ (n : Pages). Completes G D1 s p n m q mid) is
               (record { same_shape = e.passes.named.same_shape; tables = e.passes.named.tables; stands = e.stands; finishes = e.finishes; writes = e.writes });
-          second = inl (off, refl, refl, refl);
+          first_decided = subst (λ (n : Pages). IsDecided c.complete-first.result.decided p q n.frozen mid.frozen) is (is_decided_by G s m p q c.store_count.new.meta mid.frozen c.complete-first.result.decided e.decided);
+          second = inl (off, refl, refl, refl, refl);
         };
       };
       earlier = if_some (StaysOpen p q c.store_count.new.meta.frozen mid.frozen) (DecidesAt G s m p q c.store_count.new.meta) (EarlierAt G s m p q pages mid) c.complete-first.result.decided e.decided (λ at d. record {

@@ -1,0 +1,4 @@
+pub mod Calls
+pub mod Core
+pub mod Goes
+pub mod Trees

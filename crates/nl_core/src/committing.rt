@@ -1,0 +1,70 @@
+ghost use Rattle.std.specs.Prelude.{◌≡◌, ◌≤◌, ◌+◌, ◌^◌, IfSome, length, min};
+ghost use Rattle.nl_core.specs.Calls.{Commits, HasCause};
+ghost use Rattle.nl_core.specs.Core.{IsCore, begun_of};
+ghost use Rattle.nl_core.specs.Goes.{Goes};
+
+use crate::core::Core;
+use nl_device::Device;
+use nl_commit::{Committed, commit, free_first};
+use nl_field::VirtualWrite;
+use nl_iface::Counts;
+use nl_journal::Committing;
+use nl_nand::Nand;
+
+// The greatest count of calls and the greatest number of a transaction that are spelled.
+const LAST: u64 = (1 << 63) - 1;
+
+impl<M: Nand> Core<M> {
+    /// Makes all calls so far take effect at once. Once that is done, the pages are freed that awaited it, and the callbacks are
+    /// acknowledged that were handled before.
+    pub fn commit(&mut self) -> Committing
+        requires core { IsCore ⟦<Device<M> as Counts>⟧ self.old }
+        requires writes { self.old.stopped ≡ 0 }
+        requires stamp { ⟦<Device<M> as Counts>⟧.next_stamp self.old.device + 512 ≤ 2 ^ 63 }
+        ensures core { IsCore ⟦<Device<M> as Counts>⟧ self.new }
+        ensures goes { Goes ⟦<Device<M> as Counts>⟧ 512 self.old self.new }
+        ensures commits { Commits ⟦<Device<M> as Counts>⟧ self.old self.new result }
+        ensures faults { HasCause ⟦<Device<M> as Counts>⟧ (result ≡ Committing.Fault) self.old self.new }
+    {
+        let mark = self.mark();
+        let frozen = self.frozen_count();
+        let faults = self.device.write_faults();
+        let count = self.count.min(LAST);
+        let done = commit(
+            &mut self.device,
+            &mut self.journal,
+            &mut self.meta,
+            &self.shape,
+            count,
+        );
+        self.note_fault(faults);
+        self.note_moments(frozen, &done);
+        match done.answer {
+            VirtualWrite::Done => {
+                self.settle(mark);
+                Committing::Done(mark.min(LAST))
+            }
+            VirtualWrite::Lost { wanted, found } => Committing::Lost { wanted, found },
+            VirtualWrite::Fault => Committing::Fault,
+        }
+    }
+
+    // The counts and the moments of the commit pages that were finished.
+    fn note_moments(&mut self, frozen: u64, done: &Committed) {
+        if let Some(moment) = done.earlier {
+            self.committed = frozen;
+            self.moment = moment;
+        }
+        if let Some(moment) = done.decided {
+            self.committed = self.count;
+            self.moment = moment;
+        }
+    }
+
+    // After a commit: what awaited it is freed, and what was handled before is acknowledged.
+    fn settle(&mut self, mark: u64) {
+        let due = self.freeing.len();
+        free_first(&mut self.device, &mut self.freeing, due);
+        self.device.acknowledge(mark);
+    }
+}

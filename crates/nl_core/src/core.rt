@@ -1,0 +1,66 @@
+use nl_device::Device;
+use nl_field::{PointerList, Shape, SuperRec};
+use nl_flight::Flight;
+use nl_iface::Counts;
+use nl_inode::Nodes;
+use nl_journal::{Journal, frozen_len};
+use nl_meta::Meta;
+use nl_nand::Nand;
+
+/// A device with the metadata that runs over it, the pages in flight, and the pointers that await their free.
+#[derive(Drop)]
+pub struct Core<M: Nand> {
+    pub device: Device<M>,
+    pub shape: Shape,
+    pub journal: Journal,
+    pub meta: Meta,
+    pub nodes: Nodes,
+    pub flight: Flight,
+    /// The pointers that await their free, with room for every page of the physical segment.
+    pub freeing: PointerList,
+    /// How many calls the volume has answered.
+    pub count: u64,
+    /// After how many of them the metadata is committed.
+    pub committed: u64,
+    /// The clock as the commit page of that transaction was finished, or at the opening where none was committed since.
+    pub moment: u64,
+    /// The sum of both fault counts after the failure that made the volume read-only, 0 before it.
+    pub stopped: u64,
+}
+
+impl<M: Nand> Core<M> {
+    // The volume is read-only from the first failed program or erase on.
+    pub(crate) fn note_fault(&mut self, writes_before: u64) {
+        if self.stopped == 0 && rose(writes_before, self.device.write_faults()) {
+            self.stopped = self.faults();
+        }
+    }
+
+    /// The sum of both fault counts.
+    pub fn faults(&self) -> u64 {
+        self.device
+            .read_faults()
+            .saturating_add(self.device.write_faults())
+    }
+
+    // The number that counts for what is handled now: it is above that of the frozen transaction.
+    pub(crate) fn mark(&self) -> u64 {
+        self.journal.begun(&self.meta) + 1
+    }
+
+    // The count of calls that the frozen super page has, where there is one.
+    pub(crate) fn frozen_count(&self) -> u64 {
+        if frozen_len(&self.meta) == 0 {
+            return self.committed;
+        }
+        match SuperRec::of(self.meta.frozen_page(0), 0) {
+            Some(rec) => rec.count,
+            None => self.committed,
+        }
+    }
+}
+
+// A count rose, or stands at its end.
+fn rose(before: u64, now: u64) -> bool {
+    before.saturating_add(1) <= now
+}
