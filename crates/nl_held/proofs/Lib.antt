@@ -9,3 +9,4 @@ pub mod Holding
 pub mod Changing
 pub mod Trees
 pub mod CommitTrees
+pub mod DeviceTrees

@@ -82,7 +82,7 @@ module _ (shape : Shape) (values : ℕ → Option Value) (wide : 67 ≤ shape.va
       let most = few h is in
       low_same (2 + i) (omega (arith, lt, most)) ∙ sym (some_reads shape v (bytes_of values (2 + i)) (images_there shape (bytes_of values) h is i lt))
 
-few_addresses : (shape : Shape) (b : Option (List ℕ)) (h : HeaderRec) → head shape b ≡ Some h → length h.addresses ≤ 64
+pub few_addresses : (shape : Shape) (b : Option (List ℕ)) (h : HeaderRec) → head shape b ≡ Some h → length h.addresses ≤ 64
 few_addresses shape None h is = absurd (none_some h is)
 few_addresses shape (Some main) h is = (header_if shape main (header_of main) (Some h) (sym is) refl).1
 

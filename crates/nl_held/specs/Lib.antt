@@ -5,3 +5,4 @@ pub mod SettlingLaws
 pub mod Held
 pub mod Trees
 pub mod TreeLaws
+pub mod DeviceLaws

@@ -1,5 +1,6 @@
 //! Laws of the definitions. Each function stands for the laws that its contract names.
 ghost use Rattle.nl_held.specs.CommittedLaws.{CompletingHolds, FreezingHolds, SuperPageHolds};
+ghost use Rattle.nl_held.specs.DeviceLaws.{AddressesGo, HoldingOpens, NowHolds, PagesGo};
 ghost use Rattle.nl_held.specs.Held.{AcknowledgedKeepsHeld, CommitHolds, CommitKeepsHeld, FreedKeepsHeld, OpeningIsHeld};
 ghost use Rattle.nl_held.specs.SettlingLaws.{AcknowledgesHold, AddressesHold, ChangesJournaled, FreesHold, MetadataHolds, NoneDue};
 ghost use Rattle.nl_held.specs.TreeLaws.{CommitGoes, CommitLeaves, CompletingGoes, FreezingGoes, SuperPageGoes};
@@ -64,4 +65,13 @@ pub fn trees_go_on<D: VirtualPages>()
     ensures super_page { SuperPageGoes D.Counts }
     ensures commit { CommitGoes D.Counts }
     ensures leaves { CommitLeaves D.Counts }
+{}
+
+/// While the device changes, the trees go on: where the addresses stay, and where further pages are there. What a stop within a call of the
+/// device leaves opens as the committed tree, where live pages are held on, and so does what there is between two calls.
+pub fn trees_stay<D: VirtualPages>()
+    ensures addresses { AddressesGo D.Counts }
+    ensures pages { PagesGo D.Counts }
+    ensures opens { HoldingOpens D.Counts }
+    ensures now { NowHolds D.Counts }
 {}
