@@ -1,21 +1,20 @@
 -- What a core keeps between two calls.
-use Rattle.std.specs.Prelude.{◌≡◌, ◌⊎◌, ℕ, ◌+◌, ◌*◌, ◌<◌, ◌≤◌, ◌^◌, List, length}
-use Rattle.nl_field.specs.declared.pointer.Pointer.{Pointer}
-use Rattle.nl_field.specs.declared.pointer.Tag.{Tag}
+use Rattle.std.specs.Prelude.{◌≡◌, ℕ, ◌+◌, ◌*◌, ◌≤◌, length}
 use Rattle.nl_device.specs.declared.device.Device.{Device}
 use Rattle.nl_flight.specs.Flight.{IsFlight, carried}
 use Rattle.nl_holders.specs.Holding.{MarkedTo}
 use Rattle.nl_iface.specs.Holders.{Holders, IsCounted}
 use Rattle.nl_iface.specs.Names.{Names}
-use Rattle.nl_iface.specs.Space.{CanLand, Space}
+use Rattle.nl_iface.specs.Space.{CanLand}
 use Rattle.nl_iface.specs.declared.counts.Counts.{Ghosts}
 use Rattle.nl_inode.specs.FreeLaws.{NodesAreFree, PoolIsFree}
-use Rattle.nl_journal.specs.Progress.{HasNumber, begun}
+use Rattle.nl_journal.specs.Progress.{begun}
 use Rattle.nl_meta.specs.Committed.{VirtualMap}
 use Rattle.nl_running.specs.Running.{running_on}
 use Rattle.nl_commit.specs.Holding.{running_holders}
 use Rattle.nl_commit.specs.Standing.{IsJournaled}
 use Rattle.nl_held.specs.Held.{IsHeldVolume}
+use Rattle.nl_held.specs.SettlingLaws.{IsTold}
 use Rattle.nl_held.specs.Standing.{IsFirm}
 use Rattle.nl_core.specs.declared.core.Core.{Core}
 
@@ -37,7 +36,7 @@ holders_of g v = record { running = running_holders g v.device v.meta; flight = 
 pub record CanWrite {M : Type 0} (g : Ghosts (Device M)) (v : Core M) : Type 0 where
   pub spare : g.keeps_spare v.device
   pub lands : CanLand (names_of g v).space
-  pub firm : g.tells → IsFirm g v.device
+  pub firm : IsTold g v.journal v.meta → IsFirm g v.device
 
 -- The free numbers and addresses are those that no used node has.
 pub record HasFree {M : Type 0} (g : Ghosts (Device M)) (v : Core M) : Type 0 where

@@ -2,3 +2,4 @@ pub mod Calls
 pub mod Core
 pub mod Goes
 pub mod Trees
+pub mod Writing

@@ -43,6 +43,7 @@ use Rattle.nl_held.specs.Standing.{IsFirm, LeadsCommitted, LeavesStanding, Shows
 use Rattle.nl_held.specs.TreeLaws.{CommitGoes, CommitLeaves, CommitsTrees, OpensFrom, committed_by, completed, decided_tree, frozen_now, moment_of}
 use Rattle.nl_held.specs.Trees.{OpensAs, Prefix, StandsFor, Trees, prefixes}
 use Rattle.nl_held.proofs.Ahead.{runs_some}
+use Rattle.nl_held.proofs.Counted.{super_page_held}
 use Rattle.nl_held.proofs.Freezing.{number_before, super_pages_hold}
 use Rattle.nl_held.proofs.Stopping.{held_alike, held_lead, running_lead, stops_stand}
 use Rattle.nl_held.proofs.Trees.{freezing_goes, goes_on, is_open, stands_as, super_page_goes, with_super}
@@ -129,7 +130,7 @@ stand_alike g s old new page_of_stamp z alike m = record {
 }
 
 module _ {D : Type 0} (g : Ghosts D) (s t : D) (p r : Progress) (pages now : Pages) (count : ℕ) (page_of_stamp : ℕ → Option PageOfStamp) (x : Trees) (flight : List (Tag × Pointer)) (freeing : List Pointer) (volume : IsVolumeShape (g.shape s))
-    (tells : g.tells) (numbers : HasNumber p (length pages.frozen.addresses)) (small : count < 2 ^ 63) (j : IsJournaled g s p pages) (are : IsPages (with_count (g.shape s) count pages)) (h : IsHeldVolume g s p pages flight freeing)
+    (tells : g.tells) (numbers : HasNumber p (length pages.frozen.addresses)) (small : count < 2 ^ 63) (j : IsJournaled g s p pages) (held : IsPages pages) (h : IsHeldVolume g s p pages flight freeing)
     (firm : IsFirm g s) (shows : ShowsPages (g.names s) (g.bytes s) page_of_stamp) (at : StandsFor g s p pages count page_of_stamp x) where
   abbrev pub counted_pages : Pages
   counted_pages = with_count (g.shape s) count pages
@@ -156,6 +157,9 @@ module _ {D : Type 0} (g : Ghosts D) (s t : D) (p r : Progress) (pages now : Pag
   shut_alike shut u home = sym (closed_pages p.phase counted_pages.frozen (committed_on g s) (g.shape s).vaddrs
       (closed_by p.phase counted_pages.frozen journaled.order.phase
           (⊎_elim (λ more. absurd (shut more)) (λ few. few) (cases_lt (length counted_pages.frozen.addresses) (units_left p.phase (length counted_pages.frozen.addresses))))) u home)
+
+  are : IsPages counted_pages
+  are = super_page_held pages (super_bytes (record_of (g.shape s) count)) held j.super_page
 
   first : StandFor g s (committed_on g s) page_of_stamp x.committed.0 x.committed.1
   first = leads.committed x.committed.0 x.committed.1 stands.committed

@@ -10,3 +10,4 @@ pub mod Changing
 pub mod Trees
 pub mod CommitTrees
 pub mod DeviceTrees
+pub mod Counted

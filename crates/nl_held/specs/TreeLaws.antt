@@ -86,7 +86,7 @@ abbrev pub CommitLeaves : {D : Type 0} → Ghosts D → Type 0
 CommitLeaves {D} g =
     (answer : VirtualWrite) (s t : D) (p r : Progress) (pages now : Pages) (count before : ℕ) (page_of_stamp : ℕ → Option PageOfStamp) (x : Trees) (earlier decided : Option ℕ) (flight : List (Tag × Pointer)) (freeing : List Pointer)
     → IsVolumeShape (g.shape s) → g.tells → HasNumber p (length pages.frozen.addresses) → HasNumber r (length now.frozen.addresses) → count < 2 ^ 63 → g.clock t < 2 ^ 63
-    → IsJournaled g s p pages → IsPages (with_count (g.shape s) count pages) → IsHeldVolume g s p pages flight freeing → IsFirm g s → ShowsPages (g.names s) (g.bytes s) page_of_stamp
+    → IsJournaled g s p pages → IsPages pages → IsHeldVolume g s p pages flight freeing → IsFirm g s → ShowsPages (g.names s) (g.bytes s) page_of_stamp
     → CommitWrites g (answer ≡ write.Done) p r (with_count (g.shape s) count pages) now s t
     → IfSome earlier (EarlierAt g s t p r (with_count (g.shape s) count pages) now) → IfSome decided (ChangesAt g s t p r (with_count (g.shape s) count pages) now)
     → StandsFor g s p pages count page_of_stamp x

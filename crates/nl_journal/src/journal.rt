@@ -66,7 +66,8 @@ impl Journal {
 
     /// The number of the last transaction that was begun, up to 2^63. Pages that are frozen are one.
     pub fn begun(&self, meta: &Meta) -> u64
-        ensures { result ≡ begun self.now (length meta.now.frozen.addresses) }
+        ensures number { result ≡ begun self.now (length meta.now.frozen.addresses) }
+        ensures most { result ≤ 2 ^ 63 }
     {
         let raised = (self.number + 1).min(1 << 63);
         match self.phase {
