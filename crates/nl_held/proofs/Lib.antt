@@ -7,3 +7,4 @@ pub mod Stopping
 pub mod Settling
 pub mod Holding
 pub mod Changing
+pub mod Steps

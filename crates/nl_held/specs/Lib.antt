@@ -3,3 +3,4 @@ pub mod CommittedLaws
 pub mod Standing
 pub mod SettlingLaws
 pub mod Held
+pub mod Steps

@@ -2,6 +2,7 @@
 ghost use Rattle.nl_held.specs.CommittedLaws.{CompletingHolds, FreezingHolds, SuperPageHolds};
 ghost use Rattle.nl_held.specs.Held.{AcknowledgedKeepsHeld, CommitHolds, CommitKeepsHeld, FreedKeepsHeld, OpeningIsHeld};
 ghost use Rattle.nl_held.specs.SettlingLaws.{AcknowledgesHold, AddressesHold, ChangesJournaled, FreesHold, MetadataHolds, NoneDue};
+ghost use Rattle.nl_held.specs.Steps.{CleaningKeepsHeld, CopyKeepsHeld, DropKeepsHeld, HandlingKeepsHeld, ProgramKeepsHeld, StepKeepsHeld, TablesKeepHeld};
 ghost use Rattle.nl_held.specs.Standing.{AheadIsRunning, CommittedReads, HeldLead, RunningLead, StandsAlike, StopsStand};
 
 use nl_iface::VirtualPages;
@@ -52,4 +53,21 @@ pub fn commits_keep_held<D: VirtualPages>()
 /// An opening leaves each live page held once, where no transaction is open and what runs is what is committed.
 pub fn opening_is_held<D: VirtualPages>()
     ensures { OpeningIsHeld D.Counts }
+{}
+
+/// Each step of a device between two calls leaves a volume held: a page that is programmed and put in flight, one in flight that is freed,
+/// pages that the cleaner moves, and what changes no table.
+pub fn devices_keep_held<D: VirtualPages>()
+    ensures program { ProgramKeepsHeld D.Counts }
+    ensures drop_page { DropKeepsHeld D.Counts }
+    ensures cleaning { CleaningKeepsHeld D.Counts }
+    ensures copy { CopyKeepsHeld D.Counts }
+    ensures tables { TablesKeepHeld D.Counts }
+{}
+
+/// So does any step that leaves what the addresses have, and what is frozen, where who holds pages holds them on under the number of the last
+/// transaction that was begun: callbacks are handled by one that comes after it.
+pub fn steps_keep_held<D: VirtualPages>()
+    ensures step { StepKeepsHeld D.Counts }
+    ensures handling { HandlingKeepsHeld D.Counts }
 {}
