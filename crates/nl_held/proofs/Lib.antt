@@ -8,3 +8,5 @@ pub mod Settling
 pub mod Holding
 pub mod Changing
 pub mod Steps
+pub mod Losing
+pub mod Replacing

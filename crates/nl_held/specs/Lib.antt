@@ -4,3 +4,4 @@ pub mod Standing
 pub mod SettlingLaws
 pub mod Held
 pub mod Steps
+pub mod Changes

@@ -1,4 +1,5 @@
 //! Laws of the definitions. Each function stands for the laws that its contract names.
+ghost use Rattle.nl_held.specs.Changes.{CuttingKeepsHeld, InstallingKeepsHeld, NamesKeepHeld, ReplacingKeepsHeld, RunsOfLists};
 ghost use Rattle.nl_held.specs.CommittedLaws.{CompletingHolds, FreezingHolds, SuperPageHolds};
 ghost use Rattle.nl_held.specs.Held.{AcknowledgedKeepsHeld, CommitHolds, CommitKeepsHeld, FreedKeepsHeld, OpeningIsHeld};
 ghost use Rattle.nl_held.specs.SettlingLaws.{AcknowledgesHold, AddressesHold, ChangesJournaled, FreesHold, MetadataHolds, NoneDue};
@@ -70,4 +71,14 @@ pub fn devices_keep_held<D: VirtualPages>()
 pub fn steps_keep_held<D: VirtualPages>()
     ensures step { StepKeepsHeld D.Counts }
     ensures handling { HandlingKeepsHeld D.Counts }
+{}
+
+/// And so does each change of the metadata, over a device that is only read: a page in flight is installed in a file, a file is cut, names
+/// change; or any pages leave the metadata, and others come into it.
+pub fn changes_keep_held<D: VirtualPages>()
+    ensures installing { InstallingKeepsHeld D.Counts }
+    ensures cutting { CuttingKeepsHeld D.Counts }
+    ensures names { NamesKeepHeld D.Counts }
+    ensures replacing { ReplacingKeepsHeld D.Counts }
+    ensures lists { RunsOfLists }
 {}
