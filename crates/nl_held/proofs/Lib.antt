@@ -11,3 +11,6 @@ pub mod Trees
 pub mod CommitTrees
 pub mod DeviceTrees
 pub mod Counted
+pub mod Steps
+pub mod Losing
+pub mod Replacing

@@ -41,7 +41,7 @@ module _ {D : Type 0} (g : Ghosts D) (s t : D) (p : Progress) (pages : Pages) (v
   committed_same : g.tells → HasNumber p (length pages.frozen.addresses) → Agrees (g.shape s).vaddrs (committed_on g t) (committed_on g s)
   committed_same = (stays g s t p pages.frozen volume j.order k).1
 
-  running_same : tagged_in (g.shape t) (running_on g t pages) ≡ tagged_in (g.shape s) (running_on g s pages)
+  pub running_same : tagged_in (g.shape t) (running_on g t pages) ≡ tagged_in (g.shape s) (running_on g s pages)
   running_same =
       ap (λ (h : Shape). tagged_in h (running_on g t pages)) k.same_shape
       ∙ tagged_same (g.shape s) (bounds-of (g.shape s) volume) (running_on g s pages) (running_on g t pages) (addresses_stand g s t p pages volume j k).needed

@@ -6,3 +6,5 @@ pub mod Held
 pub mod Trees
 pub mod TreeLaws
 pub mod DeviceLaws
+pub mod Steps
+pub mod Changes

@@ -1,9 +1,11 @@
 //! Laws of the definitions. Each function stands for the laws that its contract names.
+ghost use Rattle.nl_held.specs.Changes.{CuttingKeepsHeld, InstallingKeepsHeld, NamesKeepHeld, ReplacingKeepsHeld, RunsOfLists};
 ghost use Rattle.nl_held.specs.CommittedLaws.{CompletingHolds, FreezingHolds, SuperPageHolds};
 ghost use Rattle.nl_held.specs.DeviceLaws.{AddressesGo, HoldingOpens, NowHolds, PagesGo};
 ghost use Rattle.nl_held.specs.Held.{AcknowledgedKeepsHeld, CommitHolds, CommitKeepsHeld, FreedKeepsHeld, OpeningIsHeld};
 ghost use Rattle.nl_held.specs.SettlingLaws.{AcknowledgesHold, AddressesHold, ChangesJournaled, FreesHold, MetadataHolds, NoneDue};
 ghost use Rattle.nl_held.specs.TreeLaws.{CommitGoes, CommitLeaves, CompletingGoes, FreezingGoes, SuperPageGoes};
+ghost use Rattle.nl_held.specs.Steps.{CleaningKeepsHeld, CopyKeepsHeld, DropKeepsHeld, HandlingKeepsHeld, ProgramKeepsHeld, StepKeepsHeld, TablesKeepHeld};
 ghost use Rattle.nl_held.specs.Standing.{AheadIsRunning, CommittedReads, HeldLead, RunningLead, StandsAlike, StopsStand};
 
 
@@ -74,4 +76,31 @@ pub fn trees_stay<D: VirtualPages>()
     ensures pages { PagesGo D.Counts }
     ensures opens { HoldingOpens D.Counts }
     ensures now { NowHolds D.Counts }
+{}
+
+/// Each step of a device between two calls leaves a volume held: a page that is programmed and put in flight, one in flight that is freed,
+/// pages that the cleaner moves, and what changes no table.
+pub fn devices_keep_held<D: VirtualPages>()
+    ensures program { ProgramKeepsHeld D.Counts }
+    ensures drop_page { DropKeepsHeld D.Counts }
+    ensures cleaning { CleaningKeepsHeld D.Counts }
+    ensures copy { CopyKeepsHeld D.Counts }
+    ensures tables { TablesKeepHeld D.Counts }
+{}
+
+/// So does any step that leaves what the addresses have, and what is frozen, where who holds pages holds them on under the number of the last
+/// transaction that was begun: callbacks are handled by one that comes after it.
+pub fn steps_keep_held<D: VirtualPages>()
+    ensures step { StepKeepsHeld D.Counts }
+    ensures handling { HandlingKeepsHeld D.Counts }
+{}
+
+/// And so does each change of the metadata, over a device that is only read: a page in flight is installed in a file, a file is cut, names
+/// change; or any pages leave the metadata, and others come into it.
+pub fn changes_keep_held<D: VirtualPages>()
+    ensures installing { InstallingKeepsHeld D.Counts }
+    ensures cutting { CuttingKeepsHeld D.Counts }
+    ensures names { NamesKeepHeld D.Counts }
+    ensures replacing { ReplacingKeepsHeld D.Counts }
+    ensures lists { RunsOfLists }
 {}
