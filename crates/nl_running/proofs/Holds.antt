@@ -1,6 +1,6 @@
 -- A page that is touched or fetched leaves the running map.
-use Rattle.std.proofs.Common.{◌≡◌, ℕ, ◌+◌, ◌<◌, Bool, true, false, cond, nat_le, List, length, refl, sym, ap, subst, ◌∙◌, Option, Some, None, IsSome, is_some, inl, inr, arith, nat_lt, option_map}
-use Rattle.std.proofs.lemmas.Bool.{and_parts, both_ways, ltb-true}
+use Rattle.std.proofs.Common.{◌≡◌, ℕ, ◌+◌, ◌<◌, Bool, true, false, cond, nat_le, List, length, refl, sym, ap, subst, ◌∙◌, Option, Some, None, IsSome, is_some, ◌⊎◌, inl, inr, ⊎_elim, arith, nat_lt, option_map}
+use Rattle.std.proofs.lemmas.Bool.{and_parts, both_ways, cases_eq, ltb-true}
 use Rattle.nl_field.specs.Bytes.{zeros}
 use Rattle.nl_field.specs.Numbers.{ShapeBounds}
 use Rattle.nl_field.specs.Virtual.{is_inode_address, map_bytes, or_zeros}
@@ -91,6 +91,7 @@ module _ {D : Type 0} (g : Ghosts D) (s : D) (p : Pages) (runs : Runs g s p) whe
     needed = λ u need. there-touched v t reads u need (page_of p u) refl;
     told = λ told u. told-touched v t reads told u;
     stays = λ u h. refl;
+    only = λ u h. inl h;
     absent = runs.absent;
     clean = λ told. clean-moved t (record p { recent = touched v p.recent }) reads told (record { each = (runs.clean told).each });
   }
@@ -104,13 +105,15 @@ module _ {D : Type 0} (g : Ghosts D) (s : D) (p : Pages) (runs : Runs g s p) whe
     needed = λ u need. refl;
     told = λ told u. refl;
     stays = λ u h. refl;
+    only = λ u h. inl h;
     absent = runs.absent;
     clean = runs.clean;
   }
 
   told-runs : (t : D) (q : Pages) → OnlyReads g s t → g.tells → length q.running ≡ length p.running → q.dirty ≡ p.dirty → q.frozen ≡ p.frozen
-      → ((u : ℕ) → IsSome (page_of p u) → page_of q u ≡ page_of p u) → RunsAlike (stored_on g s) p q → RunsOn g s p t q
-  told-runs t q reads told count dirty frozen stays alike = record {
+      → ((u : ℕ) → IsSome (page_of p u) → page_of q u ≡ page_of p u) → ((u : ℕ) → IsSome (page_of q u) → IsSome (page_of p u) ⊎ IsNeeded (g.shape s) (running_on g s p) u)
+      → RunsAlike (stored_on g s) p q → RunsOn g s p t q
+  told-runs t q reads told count dirty frozen stays only alike = record {
     reads = reads;
     count = count;
     dirty = dirty;
@@ -118,21 +121,26 @@ module _ {D : Type 0} (g : Ghosts D) (s : D) (p : Pages) (runs : Runs g s p) whe
     needed = λ u need. moved t q reads told u ∙ alike.same u;
     told = λ told u. moved t q reads told u ∙ alike.same u;
     stays = stays;
+    only = only;
     absent = λ u need gone. told;
     clean = λ told. clean-moved t q reads told alike.clean;
   }
 
   module _ (v : ℕ) (need : IsNeeded (g.shape s) (running_on g s p) v) where
+    -- no other page becomes resident
+    only-but : (q : Pages) → Keeps v p q → (u : ℕ) → IsSome (page_of q u) → IsSome (page_of p u) ⊎ IsNeeded (g.shape s) (running_on g s p) u
+    only-but q keeps u there = ⊎_elim (λ same. inr (subst (λ (w : ℕ). IsNeeded (g.shape s) (running_on g s p) w) (sym same) need)) (λ far. inl (ap is_some (sym (keeps.others u far)) ∙ there)) (cases_eq u v)
+
     pub missed-runs : (t : D) (q : Pages) → OnlyReads g s t → FetchesNone v p q → RunsOn g s p t q
     missed-runs t q reads none =
         let told = runs.absent v need none.0 in
-        told-runs t q reads told none.1.keeps.count none.1.dirty none.1.keeps.frozen (stays-but p q v none.0 none.1.keeps) ((running_map (stored_on g s) p (runs.clean told)).missed v q none.0 none.1)
+        told-runs t q reads told none.1.keeps.count none.1.dirty none.1.keeps.frozen (stays-but p q v none.0 none.1.keeps) (only-but q none.1.keeps) ((running_map (stored_on g s) p (runs.clean told)).missed v q none.0 none.1)
 
     pub fetched-runs : (t : D) (q : Pages) → OnlyReads g s t → Fetches g.tells (stored_on g s v) v p q → RunsOn g s p t q
     fetched-runs t q reads (inl there) = subst (λ (n : Pages). RunsOn g s p t n) (sym there.1) (touched-runs v t reads)
     fetched-runs t q reads (inr (gone, bytes, is, admits)) =
         let told = runs.absent v need gone in
-        told-runs t q reads told admits.keeps.count admits.dirty admits.keeps.frozen (stays-but p q v gone admits.keeps) ((running_map (stored_on g s) p (runs.clean told)).admitted v bytes q (is told) gone admits)
+        told-runs t q reads told admits.keeps.count admits.dirty admits.keeps.frozen (stays-but p q v gone admits.keeps) (only-but q admits.keeps) ((running_map (stored_on g s) p (runs.clean told)).admitted v bytes q (is told) gone admits)
 
     -- an address that is not resident is one of the volume, and was written or has nodes
     pub within-volume : IsVolumeShape (g.shape s) → v < (g.shape s).vaddrs

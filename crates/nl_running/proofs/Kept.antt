@@ -1,5 +1,5 @@
 -- One call after the other leaves the volume as it was.
-use Rattle.std.proofs.Common.{◌≡◌, ℕ, ◌+◌, ◌/◌, ◌%◌, ◌<◌, List, refl, sym, ap, subst, ◌∙◌, Option, Some, None, IsSome, is_some, inl, arith}
+use Rattle.std.proofs.Common.{◌≡◌, ℕ, ◌+◌, ◌/◌, ◌%◌, ◌<◌, List, refl, sym, ap, subst, ◌∙◌, Option, Some, None, IsSome, is_some, inl, inr, ⊎_elim, arith}
 use Rattle.std.proofs.lemmas.Bool.{both_ways}
 use Rattle.nl_field.specs.Inode.{inode_of}
 use Rattle.nl_field.specs.Numbers.{ShapeBounds}
@@ -56,6 +56,7 @@ module _ {D : Type 0} (g : Ghosts D) (s : D) (p : Pages) (t : D) (q : Pages) (bo
     needed = λ v h. next.needed v (need-on v h) ∙ on.needed v h;
     told = λ told v. next.told told v ∙ on.told told v;
     stays = λ v h. next.stays v (ap is_some (on.stays v h) ∙ h) ∙ on.stays v h;
+    only = λ v h. ⊎_elim (λ there. on.only v there) (λ need. inr (need-from v (subst (λ (n : Shape). IsNeeded n (running_on g t q) v) (sym shapes) need))) (next.only v h);
     absent = λ v h gone. next.absent v (need-on v h) gone;
     clean = next.clean;
   }

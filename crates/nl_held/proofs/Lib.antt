@@ -1,0 +1,9 @@
+pub mod Kept
+pub mod Completing
+pub mod Reading
+pub mod Ahead
+pub mod Freezing
+pub mod Stopping
+pub mod Settling
+pub mod Holding
+pub mod Changing

@@ -1,0 +1,5 @@
+pub mod Committed
+pub mod CommittedLaws
+pub mod Standing
+pub mod SettlingLaws
+pub mod Held

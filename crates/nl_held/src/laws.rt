@@ -1,0 +1,55 @@
+//! Laws of the definitions. Each function stands for the laws that its contract names.
+ghost use Rattle.nl_held.specs.CommittedLaws.{CompletingHolds, FreezingHolds, SuperPageHolds};
+ghost use Rattle.nl_held.specs.Held.{AcknowledgedKeepsHeld, CommitHolds, CommitKeepsHeld, FreedKeepsHeld, OpeningIsHeld};
+ghost use Rattle.nl_held.specs.SettlingLaws.{AcknowledgesHold, AddressesHold, ChangesJournaled, FreesHold, MetadataHolds, NoneDue};
+ghost use Rattle.nl_held.specs.Standing.{AheadIsRunning, CommittedReads, HeldLead, RunningLead, StandsAlike, StopsStand};
+
+use nl_iface::VirtualPages;
+
+/// Each live page is held on through a commit, and what is committed and what is frozen keep their pages: while the frozen transaction is
+/// completed, as the dirty pages are frozen, and with another super page.
+pub fn commits_hold<D: VirtualPages>()
+    ensures completing { CompletingHolds D.Counts }
+    ensures freezing { FreezingHolds D.Counts }
+    ensures super_page { SuperPageHolds D.Counts }
+{}
+
+/// What a commit puts in place is what runs, and what is committed reads as what is stored.
+pub fn commits_read<D: VirtualPages>()
+    ensures ahead { AheadIsRunning D.Counts }
+    ensures committed { CommittedReads }
+{}
+
+/// Where pages are held for them, the pointers lead of the committed pages, of the frozen ones and of those that run. What a stop within a
+/// commit leaves then stands for the tree of one of the three.
+pub fn stops_stand<D: VirtualPages>()
+    ensures alike { StandsAlike }
+    ensures held { HeldLead D.Counts }
+    ensures running { RunningLead D.Counts }
+    ensures stops { StopsStand D.Counts }
+{}
+
+/// What is committed and frozen keeps its pages while the addresses stay as they are, and while the metadata changes: also as pages that are
+/// due are freed, and callbacks acknowledged that transactions handled which count.
+pub fn settling_holds<D: VirtualPages>()
+    ensures addresses { AddressesHold D.Counts }
+    ensures changes { ChangesJournaled D.Counts }
+    ensures metadata { MetadataHolds D.Counts }
+    ensures freeing { FreesHold D.Counts }
+    ensures acknowledging { AcknowledgesHold D.Counts }
+    ensures none_due { NoneDue }
+{}
+
+/// A whole commit leaves each live page held once, and what is committed and frozen with its pages: done or not, once all that awaited its
+/// free is freed, and once callbacks are acknowledged.
+pub fn commits_keep_held<D: VirtualPages>()
+    ensures commit { CommitHolds D.Counts }
+    ensures kept { CommitKeepsHeld D.Counts }
+    ensures freed { FreedKeepsHeld D.Counts }
+    ensures acknowledged { AcknowledgedKeepsHeld D.Counts }
+{}
+
+/// An opening leaves each live page held once, where no transaction is open and what runs is what is committed.
+pub fn opening_is_held<D: VirtualPages>()
+    ensures { OpeningIsHeld D.Counts }
+{}
