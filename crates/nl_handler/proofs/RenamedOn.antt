@@ -28,7 +28,7 @@ use Rattle.nl_running.proofs.SameNeeded.{addresses-right, entries-right, inode-a
 use Rattle.nl_handler.specs.Changing.{IsAtHand, RenamesIn}
 use Rattle.nl_handler.specs.Handling.{HasTagged, RenamesOn, RenamesPointer, TagsFile, page_holding}
 use Rattle.nl_handler.proofs.Finding.{pointers-same}
-use Rattle.nl_handler.proofs.Renamed.{file-changes, own-had, pointer-changes, pointer-now, rewritten}
+use Rattle.nl_handler.proofs.Renamed.{file-changes, own-had, pointer-changes, pointer-now, rewritten, same-slots}
 use Rattle.nl_handler.proofs.Rewritten.{Rewritten, clean, count, dirty, frozen, others, over-running, over-twice, resident}
 
 module _ {D : Type 0} (g : Ghosts D) (s : D) (p : Pages) (bounds : ShapeBounds (g.shape s)) (runs : Runs g s p) (t : D) (q : Pages) (on : RunsOn g s p t q)
@@ -148,6 +148,7 @@ module _ {D : Type 0} (g : Ghosts D) (s : D) (p : Pages) (bounds : ShapeBounds (
     changes = old-changes;
     pointer = old-pointer;
     size = renames.stores.record_kept.size;
+    addresses = same-slots shape bounds mid tag to was q r mid-clean twice-right twice-file spelled physical hand renames;
     spelled = spelled;
     now = now;
   }
