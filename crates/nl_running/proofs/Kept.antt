@@ -1,5 +1,5 @@
 -- One call after the other leaves the volume as it was.
-use Rattle.std.proofs.Common.{◌≡◌, ℕ, ◌+◌, ◌/◌, ◌%◌, ◌<◌, List, refl, sym, ap, subst, ◌∙◌, Option, Some, None, IsSome, is_some, inl, arith}
+use Rattle.std.proofs.Common.{◌≡◌, ℕ, ◌+◌, ◌/◌, ◌%◌, ◌<◌, List, refl, sym, ap, subst, ◌∙◌, Option, Some, None, IsSome, is_some, ⊎_elim, inl, inr, arith}
 use Rattle.std.proofs.lemmas.Bool.{both_ways}
 use Rattle.nl_field.specs.Inode.{inode_of}
 use Rattle.nl_field.specs.Numbers.{ShapeBounds}
@@ -56,6 +56,7 @@ module _ {D : Type 0} (g : Ghosts D) (s : D) (p : Pages) (t : D) (q : Pages) (bo
     needed = λ v h. next.needed v (need-on v h) ∙ on.needed v h;
     told = λ told v. next.told told v ∙ on.told told v;
     stays = λ v h. next.stays v (ap is_some (on.stays v h) ∙ h) ∙ on.stays v h;
+    apart = λ v there. ⊎_elim (λ before. on.apart v before) (λ far. inr far) (next.apart v there);
     absent = λ v h gone. next.absent v (need-on v h) gone;
     clean = next.clean;
   }
