@@ -19,6 +19,8 @@ use Rattle.nl_meta.specs.Nodes.{bytes_of_node, inode_at, is_physical_name, point
 use Rattle.nl_meta.specs.Pages.{Pages, besides_0, has_room, most, page_of, with_address}
 use Rattle.nl_meta.specs.PointerLists.{ChangesPointer, tagged_by}
 use Rattle.nl_meta.specs.Running.{CleanIsStored, running_over}
+use Rattle.nl_meta.specs.Steps.{ChangesPages}
+use Rattle.nl_meta.proofs.PageProofs.{changed}
 use Rattle.nl_running.specs.FileLaws.{ChangesFile, IsRight}
 use Rattle.nl_running.specs.Running.{IsNeeded, Runs, RunsOn, running_on, stored_on}
 use Rattle.nl_running.proofs.FileChanges.{one_file_changes}
@@ -167,7 +169,11 @@ module _ {D : Type 0} (g : Ghosts D) (s : D) (p : Pages) (bounds : ShapeBounds (
     frozen = frozen (page_holding tag was) q r page-rewritten ∙ on.frozen;
     dirty = dirty (page_holding tag was) q r page-rewritten ∙ ap (with_address (page_holding tag was)) on.dirty;
     stays = λ v off there. others (page_holding tag was) q r page-rewritten v off ∙ on.stays v there;
+    pages = (q, on, changes-pages);
   }
+    where
+      changes-pages : ChangesPages q r
+      changes-pages = subst (ChangesPages q) (sym page-rewritten.page) (changed q (page_holding tag was) page-rewritten.bytes (inl page-rewritten.there))
 
   -- ---- the volume runs on
 

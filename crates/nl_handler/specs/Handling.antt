@@ -17,6 +17,7 @@ use Rattle.nl_meta.specs.Consistent.{IsNode}
 use Rattle.nl_meta.specs.Nodes.{pointer_at, slots_of}
 use Rattle.nl_meta.specs.Pages.{Pages, has_room, page_of, with_address}
 use Rattle.nl_meta.specs.PointerLists.{ChangesPointer}
+use Rattle.nl_meta.specs.Steps.{ChangesPages}
 use Rattle.nl_running.specs.FileLaws.{ChangesFile}
 use Rattle.nl_running.specs.Running.{RunsOn, running_on}
 use Rattle.nl_running.specs.declared.answer.Stop.{Stop}
@@ -83,6 +84,8 @@ pub record RenamesOn {D : Type 0} (g : Ghosts D) (s : D) (p : Pages) (t : D) (q 
   pub frozen : q.frozen ≡ p.frozen
   pub dirty : q.dirty ≡ with_address (page_holding tag renames.was) p.dirty
   pub stays : (v : ℕ) → v ≢ page_holding tag renames.was → IsSome (page_of p v) → page_of q v ≡ page_of p v
+  -- pages were read, and then the pages changed
+  pub pages : (read : Pages) × RunsOn g s p t read × ChangesPages read q
 
 -- the page of the pointer, which the metadata has, cannot be made dirty
 abbrev pub CannotBeDirty : Shape → VirtualMap → Pages → Tag → ℕ → Type 0
