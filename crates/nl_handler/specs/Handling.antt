@@ -84,8 +84,8 @@ pub record RenamesOn {D : Type 0} (g : Ghosts D) (s : D) (p : Pages) (t : D) (q 
   pub frozen : q.frozen ≡ p.frozen
   pub dirty : q.dirty ≡ with_address (page_holding tag renames.was) p.dirty
   pub stays : (v : ℕ) → v ≢ page_holding tag renames.was → IsSome (page_of p v) → page_of q v ≡ page_of p v
-  -- pages were read, and then the pages changed
-  pub pages : (read : Pages) × RunsOn g s p t read × ChangesPages read q
+  -- pages may have become resident too
+  pub pages : ChangesPages p q
 
 -- the page of the pointer, which the metadata has, cannot be made dirty
 abbrev pub CannotBeDirty : Shape → VirtualMap → Pages → Tag → ℕ → Type 0

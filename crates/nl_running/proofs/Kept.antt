@@ -9,6 +9,7 @@ use Rattle.nl_iface.specs.declared.counts.Counts.{Ghosts}
 use Rattle.nl_iface.proofs.Stops.{reads_then}
 use Rattle.nl_meta.specs.Consistent.{AddressesRight, EntriesRight, IsNode, NodesRight}
 use Rattle.nl_meta.specs.Nodes.{bytes_of_node, inode_at, slot_at}
+use Rattle.nl_meta.specs.PageLaws.{LoadsPages}
 use Rattle.nl_meta.specs.Pages.{Pages, page_of}
 use Rattle.nl_meta.specs.Running.{or_stored, running_over}
 use Rattle.nl_inode.specs.Nodes.{page_of_node}
@@ -22,6 +23,10 @@ or-there None stored h = absurd (both_ways _ refl h)
 pub resident-is : {D : Type 0} (g : Ghosts D) (t : D) (q : Pages) (v : ℕ) → IsSome (page_of q v) → running_on g t q v ≡ page_of q v
 unfolding running_over
 resident-is g t q v there = or-there (page_of q v) (stored_on g t v) there
+
+-- pages were loaded, and nothing else
+pub loads-on : {D : Type 0} (g : Ghosts D) (s : D) (p : Pages) (t : D) (q : Pages) → RunsOn g s p t q → LoadsPages p q
+loads-on g s p t q on = record { dirty = on.dirty; frozen = on.frozen; stays = on.stays; apart = on.apart }
 
 module _ {D : Type 0} (g : Ghosts D) (s : D) (p : Pages) (t : D) (q : Pages) (bounds : ShapeBounds (g.shape s)) (on : RunsOn g s p t q) where
   shapes : g.shape s ≡ g.shape t
