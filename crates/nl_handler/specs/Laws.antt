@@ -11,10 +11,9 @@ use Rattle.nl_iface.specs.declared.Callback.{Callback}
 use Rattle.nl_iface.specs.declared.counts.Counts.{Ghosts}
 use Rattle.nl_meta.specs.Committed.{VirtualMap}
 use Rattle.nl_meta.specs.Pages.{Pages}
-use Rattle.nl_meta.specs.PageLaws.{LoadsPages}
 use Rattle.nl_meta.specs.PointerLists.{tagged_in}
 use Rattle.nl_meta.specs.Steps.{ChangesPages}
-use Rattle.nl_running.specs.Running.{Runs, RunsOn, running_on}
+use Rattle.nl_running.specs.Running.{Runs, running_on}
 use Rattle.nl_handler.specs.Handling.{HandlesStored, IsElsewhere, RenamesPointer}
 use Rattle.nl_handler.specs.declared.answer.Handled.{Handled}
 use Rattle.nl_handler.specs.declared.answer.Handled.TheVariants as handled
@@ -61,11 +60,7 @@ HandlerKeeps {D} g =
 
 -- ---- the pages in memory
 
--- What is only read loads pages, and none of the journal's.
-abbrev pub ReadsLoad : {D : Type 0} → Ghosts D → D → Pages → Type 0
-ReadsLoad {D} g s p = (t : D) (q : Pages) → RunsOn g s p t q → LoadsPages p q
-
--- Then a call changes the pages, however it was answered.
+-- However a call was answered, it loses no page that is resident, thaws none, and makes none of the journal's resident.
 abbrev pub HandlerChangesPages : {D : Type 0} → Ghosts D → Type 0
 HandlerChangesPages {D} g =
-    (s : D) (p : Pages) (t : D) (q : Pages) (tag : Tag) (stamp name : ℕ) (answer : Handled) → ReadsLoad g s p → HandlesStored g s p t q tag stamp name answer → ChangesPages p q
+    (s : D) (p : Pages) (t : D) (q : Pages) (tag : Tag) (stamp name : ℕ) (answer : Handled) → HandlesStored g s p t q tag stamp name answer → ChangesPages p q

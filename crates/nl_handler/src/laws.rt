@@ -16,7 +16,7 @@ pub fn handler_keeps<D: NamedPages>()
     ensures { HandlerKeeps D.Counts }
 {}
 
-/// Where what is only read loads no page of the journal, the call loses no page, thaws none, and makes none of the journal's resident.
+/// However `handle` answers, it loses no page that is resident, thaws none, and makes none of the journal's resident.
 pub fn handler_changes_pages<D: NamedPages>()
     ensures { HandlerChangesPages D.Counts }
 {}
