@@ -21,6 +21,8 @@ use Rattle.nl_tree.specs.declared.reply.Refusal.{Refusal}
 use Rattle.nl_tree.specs.declared.reply.Refusal.TheVariants.{Eexist, Enametoolong, Enospc}
 use Rattle.nl_tree.specs.declared.reply.Space.{Space}
 use Rattle.nl_tree.proofs.ChangeProofs.{at_end}
+use Rattle.nl_meta.proofs.PageProofs.{both, loaded}
+use Rattle.nl_running.proofs.Kept.{loads-on}
 use Rattle.nl_running.specs.Running.{IsNodeOf, Runs, RunsOn, running_on, stored_on}
 use Rattle.nl_running.proofs.Holds.{bounds-of}
 use Rattle.nl_running.proofs.SameNeeded.{own}
@@ -221,6 +223,7 @@ module _ {D : Type 0} (g : Ghosts D) (s : D) (p : Pages) (t : D) (q : Pages) (vo
   changes-after u r free lost c = record {
     reads = reads_then g s t u on.reads c.reads;
     frozen = c.frozen ∙ on.frozen;
+    pages = both p q r (loaded p q (loads-on g s p t q on)) c.pages;
     few = let f = c.few in let e = ap (λ (ds : List ℕ). length (besides_0 ds)) on.dirty in omega (arith, f, e);
     runs = c.runs;
     fits = c.fits;

@@ -187,6 +187,7 @@ module _ {D : Type 0} (g : Ghosts D) (s : D) (p : Pages) (volume : IsVolumeShape
     moved-changes = record {
       reads = reads-none g s;
       frozen = follows.frozen;
+      pages = follows.pages;
       few = let f = follows.few in let c = few in omega (arith, f, c);
       runs = record {
         count = state3.count;

@@ -280,6 +280,7 @@ module _ {D : Type 0} (g : Ghosts D) (s : D) (p q : Pages) (free after : Spaces)
   removed-changes = record {
     reads = reads-none g s;
     frozen = follows.frozen;
+    pages = follows.pages;
     few = let f = follows.few in omega (arith, f);
     runs = record {
       count = state2.count;
