@@ -37,6 +37,7 @@ use Rattle.nl_namespace.specs.declared.answer.Change.{Change}
 use Rattle.nl_namespace.specs.declared.answer.Change.TheVariants as change
 use Rattle.nl_iface.proofs.Stops.{reads_then}
 use Rattle.nl_dir.proofs.Records.{spelled-dir}
+use Rattle.nl_namespace.proofs.PointersStay.{tagged-read}
 use Rattle.nl_namespace.proofs.Chains.{node-before, then-graph, then-node, then-on}
 use Rattle.nl_namespace.proofs.DirectorySteps.{dir-body, dir-entry}
 use Rattle.nl_namespace.proofs.MakeSteps.{lists, state-of}
@@ -230,6 +231,7 @@ module _ {D : Type 0} (g : Ghosts D) (s : D) (p : Pages) (t : D) (q : Pages) (vo
     files = λ n rec is file.
         let f = c.files n rec (then-node g s p t q volume on n rec is) file in
         record { is_node = f.is_node; graph = f.graph ∙ ap (λ (z : Graph). z n) same-graph };
+    pointers = c.pointers ∙ tagged-read g s p t q volume on;
   }
 
   pub leaves-after : (u : D) (r : Pages) (free after : Spaces) (answer : Change) → Leaves g t q free u r after answer → Leaves g s p free u r after answer

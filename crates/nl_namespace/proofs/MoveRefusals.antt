@@ -31,6 +31,7 @@ use Rattle.nl_namespace.specs.Paths.{walk_refusal}
 use Rattle.nl_namespace.specs.Placing.{IsPlace}
 use Rattle.nl_namespace.specs.declared.finding.There.{There}
 use Rattle.nl_namespace.specs.declared.place.Place.{Place}
+use Rattle.nl_namespace.proofs.PointersStay.{tagged-read}
 use Rattle.nl_namespace.proofs.Chains.{then-graph, then-node, then-runs}
 use Rattle.nl_namespace.proofs.MakeReady.{count-is, fits-then, not-root-path, placed-then, reached-is}
 use Rattle.nl_namespace.proofs.MakeSteps.{lists}
@@ -176,6 +177,7 @@ kept-changes g s p t q volume runs on free fits = record {
   runs = record { count = later.count; nodes = later.nodes; addresses = later.addresses; entries = later.entries; absent = later.absent; clean = later.clean };
   fits = fits-then g s p t q volume on free fits;
   files = λ n rec is file. record { is_node = then-node g s p t q volume on n rec is; graph = ap (λ (z : Graph). z n) (then-graph g s p t q volume on) };
+  pointers = tagged-read g s p t q volume on;
 }
   where
     later : Runs g t q

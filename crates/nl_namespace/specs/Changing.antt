@@ -11,6 +11,7 @@ use Rattle.nl_meta.specs.Committed.{VirtualMap}
 use Rattle.nl_meta.specs.Consistent.{AddressesRight, EntriesRight, NodesRight}
 use Rattle.nl_meta.specs.Nodes.{graph_of}
 use Rattle.nl_meta.specs.Pages.{Pages, besides_0, page_of}
+use Rattle.nl_meta.specs.PointerLists.{tagged_in}
 use Rattle.nl_meta.specs.Running.{CleanIsStored}
 use Rattle.nl_meta.specs.Steps.{ChangesPages}
 use Rattle.nl_running.specs.Running.{IsNeeded, IsNodeOf, RunsOn, running_on, stored_on}
@@ -54,6 +55,8 @@ pub record Changes {D : Type 0} (g : Ghosts D) (s : D) (p : Pages) (t : D) (q : 
   -- the node that lost its name still counts as used
   pub fits : FreeFits g t q free
   pub files : (n : ℕ) (rec : InodeRec) → IsNodeOf g s p n rec → rec.kind ≡ File → FileStays g s p t q n rec
+  -- so the pointers of all files, in their order, are what they were
+  pub pointers : tagged_in (g.shape t) (running_on g t q) ≡ tagged_in (g.shape s) (running_on g s p)
 
 -- what a call leaves: all as it was, unless it was done
 abbrev pub Leaves : {D : Type 0} → Ghosts D → D → Pages → Spaces → D → Pages → Spaces → Change → Type 0
