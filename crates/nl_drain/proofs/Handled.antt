@@ -23,7 +23,7 @@ use Rattle.nl_meta.specs.Steps.{ChangesPages}
 use Rattle.nl_meta.proofs.PageProofs.{none}
 use Rattle.nl_running.specs.Running.{Runs, RunsOn, running_on}
 use Rattle.nl_handler.specs.Handling.{CannotBeDirty, HandlesStored, IsElsewhere, list_has}
-use Rattle.nl_handler.specs.Laws.{FlightRenames, FreeingRenames, HandledHolders, HandlerKeeps, Handles}
+use Rattle.nl_handler.specs.Laws.{FlightRenames, FreeingRenames, HandledHolders, HandlerChangesPages, HandlerKeeps, Handles}
 use Rattle.nl_handler.specs.declared.answer.Handled.{Handled}
 use Rattle.nl_handler.specs.declared.answer.Handled.TheVariants as handled
 use Rattle.nl_drain.specs.Blocked.{IsBlocked}
@@ -93,7 +93,7 @@ pub record Call {D : Type 0} (g : Ghosts D) (s : D) (p : Pages) (t : D) (q : Pag
   pub runs : Runs g s p
   pub pending : Has (g.names s).pending c
   pub does : Handles g s p t q flight freeing c answer
-  pub changed : (IsElsewhere c.stamp flight freeing → ⊥) → ChangesPages p q
+  pub changes : HandlerChangesPages g
 
 -- the volume after it: the lines in flight and the pointers that await their free have the name
 abbrev pub volume_after : {D : Type 0} → Ghosts D → D → D → Pages → List InFlight → List Pointer → Callback → Volume D
@@ -132,7 +132,7 @@ module _ {D : Type 0} {g : Ghosts D} {s : D} {p : Pages} {t : D} {q : Pages} {fl
     where
       by : IsElsewhere c.stamp flight freeing ⊎ (IsElsewhere c.stamp flight freeing → ⊥) → ChangesPages p q
       by (inl here) = subst (ChangesPages p) (sym (call.does.elsewhere here).1) (none p)
-      by (inr nowhere) = call.changed nowhere
+      by (inr nowhere) = call.changes s p t q c.tag c.stamp place answer (call.does.stored nowhere)
 
   pub handled-few : length q.dirty ≤ length p.dirty + 1
   handled-few = altered.few
@@ -144,10 +144,10 @@ module _ {D : Type 0} {g : Ghosts D} {s : D} {p : Pages} {t : D} {q : Pages} {fl
     after-bounds = subst ShapeBounds (sym altered.reads.medium.virtual.same_shape) call.bounds
 
     pub handled-runs : Runs g u q
-    handled-runs = still-runs g t u q after-bounds mark.runs mark.kept
+    handled-runs = still-runs g t u q after-bounds mark.runs mark.kept.virtual
 
     same-tagged : tagged_in (g.shape u) (running_on g u q) ≡ tagged_in (g.shape t) (running_on g t q)
-    same-tagged = still-tagged g t u q after-bounds mark.runs mark.kept
+    same-tagged = still-tagged g t u q after-bounds mark.runs mark.kept.virtual
 
     renames-running : HandledHolders g s p t q c answer → (answer ≡ handled.Renamed) ⊎ (answer ≡ handled.Gone)
         → Renames tagged wants_tagged c.stamp place (tagged_in (g.shape s) (running_on g s p)) (tagged_in (g.shape u) (running_on g u q))
@@ -165,13 +165,13 @@ module _ {D : Type 0} {g : Ghosts D} {s : D} {p : Pages} {t : D} {q : Pages} {fl
     handled-some laws = record {
       marks = marks-some c transaction (g.names s) (g.names u) mark.marks;
       holders = λ h later. record { holds = λ f. (holders-keep laws h later f).holds f; committed = λ f safe. (holders-keep laws h later f).committed f safe };
-      nodes = let same = still-graph g t u q after-bounds mark.runs mark.kept in record {
+      nodes = let same = still-graph g t u q after-bounds mark.runs mark.kept.virtual in record {
         generation = λ n. ap (λ (graph : Graph). (graph n).generation) same ∙ altered.nodes.generation n;
         body = λ n. ap (λ (graph : Graph). nameless_body (graph n).body) same ∙ altered.nodes.body n;
       };
       free = free-then g before (volume t q flight freeing) (volume_after g s u q flight freeing c)
           (free-stays g before (volume t q flight freeing) altered.reads.medium.virtual.same_shape altered.uses)
-          (free-stays g (volume t q flight freeing) (volume_after g s u q flight freeing c) mark.kept.virtual.same_shape (still-uses g t u q after-bounds mark.runs mark.kept));
+          (free-stays g (volume t q flight freeing) (volume_after g s u q flight freeing c) mark.kept.virtual.same_shape (still-uses g t u q after-bounds mark.runs mark.kept.virtual));
       pages = pages-changed;
       dirty = altered.dirty;
       flight = flight-nameless c.stamp place flight;
@@ -198,6 +198,9 @@ module _ {D : Type 0} {g : Ghosts D} {s : D} {p : Pages} {t : D} {q : Pages} {fl
     same-holding h =
         let lists = tagged-same (g.shape s) (g.shape t) (running_on g s p) (running_on g t q) on.reads.medium.virtual.same_shape (read-graph g s p t q call.bounds call.runs on) in
         λ i. record h { names = on.reads.names i; running = lists i; flight = carried (same-flight i); freeing = same-freeing i }
+
+    pub left-same : (g.names t ≡ g.names s) × (q.dirty ≡ p.dirty)
+    left-same = (on.reads.names, on.dirty)
 
     pub left-some : (transaction : ℕ) → HandlesSome g transaction before (volume_after g s t q flight freeing c)
     left-some transaction = record {

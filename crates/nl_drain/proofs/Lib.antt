@@ -3,7 +3,7 @@ mod Free
 mod Handled
 mod Joined
 mod Loop
-mod Marked
+pub mod Marked
 mod Nameless
 mod Pages
 mod Renamed

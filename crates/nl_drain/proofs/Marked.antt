@@ -1,9 +1,9 @@
--- A volume over a device of which nothing changed but the tables of names.
+-- A volume over a device that keeps its addresses.
 use Rattle.std.proofs.Common.{◌≡◌, ℕ, cond, nat_lt, List, map, refl, sym, ap, subst, ◌∙◌, Option, Some, None, option_map}
 use Rattle.nl_field.specs.Numbers.{ShapeBounds}
 use Rattle.nl_field.specs.Virtual.{map_bytes, or_zeros}
 use Rattle.nl_field.specs.declared.shape.Shape.{Shape}
-use Rattle.nl_iface.specs.Calls.{KeepsMedium}
+use Rattle.nl_iface.specs.Calls.{KeepsVirtual}
 use Rattle.nl_iface.specs.Stored.{Value}
 use Rattle.nl_iface.specs.declared.counts.Counts.{Ghosts}
 use Rattle.nl_meta.specs.Committed.{VirtualMap}
@@ -21,15 +21,15 @@ use Rattle.nl_drain.proofs.Free.{UsesSame, uses-needed}
 pub tagged-same : (n m : Shape) (a b : VirtualMap) → m ≡ n → graph_of m b ≡ graph_of n a → tagged_in m b ≡ tagged_in n a
 tagged-same n m a b shapes graphs = λ i. map with_tag (pointers_of (shapes i) (graphs i))
 
-module _ {D : Type 0} (g : Ghosts D) (s t : D) (p : Pages) (bounds : ShapeBounds (g.shape s)) (runs : Runs g s p) (k : KeepsMedium g s t) where
+module _ {D : Type 0} (g : Ghosts D) (s t : D) (p : Pages) (bounds : ShapeBounds (g.shape s)) (runs : Runs g s p) (k : KeepsVirtual g s t) where
   shapes : g.shape s ≡ g.shape t
-  shapes = sym k.virtual.same_shape
+  shapes = sym k.same_shape
 
   stored-still : g.tells → (v : ℕ) → stored_on g t v ≡ stored_on g s v
   unfolding map_bytes
   stored-still told v =
-      ap (λ (shape : Shape). map_bytes shape (g.map t) v) k.virtual.same_shape
-      ∙ ap (λ (o : Option Value). cond (nat_lt v (g.shape s).vaddrs) (or_zeros (g.shape s) v (option_map (λ x. x.1) o)) None) (k.virtual.same_map told v)
+      ap (λ (shape : Shape). map_bytes shape (g.map t) v) k.same_shape
+      ∙ ap (λ (o : Option Value). cond (nat_lt v (g.shape s).vaddrs) (or_zeros (g.shape s) v (option_map (λ x. x.1) o)) None) (k.same_map told v)
 
   by-page : (v : ℕ) → IsNeeded (g.shape s) (running_on g s p) v → (o : Option (List ℕ)) → page_of p v ≡ o → running_on g t p v ≡ running_on g s p v
   unfolding running_over

@@ -56,12 +56,12 @@ still-few p q same = let e = ap (λ (xs : List ℕ). length xs) same in omega (a
 
 -- an address of the list is found
 has-any : (xs : List ℕ) (a : ℕ) → list_any (λ b. b == a) xs ≡ true → Has xs a
-has-any [] a e = absurd (both_ways true e refl)
-has-any (x ∷ xs) a e = by (cases_eq x a)
+has-any [] a e = absurd (both_ways false refl e)
+has-any (x ∷ xs) a e = by (cases_eq x a) (has-any xs a)
   where
-    by : (x ≡ a) ⊎ (x ≢ a) → Has (x ∷ xs) a
-    by (inl same) = inl same
-    by (inr off) = inr (has-any xs a (ap (λ (b : Bool). b || list_any (λ b. b == a) xs) (sym (ne_eqb x a off)) ∙ e))
+    by : (x ≡ a) ⊎ (x ≢ a) → (list_any (λ b. b == a) xs ≡ true → Has xs a) → Has (x ∷ xs) a
+    by (inl same) rest = inl same
+    by (inr off) rest = inr (rest (ap (λ (b : Bool). b || list_any (λ b. b == a) xs) (sym (ne_eqb x a off)) ∙ e))
 
 any-of : (xs : List ℕ) (a : ℕ) → Has xs a → list_any (λ b. b == a) xs ≡ true
 any-of [] a has = absurd has
@@ -72,20 +72,14 @@ any-of (x ∷ xs) a (inr has) = ap (λ (b : Bool). (x == a) || b) (any-of xs a h
 
 parts : (v : ℕ) (xs : List ℕ) → length (below v xs) + length (above v xs) ≤ length xs
 parts v [] = omega arith
-parts v (x ∷ xs) = by (nat_lt x v) refl (nat_lt v x) refl
+parts v (x ∷ xs) = sides (nat_lt x v) (nat_lt v x) refl refl (parts v xs)
   where
-    rest : length (below v xs) + length (above v xs) ≤ length xs
-    rest = parts v xs
-
-    by : (b : Bool) → nat_lt x v ≡ b → (c : Bool) → nat_lt v x ≡ c → length (below v (x ∷ xs)) + length (above v (x ∷ xs)) ≤ suc (length xs)
-    by b e c f = subst (λ (k : Bool). length (cond k (x ∷ below v xs) (below v xs)) + length (above v (x ∷ xs)) ≤ suc (length xs)) (sym e)
-        (subst (λ (k : Bool). length (cond b (x ∷ below v xs) (below v xs)) + length (cond k (x ∷ above v xs) (above v xs)) ≤ suc (length xs)) (sym f) (sides b c e f))
-      where
-        sides : (b c : Bool) → nat_lt x v ≡ b → nat_lt v x ≡ c → length (cond b (x ∷ below v xs) (below v xs)) + length (cond c (x ∷ above v xs) (above v xs)) ≤ suc (length xs)
-        sides true true e f = absurd (let l = ltb-true x v e in let r = ltb-true v x f in let off : ⊥ = omega (arith, l, r) in off)
-        sides true false e f = omega (arith, rest)
-        sides false true e f = omega (arith, rest)
-        sides false false e f = omega (arith, rest)
+    sides : (b c : Bool) → nat_lt x v ≡ b → nat_lt v x ≡ c → length (below v xs) + length (above v xs) ≤ length xs
+        → length (cond b (x ∷ below v xs) (below v xs)) + length (cond c (x ∷ above v xs) (above v xs)) ≤ suc (length xs)
+    sides true true e f rest = absurd (let l = ltb-true x v e in let r = ltb-true v x f in let off : ⊥ = omega (arith, l, r) in off)
+    sides true false e f rest = omega (arith, rest)
+    sides false true e f rest = omega (arith, rest)
+    sides false false e f rest = omega (arith, rest)
 
 one-more : (v : ℕ) (xs : List ℕ) → length (with_address v xs) ≤ length xs + 1
 one-more v xs = let w = whole_length v xs in let p = parts v xs in omega (arith, w, p)

@@ -9,7 +9,7 @@ ghost use Rattle.nl_running.specs.Running.{Runs};
 use nl_device::Device;
 use nl_field::{PointerList, Shape};
 use nl_flight::Flight;
-use nl_handler::laws::{handler_keeps, holders_renamed};
+use nl_handler::laws::{handler_changes_pages, handler_keeps, holders_renamed};
 use nl_handler::{Handled, handle};
 use nl_iface::{Callback, Counts};
 use nl_inode::Nodes;
@@ -109,6 +109,7 @@ pub fn handle_one<M: Nand>(
 {
     holders_renamed();
     handler_keeps::<Device<M>>();
+    handler_changes_pages::<Device<M>>();
     match handle(callback, shape, device, meta, nodes, flight, freeing) {
         Handled::Renamed | Handled::Gone => {
             let _ = device.handled(callback.number, transaction);
