@@ -38,11 +38,14 @@ counted_pages v = with_count v.shape (stored_count v) v.meta
 abbrev pub frozen_count : {M : Type 0} → Core M → ℕ
 frozen_count v = unwrap_or (option_map (λ (rec : SuperRec). rec.count) (option_and_then super_of (frozen_at v.meta 0))) v.committed
 
--- what is committed once these commit pages were finished
+-- what is committed once these commit pages were finished: that of the frozen transaction, and that of all calls
+abbrev pub committed_by : ℕ → ℕ → ℕ → Option ℕ → Option ℕ → ℕ
+committed_by before frozen count earlier (Some moment) = count
+committed_by before frozen count (Some moment) None = frozen
+committed_by before frozen count None None = before
+
 abbrev pub committed_count : {M : Type 0} → Core M → Option ℕ → Option ℕ → ℕ
-committed_count v earlier (Some moment) = v.count
-committed_count v (Some moment) None = frozen_count v
-committed_count v None None = v.committed
+committed_count v earlier decided = committed_by v.committed (frozen_count v) v.count earlier decided
 
 -- the sum of both fault counts once a write failed
 abbrev pub stopped_by : ℕ → ℕ → ℕ → ℕ → ℕ

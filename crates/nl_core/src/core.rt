@@ -1,9 +1,15 @@
+ghost use Rattle.std.specs.Prelude.{◌≡◌, ◌+◌, ◌≤◌, ◌^◌, nat_le};
+ghost use Rattle.nl_field.specs.CrashStates.{saturated};
+ghost use Rattle.nl_meta.specs.Pages.{IsPages};
+ghost use Rattle.nl_core.specs.Core.{begun_of};
+ghost use Rattle.nl_core.specs.Writing.{frozen_count, stopped_on};
+
 use nl_device::Device;
 use nl_field::{PointerList, Shape, SuperRec};
 use nl_flight::Flight;
 use nl_iface::Counts;
 use nl_inode::Nodes;
-use nl_journal::{Journal, frozen_len};
+use nl_journal::Journal;
 use nl_meta::Meta;
 use nl_nand::Nand;
 
@@ -30,27 +36,38 @@ pub struct Core<M: Nand> {
 
 impl<M: Nand> Core<M> {
     // The volume is read-only from the first failed program or erase on.
-    pub(crate) fn note_fault(&mut self, writes_before: u64) {
+    pub(crate) fn note_fault(&mut self, writes_before: u64)
+        ensures { self.new ≡ record self.old { stopped = stopped_on ⟦<Device<M> as Counts>⟧ writes_before self.old self.old } }
+    {
         if self.stopped == 0 && rose(writes_before, self.device.write_faults()) {
             self.stopped = self.faults();
         }
     }
 
     /// The sum of both fault counts.
-    pub fn faults(&self) -> u64 {
+    pub fn faults(&self) -> u64
+        ensures { result ≡ saturated (⟦<Device<M> as Counts>⟧.read_faults self.now.device + ⟦<Device<M> as Counts>⟧.write_faults self.now.device) }
+    {
         self.device
             .read_faults()
             .saturating_add(self.device.write_faults())
     }
 
     // The number that counts for what is handled now: it is above that of the frozen transaction.
-    pub(crate) fn mark(&self) -> u64 {
+    pub(crate) fn mark(&self) -> u64
+        ensures mark { result ≡ begun_of self.now + 1 }
+        ensures most { begun_of self.now ≤ 2 ^ 63 }
+    {
         self.journal.begun(&self.meta) + 1
     }
 
     // The count of calls that the frozen super page has, where there is one.
-    pub(crate) fn frozen_count(&self) -> u64 {
-        if frozen_len(&self.meta) == 0 {
+    pub(crate) fn frozen_count(&self) -> u64
+        ensures count { result ≡ frozen_count self.now }
+        ensures stands { IsPages self.now.meta }
+    {
+        self.meta.stands();
+        if self.meta.frozen(0) != Some(0) {
             return self.committed;
         }
         match SuperRec::of(self.meta.frozen_page(0), 0) {
@@ -61,6 +78,8 @@ impl<M: Nand> Core<M> {
 }
 
 // A count rose, or stands at its end.
-fn rose(before: u64, now: u64) -> bool {
+fn rose(before: u64, now: u64) -> bool
+    ensures { result ≡ nat_le (saturated (before + 1)) now }
+{
     before.saturating_add(1) <= now
 }

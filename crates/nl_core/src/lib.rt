@@ -1,14 +1,7 @@
-//! The core of a volume that runs: pages programmed, commits, rounds of reclaiming, and background tasks.
+//! The core of a volume that runs: commits of all calls so far, after which what they gave up is freed.
 #![tactic(auto)]
 
 mod committing;
 mod core;
-mod duties;
-mod handling;
-pub mod laws;
-mod programming;
-mod rounds;
 
 pub use crate::core::Core;
-pub use programming::Programmed;
-pub use rounds::Rounded;
