@@ -10,3 +10,4 @@ pub mod Changing
 pub mod Steps
 pub mod Losing
 pub mod Replacing
+pub mod Firm

@@ -5,3 +5,4 @@ pub mod SettlingLaws
 pub mod Held
 pub mod Steps
 pub mod Changes
+pub mod FirmLaws

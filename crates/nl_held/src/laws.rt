@@ -1,6 +1,7 @@
 //! Laws of the definitions. Each function stands for the laws that its contract names.
 ghost use Rattle.nl_held.specs.Changes.{CuttingKeepsHeld, InstallingKeepsHeld, NamesKeepHeld, ReplacingKeepsHeld, RunsOfLists};
 ghost use Rattle.nl_held.specs.CommittedLaws.{CompletingHolds, FreezingHolds, SuperPageHolds};
+ghost use Rattle.nl_held.specs.FirmLaws.{CommitKeepsFirm, MediumKeepsFirm, ProgramKeepsFirm, StoredKeepsFirm};
 ghost use Rattle.nl_held.specs.Held.{AcknowledgedKeepsHeld, CommitHolds, CommitKeepsHeld, FreedKeepsHeld, OpeningIsHeld};
 ghost use Rattle.nl_held.specs.SettlingLaws.{AcknowledgesHold, AddressesHold, ChangesJournaled, FreesHold, MetadataHolds, NoneDue};
 ghost use Rattle.nl_held.specs.Steps.{CleaningKeepsHeld, CopyKeepsHeld, DropKeepsHeld, HandlingKeepsHeld, ProgramKeepsHeld, StepKeepsHeld, TablesKeepHeld};
@@ -81,4 +82,13 @@ pub fn changes_keep_held<D: VirtualPages>()
     ensures names { NamesKeepHeld D.Counts }
     ensures replacing { ReplacingKeepsHeld D.Counts }
     ensures lists { RunsOfLists }
+{}
+
+/// A device stays firm: while its medium stays, while pages are programmed under names, moved and erased, and through a commit that is done
+/// or in which no write failed.
+pub fn devices_stay_firm<D: VirtualPages>()
+    ensures stored { StoredKeepsFirm D.Counts }
+    ensures medium { MediumKeepsFirm D.Counts }
+    ensures program { ProgramKeepsFirm D.Counts }
+    ensures commit { CommitKeepsFirm D.Counts }
 {}
