@@ -14,3 +14,4 @@ pub mod Counted
 pub mod Steps
 pub mod Losing
 pub mod Replacing
+pub mod Firm

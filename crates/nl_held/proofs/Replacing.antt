@@ -1,12 +1,9 @@
 -- The metadata changes between two calls, over a device that is only read.
-use Rattle.std.proofs.Common.{◌≡◌, ℕ, zero, suc, ◌+◌, ◌<◌, Bool, true, false, cond, List, [], ◌∷◌, ◌++◌, map, flat_map, refl, sym, ap, subst, ◌∙◌, arith}
+use Rattle.std.proofs.Common.{◌≡◌, Bool, true, false, cond, List, [], ◌∷◌, ◌++◌, map, refl, sym, ap, subst}
 use Rattle.std.proofs.lemmas.List.{append-nil, append_assoc}
-use Rattle.std.specs.List.{range_with_len}
-use Rattle.nl_field.specs.Graph.{Graph}
 use Rattle.nl_field.specs.Pointers.{is_none_pointer}
 use Rattle.nl_field.specs.declared.pointer.Pointer.{Pointer}
 use Rattle.nl_field.specs.declared.pointer.Tag.{Tag}
-use Rattle.nl_field.specs.declared.shape.Shape.{Shape}
 use Rattle.nl_iface.specs.Calls.{OnlyReads}
 use Rattle.nl_iface.specs.Device.{IsVolumeShape}
 use Rattle.nl_iface.specs.Holders.{tagged}
@@ -16,10 +13,8 @@ use Rattle.nl_holders.specs.Holding.{Holding}
 use Rattle.nl_holders.specs.Laws.{Keeps}
 use Rattle.nl_holders.proofs.LawProofs.{cut_keeps, install_keeps}
 use Rattle.nl_journal.specs.Progress.{Progress}
-use Rattle.nl_meta.specs.Nodes.{Held, graph_of, held_by, pointers_of}
 use Rattle.nl_meta.specs.Pages.{Pages}
-use Rattle.nl_meta.specs.PointerLists.{shown, tagged_by, with_tag}
-use Rattle.nl_running.specs.Running.{running_on}
+use Rattle.nl_meta.specs.PointerLists.{shown}
 use Rattle.nl_commit.specs.Holding.{running_holders}
 use Rattle.nl_commit.specs.Standing.{IsJournaled}
 use Rattle.nl_held.specs.Changes.{CuttingKeepsHeld, GainsEach, InstallingKeepsHeld, LosesEach, NamesKeepHeld, ReplacingKeepsHeld, given_up}
@@ -95,32 +90,7 @@ installing_keeps_held g s t p pages now flight later freeing tag was to volume j
 
 -- ---- no pointer changes
 
-map_append : (xs ys : List Held) → map with_tag (xs ++ ys) ≡ map with_tag xs ++ map with_tag ys
-map_append [] ys = refl
-map_append (x ∷ xs) ys = ap (λ (l : List (Tag × Pointer)). with_tag x ∷ l) (map_append xs ys)
-
--- the nodes from one on, so many
-same_from : (old new : Graph) (from count : ℕ) → ((n : ℕ) → n < from + count → tagged_by n (new n) ≡ tagged_by n (old n))
-    → map with_tag (flat_map (λ n. held_by n (new n)) (range_with_len from count)) ≡ map with_tag (flat_map (λ n. held_by n (old n)) (range_with_len from count))
-same_from old new from zero same = refl
-same_from old new from (suc count) same =
-    map_append (held_by from (new from)) (flat_map (λ n. held_by n (new n)) (range_with_len (from + 1) count))
-    ∙ ap (λ (l : List (Tag × Pointer)). l ++ map with_tag (flat_map (λ n. held_by n (new n)) (range_with_len (from + 1) count))) (same from (omega arith))
-    ∙ ap (λ (l : List (Tag × Pointer)). tagged_by from (old from) ++ l) (same_from old new (from + 1) count (λ n below. same n (omega (arith, below))))
-    ∙ sym (map_append (held_by from (old from)) (flat_map (λ n. held_by n (old n)) (range_with_len (from + 1) count)))
-
-all_same : (shape : Shape) (old new : Graph) → ((n : ℕ) → n < shape.nodes → tagged_by n (new n) ≡ tagged_by n (old n)) → map with_tag (pointers_of shape new) ≡ map with_tag (pointers_of shape old)
-unfolding pointers_of
-all_same shape old new same = same_from old new 0 shape.nodes (λ n below. same n (omega (arith, below)))
-
 pub names_keep_held : {D : Type 0} (g : Ghosts D) → NamesKeepHeld g
-names_keep_held g s t p pages now flight freeing volume j h reads same nodes = meta_keeps_held g s t p pages now flight freeing volume j h reads same flight freeing
+names_keep_held g s t p pages now flight freeing volume j h reads same stay = meta_keeps_held g s t p pages now flight freeing volume j h reads same flight freeing
     (λ v. subst (λ (r : List (Tag × Pointer)). Keeps (record v { running = running_holders g s pages; flight = flight; freeing = freeing }) (record v { running = r; flight = flight; freeing = freeing }))
     (sym stay) (keeps_all (record v { running = running_holders g s pages; flight = flight; freeing = freeing })))
-  where
-    shapes : g.shape t ≡ g.shape s
-    shapes = reads.medium.virtual.same_shape
-
-    stay : running_holders g t now ≡ running_holders g s pages
-    stay = ap (λ (x : Shape). map with_tag (pointers_of x (graph_of (g.shape t) (running_on g t now)))) shapes
-        ∙ all_same (g.shape s) (graph_of (g.shape s) (running_on g s pages)) (graph_of (g.shape t) (running_on g t now)) nodes

@@ -1,5 +1,5 @@
 -- Each change of the metadata between two calls leaves a volume held. The device is only read.
-use Rattle.std.specs.Prelude.{◌≡◌, ℕ, ◌<◌, false, if◌then◌else◌, List, [], ◌∷◌, ◌++◌, map}
+use Rattle.std.specs.Prelude.{◌≡◌, false, if◌then◌else◌, List, [], ◌∷◌, ◌++◌, map}
 use Rattle.nl_field.specs.Pointers.{is_none_pointer}
 use Rattle.nl_field.specs.declared.pointer.Pointer.{Pointer}
 use Rattle.nl_field.specs.declared.pointer.Tag.{Tag}
@@ -9,10 +9,8 @@ use Rattle.nl_iface.specs.Holders.{tagged}
 use Rattle.nl_iface.specs.declared.counts.Counts.{Ghosts}
 use Rattle.nl_holders.specs.Lists.{ListGains, ListLoses}
 use Rattle.nl_journal.specs.Progress.{Progress}
-use Rattle.nl_meta.specs.Nodes.{graph_of}
 use Rattle.nl_meta.specs.Pages.{Pages}
-use Rattle.nl_meta.specs.PointerLists.{OneChanges, tagged_by}
-use Rattle.nl_running.specs.Running.{running_on}
+use Rattle.nl_meta.specs.PointerLists.{OneChanges}
 use Rattle.nl_commit.specs.Holding.{running_holders}
 use Rattle.nl_commit.specs.Standing.{IsJournaled}
 use Rattle.nl_held.specs.Held.{IsHeldVolume}
@@ -63,12 +61,11 @@ InstallingKeepsHeld {D} g =
     → IsHeldVolume g s p pages flight freeing → OnlyReads g s t → now.frozen ≡ pages.frozen → OneChanges tag was to (running_holders g s pages) (running_holders g t now)
     → is_none_pointer to ≡ false → ListLoses tagged (tag, to) flight later → IsHeldVolume g t p now later (freeing ++ given_up was)
 
--- Names change, and no pointer of a file.
+-- The pointers of all files are what they were, as where names change.
 abbrev pub NamesKeepHeld : {D : Type 0} → Ghosts D → Type 0
 NamesKeepHeld {D} g =
     (s t : D) (p : Progress) (pages now : Pages) (flight : List (Tag × Pointer)) (freeing : List Pointer) → IsVolumeShape (g.shape s) → IsJournaled g s p pages → IsHeldVolume g s p pages flight freeing
-    → OnlyReads g s t → now.frozen ≡ pages.frozen
-    → ((n : ℕ) → n < (g.shape s).nodes → tagged_by n (graph_of (g.shape t) (running_on g t now) n) ≡ tagged_by n (graph_of (g.shape s) (running_on g s pages) n)) → IsHeldVolume g t p now flight freeing
+    → OnlyReads g s t → now.frozen ≡ pages.frozen → running_holders g t now ≡ running_holders g s pages → IsHeldVolume g t p now flight freeing
 
 -- ---- steps of lists
 

@@ -8,3 +8,4 @@ pub mod TreeLaws
 pub mod DeviceLaws
 pub mod Steps
 pub mod Changes
+pub mod FirmLaws

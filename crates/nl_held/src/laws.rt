@@ -1,15 +1,19 @@
 //! Laws of the definitions. Each function stands for the laws that its contract names.
+ghost use Rattle.std.specs.Prelude.{◌≡◌};
+ghost use Rattle.nl_iface.specs.Calls.{StoresMap, StoresPages};
+ghost use Rattle.nl_iface.specs.Device.{IsVolumeShape};
+ghost use Rattle.nl_iface.specs.Names.{IsNames};
 ghost use Rattle.nl_held.specs.Changes.{CuttingKeepsHeld, InstallingKeepsHeld, NamesKeepHeld, ReplacingKeepsHeld, RunsOfLists};
 ghost use Rattle.nl_held.specs.CommittedLaws.{CompletingHolds, FreezingHolds, SuperPageHolds};
 ghost use Rattle.nl_held.specs.DeviceLaws.{AddressesGo, HoldingOpens, NowHolds, PagesGo};
+ghost use Rattle.nl_held.specs.FirmLaws.{CommitKeepsFirm, MediumKeepsFirm, ProgramKeepsFirm, StoredKeepsFirm};
 ghost use Rattle.nl_held.specs.Held.{AcknowledgedKeepsHeld, CommitHolds, CommitKeepsHeld, FreedKeepsHeld, OpeningIsHeld};
 ghost use Rattle.nl_held.specs.SettlingLaws.{AcknowledgesHold, AddressesHold, ChangesJournaled, FreesHold, MetadataHolds, NoneDue};
 ghost use Rattle.nl_held.specs.TreeLaws.{CommitGoes, CommitLeaves, CompletingGoes, FreezingGoes, SuperPageGoes};
 ghost use Rattle.nl_held.specs.Steps.{CleaningKeepsHeld, CopyKeepsHeld, DropKeepsHeld, HandlingKeepsHeld, ProgramKeepsHeld, StepKeepsHeld, TablesKeepHeld};
 ghost use Rattle.nl_held.specs.Standing.{AheadIsRunning, CommittedReads, HeldLead, RunningLead, StandsAlike, StopsStand};
 
-
-use nl_iface::VirtualPages;
+use nl_iface::{NamedPages, VirtualPages};
 
 /// Each live page is held on through a commit, and what is committed and what is frozen keep their pages: while the frozen transaction is
 /// completed, as the dirty pages are frozen, and with another super page.
@@ -103,4 +107,22 @@ pub fn changes_keep_held<D: VirtualPages>()
     ensures names { NamesKeepHeld D.Counts }
     ensures replacing { ReplacingKeepsHeld D.Counts }
     ensures lists { RunsOfLists }
+{}
+
+/// A device stays firm: while its medium stays, while pages are programmed under names, moved and erased, and through a commit that is done
+/// or in which no write failed.
+pub fn devices_stay_firm<D: VirtualPages>()
+    ensures stored { StoredKeepsFirm D.Counts }
+    ensures medium { MediumKeepsFirm D.Counts }
+    ensures program { ProgramKeepsFirm D.Counts }
+    ensures commit { CommitKeepsFirm D.Counts }
+{}
+
+/// A device that stands has legal numbers, and where it tells what it stores, the medium has the map, the live pages, and the names.
+pub fn device_stands<D: NamedPages>(device: &D)
+    requires formed { D.formed device.now }
+    ensures volume { IsVolumeShape (D.shape device.now) }
+    ensures map { D.tells → StoresMap D.Counts device.now }
+    ensures pages { D.tells → StoresPages D.Counts device.now }
+    ensures names { IsNames (D.shape device.now) (D.next_stamp device.now) (D.names device.now) }
 {}
