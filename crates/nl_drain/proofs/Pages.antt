@@ -3,7 +3,7 @@ use Rattle.std.proofs.Common.{◌≡◌, ◌≢◌, ◌⊎◌, inl, inr, ℕ, su
 use Rattle.std.proofs.Math.Bool.{or-true}
 use Rattle.std.proofs.lemmas.Bool.{both_ways, cases_eq, cases_lt, cond-false, cond-true, eq-eqb, ltb-true, ne_eqb}
 use Rattle.std.specs.List.{list_any}
-use Rattle.std.specs.Prelude.{slice_get, slice_index, slice_index_or}
+use Rattle.std.specs.Prelude.{slice_index, slice_index_or}
 use Rattle.nl_field.specs.Graph.{Graph}
 use Rattle.nl_field.specs.Members.{Has}
 use Rattle.nl_field.specs.Numbers.{ShapeBounds}
@@ -19,7 +19,7 @@ use Rattle.nl_indirect.proofs.LawProofs.{at-slot, file_of_node}
 use Rattle.nl_indirect.proofs.Pointing.{address-node, address-range}
 use Rattle.nl_indirect.proofs.Records.{file-parts}
 use Rattle.nl_meta.specs.Committed.{VirtualMap}
-use Rattle.nl_meta.specs.Consistent.{AddressAt, AddressesRight, IsNode}
+use Rattle.nl_meta.specs.Consistent.{AddressAt, IsNode}
 use Rattle.nl_meta.specs.Nodes.{graph_of, pointer_at, slots_of}
 use Rattle.nl_meta.specs.Pages.{Pages, above, below, besides_0, has_room, is_dirty, most, with_address}
 use Rattle.nl_meta.proofs.Lists.{some_in}
@@ -29,7 +29,7 @@ use Rattle.nl_running.specs.Running.{Runs, RunsOn, running_on}
 use Rattle.nl_running.proofs.GraphStays.{all-pointers, graph-same}
 use Rattle.nl_running.proofs.Holds.{reads-none}
 use Rattle.nl_running.proofs.Kept.{used-on}
-use Rattle.nl_handler.specs.Handling.{CannotBeDirty, HandlesStored, HasTagged, HoldsTagged, RenamesOn, TagsFile, is_of, page_holding}
+use Rattle.nl_handler.specs.Handling.{CannotBeDirty, HandlesStored, RenamesOn, TagsFile, is_of, page_holding}
 use Rattle.nl_handler.specs.declared.answer.Handled.{Handled}
 use Rattle.nl_handler.specs.declared.answer.Handled.TheVariants as handled
 use Rattle.nl_drain.specs.Handled.{SameButNames, nameless_body}

@@ -1,9 +1,9 @@
 -- A file one of whose pointers has another name is as before but for that.
-use Rattle.std.proofs.Common.{◌≡◌, ◌≢◌, ◌⊎◌, inl, inr, ℕ, suc, ◌+◌, ◌*◌, ◌<◌, ◌==◌, nat_lt, Bool, true, false, cond, not, List, [], ◌∷◌, ◌++◌, map, filter, flat_map, length, get_or, refl, sym, ap, ◌∙◌, None, Some, arith}
+use Rattle.std.proofs.Common.{◌≡◌, ◌≢◌, ◌⊎◌, inl, inr, ℕ, suc, ◌+◌, ◌*◌, ◌==◌, nat_lt, Bool, true, false, cond, not, List, [], ◌∷◌, ◌++◌, map, filter, flat_map, length, get_or, refl, sym, ap, ◌∙◌, None, Some, arith}
 use Rattle.std.proofs.lemmas.Bool.{and_parts, cases_eq, cond-true, eqb-true, lt-ltb, not-true}
 use Rattle.std.proofs.lemmas.List.{length-append}
 use Rattle.std.specs.List.{enumerate_from}
-use Rattle.nl_field.specs.Graph.{GraphNode, NodeBody, file_node}
+use Rattle.nl_field.specs.Graph.{GraphNode, file_node}
 use Rattle.nl_field.specs.Numbers.{ShapeBounds}
 use Rattle.nl_field.specs.Pointers.{is_none_pointer, no_pointer}
 use Rattle.nl_field.specs.declared.inode.InodeRec.{InodeRec}

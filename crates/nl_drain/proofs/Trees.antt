@@ -1,10 +1,10 @@
 -- Nodes that are the same but for names of pages stand for the same tree.
-use Rattle.std.proofs.Common.{◌≡◌, ℕ, List, map, Option, Some, refl, sym, ap, ◌∙◌}
+use Rattle.std.proofs.Common.{◌≡◌, ℕ, List, Some, refl, sym, ap, ◌∙◌}
 use Rattle.nl_field.specs.Graph.{Graph, NodeBody, directory_node, file_node, unused}
 use Rattle.nl_field.specs.declared.pointer.Pointer.{Pointer}
 use Rattle.nl_tree.specs.GraphLaws.{entry_at}
 use Rattle.nl_tree.specs.Represents.{entries_in, node_named, node_of}
-use Rattle.nl_tree.specs.Tree.{Node, file}
+use Rattle.nl_tree.specs.Tree.{file}
 use Rattle.nl_tree.proofs.ChangeProofs.{graph_changes}
 use Rattle.nl_drain.specs.Handled.{SameButNames, nameless, nameless_body}
 use Rattle.nl_drain.specs.Laws.{TreesStay}

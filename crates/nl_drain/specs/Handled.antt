@@ -8,8 +8,7 @@ use Rattle.nl_holders.specs.Holding.{Holding}
 use Rattle.nl_holders.specs.Laws.{Keeps}
 use Rattle.nl_iface.specs.Calls.{KeepsMedium}
 use Rattle.nl_iface.specs.Moves.{IsUnhandled}
-use Rattle.nl_iface.specs.Names.{Has, Names}
-use Rattle.nl_iface.specs.declared.Callback.{Callback}
+use Rattle.nl_iface.specs.Names.{Names}
 use Rattle.nl_iface.specs.declared.counts.Counts.{Ghosts}
 use Rattle.nl_inode.specs.FreeLaws.{NodesAreFree, PoolIsFree}
 use Rattle.nl_inode.specs.Nodes.{Spaces}

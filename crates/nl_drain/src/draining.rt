@@ -60,7 +60,16 @@ pub fn drain<M: Nand>(
     ensures reads { Reads ⟦<Device<M> as Counts>⟧ device.old device.new (drained_stop result) }
 {
     'each: while let Some(callback) = next_unhandled(device) {
-        match handle_one(&callback, shape, device, meta, nodes, flight, freeing, transaction) {
+        match handle_one(
+            &callback,
+            shape,
+            device,
+            meta,
+            nodes,
+            flight,
+            freeing,
+            transaction,
+        ) {
             Drained::Done => {}
             answer => return answer,
         }

@@ -1,9 +1,8 @@
-use Rattle.std.proofs.Common.{◌≡◌, ◌∙◌, ap, sym, refl}
+use Rattle.std.proofs.Common.{ap}
 use Rattle.nl_device.specs.contracts.counts.DeviceCounts.TheImpl.{ghosts}
 use Rattle.nl_field.specs.PointerItems.{PointerItems}
 use Rattle.nl_handler.specs.declared.answer.Handled.TheVariants as handled
 use Rattle.nl_running.proofs.Holds.{bounds-of}
-use Rattle.nl_drain.specs.Handled.{volume}
 use Rattle.nl_drain.proofs.Handled.{Call, HolderLaws, Mark, altered, as-after, blocked-after, fault-other, handled-few, handled-not-full, handled-runs, handled-some, left-as, left-blocked, left-same, left-some, lost-other, marks-by, no-room-other}
 use Rattle.nl_drain.proofs.draining.handle_one.Goals as goal
 
