@@ -5,6 +5,8 @@ pub mod GivingBack
 pub mod Installed
 pub mod Keeping
 pub mod LawProofs
+pub mod Owning
+pub mod PageProofs
 pub mod Preparing
 pub mod Progress
 pub mod StandingOn

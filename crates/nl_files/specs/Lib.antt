@@ -3,6 +3,7 @@ pub mod CutLaws
 pub mod Cutting
 pub mod Installing
 pub mod Laws
+pub mod PageLaws
 pub mod Reading
 pub mod Spans
 pub mod Standing
