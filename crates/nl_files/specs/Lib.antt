@@ -1,6 +1,7 @@
 pub mod Answers
 pub mod CutLaws
 pub mod Cutting
+pub mod InstallLaws
 pub mod Installing
 pub mod Laws
 pub mod PageLaws
