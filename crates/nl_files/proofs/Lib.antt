@@ -2,9 +2,13 @@ pub mod CutLaw
 pub mod CutToSize
 pub mod Filling
 pub mod GivingBack
+pub mod InstallLaw
 pub mod Installed
 pub mod Keeping
 pub mod LawProofs
+pub mod OneFile
+pub mod Owning
+pub mod PageProofs
 pub mod Preparing
 pub mod Progress
 pub mod StandingOn

@@ -1,8 +1,10 @@
 pub mod Answers
 pub mod CutLaws
 pub mod Cutting
+pub mod InstallLaws
 pub mod Installing
 pub mod Laws
+pub mod PageLaws
 pub mod Reading
 pub mod Spans
 pub mod Standing

@@ -19,7 +19,7 @@ use Rattle.nl_indirect.specs.declared.answer.Stored.TheVariants.{Done, Emptied}
 use Rattle.nl_indirect.proofs.Pointing.{address-node, address-range}
 
 -- the page that a range had, or none of the journal's
-may-be : (old : Pages) (was : InodeRec) (index a : ℕ) → HasRange (page_of old) was index → (a ≡ address_of was index) ⊎ (a ≡ 0) → IsSome (page_of old a) ⊎ IsApart a
+pub may-be : (old : Pages) (was : InodeRec) (index a : ℕ) → HasRange (page_of old) was index → (a ≡ address_of was index) ⊎ (a ≡ 0) → IsSome (page_of old a) ⊎ IsApart a
 may-be old was index a range (inr none) = inr (inl none)
 may-be old was index a range (inl same) = by (cases_eq a 0)
   where
