@@ -3,7 +3,7 @@ use Rattle.std.specs.Prelude.{◌≡◌, ◌⊎◌, ℕ, ◌+◌, ◌<◌, ◌�
 use Rattle.nl_field.specs.CrashStates.{Earlier, Rose, saturated}
 use Rattle.nl_field.specs.Members.{Has}
 use Rattle.nl_device.specs.declared.device.Device.{Device}
-use Rattle.nl_core.specs.Nameless.{SameButNames}
+use Rattle.nl_drain.specs.Handled.{SameButNames}
 use Rattle.nl_iface.specs.Calls.{Leaves}
 use Rattle.nl_iface.specs.declared.counts.Counts.{Ghosts}
 use Rattle.nl_journal.specs.Passes.{StampsRise}

@@ -9,7 +9,8 @@ use Rattle.nl_device.specs.declared.device.Device.{Device}
 use Rattle.nl_iface.specs.Answers.{IsLost, LosesStamp}
 use Rattle.nl_iface.specs.Calls.{CallCounted, KeepsMedium}
 use Rattle.nl_iface.specs.Moves.{Acknowledges}
-use Rattle.nl_iface.specs.Names.{Names}
+use Rattle.nl_holders.specs.Laws.{OldNamesDiffer}
+use Rattle.nl_iface.specs.Names.{IsTable, Names}
 use Rattle.nl_iface.specs.declared.counts.Counts.{Ghosts}
 use Rattle.nl_journal.specs.Left.{CommitWrites}
 use Rattle.nl_journal.specs.Passes.{Passes}
@@ -92,3 +93,8 @@ pub record Settles {M : Type 0} (g : Ghosts (Device M)) (mark : ℕ) (old new : 
   pub items : new.freeing.items ≡ []
   pub room : new.freeing.room ≡ old.freeing.room + length old.freeing.items
   pub others : new ≡ record old { device = new.device; freeing = new.freeing }
+
+-- The tables of a device before it: old names and callbacks are in order, and no old name stands twice.
+pub record HasTable {M : Type 0} (g : Ghosts (Device M)) (s : Device M) : Type 0 where
+  pub table : IsTable (g.names s)
+  pub differ : OldNamesDiffer (g.names s)

@@ -1,9 +1,12 @@
 ghost use Rattle.std.specs.Prelude.{◌≡◌, ◌≤◌, ◌+◌, ◌^◌};
+ghost use Rattle.nl_iface.specs.Calls.{StoresPages};
+ghost use Rattle.nl_iface.specs.Device.{IsVolumeShape};
+ghost use Rattle.nl_iface.specs.Names.{IsNames};
 ghost use Rattle.nl_core.specs.Calls.{Commits, HasCause};
 ghost use Rattle.nl_core.specs.Core.{IsCore};
 ghost use Rattle.nl_core.specs.Goes.{Goes};
 ghost use Rattle.nl_meta.specs.Pages.{IsPages};
-ghost use Rattle.nl_core.specs.Writing.{Settles, WritesAll, committed_by};
+ghost use Rattle.nl_core.specs.Writing.{HasTable, Settles, WritesAll, committed_by};
 ghost use Rattle.nl_held.specs.TreeLaws.{moment_of};
 
 use crate::core::Core;
@@ -11,6 +14,7 @@ use nl_commit::{Committed, commit, free_first};
 use nl_device::Device;
 use nl_field::VirtualWrite;
 use nl_iface::Counts;
+use nl_held::laws::device_stands;
 use nl_journal::Committing;
 use nl_nand::Nand;
 
@@ -51,8 +55,12 @@ impl<M: Nand> Core<M> {
         requires stamp { ⟦<Device<M> as Counts>⟧.next_stamp self.old.device + 512 ≤ 2 ^ 63 }
         ensures formed { ⟦<Device<M> as Counts>⟧.formed self.new.device }
         ensures pages { IsPages self.old.meta }
+        ensures volume { IsVolumeShape (⟦<Device<M> as Counts>⟧.shape self.old.device) }
+        ensures stores { M.tells → StoresPages ⟦<Device<M> as Counts>⟧ self.new.device }
         ensures written { WritesAll ⟦<Device<M> as Counts>⟧ self.old self.new result }
     {
+        self.meta.stands();
+        device_stands(&self.device);
         let frozen = self.frozen_count();
         let faults = self.device.write_faults();
         let count = self.count.min(LAST);
@@ -63,6 +71,7 @@ impl<M: Nand> Core<M> {
             &self.shape,
             count,
         );
+        device_stands(&self.device);
         self.note_fault(faults);
         self.note_moments(frozen, &done);
         done.answer
@@ -86,10 +95,15 @@ impl<M: Nand> Core<M> {
     fn settle(&mut self, mark: u64)
         requires formed { ⟦<Device<M> as Counts>⟧.formed self.old.device }
         ensures formed { ⟦<Device<M> as Counts>⟧.formed self.new.device }
+        ensures table { HasTable ⟦<Device<M> as Counts>⟧ self.old.device }
+        ensures stores { M.tells → StoresPages ⟦<Device<M> as Counts>⟧ self.new.device }
+        ensures numbers { IsNames (⟦<Device<M> as Counts>⟧.shape self.new.device) (⟦<Device<M> as Counts>⟧.next_stamp self.new.device) (⟦<Device<M> as Counts>⟧.names self.new.device) }
         ensures settled { Settles ⟦<Device<M> as Counts>⟧ mark self.old self.new }
     {
+        device_stands(&self.device);
         let due = self.freeing.len();
         free_first(&mut self.device, &mut self.freeing, due);
         self.device.acknowledge(mark);
+        device_stands(&self.device);
     }
 }

@@ -1,6 +1,6 @@
 ghost use Rattle.std.specs.Prelude.{◌≡◌, ◌+◌, ◌≤◌, ◌^◌, nat_le};
 ghost use Rattle.nl_field.specs.CrashStates.{saturated};
-ghost use Rattle.nl_meta.specs.Pages.{IsPages};
+ghost use Rattle.nl_meta.specs.Pages.{is_frozen};
 ghost use Rattle.nl_core.specs.Core.{begun_of};
 ghost use Rattle.nl_core.specs.Writing.{frozen_count, stopped_on};
 
@@ -64,16 +64,25 @@ impl<M: Nand> Core<M> {
     // The count of calls that the frozen super page has, where there is one.
     pub(crate) fn frozen_count(&self) -> u64
         ensures count { result ≡ frozen_count self.now }
-        ensures stands { IsPages self.now.meta }
     {
-        self.meta.stands();
-        if self.meta.frozen(0) != Some(0) {
+        if !is_super_frozen(&self.meta) {
             return self.committed;
         }
         match SuperRec::of(self.meta.frozen_page(0), 0) {
             Some(rec) => rec.count,
             None => self.committed,
         }
+    }
+}
+
+// Whether the super page is one of the frozen pages.
+fn is_super_frozen(meta: &Meta) -> bool
+    ensures { result ≡ is_frozen meta.now 0 }
+{
+    meta.stands();
+    match meta.frozen(0) {
+        Some(first) => first == 0,
+        None => false,
     }
 }
 

@@ -2,7 +2,8 @@
 ghost use Rattle.std.specs.Prelude.{◌≡◌};
 ghost use Rattle.nl_iface.specs.Calls.{StoresMap, StoresPages};
 ghost use Rattle.nl_iface.specs.Device.{IsVolumeShape};
-ghost use Rattle.nl_iface.specs.Names.{IsNames};
+ghost use Rattle.nl_holders.specs.Laws.{OldNamesDiffer};
+ghost use Rattle.nl_iface.specs.Names.{IsNames, IsTable};
 ghost use Rattle.nl_held.specs.Changes.{CuttingKeepsHeld, InstallingKeepsHeld, NamesKeepHeld, ReplacingKeepsHeld, RunsOfLists};
 ghost use Rattle.nl_held.specs.CommittedLaws.{CompletingHolds, FreezingHolds, SuperPageHolds};
 ghost use Rattle.nl_held.specs.DeviceLaws.{AddressesGo, HoldingOpens, NowHolds, PagesGo};
@@ -125,4 +126,6 @@ pub fn device_stands<D: NamedPages>(device: &D)
     ensures map { D.tells → StoresMap D.Counts device.now }
     ensures pages { D.tells → StoresPages D.Counts device.now }
     ensures names { IsNames (D.shape device.now) (D.next_stamp device.now) (D.names device.now) }
+    ensures table { IsTable (D.names device.now) }
+    ensures differ { OldNamesDiffer (D.names device.now) }
 {}
