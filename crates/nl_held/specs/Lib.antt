@@ -6,3 +6,4 @@ pub mod Held
 pub mod Steps
 pub mod Changes
 pub mod FirmLaws
+pub mod FileCuts
