@@ -15,3 +15,5 @@ pub mod Steps
 pub mod Losing
 pub mod Replacing
 pub mod Firm
+pub mod FileLists
+pub mod FileCutting

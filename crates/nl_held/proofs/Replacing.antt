@@ -1,5 +1,5 @@
 -- The metadata changes between two calls, over a device that is only read.
-use Rattle.std.proofs.Common.{◌≡◌, Bool, true, false, cond, List, [], ◌∷◌, ◌++◌, map, refl, sym, ap, subst}
+use Rattle.std.proofs.Common.{◌≡◌, Bool, true, false, not, cond, List, [], ◌∷◌, ◌++◌, map, refl, sym, ap, subst}
 use Rattle.std.proofs.lemmas.List.{append-nil, append_assoc}
 use Rattle.nl_field.specs.Pointers.{is_none_pointer}
 use Rattle.nl_field.specs.declared.pointer.Pointer.{Pointer}
@@ -75,10 +75,10 @@ cutting_keeps_held g s t p pages now flight later gone come freeing volume j h r
     (subst (λ (l : List (Tag × Pointer)). GainsEach come (r.front ++ r.behind) l) (sym r.is) (runs_of_lists.gained r.front come r.behind)) flown
 
 -- what stands for no pointer
-shown_plain : (tag : Tag) (p : Pointer) → map tagged (shown tag p) ≡ given_up p
-shown_plain tag p = elim (is_none_pointer p) as (λ b. map tagged (cond b [] ((tag, p) ∷ [])) ≡ cond b [] (p ∷ [])) [ true ↦ refl | false ↦ refl ]
+pub shown_plain : (tag : Tag) (p : Pointer) → map tagged (shown tag p) ≡ given_up p
+shown_plain tag p = elim (is_none_pointer p) as (λ b. map tagged (cond b [] ((tag, p) ∷ [])) ≡ cond (not b) (p ∷ []) []) [ true ↦ refl | false ↦ refl ]
 
-shown_some : (tag : Tag) (p : Pointer) → is_none_pointer p ≡ false → shown tag p ≡ (tag, p) ∷ []
+pub shown_some : (tag : Tag) (p : Pointer) → is_none_pointer p ≡ false → shown tag p ≡ (tag, p) ∷ []
 shown_some tag p some = ap (λ (b : Bool). cond b [] ((tag, p) ∷ [])) some
 
 pub installing_keeps_held : {D : Type 0} (g : Ghosts D) → InstallingKeepsHeld g

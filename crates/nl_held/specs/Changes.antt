@@ -1,5 +1,5 @@
 -- Each change of the metadata between two calls leaves a volume held. The device is only read.
-use Rattle.std.specs.Prelude.{◌≡◌, false, if◌then◌else◌, List, [], ◌∷◌, ◌++◌, map}
+use Rattle.std.specs.Prelude.{◌≡◌, false, not, if◌then◌else◌, List, [], ◌∷◌, ◌++◌, map}
 use Rattle.nl_field.specs.Pointers.{is_none_pointer}
 use Rattle.nl_field.specs.declared.pointer.Pointer.{Pointer}
 use Rattle.nl_field.specs.declared.pointer.Tag.{Tag}
@@ -36,7 +36,7 @@ pub record ReplacesSome (gone come old new : List (Tag × Pointer)) : Type 0 whe
 
 -- the pointer that a page index had, if any
 abbrev pub given_up : Pointer → List Pointer
-given_up p = if is_none_pointer p then [] else p ∷ []
+given_up p = if not (is_none_pointer p) then p ∷ [] else []
 
 -- ---- changes of the metadata
 

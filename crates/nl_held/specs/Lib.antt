@@ -9,3 +9,4 @@ pub mod DeviceLaws
 pub mod Steps
 pub mod Changes
 pub mod FirmLaws
+pub mod FileCuts

@@ -7,6 +7,7 @@ ghost use Rattle.nl_iface.specs.Names.{IsNames, IsTable};
 ghost use Rattle.nl_held.specs.Changes.{CuttingKeepsHeld, InstallingKeepsHeld, NamesKeepHeld, ReplacingKeepsHeld, RunsOfLists};
 ghost use Rattle.nl_held.specs.CommittedLaws.{CompletingHolds, FreezingHolds, SuperPageHolds};
 ghost use Rattle.nl_held.specs.DeviceLaws.{AddressesGo, HoldingOpens, NowHolds, PagesGo};
+ghost use Rattle.nl_held.specs.FileCuts.{EmptyingKeepsHeld, PartingKeepsHeld, TruncatingKeepsHeld};
 ghost use Rattle.nl_held.specs.FirmLaws.{CommitKeepsFirm, MediumKeepsFirm, ProgramKeepsFirm, StoredKeepsFirm};
 ghost use Rattle.nl_held.specs.Held.{AcknowledgedKeepsHeld, CommitHolds, CommitKeepsHeld, FreedKeepsHeld, OpeningIsHeld};
 ghost use Rattle.nl_held.specs.SettlingLaws.{AcknowledgesHold, AddressesHold, ChangesJournaled, FreesHold, MetadataHolds, NoneDue};
@@ -108,6 +109,13 @@ pub fn changes_keep_held<D: VirtualPages>()
     ensures names { NamesKeepHeld D.Counts }
     ensures replacing { ReplacingKeepsHeld D.Counts }
     ensures lists { RunsOfLists }
+{}
+
+/// A file that is cut leaves a volume held, and so does one that loses all its pages: what it had from an index on awaits its free.
+pub fn cuts_keep_held<D: VirtualPages>()
+    ensures truncating { TruncatingKeepsHeld D.Counts }
+    ensures parting { PartingKeepsHeld D.Counts }
+    ensures emptying { EmptyingKeepsHeld D.Counts }
 {}
 
 /// A device stays firm: while its medium stays, while pages are programmed under names, moved and erased, and through a commit that is done
