@@ -1,5 +1,5 @@
 -- Whether the first of rising addresses is 0.
-use Rattle.std.proofs.Common.{◌≡◌, ◌⊎◌, inl, inr, ℕ, ◌<◌, ◌==◌, ◌||◌, nat_lt, Bool, true, false, List, [], ◌∷◌, Option, Some, None, refl, sym, ap, ◌∙◌, arith, ne_eqb}
+use Rattle.std.proofs.Common.{◌≡◌, ◌⊎◌, inl, inr, ⊎_elim, ℕ, ◌<◌, ◌==◌, ◌||◌, nat_lt, Bool, true, false, List, [], ◌∷◌, Option, Some, None, refl, sym, ap, ◌∙◌, arith, ne_eqb}
 use Rattle.std.specs.List.{list_all, list_any}
 use Rattle.std.specs.Prelude.{slice_get}
 use Rattle.std.proofs.lemmas.Bool.{and_parts, eqb-true, ltb-true, or_cases}
@@ -31,8 +31,4 @@ none_tells (a ∷ xs) is = absurd (none_some a is)
 
 pub any_has : (xs : List ℕ) → list_any (λ a. a == 0) xs ≡ true → Has xs 0
 any_has [] is = absurd (let no : ⊥ = cc in no)
-any_has (x ∷ xs) is = by (or_cases (x == 0) (list_any (λ a. a == 0) xs) is)
-  where
-    by : (x == 0 ≡ true) ⊎ (list_any (λ a. a == 0) xs ≡ true) → Has (x ∷ xs) 0
-    by (inl here) = inl (eqb-true x 0 here)
-    by (inr far) = inr (any_has xs far)
+any_has (x ∷ xs) is = ⊎_elim (λ here. inl (eqb-true x 0 here)) (λ far. inr (any_has xs far)) (or_cases (x == 0) (list_any (λ a. a == 0) xs) is)

@@ -82,10 +82,10 @@ module _ {M : Type 0} (g : Ghosts (Device M)) (v w : Core M) (is : w.stopped ≡
     none = none_failed_on;
     some = λ first later. ⊎_elim
         (λ both.
-            let rose = both.1 in
-            let sum : w.stopped ≡ saturated (g.read_faults w.device + g.write_faults w.device) =
-                is ∙ by_rose v.stopped (g.read_faults w.device) (g.write_faults v.device) (g.write_faults w.device) rose first in
-            (rose, let a = reads in let b = writes in (omega (arith, sum, rose, a, b), omega (arith, sum))))
+        let rose = both.1 in
+        let sum : w.stopped ≡ saturated (g.read_faults w.device + g.write_faults w.device) =
+        is ∙ by_rose v.stopped (g.read_faults w.device) (g.write_faults v.device) (g.write_faults w.device) rose first in
+        (rose, let a = reads in let b = writes in (omega (arith, sum, rose, a, b), omega (arith, sum))))
         (λ same. absurd (later (is ∙ same ∙ first))) (stopped_cases v.stopped (g.read_faults w.device) (g.write_faults v.device) (g.write_faults w.device));
   }
 
@@ -167,19 +167,19 @@ module _ {M : Type 0} (g : Ghosts (Device M)) (v w : Core M) (answer : VirtualWr
   pub later_number : begun_of v ≤ begun_of w
   later_number = ⊎_elim
       (λ y.
-          let first = b.commits.parts.first.finishes.begun_stays in
-          let same : begun_of w ≡ begun b.commits.parts.halfway (length b.commits.parts.rest.frozen.addresses) =
-              ap (λ (q : Progress). begun q (length w.meta.frozen.addresses)) y.2 ∙ ap (λ (m : Pages). begun b.commits.parts.halfway (length m.frozen.addresses)) y.3 in
-          omega (arith, first, same))
+      let first = b.commits.parts.first.finishes.begun_stays in
+      let same : begun_of w ≡ begun b.commits.parts.halfway (length b.commits.parts.rest.frozen.addresses) =
+      ap (λ (q : Progress). begun q (length w.meta.frozen.addresses)) y.2 ∙ ap (λ (m : Pages). begun b.commits.parts.halfway (length m.frozen.addresses)) y.3 in
+      omega (arith, first, same))
       (λ y.
-          let first = b.commits.parts.first.finishes.begun_stays in
-          let second = y.2.finishes.begun_stays in
-          let q = b.commits.parts.halfway in
-          let can = y.1 in
-          let starts : begun q (length b.commits.parts.rest.dirty) ≡ raised q.number = begun_header q.phase q.number (length b.commits.parts.rest.dirty) can.header can.dirty.pages.some in
-          let before : begun q (length b.commits.parts.rest.frozen.addresses) ≡ q.number = begun_none q.phase q.number (length b.commits.parts.rest.frozen.addresses) can.header (ap (λ (f : Frozen). length f.addresses) can.none) in
-          let most = few in
-          omega (arith, first, second, starts, before, most))
+      let first = b.commits.parts.first.finishes.begun_stays in
+      let second = y.2.finishes.begun_stays in
+      let q = b.commits.parts.halfway in
+      let can = y.1 in
+      let starts : begun q (length b.commits.parts.rest.dirty) ≡ raised q.number = begun_header q.phase q.number (length b.commits.parts.rest.dirty) can.header can.dirty.pages.some in
+      let before : begun q (length b.commits.parts.rest.frozen.addresses) ≡ q.number = begun_none q.phase q.number (length b.commits.parts.rest.frozen.addresses) can.header (ap (λ (f : Frozen). length f.addresses) can.none) in
+      let most = few in
+      omega (arith, first, second, starts, before, most))
       b.commits.parts.second
 
   still_marked : MarkedTo (names_of g w) (begun_of w + 1)
@@ -232,7 +232,7 @@ module _ {M : Type 0} (g : Ghosts (Device M)) (v w : Core M) (answer : VirtualWr
       let counted = s.counted in
       let few_files = s.few in
       let products : ((names_of g v).space.keep + (names_of g v).space.bad + 3) * (names_of g v).space.block ≡ ((names_of g w).space.keep + (names_of g w).space.bad + 3) * (names_of g w).space.block =
-          ap (λ k. (k + 3) * (names_of g v).space.block) (sym kept) ∙ ap (λ n. ((names_of g w).space.keep + (names_of g w).space.bad + 3) * n) (sym block) in
+      ap (λ k. (k + 3) * (names_of g v).space.block) (sym kept) ∙ ap (λ n. ((names_of g w).space.keep + (names_of g w).space.bad + 3) * n) (sym block) in
       record {
         counted = omega (arith, live, counted, running, flight, freeing);
         few = omega (arith, running, few_files, cap);

@@ -126,7 +126,7 @@ module _ {M : Type 0} (g : Ghosts (Device M)) (v w : Core M) (answer : VirtualWr
   goes_to : IsTold g w → (page_of_stamp : ℕ → Option PageOfStamp) (t : Trees) → CoreStands g v page_of_stamp t → GoesTo g v w page_of_stamp t
   goes_to told page_of_stamp t at =
       let parts : CommitsInParts g (answer ≡ write.Done) b.earlier b.decided v.device v.journal (with_count (g.shape v.device) v.count v.meta) w.device w.journal w.meta =
-          subst (λ (n : Pages). CommitsInParts g (answer ≡ write.Done) b.earlier b.decided v.device v.journal n w.device w.journal w.meta) (counted_is told) b.commits.parts in
+      subst (λ (n : Pages). CommitsInParts g (answer ≡ write.Done) b.earlier b.decided v.device v.journal n w.device w.journal w.meta) (counted_is told) b.commits.parts in
       let c = commit_goes g answer v.device w.device v.journal w.journal v.meta w.meta v.count page_of_stamp t b.earlier b.decided volume told.tells told.numbers (small told) core.journaled parts at.stands in
       let named = b.passes.named in
       record {
@@ -150,10 +150,10 @@ module _ {M : Type 0} (g : Ghosts (Device M)) (v w : Core M) (answer : VirtualWr
   leaves_to told page_of_stamp t y is at =
       let pages = counted_is told in
       let l = commit_leaves g answer v.device w.device v.journal w.journal v.meta w.meta v.count v.moment page_of_stamp t b.earlier b.decided (carried v.flight) v.freeing.items volume told.tells (numbers told) told.numbers
-              (small told) told.moments core.journaled held core.held ((core.writes writes).firm (told.tells, numbers told)) at.shows
-              (subst (λ (n : Pages). CommitWrites g (answer ≡ write.Done) v.journal w.journal n w.meta v.device w.device) pages (b.writes told.tells told.numbers))
-              (subst (λ (n : Pages). IfSome b.earlier (EarlierAt g v.device w.device v.journal w.journal n w.meta)) pages b.earlier_at)
-              (subst (λ (n : Pages). IfSome b.decided (ChangesAt g v.device w.device v.journal w.journal n w.meta)) pages b.decided_at) at.stands in
+      (small told) told.moments core.journaled held core.held ((core.writes writes).firm (told.tells, numbers told)) at.shows
+      (subst (λ (n : Pages). CommitWrites g (answer ≡ write.Done) v.journal w.journal n w.meta v.device w.device) pages (b.writes told.tells told.numbers))
+      (subst (λ (n : Pages). IfSome b.earlier (EarlierAt g v.device w.device v.journal w.journal n w.meta)) pages b.earlier_at)
+      (subst (λ (n : Pages). IfSome b.decided (ChangesAt g v.device w.device v.journal w.journal n w.meta)) pages b.decided_at) at.stands in
       let same : (tree_by v.count b.earlier b.decided t).0 ≡ y.0 = count_is page_of_stamp t at b.earlier b.decided b.commits.parts.first_decided ∙ sym b.committed ∙ sym is in
       record {
         later = l.later;

@@ -13,8 +13,8 @@ use crate::core::Core;
 use nl_commit::{Committed, commit, free_first};
 use nl_device::Device;
 use nl_field::VirtualWrite;
-use nl_iface::Counts;
 use nl_held::laws::device_stands;
+use nl_iface::Counts;
 use nl_journal::Committing;
 use nl_nand::Nand;
 

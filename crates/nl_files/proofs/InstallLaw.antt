@@ -103,10 +103,10 @@ module _ (shape : Shape) (device : VirtualMap) (n index : ℕ) (to : Pointer) (s
   stored : StoresPointer index to was is one half
   stored = at.installs.stores.pointers device at.clean
 
-  changed : ChangesPages old new
+  pub changed : ChangesPages old new
   changed = installing_changes_pages index to was is old new s t at.range (let e = at.free.first in omega (arith, e)) at.installs
 
-  there-half : IsSome (page_of new (page_of_node n))
+  pub there-half : IsSome (page_of new (page_of_node n))
   there-half = changed.stays (page_of_node n) at.there
 
   -- a new page is one that no node has
@@ -282,7 +282,7 @@ module _ (shape : Shape) (device : VirtualMap) (n index : ℕ) (to : Pointer) (s
       by (inr off) = (k, slot, other-is shape n index was put one half two file k slot b off x)
       by (inl e) = own (subst (λ (m : ℕ). AddressAt shape one m slot b) e x) (came slot)
 
-  used-from : (b : ℕ) → Uses shape two b → Uses shape one b ⊎ (fresh ≡ Some b)
+  pub used-from : (b : ℕ) → Uses shape two b → Uses shape one b ⊎ (fresh ≡ Some b)
   used-from b (k, slot, x) = by (cases_eq k n)
     where
       own : AddressAt shape two n slot b → (slice_index (slots_of is) slot ≡ slice_index (slots_of was) slot) ⊎ ((a : ℕ) × (fresh ≡ Some a) × (slice_index (slots_of is) slot ≡ a) × (slot ≡ range_of index))
@@ -327,7 +327,7 @@ module _ (shape : Shape) (device : VirtualMap) (n index : ℕ) (to : Pointer) (s
           (λ b off. ((λ u. from-some a e b off (used-from b u)), used-on b))
           (n, range_of index, its-on shape n index was put one half two file (range_of index) a (far a e) (at-range a e))
 
-  installed : FileIsInstalled shape n index to was put one two s t
+  pub installed : FileIsInstalled shape n index to was put one two s t
   installed = record {
     changes = file-changes shape n index was put one half two file;
     right = stays.right;

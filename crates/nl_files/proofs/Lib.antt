@@ -1,9 +1,12 @@
 pub mod CutLaw
+pub mod CutOn
 pub mod CutToSize
+pub mod CutWritten
 pub mod Filling
 pub mod GivingBack
 pub mod InstallLaw
 pub mod Installed
+pub mod InstalledOn
 pub mod Keeping
 pub mod LawProofs
 pub mod OneFile

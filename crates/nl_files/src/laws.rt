@@ -1,6 +1,8 @@
 //! Laws of the definitions. Each function stands for the law that its contract names.
 ghost use Rattle.nl_files.specs.CutLaws.{OneFileIsCut};
+ghost use Rattle.nl_files.specs.CutRuns.{CutRuns, OneCutIsWritten};
 ghost use Rattle.nl_files.specs.InstallLaws.{OneFileIsInstalled};
+ghost use Rattle.nl_files.specs.InstalledRuns.{InstalledRuns};
 ghost use Rattle.nl_files.specs.Laws.{AllAreOfNode, CutStands, FilesStandOn, GoodAddressesHavePages, InstalledStands};
 ghost use Rattle.nl_files.specs.PageLaws.{CuttingChangesPages, InstallingChangesPages, ReadingChangesPages};
 
@@ -44,4 +46,15 @@ pub fn calls_change_pages<D: NamedPages>()
 // what is free is exactly what no node has.
 pub fn one_file_is_installed()
     ensures { OneFileIsInstalled }
+{}
+
+// A volume that runs over a device runs on so, whatever that tells.
+pub fn installed_runs<D: NamedPages>()
+    ensures { InstalledRuns D.Counts }
+{}
+
+// And so where a file is cut.
+pub fn cut_runs<D: NamedPages>()
+    ensures written { OneCutIsWritten }
+    ensures runs { CutRuns D.Counts }
 {}

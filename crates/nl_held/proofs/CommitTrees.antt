@@ -94,7 +94,7 @@ module _ {D : Type 0} (g : Ghosts D) (done : Type 0) (s t : D) (p r : Progress) 
       let volume_m = subst IsVolumeShape (sym c.same_shape) volume in
       let one = halves m q mid half small_p c is in
       let there : page_of mid 0 ≡ Some (super_bytes (record_of (g.shape m) count)) =
-          ap (λ (n : Pages). page_of n 0) c.finishes.kept ∙ super_there ∙ ap (λ (h : Shape). Some (super_bytes (record_of h count))) (sym c.same_shape) in
+      ap (λ (n : Pages). page_of n 0) c.finishes.kept ∙ super_there ∙ ap (λ (h : Shape). Some (super_bytes (record_of h count))) (sym c.same_shape) in
       let two = freezing_goes g m q mid count page_of_stamp (completed earlier x) volume_m tells small_q c.stands.journaled held can there small one in
       let frozen = freezing_stands g m q mid volume_m c.stands.journaled held can in
       record {
@@ -111,11 +111,11 @@ module _ {D : Type 0} (g : Ghosts D) (done : Type 0) (s t : D) (p r : Progress) 
 pub commit_goes : {D : Type 0} (g : Ghosts D) → CommitGoes g
 commit_goes {D = D} g answer s t p r pages now count page_of_stamp x earlier decided volume tells numbers small j c at = ⊎_elim
     (λ y.
-        subst (λ (d : D). CommitsTrees g d r now count page_of_stamp earlier decided x) (sym y.1)
-        (subst (λ (q : Progress). CommitsTrees g c.between q now count page_of_stamp earlier decided x) (sym y.2)
-        (subst (λ (m : Pages). CommitsTrees g c.between c.halfway m count page_of_stamp earlier decided x) (sym y.3)
-        (stopped g (answer ≡ write.Done) s t p r pages now count page_of_stamp x earlier decided volume tells numbers small j at c.between c.halfway c.rest (c.answer ≡ write.Done)
-            (subst (λ (m : Pages). HasNumber c.halfway (length m.frozen.addresses)) y.3 (subst (λ (q : Progress). HasNumber q (length now.frozen.addresses)) y.2 numbers)) c.first c.first_decided y.4))))
+    subst (λ (d : D). CommitsTrees g d r now count page_of_stamp earlier decided x) (sym y.1)
+    (subst (λ (q : Progress). CommitsTrees g c.between q now count page_of_stamp earlier decided x) (sym y.2)
+    (subst (λ (m : Pages). CommitsTrees g c.between c.halfway m count page_of_stamp earlier decided x) (sym y.3)
+    (stopped g (answer ≡ write.Done) s t p r pages now count page_of_stamp x earlier decided volume tells numbers small j at c.between c.halfway c.rest (c.answer ≡ write.Done)
+    (subst (λ (m : Pages). HasNumber c.halfway (length m.frozen.addresses)) y.3 (subst (λ (q : Progress). HasNumber q (length now.frozen.addresses)) y.2 numbers)) c.first c.first_decided y.4))))
     (λ y. whole g (answer ≡ write.Done) s t p r pages now count page_of_stamp x earlier decided volume tells numbers small j at c.between c.halfway c.rest (c.answer ≡ write.Done) c.first c.first_decided y.0 y.1 y.2 y.3) c.second
 
 -- ---- what a stop leaves
@@ -156,7 +156,7 @@ module _ {D : Type 0} (g : Ghosts D) (s t : D) (p r : Progress) (pages now : Pag
   shut_alike : (IsOpen p counted_pages.frozen → ⊥) → Agrees (g.shape s).vaddrs (finished_on g s p counted_pages) (committed_on g s)
   shut_alike shut u home = sym (closed_pages p.phase counted_pages.frozen (committed_on g s) (g.shape s).vaddrs
       (closed_by p.phase counted_pages.frozen journaled.order.phase
-          (⊎_elim (λ more. absurd (shut more)) (λ few. few) (cases_lt (length counted_pages.frozen.addresses) (units_left p.phase (length counted_pages.frozen.addresses))))) u home)
+      (⊎_elim (λ more. absurd (shut more)) (λ few. few) (cases_lt (length counted_pages.frozen.addresses) (units_left p.phase (length counted_pages.frozen.addresses))))) u home)
 
   are : IsPages counted_pages
   are = super_page_held pages (super_bytes (record_of (g.shape s) count)) held j.super_page
@@ -167,13 +167,13 @@ module _ {D : Type 0} (g : Ghosts D) (s t : D) (p r : Progress) (pages now : Pag
   second : StandFor g s (finished_on g s p counted_pages) page_of_stamp x.frozen.0 x.frozen.1
   second = ⊎_elim (λ more. leads.frozen more x.frozen.0 x.frozen.1 (stands.frozen more))
       (λ shut. subst (λ (z : Prefix). StandFor g s (finished_on g s p counted_pages) page_of_stamp z.0 z.1) (sym (stands.thawed shut))
-          (stand_alike g s (committed_on g s) (finished_on g s p counted_pages) page_of_stamp x.committed (shut_alike shut) first))
+      (stand_alike g s (committed_on g s) (finished_on g s p counted_pages) page_of_stamp x.committed (shut_alike shut) first))
       (is_open p counted_pages.frozen)
 
   third : StandFor g s (ahead_on g s p counted_pages) page_of_stamp count x.running
   third = running_lead g s p counted_pages v page_of_stamp count x.running tells numbers volume journaled are (dirty_is_a_transaction g s p counted_pages journaled are (first_is_dirty pages.dirty)) on.runs h.holds shows
       (with_super (g.shape s) (running_on g s counted_pages) page_of_stamp count x.running small
-          (runs_some g s counted_pages 0 (super_bytes (record_of (g.shape s) count)) (dirty_there g s p pages (super_bytes (record_of (g.shape s) count)) j)) stands.running)
+      (runs_some g s counted_pages 0 (super_bytes (record_of (g.shape s) count)) (dirty_there g s p pages (super_bytes (record_of (g.shape s) count)) j)) stands.running)
 
   leaves : LeavesStanding g s
   leaves = stops_stand g s volume firm
@@ -198,8 +198,8 @@ module _ {D : Type 0} (g : Ghosts D) (s t : D) (p r : Progress) (pages now : Pag
   any_opens c l = ⊎_elim
       (λ one. (x.committed, inl refl, opens c x.committed one, omega arith))
       (λ more. ⊎_elim
-          (λ two. (x.frozen, inr (inl refl), opens c x.frozen two, at.later))
-          (λ three. ((count, x.running), inr (inr (inl refl)), opens c (count, x.running) three, let a = at.later in let b = at.latest in omega (arith, a, b))) more)
+      (λ two. (x.frozen, inr (inl refl), opens c x.frozen two, at.later))
+      (λ three. ((count, x.running), inr (inr (inl refl)), opens c (count, x.running) three, let a = at.later in let b = at.latest in omega (arith, a, b))) more)
       (leaves.one_of (committed_on g s) (finished_on g s p counted_pages) (ahead_on g s p counted_pages) page_of_stamp c x.committed.0 x.frozen.0 count x.committed.1 x.frozen.1 x.running l first second third)
 
   abbrev pub From : ℕ → Prefix → ℕ → Stored → Type 0
@@ -219,9 +219,13 @@ module _ {D : Type 0} (g : Ghosts D) (s t : D) (p r : Progress) (pages now : Pag
   turned moment committed A opens_a few l = record {
     later = l.later;
     each = λ m c left. ⊎_elim inl
-        (λ k. inr (k.0, k.1, ⊎_elim
-            (λ b. early moment m committed (g.stored_of c) x.committed.0 (earlier_no moment m k.1 few (b.0 tt)) (any_opens (g.stored_of c) b.1))
-            (λ a. from moment m committed (g.stored_of c) (opens_a (g.stored_of c) a)) k.2))
+        (λ k. inr (
+          k.0,
+          k.1,
+          ⊎_elim
+              (λ b. early moment m committed (g.stored_of c) x.committed.0 (earlier_no moment m k.1 few (b.0 tt)) (any_opens (g.stored_of c) b.1))
+              (λ a. from moment m committed (g.stored_of c) (opens_a (g.stored_of c) a)) k.2,
+        ))
         (l.each m c left);
   }
 
@@ -234,9 +238,13 @@ module _ {D : Type 0} (g : Ghosts D) (s t : D) (p r : Progress) (pages now : Pag
   leaves_from before done None None numbers_r few w e d = record {
     later = w.left.stops.later;
     each = λ m c left. ⊎_elim inl
-        (λ k. inr (k.0, k.1, ⊎_elim
-            (λ b. from before m x.committed (g.stored_of c) (any_opens (g.stored_of c) b.1))
-            (λ a. let o = last_opens (g.stored_of c) a in (o.0, o.1, o.2, λ after. let one = o.3 in let two = at.later in let three = at.latest in omega (arith, one, two, three))) k.2))
+        (λ k. inr (
+          k.0,
+          k.1,
+          ⊎_elim
+              (λ b. from before m x.committed (g.stored_of c) (any_opens (g.stored_of c) b.1))
+              (λ a. let o = last_opens (g.stored_of c) a in (o.0, o.1, o.2, λ after. let one = o.3 in let two = at.later in let three = at.latest in omega (arith, one, two, three))) k.2,
+        ))
         (w.left.stops.each m c left);
   }
 

@@ -161,8 +161,7 @@ holding_opens g s p pages count page_of_stamp x flight freeing c volume tells nu
     let kept : KeepsCommitted (record v { names = left.moved }) = keeps.committed held.holds (held.committed (tells, numbers)) in
     let alike = committed_left g s volume firm map c left.same_virtual in
     let stands = stands_alike shape (read_as shape (committed_on g s)) (committed_in shape c) page_of_stamp x.committed.0 x.committed.1 alike at.committed in
-    let hs = held_alike shape (read_as shape (committed_on g s)) (committed_in shape c) page_of_stamp x.committed.0 x.committed.1 alike at.committed in
-    (
+    let hs = held_alike shape (read_as shape (committed_on g s)) (committed_in shape c) page_of_stamp x.committed.0 x.committed.1 alike at.committed in (
       left.moved,
       left.contents,
       page_of_stamp,

@@ -112,10 +112,10 @@ module _ {D : Type 0} (g : Ghosts D) (s : D) (p : Progress) (pages : Pages) (cou
   pub finished_stands : StandsAs (g.shape s) (finished_on g s p pages) page_of_stamp x.frozen
   finished_stands = ⊎_elim at.frozen
       (λ shut. subst (λ (y : Prefix). StandsAs (g.shape s) (finished_on g s p pages) page_of_stamp y) (sym (at.thawed shut))
-          (stands_as (g.shape s) (committed_on g s) (finished_on g s p pages) page_of_stamp x.committed
-              (λ v home. sym (closed_pages p.phase pages.frozen (committed_on g s) (g.shape s).vaddrs
-                  (closed_by p.phase pages.frozen j.order.phase (⊎_elim (λ more. absurd (shut more)) (λ few. few) (cases_lt (length pages.frozen.addresses) (units_left p.phase (length pages.frozen.addresses))))) v home))
-              at.committed))
+      (stands_as (g.shape s) (committed_on g s) (finished_on g s p pages) page_of_stamp x.committed
+      (λ v home. sym (closed_pages p.phase pages.frozen (committed_on g s) (g.shape s).vaddrs
+      (closed_by p.phase pages.frozen j.order.phase (⊎_elim (λ more. absurd (shut more)) (λ few. few) (cases_lt (length pages.frozen.addresses) (units_left p.phase (length pages.frozen.addresses))))) v home))
+      at.committed))
       (is_open p pages.frozen)
 
 -- ---- a part of a commit
@@ -149,9 +149,9 @@ module _ {D : Type 0} (g : Ghosts D) (done : Type 0) (s t : D) (p q : Progress) 
   undecided : (IsOpen p pages.frozen → IsOpen q now.frozen) → q.number ≡ begun p (length pages.frozen.addresses) → x.frozen ≡ x.committed
   undecided stays number = ⊎_elim
       (λ more.
-          let later = open_number q now.frozen (stays more) (subst (λ n. n < 9223372036854775808) (sym c.finishes.begun_stays) numbers) in
-          let same = c.finishes.begun_stays in
-          absurd (let no : ⊥ = omega (arith, later, same, number) in no))
+      let later = open_number q now.frozen (stays more) (subst (λ n. n < 9223372036854775808) (sym c.finishes.begun_stays) numbers) in
+      let same = c.finishes.begun_stays in
+      absurd (let no : ⊥ = omega (arith, later, same, number) in no))
       at.thawed (is_open p pages.frozen)
 
   pub goes_on : (decided : Option ℕ) → IsDecided decided p q pages.frozen now.frozen → StandsFor g t q now count page_of_stamp (completed decided x)
@@ -167,10 +167,10 @@ module _ {D : Type 0} (g : Ghosts D) (done : Type 0) (s t : D) (p q : Progress) 
     running = runs_then;
     committed = ⊎_elim
         (λ one.
-            let later = open_number p pages.frozen is.0 numbers in
-            let number = is.1 in
-            let same = one.0 in
-            absurd (let no : ⊥ = omega (arith, later, number, same) in no))
+        let later = open_number p pages.frozen is.0 numbers in
+        let number = is.1 in
+        let same = one.0 in
+        absurd (let no : ⊥ = omega (arith, later, number, same) in no))
         (λ two. by_finished two.1) w.decided;
     frozen = λ more. fin_then;
     thawed = λ shut. refl;
