@@ -21,12 +21,17 @@ use Rattle.std.specs.List.{list_any}
 use Rattle.std.proofs.lemmas.Bool.{cases_Bool}
 use Rattle.nl_meta.specs.Pages.{Frozen, Pages, dirty_pages, none_frozen, with_address}
 use Rattle.nl_meta.proofs.RunningProofs.{not-with}
-use Rattle.nl_commit.specs.Completing.{DecidesAt, StaysOpen}
+use Rattle.nl_commit.specs.Completing.{DecidesAt, IsDecided, StaysOpen}
 use Rattle.nl_commit.specs.Counting.{with_frozen}
 
 pub if_some : (P : Type 0) (Q R : ℕ → Type 0) (o : Option ℕ) → MatchOption o P Q → ((m : ℕ) → Q m → R m) → IfSome o R
 if_some P Q R None h by = tt
 if_some P Q R (Some m) h by = by m h
+
+-- whether a part was decided, as a record of what it answers has it
+pub is_decided_by : {D : Type 0} (g : Ghosts D) (s t : D) (p q : Progress) (pages : Pages) (now : Frozen) (o : Option ℕ) → MatchOption o (StaysOpen p q pages.frozen now) (DecidesAt g s t p q pages) → IsDecided o p q pages.frozen now
+is_decided_by g s t p q pages now None stays = stays
+is_decided_by g s t p q pages now (Some moment) d = (d.was_open, d.number)
 
 pub earlier_by : (m a b : ℕ) → m ≤ a → Earlier a b → a ≤ b → Earlier m b
 earlier_by m a b from strict le below = elim (cases_lt a top) [

@@ -4,3 +4,5 @@ pub mod Standing
 pub mod CompletingSteps
 pub mod CommittingSteps
 pub mod HoldingOn
+pub mod PartSteps
+pub mod ReadSteps

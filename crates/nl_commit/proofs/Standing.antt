@@ -22,7 +22,7 @@ use Rattle.nl_journal.proofs.InOrders.{stays}
 use Rattle.nl_meta.specs.Committed.{VirtualMap}
 use Rattle.nl_meta.specs.Consistent.{AddressesRight, EntriesRight, NodesRight}
 use Rattle.nl_meta.specs.Nodes.{graph_of}
-use Rattle.nl_meta.specs.Pages.{Frozen, Pages, dirty_pages, is_dirty, is_frozen, none_frozen, page_of}
+use Rattle.nl_meta.specs.Pages.{Frozen, IsPages, Pages, dirty_pages, is_dirty, is_frozen, none_frozen, page_of}
 use Rattle.nl_meta.specs.Running.{CleanIsStored, or_stored, running_over}
 use Rattle.nl_meta.specs.Steps.{with_dirty}
 use Rattle.nl_meta.proofs.Lists.{some_in}
@@ -31,7 +31,7 @@ use Rattle.nl_running.specs.Running.{IsNeeded, Runs, running_on, stored_on}
 use Rattle.nl_running.proofs.GraphStays.{graph-same}
 use Rattle.nl_running.proofs.Holds.{bounds-of}
 use Rattle.nl_running.proofs.SameNeeded.{addresses-right, entries-right, needed-from, needed-to, nodes-right}
-use Rattle.nl_commit.specs.Standing.{ChangesCanFreeze, FreezingStands, HasFrozen, IsJournaled, MediumStands, StandsOn, SuperPageStands, WritesFrozen, WritingStands}
+use Rattle.nl_commit.specs.Standing.{ChangesCanFreeze, FreezingStands, HasFrozen, IsJournaled, AddressesStand, StandsOn, SuperPageStands, WritesFrozen, WritingStands}
 use Rattle.nl_commit.proofs.Places.{absent_no_place, has_at, index_of, low_of, needed_home, no_place, resident_below, same_bytes, some_bytes}
 
 module _ {D : Type 0} (g : Ghosts D) where
@@ -193,18 +193,19 @@ module _ {D : Type 0} (g : Ghosts D) where
       image i lt None is there = absurd (both_ways _ (ap is_some is) there)
       image i lt (Some bytes) is there = is ∙ ap (λ (m : List ℕ). Some m) (sym (get_or-map (λ v. unwrap_or (page_of pages v) []) pages.dirty i 0 [] lt ∙ ap (λ o. unwrap_or o []) is))
 
-  pub changes_can_freeze : ChangesCanFreeze g
-  changes_can_freeze s p pages j held first header none = record {
-    header = header;
-    none = none;
-    dirty = subst (λ (n : ℕ). IsTransaction n (dirty_pages pages)) j.runs.count (dirty_transaction pages held first (λ v low high. apart v low high (is_dirty pages v) refl));
-  }
+  -- the dirty pages are those of a transaction where the super page is one of them
+  pub dirty_is_a_transaction : (s : D) (p : Progress) (pages : Pages) → IsJournaled g s p pages → IsPages pages → is_dirty pages 0 ≡ true → IsTransaction (g.shape s).vaddrs (dirty_pages pages)
+  dirty_is_a_transaction s p pages j held first =
+      subst (λ (n : ℕ). IsTransaction n (dirty_pages pages)) j.runs.count (dirty_transaction pages held first (λ v low high. apart v low high (is_dirty pages v) refl))
     where
       apart : (v : ℕ) → 1 ≤ v → v < 67 → (b : Bool) → is_dirty pages v ≡ b → is_dirty pages v ≡ false
       apart v low high false is = is
       apart v low high true is =
           let i = index_of pages.dirty v is in
           absurd (both_ways _ (ap is_some (j.apart v low high)) (ap (λ (w : ℕ). is_some (page_of pages w)) (sym i.2) ∙ held.dirty_there (get_or pages.dirty i.0 0) (has_at pages.dirty i.0 i.1)))
+
+  pub changes_can_freeze : ChangesCanFreeze g
+  changes_can_freeze s p pages j held first header none = record { header = header; none = none; dirty = dirty_is_a_transaction s p pages j held first }
 
   -- ---- the super page
 
@@ -247,28 +248,28 @@ module _ {D : Type 0} (g : Ghosts D) where
       needed : (v : ℕ) → IsNeeded (g.shape s) (running_on g s pages) v → running_on g s now v ≡ running_on g s pages v
       needed v need = running-same s s pages now v (other v (far v need)) (λ gone. refl)
 
-  -- ---- what keeps the medium
+  -- ---- what keeps the addresses
 
-  pub medium_stands : MediumStands g
-  medium_stands s t p pages volume j k = record {
+  pub addresses_stand : AddressesStand g
+  addresses_stand s t p pages volume j k = record {
     journaled = record {
-      runs = runs-on s t pages pages (bounds-of (g.shape s) volume) k.virtual.same_shape j.runs refl needed (λ v need gone. j.runs.absent v need gone)
+      runs = runs-on s t pages pages (bounds-of (g.shape s) volume) k.same_shape j.runs refl needed (λ v need gone. j.runs.absent v need gone)
           (λ tells. record { each = λ u bytes at d f. stored tells u ∙ (j.runs.clean tells).each u bytes at d f });
-      order = (stays g s t p pages.frozen volume j.order k.virtual).0;
+      order = (stays g s t p pages.frozen volume j.order k).0;
       home = λ tells i lt. map-same tells (get_or pages.frozen.addresses i 0) ∙ j.home tells i lt;
       frozen = j.frozen;
       super_page = j.super_page;
       apart = j.apart;
     };
     needed = needed;
-    graph = same-graph s t pages pages (bounds-of (g.shape s) volume) k.virtual.same_shape j.runs refl needed;
+    graph = same-graph s t pages pages (bounds-of (g.shape s) volume) k.same_shape j.runs refl needed;
   }
     where
       map-same : g.tells → (v : ℕ) → bytes_of (g.map t) v ≡ bytes_of (g.map s) v
-      map-same tells v = ap (λ o. option_map (λ (x : Value). x.1) o) (k.virtual.same_map tells v)
+      map-same tells v = ap (λ o. option_map (λ (x : Value). x.1) o) (k.same_map tells v)
 
       stored : g.tells → (v : ℕ) → stored_on g t v ≡ stored_on g s v
-      stored tells v = stored-same s t v k.virtual.same_shape (map-same tells v)
+      stored tells v = stored-same s t v k.same_shape (map-same tells v)
 
       needed : (v : ℕ) → IsNeeded (g.shape s) (running_on g s pages) v → running_on g t pages v ≡ running_on g s pages v
       needed v need = running-same s t pages pages v refl (λ gone. stored (j.runs.absent v need gone) v)

@@ -1,6 +1,8 @@
 -- A whole commit: what was frozen is completed, and then the dirty pages.
-use Rattle.std.specs.Prelude.{◌≡◌, ℕ, ◌≤◌, ⊤, length}
+use Rattle.std.specs.Prelude.{◌≡◌, ◌⊎◌, ℕ, ◌≤◌, ⊤, length, Option, None}
 use Rattle.nl_field.specs.CrashStates.{Earlier, Turns}
+use Rattle.nl_field.specs.declared.answers.VirtualWrite.{VirtualWrite}
+use Rattle.nl_field.specs.declared.answers.VirtualWrite.TheVariants as write
 use Rattle.nl_iface.specs.Calls.{Leaves}
 use Rattle.nl_iface.specs.Stored.{Stored}
 use Rattle.nl_iface.specs.declared.counts.Counts.{Ghosts}
@@ -8,7 +10,10 @@ use Rattle.nl_journal.specs.Committing.{ahead_on, committed_on, finished_on}
 use Rattle.nl_journal.specs.Left.{LeavesEither, LeavesOne, LeavesOneOf}
 use Rattle.nl_journal.specs.Progress.{HasNumber, Progress, begun, next_after}
 use Rattle.nl_journal.specs.Units.{Ends, Waits}
-use Rattle.nl_meta.specs.Pages.{Pages}
+use Rattle.nl_meta.specs.Pages.{IsPages, Pages, dirty_pages}
+use Rattle.nl_commit.specs.Completing.{Completes, IsDecided}
+use Rattle.nl_commit.specs.Counting.{with_frozen}
+use Rattle.nl_commit.specs.Standing.{CanFreeze}
 
 -- Once it is done nothing is frozen or dirty, and the number is that of the last transaction; else the pages in memory wait, as they were or
 -- with the dirty ones frozen.
@@ -32,3 +37,20 @@ EarlierAt g old new p r pages now = CommitsAt g old new p r pages now (LeavesEit
 -- that of the dirty pages: they are committed
 abbrev pub ChangesAt : {D : Type 0} → Ghosts D → D → D → Progress → Progress → Pages → Pages → ℕ → Type 0
 ChangesAt g old new p r pages now = CommitsAt g old new p r pages now (LeavesOne g old (ahead_on g old p pages))
+
+-- It is done in two parts. What is frozen is completed; once that is done, the dirty pages are frozen and completed. Else the second part is left out. The moments of their commit
+-- pages are told, where they were finished.
+pub record CommitsInParts {D : Type 0} (g : Ghosts D) (done : Type 0) (earlier decided : Option ℕ) (s : D) (p : Progress) (pages : Pages) (t : D) (r : Progress) (now : Pages) : Type 0 where
+  pub between : D
+  pub halfway : Progress
+  pub rest : Pages
+  pub answer : VirtualWrite
+  pub first : Completes g (answer ≡ write.Done) s p pages between halfway rest
+  pub first_decided : IsDecided earlier p halfway pages.frozen rest.frozen
+  pub second : ((done → ⊥) × (t ≡ between) × (r ≡ halfway) × (now ≡ rest) × (decided ≡ None))
+      ⊎ (IsPages rest × CanFreeze (g.shape between).vaddrs halfway rest × Completes g done between halfway (with_frozen rest) t r now × IsDecided decided halfway r (dirty_pages rest) now.frozen)
+
+-- What a whole commit does to the pages in memory, and its two parts.
+pub record Commits {D : Type 0} (g : Ghosts D) (done : Type 0) (earlier decided : Option ℕ) (s : D) (p : Progress) (pages : Pages) (t : D) (r : Progress) (now : Pages) : Type 0 where
+  pub in_memory : CommitsPages done p r pages now
+  pub parts : CommitsInParts g done earlier decided s p pages t r now

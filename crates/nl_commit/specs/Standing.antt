@@ -1,6 +1,6 @@
 -- The metadata of a volume that runs, between two writes of its journal.
 use Rattle.std.specs.Prelude.{◌≡◌, ◌⊎◌, ℕ, ◌<◌, ◌≤◌, true, false, List, [], length, Some, None, IsSome, slice_index}
-use Rattle.nl_iface.specs.Calls.{KeepsMedium}
+use Rattle.nl_iface.specs.Calls.{KeepsVirtual}
 use Rattle.nl_iface.specs.Device.{IsVolumeShape}
 use Rattle.nl_iface.specs.declared.counts.Counts.{Ghosts}
 use Rattle.nl_journal.specs.Homes.{AreHome, BringsHome, copied}
@@ -12,7 +12,7 @@ use Rattle.nl_journal.specs.declared.answers.Phase.TheVariants.{Header}
 use Rattle.nl_meta.specs.Nodes.{graph_of}
 use Rattle.nl_meta.specs.Pages.{Pages, IsPages, dirty_pages, is_dirty, none_frozen, page_of}
 use Rattle.nl_meta.specs.Steps.{with_dirty}
-use Rattle.nl_running.specs.Running.{IsNeeded, Runs, running_on}
+use Rattle.nl_running.specs.Running.{IsNeeded, Runs, RunsOn, running_on}
 
 -- The pages of a transaction are resident, and one that did not change since it was frozen is the running page.
 pub record HasFrozen (pages : Pages) : Type 0 where
@@ -72,6 +72,10 @@ abbrev pub SuperPageStands : {D : Type 0} → Ghosts D → Type 0
 SuperPageStands {D} g =
     (s : D) (p : Progress) (pages : Pages) (bytes : List ℕ) → IsVolumeShape (g.shape s) → IsJournaled g s p pages → StandsOn g s pages s p (with_dirty pages 0 bytes)
 
--- The device keeps its medium.
-abbrev pub MediumStands : {D : Type 0} → Ghosts D → Type 0
-MediumStands {D} g = (s t : D) (p : Progress) (pages : Pages) → IsVolumeShape (g.shape s) → IsJournaled g s p pages → KeepsMedium g s t → StandsOn g s pages t p pages
+-- The device keeps what its addresses have.
+abbrev pub AddressesStand : {D : Type 0} → Ghosts D → Type 0
+AddressesStand {D} g = (s t : D) (p : Progress) (pages : Pages) → IsVolumeShape (g.shape s) → IsJournaled g s p pages → KeepsVirtual g s t → StandsOn g s pages t p pages
+
+-- Pages are read, and some become resident.
+abbrev pub ReadsStand : {D : Type 0} → Ghosts D → Type 0
+ReadsStand {D} g = (s t : D) (p : Progress) (pages now : Pages) → IsVolumeShape (g.shape s) → IsJournaled g s p pages → RunsOn g s pages t now → StandsOn g s pages t p now

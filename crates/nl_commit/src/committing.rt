@@ -4,7 +4,7 @@ ghost use Rattle.nl_iface.specs.Calls.{CallCounted};
 ghost use Rattle.nl_journal.specs.Left.{CommitWrites};
 ghost use Rattle.nl_journal.specs.Passes.{Passes};
 ghost use Rattle.nl_journal.specs.Progress.{HasNumber};
-ghost use Rattle.nl_commit.specs.Committing.{ChangesAt, CommitsPages, EarlierAt};
+ghost use Rattle.nl_commit.specs.Committing.{ChangesAt, Commits, EarlierAt};
 ghost use Rattle.nl_commit.specs.Counting.{with_count};
 ghost use Rattle.nl_commit.specs.Standing.{IsJournaled, StandsOn};
 
@@ -44,7 +44,7 @@ pub fn commit<D: VirtualPages>(
     requires count { count < 2 ^ 63 }
     ensures formed { D.formed device.new }
     ensures stands { StandsOn D.Counts device.old meta.old device.new journal.new meta.new }
-    ensures commits { CommitsPages (result.answer ≡ VirtualWrite.Done) journal.old journal.new (with_count shape.now count meta.old) meta.new }
+    ensures commits { Commits D.Counts (result.answer ≡ VirtualWrite.Done) result.earlier result.decided device.old journal.old (with_count shape.now count meta.old) device.new journal.new meta.new }
     ensures earlier { IfSome result.earlier (EarlierAt D.Counts device.old device.new journal.old journal.new (with_count shape.now count meta.old) meta.new) }
     ensures decided { IfSome result.decided (ChangesAt D.Counts device.old device.new journal.old journal.new (with_count shape.now count meta.old) meta.new) }
     ensures writes { D.tells → HasNumber journal.new (length meta.new.frozen.addresses) → CommitWrites D.Counts (result.answer ≡ VirtualWrite.Done) journal.old journal.new (with_count shape.now count meta.old) meta.new device.old device.new }

@@ -4,6 +4,7 @@ pub mod InsertProofs
 pub mod LawProofs
 pub mod ListProofs
 pub mod LookProofs
+pub mod PageProofs
 pub mod PlaceFacts
 pub mod Records
 pub mod RemoveProofs

@@ -4,4 +4,5 @@ pub mod Directory
 pub mod DirectoryLaws
 pub mod ListLaws
 pub mod Looking
+pub mod PageLaws
 pub mod Slots

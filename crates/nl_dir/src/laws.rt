@@ -2,6 +2,7 @@
 ghost use Rattle.nl_dir.specs.AfterLaws.{AddressesOfChanged, ListsInserted, ListsRemoved};
 ghost use Rattle.nl_dir.specs.DirectoryLaws.{ChangeTakesRoom, ChangedPagesRun, EmptyIsDirectory, EntriesInOrder, OnlyOwnPages, ResidentIsRunning, RightIsDirectory};
 ghost use Rattle.nl_dir.specs.ListLaws.{EntriesByLists};
+ghost use Rattle.nl_dir.specs.PageLaws.{ChangedPagesAreKept, InsertingChangesPages, RemovingChangesPages};
 
 // A directory of metadata that is right is one for the calls of this crate.
 pub fn right_is_directory()
@@ -44,4 +45,11 @@ pub fn after_changes()
     ensures inserted { ListsInserted }
     ensures removed { ListsRemoved }
     ensures addresses { AddressesOfChanged }
+{}
+
+// The calls lose no page of those in memory, and thaw none.
+pub fn calls_change_pages()
+    ensures any { ChangedPagesAreKept }
+    ensures inserting { InsertingChangesPages }
+    ensures removing { RemovingChangesPages }
 {}

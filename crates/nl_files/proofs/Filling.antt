@@ -18,8 +18,9 @@ use Rattle.nl_files.specs.Answers.{LosesFile}
 use Rattle.nl_files.specs.declared.answer.FileAnswer.{FileAnswer}
 use Rattle.nl_files.specs.declared.answer.FileAnswer.TheVariants as answer
 use Rattle.nl_files.proofs.Keeping.{keeps-then, pointer-then}
+use Rattle.nl_files.proofs.Owning.{own-then}
 use Rattle.nl_files.specs.Reading.{IsWanted, byte_at, file_page}
-use Rattle.nl_files.specs.Standing.{FileStands, KeepsRunning, running_map}
+use Rattle.nl_files.specs.Standing.{FileStands, KeepsRunning, LoadsOwn, running_map}
 
 -- the first bytes of the file from an offset on stand in the list
 pub record IsFilled {D : Type 0} (g : Ghosts D) (s t : D) (p q : Pages) (rec : InodeRec) (at count done : ℕ) (out : List ℕ) : Type 0 where
@@ -27,6 +28,7 @@ pub record IsFilled {D : Type 0} (g : Ghosts D) (s t : D) (p q : Pages) (rec : I
   pub reads : OnlyReads g s t
   pub faults : g.read_faults t ≡ g.read_faults s
   pub keeps : KeepsRunning g s p q
+  pub own : LoadsOwn rec p q
   pub len : length out ≡ count
   pub most : done ≤ count
   pub bytes : g.tells → (k : ℕ) → k < done → slice_index out k ≡ byte_at (file_page g s (running_map g s p) rec) (at + k)
@@ -77,16 +79,17 @@ filled-on page at done count main out new some within is before same copied k be
         ∙ ap (λ n. slice_index (page n) ((at + k) % 4096)) quotient
 
 pub filled-then : {D : Type 0} (g : Ghosts D) (s t u : D) (p q r : Pages) (rec : InodeRec) (at size done count : ℕ) (main out new : List ℕ) → FileStands g s rec p
-    → IsFilled g s t p q rec at size done out → g.formed u → OnlyReads g t u → g.read_faults u ≡ g.read_faults t → KeepsRunning g t q r
+    → IsFilled g s t p q rec at size done out → g.formed u → OnlyReads g t u → g.read_faults u ≡ g.read_faults t → KeepsRunning g t q r → LoadsOwn rec q r
     → (g.tells → main ≡ file_page g t (running_map g t q) rec ((at + done) / 4096))
     → 0 < count → done + count ≤ size → (at + done) % 4096 + count ≤ 4096 → length new ≡ size → ((k : ℕ) → k < done → slice_index new k ≡ slice_index out k)
     → ((k : ℕ) → k < count → slice_index new (done + k) ≡ slice_index main ((at + done) % 4096 + k))
     → IsFilled g s u p r rec at size (done + count) new
-filled-then g s t u p q r rec at size done count main out new stands is formed reads faults keeps page some most within whole same copied = record {
+filled-then g s t u p q r rec at size done count main out new stands is formed reads faults keeps own page some most within whole same copied = record {
   formed = formed;
   reads = reads_then g s t u is.reads reads;
   faults = faults ∙ is.faults;
   keeps = keeps-then g s t p q r is.reads is.keeps keeps;
+  own = own-then rec p q r is.own own;
   len = whole;
   most = most;
   bytes = λ tells.

@@ -1,10 +1,17 @@
 pub mod CutLaw
+pub mod CutOn
 pub mod CutToSize
+pub mod CutWritten
 pub mod Filling
 pub mod GivingBack
+pub mod InstallLaw
 pub mod Installed
+pub mod InstalledOn
 pub mod Keeping
 pub mod LawProofs
+pub mod OneFile
+pub mod Owning
+pub mod PageProofs
 pub mod Preparing
 pub mod Progress
 pub mod StandingOn

@@ -1,8 +1,12 @@
 pub mod Answers
 pub mod CutLaws
+pub mod CutRuns
 pub mod Cutting
+pub mod InstallLaws
+pub mod InstalledRuns
 pub mod Installing
 pub mod Laws
+pub mod PageLaws
 pub mod Reading
 pub mod Spans
 pub mod Standing

@@ -54,6 +54,14 @@ pub record KeepsRunning {D : Type 0} (g : Ghosts D) (s : D) (old new : Pages) : 
   pub there : (u : ℕ) → g.tells ⊎ (page_of new u ≡ page_of old u)
   pub stays : (u : ℕ) → IsSome (page_of old u) → page_of new u ≡ page_of old u
 
+-- the address is one of the file's
+abbrev pub IsOwn : InodeRec → ℕ → Type 0
+IsOwn rec u = (u ≢ 0) × ((r : ℕ) × (slice_index (slots_of rec) r ≡ u))
+
+-- A page that became resident is one of the file's.
+pub record LoadsOwn (rec : InodeRec) (old new : Pages) : Type 0 where
+  pub each : (u : ℕ) → IsSome (page_of new u) → IsSome (page_of old u) ⊎ IsOwn rec u
+
 -- The page of an address was touched, where it is not 0, and each other page stays.
 abbrev pub LoadsAt : ℕ → Pages → Pages → Type 0
 LoadsAt a old new = (a ≡ 0 → new ≡ old) × (a ≢ 0 → Keeps a old new)

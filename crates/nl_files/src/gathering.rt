@@ -3,7 +3,7 @@ ghost use Rattle.nl_iface.specs.Calls.{OnlyReads, ReadsCounted};
 ghost use Rattle.nl_meta.specs.Nodes.{pointer_at};
 ghost use Rattle.nl_files.specs.Answers.{IfPages, IsLostFile, IsLostCount, IsPageStamp, LosesFile, LosesCount};
 ghost use Rattle.nl_files.specs.Spans.{pointers_from, as_list};
-ghost use Rattle.nl_files.specs.Standing.{FileStands, KeepsRunning, running_map};
+ghost use Rattle.nl_files.specs.Standing.{FileStands, KeepsRunning, LoadsOwn, running_map};
 
 use crate::answer::{CountPages, FileAnswer, Looked};
 use crate::pages::look;
@@ -19,6 +19,7 @@ pub fn count_pages<D: NamedPages>(device: &mut D, meta: &mut Meta, rec: &InodeRe
     ensures formed { D.formed device.new }
     ensures kept { OnlyReads D.Counts device.old device.new }
     ensures pages { KeepsRunning D.Counts device.old meta.old meta.new }
+    ensures only { LoadsOwn rec.now meta.old meta.new }
     ensures count { IfPages result (λ n. n ≡ length (pointers_from (running_map D.Counts device.old meta.old) rec.now 0)) }
     ensures faults { ReadsCounted D.Counts (result ≡ CountPages.Fault) device.old device.new }
     ensures lost { LosesCount (IsPageStamp (D.stamps device.old) rec.now) result }
@@ -61,6 +62,7 @@ pub fn gather<D: NamedPages>(
     ensures formed { D.formed device.new }
     ensures kept { OnlyReads D.Counts device.old device.new }
     ensures pages { KeepsRunning D.Counts device.old meta.old meta.new }
+    ensures only { LoadsOwn rec.now meta.old meta.new }
     ensures done { result ≡ FileAnswer.Done → freeing.new.items ≡ freeing.old.items ++ pointers_from (running_map D.Counts device.old meta.old) rec.now from }
     ensures refused { (result ≡ FileAnswer.Done → ⊥) → freeing.new.items ≡ freeing.old.items }
     ensures room { length freeing.old.items + freeing.old.room ≤ length freeing.new.items + freeing.new.room }
@@ -97,6 +99,7 @@ fn gather_one<D: NamedPages>(
     ensures formed { D.formed device.new }
     ensures kept { OnlyReads D.Counts device.old device.new }
     ensures pages { KeepsRunning D.Counts device.old meta.old meta.new }
+    ensures only { LoadsOwn rec.now meta.old meta.new }
     ensures done { result ≡ FileAnswer.Done → freeing.new.items ≡ freeing.old.items ++ as_list (pointer_at (running_map D.Counts device.old meta.old) rec.now index) }
     ensures refused { (result ≡ FileAnswer.Done → ⊥) → freeing.new ≡ freeing.old }
     ensures room { length freeing.old.items + freeing.old.room ≤ length freeing.new.items + freeing.new.room }

@@ -1,6 +1,10 @@
 //! Laws of the definitions. Each function stands for the law that its contract names.
 ghost use Rattle.nl_files.specs.CutLaws.{OneFileIsCut};
+ghost use Rattle.nl_files.specs.CutRuns.{CutRuns, OneCutIsWritten};
+ghost use Rattle.nl_files.specs.InstallLaws.{OneFileIsInstalled};
+ghost use Rattle.nl_files.specs.InstalledRuns.{InstalledRuns};
 ghost use Rattle.nl_files.specs.Laws.{AllAreOfNode, CutStands, FilesStandOn, GoodAddressesHavePages, InstalledStands};
+ghost use Rattle.nl_files.specs.PageLaws.{CuttingChangesPages, InstallingChangesPages, ReadingChangesPages};
 
 use nl_iface::NamedPages;
 
@@ -29,4 +33,28 @@ pub fn written_files_stand_on<D: NamedPages>()
 // exactly what no node has.
 pub fn one_file_is_cut()
     ensures { OneFileIsCut }
+{}
+
+// The calls lose no page of those in memory, and thaw none.
+pub fn calls_change_pages<D: NamedPages>()
+    ensures reading { ReadingChangesPages D.Counts }
+    ensures installing { InstallingChangesPages }
+    ensures cutting { CuttingChangesPages }
+{}
+
+// Once a pointer is installed and the record written back, the volume is right again: one pointer of one file changed, no other node, and
+// what is free is exactly what no node has.
+pub fn one_file_is_installed()
+    ensures { OneFileIsInstalled }
+{}
+
+// A volume that runs over a device runs on so, whatever that tells.
+pub fn installed_runs<D: NamedPages>()
+    ensures { InstalledRuns D.Counts }
+{}
+
+// And so where a file is cut.
+pub fn cut_runs<D: NamedPages>()
+    ensures written { OneCutIsWritten }
+    ensures runs { CutRuns D.Counts }
 {}

@@ -7,7 +7,7 @@ ghost use Rattle.nl_meta.specs.Running.{CleanIsStored};
 ghost use Rattle.nl_meta.specs.Steps.{Keeps};
 ghost use Rattle.nl_indirect.specs.Ranges.{HasPointers, HasRange, address_of, some_pointer};
 ghost use Rattle.nl_files.specs.Answers.{IfAt, IsLostFile, IsLostLook, IsPageStamp, LosesFile, LosesLook};
-ghost use Rattle.nl_files.specs.Standing.{FileStands, IsAtHand, KeepsRunning, LoadsAt, device_map, running_map};
+ghost use Rattle.nl_files.specs.Standing.{FileStands, IsAtHand, KeepsRunning, LoadsAt, LoadsOwn, device_map, running_map};
 
 use crate::answer::{FileAnswer, Looked};
 use nl_field::InodeRec;
@@ -56,6 +56,7 @@ pub fn prepare<D: NamedPages>(
     ensures formed { D.formed device.new }
     ensures kept { OnlyReads D.Counts device.old device.new }
     ensures pages { KeepsRunning D.Counts device.old meta.old meta.new }
+    ensures only { LoadsOwn rec.now meta.old meta.new }
     ensures ready { result ≡ FileAnswer.Done → (i : ℕ) → first ≤ i → i ≤ last → HasRange (page_of meta.new) rec.now i }
     ensures recent { result ≡ FileAnswer.Done → (i : ℕ) → first ≤ i → i ≤ last → address_of rec.now i ≢ 0 → Has (take 2 meta.new.recent) (address_of rec.now i) }
     ensures faults { ReadsCounted D.Counts (result ≡ FileAnswer.Fault) device.old device.new }
@@ -107,6 +108,7 @@ pub(crate) fn look<D: NamedPages>(
     ensures formed { D.formed device.new }
     ensures kept { OnlyReads D.Counts device.old device.new }
     ensures pages { KeepsRunning D.Counts device.old meta.old meta.new }
+    ensures only { LoadsOwn rec.now meta.old meta.new }
     ensures at { IfAt result (λ found. found ≡ some_pointer (pointer_at (running_map D.Counts device.old meta.old) rec.now index)) }
     ensures faults { ReadsCounted D.Counts (result ≡ Looked.Fault) device.old device.new }
     ensures lost { LosesLook (IsPageStamp (D.stamps device.old) rec.now) result }

@@ -4,7 +4,7 @@ ghost use Rattle.nl_iface.specs.Holders.{IsRef, always, wants_tagged};
 ghost use Rattle.nl_iface.specs.Names.{place_of};
 ghost use Rattle.nl_files.specs.Answers.{IsLostFile, LosesFile};
 ghost use Rattle.nl_files.specs.Reading.{AreBytesFrom, IsWanted, file_page};
-ghost use Rattle.nl_files.specs.Standing.{FileStands, KeepsRunning, PointersLead, running_map};
+ghost use Rattle.nl_files.specs.Standing.{FileStands, KeepsRunning, LoadsOwn, PointersLead, running_map};
 
 use crate::answer::{FileAnswer, Looked};
 use crate::pages::look;
@@ -32,6 +32,7 @@ pub fn read<D: NamedPages>(
     ensures formed { D.formed device.new }
     ensures kept { OnlyReads D.Counts device.old device.new }
     ensures pages { KeepsRunning D.Counts device.old meta.old meta.new }
+    ensures only { LoadsOwn rec.now meta.old meta.new }
     ensures len { length out.new ≡ length out.old }
     ensures bytes { D.tells → result ≡ FileAnswer.Done → AreBytesFrom (file_page D.Counts device.old (running_map D.Counts device.old meta.old) rec.now) at out.new }
     ensures faults { ReadsCounted D.Counts (result ≡ FileAnswer.Fault) device.old device.new }
@@ -82,6 +83,7 @@ fn read_page<D: NamedPages>(
     ensures formed { D.formed device.new }
     ensures kept { OnlyReads D.Counts device.old device.new }
     ensures pages { KeepsRunning D.Counts device.old meta.old meta.new }
+    ensures only { LoadsOwn rec.now meta.old meta.new }
     ensures bytes { D.tells → result ≡ FileAnswer.Done → buf.new.main ≡ file_page D.Counts device.old (running_map D.Counts device.old meta.old) rec.now index }
     ensures faults { ReadsCounted D.Counts (result ≡ FileAnswer.Fault) device.old device.new }
     ensures lost { LosesFile (IsWanted D.Counts device.old (running_map D.Counts device.old meta.old) rec.now) result }

@@ -4,6 +4,7 @@ mod HandlerKeeps
 mod HolderPlace
 mod HoldersRenamed
 mod Lists
+mod PagesChanged
 mod Physical
 mod Reading
 mod Renamed

@@ -19,16 +19,18 @@ use Rattle.nl_meta.specs.Nodes.{bytes_of_node, inode_at, is_physical_name, point
 use Rattle.nl_meta.specs.Pages.{Pages, besides_0, has_room, most, page_of, with_address}
 use Rattle.nl_meta.specs.PointerLists.{ChangesPointer, tagged_by}
 use Rattle.nl_meta.specs.Running.{CleanIsStored, running_over}
+use Rattle.nl_meta.specs.Steps.{ChangesPages}
+use Rattle.nl_meta.proofs.PageProofs.{both, changed, loaded}
 use Rattle.nl_running.specs.FileLaws.{ChangesFile, IsRight}
 use Rattle.nl_running.specs.Running.{IsNeeded, Runs, RunsOn, running_on, stored_on}
 use Rattle.nl_running.proofs.FileChanges.{one_file_changes}
 use Rattle.nl_running.proofs.GraphStays.{graph-same}
-use Rattle.nl_running.proofs.Kept.{runs-then}
+use Rattle.nl_running.proofs.Kept.{loads-on, runs-then}
 use Rattle.nl_running.proofs.SameNeeded.{addresses-right, entries-right, inode-address, node-to, nodes-right}
 use Rattle.nl_handler.specs.Changing.{IsAtHand, RenamesIn}
 use Rattle.nl_handler.specs.Handling.{HasTagged, RenamesOn, RenamesPointer, TagsFile, page_holding}
 use Rattle.nl_handler.proofs.Finding.{pointers-same}
-use Rattle.nl_handler.proofs.Renamed.{file-changes, own-had, pointer-changes, pointer-now, rewritten}
+use Rattle.nl_handler.proofs.Renamed.{file-changes, own-had, pointer-changes, pointer-now, rewritten, same-slots}
 use Rattle.nl_handler.proofs.Rewritten.{Rewritten, clean, count, dirty, frozen, others, over-running, over-twice, resident}
 
 module _ {D : Type 0} (g : Ghosts D) (s : D) (p : Pages) (bounds : ShapeBounds (g.shape s)) (runs : Runs g s p) (t : D) (q : Pages) (on : RunsOn g s p t q)
@@ -148,6 +150,7 @@ module _ {D : Type 0} (g : Ghosts D) (s : D) (p : Pages) (bounds : ShapeBounds (
     changes = old-changes;
     pointer = old-pointer;
     size = renames.stores.record_kept.size;
+    addresses = same-slots shape bounds mid tag to was q r mid-clean twice-right twice-file spelled physical hand renames;
     spelled = spelled;
     now = now;
   }
@@ -166,7 +169,11 @@ module _ {D : Type 0} (g : Ghosts D) (s : D) (p : Pages) (bounds : ShapeBounds (
     frozen = frozen (page_holding tag was) q r page-rewritten ∙ on.frozen;
     dirty = dirty (page_holding tag was) q r page-rewritten ∙ ap (with_address (page_holding tag was)) on.dirty;
     stays = λ v off there. others (page_holding tag was) q r page-rewritten v off ∙ on.stays v there;
+    pages = both p q r (loaded p q (loads-on g s p t q on)) changes-pages;
   }
+    where
+      changes-pages : ChangesPages q r
+      changes-pages = subst (ChangesPages q) (sym page-rewritten.page) (changed q (page_holding tag was) page-rewritten.bytes (inl page-rewritten.there))
 
   -- ---- the volume runs on
 

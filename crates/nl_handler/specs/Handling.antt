@@ -1,5 +1,5 @@
 -- What a callback finds, and what its handling does.
-use Rattle.std.specs.Prelude.{◌≡◌, ◌≢◌, ◌⊎◌, ℕ, ◌+◌, ◌/◌, ◌==◌, ◌<◌, Bool, true, false, not, ◌&&◌, if◌then◌else◌, List, length, Option, Some, None, IsSome, IsTrue}
+use Rattle.std.specs.Prelude.{◌≡◌, ◌≢◌, ◌⊎◌, ℕ, ◌+◌, ◌/◌, ◌==◌, ◌<◌, Bool, true, false, not, ◌&&◌, if◌then◌else◌, List, length, slice_index, Option, Some, None, IsSome, IsTrue}
 use Rattle.std.specs.List.{list_any}
 use Rattle.nl_field.specs.Pointers.{is_none_pointer}
 use Rattle.nl_field.specs.Spelling.{is_stamp}
@@ -14,9 +14,10 @@ use Rattle.nl_iface.specs.declared.counts.Counts.{Ghosts}
 use Rattle.nl_indirect.specs.Ranges.{address_of}
 use Rattle.nl_meta.specs.Committed.{VirtualMap}
 use Rattle.nl_meta.specs.Consistent.{IsNode}
-use Rattle.nl_meta.specs.Nodes.{pointer_at}
+use Rattle.nl_meta.specs.Nodes.{pointer_at, slots_of}
 use Rattle.nl_meta.specs.Pages.{Pages, has_room, page_of, with_address}
 use Rattle.nl_meta.specs.PointerLists.{ChangesPointer}
+use Rattle.nl_meta.specs.Steps.{ChangesPages}
 use Rattle.nl_running.specs.FileLaws.{ChangesFile}
 use Rattle.nl_running.specs.Running.{RunsOn, running_on}
 use Rattle.nl_running.specs.declared.answer.Stop.{Stop}
@@ -60,7 +61,8 @@ HoldsTagged shape pages tag stamp = (rec : InodeRec) × HasTagged shape pages ta
 abbrev pub page_holding : Tag → InodeRec → ℕ
 page_holding tag rec = if address_of rec tag.index == 0 then 67 + tag.ino / 16 else address_of rec tag.index
 
--- The pointer where the tag says, of the sequence number, has another name. Its file is as before but for that, and so is every other.
+-- The pointer where the tag says, of the sequence number, has another name. Its file is as before but for that, with the addresses that it
+-- had, and so is every other.
 pub record RenamesPointer (shape : Shape) (old new : VirtualMap) (tag : Tag) (stamp name : ℕ) : Type 0 where
   pub was : InodeRec
   pub is : InodeRec
@@ -68,6 +70,7 @@ pub record RenamesPointer (shape : Shape) (old new : VirtualMap) (tag : Tag) (st
   pub changes : ChangesFile shape old new tag.ino was is
   pub pointer : ChangesPointer shape old new tag.ino tag.index was is
   pub size : is.size ≡ was.size
+  pub addresses : (r : ℕ) → slice_index (slots_of is) r ≡ slice_index (slots_of was) r
   pub spelled : IsTrue (is_stamp stamp)
   pub now : pointer_at new is tag.index ≡ record { name = name; stamp = stamp }
 
@@ -81,6 +84,8 @@ pub record RenamesOn {D : Type 0} (g : Ghosts D) (s : D) (p : Pages) (t : D) (q 
   pub frozen : q.frozen ≡ p.frozen
   pub dirty : q.dirty ≡ with_address (page_holding tag renames.was) p.dirty
   pub stays : (v : ℕ) → v ≢ page_holding tag renames.was → IsSome (page_of p v) → page_of q v ≡ page_of p v
+  -- pages may have become resident too
+  pub pages : ChangesPages p q
 
 -- the page of the pointer, which the metadata has, cannot be made dirty
 abbrev pub CannotBeDirty : Shape → VirtualMap → Pages → Tag → ℕ → Type 0

@@ -12,6 +12,7 @@ use Rattle.nl_iface.specs.declared.counts.Counts.{Ghosts}
 use Rattle.nl_meta.specs.Committed.{VirtualMap}
 use Rattle.nl_meta.specs.Pages.{Pages}
 use Rattle.nl_meta.specs.PointerLists.{tagged_in}
+use Rattle.nl_meta.specs.Steps.{ChangesPages}
 use Rattle.nl_running.specs.Running.{Runs, running_on}
 use Rattle.nl_handler.specs.Handling.{HandlesStored, IsElsewhere, RenamesPointer}
 use Rattle.nl_handler.specs.declared.answer.Handled.{Handled}
@@ -56,3 +57,10 @@ HandlerKeeps {D} g =
     (s : D) (p : Pages) (t : D) (q : Pages) (flight : List InFlight) (freeing : List Pointer) (c : Callback) (answer : Handled)
     → Runs g s p → IsTable (g.names s) → IsHeld (g.names s) (holders_on g s p flight freeing) → Has (g.names s).pending c
     → Handles g s p t q flight freeing c answer → HandledHolders g s p t q c answer
+
+-- ---- the pages in memory
+
+-- However a call was answered, it loses no page that is resident, thaws none, and makes none of the journal's resident.
+abbrev pub HandlerChangesPages : {D : Type 0} → Ghosts D → Type 0
+HandlerChangesPages {D} g =
+    (s : D) (p : Pages) (t : D) (q : Pages) (tag : Tag) (stamp name : ℕ) (answer : Handled) → HandlesStored g s p t q tag stamp name answer → ChangesPages p q

@@ -8,7 +8,7 @@ ghost use Rattle.nl_handler.specs.Handling.{HandlesStored, IsElsewhere, handled_
 
 use crate::answer::Handled;
 use crate::metadata::rename_stored;
-use nl_field::{Pointer, PointerList};
+use nl_field::{Pointer, PointerList, Shape};
 use nl_flight::Flight;
 use nl_iface::{Callback, NamedPages};
 use nl_inode::Nodes;
@@ -16,10 +16,11 @@ use nl_meta::Meta;
 
 /// Gives the pointer of a callback's sequence number the name to which its old name leads now. Pages in flight and pointers that await
 /// their free come first, and then the metadata: the file of the callback's tag, at the index of the tag. `Gone` exactly where none of
-/// them has the sequence number, and `NoRoom` exactly where the metadata has it in a page that cannot be made dirty; `Fault` and `Lost`
-/// of a read come in place of the others.
+/// them has the sequence number, also where the volume has no node of the tag's number, and `NoRoom` exactly where the metadata has it in
+/// a page that cannot be made dirty; `Fault` and `Lost` of a read come in place of the others.
 pub fn handle<D: NamedPages>(
     callback: &Callback,
+    shape: &Shape,
     device: &mut D,
     meta: &mut Meta,
     nodes: &mut Nodes,
@@ -29,7 +30,7 @@ pub fn handle<D: NamedPages>(
     requires formed { D.formed device.old }
     requires runs { Runs D.Counts device.old meta.old }
     requires pending { Has (D.names device.old).pending callback.now }
-    requires within { callback.now.tag.ino < (D.shape device.old).nodes }
+    requires shape { shape.now ≡ D.shape device.old }
     ensures formed { D.formed device.new }
     ensures runs { Runs D.Counts device.new meta.new }
     ensures flight { flight.new ≡ renamed callback.now.stamp (resolve (D.names device.old).pairs callback.now.before) flight.old }
@@ -45,7 +46,7 @@ pub fn handle<D: NamedPages>(
     if flies || awaits {
         Handled::Renamed
     } else {
-        rename_stored(device, meta, nodes, callback, to)
+        rename_stored(shape, device, meta, nodes, callback, to)
     }
 }
 

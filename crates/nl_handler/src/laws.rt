@@ -1,5 +1,5 @@
 //! Laws of the definitions. Each function stands for the laws that its contract names.
-ghost use Rattle.nl_handler.specs.Laws.{FlightRenames, FreeingRenames, HandlerKeeps, StoredRenames};
+ghost use Rattle.nl_handler.specs.Laws.{FlightRenames, FreeingRenames, HandlerChangesPages, HandlerKeeps, StoredRenames};
 
 use nl_iface::NamedPages;
 
@@ -14,4 +14,9 @@ pub fn holders_renamed()
 /// where it answers `Renamed` the holders are those before, one under the name.
 pub fn handler_keeps<D: NamedPages>()
     ensures { HandlerKeeps D.Counts }
+{}
+
+/// However `handle` answers, it loses no page that is resident, thaws none, and makes none of the journal's resident.
+pub fn handler_changes_pages<D: NamedPages>()
+    ensures { HandlerChangesPages D.Counts }
 {}

@@ -15,15 +15,16 @@ ghost use Rattle.nl_handler.specs.Changing.{IsAtHand, RenamesIn};
 ghost use Rattle.nl_handler.specs.Handling.{HandlesStored, HasTagged, HoldsTagged, IsTagged, TagsFile, handled_stop, is_of, page_holding};
 
 use crate::answer::Handled;
-use nl_field::{InodeRec, Kind, Pointer, Tag};
+use nl_field::{InodeRec, Kind, Pointer, Shape, Tag};
 use nl_iface::{Callback, NamedPages};
 use nl_indirect::{INDEXES, lookup, page_address, store};
 use nl_inode::Nodes;
 use nl_meta::Meta;
 use nl_running::{Stop, hold};
 
-/// The pointer of a callback's sequence number in the metadata gets a name.
+/// The pointer of a callback's sequence number in the metadata gets a name. `Gone` also where the volume has no node of the tag's number.
 pub(crate) fn rename_stored<D: NamedPages>(
+    shape: &Shape,
     device: &mut D,
     meta: &mut Meta,
     nodes: &mut Nodes,
@@ -34,13 +35,16 @@ pub(crate) fn rename_stored<D: NamedPages>(
     requires runs { Runs D.Counts device.old meta.old }
     requires pending { Has (D.names device.old).pending callback.now }
     requires to { to ≡ resolve (D.names device.old).pairs callback.now.before }
-    requires within { callback.now.tag.ino < (D.shape device.old).nodes }
+    requires shape { shape.now ≡ D.shape device.old }
     ensures formed { D.formed device.new }
     ensures runs { Runs D.Counts device.new meta.new }
     ensures nodes { nodes.new ≡ nodes.old }
     ensures stored { HandlesStored D.Counts device.old meta.old device.new meta.new callback.now.tag callback.now.stamp to result }
     ensures reads { Reads D.Counts device.old device.new (handled_stop result) }
 {
+    if callback.tag.ino >= shape.nodes {
+        return Handled::Gone;
+    }
     match find(device, meta, nodes, &callback.tag, callback.stamp) {
         Ok(Some(rec)) => {
             let pointer = Pointer {

@@ -74,18 +74,18 @@ found-pointer (Some p) h = cond-false (is_none_pointer p) None (Some p) (to-some
 
 -- ---- good addresses
 
-get-has : {X : Type 0} (d : X) (xs : List X) (j : ℕ) → j < length xs → Has xs (get_or xs j d)
+pub get-has : {X : Type 0} (d : X) (xs : List X) (j : ℕ) → j < length xs → Has xs (get_or xs j d)
 get-has d [] j h = absurd (omega (arith, h))
 get-has d (x ∷ xs) zero h = inl refl
 get-has d (x ∷ xs) (suc j) h = inr (get-has d xs j (omega (arith, h)))
 
-has-get : {X : Type 0} (d : X) (xs : List X) (x : X) → Has xs x → (j : ℕ) × (j < length xs) × (get_or xs j d ≡ x)
+pub has-get : {X : Type 0} (d : X) (xs : List X) (x : X) → Has xs x → (j : ℕ) × (j < length xs) × (get_or xs j d ≡ x)
 has-get d [] x h = absurd h
 has-get d (y ∷ xs) x (inl e) = (0, omega arith, e)
 has-get d (y ∷ xs) x (inr h) = let r = has-get d xs x h in (suc r.0, omega (arith, r.1), r.2)
 
 -- the slots of a page whose pointers are physical
-physical-slot : (shape : Shape) (bytes : List ℕ) (ps : List Pointer) → indirect_of bytes ≡ Some ps → NamesPhysical shape ps → (j : ℕ) → j < 256 → IsTrue (is_physical_name shape (pointer_in bytes j))
+pub physical-slot : (shape : Shape) (bytes : List ℕ) (ps : List Pointer) → indirect_of bytes ≡ Some ps → NamesPhysical shape ps → (j : ℕ) → j < 256 → IsTrue (is_physical_name shape (pointer_in bytes j))
 physical-slot shape bytes ps is names j h =
     subst (λ (p : Pointer). IsTrue (is_physical_name shape p)) (row bytes j h)
     (names (get_or (pointers 256 bytes) j no_pointer)
@@ -94,7 +94,7 @@ physical-slot shape bytes ps is names j h =
     same : pointers 256 bytes ≡ ps
     same = some_in _ _ (sym (indirect-is bytes (ap is_some is)) ∙ is)
 
-slots-physical : (shape : Shape) (bytes : List ℕ) → ((j : ℕ) → j < 256 → IsTrue (is_physical_name shape (pointer_in bytes j))) → NamesPhysical shape (pointers 256 bytes)
+pub slots-physical : (shape : Shape) (bytes : List ℕ) → ((j : ℕ) → j < 256 → IsTrue (is_physical_name shape (pointer_in bytes j))) → NamesPhysical shape (pointers 256 bytes)
 slots-physical shape bytes each p m =
     let r = has-get no_pointer (pointers 256 bytes) p m in
     let h : r.0 < 256 = (let l = length-each_of pointer_fields 16 256 bytes in omega (arith, l, r.1)) in

@@ -4,6 +4,7 @@ pub mod Fresh
 pub mod LawProofs
 pub mod Maps
 pub mod OtherNodes
+pub mod PageProofs
 pub mod PointerLaw
 pub mod Pointing
 pub mod Records

@@ -1,5 +1,6 @@
 pub mod Examples
 pub mod FileLaws
+pub mod PageLaws
 pub mod Ranges
 pub mod Storing
 pub mod Truncating

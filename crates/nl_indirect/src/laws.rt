@@ -1,5 +1,6 @@
 //! Laws of the definitions. Each function stands for the law that its contract names.
 ghost use Rattle.nl_indirect.specs.FileLaws.{FileOfNode, OnePointerStored, OtherNodes, ResidentPointers, StoredFile};
+ghost use Rattle.nl_indirect.specs.PageLaws.{StoringChangesPages, TruncatingChangesPages};
 
 // A page of pointers is its file's alone: nodes, and files and directories without its address, are as before.
 pub fn other_nodes()
@@ -21,4 +22,10 @@ pub fn file_of_node()
 // Once the record is written back, one pointer of one file changed, and nothing of any other node.
 pub fn one_pointer_stored()
     ensures { OnePointerStored }
+{}
+
+// The calls lose no page of those in memory, and thaw none.
+pub fn calls_change_pages()
+    ensures storing { StoringChangesPages }
+    ensures truncating { TruncatingChangesPages }
 {}

@@ -2,3 +2,4 @@ pub mod FetchFacts
 pub mod FreeProofs
 pub mod MarkTree
 pub mod NodeSlots
+pub mod PageProofs

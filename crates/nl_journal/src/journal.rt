@@ -64,6 +64,25 @@ impl Journal {
         next_after(self.number)
     }
 
+    /// The number of the last transaction that was begun, up to 2^63. Pages that are frozen are one.
+    pub fn begun(&self, meta: &Meta) -> u64
+        ensures number { result ≡ begun self.now (length meta.now.frozen.addresses) }
+        ensures most { result ≤ 2 ^ 63 }
+    {
+        let raised = (self.number + 1).min(1 << 63);
+        match self.phase {
+            Phase::Header => {
+                if frozen_len(meta) == 0 {
+                    self.number
+                } else {
+                    raised
+                }
+            }
+            Phase::Image(_) | Phase::Commit => raised,
+            Phase::Home(_) => self.number,
+        }
+    }
+
     /// The units left of the frozen transaction, 0 where nothing is frozen.
     pub fn left(&self, meta: &Meta) -> u32
         requires { IsPhase self.now.phase (length meta.now.frozen.addresses) }

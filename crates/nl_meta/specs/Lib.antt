@@ -6,6 +6,7 @@ pub mod Inside
 pub mod LargeFiles
 pub mod Lending
 pub mod Nodes
+pub mod PageLaws
 pub mod Pages
 pub mod Phases
 pub mod PointerLists

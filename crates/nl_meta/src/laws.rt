@@ -1,5 +1,6 @@
 //! Laws of the definitions. Each function stands for the law that its contract names.
 ghost use Rattle.nl_meta.specs.FindingsLaw.{NoFindings, PlacesAreTaken};
+ghost use Rattle.nl_meta.specs.PageLaws.{CallsChangePages};
 ghost use Rattle.nl_meta.specs.PointerLists.{OnePointerChanges};
 ghost use Rattle.nl_meta.specs.RightLaws.{ImageIsRight};
 ghost use Rattle.nl_meta.specs.Running.{AdmitsPage, MissesPage, RunningMap};
@@ -52,4 +53,9 @@ pub fn running_map()
     ensures calls { RunningMap }
     ensures admits { AdmitsPage }
     ensures misses { MissesPage }
+{}
+
+// Where pages are loaded, changed or touched, no frozen page changes, and each resident page stays so; and so it is of one call after the other.
+pub fn calls_change_pages()
+    ensures { CallsChangePages }
 {}

@@ -12,6 +12,7 @@ use Rattle.nl_meta.specs.Consistent.{IsNode}
 use Rattle.nl_meta.specs.Nodes.{graph_of}
 use Rattle.nl_meta.specs.Pages.{Pages, besides_0, page_of}
 use Rattle.nl_meta.specs.Running.{running_over}
+use Rattle.nl_meta.proofs.PageProofs.{none as none-changed}
 use Rattle.nl_inode.specs.FreeLaws.{Uses}
 use Rattle.nl_inode.specs.Nodes.{Spaces}
 use Rattle.nl_tree.specs.GraphLaws.{entry_at}
@@ -102,7 +103,7 @@ module _ (shape : Shape) (bounds : ShapeBounds shape) (device : VirtualMap) (d :
 -- and one that was not there
 pub absent-step : (shape : Shape) (device : VirtualMap) (d : ℕ) (name : List ℕ) (p : Pages) → entry_at (graph_of shape (running_over device p)) d name ≡ None → EntryStep shape device d name None 0 p p
 absent-step shape device d name p none = record {
-  follows = record { there = λ v h. h; frozen = refl; few = few (besides_0 p.dirty); count = refl; clean = λ c. c };
+  follows = record { there = λ v h. h; frozen = refl; few = few (besides_0 p.dirty); count = refl; clean = λ c. c; pages = none-changed p };
   at = none;
   elsewhere = λ k x far. refl;
   others = λ k far. refl;

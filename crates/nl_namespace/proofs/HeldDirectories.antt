@@ -24,6 +24,7 @@ use Rattle.nl_namespace.specs.Entering.{FitsBehind, FreeAreNew, Gives, HasDirect
 use Rattle.nl_namespace.proofs.DirectoryChanges.{IsNew}
 use Rattle.nl_namespace.proofs.DirectorySteps.{dir-entry}
 use Rattle.nl_namespace.proofs.NodeChanges.{place-at}
+use Rattle.nl_dir.proofs.PageProofs.{removing_changes_pages}
 use Rattle.nl_namespace.proofs.PutSteps.{follows-node, follows-pages, is-new, node-over}
 use Rattle.nl_namespace.proofs.Rooms.{some-places}
 use Rattle.nl_namespace.proofs.States.{Follows, State}
@@ -146,7 +147,7 @@ module _ (shape : Shape) (bounds : ShapeBounds shape) (device : VirtualMap) (d :
   }
     where
       first : Follows device p takes.between (length (changed_by_removal takes.rec takes.removes.place))
-      first = follows-pages device (changed_by_removal takes.rec takes.removes.place) p takes.between takes.removes.pages
+      first = follows-pages device (changed_by_removal takes.rec takes.removes.place) p takes.between takes.removes.pages (removing_changes_pages name takes.given takes.rec (shorter takes.rec) p takes.between takes.has.directory takes.removes)
 
       then : Follows device takes.between q 1
       then = follows-node device d (shorter takes.rec) takes.between q (first.there (page_of_node d) takes.has.node_there) takes.puts

@@ -8,12 +8,14 @@ mod NodeChanges
 mod Parents
 mod Placed
 mod NodeSteps
+mod Leaving
 mod Links
 mod MakeDone
 mod MakeFits
 mod MakeReady
 mod MakeSteps
 mod Placing
+mod PointersStay
 mod PutSteps
 mod States
 mod TakeSteps

@@ -21,6 +21,8 @@ use Rattle.nl_tree.specs.declared.reply.Refusal.{Refusal}
 use Rattle.nl_tree.specs.declared.reply.Refusal.TheVariants.{Eexist, Enametoolong, Enospc}
 use Rattle.nl_tree.specs.declared.reply.Space.{Space}
 use Rattle.nl_tree.proofs.ChangeProofs.{at_end}
+use Rattle.nl_meta.proofs.PageProofs.{both, loaded}
+use Rattle.nl_running.proofs.Kept.{loads-on}
 use Rattle.nl_running.specs.Running.{IsNodeOf, Runs, RunsOn, running_on, stored_on}
 use Rattle.nl_running.proofs.Holds.{bounds-of}
 use Rattle.nl_running.proofs.SameNeeded.{own}
@@ -35,6 +37,7 @@ use Rattle.nl_namespace.specs.declared.answer.Change.{Change}
 use Rattle.nl_namespace.specs.declared.answer.Change.TheVariants as change
 use Rattle.nl_iface.proofs.Stops.{reads_then}
 use Rattle.nl_dir.proofs.Records.{spelled-dir}
+use Rattle.nl_namespace.proofs.PointersStay.{tagged-read}
 use Rattle.nl_namespace.proofs.Chains.{node-before, then-graph, then-node, then-on}
 use Rattle.nl_namespace.proofs.DirectorySteps.{dir-body, dir-entry}
 use Rattle.nl_namespace.proofs.MakeSteps.{lists, state-of}
@@ -221,12 +224,14 @@ module _ {D : Type 0} (g : Ghosts D) (s : D) (p : Pages) (t : D) (q : Pages) (vo
   changes-after u r free lost c = record {
     reads = reads_then g s t u on.reads c.reads;
     frozen = c.frozen ∙ on.frozen;
+    pages = both p q r (loaded p q (loads-on g s p t q on)) c.pages;
     few = let f = c.few in let e = ap (λ (ds : List ℕ). length (besides_0 ds)) on.dirty in omega (arith, f, e);
     runs = c.runs;
     fits = c.fits;
     files = λ n rec is file.
         let f = c.files n rec (then-node g s p t q volume on n rec is) file in
         record { is_node = f.is_node; graph = f.graph ∙ ap (λ (z : Graph). z n) same-graph };
+    pointers = c.pointers ∙ tagged-read g s p t q volume on;
   }
 
   pub leaves-after : (u : D) (r : Pages) (free after : Spaces) (answer : Change) → Leaves g t q free u r after answer → Leaves g s p free u r after answer

@@ -14,7 +14,7 @@ use Rattle.nl_iface.specs.Device.{IsVolumeShape}
 use Rattle.nl_iface.specs.declared.counts.Counts.{Ghosts}
 use Rattle.nl_meta.specs.Committed.{VirtualMap}
 use Rattle.nl_meta.specs.Consistent.{GoodEntry, IsNode}
-use Rattle.nl_meta.specs.Nodes.{graph_of, inode_at}
+use Rattle.nl_meta.specs.Nodes.{graph_of, held_by, inode_at}
 use Rattle.nl_meta.specs.Pages.{Pages, page_of}
 use Rattle.nl_meta.specs.Running.{running_over}
 use Rattle.nl_meta.proofs.Lists.{none_some, some_in}
@@ -37,6 +37,7 @@ use Rattle.nl_namespace.specs.declared.place.Place.{Place}
 use Rattle.nl_namespace.proofs.DirectorySteps.{dir-entry, dir-node}
 use Rattle.nl_namespace.proofs.Links.{Led, entry-listed, led-of-lists, lists-of-graph, once-of-lists}
 use Rattle.nl_namespace.proofs.NodeSteps.{new-back, new-body, new-childless, new-follows, new-keeps, new-node, new-others, new-state, new-uses, not-root}
+use Rattle.nl_namespace.proofs.PointersStay.{held-bare, held-dir, held-unused, no-page, pages-of, tagged-same}
 use Rattle.nl_namespace.proofs.PutSteps.{put-at, put-back, put-dir, put-else, put-follows, put-needs, put-node, put-others, put-state}
 use Rattle.nl_namespace.proofs.States.{Follows, State, follows-then}
 
@@ -224,10 +225,18 @@ module _ {D : Type 0} (g : Ghosts D) (s : D) (p q : Pages) (free after : Spaces)
   follows = follows-then device p makes.between q 1 2 (new-follows shape bounds device m kind makes.generation p makes.between free makes.free state below used unused there makes.node makes.taken)
       (put-follows shape bounds device n makes.entry makes.between q makes.free after state1 at.is_node.below makes.puts)
 
+  -- the pointers of each node
+  held : (k : ℕ) → (k ≡ n) ⊎ (k ≡ n → ⊥) → (k ≡ m) ⊎ (k ≡ m → ⊥) → held_by k (g2 k) ≡ held_by k (g0 k)
+  held k (inr far) (inr off) = ap (held_by k) (others k far off)
+  held k (inl e) _ = ap (λ (i : ℕ). held_by i (g2 i)) e ∙ held-dir n (g0 n) (g2 n) (dir-node shape one n place.rec at.is_node at.is_dir (λ v. [])) ((adds (λ v. [])).bodies_stay n dir-is) ∙ sym (ap (λ (i : ℕ). held_by i (g0 i)) e)
+  held k (inr far) (inl e) =
+      ap (λ (i : ℕ). held_by i (g2 i)) e ∙ held-bare m (g2 m) (ap pages-of (adds (λ v. [])).node_there ∙ no-page kind) ∙ sym (held-unused shape one m below unused) ∙ sym (ap (λ (i : ℕ). held_by i (g0 i)) e)
+
   pub changes : Changes g s p s q after None
   changes = record {
     reads = reads-none g s;
     frozen = follows.frozen;
+    pages = follows.pages;
     few = let f = follows.few in omega (arith, f);
     runs = record {
       count = state2.count;
@@ -240,6 +249,7 @@ module _ {D : Type 0} (g : Ghosts D) (s : D) (p q : Pages) (free after : Spaces)
     };
     fits = fits-of g s q after state2;
     files = files;
+    pointers = tagged-same shape one two (λ k. held k (cases_eq k n) (cases_eq k m));
   }
     where
       gone-before : (v : ℕ) → page_of q v ≡ None → page_of p v ≡ None

@@ -20,6 +20,8 @@ use Rattle.nl_tree.specs.Tree.{is_at_or_under, is_root, paths_eq}
 use Rattle.nl_tree.specs.declared.reply.Refusal.{Refusal}
 use Rattle.nl_tree.specs.declared.reply.Refusal.TheVariants.{Einval, Enametoolong, Enoent, Enospc, Enotempty}
 use Rattle.nl_tree.specs.declared.reply.Space.{Space}
+use Rattle.nl_meta.proofs.PageProofs.{loaded}
+use Rattle.nl_running.proofs.Kept.{loads-on}
 use Rattle.nl_running.specs.Running.{Runs, RunsOn, running_on}
 use Rattle.nl_namespace.specs.Changing.{Changes, FreeFits}
 use Rattle.nl_namespace.specs.Finding.{IsThere, place_of}
@@ -29,6 +31,7 @@ use Rattle.nl_namespace.specs.Paths.{walk_refusal}
 use Rattle.nl_namespace.specs.Placing.{IsPlace}
 use Rattle.nl_namespace.specs.declared.finding.There.{There}
 use Rattle.nl_namespace.specs.declared.place.Place.{Place}
+use Rattle.nl_namespace.proofs.PointersStay.{tagged-read}
 use Rattle.nl_namespace.proofs.Chains.{then-graph, then-node, then-runs}
 use Rattle.nl_namespace.proofs.MakeReady.{count-is, fits-then, not-root-path, placed-then, reached-is}
 use Rattle.nl_namespace.proofs.MakeSteps.{lists}
@@ -169,10 +172,12 @@ pub kept-changes : {D : Type 0} (g : Ghosts D) (s : D) (p : Pages) (t : D) (q : 
 kept-changes g s p t q volume runs on free fits = record {
   reads = on.reads;
   frozen = on.frozen;
+  pages = loaded p q (loads-on g s p t q on);
   few = let e = ap (λ (ds : List ℕ). length (besides_0 ds)) on.dirty in omega (arith, e);
   runs = record { count = later.count; nodes = later.nodes; addresses = later.addresses; entries = later.entries; absent = later.absent; clean = later.clean };
   fits = fits-then g s p t q volume on free fits;
   files = λ n rec is file. record { is_node = then-node g s p t q volume on n rec is; graph = ap (λ (z : Graph). z n) (then-graph g s p t q volume on) };
+  pointers = tagged-read g s p t q volume on;
 }
   where
     later : Runs g t q

@@ -14,7 +14,7 @@ use Rattle.nl_inode.specs.FreeLaws.{Uses}
 use Rattle.nl_inode.specs.Nodes.{Spaces}
 use Rattle.nl_meta.specs.Committed.{VirtualMap}
 use Rattle.nl_meta.specs.Consistent.{GoodEntry, IsNode}
-use Rattle.nl_meta.specs.Nodes.{graph_of, inode_at}
+use Rattle.nl_meta.specs.Nodes.{graph_of, held_by, inode_at}
 use Rattle.nl_meta.specs.Pages.{Pages, page_of}
 use Rattle.nl_meta.specs.Running.{running_over}
 use Rattle.nl_meta.proofs.Lists.{none_some, some_in}
@@ -31,12 +31,14 @@ use Rattle.nl_namespace.specs.Finding.{renamed}
 use Rattle.nl_namespace.specs.Moving.{MovesName}
 use Rattle.nl_namespace.specs.Placing.{IsPlace}
 use Rattle.nl_namespace.specs.declared.place.Place.{Place}
-use Rattle.nl_namespace.proofs.DirectorySteps.{dir-entry}
+use Rattle.nl_namespace.proofs.DirectorySteps.{dir-entry, dir-node}
+use Rattle.nl_tree.specs.Represents.{node_of}
 use Rattle.nl_namespace.proofs.EntrySteps.{EntryStep, put-step, taken-step}
 use Rattle.nl_namespace.proofs.Links.{Led, entry-listed, lists-of-graph}
 use Rattle.nl_namespace.proofs.MakeSteps.{fits-of, led, lists, once}
 use Rattle.nl_namespace.proofs.MovedGraphs.{Named, childless, led-moved, led-to, moves, once-moved, unnamed}
 use Rattle.nl_namespace.proofs.PutSteps.{put-state}
+use Rattle.nl_namespace.proofs.PointersStay.{held-dir, tagged-same}
 use Rattle.nl_namespace.proofs.RemoveSteps.{gone-before, right-without}
 use Rattle.nl_namespace.proofs.States.{Follows, State, follows-then}
 use Rattle.nl_namespace.proofs.TakeSteps.{take-good, take-state}
@@ -183,10 +185,23 @@ module _ {D : Type 0} (g : Ghosts D) (s : D) (p : Pages) (volume : IsVolumeShape
         by3 (inl v) = by2 (second.needs b v)
         by3 (inr h) = inr h
 
+    -- the pointers of each node
+    body : (k : ℕ) → node_of (λ v. []) (over q k).body ≡ node_of (λ v. []) (over p k).body
+    body k = third.bodies (λ v. []) k ∙ second.bodies (λ v. []) k ∙ first.bodies (λ v. []) k
+
+    held : (k : ℕ) → (k ≡ n) ⊎ (k ≡ n → ⊥) → (k ≡ l) ⊎ (k ≡ l → ⊥) → held_by k (over q k) ≡ held_by k (over p k)
+    held k (inr off) (inr far) = ap (held_by k) (third.others k far ∙ second.others k off ∙ first.others k far)
+    held k (inl e) _ =
+        ap (λ (i : ℕ). held_by i (over q i)) e ∙ held-dir n (over p n) (over q n) (dir-node shape (running_over device p) n origin.rec at.is_node at.is_dir (λ v. [])) (body n) ∙ sym (ap (λ (i : ℕ). held_by i (over p i)) e)
+    held k (inr off) (inl e) =
+        ap (λ (i : ℕ). held_by i (over q i)) e ∙ held-dir l (over p l) (over q l) (dir-node shape (running_over device p) l target.rec at_to.is_node at_to.is_dir (λ v. [])) (body l)
+        ∙ sym (ap (λ (i : ℕ). held_by i (over p i)) e)
+
     pub moved-changes : Changes g s p s q after (option_map (λ (e : EntryRec). e.ino) target.entry)
     moved-changes = record {
       reads = reads-none g s;
       frozen = follows.frozen;
+      pages = follows.pages;
       few = let f = follows.few in let c = few in omega (arith, f, c);
       runs = record {
         count = state3.count;
@@ -198,6 +213,7 @@ module _ {D : Type 0} (g : Ghosts D) (s : D) (p : Pages) (volume : IsVolumeShape
       };
       fits = fits-of g s q after state3;
       files = files;
+      pointers = tagged-same shape (running_over device p) (running_over device q) (λ k. held k (cases_eq k n) (cases_eq k l));
     }
       where
         absent : (v : ℕ) → IsNeeded shape (running_over device q) v → page_of q v ≡ None → g.tells

@@ -1,5 +1,5 @@
 -- An entry that is put into a directory.
-use Rattle.std.proofs.Common.{◌≡◌, ◌≢◌, ℕ, ◌+◌, ◌-◌, ◌/◌, ◌%◌, ◌≤◌, ◌<◌, true, List, [], ◌∷◌, length, nat_le, refl, sym, ap, subst, ◌∙◌, Option, Some, None, option_map, is_some, IsSome, ◌⊎◌, inl, inr, arith}
+use Rattle.std.proofs.Common.{◌≡◌, ◌≢◌, ℕ, ◌+◌, ◌-◌, ◌/◌, ◌%◌, ◌≤◌, ◌<◌, true, List, [], ◌∷◌, length, nat_le, refl, sym, ap, subst, ◌∙◌, Option, Some, None, option_map, is_some, IsSome, ◌⊎◌, inl, inr, arith, IfSome}
 use Rattle.std.proofs.lemmas.Bool.{and_parts, cases_eq, leb-true}
 use Rattle.std.specs.Int.{div_ceil}
 use Rattle.std.specs.Prelude.{◌↔◌}
@@ -14,18 +14,22 @@ use Rattle.nl_field.specs.declared.shape.Shape.{Shape}
 use Rattle.nl_meta.specs.Committed.{VirtualMap}
 use Rattle.nl_meta.specs.Consistent.{AddressAt, GoodEntry, IsNode}
 use Rattle.nl_meta.specs.Nodes.{address_of_place, bytes_of_node, entries_of_inode, graph_of, inode_at, slot_at}
+use Rattle.nl_meta.specs.PageLaws.{IsApart}
 use Rattle.nl_meta.specs.Pages.{Pages, besides_0, page_of, with_address}
+use Rattle.nl_meta.specs.Steps as steps
 use Rattle.nl_meta.specs.Running.{running_over}
 use Rattle.nl_meta.proofs.Lists.{none_some, some_in}
 use Rattle.nl_inode.specs.FreeLaws.{PoolIsFree, Uses}
 use Rattle.nl_inode.specs.Nodes.{PutsNode, Spaces, is_free_address, page_of_node}
 use Rattle.nl_inode.proofs.FreeProofs.{free_is_unused}
+use Rattle.nl_inode.proofs.PageProofs.{put_changes}
 use Rattle.nl_inode.proofs.MarkTree.{set-below}
 use Rattle.nl_dir.specs.AfterLaws.{AddressesAfter, HasAddress}
 use Rattle.nl_dir.specs.Changes.{ChangesPages, with_addresses}
 use Rattle.nl_dir.specs.Directory.{FitsFresh, longer}
 use Rattle.nl_dir.proofs.AfterProofs.{addresses_of_changed, lists_inserted}
 use Rattle.nl_dir.proofs.LawProofs.{changed_pages_run}
+use Rattle.nl_dir.proofs.PageProofs.{inserting_changes_pages}
 use Rattle.nl_dir.proofs.PlaceFacts.{below-length, one-dirtier, one-page}
 use Rattle.nl_dir.proofs.Records.{SpelledDir, new-address, none-fits, spelled-dir}
 use Rattle.nl_running.proofs.SameNeeded.{slot-filled}
@@ -46,13 +50,14 @@ more-dirty (v ∷ vs) dirty =
     let m = one-dirtier v dirty in
     omega (arith, r, m)
 
-pub follows-pages : (device : VirtualMap) (changed : List ℕ) (p q : Pages) → ChangesPages changed p q → Follows device p q (length changed)
-follows-pages device changed p q changes = record {
+pub follows-pages : (device : VirtualMap) (changed : List ℕ) (p q : Pages) → ChangesPages changed p q → steps.ChangesPages p q → Follows device p q (length changed)
+follows-pages device changed p q changes kept = record {
   there = λ v h. there v h (has-or-not changed v);
   frozen = changes.frozen;
   few = let e = ap (λ (xs : List ℕ). length (besides_0 xs)) changes.dirty in let m = more-dirty changed p.dirty in omega (arith, e, m);
   count = changes.count;
   clean = λ c. (changed_pages_run changed device p q c changes).clean;
+  pages = kept;
 }
   where
     there : (v : ℕ) → IsSome (page_of p v) → Has changed v ⊎ (Has changed v → ⊥) → IsSome (page_of q v)
@@ -61,7 +66,7 @@ follows-pages device changed p q changes = record {
 
 pub follows-node : (device : VirtualMap) (n : ℕ) (rec : InodeRec) (p q : Pages) → IsSome (page_of p (page_of_node n)) → PutsNode n rec p q → Follows device p q 1
 follows-node device n rec p q there puts =
-    follows-pages device (page_of_node n ∷ []) p q (subst (ChangesPages (page_of_node n ∷ []) p) (sym puts.page) (one-page p (page_of_node n) _ (below-length p (page_of_node n) there)))
+    follows-pages device (page_of_node n ∷ []) p q (subst (ChangesPages (page_of_node n ∷ []) p) (sym puts.page) (one-page p (page_of_node n) _ (below-length p (page_of_node n) there))) (put_changes p q n rec puts)
 
 -- the record of a node whose page is resident
 pub node-over : (device : VirtualMap) (p : Pages) (n : ℕ) → IsSome (page_of p (page_of_node n)) → inode_at (running_over device p) n ≡ inode_at (page_of p) n
@@ -151,11 +156,15 @@ module _ (shape : Shape) (bounds : ShapeBounds shape) (device : VirtualMap) (d :
     generation = refl;
   }
 
-  pub put-follows : Follows device p q 2
-  put-follows = follows-then device p puts.between q 1 1 first (follows-node device d is puts.between q (first.there (page_of_node d) puts.has.node_there) puts.puts)
+  put-first : Follows device p puts.between 1
+  put-first = follows-pages device changed p puts.between puts.inserts.pages (inserting_changes_pages entry puts.fresh rec is p puts.between puts.has.directory puts.fits (by puts.fresh refl) puts.inserts)
     where
-      first : Follows device p puts.between 1
-      first = follows-pages device changed p puts.between puts.inserts.pages
+      by : (o : Option ℕ) → puts.fresh ≡ o → IfSome o IsApart
+      by None e = tt
+      by (Some a) e = inr (let low = (taken-new a e).from_pool in omega (arith, low))
+
+  pub put-follows : Follows device p q 2
+  put-follows = follows-then device p puts.between q 1 1 put-first (follows-node device d is puts.between q (put-first.there (page_of_node d) puts.has.node_there) puts.puts)
 
   pub put-others : (k : ℕ) → k ≢ d → graph_of shape two k ≡ graph_of shape one k
   put-others k far = graph-stays shape bounds device d rec is changed p puts.between q (rec.size / 64) step k far
@@ -259,7 +268,7 @@ module _ (shape : Shape) (bounds : ShapeBounds shape) (device : VirtualMap) (d :
       new : (a : ℕ) → puts.fresh ≡ Some a → (a ≡ b) ⊎ (a ≡ b → ⊥) → Uses shape one b ⊎ IsSome (page_of q b)
       new a e (inl h) =
           let there = puts.inserts.pages.there a (inl (new-page a e)) in
-          inr (subst (λ (v : ℕ). IsSome (page_of q v)) h ((follows-node device d is puts.between q ((follows-pages device changed p puts.between puts.inserts.pages).there (page_of_node d) puts.has.node_there) puts.puts).there a there))
+          inr (subst (λ (v : ℕ). IsSome (page_of q v)) h ((follows-node device d is puts.between q (put-first.there (page_of_node d) puts.has.node_there) puts.puts).there a there))
       new a e (inr far) = inl ((same-uses b (λ z. far (some_in a b (sym e ∙ z)))).0 u)
 
       by : (o : Option ℕ) → puts.fresh ≡ o → Uses shape one b ⊎ IsSome (page_of q b)

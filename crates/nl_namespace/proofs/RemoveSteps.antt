@@ -17,7 +17,7 @@ use Rattle.nl_iface.specs.Device.{IsVolumeShape}
 use Rattle.nl_iface.specs.declared.counts.Counts.{Ghosts}
 use Rattle.nl_meta.specs.Committed.{VirtualMap}
 use Rattle.nl_meta.specs.Consistent.{AddressAt, AddressesRight, EntriesRight, GoodAddress, IsNode}
-use Rattle.nl_meta.specs.Nodes.{body_of, bytes_of_place, entries_of_inode, graph_of, inode_at}
+use Rattle.nl_meta.specs.Nodes.{body_of, bytes_of_place, entries_of_inode, graph_of, held_by, inode_at}
 use Rattle.nl_meta.specs.Pages.{Pages, page_of}
 use Rattle.nl_meta.specs.Running.{running_over}
 use Rattle.nl_meta.proofs.Lists.{none_some, some_in}
@@ -44,6 +44,7 @@ use Rattle.nl_namespace.proofs.Links.{Led, listed-entry, lists-of-graph}
 use Rattle.nl_namespace.proofs.NodeChanges.{Formed, SameBut, graph-at, graph-other, node-back, node-other, own-other}
 use Rattle.nl_namespace.proofs.DirectorySteps.{dir-body, dir-entry, dir-node}
 use Rattle.nl_namespace.proofs.MakeSteps.{fits-of, led, once, state-of}
+use Rattle.nl_namespace.proofs.PointersStay.{held-dir, tagged-same}
 use Rattle.nl_namespace.proofs.States.{AllGood, Follows, State}
 use Rattle.nl_namespace.proofs.TakeSteps.{fewer-uses, take-at, take-back, take-dir, take-else, take-follows, take-node, take-others, take-state}
 
@@ -276,10 +277,16 @@ module _ {D : Type 0} (g : Ghosts D) (s : D) (p q : Pages) (free after : Spaces)
   once-after : NamedOnce g2
   once-after = graph_changes.once_removed (λ v. []) (λ v. []) g0 g2 n m at.name (once g s p runs) (removes (λ v. []))
 
+  -- the pointers of each node
+  held : (k : ℕ) → (k ≡ n) ⊎ (k ≡ n → ⊥) → held_by k (g2 k) ≡ held_by k (g0 k)
+  held k (inr far) = ap (held_by k) (others k far)
+  held k (inl e) = ap (λ (i : ℕ). held_by i (g2 i)) e ∙ held-dir n (g0 n) (g2 n) (dir-node shape one n place.rec at.is_node at.is_dir (λ v. [])) (body (λ v. []) n (inl refl)) ∙ sym (ap (λ (i : ℕ). held_by i (g0 i)) e)
+
   pub removed-changes : Changes g s p s q after (Some m)
   removed-changes = record {
     reads = reads-none g s;
     frozen = follows.frozen;
+    pages = follows.pages;
     few = let f = follows.few in omega (arith, f);
     runs = record {
       count = state2.count;
@@ -293,6 +300,7 @@ module _ {D : Type 0} (g : Ghosts D) (s : D) (p q : Pages) (free after : Spaces)
     files = λ k rec k-is file.
         let far = file-other k rec k-is file in
         record { is_node = take-node shape bounds device n at.name p q free after state at.is_node.below takes k rec far k-is; graph = others k far };
+    pointers = tagged-same shape one two (λ k. held k (cases_eq k n));
   }
     where
       absent-after : (v : ℕ) → IsNeeded shape two v → page_of q v ≡ None → g.tells

@@ -6,6 +6,8 @@ use Rattle.nl_meta.specs.Committed.{VirtualMap}
 use Rattle.nl_meta.specs.Consistent.{GoodEntry}
 use Rattle.nl_meta.specs.Pages.{Pages, besides_0, page_of}
 use Rattle.nl_meta.specs.Running.{CleanIsStored, running_over}
+use Rattle.nl_meta.specs.Steps.{ChangesPages}
+use Rattle.nl_meta.proofs.PageProofs.{both}
 use Rattle.nl_inode.specs.FreeLaws.{NodesAreFree, PoolIsFree}
 use Rattle.nl_inode.specs.Nodes.{Spaces}
 use Rattle.nl_dir.specs.ListLaws.{Lists}
@@ -25,13 +27,14 @@ pub record State (shape : Shape) (device : VirtualMap) (p : Pages) (free : Space
   pub nodes : NodesAreFree shape (running_over device p) free
   pub pool : PoolIsFree shape (running_over device p) free
 
--- Pages stay resident, at most so many more are dirty, and the device has the clean ones still.
+-- The pages change, at most so many more are dirty, and the device has the clean ones still.
 pub record Follows (device : VirtualMap) (p q : Pages) (n : ℕ) : Type 0 where
   pub there : (v : ℕ) → IsSome (page_of p v) → IsSome (page_of q v)
   pub frozen : q.frozen ≡ p.frozen
   pub few : length (besides_0 q.dirty) ≤ length (besides_0 p.dirty) + n
   pub count : length q.running ≡ length p.running
   pub clean : CleanIsStored device p → CleanIsStored device q
+  pub pages : ChangesPages p q
 
 pub follows-then : (device : VirtualMap) (p q r : Pages) (m n : ℕ) → Follows device p q m → Follows device q r n → Follows device p r (m + n)
 follows-then device p q r m n a b = record {
@@ -40,4 +43,5 @@ follows-then device p q r m n a b = record {
   few = let x = a.few in let y = b.few in omega (arith, x, y);
   count = b.count ∙ a.count;
   clean = λ c. b.clean (a.clean c);
+  pages = both p q r a.pages b.pages;
 }

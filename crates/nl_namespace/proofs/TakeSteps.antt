@@ -28,6 +28,7 @@ use Rattle.nl_namespace.specs.Entering.{Gives, TakesOut}
 use Rattle.nl_namespace.proofs.DirectoryChanges.{DirStep, IsNew}
 use Rattle.nl_namespace.proofs.DirectorySteps.{change, entry-after, entry-before, good-after, graph-stays, is-after, node-stays, nodes-after, target-after, uses-from, uses-here, uses-to}
 use Rattle.nl_namespace.proofs.NodeChanges.{formed-then, node-back}
+use Rattle.nl_dir.proofs.PageProofs.{removing_changes_pages}
 use Rattle.nl_namespace.proofs.PutSteps.{dir-used, follows-node, follows-pages, node-over}
 use Rattle.nl_namespace.proofs.Rooms.{few-changed, some-places}
 use Rattle.nl_namespace.proofs.States.{Follows, State, follows-then}
@@ -116,10 +117,11 @@ module _ (shape : Shape) (bounds : ShapeBounds shape) (device : VirtualMap) (d :
     few = let f = both.few in let l = few-changed rec takes.removes.place in omega (arith, f, l);
     count = both.count;
     clean = both.clean;
+    pages = both.pages;
   }
     where
       first : Follows device p takes.between (length changed)
-      first = follows-pages device changed p takes.between takes.removes.pages
+      first = follows-pages device changed p takes.between takes.removes.pages (removing_changes_pages name takes.given rec is p takes.between takes.has.directory takes.removes)
 
       both : Follows device p q (length changed + 1)
       both = follows-then device p takes.between q (length changed) 1 first (follows-node device d is takes.between q (first.there (page_of_node d) takes.has.node_there) takes.puts)

@@ -11,7 +11,9 @@ use Rattle.nl_meta.specs.Committed.{VirtualMap}
 use Rattle.nl_meta.specs.Consistent.{AddressesRight, EntriesRight, NodesRight}
 use Rattle.nl_meta.specs.Nodes.{graph_of}
 use Rattle.nl_meta.specs.Pages.{Pages, besides_0, page_of}
+use Rattle.nl_meta.specs.PointerLists.{tagged_in}
 use Rattle.nl_meta.specs.Running.{CleanIsStored}
+use Rattle.nl_meta.specs.Steps.{ChangesPages}
 use Rattle.nl_running.specs.Running.{IsNeeded, IsNodeOf, RunsOn, running_on, stored_on}
 use Rattle.nl_namespace.specs.declared.answer.Change.{Change}
 use Rattle.nl_namespace.specs.declared.answer.Change.TheVariants as change
@@ -42,16 +44,19 @@ pub record FileStays {D : Type 0} (g : Ghosts D) (s : D) (p : Pages) (t : D) (q 
   pub is_node : IsNodeOf g t q n rec
   pub graph : graph_of (g.shape t) (running_on g t q) n ≡ graph_of (g.shape s) (running_on g s p) n
 
--- Names changed: at most eight pages are dirty that were not, besides address 0. The device was only read, the frozen pages stay, and so
--- does each file, whether it lost its name or not.
+-- Names changed: at most eight pages are dirty that were not, besides address 0. The device was only read, no page was lost, the frozen pages
+-- stay, and so does each file, whether it lost its name or not.
 pub record Changes {D : Type 0} (g : Ghosts D) (s : D) (p : Pages) (t : D) (q : Pages) (free : Spaces) (gone : Option ℕ) : Type 0 where
   pub reads : OnlyReads g s t
   pub frozen : q.frozen ≡ p.frozen
+  pub pages : ChangesPages p q
   pub few : length (besides_0 q.dirty) ≤ length (besides_0 p.dirty) + 8
   pub runs : RunsBut g t q gone
   -- the node that lost its name still counts as used
   pub fits : FreeFits g t q free
   pub files : (n : ℕ) (rec : InodeRec) → IsNodeOf g s p n rec → rec.kind ≡ File → FileStays g s p t q n rec
+  -- so the pointers of all files, in their order, are what they were
+  pub pointers : tagged_in (g.shape t) (running_on g t q) ≡ tagged_in (g.shape s) (running_on g s p)
 
 -- what a call leaves: all as it was, unless it was done
 abbrev pub Leaves : {D : Type 0} → Ghosts D → D → Pages → Spaces → D → Pages → Spaces → Change → Type 0

@@ -4,6 +4,7 @@ pub mod Changing
 pub mod Entering
 pub mod Finding
 pub mod Holding
+pub mod LeavingLaws
 pub mod Listing
 pub mod Making
 pub mod Moving

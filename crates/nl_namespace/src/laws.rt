@@ -1,8 +1,11 @@
 //! Laws of the definitions. Each function stands for the law that its contract names.
 ghost use Rattle.nl_namespace.specs.Calls.{ChangesInTree};
 ghost use Rattle.nl_namespace.specs.ChangeLaws.{MakesInTree, RemovesInTree, RenamesInTree, RmdirsInTree, UnlinksInTree};
+ghost use Rattle.nl_namespace.specs.LeavingLaws.{NamesKeepAround};
 ghost use Rattle.nl_namespace.specs.PathLaws.{ListsInTree, LooksInTree};
 ghost use Rattle.nl_namespace.specs.RoomLaws.{NoneFreeIsCrowded};
+
+use nl_iface::VirtualPages;
 
 /// A path is answered as the tree answers it for which the nodes stand.
 pub fn looks_in_tree()
@@ -39,4 +42,9 @@ pub fn changes_in_tree()
 /// Where no number of a node is free, each node is used, and where no address is free, each address of the pool is.
 pub fn none_free_is_crowded()
     ensures { NoneFreeIsCrowded }
+{}
+
+/// However a call that changes names answers, it loses no page of those in memory, and leaves the pointers of all files.
+pub fn names_keep_around<D: VirtualPages>()
+    ensures { NamesKeepAround D.Counts }
 {}

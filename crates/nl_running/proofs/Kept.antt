@@ -1,5 +1,5 @@
 -- One call after the other leaves the volume as it was.
-use Rattle.std.proofs.Common.{◌≡◌, ℕ, ◌+◌, ◌/◌, ◌%◌, ◌<◌, List, refl, sym, ap, subst, ◌∙◌, Option, Some, None, IsSome, is_some, inl, arith}
+use Rattle.std.proofs.Common.{◌≡◌, ℕ, ◌+◌, ◌/◌, ◌%◌, ◌<◌, List, refl, sym, ap, subst, ◌∙◌, Option, Some, None, IsSome, is_some, ⊎_elim, inl, inr, arith}
 use Rattle.std.proofs.lemmas.Bool.{both_ways}
 use Rattle.nl_field.specs.Inode.{inode_of}
 use Rattle.nl_field.specs.Numbers.{ShapeBounds}
@@ -9,6 +9,7 @@ use Rattle.nl_iface.specs.declared.counts.Counts.{Ghosts}
 use Rattle.nl_iface.proofs.Stops.{reads_then}
 use Rattle.nl_meta.specs.Consistent.{AddressesRight, EntriesRight, IsNode, NodesRight}
 use Rattle.nl_meta.specs.Nodes.{bytes_of_node, inode_at, slot_at}
+use Rattle.nl_meta.specs.PageLaws.{LoadsPages}
 use Rattle.nl_meta.specs.Pages.{Pages, page_of}
 use Rattle.nl_meta.specs.Running.{or_stored, running_over}
 use Rattle.nl_inode.specs.Nodes.{page_of_node}
@@ -22,6 +23,10 @@ or-there None stored h = absurd (both_ways _ refl h)
 pub resident-is : {D : Type 0} (g : Ghosts D) (t : D) (q : Pages) (v : ℕ) → IsSome (page_of q v) → running_on g t q v ≡ page_of q v
 unfolding running_over
 resident-is g t q v there = or-there (page_of q v) (stored_on g t v) there
+
+-- pages were loaded, and nothing else
+pub loads-on : {D : Type 0} (g : Ghosts D) (s : D) (p : Pages) (t : D) (q : Pages) → RunsOn g s p t q → LoadsPages p q
+loads-on g s p t q on = record { dirty = on.dirty; frozen = on.frozen; stays = on.stays; apart = on.apart }
 
 module _ {D : Type 0} (g : Ghosts D) (s : D) (p : Pages) (t : D) (q : Pages) (bounds : ShapeBounds (g.shape s)) (on : RunsOn g s p t q) where
   shapes : g.shape s ≡ g.shape t
@@ -56,6 +61,8 @@ module _ {D : Type 0} (g : Ghosts D) (s : D) (p : Pages) (t : D) (q : Pages) (bo
     needed = λ v h. next.needed v (need-on v h) ∙ on.needed v h;
     told = λ told v. next.told told v ∙ on.told told v;
     stays = λ v h. next.stays v (ap is_some (on.stays v h) ∙ h) ∙ on.stays v h;
+    only = λ v h. ⊎_elim (λ there. on.only v there) (λ need. inr (need-from v (subst (λ (n : Shape). IsNeeded n (running_on g t q) v) (sym shapes) need))) (next.only v h);
+    apart = λ v there. ⊎_elim (λ before. on.apart v before) (λ far. inr far) (next.apart v there);
     absent = λ v h gone. next.absent v (need-on v h) gone;
     clean = next.clean;
   }

@@ -9,6 +9,7 @@ use Rattle.nl_iface.specs.declared.counts.Counts.{Ghosts}
 use Rattle.nl_inode.specs.FreeLaws.{Uses}
 use Rattle.nl_meta.specs.Committed.{VirtualMap}
 use Rattle.nl_meta.specs.Consistent.{AddressesRight, EntriesRight, IsNode, NodesRight}
+use Rattle.nl_meta.specs.PageLaws.{IsApart}
 use Rattle.nl_meta.specs.Pages.{Pages, page_of}
 use Rattle.nl_meta.specs.Running.{CleanIsStored, running_over}
 
@@ -35,7 +36,7 @@ pub record Runs {D : Type 0} (g : Ghosts D) (s : D) (p : Pages) : Type 0 where
   pub clean : g.tells → CleanIsStored (stored_on g s) p
 
 -- The device was only read, and no page changed: each of those addresses has what it had, and so has every other one where the device
--- tells. Each resident page stays, and pages may have become resident.
+-- tells. Each resident page stays, and pages of those addresses may have become resident, none of them the journal's.
 pub record RunsOn {D : Type 0} (g : Ghosts D) (s : D) (p : Pages) (t : D) (q : Pages) : Type 0 where
   pub reads : OnlyReads g s t
   pub count : length q.running ≡ length p.running
@@ -44,6 +45,8 @@ pub record RunsOn {D : Type 0} (g : Ghosts D) (s : D) (p : Pages) (t : D) (q : P
   pub needed : (v : ℕ) → IsNeeded (g.shape s) (running_on g s p) v → running_on g t q v ≡ running_on g s p v
   pub told : g.tells → (v : ℕ) → running_on g t q v ≡ running_on g s p v
   pub stays : (v : ℕ) → IsSome (page_of p v) → page_of q v ≡ page_of p v
+  pub only : (v : ℕ) → IsSome (page_of q v) → IsSome (page_of p v) ⊎ IsNeeded (g.shape s) (running_on g s p) v
+  pub apart : (v : ℕ) → IsSome (page_of q v) → IsSome (page_of p v) ⊎ IsApart v
   pub absent : (v : ℕ) → IsNeeded (g.shape s) (running_on g s p) v → page_of q v ≡ None → g.tells
   pub clean : g.tells → CleanIsStored (stored_on g t) q
 

@@ -13,11 +13,12 @@ use Rattle.nl_journal.proofs.CommitSteps.{begun_header, begun_none, commit_faile
 use Rattle.nl_journal.proofs.FinishSteps.{all_finished}
 use Rattle.nl_journal.proofs.Passing.{none_failed, passes_most, passes_then}
 use Rattle.nl_commit.specs.Committing.{ChangesAt, EarlierAt}
-use Rattle.nl_commit.specs.Completing.{DecidesAt, StaysOpen}
+use Rattle.nl_commit.specs.Completing.{Completes, DecidesAt, IsDecided, StaysOpen}
 use Rattle.nl_commit.specs.Counting.{record_of, with_count, with_frozen}
 use Rattle.nl_commit.specs.Standing.{IsJournaled, StandsOn}
 use Rattle.nl_field.specs.SuperPage.{super_bytes}
-use Rattle.nl_commit.proofs.CommittingSteps.{changes_stops, done_later, earlier_by, earlier_stops, first_is_dirty, frozen_none, if_some, stopped_stops}
+use Rattle.nl_commit.proofs.CommittingSteps.{changes_stops, done_later, earlier_by, earlier_stops, first_is_dirty, frozen_none, if_some, is_decided_by, stopped_stops}
+use Rattle.nl_commit.proofs.PartSteps.{stands_frozen}
 use Rattle.nl_commit.proofs.Standing.{changes_can_freeze, stands_then, super_page_stands}
 use Rattle.nl_commit.proofs.committing.commit.Goals as goal
 
@@ -102,17 +103,40 @@ returns-in-Done-clause-commits g c =
     let number : q.number ≡ begun p (length pages.frozen.addresses) = sym (begun_none q.phase q.number (length mid.frozen.addresses) ends.0 (ap length ends.1)) ∙ first.begun_stays in
     let starts : begun q (length mid.dirty) ≡ raised q.number = begun_header q.phase q.number (length mid.dirty) ends.0 can.dirty.pages.some in
     record {
-      ends = λ d.
-          let last = all_finished r.phase now.frozen f.stands.journaled.order.phase (f.finishes.left d) in
+      in_memory = record {
+        ends = λ d.
+            let last = all_finished r.phase now.frozen f.stands.journaled.order.phase (f.finishes.left d) in
+            record {
+              next = refl;
+              kept = sym (begun_none r.phase r.number (length now.frozen.addresses) last.0 (ap length last.1)) ∙ (f.finishes.begun_stays ∙ (starts ∙ ap raised number));
+              idle = last.0;
+              thawed = last.1;
+              clean = ap (λ (n : Pages). n.dirty) f.finishes.kept;
+            };
+        waits = λ off. inr (f.finishes.kept ∙ (ap (λ (x : Frozen). record mid { dirty = []; frozen = x }) (f.finishes.waits off) ∙ ap (λ (n : Pages). record n { dirty = []; frozen = dirty_pages n }) first.kept));
+        running = ap (λ (n : Pages). n.running) f.finishes.kept ∙ running;
+      };
+      parts = record {
+        between = m;
+        halfway = q;
+        rest = mid;
+        answer = c.complete-first.result.answer;
+        first = subst (λ (n : Pages). Completes G D1 s p n m q mid) is
+            (record { same_shape = e.passes.named.same_shape; tables = e.passes.named.tables; stands = e.stands; finishes = e.finishes; writes = e.writes });
+        first_decided = subst (λ (n : Pages). IsDecided c.complete-first.result.decided p q n.frozen mid.frozen) is (is_decided_by G s m p q c.store_count.new.meta mid.frozen c.complete-first.result.decided e.decided);
+        second = inr (
+          c.stands.ensures,
+          can,
           record {
-            next = refl;
-            kept = sym (begun_none r.phase r.number (length now.frozen.addresses) last.0 (ap length last.1)) ∙ (f.finishes.begun_stays ∙ (starts ∙ ap raised number));
-            idle = last.0;
-            thawed = last.1;
-            clean = ap (λ (n : Pages). n.dirty) f.finishes.kept;
-          };
-      waits = λ off. inr (f.finishes.kept ∙ (ap (λ (x : Frozen). record mid { dirty = []; frozen = x }) (f.finishes.waits off) ∙ ap (λ (n : Pages). record n { dirty = []; frozen = dirty_pages n }) first.kept));
-      running = ap (λ (n : Pages). n.running) f.finishes.kept ∙ running;
+            same_shape = f.passes.named.same_shape;
+            tables = f.passes.named.tables;
+            stands = stands_frozen G m mid t r now f.stands;
+            finishes = f.finishes;
+            writes = f.writes;
+          },
+          is_decided_by G m t q r (with_frozen mid) now.frozen c.commit_changes-rest.result.decided f.decided,
+        );
+      };
     }
 
 pub returns-in-Done-clause-earlier : goal.returns-in-Done-clause-earlier
@@ -260,7 +284,19 @@ returns-in_default g c =
     record {
       formed = e.formed;
       stands = stands_then G s s m p q c.args.meta.now pages mid volume refl stored (subst (λ (n : Pages). StandsOn G s n m q mid) is e.stands);
-      commits = record { ends = λ d. absurd (off d); waits = λ o. inl (first.kept ∙ ap (λ (x : Frozen). record pages { frozen = x }) (first.waits o)); running = running };
+      commits = record {
+        in_memory = record { ends = λ d. absurd (off d); waits = λ o. inl (first.kept ∙ ap (λ (x : Frozen). record pages { frozen = x }) (first.waits o)); running = running };
+        parts = record {
+          between = m;
+          halfway = q;
+          rest = mid;
+          answer = c.complete-first.result.answer;
+          first = subst (λ (n : Pages). Completes G D1 s p n m q mid) is
+              (record { same_shape = e.passes.named.same_shape; tables = e.passes.named.tables; stands = e.stands; finishes = e.finishes; writes = e.writes });
+          first_decided = subst (λ (n : Pages). IsDecided c.complete-first.result.decided p q n.frozen mid.frozen) is (is_decided_by G s m p q c.store_count.new.meta mid.frozen c.complete-first.result.decided e.decided);
+          second = inl (off, refl, refl, refl, refl);
+        };
+      };
       earlier = if_some (StaysOpen p q c.store_count.new.meta.frozen mid.frozen) (DecidesAt G s m p q c.store_count.new.meta) (EarlierAt G s m p q pages mid) c.complete-first.result.decided e.decided (λ at d. record {
         later = d.later;
         to = d.to;

@@ -6,6 +6,7 @@ use Rattle.nl_files.specs.Spans.{pointers_of_span, as_list}
 use Rattle.nl_files.specs.Standing.{running_map}
 use Rattle.nl_files.proofs.Keeping.{keeps-then, pointer-then, stands-then}
 use Rattle.nl_files.proofs.Filling.{done-not-fault}
+use Rattle.nl_files.proofs.Owning.{own-none, own-then}
 use Rattle.nl_files.proofs.Progress.{read-none, read-then, span-more, span-none, span-within}
 use Rattle.nl_files.proofs.gathering.gather.Goals as goal
 
@@ -25,6 +26,7 @@ loop-index-init g c =
       read-none g.D.Counts c.args.device.now c.args.meta.now c.requires.formed c.requires.stands.clean,
       sym (append-nil c.args.freeing.now.items) ∙ ap (λ (l : List Pointer). c.args.freeing.now.items ++ l) (sym none),
       omega arith,
+      own-none c.args.rec.now c.args.meta.now,
     )
 
 pub gather_one-requires-clause-room : goal.gather_one-requires-clause-room
@@ -66,4 +68,8 @@ loop-index-preserved g c =
           ∙ append_assoc c.args.freeing.now.items (pointers_of_span old c.args.rec.now c.args.from (c.loop-index.index - c.args.from)) (as_list (pointer_at old c.args.rec.now c.loop-index.index))
           ∙ ap (λ (l : List Pointer). c.args.freeing.now.items ++ l) (sym (span-more old c.args.rec.now c.args.from (c.loop-index.index - c.args.from) c.loop-index.index at) ∙ ap (pointers_of_span old c.args.rec.now c.args.from) next),
       (let before = is.2 in let after = one.room in omega (arith, before, after)),
+      own-then c.args.rec.now c.args.meta.now c.loop-index.meta c.gather_one.new.meta is.3 one.only,
     )
+
+pub returns-in_default-clause-only : goal.returns-in_default-clause-only
+returns-in_default-clause-only g c = own-then c.args.rec.now c.args.meta.now c.loop-index.meta c.gather_one.new.meta c.loop-index.invariant.3 c.gather_one.ensures.only

@@ -1,5 +1,6 @@
 use Rattle.std.proofs.Common.{refl}
 use Rattle.nl_files.proofs.Keeping.{keeps-then, stands-then}
+use Rattle.nl_files.proofs.Owning.{own-at, own-then}
 use Rattle.nl_files.proofs.Preparing.{both-ready, both-recent}
 use Rattle.nl_files.proofs.pages.prepare.Goals as goal
 
@@ -22,3 +23,11 @@ pub returns-in-Done-clause-recent : goal.returns-in-Done-clause-recent
 returns-in-Done-clause-recent g c = λ done i low high.
     both-recent c.args.meta.now c.load_range.new.meta c.load_range-in-Done.new.meta c.args.rec.now c.args.first c.args.last i c.requires.few low high c.in-Done.ensures.touched
     c.load_range-in-Done.ensures.touched
+
+pub returns-in-Done-clause-only : goal.returns-in-Done-clause-only
+returns-in-Done-clause-only g c =
+    own-then c.args.rec.now c.args.meta.now c.load_range.new.meta c.load_range-in-Done.new.meta (own-at c.args.rec.now c.args.first c.args.meta.now c.load_range.new.meta c.load_range.ensures.touched)
+    (own-at c.args.rec.now c.args.last c.load_range.new.meta c.load_range-in-Done.new.meta c.load_range-in-Done.ensures.touched)
+
+pub returns-in_default-clause-only : goal.returns-in_default-clause-only
+returns-in_default-clause-only g c = own-at c.args.rec.now c.args.first c.args.meta.now c.load_range.new.meta c.load_range.ensures.touched

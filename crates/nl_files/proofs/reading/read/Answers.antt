@@ -3,6 +3,7 @@ use Rattle.nl_files.specs.Reading.{IsWanted}
 use Rattle.nl_files.specs.Standing.{running_map}
 use Rattle.nl_files.proofs.Filling.{done-not-fault, file-size, filled-then, loses-by, wanted-then}
 use Rattle.nl_files.proofs.Keeping.{keeps-then, leads-then, stands-then}
+use Rattle.nl_files.proofs.Owning.{own-then}
 use Rattle.nl_files.proofs.reading.read.Goals as goal
 
 pub overflow_add-from : goal.overflow_add-from
@@ -57,5 +58,8 @@ loop-done-preserved g c =
     let copied = c.copy-done.ensures in
     filled-then g.D.Counts c.args.device.now c.loop-done.device c.read_page.new.device c.args.meta.now c.loop-done.meta c.read_page.new.meta c.args.rec.now c.args.at (length c.args.out.now)
     c.loop-done.done c.copy-done.result c.read_page.new.buf.main c.loop-done.out c.copy-done.new.out c.requires.stands is page.formed page.kept
-    (page.faults.stays tt (λ e. done-not-fault (sym c.in-Done.is ∙ e))) page.pages (λ t. page.bytes t c.in-Done.is)
+    (page.faults.stays tt (λ e. done-not-fault (sym c.in-Done.is ∙ e))) page.pages page.only (λ t. page.bytes t c.in-Done.is)
     copied.some (let most = copied.most in let len = is.len in omega (arith, most, len)) copied.page (copied.len ∙ is.len) copied.before copied.copied
+
+pub returns-in_default-clause-only : goal.returns-in_default-clause-only
+returns-in_default-clause-only g c = own-then c.args.rec.now c.args.meta.now c.loop-done.meta c.read_page.new.meta c.loop-done.invariant.own c.read_page.ensures.only

@@ -1,0 +1,3 @@
+pub mod Blocked
+pub mod Handled
+pub mod Laws

@@ -1,0 +1,131 @@
+ghost use Rattle.std.specs.Prelude.{◌≡◌, ◌↔◌, ◌+◌, ◌≤◌, length, IfNone, IfSome};
+ghost use Rattle.nl_drain.specs.Blocked.{IsBlocked, IsNext, NextIsBlocked, drained_stop};
+ghost use Rattle.nl_drain.specs.Handled.{AllHandled, HandlesSome, unhandled, volume};
+ghost use Rattle.nl_iface.specs.Moves.{Marks};
+ghost use Rattle.nl_iface.specs.Names.{Has};
+ghost use Rattle.nl_running.specs.Reading.{Reads};
+ghost use Rattle.nl_running.specs.Running.{Runs};
+
+use nl_device::Device;
+use nl_field::{PointerList, Shape};
+use nl_flight::Flight;
+use nl_handler::laws::{handler_changes_pages, handler_keeps, holders_renamed};
+use nl_handler::{Handled, handle};
+use nl_iface::{Callback, Counts};
+use nl_inode::Nodes;
+use nl_meta::Meta;
+use nl_nand::Nand;
+
+/// What the handling of callbacks answers.
+#[derive(Clone, Copy, Debug, PartialEq, Eq)]
+pub enum Drained {
+    /// They were handled.
+    Done,
+    /// A page of the metadata has the next callback's pointer, and cannot be made dirty.
+    NoRoom,
+    /// A read failed.
+    Fault,
+    /// A page does not hold the sequence number under which its address was written.
+    Lost { wanted: u64, found: u64 },
+}
+
+/// Handles the pending callbacks that no transaction has handled, in the order of their numbers, until none is left or one cannot be
+/// handled. Each counts as handled by this transaction, which is to come after the one that is frozen: then whoever holds a page holds
+/// it as before, and the committed and the frozen pointers stay safe. Else only names of pages change.
+///
+/// `Done` comes exactly where no pending callback is unhandled afterwards. `NoRoom` comes where the metadata has the next one's pointer
+/// in a page that cannot be made dirty: a commit makes room, and the next call goes on. At most one page becomes dirty for each callback
+/// that counts as handled since. A callback whose page nobody holds is passed over, and counts as handled; there is none where each live
+/// page has its holder.
+pub fn drain<M: Nand>(
+    shape: &Shape,
+    device: &mut Device<M>,
+    meta: &mut Meta,
+    nodes: &mut Nodes,
+    flight: &mut Flight,
+    freeing: &mut PointerList,
+    transaction: u64,
+) -> Drained
+    requires formed { ⟦<Device<M> as Counts>⟧.formed device.old }
+    requires runs { Runs ⟦<Device<M> as Counts>⟧ device.old meta.old }
+    requires shape { shape.now ≡ ⟦<Device<M> as Counts>⟧.shape device.old }
+    ensures formed { ⟦<Device<M> as Counts>⟧.formed device.new }
+    ensures runs { Runs ⟦<Device<M> as Counts>⟧ device.new meta.new }
+    ensures done { result ≡ Drained.Done ↔ AllHandled (⟦<Device<M> as Counts>⟧.names device.new) }
+    ensures no_room { result ≡ Drained.NoRoom → NextIsBlocked ⟦<Device<M> as Counts>⟧ (volume device.new meta.new flight.new freeing.new.items) }
+    ensures handles { HandlesSome ⟦<Device<M> as Counts>⟧ transaction (volume device.old meta.old flight.old freeing.old.items) (volume device.new meta.new flight.new freeing.new.items) }
+    ensures few { length meta.new.dirty + unhandled (⟦<Device<M> as Counts>⟧.names device.new) ≤ length meta.old.dirty + unhandled (⟦<Device<M> as Counts>⟧.names device.old) }
+    ensures nodes { nodes.new ≡ nodes.old }
+    ensures room { freeing.new.room ≡ freeing.old.room }
+    ensures reads { Reads ⟦<Device<M> as Counts>⟧ device.old device.new (drained_stop result) }
+{
+    'each: while let Some(callback) = next_unhandled(device) {
+        match handle_one(
+            &callback,
+            shape,
+            device,
+            meta,
+            nodes,
+            flight,
+            freeing,
+            transaction,
+        ) {
+            Drained::Done => {}
+            answer => return answer,
+        }
+    }
+    Drained::Done
+}
+
+/// The callback of the least number that is pending and that no transaction has handled. None exactly where there is none.
+fn next_unhandled<M: Nand>(device: &Device<M>) -> Option<Callback>
+    ensures some { IfSome result (IsNext (⟦<Device<M> as Counts>⟧.names device.now)) }
+    ensures none { IfNone result (AllHandled (⟦<Device<M> as Counts>⟧.names device.now)) }
+{
+    match device.least() {
+        Some(number) => device.callback(number),
+        None => None,
+    }
+}
+
+/// Handles one pending callback: the pointer of its sequence number gets the name to which its old name leads now, and the callback
+/// counts as handled by this transaction, or by the earlier one that it had. `NoRoom`, `Fault` and `Lost` leave it as it was.
+pub fn handle_one<M: Nand>(
+    callback: &Callback,
+    shape: &Shape,
+    device: &mut Device<M>,
+    meta: &mut Meta,
+    nodes: &mut Nodes,
+    flight: &mut Flight,
+    freeing: &mut PointerList,
+    transaction: u64,
+) -> Drained
+    requires formed { ⟦<Device<M> as Counts>⟧.formed device.old }
+    requires runs { Runs ⟦<Device<M> as Counts>⟧ device.old meta.old }
+    requires pending { Has (⟦<Device<M> as Counts>⟧.names device.old).pending callback.now }
+    requires shape { shape.now ≡ ⟦<Device<M> as Counts>⟧.shape device.old }
+    ensures formed { ⟦<Device<M> as Counts>⟧.formed device.new }
+    ensures runs { Runs ⟦<Device<M> as Counts>⟧ device.new meta.new }
+    ensures done { result ≡ Drained.Done → Marks callback.now transaction (⟦<Device<M> as Counts>⟧.names device.old) (⟦<Device<M> as Counts>⟧.names device.new) }
+    ensures few { length meta.new.dirty ≤ length meta.old.dirty + 1 }
+    ensures same { (result ≡ Drained.Done → ⊥) → (⟦<Device<M> as Counts>⟧.names device.new ≡ ⟦<Device<M> as Counts>⟧.names device.old) × (meta.new.dirty ≡ meta.old.dirty) }
+    ensures no_room { result ≡ Drained.NoRoom → IsBlocked ⟦<Device<M> as Counts>⟧ (volume device.new meta.new flight.new freeing.new.items) callback.now }
+    ensures room_made { result ≡ Drained.Done → IsBlocked ⟦<Device<M> as Counts>⟧ (volume device.old meta.old flight.old freeing.old.items) callback.now → ⊥ }
+    ensures handles { HandlesSome ⟦<Device<M> as Counts>⟧ transaction (volume device.old meta.old flight.old freeing.old.items) (volume device.new meta.new flight.new freeing.new.items) }
+    ensures nodes { nodes.new ≡ nodes.old }
+    ensures room { freeing.new.room ≡ freeing.old.room }
+    ensures reads { Reads ⟦<Device<M> as Counts>⟧ device.old device.new (drained_stop result) }
+{
+    holders_renamed();
+    handler_keeps::<Device<M>>();
+    handler_changes_pages::<Device<M>>();
+    match handle(callback, shape, device, meta, nodes, flight, freeing) {
+        Handled::Renamed | Handled::Gone => {
+            let _ = device.handled(callback.number, transaction);
+            Drained::Done
+        }
+        Handled::NoRoom => Drained::NoRoom,
+        Handled::Fault => Drained::Fault,
+        Handled::Lost { wanted, found } => Drained::Lost { wanted, found },
+    }
+}

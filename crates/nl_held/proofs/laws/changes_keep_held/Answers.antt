@@ -1,0 +1,18 @@
+use Rattle.nl_held.proofs.Losing.{runs_of_lists}
+use Rattle.nl_held.proofs.Replacing.{cutting_keeps_held, installing_keeps_held, names_keep_held, replacing_keeps_held}
+use Rattle.nl_held.proofs.laws.changes_keep_held.Goals as goal
+
+pub returns-clause-installing : goal.returns-clause-installing
+returns-clause-installing g c = installing_keeps_held g.D.Counts
+
+pub returns-clause-cutting : goal.returns-clause-cutting
+returns-clause-cutting g c = cutting_keeps_held g.D.Counts
+
+pub returns-clause-names : goal.returns-clause-names
+returns-clause-names g c = names_keep_held g.D.Counts
+
+pub returns-clause-replacing : goal.returns-clause-replacing
+returns-clause-replacing g c = replacing_keeps_held g.D.Counts
+
+pub returns-clause-lists : goal.returns-clause-lists
+returns-clause-lists g c = runs_of_lists

@@ -1,0 +1,12 @@
+pub mod Committed
+pub mod CommittedLaws
+pub mod Standing
+pub mod SettlingLaws
+pub mod Held
+pub mod Trees
+pub mod TreeLaws
+pub mod DeviceLaws
+pub mod Steps
+pub mod Changes
+pub mod FirmLaws
+pub mod FileCuts
