@@ -1,3 +1,4 @@
 pub mod First
+pub mod Settled
 pub mod Written
 pub mod WrittenTrees

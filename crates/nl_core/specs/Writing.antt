@@ -85,10 +85,11 @@ pub record WritesAll {M : Type 0} (g : Ghosts (Device M)) (old new : Core M) (an
 
 -- What awaited its free is freed, and callbacks are acknowledged that were handled under a mark up to this one.
 pub record Settles {M : Type 0} (g : Ghosts (Device M)) (mark : ℕ) (old new : Core M) : Type 0 where
-  pub freed : Names
-  pub frees : FreesEach old.freeing.items (names_of g old) freed
-  pub acknowledges : Acknowledges mark freed (names_of g new)
-  pub kept : KeepsMedium g old.device new.device
+  pub between : Device M
+  pub frees : FreesEach old.freeing.items (names_of g old) (g.names between)
+  pub first_kept : KeepsMedium g old.device between
+  pub acknowledges : Acknowledges mark (g.names between) (names_of g new)
+  pub then_kept : KeepsMedium g between new.device
   pub read_faults : g.read_faults new.device ≡ g.read_faults old.device
   pub items : new.freeing.items ≡ []
   pub room : new.freeing.room ≡ old.freeing.room + length old.freeing.items
