@@ -1,10 +1,10 @@
 //! Laws of the definitions. Each function stands for the laws that its contract names.
-ghost use Rattle.nl_held.specs.Changes.{CuttingKeepsHeld, InstallingKeepsHeld, NamesKeepHeld, ReplacingKeepsHeld, RunsOfLists};
+ghost use Rattle.nl_held.specs.Changes.{CuttingKeepsHeld, InstallingKeepsHeld, NamesKeepHeld, ReadingKeepsHeld, ReplacingKeepsHeld, RunsOfLists, SuperPageKeepsHeld};
 ghost use Rattle.nl_held.specs.CommittedLaws.{CompletingHolds, FreezingHolds, SuperPageHolds};
 ghost use Rattle.nl_held.specs.FileCuts.{EmptyingKeepsHeld, PartingKeepsHeld, TruncatingKeepsHeld};
 ghost use Rattle.nl_held.specs.FirmLaws.{CommitKeepsFirm, MediumKeepsFirm, ProgramKeepsFirm, StoredKeepsFirm};
 ghost use Rattle.nl_held.specs.Held.{AcknowledgedKeepsHeld, CommitHolds, CommitKeepsHeld, FreedKeepsHeld, OpeningIsHeld};
-ghost use Rattle.nl_held.specs.SettlingLaws.{AcknowledgesHold, AddressesHold, ChangesJournaled, FreesHold, MetadataHolds, NoneDue};
+ghost use Rattle.nl_held.specs.SettlingLaws.{AcknowledgesHold, AddressesHold, ChangesJournaled, FreesHold, MetadataHolds, NoneDue, StepsJournaled};
 ghost use Rattle.nl_held.specs.Steps.{CleaningKeepsHeld, CopyKeepsHeld, DropKeepsHeld, HandlingKeepsHeld, ProgramKeepsHeld, StepKeepsHeld, TablesKeepHeld};
 ghost use Rattle.nl_held.specs.Standing.{AheadIsRunning, CommittedReads, HeldLead, RunningLead, StandsAlike, StopsStand};
 
@@ -38,6 +38,7 @@ pub fn stops_stand<D: VirtualPages>()
 pub fn settling_holds<D: VirtualPages>()
     ensures addresses { AddressesHold D.Counts }
     ensures changes { ChangesJournaled D.Counts }
+    ensures steps { StepsJournaled D.Counts }
     ensures metadata { MetadataHolds D.Counts }
     ensures freeing { FreesHold D.Counts }
     ensures acknowledging { AcknowledgesHold D.Counts }
@@ -76,11 +77,13 @@ pub fn steps_keep_held<D: VirtualPages>()
 {}
 
 /// And so does each change of the metadata, over a device that is only read: a page in flight is installed in a file, a file is cut, names
-/// change; or any pages leave the metadata, and others come into it.
+/// change, pages are read, the super page changes; or any pages leave the metadata, and others come into it.
 pub fn changes_keep_held<D: VirtualPages>()
     ensures installing { InstallingKeepsHeld D.Counts }
     ensures cutting { CuttingKeepsHeld D.Counts }
     ensures names { NamesKeepHeld D.Counts }
+    ensures reading { ReadingKeepsHeld D.Counts }
+    ensures super_page { SuperPageKeepsHeld D.Counts }
     ensures replacing { ReplacingKeepsHeld D.Counts }
     ensures lists { RunsOfLists }
 {}
