@@ -13,3 +13,4 @@ pub mod Replacing
 pub mod Firm
 pub mod FileLists
 pub mod FileCutting
+pub mod Opening

@@ -7,3 +7,4 @@ pub mod Steps
 pub mod Changes
 pub mod FirmLaws
 pub mod FileCuts
+pub mod OpeningLaws

@@ -4,6 +4,7 @@ ghost use Rattle.nl_held.specs.CommittedLaws.{CompletingHolds, FreezingHolds, Su
 ghost use Rattle.nl_held.specs.FileCuts.{EmptyingKeepsHeld, PartingKeepsHeld, TruncatingKeepsHeld};
 ghost use Rattle.nl_held.specs.FirmLaws.{CommitKeepsFirm, MediumKeepsFirm, ProgramKeepsFirm, StoredKeepsFirm};
 ghost use Rattle.nl_held.specs.Held.{AcknowledgedKeepsHeld, CommitHolds, CommitKeepsHeld, FreedKeepsHeld, OpeningIsHeld};
+ghost use Rattle.nl_held.specs.OpeningLaws.{ConsistentIsFirm, OpenedIsFirm};
 ghost use Rattle.nl_held.specs.SettlingLaws.{AcknowledgesHold, AddressesHold, ChangesJournaled, FreesHold, MetadataHolds, NoneDue, StepsJournaled};
 ghost use Rattle.nl_held.specs.Steps.{CleaningKeepsHeld, CopyKeepsHeld, DropKeepsHeld, HandlingKeepsHeld, ProgramKeepsHeld, StepKeepsHeld, TablesKeepHeld};
 ghost use Rattle.nl_held.specs.Standing.{AheadIsRunning, CommittedReads, HeldLead, RunningLead, StandsAlike, StopsStand};
@@ -102,4 +103,10 @@ pub fn devices_stay_firm<D: VirtualPages>()
     ensures medium { MediumKeepsFirm D.Counts }
     ensures program { ProgramKeepsFirm D.Counts }
     ensures commit { CommitKeepsFirm D.Counts }
+{}
+
+/// What a consistent image stores is firm, and so is a device that was opened over one.
+pub fn opened_is_firm<D: VirtualPages>()
+    ensures image { ConsistentIsFirm }
+    ensures device { OpenedIsFirm D.Counts }
 {}
