@@ -1,3 +1,4 @@
+pub mod ContentFacts
 pub mod CutLaw
 pub mod CutOn
 pub mod CutToSize

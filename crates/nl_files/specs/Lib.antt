@@ -1,4 +1,5 @@
 pub mod Answers
+pub mod Contents
 pub mod CutLaws
 pub mod CutRuns
 pub mod Cutting

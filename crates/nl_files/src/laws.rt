@@ -1,5 +1,6 @@
 //! Laws of the definitions. Each function stands for the law that its contract names.
 ghost use Rattle.nl_files.specs.CutLaws.{OneFileIsCut};
+ghost use Rattle.nl_files.specs.Contents.{CuttingCuts, InstallingWrites, PagesByPointers};
 ghost use Rattle.nl_files.specs.CutRuns.{CutRuns, OneCutIsWritten};
 ghost use Rattle.nl_files.specs.InstallLaws.{OneFileIsInstalled};
 ghost use Rattle.nl_files.specs.InstalledRuns.{InstalledRuns};
@@ -57,4 +58,11 @@ pub fn installed_runs<D: NamedPages>()
 pub fn cut_runs<D: NamedPages>()
     ensures written { OneCutIsWritten }
     ensures runs { CutRuns D.Counts }
+{}
+
+// A file has at each index the page of its pointer there: that of the pointer that was installed, and after a cut those before the size.
+pub fn contents_by_pointers()
+    ensures pages { PagesByPointers }
+    ensures installing { InstallingWrites }
+    ensures cutting { CuttingCuts }
 {}

@@ -10,7 +10,8 @@ use Rattle.nl_meta.specs.Pages.{Frozen, Pages, page_of}
 use Rattle.nl_meta.specs.Steps.{ChangesPages}
 use Rattle.nl_running.specs.Running.{Runs}
 use Rattle.nl_commit.specs.Standing.{HasFrozen, IsJournaled}
-use Rattle.nl_held.specs.SettlingLaws.{ChangesJournaled}
+use Rattle.nl_commit.proofs.Standing.{addresses_stand}
+use Rattle.nl_held.specs.SettlingLaws.{ChangesJournaled, StepsJournaled}
 
 module _ {D : Type 0} (g : Ghosts D) (s : D) (p : Progress) (pages now : Pages) (j : IsJournaled g s p pages) (c : ChangesPages pages now) where
   -- a page of the transaction
@@ -42,3 +43,6 @@ module _ {D : Type 0} (g : Ghosts D) (s : D) (p : Progress) (pages now : Pages) 
 
 pub changes_journaled : {D : Type 0} (g : Ghosts D) → ChangesJournaled g
 changes_journaled g s p pages now j c runs = journaled_on g s p pages now j c runs
+
+pub steps_journaled : {D : Type 0} (g : Ghosts D) → StepsJournaled g
+steps_journaled g s t p pages now volume j k c runs = journaled_on g t p pages now (addresses_stand g s t p pages volume j k).journaled c runs

@@ -17,3 +17,4 @@ pub mod Replacing
 pub mod Firm
 pub mod FileLists
 pub mod FileCutting
+pub mod Opening

@@ -1,9 +1,10 @@
 -- The metadata changes between two calls, over a device that is only read.
-use Rattle.std.proofs.Common.{◌≡◌, Bool, true, false, not, cond, List, [], ◌∷◌, ◌++◌, map, refl, sym, ap, subst}
+use Rattle.std.proofs.Common.{◌≡◌, Bool, true, false, not, cond, List, [], ◌∷◌, ◌++◌, map, refl, sym, ap, subst, ◌∙◌}
 use Rattle.std.proofs.lemmas.List.{append-nil, append_assoc}
 use Rattle.nl_field.specs.Pointers.{is_none_pointer}
 use Rattle.nl_field.specs.declared.pointer.Pointer.{Pointer}
 use Rattle.nl_field.specs.declared.pointer.Tag.{Tag}
+use Rattle.nl_field.specs.declared.shape.Shape.{Shape}
 use Rattle.nl_iface.specs.Calls.{OnlyReads}
 use Rattle.nl_iface.specs.Device.{IsVolumeShape}
 use Rattle.nl_iface.specs.Holders.{tagged}
@@ -14,13 +15,16 @@ use Rattle.nl_holders.specs.Laws.{Keeps}
 use Rattle.nl_holders.proofs.LawProofs.{cut_keeps, install_keeps}
 use Rattle.nl_journal.specs.Progress.{Progress}
 use Rattle.nl_meta.specs.Pages.{Pages}
-use Rattle.nl_meta.specs.PointerLists.{shown}
+use Rattle.nl_meta.specs.PointerLists.{shown, tagged_in}
+use Rattle.nl_running.specs.Running.{running_on}
+use Rattle.nl_running.proofs.Holds.{bounds-of}
 use Rattle.nl_commit.specs.Holding.{running_holders}
 use Rattle.nl_commit.specs.Standing.{IsJournaled}
-use Rattle.nl_held.specs.Changes.{CuttingKeepsHeld, GainsEach, InstallingKeepsHeld, LosesEach, NamesKeepHeld, ReplacingKeepsHeld, given_up}
+use Rattle.nl_held.specs.Changes.{CuttingKeepsHeld, GainsEach, InstallingKeepsHeld, LosesEach, NamesKeepHeld, ReadingKeepsHeld, ReplacingKeepsHeld, SuperPageKeepsHeld, given_up}
 use Rattle.nl_held.specs.Held.{IsHeldVolume}
 use Rattle.nl_held.specs.Steps.{holding_with}
-use Rattle.nl_held.proofs.Kept.{keeps_then}
+use Rattle.nl_held.proofs.Freezing.{super_pages_hold}
+use Rattle.nl_held.proofs.Kept.{keeps_then, tagged_same}
 use Rattle.nl_held.proofs.Losing.{runs_of_lists}
 use Rattle.nl_held.proofs.Steps.{step_keeps_held}
 
@@ -94,3 +98,18 @@ pub names_keep_held : {D : Type 0} (g : Ghosts D) → NamesKeepHeld g
 names_keep_held g s t p pages now flight freeing volume j h reads same stay = meta_keeps_held g s t p pages now flight freeing volume j h reads same flight freeing
     (λ v. subst (λ (r : List (Tag × Pointer)). Keeps (record v { running = running_holders g s pages; flight = flight; freeing = freeing }) (record v { running = r; flight = flight; freeing = freeing }))
     (sym stay) (keeps_all (record v { running = running_holders g s pages; flight = flight; freeing = freeing })))
+
+pub reading_keeps_held : {D : Type 0} (g : Ghosts D) → ReadingKeepsHeld g
+reading_keeps_held g s t p pages now flight freeing volume j h on = names_keep_held g s t p pages now flight freeing volume j h on.reads on.frozen
+    (ap (λ (x : Shape). tagged_in x (running_on g t now)) on.reads.medium.virtual.same_shape ∙ tagged_same (g.shape s) (bounds-of (g.shape s) volume) (running_on g s pages) (running_on g t now) on.needed)
+
+pub super_page_keeps_held : {D : Type 0} (g : Ghosts D) → SuperPageKeepsHeld g
+super_page_keeps_held g s p pages bytes flight freeing volume j h = record {
+  holding = h.holding;
+  is_of = super_pages_hold g s p pages bytes h.holding volume j h.is_of;
+  in_flight = h.in_flight;
+  awaits = h.awaits;
+  none_due = h.none_due;
+  holds = h.holds;
+  committed = h.committed;
+}

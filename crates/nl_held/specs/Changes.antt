@@ -1,5 +1,5 @@
 -- Each change of the metadata between two calls leaves a volume held. The device is only read.
-use Rattle.std.specs.Prelude.{◌≡◌, false, not, if◌then◌else◌, List, [], ◌∷◌, ◌++◌, map}
+use Rattle.std.specs.Prelude.{◌≡◌, ℕ, false, not, if◌then◌else◌, List, [], ◌∷◌, ◌++◌, map}
 use Rattle.nl_field.specs.Pointers.{is_none_pointer}
 use Rattle.nl_field.specs.declared.pointer.Pointer.{Pointer}
 use Rattle.nl_field.specs.declared.pointer.Tag.{Tag}
@@ -11,6 +11,8 @@ use Rattle.nl_holders.specs.Lists.{ListGains, ListLoses}
 use Rattle.nl_journal.specs.Progress.{Progress}
 use Rattle.nl_meta.specs.Pages.{Pages}
 use Rattle.nl_meta.specs.PointerLists.{OneChanges}
+use Rattle.nl_meta.specs.Steps.{with_dirty}
+use Rattle.nl_running.specs.Running.{RunsOn}
 use Rattle.nl_commit.specs.Holding.{running_holders}
 use Rattle.nl_commit.specs.Standing.{IsJournaled}
 use Rattle.nl_held.specs.Held.{IsHeldVolume}
@@ -66,6 +68,18 @@ abbrev pub NamesKeepHeld : {D : Type 0} → Ghosts D → Type 0
 NamesKeepHeld {D} g =
     (s t : D) (p : Progress) (pages now : Pages) (flight : List (Tag × Pointer)) (freeing : List Pointer) → IsVolumeShape (g.shape s) → IsJournaled g s p pages → IsHeldVolume g s p pages flight freeing
     → OnlyReads g s t → now.frozen ≡ pages.frozen → running_holders g t now ≡ running_holders g s pages → IsHeldVolume g t p now flight freeing
+
+-- Pages are read, and some become resident.
+abbrev pub ReadingKeepsHeld : {D : Type 0} → Ghosts D → Type 0
+ReadingKeepsHeld {D} g =
+    (s t : D) (p : Progress) (pages now : Pages) (flight : List (Tag × Pointer)) (freeing : List Pointer) → IsVolumeShape (g.shape s) → IsJournaled g s p pages → IsHeldVolume g s p pages flight freeing
+    → RunsOn g s pages t now → IsHeldVolume g t p now flight freeing
+
+-- The super page has other bytes, as where the count of calls is stored.
+abbrev pub SuperPageKeepsHeld : {D : Type 0} → Ghosts D → Type 0
+SuperPageKeepsHeld {D} g =
+    (s : D) (p : Progress) (pages : Pages) (bytes : List ℕ) (flight : List (Tag × Pointer)) (freeing : List Pointer) → IsVolumeShape (g.shape s) → IsJournaled g s p pages
+    → IsHeldVolume g s p pages flight freeing → IsHeldVolume g s p (with_dirty pages 0 bytes) flight freeing
 
 -- ---- steps of lists
 

@@ -10,3 +10,4 @@ pub mod Steps
 pub mod Changes
 pub mod FirmLaws
 pub mod FileCuts
+pub mod OpeningLaws

@@ -38,6 +38,11 @@ AddressesHold {D} g =
 abbrev pub ChangesJournaled : {D : Type 0} → Ghosts D → Type 0
 ChangesJournaled {D} g = (s : D) (p : Progress) (pages now : Pages) → IsJournaled g s p pages → ChangesPages pages now → Runs g s now → IsJournaled g s p now
 
+-- The same while the device leaves what its addresses have, as one that is only read.
+abbrev pub StepsJournaled : {D : Type 0} → Ghosts D → Type 0
+StepsJournaled {D} g =
+    (s t : D) (p : Progress) (pages now : Pages) → IsVolumeShape (g.shape s) → IsJournaled g s p pages → KeepsVirtual g s t → ChangesPages pages now → Runs g t now → IsJournaled g t p now
+
 -- Where the metadata changes, and no frozen page, its pointers are those of the pages that run then.
 abbrev pub MetadataHolds : {D : Type 0} → Ghosts D → Type 0
 MetadataHolds {D} g =

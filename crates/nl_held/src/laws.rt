@@ -4,14 +4,15 @@ ghost use Rattle.nl_iface.specs.Calls.{StoresMap, StoresPages};
 ghost use Rattle.nl_iface.specs.Device.{IsVolumeShape};
 ghost use Rattle.nl_holders.specs.Laws.{OldNamesDiffer};
 ghost use Rattle.nl_iface.specs.Names.{IsNames, IsTable};
-ghost use Rattle.nl_held.specs.Changes.{CuttingKeepsHeld, InstallingKeepsHeld, NamesKeepHeld, ReplacingKeepsHeld, RunsOfLists};
+ghost use Rattle.nl_held.specs.Changes.{CuttingKeepsHeld, InstallingKeepsHeld, NamesKeepHeld, ReadingKeepsHeld, ReplacingKeepsHeld, RunsOfLists, SuperPageKeepsHeld};
 ghost use Rattle.nl_held.specs.CommittedLaws.{CompletingHolds, FreezingHolds, SuperPageHolds};
 ghost use Rattle.nl_held.specs.DeviceLaws.{AddressesGo, HoldingOpens, NowHolds, PagesGo};
 ghost use Rattle.nl_held.specs.FileCuts.{EmptyingKeepsHeld, PartingKeepsHeld, TruncatingKeepsHeld};
 ghost use Rattle.nl_held.specs.FirmLaws.{CommitKeepsFirm, MediumKeepsFirm, ProgramKeepsFirm, StoredKeepsFirm};
 ghost use Rattle.nl_held.specs.Held.{AcknowledgedKeepsHeld, CommitHolds, CommitKeepsHeld, FreedKeepsHeld, OpeningIsHeld};
-ghost use Rattle.nl_held.specs.SettlingLaws.{AcknowledgesHold, AddressesHold, ChangesJournaled, FreesHold, MetadataHolds, NoneDue};
 ghost use Rattle.nl_held.specs.TreeLaws.{CommitGoes, CommitLeaves, CompletingGoes, FreezingGoes, SuperPageGoes};
+ghost use Rattle.nl_held.specs.OpeningLaws.{ConsistentIsFirm, OpenedIsFirm};
+ghost use Rattle.nl_held.specs.SettlingLaws.{AcknowledgesHold, AddressesHold, ChangesJournaled, FreesHold, MetadataHolds, NoneDue, StepsJournaled};
 ghost use Rattle.nl_held.specs.Steps.{CleaningKeepsHeld, CopyKeepsHeld, DropKeepsHeld, HandlingKeepsHeld, ProgramKeepsHeld, StepKeepsHeld, TablesKeepHeld};
 ghost use Rattle.nl_held.specs.Standing.{AheadIsRunning, CommittedReads, HeldLead, RunningLead, StandsAlike, StopsStand};
 
@@ -45,6 +46,7 @@ pub fn stops_stand<D: VirtualPages>()
 pub fn settling_holds<D: VirtualPages>()
     ensures addresses { AddressesHold D.Counts }
     ensures changes { ChangesJournaled D.Counts }
+    ensures steps { StepsJournaled D.Counts }
     ensures metadata { MetadataHolds D.Counts }
     ensures freeing { FreesHold D.Counts }
     ensures acknowledging { AcknowledgesHold D.Counts }
@@ -102,11 +104,13 @@ pub fn steps_keep_held<D: VirtualPages>()
 {}
 
 /// And so does each change of the metadata, over a device that is only read: a page in flight is installed in a file, a file is cut, names
-/// change; or any pages leave the metadata, and others come into it.
+/// change, pages are read, the super page changes; or any pages leave the metadata, and others come into it.
 pub fn changes_keep_held<D: VirtualPages>()
     ensures installing { InstallingKeepsHeld D.Counts }
     ensures cutting { CuttingKeepsHeld D.Counts }
     ensures names { NamesKeepHeld D.Counts }
+    ensures reading { ReadingKeepsHeld D.Counts }
+    ensures super_page { SuperPageKeepsHeld D.Counts }
     ensures replacing { ReplacingKeepsHeld D.Counts }
     ensures lists { RunsOfLists }
 {}
@@ -136,4 +140,10 @@ pub fn device_stands<D: NamedPages>(device: &D)
     ensures names { IsNames (D.shape device.now) (D.next_stamp device.now) (D.names device.now) }
     ensures table { IsTable (D.names device.now) }
     ensures differ { OldNamesDiffer (D.names device.now) }
+{}
+
+/// What a consistent image stores is firm, and so is a device that was opened over one.
+pub fn opened_is_firm<D: VirtualPages>()
+    ensures image { ConsistentIsFirm }
+    ensures device { OpenedIsFirm D.Counts }
 {}

@@ -1,5 +1,5 @@
 use Rattle.nl_held.proofs.Losing.{runs_of_lists}
-use Rattle.nl_held.proofs.Replacing.{cutting_keeps_held, installing_keeps_held, names_keep_held, replacing_keeps_held}
+use Rattle.nl_held.proofs.Replacing.{cutting_keeps_held, installing_keeps_held, names_keep_held, reading_keeps_held, replacing_keeps_held, super_page_keeps_held}
 use Rattle.nl_held.proofs.laws.changes_keep_held.Goals as goal
 
 pub returns-clause-installing : goal.returns-clause-installing
@@ -16,3 +16,9 @@ returns-clause-replacing g c = replacing_keeps_held g.D.Counts
 
 pub returns-clause-lists : goal.returns-clause-lists
 returns-clause-lists g c = runs_of_lists
+
+pub returns-clause-reading : goal.returns-clause-reading
+returns-clause-reading g c = reading_keeps_held g.D.Counts
+
+pub returns-clause-super_page : goal.returns-clause-super_page
+returns-clause-super_page g c = super_page_keeps_held g.D.Counts

@@ -1,4 +1,4 @@
-use Rattle.nl_held.proofs.Changing.{changes_journaled}
+use Rattle.nl_held.proofs.Changing.{changes_journaled, steps_journaled}
 use Rattle.nl_held.proofs.Settling.{acknowledges_hold, addresses_hold, frees_hold, metadata_holds, none_due}
 use Rattle.nl_held.proofs.laws.settling_holds.Goals as goal
 
@@ -19,3 +19,6 @@ returns-clause-metadata g c = metadata_holds g.D.Counts
 
 pub returns-clause-changes : goal.returns-clause-changes
 returns-clause-changes g c = changes_journaled g.D.Counts
+
+pub returns-clause-steps : goal.returns-clause-steps
+returns-clause-steps g c = steps_journaled g.D.Counts

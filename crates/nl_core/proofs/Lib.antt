@@ -1,0 +1,4 @@
+pub mod First
+pub mod Settled
+pub mod Written
+pub mod WrittenTrees

@@ -1,0 +1,382 @@
+-- A core stands once the pages are freed that awaited it after a commit, and callbacks are acknowledged.
+use Rattle.std.proofs.Common.{◌≡◌, ◌≢◌, ◌⊎◌, inl, inr, ⊎_elim, ℕ, ◌+◌, ◌*◌, ◌<◌, ◌≤◌, ◌^◌, ◌==◌, Bool, true, false, List, [], ◌∷◌, ◌++◌, length, filter, Option, Some, None, refl, sym, ap, subst, ◌∙◌, arith}
+use Rattle.std.proofs.lemmas.List.{append-nil}
+use Rattle.std.proofs.lemmas.Bool.{cond-false, cond-true}
+use Rattle.nl_meta.proofs.Lists.{none_some}
+use Rattle.nl_field.specs.Graph.{Graph}
+use Rattle.nl_field.specs.Members as members
+use Rattle.nl_field.specs.declared.answers.VirtualWrite.{VirtualWrite}
+use Rattle.nl_field.specs.declared.answers.VirtualWrite.TheVariants as write
+use Rattle.nl_field.specs.declared.pointer.Pointer.{Pointer}
+use Rattle.nl_field.specs.declared.pointer.Tag.{Tag}
+use Rattle.nl_field.specs.declared.shape.Shape.{Shape}
+use Rattle.nl_device.specs.declared.device.Device.{Device}
+use Rattle.nl_drain.specs.Handled.{SameButNames, nameless_body}
+use Rattle.nl_flight.specs.Flight.{carried}
+use Rattle.nl_holders.specs.Holding.{Holding, HoldsPages, MarkedTo}
+use Rattle.nl_holders.specs.Laws.{OldNamesDiffer}
+use Rattle.nl_holders.proofs.LawProofs.{none_handled}
+use Rattle.nl_iface.specs.Calls.{KeepsMedium, Leaves, StoresPages}
+use Rattle.nl_iface.specs.Device.{IsVolumeShape}
+use Rattle.nl_iface.specs.Moves.{Acknowledges, IsOver}
+use Rattle.nl_iface.specs.Names.{Drops, Has, IsTable, LivePage, Names, SameHandled, place_of, without_page}
+use Rattle.nl_iface.specs.Rounds.{Empties}
+use Rattle.nl_iface.specs.Space.{CanLand, Freed, Space}
+use Rattle.nl_iface.specs.declared.Callback.{Callback}
+use Rattle.nl_iface.specs.declared.counts.Counts.{Ghosts}
+use Rattle.nl_field.specs.CrashStates.{Earlier, Rose, top}
+use Rattle.nl_field.specs.PointerItems.{PointerItems}
+use Rattle.nl_flight.specs.Flight.{InFlight}
+use Rattle.nl_journal.specs.Progress.{HasNumber, begun, next_after, raised, units_left}
+use Rattle.nl_journal.specs.Units.{Ends}
+use Rattle.nl_journal.specs.declared.answers.Phase.{Phase}
+use Rattle.nl_journal.specs.declared.answers.Phase.TheVariants.{Header, Image, Commit, Home}
+use Rattle.nl_journal.proofs.CommitSteps.{begun_none}
+use Rattle.nl_meta.specs.Consistent.{PageOfStamp}
+use Rattle.nl_meta.specs.Nodes.{graph_of}
+use Rattle.nl_meta.specs.Pages.{IsPages}
+use Rattle.nl_running.specs.Running.{IsNeeded, running_on}
+use Rattle.nl_commit.specs.Completing.{IsOpen}
+use Rattle.nl_commit.specs.Standing.{IsJournaled}
+use Rattle.nl_commit.proofs.Standing.{addresses_stand}
+use Rattle.nl_held.specs.Held.{IsHeldVolume}
+use Rattle.nl_held.specs.SettlingLaws.{IsTold as IsHeldTold}
+use Rattle.nl_held.specs.Trees.{Trees}
+use Rattle.nl_held.proofs.DeviceTrees.{addresses_go}
+use Rattle.nl_held.proofs.Firm.{medium_keeps_firm}
+use Rattle.nl_held.proofs.Holding.{acknowledged_keeps_held, freed_keeps_held}
+use Rattle.std.specs.Prelude.{IfSome}
+use Rattle.nl_meta.specs.Pages.{dirty_pages}
+use Rattle.nl_commit.specs.Committing.{ChangesAt}
+use Rattle.nl_commit.specs.Completing.{IsDecided}
+use Rattle.nl_held.specs.TreeLaws.{moment_of}
+use Rattle.nl_held.proofs.Freezing.{freeze_opens}
+use Rattle.nl_core.specs.Calls.{CommitsAll, HasCause}
+use Rattle.nl_core.specs.Core.{CanWrite, HasSpace, IsCore, begun_of, names_of, running_of}
+use Rattle.nl_core.specs.Goes.{Goes, GoesTo}
+use Rattle.nl_core.specs.Trees.{CoreStands, IsTold}
+use Rattle.nl_core.specs.Writing.{HasTable, Settles, WritesAll, committed_count, counted_pages}
+use Rattle.nl_core.specs.declared.core.Core.{Core}
+use Rattle.nl_core.proofs.Written.{has_free_on, held_counted, journaled_counted, none_failed_on, same_running, written_core}
+use Rattle.nl_core.proofs.WrittenTrees.{written_goes}
+use Rattle.nl_iface.proofs.RoundSteps.{empties_laws}
+use Rattle.nl_iface.proofs.Stops.{keeps_medium_then}
+use Rattle.nl_commit.specs.Freeing.{AreDue, FreesEach, FreesOne, FreesPage}
+use Rattle.nl_commit.proofs.Frees.{frees_all}
+
+-- ---- pages that are freed one after the other
+
+one_space : (p : Pointer) (s t : Names) → FreesOne p s t → Empties s.space t.space × (CanLand s.space → CanLand t.space)
+one_space p s t (inl f) = (empties_laws.freed s.space t.space f.space, f.space.lessened.lands f.space.bad)
+one_space p s t (inr same) = (subst (λ (n : Names). Empties s.space n.space) (sym same.1) (empties_laws.none s.space), λ lands. subst (λ (n : Names). CanLand n.space) (sym same.1) lands)
+
+pub frees_space : (ps : List Pointer) (s t : Names) → FreesEach ps s t → Empties s.space t.space × (CanLand s.space → CanLand t.space)
+frees_space [] s t same = (subst (λ (n : Names). Empties s.space n.space) (sym same) (empties_laws.none s.space), λ lands. subst (λ (n : Names). CanLand n.space) (sym same) lands)
+frees_space (p ∷ ps) s t f =
+    let one = one_space p s f.0 f.1 in
+    let more = frees_space ps f.0 t f.2 in
+    (empties_laws.then s.space f.0.space t.space one.0 more.0, λ lands. more.1 (one.1 lands))
+
+filter_has : (t : Callback → Bool) (xs : List Callback) (c : Callback) → Has (filter t xs) c → Has xs c
+filter_has t [] c has = absurd has
+filter_has t (x ∷ xs) c has = by (t x) refl (filter_has t xs c)
+  where
+    by : (b : Bool) → t x ≡ b → (Has (filter t xs) c → Has xs c) → Has (x ∷ xs) c
+    by true is more = ⊎_elim (λ e. inl e) (λ far. inr (more far)) (subst (λ (ys : List Callback). Has ys c) (cond-true (t x) (x ∷ filter t xs) (filter t xs) is) has)
+    by false is more = inr (more (subst (λ (ys : List Callback). Has ys c) (cond-false (t x) (x ∷ filter t xs) (filter t xs) is) has))
+
+-- what is live then was, and what is pending then was, and counts as handled by the same transaction
+pub record Fewer (s t : Names) : Type 0 where
+  pub live : (q : ℕ) (page : LivePage) → t.live q ≡ Some page → s.live q ≡ Some page
+  pub pending : (c : Callback) → Has t.pending c → Has s.pending c × (t.handled c.number ≡ s.handled c.number)
+  pub posted : t.posted ≡ s.posted
+
+fewer_same : (s t : Names) → t ≡ s → Fewer s t
+fewer_same s t same = record {
+  live = λ q page live. subst (λ (n : Names). n.live q ≡ Some page) same live;
+  pending = λ c has. (subst (λ (n : Names). Has n.pending c) same has, ap (λ (n : Names). n.handled c.number) same);
+  posted = ap (λ (n : Names). n.posted) same;
+}
+
+fewer_then : {r s t : Names} → Fewer r s → Fewer s t → Fewer r t
+fewer_then a b = record {
+  live = λ q page live. a.live q page (b.live q page live);
+  pending = λ c has. let k = b.pending c has in let h = a.pending c k.0 in (h.0, k.1 ∙ h.1);
+  posted = b.posted ∙ a.posted;
+}
+
+drops_fewer : (p : ℕ) (s t : Names) → Drops p s t → Fewer s t
+drops_fewer p s t d = record {
+  live = λ q page live. by q page (q == p) refl (sym (d.live q) ∙ live);
+  pending = λ c has. (filter_has _ s.pending c (subst (λ (cs : List Callback). Has cs c) d.pending has), d.handled c has);
+  posted = d.posted;
+}
+  where
+    by : (q : ℕ) (page : LivePage) (b : Bool) → q == p ≡ b → without_page s.live p q ≡ Some page → s.live q ≡ Some page
+    by q page true is live = absurd (none_some page (sym (cond-true (q == p) None (s.live q) is) ∙ live))
+    by q page false is live = sym (cond-false (q == p) None (s.live q) is) ∙ live
+
+pub frees_fewer : (ps : List Pointer) (s t : Names) → FreesEach ps s t → Fewer s t
+frees_fewer [] s t same = fewer_same s t same
+frees_fewer (p ∷ ps) s t f = fewer_then (⊎_elim (λ (one : FreesPage p s f.0). drops_fewer (place_of s p) s f.0 one.names) (λ same. fewer_same s f.0 same.1) f.1) (frees_fewer ps f.0 t f.2)
+
+pub acknowledged_fewer : (upto : ℕ) (s t : Names) → Acknowledges upto s t → Fewer s t
+acknowledged_fewer upto s t a = record { live = λ q page live. sym (a.live q) ∙ live; pending = λ c has. ((a.only c has).0, a.handled c has); posted = a.posted }
+
+-- ---- a core that settles
+
+module _ {M : Type 0} (g : Ghosts (Device M)) (v w u : Core M) (answer : VirtualWrite) (b : WritesAll g v w answer) (core : IsCore g v) (volume : IsVolumeShape (g.shape v.device)) (few : begun_of v ≤ 2 ^ 63)
+    (stores_w : g.tells → StoresPages g w.device) (writes : v.stopped ≡ 0) (held : IsPages v.meta) (done : answer ≡ write.Done) (s : Settles g (begun_of v + 1) w u) (tables : HasTable g w.device)
+    (stores : g.tells → StoresPages g u.device) where
+  mid : IsCore g w
+  mid = written_core g v w answer b core volume few stores_w writes
+
+  ends : Ends (next_after (begun v.journal (length v.meta.frozen.addresses))) v.journal w.journal (counted_pages v) w.meta
+  ends = b.commits.in_memory.ends done
+
+  kept : KeepsMedium g w.device u.device
+  kept = keeps_medium_then g w.device s.between u.device s.first_kept s.then_kept
+
+  volume_w : IsVolumeShape (g.shape w.device)
+  volume_w = subst IsVolumeShape (sym b.passes.named.same_shape) volume
+
+  volume_m : IsVolumeShape (g.shape s.between)
+  volume_m = subst IsVolumeShape (sym s.first_kept.virtual.same_shape) volume_w
+
+  -- nothing is frozen
+  none_left : length w.meta.frozen.addresses ≡ 0
+  none_left = ap length ends.thawed
+
+  shut : IsOpen w.journal w.meta.frozen → ⊥
+  shut more = shut_by w.journal.phase (length w.meta.frozen.addresses) ends.idle none_left more
+    where
+      shut_by : (phase : Phase) (n : ℕ) → phase ≡ Header → n ≡ 0 → n < units_left phase n → ⊥
+      shut_by Header n is none more = let m : 0 < units_left Header 0 = subst (λ k. k < units_left Header k) none more in omega (arith, m)
+      shut_by (Image i) n is none more = let no : ⊥ = cc in no
+      shut_by Commit n is none more = let no : ⊥ = cc in no
+      shut_by (Home i) n is none more = let no : ⊥ = cc in no
+
+  number_is : begun_of w ≡ w.journal.number
+  number_is = begun_none w.journal.phase w.journal.number (length w.meta.frozen.addresses) ends.idle none_left
+
+  raised_number : w.journal.number ≡ raised (begun_of v)
+  raised_number = ends.kept
+
+  marked_below : IsHeldTold g w.journal w.meta → begun_of v + 1 ≤ w.journal.number
+  marked_below told = let small = told.1 in let a = number_is in let r = raised_number in omega (arith, small, a, r)
+
+  journaled_m : IsJournaled g s.between w.journal w.meta
+  journaled_m = (addresses_stand g w.device s.between w.journal w.meta volume_w mid.journaled s.first_kept.virtual).journaled
+
+  journaled_u : IsJournaled g u.device w.journal w.meta
+  journaled_u = (addresses_stand g w.device u.device w.journal w.meta volume_w mid.journaled kept.virtual).journaled
+
+  held_m : IsHeldVolume g s.between w.journal w.meta (carried v.flight) []
+  held_m = freed_keeps_held g answer b.earlier b.decided v.device w.device s.between v.journal w.journal (counted_pages v) w.meta (carried v.flight) v.freeing.items volume
+      (journaled_counted g v w answer b core volume few stores_w writes) (held_counted g v w answer b core volume few stores_w writes) b.commits.parts done volume_w mid.journaled shut tables.differ s.first_kept
+      (subst (λ (f : PointerItems). FreesEach f.items (names_of g w) (g.names s.between)) b.rest.freeing s.frees)
+
+  held_u : IsHeldVolume g u.device w.journal w.meta (carried v.flight) []
+  held_u = acknowledged_keeps_held g s.between u.device w.journal w.meta (carried v.flight) [] (begun_of v + 1) volume_m journaled_m held_m s.then_kept marked_below s.acknowledges
+
+  -- the tables
+  first_fewer : Fewer (names_of g w) (g.names s.between)
+  first_fewer = frees_fewer w.freeing.items (names_of g w) (g.names s.between) s.frees
+
+  fewer : Fewer (names_of g w) (names_of g u)
+  fewer = fewer_then first_fewer (acknowledged_fewer (begun_of v + 1) (g.names s.between) (names_of g u) s.acknowledges)
+
+  marked_m : MarkedTo (g.names s.between) (begun_of v + 1)
+  marked_m c n has at =
+      let one = first_fewer.pending c has in
+      let t = b.passes.named.tables in
+      core.marked c n (subst (λ (cs : List Callback). Has cs c) t.pending one.0) (sym (t.handled c.number) ∙ sym one.1 ∙ at)
+
+  pub none_marked : (c : Callback) → Has (names_of g u).pending c → (names_of g u).handled c.number ≡ None
+  none_marked = none_handled (begun_of v + 1) (g.names s.between) (names_of g u) s.acknowledges marked_m
+
+  pub empties : Empties (names_of g w).space (names_of g u).space
+  empties = empties_laws.then (names_of g w).space (g.names s.between).space (names_of g u).space (frees_space w.freeing.items (names_of g w) (g.names s.between) s.frees).0
+      (empties_laws.gone (g.names s.between).space (names_of g u).space s.acknowledges.space)
+
+  lands : CanLand (names_of g w).space → CanLand (names_of g u).space
+  lands l = s.acknowledges.space.lessened.lands s.acknowledges.space.bad ((frees_space w.freeing.items (names_of g w) (g.names s.between) s.frees).1 l)
+
+  freed_live : (g.names s.between).space.live + length w.freeing.items ≡ (names_of g w).space.live
+  freed_live =
+      let h = mid.held in
+      let one = h.holding in
+      let lowered : Holding = record one { due = length w.freeing.items; frozen = []; leaving = 0 } in
+      let names = h.is_of.runs.names in
+      frees_all lowered w.freeing.items [] (g.names s.between)
+      (record { first = h.awaits ∙ sym (append-nil w.freeing.items); due = refl; thawed = refl; none_leaves = refl; differ = subst OldNamesDiffer (sym names) tables.differ })
+      (record { table = h.holds.table; held = h.holds.held })
+      (subst (λ (n : Names). FreesEach w.freeing.items n (g.names s.between)) (sym names) s.frees)
+      ∙ ap (λ (n : Names). n.space.live) names
+
+  same_w : u.shape ≡ w.shape
+  same_w = ap (λ (x : Core M). x.shape) s.others
+
+  settled_at : Core M
+  settled_at = record w { device = u.device; freeing = u.freeing }
+
+  needed_u : (a : ℕ) → IsNeeded (g.shape w.device) (running_of g w) a → running_on g u.device w.meta a ≡ running_of g w a
+  needed_u = (addresses_stand g w.device u.device w.journal w.meta volume_w mid.journaled kept.virtual).needed
+
+  space_u : HasSpace g (record w { device = u.device; freeing = u.freeing })
+  space_u =
+      let sp = mid.space in
+      let counted = sp.counted in
+      let gone = s.acknowledges.space.live in
+      let live = freed_live in
+      let running = ap length (same_running g w (record w { device = u.device; freeing = u.freeing }) kept.virtual.same_shape volume_w needed_u) in
+      let items = ap length s.items in
+      let kept_blocks = empties.same.kept in
+      let block = empties.same.block in
+      let all = empties.same.all in
+      let before = sp.all in
+      let cap = ap (λ (h : Shape). h.cap) kept.virtual.same_shape in
+      let few_files = sp.few in
+      let products : ((names_of g w).space.keep + (names_of g w).space.bad + 3) * (names_of g w).space.block ≡ ((names_of g u).space.keep + (names_of g u).space.bad + 3) * (names_of g u).space.block =
+      ap (λ k. (k + 3) * (names_of g w).space.block) (sym kept_blocks) ∙ ap (λ n. ((names_of g u).space.keep + (names_of g u).space.bad + 3) * n) (sym block) in
+      record {
+        counted = omega (arith, counted, gone, live, running, items);
+        few = omega (arith, running, few_files, cap);
+        all = omega (arith, all, before, products, cap);
+        room = subst (λ (h : Shape). h.pblocks * h.pages ≤ length u.freeing.items + u.freeing.room) (sym kept.virtual.same_shape) (let r = sp.room in let room = s.room in omega (arith, r, room, items));
+      }
+
+  pub settled_core : IsCore g u
+  settled_core = subst (λ (x : Core M). IsCore g x) (sym s.others) (record {
+    shape = mid.shape ∙ sym kept.virtual.same_shape;
+    journaled = journaled_u;
+    free = has_free_on g w (record w { device = u.device; freeing = u.freeing }) kept.virtual.same_shape volume_w needed_u refl mid.free;
+    held = subst (λ (f : List InFlight). IsHeldVolume g u.device w.journal w.meta (carried f) u.freeing.items) (sym b.rest.flight)
+        (subst (λ (xs : List Pointer). IsHeldVolume g u.device w.journal w.meta (carried v.flight) xs) (sym s.items) held_u);
+    flight = mid.flight;
+    space = space_u;
+    marked = λ c n has at. absurd (none_some n (sym (none_marked c has) ∙ at));
+    moment = subst (λ n. w.moment ≤ n) (sym kept.clock) mid.moment;
+    writes = λ none. let c = mid.writes none in record {
+      spare = kept.virtual.spare c.spare;
+      lands = lands c.lands;
+      firm = λ told. medium_keeps_firm g w.device u.device told.0 (c.firm told) kept (stores told.0);
+    };
+  })
+
+  -- ---- how it went on
+
+  first : Goes g 512 v w
+  first = written_goes g v w answer b core volume few stores_w writes held
+
+  same_count : u.count ≡ w.count
+  same_count = ap (λ (x : Core M). x.count) s.others
+
+  told_w : IsTold g u → IsTold g w
+  told_w told = record {
+    tells = told.tells;
+    numbers = subst (λ (x : Core M). HasNumber x.journal (length x.meta.frozen.addresses)) s.others told.numbers;
+    calls = subst (λ n. n < 9223372036854775808) same_count told.calls;
+    moments = subst (λ n. n < 9223372036854775808) kept.clock told.moments;
+  }
+
+  goes_to_u : IsTold g u → (page_of_stamp : ℕ → Option PageOfStamp) (t : Trees) → CoreStands g v page_of_stamp t → GoesTo g v u page_of_stamp t
+  goes_to_u told page_of_stamp t at =
+      let k = first.trees (told_w told) page_of_stamp t at in
+      let w_told = told_w told in
+      record {
+        pages = k.pages;
+        trees = k.trees;
+        stands = subst (λ (x : Core M). CoreStands g x k.pages k.trees) (sym s.others) (record {
+          stands = addresses_go g w.device u.device w.journal w.meta w.count k.pages k.trees volume_w w_told.tells w_told.numbers mid.journaled kept.virtual k.stands.stands;
+          shows = λ p page live. k.stands.shows p page (fewer.live p page live) ∙ ap (λ bytes. Some (record { tag = page.tag; bytes = bytes })) (sym (kept.bytes w_told.tells p));
+          given = λ stamp page is. subst (λ n. stamp < n) (sym kept.next_stamp) (k.stands.given stamp page is);
+          committed = k.stands.committed;
+        });
+        extends = k.extends;
+        running = k.running;
+        committed = k.committed;
+        frozen = k.frozen;
+        later = k.later;
+      }
+
+  pub settled_goes : Goes g 512 v u
+  settled_goes = record {
+    same_shape = kept.virtual.same_shape ∙ first.same_shape;
+    count = same_count ∙ first.count;
+    nodes = record {
+      generation = λ n. ap (λ (x : Graph). (x n).generation) graph_u ∙ first.nodes.generation n;
+      body = λ n. ap (λ (x : Graph). nameless_body (x n).body) graph_u ∙ first.nodes.body n;
+    };
+    moment = subst (λ (x : Core M). ((x.moment ≡ v.moment) × (x.committed ≡ v.committed)) ⊎ Earlier (g.clock v.device) x.moment) (sym s.others) first.moment;
+    clock = subst (λ n. g.clock v.device ≤ n) (sym kept.clock) first.clock;
+    stops = record {
+      stands = λ off. ap (λ (x : Core M). x.stopped) s.others ∙ first.stops.stands off;
+      none = λ none rose. first.stops.none (sym (ap (λ (x : Core M). x.stopped) s.others) ∙ none) (subst (λ n. Rose (g.write_faults v.device) n) kept.write_faults rose);
+      some = λ none later.
+          let k = first.stops.some none (λ z. later (ap (λ (x : Core M). x.stopped) s.others ∙ z)) in
+          let same = ap (λ (x : Core M). x.stopped) s.others in
+          let r = s.read_faults in
+          let f = kept.write_faults in (
+            subst (λ n. Rose (g.write_faults v.device) n) (sym kept.write_faults) k.0,
+            (subst (λ n. Rose (g.read_faults v.device + g.write_faults v.device) n) (sym same) k.1.0, let low = k.1.1 in omega (arith, low, same, r, f)),
+          );
+    };
+    stamps = record {
+      never_falls = subst (λ n. g.next_stamp v.device ≤ n) (sym kept.next_stamp) first.stamps.never_falls;
+      at_most = subst (λ n. n ≤ g.next_stamp v.device + 512) (sym kept.next_stamp) first.stamps.at_most;
+      paid = λ low less. let a = first.stamps.paid (subst (λ n. n < top) kept.clock low) (subst (λ n. n < top) kept.write_faults less) in
+          let n = kept.next_stamp in let k = kept.clock in let f = kept.write_faults in omega (arith, a, n, k, f);
+    };
+    trees = goes_to_u;
+    left = λ told page_of_stamp t y is at.
+        let l = first.left (told_w told) page_of_stamp t y (is ∙ ap (λ (x : Core M). x.committed) s.others) at in
+        record {
+          later = subst (λ n. g.clock v.device ≤ n) (sym kept.clock) l.later;
+          each = λ m c left. ⊎_elim inl
+              (λ k. inr (k.0, subst (λ n. m ≤ n) (sym kept.clock) k.1, (k.2.0, k.2.1, k.2.2, λ after. k.2.3 (subst (λ n. n ≤ m) (ap (λ (x : Core M). x.moment) s.others) after))))
+              (l.each m c (kept.left told.tells m c left));
+        };
+  }
+    where
+      graph_u : graph_of (g.shape u.device) (running_of g u) ≡ graph_of (g.shape w.device) (running_of g w)
+      graph_u = ap (λ (x : Core M). graph_of (g.shape u.device) (running_on g u.device x.meta)) s.others ∙ (addresses_stand g w.device u.device w.journal w.meta volume_w mid.journaled kept.virtual).graph
+
+  -- its commit page was finished
+  decided_by : (o : Option ℕ) → b.decided ≡ o → (w.committed ≡ v.count) × Earlier (g.clock v.device) w.moment
+  decided_by None none = absurd (⊎_elim (λ y. y.0 done)
+      (λ y. shut (subst (λ (o : Option ℕ). IsDecided o b.commits.parts.halfway w.journal (dirty_pages b.commits.parts.rest) w.meta.frozen) none y.3
+      (freeze_opens (g.shape b.commits.parts.between).vaddrs b.commits.parts.halfway b.commits.parts.rest y.1))) b.commits.parts.second)
+  decided_by (Some m) is =
+      let d = subst (λ (o : Option ℕ). IfSome o (ChangesAt g v.device w.device v.journal w.journal (counted_pages v) w.meta)) is b.decided_at in (
+        b.committed ∙ ap (λ o. committed_count v b.earlier o) is,
+        subst (λ n. Earlier (g.clock v.device) n) (sym (b.moment ∙ ap (λ o. moment_of v.moment b.earlier o) is)) d.later,
+      )
+
+  pub commits_all : (number : ℕ) → number ≡ next_after (begun_of v) → CommitsAll g v u number
+  commits_all number is = record {
+    is_next = is;
+    clean = ap (λ (x : Core M). x.meta.dirty) s.others ∙ ends.clean;
+    thawed = ap (λ (x : Core M). x.meta.frozen.addresses) s.others ∙ ends.thawed;
+    freed = s.items;
+    same_flight = ap (λ (x : Core M). x.flight) s.others ∙ b.rest.flight;
+    same_nodes = ap (λ (x : Core M). x.nodes) s.others ∙ b.rest.nodes;
+    committed = ap (λ (x : Core M). x.committed) s.others ∙ (decided_by b.decided refl).0;
+    decided = subst (λ n. Earlier (g.clock v.device) n) (sym (ap (λ (x : Core M). x.moment) s.others)) (decided_by b.decided refl).1;
+    acknowledged = record {
+      pending = λ c has.
+          let one = fewer.pending c has in
+          let t = b.passes.named.tables in
+          (subst (λ (cs : List Callback). Has cs c) t.pending one.0, sym (t.handled c.number) ∙ sym one.1 ∙ none_marked c has, none_marked c has);
+      posted = fewer.posted ∙ b.passes.named.tables.posted;
+    };
+    space = λ none. subst (λ (n : Names). Empties n.space (names_of g u).space)
+        (b.passes.named.names (none_failed_on g v w b.stopped b.faults.reads_never_fall b.faults.writes_never_fall (sym (ap (λ (x : Core M). x.stopped) s.others) ∙ none))) empties;
+  }
+
+  pub settled_cause : (failed : Type 0) → (failed → ⊥) → HasCause g failed v u
+  settled_cause failed none = record {
+    reads = subst (λ n. g.read_faults v.device ≤ n) (sym s.read_faults) b.faults.reads_never_fall;
+    writes = subst (λ n. g.write_faults v.device ≤ n) (sym kept.write_faults) b.faults.writes_never_fall;
+    cause = λ failed. absurd (none failed);
+  }

@@ -1,0 +1,62 @@
+use Rattle.std.proofs.Common.{◌≡◌, ℕ, ◌∙◌, ap, sym, subst, refl, length}
+use Rattle.std.specs.Prelude.{IfSome}
+use Rattle.nl_held.specs.TreeLaws.{moment_of}
+use Rattle.nl_journal.specs.Left.{CommitWrites}
+use Rattle.nl_journal.specs.Progress.{HasNumber}
+use Rattle.nl_commit.specs.Committing.{ChangesAt, Commits, EarlierAt}
+use Rattle.nl_commit.specs.Counting.{with_count}
+use Rattle.nl_device.specs.contracts.counts.DeviceCounts.TheImpl.{ghosts}
+use Rattle.nl_device.specs.declared.device.Device.{Device}
+use Rattle.nl_field.specs.declared.answers.VirtualWrite.TheVariants as write
+use Rattle.nl_iface.specs.Calls.{StoresPages}
+use Rattle.nl_core.specs.Writing.{WritesAll, committed_by, frozen_count, stopped_by, stopped_on, stored_count}
+use Rattle.nl_core.specs.declared.core.Core.{Core}
+use Rattle.nl_core.proofs.core.Core.write_all.Goals as goal
+
+pub returns-clause-stores : goal.returns-clause-stores
+returns-clause-stores g c tells =
+    let G = ghosts g.row.M g.M.Nand g.M.Nand-dict in
+    subst (λ (d : Device g.row.M.Denot). StoresPages G d) (sym (ap (λ (x : Core g.row.M.Denot). x.device) (c.note_moments.ensures) ∙ ap (λ (x : Core g.row.M.Denot). x.device) c.note_fault.ensures))
+    (c.device_stands-2.ensures.pages tells)
+
+pub returns-clause-written : goal.returns-clause-written
+returns-clause-written g c =
+    let G = ghosts g.row.M g.M.Nand g.M.Nand-dict in
+    let v = c.args.self.now in
+    let done = c.commit-done.result in
+    let t = c.commit-done.new.device in
+    let r = c.commit-done.new.journal in
+    let now = c.commit-done.new.meta in
+    let e = c.commit-done.ensures in
+    let stopped = stopped_by v.stopped (G.read_faults t) (c.write_faults-faults.result) (G.write_faults t) in
+    let count : c.min-count.result ≡ stored_count v = c.min-count.ensures in
+    let w : Core g.row.M.Denot = record v {
+      device = t;
+      journal = r;
+      meta = now;
+      stopped = stopped;
+      committed = committed_by v.committed c.frozen_count-frozen.result v.count done.earlier done.decided;
+      moment = moment_of v.moment done.earlier done.decided;
+    } in
+    let same : c.note_moments.new.self ≡ w =
+    c.note_moments.ensures
+    ∙ ap (λ (x : Core g.row.M.Denot). record x { committed = committed_by x.committed c.frozen_count-frozen.result x.count done.earlier done.decided; moment = moment_of x.moment done.earlier done.decided }) c.note_fault.ensures in
+    subst (λ (x : Core g.row.M.Denot). WritesAll G v x done.answer) (sym same)
+    (record {
+      earlier = done.earlier;
+      decided = done.decided;
+      rest = record { shape = refl; nodes = refl; flight = refl; freeing = refl; count = refl };
+      committed = ap (λ n. committed_by v.committed n v.count done.earlier done.decided) c.frozen_count-frozen.ensures.count;
+      moment = refl;
+      stopped = ap (λ n. stopped_by v.stopped (G.read_faults t) n (G.write_faults t)) c.write_faults-faults.ensures;
+      stands = e.stands;
+      commits = subst (λ n. Commits G (done.answer ≡ write.Done) done.earlier done.decided v.device v.journal (with_count v.shape n v.meta) t r now) count e.commits;
+      earlier_at = subst (λ n. IfSome done.earlier (EarlierAt G v.device t v.journal r (with_count v.shape n v.meta) now)) count e.earlier;
+      decided_at = subst (λ n. IfSome done.decided (ChangesAt G v.device t v.journal r (with_count v.shape n v.meta) now)) count e.decided;
+      writes = subst (λ n. G.tells → HasNumber r (length now.frozen.addresses) → CommitWrites G (done.answer ≡ write.Done) v.journal r (with_count v.shape n v.meta) now v.device t) count e.writes;
+      passes = e.passes;
+      lost = e.lost;
+      told = e.told;
+      clock = e.clock;
+      faults = e.faults;
+    })

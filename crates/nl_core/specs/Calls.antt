@@ -1,0 +1,52 @@
+-- What the calls of a core do beside what all of them keep.
+use Rattle.std.specs.Prelude.{◌≡◌, ◌≢◌, ◌⊎◌, ℕ, ◌+◌, ◌≤◌, ◌<◌, List, [], length, None, Some}
+use Rattle.nl_field.specs.CrashStates.{Earlier, Rose}
+use Rattle.nl_field.specs.declared.pointer.Pointer.{Pointer}
+use Rattle.nl_field.specs.declared.pointer.Tag.{Tag}
+use Rattle.nl_device.specs.declared.device.Device.{Device}
+use Rattle.nl_flight.specs.Flight.{InFlight}
+use Rattle.nl_iface.specs.Moves.{HasNothingToCopy, IsUnhandled}
+use Rattle.nl_iface.specs.Names.{Has, Names}
+use Rattle.nl_iface.specs.Rounds.{Empties, Gains}
+use Rattle.nl_iface.specs.declared.Callback.{Callback}
+use Rattle.nl_iface.specs.declared.counts.Counts.{Ghosts}
+use Rattle.nl_journal.specs.Progress.{next_after}
+use Rattle.nl_journal.specs.declared.answers.Committing.{Committing}
+use Rattle.nl_journal.specs.declared.answers.Committing.TheVariants as commits
+use Rattle.nl_core.specs.Core.{begun_of, names_of}
+use Rattle.nl_core.specs.declared.core.Core.{Core}
+
+-- Counts of failures never fall, and one of them rose where the call failed.
+pub record HasCause {M : Type 0} (g : Ghosts (Device M)) (failed : Type 0) (old new : Core M) : Type 0 where
+  pub reads : g.read_faults old.device ≤ g.read_faults new.device
+  pub writes : g.write_faults old.device ≤ g.write_faults new.device
+  pub cause : failed → Rose (g.read_faults old.device) (g.read_faults new.device) ⊎ Rose (g.write_faults old.device) (g.write_faults new.device)
+
+-- Callbacks that are pending then were pending before, and unhandled.
+pub record Acknowledged (old new : Names) : Type 0 where
+  pub pending : (c : Callback) → Has new.pending c → Has old.pending c × (old.handled c.number ≡ None) × (new.handled c.number ≡ None)
+  pub posted : new.posted ≡ old.posted
+
+-- All calls so far are committed. Nothing is frozen or dirty, no page awaits its free, and each callback that was handled is acknowledged.
+pub record CommitsAll {M : Type 0} (g : Ghosts (Device M)) (old new : Core M) (number : ℕ) : Type 0 where
+  pub is_next : number ≡ next_after (begun_of old)
+  pub clean : new.meta.dirty ≡ []
+  pub thawed : new.meta.frozen.addresses ≡ []
+  pub freed : new.freeing.items ≡ []
+  pub same_flight : new.flight ≡ old.flight
+  pub same_nodes : new.nodes ≡ old.nodes
+  pub committed : new.committed ≡ old.count
+  pub decided : Earlier (g.clock old.device) new.moment
+  pub acknowledged : Acknowledged (names_of g old) (names_of g new)
+  pub space : new.stopped ≡ 0 → Empties (names_of g old).space (names_of g new).space
+
+-- Where it was not done, pages and callbacks are as before, and the metadata is as it runs.
+pub record CommitsNot {M : Type 0} (g : Ghosts (Device M)) (old new : Core M) : Type 0 where
+  pub same_flight : new.flight ≡ old.flight
+  pub same_nodes : new.nodes ≡ old.nodes
+  pub same_freeing : new.freeing ≡ old.freeing
+
+abbrev pub Commits : {M : Type 0} → Ghosts (Device M) → Core M → Core M → Committing → Type 0
+Commits g old new (commits.Done number) = CommitsAll g old new number
+Commits g old new (commits.Lost w f) = CommitsNot g old new × (f ≢ w) × (g.tells → ⊥)
+Commits g old new commits.Fault = CommitsNot g old new

@@ -1,0 +1,69 @@
+-- What a core keeps between two calls.
+use Rattle.std.specs.Prelude.{◌≡◌, ℕ, ◌+◌, ◌*◌, ◌≤◌, length}
+use Rattle.nl_device.specs.declared.device.Device.{Device}
+use Rattle.nl_flight.specs.Flight.{IsFlight, carried}
+use Rattle.nl_holders.specs.Holding.{MarkedTo}
+use Rattle.nl_iface.specs.Holders.{Holders, IsCounted}
+use Rattle.nl_iface.specs.Names.{Names}
+use Rattle.nl_iface.specs.Space.{CanLand}
+use Rattle.nl_iface.specs.declared.counts.Counts.{Ghosts}
+use Rattle.nl_inode.specs.FreeLaws.{NodesAreFree, PoolIsFree}
+use Rattle.nl_journal.specs.Progress.{begun}
+use Rattle.nl_meta.specs.Committed.{VirtualMap}
+use Rattle.nl_running.specs.Running.{running_on}
+use Rattle.nl_commit.specs.Holding.{running_holders}
+use Rattle.nl_commit.specs.Standing.{IsJournaled}
+use Rattle.nl_held.specs.Held.{IsHeldVolume}
+use Rattle.nl_held.specs.SettlingLaws.{IsTold}
+use Rattle.nl_held.specs.Standing.{IsFirm}
+use Rattle.nl_core.specs.declared.core.Core.{Core}
+
+-- what is seen of the device: its names, and the metadata as it runs
+abbrev pub names_of : {M : Type 0} → Ghosts (Device M) → Core M → Names
+names_of g v = g.names v.device
+
+abbrev pub running_of : {M : Type 0} → Ghosts (Device M) → Core M → VirtualMap
+running_of g v = running_on g v.device v.meta
+
+-- the number of the last transaction that was begun
+abbrev pub begun_of : {M : Type 0} → Core M → ℕ
+begun_of v = begun v.journal (length v.meta.frozen.addresses)
+
+abbrev pub holders_of : {M : Type 0} → Ghosts (Device M) → Core M → Holders
+holders_of g v = record { running = running_holders g v.device v.meta; flight = carried v.flight; freeing = v.freeing.items }
+
+-- What writes need: the virtual segment keeps a spare block, the live pages of a victim can land, and what is stored can be opened.
+pub record CanWrite {M : Type 0} (g : Ghosts (Device M)) (v : Core M) : Type 0 where
+  pub spare : g.keeps_spare v.device
+  pub lands : CanLand (names_of g v).space
+  pub firm : IsTold g v.journal v.meta → IsFirm g v.device
+
+-- The free numbers and addresses are those that no used node has.
+pub record HasFree {M : Type 0} (g : Ghosts (Device M)) (v : Core M) : Type 0 where
+  pub count_nodes : length v.nodes.nodes ≡ (g.shape v.device).nodes
+  pub count_pool : length v.nodes.pool ≡ (g.shape v.device).meta
+  pub nodes : NodesAreFree (g.shape v.device) (running_of g v) v.nodes
+  pub pool : PoolIsFree (g.shape v.device) (running_of g v) v.nodes
+
+-- The live pages are those of the holders, and the files have no more than the volume may have. The other pages of the segment are enough
+-- for the cleaner and for what is in flight.
+pub record HasSpace {M : Type 0} (g : Ghosts (Device M)) (v : Core M) : Type 0 where
+  pub counted : IsCounted (names_of g v) (holders_of g v)
+  pub few : length (running_holders g v.device v.meta) ≤ (g.shape v.device).cap
+  pub all : (names_of g v).space.all ≡ (g.shape v.device).cap + ((names_of g v).space.keep + (names_of g v).space.bad + 3) * (names_of g v).space.block + 160
+  pub room : (g.shape v.device).pblocks * (g.shape v.device).pages ≤ length v.freeing.items + v.freeing.room
+
+pub record IsCore {M : Type 0} (g : Ghosts (Device M)) (v : Core M) : Type 0 where
+  pub shape : v.shape ≡ g.shape v.device
+  -- the metadata runs, and its journal is in order,
+  pub journaled : IsJournaled g v.device v.journal v.meta
+  pub free : HasFree g v
+  -- each live page is held once, and what is committed keeps its pages,
+  pub held : IsHeldVolume g v.device v.journal v.meta (carried v.flight) v.freeing.items
+  pub flight : IsFlight v.flight
+  pub space : HasSpace g v
+  -- callbacks were handled by the next transaction or an earlier one,
+  pub marked : MarkedTo (names_of g v) (begun_of v + 1)
+  pub moment : v.moment ≤ g.clock v.device
+  -- and until a write fails, the next one can be made
+  pub writes : v.stopped ≡ 0 → CanWrite g v

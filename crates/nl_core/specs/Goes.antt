@@ -1,0 +1,52 @@
+-- What each call of a core keeps and leaves.
+use Rattle.std.specs.Prelude.{◌≡◌, ◌⊎◌, ℕ, ◌+◌, ◌<◌, ◌≤◌, Option}
+use Rattle.nl_field.specs.CrashStates.{Earlier, Rose, saturated}
+use Rattle.nl_field.specs.Members.{Has}
+use Rattle.nl_device.specs.declared.device.Device.{Device}
+use Rattle.nl_drain.specs.Handled.{SameButNames}
+use Rattle.nl_iface.specs.Calls.{Leaves}
+use Rattle.nl_iface.specs.declared.counts.Counts.{Ghosts}
+use Rattle.nl_journal.specs.Passes.{StampsRise}
+use Rattle.nl_meta.specs.Consistent.{PageOfStamp}
+use Rattle.nl_meta.specs.Nodes.{graph_of}
+use Rattle.nl_held.specs.DeviceLaws.{Extends}
+use Rattle.nl_held.specs.TreeLaws.{OpensFrom}
+use Rattle.nl_held.specs.Trees.{Prefix, Trees, prefixes}
+use Rattle.nl_core.specs.Core.{running_of}
+use Rattle.nl_core.specs.Trees.{CoreStands, IsTold}
+use Rattle.nl_core.specs.declared.core.Core.{Core}
+
+-- The core stands for the same tree of all calls. What is committed is what was committed before or frozen, or all calls; each page that was
+-- programmed before holds what it held.
+pub record GoesTo {M : Type 0} (g : Ghosts (Device M)) (old new : Core M) (page_of_stamp : ℕ → Option PageOfStamp) (t : Trees) : Type 0 where
+  pub pages : ℕ → Option PageOfStamp
+  pub trees : Trees
+  pub stands : CoreStands g new pages trees
+  pub extends : Extends page_of_stamp pages
+  pub running : trees.running ≡ t.running
+  pub committed : Has (prefixes old.count t) trees.committed
+  pub frozen : Has (prefixes old.count t) trees.frozen
+  pub later : t.committed.0 ≤ trees.committed.0
+
+-- The volume is read-only from the first write on that failed, under the sum of both fault counts.
+pub record Stops {M : Type 0} (g : Ghosts (Device M)) (old new : Core M) : Type 0 where
+  pub stands : (old.stopped ≡ 0 → ⊥) → new.stopped ≡ old.stopped
+  pub none : new.stopped ≡ 0 → Rose (g.write_faults old.device) (g.write_faults new.device) → ⊥
+  pub some : old.stopped ≡ 0 → (new.stopped ≡ 0 → ⊥)
+      → Rose (g.write_faults old.device) (g.write_faults new.device)
+      × (Rose (g.read_faults old.device + g.write_faults old.device) new.stopped × (new.stopped ≤ saturated (g.read_faults new.device + g.write_faults new.device)))
+
+-- It is the volume that it was, but for what a call does beside: the same calls were answered, and nodes have other names of pages at most. Where
+-- it stood for trees, it goes on to stand for them, and what a stop leaves opens as one of them, from the moment of the last commit page on
+-- as none earlier than what that one committed.
+pub record Goes {M : Type 0} (g : Ghosts (Device M)) (most : ℕ) (old new : Core M) : Type 0 where
+  pub same_shape : g.shape new.device ≡ g.shape old.device
+  pub count : new.count ≡ old.count
+  pub nodes : SameButNames (graph_of (g.shape old.device) (running_of g old)) (graph_of (g.shape new.device) (running_of g new))
+  pub moment : ((new.moment ≡ old.moment) × (new.committed ≡ old.committed)) ⊎ Earlier (g.clock old.device) new.moment
+  pub clock : g.clock old.device ≤ g.clock new.device
+  pub stops : Stops g old new
+  pub stamps : StampsRise g most old.device new.device
+  pub trees : IsTold g new → (page_of_stamp : ℕ → Option PageOfStamp) (t : Trees) → CoreStands g old page_of_stamp t → GoesTo g old new page_of_stamp t
+  pub left : IsTold g new → (page_of_stamp : ℕ → Option PageOfStamp) (t : Trees) (y : Prefix) → y.0 ≡ new.committed → CoreStands g old page_of_stamp t
+      → Leaves g (OpensFrom (g.shape old.device) old.count new.moment t y) old.device new.device

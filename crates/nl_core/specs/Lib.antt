@@ -1,0 +1,5 @@
+pub mod Calls
+pub mod Core
+pub mod Goes
+pub mod Trees
+pub mod Writing

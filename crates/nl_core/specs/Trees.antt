@@ -1,0 +1,25 @@
+-- For which trees a core stands.
+use Rattle.std.specs.Prelude.{◌≡◌, ℕ, ◌+◌, ◌<◌, ◌^◌, length, Option, Some}
+use Rattle.nl_device.specs.declared.device.Device.{Device}
+use Rattle.nl_iface.specs.declared.counts.Counts.{Ghosts}
+use Rattle.nl_journal.specs.Progress.{HasNumber}
+use Rattle.nl_meta.specs.Consistent.{PageOfStamp}
+use Rattle.nl_held.specs.Standing.{ShowsPages}
+use Rattle.nl_held.specs.Trees.{StandsFor, Trees}
+use Rattle.nl_core.specs.Core.{names_of}
+use Rattle.nl_core.specs.declared.core.Core.{Core}
+
+-- The core stands for these trees, with what the page of each write sequence number holds: each live page is that page, and each number was
+-- given. The count of what is committed is the one that is kept.
+pub record CoreStands {M : Type 0} (g : Ghosts (Device M)) (v : Core M) (page_of_stamp : ℕ → Option PageOfStamp) (t : Trees) : Type 0 where
+  pub stands : StandsFor g v.device v.journal v.meta v.count page_of_stamp t
+  pub shows : ShowsPages (names_of g v) (g.bytes v.device) page_of_stamp
+  pub given : (stamp : ℕ) (page : PageOfStamp) → page_of_stamp stamp ≡ Some page → stamp < g.next_stamp v.device
+  pub committed : t.committed.0 ≡ v.committed
+
+-- The medium tells its contents, and counts of calls, numbers of transactions and moments have not ended.
+pub record IsTold {M : Type 0} (g : Ghosts (Device M)) (v : Core M) : Type 0 where
+  pub tells : g.tells
+  pub numbers : HasNumber v.journal (length v.meta.frozen.addresses)
+  pub calls : v.count < 2 ^ 63
+  pub moments : g.clock v.device < 2 ^ 63

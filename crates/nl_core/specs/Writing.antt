@@ -1,0 +1,101 @@
+-- The two parts of a commit: the transactions are written, and what they gave up is freed and acknowledged.
+use Rattle.std.specs.Prelude.{◌≡◌, ℕ, ◌+◌, ◌-◌, ◌≤◌, ◌^◌, ◌==◌, ◌&&◌, nat_le, min, if◌then◌else◌, length, Option, Some, None, IfSome, option_and_then, option_map, unwrap_or, []}
+use Rattle.nl_field.specs.CrashStates.{saturated}
+use Rattle.nl_field.specs.SuperPage.{super_of}
+use Rattle.nl_field.specs.declared.answers.VirtualWrite.{VirtualWrite}
+use Rattle.nl_field.specs.declared.answers.VirtualWrite.TheVariants as write
+use Rattle.nl_field.specs.declared.super_page.SuperRec.{SuperRec}
+use Rattle.nl_device.specs.declared.device.Device.{Device}
+use Rattle.nl_iface.specs.Answers.{IsLost, LosesStamp}
+use Rattle.nl_iface.specs.Calls.{CallCounted, KeepsMedium}
+use Rattle.nl_iface.specs.Moves.{Acknowledges}
+use Rattle.nl_holders.specs.Laws.{OldNamesDiffer}
+use Rattle.nl_iface.specs.Names.{IsTable, Names}
+use Rattle.nl_iface.specs.declared.counts.Counts.{Ghosts}
+use Rattle.nl_journal.specs.Left.{CommitWrites}
+use Rattle.nl_journal.specs.Passes.{Passes}
+use Rattle.nl_journal.specs.Progress.{HasNumber}
+use Rattle.nl_meta.specs.Pages.{Pages, frozen_at}
+use Rattle.nl_commit.specs.Committing.{ChangesAt, Commits, EarlierAt}
+use Rattle.nl_commit.specs.Counting.{with_count}
+use Rattle.nl_commit.specs.Freeing.{FreesEach}
+use Rattle.nl_commit.specs.Standing.{StandsOn}
+use Rattle.nl_held.specs.TreeLaws.{moment_of}
+use Rattle.nl_core.specs.Core.{names_of}
+use Rattle.nl_core.specs.declared.core.Core.{Core}
+
+-- the greatest count of calls that is spelled
+abbrev pub last_count : ℕ
+last_count = 2 ^ 63 - 1
+
+abbrev pub stored_count : {M : Type 0} → Core M → ℕ
+stored_count v = min v.count last_count
+
+-- the pages in memory with this count in the super page
+abbrev pub counted_pages : {M : Type 0} → Core M → Pages
+counted_pages v = with_count v.shape (stored_count v) v.meta
+
+-- the count of calls in the frozen super page, where there is one
+abbrev pub frozen_count : {M : Type 0} → Core M → ℕ
+frozen_count v = unwrap_or (option_map (λ (rec : SuperRec). rec.count) (option_and_then super_of (frozen_at v.meta 0))) v.committed
+
+-- what is committed once these commit pages were finished: that of the frozen transaction, and that of all calls
+abbrev pub committed_by : ℕ → ℕ → ℕ → Option ℕ → Option ℕ → ℕ
+committed_by before frozen count earlier (Some moment) = count
+committed_by before frozen count (Some moment) None = frozen
+committed_by before frozen count None None = before
+
+abbrev pub committed_count : {M : Type 0} → Core M → Option ℕ → Option ℕ → ℕ
+committed_count v earlier decided = committed_by v.committed (frozen_count v) v.count earlier decided
+
+-- the sum of both fault counts once a write failed
+abbrev pub stopped_by : ℕ → ℕ → ℕ → ℕ → ℕ
+stopped_by stopped reads writes_before writes = if stopped == 0 && nat_le (saturated (writes_before + 1)) writes then saturated (reads + writes) else stopped
+
+abbrev pub stopped_on : {M : Type 0} → Ghosts (Device M) → ℕ → Core M → Core M → ℕ
+stopped_on g writes_before old new = stopped_by old.stopped (g.read_faults new.device) writes_before (g.write_faults new.device)
+
+-- all but the device, the journal and the pages in memory, and what is known of the last commit and the first failure
+pub record KeepsRest {M : Type 0} (old new : Core M) : Type 0 where
+  pub shape : new.shape ≡ old.shape
+  pub nodes : new.nodes ≡ old.nodes
+  pub flight : new.flight ≡ old.flight
+  pub freeing : new.freeing ≡ old.freeing
+  pub count : new.count ≡ old.count
+
+-- The frozen transaction was completed, and that of the dirty pages written; or a write or a read ended that.
+pub record WritesAll {M : Type 0} (g : Ghosts (Device M)) (old new : Core M) (answer : VirtualWrite) : Type 0 where
+  pub earlier : Option ℕ
+  pub decided : Option ℕ
+  pub rest : KeepsRest old new
+  pub committed : new.committed ≡ committed_count old earlier decided
+  pub moment : new.moment ≡ moment_of old.moment earlier decided
+  pub stopped : new.stopped ≡ stopped_on g (g.write_faults old.device) old new
+  pub stands : StandsOn g old.device old.meta new.device new.journal new.meta
+  pub commits : Commits g (answer ≡ write.Done) earlier decided old.device old.journal (counted_pages old) new.device new.journal new.meta
+  pub earlier_at : IfSome earlier (EarlierAt g old.device new.device old.journal new.journal (counted_pages old) new.meta)
+  pub decided_at : IfSome decided (ChangesAt g old.device new.device old.journal new.journal (counted_pages old) new.meta)
+  pub writes : g.tells → HasNumber new.journal (length new.meta.frozen.addresses)
+      → CommitWrites g (answer ≡ write.Done) old.journal new.journal (counted_pages old) new.meta old.device new.device
+  pub passes : Passes g (answer ≡ write.Done) 512 old.device new.device
+  pub lost : LosesStamp (g.stamps new.device) answer
+  pub told : g.tells → IsLost answer → ⊥
+  pub clock : g.clock old.device ≤ g.clock new.device
+  pub faults : CallCounted g (answer ≡ write.Fault) old.device new.device
+
+-- What awaited its free is freed, and callbacks are acknowledged that were handled under a mark up to this one.
+pub record Settles {M : Type 0} (g : Ghosts (Device M)) (mark : ℕ) (old new : Core M) : Type 0 where
+  pub between : Device M
+  pub frees : FreesEach old.freeing.items (names_of g old) (g.names between)
+  pub first_kept : KeepsMedium g old.device between
+  pub acknowledges : Acknowledges mark (g.names between) (names_of g new)
+  pub then_kept : KeepsMedium g between new.device
+  pub read_faults : g.read_faults new.device ≡ g.read_faults old.device
+  pub items : new.freeing.items ≡ []
+  pub room : new.freeing.room ≡ old.freeing.room + length old.freeing.items
+  pub others : new ≡ record old { device = new.device; freeing = new.freeing }
+
+-- The tables of a device before it: old names and callbacks are in order, and no old name stands twice.
+pub record HasTable {M : Type 0} (g : Ghosts (Device M)) (s : Device M) : Type 0 where
+  pub table : IsTable (g.names s)
+  pub differ : OldNamesDiffer (g.names s)

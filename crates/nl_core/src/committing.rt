@@ -1,0 +1,109 @@
+ghost use Rattle.std.specs.Prelude.{◌≡◌, ◌≤◌, ◌+◌, ◌^◌};
+ghost use Rattle.nl_iface.specs.Calls.{StoresPages};
+ghost use Rattle.nl_iface.specs.Device.{IsVolumeShape};
+ghost use Rattle.nl_iface.specs.Names.{IsNames};
+ghost use Rattle.nl_core.specs.Calls.{Commits, HasCause};
+ghost use Rattle.nl_core.specs.Core.{IsCore};
+ghost use Rattle.nl_core.specs.Goes.{Goes};
+ghost use Rattle.nl_meta.specs.Pages.{IsPages};
+ghost use Rattle.nl_core.specs.Writing.{HasTable, Settles, WritesAll, committed_by};
+ghost use Rattle.nl_held.specs.TreeLaws.{moment_of};
+
+use crate::core::Core;
+use nl_commit::{Committed, commit, free_first};
+use nl_device::Device;
+use nl_field::VirtualWrite;
+use nl_held::laws::device_stands;
+use nl_iface::Counts;
+use nl_journal::Committing;
+use nl_nand::Nand;
+
+// The greatest count of calls and the greatest number of a transaction that are spelled.
+const LAST: u64 = (1 << 63) - 1;
+
+impl<M: Nand> Core<M> {
+    /// Makes all calls so far take effect at once. Once that is done, the pages are freed that awaited it, and the callbacks are
+    /// acknowledged that were handled before. A stop within leaves what was committed before, or was frozen, or all calls; from the moment of
+    /// the last commit page on nothing earlier than what that one committed. After `Lost` and `Fault` the next commit goes on from there.
+    pub fn commit(&mut self) -> Committing
+        requires formed { ⟦<Device<M> as Counts>⟧.formed self.old.device }
+        requires core { IsCore ⟦<Device<M> as Counts>⟧ self.old }
+        requires writes { self.old.stopped ≡ 0 }
+        requires stamp { ⟦<Device<M> as Counts>⟧.next_stamp self.old.device + 512 ≤ 2 ^ 63 }
+        ensures formed { ⟦<Device<M> as Counts>⟧.formed self.new.device }
+        ensures core { IsCore ⟦<Device<M> as Counts>⟧ self.new }
+        ensures goes { Goes ⟦<Device<M> as Counts>⟧ 512 self.old self.new }
+        ensures commits { Commits ⟦<Device<M> as Counts>⟧ self.old self.new result }
+        ensures faults { HasCause ⟦<Device<M> as Counts>⟧ (result ≡ Committing.Fault) self.old self.new }
+    {
+        let mark = self.mark();
+        match self.write_all() {
+            VirtualWrite::Done => {
+                self.settle(mark);
+                Committing::Done(mark.min(LAST))
+            }
+            VirtualWrite::Lost { wanted, found } => Committing::Lost { wanted, found },
+            VirtualWrite::Fault => Committing::Fault,
+        }
+    }
+
+    // Writes what is frozen and then what is dirty, and notes the counts and moments of the commit pages that were finished.
+    fn write_all(&mut self) -> VirtualWrite
+        requires formed { ⟦<Device<M> as Counts>⟧.formed self.old.device }
+        requires core { IsCore ⟦<Device<M> as Counts>⟧ self.old }
+        requires writes { self.old.stopped ≡ 0 }
+        requires stamp { ⟦<Device<M> as Counts>⟧.next_stamp self.old.device + 512 ≤ 2 ^ 63 }
+        ensures formed { ⟦<Device<M> as Counts>⟧.formed self.new.device }
+        ensures pages { IsPages self.old.meta }
+        ensures volume { IsVolumeShape (⟦<Device<M> as Counts>⟧.shape self.old.device) }
+        ensures stores { M.tells → StoresPages ⟦<Device<M> as Counts>⟧ self.new.device }
+        ensures written { WritesAll ⟦<Device<M> as Counts>⟧ self.old self.new result }
+    {
+        self.meta.stands();
+        device_stands(&self.device);
+        let frozen = self.frozen_count();
+        let faults = self.device.write_faults();
+        let count = self.count.min(LAST);
+        let done = commit(
+            &mut self.device,
+            &mut self.journal,
+            &mut self.meta,
+            &self.shape,
+            count,
+        );
+        device_stands(&self.device);
+        self.note_fault(faults);
+        self.note_moments(frozen, &done);
+        done.answer
+    }
+
+    // The counts and the moments of the commit pages that were finished.
+    fn note_moments(&mut self, frozen: u64, done: &Committed)
+        ensures { self.new ≡ record self.old { committed = committed_by self.old.committed frozen self.old.count done.now.earlier done.now.decided; moment = moment_of self.old.moment done.now.earlier done.now.decided } }
+    {
+        if let Some(moment) = done.earlier {
+            self.committed = frozen;
+            self.moment = moment;
+        }
+        if let Some(moment) = done.decided {
+            self.committed = self.count;
+            self.moment = moment;
+        }
+    }
+
+    // After a commit: what awaited it is freed, and what was handled before is acknowledged.
+    fn settle(&mut self, mark: u64)
+        requires formed { ⟦<Device<M> as Counts>⟧.formed self.old.device }
+        ensures formed { ⟦<Device<M> as Counts>⟧.formed self.new.device }
+        ensures table { HasTable ⟦<Device<M> as Counts>⟧ self.old.device }
+        ensures stores { M.tells → StoresPages ⟦<Device<M> as Counts>⟧ self.new.device }
+        ensures numbers { IsNames (⟦<Device<M> as Counts>⟧.shape self.new.device) (⟦<Device<M> as Counts>⟧.next_stamp self.new.device) (⟦<Device<M> as Counts>⟧.names self.new.device) }
+        ensures settled { Settles ⟦<Device<M> as Counts>⟧ mark self.old self.new }
+    {
+        device_stands(&self.device);
+        let due = self.freeing.len();
+        free_first(&mut self.device, &mut self.freeing, due);
+        self.device.acknowledge(mark);
+        device_stands(&self.device);
+    }
+}

@@ -1,0 +1,94 @@
+ghost use Rattle.std.specs.Prelude.{◌≡◌, ◌+◌, ◌≤◌, ◌^◌, nat_le};
+ghost use Rattle.nl_field.specs.CrashStates.{saturated};
+ghost use Rattle.nl_meta.specs.Pages.{is_frozen};
+ghost use Rattle.nl_core.specs.Core.{begun_of};
+ghost use Rattle.nl_core.specs.Writing.{frozen_count, stopped_on};
+
+use nl_device::Device;
+use nl_field::{PointerList, Shape, SuperRec};
+use nl_flight::Flight;
+use nl_iface::Counts;
+use nl_inode::Nodes;
+use nl_journal::Journal;
+use nl_meta::Meta;
+use nl_nand::Nand;
+
+/// A device with the metadata that runs over it, the pages in flight, and the pointers that await their free.
+#[derive(Drop)]
+pub struct Core<M: Nand> {
+    pub device: Device<M>,
+    pub shape: Shape,
+    pub journal: Journal,
+    pub meta: Meta,
+    pub nodes: Nodes,
+    pub flight: Flight,
+    /// The pointers that await their free, with room for every page of the physical segment.
+    pub freeing: PointerList,
+    /// How many calls the volume has answered.
+    pub count: u64,
+    /// After how many of them the metadata is committed.
+    pub committed: u64,
+    /// The clock as the commit page of that transaction was finished, or at the opening where none was committed since.
+    pub moment: u64,
+    /// The sum of both fault counts after the failure that made the volume read-only, 0 before it.
+    pub stopped: u64,
+}
+
+impl<M: Nand> Core<M> {
+    // The volume is read-only from the first failed program or erase on.
+    pub(crate) fn note_fault(&mut self, writes_before: u64)
+        ensures { self.new ≡ record self.old { stopped = stopped_on ⟦<Device<M> as Counts>⟧ writes_before self.old self.old } }
+    {
+        if self.stopped == 0 && rose(writes_before, self.device.write_faults()) {
+            self.stopped = self.faults();
+        }
+    }
+
+    /// The sum of both fault counts.
+    pub fn faults(&self) -> u64
+        ensures { result ≡ saturated (⟦<Device<M> as Counts>⟧.read_faults self.now.device + ⟦<Device<M> as Counts>⟧.write_faults self.now.device) }
+    {
+        self.device
+            .read_faults()
+            .saturating_add(self.device.write_faults())
+    }
+
+    // The number that counts for what is handled now: it is above that of the frozen transaction.
+    pub(crate) fn mark(&self) -> u64
+        ensures mark { result ≡ begun_of self.now + 1 }
+        ensures most { begun_of self.now ≤ 2 ^ 63 }
+    {
+        self.journal.begun(&self.meta) + 1
+    }
+
+    // The count of calls that the frozen super page has, where there is one.
+    pub(crate) fn frozen_count(&self) -> u64
+        ensures count { result ≡ frozen_count self.now }
+    {
+        if !is_super_frozen(&self.meta) {
+            return self.committed;
+        }
+        match SuperRec::of(self.meta.frozen_page(0), 0) {
+            Some(rec) => rec.count,
+            None => self.committed,
+        }
+    }
+}
+
+// Whether the super page is one of the frozen pages.
+fn is_super_frozen(meta: &Meta) -> bool
+    ensures { result ≡ is_frozen meta.now 0 }
+{
+    meta.stands();
+    match meta.frozen(0) {
+        Some(first) => first == 0,
+        None => false,
+    }
+}
+
+// A count rose, or stands at its end.
+fn rose(before: u64, now: u64) -> bool
+    ensures { result ≡ nat_le (saturated (before + 1)) now }
+{
+    before.saturating_add(1) <= now
+}
