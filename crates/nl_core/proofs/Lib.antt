@@ -1,3 +1,4 @@
+pub mod Cleaned
 pub mod First
 pub mod Settled
 pub mod Written

@@ -1,4 +1,5 @@
 pub mod Calls
+pub mod Cleaning
 pub mod Core
 pub mod Goes
 pub mod Trees

@@ -1,6 +1,7 @@
 //! The core of a volume that runs: commits of all calls so far, after which what they gave up is freed.
 #![tactic(auto)]
 
+mod cleaning;
 mod committing;
 mod core;
 

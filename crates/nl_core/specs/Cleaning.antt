@@ -1,0 +1,22 @@
+-- What the cleaning of one victim does to a core.
+use Rattle.std.specs.Prelude.{◌≡◌, ◌≢◌, ◌↔◌, ◌⊎◌, ℕ, None}
+use Rattle.nl_cleaning.specs.Spaces.{CleansVictim}
+use Rattle.nl_cleaning.specs.declared.cleaning.Cleaned.{Cleaned}
+use Rattle.nl_cleaning.specs.declared.cleaning.Cleaned.TheVariants as cleaned
+use Rattle.nl_device.specs.declared.device.Device.{Device}
+use Rattle.nl_iface.specs.Moves.{HasNothingToCopy}
+use Rattle.nl_iface.specs.Names.{Has}
+use Rattle.nl_iface.specs.declared.Callback.{Callback}
+use Rattle.nl_iface.specs.declared.counts.Counts.{Ghosts}
+use Rattle.nl_core.specs.Core.{names_of}
+use Rattle.nl_core.specs.declared.core.Core.{Core}
+
+-- Nothing comes exactly where no victim is in hand and none can be begun, and the space changes as the answer says. Callbacks that were pending
+-- still are, and others have new numbers and are unhandled. All but the device and the sum of a first failure stays.
+pub record CleansDevice {M : Type 0} (g : Ghosts (Device M)) (old new : Core M) (answer : Cleaned) : Type 0 where
+  pub nothing : (answer ≡ cleaned.Nothing) ↔ (HasNothingToCopy (names_of g old).space × ((names_of g old).space.victim ≡ 0))
+  pub space : CleansVictim answer (names_of g old).space (names_of g new).space
+  pub pending : (c : Callback) → Has (names_of g old).pending c → Has (names_of g new).pending c × ((names_of g new).handled c.number ≡ (names_of g old).handled c.number)
+  pub posted : (c : Callback) → Has (names_of g new).pending c → Has (names_of g old).pending c ⊎ ((names_of g new).handled c.number ≡ None)
+  pub others : new ≡ record old { device = new.device; stopped = new.stopped }
+  pub lost : (w found : ℕ) → answer ≡ cleaned.Lost w found → (found ≢ w) × (g.tells → ⊥)
