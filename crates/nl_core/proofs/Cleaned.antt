@@ -37,7 +37,7 @@ use Rattle.nl_core.specs.Core.{CanWrite, HasSpace, IsCore, begun_of, names_of, r
 use Rattle.nl_core.specs.Goes.{Goes, GoesTo}
 use Rattle.nl_core.specs.Trees.{CoreStands, IsTold}
 use Rattle.nl_core.specs.Writing.{stopped_on}
-use Rattle.nl_core.specs.declared.core.Core.{Core}
+use Rattle.nl_core.specs.declared.state.Core.{Core}
 use Rattle.nl_core.proofs.Written.{has_free_on, none_failed_on, same_running, stops_on}
 
 -- ---- the numbers of space

@@ -56,7 +56,7 @@ use Rattle.nl_core.specs.Core.{CanWrite, HasSpace, IsCore, begun_of, names_of, r
 use Rattle.nl_core.specs.Goes.{Goes, GoesTo}
 use Rattle.nl_core.specs.Trees.{CoreStands, IsTold}
 use Rattle.nl_core.specs.Writing.{HasTable, Settles, WritesAll, committed_count, counted_pages}
-use Rattle.nl_core.specs.declared.core.Core.{Core}
+use Rattle.nl_core.specs.declared.state.Core.{Core}
 use Rattle.nl_core.proofs.Written.{has_free_on, held_counted, journaled_counted, none_failed_on, same_running, written_core}
 use Rattle.nl_core.proofs.WrittenTrees.{written_goes}
 use Rattle.nl_iface.proofs.RoundSteps.{empties_laws}

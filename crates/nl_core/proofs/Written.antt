@@ -46,7 +46,7 @@ use Rattle.nl_held.specs.TreeLaws.{moment_of}
 use Rattle.nl_core.specs.Core.{CanWrite, HasFree, HasSpace, IsCore, begun_of, holders_of, names_of, running_of}
 use Rattle.nl_core.specs.Goes.{Stops}
 use Rattle.nl_core.specs.Writing.{KeepsRest, WritesAll, counted_pages, stopped_by, stopped_on, stored_count}
-use Rattle.nl_core.specs.declared.core.Core.{Core}
+use Rattle.nl_core.specs.declared.state.Core.{Core}
 
 -- ---- the first write that failed
 

@@ -43,7 +43,7 @@ use Rattle.nl_core.specs.Core.{IsCore, begun_of, names_of, running_of}
 use Rattle.nl_core.specs.Goes.{Goes, GoesTo}
 use Rattle.nl_core.specs.Trees.{CoreStands, IsTold}
 use Rattle.nl_core.specs.Writing.{WritesAll, committed_by, committed_count, counted_pages, frozen_count, last_count, stored_count}
-use Rattle.nl_core.specs.declared.core.Core.{Core}
+use Rattle.nl_core.specs.declared.state.Core.{Core}
 use Rattle.nl_core.proofs.Written.{later_number, stops_on}
 
 -- ---- the count in the frozen super page

@@ -14,7 +14,7 @@ use Rattle.nl_journal.specs.Progress.{next_after}
 use Rattle.nl_journal.specs.declared.answers.Committing.{Committing}
 use Rattle.nl_journal.specs.declared.answers.Committing.TheVariants as commits
 use Rattle.nl_core.specs.Core.{begun_of, names_of}
-use Rattle.nl_core.specs.declared.core.Core.{Core}
+use Rattle.nl_core.specs.declared.state.Core.{Core}
 
 -- Counts of failures never fall, and one of them rose where the call failed.
 pub record HasCause {M : Type 0} (g : Ghosts (Device M)) (failed : Type 0) (old new : Core M) : Type 0 where

@@ -9,7 +9,7 @@ use Rattle.nl_iface.specs.Names.{Has}
 use Rattle.nl_iface.specs.declared.Callback.{Callback}
 use Rattle.nl_iface.specs.declared.counts.Counts.{Ghosts}
 use Rattle.nl_core.specs.Core.{names_of}
-use Rattle.nl_core.specs.declared.core.Core.{Core}
+use Rattle.nl_core.specs.declared.state.Core.{Core}
 
 -- Nothing comes exactly where no victim is in hand and none can be begun, and the space changes as the answer says. Callbacks that were pending
 -- still are, and others have new numbers and are unhandled. All but the device and the sum of a first failure stays.

@@ -16,7 +16,7 @@ use Rattle.nl_commit.specs.Standing.{IsJournaled}
 use Rattle.nl_held.specs.Held.{IsHeldVolume}
 use Rattle.nl_held.specs.SettlingLaws.{IsTold}
 use Rattle.nl_held.specs.Standing.{IsFirm}
-use Rattle.nl_core.specs.declared.core.Core.{Core}
+use Rattle.nl_core.specs.declared.state.Core.{Core}
 
 -- what is seen of the device: its names, and the metadata as it runs
 abbrev pub names_of : {M : Type 0} → Ghosts (Device M) → Core M → Names

@@ -14,7 +14,7 @@ use Rattle.nl_held.specs.TreeLaws.{OpensFrom}
 use Rattle.nl_held.specs.Trees.{Prefix, Trees, prefixes}
 use Rattle.nl_core.specs.Core.{running_of}
 use Rattle.nl_core.specs.Trees.{CoreStands, IsTold}
-use Rattle.nl_core.specs.declared.core.Core.{Core}
+use Rattle.nl_core.specs.declared.state.Core.{Core}
 
 -- The core stands for the same tree of all calls. What is committed is what was committed before or frozen, or all calls; each page that was
 -- programmed before holds what it held.

@@ -7,7 +7,7 @@ use Rattle.nl_meta.specs.Consistent.{PageOfStamp}
 use Rattle.nl_held.specs.Standing.{ShowsPages}
 use Rattle.nl_held.specs.Trees.{StandsFor, Trees}
 use Rattle.nl_core.specs.Core.{names_of}
-use Rattle.nl_core.specs.declared.core.Core.{Core}
+use Rattle.nl_core.specs.declared.state.Core.{Core}
 
 -- The core stands for these trees, with what the page of each write sequence number holds: each live page is that page, and each number was
 -- given. The count of what is committed is the one that is kept.

@@ -22,7 +22,7 @@ use Rattle.nl_commit.specs.Freeing.{FreesEach}
 use Rattle.nl_commit.specs.Standing.{StandsOn}
 use Rattle.nl_held.specs.TreeLaws.{moment_of}
 use Rattle.nl_core.specs.Core.{names_of}
-use Rattle.nl_core.specs.declared.core.Core.{Core}
+use Rattle.nl_core.specs.declared.state.Core.{Core}
 
 -- the greatest count of calls that is spelled
 abbrev pub last_count : ℕ

@@ -4,7 +4,7 @@ ghost use Rattle.nl_core.specs.Core.{IsCore};
 ghost use Rattle.nl_core.specs.Goes.{Goes};
 ghost use Rattle.nl_core.specs.Cleaning.{CleansDevice};
 
-use crate::core::Core;
+use crate::state::Core;
 use nl_cleaning::{Cleaned, clean};
 use nl_device::Device;
 use nl_held::laws::device_stands;

@@ -9,7 +9,7 @@ ghost use Rattle.nl_meta.specs.Pages.{IsPages};
 ghost use Rattle.nl_core.specs.Writing.{HasTable, Settles, WritesAll, committed_by};
 ghost use Rattle.nl_held.specs.TreeLaws.{moment_of};
 
-use crate::core::Core;
+use crate::state::Core;
 use nl_commit::{Committed, commit, free_first};
 use nl_device::Device;
 use nl_field::VirtualWrite;

@@ -3,6 +3,6 @@
 
 mod cleaning;
 mod committing;
-mod core;
+mod state;
 
-pub use crate::core::Core;
+pub use crate::state::Core;

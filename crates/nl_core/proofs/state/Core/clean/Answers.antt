@@ -9,9 +9,9 @@ use Rattle.nl_core.specs.Cleaning.{CleansDevice}
 use Rattle.nl_core.specs.Core.{IsCore, names_of}
 use Rattle.nl_core.specs.Goes.{Goes}
 use Rattle.nl_core.specs.Writing.{stopped_by, stopped_on}
-use Rattle.nl_core.specs.declared.core.Core.{Core}
+use Rattle.nl_core.specs.declared.state.Core.{Core}
 use Rattle.nl_core.proofs.Cleaned.{carried_core, carried_goes, cleans_segment}
-use Rattle.nl_core.proofs.core.Core.clean.Goals as goal
+use Rattle.nl_core.proofs.state.Core.clean.Goals as goal
 
 pub returns-clause-core : goal.returns-clause-core
 returns-clause-core g c =

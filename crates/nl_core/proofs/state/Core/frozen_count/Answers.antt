@@ -5,7 +5,7 @@ use Rattle.nl_field.specs.declared.super_page.SuperRec.{SuperRec}
 use Rattle.nl_meta.specs.Pages.{is_frozen}
 use Rattle.nl_commit.proofs.Places.{no_place}
 use Rattle.nl_core.proofs.First.{any_has}
-use Rattle.nl_core.proofs.core.Core.frozen_count.Goals as goal
+use Rattle.nl_core.proofs.state.Core.frozen_count.Goals as goal
 
 pub returns-then-not-is_super_frozen : goal.returns-then-not-is_super_frozen
 returns-then-not-is_super_frozen g c = record {

@@ -10,8 +10,8 @@ use Rattle.nl_device.specs.declared.device.Device.{Device}
 use Rattle.nl_field.specs.declared.answers.VirtualWrite.TheVariants as write
 use Rattle.nl_iface.specs.Calls.{StoresPages}
 use Rattle.nl_core.specs.Writing.{WritesAll, committed_by, frozen_count, stopped_by, stopped_on, stored_count}
-use Rattle.nl_core.specs.declared.core.Core.{Core}
-use Rattle.nl_core.proofs.core.Core.write_all.Goals as goal
+use Rattle.nl_core.specs.declared.state.Core.{Core}
+use Rattle.nl_core.proofs.state.Core.write_all.Goals as goal
 
 pub returns-clause-stores : goal.returns-clause-stores
 returns-clause-stores g c tells =

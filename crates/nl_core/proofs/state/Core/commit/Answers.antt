@@ -8,7 +8,7 @@ use Rattle.nl_core.specs.Writing.{Settles}
 use Rattle.nl_core.proofs.Settled.{commits_all, settled_cause, settled_core, settled_goes}
 use Rattle.nl_core.proofs.Written.{written_core}
 use Rattle.nl_core.proofs.WrittenTrees.{written_goes}
-use Rattle.nl_core.proofs.core.Core.commit.Goals as goal
+use Rattle.nl_core.proofs.state.Core.commit.Goals as goal
 
 pub returns-in-Done-clause-core : goal.returns-in-Done-clause-core
 returns-in-Done-clause-core g c =

@@ -3,7 +3,7 @@ use Rattle.std.proofs.Math.Seq.{drop-length, take-length}
 use Rattle.nl_commit.specs.Freeing.{FreesEach}
 use Rattle.nl_field.specs.declared.pointer.Pointer.{Pointer}
 use Rattle.nl_device.specs.contracts.counts.DeviceCounts.TheImpl.{ghosts}
-use Rattle.nl_core.proofs.core.Core.settle.Goals as goal
+use Rattle.nl_core.proofs.state.Core.settle.Goals as goal
 
 pub returns-clause-settled : goal.returns-clause-settled
 returns-clause-settled g c =
