@@ -39,3 +39,9 @@ pub record HasNames (geometry : Geometry) (image : Image) (seg : Physical) : Typ
 -- the tables of a device stand for its medium
 abbrev pub IsFormed : Device MemNand → Type 0
 IsFormed d = IsDevice (geometry_of d.media) (Unit {0}) (contents_of d.media) d.shape d.vseg d.pseg d.pending d.kept d.next
+
+-- a device of 103 addresses, whose virtual segment keeps a spare block
+pub record HasAddressed (d : Device MemNand) : Type 0 where
+  pub formed : IsFormed d
+  pub addresses : d.shape.vaddrs ≡ 103
+  pub spare : KeepsSpare d.vseg

@@ -2,7 +2,7 @@
 ghost use Rattle.std.specs.Prelude.{◌≡◌};
 ghost use Rattle.nl_nand.specs.Memory.{geometry_of};
 
-use crate::medium::{blank, least};
+use crate::medium::{blank, failing, least};
 use nl_field::{FailList, PageBuf, SpareRec, VirtualRead, VirtualWrite, spare_of};
 use nl_nand::{Cut, MemNand, Nand, ReadAnswer, Stop};
 use nl_vseg::VSeg;
@@ -10,11 +10,26 @@ use std::alloc::Global;
 use std::marker::Model;
 use std::test::Fail;
 
+/// A call: a write of an address and a byte under a number, or so many writes.
+#[derive(Clone, Copy)]
+enum Step {
+    Write(u32, u8, u32),
+    Read(u32),
+    Fill(u32),
+    /// So many writes of 50 addresses in turn, each read back.
+    Overwrite(u32),
+    Counts,
+}
+
 /// What a call answered, with the first byte that a read found.
 #[derive(Clone, Copy, Debug, PartialEq)]
 enum Seen {
     Wrote,
     Byte(u8),
+    /// The number of the first write that is not done, or reads otherwise.
+    Filled(u32),
+    /// Programs and erases that finished, failed reads, and failed programs and erases.
+    Counts(u64, u64, u64),
     Unmapped,
     Fault,
     Lost,
@@ -98,9 +113,8 @@ impl Rig {
         count
     }
 
-    /// Programs and erases that finished, failed reads, and failed programs and erases.
-    fn counts(&self) -> (u64, u64, u64) {
-        (
+    fn counts(&self) -> Seen {
+        Seen::Counts(
             self.media.clock(),
             self.media.read_faults(),
             self.media.write_faults(),
@@ -169,99 +183,125 @@ fn address(number: u32) -> u32 {
 }
 
 impl Rig {
-    /// The first of these addresses whose page does not begin with the byte beside it.
-    fn differs(&mut self, rows: &[(u32, u8)]) -> Option<u32> {
-        for row in 0..rows.len() {
-            let (vaddr, byte) = rows[row];
-            if self.read(vaddr) != Seen::Byte(byte) {
-                return Some(vaddr);
+    fn step(&mut self, step: Step) -> Seen {
+        match step {
+            Step::Write(vaddr, byte, stamp) => self.write(vaddr, byte, stamp),
+            Step::Read(vaddr) => self.read(vaddr),
+            Step::Fill(count) => Seen::Filled(self.fill(count)),
+            Step::Overwrite(count) => Seen::Filled(self.overwrite(count)),
+            Step::Counts => self.counts(),
+        }
+    }
+
+    /// The first row whose call answers something else, with what it answered.
+    fn differs(&mut self, table: &[(Step, Seen)]) -> Option<(usize, Seen)> {
+        for row in 0..table.len() {
+            let (step, want) = table[row];
+            let seen = self.step(step);
+            if seen != want {
+                return Some((row, seen));
             }
         }
         None
     }
 
-    /// 600 writes to 50 addresses, each read back; the first that is not done, or reads otherwise.
-    fn overwrites(&mut self) -> Option<u32> {
-        for round in 0u32..600 {
-            let vaddr = round * 7 % 50;
+    fn overwrite(&mut self, count: u32) -> u32 {
+        for round in 0..count {
+            let vaddr = round % 50 * 7 % 50;
             let byte = (round % 251) as u8;
-            if self.write(vaddr, byte, 225 + round) != Seen::Wrote {
-                return Some(round);
+            if self.write(vaddr, byte, 225 + round % 10_000) != Seen::Wrote {
+                return round;
             }
             if self.read(vaddr) != Seen::Byte(byte) {
-                return Some(round);
+                return round;
             }
         }
-        None
+        count
     }
 }
 
-const CLEANED: [(u32, u8); 4] = [(30, 7), (31, 31), (24, 127), (23, 223)];
+// 224 pages are programmed before a block is cleaned. The next write copies one page, erases a block, and programs.
+const OVER_AND_OVER: [(Step, Seen); 13] = [
+    (Step::Read(5), Seen::Unmapped),
+    (Step::Fill(224), Seen::Filled(224)),
+    (Step::Counts, Seen::Counts(224, 0, 0)),
+    (Step::Write(30, 7, 224), Seen::Wrote),
+    (Step::Counts, Seen::Counts(227, 0, 0)),
+    (Step::Read(30), Seen::Byte(7)),
+    (Step::Read(31), Seen::Byte(31)),
+    (Step::Read(24), Seen::Byte(127)),
+    (Step::Read(23), Seen::Byte(223)),
+    (Step::Overwrite(600), Seen::Filled(600)),
+    (Step::Read(62), Seen::Byte(62)),
+    (Step::Read(94), Seen::Byte(94)),
+    (Step::Read(102), Seen::Byte(199)),
+];
 
-const LEFT_ALONE: [(u32, u8); 3] = [(62, 62), (94, 94), (102, 199)];
+const FAILURES: [(Step, Seen); 13] = [
+    (Step::Fill(224), Seen::Filled(224)),
+    (Step::Read(30), Seen::Byte(30)),
+    // the read of the page to be copied
+    (Step::Write(30, 7, 224), Seen::Fault),
+    (Step::Counts, Seen::Counts(224, 1, 0)),
+    (Step::Read(30), Seen::Byte(30)),
+    // the program of the copy, after the target was erased
+    (Step::Write(30, 7, 224), Seen::Fault),
+    (Step::Counts, Seen::Counts(225, 1, 1)),
+    (Step::Read(30), Seen::Byte(30)),
+    (Step::Write(30, 7, 224), Seen::Wrote),
+    (Step::Read(30), Seen::Byte(7)),
+    (Step::Read(31), Seen::Byte(31)),
+    (Step::Read(24), Seen::Byte(127)),
+    (Step::Read(23), Seen::Byte(223)),
+];
+
+/// The first row that a new segment answers otherwise; the read and the program or erase of these numbers fail, zero for none.
+fn differs(
+    alloc: Global,
+    read: u64,
+    write: u64,
+    table: &[(Step, Seen)],
+) -> Result<Option<(usize, Seen)>, Fail> {
+    let reads = failing(alloc, read, 0)?;
+    let writes = failing(alloc, write, 0)?;
+    let mut rig = fresh(alloc, reads, writes, None)?;
+    Ok(rig.differs(table))
+}
 
 #[test]
 fn pages_are_written_over_and_over(rt: HostRuntime) -> Result<(), Fail> {
-    let alloc = rt.alloc();
-    let mut rig = fresh(alloc, FailList::new(alloc), FailList::new(alloc), None)?;
-    assert_eq!(rt; rig.read(5), Seen::Unmapped);
-    // 224 pages are programmed before a block is cleaned. The next write copies one page, erases a block, and programs.
-    assert_eq!(rt; rig.fill(224), 224);
-    assert_eq!(rt; rig.counts(), (224, 0, 0));
-    assert_eq!(rt; rig.write(30, 7, 224), Seen::Wrote);
-    assert_eq!(rt; rig.counts(), (227, 0, 0));
-    assert_eq!(rt; rig.differs(&CLEANED), None);
-    assert_eq!(rt; rig.overwrites(), None);
-    assert_eq!(rt; rig.differs(&LEFT_ALONE), None);
+    assert_eq!(rt; differs(rt.alloc(), 0, 0, &OVER_AND_OVER)?, None);
     Ok(())
 }
 
 // A read and a program of a cleaning fail.
 #[test]
 fn calls_fail(rt: HostRuntime) -> Result<(), Fail> {
-    let alloc = rt.alloc();
-    let mut reads = FailList::new(alloc);
-    reads.push(2)?;
-    let mut writes = FailList::new(alloc);
-    writes.push(226)?;
-    let mut rig = fresh(alloc, reads, writes, None)?;
-    assert_eq!(rt; rig.fill(224), 224);
-    assert_eq!(rt; rig.read(30), Seen::Byte(30));
-    // the read of the page to be copied
-    assert_eq!(rt; rig.write(30, 7, 224), Seen::Fault);
-    assert_eq!(rt; rig.counts(), (224, 1, 0));
-    assert_eq!(rt; rig.read(30), Seen::Byte(30));
-    // the program of the copy, after the target was erased
-    assert_eq!(rt; rig.write(30, 7, 224), Seen::Fault);
-    assert_eq!(rt; rig.counts(), (225, 1, 1));
-    assert_eq!(rt; rig.read(30), Seen::Byte(30));
-    assert_eq!(rt; rig.write(30, 7, 224), Seen::Wrote);
-    assert_eq!(rt; rig.differs(&CLEANED), None);
+    assert_eq!(rt; differs(rt.alloc(), 2, 226, &FAILURES)?, None);
     Ok(())
 }
 
 impl Left {
-    /// The first of these addresses whose newest page does not begin with the byte beside it.
-    fn differs(&mut self, rows: &[(u32, u8)]) -> Option<u32> {
-        for row in 0..rows.len() {
-            let (vaddr, byte) = rows[row];
+    /// Whether each address has its page after a stop within this operation; the address that was written may have its new page once that
+    /// is programmed.
+    fn stands(&mut self, operation: u64) -> bool {
+        match self.newest(30) {
+            Some(30) => self.has_rows(),
+            Some(7) => operation == 227 && self.has_rows(),
+            _ => false,
+        }
+    }
+
+    /// Whether the newest page of each of these addresses begins with the byte beside it.
+    fn has_rows(&mut self) -> bool {
+        for row in 0..STANDS.len() {
+            let (vaddr, byte) = STANDS[row];
             if self.newest(vaddr) != Some(byte) {
-                return Some(vaddr);
+                return false;
             }
         }
-        None
+        true
     }
-}
-
-/// What a write that copies a page, erases a block and programs a page leaves that is stopped within one of these; None where it was
-/// not stopped.
-fn stopped(alloc: Global, operation: u64, cut: Cut) -> Result<Option<Left>, Fail> {
-    let stop = Some(Stop { operation, cut });
-    let mut rig = fresh(alloc, FailList::new(alloc), FailList::new(alloc), stop)?;
-    if rig.fill(224) != 224 || rig.write(30, 7, 224) != Seen::Fault {
-        return Ok(None);
-    }
-    Ok(Some(rig.restart()))
 }
 
 const STANDS: [(u32, u8); 6] = [
@@ -273,6 +313,23 @@ const STANDS: [(u32, u8); 6] = [
     (102, 199),
 ];
 
+/// What a write that copies a page, erases a block and programs a page leaves that is stopped within one of these.
+fn stopped(alloc: Global, operation: u64, cut: Cut) -> Result<Left, Fail> {
+    let stop = Some(Stop { operation, cut });
+    let mut rig = fresh(alloc, FailList::new(alloc), FailList::new(alloc), stop)?;
+    if rig.is_stopped() {
+        Ok(rig.restart())
+    } else {
+        Err(Fail::from("not stopped"))
+    }
+}
+
+impl Rig {
+    fn is_stopped(&mut self) -> bool {
+        self.fill(224) == 224 && self.write(30, 7, 224) == Seen::Fault
+    }
+}
+
 const CUTS: [Cut; 5] = [
     Cut::Before,
     Cut::After,
@@ -281,28 +338,22 @@ const CUTS: [Cut; 5] = [
     Cut::Mixed(1235346792567894),
 ];
 
-/// Whether each address has its page after such a stop; the address that was written may have its new page once that is programmed.
-fn stands(alloc: Global, operation: u64, cut: Cut) -> Result<bool, Fail> {
-    match stopped(alloc, operation, cut)? {
-        Some(mut left) => {
-            let now = left.newest(30);
-            let is_new = operation == 227 && now == Some(7);
-            Ok((now == Some(30) || is_new) && left.differs(&STANDS).is_none())
+/// The first cut after which an address does not have its page.
+fn differs_after(alloc: Global, operation: u64) -> Result<Option<usize>, Fail> {
+    for row in 0..CUTS.len() {
+        let mut left = stopped(alloc, operation, CUTS[row])?;
+        if !left.stands(operation) {
+            return Ok(Some(row));
         }
-        None => Ok(false),
     }
+    Ok(None)
 }
 
 // Such a write is stopped within each of its operations.
 #[test]
 fn a_write_is_stopped(rt: HostRuntime) -> Result<(), Fail> {
     for operation in 225u64..228 {
-        for cut in 0..5usize {
-            assert!(rt;
-                stands(rt.alloc(), operation, CUTS[cut])?,
-                "{operation} {cut}"
-            );
-        }
+        assert_eq!(rt; differs_after(rt.alloc(), operation)?, None, "{operation}");
     }
     Ok(())
 }

@@ -1,32 +1,9 @@
 // A device that is cleaned.
-use crate::device::{Rig, Seen, Step, fresh};
-use nl_field::{FailList, Pointer};
-use nl_nand::Stop;
-use std::alloc::Global;
+use crate::device::{Seen, Step, differs};
 use std::test::Fail;
 
-/// A device of which block 8 was written whole, and one page of block 9. Page `n` of block 8 begins with `n` and has stamp `n + 1`;
-/// of these only pages 258 and 270 are live.
-pub fn made(
-    alloc: Global,
-    reads: FailList,
-    writes: FailList,
-    stop: Option<Stop>,
-) -> Result<Rig, Fail> {
-    let mut rig = fresh(alloc, reads, writes, stop)?;
-    rig.writes(33);
-    for n in 0..32u32 {
-        if n != 2 && n != 14 {
-            rig.free(Pointer {
-                name: 256 + n,
-                stamp: u64::from(n) + 1,
-            });
-        }
-    }
-    Ok(rig)
-}
-
-const CLEANED: [(Step, Seen); 40] = [
+const CLEANED: [(Step, Seen); 42] = [
+    (Step::Make, Seen::Did),
     (Step::FreeBlocks, Seen::Number(22)),
     (Step::Erase, Seen::Nothing),
     (Step::Copy, Seen::Did),
@@ -69,19 +46,18 @@ const CLEANED: [(Step, Seen); 40] = [
     (Step::FreeBlocks, Seen::Number(22)),
     (Step::Read(321, 15), Seen::Byte(14)),
     (Step::NextStamp, Seen::Number(34)),
+    (Step::Counts, Seen::Counts(33 + 2 + 1, 0, 0)),
 ];
 
 // The victim is block 8, and its pages go to block 10.
 #[test]
 fn a_victim_is_cleaned(rt: HostRuntime) -> Result<(), Fail> {
-    let alloc = rt.alloc();
-    let mut rig = made(alloc, FailList::new(alloc), FailList::new(alloc), None)?;
-    assert_eq!(rt; rig.differs(&CLEANED), None);
-    assert_eq!(rt; rig.counts(), (33 + 2 + 1, 0, 0));
+    assert_eq!(rt; differs(rt.alloc(), 0, (0, 0), &CLEANED)?, None);
     Ok(())
 }
 
-const MOVED_TWICE: [(Step, Seen); 33] = [
+const MOVED_TWICE: [(Step, Seen); 34] = [
+    (Step::Make, Seen::Did),
     (Step::Copies(2), Seen::Number(2)),
     (Step::Erase, Seen::Did),
     (Step::Writes(31), Seen::Number(31)),
@@ -124,13 +100,11 @@ const MOVED_TWICE: [(Step, Seen); 33] = [
 // the page.
 #[test]
 fn moved_pages_are_freed(rt: HostRuntime) -> Result<(), Fail> {
-    let alloc = rt.alloc();
-    let mut rig = made(alloc, FailList::new(alloc), FailList::new(alloc), None)?;
-    assert_eq!(rt; rig.differs(&MOVED_TWICE), None);
+    assert_eq!(rt; differs(rt.alloc(), 0, (0, 0), &MOVED_TWICE)?, None);
     Ok(())
 }
 
-const MANY_PAIRS: [(Step, Seen); 13] = [
+const MANY_PAIRS: [(Step, Seen); 22] = [
     (Step::Writes(129), Seen::Number(129)),
     (Step::Free(256, 1), Seen::Yes),
     (Step::Copies(32), Seen::Number(31)),
@@ -144,9 +118,7 @@ const MANY_PAIRS: [(Step, Seen); 13] = [
     (Step::Free(352, 97), Seen::Yes),
     (Step::Pairs, Seen::Number(93)),
     (Step::Copy, Seen::Nothing),
-];
-
-const FEWER_PAIRS: [(Step, Seen); 8] = [
+    (Step::HandledTo(28, 2), Seen::Yes),
     (Step::Acknowledge(2), Seen::Did),
     (Step::Pairs, Seen::Number(65)),
     (Step::Copy, Seen::Nothing),
@@ -157,28 +129,16 @@ const FEWER_PAIRS: [(Step, Seen); 8] = [
     (Step::Pairs, Seen::Number(65)),
 ];
 
-/// Transaction 2 handles the first 28 callbacks.
-fn handles_28(rig: &mut Rig) -> bool {
-    for number in 1..29u64 {
-        if rig.step(Step::Handled(number, 2)) != Seen::Yes {
-            return false;
-        }
-    }
-    true
-}
-
-// Three blocks are cleaned that have one dead page each. Then there are more pairs than two blocks have pages.
+// Three blocks are cleaned that have one dead page each. Then there are more pairs than two blocks have pages, and no victim is begun.
+// Transaction 2 handles the first 28 callbacks.
 #[test]
 fn no_victim_is_begun_with_many_pairs(rt: HostRuntime) -> Result<(), Fail> {
-    let alloc = rt.alloc();
-    let mut rig = fresh(alloc, FailList::new(alloc), FailList::new(alloc), None)?;
-    assert_eq!(rt; rig.differs(&MANY_PAIRS), None);
-    assert!(rt; handles_28(&mut rig));
-    assert_eq!(rt; rig.differs(&FEWER_PAIRS), None);
+    assert_eq!(rt; differs(rt.alloc(), 0, (0, 0), &MANY_PAIRS)?, None);
     Ok(())
 }
 
-const FAILED_MOVES: [(Step, Seen); 18] = [
+const FAILED_MOVES: [(Step, Seen); 20] = [
+    (Step::Make, Seen::Did),
     (Step::Copy, Seen::Fault),
     (Step::FreeBlocks, Seen::Number(22)),
     (Step::Copy, Seen::Fault),
@@ -197,37 +157,21 @@ const FAILED_MOVES: [(Step, Seen); 18] = [
     (Step::Pairs, Seen::Number(2)),
     (Step::FreeBlocks, Seen::Number(21)),
     (Step::Read(270, 15), Seen::Byte(14)),
+    (Step::Counts, Seen::Counts(33 + 2 + 1, 1, 2)),
 ];
 
 // The first read after the scan fails, the first program of a copy, and the first erase.
 #[test]
 fn moves_fail(rt: HostRuntime) -> Result<(), Fail> {
-    let alloc = rt.alloc();
-    let mut reads = FailList::new(alloc);
-    reads.push(1025)?;
-    let mut writes = FailList::new(alloc);
-    writes.push(34)?;
-    writes.push(37)?;
-    let mut rig = made(alloc, reads, writes, None)?;
-    assert_eq!(rt; rig.differs(&FAILED_MOVES), None);
-    assert_eq!(rt; rig.counts(), (33 + 2 + 1, 1, 2));
+    assert_eq!(rt; differs(rt.alloc(), 1025, (34, 37), &FAILED_MOVES)?, None);
     Ok(())
 }
 
-/// Writes a block full, frees its pages, and cleans it.
-fn worn(rig: &mut Rig) -> bool {
-    for _ in 0..32u32 {
-        match rig.write(1) {
-            Seen::At(name, stamp) => {
-                rig.free(Pointer { name, stamp });
-            }
-            _ => return false,
-        }
-    }
-    rig.copy() == Seen::Did && rig.erase() == Seen::Did
-}
-
-const LEVELLED: [(Step, Seen); 9] = [
+const LEVELLED: [(Step, Seen); 14] = [
+    (Step::Writes(32), Seen::Number(32)),
+    (Step::Wear(345), Seen::Yes),
+    (Step::Level, Seen::No),
+    (Step::Wear(1), Seen::Yes),
     (Step::Level, Seen::Yes),
     (Step::Level, Seen::No),
     (Step::Copy, Seen::Did),
@@ -238,35 +182,13 @@ const LEVELLED: [(Step, Seen); 9] = [
     (Step::Read(287, 32), Seen::Byte(31)),
     // Block 10 has the pages now, and was erased 15 times.
     (Step::Level, Seen::No),
+    (Step::Counts, Seen::Counts(32 + 346 * 33 + 32 + 1, 0, 0)),
 ];
-
-/// Fills block 8, whose pages stay, and cleans 345 blocks after it.
-fn wears_down(rig: &mut Rig) -> bool {
-    if rig.writes(32) != Seen::Number(32) {
-        return false;
-    }
-    for _ in 0..345u32 {
-        if !worn(rig) {
-            return false;
-        }
-    }
-    true
-}
-
-/// The block that stays may not be taken yet, but after one more.
-fn is_cold_then(rig: &mut Rig) -> bool {
-    rig.step(Step::Level) == Seen::No && worn(rig)
-}
 
 // Block 8 keeps its pages while blocks 9 to 31 are written and erased in turn. Once block 9 was erased 16 times, block 8 is taken
 // for the sake of wear. Its first page goes to block 10, the next one in turn.
 #[test]
 fn a_cold_block_is_taken(rt: HostRuntime) -> Result<(), Fail> {
-    let alloc = rt.alloc();
-    let mut rig = fresh(alloc, FailList::new(alloc), FailList::new(alloc), None)?;
-    assert!(rt; wears_down(&mut rig));
-    assert!(rt; is_cold_then(&mut rig));
-    assert_eq!(rt; rig.differs(&LEVELLED), None);
-    assert_eq!(rt; rig.counts(), (32 + 346 * 33 + 32 + 1, 0, 0));
+    assert_eq!(rt; differs(rt.alloc(), 0, (0, 0), &LEVELLED)?, None);
     Ok(())
 }

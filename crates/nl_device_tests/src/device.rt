@@ -1,9 +1,10 @@
 // A device: pages under names, and pages by address.
-ghost use Rattle.std.specs.Prelude.{◌≡◌, ◌<◌, ℕ, IfOk, IsTrue};
+ghost use Rattle.std.specs.Prelude.{◌≡◌, ◌<◌, IfOk, IsTrue};
+ghost use Rattle.nl_device_tests.specs.Rigs.{HasAddressed};
 ghost use Rattle.nl_nand.specs.Memory.{contents_of, geometry_of};
 ghost use Rattle.nl_nand.specs.Nand.{IsBlank};
 
-use crate::medium::blank;
+use crate::medium::{blank, failing};
 use nl_device::{Copying, Device, Started};
 use nl_field::{
     FailList, Named, NamedRead, PageBuf, Pointer, PointerList, Tag, VirtualRead, VirtualWrite,
@@ -16,8 +17,11 @@ use std::marker::Model;
 use std::test::Fail;
 
 /// A call, with the name of a pointer and its stamp, and with the first byte of a page.
-#[derive(Clone, Copy, Debug)]
+#[derive(Clone, Copy)]
 pub enum Step {
+    /// Block 8 is written whole, and one page of block 9. Page `n` of block 8 begins with `n` and has stamp `n + 1`; of these only pages
+    /// 258 and 270 stay live.
+    Make,
     Write(u8),
     /// So many pages are written, each with its number as the first byte.
     Writes(u32),
@@ -35,12 +39,17 @@ pub enum Step {
     Level,
     Callback(u64),
     Handled(u64, u64),
+    /// The callbacks of the numbers up to this one are handled.
+    HandledTo(u64, u64),
+    /// So many blocks are written full, their pages freed, and each cleaned.
+    Wear(u32),
     Acknowledge(u64),
     Least,
     Posted,
     Pairs,
     FreeBlocks,
     NextStamp,
+    Counts,
 }
 
 /// What it answered: a pointer, the first byte of a page, the names before and after a move with the stamp, or a number.
@@ -50,6 +59,8 @@ pub enum Seen {
     Byte(u8),
     Moved(u32, u32, u64),
     Number(u64),
+    /// Programs and erases that finished, failed reads, and failed programs and erases.
+    Counts(u64, u64, u64),
     Yes,
     No,
     Did,
@@ -95,9 +106,7 @@ impl Model for Rig {
 fn started(alloc: Global, media: MemNand) -> Result<Device<MemNand>, Fail>
     requires numbers { geometry_of media ≡ record { blocks = 32; pages = 32 } }
     requires erased { IsBlank (contents_of media) }
-    ensures formed { IfOk result (λ d. ⟦<Device<MemNand> as Counts>⟧.formed d) }
-    ensures addresses { IfOk result (λ d. (⟦<Device<MemNand> as Counts>⟧.shape d).vaddrs ≡ 103) }
-    ensures spare { IfOk result (λ d. ⟦<Device<MemNand> as Counts>⟧.keeps_spare d) }
+    ensures { IfOk result HasAddressed }
 {
     match Device::start(alloc, media) {
         Started::Ready(mut device, _) => {
@@ -135,7 +144,7 @@ fn yes(is: bool) -> Seen {
 }
 
 impl Rig {
-    pub fn write(&mut self, byte: u8) -> Seen {
+    fn write(&mut self, byte: u8) -> Seen {
         if self.device.next_stamp() > 1_000_000 {
             return Seen::Worn;
         }
@@ -145,7 +154,7 @@ impl Rig {
     }
 
     /// Writes so many pages; how many were placed.
-    pub fn writes(&mut self, count: u32) -> Seen {
+    fn writes(&mut self, count: u32) -> Seen {
         let mut placed = 0u64;
         for n in 0..count {
             if let Seen::At(_, _) = self.write((n % 256) as u8) {
@@ -153,6 +162,19 @@ impl Rig {
             }
         }
         Seen::Number(placed)
+    }
+
+    /// Block 8 is written whole, and one page of block 9; of block 8 only pages 258 and 270 stay live.
+    pub fn make(&mut self) {
+        self.writes(33);
+        for n in 0..32u32 {
+            if n != 2 && n != 14 {
+                self.free(Pointer {
+                    name: 256 + n,
+                    stamp: u64::from(n) + 1,
+                });
+            }
+        }
     }
 
     fn replace(&mut self, old: Pointer, byte: u8) -> Seen {
@@ -177,7 +199,7 @@ impl Rig {
         self.device.is_live(at)
     }
 
-    pub fn free(&mut self, at: Pointer) -> bool {
+    fn free(&mut self, at: Pointer) -> bool {
         self.device.free(at)
     }
 
@@ -237,6 +259,38 @@ impl Rig {
         self.device.handled(number, transaction)
     }
 
+    /// Whether each was pending.
+    fn handled_to(&mut self, last: u64, transaction: u64) -> bool {
+        for number in 1..last.saturating_add(1) {
+            if !self.handled(number, transaction) {
+                return false;
+            }
+        }
+        true
+    }
+
+    /// Whether each block was written and cleaned.
+    fn wear(&mut self, count: u32) -> bool {
+        for _ in 0..count {
+            if !self.wear_one() {
+                return false;
+            }
+        }
+        true
+    }
+
+    fn wear_one(&mut self) -> bool {
+        for _ in 0..32u32 {
+            match self.write(1) {
+                Seen::At(name, stamp) => {
+                    self.free(Pointer { name, stamp });
+                }
+                _ => return false,
+            }
+        }
+        self.copy() == Seen::Did && self.erase() == Seen::Did
+    }
+
     fn acknowledge(&mut self, upto: u64) {
         self.device.acknowledge(upto);
     }
@@ -264,17 +318,20 @@ impl Rig {
         self.device.next_stamp()
     }
 
-    /// Programs and erases that finished, failed reads, and failed programs and erases.
-    pub fn counts(&self) -> (u64, u64, u64) {
-        (
+    fn counts(&self) -> Seen {
+        Seen::Counts(
             self.device.clock(),
             self.device.read_faults(),
             self.device.write_faults(),
         )
     }
 
-    pub fn step(&mut self, step: Step) -> Seen {
+    fn step(&mut self, step: Step) -> Seen {
         match step {
+            Step::Make => {
+                self.make();
+                Seen::Did
+            }
             Step::Write(byte) => self.write(byte),
             Step::Writes(count) => self.writes(count),
             Step::Replace(name, stamp, byte) => self.replace(Pointer { name, stamp }, byte),
@@ -289,6 +346,8 @@ impl Rig {
             Step::Level => yes(self.level()),
             Step::Callback(number) => self.callback(number),
             Step::Handled(number, transaction) => yes(self.handled(number, transaction)),
+            Step::HandledTo(last, transaction) => yes(self.handled_to(last, transaction)),
+            Step::Wear(count) => yes(self.wear(count)),
             Step::Acknowledge(upto) => {
                 self.acknowledge(upto);
                 Seen::Did
@@ -298,6 +357,7 @@ impl Rig {
             Step::Pairs => Seen::Number(self.pairs()),
             Step::FreeBlocks => Seen::Number(self.free_blocks()),
             Step::NextStamp => Seen::Number(self.next_stamp()),
+            Step::Counts => self.counts(),
         }
     }
 
@@ -320,7 +380,21 @@ impl Rig {
     }
 }
 
-const NAMES: [(Step, Seen); 28] = [
+/// The first row that a device of a blank medium answers otherwise; the read and the programs or erases of these numbers fail, zero for
+/// none.
+pub fn differs(
+    alloc: Global,
+    read: u64,
+    writes: (u64, u64),
+    table: &[(Step, Seen)],
+) -> Result<Option<(usize, Seen)>, Fail> {
+    let reads = failing(alloc, read, 0)?;
+    let writes = failing(alloc, writes.0, writes.1)?;
+    let mut rig = fresh(alloc, reads, writes, None)?;
+    Ok(rig.differs(table))
+}
+
+const NAMES: [(Step, Seen); 29] = [
     (Step::NextStamp, Seen::Number(1)),
     (Step::FreeBlocks, Seen::Number(24)),
     (Step::IsLive(256, 1), Seen::No),
@@ -350,63 +424,58 @@ const NAMES: [(Step, Seen); 28] = [
     (Step::Handled(1, 1), Seen::No),
     (Step::Acknowledge(1), Seen::Did),
     (Step::Posted, Seen::Number(0)),
+    (Step::Counts, Seen::Counts(736, 0, 0)),
 ];
 
-// The physical segment has the pages from 256 on. 24 blocks of 32 pages, one of them kept for the cleaner, have room for 736.
-#[test]
-fn pages_have_names(rt: HostRuntime) -> Result<(), Fail> {
-    let alloc = rt.alloc();
-    let mut rig = fresh(alloc, FailList::new(alloc), FailList::new(alloc), None)?;
-    assert_eq!(rt; rig.differs(&NAMES), None);
-    assert_eq!(rt; rig.counts(), (736, 0, 0));
-    Ok(())
-}
-
-const FAILURES: [(Step, Seen); 6] = [
+const FAILURES: [(Step, Seen); 7] = [
     (Step::Write(97), Seen::At(256, 1)),
     (Step::Replace(256, 1, 98), Seen::Fault),
     (Step::Read(256, 1), Seen::Fault),
     (Step::Read(256, 1), Seen::Byte(97)),
     (Step::Replace(256, 1, 98), Seen::At(258, 3)),
     (Step::Read(258, 3), Seen::Byte(98)),
+    (Step::Counts, Seen::Counts(2, 1, 1)),
 ];
+
+// The physical segment has the pages from 256 on. 24 blocks of 32 pages, one of them kept for the cleaner, have room for 736.
+#[test]
+fn pages_have_names(rt: HostRuntime) -> Result<(), Fail> {
+    assert_eq!(rt; differs(rt.alloc(), 0, (0, 0), &NAMES)?, None);
+    Ok(())
+}
 
 // The first read after the scan fails, and the second program, which takes its number.
 #[test]
 fn calls_fail(rt: HostRuntime) -> Result<(), Fail> {
-    let alloc = rt.alloc();
-    let mut reads = FailList::new(alloc);
-    reads.push(1025)?;
-    let mut writes = FailList::new(alloc);
-    writes.push(2)?;
-    let mut rig = fresh(alloc, reads, writes, None)?;
-    assert_eq!(rt; rig.differs(&FAILURES), None);
-    assert_eq!(rt; rig.counts(), (2, 1, 1));
+    assert_eq!(rt; differs(rt.alloc(), 1025, (2, 0), &FAILURES)?, None);
     Ok(())
+}
+
+/// A call with an address.
+#[derive(Clone, Copy)]
+enum AtAddress {
+    Write(u8),
+    Read,
 }
 
 /// Whether the address has a page that begins with this byte then.
 fn write_at(device: &mut Device<MemNand>, buf: &mut PageBuf, vaddr: u32, byte: u8) -> bool
-    requires formed { ⟦<Device<MemNand> as Counts>⟧.formed device.old }
-    requires within { vaddr < (⟦<Device<MemNand> as Counts>⟧.shape device.old).vaddrs }
-    requires spare { ⟦<Device<MemNand> as Counts>⟧.keeps_spare device.old }
-    ensures formed { ⟦<Device<MemNand> as Counts>⟧.formed device.new }
-    ensures shape { ⟦<Device<MemNand> as Counts>⟧.shape device.new ≡ ⟦<Device<MemNand> as Counts>⟧.shape device.old }
-    ensures spare { IsTrue result → ⟦<Device<MemNand> as Counts>⟧.keeps_spare device.new }
+    requires device { HasAddressed device.old }
+    requires within { vaddr < 103 }
+    ensures { IsTrue result → HasAddressed device.new }
 {
     if device.next_stamp() > 10_000 {
         return false;
     }
+    buf.clear();
     buf.set_main(0, &[byte]);
     matches!(device.virtual_write(vaddr, buf), VirtualWrite::Done)
 }
 
 fn read_at(device: &mut Device<MemNand>, buf: &mut PageBuf, vaddr: u32) -> Seen
-    requires formed { ⟦<Device<MemNand> as Counts>⟧.formed device.old }
-    requires within { vaddr < (⟦<Device<MemNand> as Counts>⟧.shape device.old).vaddrs }
-    ensures formed { ⟦<Device<MemNand> as Counts>⟧.formed device.new }
-    ensures shape { ⟦<Device<MemNand> as Counts>⟧.shape device.new ≡ ⟦<Device<MemNand> as Counts>⟧.shape device.old }
-    ensures spare { ⟦<Device<MemNand> as Counts>⟧.keeps_spare device.old → ⟦<Device<MemNand> as Counts>⟧.keeps_spare device.new }
+    requires device { HasAddressed device.old }
+    requires within { vaddr < 103 }
+    ensures { HasAddressed device.new }
 {
     match device.virtual_read(vaddr, buf) {
         VirtualRead::Done => Seen::Byte(buf.main()[0]),
@@ -416,27 +485,64 @@ fn read_at(device: &mut Device<MemNand>, buf: &mut PageBuf, vaddr: u32) -> Seen
     }
 }
 
-// The least volume has 103 addresses. A write takes the next number, as a page under a name does.
-#[test]
-fn addresses_have_pages(rt: HostRuntime) -> Result<(), Fail> {
-    let alloc = rt.alloc();
+/// Whether a write is done, or a read answers so.
+fn answers_so(
+    device: &mut Device<MemNand>,
+    buf: &mut PageBuf,
+    vaddr: u32,
+    call: AtAddress,
+    want: Seen,
+) -> bool
+    requires device { HasAddressed device.old }
+    requires within { vaddr < 103 }
+    ensures { IsTrue result → HasAddressed device.new }
+{
+    match call {
+        AtAddress::Write(byte) => write_at(device, buf, vaddr, byte) && want == Seen::Did,
+        AtAddress::Read => read_at(device, buf, vaddr) == want,
+    }
+}
+
+/// The first row that is answered otherwise.
+fn differs_at(
+    device: &mut Device<MemNand>,
+    buf: &mut PageBuf,
+    table: &[(u32, AtAddress, Seen)],
+) -> Option<usize>
+    requires { HasAddressed device.old }
+{
+    for row in 0..table.len() {
+        let (vaddr, call, want) = table[row];
+        if vaddr >= 103 || !answers_so(device, buf, vaddr, call, want) {
+            return Some(row);
+        }
+    }
+    None
+}
+
+const ADDRESSED: [(u32, AtAddress, Seen); 8] = [
+    (0, AtAddress::Read, Seen::Unmapped),
+    (0, AtAddress::Write(97), Seen::Did),
+    (0, AtAddress::Read, Seen::Byte(97)),
+    (102, AtAddress::Read, Seen::Unmapped),
+    (102, AtAddress::Write(98), Seen::Did),
+    (0, AtAddress::Write(99), Seen::Did),
+    (0, AtAddress::Read, Seen::Byte(99)),
+    (102, AtAddress::Read, Seen::Byte(98)),
+];
+
+/// The first row that a device of a blank medium answers otherwise, and its next stamp.
+fn addressed(alloc: Global) -> Result<(Option<usize>, u64), Fail> {
     let mut buf = PageBuf::new(alloc)?;
     let media = blank(alloc, FailList::new(alloc), FailList::new(alloc), None)?;
     let mut device = started(alloc, media)?;
-    assert_eq!(rt; read_at(&mut device, &mut buf, 0), Seen::Unmapped);
-    if !write_at(&mut device, &mut buf, 0, 97) {
-        return Err(Fail::from("not written"));
-    }
-    assert_eq!(rt; read_at(&mut device, &mut buf, 0), Seen::Byte(97));
-    assert_eq!(rt; read_at(&mut device, &mut buf, 102), Seen::Unmapped);
-    if !write_at(&mut device, &mut buf, 102, 98) {
-        return Err(Fail::from("not written"));
-    }
-    if !write_at(&mut device, &mut buf, 0, 99) {
-        return Err(Fail::from("not written again"));
-    }
-    assert_eq!(rt; read_at(&mut device, &mut buf, 0), Seen::Byte(99));
-    assert_eq!(rt; read_at(&mut device, &mut buf, 102), Seen::Byte(98));
-    assert_eq!(rt; device.next_stamp(), 4);
+    let row = differs_at(&mut device, &mut buf, &ADDRESSED);
+    Ok((row, device.next_stamp()))
+}
+
+// The least volume has 103 addresses. A write takes the next number, as a page under a name does.
+#[test]
+fn addresses_have_pages(rt: HostRuntime) -> Result<(), Fail> {
+    assert_eq!(rt; addressed(rt.alloc())?, (None, 4));
     Ok(())
 }

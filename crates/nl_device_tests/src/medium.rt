@@ -34,3 +34,15 @@ pub fn blank(
         _ => Err(Fail::from("not formed")),
     }
 }
+
+/// The calls of these numbers fail, where they are not zero and rise.
+pub fn failing(alloc: Global, first: u64, second: u64) -> Result<FailList, Fail> {
+    let mut list = FailList::new(alloc);
+    if 0 < first {
+        list.push(first)?;
+        if first < second {
+            list.push(second)?;
+        }
+    }
+    Ok(list)
+}

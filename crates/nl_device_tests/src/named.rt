@@ -4,7 +4,7 @@ ghost use Rattle.nl_device_tests.specs.Rigs.{HasNames};
 ghost use Rattle.nl_nand.specs.Memory.{contents_of, geometry_of};
 ghost use Rattle.nl_pseg.specs.Segment.{held_at};
 
-use crate::medium::{blank, least};
+use crate::medium::{blank, failing, least};
 use nl_field::{FailList, Named, PageBuf, Pointer, SpareRec, Tag, spare_of};
 use nl_nand::{MemNand, Nand, ReadAnswer};
 use nl_pseg::PSeg;
@@ -96,49 +96,75 @@ impl Rig {
     }
 }
 
-/// Two pages are written, for which a block is erased.
-fn writes_two(rig: &mut Rig) -> bool {
-    rig.write(0) == Some(256)
-        && rig.counts() == (2, 1)
-        && rig.write(1) == Some(257)
-        && rig.counts() == (3, 1)
+impl Rig {
+    /// The first erase fails, and then a block is erased before its first page is programmed.
+    fn erases_soiled(&mut self) -> bool {
+        self.write(0) == None
+            && self.counts() == (0, 1)
+            && self.free_blocks() == 24
+            && self.writes_two()
+    }
+
+    /// Two pages are written, for which a block is erased.
+    fn writes_two(&mut self) -> bool {
+        self.write(0) == Some(256)
+            && self.counts() == (2, 1)
+            && self.write(1) == Some(257)
+            && self.counts() == (3, 1)
+    }
+
+    /// A block that is to be erased is not the first one that is used.
+    fn uses_another(&mut self) -> bool {
+        self.free_blocks() == 24 && self.write(0) == Some(288) && self.counts() == (1, 1)
+    }
 }
 
-// The first erase fails; then the block is erased before its first page is programmed.
+/// A segment whose blocks are all soiled, and whose first erase fails.
+fn soiled(alloc: Global) -> Result<Rig, Fail> {
+    let mut rig = fresh(alloc, failing(alloc, 1, 0)?)?;
+    rig.soil();
+    Ok(rig)
+}
+
+/// The record of the second page that is written to it.
+fn second_of_soiled(alloc: Global) -> Result<Option<SpareRec>, Fail> {
+    let mut rig = soiled(alloc)?;
+    if rig.erases_soiled() {
+        Ok(rig.record(257))
+    } else {
+        Err(Fail::from("not erased"))
+    }
+}
+
 #[test]
 fn soiled_blocks_are_erased(rt: HostRuntime) -> Result<(), Fail> {
-    let alloc = rt.alloc();
-    let mut writes = FailList::new(alloc);
-    writes.push(1)?;
-    let mut rig = fresh(alloc, writes)?;
-    rig.soil();
-    assert_eq!(rt; rig.write(0), None);
-    assert_eq!(rt; rig.counts(), (0, 1));
-    assert_eq!(rt; rig.free_blocks(), 24);
-    assert!(rt; writes_two(&mut rig));
     let want = SpareRec::Physical {
         tag: TAG,
         stamp: 2,
         wear: 1,
     };
-    assert_eq!(rt; rig.record(257), Some(want));
+    assert_eq!(rt; second_of_soiled(rt.alloc())?, Some(want));
     Ok(())
 }
 
-// The first program fails, and no page is live. Its block is given back; as it is to be erased, another one is used first.
-#[test]
-fn blocks_are_given_back(rt: HostRuntime) -> Result<(), Fail> {
-    let alloc = rt.alloc();
-    let mut writes = FailList::new(alloc);
-    writes.push(1)?;
-    let mut rig = fresh(alloc, writes)?;
+/// A segment of which a block was given back after its first program failed, when no page was live.
+fn given_back(alloc: Global) -> Result<Rig, Fail> {
+    let mut rig = fresh(alloc, failing(alloc, 1, 0)?)?;
     if !rig.write_fails() {
         return Err(Fail::from("placed"));
     }
     rig.give_back();
-    assert_eq!(rt; rig.free_blocks(), 24);
-    assert_eq!(rt; rig.write(0), Some(288));
-    assert_eq!(rt; rig.counts(), (1, 1));
+    Ok(rig)
+}
+
+fn uses_another(alloc: Global) -> Result<bool, Fail> {
+    let mut rig = given_back(alloc)?;
+    Ok(rig.uses_another())
+}
+
+#[test]
+fn blocks_are_given_back(rt: HostRuntime) -> Result<(), Fail> {
+    assert!(rt; uses_another(rt.alloc())?);
     Ok(())
 }
 
@@ -154,20 +180,34 @@ fn loaded(alloc: Global) -> Result<PSeg, Fail> {
     Ok(seg)
 }
 
-// A page is loaded and freed.
-#[test]
-fn a_page_is_loaded(rt: HostRuntime) -> Result<(), Fail> {
-    let alloc = rt.alloc();
+/// Whether the pointer is live.
+fn is_live(seg: &PSeg, at: Pointer) -> bool {
+    seg.is_live(at)
+}
+
+/// Frees the page of a pointer; whether it was live.
+fn frees(seg: &mut PSeg, at: Pointer) -> bool {
+    seg.free(at)
+}
+
+/// Whether it is live until it is freed.
+fn is_loaded(seg: &mut PSeg) -> bool {
     let at = Pointer {
         name: 300,
         stamp: 9,
     };
+    is_live(seg, at) && frees(seg, at) && !is_live(seg, at) && !frees(seg, at)
+}
+
+fn loads(alloc: Global) -> Result<(u32, u32, bool), Fail> {
     let mut seg = loaded(alloc)?;
-    assert_eq!(rt; seg.free_blocks(), 23);
-    assert_eq!(rt; seg.resolve(300), 300);
-    assert!(rt; seg.is_live(at));
-    assert!(rt; seg.free(at));
-    assert!(rt; !seg.is_live(at));
-    assert!(rt; !seg.free(at));
+    let free = seg.free_blocks();
+    let leads = seg.resolve(300);
+    Ok((free, leads, is_loaded(&mut seg)))
+}
+
+#[test]
+fn a_page_is_loaded(rt: HostRuntime) -> Result<(), Fail> {
+    assert_eq!(rt; loads(rt.alloc())?, (23, 300, true));
     Ok(())
 }

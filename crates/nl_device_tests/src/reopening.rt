@@ -1,11 +1,10 @@
 // A device that is opened again after its cleaning was stopped.
-ghost use Rattle.std.specs.Prelude.{◌≡◌, ◌∷◌, ◌+◌, ◌<◌, ◌≤◌, ℕ, [], IfOk, IsTrue, None};
+ghost use Rattle.std.specs.Prelude.{◌≡◌, ◌+◌, ◌<◌, ◌≤◌, ℕ, IfOk, IsTrue, None};
 ghost use Rattle.nl_device.specs.Kept.{kept_from, kept_pages};
-ghost use Rattle.nl_device.specs.Retain.{CanRetain, kept_of};
-ghost use Rattle.nl_device_tests.specs.Reopened.{of_least, own_page, pages_from, wanted_at};
+ghost use Rattle.nl_device.specs.Retain.{kept_of};
+ghost use Rattle.nl_device_tests.specs.Reopened.{CanOpen, of_least, own_page, pages_from, place_of, three, wanted_at};
 
-use crate::cleaning::made;
-use crate::device::{Rig, Seen, Step, TAG};
+use crate::device::{Rig, Seen, Step, TAG, fresh};
 use nl_device::{Device, Started};
 use nl_field::{FailList, PageBuf, Pointer, PointerList, SpareRec};
 use nl_iface::Counts;
@@ -16,7 +15,7 @@ use std::test::Fail;
 
 /// What the cleaning has done: it copied page 258, or pages 258 and 270, or erased their block too. In `Moved` and `Lost` the pointers have
 /// the old names still, though in `Lost` their block was erased.
-#[derive(Clone, Copy, Debug)]
+#[derive(Clone, Copy)]
 enum Left {
     Written,
     OneCopied,
@@ -24,6 +23,10 @@ enum Left {
     Erased,
     Moved,
     Lost,
+    /// As `Erased`, but of the block's pages those from 0 to 4, from 15 to 19, 30 and 31 are left, and so the old page 258, but not 270.
+    Partly,
+    /// As `Lost`, but with these pages.
+    PartlyLost,
 }
 
 /// Whether it is the page of that number, with this stamp and the owner of all pages.
@@ -42,7 +45,6 @@ fn is_page(page: &Page, number: u32, stamp: u64) -> bool
 
 /// The pages that may be seen, by rising number, each with its stamp: the 33 that were written, and then the two copies.
 fn wanted(at: u32) -> (u32, u64)
-    requires { at < 40 }
     ensures { result ≡ wanted_at at }
 {
     if at < 33 {
@@ -54,16 +56,24 @@ fn wanted(at: u32) -> (u32, u64)
     }
 }
 
+/// The place among these of the page that is seen at a place. Of each fifteen only the first five may be seen.
+fn place(first: u32, fives: bool, at: u32) -> u32
+    requires { first + at < 40 }
+    ensures { result ≡ place_of first fives at }
+{
+    first + at + if fives { at / 5 * 10 } else { 0 }
+}
+
 /// Whether the scan saw so many of these pages, from this one on.
-fn are_seen(tables: &ScanTables, first: u32, count: u32) -> bool
+fn are_seen(tables: &ScanTables, first: u32, fives: bool, count: u32) -> bool
     requires { first + count ≤ 35 }
-    ensures { IsTrue result → kept_pages 256 tables.now.seen ≡ pages_from first count }
+    ensures { IsTrue result → kept_pages 256 tables.now.seen ≡ pages_from first fives count }
 {
     if tables.len() != count {
         return false;
     }
     for at in 0..count {
-        let (number, stamp) = wanted(first + at);
+        let (number, stamp) = wanted(place(first, fives, at));
         if !is_page(tables.get(at), number, stamp) {
             return false;
         }
@@ -72,12 +82,18 @@ fn are_seen(tables: &ScanTables, first: u32, count: u32) -> bool
 }
 
 /// A device that was started from a medium on which a scan sees these pages.
-fn scanned(alloc: Global, media: MemNand, first: u32, count: u32) -> Result<Device<MemNand>, Fail>
+fn scanned(
+    alloc: Global,
+    media: MemNand,
+    first: u32,
+    fives: bool,
+    count: u32,
+) -> Result<Device<MemNand>, Fail>
     requires { first + count ≤ 35 }
     ensures formed { IfOk result (λ d. ⟦<Device<MemNand> as Counts>⟧.formed d) }
     ensures live { IfOk result (λ d. (p : ℕ) → (⟦<Device<MemNand> as Counts>⟧.names d).live p ≡ None) }
     ensures idle { IfOk result (λ d. (⟦<Device<MemNand> as Counts>⟧.names d).space.victim ≡ 0) }
-    ensures kept { IfOk result (λ d. kept_of d ≡ of_least first count) }
+    ensures kept { IfOk result (λ d. kept_of d ≡ of_least first fives count) }
 {
     let geometry = media.geometry();
     if geometry.blocks != 32 || geometry.pages != 32 {
@@ -85,7 +101,7 @@ fn scanned(alloc: Global, media: MemNand, first: u32, count: u32) -> Result<Devi
     }
     match Device::start(alloc, media) {
         Started::Ready(device, tables) => {
-            if are_seen(&tables, first, count) {
+            if are_seen(&tables, first, fives, count) {
                 Ok(device)
             } else {
                 Err(Fail::from("other pages"))
@@ -95,26 +111,9 @@ fn scanned(alloc: Global, media: MemNand, first: u32, count: u32) -> Result<Devi
     }
 }
 
-/// The device of a medium on which a scan sees these pages, with these pointers.
-fn reopened(
-    alloc: Global,
-    media: MemNand,
-    first: u32,
-    count: u32,
-    kept: &PointerList,
-) -> Result<Rig, Fail>
-    requires few { first + count ≤ 35 }
-    requires can { CanRetain (of_least first count) kept.now.items }
-{
-    let buf = PageBuf::new(alloc)?;
-    let mut device = scanned(alloc, media, first, count)?;
-    device.retain(kept);
-    Ok(Rig { device, buf })
-}
-
 /// The pointers of the three live pages; those of the two pages of the victim have these names.
 fn pointers(alloc: Global, first: u32, second: u32) -> Result<PointerList, Fail>
-    ensures { IfOk result (λ l. l.items ≡ record { name = first; stamp = 3 } ∷ record { name = second; stamp = 15 } ∷ record { name = 288; stamp = 33 } ∷ []) }
+    ensures { IfOk result (λ l. l.items ≡ three first second) }
 {
     let mut list = PointerList::new(alloc);
     list.push(Pointer {
@@ -132,60 +131,67 @@ fn pointers(alloc: Global, first: u32, second: u32) -> Result<PointerList, Fail>
     Ok(list)
 }
 
-fn open_written(alloc: Global, media: MemNand) -> Result<Rig, Fail> {
-    let list = pointers(alloc, 258, 270)?;
-    reopened(alloc, media, 0, 33, &list)
+/// The pages that a scan sees after a stop, and the names of the pointers of the two pages of the victim.
+#[derive(Clone, Copy)]
+struct Opening {
+    first: u32,
+    fives: bool,
+    count: u32,
+    one: u32,
+    two: u32,
 }
 
-fn open_one_copied(alloc: Global, media: MemNand) -> Result<Rig, Fail> {
-    let list = pointers(alloc, 258, 270)?;
-    reopened(alloc, media, 0, 34, &list)
-}
-
-fn open_copied(alloc: Global, media: MemNand) -> Result<Rig, Fail> {
-    let list = pointers(alloc, 320, 321)?;
-    reopened(alloc, media, 0, 35, &list)
-}
-
-fn open_erased(alloc: Global, media: MemNand) -> Result<Rig, Fail> {
-    let list = pointers(alloc, 320, 321)?;
-    reopened(alloc, media, 32, 3, &list)
-}
-
-fn open_moved(alloc: Global, media: MemNand) -> Result<Rig, Fail> {
-    let list = pointers(alloc, 258, 270)?;
-    reopened(alloc, media, 0, 35, &list)
-}
-
-fn open_lost(alloc: Global, media: MemNand) -> Result<Rig, Fail> {
-    let list = pointers(alloc, 258, 270)?;
-    reopened(alloc, media, 32, 3, &list)
-}
-
-fn open(alloc: Global, media: MemNand, left: Left) -> Result<Rig, Fail> {
-    match left {
-        Left::Written => open_written(alloc, media),
-        Left::OneCopied => open_one_copied(alloc, media),
-        Left::Copied => open_copied(alloc, media),
-        Left::Erased => open_erased(alloc, media),
-        Left::Moved => open_moved(alloc, media),
-        Left::Lost => open_lost(alloc, media),
+fn opening_with(first: u32, fives: bool, count: u32, one: u32, two: u32) -> Opening
+    ensures { result ≡ record { first = first; fives = fives; count = count; one = one; two = two } }
+{
+    Opening {
+        first,
+        fives,
+        count,
+        one,
+        two,
     }
 }
 
-/// Two pages are moved and their block is erased, until this stop; then the device is opened again.
-fn stopped(alloc: Global, stop: Stop, left: Left) -> Result<Rig, Fail> {
-    let mut rig = made(
+fn opening_after(left: Left) -> Opening
+    ensures { CanOpen result.first result.fives result.count result.one result.two }
+{
+    match left {
+        Left::Written => opening_with(0, false, 33, 258, 270),
+        Left::OneCopied => opening_with(0, false, 34, 258, 270),
+        Left::Copied => opening_with(0, false, 35, 320, 321),
+        Left::Erased => opening_with(32, false, 3, 320, 321),
+        Left::Moved => opening_with(0, false, 35, 258, 270),
+        Left::Lost => opening_with(32, false, 3, 258, 270),
+        Left::Partly => opening_with(0, true, 15, 320, 321),
+        Left::PartlyLost => opening_with(0, true, 15, 258, 270),
+    }
+}
+
+/// The device of a medium on which a scan sees these pages, with these pointers.
+fn reopened(alloc: Global, media: MemNand, with: Opening) -> Result<Rig, Fail>
+    requires { CanOpen with.first with.fives with.count with.one with.two }
+{
+    let buf = PageBuf::new(alloc)?;
+    let list = pointers(alloc, with.one, with.two)?;
+    let mut device = scanned(alloc, media, with.first, with.fives, with.count)?;
+    device.retain(&list);
+    Ok(Rig { device, buf })
+}
+
+/// Two pages are moved and their block is erased, until this stop; the medium after a restart.
+fn stopped(alloc: Global, stop: Stop) -> Result<MemNand, Fail> {
+    let mut rig = fresh(
         alloc,
         FailList::new(alloc),
         FailList::new(alloc),
         Some(stop),
     )?;
+    rig.make();
     rig.copy();
     rig.copy();
     rig.erase();
-    let media = rig.restarted();
-    open(alloc, media, left)
+    Ok(rig.restarted())
 }
 
 /// What a device answers that was opened with these names of the two pages of the victim; `next` is the name of the next page.
@@ -235,14 +241,17 @@ fn led(rig: &mut Rig, next: u32) -> Option<(usize, Seen)> {
 fn answers(rig: &mut Rig, left: Left, next: u32) -> Option<(usize, Seen)> {
     match left {
         Left::Written | Left::OneCopied => kept(rig, 258, 270, next),
-        Left::Copied | Left::Erased => kept(rig, 320, 321, next),
-        Left::Moved | Left::Lost => led(rig, next),
+        Left::Copied | Left::Erased | Left::Partly => kept(rig, 320, 321, next),
+        Left::Moved | Left::Lost | Left::PartlyLost => led(rig, next),
     }
 }
 
+/// Of an erased block five pages stay, five are erased, five are uncorrectable, and so on.
+const BY_FIVES: Cut = Cut::Mixed(205465758716988);
+
 /// Where a cleaning stops, with which cut, what is left then, and the name of the next page after an opening. The pages of a block that
 /// does not read as erased are given out after those of the other ones.
-const STOPS: [(u64, Cut, Left, u32); 13] = [
+const STOPS: [(u64, Cut, Left, u32); 15] = [
     (34, Cut::Before, Left::Written, 320),
     (34, Cut::After, Left::OneCopied, 352),
     (34, Cut::Spoilt, Left::Written, 352),
@@ -252,25 +261,34 @@ const STOPS: [(u64, Cut, Left, u32); 13] = [
     (36, Cut::Before, Left::Copied, 352),
     (36, Cut::After, Left::Erased, 256),
     (36, Cut::Spoilt, Left::Erased, 352),
+    (36, BY_FIVES, Left::Partly, 352),
     // The callbacks were not handled: the old names lead to the copies, and the block of the names waits, until they are.
     (35, Cut::After, Left::Moved, 352),
     (36, Cut::Before, Left::Moved, 352),
     (36, Cut::After, Left::Lost, 256),
     (36, Cut::Spoilt, Left::Lost, 352),
+    (36, BY_FIVES, Left::PartlyLost, 352),
 ];
+
+/// What a device answers otherwise that is opened after such a stop.
+fn differs(
+    alloc: Global,
+    operation: u64,
+    cut: Cut,
+    left: Left,
+    next: u32,
+) -> Result<Option<(usize, Seen)>, Fail> {
+    let media = stopped(alloc, Stop { operation, cut })?;
+    let mut rig = reopened(alloc, media, opening_after(left))?;
+    Ok(answers(&mut rig, left, next))
+}
 
 // Two copies and the erase of their block, each stopped with each cut.
 #[test]
 fn a_cleaning_is_stopped(rt: HostRuntime) -> Result<(), Fail> {
-    let alloc = rt.alloc();
     for (operation, cut, left, next) in STOPS.iter() {
-        let stop = Stop {
-            operation: *operation,
-            cut: *cut,
-        };
-        let mut rig = stopped(alloc, stop, *left)?;
         assert_eq!(rt;
-            answers(&mut rig, *left, *next),
+            differs(rt.alloc(), *operation, *cut, *left, *next)?,
             None,
             "{operation} {cut:?}"
         );

@@ -6,11 +6,11 @@ use Rattle.nl_device_tests.proofs.Blank.{blank_spare}
 use Rattle.nl_device_tests.proofs.Rigs.{least}
 use Rattle.nl_device_tests.proofs.device.started.Goals as goal
 
-pub returns-in-Ready-clause-addresses : goal.returns-in-Ready-clause-addresses
-returns-in-Ready-clause-addresses c =
-    (least c.retain-in-Ready.new.self.shape (c.retain-in-Ready.ensures.medium.virtual.same_shape ∙ (c.in-Ready.ensures.started.numbers ∙ ap (λ (n : Geometry). shape_for n.blocks n.pages) c.requires.numbers))).addresses
-
-pub returns-in-Ready-clause-spare : goal.returns-in-Ready-clause-spare
-returns-in-Ready-clause-spare c =
-    c.retain-in-Ready.ensures.medium.virtual.spare
-    (c.in-Ready.ensures.spare_told tt 0 (blank_spare (contents_of c.args.media) (ap (λ (n : Geometry). n.blocks) c.requires.numbers) (ap (λ (n : Geometry). n.pages) c.requires.numbers) c.requires.erased))
+pub returns-in-Ready : goal.returns-in-Ready
+returns-in-Ready c = record {
+  formed = c.retain-in-Ready.ensures.formed;
+  addresses = (least c.retain-in-Ready.new.self.shape (c.retain-in-Ready.ensures.medium.virtual.same_shape ∙ (c.in-Ready.ensures.started.numbers ∙ ap (λ (n : Geometry). shape_for n.blocks n.pages) c.requires.numbers))).addresses;
+  spare =
+      c.retain-in-Ready.ensures.medium.virtual.spare
+      (c.in-Ready.ensures.spare_told tt 0 (blank_spare (contents_of c.args.media) (ap (λ (n : Geometry). n.blocks) c.requires.numbers) (ap (λ (n : Geometry). n.pages) c.requires.numbers) c.requires.erased));
+}

@@ -1,9 +1,0 @@
-use Rattle.std.proofs.Common.{List, subst, sym}
-use Rattle.nl_field.specs.declared.pointer.Pointer.{Pointer}
-use Rattle.nl_device.specs.Retain.{CanRetain}
-use Rattle.nl_device_tests.specs.Reopened.{of_least}
-use Rattle.nl_device_tests.proofs.Retaining.{can_written}
-use Rattle.nl_device_tests.proofs.reopening.open_written.Goals as goal
-
-pub reopened-requires-clause-can : goal.reopened-requires-clause-can
-reopened-requires-clause-can c = subst (λ (l : List Pointer). CanRetain (of_least 0 33) l) (sym c.in_ok-list.ensures) can_written
