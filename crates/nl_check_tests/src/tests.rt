@@ -13,13 +13,13 @@ use std::test::Fail;
 
 /// Bytes of a page of an address, from an offset on.
 #[derive(Clone, Copy)]
-struct Bytes {
-    vaddr: u32,
-    at: usize,
-    bytes: [u8; 24],
+pub struct Bytes {
+    pub vaddr: u32,
+    pub at: usize,
+    pub bytes: [u8; 24],
 }
 
-const SUPER: Bytes = Bytes {
+pub const SUPER: Bytes = Bytes {
     vaddr: 0,
     at: 0,
     bytes: *b"NAMELESS\x01\0\0\0\x20\0\0\0\x20\0\0\0\0\0\0\0",
@@ -32,14 +32,14 @@ const OTHER_BLOCKS: Bytes = Bytes {
 };
 
 /// A directory of one entry.
-const ROOT: Bytes = Bytes {
+pub const ROOT: Bytes = Bytes {
     vaddr: 67,
     at: 0,
     bytes: *b"\x02\0\0\0\0\0\0\0\x01\0\0\0\0\0\0\0\0\0\0\0\0\0\0\0",
 };
 
 /// Its address 71.
-const ROOT_ADDRESS: Bytes = Bytes {
+pub const ROOT_ADDRESS: Bytes = Bytes {
     vaddr: 67,
     at: 192,
     bytes: *b"\x47\0\0\0\0\0\0\0\0\0\0\0\0\0\0\0\0\0\0\0\0\0\0\0",
@@ -106,7 +106,7 @@ const KIND_3: Bytes = Bytes {
 };
 
 /// Node 1 of generation 1 under the name a.
-const ENTRY: Bytes = Bytes {
+pub const ENTRY: Bytes = Bytes {
     vaddr: 71,
     at: 0,
     bytes: *b"\x01\0\0\0\x01\0\0\0\x01a\0\0\0\0\0\0\0\0\0\0\0\0\0\0",
@@ -161,27 +161,27 @@ const COMMIT_2: Bytes = Bytes {
 
 /// A page of the medium.
 #[derive(Clone, Copy)]
-struct Row {
-    page: u32,
-    what: Content,
+pub struct Row {
+    pub page: u32,
+    pub what: Content,
 }
 
 #[derive(Clone, Copy)]
-enum Content {
+pub enum Content {
     /// The page of an address under a number.
     Metadata { vaddr: u32, stamp: u64 },
     /// A page of node 1 under a number, with one byte.
     Data { index: u32, stamp: u64, byte: u8 },
 }
 
-fn metadata(page: u32, vaddr: u32, stamp: u64) -> Row {
+pub fn metadata(page: u32, vaddr: u32, stamp: u64) -> Row {
     Row {
         page,
         what: Content::Metadata { vaddr, stamp },
     }
 }
 
-fn data(page: u32, index: u32, stamp: u64, byte: u8) -> Row {
+pub fn data(page: u32, index: u32, stamp: u64, byte: u8) -> Row {
     Row {
         page,
         what: Content::Data { index, stamp, byte },
@@ -264,7 +264,7 @@ fn put(media: &mut MemNand, page: u32, buf: &PageBuf) -> WriteAnswer
 }
 
 /// A medium with these pages, which rise, and these bytes of addresses.
-fn image(alloc: Global, rows: &[Row], bytes: &[Bytes]) -> Result<MemNand, Fail> {
+pub fn image(alloc: Global, rows: &[Row], bytes: &[Bytes]) -> Result<MemNand, Fail> {
     let mut buf = PageBuf::new(alloc)?;
     let mut media = formed(alloc).ok_or("form")?;
     let mut next = 0;
@@ -310,13 +310,13 @@ fn found(alloc: Global, changes: &[Bytes], more: &[Row], journal: bool) -> Resul
     Ok(checked)
 }
 
-fn only(what: What) -> Findings {
+pub fn only(what: What) -> Findings {
     let mut bits = Findings::none();
     bits.add(what);
     bits
 }
 
-fn is_found(checked: &Checked, wanted: Findings, calls: u64) -> bool {
+pub fn is_found(checked: &Checked, wanted: Findings, calls: u64) -> bool {
     match checked {
         Checked::Found { bits, count } => *bits == wanted && *count == calls,
         _ => false,
