@@ -24,7 +24,7 @@ use Rattle.nl_journal.specs.Opening.{HasImages, are_there, commit_number, header
 use Rattle.nl_journal.specs.Outcomes.{bytes_of}
 use Rattle.nl_journal.specs.Transaction.{IsTransaction, head, header, mark, place}
 use Rattle.nl_journal.proofs.Counted.{committed_alone, committed_over}
-use Rattle.nl_journal.proofs.DirtyPages.{transaction_of}
+use Rattle.nl_journal.proofs.DirtyPages.{rise_home, transaction_of}
 use Rattle.nl_journal.proofs.Openings.{counting_is, counting_same, next_is, no_image, nothing_header, nothing_mark}
 use Rattle.nl_recover.specs.Restoring.{AreListed, AreRestored, IsAway}
 use Rattle.nl_recover.proofs.Restores.{none-at, restored-as}
@@ -135,6 +135,29 @@ module _ (tells : Type 0) (shape : Shape) (stored : VirtualMap) (p : Pages) (l :
       (ap are_home_addresses addresses-are ∙ spelled-parts.2)
       (ap (list_all (λ a. nat_lt a shape.vaddrs)) addresses-are ∙ below-all tells shape stored p l.header.addresses count l.restored)
 
+  unlisted : (v : ℕ) → place p.frozen v ≡ None → page_of p v ≡ None
+  unlisted v is = l.restored.others v (none-any (λ a. a == v) p.frozen.addresses (λ x m. ne_eqb x v (λ e. position-has p.frozen.addresses v (subst (Has p.frozen.addresses) e m) is)))
+
+  -- each runs with its image
+  pub runs-listed : IsPages p → (i : ℕ) → i < length p.frozen.addresses → page_of p (get_or p.frozen.addresses i 0) ≡ Some (get_or p.frozen.images i [])
+  runs-listed stands i lt =
+      ap (λ (xs : List ℕ). page_of p (get_or xs i 0)) addresses-are
+      ∙ l.restored.each i (let e = ap length addresses-are in omega (arith, e, lt))
+      ∙ slice_get-get_or p.frozen.images i [] (let e = stands.frozen_images in omega (arith, e, lt))
+
+  pub apart-listed : (v : ℕ) → 1 ≤ v → v < 67 → page_of p v ≡ None
+  apart-listed v low high = by (place p.frozen v) refl
+    where
+      at : (i : ℕ) → get_or p.frozen.addresses i 0 ≡ v → (get_or p.frozen.addresses i 0 ≡ 0) ⊎ (67 ≤ get_or p.frozen.addresses i 0) → ⊥
+      at i e (inl zero) = omega (arith, low, e, zero)
+      at i e (inr far) = omega (arith, high, e, far)
+
+      by : (o : Option ℕ) → place p.frozen v ≡ o → page_of p v ≡ None
+      by None is = unlisted v is
+      by (Some i) is =
+          let q = position-Some (λ a. a == v) p.frozen.addresses i 0 is in
+          absurd (at i (eqb-true (get_or p.frozen.addresses i 0) v q.1) (rise_home p.frozen.addresses i (ap are_home_addresses addresses-are ∙ spelled-parts.2) q.0))
+
   -- where it is told what is stored, they are those of the transaction that counts
   module _ (t : tells) (f : VirtualMap) (same : (v : ℕ) → v < 67 → stored v ≡ f v) (h : HeaderRec) (counts : counting shape f ≡ Some h) (number : ℕ) (next : number + 1 ≡ next_number shape f) where
     begins : head shape (f 1) ≡ Some h
@@ -172,14 +195,13 @@ module _ (tells : Type 0) (shape : Shape) (stored : VirtualMap) (p : Pages) (l :
 
         by : (o : Option ℕ) → place p.frozen v ≡ o → or_stored (page_of p v) (stored v) ≡ home_or_image stored v (place p.frozen v)
         by None is =
-            ap (λ (o : Option (List ℕ)). or_stored o (stored v)) (l.restored.others v (none-any (λ a. a == v) p.frozen.addresses (λ x m. ne_eqb x v (λ e. position-has p.frozen.addresses v (subst (Has p.frozen.addresses) e m) is))))
+            ap (λ (o : Option (List ℕ)). or_stored o (stored v)) (unlisted v is)
             ∙ ap (home_or_image stored v) (sym is)
         by (Some i) is =
             let q = position-Some (λ a. a == v) p.frozen.addresses i 0 is in
-            let v-is : get_or l.header.addresses i 0 ≡ v = ap (λ (xs : List ℕ). get_or xs i 0) (sym addresses-are) ∙ eqb-true (get_or p.frozen.addresses i 0) v q.1 in
-            let at : page_of p v ≡ slice_get p.frozen.images i = ap (page_of p) (sym v-is) ∙ l.restored.each i (let e = ap length addresses-are in let lt = q.0 in omega (arith, e, lt)) in
-            some (page_of p v) (stored v) (get_or p.frozen.images i []) (at ∙ slice_get-get_or p.frozen.images i [] (let e = stands.frozen_images in let lt = q.0 in omega (arith, e, lt)))
-            ∙ at ∙ image-at i q.0 ∙ ap (home_or_image stored v) (sym is)
+            let at : page_of p v ≡ Some (get_or p.frozen.images i []) = ap (page_of p) (sym (eqb-true (get_or p.frozen.addresses i 0) v q.1)) ∙ runs-listed stands i q.0 in
+            some (page_of p v) (stored v) (get_or p.frozen.images i []) at
+            ∙ at ∙ sym (slice_get-get_or p.frozen.images i [] (let e = stands.frozen_images in let lt = q.0 in omega (arith, e, lt))) ∙ image-at i q.0 ∙ ap (home_or_image stored v) (sym is)
 
 -- ---- where none counts
 

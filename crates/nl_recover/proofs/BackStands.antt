@@ -16,12 +16,12 @@ use Rattle.nl_journal.specs.declared.answers.Phase.TheVariants.{Header, Home}
 use Rattle.nl_journal.proofs.Addresses.{addresses_of}
 use Rattle.nl_journal.proofs.Openings.{counting_same}
 use Rattle.nl_meta.specs.Committed.{VirtualMap, committed, counting, next_number}
-use Rattle.nl_meta.specs.Pages.{IsPages, Pages, no_pages, page_of}
+use Rattle.nl_meta.specs.Pages.{Frozen, IsPages, Pages, no_pages, none_frozen, page_of}
 use Rattle.nl_meta.specs.Running.{running_over}
 use Rattle.nl_recover.specs.Loading.{Loads}
 use Rattle.nl_recover.specs.Looking.{LooksAlike}
 use Rattle.nl_recover.specs.Restoring.{AreListed, BringsBack}
-use Rattle.nl_recover.proofs.BackFacts.{committed-is, few-listed, has-images, journal-bytes, listed-transaction, none-committed, none-running, some-listed}
+use Rattle.nl_recover.proofs.BackFacts.{apart-listed, committed-is, few-listed, has-images, journal-bytes, listed-transaction, none-committed, none-running, runs-listed, some-listed}
 use Rattle.nl_recover.proofs.LoadFacts.{same-bytes}
 use Rattle.nl_recover.proofs.Restores.{none-count}
 
@@ -32,7 +32,7 @@ none-dirty : (count : ℕ) → (no_pages count).dirty ≡ []
 unfolding no_pages
 none-dirty count = refl
 
-none-frozen : (count : ℕ) → length (no_pages count).frozen.addresses ≡ 0
+none-frozen : (count : ℕ) → (no_pages count).frozen ≡ none_frozen
 unfolding no_pages
 none-frozen count = refl
 
@@ -44,15 +44,23 @@ module _ {D : Type 0} (g : Ghosts D) where
       count = ap (λ (q : Pages). length q.running) e ∙ none-count (g.shape s).vaddrs;
       frozen = λ v off. gone v;
       clean = ap (λ (q : Pages). q.dirty) e ∙ none-dirty (g.shape s).vaddrs;
+      apart = λ v low high. gone v;
+      restored = record {
+        due = inl (idle, ap (λ (q : Pages). q.frozen) e ∙ none-frozen (g.shape s).vaddrs);
+        runs = λ i lt. absurd (let n = frozen-none in omega (arith, lt, n));
+      };
       same = λ t v. none-committed (g.shape s) (map_bytes (g.shape s) (g.map s)) p gone (counting-journal (g.shape s) (g.map s) (addresses_of (g.shape s) volume) ∙ nothing t) v;
       phase = subst (λ (f : Phase). IsPhase f (length p.frozen.addresses)) (sym idle) tt;
-      pages = λ some. absurd (let n = ap (λ (q : Pages). length q.frozen.addresses) e ∙ none-frozen (g.shape s).vaddrs in omega (arith, some, n));
+      pages = λ some. absurd (let n = frozen-none in omega (arith, some, n));
       number = number;
       opened = λ t. subst (λ (f : Phase). Opened f (g.shape s) (bytes_of (g.map s)) journal.number p.frozen) (sym idle) (nothing t, number t);
     }
       where
         gone : (v : ℕ) → page_of p v ≡ None
         gone v = ap (λ (q : Pages). page_of q v) e ∙ none-running (g.shape s).vaddrs v
+
+        frozen-none : length p.frozen.addresses ≡ 0
+        frozen-none = ap (λ (q : Pages). length q.frozen.addresses) e ∙ ap (λ (f : Frozen). length f.addresses) (none-frozen (g.shape s).vaddrs)
 
     -- one counts
     pub back-some : IsPages p → length p.running ≡ (g.shape s).vaddrs → journal.phase ≡ Home 0 → (g.tells → (h : HeaderRec) × (counting (g.shape s) (bytes_of (g.map s)) ≡ Some h))
@@ -61,6 +69,11 @@ module _ {D : Type 0} (g : Ghosts D) where
       count = count;
       frozen = l.restored.others;
       clean = l.restored.clean;
+      apart = apart-listed g.tells (g.shape s) (map_bytes (g.shape s) (g.map s)) p l;
+      restored = record {
+        due = inr (home, some-listed g.tells (g.shape s) (map_bytes (g.shape s) (g.map s)) p l);
+        runs = runs-listed g.tells (g.shape s) (map_bytes (g.shape s) (g.map s)) p l stands;
+      };
       same = λ t v. committed-is g.tells (g.shape s) (map_bytes (g.shape s) (g.map s)) p l t (bytes_of (g.map s)) same (counts t).0 (counts t).1 journal.number (number t) stands v;
       phase = subst (λ (f : Phase). IsPhase f (length p.frozen.addresses)) (sym home) (some-listed g.tells (g.shape s) (map_bytes (g.shape s) (g.map s)) p l);
       pages = λ some. listed-transaction g.tells (g.shape s) (map_bytes (g.shape s) (g.map s)) p l stands count;
@@ -81,6 +94,8 @@ module _ {D : Type 0} (g : Ghosts D) where
     count = b.count ∙ ap (λ (h : Shape). h.vaddrs) (sym k.same_shape);
     frozen = b.frozen;
     clean = b.clean;
+    apart = b.apart;
+    restored = b.restored;
     same = λ tells v.
         ap (λ (f : VirtualMap). running_over f p v) (stored tells) ∙ b.same tells v
         ∙ sym (λ i. committed (k.same_shape i) (stored tells i) v);
@@ -105,6 +120,7 @@ module _ {D : Type 0} (g : Ghosts D) where
     frozen = l.frozen;
     kept = l.kept;
     each = λ u. by u (l.each u);
+    apart = l.apart;
   }
     where
       by : (u : ℕ) → (page_of q u ≡ page_of p u) ⊎ (g.tells → page_of q u ≡ running_over (map_bytes (g.shape s) (g.map s)) p u) → (page_of q u ≡ page_of p u) ⊎ (g.tells → page_of q u ≡ running_over (map_bytes (g.shape t) (g.map t)) p u)

@@ -16,5 +16,6 @@ pub mod Restores
 pub mod Retains
 pub mod Scans
 pub mod StampFacts
+pub mod StartFacts
 pub mod WalkFacts
 pub mod WalkedFacts

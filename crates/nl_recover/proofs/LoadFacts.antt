@@ -6,6 +6,7 @@ use Rattle.nl_field.specs.Virtual.{is_inode_address, map_bytes, or_zeros}
 use Rattle.nl_field.specs.declared.shape.Shape.{Shape}
 use Rattle.nl_iface.specs.Stored.{Value}
 use Rattle.nl_meta.specs.Committed.{VirtualMap}
+use Rattle.nl_meta.specs.PageLaws.{IsApart}
 use Rattle.nl_meta.specs.Pages.{Pages, page_of}
 use Rattle.nl_meta.specs.Running.{or_stored, running_over}
 use Rattle.nl_meta.specs.Steps.{with_admitted, without_page}
@@ -33,7 +34,7 @@ twice (Some b) s = refl
 
 module _ (tells : Type 0) where
   pub loads-none : (stored : VirtualMap) (p : Pages) → Loads tells stored p p
-  loads-none stored p = record { count = refl; dirty = refl; frozen = refl; kept = λ u h. refl; each = λ u. inl refl }
+  loads-none stored p = record { count = refl; dirty = refl; frozen = refl; kept = λ u h. refl; each = λ u. inl refl; apart = λ u h. inl h }
 
   module _ (stored stored' : VirtualMap) (same : tells → (u : ℕ) → stored' u ≡ stored u) where
     pub runs : (p q : Pages) (u : ℕ) → (page_of q u ≡ page_of p u) ⊎ (tells → page_of q u ≡ running_over stored p u) → tells → running_over stored' q u ≡ running_over stored p u
@@ -58,8 +59,13 @@ module _ (tells : Type 0) where
       frozen = b.frozen ∙ a.frozen;
       kept = λ u h. b.kept u (subst (λ (o : Option (List ℕ)). IsSome o) (sym (a.kept u h)) h) ∙ a.kept u h;
       each = λ u. by u (a.each u) (b.each u);
+      apart = λ u h. before u (b.apart u h);
     }
       where
+        before : (u : ℕ) → IsSome (page_of q u) ⊎ IsApart u → IsSome (page_of p u) ⊎ IsApart u
+        before u (inl h) = a.apart u h
+        before u (inr far) = inr far
+
         by : (u : ℕ) → (page_of q u ≡ page_of p u) ⊎ (tells → page_of q u ≡ running_over stored p u) → (page_of r u ≡ page_of q u) ⊎ (tells → page_of r u ≡ running_over stored' q u)
             → (page_of r u ≡ page_of p u) ⊎ (tells → page_of r u ≡ running_over stored p u)
         by u (inl e) (inl f) = inl (f ∙ e)
@@ -80,16 +86,21 @@ module _ (tells : Type 0) where
     other u h e = both_ways _ (ap (λ (w : ℕ). is_some (page_of p w)) e ∙ ap is_some gone) h
 
     -- it was read
-    pub admitted-loads : (tells → stored v ≡ Some bytes) → Loads tells stored p (with_admitted p v bytes)
+    pub admitted-loads : IsApart v → (tells → stored v ≡ Some bytes) → Loads tells stored p (with_admitted p v bytes)
     unfolding running_over
-    admitted-loads is = record {
+    admitted-loads apart is = record {
       count = length-set p.running v (Some bytes);
       dirty = refl;
       frozen = refl;
       kept = λ u h. get_or-set_other p.running v u (Some bytes) None (other u h);
       each = λ u. by u (cases_eq u v);
+      apart = λ u h. only u h (cases_eq u v);
     }
       where
+        only : (u : ℕ) → IsSome (page_of (with_admitted p v bytes) u) → (u ≡ v) ⊎ (u ≡ v → ⊥) → IsSome (page_of p u) ⊎ IsApart u
+        only u h (inl e) = inr (subst IsApart (sym e) apart)
+        only u h (inr far) = inl (subst (λ (o : Option (List ℕ)). IsSome o) (get_or-set_other p.running v u (Some bytes) None far) h)
+
         by : (u : ℕ) → (u ≡ v) ⊎ (u ≡ v → ⊥) → (page_of (with_admitted p v bytes) u ≡ page_of p u) ⊎ (tells → page_of (with_admitted p v bytes) u ≡ or_stored (page_of p u) (stored u))
         by u (inl e) = inr (λ t.
             ap (λ (w : ℕ). get_or (set p.running v (Some bytes)) w None) e ∙ get_or-set_same p.running v (Some bytes) None below
@@ -111,6 +122,7 @@ module _ (tells : Type 0) where
       frozen = refl;
       kept = λ u h. beside u (other u h);
       each = λ u. inl (by u (cases_eq u v));
+      apart = λ u h. inl (subst (λ (o : Option (List ℕ)). IsSome o) (by u (cases_eq u v)) h);
     }
       where
         beside : (u : ℕ) → (u ≡ v → ⊥) → page_of (without_page (with_admitted p v bytes) v) u ≡ page_of p u

@@ -1,6 +1,6 @@
 -- The pointers of a consistent volume can be retained.
-use Rattle.std.proofs.Common.{◌≡◌, ◌≢◌, ℕ, zero, suc, ◌+◌, ◌*◌, ◌<◌, ◌≤◌, ◌==◌, Bool, true, false, cond, List, [], ◌∷◌, length, get_or, map, refl, sym, ap, subst, ◌∙◌, IsSome, inl, inr, arith, eq-eqb}
-use Rattle.std.specs.Prelude.{All, count_by, filter}
+use Rattle.std.proofs.Common.{◌≡◌, ◌≢◌, ℕ, zero, suc, ◌*◌, ◌≤◌, ◌==◌, Bool, true, false, cond, List, [], ◌∷◌, length, map, refl, sym, ap, subst, ◌∙◌, IsSome, inl, inr, arith, eq-eqb}
+use Rattle.std.specs.Prelude.{All, filter}
 use Rattle.std.specs.List.{AllPairs, list_any}
 use Rattle.std.proofs.lemmas.List.Kept.{AllPairs-cons}
 use Rattle.std.proofs.lemmas.List.Sums.{length-filter}
@@ -9,10 +9,8 @@ use Rattle.nl_field.specs.ScanList.{is_lost_seen, owns_seen, physical_seen, phys
 use Rattle.nl_field.specs.SpareRecord.{stamp_of}
 use Rattle.nl_field.specs.declared.pointer.Pointer.{Pointer}
 use Rattle.nl_field.specs.declared.seen.Seen.{Seen}
-use Rattle.nl_field.specs.declared.shape.Shape.{Shape}
 use Rattle.nl_field.specs.declared.spare.SpareRec.{SpareRec}
-use Rattle.nl_meta.specs.Committed.{VirtualMap}
-use Rattle.nl_meta.specs.Consistent.{ConsistentOver, IsListed}
+use Rattle.nl_meta.specs.Consistent.{IsListed}
 use Rattle.nl_meta.specs.Nodes.{Held, held_in}
 use Rattle.nl_meta.proofs.Facts.{EachTwo}
 use Rattle.nl_meta.proofs.Lists.{member_any}

@@ -1,5 +1,5 @@
 -- What a volume is begun with, once a walk over the resident pages found no fault.
-use Rattle.std.proofs.Common.{◌≡◌, ◌⊎◌, inl, inr, ℕ, ◌+◌, ◌-◌, ◌*◌, ◌/◌, ◌<◌, ◌≤◌, ◌==◌, false, List, map, refl, sym, ap, subst, ◌∙◌, Option, Some, None, IsSome, is_some, option_and_then, nat_le, nat_lt, arith}
+use Rattle.std.proofs.Common.{◌≡◌, ◌⊎◌, inl, inr, ℕ, ◌+◌, ◌-◌, ◌*◌, ◌/◌, ◌<◌, ◌≤◌, ◌==◌, false, List, [], length, get_or, map, refl, sym, ap, subst, ◌∙◌, Option, Some, None, IsSome, is_some, option_and_then, nat_le, nat_lt, arith}
 use Rattle.std.specs.Prelude.{⊤}
 use Rattle.std.specs.List.{list_any}
 use Rattle.std.proofs.lemmas.Bool.{and_parts, both_ways, leb-true, ltb-true}
@@ -15,11 +15,13 @@ use Rattle.nl_iface.specs.declared.counts.Counts.{Ghosts}
 use Rattle.nl_inode.specs.Nodes.{AreFree, Spaces}
 use Rattle.nl_journal.specs.Progress.{Progress}
 use Rattle.nl_journal.specs.Standing.{InOrder}
+use Rattle.nl_journal.specs.declared.answers.Phase.TheVariants.{Header, Home}
 use Rattle.nl_journal.proofs.Openings.{opens_in_order}
 use Rattle.nl_meta.specs.Committed.{VirtualMap, committed}
 use Rattle.nl_meta.specs.Consistent.{AddressAt, ConsistentOver}
 use Rattle.nl_meta.specs.Nodes.{Held, inode_at, super_of_pages}
-use Rattle.nl_meta.specs.Pages.{Frozen, Pages, page_of}
+use Rattle.nl_meta.specs.PageLaws.{IsApart}
+use Rattle.nl_meta.specs.Pages.{Frozen, Pages, none_frozen, page_of}
 use Rattle.nl_meta.specs.Running.{CleanIsStored, or_stored, running_over}
 use Rattle.nl_meta.specs.Walk.{fault_in, walk_over}
 use Rattle.nl_meta.proofs.Lists.{none_some}
@@ -29,7 +31,7 @@ use Rattle.nl_running.proofs.Holds.{bounds-of}
 use Rattle.nl_recover.specs.Loading.{Loads}
 use Rattle.nl_recover.specs.Looking.{LooksAlike}
 use Rattle.nl_recover.specs.Recovering.{Begins, Finds, IfDamaged, IfReady, IsFault, IsWalked, Walks, count_in}
-use Rattle.nl_recover.specs.Restoring.{BringsBack, IsRead}
+use Rattle.nl_recover.specs.Restoring.{BringsBack, HasRestored, IsRead}
 use Rattle.nl_recover.specs.declared.metadata.Metadata.{Metadata}
 use Rattle.nl_recover.specs.declared.opening.Recovered.{Recovered}
 use Rattle.nl_recover.specs.declared.opening.Recovered.TheVariants.{Ready, Damaged, Fault, Memory}
@@ -141,6 +143,27 @@ module _ {D : Type 0} (g : Ghosts D) where
     pub same-loaded : (q : Pages) → Loads g.tells (stored_on g s) p q → g.tells → (v : ℕ) → running_on g s q v ≡ committed (g.shape s) (stored_on g s) v
     same-loaded q l tells v = runs g.tells (stored_on g s) (stored_on g s) (λ _ _. refl) p q v (l.each v) tells ∙ back.same tells v
 
+    -- no page of the journal was loaded
+    apart-loaded : (q : Pages) → Loads g.tells (stored_on g s) p q → (v : ℕ) → 1 ≤ v → v < 67 → page_of q v ≡ None
+    apart-loaded q l v low high = by (page_of q v) refl
+      where
+        none : (b : List ℕ) → page_of q v ≡ Some b → IsSome (page_of p v) ⊎ IsApart v → ⊥
+        none b e (inl there) = both_ways (is_some (page_of p v)) (ap is_some (back.apart v low high)) there
+        none b e (inr (inl zero)) = omega (arith, low, zero)
+        none b e (inr (inr far)) = omega (arith, high, far)
+
+        by : (o : Option (List ℕ)) → page_of q v ≡ o → page_of q v ≡ None
+        by None e = e
+        by (Some b) e = absurd (none b e (l.apart v (ap is_some e)))
+
+    -- and each that was restored stays
+    restored-loaded : (q : Pages) → Loads g.tells (stored_on g s) p q → HasRestored journal q
+    restored-loaded q l = record {
+      due = subst (λ (f : Frozen). ((journal.phase ≡ Header) × (f ≡ none_frozen)) ⊎ ((journal.phase ≡ Home 0) × (1 ≤ length f.addresses))) (sym l.frozen) back.restored.due;
+      runs = subst (λ (f : Frozen). (i : ℕ) → i < length f.addresses → page_of q (get_or f.addresses i 0) ≡ Some (get_or f.images i [])) (sym l.frozen)
+          (λ i lt. let is = back.restored.runs i lt in l.kept (get_or p.frozen.addresses i 0) (ap is_some is) ∙ is);
+    }
+
     -- the walk over the pages in memory is that over the committed ones
     pub told-walk : (q : Pages) → (g.tells → LooksAlike (g.shape s) (running_over (stored_on g s) p) (page_of q)) → g.tells
         → walk_over (g.shape s) (committed (g.shape s) (stored_on g s)) seen ≡ walk_over (g.shape s) (page_of q) seen
@@ -155,6 +178,7 @@ module _ {D : Type 0} (g : Ghosts D) where
       clean = l.dirty ∙ back.clean;
       resident = needed-there shape bounds seen w.meta paged stored;
       super_resident = super-there shape bounds seen w.meta paged;
+      apart = apart-loaded w.meta l;
       runs = record {
         count = l.count ∙ back.count;
         nodes = sound.metadata.tree.nodes;
@@ -164,8 +188,10 @@ module _ {D : Type 0} (g : Ghosts D) where
         clean = clean-loaded w.meta l;
       };
       free = free-running shape bounds seen w.meta paged stored w.nodes b.free;
+      spaces = b.spaces;
       count = (sound.metadata.super_rec, sound.metadata.numbers.spelled, sym (b.count ∙ ap count_in (sym (super-same shape (page_of w.meta) (running_on g s w.meta) bounds alike) ∙ sound.metadata.numbers.spelled)));
       kept = b.kept ∙ ap (map (λ (h : Held). h.pointer)) (sym (held-same shape (page_of w.meta) (running_on g s w.meta) bounds alike paged.metadata.tree.addresses));
+      restored = subst (λ (j : Progress). HasRestored j w.meta) (sym b.same_journal) (restored-loaded w.meta l);
       number = λ tells. ap (λ (j : Progress). j.number + 1) b.same_journal ∙ back.number tells;
       order = λ none.
           subst (λ (j : Progress). InOrder g s j w.meta.frozen) (sym b.same_journal)

@@ -11,4 +11,5 @@ pub mod Recovering
 pub mod Restoring
 pub mod Retaining
 pub mod Scanning
+pub mod Starting
 pub mod Walking

@@ -1,5 +1,5 @@
 -- What an opening answers.
-use Rattle.std.specs.Prelude.{◌≡◌, ⊤, ℕ, ◌+◌, List, [], map, Option, Some, None, IsSome}
+use Rattle.std.specs.Prelude.{◌≡◌, ⊤, ℕ, ◌+◌, ◌<◌, ◌≤◌, List, [], map, Option, Some, None, IsSome}
 use Rattle.nl_field.specs.declared.place.Place.{Place}
 use Rattle.nl_field.specs.declared.seen.Seen.{Seen}
 use Rattle.nl_field.specs.declared.shape.Shape.{Shape}
@@ -16,6 +16,8 @@ use Rattle.nl_meta.specs.Nodes.{held_in, super_of_pages}
 use Rattle.nl_meta.specs.Pages.{Pages, page_of}
 use Rattle.nl_meta.specs.Walk.{walk_over}
 use Rattle.nl_running.specs.Running.{IsNeeded, Runs, running_on, stored_on}
+use Rattle.nl_recover.specs.Freeing.{SpacesOf}
+use Rattle.nl_recover.specs.Restoring.{HasRestored}
 use Rattle.nl_recover.specs.declared.opening.Recovered.{Recovered}
 use Rattle.nl_recover.specs.declared.opening.Recovered.TheVariants.{Ready, Damaged, Fault, Memory}
 use Rattle.nl_recover.specs.declared.opening.Walked.{Walked}
@@ -29,14 +31,18 @@ pub record IsWalked {D : Type 0} (g : Ghosts D) (s : D) (seen : List Seen) (w : 
   pub clean : w.meta.dirty ≡ []
   pub resident : (v : ℕ) → IsNeeded (g.shape s) (running_on g s w.meta) v → IsSome (page_of w.meta v)
   pub super_resident : IsSome (page_of w.meta 0)
+  -- and none of the journal's addresses is;
+  pub apart : (v : ℕ) → 1 ≤ v → v < 67 → page_of w.meta v ≡ None
   pub runs : Runs g s w.meta
   -- what they do not use is free;
   pub free : AreFree (g.shape s) (running_on g s w.meta) w.nodes
+  pub spaces : SpacesOf (g.shape s) w.nodes
   -- these are the count of calls that the super page tells, and the pointers of files in the order of nodes and indexes;
   pub count : (rec : SuperRec) × (super_of_pages (running_on g s w.meta) ≡ Some rec) × (rec.count ≡ w.count)
   pub kept : w.kept.items ≡ map (λ h. h.pointer) (held_in (g.shape s) (running_on g s w.meta))
-  -- the next transaction has the next number, and the one that counts is frozen, its home copies left to be made, where no write of an
-  -- address failed before.
+  -- the transaction that counts is restored, and the next one has the next number. Where no write of an address failed before, the journal
+  -- is in order.
+  pub restored : HasRestored w.journal w.meta
   pub number : g.tells → w.journal.number + 1 ≡ next_number (g.shape s) (bytes_of (g.map s))
   pub order : (g.tells → NoneFailed (g.shape s).vaddrs (g.failed s)) → InOrder g s w.journal w.meta.frozen
 
@@ -75,6 +81,7 @@ pub record Begins (shape : Shape) (seen : List Seen) (journal : Progress) (p : P
   pub same_journal : w.journal ≡ journal
   pub same_pages : w.meta ≡ p
   pub free : AreFree shape (page_of p) w.nodes
+  pub spaces : SpacesOf shape w.nodes
   pub count : w.count ≡ count_in (super_of_pages (page_of p))
   pub kept : w.kept.items ≡ map (λ h. h.pointer) (held_in shape (page_of p))
 

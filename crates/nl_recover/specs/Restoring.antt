@@ -8,9 +8,10 @@ use Rattle.nl_iface.specs.declared.counts.Counts.{Ghosts}
 use Rattle.nl_journal.specs.Opening.{Opened}
 use Rattle.nl_journal.specs.Outcomes.{bytes_of}
 use Rattle.nl_journal.specs.Progress.{IsPhase, Progress}
-use Rattle.nl_journal.specs.Transaction.{IsTransaction, head}
+use Rattle.nl_journal.specs.Transaction.{IsTransaction, head, main_at}
+use Rattle.nl_journal.specs.declared.answers.Phase.TheVariants.{Header, Home}
 use Rattle.nl_meta.specs.Committed.{VirtualMap, committed, next_number}
-use Rattle.nl_meta.specs.Pages.{Pages, is_frozen, page_of}
+use Rattle.nl_meta.specs.Pages.{Pages, is_frozen, none_frozen, page_of}
 use Rattle.nl_meta.specs.Running.{running_over}
 use Rattle.nl_recover.specs.Loading.{Loads}
 use Rattle.nl_recover.specs.Looking.{LooksAlike}
@@ -41,12 +42,20 @@ pub record AreListed (tells : Type 0) (shape : Shape) (stored : VirtualMap) (p :
 abbrev pub IsAway : Shape → VirtualMap → List ℕ → Type 0
 IsAway shape stored addresses = (i : ℕ) × (i < length addresses) × ((shape.vaddrs ≤ slice_index addresses i) ⊎ (stored (2 + i) ≡ None))
 
+-- The transaction that counts, once it is restored: each of its pages is frozen, and runs with the image that it has. All of them are to be
+-- copied home. Where none counts, none is frozen.
+pub record HasRestored (journal : Progress) (p : Pages) : Type 0 where
+  pub due : ((journal.phase ≡ Header) × (p.frozen ≡ none_frozen)) ⊎ ((journal.phase ≡ Home 0) × (1 ≤ length p.frozen.addresses))
+  pub runs : (i : ℕ) → i < length p.frozen.addresses → page_of p (slice_index p.frozen.addresses i) ≡ Some (main_at p.frozen.images i)
+
 -- The journal was read back. Only frozen pages are resident, and they are the images of the transaction that counts, if one does: so the
 -- running map is the committed one.
 pub record BringsBack {D : Type 0} (g : Ghosts D) (s : D) (journal : Progress) (p : Pages) : Type 0 where
   pub count : length p.running ≡ (g.shape s).vaddrs
   pub frozen : (v : ℕ) → is_frozen p v ≡ false → page_of p v ≡ None
   pub clean : p.dirty ≡ []
+  pub apart : (v : ℕ) → 1 ≤ v → v < 67 → page_of p v ≡ None
+  pub restored : HasRestored journal p
   pub same : g.tells → (v : ℕ) → running_over (map_bytes (g.shape s) (g.map s)) p v ≡ committed (g.shape s) (map_bytes (g.shape s) (g.map s)) v
   pub phase : IsPhase journal.phase (length p.frozen.addresses)
   pub pages : 1 ≤ length p.frozen.addresses → IsTransaction (g.shape s).vaddrs p.frozen

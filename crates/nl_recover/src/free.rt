@@ -15,7 +15,8 @@ use std::alloc::Global;
 /// The free nodes and the free addresses of the pool: those that no used node has.
 pub fn free_lists(alloc: Global, shape: &Shape, meta: &Meta) -> Result<Nodes, Memory>
     requires { ShapeBounds shape.now }
-    ensures { IfOk result (AreFree shape.now (page_of meta.now)) }
+    ensures free { IfOk result (AreFree shape.now (page_of meta.now)) }
+    ensures spaces { IfOk result (SpacesOf shape.now) }
 {
     let mut nodes = Nodes::new(alloc, *shape)?;
     for ino in 0..shape.nodes {

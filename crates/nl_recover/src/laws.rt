@@ -1,6 +1,9 @@
 //! Laws of the definitions. Each function stands for the law that its contract names.
 ghost use Rattle.nl_recover.specs.Looking.{WalksAlike};
 ghost use Rattle.nl_recover.specs.Retaining.{KeptCanBeRetained};
+ghost use Rattle.nl_recover.specs.Starting.{WalkedStarts};
+
+use nl_iface::VirtualPages;
 
 /// Two maps of pages that are alike where a walk looks have one first fault.
 pub fn walks_alike()
@@ -10,4 +13,9 @@ pub fn walks_alike()
 /// The pointers of a volume in which a walk found no fault are those that its device can retain.
 pub fn kept_can_be_retained()
     ensures { KeptCanBeRetained }
+{}
+
+/// What an opening hands out can run where no write of an address failed before.
+pub fn walked_starts<D: VirtualPages>()
+    ensures { WalkedStarts D.Counts }
 {}

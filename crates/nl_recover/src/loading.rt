@@ -3,6 +3,7 @@ ghost use Rattle.nl_field.specs.Numbers.{ShapeBounds};
 ghost use Rattle.nl_field.specs.Virtual.{is_inode_address, map_bytes};
 ghost use Rattle.nl_iface.specs.Calls.{OnlyReads, ReadsCounted};
 ghost use Rattle.nl_meta.specs.Consistent.{AddressAt};
+ghost use Rattle.nl_meta.specs.PageLaws.{IsApart};
 ghost use Rattle.nl_meta.specs.Pages.{page_of};
 ghost use Rattle.nl_meta.specs.Running.{running_over};
 ghost use Rattle.nl_recover.specs.Filling.{FillsFrom};
@@ -71,6 +72,7 @@ fn load_range<D: VirtualPages>(
     requires formed { D.formed device.old }
     requires shape { shape.now ≡ D.shape device.old }
     requires within { to ≤ shape.now.vaddrs }
+    requires apart { 67 ≤ from }
     requires count { length meta.old.running ≡ shape.now.vaddrs }
     ensures formed { D.formed device.new }
     ensures device { OnlyReads D.Counts device.old device.new }
@@ -186,6 +188,7 @@ fn load_page<D: VirtualPages>(device: &mut D, meta: &mut Meta, vaddr: u32, shape
     requires formed { D.formed device.old }
     requires shape { shape.now ≡ D.shape device.old }
     requires within { vaddr < shape.now.vaddrs }
+    requires apart { IsApart vaddr }
     requires count { length meta.old.running ≡ shape.now.vaddrs }
     ensures formed { D.formed device.new }
     ensures device { OnlyReads D.Counts device.old device.new }

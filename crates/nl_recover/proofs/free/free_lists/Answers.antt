@@ -14,8 +14,11 @@ use_node-requires-clause-spaces c = c.loop-ino.invariant.spaces
 pub loop-ino-preserved : goal.loop-ino-preserved
 loop-ino-preserved c = free-more c.args.shape.now (page_of c.args.meta.now) c.loop-ino.ino c.loop-ino.nodes c.use_node.new.nodes c.loop-ino.invariant c.use_node.ensures
 
-pub returns : goal.returns
-returns c =
+pub returns-clause-free : goal.returns-clause-free
+returns-clause-free c =
     let past = c.loop-ino-test.false in
     let most = c.loop-ino.auto.ino-end in
     are-free c.args.shape.now (page_of c.args.meta.now) c.loop-ino.ino c.loop-ino.nodes (omega (arith, past, most)) c.loop-ino.invariant
+
+pub returns-clause-spaces : goal.returns-clause-spaces
+returns-clause-spaces c = c.loop-ino.invariant.spaces

@@ -16,7 +16,7 @@ pub dismiss-requires-clause-clean : goal.dismiss-requires-clause-clean
 dismiss-requires-clause-clean g c = not-dirty c.args.meta.now c.args.vaddr c.stands.ensures (none-of _ (sym c.resident.ensures ∙ c.if-resident.false))
 
 pub returns-in-Ready-clause-loads : goal.returns-in-Ready-clause-loads
-returns-in-Ready-clause-loads g c = λ _. admitted-loads g.D.Counts.tells (map_bytes (g.D.Counts.shape c.args.device.now) (g.D.Counts.map c.args.device.now)) c.args.meta.now c.args.vaddr c.read_into.new.page.main (subst (λ (n : ℕ). c.args.vaddr < n) (sym c.requires.count) c.requires.within) (none-of _ (sym c.resident.ensures ∙ c.if-resident.false)) c.in-Ready.ensures.page
+returns-in-Ready-clause-loads g c = λ _. admitted-loads g.D.Counts.tells (map_bytes (g.D.Counts.shape c.args.device.now) (g.D.Counts.map c.args.device.now)) c.args.meta.now c.args.vaddr c.read_into.new.page.main (subst (λ (n : ℕ). c.args.vaddr < n) (sym c.requires.count) c.requires.within) (none-of _ (sym c.resident.ensures ∙ c.if-resident.false)) c.requires.apart c.in-Ready.ensures.page
 
 pub returns-in-Ready-clause-settled : goal.returns-in-Ready-clause-settled
 returns-in-Ready-clause-settled g c = λ _. admitted-settled g.D.Counts.tells (map_bytes (g.D.Counts.shape c.args.device.now) (g.D.Counts.map c.args.device.now)) c.args.meta.now c.args.vaddr c.read_into.new.page.main (subst (λ (n : ℕ). c.args.vaddr < n) (sym c.requires.count) c.requires.within) (none-of _ (sym c.resident.ensures ∙ c.if-resident.false)) c.in-Ready.ensures.page
