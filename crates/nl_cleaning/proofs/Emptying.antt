@@ -53,15 +53,15 @@ taken_bad : (s m : Space) → TakesVictim s m → NoneRetired s m
 taken_bad s m (inl hand) = ap (λ (x : Space). x.bad) hand.1
 taken_bad s m (inr begun) = begun.0.bad
 
-taken_same : (s m : Space) → TakesVictim s m → SameSegment s m
+pub taken_same : (s m : Space) → TakesVictim s m → SameSegment s m
 taken_same s m (inl hand) = subst (SameSegment s) (sym hand.1) (record { block = refl; all = refl; bad = omega arith; kept = refl })
 taken_same s m (inr begun) = begun.0.same
 
-taken_live : (s m : Space) → TakesVictim s m → m.live ≡ s.live
+pub taken_live : (s m : Space) → TakesVictim s m → m.live ≡ s.live
 taken_live s m (inl hand) = ap (λ (x : Space). x.live) hand.1
 taken_live s m (inr begun) = begun.0.others.3
 
-segment_then : {r s t : Space} → SameSegment r s → SameSegment s t → SameSegment r t
+pub segment_then : {r s t : Space} → SameSegment r s → SameSegment s t → SameSegment r t
 segment_then a b = record { block = b.block ∙ a.block; all = b.all ∙ a.all; bad = (let x = a.bad in let y = b.bad in omega (arith, x, y)); kept = b.kept ∙ a.kept }
 
 pub moved_same : (s m : Space) → HasMoved s m → SameSegment s m
@@ -129,7 +129,7 @@ module _ {D : Type 0} (g : Ghosts D) where
   copied_lands s t (inl m) none lands = m.space.lands (none ∙ sym (taken_bad (g.names s).space m.taken m.takes)) (taken_lands (g.names s).space m.taken m.takes lands)
   copied_lands s t (inr b) none lands = let left = b.1 in omega (arith, left)
 
-  copied_pages : (s t : D) → HasCopied g s t → KeepsCleaning g s t → CarriesPages (λ p q. g.tells → g.bytes t q ≡ g.bytes s p) (g.names s) (g.names t)
+  pub copied_pages : (s t : D) → HasCopied g s t → KeepsCleaning g s t → CarriesPages (λ p q. g.tells → g.bytes t q ≡ g.bytes s p) (g.names s) (g.names t)
   copied_pages s t (inl m) k = move_carries _ m.callback (g.names s) (g.names t) m.names m.bytes (λ p page is tells. k.bytes tells p page is)
   copied_pages s t (inr b) k = same_carries _ (g.names s) (g.names t) b.0.tables (λ p page is tells. k.bytes tells p page is)
 

@@ -45,7 +45,7 @@ in_hand t (inr why) un = absurd (un (λ hand. let one = hand.0 in let none = why
 pub stays : (s t : Space) → HasMoved s t → t.victim ≡ 1 → NoneRetired s t → StaysInHand s t
 stays s t moved one none = record { same = moved_same s t moved; bad = none; victim = one; live = moved_live s t moved }
 
-erased_rose : (before now : ℕ) (failed : Type 0) → FaultsCounted before now failed → failed → Rose before now
+pub erased_rose : (before now : ℕ) (failed : Type 0) → FaultsCounted before now failed → failed → Rose before now
 erased_rose before now failed f is = let same = f.cause is in omega (arith, same)
 
 ticked : (first before now : ℕ) → first ≤ before → now ≡ saturated (before + 1) → Earlier first now

@@ -3,4 +3,5 @@ mod Counting
 mod Device
 mod Emptying
 mod Finishing
+pub mod Once
 mod Steps
