@@ -1,29 +1,27 @@
 -- A core stands on while a victim of its device is cleaned.
-use Rattle.std.proofs.Common.{◌≡◌, ◌⊎◌, inl, inr, ⊎_elim, ℕ, ◌+◌, ◌*◌, ◌<◌, ◌≤◌, List, length, Option, Some, None, refl, sym, ap, subst, ◌∙◌, arith}
-use Rattle.nl_field.specs.CrashStates.{Rose}
+use Rattle.std.proofs.Common.{◌≡◌, inl, inr, ⊎_elim, ℕ, ◌+◌, ◌*◌, ◌<◌, ◌≤◌, length, Option, Some, refl, sym, ap, subst, ◌∙◌, arith}
 use Rattle.nl_field.specs.Graph.{Graph}
 use Rattle.nl_field.specs.declared.shape.Shape.{Shape}
-use Rattle.nl_cleaning.specs.Carried.{CarriesPages, KeepsHeld, KeepsStored, LeavesHeld}
+use Rattle.nl_cleaning.specs.Carried.{KeepsHeld, KeepsStored, LeavesHeld}
 use Rattle.nl_cleaning.specs.Spaces.{CleansVictim, HasMoved}
 use Rattle.nl_cleaning.specs.declared.cleaning.Cleaned.{Cleaned}
 use Rattle.nl_cleaning.specs.declared.cleaning.Cleaned.TheVariants.{Done, Nothing, Lost, Fault}
 use Rattle.nl_device.specs.declared.device.Device.{Device}
 use Rattle.nl_drain.specs.Handled.{nameless_body}
 use Rattle.nl_flight.specs.Flight.{carried}
-use Rattle.nl_holders.specs.Holding.{Holding, MarkedTo}
+use Rattle.nl_holders.specs.Holding.{MarkedTo}
 use Rattle.nl_holders.specs.Laws.{Keeps}
 use Rattle.nl_iface.specs.Calls.{Leaves, NoWriteFailed, StoresMap, StoresPages, stored}
 use Rattle.nl_iface.specs.Device.{IsVolumeShape}
-use Rattle.nl_iface.specs.Names.{Has, LivePage, Names}
+use Rattle.nl_iface.specs.Names.{Names}
 use Rattle.nl_iface.specs.Space.{CanLand, SameSegment, Space}
 use Rattle.nl_iface.specs.Stored.{Stored}
-use Rattle.nl_iface.specs.declared.Callback.{Callback}
 use Rattle.nl_iface.specs.declared.counts.Counts.{Ghosts}
 use Rattle.nl_journal.specs.Progress.{HasNumber}
 use Rattle.nl_meta.specs.Consistent.{PageOfStamp}
 use Rattle.nl_meta.specs.Nodes.{graph_of}
 use Rattle.nl_meta.proofs.Lists.{none_some}
-use Rattle.nl_running.specs.Running.{IsNeeded, running_on}
+use Rattle.nl_running.specs.Running.{running_on}
 use Rattle.nl_commit.specs.Standing.{StandsOn}
 use Rattle.nl_commit.proofs.Standing.{addresses_stand}
 use Rattle.nl_held.specs.DeviceLaws.{LeavesHolding}
@@ -33,12 +31,12 @@ use Rattle.nl_held.specs.Trees.{Prefix, Trees}
 use Rattle.nl_held.proofs.DeviceTrees.{addresses_go, holding_opens}
 use Rattle.nl_held.proofs.Firm.{stored_keeps_firm}
 use Rattle.nl_held.proofs.Steps.{cleaning_keeps_held}
-use Rattle.nl_core.specs.Core.{CanWrite, HasSpace, IsCore, begun_of, names_of, running_of}
+use Rattle.nl_core.specs.Core.{HasSpace, IsCore, begun_of, names_of, running_of}
 use Rattle.nl_core.specs.Goes.{Goes, GoesTo}
 use Rattle.nl_core.specs.Trees.{CoreStands, IsTold}
 use Rattle.nl_core.specs.Writing.{stopped_on}
 use Rattle.nl_core.specs.declared.state.Core.{Core}
-use Rattle.nl_core.proofs.Written.{has_free_on, none_failed_on, same_running, stops_on}
+use Rattle.nl_core.proofs.Written.{below_end, has_free_on, none_failed_on, same_running, stops_on}
 
 -- ---- the numbers of space
 
@@ -119,6 +117,7 @@ module _ {M : Type 0} (g : Ghosts (Device M)) (v w : Core M) (others : w ≡ rec
       spare = k.virtual.spare c.spare;
       lands = lands (not_failed none);
       firm = λ told. stored_keeps_firm g v.device w.device told.0 (c.firm told) k.virtual (agrees told.0 (not_failed none)).same_virtual (agrees told.0 (not_failed none)).agree (stores told.0);
+      counts = below_end (g.write_faults v.device) (g.write_faults w.device) (not_failed none);
     };
   })
 
@@ -189,6 +188,9 @@ module _ {M : Type 0} (g : Ghosts (Device M)) (v w : Core M) (others : w ≡ rec
     same_shape = k.virtual.same_shape;
     count = ap (λ (z : Core M). z.count) others;
     nodes = record { generation = λ n. ap (λ (x : Graph). (x n).generation) graph; body = λ n. ap (λ (x : Graph). nameless_body (x n).body) graph };
+    numbers = subst (λ (x : Core M). begun_of v ≤ begun_of x) (sym others) (omega arith);
+    reads = reads;
+    writes = fails;
     moment = inl (ap (λ (z : Core M). z.moment) others, ap (λ (z : Core M). z.committed) others);
     clock = k.clock;
     stops = stops_on g v w stopped reads fails;

@@ -1,27 +1,25 @@
 -- A core stands once the pages are freed that awaited it after a commit, and callbacks are acknowledged.
-use Rattle.std.proofs.Common.{◌≡◌, ◌≢◌, ◌⊎◌, inl, inr, ⊎_elim, ℕ, ◌+◌, ◌*◌, ◌<◌, ◌≤◌, ◌^◌, ◌==◌, Bool, true, false, List, [], ◌∷◌, ◌++◌, length, filter, Option, Some, None, refl, sym, ap, subst, ◌∙◌, arith}
+use Rattle.std.proofs.Common.{◌≡◌, ◌⊎◌, inl, inr, ⊎_elim, ℕ, ◌+◌, ◌*◌, ◌<◌, ◌≤◌, ◌^◌, ◌==◌, Bool, true, false, List, [], ◌∷◌, length, filter, Option, Some, None, refl, sym, ap, subst, ◌∙◌, arith}
 use Rattle.std.proofs.lemmas.List.{append-nil}
 use Rattle.std.proofs.lemmas.Bool.{cond-false, cond-true}
 use Rattle.nl_meta.proofs.Lists.{none_some}
 use Rattle.nl_field.specs.Graph.{Graph}
-use Rattle.nl_field.specs.Members as members
 use Rattle.nl_field.specs.declared.answers.VirtualWrite.{VirtualWrite}
 use Rattle.nl_field.specs.declared.answers.VirtualWrite.TheVariants as write
 use Rattle.nl_field.specs.declared.pointer.Pointer.{Pointer}
-use Rattle.nl_field.specs.declared.pointer.Tag.{Tag}
 use Rattle.nl_field.specs.declared.shape.Shape.{Shape}
 use Rattle.nl_device.specs.declared.device.Device.{Device}
-use Rattle.nl_drain.specs.Handled.{SameButNames, nameless_body}
+use Rattle.nl_drain.specs.Handled.{nameless_body}
 use Rattle.nl_flight.specs.Flight.{carried}
-use Rattle.nl_holders.specs.Holding.{Holding, HoldsPages, MarkedTo}
+use Rattle.nl_holders.specs.Holding.{Holding, MarkedTo}
 use Rattle.nl_holders.specs.Laws.{OldNamesDiffer}
 use Rattle.nl_holders.proofs.LawProofs.{none_handled}
-use Rattle.nl_iface.specs.Calls.{KeepsMedium, Leaves, StoresPages}
+use Rattle.nl_iface.specs.Calls.{KeepsMedium, StoresPages}
 use Rattle.nl_iface.specs.Device.{IsVolumeShape}
-use Rattle.nl_iface.specs.Moves.{Acknowledges, IsOver}
-use Rattle.nl_iface.specs.Names.{Drops, Has, IsTable, LivePage, Names, SameHandled, place_of, without_page}
+use Rattle.nl_iface.specs.Moves.{Acknowledges}
+use Rattle.nl_iface.specs.Names.{Drops, Has, LivePage, Names, place_of, without_page}
 use Rattle.nl_iface.specs.Rounds.{Empties}
-use Rattle.nl_iface.specs.Space.{CanLand, Freed, Space}
+use Rattle.nl_iface.specs.Space.{CanLand}
 use Rattle.nl_iface.specs.declared.Callback.{Callback}
 use Rattle.nl_iface.specs.declared.counts.Counts.{Ghosts}
 use Rattle.nl_field.specs.CrashStates.{Earlier, Rose, top}
@@ -51,8 +49,8 @@ use Rattle.nl_commit.specs.Committing.{ChangesAt}
 use Rattle.nl_commit.specs.Completing.{IsDecided}
 use Rattle.nl_held.specs.TreeLaws.{moment_of}
 use Rattle.nl_held.proofs.Freezing.{freeze_opens}
-use Rattle.nl_core.specs.Calls.{CommitsAll, HasCause}
-use Rattle.nl_core.specs.Core.{CanWrite, HasSpace, IsCore, begun_of, names_of, running_of}
+use Rattle.nl_core.specs.Calls.{CommitsAll}
+use Rattle.nl_core.specs.Core.{HasSpace, IsCore, begun_of, names_of, running_of}
 use Rattle.nl_core.specs.Goes.{Goes, GoesTo}
 use Rattle.nl_core.specs.Trees.{CoreStands, IsTold}
 use Rattle.nl_core.specs.Writing.{HasTable, Settles, WritesAll, committed_count, counted_pages}
@@ -61,7 +59,7 @@ use Rattle.nl_core.proofs.Written.{has_free_on, held_counted, journaled_counted,
 use Rattle.nl_core.proofs.WrittenTrees.{written_goes}
 use Rattle.nl_iface.proofs.RoundSteps.{empties_laws}
 use Rattle.nl_iface.proofs.Stops.{keeps_medium_then}
-use Rattle.nl_commit.specs.Freeing.{AreDue, FreesEach, FreesOne, FreesPage}
+use Rattle.nl_commit.specs.Freeing.{FreesEach, FreesOne, FreesPage}
 use Rattle.nl_commit.proofs.Frees.{frees_all}
 
 -- ---- pages that are freed one after the other
@@ -261,6 +259,7 @@ module _ {M : Type 0} (g : Ghosts (Device M)) (v w u : Core M) (answer : Virtual
       spare = kept.virtual.spare c.spare;
       lands = lands c.lands;
       firm = λ told. medium_keeps_firm g w.device u.device told.0 (c.firm told) kept (stores told.0);
+      counts = subst (λ n. n < top) (sym kept.write_faults) c.counts;
     };
   })
 
@@ -308,7 +307,11 @@ module _ {M : Type 0} (g : Ghosts (Device M)) (v w u : Core M) (answer : Virtual
       generation = λ n. ap (λ (x : Graph). (x n).generation) graph_u ∙ first.nodes.generation n;
       body = λ n. ap (λ (x : Graph). nameless_body (x n).body) graph_u ∙ first.nodes.body n;
     };
-    moment = subst (λ (x : Core M). ((x.moment ≡ v.moment) × (x.committed ≡ v.committed)) ⊎ Earlier (g.clock v.device) x.moment) (sym s.others) first.moment;
+    numbers = subst (λ (x : Core M). begun_of v ≤ begun_of x) (sym s.others) first.numbers;
+    reads = subst (λ n. g.read_faults v.device ≤ n) (sym s.read_faults) first.reads;
+    writes = subst (λ n. g.write_faults v.device ≤ n) (sym kept.write_faults) first.writes;
+    moment = subst (λ (x : Core M). ((x.moment ≡ v.moment) × (x.committed ≡ v.committed)) ⊎ (g.clock u.device < top → g.clock v.device < x.moment)) (sym s.others)
+        (subst (λ n. ((w.moment ≡ v.moment) × (w.committed ≡ v.committed)) ⊎ (n < top → g.clock v.device < w.moment)) (sym kept.clock) first.moment);
     clock = subst (λ n. g.clock v.device ≤ n) (sym kept.clock) first.clock;
     stops = record {
       stands = λ off. ap (λ (x : Core M). x.stopped) s.others ∙ first.stops.stands off;
@@ -372,11 +375,4 @@ module _ {M : Type 0} (g : Ghosts (Device M)) (v w u : Core M) (answer : Virtual
     };
     space = λ none. subst (λ (n : Names). Empties n.space (names_of g u).space)
         (b.passes.named.names (none_failed_on g v w b.stopped b.faults.reads_never_fall b.faults.writes_never_fall (sym (ap (λ (x : Core M). x.stopped) s.others) ∙ none))) empties;
-  }
-
-  pub settled_cause : (failed : Type 0) → (failed → ⊥) → HasCause g failed v u
-  settled_cause failed none = record {
-    reads = subst (λ n. g.read_faults v.device ≤ n) (sym s.read_faults) b.faults.reads_never_fall;
-    writes = subst (λ n. g.write_faults v.device ≤ n) (sym kept.write_faults) b.faults.writes_never_fall;
-    cause = λ failed. absurd (none failed);
   }

@@ -1,38 +1,33 @@
 -- A core stands on once its transactions are written, or a write or a read ended that.
-use Rattle.std.proofs.Common.{◌≡◌, ◌⊎◌, inl, inr, ⊎_elim, ℕ, ◌+◌, ◌*◌, ◌<◌, ◌≤◌, ◌^◌, ◌==◌, ◌&&◌, nat_le, Bool, true, false, cond, List, length, Option, Some, None, IsSome, refl, sym, ap, subst, ◌∙◌, arith}
-use Rattle.std.specs.Prelude.{min, IfSome}
-use Rattle.std.proofs.lemmas.Bool.{and_parts, cases_Bool, cond-false, cond-true, eqb-true, le-leb, leb-true}
+use Rattle.std.proofs.Common.{◌≡◌, ◌⊎◌, inl, inr, ⊎_elim, ℕ, ◌+◌, ◌*◌, ◌<◌, ◌≤◌, ◌^◌, ◌==◌, ◌&&◌, nat_le, true, false, List, length, Option, Some, None, sym, ap, subst, ◌∙◌, arith}
+use Rattle.std.specs.Prelude.{IfSome}
+use Rattle.std.proofs.lemmas.Bool.{and_parts, cases_Bool, cases_lt, cond-false, cond-true, eqb-true, le-leb, leb-true}
 use Rattle.nl_field.specs.CrashStates.{Rose, saturated, top}
 use Rattle.nl_field.specs.declared.answers.VirtualWrite.{VirtualWrite}
-use Rattle.nl_field.specs.declared.answers.VirtualWrite.TheVariants as write
 use Rattle.nl_field.specs.SuperPage.{super_bytes}
 use Rattle.nl_field.specs.PointerItems.{PointerItems}
-use Rattle.nl_field.specs.declared.pointer.Pointer.{Pointer}
-use Rattle.nl_field.specs.declared.pointer.Tag.{Tag}
 use Rattle.nl_field.specs.declared.shape.Shape.{Shape}
 use Rattle.nl_device.specs.declared.device.Device.{Device}
 use Rattle.nl_flight.specs.Flight.{InFlight, IsFlight, carried}
 use Rattle.nl_holders.specs.Holding.{MarkedTo}
-use Rattle.nl_iface.specs.Calls.{NoWriteFailed, StoresPages, stored}
+use Rattle.nl_iface.specs.Calls.{NoWriteFailed, StoresPages}
 use Rattle.nl_iface.specs.Device.{IsVolumeShape}
 use Rattle.nl_iface.specs.Names.{Has, Names}
 use Rattle.nl_iface.specs.Space.{CanLand}
-use Rattle.nl_iface.specs.Stored.{NamedAgree, SameNamed, Stored}
 use Rattle.nl_iface.specs.declared.Callback.{Callback}
 use Rattle.nl_iface.specs.declared.counts.Counts.{Ghosts}
 use Rattle.nl_inode.specs.FreeLaws.{NodesAreFree, PoolIsFree, Uses}
 use Rattle.nl_inode.specs.Nodes.{Spaces}
-use Rattle.nl_journal.specs.Left.{CommitWrites}
 use Rattle.nl_journal.specs.Progress.{HasNumber, Progress, begun, raised}
 use Rattle.nl_meta.specs.Committed.{VirtualMap}
 use Rattle.nl_journal.proofs.CommitSteps.{begun_header, begun_none}
-use Rattle.nl_meta.specs.Pages.{Frozen, IsPages, Pages}
+use Rattle.nl_meta.specs.Pages.{Frozen, Pages}
 use Rattle.nl_meta.specs.PointerLists.{tagged_in}
-use Rattle.nl_running.specs.Running.{IsNeeded, running_on}
+use Rattle.nl_running.specs.Running.{IsNeeded}
 use Rattle.nl_running.proofs.Holds.{bounds-of}
-use Rattle.nl_running.proofs.SameNeeded.{needed-from, needed-to, node-from, node-to}
-use Rattle.nl_commit.specs.Committing.{ChangesAt, CommitsInParts, EarlierAt}
-use Rattle.nl_commit.specs.Counting.{record_of, with_count, with_frozen}
+use Rattle.nl_running.proofs.SameNeeded.{node-from, node-to}
+use Rattle.nl_commit.specs.Committing.{ChangesAt, EarlierAt}
+use Rattle.nl_commit.specs.Counting.{record_of}
 use Rattle.nl_commit.specs.Holding.{running_holders}
 use Rattle.nl_commit.specs.Standing.{IsJournaled}
 use Rattle.nl_commit.proofs.Standing.{super_page_stands}
@@ -43,9 +38,9 @@ use Rattle.nl_held.proofs.Freezing.{super_pages_hold}
 use Rattle.nl_held.proofs.Holding.{commit_keeps_held}
 use Rattle.nl_held.proofs.Kept.{tagged_same}
 use Rattle.nl_held.specs.TreeLaws.{moment_of}
-use Rattle.nl_core.specs.Core.{CanWrite, HasFree, HasSpace, IsCore, begun_of, holders_of, names_of, running_of}
+use Rattle.nl_core.specs.Core.{CanWrite, HasFree, HasSpace, IsCore, begun_of, names_of, running_of}
 use Rattle.nl_core.specs.Goes.{Stops}
-use Rattle.nl_core.specs.Writing.{KeepsRest, WritesAll, counted_pages, stopped_by, stopped_on, stored_count}
+use Rattle.nl_core.specs.Writing.{WritesAll, counted_pages, stopped_by, stopped_on, stored_count}
 use Rattle.nl_core.specs.declared.state.Core.{Core}
 
 -- ---- the first write that failed
@@ -58,7 +53,7 @@ by_rose stopped reads before writes rose zero_ =
     cond-true (stopped == 0 && nat_le (saturated (before + 1)) writes) (saturated (reads + writes)) stopped
     (ap (λ n. n == 0 && nat_le (saturated (before + 1)) writes) zero_ ∙ le-leb (saturated (before + 1)) writes rose)
 
-stopped_cases : (stopped reads before writes : ℕ) → ((stopped ≡ 0) × Rose before writes) ⊎ (stopped_by stopped reads before writes ≡ stopped)
+pub stopped_cases : (stopped reads before writes : ℕ) → ((stopped ≡ 0) × Rose before writes) ⊎ (stopped_by stopped reads before writes ≡ stopped)
 stopped_cases stopped reads before writes = by (cases_Bool (stopped == 0 && nat_le (saturated (before + 1)) writes))
   where
     by : (stopped == 0 && nat_le (saturated (before + 1)) writes ≡ true) ⊎ (stopped == 0 && nat_le (saturated (before + 1)) writes ≡ false) → ((stopped ≡ 0) × Rose before writes) ⊎ (stopped_by stopped reads before writes ≡ stopped)
@@ -70,6 +65,14 @@ not_rose stopped reads before writes none rose = ⊎_elim
     (λ both. one_at_least reads before writes rose (sym (by_rose stopped reads before writes rose both.0) ∙ none))
     (λ same. one_at_least reads before writes rose (sym (by_rose stopped reads before writes rose (sym same ∙ none)) ∙ none))
     (stopped_cases stopped reads before writes)
+
+-- where a count did not rise, it is below its end
+pub below_end : (before now : ℕ) → (Rose before now → ⊥) → now < top
+below_end before now none = ⊎_elim (λ low. omega (arith, low)) (λ high. absurd (none high)) (cases_lt now (saturated (before + 1)))
+
+-- and where it is the same below its end, it did not rise
+pub same_below_end : (before now : ℕ) → before < top → now ≡ before → Rose before now → ⊥
+same_below_end before now low same rose = omega (arith, low, same, rose)
 
 module _ {M : Type 0} (g : Ghosts (Device M)) (v w : Core M) (is : w.stopped ≡ stopped_on g (g.write_faults v.device) v w) (reads : g.read_faults v.device ≤ g.read_faults w.device)
     (writes : g.write_faults v.device ≤ g.write_faults w.device) where
@@ -214,6 +217,7 @@ module _ {M : Type 0} (g : Ghosts (Device M)) (v w : Core M) (answer : VirtualWr
         spare = b.passes.spare.sound (not_failed none);
         lands = subst (λ (n : Names). CanLand n.space) (sym (b.passes.named.names (not_failed none))) old.lands;
         firm = still_firm none;
+        counts = below_end (g.write_faults v.device) (g.write_faults w.device) (not_failed none);
       }
 
   still_space : HasSpace g w

@@ -1,11 +1,11 @@
 -- The trees of a core go on once its transactions are written, and what a stop within that leaves.
-use Rattle.std.proofs.Common.{◌≡◌, ◌⊎◌, inl, inr, ⊎_elim, ℕ, ◌+◌, ◌<◌, ◌≤◌, ◌^◌, ◌==◌, List, [], length, Option, Some, None, option_and_then, option_map, unwrap_or, refl, sym, ap, subst, ◌∙◌, arith}
-use Rattle.std.specs.Prelude.{min, IfSome, slice_get}
+use Rattle.std.proofs.Common.{◌≡◌, ◌⊎◌, inl, inr, ⊎_elim, ℕ, ◌<◌, ◌≤◌, ◌^◌, List, [], length, Option, Some, None, option_and_then, option_map, unwrap_or, refl, sym, ap, subst, ◌∙◌, arith}
+use Rattle.std.specs.Prelude.{IfSome, slice_get}
 use Rattle.std.proofs.lemmas.Option.{slice_get-get_or}
 use Rattle.nl_field.specs.CrashStates.{Earlier}
 use Rattle.nl_field.specs.Graph.{Graph}
 use Rattle.nl_field.specs.Members.{Has}
-use Rattle.nl_field.specs.SuperPage.{super_bytes, super_of}
+use Rattle.nl_field.specs.SuperPage.{super_of}
 use Rattle.nl_field.specs.Virtual.{or_zeros}
 use Rattle.nl_field.specs.declared.answers.VirtualWrite.{VirtualWrite}
 use Rattle.nl_field.specs.declared.answers.VirtualWrite.TheVariants as write
@@ -13,7 +13,7 @@ use Rattle.nl_field.specs.declared.shape.Shape.{Shape}
 use Rattle.nl_field.specs.declared.super_page.SuperRec.{SuperRec}
 use Rattle.nl_device.specs.declared.device.Device.{Device}
 use Rattle.nl_flight.specs.Flight.{carried}
-use Rattle.nl_drain.specs.Handled.{SameButNames, nameless_body}
+use Rattle.nl_drain.specs.Handled.{nameless_body}
 use Rattle.nl_iface.specs.Calls.{Leaves, StoresPages}
 use Rattle.nl_iface.specs.Device.{IsVolumeShape}
 use Rattle.nl_iface.specs.declared.counts.Counts.{Ghosts}
@@ -26,7 +26,7 @@ use Rattle.nl_journal.specs.declared.answers.Phase.TheVariants.{Header, Image, C
 use Rattle.nl_journal.proofs.Counted.{page_beside, page_there}
 use Rattle.nl_meta.specs.Committed.{VirtualMap}
 use Rattle.nl_meta.specs.Consistent.{PageOfStamp}
-use Rattle.nl_meta.specs.Nodes.{graph_of, super_of_pages}
+use Rattle.nl_meta.specs.Nodes.{super_of_pages}
 use Rattle.nl_meta.specs.Pages.{Frozen, IsPages, Pages, frozen_at}
 use Rattle.nl_meta.proofs.Lists.{some_in}
 use Rattle.nl_commit.specs.Committing.{ChangesAt, CommitsInParts, EarlierAt}
@@ -34,15 +34,14 @@ use Rattle.nl_commit.specs.Completing.{IsDecided, IsOpen}
 use Rattle.nl_commit.specs.Counting.{with_count}
 use Rattle.nl_commit.proofs.Places.{at_place}
 use Rattle.nl_held.specs.Committed.{read_as}
-use Rattle.nl_held.specs.Standing.{ShowsPages}
-use Rattle.nl_held.specs.TreeLaws.{CommitsTrees, OpensFrom, committed_by as tree_by, moment_of}
-use Rattle.nl_held.specs.Trees.{Prefix, StandsAs, StandsFor, Trees, prefixes}
+use Rattle.nl_held.specs.TreeLaws.{OpensFrom, committed_by as tree_by, moment_of}
+use Rattle.nl_held.specs.Trees.{Prefix, StandsFor, Trees, prefixes}
 use Rattle.nl_held.proofs.CommitTrees.{commit_goes, commit_leaves}
 use Rattle.nl_held.proofs.Reading.{reads_some}
-use Rattle.nl_core.specs.Core.{IsCore, begun_of, names_of, running_of}
+use Rattle.nl_core.specs.Core.{IsCore, begun_of}
 use Rattle.nl_core.specs.Goes.{Goes, GoesTo}
 use Rattle.nl_core.specs.Trees.{CoreStands, IsTold}
-use Rattle.nl_core.specs.Writing.{WritesAll, committed_by, committed_count, counted_pages, frozen_count, last_count, stored_count}
+use Rattle.nl_core.specs.Writing.{WritesAll, committed_count, counted_pages, frozen_count, stored_count}
 use Rattle.nl_core.specs.declared.state.Core.{Core}
 use Rattle.nl_core.proofs.Written.{later_number, stops_on}
 
@@ -173,7 +172,12 @@ module _ {M : Type 0} (g : Ghosts (Device M)) (v w : Core M) (answer : VirtualWr
     same_shape = b.passes.named.same_shape;
     count = b.rest.count;
     nodes = record { generation = λ n. ap (λ (x : Graph). (x n).generation) b.stands.graph; body = λ n. ap (λ (x : Graph). nameless_body (x n).body) b.stands.graph };
-    moment = ⊎_elim (λ same. inl (b.moment ∙ same.0, b.committed ∙ same.1)) (λ later. inr (subst (λ n. Earlier (g.clock v.device) n) (sym b.moment) later)) (moment_by b.earlier b.decided b.earlier_at b.decided_at);
+    numbers = later_number g v w answer b core volume few stores writes;
+    reads = b.faults.reads_never_fall;
+    writes = b.faults.writes_never_fall;
+    moment = ⊎_elim (λ same. inl (b.moment ∙ same.0, b.committed ∙ same.1))
+        (λ later. inr (λ low. subst (λ n. g.clock v.device < n) (sym b.moment) (later (let clock = b.clock in omega (arith, clock, low)))))
+        (moment_by b.earlier b.decided b.earlier_at b.decided_at);
     clock = b.clock;
     stops = stops_on g v w b.stopped b.faults.reads_never_fall b.faults.writes_never_fall;
     stamps = b.passes.stamps;

@@ -1,13 +1,10 @@
 -- What the calls of a core do beside what all of them keep.
-use Rattle.std.specs.Prelude.{◌≡◌, ◌≢◌, ◌⊎◌, ℕ, ◌+◌, ◌≤◌, ◌<◌, List, [], length, None, Some}
+use Rattle.std.specs.Prelude.{◌≡◌, ◌≢◌, ◌⊎◌, ℕ, [], map, None}
 use Rattle.nl_field.specs.CrashStates.{Earlier, Rose}
-use Rattle.nl_field.specs.declared.pointer.Pointer.{Pointer}
-use Rattle.nl_field.specs.declared.pointer.Tag.{Tag}
 use Rattle.nl_device.specs.declared.device.Device.{Device}
-use Rattle.nl_flight.specs.Flight.{InFlight}
-use Rattle.nl_iface.specs.Moves.{HasNothingToCopy, IsUnhandled}
+use Rattle.nl_drain.specs.Handled.{nameless_line}
 use Rattle.nl_iface.specs.Names.{Has, Names}
-use Rattle.nl_iface.specs.Rounds.{Empties, Gains}
+use Rattle.nl_iface.specs.Rounds.{Empties}
 use Rattle.nl_iface.specs.declared.Callback.{Callback}
 use Rattle.nl_iface.specs.declared.counts.Counts.{Ghosts}
 use Rattle.nl_journal.specs.Progress.{next_after}
@@ -16,11 +13,13 @@ use Rattle.nl_journal.specs.declared.answers.Committing.TheVariants as commits
 use Rattle.nl_core.specs.Core.{begun_of, names_of}
 use Rattle.nl_core.specs.declared.state.Core.{Core}
 
--- Counts of failures never fall, and one of them rose where the call failed.
-pub record HasCause {M : Type 0} (g : Ghosts (Device M)) (failed : Type 0) (old new : Core M) : Type 0 where
-  pub reads : g.read_faults old.device ≤ g.read_faults new.device
-  pub writes : g.write_faults old.device ≤ g.write_faults new.device
-  pub cause : failed → Rose (g.read_faults old.device) (g.read_faults new.device) ⊎ Rose (g.write_faults old.device) (g.write_faults new.device)
+-- a count of failures rose where the call failed
+abbrev pub HasCause : {M : Type 0} → Ghosts (Device M) → Type 0 → Core M → Core M → Type 0
+HasCause g failed old new = failed → Rose (g.read_faults old.device) (g.read_faults new.device) ⊎ Rose (g.write_faults old.device) (g.write_faults new.device)
+
+-- the lines in flight are those of before, but for the names of their pages
+abbrev pub KeepsLines : {M : Type 0} → Core M → Core M → Type 0
+KeepsLines old new = map nameless_line new.flight ≡ map nameless_line old.flight
 
 -- Callbacks that are pending then were pending before, and unhandled.
 pub record Acknowledged (old new : Names) : Type 0 where

@@ -1,5 +1,6 @@
 -- What a core keeps between two calls.
-use Rattle.std.specs.Prelude.{◌≡◌, ℕ, ◌+◌, ◌*◌, ◌≤◌, length}
+use Rattle.std.specs.Prelude.{◌≡◌, ℕ, ◌+◌, ◌*◌, ◌<◌, ◌≤◌, length}
+use Rattle.nl_field.specs.CrashStates.{top}
 use Rattle.nl_device.specs.declared.device.Device.{Device}
 use Rattle.nl_flight.specs.Flight.{IsFlight, carried}
 use Rattle.nl_holders.specs.Holding.{MarkedTo}
@@ -32,11 +33,13 @@ begun_of v = begun v.journal (length v.meta.frozen.addresses)
 abbrev pub holders_of : {M : Type 0} → Ghosts (Device M) → Core M → Holders
 holders_of g v = record { running = running_holders g v.device v.meta; flight = carried v.flight; freeing = v.freeing.items }
 
--- What writes need: the virtual segment keeps a spare block, the live pages of a victim can land, and what is stored can be opened.
+-- What writes need: the virtual segment keeps a spare block, the live pages of a victim can land, and what is stored can be opened. One more write
+-- that fails can be counted.
 pub record CanWrite {M : Type 0} (g : Ghosts (Device M)) (v : Core M) : Type 0 where
   pub spare : g.keeps_spare v.device
   pub lands : CanLand (names_of g v).space
   pub firm : IsTold g v.journal v.meta → IsFirm g v.device
+  pub counts : g.write_faults v.device < top
 
 -- The free numbers and addresses are those that no used node has.
 pub record HasFree {M : Type 0} (g : Ghosts (Device M)) (v : Core M) : Type 0 where

@@ -1,6 +1,6 @@
 -- What each call of a core keeps and leaves.
 use Rattle.std.specs.Prelude.{◌≡◌, ◌⊎◌, ℕ, ◌+◌, ◌<◌, ◌≤◌, Option}
-use Rattle.nl_field.specs.CrashStates.{Earlier, Rose, saturated}
+use Rattle.nl_field.specs.CrashStates.{Rose, saturated, top}
 use Rattle.nl_field.specs.Members.{Has}
 use Rattle.nl_device.specs.declared.device.Device.{Device}
 use Rattle.nl_drain.specs.Handled.{SameButNames}
@@ -12,7 +12,7 @@ use Rattle.nl_meta.specs.Nodes.{graph_of}
 use Rattle.nl_held.specs.DeviceLaws.{Extends}
 use Rattle.nl_held.specs.TreeLaws.{OpensFrom}
 use Rattle.nl_held.specs.Trees.{Prefix, Trees, prefixes}
-use Rattle.nl_core.specs.Core.{running_of}
+use Rattle.nl_core.specs.Core.{begun_of, running_of}
 use Rattle.nl_core.specs.Trees.{CoreStands, IsTold}
 use Rattle.nl_core.specs.declared.state.Core.{Core}
 
@@ -36,15 +36,19 @@ pub record Stops {M : Type 0} (g : Ghosts (Device M)) (old new : Core M) : Type 
       → Rose (g.write_faults old.device) (g.write_faults new.device)
       × (Rose (g.read_faults old.device + g.write_faults old.device) new.stopped × (new.stopped ≤ saturated (g.read_faults new.device + g.write_faults new.device)))
 
--- It is the volume that it was, but for what a call does beside: the same calls were answered, and nodes have other names of pages at most. Where
--- it stood for trees, it goes on to stand for them, and what a stop leaves opens as one of them, from the moment of the last commit page on
--- as none earlier than what that one committed.
+-- It is the volume that it was, but for what a call does beside: the same calls were answered, and nodes have other names of pages at most.
+-- Numbers and counts do not fall, and what is committed changes with a commit page that was finished since. Where it stood for trees, it goes
+-- on to stand for them, and what a stop leaves opens as one of them, from the moment of the last commit page on as none earlier than what that
+-- one committed.
 pub record Goes {M : Type 0} (g : Ghosts (Device M)) (most : ℕ) (old new : Core M) : Type 0 where
   pub same_shape : g.shape new.device ≡ g.shape old.device
   pub count : new.count ≡ old.count
   pub nodes : SameButNames (graph_of (g.shape old.device) (running_of g old)) (graph_of (g.shape new.device) (running_of g new))
-  pub moment : ((new.moment ≡ old.moment) × (new.committed ≡ old.committed)) ⊎ Earlier (g.clock old.device) new.moment
+  pub numbers : begun_of old ≤ begun_of new
+  pub reads : g.read_faults old.device ≤ g.read_faults new.device
+  pub writes : g.write_faults old.device ≤ g.write_faults new.device
   pub clock : g.clock old.device ≤ g.clock new.device
+  pub moment : ((new.moment ≡ old.moment) × (new.committed ≡ old.committed)) ⊎ (g.clock new.device < top → g.clock old.device < new.moment)
   pub stops : Stops g old new
   pub stamps : StampsRise g most old.device new.device
   pub trees : IsTold g new → (page_of_stamp : ℕ → Option PageOfStamp) (t : Trees) → CoreStands g old page_of_stamp t → GoesTo g old new page_of_stamp t

@@ -1,6 +1,11 @@
 pub mod Calls
 pub mod Cleaning
 pub mod Core
+pub mod Dropping
+pub mod Duties
 pub mod Goes
+pub mod Handling
+pub mod Programming
+pub mod Rounds
 pub mod Trees
 pub mod Writing

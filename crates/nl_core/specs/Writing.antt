@@ -10,7 +10,7 @@ use Rattle.nl_iface.specs.Answers.{IsLost, LosesStamp}
 use Rattle.nl_iface.specs.Calls.{CallCounted, KeepsMedium}
 use Rattle.nl_iface.specs.Moves.{Acknowledges}
 use Rattle.nl_holders.specs.Laws.{OldNamesDiffer}
-use Rattle.nl_iface.specs.Names.{IsTable, Names}
+use Rattle.nl_iface.specs.Names.{IsTable}
 use Rattle.nl_iface.specs.declared.counts.Counts.{Ghosts}
 use Rattle.nl_journal.specs.Left.{CommitWrites}
 use Rattle.nl_journal.specs.Passes.{Passes}

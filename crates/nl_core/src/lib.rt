@@ -1,8 +1,16 @@
-//! The core of a volume that runs: commits of all calls so far, after which what they gave up is freed.
+//! The core of a volume that runs: commits of all calls so far, after which what they gave up is freed, callbacks that are handled, pages that
+//! are programmed, lines of workers that are dropped, rounds of reclaiming, and background tasks.
 #![tactic(auto)]
 
 mod cleaning;
 mod committing;
+mod dropping;
+mod duties;
+mod handling;
+mod programming;
+mod rounds;
 mod state;
 
-pub use crate::state::Core;
+pub use programming::Programmed;
+pub use rounds::Rounded;
+pub use state::Core;

@@ -1,4 +1,4 @@
-use Rattle.std.proofs.Common.{◌≡◌, ◌⊎◌, inl, inr, ⊎_elim, ℕ, ◌∙◌, ap, sym, subst, refl}
+use Rattle.std.proofs.Common.{◌≡◌, inl, inr, ⊎_elim, ap, sym, subst, refl}
 use Rattle.nl_cleaning.specs.Carried.{KeepsStored}
 use Rattle.nl_cleaning.specs.declared.cleaning.Cleaned.TheVariants as cleaned
 use Rattle.nl_device.specs.contracts.counts.DeviceCounts.TheImpl.{ghosts}
@@ -70,4 +70,4 @@ returns-clause-faults g c =
     let stopped = stopped_by v.stopped (G.read_faults t) c.write_faults-faults.result (G.write_faults t) in
     let w : Core g.row.M.Denot = record v { device = t; stopped = stopped } in
     let same : c.note_fault.new.self ≡ w = c.note_fault.ensures in
-    subst (λ (x : Core g.row.M.Denot). HasCause G (c.clean-answer.result ≡ cleaned.Fault) v x) (sym same) (record { reads = e.faults.reads_never_fall; writes = e.faults.writes_never_fall; cause = e.faults.cause })
+    subst (λ (x : Core g.row.M.Denot). HasCause G (c.clean-answer.result ≡ cleaned.Fault) v x) (sym same) e.faults.cause

@@ -1,11 +1,11 @@
-use Rattle.std.proofs.Common.{◌≡◌, ℕ, ◌+◌, ◌≤◌, ◌∙◌, ap, sym, subst, refl, length}
+use Rattle.std.proofs.Common.{◌+◌, ◌∙◌, ap, sym, subst}
 use Rattle.std.specs.Prelude.{min}
 use Rattle.nl_field.specs.declared.answers.VirtualWrite.{VirtualWrite}
 use Rattle.nl_iface.specs.Answers.{IsLost, LosesStamp}
 use Rattle.nl_device.specs.contracts.counts.DeviceCounts.TheImpl.{ghosts}
 use Rattle.nl_core.specs.Core.{begun_of}
 use Rattle.nl_core.specs.Writing.{Settles}
-use Rattle.nl_core.proofs.Settled.{commits_all, settled_cause, settled_core, settled_goes}
+use Rattle.nl_core.proofs.Settled.{commits_all, settled_core, settled_goes}
 use Rattle.nl_core.proofs.Written.{written_core}
 use Rattle.nl_core.proofs.WrittenTrees.{written_goes}
 use Rattle.nl_core.proofs.state.Core.commit.Goals as goal
@@ -41,17 +41,6 @@ returns-in-Done-clause-commits g c =
     commits_all G v w u c.write_all.result e.written c.requires.core e.volume c.mark-mark.ensures.most e.stores c.requires.writes e.pages c.in-Done.is s c.settle.ensures.table c.settle.ensures.stores
     c.min.result (c.min.ensures ∙ ap (λ n. min n 9223372036854775807) c.mark-mark.ensures.mark)
 
-pub returns-in-Done-clause-faults : goal.returns-in-Done-clause-faults
-returns-in-Done-clause-faults g c =
-    let G = ghosts g.row.M g.M.Nand g.M.Nand-dict in
-    let v = c.args.self.now in
-    let w = c.write_all.new.self in
-    let u = c.settle.new.self in
-    let e = c.write_all.ensures in
-    let s : Settles G (begun_of v + 1) w u = subst (λ n. Settles G n w u) c.mark-mark.ensures.mark c.settle.ensures.settled in
-    settled_cause G v w u c.write_all.result e.written c.requires.core e.volume c.mark-mark.ensures.most e.stores c.requires.writes e.pages c.in-Done.is s c.settle.ensures.table c.settle.ensures.stores _
-    (λ is. let no : ⊥ = cc in no)
-
 pub returns-in-Lost-clause-core : goal.returns-in-Lost-clause-core
 returns-in-Lost-clause-core g c =
     let G = ghosts g.row.M g.M.Nand g.M.Nand-dict in
@@ -73,11 +62,6 @@ returns-in-Lost-clause-commits g c =
       λ tells. b.told tells (subst (λ (a : VirtualWrite). IsLost a) (sym c.in-Lost.is) tt),
     )
 
-pub returns-in-Lost-clause-faults : goal.returns-in-Lost-clause-faults
-returns-in-Lost-clause-faults g c =
-    let b = c.write_all.ensures.written in
-    record { reads = b.faults.reads_never_fall; writes = b.faults.writes_never_fall; cause = λ is. absurd (let no : ⊥ = cc in no) }
-
 pub returns-in-Fault-clause-core : goal.returns-in-Fault-clause-core
 returns-in-Fault-clause-core g c =
     let G = ghosts g.row.M g.M.Nand g.M.Nand-dict in
@@ -91,6 +75,4 @@ returns-in-Fault-clause-goes g c =
     written_goes G c.args.self.now c.write_all.new.self c.write_all.result e.written c.requires.core e.volume c.mark-mark.ensures.most e.stores c.requires.writes e.pages
 
 pub returns-in-Fault-clause-faults : goal.returns-in-Fault-clause-faults
-returns-in-Fault-clause-faults g c =
-    let b = c.write_all.ensures.written in
-    record { reads = b.faults.reads_never_fall; writes = b.faults.writes_never_fall; cause = λ is. b.faults.cause c.in-Fault.is }
+returns-in-Fault-clause-faults g c is = c.write_all.ensures.written.faults.cause c.in-Fault.is

@@ -1,4 +1,4 @@
-use Rattle.std.proofs.Common.{◌≡◌, ◌+◌, length, take, drop, refl, sym, ap, subst, ◌∙◌, List, []}
+use Rattle.std.proofs.Common.{◌≡◌, ◌+◌, take, drop, refl, ap, subst, ◌∙◌, List}
 use Rattle.std.proofs.Math.Seq.{drop-length, take-length}
 use Rattle.nl_commit.specs.Freeing.{FreesEach}
 use Rattle.nl_field.specs.declared.pointer.Pointer.{Pointer}

@@ -1,4 +1,4 @@
-use Rattle.std.proofs.Common.{◌≡◌, ℕ, ◌∙◌, ap, sym, subst, refl, length}
+use Rattle.std.proofs.Common.{◌≡◌, ◌∙◌, ap, sym, subst, refl, length}
 use Rattle.std.specs.Prelude.{IfSome}
 use Rattle.nl_held.specs.TreeLaws.{moment_of}
 use Rattle.nl_journal.specs.Left.{CommitWrites}
@@ -9,7 +9,7 @@ use Rattle.nl_device.specs.contracts.counts.DeviceCounts.TheImpl.{ghosts}
 use Rattle.nl_device.specs.declared.device.Device.{Device}
 use Rattle.nl_field.specs.declared.answers.VirtualWrite.TheVariants as write
 use Rattle.nl_iface.specs.Calls.{StoresPages}
-use Rattle.nl_core.specs.Writing.{WritesAll, committed_by, frozen_count, stopped_by, stopped_on, stored_count}
+use Rattle.nl_core.specs.Writing.{WritesAll, committed_by, stopped_by, stored_count}
 use Rattle.nl_core.specs.declared.state.Core.{Core}
 use Rattle.nl_core.proofs.state.Core.write_all.Goals as goal
 

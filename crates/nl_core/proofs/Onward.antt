@@ -1,0 +1,216 @@
+-- Calls of a core one after the other.
+use Rattle.std.proofs.Common.{◌≡◌, ◌⊎◌, inl, inr, ⊎_elim, ℕ, ◌+◌, ◌<◌, ◌≤◌, ◌^◌, Option, refl, sym, subst, ◌∙◌, arith}
+use Rattle.std.proofs.lemmas.Bool.{cases_eq, cases_lt}
+use Rattle.nl_field.specs.CrashStates.{Rose, saturated, top}
+use Rattle.nl_field.specs.Members.{Has}
+use Rattle.nl_field.specs.declared.shape.Shape.{Shape}
+use Rattle.nl_device.specs.declared.device.Device.{Device}
+use Rattle.nl_iface.specs.Calls.{Leaves}
+use Rattle.nl_iface.specs.declared.counts.Counts.{Ghosts}
+use Rattle.nl_meta.specs.Consistent.{PageOfStamp}
+use Rattle.nl_held.specs.TreeLaws.{OpensFrom}
+use Rattle.nl_held.specs.Trees.{OpensAs, Prefix, Trees, prefixes}
+use Rattle.nl_core.specs.Calls.{HasCause}
+use Rattle.nl_core.specs.Core.{IsCore}
+use Rattle.nl_core.specs.Goes.{Goes, GoesTo, Stops}
+use Rattle.nl_core.specs.Trees.{CoreStands, IsTold}
+use Rattle.nl_core.specs.declared.state.Core.{Core}
+
+-- a count that did not rise
+not_rose : (x y : ℕ) → (Rose x y → ⊥) → y < saturated (x + 1)
+not_rose x y none = ⊎_elim (λ low. low) (λ high. absurd (none high)) (cases_lt y (saturated (x + 1)))
+
+none_rose : (x y z : ℕ) → y < saturated (x + 1) → z < saturated (y + 1) → Rose x z → ⊥
+none_rose x y z one two rose = omega (arith, one, two, rose)
+
+module _ {M : Type 0} (g : Ghosts (Device M)) (u v w : Core M) (m n : ℕ) (a : Goes g m u v) (b : Goes g n v w) where
+  stops_then : Stops g u w
+  stops_then = record {
+    stands = λ off. let one = a.stops.stands off in b.stops.stands (λ z. off (sym one ∙ z)) ∙ one;
+    none = λ none rose.
+        let still : v.stopped ≡ 0 = ⊎_elim (λ e. e) (λ off. sym (b.stops.stands off) ∙ none) (cases_eq v.stopped 0) in
+        none_rose (g.write_faults u.device) (g.write_faults v.device) (g.write_faults w.device)
+        (not_rose (g.write_faults u.device) (g.write_faults v.device) (a.stops.none still)) (not_rose (g.write_faults v.device) (g.write_faults w.device) (b.stops.none none)) rose;
+    some = λ none later. ⊎_elim
+        (λ still.
+        let k = b.stops.some still later in
+        let r = k.0 in
+        let s = k.1.0 in
+        let reads = a.reads in
+        let writes = a.writes in
+        (omega (arith, r, writes), (omega (arith, s, reads, writes), k.1.1)))
+        (λ off.
+        let same = b.stops.stands off in
+        let k = a.stops.some none off in
+        let r = k.0 in
+        let s = k.1.0 in
+        let t = k.1.1 in
+        let reads = b.reads in
+        let writes = b.writes in
+        (omega (arith, r, writes), (omega (arith, s, same), omega (arith, t, same, reads, writes))))
+        (cases_eq v.stopped 0);
+  }
+
+  moment_then : ((w.moment ≡ v.moment) × (w.committed ≡ v.committed)) ⊎ (g.clock w.device < top → g.clock v.device < w.moment)
+      → ((v.moment ≡ u.moment) × (v.committed ≡ u.committed)) ⊎ (g.clock v.device < top → g.clock u.device < v.moment)
+      → ((w.moment ≡ u.moment) × (w.committed ≡ u.committed)) ⊎ (g.clock w.device < top → g.clock u.device < w.moment)
+  moment_then (inl same) (inl first) = inl (same.0 ∙ first.0, same.1 ∙ first.1)
+  moment_then (inl same) (inr first) = inr (λ low. let moment = same.0 in let clock = b.clock in let high = first (omega (arith, clock, low)) in omega (arith, moment, high))
+  moment_then (inr second) any = inr (λ low. let clock = a.clock in let high = second low in omega (arith, clock, high))
+
+  told_first : IsTold g w → IsTold g v
+  told_first told = record {
+    tells = told.tells;
+    numbers = let one = b.numbers in let all = told.numbers in omega (arith, one, all);
+    calls = subst (λ k. k < 2 ^ 63) b.count told.calls;
+    moments = let one = b.clock in let all = told.moments in omega (arith, one, all);
+  }
+
+  -- a tree of the volume between them is one of that before
+  one_of : (page_of_stamp : ℕ → Option PageOfStamp) (t : Trees) (k : GoesTo g u v page_of_stamp t) (z : Prefix) → Has (prefixes v.count k.trees) z → Has (prefixes u.count t) z
+  one_of page_of_stamp t k z (inl e) = subst (λ (x : Prefix). Has (prefixes u.count t) x) e k.committed
+  one_of page_of_stamp t k z (inr (inl e)) = subst (λ (x : Prefix). Has (prefixes u.count t) x) e k.frozen
+  one_of page_of_stamp t k z (inr (inr (inl e))) = inr (inr (inl ((λ i. (sym a.count i, sym k.running i)) ∙ e)))
+  one_of page_of_stamp t k z (inr (inr (inr none))) = absurd none
+
+  trees_then : IsTold g w → (page_of_stamp : ℕ → Option PageOfStamp) (t : Trees) → CoreStands g u page_of_stamp t → GoesTo g u w page_of_stamp t
+  trees_then told page_of_stamp t at =
+      let k = a.trees (told_first told) page_of_stamp t at in
+      let l = b.trees told k.pages k.trees k.stands in
+      record {
+        pages = l.pages;
+        trees = l.trees;
+        stands = l.stands;
+        extends = λ stamp page has. l.extends stamp page (k.extends stamp page has);
+        running = l.running ∙ k.running;
+        committed = one_of page_of_stamp t k l.trees.committed l.committed;
+        frozen = one_of page_of_stamp t k l.trees.frozen l.frozen;
+        later = let one = k.later in let two = l.later in omega (arith, one, two);
+      }
+
+  -- what the first one leaves opens as none earlier than what the second one committed, from its moment on
+  after_first : (y z : ℕ) (k : ℕ) → y ≡ w.committed → g.clock w.device < 2 ^ 63 → k ≤ g.clock v.device → (v.moment ≤ k → v.committed ≤ z)
+      → ((w.moment ≡ v.moment) × (w.committed ≡ v.committed)) ⊎ (g.clock w.device < top → g.clock v.device < w.moment) → w.moment ≤ k → y ≤ z
+  after_first y z k is few to after (inl same) high =
+      let moment = same.0 in
+      let committed = same.1 in
+      let low = after (omega (arith, moment, high)) in
+      omega (arith, is, committed, low)
+  after_first y z k is few to after (inr later) high =
+      let far = later (omega (arith, few)) in
+      absurd (let no : ⊥ = omega (arith, far, high, to) in no)
+
+  left_then : IsTold g w → (page_of_stamp : ℕ → Option PageOfStamp) (t : Trees) (y : Prefix) → y.0 ≡ w.committed → CoreStands g u page_of_stamp t
+      → Leaves g (OpensFrom (g.shape u.device) u.count w.moment t y) u.device w.device
+  left_then told page_of_stamp t y is at =
+      let few = told.moments in
+      let k = a.trees (told_first told) page_of_stamp t at in
+      let first = a.left (told_first told) page_of_stamp t (v.committed, t.running) refl at in
+      let second = b.left told k.pages k.trees y is k.stands in
+      let from = a.clock in
+      let to = b.clock in
+      record {
+        later = omega (arith, from, to);
+        each = λ i c left. ⊎_elim
+            (λ before. ⊎_elim inl
+            (λ x.
+            let one = x.0 in
+            let two = x.1 in
+            inr (one, omega (arith, two, to), (x.2.0, x.2.1, x.2.2, λ high. after_first y.0 x.2.0.0 i is few two x.2.3 b.moment high)))
+            (first.each i c before))
+            (λ x.
+            let one = x.0 in
+            let two = x.1 in
+            inr (omega (arith, one, from), two, (x.2.0, one_of page_of_stamp t k x.2.0 x.2.1, subst (λ (h : Shape). OpensAs h (g.stored_of c) x.2.0) a.same_shape x.2.2, x.2.3)))
+            (second.each i c left);
+      }
+
+  pub goes_then : Goes g (m + n) u w
+  goes_then = record {
+    same_shape = b.same_shape ∙ a.same_shape;
+    count = b.count ∙ a.count;
+    nodes = record { generation = λ k. b.nodes.generation k ∙ a.nodes.generation k; body = λ k. b.nodes.body k ∙ a.nodes.body k };
+    numbers = let one = a.numbers in let two = b.numbers in omega (arith, one, two);
+    reads = let one = a.reads in let two = b.reads in omega (arith, one, two);
+    writes = let one = a.writes in let two = b.writes in omega (arith, one, two);
+    moment = moment_then b.moment a.moment;
+    clock = let one = a.clock in let two = b.clock in omega (arith, one, two);
+    stops = stops_then;
+    stamps = record {
+      never_falls = let one = a.stamps.never_falls in let two = b.stamps.never_falls in omega (arith, one, two);
+      at_most = let one = a.stamps.at_most in let two = b.stamps.at_most in omega (arith, one, two);
+      paid = λ low less.
+          let clock = b.clock in
+          let writes = b.writes in
+          let one = a.stamps.paid (omega (arith, low, clock)) (omega (arith, less, writes)) in
+          let two = b.stamps.paid low less in
+          omega (arith, one, two);
+    };
+    trees = trees_then;
+    left = left_then;
+  }
+
+-- a failure of the second of two calls has its cause
+pub cause_then : {M : Type 0} (g : Ghosts (Device M)) (second failed : Type 0) (u v w : Core M) (m : ℕ) → Goes g m u v → HasCause g second v w → (failed → second) → HasCause g failed u w
+cause_then g second failed u v w m a b of f =
+    let reads = a.reads in
+    let writes = a.writes in
+    ⊎_elim (λ rose. inl (omega (arith, rose, reads))) (λ rose. inr (omega (arith, rose, writes))) (b (of f))
+
+-- and one of the first
+pub cause_first : {M : Type 0} (g : Ghosts (Device M)) (first failed : Type 0) (u v w : Core M) (n : ℕ) → HasCause g first u v → Goes g n v w → (failed → first) → HasCause g failed u w
+cause_first g first failed u v w n a b of f =
+    let reads = b.reads in
+    let writes = b.writes in
+    ⊎_elim (λ rose. inl (omega (arith, rose, reads))) (λ rose. inr (omega (arith, rose, writes))) (a (of f))
+
+-- more numbers may be taken
+pub goes_more : {M : Type 0} (g : Ghosts (Device M)) (m n : ℕ) (u v : Core M) → m ≤ n → Goes g m u v → Goes g n u v
+goes_more g m n u v low a = record {
+  same_shape = a.same_shape;
+  count = a.count;
+  nodes = a.nodes;
+  numbers = a.numbers;
+  reads = a.reads;
+  writes = a.writes;
+  clock = a.clock;
+  moment = a.moment;
+  stops = a.stops;
+  stamps = record { never_falls = a.stamps.never_falls; at_most = let most = a.stamps.at_most in omega (arith, most, low); paid = a.stamps.paid };
+  trees = a.trees;
+  left = a.left;
+}
+
+-- no call
+pub goes_none : {M : Type 0} (g : Ghosts (Device M)) (v : Core M) → IsCore g v → Goes g 0 v v
+goes_none g v core = record {
+  same_shape = refl;
+  count = refl;
+  nodes = record { generation = λ n. refl; body = λ n. refl };
+  numbers = omega arith;
+  reads = omega arith;
+  writes = omega arith;
+  clock = omega arith;
+  moment = inl (refl, refl);
+  stops = record {
+    stands = λ off. refl;
+    none = λ none rose. let low = (core.writes none).counts in omega (arith, low, rose);
+    some = λ none later. absurd (later none);
+  };
+  stamps = record { never_falls = omega arith; at_most = omega arith; paid = λ low less. omega arith };
+  trees = λ told page_of_stamp t at. record {
+    pages = page_of_stamp;
+    trees = t;
+    stands = at;
+    extends = λ stamp page is. is;
+    running = refl;
+    committed = inl refl;
+    frozen = inr (inl refl);
+    later = omega arith;
+  };
+  left = λ told page_of_stamp t y is at. record { later = omega arith; each = λ m c left. inl left };
+}
+
+-- where the volume became read-only, a write failed
+pub cause_stopped : {M : Type 0} (g : Ghosts (Device M)) (failed : Type 0) (u v : Core M) (m : ℕ) → Goes g m u v → u.stopped ≡ 0 → (v.stopped ≡ 0 → ⊥) → HasCause g failed u v
+cause_stopped g failed u v m a ran off of = inr (a.stops.some ran off).0

@@ -1,0 +1,147 @@
+-- Callbacks are handled one after the other until none is left, and one victim is cleaned then.
+use Rattle.std.proofs.Common.{◌≡◌, ◌⊎◌, inl, inr, ℕ, ◌+◌, ◌*◌, ◌<◌, ◌≤◌, ◌^◌, length, refl, ap, subst, ◌∙◌, arith}
+use Rattle.nl_cleaning.specs.Laws.{IsOfARound}
+use Rattle.nl_cleaning.specs.declared.cleaning.Cleaned.{Cleaned}
+use Rattle.nl_cleaning.specs.declared.cleaning.Cleaned.TheVariants as cleaned
+use Rattle.nl_device.specs.declared.device.Device.{Device}
+use Rattle.nl_flight.proofs.Carried.{most}
+use Rattle.nl_iface.specs.Device.{IsVolumeShape}
+use Rattle.nl_iface.specs.Moves.{IsUnhandled}
+use Rattle.nl_iface.specs.Names.{IsNames, IsTable}
+use Rattle.nl_iface.specs.Rounds.{Empties, HasCapacity, IsRound}
+use Rattle.nl_iface.specs.Space.{IsSpace}
+use Rattle.nl_iface.specs.declared.counts.Counts.{Ghosts}
+use Rattle.nl_iface.proofs.RoundSteps.{a_round_gains, empties_laws, rounds_end}
+use Rattle.nl_tree.specs.declared.turn.DutyAnswer.{DutyAnswer}
+use Rattle.nl_tree.specs.declared.turn.DutyAnswer.TheVariants as duty
+use Rattle.nl_core.specs.Calls.{KeepsLines}
+use Rattle.nl_core.specs.Cleaning.{CleansDevice}
+use Rattle.nl_core.specs.Core.{IsCore, names_of}
+use Rattle.nl_core.specs.Goes.{Goes}
+use Rattle.nl_core.specs.Handling.{Handles, HandlesNumber, IsPending}
+use Rattle.nl_core.specs.Rounds.{EmptiesTable, IfRounded, RoundIsDone}
+use Rattle.nl_core.specs.declared.rounds.Rounded.{Rounded}
+use Rattle.nl_core.specs.declared.rounds.Rounded.TheVariants as rounded
+use Rattle.nl_core.specs.declared.state.Core.{Core}
+use Rattle.nl_core.proofs.Onward.{goes_more, goes_none, goes_then}
+use Rattle.nl_core.proofs.Unhandled.{OpenBefore, left, left_falls, left_most, left_some, open_then}
+
+-- What holds before each callback. So many numbers were taken, and no more are taken for the callbacks that are left than for all.
+pub record HandlesOn {M : Type 0} (g : Ghosts (Device M)) (start now : Core M) : Type 0 where
+  pub formed : g.formed now.device
+  pub core : IsCore g now
+  pub runs : now.stopped ≡ 0
+  pub space : Empties (names_of g start).space (names_of g now).space
+  pub lines : KeepsLines start now
+  pub before : OpenBefore (names_of g start) (names_of g now)
+  pub taken : ℕ
+  pub goes : Goes g taken start now
+  pub few : taken + 512 * left (names_of g start) (names_of g now) ≤ 512 * left (names_of g start) (names_of g start)
+
+module _ {M : Type 0} (g : Ghosts (Device M)) where
+  pub begins : (v : Core M) → g.formed v.device → IsCore g v → v.stopped ≡ 0 → HandlesOn g v v
+  begins v formed core runs = record {
+    formed = formed;
+    core = core;
+    runs = runs;
+    space = empties_laws.none (names_of g v).space;
+    lines = refl;
+    before = λ c has none. (has, none);
+    taken = 0;
+    goes = goes_none g v core;
+    few = omega arith;
+  }
+
+  module _ (u v : Core M) (on : HandlesOn g u v) (volume : IsVolumeShape (g.shape u.device)) (names : IsNames (g.shape u.device) (g.next_stamp u.device) (names_of g u)) where
+    few_left : left (names_of g u) (names_of g u) ≤ 1024
+    few_left = left_most (g.shape u.device) (g.next_stamp u.device) (names_of g u) (names_of g u) volume names
+
+    few_taken : on.taken ≤ 2 ^ 19
+    few_taken = let few = on.few in let most = few_left in omega (arith, few, most)
+
+    -- a commit has its numbers still
+    pub has_numbers : g.next_stamp u.device + 2 ^ 20 ≤ 2 ^ 63 → g.next_stamp v.device + 512 ≤ 2 ^ 63
+    has_numbers room = let few = few_taken in let taken = on.goes.stamps.at_most in omega (arith, room, few, taken)
+
+    pub goes_all : Goes g (2 ^ 19) u v
+    goes_all = goes_more g on.taken (2 ^ 19) u v few_taken on.goes
+
+    module _ (table : IsTable (names_of g u)) (number : ℕ) (was : IsUnhandled (names_of g v) number) (w : Core M) (goes : Goes g 512 v w) where
+      taken_then : Goes g (on.taken + 512) u w
+      taken_then = goes_then g u v w on.taken 512 on.goes goes
+
+      -- the call for a callback that is unhandled takes no more than there are
+      pub goes_next : Goes g (2 ^ 19) u w
+      goes_next =
+          let some = left_some (names_of g u) (names_of g v) table on.before number was in
+          let few = on.few in
+          let most = few_left in
+          goes_more g (on.taken + 512) (2 ^ 19) u w (omega (arith, some, few, most)) taken_then
+
+      module _ (now : IsTable (names_of g v)) (h : HandlesNumber g number v w) where
+        pub falls : left (names_of g u) (names_of g w) < left (names_of g u) (names_of g v)
+        falls = left_falls (names_of g u) (names_of g v) table on.before number was (names_of g w) now h.others h.handled
+
+        pub goes_on : g.formed w.device → IsCore g w → KeepsLines v w → w.stopped ≡ 0 → HandlesOn g u w
+        goes_on formed core lines runs = record {
+          formed = formed;
+          core = core;
+          runs = runs;
+          space = empties_laws.then (names_of g u).space (names_of g v).space (names_of g w).space on.space (h.space runs);
+          lines = lines ∙ on.lines;
+          before = open_then (names_of g u) (names_of g v) (names_of g w) on.before h.others;
+          taken = on.taken + 512;
+          goes = taken_then;
+          few = let less = falls in let few = on.few in omega (arith, less, few);
+        }
+
+-- ---- what a call answers for one number
+
+module _ {M : Type 0} (g : Ghosts (Device M)) (v w : Core M) (number : ℕ) (answer : DutyAnswer) (h : Handles g number v w answer) where
+  -- where the callback is pending
+  pub handles_number : IsPending (names_of g v) number → (answer ≡ duty.Did) ⊎ (answer ≡ duty.Nothing) → HandlesNumber g number v w
+  handles_number pending (inl is) = (subst (λ (a : DutyAnswer). Handles g number v w a) is h).1
+  handles_number pending (inr is) = absurd ((subst (λ (a : DutyAnswer). Handles g number v w a) is h).0 pending)
+
+-- ---- answers of rounds
+
+pub rounded_to : (tells P Q : Type 0) (answer : Rounded) → (answer ≡ rounded.Done → P → Q) → IfRounded tells P answer → IfRounded tells Q answer
+rounded_to tells P Q rounded.Done to h = to refl h
+rounded_to tells P Q (rounded.Lost w f) to h = h
+rounded_to tells P Q rounded.Fault to h = h
+
+-- ---- the round
+
+module _ {M : Type 0} (g : Ghosts (Device M)) (u v w : Core M) (emptied : EmptiesTable g u v) (core : IsCore g v) (space : IsSpace (names_of g v).space) (law : IsOfARound)
+    (answer : Cleaned) (done : (answer ≡ cleaned.Done) ⊎ (answer ≡ cleaned.Nothing)) (cleans : CleansDevice g v w answer) where
+  has_capacity : HasCapacity (names_of g v).space
+  has_capacity = record {
+    cap = (g.shape v.device).cap;
+    all = core.space.all;
+    live =
+        let counted = core.space.counted in
+        let few = core.space.few in
+        let flight = most v.flight core.flight in
+        let freed = ap length emptied.freed in
+        omega (arith, counted, few, flight, freed);
+  }
+
+  is_round : IsRound (names_of g u).space (names_of g w).space
+  is_round = record {
+    emptied = (names_of g v).space;
+    empties = emptied.space;
+    no_pairs = emptied.no_pairs;
+    cleans = law answer (names_of g v).space (names_of g w).space done cleans.space;
+  }
+
+  pub round_is_done : RoundIsDone g u w
+  unfolding is_round
+  round_is_done =
+      let ends = rounds_end.none_in_hand (names_of g u).space (names_of g w).space is_round space in
+      record {
+        round = is_round;
+        gains = a_round_gains (names_of g u).space (names_of g w).space is_round space has_capacity;
+        none_in_hand = ends.0;
+        few_wait = ends.1;
+        freed = ap (λ (x : Core M). x.freeing.items) cleans.others ∙ emptied.freed;
+      }

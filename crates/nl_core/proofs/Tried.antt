@@ -1,0 +1,281 @@
+-- A core stands on once the callback of a number was tried: names of pages changed at most, and the medium was only read.
+use Rattle.std.proofs.Common.{◌≡◌, inl, inr, ⊎_elim, ℕ, zero, suc, ◌+◌, ◌-◌, ◌*◌, ◌<◌, ◌≤◌, List, [], ◌∷◌, map, length, Option, Some, None, option_and_then, refl, sym, ap, subst, ◌∙◌, arith}
+use Rattle.std.specs.List.{fold, sum_by}
+use Rattle.std.proofs.lemmas.List.{length-append, length-map}
+use Rattle.nl_field.specs.CrashStates.{top}
+use Rattle.nl_field.specs.declared.pointer.Pointer.{Pointer}
+use Rattle.nl_field.specs.declared.pointer.Tag.{Tag}
+use Rattle.nl_field.specs.declared.shape.Shape.{Shape}
+use Rattle.nl_device.specs.declared.device.Device.{Device}
+use Rattle.nl_drain.specs.Blocked.{drained_stop}
+use Rattle.nl_drain.specs.Handled.{SameButNames, nameless, nameless_line}
+use Rattle.nl_drain.specs.Laws.{TreesStay}
+use Rattle.nl_drain.specs.declared.draining.Drained.{Drained}
+use Rattle.nl_drain.specs.declared.draining.Drained.TheVariants as drained
+use Rattle.nl_flight.specs.Flight.{InFlight, IsFlight, carried, extra, of_worker}
+use Rattle.nl_flight.specs.declared.page.FlightPage.{FlightPage}
+use Rattle.nl_holders.specs.Holding.{MarkedTo}
+use Rattle.nl_iface.specs.Calls.{KeepsMedium, StoresPages}
+use Rattle.nl_iface.specs.Device.{IsVolumeShape}
+use Rattle.nl_iface.specs.Holders.{IsRef, always, wants_tagged}
+use Rattle.nl_iface.specs.Names.{Has, Names}
+use Rattle.nl_iface.specs.Space.{CanLand, Space}
+use Rattle.nl_iface.specs.declared.Callback.{Callback}
+use Rattle.nl_iface.specs.declared.counts.Counts.{Ghosts}
+use Rattle.nl_journal.specs.Committing.{committed_on, finished}
+use Rattle.nl_journal.specs.Progress.{HasNumber, begun}
+use Rattle.nl_meta.specs.Consistent.{PageOfStamp}
+use Rattle.nl_meta.specs.Nodes.{graph_of}
+use Rattle.nl_meta.specs.Pages.{Frozen}
+use Rattle.nl_meta.specs.PointerLists.{tagged_in}
+use Rattle.nl_meta.proofs.Lists.{some_in}
+use Rattle.nl_running.specs.Reading.{Reads}
+use Rattle.nl_running.specs.declared.answer.Stop.{Stop}
+use Rattle.nl_running.specs.declared.answer.Stop.TheVariants as stop
+use Rattle.nl_commit.specs.Completing.{IsOpen}
+use Rattle.nl_commit.specs.Holding.{running_holders}
+use Rattle.nl_held.specs.Held.{IsHeldVolume}
+use Rattle.nl_held.specs.Trees.{RunsAs, StandsAs, StandsFor, Trees}
+use Rattle.nl_held.proofs.Changing.{steps_journaled}
+use Rattle.nl_held.proofs.DeviceTrees.{addresses_go}
+use Rattle.nl_held.proofs.Firm.{medium_keeps_firm}
+use Rattle.nl_held.proofs.Steps.{handling_keeps_held}
+use Rattle.nl_core.specs.Calls.{HasCause}
+use Rattle.nl_core.specs.Core.{HasFree, HasSpace, IsCore, begun_of, names_of, running_of}
+use Rattle.nl_core.specs.Goes.{Goes, Stops}
+use Rattle.nl_core.specs.Handling.{TriesNumber}
+use Rattle.nl_core.specs.Trees.{IsTold}
+use Rattle.nl_core.specs.declared.state.Core.{Core}
+use Rattle.nl_core.proofs.Renamed.{Leads, as_many, runs_renamed}
+
+-- ---- lines in flight that are the same but for names
+
+abbrev placed : FlightPage → Tag × Pointer
+placed page = (page.tag, page.at)
+
+abbrev pub bare_page : FlightPage → FlightPage
+bare_page page = record page { at = nameless page.at }
+
+carried_bare : (flight : List InFlight) → length (carried (map nameless_line flight)) ≡ length (carried flight)
+unfolding carried
+carried_bare [] = refl
+carried_bare (x ∷ xs) =
+    let same : length (map placed (map bare_page x.pages)) ≡ length (map placed x.pages) =
+    length-map (map bare_page x.pages) placed ∙ length-map x.pages bare_page ∙ sym (length-map x.pages placed) in
+    length-append (map placed (map bare_page x.pages)) (carried (map nameless_line xs))
+    ∙ (λ i. same i + carried_bare xs i)
+    ∙ sym (length-append (map placed x.pages) (carried xs))
+
+extra_from : (flight : List InFlight) (n : ℕ) → fold (λ (a : ℕ) (x : InFlight). a + extra x) n (map nameless_line flight) ≡ fold (λ (a : ℕ) (x : InFlight). a + extra x) n flight
+extra_from [] n = refl
+extra_from (x ∷ xs) n =
+    ap (λ k. fold (λ (a : ℕ) (y : InFlight). a + extra y) (n + (k - 16)) (map nameless_line xs)) (length-map x.pages bare_page)
+    ∙ extra_from xs (n + extra x)
+
+pub extra_bare : (flight : List InFlight) → sum_by extra (map nameless_line flight) ≡ sum_by extra flight
+extra_bare flight = extra_from flight 0
+
+worker_bare : (flight : List InFlight) (worker : ℕ) → of_worker (map nameless_line flight) worker ≡ nameless_line (of_worker flight worker)
+worker_bare [] worker = refl
+worker_bare (x ∷ xs) zero = refl
+worker_bare (x ∷ xs) (suc worker) = worker_bare xs worker
+
+none_mapped : {X Y : Type 0} (f : X → Y) (xs : List X) → map f xs ≡ [] → xs ≡ []
+none_mapped f [] is = refl
+none_mapped f (x ∷ xs) is = absurd (let no : ⊥ = cc in no)
+
+module _ (old new : List InFlight) (same : map nameless_line new ≡ map nameless_line old) where
+  as_many_carried : length (carried new) ≡ length (carried old)
+  as_many_carried = sym (carried_bare new) ∙ ap (λ (f : List InFlight). length (carried f)) same ∙ carried_bare old
+
+  pub same_line : (worker : ℕ) → nameless_line (of_worker new worker) ≡ nameless_line (of_worker old worker)
+  same_line worker = sym (worker_bare new worker) ∙ ap (λ (f : List InFlight). of_worker f worker) same ∙ worker_bare old worker
+
+  flight_stays : IsFlight old → IsFlight new
+  flight_stays f = record {
+    eight = sym (length-map new nameless_line) ∙ ap length same ∙ length-map old nameless_line ∙ f.eight;
+    places = subst (λ n. n ≤ 2) (sym (sym (extra_bare new) ∙ ap (λ (xs : List InFlight). sum_by extra xs) same ∙ extra_bare old)) f.places;
+    idle = λ worker is.
+        let k = f.idle worker (sym (ap (λ (x : InFlight). x.line) (same_line worker)) ∙ is) in (
+          none_mapped bare_page (of_worker new worker).pages
+              (ap (λ (x : InFlight). x.pages) (same_line worker) ∙ ap (λ (xs : List FlightPage). map bare_page xs) k.0),
+          ap (λ (x : InFlight). x.goal) (same_line worker) ∙ k.1,
+        );
+  }
+
+-- ---- reads
+
+reads_rise : {D : Type 0} (g : Ghosts D) (s t : D) (o : Option Stop) → Reads g s t o → g.read_faults s ≤ g.read_faults t
+reads_rise g s t None r = omega (arith, r)
+reads_rise g s t (Some stop.Fault) r = r.never_falls
+reads_rise g s t (Some (stop.Lost w f)) r = let same = r.0 in omega (arith, same)
+
+-- ---- a core of which one callback was tried
+
+module _ {M : Type 0} (g : Ghosts (Device M)) (v w : Core M) (mark number : ℕ) (answer : Option Drained) (b : TriesNumber g mark number v w answer) (core : IsCore g v) (volume : IsVolumeShape (g.shape v.device))
+    (is : mark ≡ begun_of v + 1) (stores : g.tells → StoresPages g w.device) (trees_stay : TreesStay) where
+  kept : KeepsMedium g v.device w.device
+  kept = b.handles.medium
+
+  same_shape : g.shape w.device ≡ g.shape v.device
+  same_shape = kept.virtual.same_shape
+
+  reads_most : g.read_faults v.device ≤ g.read_faults w.device
+  reads_most = reads_rise g v.device w.device (option_and_then drained_stop answer) b.reads
+
+  writes_most : g.write_faults v.device ≤ g.write_faults w.device
+  writes_most = let same = kept.write_faults in omega (arith, same)
+
+  same_stopped : w.stopped ≡ v.stopped
+  same_stopped = ap (λ (x : Core M). x.stopped) b.others
+
+  ran : w.stopped ≡ 0 → v.stopped ≡ 0
+  ran none = sym same_stopped ∙ none
+
+  stops : Stops g v w
+  stops = record {
+    stands = λ off. same_stopped;
+    none = λ none rose. let low = (core.writes (ran none)).counts in let same = kept.write_faults in omega (arith, low, same, rose);
+    some = λ none later. absurd (later (same_stopped ∙ none));
+  }
+
+  held_on : IsHeldVolume g w.device v.journal w.meta (carried w.flight) w.freeing.items
+  held_on = handling_keeps_held g v.device w.device v.journal v.meta w.meta (carried v.flight) (carried w.flight) v.freeing.items w.freeing.items mark volume core.journaled core.held kept.virtual
+      b.handles.pages.same_frozen (omega (arith, is)) (λ h later. b.handles.holders h later)
+
+  same_names : SameButNames (graph_of (g.shape w.device) (running_of g v)) (graph_of (g.shape w.device) (running_of g w))
+  same_names = subst (λ (h : Shape). SameButNames (graph_of h (running_of g v)) (graph_of (g.shape w.device) (running_of g w))) (sym same_shape) b.handles.nodes
+
+  as_many_running : length (running_holders g w.device w.meta) ≡ length (running_holders g v.device v.meta)
+  as_many_running = as_many (g.shape w.device) (running_of g v) (running_of g w) same_names ∙ ap (λ (h : Shape). length (tagged_in h (running_of g v))) same_shape
+
+  begun_stays : begun v.journal (length w.meta.frozen.addresses) ≡ begun_of v
+  begun_stays = ap (λ (f : Frozen). begun v.journal (length f.addresses)) b.handles.pages.same_frozen
+
+  marked_on : MarkedTo (names_of g w) (begun v.journal (length w.meta.frozen.addresses) + 1)
+  marked_on c n has at = ⊎_elim
+      (λ same.
+      let low = core.marked c n (subst (λ (cs : List Callback). Has cs c) b.handles.marks.pending has) (sym same ∙ at) in
+      let b_is = begun_stays in
+      omega (arith, low, b_is))
+      (λ new.
+      let e : mark ≡ n = some_in mark n (sym new.1 ∙ at) in
+      let b_is = begun_stays in
+      omega (arith, e, is, b_is))
+      (b.handles.marks.handled c.number)
+
+  free_on : HasFree g (record v { device = w.device; meta = w.meta; flight = w.flight; freeing = w.freeing })
+  free_on = record {
+    count_nodes = core.free.count_nodes ∙ ap (λ (h : Shape). h.nodes) (sym same_shape);
+    count_pool = core.free.count_pool ∙ ap (λ (h : Shape). h.meta) (sym same_shape);
+    nodes = b.handles.free.nodes v.nodes core.free.nodes;
+    pool = b.handles.free.pool v.nodes core.free.pool;
+  }
+
+  space_on : HasSpace g (record v { device = w.device; meta = w.meta; flight = w.flight; freeing = w.freeing })
+  space_on =
+      let s = core.space in
+      let same = b.handles.marks.space in
+      let live = ap (λ (x : Space). x.live) same in
+      let all = ap (λ (x : Space). x.all) same in
+      let block = ap (λ (x : Space). (x.keep + x.bad + 3) * x.block) same in
+      let running = as_many_running in
+      let flight = as_many_carried v.flight w.flight b.handles.flight in
+      let freeing = sym (length-map w.freeing.items nameless) ∙ ap length b.handles.freeing ∙ length-map v.freeing.items nameless in
+      let rooms = b.room in
+      let cap = ap (λ (h : Shape). h.cap) same_shape in
+      let counted = s.counted in
+      let few_files = s.few in
+      record {
+        counted = omega (arith, live, counted, running, flight, freeing);
+        few = omega (arith, running, few_files, cap);
+        all = let before = s.all in omega (arith, all, before, block, cap);
+        room = subst (λ (h : Shape). h.pblocks * h.pages ≤ length w.freeing.items + w.freeing.room) (sym same_shape) (let r = s.room in omega (arith, r, freeing, rooms));
+      }
+
+  pub tried_core : IsCore g w
+  tried_core = subst (λ (x : Core M). IsCore g x) (sym b.others) (record {
+    shape = core.shape ∙ sym same_shape;
+    journaled = steps_journaled g v.device w.device v.journal v.meta w.meta volume core.journaled kept.virtual b.handles.pages b.runs;
+    free = free_on;
+    held = held_on;
+    flight = flight_stays v.flight w.flight b.handles.flight core.flight;
+    space = space_on;
+    marked = marked_on;
+    moment = subst (λ n. v.moment ≤ n) (sym kept.clock) core.moment;
+    writes = λ none. let c = core.writes none in record {
+      spare = kept.virtual.spare c.spare;
+      lands = subst (λ (s : Space). CanLand s) (sym b.handles.marks.space) c.lands;
+      firm = λ told. medium_keeps_firm g v.device w.device told.0 (c.firm (told.0, subst (λ (f : Frozen). HasNumber v.journal (length f.addresses)) b.handles.pages.same_frozen told.1)) kept (stores told.0);
+      counts = subst (λ n. n < top) (sym kept.write_faults) c.counts;
+    };
+  })
+
+  -- ---- how it went on
+
+  leads_on : Leads (g.shape w.device) (running_of g v) (running_of g w) same_names (names_of g w)
+  leads_on =
+      let h = held_on in
+      record {
+        right = record { nodes = b.runs.nodes; addresses = b.runs.addresses; entries = b.runs.entries };
+        leads = λ x has. subst (λ (n : Names). IsRef n always (wants_tagged x) x.1.name) h.is_of.runs.names
+            (h.holds.held.running x (subst (λ (xs : List (Tag × Pointer)). Has xs x) (sym h.is_of.runs.running) has));
+      }
+
+  stands_on : (page_of_stamp : ℕ → Option PageOfStamp) (t : Trees) → g.tells → HasNumber v.journal (length v.meta.frozen.addresses) → StandsFor g v.device v.journal v.meta v.count page_of_stamp t
+      → StandsFor g w.device v.journal w.meta v.count page_of_stamp t
+  stands_on page_of_stamp t tells numbers at =
+      let on = addresses_go g v.device w.device v.journal v.meta v.count page_of_stamp t volume tells numbers core.journaled kept.virtual at in
+      let frozen = sym b.handles.pages.same_frozen in
+      record {
+        running = runs_renamed (g.shape w.device) (running_of g v) (running_of g w) same_names page_of_stamp (names_of g w) leads_on trees_stay t.running
+            (subst (λ (h : Shape). RunsAs h (running_of g v) page_of_stamp t.running) (sym same_shape) at.running);
+        committed = on.committed;
+        frozen = subst (λ (f : Frozen). IsOpen v.journal f → StandsAs (g.shape w.device) (finished v.journal.phase f (committed_on g w.device)) page_of_stamp t.frozen) frozen on.frozen;
+        thawed = subst (λ (f : Frozen). (IsOpen v.journal f → ⊥) → t.frozen ≡ t.committed) frozen on.thawed;
+        later = on.later;
+        latest = on.latest;
+      }
+
+  told_before : IsTold g (record v { device = w.device; meta = w.meta; flight = w.flight; freeing = w.freeing }) → HasNumber v.journal (length v.meta.frozen.addresses)
+  told_before told = subst (λ (f : Frozen). HasNumber v.journal (length f.addresses)) b.handles.pages.same_frozen told.numbers
+
+  pub tried_goes : Goes g 0 v w
+  tried_goes = subst (λ (x : Core M). Goes g 0 v x) (sym b.others) (record {
+    same_shape = same_shape;
+    count = refl;
+    nodes = b.handles.nodes;
+    numbers = let same = begun_stays in omega (arith, same);
+    reads = reads_most;
+    writes = writes_most;
+    clock = let same = kept.clock in omega (arith, same);
+    moment = inl (refl, refl);
+    stops = subst (λ (x : Core M). Stops g v x) b.others stops;
+    stamps = record {
+      never_falls = let n = kept.next_stamp in omega (arith, n);
+      at_most = let n = kept.next_stamp in omega (arith, n);
+      paid = λ low less. let n = kept.next_stamp in let k = kept.clock in let f = kept.write_faults in omega (arith, n, k, f);
+    };
+    trees = λ told page_of_stamp t at. record {
+      pages = page_of_stamp;
+      trees = t;
+      stands = record {
+        stands = stands_on page_of_stamp t told.tells (told_before told) at.stands;
+        shows = λ p page live. at.shows p page (sym (b.handles.marks.live p) ∙ live) ∙ ap (λ bytes. Some (record { tag = page.tag; bytes = bytes })) (sym (kept.bytes told.tells p));
+        given = λ stamp page has. subst (λ n. stamp < n) (sym kept.next_stamp) (at.given stamp page has);
+        committed = at.committed;
+      };
+      extends = λ stamp page has. has;
+      running = refl;
+      committed = inl refl;
+      frozen = inr (inl refl);
+      later = omega arith;
+    };
+    left = λ told page_of_stamp t y same at. record {
+      later = let k = kept.clock in omega (arith, k);
+      each = λ m c left. inl (kept.left told.tells m c left);
+    };
+  })
+
+  pub tried_cause : HasCause g (answer ≡ Some drained.Fault) v w
+  tried_cause fault = inl ((subst (λ (o : Option Drained). Reads g v.device w.device (option_and_then drained_stop o)) fault b.reads).cause tt)

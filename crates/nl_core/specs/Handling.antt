@@ -1,0 +1,77 @@
+-- How the callback of a number is handled: by one try, and by the call that makes room before a second one.
+use Rattle.std.specs.Prelude.{◌≡◌, ℕ, ⊤, Option, Some, None, IfNone, IfSome, option_and_then}
+use Rattle.nl_tree.specs.declared.turn.DutyAnswer.{DutyAnswer}
+use Rattle.nl_tree.specs.declared.turn.DutyAnswer.TheVariants as duty
+use Rattle.nl_device.specs.declared.device.Device.{Device}
+use Rattle.nl_drain.specs.Blocked.{IsBlocked, drained_stop}
+use Rattle.nl_drain.specs.Handled.{HandlesSome, Volume, volume}
+use Rattle.nl_drain.specs.declared.draining.Drained.{Drained}
+use Rattle.nl_drain.specs.declared.draining.Drained.TheVariants as drained
+use Rattle.nl_iface.specs.Moves.{IsUnhandled, Marks}
+use Rattle.nl_iface.specs.Names.{Has, Names}
+use Rattle.nl_iface.specs.Rounds.{Empties}
+use Rattle.nl_iface.specs.declared.Callback.{Callback}
+use Rattle.nl_iface.specs.declared.counts.Counts.{Ghosts}
+use Rattle.nl_running.specs.Reading.{Reads}
+use Rattle.nl_running.specs.Running.{Runs}
+use Rattle.nl_core.specs.Core.{names_of}
+use Rattle.nl_core.specs.declared.state.Core.{Core}
+
+-- the volume as those see it that handle callbacks
+abbrev pub volume_of : {M : Type 0} → Core M → Volume (Device M)
+volume_of v = volume v.device v.meta v.flight v.freeing.items
+
+-- a callback of this number is pending
+abbrev pub IsPending : Names → ℕ → Type 0
+IsPending names number = (c : Callback) × Has names.pending c × (c.number ≡ number)
+
+-- ---- one try
+
+-- Where it was done, the callback counts as handled by this transaction, or by the earlier one that it had. Else no name changed, and there
+-- is `NoRoom` only where the metadata has the pointer in a page that cannot be made dirty.
+pub record TriesCallback {M : Type 0} (g : Ghosts (Device M)) (mark : ℕ) (old new : Core M) (c : Callback) (answer : Drained) : Type 0 where
+  pub done : answer ≡ drained.Done → Marks c mark (names_of g old) (names_of g new)
+  pub same : (answer ≡ drained.Done → ⊥) → (names_of g new ≡ names_of g old) × (new.meta.dirty ≡ old.meta.dirty)
+  pub no_room : answer ≡ drained.NoRoom → IsBlocked g (volume_of new) c
+
+-- The pending callback of the number was tried; or there is none, and all is as before.
+pub record TriesNumber {M : Type 0} (g : Ghosts (Device M)) (mark number : ℕ) (old new : Core M) (answer : Option Drained) : Type 0 where
+  pub others : new ≡ record old { device = new.device; meta = new.meta; flight = new.flight; freeing = new.freeing }
+  pub runs : Runs g new.device new.meta
+  pub handles : HandlesSome g mark (volume_of old) (volume_of new)
+  pub room : new.freeing.room ≡ old.freeing.room
+  pub reads : Reads g old.device new.device (option_and_then drained_stop answer)
+  pub none : IfNone answer ((IsPending (names_of g old) number → ⊥) × (new ≡ old))
+  pub some : IfSome answer (λ d. (c : Callback) × Has (names_of g old).pending c × (c.number ≡ number) × TriesCallback g mark old new c d)
+
+-- ---- the whole call
+
+-- The callback of the number is pending no longer, or counts as handled. Those that are unhandled then were, and none was posted, so that handling
+-- one after the other ends with all handled. Where no write has failed, the space is as after a commit at most.
+pub record HandlesNumber {M : Type 0} (g : Ghosts (Device M)) (number : ℕ) (old new : Core M) : Type 0 where
+  pub handled : IsUnhandled (names_of g new) number → ⊥
+  pub others : (c : Callback) → Has (names_of g new).pending c → (names_of g new).handled c.number ≡ None → Has (names_of g old).pending c × ((names_of g old).handled c.number ≡ None)
+  pub posted : (names_of g new).posted ≡ (names_of g old).posted
+  pub space : new.stopped ≡ 0 → Empties (names_of g old).space (names_of g new).space
+
+-- What the call does once room was made. A page is lost only with another number found, and never where the medium tells what it stores.
+abbrev pub HandlesWithRoom : {M : Type 0} → Ghosts (Device M) → ℕ → Core M → Core M → DutyAnswer → Type 0
+HandlesWithRoom g number old new duty.Did = HandlesNumber g number old new
+HandlesWithRoom g number old new duty.Nothing = ⊥
+HandlesWithRoom g number old new duty.Fault = ⊤
+HandlesWithRoom g number old new (duty.Lost w f) = (f ≡ w → ⊥) × (g.tells → ⊥)
+
+-- what it answers then: a callback that is pending no longer was handled before
+abbrev pub duty_of : Option Drained → DutyAnswer
+duty_of None = duty.Did
+duty_of (Some drained.Done) = duty.Did
+duty_of (Some drained.NoRoom) = duty.Did
+duty_of (Some drained.Fault) = duty.Fault
+duty_of (Some (drained.Lost w f)) = duty.Lost w f
+
+-- `Nothing` exactly where no callback of the number is pending; then all is as before.
+abbrev pub Handles : {M : Type 0} → Ghosts (Device M) → ℕ → Core M → Core M → DutyAnswer → Type 0
+Handles g number old new duty.Did = IsPending (names_of g old) number × HandlesNumber g number old new
+Handles g number old new duty.Nothing = (IsPending (names_of g old) number → ⊥) × (new ≡ old)
+Handles g number old new duty.Fault = IsPending (names_of g old) number
+Handles g number old new (duty.Lost w f) = IsPending (names_of g old) number × (f ≡ w → ⊥) × (g.tells → ⊥)

@@ -1,0 +1,89 @@
+-- A page is programmed for a worker's line, and is in flight.
+use Rattle.std.specs.Prelude.{◌≡◌, ◌≢◌, ◌↔◌, ◌⊎◌, ℕ, ◌+◌, ◌≤◌, ◌^◌, ◌==◌, if◌then◌else◌, List, [], ◌∷◌, ◌++◌, map, Option, Some}
+use Rattle.nl_field.specs.declared.answers.Named.{Named}
+use Rattle.nl_field.specs.declared.answers.Named.TheVariants as named
+use Rattle.nl_field.specs.declared.pointer.Pointer.{Pointer}
+use Rattle.nl_field.specs.declared.pointer.Tag.{Tag}
+use Rattle.nl_device.specs.declared.device.Device.{Device}
+use Rattle.nl_drain.specs.Handled.{nameless_line}
+use Rattle.nl_flight.specs.Flight.{InFlight, begun, carried, of_worker, with_line}
+use Rattle.nl_iface.specs.Answers.{IfPlaced, IfRefused, IsPlaced, IsTriedNamed}
+use Rattle.nl_iface.specs.Calls.{KeepsPages, LeavesNew, OnlyReads, Places, PlacesNone, TakesStamp, TriesCounted}
+use Rattle.nl_iface.specs.Names.{Has}
+use Rattle.nl_iface.specs.Space.{NoneRetired}
+use Rattle.nl_iface.specs.declared.counts.Counts.{Ghosts}
+use Rattle.nl_meta.specs.Consistent.{PageOfStamp}
+use Rattle.nl_held.specs.Trees.{Trees}
+use Rattle.nl_core.specs.Calls.{KeepsLines}
+use Rattle.nl_core.specs.Core.{names_of}
+use Rattle.nl_core.specs.Trees.{CoreStands}
+use Rattle.nl_core.specs.declared.programming.Programmed.{Programmed}
+use Rattle.nl_core.specs.declared.programming.Programmed.TheVariants as programmed
+use Rattle.nl_core.specs.declared.state.Core.{Core}
+
+-- the worker's line is this one, or it has none
+abbrev pub HasLine : List InFlight → ℕ → ℕ → Type 0
+HasLine flight worker line = ((of_worker flight worker).line ≡ 0) ⊎ ((of_worker flight worker).line ≡ line)
+
+-- the worker's line, which begins where it has none
+abbrev pub line_of : List InFlight → ℕ → ℕ → InFlight
+line_of flight worker line = if (of_worker flight worker).line == 0 then begun line else of_worker flight worker
+
+-- the line with this page behind its others
+abbrev pub behind : InFlight → Tag → Pointer → InFlight
+behind was tag at = record was { pages = was.pages ++ record { index = tag.index; at = at; tag = tag } ∷ [] }
+
+abbrev pub with_page : List InFlight → ℕ → ℕ → Tag → Pointer → List InFlight
+with_page flight worker line tag at = with_line flight worker (behind (line_of flight worker line) tag at)
+
+-- A page is programmed under a new name, or not: what a device tells of that.
+pub record Programs {D : Type 0} (g : Ghosts D) (tag : Tag) (main : List ℕ) (answer : Named) (old new : D) : Type 0 where
+  pub not_live : answer ≡ named.NotLive → ⊥
+  pub no_page : answer ≡ named.NoPage ↔ ((g.names old).space.room ≡ 0)
+  pub placed : IfPlaced answer (Places g tag main 0 (g.names old) old new)
+  pub none : (IsPlaced answer → ⊥) → PlacesNone g answer old new
+  pub refused : IfRefused answer (OnlyReads g old new)
+  pub left : g.tells → LeavesNew g tag main answer old new
+  pub kept : KeepsPages g old new
+  pub next_stamp : TakesStamp g (IsTriedNamed answer) old new
+  pub counts : TriesCounted g answer old new
+  pub retired : NoneRetired (g.names old).space (g.names new).space
+
+-- The page is placed under the pointer, and in flight behind the others of the worker's line. Whatever trees the core stands for then, the
+-- page of its write sequence number is this one.
+pub record PutsPage {M : Type 0} (g : Ghosts (Device M)) (worker line : ℕ) (tag : Tag) (main : List ℕ) (old new : Core M) (at : Pointer) : Type 0 where
+  pub places : Places g tag main 0 (names_of g old) old.device new.device at
+  pub flight : new.flight ≡ with_page old.flight worker line tag at
+  pub others : new ≡ record old { device = new.device; flight = new.flight; stopped = new.stopped }
+  pub shows : g.tells → (pages : ℕ → Option PageOfStamp) (t : Trees) → CoreStands g new pages t → pages at.stamp ≡ Some (record { tag = tag; bytes = main })
+
+-- No page is placed, and those in flight are the same. Where it was refused, nothing was written.
+pub record PutsNone {M : Type 0} (g : Ghosts (Device M)) (answer : Named) (old new : Core M) : Type 0 where
+  pub none : PlacesNone g answer old.device new.device
+  pub others : new ≡ record old { device = new.device; stopped = new.stopped }
+  pub refused : IfRefused answer (OnlyReads g old.device new.device)
+
+-- ---- with rounds of reclaiming
+
+-- the write sequence number from which on no page is programmed
+abbrev pub last_stamp : ℕ
+last_stamp = 2 ^ 62 + 2 ^ 40
+
+-- A page with these bytes is programmed under the pointer, and in flight behind the others of the worker's line, which are those of before but for
+-- the names of their pages. Its write sequence number was not given before. Whatever trees the core stands for then, the page of that number is
+-- this one.
+pub record PutsInFlight {M : Type 0} (g : Ghosts (Device M)) (worker line : ℕ) (tag : Tag) (main : List ℕ) (old new : Core M) : Type 0 where
+  pub at : Pointer
+  pub flight : map nameless_line new.flight ≡ map nameless_line (with_page old.flight worker line tag at)
+  pub is_in_flight : Has (carried new.flight) (tag, at)
+  pub is_live : (names_of g new).live at.name ≡ Some (record { tag = tag; stamp = at.stamp })
+  pub is_new : g.next_stamp old.device ≤ at.stamp
+  pub shows : g.tells → (pages : ℕ → Option PageOfStamp) (t : Trees) → CoreStands g new pages t → pages at.stamp ≡ Some (record { tag = tag; bytes = main })
+
+-- What a program does by its answer. Where it did none, the lines in flight are those of before; where it was stopped, all is as before. A page is
+-- lost only with another number found, and never where the medium tells what it stores.
+abbrev pub ProgramsFor : {M : Type 0} → Ghosts (Device M) → ℕ → ℕ → Tag → List ℕ → Core M → Core M → Programmed → Type 0
+ProgramsFor g worker line tag main old new programmed.InFlight = PutsInFlight g worker line tag main old new
+ProgramsFor g worker line tag main old new programmed.Stopped = new ≡ old
+ProgramsFor g worker line tag main old new (programmed.Lost w f) = KeepsLines old new × (f ≢ w) × (g.tells → ⊥)
+ProgramsFor g worker line tag main old new programmed.Fault = KeepsLines old new

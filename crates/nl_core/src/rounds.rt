@@ -1,0 +1,141 @@
+ghost use Rattle.std.specs.Prelude.{◌≡◌, ◌↔◌, ◌≤◌, ◌+◌, ◌^◌, [], false};
+ghost use Rattle.nl_core.specs.Calls.{HasCause, KeepsLines};
+ghost use Rattle.nl_core.specs.Core.{IsCore, names_of};
+ghost use Rattle.nl_drain.specs.Handled.{AllHandled};
+ghost use Rattle.nl_core.specs.Goes.{Goes};
+ghost use Rattle.nl_core.specs.Rounds.{EmptiesTable, HandlesAll, IfRounded, RoundIsDone};
+
+use crate::state::Core;
+use nl_cleaning::Cleaned;
+use nl_cleaning::laws::a_cleaning_is_of_a_round;
+use nl_device::Device;
+use nl_held::laws::device_stands;
+use nl_iface::Counts;
+use nl_journal::Committing;
+use nl_nand::Nand;
+use nl_tree::DutyAnswer;
+
+/// What a round of reclaiming answers.
+#[derive(Clone, Copy, Debug, PartialEq, Eq)]
+pub enum Rounded {
+    /// The round is done.
+    Done,
+    /// A page that was read does not hold the wanted number: `found` is another one, 0 where it holds none.
+    Lost { wanted: u64, found: u64 },
+    /// The medium failed.
+    Fault,
+}
+
+impl<M: Nand> Core<M> {
+    /// One round of reclaiming: each pending callback is handled, the metadata is committed where a page awaits its free or an old name
+    /// stands, and one victim is cleaned, where there is one.
+    pub fn round(&mut self) -> Rounded
+        requires formed { ⟦<Device<M> as Counts>⟧.formed self.old.device }
+        requires core { IsCore ⟦<Device<M> as Counts>⟧ self.old }
+        requires writes { self.old.stopped ≡ 0 }
+        requires stamp { ⟦<Device<M> as Counts>⟧.next_stamp self.old.device + 2 ^ 20 ≤ 2 ^ 63 }
+        ensures formed { ⟦<Device<M> as Counts>⟧.formed self.new.device }
+        ensures core { IsCore ⟦<Device<M> as Counts>⟧ self.new }
+        ensures goes { Goes ⟦<Device<M> as Counts>⟧ (2 ^ 20) self.old self.new }
+        ensures lines { KeepsLines self.old self.new }
+        ensures rounds { IfRounded ⟦<Device<M> as Counts>⟧.tells (RoundIsDone ⟦<Device<M> as Counts>⟧ self.old self.new) result }
+        ensures faults { HasCause ⟦<Device<M> as Counts>⟧ (result ≡ Rounded.Fault) self.old self.new }
+    {
+        match self.empty_table() {
+            Rounded::Done => {
+                a_cleaning_is_of_a_round();
+                device_stands(&self.device);
+                match self.clean() {
+                    Cleaned::Done | Cleaned::Nothing => Rounded::Done,
+                    Cleaned::Lost { wanted, found } => Rounded::Lost { wanted, found },
+                    Cleaned::Fault => Rounded::Fault,
+                }
+            }
+            answer => answer,
+        }
+    }
+
+    // Each pending callback is handled, and the metadata committed where a page awaits its free or an old name stands.
+    fn empty_table(&mut self) -> Rounded
+        requires formed { ⟦<Device<M> as Counts>⟧.formed self.old.device }
+        requires core { IsCore ⟦<Device<M> as Counts>⟧ self.old }
+        requires writes { self.old.stopped ≡ 0 }
+        requires stamp { ⟦<Device<M> as Counts>⟧.next_stamp self.old.device + 2 ^ 20 ≤ 2 ^ 63 }
+        ensures formed { ⟦<Device<M> as Counts>⟧.formed self.new.device }
+        ensures core { IsCore ⟦<Device<M> as Counts>⟧ self.new }
+        ensures goes { Goes ⟦<Device<M> as Counts>⟧ (2 ^ 20) self.old self.new }
+        ensures lines { KeepsLines self.old self.new }
+        ensures emptied { IfRounded ⟦<Device<M> as Counts>⟧.tells (EmptiesTable ⟦<Device<M> as Counts>⟧ self.old self.new) result }
+        ensures faults { HasCause ⟦<Device<M> as Counts>⟧ (result ≡ Rounded.Fault) self.old self.new }
+    {
+        match self.handle_all() {
+            Rounded::Done => self.commit_if_due(),
+            answer => answer,
+        }
+    }
+
+    // Handles the pending callbacks that no transaction has handled, in the order of their numbers.
+    fn handle_all(&mut self) -> Rounded
+        requires formed { ⟦<Device<M> as Counts>⟧.formed self.old.device }
+        requires core { IsCore ⟦<Device<M> as Counts>⟧ self.old }
+        requires writes { self.old.stopped ≡ 0 }
+        requires stamp { ⟦<Device<M> as Counts>⟧.next_stamp self.old.device + 2 ^ 20 ≤ 2 ^ 63 }
+        ensures formed { ⟦<Device<M> as Counts>⟧.formed self.new.device }
+        ensures core { IsCore ⟦<Device<M> as Counts>⟧ self.new }
+        ensures goes { Goes ⟦<Device<M> as Counts>⟧ (2 ^ 19) self.old self.new }
+        ensures lines { KeepsLines self.old self.new }
+        ensures handles { IfRounded ⟦<Device<M> as Counts>⟧.tells (HandlesAll ⟦<Device<M> as Counts>⟧ self.old self.new) result }
+        ensures faults { HasCause ⟦<Device<M> as Counts>⟧ (result ≡ Rounded.Fault) self.old self.new }
+    {
+        device_stands(&self.device);
+        'each: while let Some(number) = self.device.least() {
+            device_stands(&self.device);
+            match self.handle(number) {
+                DutyAnswer::Did | DutyAnswer::Nothing => {}
+                DutyAnswer::Lost { wanted, found } => return Rounded::Lost { wanted, found },
+                DutyAnswer::Fault => return Rounded::Fault,
+            }
+            if self.stopped != 0 {
+                return Rounded::Fault;
+            }
+        }
+        Rounded::Done
+    }
+
+    // Commits where a page awaits its free, or an old name stands in the table. Each callback was handled.
+    fn commit_if_due(&mut self) -> Rounded
+        requires formed { ⟦<Device<M> as Counts>⟧.formed self.old.device }
+        requires core { IsCore ⟦<Device<M> as Counts>⟧ self.old }
+        requires writes { self.old.stopped ≡ 0 }
+        requires stamp { ⟦<Device<M> as Counts>⟧.next_stamp self.old.device + 512 ≤ 2 ^ 63 }
+        requires handled { AllHandled (names_of ⟦<Device<M> as Counts>⟧ self.old) }
+        ensures formed { ⟦<Device<M> as Counts>⟧.formed self.new.device }
+        ensures core { IsCore ⟦<Device<M> as Counts>⟧ self.new }
+        ensures goes { Goes ⟦<Device<M> as Counts>⟧ 512 self.old self.new }
+        ensures lines { KeepsLines self.old self.new }
+        ensures emptied { IfRounded ⟦<Device<M> as Counts>⟧.tells (EmptiesTable ⟦<Device<M> as Counts>⟧ self.old self.new) result }
+        ensures faults { HasCause ⟦<Device<M> as Counts>⟧ (result ≡ Rounded.Fault) self.old self.new }
+    {
+        if !self.is_due() {
+            return Rounded::Done;
+        }
+        match self.commit() {
+            Committing::Done(_) => {
+                device_stands(&self.device);
+                if self.stopped != 0 {
+                    return Rounded::Fault;
+                }
+                Rounded::Done
+            }
+            Committing::Lost { wanted, found } => Rounded::Lost { wanted, found },
+            Committing::Fault => Rounded::Fault,
+        }
+    }
+
+    // A page awaits its free, or an old name stands in the table.
+    fn is_due(&self) -> bool
+        ensures { result ≡ false ↔ ((names_of ⟦<Device<M> as Counts>⟧ self.now).space.pairs ≡ 0) × (self.now.freeing.items ≡ []) }
+    {
+        self.device.pairs() != 0 || self.freeing.len() != 0
+    }
+}
