@@ -1,0 +1,4 @@
+pub mod Begun
+pub mod OneKept
+pub mod Opens
+pub mod Owners

@@ -1,0 +1,56 @@
+use Rattle.std.proofs.Common.{◌≡◌, ◌*◌, ◌≤◌, ◌∙◌, List, subst, sym}
+use Rattle.nl_device.specs.Kept.{KeptPages}
+use Rattle.nl_device.specs.Retain.{CanRetain, kept_of, retained_at}
+use Rattle.nl_device.specs.Reopened.{CanBeRetained}
+use Rattle.nl_device.specs.Shown.{found_by_number}
+use Rattle.nl_device.specs.contracts.counts.DeviceCounts.TheImpl.{ghosts}
+use Rattle.nl_field.specs.declared.pointer.Pointer.{Pointer}
+use Rattle.nl_field.specs.declared.shape.Shape.{Shape}
+use Rattle.nl_flight.specs.Flight.{IsFlight}
+use Rattle.nl_iface.specs.Names.{Has}
+use Rattle.nl_running.specs.Running.{running_on}
+use Rattle.nl_core.specs.Core.{IsCore}
+use Rattle.nl_core.specs.declared.state.Core.{Core}
+use Rattle.nl_opening.proofs.Begun.{begun_core}
+use Rattle.nl_opening.proofs.OneKept.{one_kept}
+use Rattle.nl_opening.proofs.Owners.{found_is_seen}
+use Rattle.nl_opening.proofs.beginning.begin.Goals as goal
+
+pub retain-requires-clause-can : goal.retain-requires-clause-can
+retain-requires-clause-can g c =
+    let G = ghosts g.row.M g.M.Nand g.M.Nand-dict in
+    let s = c.args.device in
+    let w = c.args.walked in
+    let seen = c.args.scan.now.seen in
+    let listed : CanBeRetained s.shape seen w.kept.items = subst (λ (ps : List Pointer). CanBeRetained s.shape seen ps) (sym c.requires.walked.kept)
+    (c.kept_can_be_retained.ensures s.shape (running_on G s w.meta) seen c.requires.walked.consistent) in
+    subst (λ (k : KeptPages). CanRetain k w.kept.items) (sym c.requires.can.kept) (c.a_list_tells_what_can_be_retained.ensures s.shape seen w.kept.items listed)
+
+pub returns-clause-core : goal.returns-clause-core
+returns-clause-core g c =
+    let G = ghosts g.row.M g.M.Nand g.M.Nand-dict in
+    let s = c.args.device in
+    let t = c.retain.new.self in
+    let w = c.args.walked in
+    let seen = c.args.scan.now.seen in
+    let e = c.retain.ensures in
+    let clock : G.clock s ≡ c.clock-moment.result = sym (c.clock-moment.ensures ∙ e.medium.clock) in
+    subst (λ (x : Core g.row.M.Denot). IsCore G x)
+    (λ i. record {
+      device = t;
+      shape = (sym c.requires.shape) i;
+      journal = w.journal;
+      meta = w.meta;
+      nodes = w.nodes;
+      flight = (sym c.requires.flight) i;
+      freeing = c.args.freeing;
+      count = w.count;
+      committed = w.count;
+      moment = clock i;
+      stopped = 0;
+    })
+    (begun_core G s t seen w c.args.freeing c.requires.can c.requires.walked c.device_stands.ensures.volume
+    (λ p page has. found_is_seen s.shape seen p page (subst (λ (k : KeptPages). Has (found_by_number k) (p, page)) c.requires.can.kept has))
+    e.medium (retained_at (kept_of s) w.kept.items) e.retained c.device_stands-2.ensures.table c.device_stands-2.ensures.names e.space.lands (one_kept t.pseg) c.device_stands-2.ensures.pages
+    (subst IsFlight c.requires.flight c.lines_stand.ensures) c.requires.freeing
+    (subst (λ (h : Shape). h.pblocks * h.pages ≤ c.args.freeing.room) c.requires.shape c.requires.room))

@@ -1,0 +1,76 @@
+ghost use Rattle.std.specs.Prelude.{◌≡◌, ◌≤◌, ◌+◌, ◌*◌, []};
+ghost use Rattle.nl_core.specs.Core.{IsCore};
+ghost use Rattle.nl_device.specs.Retain.{SameMedium};
+ghost use Rattle.nl_flight.specs.Flight.{IsFlight, nothing};
+ghost use Rattle.nl_recover.specs.Recovering.{IsWalked};
+ghost use Rattle.nl_opening.specs.Beginning.{BeginsCore, CanBegin};
+
+use nl_core::Core;
+use nl_device::Device;
+use nl_device::scan_laws::a_list_tells_what_can_be_retained;
+use nl_field::{PointerList, Shape};
+use nl_flight::Flight;
+use nl_held::laws::device_stands;
+use nl_iface::Counts;
+use nl_nand::Nand;
+use nl_recover::Walked;
+use nl_recover::laws::kept_can_be_retained;
+use nl_scan::ScanTables;
+
+/// Begins a core over a device that was started and walked: exactly the pointers of its files are live, each at its place, and nothing is in
+/// flight or awaits its free. The medium is not touched.
+pub fn begin<M: Nand>(
+    device: Device<M>,
+    shape: Shape,
+    scan: &ScanTables,
+    walked: Walked,
+    flight: Flight,
+    freeing: PointerList,
+) -> Core<M>
+    requires formed { ⟦<Device<M> as Counts>⟧.formed device }
+    requires shape { shape ≡ ⟦<Device<M> as Counts>⟧.shape device }
+    requires can { CanBegin ⟦<Device<M> as Counts>⟧ device scan.now.seen }
+    requires walked { IsWalked ⟦<Device<M> as Counts>⟧ device scan.now.seen walked }
+    requires flight { flight ≡ nothing }
+    requires freeing { freeing.items ≡ [] }
+    requires room { shape.pblocks * shape.pages ≤ freeing.room }
+    ensures formed { ⟦<Device<M> as Counts>⟧.formed result.device }
+    ensures core { IsCore ⟦<Device<M> as Counts>⟧ result }
+    ensures begins { BeginsCore ⟦<Device<M> as Counts>⟧ device walked result }
+{
+    kept_can_be_retained();
+    a_list_tells_what_can_be_retained();
+    lines_stand(&flight);
+    let mut device = device;
+    device_stands(&device);
+    device.retain(&walked.kept);
+    device_stands(&device);
+    let moment = device.clock();
+    let Walked {
+        journal,
+        meta,
+        nodes,
+        count,
+        kept: _,
+    } = walked;
+    Core {
+        device,
+        shape,
+        journal,
+        meta,
+        nodes,
+        flight,
+        freeing,
+        count,
+        committed: count,
+        moment,
+        stopped: 0,
+    }
+}
+
+// The lines in flight are in order.
+fn lines_stand(flight: &Flight)
+    ensures { IsFlight flight.now }
+{
+    let _ = flight.line(0);
+}
