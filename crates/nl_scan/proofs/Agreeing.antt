@@ -13,7 +13,7 @@ use Rattle.nl_field.specs.Medium.{Readable, readable, stamp_on}
 use Rattle.nl_field.specs.Scan.{agree, without_wear}
 use Rattle.nl_scan.specs.declared.firsts.First.{First}
 use Rattle.nl_scan.proofs.Lists.{all_each, any_same, or_false, same_some}
-use Rattle.nl_scan.specs.Firsts.{agrees_with, is_alike, noted, first_of}
+use Rattle.nl_scan.specs.Firsts.{agrees_with, is_alike, same_record, noted, first_of}
 
 -- one of these pages has the stamp and differs
 abbrev pub differs_from : List Readable → Readable → Bool
@@ -56,7 +56,7 @@ agree_both q r =
 agree_alike : (f r q : Readable) → agree f r ≡ true → agree f q ≡ agree q r
 agree_alike f r q is = let same = same_from f r is in agree_both f q ∙ (λ i. bytes_eq q.main (same.main i) && bytes_eq (spare_of_page q) (same.spare i))
 
-some_or_none : {X : Type 0} (x : X) → Some x ≡ None → ⊥
+pub some_or_none : {X : Type 0} (x : X) → Some x ≡ None → ⊥
 some_or_none x e = cc
 
 none_found : {X : Type 0} (p h : X → Bool) (xs : List X) → find p xs ≡ None → list_any (λ x. p x && h x) xs ≡ false
@@ -111,11 +111,17 @@ differs_by_first pages r f some =
     ∙ sym (or_right (differ_from_first pages (stamp_on r) f) (not (agree f r)) (not_from_false (agree f r) is)))
     (cases_Bool (agree f r))
 
-alike_first : (image : Image) (f r : Readable) → IsOn image f → is_alike r.rec r.main (f.page, page_at image f.page) ≡ agree f r
-alike_first image f r on = ap (agrees_with r.rec r.main) on
+both_twice : (a b : Bool) → ((a && b) && b) ≡ (a && b)
+both_twice true true = refl
+both_twice true false = refl
+both_twice false b = refl
+
+-- the record that was noted of a page is the one that is read again
+alike_first : (image : Image) (f r : Readable) → IsOn image f → (is_alike r.rec r.main (f.page, page_at image f.page) && same_record f.rec r.rec) ≡ agree f r
+alike_first image f r on = ap (λ (b : Bool). b && same_record f.rec r.rec) (ap (agrees_with r.rec r.main) on) ∙ both_twice (bytes_eq f.main r.main) (same_record f.rec r.rec)
 
 abbrev first_in : List Readable → ℕ → Readable → First
-first_in pages stamp f = record { page = f.page; mixed = differ_from_first pages stamp f }
+first_in pages stamp f = record { page = f.page; rec = f.rec; mixed = differ_from_first pages stamp f }
 
 noted_first : (image : Image) (pages : List Readable) (r : Readable) (found : Option Readable) → AllByRecursion (IsOn image) pages
     → find (has_stamp (stamp_on r)) pages ≡ found → (noted image r (option_map (first_in pages (stamp_on r)) found)).mixed ≡ differs_from pages r
@@ -142,11 +148,11 @@ here : (image : Image) (pages : List Readable) (r : Readable) (found : Option Re
     → option_map (first_in (pages ++ r ∷ []) (stamp_on r)) (option_or found (find (has_stamp (stamp_on r)) (r ∷ []))) ≡ Some (noted image r (option_map (first_in pages (stamp_on r)) found))
 here image pages r None on some =
     (λ i. option_map (first_in (pages ++ r ∷ []) (stamp_on r)) (cond (its_stamp r i) (Some r) None))
-    ∙ ap (λ (m : Bool). Some (record { page = r.page; mixed = m }))
+    ∙ ap (λ (m : Bool). Some (record { page = r.page; rec = r.rec; mixed = m }))
     (one_more pages r r (stamp_on r)
     ∙ (λ i. none_found (has_stamp (stamp_on r)) (λ q. not (agree r q)) pages some i || and_right (stamp_on r == stamp_on r) (not (agree r r)) (not_from_true (agree r r) (agree_itself r)) i))
 here image pages r (Some f) on some =
-    ap (λ (m : Bool). Some (record { page = f.page; mixed = m }))
+    ap (λ (m : Bool). Some (record { page = f.page; rec = f.rec; mixed = m }))
     (one_more pages r f (stamp_on r)
     ∙ (λ i. differ_from_first pages (stamp_on r) f || (its_stamp r i && not (agree f r)))
     ∙ ap (λ (b : Bool). differ_from_first pages (stamp_on r) f || not b) (sym (alike_first image f r (holds_found (has_stamp (stamp_on r)) (IsOn image) pages f some on))))
@@ -162,7 +168,7 @@ apart_in : (pages : List Readable) (r : Readable) (stamp : ℕ) (found : Option 
     → option_map (first_in (pages ++ r ∷ []) stamp) (option_or found (find (has_stamp stamp) (r ∷ []))) ≡ option_map (first_in pages stamp) found
 apart_in pages r stamp None no' = λ i. option_map (first_in (pages ++ r ∷ []) stamp) (cond (no' i) (Some r) None)
 apart_in pages r stamp (Some f) no' =
-    ap (λ (m : Bool). Some (record { page = f.page; mixed = m }))
+    ap (λ (m : Bool). Some (record { page = f.page; rec = f.rec; mixed = m }))
     (one_more pages r f stamp ∙ (λ i. differ_from_first pages stamp f || (no' i && not (agree f r))) ∙ or_false (differ_from_first pages stamp f))
 
 pub first_apart : (pages : List Readable) (r : Readable) (stamp : ℕ) → (stamp_on r ≡ stamp → ⊥) → first_of (pages ++ r ∷ []) stamp ≡ first_of pages stamp

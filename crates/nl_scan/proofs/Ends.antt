@@ -14,14 +14,16 @@ use Rattle.nl_field.specs.Medium.{Readable, readable_pages, shape_of_image}
 use Rattle.nl_nand.specs.Nand.{ImageOf, IsLegal}
 use Rattle.nl_nand.specs.ImageLaws.{image_size}
 use Rattle.nl_nand.specs.declared.geometry.Geometry.{Geometry}
+use Rattle.nl_field.specs.declared.shape.Shape.{Shape}
 use Rattle.nl_scan.specs.declared.firsts.First.{First}
 use Rattle.nl_scan.specs.declared.pass.Pass.{Pass}
 use Rattle.nl_field.specs.declared.seen.Seen.{Seen}
 use Rattle.nl_scan.specs.Supers.{no_super, super_after}
 use Rattle.nl_scan.specs.Tables.{IsSeen, IsKept, IsTableOf, FitsMedium, greatest_stamp}
-use Rattle.nl_field.specs.ScanList.{seen_of}
+use Rattle.nl_field.specs.ScanList.{seen_of, virtual_seen, physical_seen}
 use Rattle.nl_field.proofs.ScanLists.{each as listed}
-use Rattle.nl_scan.specs.Passes.{AreWithin, IsFresh, KnowsBlocks, Stands}
+use Rattle.nl_scan.specs.Passes.{AreFirsts, AreNoted, IsFirst, IsFresh, KnowsBlocks, Stands}
+use Rattle.nl_scan.proofs.Noting.{no_virtuals, no_physicals, none_virtual, none_physical, one_record}
 use Rattle.nl_scan.proofs.Readables.{below_all, below_none}
 use Rattle.nl_scan.proofs.Supers.{version_found}
 use Rattle.nl_scan.proofs.Whole.{pages_spelled, greatest_is}
@@ -35,8 +37,8 @@ fresh_blocks image blocks pass same fresh =
       );
     }
 
-no_firsts : (pages : ℕ) (firsts : BTreeMap ℕ First) → firsts.entries ≡ [] → AreWithin pages firsts
-no_firsts pages firsts none stamp = subst (λ (es : List (ℕ × First)). IfSome (lookup (λ k. is_eq (nat_cmp stamp k)) es) (λ f. f.page < pages)) (sym none) tt
+no_firsts : (pages : ℕ) (firsts : BTreeMap ℕ First) → firsts.entries ≡ [] → AreFirsts pages firsts
+no_firsts pages firsts none stamp = subst (λ (es : List (ℕ × First)). IfSome (lookup (λ k. is_eq (nat_cmp stamp k)) es) (IsFirst pages)) (sym none) tt
 
 none_greatest : greatest_stamp [] ≡ 0
 unfolding greatest_stamp
@@ -45,8 +47,8 @@ none_greatest = refl
 no_pairs : {X : Type 0} (R : X → X → Type 0) → AllPairs R []
 no_pairs R i j d before below = absurd (omega arith)
 
-pub fresh_stands : (geometry : Geometry) (pass : Pass) → IsFresh geometry.blocks pass → Stands geometry 0 pass
-fresh_stands geometry pass fresh =
+pub fresh_stands : (geometry : Geometry) (shape : Shape) (pass : Pass) → IsFresh geometry.blocks pass → Stands geometry shape 0 pass
+fresh_stands geometry shape pass fresh =
     record {
       rising = subst (AllPairs (λ a b. a.page < b.page)) (sym fresh.no_pages) (no_pairs (λ a b. a.page < b.page));
       pages = subst (All (IsSeen 0)) (sym fresh.no_pages) (All-nil (IsSeen 0));
@@ -55,6 +57,8 @@ fresh_stands geometry pass fresh =
       small = omega (arith, fresh.no_greatest);
       virtuals = no_firsts (geometry.blocks * geometry.pages) pass.virtuals fresh.no_virtuals;
       physicals = no_firsts (geometry.blocks * geometry.pages) pass.physicals fresh.no_physicals;
+      noted_virtuals = subst (λ (l : List Seen). AreNoted pass.virtuals (virtual_seen shape l)) (sym fresh.no_pages) (no_virtuals shape pass.virtuals);
+      noted_physicals = subst (λ (l : List Seen). AreNoted pass.physicals (physical_seen shape l)) (sym fresh.no_pages) (no_physicals shape pass.physicals);
       blocks = ap (λ (l : List Bool). length l) fresh.all_erased ∙ length-replicate geometry.blocks true;
     }
 
@@ -68,15 +72,22 @@ size_of geometry image fits = image_size image fits.whole ∙ (λ i. fits.blocks
 pub shape_fits : (geometry : Geometry) (image : Image) → ImageOf geometry image → shape_for geometry.blocks geometry.pages ≡ shape_of_image image
 shape_fits geometry image fits = λ i. shape_for (sym fits.blocks i) (sym fits.pages i)
 
-pub fits_medium : (geometry : Geometry) (pass : Pass) → Stands geometry (geometry.blocks * geometry.pages) pass
+pub fits_medium : (geometry : Geometry) (pass : Pass) → Stands geometry (shape_for geometry.blocks geometry.pages) (geometry.blocks * geometry.pages) pass
     → FitsMedium geometry (record { seen = pass.seen.items; erased = pass.erased.items; version = pass.newest.version })
-fits_medium geometry pass stands = record { rising = stands.rising; pages = stands.pages; blocks = stands.blocks }
+fits_medium geometry pass stands =
+    record {
+      rising = stands.rising;
+      pages = stands.pages;
+      blocks = stands.blocks;
+      virtuals = one_record pass.virtuals (virtual_seen (shape_for geometry.blocks geometry.pages) pass.seen.items) stands.noted_virtuals;
+      physicals = one_record pass.physicals (physical_seen (shape_for geometry.blocks geometry.pages) pass.seen.items) stands.noted_physicals;
+    }
 
 few_pages : (blocks pages : ℕ) → IsTrue (is_legal blocks pages) → blocks * pages ≤ 262144
 few_pages blocks pages legal = leb-true (blocks * pages) 262144 (and_parts (nat_le 32 blocks && nat_le blocks 4096 && nat_le 32 pages && nat_le pages 256) (nat_le (blocks * pages) 262144) legal).1
 
-pub is_kept : (geometry : Geometry) (pass : Pass) → IsTrue (is_legal geometry.blocks geometry.pages) → Stands geometry (geometry.blocks * geometry.pages) pass → IsKept pass.seen.items pass.greatest
-is_kept geometry pass legal stands = record { few = omega (arith, few_pages geometry.blocks geometry.pages legal, stands.few); is_greatest = stands.is_greatest; small = stands.small }
+pub is_kept : (geometry : Geometry) (shape : Shape) (pass : Pass) → IsTrue (is_legal geometry.blocks geometry.pages) → Stands geometry shape (geometry.blocks * geometry.pages) pass → IsKept pass.seen.items pass.greatest
+is_kept geometry shape pass legal stands = record { few = omega (arith, few_pages geometry.blocks geometry.pages legal, stands.few); is_greatest = stands.is_greatest; small = stands.small }
 
 pub none_kept : IsKept [] 0
 none_kept = record { few = omega arith; is_greatest = sym none_greatest; small = omega arith }
@@ -86,7 +97,14 @@ pub not_formed : (geometry : Geometry) → IsLegal geometry → (IsTrue (is_lega
 not_formed geometry legal no' = ⊎_elim (λ is. absurd (no' is)) (λ is. is) legal
 
 pub none_fits : (geometry : Geometry) → geometry ≡ record { blocks = 0; pages = 0 } → FitsMedium geometry (record { seen = []; erased = []; version = 0 })
-none_fits geometry none = record { rising = no_pairs (λ a b. a.page < b.page); pages = All-nil (IsSeen (geometry.blocks * geometry.pages)); blocks = sym (ap (λ (x : Geometry). x.blocks) none) }
+none_fits geometry none =
+    record {
+      rising = no_pairs (λ a b. a.page < b.page);
+      pages = All-nil (IsSeen (geometry.blocks * geometry.pages));
+      blocks = sym (ap (λ (x : Geometry). x.blocks) none);
+      virtuals = none_virtual (shape_for geometry.blocks geometry.pages);
+      physicals = none_physical (shape_for geometry.blocks geometry.pages);
+    }
 
 pub none_table : (geometry : Geometry) (image : Image) → ImageOf geometry image → geometry ≡ record { blocks = 0; pages = 0 } → IsTableOf image (record { seen = []; erased = []; version = 0 })
 none_table geometry image fits none =

@@ -30,7 +30,7 @@ abbrev pub Holds : BTreeMap ℕ First → List Readable → Type 0
 Holds firsts pages = (stamp : ℕ) → get nat_cmp firsts stamp ≡ first_of pages stamp
 
 -- the other stamps
-other_stamp : (k stamp : ℕ) → (k ≡ stamp → ⊥) → is_eq (nat_cmp k stamp) ≡ false
+pub other_stamp : (k stamp : ℕ) → (k ≡ stamp → ⊥) → is_eq (nat_cmp k stamp) ≡ false
 other_stamp k stamp apart = grind (arith, nat_tests)
 
 noted_more : (image : Image) (pages : List Readable) (r : Readable) (old new : BTreeMap ℕ First) → AllByRecursion (IsOn image) pages → Holds old pages

@@ -3,6 +3,8 @@ pub mod Below
 pub mod Ends
 pub mod Knowing
 pub mod Lists
+pub mod Noting
+pub mod OneSpelling
 pub mod Readables
 pub mod Standing
 pub mod Supers

@@ -1,10 +1,12 @@
 -- What a scan tells, and of which image.
-use Rattle.std.specs.Prelude.{◌≡◌, ◌↔◌, ℕ, ◌+◌, ◌*◌, ◌^◌, ◌<◌, ◌≤◌, Bool, false, IsTrue, List, length, fold, max, slice_index_or, All}
+use Rattle.std.specs.Prelude.{◌≡◌, ◌↔◌, ℕ, ◌+◌, ◌*◌, ◌^◌, ◌<◌, ◌≤◌, Bool, true, false, IsTrue, List, length, fold, max, slice_index_or, All}
 use Rattle.std.specs.List.{AllPairs}
 use Rattle.nl_field.specs.Page.{Image}
 use Rattle.nl_field.specs.SpareRecord.{is_spare, stamp_of}
-use Rattle.nl_field.specs.Scan.{next_stamp_of, super_version}
-use Rattle.nl_field.specs.ScanList.{seen_in}
+use Rattle.nl_field.specs.Members.{Has}
+use Rattle.nl_field.specs.Numbers.{shape_for}
+use Rattle.nl_field.specs.Scan.{without_wear, next_stamp_of, super_version}
+use Rattle.nl_field.specs.ScanList.{seen_in, virtual_seen, physical_seen}
 use Rattle.nl_nand.specs.Nand.{ErasedWithin}
 use Rattle.nl_nand.specs.declared.geometry.Geometry.{Geometry}
 use Rattle.nl_field.specs.declared.seen.Seen.{Seen}
@@ -38,8 +40,15 @@ pub record IsSeen (pages : ℕ) (s : Seen) : Type 0 where
   pub spelled : IsTrue (is_spare s.rec)
   pub short : s.zeros ≤ 4096
 
--- whatever the pages hold, these are pages of the medium in rising order, and there is an answer for each block
+-- those of these pages that agree and have one stamp have one record apart from wear
+abbrev pub HaveOneRecord : List Seen → Type 0
+HaveOneRecord pages = (s q : Seen) → Has pages s → Has pages q → s.agrees ≡ true → q.agrees ≡ true → stamp_of s.rec ≡ stamp_of q.rec → without_wear s.rec ≡ without_wear q.rec
+
+-- Whatever the pages hold, these are pages of the medium in rising order, there is an answer for each block, and in either segment
+-- a stamp has one record, and so one address or one owner, on all pages that agree.
 pub record FitsMedium (geometry : Geometry) (t : Table) : Type 0 where
   pub rising : AllPairs (λ a b. a.page < b.page) t.seen
   pub pages : All (IsSeen (geometry.blocks * geometry.pages)) t.seen
   pub blocks : length t.erased ≡ geometry.blocks
+  pub virtuals : HaveOneRecord (virtual_seen (shape_for geometry.blocks geometry.pages) t.seen)
+  pub physicals : HaveOneRecord (physical_seen (shape_for geometry.blocks geometry.pages) t.seen)

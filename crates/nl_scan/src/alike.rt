@@ -1,8 +1,8 @@
-ghost use Rattle.std.specs.Prelude.{◌≡◌, ℕ, IsTrue, bytes_eq};
-ghost use Rattle.nl_field.specs.SpareRecord.{is_spare, spare_bytes};
+ghost use Rattle.std.specs.Prelude.{◌≡◌, ℕ, IsTrue, true};
+ghost use Rattle.nl_field.specs.SpareRecord.{is_spare};
 ghost use Rattle.nl_field.specs.Scan.{without_wear};
 ghost use Rattle.nl_field.specs.Page.{written};
-ghost use Rattle.nl_scan.specs.Firsts.{is_alike};
+ghost use Rattle.nl_scan.specs.Firsts.{is_alike, same_record};
 
 use nl_field::{PageBuf, SpareRec, spare_into, spare_of};
 
@@ -24,10 +24,12 @@ fn unworn(rec: &SpareRec) -> SpareRec
 }
 
 /// Whether two records are the same apart from wear.
-fn same_but_wear(a: &SpareRec, b: &SpareRec) -> bool
+#[tactic(auto, using(crate::proofs::OneSpelling::one_spelling))]
+pub fn same_but_wear(a: &SpareRec, b: &SpareRec) -> bool
     requires a { IsTrue (is_spare a.now) }
     requires b { IsTrue (is_spare b.now) }
-    ensures { result ≡ bytes_eq (spare_bytes (without_wear a.now)) (spare_bytes (without_wear b.now)) }
+    ensures bytes { result ≡ same_record a.now b.now }
+    ensures same { result ≡ true → without_wear a.now ≡ without_wear b.now }
 {
     let mut left = [0; 64];
     let mut right = [0; 64];

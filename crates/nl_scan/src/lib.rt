@@ -35,7 +35,7 @@ pub enum Scanned {
 }
 
 /// Reads each page of the medium, in rising order. A page whose write sequence number an earlier page of its segment has is
-/// compared with the first of those, which is read again for it.
+/// compared with the first of those, which is read again for it, and with the record that was seen there first.
 pub fn scan<M: Nand>(alloc: Global, media: &mut M) -> Scanned
     ensures tables { M.tells → IfTables result (IsTableOf (M.contents media.old)) }
     ensures fits { IfTables result (FitsMedium (M.geometry media.old)) }
@@ -79,7 +79,7 @@ fn pages<M: Nand>(
     requires legal { IsTrue (is_legal geometry.blocks geometry.pages) }
     requires shape { shape.now ≡ shape_for geometry.blocks geometry.pages }
     ensures tables { M.tells → IfOk result (λ pass. IsTableOf (M.contents media.old) (record { seen = pass.seen.items; erased = pass.erased.items; version = pass.newest.version })) }
-    ensures stands { IfOk result (Stands geometry (geometry.blocks * geometry.pages)) }
+    ensures stands { IfOk result (Stands geometry shape.now (geometry.blocks * geometry.pages)) }
     ensures reads { OnlyReads M.geometry M.contents M.clock M.write_faults M.left media.old media.new }
     ensures faults { FaultsCounted (M.read_faults media.old) (M.read_faults media.new) (result ≡ Err Stopped.Fault) }
 {

@@ -3,7 +3,7 @@ ghost use Rattle.nl_field.specs.Page.{page_at, erased};
 ghost use Rattle.nl_field.specs.Medium.{first_physical, shape_of_image};
 ghost use Rattle.nl_field.specs.SpareRecord.{is_spare, stamp_of};
 ghost use Rattle.nl_nand.specs.Nand.{FaultsCounted, OnlyReads};
-ghost use Rattle.nl_scan.specs.Passes.{AreWithin, is_own_virtual, is_own_physical, Compared, Added, IsFresh, KnowsPages, KnowsBlocks, Stands};
+ghost use Rattle.nl_scan.specs.Passes.{AreFirsts, is_own_virtual, is_own_physical, Compared, NotedIn, Added, IsFresh, KnowsPages, KnowsBlocks, Stands};
 
 use crate::firsts::{First, Stopped, note, stamp_on};
 use crate::super_seen::SuperSeen;
@@ -85,11 +85,12 @@ fn agrees_so_far<M: Nand>(
 ) -> Result<bool, Stopped>
     requires page { page < (M.geometry media.old).blocks * (M.geometry media.old).pages }
     requires spelled { IsTrue (is_spare rec.now) }
-    requires virtuals { AreWithin ((M.geometry media.old).blocks * (M.geometry media.old).pages) virtuals.old }
-    requires physicals { AreWithin ((M.geometry media.old).blocks * (M.geometry media.old).pages) physicals.old }
+    requires virtuals { AreFirsts ((M.geometry media.old).blocks * (M.geometry media.old).pages) virtuals.old }
+    requires physicals { AreFirsts ((M.geometry media.old).blocks * (M.geometry media.old).pages) physicals.old }
     ensures told { M.tells → IfOk result (Compared (M.contents media.old) shape.now (record { page = page; rec = rec.now; main = buf.now.main }) virtuals.old virtuals.new physicals.old physicals.new) }
-    ensures virtuals { OnOk result (AreWithin ((M.geometry media.old).blocks * (M.geometry media.old).pages) virtuals.new) }
-    ensures physicals { OnOk result (AreWithin ((M.geometry media.old).blocks * (M.geometry media.old).pages) physicals.new) }
+    ensures noted { IfOk result (λ agrees. NotedIn shape.now (record { page = page; rec = rec.now; main = buf.now.main }) agrees virtuals.old virtuals.new physicals.old physicals.new) }
+    ensures virtuals { OnOk result (AreFirsts ((M.geometry media.old).blocks * (M.geometry media.old).pages) virtuals.new) }
+    ensures physicals { OnOk result (AreFirsts ((M.geometry media.old).blocks * (M.geometry media.old).pages) physicals.new) }
     ensures reads { OnlyReads M.geometry M.contents M.clock M.write_faults M.left media.old media.new }
     ensures faults { FaultsCounted (M.read_faults media.old) (M.read_faults media.new) (result ≡ Err Stopped.Fault) }
 {
@@ -114,9 +115,9 @@ fn add<M: Nand>(
 ) -> Result<(), Stopped>
     requires page { page < (M.geometry media.old).blocks * (M.geometry media.old).pages }
     requires spelled { IsTrue (is_spare rec) }
-    requires stands { Stands (M.geometry media.old) page pass.old }
+    requires stands { Stands (M.geometry media.old) shape.now page pass.old }
     ensures told { M.tells → OnOk result (Added (M.contents media.old) shape.now (record { page = page; rec = rec; main = buf.now.main }) pass.old pass.new) }
-    ensures stands { OnOk result (Stands (M.geometry media.old) (page + 1) pass.new) }
+    ensures stands { OnOk result (Stands (M.geometry media.old) shape.now (page + 1) pass.new) }
     ensures erased { OnOk result (pass.new.erased.items ≡ pass.old.erased.items) }
     ensures reads { OnlyReads M.geometry M.contents M.clock M.write_faults M.left media.old media.new }
     ensures faults { FaultsCounted (M.read_faults media.old) (M.read_faults media.new) (result ≡ Err Stopped.Fault) }
@@ -158,10 +159,10 @@ fn read_one<M: Nand>(
     requires page { page < (M.geometry media.old).blocks * (M.geometry media.old).pages }
     requires shape { M.tells → shape.now ≡ shape_of_image (M.contents media.old) }
     requires knows { M.tells → KnowsPages (M.contents media.old) page pass.old }
-    requires stands { Stands (M.geometry media.old) page pass.old }
+    requires stands { Stands (M.geometry media.old) shape.now page pass.old }
     ensures knows { M.tells → OnOk result (KnowsPages (M.contents media.old) (page + 1) pass.new) }
     ensures is_erased { M.tells → IfOk result (λ e. IsTrue e ↔ (page_at (M.contents media.old) page ≡ erased)) }
-    ensures stands { OnOk result (Stands (M.geometry media.old) (page + 1) pass.new) }
+    ensures stands { OnOk result (Stands (M.geometry media.old) shape.now (page + 1) pass.new) }
     ensures erased { OnOk result (pass.new.erased.items ≡ pass.old.erased.items) }
     ensures reads { OnlyReads M.geometry M.contents M.clock M.write_faults M.left media.old media.new }
     ensures faults { FaultsCounted (M.read_faults media.old) (M.read_faults media.new) (result ≡ Err Stopped.Fault) }
@@ -203,10 +204,10 @@ pub fn step<M: Nand>(
     requires shape { M.tells → shape.now ≡ shape_of_image (M.contents media.old) }
     requires knows { M.tells → KnowsPages (M.contents media.old) page pass.old }
     requires blocks { M.tells → KnowsBlocks (M.contents media.old) page pass.old.erased.items }
-    requires stands { Stands (M.geometry media.old) page pass.old }
+    requires stands { Stands (M.geometry media.old) shape.now page pass.old }
     ensures knows { M.tells → OnOk result (KnowsPages (M.contents media.new) (page + 1) pass.new) }
     ensures blocks { M.tells → OnOk result (KnowsBlocks (M.contents media.new) (page + 1) pass.new.erased.items) }
-    ensures stands { OnOk result (Stands (M.geometry media.new) (page + 1) pass.new) }
+    ensures stands { OnOk result (Stands (M.geometry media.new) shape.now (page + 1) pass.new) }
     ensures reads { OnlyReads M.geometry M.contents M.clock M.write_faults M.left media.old media.new }
     ensures faults { FaultsCounted (M.read_faults media.old) (M.read_faults media.new) (result ≡ Err Stopped.Fault) }
 {

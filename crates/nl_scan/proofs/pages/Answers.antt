@@ -15,7 +15,7 @@ pages-init g c =
     record {
       knows = λ tells. knows_nothing image c.in-Ok.pass fresh.no_pages fresh.no_virtuals fresh.no_physicals fresh.no_newest;
       blocks = λ tells. fresh_blocks image c.args.geometry.blocks c.in-Ok.pass ((g.met.M.Nand.contents_fit c.args.media.now tells).blocks ∙ ap (λ (x : Geometry). x.blocks) (sym c.requires.geometry)) fresh;
-      stands = subst (λ (x : Geometry). Stands x 0 c.in-Ok.pass) c.requires.geometry (fresh_stands c.args.geometry c.in-Ok.pass fresh);
+      stands = subst (λ (x : Geometry). Stands x c.args.shape.now 0 c.in-Ok.pass) c.requires.geometry (fresh_stands c.args.geometry c.args.shape.now c.in-Ok.pass fresh);
       reads = record { same_geometry = refl; same_contents = refl; same_left = record { no_more = λ m x l. l; no_fewer = λ m x l. l }; same_clock = refl; same_write_faults = refl };
       faults = refl;
     }
@@ -24,6 +24,14 @@ pub step-requires-clause-pages : goal.step-requires-clause-pages
 step-requires-clause-pages g c =
     ap (λ (s : Shape). s.pages) c.requires.shape ∙ pages_of c.args.geometry.blocks c.args.geometry.pages
     ∙ ap (λ (x : Geometry). x.pages) (c.requires.geometry ∙ sym c.pages.invariant.reads.same_geometry)
+
+pub returns-clause-stands : goal.returns-clause-stands
+returns-clause-stands g c =
+    subst (λ (n : ℕ). Stands c.args.geometry c.args.shape.now n c.pages.pass) (last c.pages.page (c.args.geometry.blocks * c.args.geometry.pages) c.pages.auto.page-end c.pages-test.false)
+    (subst (λ (x : Geometry). Stands x c.args.shape.now c.pages.page c.pages.pass) (c.pages.invariant.reads.same_geometry ∙ sym c.requires.geometry) c.pages.invariant.stands)
+  where
+    last : (at count : ℕ) → at ≤ count → count ≤ at → at ≡ count
+    last at count within past = omega arith
 
 pub returns-clause-tables : goal.returns-clause-tables
 returns-clause-tables g c = λ tells.

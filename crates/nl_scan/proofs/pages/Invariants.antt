@@ -9,7 +9,7 @@ invariant-pages g l =
     record {
       knows : g.M.Nand.tells → KnowsPages (g.M.Nand.contents l.media) l.page l.pass;
       blocks : g.M.Nand.tells → KnowsBlocks (g.M.Nand.contents l.media) l.page l.pass.erased.items;
-      stands : Stands (g.M.Nand.geometry l.media) l.page l.pass;
+      stands : Stands (g.M.Nand.geometry l.media) l.shape l.page l.pass;
       reads : OnlyReads g.M.Nand.geometry g.M.Nand.contents g.M.Nand.clock g.M.Nand.write_faults g.M.Nand.left l.initial.media l.media;
       faults : g.M.Nand.read_faults l.media ≡ g.M.Nand.read_faults l.initial.media;
     }
