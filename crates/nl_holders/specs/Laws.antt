@@ -4,7 +4,7 @@ use Rattle.nl_field.specs.declared.pointer.Tag.{Tag}
 use Rattle.nl_field.specs.declared.pointer.Pointer.{Pointer}
 use Rattle.nl_iface.specs.Device.{AllDiffer}
 use Rattle.nl_iface.specs.Holders.{plain, tagged, wants, wants_tagged}
-use Rattle.nl_iface.specs.Moves.{Acknowledges, CanBeLive, Copies, IsOver, Marks, Retains}
+use Rattle.nl_iface.specs.Moves.{Acknowledges, Copies, IsOver, Marks, Retains}
 use Rattle.nl_iface.specs.Names.{Drops, Gains, Has, IsTable, LivePage, Names, SameTables, led}
 use Rattle.nl_iface.specs.declared.Callback.{Callback}
 use Rattle.nl_holders.specs.Holding.{Holding, HoldsPages, KeepsCommitted, MarkedTo}
