@@ -4,16 +4,16 @@ use Rattle.std.specs.Prelude.{filter}
 use Rattle.std.proofs.lemmas.Bool.{ne_eqb, le-leb, lt-leb, lt-ltb}
 use Rattle.std.proofs.lemmas.List.Sums.{sum_by-cons}
 use Rattle.nl_callbacks.specs.declared.entry.Entry.{Entry}
-use Rattle.nl_callbacks.specs.Pending.{PendingTable, Acknowledges, Cancels, IsName, IsTable, beside_name, entry_at, is_over, number_of, place_of, unacknowledged}
+use Rattle.nl_callbacks.specs.Pending.{PendingTable, Acknowledges, Cancels, IsName, IsTable, beside_name, beside_stamp, entry_at, is_over, number_of, place_of, unacknowledged}
 
 -- an item that does not pass is taken out
-filter_remove : (p : Entry → Bool) (es : List Entry) (at : ℕ) → at < length es → p (entry_at es at) ≡ false → filter p (remove es at) ≡ filter p es
+pub filter_remove : (p : Entry → Bool) (es : List Entry) (at : ℕ) → at < length es → p (entry_at es at) ≡ false → filter p (remove es at) ≡ filter p es
 filter_remove p [] at within out = absurd (omega arith)
 filter_remove p (e ∷ es) zero within out = sym (ap (λ b. cond b (e ∷ filter p es) (filter p es)) out)
 filter_remove p (e ∷ es) (suc at) within out = ap (λ l. cond (p e) (e ∷ l) l) (filter_remove p es at (omega arith) out)
 
 -- each item passes
-filter_all : (p : Entry → Bool) (es : List Entry) → ((i : ℕ) → i < length es → p (entry_at es i) ≡ true) → filter p es ≡ es
+pub filter_all : (p : Entry → Bool) (es : List Entry) → ((i : ℕ) → i < length es → p (entry_at es i) ≡ true) → filter p es ≡ es
 filter_all p [] each = refl
 filter_all p (e ∷ es) each =
     ap (λ b. cond b (e ∷ filter p es) (filter p es)) (each 0 (omega arith)) ∙ ap (λ l. e ∷ l) (filter_all p es (λ i within. each (suc i) (omega arith)))
@@ -39,6 +39,9 @@ cancelled_beside {old} {new} {name} is =
 pub none_named : (es : List Entry) (name : ℕ) → (IsName es name → ⊥) → beside_name es name ≡ es
 none_named es name none = filter_all (λ e. not (e.callback.before == name)) es
     (λ i within. ap not (ne_eqb (entry_at es i).callback.before name (λ is. none (i, within, is))))
+
+pub none_stamped : (es : List Entry) (stamp : ℕ) → ((i : ℕ) → i < length es → (entry_at es i).callback.stamp ≡ stamp → ⊥) → beside_stamp es stamp ≡ es
+none_stamped es stamp none = filter_all (λ e. not (e.callback.stamp == stamp)) es (λ i within. ap not (ne_eqb (entry_at es i).callback.stamp stamp (λ is. none i within is)))
 
 -- a number above all that were given comes last
 insert_end : (es : List Entry) (e : Entry) → insert es (length es) e ≡ es ++ e ∷ []

@@ -145,7 +145,7 @@ pub tells_done : TellsNumber done_key
 tells_done e x is = done_tells e.transaction (number_of e) x is
 
 -- a number that is not pending is in no list
-lacks : (key : Entry → Option Link) (es : List Entry) (links : List Link) (x : Link) → TellsNumber key → IsIndex key es links → (IsPending es x.number → ⊥) → HasLink links x → ⊥
+pub lacks : (key : Entry → Option Link) (es : List Entry) (links : List Link) (x : Link) → TellsNumber key → IsIndex key es links → (IsPending es x.number → ⊥) → HasLink links x → ⊥
 lacks key es links x tells is fresh has =
     let there = is.back x has in
     fresh (there.0, there.1, sym (tells (entry_at es there.0) x there.2))

@@ -3,3 +3,4 @@ pub mod IndexProofs
 pub mod ListsProofs
 pub mod PendingProofs
 pub mod Relaying
+pub mod StampProofs

@@ -8,7 +8,7 @@ use Rattle.nl_callbacks.specs.declared.links.Link.{Link}
 use Rattle.nl_callbacks.specs.Links.{link, no_link, link_at, HasLink, rank, IsRising}
 use Rattle.nl_callbacks.specs.Lists.{Rises, IsPlace}
 use Rattle.nl_callbacks.specs.Pending.{PendingTable, Acknowledges, Cancels, IsLeastFree, IsWaiting, entry_at, first_of, marked, no_entry, number_of, place_of}
-use Rattle.nl_callbacks.specs.Kept.{HasKey, IsInside, IsKept, name_key, done_key, waiting_of, done_of}
+use Rattle.nl_callbacks.specs.Kept.{HasKey, IsIndex, IsInside, IsKept, IsStamped, name_key, stamp_key, done_key, waiting_of, done_of}
 use Rattle.nl_callbacks.proofs.ListsProofs.{at_is, EachAt-remove, place_has}
 use Rattle.nl_callbacks.proofs.IndexProofs.{TellsNumber, tells_name, tells_done, some_same, not_both}
 
@@ -69,10 +69,11 @@ kept_view es room posted at n t u by place =
     let same : set es at (marked (entry_at es at) t) ≡ es = ap (λ (f : Entry). set es at f) mark ∙ set-get_or es at no_entry in
     rw place (ap (λ (l : List Entry). let seen : PendingTable = record { callbacks = l; posted = posted; room = room } in seen) (sym same))
 
-pub inside_drop : (room posted at : ℕ) (es es' : List Entry) (ns ns' ws ws' ds ds' : List Link) (a a' b b' c c' d d' : ℕ) → IsInside room posted es ns ws ds a b c d → at < length es
-    → IsKept es' ns' ws' ds' → es' ≡ remove es at → a ≤ a' → b ≤ b' → c ≤ c' → d ≤ d' → IsInside room posted es' ns' ws' ds' a' b' c' d'
-inside_drop room posted at es es' ns ns' ws ws' ds ds' a a' b b' c c' d d' is bound kept gone p q r s = record {
+pub inside_drop : (room posted at : ℕ) (es es' : List Entry) (ns ns' ws ws' ds ds' ss ss' : List Link) (a a' b b' c c' d d' e e' : ℕ) → IsInside room posted es ns ws ds ss a b c d e → at < length es
+    → IsKept es' ns' ws' ds' → IsStamped es' ss' → es' ≡ remove es at → a ≤ a' → b ≤ b' → c ≤ c' → d ≤ d' → e ≤ e' → IsInside room posted es' ns' ws' ds' ss' a' b' c' d' e'
+inside_drop room posted at es es' ns ns' ws ws' ds ds' ss ss' a a' b b' c c' d d' e e' is bound kept stamped gone p q r s t = record {
   kept = kept;
+  stamped = stamped;
   table = record {
     rising = kept.rising;
     given = rw gone (EachAt-remove (λ (e : Entry). (0 < number_of e) × (number_of e ≤ posted)) no_entry es at bound is.table.given);
@@ -82,6 +83,7 @@ inside_drop room posted at es es' ns ns' ws ws' ds ds' a a' b b' c c' d d' is bo
   names_room = omega (arith, is.names_room);
   waiting_room = omega (arith, is.waiting_room);
   done_room = omega (arith, is.done_room);
+  stamps_room = omega (arith, is.stamps_room);
 }
 
 -- the entry of a link stands at the place of the link's number
@@ -134,34 +136,44 @@ acknowledged es es' ns ws ds x f room posted upto at is some e place up there go
       gone = rw gone (ap (λ (k : ℕ). let seen : PendingTable = record { callbacks = remove es at; posted = posted; room = k } in seen) left);
     }
 
--- the first link of a name stands at the name's place
+-- Callbacks by a number of theirs: the first link of a key stands at the key's place.
+module _ (key : Entry → ℕ) (es : List Entry) (ls : List Link) (up : Rises number_of no_entry es) (is : IsIndex (λ e. Some (link (key e) e.callback.number)) es ls) where
+  pub keyed_found : (k here i : ℕ) → IsPlace rank no_link ls (k * 2 ^ 64 + 0) here → i < length es → key (entry_at es i) ≡ k
+      → (here < length ls) × ((link_at ls here).key ≡ k) × ((link_at ls here).number ≤ number_of (entry_at es i))
+  keyed_found k here i place within named =
+      let there = is.there (link k (number_of (entry_at es i))) (i, within, ap (λ (n : ℕ). Some (link n (number_of (entry_at es i)))) named) in
+      let j : ℕ = there.0 in
+      let inside : j < length ls = there.1 in
+      let ranked : rank (link_at ls j) ≡ k * 2 ^ 64 + number_of (entry_at es i) = ap rank there.2 in
+      let small : number_of (entry_at es i) < 2 ^ 64 = subst (λ (l : Link). l.number < 2 ^ 64) there.2 (is.rising.fits j inside) in
+      ⊎_elim
+      (λ less. absurd (let low = place.below j less in omega arith))
+      (λ (from : here ≤ j).
+      let bound : here < length ls = omega arith in
+      let high : k * 2 ^ 64 + 0 ≤ rank (link_at ls here) = place.above here (omega arith) bound in
+      let fits : (link_at ls here).number < 2 ^ 64 = is.rising.fits here bound in
+      let up : rank (link_at ls here) ≤ rank (link_at ls j) = ⊎_elim
+      (λ equal. (let e : rank (link_at ls j) ≡ rank (link_at ls here) = ap (λ k. rank (link_at ls k)) equal in omega arith))
+      (λ apart. ⊎_elim (λ before. absurd (omega arith)) (λ after. let step = is.rising.order here j after inside in omega arith) apart)
+      (cases_order j here) in
+      (bound, omega arith, omega arith))
+      (cases_lt j here)
+
+  pub keyed_at : (here at : ℕ) (x : Link) → here < length ls → x ≡ get_or ls here x → IsPlace number_of no_entry es x.number at
+      → (at < length es) × (key (entry_at es at) ≡ x.key) × (number_of (entry_at es at) ≡ x.number)
+  keyed_at here at x bound e place =
+      let tells : TellsNumber (λ f. Some (link (key f) f.callback.number)) = λ f y told. sym (ap (λ (l : Link). l.number) (some_same (link (key f) f.callback.number) y (Some (link (key f) f.callback.number)) refl told)) in
+      let found = link_entry (λ f. Some (link (key f) f.callback.number)) es at x tells up (is.back x (here, bound, at_is no_link ls here x bound e)) place in
+      let same : link (key (entry_at es at)) (number_of (entry_at es at)) ≡ x = some_same (link (key (entry_at es at)) (number_of (entry_at es at))) x (Some (link (key (entry_at es at)) (number_of (entry_at es at)))) refl found.1 in
+      (found.0, ap (λ (l : Link). l.key) same, ap (λ (l : Link). l.number) same)
+
 pub cancel_found : (es : List Entry) (ns ws ds : List Link) (name here i : ℕ) → IsKept es ns ws ds → IsPlace rank no_link ns (name * 2 ^ 64 + 0) here → i < length es → (entry_at es i).callback.before ≡ name
     → (here < length ns) × ((link_at ns here).key ≡ name) × ((link_at ns here).number ≤ number_of (entry_at es i))
-cancel_found es ns ws ds name here i is place within named =
-    let there = is.by_name.there (link name (number_of (entry_at es i))) (i, within, ap (λ (n : ℕ). Some (link n (number_of (entry_at es i)))) named) in
-    let j : ℕ = there.0 in
-    let inside : j < length ns = there.1 in
-    let ranked : rank (link_at ns j) ≡ name * 2 ^ 64 + number_of (entry_at es i) = ap rank there.2 in
-    let small : number_of (entry_at es i) < 2 ^ 64 = subst (λ (l : Link). l.number < 2 ^ 64) there.2 (is.by_name.rising.fits j inside) in
-    ⊎_elim
-    (λ less. absurd (let low = place.below j less in omega arith))
-    (λ (from : here ≤ j).
-    let bound : here < length ns = omega arith in
-    let high : name * 2 ^ 64 + 0 ≤ rank (link_at ns here) = place.above here (omega arith) bound in
-    let fits : (link_at ns here).number < 2 ^ 64 = is.by_name.rising.fits here bound in
-    let up : rank (link_at ns here) ≤ rank (link_at ns j) = ⊎_elim
-    (λ equal. (let e : rank (link_at ns j) ≡ rank (link_at ns here) = ap (λ k. rank (link_at ns k)) equal in omega arith))
-    (λ apart. ⊎_elim (λ before. absurd (omega arith)) (λ after. let step = is.by_name.rising.order here j after inside in omega arith) apart)
-    (cases_order j here) in
-    (bound, omega arith, omega arith))
-    (cases_lt j here)
+cancel_found es ns ws ds name here i is place within named = keyed_found (λ e. e.callback.before) es ns is.rising is.by_name name here i place within named
 
 pub cancel_at : (es : List Entry) (ns ws ds : List Link) (here at : ℕ) (x : Link) → IsKept es ns ws ds → here < length ns → x ≡ get_or ns here x → IsPlace number_of no_entry es x.number at
     → (at < length es) × ((entry_at es at).callback.before ≡ x.key) × (number_of (entry_at es at) ≡ x.number)
-cancel_at es ns ws ds here at x is bound e place =
-    let found = link_entry name_key es at x tells_name is.rising (is.by_name.back x (here, bound, at_is no_link ns here x bound e)) place in
-    let same : link (entry_at es at).callback.before (number_of (entry_at es at)) ≡ x = some_same (link (entry_at es at).callback.before (number_of (entry_at es at))) x (name_key (entry_at es at)) refl found.1 in
-    (found.0, ap (λ (l : Link). l.key) same, ap (λ (l : Link). l.number) same)
+cancel_at es ns ws ds here at x is bound e place = keyed_at (λ e. e.callback.before) es ns is.rising is.by_name here at x bound e place
 
 pub cancelled : (es es' : List Entry) (ns ws ds : List Link) (x : Link) (room posted name here at : ℕ) → IsKept es ns ws ds → IsPlace rank no_link ns (name * 2 ^ 64 + 0) here → here < length ns → x ≡ get_or ns here x → x.key ≡ name
     → IsPlace number_of no_entry es x.number at → es' ≡ remove es at → length es ≤ room

@@ -18,6 +18,10 @@ abbrev pub done_of : Option ℕ → ℕ → Option Link
 done_of None number = None
 done_of (Some t) number = Some (link t number)
 
+-- in the list by stamp
+abbrev pub stamp_key : Entry → Option Link
+stamp_key e = Some (link e.callback.stamp e.callback.number)
+
 -- in the list of those that were not handled, where every key is 0
 abbrev pub waiting_key : Entry → Option Link
 waiting_key e = waiting_of e.transaction e.callback.number
@@ -43,12 +47,19 @@ pub record IsKept (es : List Entry) (names waiting done : List Link) : Type 0 wh
   pub names_size : length names ≡ length es
   pub split : length waiting + length done ≡ length es
 
--- the parts of the table together, with the capacities of the four lists
-pub record IsInside (room posted : ℕ) (es : List Entry) (names waiting done : List Link) (c0 c1 c2 c3 : ℕ) : Type 0 where
+-- each callback is in the list by stamp
+pub record IsStamped (es : List Entry) (stamps : List Link) : Type 0 where
+  pub by_stamp : IsIndex stamp_key es stamps
+  pub stamps_size : length stamps ≡ length es
+
+-- the parts of the table together, with the capacities of the five lists
+pub record IsInside (room posted : ℕ) (es : List Entry) (names waiting done stamps : List Link) (c0 c1 c2 c3 c4 : ℕ) : Type 0 where
   pub kept : IsKept es names waiting done
+  pub stamped : IsStamped es stamps
   pub table : IsTable es posted
   pub few : length es ≤ room
   pub entries_room : room ≤ c0
   pub names_room : room ≤ c1
   pub waiting_room : room ≤ c2
   pub done_room : room ≤ c3
+  pub stamps_room : room ≤ c4

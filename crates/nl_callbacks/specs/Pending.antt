@@ -57,6 +57,10 @@ unacknowledged upto es = filter (λ e. not (is_over upto e.transaction)) es
 abbrev pub beside_name : List Entry → ℕ → List Entry
 beside_name es name = filter (λ e. not (e.callback.before == name)) es
 
+-- the callbacks of pages with other stamps
+abbrev pub beside_stamp : List Entry → ℕ → List Entry
+beside_stamp es stamp = filter (λ e. not (e.callback.stamp == stamp)) es
+
 -- the table without the callback at this place
 abbrev pub without : PendingTable → ℕ → PendingTable
 without t at = record { callbacks = remove t.callbacks at; posted = t.posted; room = t.room + 1 }

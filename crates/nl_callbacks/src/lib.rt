@@ -6,10 +6,8 @@ mod links;
 mod lists;
 mod notices;
 mod pending;
+mod stamped;
 
 pub use nl_field::Memory;
 pub use notices::{NoticeLog, NoticePass, Notices};
 pub use pending::Pending;
-
-#[cfg(test)]
-mod tests;

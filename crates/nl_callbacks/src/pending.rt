@@ -1,11 +1,11 @@
 ghost use Rattle.std.specs.Prelude.{◌≡◌, ℕ, ◌+◌, ◌-◌, ◌^◌, ◌<◌, ◌≤◌, ◌↔◌, ◌∷◌, ◌++◌, [], length, insert, min, slice_set, IsTrue, IfOk, IfSome, IfNone, Some};
 ghost use Rattle.std.specs.Bool.{OnTrue, OnFalse};
 ghost use Rattle.nl_callbacks.specs.Lists.{Rises};
-ghost use Rattle.nl_callbacks.specs.Pending.{Acknowledges, Cancels, HasCallback, IsLeastFree, IsName, IsPending, IsTable, IsWaiting, beside_name, callback_of, entry_at, marked, new_entry, no_entry, number_of, place_of, unacknowledged};
+ghost use Rattle.nl_callbacks.specs.Pending.{Acknowledges, Cancels, HasCallback, IsLeastFree, IsName, IsPending, IsTable, IsWaiting, beside_name, beside_stamp, callback_of, entry_at, marked, new_entry, no_entry, number_of, place_of, unacknowledged};
 
 use crate::entry::{Entry, entry_place};
 use crate::links::{Link, place};
-use crate::lists::{add_entry, drop_entry, mark_entry};
+use crate::stamped::{add_stamped, drop_stamped, mark_stamped};
 use nl_field::{Memory, Tag};
 use nl_iface::Callback;
 use std::alloc::Global;
@@ -24,6 +24,8 @@ pub struct Pending {
     waiting: Vec<Link>,
     /// Those that were handled, by transaction.
     done: Vec<Link>,
+    /// By the stamp of the page that moved.
+    stamps: Vec<Link>,
 }
 
 impl Model for Pending {
@@ -35,7 +37,7 @@ impl Model for Pending {
 
     ghost view = { λ p. record { callbacks = p.entries.items; posted = p.posted; room = p.room - length p.entries.items } };
 
-    ghost invariant = { λ p. IsInside p.room p.posted p.entries.items p.names.items p.waiting.items p.done.items (vec_capacity p.entries) (vec_capacity p.names) (vec_capacity p.waiting) (vec_capacity p.done) };
+    ghost invariant = { λ p. IsInside p.room p.posted p.entries.items p.names.items p.waiting.items p.done.items p.stamps.items (vec_capacity p.entries) (vec_capacity p.names) (vec_capacity p.waiting) (vec_capacity p.done) (vec_capacity p.stamps) };
 }
 
 fn least_free(entries: &Vec<Entry>) -> u64
@@ -62,6 +64,7 @@ impl Pending {
         let names = Vec::with_capacity(alloc, room as usize)?;
         let waiting = Vec::with_capacity(alloc, room as usize)?;
         let done = Vec::with_capacity(alloc, room as usize)?;
+        let stamps = Vec::with_capacity(alloc, room as usize)?;
         Ok(Pending {
             room,
             posted: 0,
@@ -69,6 +72,7 @@ impl Pending {
             names,
             waiting,
             done,
+            stamps,
         })
     }
 
@@ -119,11 +123,12 @@ impl Pending {
             tag,
             stamp,
         };
-        add_entry(
+        add_stamped(
             &mut self.entries,
             &mut self.names,
             &mut self.waiting,
             &self.done,
+            &mut self.stamps,
             callback,
         );
         self.posted = self.posted.saturating_add(1);
@@ -148,21 +153,23 @@ impl Pending {
         }
     }
 
-    /// The least number of a pending callback above this one. None exactly where there is none.
-    pub fn above(&self, number: u64) -> Option<u64>
-        ensures some { IfSome result (IsPending self.now.callbacks) }
-        ensures above { IfSome result (λ next. number < next) }
-        ensures least { IfSome result (λ next. (other : ℕ) → IsPending self.now.callbacks other → number < other → next ≤ other) }
-        ensures none { IfNone result ((other : ℕ) → IsPending self.now.callbacks other → other ≤ number) }
+    /// The callback of a page with this stamp, of several the one of the least number. None exactly where there is none.
+    pub fn of_stamp(&self, stamp: u64) -> Option<Callback>
+        ensures some { IfSome result (HasCallback self.now.callbacks) }
+        ensures stamp { IfSome result (λ callback. callback.stamp ≡ stamp) }
+        ensures least { IfSome result (λ callback. (i : ℕ) → i < length self.now.callbacks → (entry_at self.now.callbacks i).callback.stamp ≡ stamp → callback.number ≤ number_of (entry_at self.now.callbacks i)) }
+        ensures none { IfNone result (beside_stamp self.now.callbacks stamp ≡ self.now.callbacks) }
     {
-        if number >= self.posted {
+        let here = place(&self.stamps, stamp, 0);
+        if here == self.stamps.len() {
             return None;
         }
-        let at = entry_place(&self.entries, number + 1);
-        if at == self.entries.len() {
+        let link = self.stamps[here];
+        if link.key != stamp {
             return None;
         }
-        Some(self.entries[at].callback.number)
+        let at = entry_place(&self.entries, link.number);
+        Some(self.entries[at].callback)
     }
 
     /// The least number of a callback that was not handled. None exactly where none is unhandled.
@@ -197,11 +204,12 @@ impl Pending {
         }
         match entry.transaction {
             None => {
-                mark_entry(
+                mark_stamped(
                     &mut self.entries,
                     &self.names,
                     &mut self.waiting,
                     &mut self.done,
+                    &self.stamps,
                     at,
                     transaction,
                 );
@@ -231,11 +239,12 @@ impl Pending {
         }
         let at = entry_place(&self.entries, link.number);
         let name = self.entries[at].callback.before;
-        drop_entry(
+        drop_stamped(
             &mut self.entries,
             &mut self.names,
             &mut self.waiting,
             &mut self.done,
+            &mut self.stamps,
             at,
         );
         Some(name)
@@ -260,11 +269,12 @@ impl Pending {
             return false;
         }
         let at = entry_place(&self.entries, link.number);
-        drop_entry(
+        drop_stamped(
             &mut self.entries,
             &mut self.names,
             &mut self.waiting,
             &mut self.done,
+            &mut self.stamps,
             at,
         );
         true

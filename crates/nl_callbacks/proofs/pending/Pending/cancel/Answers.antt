@@ -23,16 +23,16 @@ returns-then-link-name-clause-found c = rw (← c.self.view_is) (
       absurd (c.if-link-name.true (subst (λ (l : Link). l.key ≡ c.args.name) (at_is no_link c.self.inside.names.items c.place-here.result c.index-link.result.now found.0 c.index-link.ensures) found.1)),
 )
 
-pub drop_entry-requires-clause-within : goal.drop_entry-requires-clause-within
-drop_entry-requires-clause-within c =
+pub drop_stamped-requires-clause-within : goal.drop_stamped-requires-clause-within
+drop_stamped-requires-clause-within c =
     let found = cancel_at c.self.inside.entries.items c.self.inside.names.items c.self.inside.waiting.items c.self.inside.done.items c.place-here.result c.entry_place-at.result c.index-link.result.now c.self.invariant.kept (search rules) c.index-link.ensures c.entry_place-at.ensures in
     found.0
 
 pub invariant_of-self : goal.invariant_of-self
 invariant_of-self c =
     let found = cancel_at c.self.inside.entries.items c.self.inside.names.items c.self.inside.waiting.items c.self.inside.done.items c.place-here.result c.entry_place-at.result c.index-link.result.now c.self.invariant.kept (search rules) c.index-link.ensures c.entry_place-at.ensures in
-    inside_drop c.self.inside.room c.self.inside.posted c.entry_place-at.result c.self.inside.entries.items c.drop_entry.new.entries.items c.self.inside.names.items c.drop_entry.new.names.items c.self.inside.waiting.items c.drop_entry.new.waiting.items c.self.inside.done.items c.drop_entry.new.done.items
-    _ _ _ _ _ _ _ _ c.self.invariant found.0 c.drop_entry.ensures.kept c.drop_entry.ensures.items c.drop_entry.ensures.entries_capacity c.drop_entry.ensures.names_capacity c.drop_entry.ensures.waiting_capacity c.drop_entry.ensures.done_capacity
+    inside_drop c.self.inside.room c.self.inside.posted c.entry_place-at.result c.self.inside.entries.items c.drop_stamped.new.entries.items c.self.inside.names.items c.drop_stamped.new.names.items c.self.inside.waiting.items c.drop_stamped.new.waiting.items c.self.inside.done.items c.drop_stamped.new.done.items c.self.inside.stamps.items c.drop_stamped.new.stamps.items
+    _ _ _ _ _ _ _ _ _ _ c.self.invariant found.0 c.drop_stamped.ensures.kept c.drop_stamped.ensures.stamped c.drop_stamped.ensures.items c.drop_stamped.ensures.entries_capacity c.drop_stamped.ensures.names_capacity c.drop_stamped.ensures.waiting_capacity c.drop_stamped.ensures.done_capacity c.drop_stamped.ensures.stamps_capacity
 
 pub returns-clause-found : goal.returns-clause-found
 returns-clause-found c =
@@ -41,8 +41,8 @@ returns-clause-found c =
 
 pub returns-clause-cancelled : goal.returns-clause-cancelled
 returns-clause-cancelled c =
-    rw (← c.self.view_is) (cancelled c.self.inside.entries.items c.drop_entry.new.entries.items c.self.inside.names.items c.self.inside.waiting.items c.self.inside.done.items c.index-link.result.now c.self.inside.room c.self.inside.posted c.args.name c.place-here.result c.entry_place-at.result
-    c.self.invariant.kept c.place-here.ensures (search rules) c.index-link.ensures c.if-link-name.false c.entry_place-at.ensures c.drop_entry.ensures.items c.self.invariant.few)
+    rw (← c.self.view_is) (cancelled c.self.inside.entries.items c.drop_stamped.new.entries.items c.self.inside.names.items c.self.inside.waiting.items c.self.inside.done.items c.index-link.result.now c.self.inside.room c.self.inside.posted c.args.name c.place-here.result c.entry_place-at.result
+    c.self.invariant.kept c.place-here.ensures (search rules) c.index-link.ensures c.if-link-name.false c.entry_place-at.ensures c.drop_stamped.ensures.items c.self.invariant.few)
 
 pub returns-clause-beside : goal.returns-clause-beside
 returns-clause-beside c = cancelled_beside (returns-clause-cancelled c)
