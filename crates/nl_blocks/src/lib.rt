@@ -8,6 +8,3 @@ mod states;
 pub use blocks::Blocks;
 pub use states::{BlockState, PageState};
 pub use std::alloc::AllocError as Memory;
-
-#[cfg(test)]
-mod tests;

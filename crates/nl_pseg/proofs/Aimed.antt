@@ -9,7 +9,7 @@ use Rattle.nl_blocks.specs.declared.states.BlockState.TheVariants.{Target, Victi
 use Rattle.nl_blocks.specs.Table.{Table, HasBlock, HasPage, IsTable, block_at, dead_count, free_count, is_dead_state, new_page, page_at}
 use Rattle.nl_blocks.proofs.TableLaws.{page_in}
 use Rattle.nl_blocks.proofs.TableProofs.{row_size}
-use Rattle.nl_pseg.specs.Segment.{Physical, Use, IsNext, IsNextCopy, held_at}
+use Rattle.nl_pseg.specs.Segment.{Physical, Use, IsNext, IsNextCopy, held_at, soiled, wear_with, wear_of}
 use Rattle.nl_pseg.specs.Seen.{HasPhases, IsFormed, IsNamed, IsTied, seen, use_in}
 use Rattle.nl_pseg.specs.Space.{dead_in, gain_of, left_of}
 use Rattle.nl_pseg.specs.Steps.{IsReadied, IsTargeted, Restated, SameMarks, SameNumbers, SameUse, aimed_at}
@@ -21,6 +21,7 @@ use Rattle.nl_pseg.proofs.Tables.{has_same}
 use Rattle.nl_pseg.proofs.Taken.{free_other}
 use Rattle.nl_pseg.proofs.Tied.{back, named_on}
 use Rattle.std.proofs.lemmas.Nat.{mod-mul-add}
+use Rattle.nl_pseg.proofs.Wearing.{taken_wear}
 
 -- a block whose pages stay as live as they were
 pub dead_same : (a b : Table) → IsTable a → IsTable b → SameNumbers a b → (block : ℕ) → HasBlock a block → ((p : ℕ) → HasPage a p → p / a.size ≡ block → (page_at b p).state ≡ (page_at a p).state) → dead_count (block_at b block) ≡ dead_count (block_at a block)
@@ -133,7 +134,7 @@ module _ (s : State) (block : ℕ) (k : IsTargeted s block) (some : 0 < s.blocks
   aimed_tied = record { named = named; phases = phases; behind = λ p h held copy. idle p h held (copy_in p copy) }
 
 -- a Free block was taken, and copies are programmed in it
-module _ (s : State) (is : IsFormed s) (tied : IsTied s) (t : Table) (block : ℕ) (is_a : IsTable s.blocks) (is_b : IsTable t) (full : s.blocks.size ≤ s.filled) (r : Restated block false (use_in s.blocks block).wear s.blocks t) (free : (use_in s.blocks block).is_free ≡ true) where
+module _ (s : State) (is : IsFormed s) (tied : IsTied s) (t : Table) (block : ℕ) (is_a : IsTable s.blocks) (is_b : IsTable t) (full : s.blocks.size ≤ s.filled) (r : Restated block false (wear_of (seen s) block) s.blocks t) (free : (use_in s.blocks block).is_free ≡ true) where
   pub aimed_readied : IsReadied (seen s) (aimed_at (seen (record s { blocks = t })) block)
   aimed_readied =
       let n = r.numbers in
@@ -147,10 +148,7 @@ module _ (s : State) (is : IsFormed s) (tied : IsTied s) (t : Table) (block : �
           same_first = n.same_first;
           same_blocks = λ i. n.same_first i + n.same_count i;
           same_size = n.same_size;
-          same_wear = λ b. ⊎_elim
-              (λ at. ap (λ m. (use_in t m).wear) at ∙ (ap (λ (u : Use). u.wear) r.here ∙ ap (λ m. (use_in s.blocks m).wear) (sym at)))
-              (λ ne. ap (λ (u : Use). u.wear) (r.others b ne))
-              (cases_eq b block);
+          same_wear = taken_wear s t block r;
         };
         held = refl;
         pairs = refl;
@@ -191,7 +189,7 @@ module _ (s : State) (is : IsFormed s) (tied : IsTied s) (t : Table) (is_a : IsT
       let n = same.numbers in
       let over = left_over (seen s) (seen (record s { blocks = t })) refl n.same_size (λ b named. dead_kept s tied t is_a is_b n b named (λ p has at. marks.same p has)) in
       record {
-        pages = record { same_first = n.same_first; same_blocks = λ i. n.same_first i + n.same_count i; same_size = n.same_size; same_wear = λ b. ap (λ (u : Use). u.wear) (same.uses b) };
+        pages = record { same_first = n.same_first; same_blocks = λ i. n.same_first i + n.same_count i; same_size = n.same_size; same_wear = λ b. ap (λ (u : Use). wear_with u (soiled (seen s) b)) (same.uses b) };
         held = refl;
         pairs = refl;
         pair_room = refl;

@@ -8,7 +8,7 @@ use Rattle.nl_blocks.proofs.TableLaws.{block_at-with_block_same, sum_by-with_blo
 use Rattle.nl_remap.specs.declared.links.Link.{Link}
 use Rattle.nl_remap.specs.Table.{told}
 use Rattle.nl_pseg.specs.Cleaning.{Begins}
-use Rattle.nl_pseg.specs.Segment.{Use, row_in}
+use Rattle.nl_pseg.specs.Segment.{Use, row_in, soiled, wear_with}
 use Rattle.nl_pseg.specs.Seen.{row_of, seen, use_of}
 use Rattle.nl_pseg.specs.Space.{HasFewPairs, gain_of}
 use Rattle.nl_pseg.specs.Steps.{SameUse}
@@ -66,7 +66,8 @@ module _ (s : State) (table : IsTable s.blocks) (none : s.victim ≡ None) (few 
         free = same.total;
         frees = λ b. ap (λ (u : Use). u.is_free) (same.uses b);
         keeps = λ b. ap (λ (u : Use). u.is_kept) (same.uses b);
-        wears = λ b. ap (λ (u : Use). u.wear) (same.uses b);
+        wears = λ b. ap (λ (u : Use). wear_with u (soiled (seen s) b)) (same.uses b);
+        same_erasures = λ b. ap (λ (u : Use). u.wear) (same.uses b);
         same_soiled = λ b. refl;
         waits = λ b. ap (λ (u : Use). u.is_kept && not u.is_free) (same.uses b);
         same_waiting = waiting_used s.blocks t same;

@@ -8,7 +8,7 @@ use Rattle.nl_blocks.specs.declared.states.BlockState.{BlockState}
 use Rattle.nl_blocks.specs.declared.states.BlockState.TheVariants.{Active, Retired, Sealed, Target, Victim}
 use Rattle.nl_blocks.specs.Table.{Table, HasBlock, HasPage, IsTable, block_at}
 use Rattle.nl_blocks.specs.Table.{page_at as page_in}
-use Rattle.nl_pseg.specs.Segment.{Use, InSegment, IsNext, IsNextCopy, held_at, is_kept, use_at}
+use Rattle.nl_pseg.specs.Segment.{Use, InSegment, IsNext, IsNextCopy, held_at, is_kept, use_at, soiled, wear_with}
 use Rattle.nl_pseg.specs.Seen.{AreMarked, ArePlaces, HasPhases, IsFormed, IsNamed, IsTied, is_kept_state, seen}
 use Rattle.nl_pseg.specs.Steps.{IsCopyUsed, SameUse}
 use Rattle.nl_pseg.specs.declared.held.Held.{Held}
@@ -183,7 +183,7 @@ module _ (s : State) (is : IsFormed s) (tied : IsTied s) (room : s.filled < s.bl
       let over = left_over (seen s) (seen new) refl n.same_size (λ b named. dead_kept s tied t is_a is_b n b named (λ p has in_block. marks p has (λ e.
       copy_apart s is tied room (named ∙ ap (λ k. Some k) (sym in_block ∙ (ap (λ q. q / s.blocks.size) (e ∙ at) ∙ copy_block s is tied room)))))) in
       record {
-        pages = record { same_first = n.same_first; same_blocks = λ i. n.same_first i + n.same_count i; same_size = n.same_size; same_wear = λ b. ap (λ (u : Use). u.wear) (same.uses b) };
+        pages = record { same_first = n.same_first; same_blocks = λ i. n.same_first i + n.same_count i; same_size = n.same_size; same_wear = λ b. ap (λ (u : Use). wear_with u (soiled (seen s) b)) (same.uses b) };
         held = ap (λ k. set s.held.items k x) at;
         next = (λ i. s.active * n.same_size i + s.used, λ i. n.same_size i - s.used);
         copy_next = ap (λ k. s.target * k + (s.filled + 1)) n.same_size ∙ omega arith;

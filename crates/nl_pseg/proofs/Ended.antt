@@ -3,13 +3,14 @@ use Rattle.std.proofs.Common.{◌≡◌, ◌⊎◌, inl, inr, ⊎_elim, ℕ, ◌
 use Rattle.std.proofs.lemmas.Bool.{cases_Bool, true≢false}
 use Rattle.std.proofs.lemmas.Option.{none-some}
 use Rattle.nl_field.specs.Page.{Image}
-use Rattle.nl_pseg.specs.Segment.{HasSpare, InSegment, IsClean, IsNext, IsPhysicalOf, IsUnspent, KeepsBlock, Physical, SameNames, SamePages, TakenAsErased, held_at, is_free, is_kept, is_soiled, is_waiting, room, without_target}
+use Rattle.nl_pseg.specs.Segment.{HasSpare, InSegment, IsClean, IsNext, IsPhysicalOf, IsUnspent, KeepsBlock, Physical, SameNames, SamePages, TakenAsErased, held_at, is_free, is_kept, is_soiled, is_waiting, room, soiled, use_at, without_target}
 use Rattle.nl_pseg.specs.Space.{GivesBack, HasFewPairs, Lessens, gain_of, landing, left_of, reach, victims, waiting}
 use Rattle.nl_pseg.specs.Steps.{Ends, NamesGone}
 use Rattle.nl_pseg.specs.declared.held.Held.{Held}
 use Rattle.nl_pseg.proofs.Numbers.{block_from}
 use Rattle.nl_pseg.proofs.Segments.{copy_same, set_held}
 use Rattle.nl_pseg.proofs.Waits.{none_waits, wait_by, wait_is, waiting_same}
+use Rattle.nl_pseg.proofs.Wearing.{wear_same}
 
 -- a name is gone, and then another one
 pub gone_then : {a b c : Physical} → NamesGone a b → NamesGone b c → NamesGone a c
@@ -60,7 +61,7 @@ ends {old} {mid} {new} page within g held pairs same space names now = record {
     victim = names.same_victim ∙ g.victim;
     same_soiled = λ k. space.same_soiled k ∙ g.same_soiled k;
     kept = λ k. space.same_kept k ∙ g.kept k;
-    wears = λ k. same.same_wear k ∙ g.wears k;
+    wears = λ k. space.same_erasures k ∙ g.wears k;
     frees = λ k is. space.same_free k ∙ g.frees k is;
     others = λ k used. space.same_free k ∙ g.others k used;
     more = let x = g.more in let y = space.free in omega (arith, x, y);
@@ -90,7 +91,7 @@ ended_was {page} {old} {new} d within p h live = ⊎_elim
 
 module _ {old new : Physical} (g : NamesGone old new) where
   pub gone_pages : SamePages old new
-  gone_pages = record { same_first = g.range.range_first; same_blocks = g.range.range_blocks; same_size = g.range.range_size; same_wear = g.wears }
+  gone_pages = record { same_first = g.range.range_first; same_blocks = g.range.range_blocks; same_size = g.range.range_size; same_wear = λ k. wear_same (use_at old.first old.uses k) (use_at new.first new.uses k) (soiled old k) (soiled new k) (g.kept k) (g.wears k) (g.same_soiled k) }
 
   pub more_landing : landing old ≤ landing new
   more_landing =
@@ -148,6 +149,7 @@ module _ {old new : Physical} (g : NamesGone old new) where
         (λ not_now. not_now ∙ sym (⊎_elim (λ was. absurd (true≢false (sym (g.frees block was) ∙ not_now))) (λ no. no) (cases_Bool (is_free old block))))
         (cases_Bool (is_free new block));
     same_kept = g.kept;
+    same_erasures = g.wears;
     same_soiled = g.same_soiled;
     copies = g.copies;
   }
@@ -220,7 +222,7 @@ nothing_back seg = record {
   still = λ b free. free;
   more_reach = omega arith;
   more_room = omega arith;
-  same = λ none. record { next = refl; left = refl; free = refl; same_free = λ b. refl; same_kept = λ b. refl; same_soiled = λ b. refl; copies = (refl, refl) };
+  same = λ none. record { next = refl; left = refl; free = refl; same_free = λ b. refl; same_kept = λ b. refl; same_erasures = λ b. refl; same_soiled = λ b. refl; copies = (refl, refl) };
 }
 
 -- with no victim in hand there are few pairs

@@ -5,7 +5,7 @@ use Rattle.std.proofs.lemmas.Bool.{cases_eq}
 use Rattle.nl_blocks.specs.declared.states.BlockState.TheVariants.{Active}
 use Rattle.std.proofs.lemmas.List.{get_or-set_same, get_or-set_other}
 use Rattle.nl_blocks.specs.Table.{Table, block_at, page_at}
-use Rattle.nl_pseg.specs.Segment.{Use, IsNext, IsUnspent, SamePages, held_at}
+use Rattle.nl_pseg.specs.Segment.{Use, IsNext, IsUnspent, SamePages, held_at, soiled, wear_with}
 use Rattle.nl_pseg.specs.Seen.{ArePlaces, IsFormed, seen, use_in, AreMarked, state_for}
 use Rattle.nl_pseg.specs.Steps.{SameNumbers, SameRange, SameUse, Restated, IsMarked, SameMarks}
 use Rattle.nl_pseg.specs.declared.held.Held.{Held}
@@ -119,7 +119,7 @@ module _ (s : State) (t : Table) (same : SameUse s.blocks t) where
     same_first = same.numbers.same_first;
     same_blocks = λ i. same.numbers.same_first i + same.numbers.same_count i;
     same_size = same.numbers.same_size;
-    same_wear = λ b. ap (λ (u : Use). u.wear) (same.uses b);
+    same_wear = λ b. ap (λ (u : Use). wear_with u (soiled (seen s) b)) (same.uses b);
   }
 
   pub same_unspent : IsUnspent (seen s) (seen (record s { blocks = t }))
@@ -128,6 +128,7 @@ module _ (s : State) (t : Table) (same : SameUse s.blocks t) where
     left = λ i. same.numbers.same_size i - s.used;
     free = same.total;
     same_free = λ b. ap (λ (u : Use). u.is_free) (same.uses b);
+    same_erasures = λ b. ap (λ (u : Use). u.wear) (same.uses b);
     same_kept = λ b. ap (λ (u : Use). u.is_kept) (same.uses b);
     same_soiled = λ b. refl;
     copies = (λ i. s.target * same.numbers.same_size i + s.filled, λ i. same.numbers.same_size i - s.filled);

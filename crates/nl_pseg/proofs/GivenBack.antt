@@ -1,11 +1,11 @@
 -- How all blocks are given back.
-use Rattle.std.proofs.Common.{◌≡◌, inl, inr, ⊎_elim, ℕ, zero, suc, ◌+◌, ◌-◌, ◌^◌, ◌<◌, ◌≤◌, min, unwrap_or, Some, Bool, true, false, cond, List, [], ◌∷◌, length, refl, sym, ◌∙◌, ap, arith, count_by}
+use Rattle.std.proofs.Common.{◌≡◌, inl, inr, ⊎_elim, ℕ, zero, suc, ◌+◌, ◌-◌, ◌<◌, ◌≤◌, Some, Bool, true, false, cond, List, [], ◌∷◌, length, refl, sym, ◌∙◌, ap, arith, count_by}
 use Rattle.std.proofs.lemmas.Bool.{cases_Bool, cases_eq, cases_lt, true≢false}
 use Rattle.std.proofs.lemmas.List.Sums.{count_by-le-length, sum_by-cons}
 use Rattle.nl_blocks.specs.declared.states.BlockState.{BlockState}
 use Rattle.nl_blocks.specs.Table.{BlockRow, HasBlock, is_free_state, row_at}
 use Rattle.nl_blocks.specs.Table.{is_free as is_free_row}
-use Rattle.nl_pseg.specs.Segment.{Physical, Use, erasures, is_free, soiled, wear_of}
+use Rattle.nl_pseg.specs.Segment.{Physical, Use, erasures, is_free, soiled}
 use Rattle.nl_pseg.specs.Seen.{IsFormed, IsTied, seen}
 use Rattle.nl_pseg.specs.Steps.{AllFree, AreGivenBack, IsGivenBack}
 use Rattle.nl_pseg.specs.declared.state.State.{State}
@@ -20,7 +20,7 @@ given_none seg = record {
   left = omega arith;
   each = λ block from below. absurd (omega (arith, from, below));
   told = λ block from below used. absurd (omega (arith, from, below));
-  wears = λ block from below used. absurd (omega (arith, from, below));
+  wears = λ block from below. absurd (omega (arith, from, below));
   later = λ block from. refl;
   later_soiled = λ block from. refl;
   free_before = λ block free. (refl, refl);
@@ -48,17 +48,17 @@ module _ {old mid new : Physical} (block : ℕ) (from : old.first ≤ block) (wi
         (λ other. ap (λ (u : Use). u.is_free) (g.others b other) ∙ given.each b low (omega (arith, high, other)))
         (cases_eq b block);
     told = λ b low high used. ⊎_elim
-        (λ here. ap (soiled new) here ∙ (g.told (free_is ∙ (ap (is_free old) (sym here) ∙ used)) ∙ (λ i. Some (unwrap_or (given.later_soiled block (omega arith) i) (given.later block (omega arith) i).wear)) ∙ ap (λ n. Some (erasures old n)) (sym here)))
+        (λ here. ap (soiled new) here ∙ (g.told (free_is ∙ (ap (is_free old) (sym here) ∙ used)) ∙ (λ i. Some (given.later block (omega arith) i).wear) ∙ ap (λ n. Some (erasures old n)) (sym here)))
         (λ other. g.others_soiled b other ∙ given.told b low (omega (arith, high, other)) used)
         (cases_eq b block);
-    wears = λ b low high used. ⊎_elim
-        (λ here. ap (wear_of new) here ∙ (g.wear (free_is ∙ (ap (is_free old) (sym here) ∙ used)) ∙ (λ i. min (unwrap_or (given.later_soiled block (omega arith) i) (given.later block (omega arith) i).wear + 1) (2 ^ 32 - 1)) ∙ ap (λ n. min (erasures old n + 1) (2 ^ 32 - 1)) (sym here)))
-        (λ other. ap (λ (u : Use). u.wear) (g.others b other) ∙ given.wears b low (omega (arith, high, other)) used)
+    wears = λ b low high. ⊎_elim
+        (λ here. ap (erasures new) here ∙ (g.wear ∙ (ap (λ (u : Use). u.wear) (given.later block (omega arith)) ∙ ap (erasures old) (sym here))))
+        (λ other. ap (λ (u : Use). u.wear) (g.others b other) ∙ given.wears b low (omega (arith, high, other)))
         (cases_eq b block);
     later = λ b past. g.others b (λ same. omega (arith, same, past)) ∙ given.later b (omega (arith, past));
     later_soiled = λ b past. g.others_soiled b (λ same. omega (arith, same, past)) ∙ given.later_soiled b (omega (arith, past));
     free_before = λ b free. ⊎_elim
-        (λ here. let same = g.same (free_is ∙ (ap (is_free old) (sym here) ∙ free)) in let was = given.free_before b free in (ap (λ (s : Physical). soiled s b) same ∙ was.0, ap (λ (s : Physical). wear_of s b) same ∙ was.1))
+        (λ here. let same = g.same (free_is ∙ (ap (is_free old) (sym here) ∙ free)) in let was = given.free_before b free in (ap (λ (s : Physical). soiled s b) same ∙ was.0, ap (λ (s : Physical). erasures s b) same ∙ was.1))
         (λ other. let was = given.free_before b free in (g.others_soiled b other ∙ was.0, ap (λ (u : Use). u.wear) (g.others b other) ∙ was.1))
         (cases_eq b block);
     erased = λ p taken. given.erased p (g.erased p taken);

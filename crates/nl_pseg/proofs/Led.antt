@@ -20,7 +20,7 @@ use Rattle.nl_remap.specs.Table.{IsOld, IsRemap, led, led_on, pair, place_of}
 use Rattle.nl_remap.proofs.LinksProofs.{HasLink-insert_back}
 use Rattle.nl_remap.proofs.TableProofs.{IsOld-insert_back}
 use Rattle.nl_pseg.specs.OldNames.{NameTable, names_among}
-use Rattle.nl_pseg.specs.Segment.{Use, IsNext, IsNextCopy, IsOldName, held_at}
+use Rattle.nl_pseg.specs.Segment.{Use, IsNext, IsNextCopy, IsOldName, held_at, soiled, wear_with}
 use Rattle.nl_pseg.specs.Seen.{IsFormed, IsNamed, IsStanding, IsTied, seen, state_for, use_in}
 use Rattle.nl_pseg.specs.Space.{gain_of}
 use Rattle.nl_pseg.specs.Steps.{IsLed, IsMarked, SameUse}
@@ -200,7 +200,7 @@ module _ (s : State) (is : IsFormed s) (tied : IsTied s) (before after : ℕ) (v
         let one = one_dead in
         let most = fits in
         record {
-          pages = record { same_first = n.same_first; same_blocks = λ i. n.same_first i + n.same_count i; same_size = n.same_size; same_wear = λ b. ap (λ (u : Use). u.wear) (same.uses b) };
+          pages = record { same_first = n.same_first; same_blocks = λ i. n.same_first i + n.same_count i; same_size = n.same_size; same_wear = λ b. ap (λ (u : Use). wear_with u (soiled (seen s) b)) (same.uses b) };
           held = refl;
           next = (λ i. s.active * n.same_size i + s.used, λ i. n.same_size i - s.used);
           copies = (λ i. s.target * n.same_size i + s.filled, λ i. n.same_size i - s.filled);

@@ -43,3 +43,4 @@ pub mod Segments
 pub mod Shapes
 pub mod States
 pub mod Tables
+mod Wearing

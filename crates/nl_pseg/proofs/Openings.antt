@@ -4,12 +4,13 @@ use Rattle.std.proofs.lemmas.Bool.{cases_Bool, cases_eq, cases_lt}
 use Rattle.std.proofs.lemmas.List.{length-map}
 use Rattle.std.proofs.lemmas.List.Sums.{sum_by-cons}
 use Rattle.nl_blocks.specs.Table.{BlockRow, Table, HasBlock, row_at, is_free, free_count}
-use Rattle.nl_pseg.specs.Segment.{Physical, Use, KeepsBlock}
+use Rattle.nl_pseg.specs.Segment.{Physical, Use, KeepsBlock, wear_of}
 use Rattle.nl_pseg.specs.Seen.{IsFormed, seen, use_in, use_of, use_with}
 use Rattle.nl_pseg.specs.Steps.{IsOpened, Restated, opened_at}
 use Rattle.nl_pseg.specs.declared.state.State.{State}
 use Rattle.nl_pseg.proofs.Numbers.{block_of}
 use Rattle.nl_pseg.proofs.Tables.{free_kept, use_here}
+use Rattle.nl_pseg.proofs.Wearing.{taken_wear}
 
 abbrev num : Bool → ℕ
 num b = cond b 1 0
@@ -36,7 +37,7 @@ pub some_kept : (s : State) → IsFormed s → 1 ≤ free_count s.blocks → Kee
 some_kept s is some = let free = some_free s.blocks some in record { block = free.0; from = free.1.from; below = free.1.below; kept = inl (free_kept s.blocks free.0 free.2) }
 
 -- a block that was taken is opened
-pub opened : (s : State) (t : Table) (block : ℕ) → IsFormed s → s.blocks.size ≤ s.used → 2 ≤ free_count s.blocks → Restated block false (use_in s.blocks block).wear s.blocks t → (use_in s.blocks block).is_free ≡ true
+pub opened : (s : State) (t : Table) (block : ℕ) → IsFormed s → s.blocks.size ≤ s.used → 2 ≤ free_count s.blocks → Restated block false (wear_of (seen s) block) s.blocks t → (use_in s.blocks block).is_free ≡ true
     → IsFormed (record s { blocks = t }) → IsOpened block (seen s) (opened_at (seen (record s { blocks = t })) block)
 opened s t block is full two r free formed =
     let was : num (use_in s.blocks block).is_free ≡ 1 = ap num free in
@@ -48,10 +49,7 @@ opened s t block is full two r free formed =
         same_first = r.numbers.same_first;
         same_blocks = λ i. r.numbers.same_first i + r.numbers.same_count i;
         same_size = r.numbers.same_size;
-        same_wear = λ b. ⊎_elim
-            (λ at. ap (λ n. (use_in t n).wear) at ∙ (ap (λ (u : Use). u.wear) r.here ∙ ap (λ n. (use_in s.blocks n).wear) (sym at)))
-            (λ ne. ap (λ (u : Use). u.wear) (r.others b ne))
-            (cases_eq b block);
+        same_wear = taken_wear s t block r;
       };
       held = refl;
       full = omega (arith, full);

@@ -7,7 +7,7 @@ use Rattle.nl_blocks.specs.declared.states.BlockState.TheVariants as the
 use Rattle.nl_blocks.specs.Table.{BlockRow, HasBlock, block_at, dead_count, is_sealed_state, no_row}
 use Rattle.nl_victim.specs.Victims.{IsColdest, IsLevel, IsMostDead, IsSealed}
 use Rattle.nl_pseg.specs.Cleaning.{IsChosen, NoneChosen}
-use Rattle.nl_pseg.specs.Segment.{Row, Use, is_sealed, wear_of}
+use Rattle.nl_pseg.specs.Segment.{Row, Use, is_sealed, erasures}
 use Rattle.nl_pseg.specs.Seen.{row_of, seen}
 use Rattle.nl_pseg.specs.declared.state.State.{State}
 use Rattle.nl_pseg.proofs.Rows.{dead_here, known_here, sum_map, to_gain}
@@ -52,7 +52,7 @@ module _ (s : State) where
   to_sealed : (block : ℕ) → (seen s).first ≤ block → block < (seen s).blocks → is_sealed (seen s) block ≡ true → IsSealed s.blocks block
   to_sealed block from below is = let has : HasBlock s.blocks block = record { from = from; below = below } in (has, sym (sealed_here block has) ∙ is)
 
-  wear_here : (block : ℕ) → HasBlock s.blocks block → wear_of (seen s) block ≡ (block_at s.blocks block).wear
+  wear_here : (block : ℕ) → HasBlock s.blocks block → erasures (seen s) block ≡ (block_at s.blocks block).wear
   wear_here block has = ap (λ (u : Use). u.wear) (use_here s.blocks block has)
 
   pub chosen_dead : (block : ℕ) → IsMostDead s.blocks block → IsChosen false (seen s) block

@@ -28,15 +28,15 @@ module _ (s : State) (is : IsFormed s) (block : ℕ) (has : HasBlock s.blocks bl
   pub free_dead : (p : ℕ) (h : Held) → held_at (seen s) p ≡ Some h → p / s.blocks.size ≡ block → ⊥
   free_dead p h held at = true≢false (sym (free_kept s.blocks block free) ∙ (ap (is_kept (seen s)) (sym at) ∙ (is.places.each p h held).in_use))
 
-  pub taken_formed : (t : Table) → Restated block false (use_in s.blocks block).wear s.blocks t → IsFormed (record s { blocks = t })
-  taken_formed t r = formed_restated s t block (use_in s.blocks block).wear false is r
+  pub taken_formed : {wear : ℕ} (t : Table) → Restated block false wear s.blocks t → IsFormed (record s { blocks = t })
+  taken_formed {wear} t r = formed_restated s t block wear false is r
       (λ room at. free_other s.blocks block s.active Active has free refl (is.taken room) (sym at))
       (λ same. absurd (true≢false (sym same)))
 
   -- copies are programmed in it
-  pub aimed_segment : (t : Table) → Restated block false (use_in s.blocks block).wear s.blocks t → {old c : Image} → IsPhysicalOf old (seen s) → ((p : ℕ) → (p / s.blocks.size ≡ block → ⊥) → page_at c p ≡ page_at old p) → ((p : ℕ) → p / s.blocks.size ≡ block → page_at c p ≡ erased)
+  pub aimed_segment : {wear : ℕ} (t : Table) → Restated block false wear s.blocks t → {old c : Image} → IsPhysicalOf old (seen s) → ((p : ℕ) → (p / s.blocks.size ≡ block → ⊥) → page_at c p ≡ page_at old p) → ((p : ℕ) → p / s.blocks.size ≡ block → page_at c p ≡ erased)
       → IsPhysicalOf c (aimed_at (seen (record s { blocks = t })) block)
-  aimed_segment t r {old} {c} was others here = record {
+  aimed_segment {wear} t r {old} {c} was others here = record {
     holds = λ p h held. shows_same h (others p (free_dead p h held)) (was.holds p h held);
     blank = λ p taken. ⊎_elim (λ at. here p at) (λ ne. others p ne ∙ was.blank p (back p ne taken)) (cases_eq (p / s.blocks.size) block);
     blank_copy = λ p next. here p (let e = r.numbers.same_size in let a : block * t.size ≡ block * s.blocks.size = ap (λ m. block * m) e in block_of p s.blocks.size block (omega (arith, a, next.0)) (omega (arith, a, e, next.1)));

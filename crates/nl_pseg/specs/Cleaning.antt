@@ -1,5 +1,6 @@
 -- What the calls of cleaning do to a segment and its medium.
-use Rattle.std.specs.Prelude.{◌≡◌, ◌⊎◌, ℕ, ◌+◌, ◌-◌, ◌*◌, ◌/◌, ◌^◌, ◌<◌, ◌≤◌, ◌==◌, if◌then◌else◌, min, ⊤, Bool, true, false, List, length, filter, not, slice_set, Some, None}
+use Rattle.std.specs.Prelude.{◌≡◌, ◌⊎◌, ℕ, ◌+◌, ◌-◌, ◌*◌, ◌/◌, ◌<◌, ◌≤◌, ◌==◌, if◌then◌else◌, ⊤, Bool, true, false, List, length, filter, not, slice_set, Some, None}
+use Rattle.nl_blocks.specs.Table.{worn}
 use Rattle.nl_field.specs.CrashStates.{Earlier, Rose, saturated}
 use Rattle.nl_field.specs.Live.{resolve}
 use Rattle.nl_field.specs.Page.{Image, page_at}
@@ -7,7 +8,7 @@ use Rattle.nl_field.specs.declared.answers.Named.{Named}
 use Rattle.nl_field.specs.declared.answers.Named.TheVariants as named
 use Rattle.nl_pseg.specs.Effects.{Crashes}
 use Rattle.nl_pseg.specs.Pages.{IsUnreadable, main_of}
-use Rattle.nl_pseg.specs.Segment.{InVictim, IsDead, IsOldName, Physical, held_at, is_free, is_kept, is_sealed, is_waiting, room, soiled, wear_of}
+use Rattle.nl_pseg.specs.Segment.{InVictim, IsDead, IsOldName, Physical, erasures, held_at, is_free, is_kept, is_sealed, is_waiting, room, soiled, wear_of}
 use Rattle.nl_pseg.specs.Space.{HasRoomForVictim, dead_in, dead_pages, landing, left_of, reach, victims, waiting}
 use Rattle.nl_pseg.specs.declared.cleaned.Copied.{Copied}
 use Rattle.nl_pseg.specs.declared.cleaned.Copied.TheVariants as copy
@@ -34,14 +35,14 @@ pub record IsChosen (cold : Bool) (seg : Physical) (block : ℕ) : Type 0 where
   pub sealed : is_sealed seg block ≡ true
   pub some : cold ≡ false → 0 < dead_in seg block
   pub first_most : cold ≡ false → (other : ℕ) → seg.first ≤ other → other < block → is_sealed seg other ≡ true → dead_in seg other < dead_in seg block
-  pub first_least : cold ≡ true → (other : ℕ) → seg.first ≤ other → other < block → is_sealed seg other ≡ true → wear_of seg block < wear_of seg other
+  pub first_least : cold ≡ true → (other : ℕ) → seg.first ≤ other → other < block → is_sealed seg other ≡ true → erasures seg block < erasures seg other
   pub most : cold ≡ false → (other : ℕ) → seg.first ≤ other → other < seg.blocks → is_sealed seg other ≡ true → dead_in seg other ≤ dead_in seg block
-  pub least : cold ≡ true → (other : ℕ) → seg.first ≤ other → other < seg.blocks → is_sealed seg other ≡ true → wear_of seg block ≤ wear_of seg other
-  pub worn : cold ≡ true → (other : ℕ) × (seg.first ≤ other) × (other < seg.blocks) × (wear_of seg block + 16 ≤ wear_of seg other)
+  pub least : cold ≡ true → (other : ℕ) → seg.first ≤ other → other < seg.blocks → is_sealed seg other ≡ true → erasures seg block ≤ erasures seg other
+  pub worn : cold ≡ true → (other : ℕ) × (seg.first ≤ other) × (other < seg.blocks) × (erasures seg block + 16 ≤ erasures seg other)
 
 -- no such block is there
 abbrev pub NoneChosen : Bool → Physical → Type 0
-NoneChosen true seg = (block : ℕ) → seg.first ≤ block → block < seg.blocks → is_sealed seg block ≡ true → (other : ℕ) → seg.first ≤ other → other < seg.blocks → wear_of seg other < wear_of seg block + 16
+NoneChosen true seg = (block : ℕ) → seg.first ≤ block → block < seg.blocks → is_sealed seg block ≡ true → (other : ℕ) → seg.first ≤ other → other < seg.blocks → erasures seg other < erasures seg block + 16
 NoneChosen false seg = dead_pages seg ≡ 0
 
 -- why no victim is begun
@@ -60,6 +61,7 @@ pub record Begins (block : ℕ) (old new : Physical) : Type 0 where
   pub frees : (other : ℕ) → is_free new other ≡ is_free old other
   pub keeps : (other : ℕ) → is_kept new other ≡ is_kept old other
   pub wears : (other : ℕ) → wear_of new other ≡ wear_of old other
+  pub same_erasures : (other : ℕ) → erasures new other ≡ erasures old other
   pub same_soiled : (other : ℕ) → soiled new other ≡ soiled old other
   pub waits : (other : ℕ) → is_waiting new other ≡ is_waiting old other
   pub same_waiting : waiting new ≡ waiting old
@@ -151,8 +153,8 @@ pub record Erases (block : ℕ) (old new : Physical) : Type 0 where
   pub names : (name : ℕ) → IsOldName old name → name / old.size ≡ block → is_waiting new block ≡ true
   pub clean : soiled new block ≡ None
   pub same_soiled : (other : ℕ) → (other ≡ block → ⊥) → soiled new other ≡ soiled old other
-  pub wear : wear_of new block ≡ min (wear_of old block + 1) (2 ^ 32 - 1)
-  pub wears : (other : ℕ) → (other ≡ block → ⊥) → wear_of new other ≡ wear_of old other
+  pub wear : erasures new block ≡ worn (erasures old block)
+  pub wears : (other : ℕ) → (other ≡ block → ⊥) → erasures new other ≡ erasures old other
   pub left : left_of new ≡ 0
   pub same_reach : reach new ≡ reach old
   pub more_room : room old ≤ room new

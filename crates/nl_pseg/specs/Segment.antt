@@ -1,8 +1,8 @@
 -- A physical segment: which pages are live, where names lead, and which pages can be programmed next.
-use Rattle.std.specs.Prelude.{◌≡◌, ◌⊎◌, ℕ, ◌+◌, ◌-◌, ◌*◌, ◌/◌, ◌<◌, ◌≤◌, ◌==◌, ◌&&◌, not, nat_le, if◌then◌else◌, Bool, true, false, cond, List, filter, slice_index_or, Contains, Option, Some, None, is_some, option_map, unwrap_or}
+use Rattle.std.specs.Prelude.{◌≡◌, ◌⊎◌, ℕ, ◌+◌, ◌-◌, ◌*◌, ◌/◌, ◌<◌, ◌≤◌, ◌==◌, ◌&&◌, not, nat_le, if◌then◌else◌, Bool, true, false, cond, List, filter, slice_index_or, Contains, Option, Some, None, is_some, option_map}
 use Rattle.nl_blocks.specs.declared.states.BlockState.{BlockState}
 use Rattle.nl_blocks.specs.declared.states.BlockState.TheVariants.{Sealed}
-use Rattle.nl_blocks.specs.Table.{is_sealed_state}
+use Rattle.nl_blocks.specs.Table.{is_sealed_state, worn}
 use Rattle.nl_field.specs.Live.{resolve}
 use Rattle.nl_field.specs.Page.{Image, erased, page_at}
 use Rattle.nl_field.specs.declared.pointer.Pointer.{Pointer}
@@ -10,7 +10,7 @@ use Rattle.nl_pseg.specs.Pages.{shown_by, main_of}
 use Rattle.nl_pseg.specs.declared.held.Held.{Held}
 
 -- What a block is good for: whether it is Free, whether it is kept for the cleaner, as it is Free or waits to be, and how often it was
--- erased as a page of it is programmed next.
+-- erased.
 pub record Use : Type 0 where
   pub is_free : Bool
   pub is_kept : Bool
@@ -86,16 +86,21 @@ is_free seg block = (use_at seg.first seg.uses block).is_free
 abbrev pub is_kept : Physical → ℕ → Bool
 is_kept seg block = (use_at seg.first seg.uses block).is_kept
 
-abbrev pub wear_of : Physical → ℕ → ℕ
-wear_of seg block = (use_at seg.first seg.uses block).wear
-
 -- how often the block was erased, where it was told not to read as erased and was not erased since
 abbrev pub soiled : Physical → ℕ → Option ℕ
 soiled seg block = slice_index_or seg.soiled block None
 
 -- how often the block was erased
 abbrev pub erasures : Physical → ℕ → ℕ
-erasures seg block = unwrap_or (soiled seg block) (wear_of seg block)
+erasures seg block = (use_at seg.first seg.uses block).wear
+
+-- how often a block of this use was erased as a page of it is programmed next: it is erased before use where it is kept and soiled
+abbrev pub wear_with : Use → Option ℕ → ℕ
+wear_with u told = cond (u.is_kept && is_some told) (worn u.wear) u.wear
+
+-- how often the block was erased as a page of it is programmed next
+abbrev pub wear_of : Physical → ℕ → ℕ
+wear_of seg block = wear_with (use_at seg.first seg.uses block) (soiled seg block)
 
 -- what is live on a page
 abbrev pub held_at : Physical → ℕ → Option Held
@@ -223,5 +228,6 @@ pub record IsUnspent (old new : Physical) : Type 0 where
   pub free : new.free ≡ old.free
   pub same_free : (block : ℕ) → is_free new block ≡ is_free old block
   pub same_kept : (block : ℕ) → is_kept new block ≡ is_kept old block
+  pub same_erasures : (block : ℕ) → erasures new block ≡ erasures old block
   pub same_soiled : (block : ℕ) → soiled new block ≡ soiled old block
   pub copies : (new.copy_next ≡ old.copy_next) × (new.copy_left ≡ old.copy_left)

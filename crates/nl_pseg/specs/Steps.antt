@@ -120,7 +120,7 @@ pub record LeadsFrom (name page : ℕ) (old new : Physical) : Type 0 where
   pub more : (length new.pairs ≡ length old.pairs + 1) × (new.pair_room + 1 ≡ old.pair_room)
   pub victim : new.victim ≡ old.victim
   pub kept : (block : ℕ) → is_kept new block ≡ is_kept old block
-  pub wears : (block : ℕ) → wear_of new block ≡ wear_of old block
+  pub wears : (block : ℕ) → erasures new block ≡ erasures old block
   pub frees : (block : ℕ) → (block ≡ name / old.size → ⊥) → is_free new block ≡ is_free old block
   pub here : is_free new (name / old.size) ≡ false
   pub free : new.free + cond (is_free old (name / old.size)) 1 0 ≡ old.free
@@ -147,8 +147,7 @@ pub record Loads (page : ℕ) (at : Pointer) (tag : Tag) (old new : Physical) : 
   pub left : new.left ≤ old.left
   pub others : (block : ℕ) → (block ≡ page / old.size → ⊥) → (is_kept new block ≡ is_kept old block) × ((block ≡ at.name / old.size → ⊥) → is_free new block ≡ is_free old block)
   pub same_soiled : (block : ℕ) → soiled new block ≡ soiled old block
-  pub wear : wear_of new (page / old.size) ≡ unwrap_or (soiled old (page / old.size)) (wear_of old (page / old.size))
-  pub wears : (block : ℕ) → (block ≡ page / old.size → ⊥) → wear_of new block ≡ wear_of old block
+  pub wears : (block : ℕ) → erasures new block ≡ erasures old block
   pub erased : (p : ℕ) → TakenAsErased new p → TakenAsErased old p × (p / old.size ≡ page / old.size → ⊥)
   pub still : (p : ℕ) → TakenAsErased old p → (p / old.size ≡ page / old.size → ⊥) → (IsNext old p → p / old.size ≡ at.name / old.size → ⊥) → TakenAsErased new p
   pub copies : (p : ℕ) → IsNextCopy new p → IsNextCopy old p
@@ -156,8 +155,9 @@ pub record Loads (page : ℕ) (at : Pointer) (tag : Tag) (old new : Physical) : 
 -- A block was taken that was Free, where the block that was written to is full, and no page of it is used.
 pub record IsTaking (s : State) (block : ℕ) : Type 0 where
   pub table : Table
+  pub wear : ℕ
   pub tied : IsTied (record s { blocks = table })
-  pub restated : Restated block false (use_in table block).wear table s.blocks
+  pub restated : Restated block false wear table s.blocks
   pub had : HasBlock table block
   pub was_free : (use_in table block).is_free ≡ true
   pub full : s.blocks.size ≤ s.used
@@ -181,7 +181,7 @@ pub record IsGivenBack (block : ℕ) (old new : Physical) : Type 0 where
   pub left : new.left ≤ old.left
   pub here : is_free new block ≡ true
   pub told : is_free old block ≡ false → soiled new block ≡ Some (erasures old block)
-  pub wear : is_free old block ≡ false → wear_of new block ≡ min (erasures old block + 1) (2 ^ 32 - 1)
+  pub wear : erasures new block ≡ erasures old block
   pub others : (other : ℕ) → (other ≡ block → ⊥) → use_at new.first new.uses other ≡ use_at old.first old.uses other
   pub others_soiled : (other : ℕ) → (other ≡ block → ⊥) → soiled new other ≡ soiled old other
   pub erased : (p : ℕ) → TakenAsErased new p → TakenAsErased old p
@@ -195,7 +195,7 @@ pub record NamesGone (old new : Physical) : Type 0 where
   pub victim : new.victim ≡ old.victim
   pub same_soiled : (block : ℕ) → soiled new block ≡ soiled old block
   pub kept : (block : ℕ) → is_kept new block ≡ is_kept old block
-  pub wears : (block : ℕ) → wear_of new block ≡ wear_of old block
+  pub wears : (block : ℕ) → erasures new block ≡ erasures old block
   pub frees : (block : ℕ) → is_free old block ≡ true → is_free new block ≡ true
   pub others : (block : ℕ) → is_kept old block ≡ false → is_free new block ≡ false
   pub more : old.free ≤ new.free
@@ -223,10 +223,10 @@ pub record AreGivenBack (end : ℕ) (old new : Physical) : Type 0 where
   pub left : new.left ≤ old.left
   pub each : (block : ℕ) → old.first ≤ block → block < end → is_free new block ≡ true
   pub told : (block : ℕ) → old.first ≤ block → block < end → is_free old block ≡ false → soiled new block ≡ Some (erasures old block)
-  pub wears : (block : ℕ) → old.first ≤ block → block < end → is_free old block ≡ false → wear_of new block ≡ min (erasures old block + 1) (2 ^ 32 - 1)
+  pub wears : (block : ℕ) → old.first ≤ block → block < end → erasures new block ≡ erasures old block
   pub later : (block : ℕ) → end ≤ block → use_at new.first new.uses block ≡ use_at old.first old.uses block
   pub later_soiled : (block : ℕ) → end ≤ block → soiled new block ≡ soiled old block
-  pub free_before : (block : ℕ) → is_free old block ≡ true → (soiled new block ≡ soiled old block) × (wear_of new block ≡ wear_of old block)
+  pub free_before : (block : ℕ) → is_free old block ≡ true → (soiled new block ≡ soiled old block) × (erasures new block ≡ erasures old block)
   pub erased : (p : ℕ) → TakenAsErased new p → TakenAsErased old p
   pub same : AllFree old → new ≡ old
 
@@ -316,8 +316,9 @@ pub record PlacingOn {M : Type 0} (clock : M → ℕ) (contents : M → Image) (
 -- A block was taken for copies that was Free, where the one before it is full, and no page of it is used.
 pub record IsTargeted (s : State) (block : ℕ) : Type 0 where
   pub table : Table
+  pub wear : ℕ
   pub tied : IsTied (record s { blocks = table })
-  pub restated : Restated block false (use_in table block).wear table s.blocks
+  pub restated : Restated block false wear table s.blocks
   pub had : HasBlock table block
   pub was_free : (use_in table block).is_free ≡ true
   pub full : s.blocks.size ≤ s.filled

@@ -18,7 +18,7 @@ use crate::cleaned::Copied;
 use crate::held::Held;
 use crate::pages::{program_page, read_page};
 use crate::state::State;
-use crate::table::{give_back, mark, seal_filled, take_target};
+use crate::table::{give_back, mark, seal_filled, take_target, wear_out};
 use nl_blocks::BlockState;
 use nl_field::{NamedRead, PageBuf};
 use nl_nand::{Nand, WriteAnswer};
@@ -70,14 +70,15 @@ impl State {
             self.aim(block);
             return WriteAnswer::Done;
         }
-        let wear = self.blocks.wear(block);
         match media.erase(block) {
             WriteAnswer::Done => {
+                wear_out(&mut self.blocks, block);
+                let _ = self.blocks.count();
                 self.aim(block);
                 WriteAnswer::Done
             }
             WriteAnswer::Failed => {
-                give_back(&mut self.blocks, block, wear);
+                give_back(&mut self.blocks, block);
                 let _ = self.blocks.count();
                 WriteAnswer::Failed
             }

@@ -23,9 +23,9 @@ impl State {
         if is_free(&self.blocks, block) {
             return;
         }
-        let wear = self.wear(block);
+        let wear = self.blocks.wear(block);
         self.close(block);
-        give_back(&mut self.blocks, block, wear.saturating_add(1));
+        give_back(&mut self.blocks, block);
         self.soiled[block as usize] = Some(wear);
     }
 

@@ -1,4 +1,4 @@
-ghost use Rattle.std.specs.Prelude.{◌≡◌, ◌⊎◌, ℕ, ◌+◌, ◌*◌, ◌/◌, ◌<◌, ◌≤◌, ◌^◌, min, cond, ◌-◌, true, false, length, slice_set, slice_index_or, None, Some, unwrap_or, IsSome, IsTrue};
+ghost use Rattle.std.specs.Prelude.{◌≡◌, ◌⊎◌, ℕ, ◌+◌, ◌*◌, ◌/◌, ◌<◌, ◌≤◌, ◌^◌, cond, ◌-◌, true, false, length, slice_set, slice_index_or, None, Some, IsSome, IsTrue};
 ghost use Rattle.nl_field.specs.Spelling.{is_stamp};
 ghost use Rattle.nl_blocks.specs.Table.{HasBlock, block_at, free_count, names_of};
 ghost use Rattle.nl_remap.specs.Table.{IsOld};
@@ -65,18 +65,6 @@ impl State {
         self.close_target(block);
     }
 
-    /// How often a block was erased, where it is not erased before use.
-    pub fn wear(&self, block: u32) -> u32
-        requires has { HasBlock self.now.blocks block }
-        requires within { block < length self.now.soiled.items }
-        ensures { result ≡ unwrap_or (slice_index_or self.now.soiled.items block None) (use_in self.now.blocks block).wear }
-    {
-        match self.soiled[block as usize] {
-            Some(wear) => wear,
-            None => self.blocks.wear(block),
-        }
-    }
-
     /// The page holds what the pointer and the owner say.
     pub fn load_as(&mut self, page: u32, at: Pointer, tag: Tag)
         requires formed { IsFormed self.old }
@@ -117,15 +105,13 @@ impl State {
         ensures others { (block : ℕ) → (block ≡ page / self.old.blocks.size → ⊥) → ((use_in self.new.blocks block).is_free ≡ (use_in self.old.blocks block).is_free) × ((use_in self.new.blocks block).is_kept ≡ (use_in self.old.blocks block).is_kept) }
         ensures left { (seen self.new).left ≤ (seen self.old).left }
         ensures soiled { self.new.soiled.items ≡ self.old.soiled.items }
-        ensures wear { (use_in self.new.blocks (page / self.old.blocks.size)).wear ≡ unwrap_or (slice_index_or self.old.soiled.items (page / self.old.blocks.size) None) ((use_in self.old.blocks (page / self.old.blocks.size)).wear) }
-        ensures wears { (block : ℕ) → (block ≡ page / self.old.blocks.size → ⊥) → (use_in self.new.blocks block).wear ≡ (use_in self.old.blocks block).wear }
+        ensures wears { (block : ℕ) → (use_in self.new.blocks block).wear ≡ (use_in self.old.blocks block).wear }
         ensures erased { (p : ℕ) → TakenAsErased (seen self.new) p → TakenAsErased (seen self.old) p × (p / self.old.blocks.size ≡ page / self.old.blocks.size → ⊥) }
         ensures still { (p : ℕ) → TakenAsErased (seen self.old) p → (p / self.old.blocks.size ≡ page / self.old.blocks.size → ⊥) → TakenAsErased (seen self.new) p }
     {
         let block = page / self.blocks.pages();
         self.close(block);
-        let wear = self.wear(block);
-        shut(&mut self.blocks, block, wear);
+        shut(&mut self.blocks, block);
         mark(&mut self.blocks, page, true);
         self.held[page as usize] = Some(Held { tag, stamp });
     }
@@ -183,7 +169,7 @@ impl State {
         ensures same { (other : ℕ) → ((use_in self.new.blocks other).is_free ≡ (use_in self.old.blocks other).is_free) × ((use_in self.new.blocks other).is_kept ≡ (use_in self.old.blocks other).is_kept) }
         ensures soiled { slice_index_or self.new.soiled.items block None ≡ Some wear }
         ensures others { (other : ℕ) → (other ≡ block → ⊥) → slice_index_or self.new.soiled.items other None ≡ slice_index_or self.old.soiled.items other None }
-        ensures wear { (use_in self.new.blocks block).wear ≡ cond ((use_in self.old.blocks block).is_kept) (min (wear + 1) (2 ^ 32 - 1)) wear }
+        ensures wear { (use_in self.new.blocks block).wear ≡ wear }
         ensures wears { (other : ℕ) → (other ≡ block → ⊥) → (use_in self.new.blocks other).wear ≡ (use_in self.old.blocks other).wear }
         ensures erased { (p : ℕ) → TakenAsErased (seen self.new) p → TakenAsErased (seen self.old) p × (p / self.old.blocks.size ≡ block → ⊥) }
         ensures still { (p : ℕ) → TakenAsErased (seen self.old) p → (p / self.old.blocks.size ≡ block → ⊥) → TakenAsErased (seen self.new) p }

@@ -1,4 +1,4 @@
-ghost use Rattle.std.specs.Prelude.{◌≡◌, ◌⊎◌, ℕ, ◌+◌, ◌-◌, ◌*◌, ◌/◌, ◌<◌, ◌≤◌, ◌↔◌, ◌||◌, Bool, true, false, cond, min, ◌^◌, [], length, slice_set, replicate, None, Some, Contains, unwrap_or, IsTrue, IfOk, IfSome, IfNone};
+ghost use Rattle.std.specs.Prelude.{◌≡◌, ◌⊎◌, ℕ, ◌+◌, ◌-◌, ◌*◌, ◌/◌, ◌<◌, ◌≤◌, ◌↔◌, Bool, true, false, cond, [], length, slice_set, replicate, None, Some, Contains, IsTrue, IfOk, IfSome, IfNone};
 ghost use Rattle.std.specs.Bool.{OnTrue, OnFalse};
 ghost use Rattle.nl_field.specs.Live.{resolve};
 ghost use Rattle.nl_field.specs.Numbers.{is_legal, shape_for};
@@ -58,7 +58,7 @@ impl PSeg {
         ensures erased { IfOk result (λ s. (page : ℕ) → InSegment s page → TakenAsErased s page) }
         ensures within { IfOk result (λ s. (page : ℕ) → TakenAsErased s page → InSegment s page) }
         ensures clean { IfOk result IsClean }
-        ensures wear { IfOk result (λ s. (block : ℕ) → wear_of s block ≡ 0) }
+        ensures wear { IfOk result (λ s. (block : ℕ) → erasures s block ≡ 0) }
         ensures room { IfOk result (λ s. room s + shape.now.pages ≡ shape.now.pblocks * shape.now.pages) }
         ensures kept { IfOk result KeepsBlock }
         ensures victim { IfOk result (λ s. s.victim ≡ None) }
@@ -100,8 +100,7 @@ impl PSeg {
         ensures left { self.new.left ≤ self.old.left }
         ensures others { (block : ℕ) → (block ≡ page / self.old.size → ⊥) → (is_kept self.new block ≡ is_kept self.old block) × ((block ≡ at.name / self.old.size → ⊥) → is_free self.new block ≡ is_free self.old block) }
         ensures soiled { (block : ℕ) → soiled self.new block ≡ soiled self.old block }
-        ensures wear { wear_of self.new (page / self.old.size) ≡ unwrap_or (soiled self.old (page / self.old.size)) (wear_of self.old (page / self.old.size)) }
-        ensures wears { (block : ℕ) → (block ≡ page / self.old.size → ⊥) → wear_of self.new block ≡ wear_of self.old block }
+        ensures wears { (block : ℕ) → erasures self.new block ≡ erasures self.old block }
         ensures erased { (p : ℕ) → TakenAsErased self.new p → TakenAsErased self.old p × (p / self.old.size ≡ page / self.old.size → ⊥) }
         ensures still { (p : ℕ) → TakenAsErased self.old p → (p / self.old.size ≡ page / self.old.size → ⊥) → (IsNext self.old p → p / self.old.size ≡ at.name / self.old.size → ⊥) → TakenAsErased self.new p }
         ensures copies { (p : ℕ) → IsNextCopy self.new p → IsNextCopy self.old p }
@@ -131,8 +130,8 @@ impl PSeg {
         ensures same { (other : ℕ) → (is_free self.new other ≡ is_free self.old other) × (is_kept self.new other ≡ is_kept self.old other) }
         ensures soiled { soiled self.new block ≡ Some wear }
         ensures others { (other : ℕ) → (other ≡ block → ⊥) → soiled self.new other ≡ soiled self.old other }
-        ensures wear { wear_of self.new block ≡ cond (is_free self.old block || is_waiting self.old block) (min (wear + 1) (2 ^ 32 - 1)) wear }
-        ensures wears { (other : ℕ) → (other ≡ block → ⊥) → wear_of self.new other ≡ wear_of self.old other }
+        ensures wear { erasures self.new block ≡ wear }
+        ensures wears { (other : ℕ) → (other ≡ block → ⊥) → erasures self.new other ≡ erasures self.old other }
         ensures erased { (p : ℕ) → TakenAsErased self.new p → TakenAsErased self.old p × (p / self.old.size ≡ block → ⊥) }
         ensures still { (p : ℕ) → TakenAsErased self.old p → (p / self.old.size ≡ block → ⊥) → TakenAsErased self.new p }
         ensures copies { (p : ℕ) → IsNextCopy self.new p → IsNextCopy self.old p × (p / self.old.size ≡ block → ⊥) }
@@ -164,8 +163,8 @@ impl PSeg {
         ensures left { self.new.left ≡ 0 }
         ensures each { (block : ℕ) → self.old.first ≤ block → block < self.old.blocks → (is_free self.new block ≡ true) × (is_kept self.new block ≡ true) }
         ensures soiled { (block : ℕ) → self.old.first ≤ block → block < self.old.blocks → is_free self.old block ≡ false → soiled self.new block ≡ Some (erasures self.old block) }
-        ensures wear { (block : ℕ) → self.old.first ≤ block → block < self.old.blocks → is_free self.old block ≡ false → wear_of self.new block ≡ min (erasures self.old block + 1) (2 ^ 32 - 1) }
-        ensures others { (block : ℕ) → is_free self.old block ≡ true → (soiled self.new block ≡ soiled self.old block) × (wear_of self.new block ≡ wear_of self.old block) }
+        ensures wears { (block : ℕ) → self.old.first ≤ block → block < self.old.blocks → erasures self.new block ≡ erasures self.old block }
+        ensures others { (block : ℕ) → is_free self.old block ≡ true → (soiled self.new block ≡ soiled self.old block) × (erasures self.new block ≡ erasures self.old block) }
         ensures erased { (p : ℕ) → TakenAsErased self.new p → TakenAsErased self.old p }
         ensures same { self.old.first + self.old.free ≡ self.old.blocks → self.new ≡ self.old }
         ensures kept { 1 ≤ self.new.free → KeepsBlock self.new }

@@ -8,7 +8,7 @@ ghost use Rattle.nl_pseg.specs.Steps.{IsTaking, Opening, OpeningOn, opened_at};
 ghost use Rattle.nl_pseg.specs.declared.held.Held.{Held as HeldOf};
 
 use crate::state::State;
-use crate::table::{give_back, take};
+use crate::table::{give_back, take, wear_out};
 use nl_blocks::BlockState;
 use nl_nand::{Nand, WriteAnswer};
 
@@ -74,14 +74,14 @@ impl State {
             self.write_to(block);
             return WriteAnswer::Done;
         }
-        let wear = self.blocks.wear(block);
         match media.erase(block) {
             WriteAnswer::Done => {
+                wear_out(&mut self.blocks, block);
                 self.write_to(block);
                 WriteAnswer::Done
             }
             WriteAnswer::Failed => {
-                give_back(&mut self.blocks, block, wear);
+                give_back(&mut self.blocks, block);
                 WriteAnswer::Failed
             }
         }

@@ -18,8 +18,7 @@ pub struct State {
     /// What each page of the medium holds that is live.
     pub held: Vec<Option<Held>>,
     pub blocks: Blocks,
-    /// How often a block was erased that was told to be soiled, and not erased since. The table has one more for it while it is
-    /// Free: so often it is erased when it is used.
+    /// How often a block was erased that was told to be soiled, and not erased since.
     pub soiled: Vec<Option<u32>>,
     /// The block that is written to.
     pub active: u32,

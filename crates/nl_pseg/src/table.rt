@@ -1,6 +1,6 @@
 // Steps on the table of blocks.
-ghost use Rattle.std.specs.Prelude.{◌≡◌, ◌/◌, ◌≤◌, ◌<◌, ◌+◌, ◌-◌, ◌^◌, ℕ, min, cond, true, false};
-ghost use Rattle.nl_blocks.specs.Table.{HasBlock, after_erase, block_at, free_count, in_state, is_retired_state, names_of, with_block, with_page};
+ghost use Rattle.std.specs.Prelude.{◌≡◌, ◌/◌, ◌≤◌, ◌<◌, ◌+◌, ◌-◌, ◌^◌, ℕ, cond, true, false};
+ghost use Rattle.nl_blocks.specs.Table.{HasBlock, after_erase, block_at, free_count, in_state, is_retired_state, names_of, with_block, with_page, worn};
 ghost use Rattle.nl_pseg.specs.Seen.{use_in};
 ghost use Rattle.nl_pseg.specs.Steps.{IsMarked, IsPut, IsTold, Restated, SameMarks, SameNumbers, SameUse, aside_state, told_state};
 
@@ -13,7 +13,7 @@ pub fn is_free(blocks: &Blocks, block: u32) -> bool
     matches!(blocks.state(block), BlockState::Free)
 }
 
-/// Takes the least worn Free block. Another one stays Free.
+/// Takes a Free block, the least worn. Another one stays Free.
 pub fn take(blocks: &mut Blocks) -> u32
     requires { 2 ≤ free_count blocks.old }
     ensures has { HasBlock blocks.old result }
@@ -115,22 +115,50 @@ pub fn end_name(blocks: &mut Blocks, block: u32)
     blocks.name_gone(block);
 }
 
-/// The block is Free, with this wear.
-pub fn give_back(blocks: &mut Blocks, block: u32, wear: u32)
+/// The block is Free again. It was not erased.
+pub fn give_back(blocks: &mut Blocks, block: u32)
     requires { HasBlock blocks.old block }
-    ensures { Restated block true wear blocks.old blocks.new }
+    ensures { Restated block true (use_in blocks.old block).wear blocks.old blocks.new }
 {
     blocks.freed(block, 0);
+}
+
+/// A block that is in use was erased before its pages are used.
+pub fn wear_out(blocks: &mut Blocks, block: u32)
+    requires has { HasBlock blocks.old block }
+    requires used { (use_in blocks.old block).is_kept ≡ false }
+    ensures worn { Restated block false (worn (use_in blocks.old block).wear) blocks.old blocks.new }
+    ensures state { (block_at blocks.new block).state ≡ (block_at blocks.old block).state }
+{
+    blocks.reerased(block);
+}
+
+/// The block is Sealed.
+pub fn shut(blocks: &mut Blocks, block: u32)
+    requires { HasBlock blocks.old block }
+    ensures restated { Restated block false (use_in blocks.old block).wear blocks.old blocks.new }
+    ensures state { (block_at blocks.new block).state ≡ BlockState.Sealed }
+{
+    blocks.seal(block);
+}
+
+/// A block that is Free has this wear.
+fn free_with(blocks: &mut Blocks, block: u32, wear: u32)
+    requires has { HasBlock blocks.old block }
+    requires free { (block_at blocks.old block).state ≡ BlockState.Free }
+    ensures { Restated block true wear blocks.old blocks.new }
+{
     blocks.found(block, wear, 0);
 }
 
 /// The block is Sealed, with this wear.
-pub fn shut(blocks: &mut Blocks, block: u32, wear: u32)
+fn shut_with(blocks: &mut Blocks, block: u32, wear: u32)
     requires { HasBlock blocks.old block }
     ensures restated { Restated block false wear blocks.old blocks.new }
     ensures state { (block_at blocks.new block).state ≡ BlockState.Sealed }
 {
-    give_back(blocks, block, wear);
+    blocks.freed(block, 0);
+    blocks.found(block, wear, 0);
     blocks.seal(block);
 }
 
@@ -145,17 +173,16 @@ fn wait_with(blocks: &mut Blocks, block: u32, wear: u32, names: u32)
     blocks.found(block, wear, names);
 }
 
-/// Tells the block that it was erased so often and is to be erased before use: a Free one, and one that waits, has one more, and
-/// another is Sealed.
+/// The block was erased so often. One that is neither Free nor waits is Sealed.
 pub fn tell(blocks: &mut Blocks, block: u32, wear: u32)
     requires { HasBlock blocks.old block }
-    ensures told { IsTold block (cond (use_in blocks.old block).is_kept (min (wear + 1) (2 ^ 32 - 1)) wear) blocks.old blocks.new }
+    ensures told { IsTold block wear blocks.old blocks.new }
     ensures state { (block_at blocks.new block).state ≡ told_state (block_at blocks.old block).state }
 {
     match blocks.state(block) {
-        BlockState::Free => give_back(blocks, block, wear.saturating_add(1)),
-        BlockState::Retired(names) => wait_with(blocks, block, wear.saturating_add(1), names),
-        _ => shut(blocks, block, wear),
+        BlockState::Free => free_with(blocks, block, wear),
+        BlockState::Retired(names) => wait_with(blocks, block, wear, names),
+        _ => shut_with(blocks, block, wear),
     }
 }
 

@@ -110,6 +110,3 @@ fn worn(blocks: &Blocks, most: u32, block: u32) -> u32
         most
     }
 }
-
-#[cfg(test)]
-mod tests;

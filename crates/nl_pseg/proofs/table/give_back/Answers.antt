@@ -1,17 +1,15 @@
-use Rattle.std.proofs.Common.{true, refl, sym, subst}
+use Rattle.std.proofs.Common.{true, refl, sym, ap, subst}
 use Rattle.nl_blocks.specs.Table.{HasBlock, after_erase, block_at, in_state}
+use Rattle.nl_pseg.specs.Segment.{Use}
+use Rattle.nl_pseg.specs.Seen.{use_in, use_with}
 use Rattle.nl_pseg.specs.Steps.{Restated}
-use Rattle.nl_pseg.proofs.Tables.{has_same, restated, restated_again}
+use Rattle.nl_pseg.proofs.Tables.{restated, use_here}
 use Rattle.nl_pseg.proofs.table.give_back.Goals as goal
 
 pub returns : goal.returns
 returns c =
     let t = c.args.blocks.now in
-    let has : HasBlock t c.args.block = record { from = c.requires.from; below = c.requires.below } in
-    let row = in_state (block_at t c.args.block) (after_erase 0) in
-    let first : Restated c.args.block true row.wear t c.freed.new.self = subst (Restated c.args.block true row.wear t) (sym c.freed.ensures) (restated t c.args.block row true row.wear has refl (λ k. refl)) in
-    let mid = c.freed.new.self in
-    let second : Restated c.args.block true c.args.wear mid c.found.new.self =
-    subst (Restated c.args.block true c.args.wear mid) (sym c.found.ensures)
-    (restated mid c.args.block (record { state = after_erase 0; wear = c.args.wear; pages = (block_at mid c.args.block).pages }) true c.args.wear (has_same c.args.block first.numbers has) refl (λ k. refl)) in
-    restated_again first second
+    let b = c.args.block in
+    let has : HasBlock t b = record { from = c.requires.from; below = c.requires.below } in
+    subst (Restated b true (use_in t b).wear t) (sym c.freed.ensures)
+    (restated t b (in_state (block_at t b) (after_erase 0)) true (use_in t b).wear has (ap (λ (u : Use). use_with true u.wear) (sym (use_here t b has))) (λ k. refl))

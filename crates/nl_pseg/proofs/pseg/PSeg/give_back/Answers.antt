@@ -1,5 +1,5 @@
-use Rattle.std.proofs.Common.{◌≡◌, ℕ, ◌+◌, ◌<◌, ◌≤◌, min, true, false, Some, ◌∙◌, ap, subst, sym, arith}
-use Rattle.nl_pseg.specs.Segment.{Physical, TakenAsErased, erasures, is_free, is_kept, soiled, wear_of}
+use Rattle.std.proofs.Common.{◌≡◌, ℕ, ◌+◌, ◌<◌, ◌≤◌, true, false, Some, ◌∙◌, ap, subst, sym, arith}
+use Rattle.nl_pseg.specs.Segment.{Physical, TakenAsErased, erasures, is_free, is_kept, soiled}
 use Rattle.nl_pseg.proofs.Tables.{free_kept}
 use Rattle.nl_pseg.specs.Seen.{seen}
 use Rattle.nl_pseg.proofs.Ended.{few_none}
@@ -51,7 +51,7 @@ returns-clause-soiled c =
     let x = c.give_back_all.new.self in
     subst (λ (o : Physical). (block : ℕ) → o.first ≤ block → block < o.blocks → is_free o block ≡ false → soiled (seen x) block ≡ Some (erasures o block)) c.self.view_is c.give_back_all.ensures.given.told
 
-pub returns-clause-wear : goal.returns-clause-wear
-returns-clause-wear c =
+pub returns-clause-wears : goal.returns-clause-wears
+returns-clause-wears c =
     let x = c.give_back_all.new.self in
-    subst (λ (o : Physical). (block : ℕ) → o.first ≤ block → block < o.blocks → is_free o block ≡ false → wear_of (seen x) block ≡ min (erasures o block + 1) 4294967295) c.self.view_is c.give_back_all.ensures.given.wears
+    subst (λ (o : Physical). (block : ℕ) → o.first ≤ block → block < o.blocks → erasures (seen x) block ≡ erasures o block) c.self.view_is c.give_back_all.ensures.given.wears

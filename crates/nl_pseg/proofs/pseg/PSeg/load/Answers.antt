@@ -1,6 +1,6 @@
-use Rattle.std.proofs.Common.{◌≡◌, ◌⊎◌, inl, ℕ, ◌+◌, ◌/◌, ◌≤◌, cond, false, length, Some, set, ◌∙◌, ap, subst, unwrap_or}
+use Rattle.std.proofs.Common.{◌≡◌, ◌⊎◌, inl, ℕ, ◌+◌, ◌/◌, ◌≤◌, cond, false, length, Some, set, ◌∙◌, ap, subst}
 use Rattle.nl_field.specs.Live.{resolve}
-use Rattle.nl_pseg.specs.Segment.{IsNext, IsNextCopy, IsOldName, Physical, TakenAsErased, Use, is_free, is_kept, names_another_free, soiled, wear_of}
+use Rattle.nl_pseg.specs.Segment.{IsNext, IsNextCopy, IsOldName, Physical, TakenAsErased, Use, erasures, is_free, is_kept, names_another_free, soiled}
 use Rattle.nl_pseg.specs.Seen.{seen}
 use Rattle.nl_pseg.proofs.Ended.{few_none}
 use Rattle.nl_pseg.proofs.Holds.{kept_some}
@@ -57,11 +57,8 @@ returns-clause-others c = subst (λ (s : Physical). (block : ℕ) → (block ≡
 pub returns-clause-soiled : goal.returns-clause-soiled
 returns-clause-soiled c = subst (λ (s : Physical). (block : ℕ) → soiled (seen c.load_as.new.self) block ≡ soiled s block) c.self.view_is c.load_as.ensures.loads.same_soiled
 
-pub returns-clause-wear : goal.returns-clause-wear
-returns-clause-wear c = subst (λ (s : Physical). wear_of (seen c.load_as.new.self) (c.args.page / s.size) ≡ unwrap_or (soiled s (c.args.page / s.size)) (wear_of s (c.args.page / s.size))) c.self.view_is c.load_as.ensures.loads.wear
-
 pub returns-clause-wears : goal.returns-clause-wears
-returns-clause-wears c = subst (λ (s : Physical). (block : ℕ) → (block ≡ c.args.page / s.size → ⊥) → wear_of (seen c.load_as.new.self) block ≡ wear_of s block) c.self.view_is c.load_as.ensures.loads.wears
+returns-clause-wears c = subst (λ (s : Physical). (block : ℕ) → erasures (seen c.load_as.new.self) block ≡ erasures s block) c.self.view_is c.load_as.ensures.loads.wears
 
 pub returns-clause-erased : goal.returns-clause-erased
 returns-clause-erased c = subst (λ (s : Physical). (p : ℕ) → TakenAsErased (seen c.load_as.new.self) p → TakenAsErased s p × (p / s.size ≡ c.args.page / s.size → ⊥)) c.self.view_is c.load_as.ensures.loads.erased

@@ -1,5 +1,5 @@
 use Rattle.std.proofs.Common.{◌≡◌, ℕ, ◌+◌, ◌*◌, ◌<◌, ◌≤◌, true, sym, ap, subst, arith}
-use Rattle.nl_pseg.specs.Segment.{Physical, Use, InSegment, IsClean, KeepsBlock, TakenAsErased, is_free, room, wear_of}
+use Rattle.nl_pseg.specs.Segment.{Physical, Use, InSegment, IsClean, KeepsBlock, TakenAsErased, is_free, room, erasures}
 use Rattle.nl_pseg.proofs.News.{new_clean, new_kept, new_room, new_taken, new_use, new_wear}
 use Rattle.nl_pseg.proofs.Shapes.{legal_bounds, two_blocks}
 use Rattle.nl_pseg.proofs.States.{taken_segment}
@@ -24,7 +24,7 @@ returns-clause-clean c =
 pub returns-clause-wear : goal.returns-clause-wear
 returns-clause-wear c =
     let roomy = legal_bounds c.args.shape.now c.requires.legal c.requires.numbers in
-    subst (λ (s : Physical). (block : ℕ) → wear_of s block ≡ 0) (sym c.in_ok-state.ensures.seen) (new_wear c.args.shape.now roomy)
+    subst (λ (s : Physical). (block : ℕ) → erasures s block ≡ 0) (sym c.in_ok-state.ensures.seen) (new_wear c.args.shape.now roomy)
 
 pub returns-clause-room : goal.returns-clause-room
 returns-clause-room c =

@@ -1,10 +1,9 @@
-use Rattle.std.proofs.Common.{◌≡◌, inl, inr, ⊎_elim, ℕ, ◌+◌, ◌-◌, ◌^◌, ◌||◌, ◌<◌, ◌≤◌, min, ◌/◌, Bool, cond, List, Option, Some, None, get_or, sym, ◌∙◌, ap, subst}
-use Rattle.nl_pseg.specs.Segment.{HasSpare, IsNextCopy, KeepsBlock, Physical, TakenAsErased, is_free, is_waiting, wear_of}
+use Rattle.std.proofs.Common.{◌≡◌, inl, inr, ⊎_elim, ℕ, ◌<◌, ◌≤◌, ◌/◌, List, Option, Some, None, get_or, sym, ◌∙◌, ap, subst}
+use Rattle.nl_pseg.specs.Segment.{HasSpare, IsNextCopy, KeepsBlock, Physical, TakenAsErased, is_free, is_waiting}
 use Rattle.nl_pseg.specs.Seen.{seen}
 use Rattle.nl_pseg.specs.declared.held.Held.{Held}
 use Rattle.nl_pseg.proofs.Ended.{few_none}
-use Rattle.nl_pseg.proofs.Tables.{free_kept}
-use Rattle.nl_pseg.proofs.Waits.{free_or_waits, wait_by}
+use Rattle.nl_pseg.proofs.Waits.{wait_by}
 use Rattle.nl_pseg.proofs.pseg.PSeg.soiled.Goals as goal
 
 pub whole-requires-clause-few : goal.whole-requires-clause-few
@@ -24,14 +23,6 @@ pub returns-clause-waits : goal.returns-clause-waits
 returns-clause-waits c other =
     let e = c.soil.ensures in
     subst (λ (s : Physical). is_waiting (seen c.soil.new.self) other ≡ is_waiting s other) c.self.view_is (wait_by (seen c.self.inside.state) (seen c.soil.new.self) other (e.same other).0 (e.same other).1)
-
-pub returns-clause-wear : goal.returns-clause-wear
-returns-clause-wear c =
-    let s = c.self.inside.state in
-    let b = c.args.block in
-    let w = c.args.wear in
-    subst (λ (o : Physical). wear_of (seen c.soil.new.self) b ≡ cond (is_free o b || is_waiting o b) (min (w + 1) (2 ^ 32 - 1)) w) c.self.view_is
-    (c.soil.ensures.wear ∙ sym (ap (λ (k : Bool). cond k (min (w + 1) (2 ^ 32 - 1)) w) (free_or_waits (seen s) b (free_kept s.blocks b))))
 
 pub returns-clause-spare : goal.returns-clause-spare
 returns-clause-spare c image =

@@ -1,4 +1,4 @@
-use Rattle.std.proofs.Common.{◌≡◌, inl, ℕ, ◌+◌, ◌-◌, ◌^◌, ◌<◌, min, List, Option, Some, None, length, get_or, is_some, refl, sym, ◌∙◌, ap, subst, arith}
+use Rattle.std.proofs.Common.{◌≡◌, inl, ℕ, ◌+◌, ◌-◌, ◌<◌, List, Option, Some, None, length, get_or, is_some, refl, sym, ◌∙◌, ap, subst, arith}
 use Rattle.std.specs.Vec.{with_item}
 use Rattle.std.proofs.lemmas.Bool.{true≢false}
 use Rattle.std.proofs.lemmas.List.{get_or-set_same, get_or-set_other}
@@ -16,7 +16,7 @@ use Rattle.nl_pseg.proofs.Forms.{next_is, left_is}
 use Rattle.nl_pseg.proofs.Segments.{apart_taken}
 use Rattle.nl_pseg.proofs.Served.{free_set, served_tied}
 use Rattle.nl_pseg.proofs.States.{next_block}
-use Rattle.nl_pseg.proofs.Tables.{free_state_is, has_same}
+use Rattle.nl_pseg.proofs.Tables.{free_state_is, has_same, use_here}
 use Rattle.nl_pseg.proofs.state.State.give_back.Goals as goal
 
 pub returns-clause-tied : goal.returns-clause-tied
@@ -67,8 +67,8 @@ returns-clause-given c =
       victim = ap (λ (q : State). q.victim) e.same;
       left = let l = e.left in let z = n.same_size in omega (arith, l, z);
       here = ap (λ (u : Use). u.is_free) g.here;
-      told = λ used. get_or-set_same m.soiled.items c.args.block (Some c.wear-wear.result) None within ∙ ap (λ w. Some w) c.wear-wear.ensures;
-      wear = λ used. ap (λ (u : Use). u.wear) g.here ∙ (c.saturating_add.ensures ∙ ap (λ w. min (w + 1) (2 ^ 32 - 1)) c.wear-wear.ensures);
+      told = λ used. get_or-set_same m.soiled.items c.args.block (Some c.wear-wear.result) None within ∙ ap (λ w. Some w) (c.wear-wear.ensures ∙ sym (ap (λ (u : Use). u.wear) (use_here s.blocks c.args.block c.requires.within)));
+      wear = ap (λ (u : Use). u.wear) g.here ∙ ap (λ u. (use_in u c.args.block).wear) e.table;
       others = λ b ne. g.others b ne ∙ ap (λ u. use_in u b) e.table;
       others_soiled = λ b ne. get_or-set_other m.soiled.items c.args.block b (Some c.wear-wear.result) None ne ∙ ap (λ (l : List (Option ℕ)). get_or l b None) e.soiled;
       erased = λ p taken. e.erased p (apart_taken apart p taken).0;

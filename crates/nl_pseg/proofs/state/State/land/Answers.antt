@@ -7,16 +7,17 @@ use Rattle.nl_nand.specs.ImageLaws.{filled_cut}
 use Rattle.nl_nand.specs.Nand.{Cut}
 use Rattle.nl_pseg.specs.Cleaning.{Moves}
 use Rattle.nl_pseg.specs.Pages.{page_with, shown_by}
-use Rattle.nl_pseg.specs.Segment.{IsDead, Physical, Use, held_at, wear_of}
+use Rattle.nl_pseg.specs.Segment.{IsDead, Physical, Use, held_at, wear_of, soiled}
 use Rattle.nl_pseg.specs.Seen.{seen, use_in}
 use Rattle.nl_pseg.specs.Steps.{IsAlone, IsCopyUsed, IsLed}
 use Rattle.nl_pseg.specs.declared.held.Held.{Held}
 use Rattle.nl_pseg.proofs.CopyImages.{after_copy, after_led, copied_spare, copy_dead, copy_kept, failed_spare}
-use Rattle.nl_pseg.proofs.CopyUsed.{copy_behind, copy_block, copy_within}
+use Rattle.nl_pseg.proofs.CopyUsed.{copy_behind, copy_block, copy_within, copy_in_use}
 use Rattle.nl_pseg.proofs.Images.{put_alone, put_crashes, shows_placed}
 use Rattle.nl_pseg.proofs.Moved.{moved, moved_clean, unmoved, unmoved_held}
 use Rattle.nl_pseg.proofs.States.{within_length}
 use Rattle.nl_pseg.proofs.Tables.{use_here}
+use Rattle.nl_pseg.proofs.Wearing.{wear_used}
 use Rattle.nl_pseg.proofs.state.State.land.Goals as goal
 
 -- as many pages as before
@@ -110,7 +111,7 @@ returns-in-Failed-clause-crash g c t =
     let at : after ≡ (seen s).copy_next = ap (λ n. s.target * n + s.filled) c.pages.ensures in
     let dead = copy_dead s is tied room in
     let block : after / s.blocks.size ≡ s.target = ap (λ n. n / s.blocks.size) at ∙ copy_block s is tied room in
-    let worn : c.wear-wear.result ≡ wear_of (seen s) (after / s.blocks.size) = c.wear-wear.ensures ∙ sym (ap (λ (b : ℕ). (use_in s.blocks b).wear) block ∙ ap (λ (u : Use). u.wear) (use_here s.blocks s.target tied.phases.target_in)) in
+    let worn : c.wear-wear.result ≡ wear_of (seen s) (after / s.blocks.size) = c.wear-wear.ensures ∙ sym (wear_used (use_in s.blocks (after / s.blocks.size)) (soiled (seen s) (after / s.blocks.size)) (ap (λ (b : ℕ). (use_in s.blocks b).is_kept) block ∙ copy_in_use s is tied room) ∙ (ap (λ (b : ℕ). (use_in s.blocks b).wear) block ∙ ap (λ (u : Use). u.wear) (use_here s.blocks s.target tied.phases.target_in))) in
     put_crashes (seen s) after c.args.held.tag c.args.held.stamp c.wear-wear.result c.args.buf.now.main c.args.buf.now.main c.program_page.result Fault (subst (IsDead (seen s)) (sym at) dead) tt
     (λ placed. absurd placed) refl worn c.program_page.ensures.shows c.program_page.ensures.crash (c.program_page.ensures.effect t) c.program_page.ensures.clock
 
@@ -195,7 +196,7 @@ returns-in-Done-clause-alone g c t =
     let old = g.M.Nand.contents c.args.media.now in
     let new = g.M.Nand.contents c.program_page.new.media in
     let block : after / s.blocks.size ≡ s.target = ap (λ n. n / s.blocks.size) at ∙ copy_block s is tied room in
-    let worn : c.wear-wear.result ≡ wear_of (seen s) (after / s.blocks.size) = c.wear-wear.ensures ∙ sym (ap (λ (b : ℕ). (use_in s.blocks b).wear) block ∙ ap (λ (u : Use). u.wear) (use_here s.blocks s.target tied.phases.target_in)) in
+    let worn : c.wear-wear.result ≡ wear_of (seen s) (after / s.blocks.size) = c.wear-wear.ensures ∙ sym (wear_used (use_in s.blocks (after / s.blocks.size)) (soiled (seen s) (after / s.blocks.size)) (ap (λ (b : ℕ). (use_in s.blocks b).is_kept) block ∙ copy_in_use s is tied room) ∙ (ap (λ (b : ℕ). (use_in s.blocks b).wear) block ∙ ap (λ (u : Use). u.wear) (use_here s.blocks s.target tied.phases.target_in))) in
     subst (λ w. IsAlone after (written (page_with c.args.buf.now.main c.args.held.tag c.args.held.stamp w)) old new) worn (put_alone (c.in-Done.ensures.effect t))
 
 pub returns-in-Done-clause-crash : goal.returns-in-Done-clause-crash
@@ -208,7 +209,7 @@ returns-in-Done-clause-crash g c t =
     let at : after ≡ (seen s).copy_next = ap (λ n. s.target * n + s.filled) c.pages.ensures in
     let dead = copy_dead s is tied room in
     let block : after / s.blocks.size ≡ s.target = ap (λ n. n / s.blocks.size) at ∙ copy_block s is tied room in
-    let worn : c.wear-wear.result ≡ wear_of (seen s) (after / s.blocks.size) = c.wear-wear.ensures ∙ sym (ap (λ (b : ℕ). (use_in s.blocks b).wear) block ∙ ap (λ (u : Use). u.wear) (use_here s.blocks s.target tied.phases.target_in)) in
+    let worn : c.wear-wear.result ≡ wear_of (seen s) (after / s.blocks.size) = c.wear-wear.ensures ∙ sym (wear_used (use_in s.blocks (after / s.blocks.size)) (soiled (seen s) (after / s.blocks.size)) (ap (λ (b : ℕ). (use_in s.blocks b).is_kept) block ∙ copy_in_use s is tied room) ∙ (ap (λ (b : ℕ). (use_in s.blocks b).wear) block ∙ ap (λ (u : Use). u.wear) (use_here s.blocks s.target tied.phases.target_in))) in
     put_crashes (seen s) after c.args.held.tag c.args.held.stamp c.wear-wear.result c.args.buf.now.main c.args.buf.now.main c.program_page.result (Placed (record { name = after; stamp = c.args.held.stamp })) (subst (IsDead (seen s)) (sym at) dead) refl
     (λ placed. c.in-Done.is) refl worn c.program_page.ensures.shows c.program_page.ensures.crash (c.program_page.ensures.effect t) c.program_page.ensures.clock
 

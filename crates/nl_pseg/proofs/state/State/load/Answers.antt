@@ -1,4 +1,4 @@
-use Rattle.std.proofs.Common.{◌≡◌, inl, inr, ⊎_elim, ◌+◌, ◌*◌, ◌/◌, ◌<◌, false, List, Option, Some, None, length, set, get_or, refl, sym, ◌∙◌, ap, subst, arith, unwrap_or}
+use Rattle.std.proofs.Common.{◌≡◌, inl, inr, ⊎_elim, ◌+◌, ◌*◌, ◌/◌, ◌<◌, false, List, Option, Some, None, length, set, get_or, refl, sym, ◌∙◌, ap, subst, arith}
 use Rattle.std.specs.Vec.{with_item}
 use Rattle.std.proofs.lemmas.List.{get_or-set_other}
 use Rattle.std.proofs.lemmas.Option.{none-some}
@@ -25,7 +25,7 @@ returns-clause-formed c =
     let is = c.close.ensures.formed in
     let block = c.args.page / c.pages.result in
     let t = c.mark.new.blocks in
-    let first = formed_restated s c.shut.new.blocks block c.wear-wear.result false is c.shut.ensures.restated c.close.ensures.idle (λ yes. absurd (true≢false (sym yes))) in
+    let first = formed_restated s c.shut.new.blocks block _ false is c.shut.ensures.restated c.close.ensures.idle (λ yes. absurd (true≢false (sym yes))) in
     let mid : State = record s { blocks = c.shut.new.blocks } in
     let same = c.mark.ensures.same in
     let active = λ (room : s.used < c.shut.new.blocks.size). c.mark.ensures.states s.active ∙ first.taken room in
@@ -54,14 +54,14 @@ returns-clause-formed c =
     formed_page mid first t same c.args.page (Some h) c.mark.ensures.marked below active
     (held_places c.args.page h (record { range_first = refl; range_blocks = refl; range_size = refl }) refl below place (λ b was. was) (λ p next. next) (use_places mid t first same))
 
-pub returns-clause-wear : goal.returns-clause-wear
-returns-clause-wear c =
-    let s = c.args.self.now in
+pub returns-clause-wears : goal.returns-clause-wears
+returns-clause-wears c b =
     let block = c.args.page / c.pages.result in
-    let same_block : c.args.page / s.blocks.size ≡ block = ap (λ k. c.args.page / k) (sym c.pages.ensures) in
-    let e : (use_in c.mark.new.blocks block).wear ≡ unwrap_or (get_or s.soiled.items block None) (use_in s.blocks block).wear =
-    ap (λ (u : Use). u.wear) (c.mark.ensures.same.uses block ∙ c.shut.ensures.restated.here) ∙ (c.wear-wear.ensures ∙ (λ i. unwrap_or (get_or (c.close.ensures.soiled i) block None) (use_in (c.close.ensures.table i) block).wear)) in
-    subst (λ b. (use_in c.mark.new.blocks b).wear ≡ unwrap_or (get_or s.soiled.items b None) (use_in s.blocks b).wear) (sym same_block) e
+    ap (λ (u : Use). u.wear) (c.mark.ensures.same.uses b) ∙ (⊎_elim
+    (λ at. ap (λ n. (use_in c.shut.new.blocks n).wear) at ∙ (ap (λ (u : Use). u.wear) c.shut.ensures.restated.here ∙ ap (λ n. (use_in c.close.new.self.blocks n).wear) (sym at)))
+    (λ ne. ap (λ (u : Use). u.wear) (c.shut.ensures.restated.others b ne))
+    (cases_eq b block)
+    ∙ ap (λ u. (use_in u b).wear) c.close.ensures.table)
 
 pub returns-clause-erased : goal.returns-clause-erased
 returns-clause-erased c p taken =

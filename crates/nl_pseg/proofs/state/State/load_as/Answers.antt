@@ -63,7 +63,6 @@ returns-then-at-page-clause-loads c =
       left = e.left;
       others = λ b ne. ((e.others b ne).1, (λ n. (e.others b ne).0));
       same_soiled = λ b. ap (λ (l : List (Option ℕ)). get_or l b None) e.soiled;
-      wear = e.wear;
       wears = e.wears;
       erased = e.erased;
       still = λ p taken ne next. e.still p taken ne;
@@ -114,8 +113,7 @@ returns-clause-loads c =
       left = let a = l.left in let b = e.left in omega (arith, a, b);
       others = λ b other. (l.kept b ∙ (e.others b other).1, (λ away. l.frees b (λ q. away (q ∙ nb)) ∙ (e.others b other).0));
       same_soiled = λ b. ap (λ (k : List (Option ℕ)). get_or k b None) (l.soiled ∙ e.soiled);
-      wear = l.wears (page / s.blocks.size) ∙ e.wear;
-      wears = λ b other. l.wears b ∙ e.wears b other;
+      wears = λ b. l.wears b ∙ e.wears b;
       erased = λ p taken. e.erased p (back p taken);
       still = λ p taken other away. ⊎_elim
           (λ next. inl (l.still p next (λ q. away (e.next p next) (ap (λ k. p / k) (sym size) ∙ (q ∙ nb)))))

@@ -5,7 +5,7 @@ use Rattle.nl_nand.specs.Nand.{Cut}
 use Rattle.nl_field.specs.declared.answers.Named.TheVariants.{Fault, Placed}
 use Rattle.nl_pseg.specs.Steps.{IsAlone}
 use Rattle.nl_pseg.specs.Pages.{page_with}
-use Rattle.nl_pseg.specs.Segment.{IsDead, IsNext, Use, wear_of}
+use Rattle.nl_pseg.specs.Segment.{IsDead, IsNext, Use, wear_of, soiled}
 use Rattle.nl_pseg.specs.Seen.{seen, use_in}
 use Rattle.nl_pseg.proofs.Images.{after_put, put_alone, put_crashes, shows_placed}
 use Rattle.nl_pseg.proofs.Placings.{used_failed, used_placed}
@@ -13,6 +13,7 @@ use Rattle.nl_pseg.proofs.Segments.{dead_next}
 use Rattle.nl_pseg.proofs.States.{is_next, next_block, next_in_use, next_segment, within_length}
 use Rattle.nl_pseg.proofs.Tables.{use_here}
 use Rattle.nl_pseg.proofs.Tied.{next_apart, next_copy, next_own}
+use Rattle.nl_pseg.proofs.Wearing.{wear_used}
 use Rattle.nl_pseg.proofs.state.State.put.Goals as goal
 
 pub returns-in-Failed-clause-placing : goal.returns-in-Failed-clause-placing
@@ -62,7 +63,7 @@ returns-in-Done-clause-alone g c t =
     let page = s.active * c.pages.result + s.used in
     let at : page ≡ (seen s).next = ap (λ n. s.active * n + s.used) c.pages.ensures in
     let next = subst (IsNext (seen s)) (sym at) (is_next s is c.requires.room) in
-    let worn : c.wear-wear.result ≡ wear_of (seen s) (page / s.blocks.size) = c.wear-wear.ensures ∙ sym (ap (λ (b : ℕ). (use_in s.blocks b).wear) (next_block s is c.requires.room page next) ∙ ap (λ (u : Use). u.wear) (use_here s.blocks s.active is.active_in)) in
+    let worn : c.wear-wear.result ≡ wear_of (seen s) (page / s.blocks.size) = c.wear-wear.ensures ∙ sym (wear_used (use_in s.blocks (page / s.blocks.size)) (soiled (seen s) (page / s.blocks.size)) (next_in_use s is c.requires.room page next) ∙ (ap (λ (b : ℕ). (use_in s.blocks b).wear) (next_block s is c.requires.room page next) ∙ ap (λ (u : Use). u.wear) (use_here s.blocks s.active is.active_in))) in
     let main = ap (λ (b : PageBytes). b.main) c.copy_from.ensures in
     subst (λ v. IsAlone page v (g.M.Nand.contents c.args.media.now) (g.M.Nand.contents c.program_page.new.media)) (λ i. written (page_with (main i) c.args.tag c.args.stamp (worn i))) (put_alone (c.in-Done.ensures.effect t))
 
@@ -74,7 +75,7 @@ returns-in-Done-clause-crash g c t =
     let at : page ≡ (seen s).next = ap (λ n. s.active * n + s.used) c.pages.ensures in
     let next = subst (IsNext (seen s)) (sym at) (is_next s is c.requires.room) in
     let dead : IsDead (seen s) page = record { within = next_segment s is c.requires.room page next; dead = dead_next (seen s) is.places page next; own = next_own s is c.requires.tied page next; apart = next_apart s is c.requires.tied c.requires.room page next } in
-    let worn : c.wear-wear.result ≡ wear_of (seen s) (page / s.blocks.size) = c.wear-wear.ensures ∙ sym (ap (λ (b : ℕ). (use_in s.blocks b).wear) (next_block s is c.requires.room page next) ∙ ap (λ (u : Use). u.wear) (use_here s.blocks s.active is.active_in)) in
+    let worn : c.wear-wear.result ≡ wear_of (seen s) (page / s.blocks.size) = c.wear-wear.ensures ∙ sym (wear_used (use_in s.blocks (page / s.blocks.size)) (soiled (seen s) (page / s.blocks.size)) (next_in_use s is c.requires.room page next) ∙ (ap (λ (b : ℕ). (use_in s.blocks b).wear) (next_block s is c.requires.room page next) ∙ ap (λ (u : Use). u.wear) (use_here s.blocks s.active is.active_in))) in
     put_crashes (seen s) page c.args.tag c.args.stamp c.wear-wear.result c.copy_from.new.self.main c.args.from.now.main c.program_page.result (Placed (record { name = page; stamp = c.args.stamp })) dead refl
     (λ placed. c.in-Done.is) (ap (λ (b : PageBytes). b.main) c.copy_from.ensures) worn c.program_page.ensures.shows c.program_page.ensures.crash (c.program_page.ensures.effect t) c.program_page.ensures.clock
 
@@ -86,6 +87,6 @@ returns-in-Failed-clause-crash g c t =
     let at : page ≡ (seen s).next = ap (λ n. s.active * n + s.used) c.pages.ensures in
     let next = subst (IsNext (seen s)) (sym at) (is_next s is c.requires.room) in
     let dead : IsDead (seen s) page = record { within = next_segment s is c.requires.room page next; dead = dead_next (seen s) is.places page next; own = next_own s is c.requires.tied page next; apart = next_apart s is c.requires.tied c.requires.room page next } in
-    let worn : c.wear-wear.result ≡ wear_of (seen s) (page / s.blocks.size) = c.wear-wear.ensures ∙ sym (ap (λ (b : ℕ). (use_in s.blocks b).wear) (next_block s is c.requires.room page next) ∙ ap (λ (u : Use). u.wear) (use_here s.blocks s.active is.active_in)) in
+    let worn : c.wear-wear.result ≡ wear_of (seen s) (page / s.blocks.size) = c.wear-wear.ensures ∙ sym (wear_used (use_in s.blocks (page / s.blocks.size)) (soiled (seen s) (page / s.blocks.size)) (next_in_use s is c.requires.room page next) ∙ (ap (λ (b : ℕ). (use_in s.blocks b).wear) (next_block s is c.requires.room page next) ∙ ap (λ (u : Use). u.wear) (use_here s.blocks s.active is.active_in))) in
     put_crashes (seen s) page c.args.tag c.args.stamp c.wear-wear.result c.copy_from.new.self.main c.args.from.now.main c.program_page.result Fault dead tt
     (λ placed. absurd placed) (ap (λ (b : PageBytes). b.main) c.copy_from.ensures) worn c.program_page.ensures.shows c.program_page.ensures.crash (c.program_page.ensures.effect t) c.program_page.ensures.clock

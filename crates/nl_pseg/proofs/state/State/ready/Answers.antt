@@ -19,6 +19,7 @@ use Rattle.nl_pseg.proofs.Tables.{free_kept, has_same, restated_again, restated_
 use Rattle.nl_pseg.proofs.Taken.{free_again, free_other}
 use Rattle.nl_pseg.proofs.Tied.{free_apart, free_own}
 use Rattle.nl_blocks.specs.declared.states.BlockState.TheVariants.{Active}
+use Rattle.nl_pseg.proofs.Wearing.{taken_clean, taken_soiled}
 use Rattle.nl_pseg.proofs.state.State.ready.Goals as goal
 
 pub aim-requires-clause-formed : goal.aim-requires-clause-formed
@@ -48,8 +49,8 @@ aim-requires-in-Done-clause-formed g c =
     let block = c.take_target-block.result in
     let has = c.take_target-block.ensures.has in
     let free = c.take_target-block.ensures.was_free in
-    let r = c.take_target-block.ensures.taken in
-    taken_formed s is block has free c.take_target-block.new.blocks r
+    let r = taken_soiled s c.take_target-block.new.blocks c.wear_out.new.blocks block free (sym c.is_soiled.ensures ∙ c.if-not-is_soiled.false) c.take_target-block.ensures.taken c.wear_out.ensures.worn in
+    taken_formed s is block has free c.wear_out.new.blocks r
 
 pub aim-requires-in-Done-clause-in_use : goal.aim-requires-in-Done-clause-in_use
 aim-requires-in-Done-clause-in_use g c p h held at =
@@ -58,7 +59,7 @@ aim-requires-in-Done-clause-in_use g c p h held at =
     let block = c.take_target-block.result in
     let has = c.take_target-block.ensures.has in
     let free = c.take_target-block.ensures.was_free in
-    let r = c.take_target-block.ensures.taken in
+    let r = taken_soiled s c.take_target-block.new.blocks c.wear_out.new.blocks block free (sym c.is_soiled.ensures ∙ c.if-not-is_soiled.false) c.take_target-block.ensures.taken c.wear_out.ensures.worn in
     free_dead s is block has free p h held (ap (λ n. p / n) (sym r.numbers.same_size) ∙ at)
 
 pub returns-then-not-is_soiled-clause-readied : goal.returns-then-not-is_soiled-clause-readied
@@ -68,7 +69,7 @@ returns-then-not-is_soiled-clause-readied g c =
     let block = c.take_target-block.result in
     let has = c.take_target-block.ensures.has in
     let free = c.take_target-block.ensures.was_free in
-    let r = c.take_target-block.ensures.taken in
+    let r = taken_clean s c.take_target-block.new.blocks block (sym c.is_soiled.ensures ∙ c.if-not-is_soiled.true) c.take_target-block.ensures.taken in
     let full : s.blocks.size ≤ s.filled = (let f = c.if-self-pages.false in let e = c.pages.ensures in omega (arith, f, e)) in
     subst (IsReadied (seen s)) (sym c.aim.ensures.aimed)
     (aimed_readied s is c.requires.tied c.take_target-block.new.blocks block c.count.ensures.table c.count-2.ensures.table full r free)
@@ -80,10 +81,10 @@ returns-in-Done-clause-readied g c =
     let block = c.take_target-block.result in
     let has = c.take_target-block.ensures.has in
     let free = c.take_target-block.ensures.was_free in
-    let r = c.take_target-block.ensures.taken in
+    let r = taken_soiled s c.take_target-block.new.blocks c.wear_out.new.blocks block free (sym c.is_soiled.ensures ∙ c.if-not-is_soiled.false) c.take_target-block.ensures.taken c.wear_out.ensures.worn in
     let full : s.blocks.size ≤ s.filled = (let f = c.if-self-pages.false in let e = c.pages.ensures in omega (arith, f, e)) in
     subst (IsReadied (seen s)) (sym c.aim-in-Done.ensures.aimed)
-    (aimed_readied s is c.requires.tied c.take_target-block.new.blocks block c.count.ensures.table c.count-2.ensures.table full r free)
+    (aimed_readied s is c.requires.tied c.wear_out.new.blocks block c.count.ensures.table c.count-in-Done.ensures.table full r free)
 
 pub returns-then-not-is_soiled-clause-medium : goal.returns-then-not-is_soiled-clause-medium
 returns-then-not-is_soiled-clause-medium g c t =
@@ -92,7 +93,7 @@ returns-then-not-is_soiled-clause-medium g c t =
     let block = c.take_target-block.result in
     let has = c.take_target-block.ensures.has in
     let free = c.take_target-block.ensures.was_free in
-    let r = c.take_target-block.ensures.taken in
+    let r = taken_clean s c.take_target-block.new.blocks block (sym c.is_soiled.ensures ∙ c.if-not-is_soiled.true) c.take_target-block.ensures.taken in
     let image = g.M.Nand.contents c.args.media.now in
     let clean : is_soiled (seen s) block ≡ false = sym c.is_soiled.ensures ∙ c.if-not-is_soiled.true in
     record {
@@ -110,7 +111,7 @@ returns-in-Done-clause-medium g c t =
     let block = c.take_target-block.result in
     let has = c.take_target-block.ensures.has in
     let free = c.take_target-block.ensures.was_free in
-    let r = c.take_target-block.ensures.taken in
+    let r = taken_soiled s c.take_target-block.new.blocks c.wear_out.new.blocks block free (sym c.is_soiled.ensures ∙ c.if-not-is_soiled.false) c.take_target-block.ensures.taken c.wear_out.ensures.worn in
     let pages = (g.M.Nand.geometry c.args.media.now).pages in
     let old = g.M.Nand.contents c.args.media.now in
     let dirty : is_soiled (seen s) block ≡ true = sym c.is_soiled.ensures ∙ c.if-not-is_soiled.false in
@@ -119,9 +120,9 @@ returns-in-Done-clause-medium g c t =
     let inside = λ (p : ℕ) (at : p / s.blocks.size ≡ block).
     (let w = in_block p s.blocks.size block is.some at in
     filled.inside p (subst (λ n. block * n ≤ p) (sym c.requires.fits.pages) w.0) (subst (λ n. p < block * n + n) (sym c.requires.fits.pages) w.1)) in
-    let next : (seen c.aim-in-Done.new.self).copy_next / s.blocks.size ≡ block = ap (λ (x : Physical). x.copy_next / s.blocks.size) c.aim-in-Done.ensures.aimed ∙ (let e = r.numbers.same_size in let a : block * c.take_target-block.new.blocks.size ≡ block * s.blocks.size = ap (λ n. block * n) e in block_of (block * c.take_target-block.new.blocks.size) s.blocks.size block (omega (arith, a)) (let some = is.some in omega (arith, a, some))) in
+    let next : (seen c.aim-in-Done.new.self).copy_next / s.blocks.size ≡ block = ap (λ (x : Physical). x.copy_next / s.blocks.size) c.aim-in-Done.ensures.aimed ∙ (let e = r.numbers.same_size in let a : block * c.wear_out.new.blocks.size ≡ block * s.blocks.size = ap (λ n. block * n) e in block_of (block * c.wear_out.new.blocks.size) s.blocks.size block (omega (arith, a)) (let some = is.some in omega (arith, a, some))) in
     record {
-      segment = subst (IsPhysicalOf (g.M.Nand.contents c.erase.new.self)) (sym c.aim-in-Done.ensures.aimed) (aimed_segment s is block has free c.take_target-block.new.blocks r (c.requires.segment t) (erase_others block pages s.blocks.size c.requires.fits.pages (filled_cut filled)) inside);
+      segment = subst (IsPhysicalOf (g.M.Nand.contents c.erase.new.self)) (sym c.aim-in-Done.ensures.aimed) (aimed_segment s is block has free c.wear_out.new.blocks r (c.requires.segment t) (erase_others block pages s.blocks.size c.requires.fits.pages (filled_cut filled)) inside);
       keeps = keep _ (filled_cut filled);
       crash = operation c.erase.result (λ i. Keeps (seen s) old i) c.erase.ensures.crash (c.erase.ensures.effect t) keep;
       others = λ done p. ⊎_elim
@@ -140,8 +141,7 @@ returns-in-Failed-clause-formed g c =
     let r = c.take_target-block.ensures.taken in
     let mid = c.take_target-block.new.blocks in
     let has_mid = has_same block r.numbers has in
-    let worn : c.wear-wear.result ≡ (use_in s.blocks block).wear = c.wear-wear.ensures ∙ (sym (ap (λ (u : Use). u.wear) (use_here mid block has_mid)) ∙ ap (λ (u : Use). u.wear) r.here) in
-    let again : Restated block true (use_in s.blocks block).wear mid c.give_back.new.blocks = subst (λ n. Restated block true n mid c.give_back.new.blocks) worn c.give_back.ensures in
+    let again : Restated block true (use_in s.blocks block).wear mid c.give_back.new.blocks = subst (λ n. Restated block true n mid c.give_back.new.blocks) (ap (λ (u : Use). u.wear) r.here) c.give_back.ensures in
     let both = restated_again r again in
     let same = restated_same (free_use s block is free) both in
     formed_same s c.give_back.new.blocks is same both.marks (λ room. both.states s.active is.active_in (free_other s.blocks block s.active Active has free refl (is.taken room)) ∙ is.taken room)
@@ -156,8 +156,7 @@ returns-in-Failed-clause-tied g c =
     let r = c.take_target-block.ensures.taken in
     let mid = c.take_target-block.new.blocks in
     let has_mid = has_same block r.numbers has in
-    let worn : c.wear-wear.result ≡ (use_in s.blocks block).wear = c.wear-wear.ensures ∙ (sym (ap (λ (u : Use). u.wear) (use_here mid block has_mid)) ∙ ap (λ (u : Use). u.wear) r.here) in
-    let again : Restated block true (use_in s.blocks block).wear mid c.give_back.new.blocks = subst (λ n. Restated block true n mid c.give_back.new.blocks) worn c.give_back.ensures in
+    let again : Restated block true (use_in s.blocks block).wear mid c.give_back.new.blocks = subst (λ n. Restated block true n mid c.give_back.new.blocks) (ap (λ (u : Use). u.wear) r.here) c.give_back.ensures in
     let both = restated_again r again in
     let same = restated_same (free_use s block is free) both in
     free_again s c.requires.tied c.give_back.new.blocks same block has free both.states
@@ -172,8 +171,7 @@ returns-in-Failed-clause-readied g c =
     let r = c.take_target-block.ensures.taken in
     let mid = c.take_target-block.new.blocks in
     let has_mid = has_same block r.numbers has in
-    let worn : c.wear-wear.result ≡ (use_in s.blocks block).wear = c.wear-wear.ensures ∙ (sym (ap (λ (u : Use). u.wear) (use_here mid block has_mid)) ∙ ap (λ (u : Use). u.wear) r.here) in
-    let again : Restated block true (use_in s.blocks block).wear mid c.give_back.new.blocks = subst (λ n. Restated block true n mid c.give_back.new.blocks) worn c.give_back.ensures in
+    let again : Restated block true (use_in s.blocks block).wear mid c.give_back.new.blocks = subst (λ n. Restated block true n mid c.give_back.new.blocks) (ap (λ (u : Use). u.wear) r.here) c.give_back.ensures in
     let both = restated_again r again in
     let same = restated_same (free_use s block is free) both in
     again_readied s is c.requires.tied c.give_back.new.blocks c.count.ensures.table c.count-in-Failed.ensures.table same both.marks
@@ -189,8 +187,7 @@ returns-in-Failed-clause-medium g c t =
     let full : s.blocks.size ≤ s.filled = (let f = c.if-self-pages.false in let e = c.pages.ensures in omega (arith, f, e)) in
     let mid = c.take_target-block.new.blocks in
     let has_mid = has_same block r.numbers has in
-    let worn : c.wear-wear.result ≡ (use_in s.blocks block).wear = c.wear-wear.ensures ∙ (sym (ap (λ (u : Use). u.wear) (use_here mid block has_mid)) ∙ ap (λ (u : Use). u.wear) r.here) in
-    let again : Restated block true (use_in s.blocks block).wear mid c.give_back.new.blocks = subst (λ n. Restated block true n mid c.give_back.new.blocks) worn c.give_back.ensures in
+    let again : Restated block true (use_in s.blocks block).wear mid c.give_back.new.blocks = subst (λ n. Restated block true n mid c.give_back.new.blocks) (ap (λ (u : Use). u.wear) r.here) c.give_back.ensures in
     let both = restated_again r again in
     let same = restated_same (free_use s block is free) both in
     let pages = (g.M.Nand.geometry c.args.media.now).pages in
@@ -218,3 +215,17 @@ returns-in-Failed-clause-clean g c clean =
     let block = c.take_target-block.result in
     let dirty : is_soiled (seen s) block ≡ true = sym c.is_soiled.ensures ∙ c.if-not-is_soiled.false in
     absurd (true≢false (sym dirty ∙ clean block (free_kept s.blocks block c.take_target-block.ensures.was_free)))
+
+pub aim-requires-in-Done-clause-targeted : goal.aim-requires-in-Done-clause-targeted
+aim-requires-in-Done-clause-targeted g c =
+    let s = c.args.self.now in
+    let r = restated_again c.take_target-block.ensures.taken c.wear_out.ensures.worn in
+    record {
+      table = s.blocks;
+      wear = _;
+      tied = c.requires.tied;
+      restated = r;
+      had = c.take_target-block.ensures.has;
+      was_free = c.take_target-block.ensures.was_free;
+      full = let f = c.if-self-pages.false in let e = c.pages.ensures in let n = r.numbers.same_size in omega (arith, f, e, n);
+    }

@@ -16,6 +16,7 @@ use Rattle.nl_pseg.proofs.Openings.{free_use, last_block, opened, opened_block, 
 use Rattle.nl_pseg.proofs.Tables.{free_kept, has_same, restated_again, restated_same, use_here}
 use Rattle.nl_pseg.proofs.Taken.{free_again}
 use Rattle.nl_pseg.proofs.Tied.{free_apart, free_copy, free_own}
+use Rattle.nl_pseg.proofs.Wearing.{taken_clean, taken_soiled}
 use Rattle.nl_pseg.proofs.state.State.start.Goals as goal
 
 pub write_to-requires-clause-formed : goal.write_to-requires-clause-formed
@@ -33,24 +34,25 @@ write_to-requires-clause-in_use g c p h named at =
 pub write_to-requires-in-Done-clause-formed : goal.write_to-requires-in-Done-clause-formed
 write_to-requires-in-Done-clause-formed g c =
     let s = c.args.self.now in
-    formed_restated s c.take-block.new.blocks c.take-block.result _ false c.requires.formed c.take-block.ensures.taken
+    formed_restated s c.wear_out.new.blocks c.take-block.result _ false c.requires.formed (restated_again c.take-block.ensures.taken c.wear_out.ensures.worn)
     (λ room. let full = c.if-self-pages.false in let e = c.pages.ensures in absurd (omega (arith, room, full, e))) (λ yes. absurd (true≢false (sym yes)))
 
 pub write_to-requires-in-Done-clause-in_use : goal.write_to-requires-in-Done-clause-in_use
 write_to-requires-in-Done-clause-in_use g c p h named at =
     let s = c.args.self.now in
-    let here : p / s.blocks.size ≡ c.take-block.result = ap (λ n. p / n) (sym c.take-block.ensures.taken.numbers.same_size) ∙ at in
+    let here : p / s.blocks.size ≡ c.take-block.result = ap (λ n. p / n) (sym (restated_again c.take-block.ensures.taken c.wear_out.ensures.worn).numbers.same_size) ∙ at in
     true≢false (sym (free_kept s.blocks c.take-block.result c.take-block.ensures.was_free) ∙ (ap (is_kept (seen s)) (sym here) ∙ (c.requires.formed.places.each p h named).in_use))
 
 pub returns-then-not-is_soiled-clause-opening : goal.returns-then-not-is_soiled-clause-opening
 returns-then-not-is_soiled-clause-opening g c =
     let s = c.args.self.now in
     let full : s.blocks.size ≤ s.used = (let f = c.if-self-pages.false in let e = c.pages.ensures in omega (arith, f, e)) in
-    let formed = formed_restated s c.take-block.new.blocks c.take-block.result _ false c.requires.formed c.take-block.ensures.taken (λ room. absurd (omega (arith, room, full))) (λ yes. absurd (true≢false (sym yes))) in
+    let r = taken_clean s c.take-block.new.blocks c.take-block.result (sym c.is_soiled.ensures ∙ c.if-not-is_soiled.true) c.take-block.ensures.taken in
+    let formed = formed_restated s c.take-block.new.blocks c.take-block.result _ false c.requires.formed r (λ room. absurd (omega (arith, room, full))) (λ yes. absurd (true≢false (sym yes))) in
     inr (
       c.take-block.result,
       subst (IsOpened c.take-block.result (seen s)) (sym c.write_to.ensures.opened)
-          (opened s c.take-block.new.blocks c.take-block.result c.requires.formed full (two_free _ s.used _ full c.requires.room) c.take-block.ensures.taken c.take-block.ensures.was_free formed),
+          (opened s c.take-block.new.blocks c.take-block.result c.requires.formed full (two_free _ s.used _ full c.requires.room) r c.take-block.ensures.was_free formed),
     )
 
 pub returns-then-not-is_soiled-clause-medium : goal.returns-then-not-is_soiled-clause-medium
@@ -59,9 +61,10 @@ returns-then-not-is_soiled-clause-medium g c t =
     let is = c.requires.formed in
     let block = c.take-block.result in
     let full : s.blocks.size ≤ s.used = (let f = c.if-self-pages.false in let e = c.pages.ensures in omega (arith, f, e)) in
-    let formed = formed_restated s c.take-block.new.blocks block _ false is c.take-block.ensures.taken (λ room. absurd (omega (arith, room, full))) (λ yes. absurd (true≢false (sym yes))) in
+    let r = taken_clean s c.take-block.new.blocks block (sym c.is_soiled.ensures ∙ c.if-not-is_soiled.true) c.take-block.ensures.taken in
+    let formed = formed_restated s c.take-block.new.blocks block _ false is r (λ room. absurd (omega (arith, room, full))) (λ yes. absurd (true≢false (sym yes))) in
     let o : IsOpened block (seen s) (seen c.write_to.new.self) = subst (IsOpened block (seen s)) (sym c.write_to.ensures.opened)
-    (opened s c.take-block.new.blocks block is full (two_free _ s.used _ full c.requires.room) c.take-block.ensures.taken c.take-block.ensures.was_free formed) in
+    (opened s c.take-block.new.blocks block is full (two_free _ s.used _ full c.requires.room) r c.take-block.ensures.was_free formed) in
     let image = g.M.Nand.contents c.args.media.now in
     let clean : is_soiled (seen s) block ≡ false = sym c.is_soiled.ensures ∙ c.if-not-is_soiled.true in
     record {
@@ -76,11 +79,12 @@ pub returns-in-Done-clause-opening : goal.returns-in-Done-clause-opening
 returns-in-Done-clause-opening g c =
     let s = c.args.self.now in
     let full : s.blocks.size ≤ s.used = (let f = c.if-self-pages.false in let e = c.pages.ensures in omega (arith, f, e)) in
-    let formed = formed_restated s c.take-block.new.blocks c.take-block.result _ false c.requires.formed c.take-block.ensures.taken (λ room. absurd (omega (arith, room, full))) (λ yes. absurd (true≢false (sym yes))) in
+    let r = taken_soiled s c.take-block.new.blocks c.wear_out.new.blocks c.take-block.result c.take-block.ensures.was_free (sym c.is_soiled.ensures ∙ c.if-not-is_soiled.false) c.take-block.ensures.taken c.wear_out.ensures.worn in
+    let formed = formed_restated s c.wear_out.new.blocks c.take-block.result _ false c.requires.formed r (λ room. absurd (omega (arith, room, full))) (λ yes. absurd (true≢false (sym yes))) in
     inr (
       c.take-block.result,
       subst (IsOpened c.take-block.result (seen s)) (sym c.write_to-in-Done.ensures.opened)
-          (opened s c.take-block.new.blocks c.take-block.result c.requires.formed full (two_free _ s.used _ full c.requires.room) c.take-block.ensures.taken c.take-block.ensures.was_free formed),
+          (opened s c.wear_out.new.blocks c.take-block.result c.requires.formed full (two_free _ s.used _ full c.requires.room) r c.take-block.ensures.was_free formed),
     )
 
 pub returns-in-Done-clause-medium : goal.returns-in-Done-clause-medium
@@ -89,9 +93,10 @@ returns-in-Done-clause-medium g c t =
     let is = c.requires.formed in
     let block = c.take-block.result in
     let full : s.blocks.size ≤ s.used = (let f = c.if-self-pages.false in let e = c.pages.ensures in omega (arith, f, e)) in
-    let formed = formed_restated s c.take-block.new.blocks block _ false is c.take-block.ensures.taken (λ room. absurd (omega (arith, room, full))) (λ yes. absurd (true≢false (sym yes))) in
+    let r = taken_soiled s c.take-block.new.blocks c.wear_out.new.blocks block c.take-block.ensures.was_free (sym c.is_soiled.ensures ∙ c.if-not-is_soiled.false) c.take-block.ensures.taken c.wear_out.ensures.worn in
+    let formed = formed_restated s c.wear_out.new.blocks block _ false is r (λ room. absurd (omega (arith, room, full))) (λ yes. absurd (true≢false (sym yes))) in
     let o : IsOpened block (seen s) (seen c.write_to-in-Done.new.self) = subst (IsOpened block (seen s)) (sym c.write_to-in-Done.ensures.opened)
-    (opened s c.take-block.new.blocks block is full (two_free _ s.used _ full c.requires.room) c.take-block.ensures.taken c.take-block.ensures.was_free formed) in
+    (opened s c.wear_out.new.blocks block is full (two_free _ s.used _ full c.requires.room) r c.take-block.ensures.was_free formed) in
     let pages = (g.M.Nand.geometry c.args.media.now).pages in
     let filled = c.in-Done.ensures.effect t in
     let dirty : is_soiled (seen s) block ≡ true = sym c.is_soiled.ensures ∙ c.if-not-is_soiled.false in
@@ -118,8 +123,7 @@ returns-in-Failed-clause-formed g c =
     let mid = c.take-block.new.blocks in
     let r = c.take-block.ensures.taken in
     let has = has_same block r.numbers c.take-block.ensures.has in
-    let worn : c.wear-wear.result ≡ (use_in s.blocks block).wear = c.wear-wear.ensures ∙ (sym (ap (λ (u : Use). u.wear) (use_here mid block has)) ∙ ap (λ (u : Use). u.wear) r.here) in
-    let back : Restated block true (use_in s.blocks block).wear mid c.give_back.new.blocks = subst (λ n. Restated block true n mid c.give_back.new.blocks) worn c.give_back.ensures in
+    let back : Restated block true (use_in s.blocks block).wear mid c.give_back.new.blocks = subst (λ n. Restated block true n mid c.give_back.new.blocks) (ap (λ (u : Use). u.wear) r.here) c.give_back.ensures in
     let same = restated_same (free_use s block is c.take-block.ensures.was_free) (restated_again r back) in
     formed_same s c.give_back.new.blocks is same (restated_again r back).marks (λ room. let f = c.if-self-pages.false in let e = c.pages.ensures in absurd (omega (arith, room, f, e)))
 
@@ -131,8 +135,7 @@ returns-in-Failed-clause-opening g c =
     let mid = c.take-block.new.blocks in
     let r = c.take-block.ensures.taken in
     let has = has_same block r.numbers c.take-block.ensures.has in
-    let worn : c.wear-wear.result ≡ (use_in s.blocks block).wear = c.wear-wear.ensures ∙ (sym (ap (λ (u : Use). u.wear) (use_here mid block has)) ∙ ap (λ (u : Use). u.wear) r.here) in
-    let back : Restated block true (use_in s.blocks block).wear mid c.give_back.new.blocks = subst (λ n. Restated block true n mid c.give_back.new.blocks) worn c.give_back.ensures in
+    let back : Restated block true (use_in s.blocks block).wear mid c.give_back.new.blocks = subst (λ n. Restated block true n mid c.give_back.new.blocks) (ap (λ (u : Use). u.wear) r.here) c.give_back.ensures in
     let same = restated_same (free_use s block is c.take-block.ensures.was_free) (restated_again r back) in
     let dirty : is_soiled (seen s) block ≡ true = sym c.is_soiled.ensures ∙ c.if-not-is_soiled.false in (
       same_pages s c.give_back.new.blocks same,
@@ -153,8 +156,7 @@ returns-in-Failed-clause-medium g c t =
     let mid = c.take-block.new.blocks in
     let r = c.take-block.ensures.taken in
     let has = has_same block r.numbers c.take-block.ensures.has in
-    let worn : c.wear-wear.result ≡ (use_in s.blocks block).wear = c.wear-wear.ensures ∙ (sym (ap (λ (u : Use). u.wear) (use_here mid block has)) ∙ ap (λ (u : Use). u.wear) r.here) in
-    let back : Restated block true (use_in s.blocks block).wear mid c.give_back.new.blocks = subst (λ n. Restated block true n mid c.give_back.new.blocks) worn c.give_back.ensures in
+    let back : Restated block true (use_in s.blocks block).wear mid c.give_back.new.blocks = subst (λ n. Restated block true n mid c.give_back.new.blocks) (ap (λ (u : Use). u.wear) r.here) c.give_back.ensures in
     let same = restated_same (free_use s block is c.take-block.ensures.was_free) (restated_again r back) in
     let pages = (g.M.Nand.geometry c.args.media.now).pages in
     let cut = c.in-Failed.ensures.effect t in
@@ -173,6 +175,7 @@ write_to-requires-clause-taking g c =
     let s = c.args.self.now in
     record {
       table = s.blocks;
+      wear = _;
       tied = c.requires.tied;
       restated = c.take-block.ensures.taken;
       had = c.take-block.ensures.has;
@@ -183,13 +186,15 @@ write_to-requires-clause-taking g c =
 pub write_to-requires-in-Done-clause-taking : goal.write_to-requires-in-Done-clause-taking
 write_to-requires-in-Done-clause-taking g c =
     let s = c.args.self.now in
+    let r = restated_again c.take-block.ensures.taken c.wear_out.ensures.worn in
     record {
       table = s.blocks;
+      wear = _;
       tied = c.requires.tied;
-      restated = c.take-block.ensures.taken;
+      restated = r;
       had = c.take-block.ensures.has;
       was_free = c.take-block.ensures.was_free;
-      full = let f = c.if-self-pages.false in let e = c.pages.ensures in let n = c.take-block.ensures.taken.numbers.same_size in omega (arith, f, e, n);
+      full = let f = c.if-self-pages.false in let e = c.pages.ensures in let n = r.numbers.same_size in omega (arith, f, e, n);
     }
 
 pub returns-in-Failed-clause-tied : goal.returns-in-Failed-clause-tied
@@ -200,8 +205,7 @@ returns-in-Failed-clause-tied g c =
     let mid = c.take-block.new.blocks in
     let r = c.take-block.ensures.taken in
     let has = has_same block r.numbers c.take-block.ensures.has in
-    let worn : c.wear-wear.result ≡ (use_in s.blocks block).wear = c.wear-wear.ensures ∙ (sym (ap (λ (u : Use). u.wear) (use_here mid block has)) ∙ ap (λ (u : Use). u.wear) r.here) in
-    let back : Restated block true (use_in s.blocks block).wear mid c.give_back.new.blocks = subst (λ n. Restated block true n mid c.give_back.new.blocks) worn c.give_back.ensures in
+    let back : Restated block true (use_in s.blocks block).wear mid c.give_back.new.blocks = subst (λ n. Restated block true n mid c.give_back.new.blocks) (ap (λ (u : Use). u.wear) r.here) c.give_back.ensures in
     let whole = restated_again r back in
     free_again s c.requires.tied c.give_back.new.blocks (restated_same (free_use s block is c.take-block.ensures.was_free) whole) block c.take-block.ensures.has c.take-block.ensures.was_free whole.states
 

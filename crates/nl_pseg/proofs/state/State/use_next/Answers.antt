@@ -1,6 +1,6 @@
 use Rattle.std.proofs.Common.{◌≡◌, inl, inr, ⊎_elim, ◌+◌, ◌-◌, ◌*◌, ◌<◌, ◌^◌, length, set, refl, sym, ◌∙◌, ap, subst, arith, length-set, ne_eqb, eq-eqb, cond, is_some, Option, Some, None}
 use Rattle.std.specs.Vec.{with_item}
-use Rattle.nl_pseg.specs.Segment.{Use}
+use Rattle.nl_pseg.specs.Segment.{Use, soiled, wear_with}
 use Rattle.nl_pseg.specs.Seen.{seen, state_for}
 use Rattle.nl_pseg.specs.Steps.{IsMarked, IsUsed}
 use Rattle.nl_blocks.specs.declared.states.PageState.TheVariants.{Dead, Live}
@@ -31,7 +31,7 @@ returns-clause-formed c =
         same_first = n.same_first;
         same_blocks = λ i. n.same_first i + n.same_count i;
         same_size = n.same_size;
-        same_wear = λ b. ap (λ (u : Use). u.wear) (same.uses b);
+        same_wear = λ b. ap (λ (u : Use). wear_with u (soiled (seen s) b)) (same.uses b);
       };
       held = ap (λ k. set s.held.items k c.args.held) at;
       next = ap (λ k. s.active * k + (s.used + 1)) n.same_size ∙ omega arith;

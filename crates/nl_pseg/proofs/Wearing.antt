@@ -1,0 +1,51 @@
+-- How often a block was erased as a page of it is programmed next.
+use Rattle.std.proofs.Common.{◌≡◌, ⊎_elim, ℕ, ◌&&◌, Bool, true, false, cond, Option, None, get_or, set, is_some, refl, sym, ◌∙◌, ap, subst}
+use Rattle.std.proofs.lemmas.Bool.{cases_Bool, cases_eq, true≢false}
+use Rattle.std.proofs.lemmas.List.{get_or-set_other}
+use Rattle.nl_blocks.specs.Table.{Table, worn}
+use Rattle.nl_pseg.specs.Segment.{Use, is_soiled, soiled, wear_of, wear_with}
+use Rattle.nl_pseg.specs.Seen.{seen, use_in}
+use Rattle.nl_pseg.specs.Steps.{Restated}
+use Rattle.nl_pseg.specs.declared.state.State.{State}
+use Rattle.nl_pseg.proofs.Tables.{free_kept, restated_again}
+
+-- a block that is not kept is not Free
+pub used_free : (t : Table) (block : ℕ) → (use_in t block).is_kept ≡ false → (use_in t block).is_free ≡ false
+used_free t block used = ⊎_elim (λ free. absurd (true≢false (sym (free_kept t block free) ∙ used))) (λ no. no) (cases_Bool (use_in t block).is_free)
+
+-- a block in use
+pub wear_used : (u : Use) (told : Option ℕ) → u.is_kept ≡ false → wear_with u told ≡ u.wear
+wear_used u told used = ap (λ b. cond (b && is_some told) (worn u.wear) u.wear) used
+
+-- a block that is not soiled
+pub wear_clean : (u : Use) (told : Option ℕ) → is_some told ≡ false → wear_with u told ≡ u.wear
+wear_clean u told clean = ap (λ b. cond (u.is_kept && b) (worn u.wear) u.wear) clean ∙ by u.is_kept
+  where
+    by : (b : Bool) → cond (b && false) (worn u.wear) u.wear ≡ u.wear
+    by true = refl
+    by false = refl
+
+-- a block that is kept and soiled
+pub wear_soiled : (u : Use) (told : Option ℕ) → u.is_kept ≡ true → is_some told ≡ true → wear_with u told ≡ worn u.wear
+wear_soiled u told kept is = (λ i. cond (kept i && is i) (worn u.wear) u.wear)
+
+-- a block that is as kept, as soiled, and was erased as often
+pub wear_same : (a b : Use) (told now : Option ℕ) → b.is_kept ≡ a.is_kept → b.wear ≡ a.wear → now ≡ told → wear_with b now ≡ wear_with a told
+wear_same a b told now kept wear marks = (λ i. cond (kept i && is_some (marks i)) (worn (wear i)) (wear i))
+
+-- A Free block was taken, and erased where it was soiled.
+pub taken_wear : (s : State) (t : Table) (block : ℕ) → Restated block false (wear_of (seen s) block) s.blocks t → (b : ℕ) → wear_with (use_in t b) (get_or (set s.soiled.items block None) b None) ≡ wear_of (seen s) b
+taken_wear s t block r b = ⊎_elim
+    (λ at. wear_used (use_in t b) (get_or (set s.soiled.items block None) b None) (ap (λ n. (use_in t n).is_kept) at ∙ ap (λ (u : Use). u.is_kept) r.here)
+    ∙ (ap (λ n. (use_in t n).wear) at ∙ (ap (λ (u : Use). u.wear) r.here ∙ ap (wear_of (seen s)) (sym at))))
+    (λ ne. (λ i. wear_with (r.others b ne i) (get_or-set_other s.soiled.items block b None None ne i)))
+    (cases_eq b block)
+
+-- a Free block was taken that is not soiled
+pub taken_clean : (s : State) (t : Table) (block : ℕ) → is_soiled (seen s) block ≡ false → Restated block false (use_in s.blocks block).wear s.blocks t → Restated block false (wear_of (seen s) block) s.blocks t
+taken_clean s t block clean r = subst (λ n. Restated block false n s.blocks t) (sym (wear_clean (use_in s.blocks block) (soiled (seen s) block) clean)) r
+
+-- a soiled one was taken, and erased
+pub taken_soiled : (s : State) (mid t : Table) (block : ℕ) → (use_in s.blocks block).is_free ≡ true → is_soiled (seen s) block ≡ true → Restated block false (use_in s.blocks block).wear s.blocks mid → Restated block false (worn (use_in mid block).wear) mid t
+    → Restated block false (wear_of (seen s) block) s.blocks t
+taken_soiled s mid t block free is r out = subst (λ n. Restated block false n s.blocks t) (ap (λ (u : Use). worn u.wear) r.here ∙ sym (wear_soiled (use_in s.blocks block) (soiled (seen s) block) (free_kept s.blocks block free) is)) (restated_again r out)
