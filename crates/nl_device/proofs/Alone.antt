@@ -11,12 +11,21 @@ use Rattle.std.proofs.lemmas.List.Sums.{list_all-from_AllPass}
 use Rattle.std.proofs.lemmas.Option.{get_or_from_slice_get, none-some, same_Some, slice_get_within}
 use Rattle.nl_field.specs.declared.pointer.Pointer.{Pointer}
 use Rattle.nl_device.specs.Kept.{IsKept, IsOfSegment, KeptPages, copies_of, copy_apart, spare_among}
-use Rattle.nl_device.specs.Marks.{is_alone, lie_in, marked}
+use Rattle.nl_device.specs.Marks.{marked}
 use Rattle.nl_device.specs.declared.kept.copies.Copies.{Copies}
 use Rattle.nl_device.specs.declared.kept.page.KeptPage.{KeptPage}
 use Rattle.nl_device.proofs.Lookups.{is_number, number_is, other_number, same_number}
 use Rattle.nl_device.proofs.Places.{first_found}
 use Rattle.nl_device.proofs.Ranges.{find_same_range}
+
+-- its pages lie in this block only
+abbrev pub lie_in : ℕ → ℕ → Option Copies → Bool
+lie_in size block None = false
+lie_in size block (Some c) = not (is_some c.apart) && c.first / size == block
+
+-- the pages of the stamp lie in this block only
+unfoldable pub is_alone : ℕ → List KeptPage → ℕ → ℕ → Bool
+is_alone size pages block stamp = lie_in size block (copies_of size pages stamp)
 
 -- an element of the list that passes
 pub record Passes {X : Type 0} (p : X → Bool) (xs : List X) (x : X) : Type 0 where

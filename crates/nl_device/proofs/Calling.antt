@@ -2,9 +2,9 @@
 use Rattle.std.proofs.Common.{◌≡◌, ◌≢◌, inl, ⊎_elim, ℕ, zero, suc, ◌+◌, ◌*◌, ◌≤◌, ◌==◌, ◌&&◌, ◌||◌, Bool, true, false, not, cond, List, [], ◌∷◌, length, Some, None, refl, sym, ◌∙◌, ap, subst, arith, eq-eqb, ne_eqb, eqb-true}
 use Rattle.std.specs.Prelude.{Contains, filter}
 use Rattle.std.specs.List.{list_any}
-use Rattle.std.proofs.lemmas.Bool.{cases_eq, true≢false}
-use Rattle.std.proofs.lemmas.Option.{none-some}
-use Rattle.nl_callbacks.specs.Pending.{IsTable, PendingTable, entry_at}
+use Rattle.std.proofs.lemmas.Bool.{cases_eq, cond-false, cond-true, true≢false}
+use Rattle.std.proofs.lemmas.Option.{none-some, same_Some}
+use Rattle.nl_callbacks.specs.Pending.{IsTable, PendingTable, beside_stamp, entry_at}
 use Rattle.nl_callbacks.specs.declared.entry.Entry.{Entry}
 use Rattle.nl_field.specs.Live.{resolve}
 use Rattle.nl_iface.specs.Names.{Has, callbacks_beside}
@@ -13,8 +13,10 @@ use Rattle.nl_pseg.specs.Segment.{IsOldName, Physical, held_at, without_target}
 use Rattle.nl_pseg.specs.Space.{IsWhole}
 use Rattle.nl_pseg.specs.declared.held.Held.{Held}
 use Rattle.nl_device.specs.Callbacks.{AreCalled, callbacks_of, handled_in, is_led}
+use Rattle.nl_device.specs.Device.{HasLive}
 use Rattle.nl_device.specs.State.{has_at, led_by, old_or}
-use Rattle.nl_device.proofs.Lists.{filter_all, has_kept, kept_handled, kept_has, kept_list}
+use Rattle.nl_callbacks.proofs.Filters.{filter_all}
+use Rattle.nl_device.proofs.Lists.{filter_same, has_kept, kept_handled, kept_has, kept_list}
 
 -- the pairs that lead to another page
 pub beside_of : (xs : List (ℕ × ℕ)) (place n t : ℕ) → Contains (without_target place xs) (n, t) → Contains xs (n, t) × (t ≢ place)
@@ -137,6 +139,30 @@ module _ (old new : Physical) (place : ℕ) (t : PendingTable) (called : AreCall
         room = room ∙ (called.room ∙ ap (λ n. 4 * n) (sym size));
       }
 
+  -- the old name of a callback that led to the page leads to no other page
+  gone_own : (c : Callback) → Contains old.pairs (c.before, place) → resolve new.pairs c.before ≡ c.before
+  gone_own c pair = ⊎_elim
+      (λ same. same)
+      (λ led. let k = pair_back c.before (resolve new.pairs c.before) led in absurd (k.1 (sym (led_by old.pairs c.before (resolve new.pairs c.before) was.pages.one_target k.0) ∙ led_by old.pairs c.before place was.pages.one_target pair)))
+      (old_or new.pairs c.before)
+
+  -- they are those of the page's stamp
+  pub led_by_stamp : HasLive old → (h : Held) → held_at old place ≡ Some h → beside_stamp t.callbacks h.stamp ≡ filter (is_led new.pairs) t.callbacks
+  led_by_stamp live h here = filter_same (λ e. not (e.callback.stamp == h.stamp)) (is_led new.pairs) t.callbacks (λ i within.
+      let c = (entry_at t.callbacks i).callback in
+      let has = has_at t.callbacks i within in
+      let o = called.old c has in
+      let to = led_by old.pairs c.before o.0 was.pages.one_target o.1 in
+      let told = called.told c has in
+      ⊎_elim
+      (λ (same : c.stamp ≡ h.stamp).
+      let at : o.0 ≡ place = sym to ∙ live.differ (resolve old.pairs c.before) place (record { tag = c.tag; stamp = c.stamp }) h told here same in
+      ap not (eq-eqb c.stamp h.stamp same) ∙ sym (ap not (eq-eqb (resolve new.pairs c.before) c.before (gone_own c (subst (λ x. Contains old.pairs (c.before, x)) at o.1)))))
+      (λ (far : c.stamp ≢ h.stamp).
+      let away : o.0 ≢ place = λ at. far (ap (λ (x : Held). x.stamp) (same_Some (record { tag = c.tag; stamp = c.stamp }) h (sym told ∙ (ap (held_at old) (to ∙ at) ∙ here)))) in
+      ap not (ne_eqb c.stamp h.stamp far) ∙ sym (away_true c (o.0, pair_on c.before o.0 o.1 away)))
+      (cases_eq c.stamp h.stamp))
+
   -- they are those whose names led to the page
   pub pending_less : (u : PendingTable) → u.callbacks ≡ filter (is_led new.pairs) t.callbacks → callbacks_of u.callbacks ≡ callbacks_beside old.pairs (callbacks_of t.callbacks) place
   pending_less u kept = ap callbacks_of kept ∙ kept_list (led_test new.pairs) (λ c. not (list_any (λ pair. pair.0 == c.before && pair.1 == place) old.pairs)) t.callbacks agree
@@ -147,31 +173,24 @@ module _ (old new : Physical) (place : ℕ) (t : PendingTable) (called : AreCall
           ⊎_elim
           (λ (here : o.0 ≡ place).
           let pair = subst (λ x. Contains old.pairs (c.before, x)) here o.1 in
-          let own : resolve new.pairs c.before ≡ c.before = ⊎_elim (λ same. same)
-          (λ led. let k = pair_back c.before (resolve new.pairs c.before) led in absurd (k.1 (sym (led_by old.pairs c.before (resolve new.pairs c.before) was.pages.one_target k.0) ∙ led_by old.pairs c.before place was.pages.one_target pair)))
-          (old_or new.pairs c.before) in
-          ap not (eq-eqb (resolve new.pairs c.before) c.before own) ∙ sym (ap not (leads_there old.pairs c.before place pair)))
+          ap not (eq-eqb (resolve new.pairs c.before) c.before (gone_own c pair)) ∙ sym (ap not (leads_there old.pairs c.before place pair)))
           (λ (far : o.0 ≢ place).
           away_true c (o.0, pair_on c.before o.0 o.1 far)
           ∙ sym (ap not (leads_elsewhere old.pairs c.before place (λ pair. far (sym (led_by old.pairs c.before o.0 was.pages.one_target o.1) ∙ led_by old.pairs c.before place was.pages.one_target pair)))))
           (cases_eq o.0 place)
 
-  -- where none led to the page all stay
-  pub none_gone : ((n : ℕ) → Contains old.pairs (n, place) → ⊥) → filter (is_led new.pairs) t.callbacks ≡ t.callbacks
-  none_gone off = filter_all (is_led new.pairs) t.callbacks (λ i within.
-      let c = (entry_at t.callbacks i).callback in
-      let o = called.old c (has_at t.callbacks i within) in
-      away_true c (o.0, pair_on c.before o.0 o.1 (λ same. off c.before (subst (λ x. Contains old.pairs (c.before, x)) same o.1))))
-
   pub handled_less : (u : PendingTable) → u.callbacks ≡ filter (is_led new.pairs) t.callbacks → (c : Callback) → Has (callbacks_of u.callbacks) c → handled_in u.callbacks c.number ≡ handled_in t.callbacks c.number
   handled_less u kept c has = ap (λ l. handled_in l c.number) kept ∙ kept_handled (led_test new.pairs) t.callbacks called.numbers.rising c (subst (λ l. Has (callbacks_of l) c) kept has)
 
--- where no name is gone all callbacks stay
-pub all_led : (seg : Physical) (t : PendingTable) (pairs : List (ℕ × ℕ)) → pairs ≡ seg.pairs → AreCalled seg t → IsWhole seg → filter (is_led pairs) t.callbacks ≡ t.callbacks
-all_led seg t pairs same called whole = ap (λ l. filter (is_led l) t.callbacks) same ∙ filter_all (is_led seg.pairs) t.callbacks (λ i within.
-    let c = (entry_at t.callbacks i).callback in
-    let has = has_at t.callbacks i within in
-    ap not (ne_eqb (resolve seg.pairs c.before) c.before (λ own. whole.pages.own c.before (record { tag = c.tag; stamp = c.stamp }) (ap (held_at seg) (sym own) ∙ called.told c has) (called.old c has))))
+-- what is cancelled where a page is gone: the callbacks of its stamp, and so of the names that led to it
+pub gone_led : (old new : Physical) (place : ℕ) (t : PendingTable) → AreCalled old t → IsWhole old → IsWhole new → new.pairs ≡ without_target place old.pairs → HasLive old → (h : Held) → held_at old place ≡ Some h → (stamp : ℕ) → h.stamp ≡ stamp
+    → (gone : Bool) → gone ≡ true → (es : List Entry) → es ≡ cond gone (beside_stamp t.callbacks stamp) t.callbacks → es ≡ filter (is_led new.pairs) t.callbacks
+gone_led old new place t called was is pairs live h here stamp same gone yes_gone es cancelled =
+    cancelled ∙ (cond-true gone (beside_stamp t.callbacks stamp) t.callbacks yes_gone
+    ∙ (ap (λ s. beside_stamp t.callbacks s) (sym same) ∙ led_by_stamp old new place t called was is pairs live h here))
+
+pub none_cancelled : (stamp : ℕ) (t : PendingTable) (gone : Bool) → gone ≡ false → (es : List Entry) → es ≡ cond gone (beside_stamp t.callbacks stamp) t.callbacks → es ≡ t.callbacks
+none_cancelled stamp t gone un es cancelled = cancelled ∙ cond-false gone (beside_stamp t.callbacks stamp) t.callbacks un
 
 -- where no page is live there is no old name, and no callback is pending
 pub none_called : (seg : Physical) (t : PendingTable) → AreCalled seg t → ((page : ℕ) → held_at seg page ≡ None) → t.callbacks ≡ []

@@ -1,7 +1,8 @@
 -- What a copy leaves at a stop, and what it leaves where it failed or moved nothing.
-use Rattle.std.proofs.Common.{◌≡◌, ◌⊎◌, inl, inr, ◌*◌, ◌≤◌, ◌∙◌, ℕ, arith, Bool, false, List, Option, Some, None, get_or, length, refl, sym, ap, subst}
+use Rattle.std.proofs.Common.{◌≡◌, ◌⊎◌, inl, inr, ⊎_elim, ◌+◌, ◌*◌, ◌<◌, ◌≤◌, ◌∙◌, ℕ, arith, Bool, false, List, Option, Some, None, get_or, length, refl, sym, ap, subst}
 use Rattle.std.specs.Bool.{OnFalse, OnTrue}
 use Rattle.nl_callbacks.specs.Pending.{PendingTable}
+use Rattle.nl_field.specs.CrashStates.{saturated, top}
 use Rattle.nl_field.specs.Page.{Image, page_at}
 use Rattle.nl_field.specs.declared.shape.Shape.{Shape}
 use Rattle.nl_iface.specs.Left.{LeavesTried}
@@ -14,7 +15,7 @@ use Rattle.nl_iface.specs.Stored.{stored_in}
 use Rattle.nl_nand.specs.Nand.{ImageOf}
 use Rattle.nl_nand.specs.declared.geometry.Geometry.{Geometry}
 use Rattle.nl_iface.specs.Counting.{EitherCounted}
-use Rattle.nl_pseg.specs.Cleaning.{Begins, CountedMove, IsChosen, MovesNone}
+use Rattle.nl_pseg.specs.Cleaning.{Begins, CountedMove, IsChosen, IsMoved, MovesNone}
 use Rattle.nl_pseg.specs.declared.cleaned.Copied.{Copied as Answer}
 use Rattle.nl_pseg.specs.declared.cleaned.Copied.TheVariants as the
 use Rattle.nl_pseg.specs.Effects.{Keeps, Places}
@@ -28,6 +29,9 @@ use Rattle.nl_device.specs.Device.{IsDevice}
 use Rattle.nl_device.specs.Kept.{KeptPages}
 use Rattle.nl_device.specs.Shown.{bytes_at, live_page}
 use Rattle.nl_device.specs.Space.{space_of}
+use Rattle.nl_device.specs.Ticks.{CopyTicks}
+use Rattle.nl_device.specs.declared.cleaning.Copying.{Copying}
+use Rattle.nl_device.specs.declared.cleaning.Copying.TheVariants as now
 use Rattle.nl_device.proofs.Forms.{begins}
 use Rattle.nl_device.proofs.Idle.{in_hand}
 use Rattle.nl_device.proofs.Leaving.{names_in}
@@ -101,3 +105,27 @@ begun_medium g un (inr began) = began.0.medium
 -- a medium that is kept is kept in cleaning
 pub still_cleans : {D : Type 0} (g : Ghosts D) {old new : D} → KeepsMedium g old new → KeepsCleaning g old new
 still_cleans g m = record { virtual = m.virtual; bytes = λ t q page is. m.bytes t q; clean = m.clean; next_stamp = m.next_stamp; clock = let e = m.clock in omega (arith, e) }
+
+-- what it finishes
+pub copy_ticks : {D : Type 0} (g : Ghosts D) {old new : D} {M : Type 0} {clock reads writes : M → ℕ} {clean : Type 0} {m n : M} {answer : Answer} → CountedMove clock reads writes clean m n answer → clock m ≡ g.clock old → clock n ≡ g.clock new
+    → (g.clean old → clean) → (MovesPage g old new → IsMoved answer) → ((MovesPage g old new → ⊥) → (IsMoved answer → ⊥) ⊎ (g.clock new ≡ g.clock old)) → CopyTicks g old new
+copy_ticks g {old} {new} {M} {clock} counts was is clean moved none = record {
+  never_falls = (let later = counts.later in omega (arith, later, was, is));
+  at_most_two = (let few = counts.few in omega (arith, few, was, is));
+  moved = λ m low. (let less = counts.moved (moved m) (subst (λ x. x < top) (sym was) low) in omega (arith, less, was, is));
+  program_alone = λ c m. sym is ∙ (counts.one (clean c) (moved m) ∙ ap (λ x. saturated (x + 1)) was);
+  none_moved = λ c un. ⊎_elim (λ unmoved. sym is ∙ (counts.none (clean c) unmoved ∙ was)) (λ same. same) (none un);
+}
+
+-- which numbers a copy lost
+abbrev pub lost_wanted : Copying → ℕ
+lost_wanted now.Did = 0
+lost_wanted now.Nothing = 0
+lost_wanted (now.Lost w f) = w
+lost_wanted now.Fault = 0
+
+abbrev pub lost_found : Copying → ℕ
+lost_found now.Did = 0
+lost_found now.Nothing = 0
+lost_found (now.Lost w f) = f
+lost_found now.Fault = 0

@@ -10,11 +10,13 @@ pub mod Counted
 pub mod Dropping
 pub mod FewMoved
 pub mod Firm
+pub mod FormedLaws
 pub mod Forms
 pub mod Found
 pub mod FoundStored
 pub mod Gathered
 pub mod KeptLive
+pub mod Groups
 pub mod Handling
 pub mod Idle
 pub mod Keys

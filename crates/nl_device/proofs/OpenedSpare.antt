@@ -10,7 +10,8 @@ use Rattle.nl_scan.specs.Tables.{IsTableOf, Table}
 use Rattle.nl_vseg.proofs.Members.{In, any_from, filter_from, filter_to}
 use Rattle.nl_vseg.proofs.Newest.{from_pages}
 use Rattle.nl_device.specs.Opening.{Tabulates, needed_of, spread_in}
-use Rattle.nl_device.specs.Spread.{AreGrouped, GroupLiesIn, IsSpread, by_key, spare_of, spread_more}
+use Rattle.nl_device.specs.Spread.{by_key, spare_of, spread_more}
+use Rattle.nl_device.proofs.Groups.{AreGrouped, GroupLiesIn, IsSpread}
 use Rattle.nl_device.specs.declared.opening.own.Own.{Own}
 use Rattle.nl_device.specs.declared.opening.spare.Spread.{Spread}
 use Rattle.nl_device.specs.declared.opening.spare.Spread.TheVariants.{Nowhere}

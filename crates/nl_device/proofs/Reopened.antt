@@ -11,30 +11,30 @@ use Rattle.nl_iface.specs.Moves.{Retains}
 use Rattle.nl_iface.specs.Names.{Has, LivePage, Names}
 use Rattle.nl_device.specs.Reopened.{AreTagged, only_running}
 
-listed : (xs : List (Tag × Pointer)) (h : Tag × Pointer) → Has xs h → Has (map tagged xs) (tagged h)
+pub listed : (xs : List (Tag × Pointer)) (h : Tag × Pointer) → Has xs h → Has (map tagged xs) (tagged h)
 listed [] h has = absurd has
 listed (x ∷ xs) h (inl same) = inl (ap tagged same)
 listed (x ∷ xs) h (inr has) = inr (listed xs h has)
 
-same_one : (s t : ℕ) → s ≡ t → one s t ≡ 1
+pub same_one : (s t : ℕ) → s ≡ t → one s t ≡ 1
 same_one s t same = ap (λ b. cond b 1 0) (eq-eqb s t same)
 
-other_one : (s t : ℕ) → s ≢ t → one s t ≡ 0
+pub other_one : (s t : ℕ) → s ≢ t → one s t ≡ 0
 other_one s t apart = ap (λ b. cond b 1 0) (ne_eqb s t apart)
 
-some_time : (xs : List (Tag × Pointer)) (p : Pointer) → Has (map tagged xs) p → 1 ≤ times tagged p.stamp xs
+pub some_time : (xs : List (Tag × Pointer)) (p : Pointer) → Has (map tagged xs) p → 1 ≤ times tagged p.stamp xs
 some_time [] p has = absurd has
 some_time (x ∷ xs) p (inl same) = let here = same_one (tagged x).stamp p.stamp (ap (λ (q : Pointer). q.stamp) same) in omega (arith, here)
 some_time (x ∷ xs) p (inr has) = let rest = some_time xs p has in omega (arith, rest)
 
-no_time : (xs : List (Tag × Pointer)) (s : ℕ) → ((i : ℕ) (d : Pointer) → i < length (map tagged xs) → (get_or (map tagged xs) i d).stamp ≢ s) → times tagged s xs ≡ 0
+pub no_time : (xs : List (Tag × Pointer)) (s : ℕ) → ((i : ℕ) (d : Pointer) → i < length (map tagged xs) → (get_or (map tagged xs) i d).stamp ≢ s) → times tagged s xs ≡ 0
 no_time [] s off = refl
 no_time (x ∷ xs) s off =
     let here = other_one (tagged x).stamp s (off zero (tagged x) (omega arith)) in
     let rest = no_time xs s (λ i d within. off (suc i) d (omega (arith, within))) in
     omega (arith, here, rest)
 
-once : (xs : List (Tag × Pointer)) (s : ℕ) → AllPairs (λ (p q : Pointer). p.stamp ≢ q.stamp) (map tagged xs) → times tagged s xs ≤ 1
+pub once : (xs : List (Tag × Pointer)) (s : ℕ) → AllPairs (λ (p q : Pointer). p.stamp ≢ q.stamp) (map tagged xs) → times tagged s xs ≤ 1
 once [] s differ = omega arith
 once (x ∷ xs) s differ = ⊎_elim
     (λ (same : (tagged x).stamp ≡ s).

@@ -23,7 +23,8 @@ use Rattle.nl_field.specs.declared.seen.Seen.{Seen}
 use Rattle.nl_vseg.specs.Segment.{Segment}
 use Rattle.nl_device.specs.Device.{HasFound, HasLive, HasSegments, HasSpareBlock, IsDevice}
 use Rattle.nl_device.specs.Kept.{KeptPages, kept_pages}
-use Rattle.nl_device.specs.Retain.{IsFoundIn, IsFresh, IsSegmentFor}
+use Rattle.nl_device.specs.Retain.{IsFresh, IsSegmentFor}
+use Rattle.nl_device.proofs.Retaining.{IsFoundIn}
 use Rattle.nl_device.specs.Shown.{bytes_at, found_in, live_page, names_of}
 use Rattle.nl_device.specs.Space.{live_in, space_of}
 use Rattle.nl_device.specs.declared.kept.page.KeptPage.{KeptPage}

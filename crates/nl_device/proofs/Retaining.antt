@@ -15,7 +15,7 @@ use Rattle.nl_pseg.specs.Segment.{InSegment, Physical, held_at, is_kept}
 use Rattle.nl_pseg.specs.Space.{waiting}
 use Rattle.nl_pseg.specs.declared.held.Held.{Held}
 use Rattle.nl_device.specs.Kept.{IsKept, KeptPages, place_among, spare_among}
-use Rattle.nl_device.specs.Retain.{CanLoad, CanRetain, HasCalled, HasLoaded, IsFoundIn, IsFresh, IsSegmentFor, Loads, held_for, is_moved, is_taken, lies_in, needed_blocks, owns_name, place_for, retained_at, spare_for}
+use Rattle.nl_device.specs.Retain.{CanLoad, CanRetain, HasCalled, HasLoaded, IsFresh, IsSegmentFor, Loads, held_for, is_moved, is_taken, lies_in, needed_blocks, owns_name, place_for, retained_at, spare_for}
 use Rattle.nl_device.specs.declared.kept.copies.Copies.{Copies}
 use Rattle.nl_device.specs.declared.kept.page.KeptPage.{KeptPage}
 use Rattle.nl_device.specs.Space.{live_in}
@@ -26,6 +26,11 @@ use Rattle.nl_device.proofs.Loading.{IsThere, in_segment, owned, place_is, there
 use Rattle.nl_device.proofs.Lookups.{is_number, other_number}
 use Rattle.nl_device.proofs.Living.{no_old}
 use Rattle.nl_device.proofs.Spacing.{one_more}
+
+-- what is live on a page was found there
+pub record IsFoundIn (kept : KeptPages) (seg : Physical) (page : ℕ) (h : Held) : Type 0 where
+  pub within : InSegment seg page
+  pub found : find (λ k. k.page == page) kept.pages ≡ Some (record { page = page; stamp = h.stamp; tag = h.tag })
 
 module _ (kept : KeptPages) (copies : BTreeMap ℕ Copies) (pointers : List Pointer) (is : IsKept kept copies) (can : CanRetain kept pointers) where
   abbrev Listed : ℕ → Pointer → Type 0

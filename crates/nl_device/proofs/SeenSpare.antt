@@ -20,7 +20,8 @@ use Rattle.nl_vseg.specs.Places.{place_of}
 use Rattle.nl_vseg.specs.Segment.{KeepsSpare, Segment}
 use Rattle.nl_vseg.specs.declared.place.Place.{Place}
 use Rattle.nl_device.specs.Opening.{IsOpenedVirtual, Tabulates, first_outside, needed_of, newest_of, or_else, owns_of, pick_of, place_on, spread_in}
-use Rattle.nl_device.specs.Spread.{AreGrouped, GroupLiesIn, IsSpread, is_alone_in, spare_of, spread_at}
+use Rattle.nl_device.specs.Spread.{is_alone_in, spare_of}
+use Rattle.nl_device.proofs.Groups.{AreGrouped, GroupLiesIn, IsSpread, spread_at}
 use Rattle.nl_device.specs.declared.opening.own.Own.{Own}
 use Rattle.nl_device.specs.declared.opening.spare.Spread.{Spread}
 use Rattle.nl_device.specs.declared.opening.spare.Spread.TheVariants.{Nowhere, In as Inside, Several}

@@ -6,7 +6,8 @@ use Rattle.std.proofs.lemmas.Bool.{and_parts, and_from, cases_Bool, cases_eq, co
 use Rattle.nl_field.specs.Medium.{Readable}
 use Rattle.nl_field.specs.Space.{spare_block}
 use Rattle.nl_vseg.proofs.Members.{In, any_from, any_to}
-use Rattle.nl_device.specs.Spread.{AreGrouped, FindsSpare, GroupLiesIn, IsOneOf, IsSpread, by_key, is_alone_in, spare_of, spread_at, spread_more}
+use Rattle.nl_device.specs.Spread.{by_key, is_alone_in, spare_of, spread_more}
+use Rattle.nl_device.proofs.Groups.{AreGrouped, FindsSpare, GroupLiesIn, IsOneOf, IsSpread, spread_at}
 use Rattle.nl_device.specs.declared.opening.spare.Spread.{Spread}
 use Rattle.nl_device.specs.declared.opening.spare.Spread.TheVariants.{Nowhere, In as InBlock, Several}
 use Rattle.nl_device.proofs.Ranges.{find_same_range}

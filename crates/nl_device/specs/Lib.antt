@@ -1,6 +1,7 @@
 pub mod Callbacks
 pub mod Copies
 pub mod Device
+pub mod DeviceLaws
 pub mod Kept
 pub mod Laws
 pub mod Marks
@@ -15,3 +16,4 @@ pub mod Spread
 pub mod Stamps
 pub mod Started
 pub mod State
+pub mod Ticks

@@ -8,12 +8,3 @@ use Rattle.nl_device.specs.declared.kept.page.KeptPage.{KeptPage}
 abbrev pub marked : ℕ → ℕ → Option Copies → List Bool → List Bool
 marked first size None marks = marks
 marked first size (Some c) marks = if is_some c.apart then marks else slice_set marks (c.first / size - first) true
-
--- its pages lie in this block only
-abbrev pub lie_in : ℕ → ℕ → Option Copies → Bool
-lie_in size block None = false
-lie_in size block (Some c) = not (is_some c.apart) && c.first / size == block
-
--- the pages of the stamp lie in this block only
-unfoldable pub is_alone : ℕ → List KeptPage → ℕ → ℕ → Bool
-is_alone size pages block stamp = lie_in size block (copies_of size pages stamp)

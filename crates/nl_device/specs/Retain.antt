@@ -116,11 +116,6 @@ pub record CanRetain (kept : KeptPages) (pointers : List Pointer) : Type 0 where
   pub own : All (λ p. owns_name kept p ≡ true) pointers
   pub few_lost : length (filter (is_lost kept) pointers) ≤ 3 * kept.size
 
--- what is live on a page was found there
-pub record IsFoundIn (kept : KeptPages) (seg : Physical) (page : ℕ) (h : Held) : Type 0 where
-  pub within : InSegment seg page
-  pub found : find (λ k. k.page == page) kept.pages ≡ Some (record { page = page; stamp = h.stamp; tag = h.tag })
-
 -- One pointer can be loaded: it has a place, which is neither live nor an old name, and its stamp is not live. Where its place is not
 -- its name, there is room for a pair and a callback, and the name is neither live nor an old name.
 pub record CanLoad (kept : KeptPages) (spare : Option ℕ) (p : Pointer) (seg : Physical) (t : PendingTable) : Type 0 where

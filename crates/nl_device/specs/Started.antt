@@ -25,13 +25,14 @@ IfMemory (Ready d t) P = ⊤
 IfMemory (Fault m) P = ⊤
 IfMemory (Memory m) P = P m
 
--- What a device has after a start: the numbers of its medium; no page under a name, and nothing that leads to one; no block in hand; each block of the
+-- What a device has after a start: the numbers of its medium; no page under a name, nothing that leads to one, and no callback posted; no block in hand; each block of the
 -- segment Free, and room in all but one; and the stamp after the greatest that was seen.
 pub record IsStarted (geometry : Geometry) (t : Table) (shape : Shape) (names : Names) (next : ℕ) : Type 0 where
   pub numbers : shape ≡ shape_for geometry.blocks geometry.pages
   pub live : (p : ℕ) → names.live p ≡ None
   pub pairs : names.pairs ≡ []
   pub pending : names.pending ≡ []
+  pub posted : names.posted ≡ 0
   pub victim : names.space.victim ≡ 0
   pub free : names.space.free ≡ shape.pblocks
   pub room : names.space.room + names.space.block ≡ names.space.all

@@ -1,6 +1,6 @@
-ghost use Rattle.std.specs.Prelude.{◌≡◌, ◌≢◌, ◌+◌, ◌≤◌, ◌==◌, ◌||◌, not, ℕ, [], filter, length, IfNone, IfSome, true, false};
-ghost use Rattle.nl_callbacks.specs.Pending.{IsTable, number_of, unacknowledged};
-ghost use Rattle.nl_device.specs.Callbacks.{AreCalled, DropsNames, IsUnhandled, NamesDiffer, is_led};
+ghost use Rattle.std.specs.Prelude.{◌≡◌, ◌≢◌, ◌+◌, ◌≤◌, if◌then◌else◌, ℕ, [], length, IfNone, IfSome, true, false};
+ghost use Rattle.nl_callbacks.specs.Pending.{IsTable, beside_stamp, unacknowledged};
+ghost use Rattle.nl_device.specs.Callbacks.{AreCalled, DropsNames, IsUnhandled, NamesDiffer};
 ghost use Rattle.nl_pseg.specs.Space.{IsWhole};
 ghost use Rattle.nl_iface.specs.Calls.{KeepsMedium};
 ghost use Rattle.nl_iface.specs.Moves.{Acknowledges, Marks};
@@ -26,37 +26,18 @@ fn drop_over(pending: &mut Pending, pseg: &mut PSeg, upto: u64)
     }
 }
 
-/// Takes the callback of this number away, where its old name leads to no other page.
-fn cancel_one(pending: &mut Pending, pseg: &PSeg, number: u64)
+/// Where a page is gone, takes away each callback of it, which has its stamp.
+pub fn cancel_gone(pending: &mut Pending, stamp: u64, gone: bool)
     requires numbers { IsTable pending.old.callbacks pending.old.posted }
     requires names { NamesDiffer pending.old.callbacks }
     ensures numbers { IsTable pending.new.callbacks pending.new.posted }
-    ensures callbacks { pending.new.callbacks ≡ filter (λ e. is_led pseg.now.pairs e || not (number_of e == number)) pending.old.callbacks }
+    ensures callbacks { pending.new.callbacks ≡ if gone then beside_stamp pending.old.callbacks stamp else pending.old.callbacks }
     ensures posted { pending.new.posted ≡ pending.old.posted }
     ensures room { length pending.new.callbacks + pending.new.room ≡ length pending.old.callbacks + pending.old.room }
 {
-    if let Some(callback) = pending.get(number) {
-        if pseg.resolve(callback.before) == callback.before {
+    if gone {
+        'each: while let Some(callback) = pending.of_stamp(stamp) {
             pending.cancel(callback.before);
-        }
-    }
-}
-
-/// Takes away each callback whose old name leads to no other page, where there may be `some`.
-pub fn cancel_gone(pending: &mut Pending, pseg: &PSeg, some: bool)
-    requires numbers { IsTable pending.old.callbacks pending.old.posted }
-    requires names { NamesDiffer pending.old.callbacks }
-    requires none { some ≡ false → filter (is_led pseg.now.pairs) pending.old.callbacks ≡ pending.old.callbacks }
-    ensures numbers { IsTable pending.new.callbacks pending.new.posted }
-    ensures callbacks { pending.new.callbacks ≡ filter (is_led pseg.now.pairs) pending.old.callbacks }
-    ensures posted { pending.new.posted ≡ pending.old.posted }
-    ensures room { length pending.new.callbacks + pending.new.room ≡ length pending.old.callbacks + pending.old.room }
-{
-    if some {
-        let mut number = 0;
-        'each: while let Some(next) = pending.above(number) {
-            cancel_one(pending, pseg, next);
-            number = next;
         }
     }
 }

@@ -1,8 +1,9 @@
 ghost use Rattle.std.specs.Prelude.{◌≡◌, ◌↔◌, ◌⊎◌, ◌+◌, ◌*◌, ◌<◌, ◌≤◌, ℕ, IsTrue, Some, true, false};
-ghost use Rattle.nl_device.specs.Medium.{CannotLevel};
+ghost use Rattle.nl_device.specs.Medium.{CannotLevel, HasColdBlock};
+ghost use Rattle.nl_device.specs.Ticks.{CopyTicks};
 ghost use Rattle.nl_field.specs.CrashStates.{Earlier, Rose, saturated};
-ghost use Rattle.nl_iface.specs.Calls.{CallCounted, KeepsMedium, OnlyReads};
-ghost use Rattle.nl_iface.specs.Moves.{Begins, Copies, EraseFails, ErasesAtStops, ErasesVictim, FailsToCopy, HasCopied, HasNothingToCopy, KeepsCleaning, LeavesMove, MovesPage};
+ghost use Rattle.nl_iface.specs.Calls.{CallCounted, KeepsMedium, OnlyReads, stored};
+ghost use Rattle.nl_iface.specs.Moves.{Begins, Copies, EraseFails, ErasesAtStops, ErasesVictim, FailsToCopy, HasCopied, HasNothingToCopy, KeepsCleaning, LeavesErased, LeavesMove, MovesPage};
 ghost use Rattle.nl_iface.specs.Names.{LivePage};
 ghost use Rattle.nl_iface.specs.Space.{CanLand};
 ghost use Rattle.nl_nand.specs.Nand.{FaultsCounted};
@@ -35,6 +36,7 @@ impl<M: Nand> Device<M> {
         ensures none { result ≡ false → OnlyReads ⟦<Device<M> as Counts>⟧ self.old self.new }
         ensures exactly { IsTrue result ↔ (CannotLevel self.old → ⊥) }
         ensures cannot { let space = (⟦<Device<M> as Counts>⟧.names self.old).space in (space.victim ≡ 1) ⊎ ((2 * space.block < space.pairs) ⊎ (space.free ≡ 0)) → result ≡ false }
+        ensures cold { let space = (⟦<Device<M> as Counts>⟧.names self.old).space in space.victim ≡ 0 → space.pairs ≤ 2 * space.block → 1 ≤ space.free → IsTrue result ↔ HasColdBlock self.old }
         ensures read_faults { ⟦<Device<M> as Counts>⟧.read_faults self.new ≡ ⟦<Device<M> as Counts>⟧.read_faults self.old }
     {
         self.pseg.begin(true)
@@ -55,6 +57,7 @@ impl<M: Nand> Device<M> {
         ensures left { M.tells → LeavesMove ⟦<Device<M> as Counts>⟧ (MovesPage ⟦<Device<M> as Counts>⟧ self.old self.new) (λ c. Copies c (⟦<Device<M> as Counts>⟧.names self.old) (⟦<Device<M> as Counts>⟧.names self.new)) self.old self.new ⊎ KeepsMedium ⟦<Device<M> as Counts>⟧ self.old self.new }
         ensures lands { Rose (⟦<Device<M> as Counts>⟧.write_faults self.old) (⟦<Device<M> as Counts>⟧.write_faults self.new) ⊎ CanLand (⟦<Device<M> as Counts>⟧.names self.new).space }
         ensures kept { KeepsCleaning ⟦<Device<M> as Counts>⟧ self.old self.new }
+        ensures clock { CopyTicks ⟦<Device<M> as Counts>⟧ self.old self.new }
         ensures later { MovesPage ⟦<Device<M> as Counts>⟧ self.old self.new → Earlier (⟦<Device<M> as Counts>⟧.clock self.old) (⟦<Device<M> as Counts>⟧.clock self.new) }
         ensures faults { CallCounted ⟦<Device<M> as Counts>⟧ (result ≡ Copying.Fault) self.old self.new }
     {
@@ -91,7 +94,8 @@ impl<M: Nand> Device<M> {
     }
 
     /// Erases the victim, where no page of it is live: its block is Free, or waits for the old names that stand in it. `Nothing`
-    /// exactly where no victim without live pages is in hand; `Fault` only where the erase failed, and then the victim stays in hand.
+    /// exactly where no victim without live pages is in hand; `Fault` only where the erase failed, and then the victim stays in hand; what it leaves of each page
+    /// is what a stop within an erase may leave.
     pub fn erase(&mut self) -> Erasure
         requires formed { ⟦<Device<M> as Counts>⟧.formed self.old }
         ensures formed { ⟦<Device<M> as Counts>⟧.formed self.new }
@@ -100,6 +104,7 @@ impl<M: Nand> Device<M> {
         ensures done { result ≡ Erasure.Done → ErasesVictim ⟦<Device<M> as Counts>⟧ self.old self.new }
         ensures failed { result ≡ Erasure.Fault → EraseFails (⟦<Device<M> as Counts>⟧.names self.old).space (⟦<Device<M> as Counts>⟧.names self.new).space }
         ensures same { (result ≡ Erasure.Done → ⊥) → ⟦<Device<M> as Counts>⟧.names self.new ≡ ⟦<Device<M> as Counts>⟧.names self.old }
+        ensures now { M.tells → result ≡ Erasure.Fault → LeavesErased (⟦<Device<M> as Counts>⟧.names self.old) (⟦<Device<M> as Counts>⟧.bytes self.old) (stored ⟦<Device<M> as Counts>⟧ self.old) (stored ⟦<Device<M> as Counts>⟧ self.new) }
         ensures left { M.tells → ErasesAtStops ⟦<Device<M> as Counts>⟧ self.old self.new }
         ensures kept { KeepsCleaning ⟦<Device<M> as Counts>⟧ self.old self.new }
         ensures clock { (result ≡ Erasure.Done → ⟦<Device<M> as Counts>⟧.clock self.new ≡ saturated (⟦<Device<M> as Counts>⟧.clock self.old + 1)) × ((result ≡ Erasure.Done → ⊥) → ⟦<Device<M> as Counts>⟧.clock self.new ≡ ⟦<Device<M> as Counts>⟧.clock self.old) }

@@ -5,6 +5,7 @@ mod callbacks;
 mod cleaning;
 mod counts;
 mod device;
+pub mod formed_laws;
 mod kept;
 mod marks;
 mod named_pages;

@@ -2,7 +2,7 @@ ghost use Rattle.nl_device.specs.Laws.{leaves_as, names_as, state_is};
 
 use crate::callbacks::cancel_gone;
 use crate::device::Device;
-use crate::stamps::{is_tried, stamp_after};
+use crate::stamps::{is_placed, is_tried, stamp_after};
 use nl_field::{Named, NamedRead, PageBuf, Pointer, Tag};
 use nl_iface::NamedPages;
 use nl_nand::Nand;
@@ -25,13 +25,12 @@ impl<M: Nand> NamedPages for Device<M> {
     }
 
     fn nameless_overwrite(&mut self, old: Pointer, tag: Tag, from: &PageBuf) -> Named {
-        let place = self.pseg.resolve(old.name);
-        let moved = self.pseg.name_of(place).is_some();
         let answer = self
             .pseg
             .nameless_overwrite(&mut self.media, old, tag, from, self.next);
         let taken = is_tried(&answer);
-        cancel_gone(&mut self.pending, &self.pseg, moved);
+        let gone = is_placed(&answer);
+        cancel_gone(&mut self.pending, old.stamp, gone);
         self.kept.forget_after(taken);
         self.next = stamp_after(self.next, taken);
         answer
@@ -42,10 +41,8 @@ impl<M: Nand> NamedPages for Device<M> {
     }
 
     fn free(&mut self, at: Pointer) -> bool {
-        let place = self.pseg.resolve(at.name);
-        let moved = self.pseg.name_of(place).is_some();
         let freed = self.pseg.free(at);
-        cancel_gone(&mut self.pending, &self.pseg, moved);
+        cancel_gone(&mut self.pending, at.stamp, freed);
         freed
     }
 

@@ -1,6 +1,7 @@
 ghost use Rattle.std.specs.Prelude.{◌≡◌, ◌↔◌, ◌⊎◌, ◌+◌, ◌<◌, ◌^◌, IsTrue, cond};
 ghost use Rattle.nl_field.specs.CrashStates.{Rose};
 ghost use Rattle.nl_device.specs.Stamps.{is_tried};
+ghost use Rattle.nl_pseg.specs.Answers.{is_placed};
 
 use nl_field::{Named, VirtualWrite};
 
@@ -36,5 +37,15 @@ pub fn is_tried(answer: &Named) -> bool
     match *answer {
         Named::Placed(_) | Named::Fault => true,
         Named::NotLive | Named::NoPage => false,
+    }
+}
+
+/// Whether a page was placed.
+pub fn is_placed(answer: &Named) -> bool
+    ensures { result ≡ is_placed answer.now }
+{
+    match *answer {
+        Named::Placed(_) => true,
+        Named::Fault | Named::NotLive | Named::NoPage => false,
     }
 }

@@ -113,9 +113,9 @@ impl Rig {
             && self.counts() == (3, 1)
     }
 
-    /// A block that is to be erased is not the first one that is used.
-    fn uses_another(&mut self) -> bool {
-        self.free_blocks() == 24 && self.write(0) == Some(288) && self.counts() == (1, 1)
+    /// No block was erased yet, so the one of least number is used, which is to be erased first.
+    fn uses_it_again(&mut self) -> bool {
+        self.free_blocks() == 24 && self.write(0) == Some(256) && self.counts() == (2, 1)
     }
 }
 
@@ -157,14 +157,14 @@ fn given_back(alloc: Global) -> Result<Rig, Fail> {
     Ok(rig)
 }
 
-fn uses_another(alloc: Global) -> Result<bool, Fail> {
+fn uses_it_again(alloc: Global) -> Result<bool, Fail> {
     let mut rig = given_back(alloc)?;
-    Ok(rig.uses_another())
+    Ok(rig.uses_it_again())
 }
 
 #[test]
 fn blocks_are_given_back(rt: HostRuntime) -> Result<(), Fail> {
-    assert!(rt; uses_another(rt.alloc())?);
+    assert!(rt; uses_it_again(rt.alloc())?);
     Ok(())
 }
 

@@ -249,25 +249,25 @@ fn answers(rig: &mut Rig, left: Left, next: u32) -> Option<(usize, Seen)> {
 /// Of an erased block five pages stay, five are erased, five are uncorrectable, and so on.
 const BY_FIVES: Cut = Cut::Mixed(205465758716988);
 
-/// Where a cleaning stops, with which cut, what is left then, and the name of the next page after an opening. The pages of a block that
-/// does not read as erased are given out after those of the other ones.
+/// Where a cleaning stops, with which cut, what is left then, and the name of the next page after an opening. No block has a wear then,
+/// so the Free one of least number is used next, also where it is to be erased first.
 const STOPS: [(u64, Cut, Left, u32); 15] = [
     (34, Cut::Before, Left::Written, 320),
-    (34, Cut::After, Left::OneCopied, 352),
-    (34, Cut::Spoilt, Left::Written, 352),
-    (35, Cut::Before, Left::OneCopied, 352),
-    (35, Cut::After, Left::Copied, 352),
-    (35, Cut::Spoilt, Left::OneCopied, 352),
-    (36, Cut::Before, Left::Copied, 352),
+    (34, Cut::After, Left::OneCopied, 320),
+    (34, Cut::Spoilt, Left::Written, 320),
+    (35, Cut::Before, Left::OneCopied, 320),
+    (35, Cut::After, Left::Copied, 256),
+    (35, Cut::Spoilt, Left::OneCopied, 320),
+    (36, Cut::Before, Left::Copied, 256),
     (36, Cut::After, Left::Erased, 256),
-    (36, Cut::Spoilt, Left::Erased, 352),
-    (36, BY_FIVES, Left::Partly, 352),
+    (36, Cut::Spoilt, Left::Erased, 256),
+    (36, BY_FIVES, Left::Partly, 256),
     // The callbacks were not handled: the old names lead to the copies, and the block of the names waits, until they are.
-    (35, Cut::After, Left::Moved, 352),
-    (36, Cut::Before, Left::Moved, 352),
+    (35, Cut::After, Left::Moved, 256),
+    (36, Cut::Before, Left::Moved, 256),
     (36, Cut::After, Left::Lost, 256),
-    (36, Cut::Spoilt, Left::Lost, 352),
-    (36, BY_FIVES, Left::PartlyLost, 352),
+    (36, Cut::Spoilt, Left::Lost, 256),
+    (36, BY_FIVES, Left::PartlyLost, 256),
 ];
 
 /// What a device answers otherwise that is opened after such a stop.

@@ -1,15 +1,16 @@
-use Rattle.std.proofs.Common.{◌-◌, ◌≡◌, ◌+◌, filter, length}
-use Rattle.nl_callbacks.specs.Pending.{IsTable}
-use Rattle.nl_device.proofs.Lists.{is_left}
+use Rattle.std.proofs.Common.{◌≡◌, ◌+◌, length}
+use Rattle.nl_callbacks.specs.Pending.{IsTable, beside_stamp}
+use Rattle.nl_device.specs.Callbacks.{NamesDiffer}
 use Rattle.nl_device.proofs.callbacks.cancel_gone.Given as goal
 
 abbrev pub invariant-each : goal.invariant-each
 invariant-each l = record {
   numbers : IsTable l.pending.callbacks l.pending.posted;
+  names : NamesDiffer l.pending.callbacks;
   posted : l.pending.posted ≡ l.initial.pending.posted;
-  kept : l.pending.callbacks ≡ filter (is_left l.pseg.pairs l.number) l.initial.pending.callbacks;
+  beside : beside_stamp l.pending.callbacks l.stamp ≡ beside_stamp l.initial.pending.callbacks l.stamp;
   room : length l.pending.callbacks + l.pending.room ≡ length l.initial.pending.callbacks + l.initial.pending.room;
 }
 
 abbrev pub decreases-each : goal.decreases-each
-decreases-each l = l.pending.posted - l.number
+decreases-each l = length l.pending.callbacks

@@ -26,10 +26,9 @@ use Rattle.nl_device.proofs.Spacing.{one_for_one}
 use Rattle.nl_pseg.specs.Segment.{Physical, held_at, wear_of}
 use Rattle.nl_device.specs.Callbacks.{names_with}
 use Rattle.nl_device.specs.State.{held_of}
-use Rattle.nl_device.specs.declared.cleaning.Copying.{Copying}
 use Rattle.nl_device.specs.declared.cleaning.Copying.TheVariants as now
 use Rattle.nl_device.proofs.Forms.{begins, lift}
-use Rattle.nl_device.proofs.CopyLeft.{begun_medium, copy_counted, copy_left, copy_there, failed_space, failed_tables, not_copied, still_cleans}
+use Rattle.nl_device.proofs.CopyLeft.{begun_medium, copy_counted, copy_left, copy_there, copy_ticks, failed_space, failed_tables, lost_found, lost_wanted, not_copied, still_cleans}
 use Rattle.nl_device.proofs.Idle.{idle_mid, land_can, left_is, mid_idle, mid_lands}
 use Rattle.nl_device.proofs.Naming.{either_live, either_low, live_bytes, map_same, stray_same, to_takes}
 use Rattle.nl_device.proofs.Moving.{here_now, insert_length}
@@ -355,12 +354,15 @@ returns-then-began-clause-left g c t =
 pub returns-then-began-clause-lands : goal.returns-then-began-clause-lands
 returns-then-began-clause-lands g c = ⊎_elim (λ rose. inl rose) (λ room. inr (land_can c.copy_one-answer.new.self room)) c.copy_one-answer.ensures.lands
 
-pub returns-then-began-clause-later : goal.returns-then-began-clause-later
-returns-then-began-clause-later g c m =
+pub returns-then-began-clause-clock : goal.returns-then-began-clause-clock
+returns-then-began-clause-clock g c =
     let d = c.args.self.now in
     let b = c.begin-began.ensures in
     let tables = mid_tables d.pseg c.begin-began.new.self c.begin-began.result b.begun b.none in
-    absurd (not_copied d.pseg c.copy_one-answer.new.self m.taken (ap (λ (s : Physical). s.pairs) (c.copy_one-answer.ensures.refused c.in-Nothing.is).0 ∙ tables.1) m.takes m.space)
+    copy_ticks _ c.in-Nothing.ensures.counts refl refl b.clean (λ m. absurd (not_copied d.pseg c.copy_one-answer.new.self m.taken (ap (λ (s : Physical). s.pairs) (c.copy_one-answer.ensures.refused c.in-Nothing.is).0 ∙ tables.1) m.takes m.space)) (λ un. inl (λ moved. moved))
+
+pub returns-then-began-clause-later : goal.returns-then-began-clause-later
+returns-then-began-clause-later g c m = (returns-then-began-clause-clock g c).moved m
 
 pub returns-then-began-clause-faults : goal.returns-then-began-clause-faults
 returns-then-began-clause-faults g c = copy_counted c.copy_one-answer.ensures.counts (λ fault. absurd (cc fault)) (λ fault. absurd (cc (fault, c.in-Nothing.is)))
@@ -371,12 +373,15 @@ returns-else-began-clause-left g c t = inr (returns-else-began-clause-none g c r
 pub returns-else-began-clause-lands : goal.returns-else-began-clause-lands
 returns-else-began-clause-lands g c = ⊎_elim (λ rose. inl rose) (λ room. inr (land_can c.copy_one-answer.new.self room)) c.copy_one-answer.ensures.lands
 
-pub returns-else-began-clause-later : goal.returns-else-began-clause-later
-returns-else-began-clause-later g c m =
+pub returns-else-began-clause-clock : goal.returns-else-began-clause-clock
+returns-else-began-clause-clock g c =
     let d = c.args.self.now in
     let b = c.begin-began.ensures in
     let tables = mid_tables d.pseg c.begin-began.new.self c.begin-began.result b.begun b.none in
-    absurd (not_copied d.pseg c.copy_one-answer.new.self m.taken (ap (λ (s : Physical). s.pairs) (c.copy_one-answer.ensures.refused c.in-Nothing.is).0 ∙ tables.1) m.takes m.space)
+    copy_ticks _ c.in-Nothing.ensures.counts refl refl b.clean (λ m. absurd (not_copied d.pseg c.copy_one-answer.new.self m.taken (ap (λ (s : Physical). s.pairs) (c.copy_one-answer.ensures.refused c.in-Nothing.is).0 ∙ tables.1) m.takes m.space)) (λ un. inl (λ moved. moved))
+
+pub returns-else-began-clause-later : goal.returns-else-began-clause-later
+returns-else-began-clause-later g c m = (returns-else-began-clause-clock g c).moved m
 
 pub returns-else-began-clause-faults : goal.returns-else-began-clause-faults
 returns-else-began-clause-faults g c = copy_counted c.copy_one-answer.ensures.counts (λ fault. absurd (cc fault)) (λ fault. absurd (cc (fault, c.in-Nothing.is)))
@@ -386,6 +391,9 @@ returns-in-Moved-clause-lands g c = ⊎_elim (λ rose. inl rose) (λ room. inr (
 
 pub returns-in-Moved-clause-later : goal.returns-in-Moved-clause-later
 returns-in-Moved-clause-later g c m = c.in-Moved.ensures.counts.moved tt
+
+pub returns-in-Moved-clause-clock : goal.returns-in-Moved-clause-clock
+returns-in-Moved-clause-clock g c = copy_ticks _ c.in-Moved.ensures.counts refl refl c.begin-began.ensures.clean (λ m. tt) (λ un. inr (⊎_elim (λ m. absurd (un m)) (λ begun. begun.0.medium.clock) (returns-in-Moved-clause-did g c refl)))
 
 pub returns-in-Moved-clause-faults : goal.returns-in-Moved-clause-faults
 returns-in-Moved-clause-faults g c = copy_counted c.copy_one-answer.ensures.counts (λ fault. absurd (cc fault)) (λ fault. absurd (cc (fault, c.in-Moved.is)))
@@ -494,13 +502,16 @@ returns-in-Lost-clause-left g c t =
 pub returns-in-Lost-clause-lands : goal.returns-in-Lost-clause-lands
 returns-in-Lost-clause-lands g c = ⊎_elim (λ rose. inl rose) (λ room. inr (land_can c.copy_one-answer.new.self room)) c.copy_one-answer.ensures.lands
 
-pub returns-in-Lost-clause-later : goal.returns-in-Lost-clause-later
-returns-in-Lost-clause-later g c moves =
+pub returns-in-Lost-clause-clock : goal.returns-in-Lost-clause-clock
+returns-in-Lost-clause-clock g c =
     let d = c.args.self.now in
     let b = c.begin-began.ensures in
     let tables = mid_tables d.pseg c.begin-began.new.self c.begin-began.result b.begun b.none in
     let kept : MovesNone c.begin-began.new.self c.copy_one-answer.new.self = c.in-Lost.ensures.kept (λ moved. moved) in
-    absurd (not_copied d.pseg c.copy_one-answer.new.self moves.taken (kept.tables.same_pairs ∙ tables.1) moves.takes moves.space)
+    copy_ticks _ c.in-Lost.ensures.counts refl refl b.clean (λ m. absurd (not_copied d.pseg c.copy_one-answer.new.self m.taken (kept.tables.same_pairs ∙ tables.1) m.takes m.space)) (λ un. inl (λ moved. moved))
+
+pub returns-in-Lost-clause-later : goal.returns-in-Lost-clause-later
+returns-in-Lost-clause-later g c m = (returns-in-Lost-clause-clock g c).moved m
 
 pub returns-in-Lost-clause-faults : goal.returns-in-Lost-clause-faults
 returns-in-Lost-clause-faults g c = copy_counted c.copy_one-answer.ensures.counts (λ fault. absurd (cc fault)) (λ fault. absurd (cc (fault, c.in-Lost.is)))
@@ -513,21 +524,9 @@ returns-in-Lost-clause-lost g c w found is =
     let d = c.args.self.now in
     let b = c.begin-began.ensures in
     let tables = mid_tables d.pseg c.begin-began.new.self c.begin-began.result b.begun b.none in
-    let lost = c.in-Lost.ensures.lost w found (λ i. copy.Lost (ap wanted_in is i) (ap found_in is i)) in
+    let lost = c.in-Lost.ensures.lost w found (λ i. copy.Lost (ap lost_wanted is i) (ap lost_found is i)) in
     let page = lost.1 in
     (lost.0, (page.0, record { tag = page.1.tag; stamp = page.1.stamp }, ap (λ (l : List (Option Held)). live_page (get_or l page.0 None)) (sym tables.0) ∙ ap live_page page.3, page.4))
-  where
-    wanted_in : Copying → ℕ
-    wanted_in now.Did = 0
-    wanted_in now.Nothing = 0
-    wanted_in (now.Lost w f) = w
-    wanted_in now.Fault = 0
-
-    found_in : Copying → ℕ
-    found_in now.Did = 0
-    found_in now.Nothing = 0
-    found_in (now.Lost w f) = f
-    found_in now.Fault = 0
 
 pub returns-in-Fault-clause-failed : goal.returns-in-Fault-clause-failed
 returns-in-Fault-clause-failed g c un_did un_nothing =
@@ -578,13 +577,16 @@ returns-in-Fault-clause-left g c t =
 pub returns-in-Fault-clause-lands : goal.returns-in-Fault-clause-lands
 returns-in-Fault-clause-lands g c = ⊎_elim (λ rose. inl rose) (λ room. inr (land_can c.copy_one-answer.new.self room)) c.copy_one-answer.ensures.lands
 
-pub returns-in-Fault-clause-later : goal.returns-in-Fault-clause-later
-returns-in-Fault-clause-later g c moves =
+pub returns-in-Fault-clause-clock : goal.returns-in-Fault-clause-clock
+returns-in-Fault-clause-clock g c =
     let d = c.args.self.now in
     let b = c.begin-began.ensures in
     let tables = mid_tables d.pseg c.begin-began.new.self c.begin-began.result b.begun b.none in
     let kept : MovesNone c.begin-began.new.self c.copy_one-answer.new.self = c.in-Fault.ensures.kept (λ moved. moved) in
-    absurd (not_copied d.pseg c.copy_one-answer.new.self moves.taken (kept.tables.same_pairs ∙ tables.1) moves.takes moves.space)
+    copy_ticks _ c.in-Fault.ensures.counts refl refl b.clean (λ m. absurd (not_copied d.pseg c.copy_one-answer.new.self m.taken (kept.tables.same_pairs ∙ tables.1) m.takes m.space)) (λ un. inl (λ moved. moved))
+
+pub returns-in-Fault-clause-later : goal.returns-in-Fault-clause-later
+returns-in-Fault-clause-later g c m = (returns-in-Fault-clause-clock g c).moved m
 
 pub returns-in-Fault-clause-faults : goal.returns-in-Fault-clause-faults
 returns-in-Fault-clause-faults g c = copy_counted c.copy_one-answer.ensures.counts (λ fault. c.in-Fault.is) (λ fault. refl)

@@ -216,6 +216,18 @@ returns-in-Fault-clause-failed g c is =
     other : the.Fault ≡ the.Done → ⊥
     other e = cc
 
+pub returns-in-Fault-clause-now : goal.returns-in-Fault-clause-now
+returns-in-Fault-clause-now g c t is =
+    let d = c.args.self.now in
+    let f = c.requires.formed in
+    let e = c.erase_victim-erased.ensures in
+    let x = erasable d.pseg (λ idle. apart (sym c.in-Fault.is ∙ e.nothing.1 idle)) in
+    let image = g.M.Nand.contents c.erase_victim-erased.new.media in
+    wiped_left f t (g.met.M.Nand.contents_fit d.media t) x.0 x.1 x.2 image (subst (λ n. ImageOf n image) e.geometry (g.met.M.Nand.contents_fit c.erase_victim-erased.new.media t)) (e.pages t x.0 x.1)
+  where
+    apart : the.Fault ≡ the.Nothing → ⊥
+    apart e = cc
+
 pub returns-in-Fault-clause-same : goal.returns-in-Fault-clause-same
 returns-in-Fault-clause-same g c un =
     let e = c.erase_victim-erased.ensures in

@@ -1,4 +1,4 @@
-use Rattle.std.proofs.Common.{◌≡◌, inl, inr, ⊎_elim, ◌∙◌, true, false, List, Option, None, ap, arith, get_or, refl, subst, sym}
+use Rattle.std.proofs.Common.{◌≡◌, ◌*◌, ◌<◌, ◌≤◌, inl, inr, ⊎_elim, ◌∙◌, true, false, List, Option, None, ap, arith, get_or, refl, subst, sym}
 use Rattle.std.proofs.lemmas.Bool.{OnFalse_at, OnTrue_at, cases_Bool}
 use Rattle.nl_pseg.specs.Segment.{Physical}
 use Rattle.nl_pseg.specs.declared.held.Held.{Held}
@@ -67,3 +67,23 @@ returns-clause-cannot g c why =
     (⊎_elim (λ hand. inl (sym victim ∙ hand)) (λ rest. ⊎_elim (λ many. inr (inl (omega (arith, many, size, pairs)))) (λ none. inr (inr (inl (sym free ∙ none)))) rest) why)))
     (λ (is : c.begin.result ≡ false). is)
     (cases_Bool c.begin.result)
+
+pub returns-clause-cold : goal.returns-clause-cold
+returns-clause-cold g c none few some =
+    let seg = c.args.self.now.pseg in
+    let victim = space_victim seg in
+    let size = space_size seg in
+    let pairs = pairs_is seg in
+    let free = free_is seg in (
+      (λ is. let b = OnTrue_at is c.begin.ensures.begun in (b.0, b.1)),
+      (λ cold. c.begin.ensures.cannot.1 (λ why. ⊎_elim
+          (λ hand. omega (arith, victim, none, hand))
+          (λ rest. ⊎_elim
+          (λ many. omega (arith, few, many, size, pairs))
+          (λ last. ⊎_elim
+          (λ empty. omega (arith, some, empty, free))
+          (λ all. let worn = cold.1.worn refl in let low = all cold.0 cold.1.from cold.1.below cold.1.sealed worn.0 worn.1 worn.2 in let high = worn.3 in omega (arith, low, high))
+          last)
+          rest)
+          why)),
+    )

@@ -62,6 +62,7 @@ returns-in-Ok-clause-started g c =
       live = λ p. ap live_page (none_held shape t pseg physicals p);
       pairs = physicals.no_pairs;
       pending = ap (λ (x : PendingTable). callbacks_of x.callbacks) c.in-Ok.ensures.pending;
+      posted = ap (λ (x : PendingTable). x.posted) c.in-Ok.ensures.pending;
       victim = none_victim pseg physicals.none_in_hand;
       free = free_space shape t pseg physicals roomy;
       room = room_space shape t pseg physicals roomy;

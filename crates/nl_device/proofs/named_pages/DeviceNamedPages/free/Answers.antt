@@ -9,7 +9,7 @@ use Rattle.nl_device.specs.Callbacks.{AreCalled, callbacks_of, names_with}
 use Rattle.nl_device.specs.Device.{HasSpareBlock, IsDevice}
 use Rattle.nl_device.specs.Shown.{bytes_at, live_page}
 use Rattle.nl_device.specs.Space.{live_in}
-use Rattle.nl_device.proofs.Calling.{all_led, beside_length, called_less, called_same, handled_less, none_gone, pair_before, pending_less}
+use Rattle.nl_device.proofs.Calling.{beside_length, called_less, called_same, gone_led, handled_less, none_cancelled, pair_before, pending_less}
 use Rattle.nl_device.proofs.Calls.{device_called, device_with, held_from, in_within, medium_with, named_segments}
 use Rattle.nl_device.proofs.Leaving.{hand_kept, names_in}
 use Rattle.nl_device.proofs.Living.{clear_held, clear_live, less_before, less_keeps, live_less}
@@ -17,24 +17,6 @@ use Rattle.nl_device.proofs.Made.{live_held}
 use Rattle.nl_device.proofs.Naming.{names_after}
 use Rattle.nl_device.proofs.Spacing.{freed, one_less}
 use Rattle.nl_device.proofs.named_pages.DeviceNamedPages.free.Goals as goal
-
--- a name that leads to the page was found, where there is one
-none_leads : (o : Option ℕ) (pairs : List (ℕ × ℕ)) (place : ℕ) → is_some o ≡ false → IfNone o ((name : ℕ) → Contains pairs (name, place) → ⊥) → (name : ℕ) → Contains pairs (name, place) → ⊥
-none_leads None pairs place un off = off
-none_leads (Some n) pairs place un off = absurd (true≢false un)
-
-pub cancel_gone-requires-clause-none : goal.cancel_gone-requires-clause-none
-cancel_gone-requires-clause-none g c un =
-    let d = c.args.self.now in
-    let f = c.requires.formed in
-    let e = c.free-freed.ensures in
-    let new = c.free-freed.new.self in
-    let place = resolve d.pseg.pairs c.args.at.name in
-    ⊎_elim
-    (λ is. none_gone d.pseg new place d.pending f.called f.spare.whole e.whole (OnTrue_at is e.pairs)
-    (subst (λ p. (name : ℕ) → Contains d.pseg.pairs (name, p) → ⊥) c.resolve-place.ensures (none_leads c.name_of.result d.pseg.pairs c.resolve-place.result (sym c.is_some-moved.ensures ∙ un) c.name_of.ensures.none)))
-    (λ is. all_led d.pseg d.pending new.pairs (ap (λ (s : Physical). s.pairs) (OnFalse_at is e.kept)) f.called f.spare.whole)
-    (cases_Bool c.free-freed.result)
 
 pub cancel_gone-requires-clause-names : goal.cancel_gone-requires-clause-names
 cancel_gone-requires-clause-names g c = c.requires.formed.called.once
@@ -50,12 +32,13 @@ returns-clause-freed g c is =
     let h = held_from (held_at d.pseg place) c.args.at.stamp (e.found.0 is) in
     let below = in_within f.segments place (f.live.in_segment place h.0 h.1) in
     let pairs = OnTrue_at is e.pairs in
+    let led = gone_led d.pseg new place d.pending f.called f.spare.whole e.whole pairs f.live h.0 h.1 c.args.at.stamp h.2 c.free-freed.result is c.cancel_gone.new.pending.callbacks k.callbacks in
     record {
       names = record {
         live = λ q. ap (λ (l : List (Option Held)). live_page (get_or l q None)) (OnTrue_at is e.freed) ∙ clear_live d.pseg.held place below q;
         pairs = pairs;
-        pending = pending_less d.pseg new place d.pending f.called f.spare.whole e.whole pairs c.cancel_gone.new.pending k.callbacks;
-        handled = handled_less d.pseg new place d.pending f.called f.spare.whole e.whole pairs c.cancel_gone.new.pending k.callbacks;
+        pending = pending_less d.pseg new place d.pending f.called f.spare.whole e.whole pairs c.cancel_gone.new.pending led;
+        handled = handled_less d.pseg new place d.pending f.called f.spare.whole e.whole pairs c.cancel_gone.new.pending led;
         posted = k.posted;
       };
       space = freed d.pseg new e.pages e.space e.back (ap (λ (l : List (Option Held)). live_in l + 1) (OnTrue_at is e.freed) ∙ one_less d.pseg.held place h.0 below h.1)
@@ -68,7 +51,7 @@ returns-clause-refused g c is =
     let f = c.requires.formed in
     let k = c.cancel_gone.ensures in
     let same = OnFalse_at is c.free-freed.ensures.kept in
-    let callbacks = k.callbacks ∙ all_led d.pseg d.pending c.free-freed.new.self.pairs (ap (λ (s : Physical). s.pairs) same) f.called f.spare.whole in
+    let callbacks = none_cancelled c.args.at.stamp d.pending c.free-freed.result is c.cancel_gone.new.pending.callbacks k.callbacks in
     λ i. names_with (same i) (record { callbacks = callbacks i; posted = k.posted i; room = 0 })
 
 pub returns-clause-kept : goal.returns-clause-kept
@@ -102,7 +85,7 @@ returns-clause-formed g c =
     let count : length new.held ≡ length d.pseg.held = ap (λ (l : List (Option Held)). length l) held ∙ length-set d.pseg.held place None in
     let pairs = OnTrue_at is e.pairs in
     let spare : HasSpareBlock new = record { whole = e.whole; block = e.kept_block f.spare.block; in_hand = hand_kept d.pseg new e.pages.same_first e.pages.same_blocks e.space.victim f.spare } in
-    let called : AreCalled new pend = called_less d.pseg new place d.pending f.called f.spare.whole e.whole pairs pend k.callbacks k.numbers k.room e.pages.same_size (less_keeps d.pseg new place held) in
+    let called : AreCalled new pend = called_less d.pseg new place d.pending f.called f.spare.whole e.whole pairs pend (gone_led d.pseg new place d.pending f.called f.spare.whole e.whole pairs f.live h.0 h.1 c.args.at.stamp h.2 c.free-freed.result is pend.callbacks k.callbacks) k.numbers k.room e.pages.same_size (less_keeps d.pseg new place held) in
     device_with f f.found f.found_stored refl e.pages count live spare called (omega arith)
     (λ p x has. f.stamp.live p x (clear_held d.pseg.held place p x below (ap (λ (l : List (Option Held)). get_or l p None) (sym held) ∙ has)).1)
     (λ t.
@@ -116,7 +99,7 @@ returns-clause-formed g c =
     (f.medium t).named_below))
     (λ (is : c.free-freed.result ≡ false).
     let same = OnFalse_at is e.kept in
-    let callbacks = k.callbacks ∙ all_led d.pseg d.pending new.pairs (ap (λ (s : Physical). s.pairs) same) f.called f.spare.whole in
+    let callbacks = none_cancelled c.args.at.stamp d.pending c.free-freed.result is pend.callbacks k.callbacks in
     subst (λ s. IsDevice (g.M.Nand.geometry d.media) g.M.Nand.tells (g.M.Nand.contents d.media) d.shape d.vseg s pend d.kept d.next) (sym same)
     (device_called f (called_same d.pseg d.pseg d.pending pend f.called (ap callbacks_of callbacks) k.numbers k.room refl refl (λ p h x. x))))
     (cases_Bool c.free-freed.result)

@@ -30,26 +30,9 @@ use Rattle.nl_device.proofs.Placing.{after_rises, after_tried, counted, fault_ro
 use Rattle.nl_device.proofs.Spacing.{none_retired, one_for_one, wrote_over}
 use Rattle.nl_device.proofs.Tried.{kept_untried, new_name, next_untried, tried_device}
 use Rattle.nl_device.specs.Callbacks.{callbacks_of, handled_in, names_with}
-use Rattle.nl_device.proofs.Calling.{all_led, beside_length, called_less, called_same, handled_less, none_gone, pair_before, pending_less}
+use Rattle.nl_device.proofs.Calling.{beside_length, called_less, called_same, gone_led, handled_less, none_cancelled, pair_before, pending_less}
 use Rattle.nl_device.proofs.Leaving.{hand_kept, names_in}
 use Rattle.nl_device.proofs.named_pages.DeviceNamedPages.nameless_overwrite.Goals as goal
-
-none_leads : (o : Option ℕ) (pairs : List (ℕ × ℕ)) (place : ℕ) → is_some o ≡ false → IfNone o ((name : ℕ) → Contains pairs (name, place) → ⊥) → (name : ℕ) → Contains pairs (name, place) → ⊥
-none_leads None pairs place un off = off
-none_leads (Some n) pairs place un off = absurd (false≢true (sym un))
-
-pub cancel_gone-requires-clause-none : goal.cancel_gone-requires-clause-none
-cancel_gone-requires-clause-none g c un =
-    let d = c.args.self.now in
-    let f = c.requires.formed in
-    let e = c.nameless_overwrite-answer.ensures in
-    let new = c.nameless_overwrite-answer.new.self in
-    let place = resolve d.pseg.pairs c.args.old.name in
-    ⊎_elim
-    (λ at. none_gone d.pseg new place d.pending f.called f.spare.whole e.whole (e.pairs (placed_yes c.nameless_overwrite-answer.result at.0 at.1))
-    (subst (λ p. (name : ℕ) → Contains d.pseg.pairs (name, p) → ⊥) c.resolve-place.ensures (none_leads c.name_of.result d.pseg.pairs c.resolve-place.result (sym c.is_some-moved.ensures ∙ un) c.name_of.ensures.none)))
-    (λ un_placed. all_led d.pseg d.pending new.pairs (e.same_pairs un_placed) f.called f.spare.whole)
-    (placed_or c.nameless_overwrite-answer.result)
 
 pub cancel_gone-requires-clause-names : goal.cancel_gone-requires-clause-names
 cancel_gone-requires-clause-names g c = c.requires.formed.called.once
@@ -75,9 +58,9 @@ returns-clause-no_page g c =
     )
 
 -- where a page was placed, the old pointer is live
-old_held : (seg : Physical) (at : Pointer) (answer : Named) (to : Pointer) → answer ≡ named.Placed to → ((IsLive seg at → ⊥) → answer ≡ named.NotLive) → (h : Held) × (held_at seg (resolve seg.pairs at.name) ≡ Some h)
+old_held : (seg : Physical) (at : Pointer) (answer : Named) (to : Pointer) → answer ≡ named.Placed to → ((IsLive seg at → ⊥) → answer ≡ named.NotLive) → (h : Held) × (held_at seg (resolve seg.pairs at.name) ≡ Some h) × (h.stamp ≡ at.stamp)
 old_held seg at answer to is not_live = ⊎_elim
-    (λ live. let h = held_from (held_at seg (resolve seg.pairs at.name)) at.stamp live in (h.0, h.1))
+    (λ live. held_from (held_at seg (resolve seg.pairs at.name)) at.stamp live)
     (λ dead. absurd (apart (sym is ∙ not_live dead)))
     (live_or seg at)
   where
@@ -86,6 +69,16 @@ old_held seg at answer to is not_live = ⊎_elim
 
 differ : (seg : Physical) (p q : ℕ) (h : Held) → held_at seg p ≡ None → held_at seg q ≡ Some h → p ≡ q → ⊥
 differ seg p q h dead live is = none-some h (sym dead ∙ (ap (held_at seg) is ∙ live))
+
+not_placed : (answer : Named) → (IsPlaced answer → ⊥) → is_placed answer ≡ false
+not_placed (named.Placed at) un = absurd (un tt)
+not_placed named.NotLive un = refl
+not_placed named.NoPage un = refl
+not_placed named.Fault un = refl
+
+refused_not : (answer : Named) → (answer ≡ named.NotLive) ⊎ (answer ≡ named.NoPage) → is_placed answer ≡ false
+refused_not answer (inl is) = ap is_placed is
+refused_not answer (inr is) = ap is_placed is
 
 pub returns-clause-placed : goal.returns-clause-placed
 returns-clause-placed g c =
@@ -100,6 +93,7 @@ returns-clause-placed g c =
     let h = old_held d.pseg c.args.old c.nameless_overwrite-answer.result at is e.live.1 in
     let within = in_within f.segments place (f.live.in_segment place h.0 h.1) in
     let yes_placed = placed_yes c.nameless_overwrite-answer.result at is in
+    let led = gone_led d.pseg seg place d.pending f.called f.spare.whole e.whole (e.pairs yes_placed) f.live h.0 h.1 c.args.old.stamp h.2 c.is_placed-gone.result (c.is_placed-gone.ensures ∙ ap is_placed is) c.cancel_gone.new.pending.callbacks c.cancel_gone.ensures.callbacks in
     let swapped = one_for_one d.pseg.held at.name place (record { tag = c.args.tag; stamp = d.next }) h.0 below within (λ same. differ d.pseg at.name place h.0 dead.0.dead h.1 (sym same)) dead.0.dead h.1 in
     record {
       stamp = dead.1;
@@ -107,8 +101,8 @@ returns-clause-placed g c =
       names = record {
         live = λ q. ap (λ (l : List (Option Held)). live_page (get_or l q None)) held ∙ swap_live d.pseg.held at.name place c.args.tag d.next below within (differ d.pseg at.name place h.0 dead.0.dead h.1) q;
         pairs = e.pairs yes_placed;
-        pending = pending_less d.pseg seg place d.pending f.called f.spare.whole e.whole (e.pairs yes_placed) c.cancel_gone.new.pending c.cancel_gone.ensures.callbacks;
-        handled = handled_less d.pseg seg place d.pending f.called f.spare.whole e.whole (e.pairs yes_placed) c.cancel_gone.new.pending c.cancel_gone.ensures.callbacks;
+        pending = pending_less d.pseg seg place d.pending f.called f.spare.whole e.whole (e.pairs yes_placed) c.cancel_gone.new.pending led;
+        handled = handled_less d.pseg seg place d.pending f.called f.spare.whole e.whole (e.pairs yes_placed) c.cancel_gone.new.pending led;
         posted = c.cancel_gone.ensures.posted;
       };
       space = wrote_over d.pseg seg e.pages (subst (λ a. Lessens (cond (is_placed a) 1 0) d.pseg seg) is e.space) (e.room yes_placed) (e.spent yes_placed) (ap (λ (l : List (Option Held)). live_in l + 1) held ∙ swapped)
@@ -124,9 +118,9 @@ returns-clause-none g c un =
     let e = c.nameless_overwrite-answer.ensures in
     let un_placed : IsPlaced c.nameless_overwrite-answer.result → ⊥ = λ is. un (from_placed c.nameless_overwrite-answer.result is) in
     let d = c.args.self.now in
-    let callbacks_stay = λ (un : IsPlaced c.nameless_overwrite-answer.result → ⊥). c.cancel_gone.ensures.callbacks ∙ all_led d.pseg d.pending c.nameless_overwrite-answer.new.self.pairs (e.same_pairs un) c.requires.formed.called c.requires.formed.spare.whole in
+    let callbacks_stay = none_cancelled c.args.old.stamp d.pending c.is_placed-gone.result (c.is_placed-gone.ensures ∙ not_placed c.nameless_overwrite-answer.result un_placed) c.cancel_gone.new.pending.callbacks c.cancel_gone.ensures.callbacks in
     record {
-      tables = record { live = λ q. ap (λ (l : List (Option Held)). live_page (get_or l q None)) (e.same un_placed); pairs = e.same_pairs un_placed; pending = ap callbacks_of (callbacks_stay un_placed); handled = λ n. ap (λ l. handled_in l n) (callbacks_stay un_placed); posted = c.cancel_gone.ensures.posted };
+      tables = record { live = λ q. ap (λ (l : List (Option Held)). live_page (get_or l q None)) (e.same un_placed); pairs = e.same_pairs un_placed; pending = ap callbacks_of callbacks_stay; handled = λ n. ap (λ l. handled_in l n) callbacks_stay; posted = c.cancel_gone.ensures.posted };
       fault = fault_space c.nameless_overwrite-answer.result c.args.self.now.pseg c.nameless_overwrite-answer.new.self e.pages e.cleaning (λ un. e.space.lands) e.failed e.same e.same_pairs;
     }
 
@@ -135,7 +129,7 @@ returns-clause-refused g c = if_refused c.nameless_overwrite-answer.result _ (λ
     let d = c.args.self.now in
     let e = c.nameless_overwrite-answer.ensures in
     let same = e.refused is in
-    let callbacks = c.cancel_gone.ensures.callbacks ∙ all_led d.pseg d.pending c.nameless_overwrite-answer.new.self.pairs (ap (λ (s : Physical). s.pairs) same.0) c.requires.formed.called c.requires.formed.spare.whole in
+    let callbacks = none_cancelled c.args.old.stamp d.pending c.is_placed-gone.result (c.is_placed-gone.ensures ∙ refused_not c.nameless_overwrite-answer.result is) c.cancel_gone.new.pending.callbacks c.cancel_gone.ensures.callbacks in
     let untried : c.is_tried-taken.result ≡ false = c.is_tried-taken.ensures ∙ not_tried c.nameless_overwrite-answer.result is in
     let kept = kept_untried d.kept c.forget_after.new.self c.is_tried-taken.result c.forget_after.ensures untried in
     let next = next_untried c.is_tried-taken.result c.stamp_after-self.result d.next c.stamp_after-self.ensures untried in
@@ -281,15 +275,17 @@ returns-clause-formed g c =
     let one = after_tried answer c.is_tried-taken.result d.next next c.stamp_after-self.ensures c.is_tried-taken.ensures (tried_placed answer (placed_yes answer at.0 at.1)) in
     let x : Held = record { tag = c.args.tag; stamp = d.next } in
     let pairs = e.pairs (placed_yes answer at.0 at.1) in
+    let led = gone_led d.pseg seg place d.pending f.called f.spare.whole e.whole pairs f.live h.0 h.1 c.args.old.stamp h.2 c.is_placed-gone.result (c.is_placed-gone.ensures ∙ ap is_placed at.1) pend.callbacks k.callbacks in
     device seg pend e.pages (ap (λ (l : List (Option Held)). length l) held ∙ (length-set (set d.pseg.held at.0.name _) place None ∙ length-set d.pseg.held at.0.name _))
     (live_swap d.pseg seg at.0.name place d.next c.args.tag f.live e.pages e.within dead.0.within below within f.stamp.live held) spare
-    (called_less d.pseg seg place d.pending f.called f.spare.whole e.whole pairs pend k.callbacks k.numbers k.room e.pages.same_size (swap_keeps d.pseg seg at.0.name place x dead.0.dead held))
+    (called_less d.pseg seg place d.pending f.called f.spare.whole e.whole pairs pend led k.numbers k.room e.pages.same_size (swap_keeps d.pseg seg at.0.name place x dead.0.dead held))
     (swap_below d.pseg seg at.0.name place d.next next c.args.tag below within held f.stamp.live one) e.segment e.spare
     (pair_before d.pseg seg place d.pending f.called f.spare.whole e.whole pairs) (λ p. p ≡ at.0.name) (λ p here. ap (held_at d.pseg) here ∙ dead.0.dead) (swap_less d.pseg seg at.0.name place x below within held))
     (λ un.
     let held = e.same un in
     let pairs = e.same_pairs un in
+    let callbacks = none_cancelled c.args.old.stamp d.pending c.is_placed-gone.result (c.is_placed-gone.ensures ∙ not_placed answer un) pend.callbacks k.callbacks in
     device seg pend e.pages (ap (λ (l : List (Option Held)). length l) held) (live_kept d.pseg seg f.live e.pages e.within held) spare
-    (called_same d.pseg seg d.pending pend f.called (ap callbacks_of (k.callbacks ∙ all_led d.pseg d.pending seg.pairs pairs f.called f.spare.whole)) k.numbers k.room pairs e.pages.same_size (same_keeps d.pseg seg held))
+    (called_same d.pseg seg d.pending pend f.called (ap callbacks_of callbacks) k.numbers k.room pairs e.pages.same_size (same_keeps d.pseg seg held))
     (same_below_still d.pseg seg d.next next held f.stamp.live rises) e.segment e.spare (λ n x h. subst (λ (l : List (ℕ × ℕ)). Contains l (n, x)) pairs h) (λ p. ⊥) (λ p off. absurd off) (λ p h has. inl (same_before d.pseg seg held p h has)))
     (placed_or answer)
