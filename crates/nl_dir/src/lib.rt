@@ -6,8 +6,6 @@ mod change;
 pub mod laws;
 mod look;
 mod page;
-#[cfg(test)]
-mod tests;
 
 pub use change::{insert, remove};
 pub use look::{entry_at, find};

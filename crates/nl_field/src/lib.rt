@@ -23,8 +23,6 @@ mod seen;
 mod shape;
 mod spare;
 mod super_page;
-#[cfg(test)]
-mod tests;
 mod text;
 
 pub use address_list::AddressList;

@@ -8,6 +8,3 @@ mod page;
 
 pub use flight::Flight;
 pub use nl_field::Memory;
-
-#[cfg(test)]
-mod tests;

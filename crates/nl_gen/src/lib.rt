@@ -5,7 +5,5 @@ mod drawn;
 mod draws;
 mod line;
 mod soak;
-#[cfg(test)]
-mod tests;
 
 pub use soak::soak_script;

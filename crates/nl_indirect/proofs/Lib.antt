@@ -9,5 +9,4 @@ pub mod PointerLaw
 pub mod Pointing
 pub mod Records
 pub mod Spelled
-pub mod Tested
 pub mod Truncated

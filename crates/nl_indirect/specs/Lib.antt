@@ -1,4 +1,3 @@
-pub mod Examples
 pub mod FileLaws
 pub mod PageLaws
 pub mod Ranges

@@ -5,8 +5,6 @@ mod answer;
 pub mod laws;
 mod page;
 mod pointers;
-#[cfg(test)]
-mod tests;
 mod truncating;
 
 pub use answer::Stored;

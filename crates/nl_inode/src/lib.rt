@@ -6,8 +6,6 @@ mod free_set;
 pub mod laws;
 mod loading;
 mod nodes;
-#[cfg(test)]
-mod tests;
 
 pub use answer::Fetch;
 pub use loading::fetch;

@@ -7,8 +7,6 @@ mod mem_source;
 mod sink;
 mod source;
 mod standard;
-#[cfg(test)]
-mod tests;
 mod words;
 
 pub use mem_sink::MemSink;

@@ -5,7 +5,5 @@ mod addresses;
 pub mod laws;
 mod meta;
 pub mod rows;
-#[cfg(test)]
-mod tests;
 
 pub use meta::Meta;

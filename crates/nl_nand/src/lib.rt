@@ -12,8 +12,6 @@ mod record;
 mod restart;
 pub mod rows;
 mod stop;
-#[cfg(test)]
-mod tests;
 
 pub use answers::{FormAnswer, ReadAnswer, WriteAnswer};
 pub use geometry::Geometry;

@@ -12,8 +12,6 @@ mod pages;
 mod places;
 mod pointers;
 mod spare;
-#[cfg(test)]
-mod tests;
 
 pub use charges::charge_fault;
 pub use crowded::crowded_fault;

@@ -9,8 +9,6 @@ mod path;
 mod report;
 pub mod rows;
 mod status;
-#[cfg(test)]
-mod tests;
 mod word;
 
 pub use answer::answer_line;

@@ -7,6 +7,3 @@ mod remap;
 
 pub use remap::Remap;
 pub use std::alloc::AllocError as Memory;
-
-#[cfg(test)]
-mod tests;

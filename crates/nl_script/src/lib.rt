@@ -11,8 +11,6 @@ pub mod rows;
 mod said;
 mod script;
 mod spelling;
-#[cfg(test)]
-mod tests;
 mod why;
 mod words;
 

@@ -7,9 +7,6 @@ ghost use Rattle.nl_super.specs.Layout.{is_layout_of};
 use nl_field::{SuperRec, shape_of};
 use nl_nand::Geometry;
 
-#[cfg(test)]
-mod tests;
-
 /// Whether the record's blocks and pages are the medium's, and legal: 32 to 4096 blocks of 32 to 256 pages, together at
 /// most 262,144 pages. A medium that was never formed has no such record. Version and count are not looked at.
 pub fn check_super(rec: &SuperRec, geometry: Geometry) -> bool

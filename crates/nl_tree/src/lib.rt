@@ -12,8 +12,6 @@ mod plain;
 mod reply;
 mod reply_buf;
 pub mod rows;
-#[cfg(test)]
-mod tests;
 mod turn;
 mod walk_path;
 

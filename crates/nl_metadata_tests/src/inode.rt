@@ -1,0 +1,152 @@
+ghost use Rattle.std.specs.Prelude.{◌≡◌, ◌<◌, length};
+
+use nl_field::{Kind, Memory, Shape};
+use nl_inode::{Nodes, taken};
+use nl_meta::Meta;
+use std::alloc::Global;
+use std::test::Fail;
+
+/// The numbers of a volume of 32 blocks of 32 pages: 64 nodes in addresses 67 to 70, and a pool in addresses 71 to 102.
+const SHAPE: Shape = Shape {
+    blocks: 32,
+    pages: 32,
+    nodes: 64,
+    inode_pages: 4,
+    meta: 32,
+    vaddrs: 103,
+    vblocks: 8,
+    pblocks: 24,
+    cap: 480,
+};
+
+#[derive(Clone, Copy, Debug)]
+enum Step {
+    TakeNode,
+    TakePool,
+    GiveNode(u32),
+    GivePool(u32),
+    /// So many takings of nodes, and of addresses, of which the last one is seen.
+    TakeNodes(u32),
+    TakePools(u32),
+}
+
+fn run(nodes: &mut Nodes, step: Step) -> Option<u32>
+    requires nodes { length nodes.old.nodes ≡ 64 }
+    requires first { nodes.old.first ≡ 71 }
+    requires pool { length nodes.old.pool ≡ 32 }
+    ensures nodes { length nodes.new.nodes ≡ 64 }
+    ensures first { nodes.new.first ≡ 71 }
+    ensures pool { length nodes.new.pool ≡ 32 }
+{
+    match step {
+        Step::TakeNode => nodes.take_node(),
+        Step::TakePool => nodes.take_pool(),
+        Step::GiveNode(ino) => {
+            if ino < 64 {
+                nodes.give_node(ino);
+            }
+            None
+        }
+        Step::GivePool(vaddr) => {
+            if vaddr >= 71 && vaddr < 103 {
+                nodes.give_pool(vaddr);
+            }
+            None
+        }
+        Step::TakeNodes(count) => take_nodes(nodes, count),
+        Step::TakePools(count) => take_pools(nodes, count),
+    }
+}
+
+fn take_nodes(nodes: &mut Nodes, count: u32) -> Option<u32>
+    requires nodes { length nodes.old.nodes ≡ 64 }
+    requires first { nodes.old.first ≡ 71 }
+    requires pool { length nodes.old.pool ≡ 32 }
+    ensures nodes { length nodes.new.nodes ≡ 64 }
+    ensures first { nodes.new.first ≡ 71 }
+    ensures pool { length nodes.new.pool ≡ 32 }
+{
+    let mut last = None;
+    for _ in 0..count {
+        last = nodes.take_node();
+    }
+    last
+}
+
+fn take_pools(nodes: &mut Nodes, count: u32) -> Option<u32>
+    requires nodes { length nodes.old.nodes ≡ 64 }
+    requires first { nodes.old.first ≡ 71 }
+    requires pool { length nodes.old.pool ≡ 32 }
+    ensures nodes { length nodes.new.nodes ≡ 64 }
+    ensures first { nodes.new.first ≡ 71 }
+    ensures pool { length nodes.new.pool ≡ 32 }
+{
+    let mut last = None;
+    for _ in 0..count {
+        last = nodes.take_pool();
+    }
+    last
+}
+
+// The least is taken, up to the last one; what is given is taken again.
+#[test]
+fn the_least_is_taken(rt: HostRuntime) -> Result<(), Fail> {
+    let mut nodes = Nodes::new(rt.alloc(), SHAPE)?;
+    let rows = [
+        (Step::TakeNode, Some(0)),
+        (Step::TakeNode, Some(1)),
+        (Step::TakeNode, Some(2)),
+        (Step::GiveNode(1), None),
+        (Step::TakeNode, Some(1)),
+        (Step::TakeNodes(60), Some(62)),
+        (Step::TakeNode, Some(63)),
+        (Step::TakeNode, None),
+        (Step::GiveNode(63), None),
+        (Step::GiveNode(17), None),
+        (Step::TakeNode, Some(17)),
+        (Step::TakeNode, Some(63)),
+        (Step::TakeNode, None),
+        (Step::TakePool, Some(71)),
+        (Step::TakePools(30), Some(101)),
+        (Step::TakePool, Some(102)),
+        (Step::TakePool, None),
+        (Step::GivePool(102), None),
+        (Step::GivePool(88), None),
+        (Step::TakePool, Some(88)),
+        (Step::TakePool, Some(102)),
+        (Step::TakePool, None),
+    ];
+    for (step, answer) in rows {
+        assert_eq!(rt; run(&mut nodes, step), answer);
+    }
+    Ok(())
+}
+
+// The kind and the first byte of the generation at a byte of the page of a node that was taken.
+fn bytes_at(alloc: Global, ino: u32, at: usize) -> Result<Option<(u8, u8)>, Memory>
+    requires node { ino < 64 }
+    requires at { at < 4092 }
+{
+    let mut meta = Meta::new(alloc, SHAPE)?;
+    let mut nodes = Nodes::new(alloc, SHAPE)?;
+    let page = 67 + ino / 16;
+    if !meta.fresh(page) {
+        return Ok(None);
+    }
+    if !nodes.put(&mut meta, ino, &taken(Kind::File, 6)) {
+        return Ok(None);
+    }
+    let main = meta.page(page).main();
+    Ok(Some((main[at], main[at + 4])))
+}
+
+// Sixteen nodes to a page, 256 bytes each: the kind first, and the generation from byte 4 on.
+#[test]
+fn nodes_stand_in_pages(rt: HostRuntime) -> Result<(), Fail> {
+    assert_eq!(rt; bytes_at(rt.alloc(), 0, 0)?, Some((1, 7)));
+    assert_eq!(rt; bytes_at(rt.alloc(), 15, 3840)?, Some((1, 7)));
+    assert_eq!(rt; bytes_at(rt.alloc(), 16, 0)?, Some((1, 7)));
+    assert_eq!(rt; bytes_at(rt.alloc(), 17, 0)?, Some((0, 0)));
+    assert_eq!(rt; bytes_at(rt.alloc(), 63, 3840)?, Some((1, 7)));
+    Ok(())
+}

@@ -1,0 +1,13 @@
+//! Tests of metadata pages, nodes, pointers, directories and lines in flight, from outside their crates.
+#![tactic(auto)]
+
+#[cfg(test)]
+mod dir;
+#[cfg(test)]
+mod flight;
+#[cfg(test)]
+mod indirect;
+#[cfg(test)]
+mod inode;
+#[cfg(test)]
+mod meta;

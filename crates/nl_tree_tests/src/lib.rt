@@ -1,0 +1,5 @@
+//! Tests of trees of files, from outside their crate.
+#![tactic(auto)]
+
+#[cfg(test)]
+mod tree;
