@@ -50,10 +50,10 @@ module _ (shape : Shape) (pages : VirtualMap) (free : Spaces) where
           file-unused e = cc
 
   -- the addresses that nodes have
-  all : List ℕ
+  unfoldable pub all : List ℕ
   all = map (λ (y : Bool × ℕ). y.1) (flat_map addresses_of (used_nodes shape pages))
 
-  listed : (a : ℕ) → Uses shape pages a → Has all a
+  pub listed : (a : ℕ) → Uses shape pages a → Has all a
   unfolding all
   listed a u =
       let at = u.2 in
@@ -61,7 +61,7 @@ module _ (shape : Shape) (pages : VirtualMap) (free : Spaces) where
       (flat-member addresses_of (used_nodes shape pages) (u.0, at.rec) (is_file_kind at.rec.kind, a) (is_used shape pages u.0 at.rec at.is_node)
       (map-member (λ a. (is_file_kind at.rec.kind, a)) (filter (λ a. not (a == 0)) at.rec.addresses) a (filter-member (λ a. not (a == 0)) at.rec.addresses a (place-has at.rec.addresses u.1 a at.in_slot) (not_from_false _ (ne_eqb a 0 at.not_zero)))))
 
-  used : (a : ℕ) → Has all a → Uses shape pages a
+  pub used : (a : ℕ) → Has all a → Uses shape pages a
   unfolding all
   used a h =
       let y = member-map (λ (y : Bool × ℕ). y.1) (flat_map addresses_of (used_nodes shape pages)) a h in

@@ -40,3 +40,7 @@ mod MoveRefusals
 mod TreeRenames
 mod TreeCalls
 mod Crowded
+mod TreeSums
+mod TreeRooms
+mod EntryCounts
+mod Charged

@@ -29,7 +29,7 @@ use Rattle.nl_running.proofs.SameNeeded.{own}
 use Rattle.nl_namespace.specs.Changing.{Changes, FreeFits, Leaves}
 use Rattle.nl_namespace.specs.Entering.{FreeAreNew, HasDirectory}
 use Rattle.nl_namespace.specs.Making.{FitsNew, HasSpare}
-use Rattle.nl_namespace.specs.Naming.{IsFull, LacksRoom, MakesNode, NameIn, refusal_of_name}
+use Rattle.nl_namespace.specs.Naming.{HasPlace, IsFull, LacksRoom, MakesNode, NameIn, refusal_of_name}
 use Rattle.nl_namespace.specs.Paths.{walk_refusal}
 use Rattle.nl_namespace.specs.Placing.{IsPlace}
 use Rattle.nl_namespace.specs.declared.place.Place.{Place}
@@ -108,6 +108,9 @@ module _ {D : Type 0} (g : Ghosts D) (s : D) (p : Pages) (volume : IsVolumeShape
     is_space = refl;
     full = subst (λ (c : ℕ). IsFull free c space) (sym count-is) full;
   }
+
+  pub has-place : (free : Spaces) (m : ℕ) → HasSpare free place.rec.size m → HasPlace free graph path
+  has-place free m spare = record { n = place.dir; name = at.name; place = at.named; m = m; spare = subst (λ (c : ℕ). HasSpare free c m) (sym count-is) spare }
 
   pub size-fits : place.rec.size ≤ 1024
   size-fits = (spelled-dir place.rec at.is_dir is-directory.places.spelled).few

@@ -20,12 +20,13 @@ use Rattle.nl_tree.specs.Tree.{is_at_or_under, is_root, paths_eq}
 use Rattle.nl_tree.specs.declared.reply.Refusal.{Refusal}
 use Rattle.nl_tree.specs.declared.reply.Refusal.TheVariants.{Einval, Enametoolong, Enoent, Enospc, Enotempty}
 use Rattle.nl_tree.specs.declared.reply.Space.{Space}
+use Rattle.nl_meta.proofs.Lists.{none_some}
 use Rattle.nl_meta.proofs.PageProofs.{loaded}
 use Rattle.nl_running.proofs.Kept.{loads-on}
 use Rattle.nl_running.specs.Running.{Runs, RunsOn, running_on}
 use Rattle.nl_namespace.specs.Changing.{Changes, FreeFits}
 use Rattle.nl_namespace.specs.Finding.{IsThere, place_of}
-use Rattle.nl_namespace.specs.Moving.{CannotTake, LacksPlace, LacksRoomIn, MovesName, MovesOrStays, is_directory_body, refusal_of_place, refusal_of_rename, refusal_over, refusal_over_record}
+use Rattle.nl_namespace.specs.Moving.{CanTake, CannotTake, HasPlaceTo, LacksPlace, LacksRoomIn, MovesName, MovesOrStays, is_directory_body, refusal_of_place, refusal_of_rename, refusal_over, refusal_over_record}
 use Rattle.nl_namespace.specs.Naming.{body_at}
 use Rattle.nl_namespace.specs.Paths.{walk_refusal}
 use Rattle.nl_namespace.specs.Placing.{IsPlace}
@@ -137,19 +138,45 @@ module _ {D : Type 0} (g : Ghosts D) (s : D) (p : Pages) (volume : IsVolumeShape
             ∙ one-of (refusal_over_record old.node.kind lost.node.kind lost.node.size))
 
       -- nothing stands at the new path, and its directory has no room
-      pub lacks-place : (free : Spaces) (place : Place) (at : IsPlace g s p to place) → place.entry ≡ None → (space : Space) → LacksRoomIn free old.dir old.rec.size place.dir place.rec.size space → LacksPlace free graph from to (Enospc space)
-      lacks-place free place at absent space lacks = record {
+      pub lacks-place : (free : Spaces) (place : Place) (at : IsPlace g s p to place) → is_at_or_under from to ≡ false → place.entry ≡ None → (space : Space) → LacksRoomIn free old.dir old.rec.size place.dir place.rec.size space → LacksPlace free graph from to (Enospc space)
+      lacks-place free place at apart absent space lacks = record {
         n = old.dir;
         l = place.dir;
         name = there.place.name;
         name_to = at.name;
         place = there.place.named;
         place_to = at.named;
+        apart = apart;
         absent = dir-entry (g.shape s) (running_on g s p) place.dir place.rec at.is_node at.is_dir at.name ∙ ap (option_map (λ (e : EntryRec). e.ino)) (at.entry ∙ absent);
         other = lacks.0;
         space = space;
         is_space = refl;
         full = subst (λ (c : ℕ). CannotTake free c (length (entries_in (graph place.dir).body)) space) (sym (count-is g s p volume runs from (place_of old) there.place)) (subst (λ (c : ℕ). CannotTake free old.rec.size c space) (sym (count-is g s p volume runs to place at)) lacks.1);
+      }
+
+      -- nothing stands at the new path, and its directory has room
+      pub has-place-to : (free : Spaces) (place : Place) (at : IsPlace g s p to place) → CanTake free old.dir old.rec.size place.dir place.rec.size → HasPlaceTo free graph from to
+      has-place-to free place at can = record {
+        n = old.dir;
+        l = place.dir;
+        name = there.place.name;
+        name_to = at.name;
+        place = there.place.named;
+        place_to = at.named;
+        room = λ absent.
+            subst (λ (c : ℕ). CanTake free old.dir c place.dir (length (entries_in (graph place.dir).body))) (sym (count-is g s p volume runs from (place_of old) there.place)) (subst (λ (c : ℕ). CanTake free old.dir old.rec.size place.dir c) (sym (count-is g s p volume runs to place at)) can);
+      }
+
+      -- or something stands there
+      pub over-place-to : (free : Spaces) (lost : There) → IsThere g s p to lost → HasPlaceTo free graph from to
+      over-place-to free lost at = record {
+        n = old.dir;
+        l = lost.dir;
+        name = there.place.name;
+        name_to = at.place.name;
+        place = there.place.named;
+        place_to = at.place.named;
+        room = λ absent. absurd (none_some lost.entry.ino (sym absent ∙ dir-entry (g.shape s) (running_on g s p) lost.dir lost.rec at.place.is_node at.place.is_dir at.place.name ∙ ap (option_map (λ (e : EntryRec). e.ino)) at.place.entry));
       }
 
 -- ---- both paths, or two
@@ -165,6 +192,12 @@ moves-other old new from to gone e m = if-false (paths_eq from to) ((gone ≡ No
 
 pub stays-one : (old new : Graph) (from to : List (List ℕ)) (gone : Option ℕ) → gone ≡ None → paths_eq from to ≡ true → new ≡ old → MovesOrStays old new from to gone
 stays-one old new from to gone none e same = if-true (paths_eq from to) ((gone ≡ None) × (new ≡ old)) (MovesName old new from to gone) e (none, same)
+
+pub no-other-path : (free : Spaces) (graph : Graph) (from to : List (List ℕ)) → paths_eq from to ≡ true → paths_eq from to ≡ false → HasPlaceTo free graph from to
+no-other-path free graph from to e far = absurd (true-false (sym e ∙ far))
+  where
+    true-false : true ≡ false → ⊥
+    true-false h = cc
 
 -- ---- nothing changed
 

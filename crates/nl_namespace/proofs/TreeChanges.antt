@@ -92,7 +92,7 @@ makes_in_tree bytes_of free old new tree path node (change.Changed lost) stands 
           (added_entry bytes_of bytes_of old new tree made.n made.m made.place.parent made.name node stands.once (made.adds bytes_of) made.place.leads stands.represents),
     )
 makes_in_tree bytes_of free old new tree path node (change.No refusal) stands (inl e) = inl (making-same bytes_of old tree stands path ∙ e)
-makes_in_tree bytes_of free old new tree path node (change.No refusal) stands (inr m) = inr (making-same bytes_of old tree stands path ∙ m.0, (m.1.space, m.1.is_space))
+makes_in_tree bytes_of free old new tree path node (change.No refusal) stands (inr m) = inr (making-same bytes_of old tree stands path ∙ m.0, m.1)
 makes_in_tree bytes_of free old new tree path node change.Fault stands m = m
 makes_in_tree bytes_of free old new tree path node (change.Lost w f) stands m = m
 

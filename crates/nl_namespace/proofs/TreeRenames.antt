@@ -89,7 +89,7 @@ module _ (bytes_of : ℕ → List ℕ) (graph : Graph) (tree : Tree) (stands : S
   last-same a b c None e = same-behind a b c Enoent (cond (paths_eq from to) None (refusal_of_move tree from to)) (cond (paths_eq from to) None (refusal_of_place graph from to))
   last-same a b c (Some m) e = ap (λ (r : Option Refusal). first_of (a ∷ b ∷ c ∷ None ∷ cond (paths_eq from to) None r ∷ [])) (move-same m e)
 
-  rename-same : first_of (when (is_too_long from || (is_too_long to || false)) Enametoolong ∷ tree_refusal_of_rename tree from to ∷ []) ≡ refusal_of_rename graph from to
+  pub rename-same : first_of (when (is_too_long from || (is_too_long to || false)) Enametoolong ∷ tree_refusal_of_rename tree from to ∷ []) ≡ refusal_of_rename graph from to
   unfolding tree_refusal_of_rename
   rename-same =
       four (when (is_too_long from || (is_too_long to || false)) Enametoolong) (when (is_root from || is_root to) Einval) (prefix_refusal tree from) (missing tree from) (cond (paths_eq from to) None (refusal_of_move tree from to))
@@ -120,6 +120,6 @@ module _ (bytes_of : ℕ → List ℕ) (graph : Graph) (tree : Tree) (stands : S
 pub renames_in_tree : RenamesInTree
 renames_in_tree bytes_of free old new tree from to (change.Changed gone) stands m = (rename-same bytes_of old tree stands from to ∙ m.0, represents-after bytes_of old tree stands from to new gone m.1)
 renames_in_tree bytes_of free old new tree from to (change.No refusal) stands (inl e) = inl (rename-same bytes_of old tree stands from to ∙ e)
-renames_in_tree bytes_of free old new tree from to (change.No refusal) stands (inr m) = inr (rename-same bytes_of old tree stands from to ∙ m.0, (m.1.space, m.1.is_space))
+renames_in_tree bytes_of free old new tree from to (change.No refusal) stands (inr m) = inr (rename-same bytes_of old tree stands from to ∙ m.0, m.1)
 renames_in_tree bytes_of free old new tree from to change.Fault stands m = m
 renames_in_tree bytes_of free old new tree from to (change.Lost w f) stands m = m

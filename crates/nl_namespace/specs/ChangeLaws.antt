@@ -9,10 +9,9 @@ use Rattle.nl_tree.specs.GraphLaws.{NamedOnce}
 use Rattle.nl_tree.specs.Represents.{node_of, node_reached, Represents}
 use Rattle.nl_tree.specs.Step.{first_of, is_too_long, refusal_of_file, refusal_of_new, refusal_of_rename, refusal_of_rmdir, when}
 use Rattle.nl_tree.specs.Tree.{Node, Tree, directory, node_at, paths_eq, with_new, with_renamed, without}
-use Rattle.nl_tree.specs.declared.reply.Refusal.TheVariants.{Enametoolong, Enospc}
-use Rattle.nl_tree.specs.declared.reply.Space.{Space}
-use Rattle.nl_namespace.specs.Moving.{RenamesName}
-use Rattle.nl_namespace.specs.Naming.{MakesNode, RemovesName}
+use Rattle.nl_tree.specs.declared.reply.Refusal.TheVariants.{Enametoolong}
+use Rattle.nl_namespace.specs.Moving.{LacksPlace, RenamesName}
+use Rattle.nl_namespace.specs.Naming.{LacksRoom, MakesNode, RemovesName}
 use Rattle.nl_namespace.specs.declared.answer.Change.{Change}
 use Rattle.nl_namespace.specs.declared.answer.Change.TheVariants as change
 
@@ -23,19 +22,19 @@ pub record StandsFor (bytes_of : ℕ → List ℕ) (graph : Graph) (tree : Tree)
   pub once : NamedOnce graph
   pub used : (path : List (List ℕ)) (n : ℕ) → node_reached graph 0 path ≡ Some n → IsSome (node_of bytes_of (graph n).body)
 
--- A node was made as the tree's step makes it, or refused as the tree refuses it, or there was no room.
-abbrev pub IsMade : (ℕ → List ℕ) → Graph → Tree → List (List ℕ) → Node → Change → Type 0
-IsMade bytes_of new tree path node (change.Changed _) =
+-- A node was made as the tree's step makes it, or refused as the tree refuses it, or its directory lacks room.
+abbrev pub IsMade : (ℕ → List ℕ) → Spaces → Graph → Graph → Tree → List (List ℕ) → Node → Change → Type 0
+IsMade bytes_of free old new tree path node (change.Changed _) =
     (first_of (when (is_too_long path) Enametoolong ∷ refusal_of_new tree path ∷ []) ≡ None) × Represents bytes_of new (with_new tree path node)
-IsMade bytes_of new tree path node (change.No refusal) =
+IsMade bytes_of free old new tree path node (change.No refusal) =
     (first_of (when (is_too_long path) Enametoolong ∷ refusal_of_new tree path ∷ []) ≡ Some refusal)
-    ⊎ ((first_of (when (is_too_long path) Enametoolong ∷ refusal_of_new tree path ∷ []) ≡ None) × ((space : Space) × (refusal ≡ Enospc space)))
-IsMade bytes_of new tree path node change.Fault = ⊤
-IsMade bytes_of new tree path node (change.Lost w f) = ⊤
+    ⊎ ((first_of (when (is_too_long path) Enametoolong ∷ refusal_of_new tree path ∷ []) ≡ None) × LacksRoom free old path refusal)
+IsMade bytes_of free old new tree path node change.Fault = ⊤
+IsMade bytes_of free old new tree path node (change.Lost w f) = ⊤
 
 abbrev pub MakesInTree : Type 0
 MakesInTree = (bytes_of : ℕ → List ℕ) (free : Spaces) (old new : Graph) (tree : Tree) (path : List (List ℕ)) (node : Node) (answer : Change)
-    → StandsFor bytes_of old tree → MakesNode free old new path node answer → IsMade bytes_of new tree path node answer
+    → StandsFor bytes_of old tree → MakesNode free old new path node answer → IsMade bytes_of free old new tree path node answer
 
 -- A name is gone from the tree where the call was done.
 abbrev pub IsRemoved : (ℕ → List ℕ) → Graph → Tree → List (List ℕ) → Change → Type 0
@@ -70,17 +69,17 @@ abbrev pub RmdirsInTree : Type 0
 RmdirsInTree = (bytes_of : ℕ → List ℕ) (old new : Graph) (tree : Tree) (path : List (List ℕ)) (answer : Change)
     → StandsFor bytes_of old tree → RemovesName Dir old new path answer → IsRmdirOf tree path answer
 
--- What was under the one path is under the other, or nothing changed where both are one; or the refusal is the tree's, or there was no room.
-abbrev pub IsRenamed : (ℕ → List ℕ) → Graph → Tree → List (List ℕ) → List (List ℕ) → Change → Type 0
-IsRenamed bytes_of new tree from to (change.Changed _) =
+-- What was under the one path is under the other, or nothing changed where both are one; or the refusal is the tree's, or the directory lacks room.
+abbrev pub IsRenamed : (ℕ → List ℕ) → Spaces → Graph → Graph → Tree → List (List ℕ) → List (List ℕ) → Change → Type 0
+IsRenamed bytes_of free old new tree from to (change.Changed _) =
     (first_of (when (list_any is_too_long (from ∷ to ∷ [])) Enametoolong ∷ refusal_of_rename tree from to ∷ []) ≡ None)
     × Represents bytes_of new (if paths_eq from to then tree else with_renamed tree from to)
-IsRenamed bytes_of new tree from to (change.No refusal) =
+IsRenamed bytes_of free old new tree from to (change.No refusal) =
     (first_of (when (list_any is_too_long (from ∷ to ∷ [])) Enametoolong ∷ refusal_of_rename tree from to ∷ []) ≡ Some refusal)
-    ⊎ ((first_of (when (list_any is_too_long (from ∷ to ∷ [])) Enametoolong ∷ refusal_of_rename tree from to ∷ []) ≡ None) × ((space : Space) × (refusal ≡ Enospc space)))
-IsRenamed bytes_of new tree from to change.Fault = ⊤
-IsRenamed bytes_of new tree from to (change.Lost w f) = ⊤
+    ⊎ ((first_of (when (list_any is_too_long (from ∷ to ∷ [])) Enametoolong ∷ refusal_of_rename tree from to ∷ []) ≡ None) × LacksPlace free old from to refusal)
+IsRenamed bytes_of free old new tree from to change.Fault = ⊤
+IsRenamed bytes_of free old new tree from to (change.Lost w f) = ⊤
 
 abbrev pub RenamesInTree : Type 0
 RenamesInTree = (bytes_of : ℕ → List ℕ) (free : Spaces) (old new : Graph) (tree : Tree) (from to : List (List ℕ)) (answer : Change)
-    → StandsFor bytes_of old tree → RenamesName free old new from to answer → IsRenamed bytes_of new tree from to answer
+    → StandsFor bytes_of old tree → RenamesName free old new from to answer → IsRenamed bytes_of free old new tree from to answer

@@ -15,4 +15,5 @@ pub mod Placing
 pub mod Reading
 pub mod RoomLaws
 pub mod Sorting
+pub mod Standing
 pub mod Stepping

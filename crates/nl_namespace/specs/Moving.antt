@@ -81,7 +81,7 @@ CannotTake free others count space.Nodes = ⊥
 CannotTake free others count space.Meta = (count < 1024) × (count % 64 ≡ 0) × (others % 64 ≢ 1) × NoneFree free.pool
 CannotTake free others count space.Pages = ⊥
 
--- Nothing stands at the second path, which is one of another directory, and that has no room.
+-- Nothing stands at the second path, which is one of another directory, not under the first path, and that has no room.
 pub record LacksPlace (free : Spaces) (graph : Graph) (from to : List (List ℕ)) (refusal : Refusal) : Type 0 where
   pub n : ℕ
   pub l : ℕ
@@ -89,15 +89,30 @@ pub record LacksPlace (free : Spaces) (graph : Graph) (from to : List (List ℕ)
   pub name_to : List ℕ
   pub place : NameIn graph from n name
   pub place_to : NameIn graph to l name_to
+  pub apart : is_at_or_under from to ≡ false
   pub absent : entry_at graph l name_to ≡ None
   pub other : n ≢ l
   pub space : Space
   pub is_space : refusal ≡ Enospc space
   pub full : CannotTake free (length (entries_in (graph n).body)) (length (entries_in (graph l).body)) space
 
+-- There is room for the entry, once the other directory is without it.
+abbrev pub CanTake : Spaces → ℕ → ℕ → ℕ → ℕ → Type 0
+CanTake free dir others to count = (dir ≡ to) ⊎ ((count < 1024) × (count % 64 ≡ 0 → HasFreeAddress free ⊎ (others % 64 ≡ 1)))
+
+-- Where nothing stands at the second path, its directory has room.
+pub record HasPlaceTo (free : Spaces) (graph : Graph) (from to : List (List ℕ)) : Type 0 where
+  pub n : ℕ
+  pub l : ℕ
+  pub name : List ℕ
+  pub name_to : List ℕ
+  pub place : NameIn graph from n name
+  pub place_to : NameIn graph to l name_to
+  pub room : entry_at graph l name_to ≡ None → CanTake free n (length (entries_in (graph n).body)) l (length (entries_in (graph l).body))
+
 -- how a rename answers
 abbrev pub RenamesName : Spaces → Graph → Graph → List (List ℕ) → List (List ℕ) → Change → Type 0
-RenamesName free old new from to (change.Changed gone) = (refusal_of_rename old from to ≡ None) × MovesOrStays old new from to gone
+RenamesName free old new from to (change.Changed gone) = (refusal_of_rename old from to ≡ None) × MovesOrStays old new from to gone × (paths_eq from to ≡ false → HasPlaceTo free old from to)
 RenamesName free old new from to (change.No refusal) = (refusal_of_rename old from to ≡ Some refusal) ⊎ ((refusal_of_rename old from to ≡ None) × LacksPlace free old from to refusal)
 RenamesName free old new from to change.Fault = ⊤
 RenamesName free old new from to (change.Lost w f) = ⊤
@@ -109,10 +124,6 @@ pub record AreAllowed (from to : List (List ℕ)) : Type 0 where
   pub not_root : to ≢ []
 
 -- ---- room
-
--- There is room for the entry, once the other directory is without it.
-abbrev pub CanTake : Spaces → ℕ → ℕ → ℕ → ℕ → Type 0
-CanTake free dir others to count = (dir ≡ to) ⊎ ((count < 1024) × (count % 64 ≡ 0 → HasFreeAddress free ⊎ (others % 64 ≡ 1)))
 
 abbrev pub LacksRoomIn : Spaces → ℕ → ℕ → ℕ → ℕ → Space → Type 0
 LacksRoomIn free dir others to count lacked = (dir ≢ to) × CannotTake free others count lacked

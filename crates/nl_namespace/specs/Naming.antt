@@ -15,6 +15,7 @@ use Rattle.nl_tree.specs.declared.reply.Space.{Space}
 use Rattle.nl_tree.specs.declared.reply.Space.TheVariants as space
 use Rattle.nl_inode.specs.Free.{IsLeast, NoneFree}
 use Rattle.nl_inode.specs.Nodes.{Spaces}
+use Rattle.nl_namespace.specs.Making.{HasSpare}
 use Rattle.nl_namespace.specs.Paths.{walk_refusal}
 use Rattle.nl_namespace.specs.declared.answer.Change.{Change}
 use Rattle.nl_namespace.specs.declared.answer.Change.TheVariants as change
@@ -56,9 +57,17 @@ pub record LacksRoom (free : Spaces) (graph : Graph) (path : List (List ℕ)) (r
   pub is_space : refusal ≡ Enospc space
   pub full : IsFull free (length (entries_in (graph n).body)) space
 
+-- The directory of the last name has room for a new node under it.
+pub record HasPlace (free : Spaces) (graph : Graph) (path : List (List ℕ)) : Type 0 where
+  pub n : ℕ
+  pub name : List ℕ
+  pub place : NameIn graph path n name
+  pub m : ℕ
+  pub spare : HasSpare free (length (entries_in (graph n).body)) m
+
 -- how a call answers that makes a node under a path
 abbrev pub MakesNode : Spaces → Graph → Graph → List (List ℕ) → Node → Change → Type 0
-MakesNode free old new path node (change.Changed gone) = (refusal_of_name old path ≡ None) × (gone ≡ None) × MakesName old new path node
+MakesNode free old new path node (change.Changed gone) = (refusal_of_name old path ≡ None) × (gone ≡ None) × MakesName old new path node × HasPlace free old path
 MakesNode free old new path node (change.No refusal) = (refusal_of_name old path ≡ Some refusal) ⊎ ((refusal_of_name old path ≡ None) × LacksRoom free old path refusal)
 MakesNode free old new path node change.Fault = ⊤
 MakesNode free old new path node (change.Lost w f) = ⊤

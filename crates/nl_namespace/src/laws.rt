@@ -34,7 +34,8 @@ pub fn renames_in_tree()
     ensures { RenamesInTree }
 {}
 
-/// A call that changes names answers as the step of the tree for which the nodes stand, and leaves the nodes of the tree that it leaves.
+/// A call that changes names answers exactly as the step of the tree for which the pages stand, also where there is no room and of what, and
+/// leaves the nodes of the tree that the step leaves.
 pub fn changes_in_tree()
     ensures { ChangesInTree }
 {}

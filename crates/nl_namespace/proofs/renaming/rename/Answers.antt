@@ -11,11 +11,11 @@ use Rattle.nl_namespace.specs.Moving.{RenamesName}
 use Rattle.nl_namespace.proofs.Chains.{then-graph, then-runs}
 use Rattle.nl_namespace.proofs.MakeDone.{held-then, not-empty-root}
 use Rattle.nl_namespace.proofs.MakeReady.{fits-then, leaves-after}
-use Rattle.nl_namespace.proofs.MoveRefusals.{kept-changes, missing-old, same-path, stays-one, there-then, under-itself}
+use Rattle.nl_namespace.proofs.MoveRefusals.{kept-changes, missing-old, no-other-path, same-path, stays-one, there-then, under-itself}
 use Rattle.nl_namespace.proofs.renaming.rename.Goals as goal
 
 pub returns-then-are_one-clause-answer : goal.returns-then-are_one-clause-answer
-returns-then-are_one-clause-answer g c = (same-path g.D.Counts c.args.device.now c.args.meta.now (g.met.D.VirtualPages.numbers c.args.device.now c.requires.formed) c.requires.runs c.args.from.now c.args.to.now c.in-Ok-At.old (subst (IsFound g.D.Counts c.args.device.now c.args.meta.now c.args.from.now) c.in-Ok-At.field-0-is c.in-Ok-At.ensures.found) (ap is_too_long (sym c.names.ensures) ∙ sym c.is_long.ensures ∙ c.if-is_long.false) (ap is_too_long (sym c.names-else-is_long.ensures) ∙ sym c.is_long-else-is_long.ensures ∙ c.if-is_long-2.false) (not-empty-root c.args.to.now (λ e. c.if-len-eq0-2.false (c.len-else-len-eq0.ensures.count ∙ ap length e))) ((λ i. paths_eq (sym c.names-in-Ok-At.ensures i) (sym c.names-in-Ok-At-2.ensures i)) ∙ sym c.are_one.ensures ∙ c.if-are_one.true), stays-one (graph_of (g.D.Counts.shape c.args.device.now) (running_on g.D.Counts c.args.device.now c.args.meta.now)) (graph_of (g.D.Counts.shape c.find_node.new.device) (running_on g.D.Counts c.find_node.new.device c.find_node.new.meta)) c.args.from.now c.args.to.now None refl ((λ i. paths_eq (sym c.names-in-Ok-At.ensures i) (sym c.names-in-Ok-At-2.ensures i)) ∙ sym c.are_one.ensures ∙ c.if-are_one.true) (then-graph g.D.Counts c.args.device.now c.args.meta.now c.find_node.new.device c.find_node.new.meta (g.met.D.VirtualPages.numbers c.args.device.now c.requires.formed) c.in-Ok-At.ensures.kept))
+returns-then-are_one-clause-answer g c = (same-path g.D.Counts c.args.device.now c.args.meta.now (g.met.D.VirtualPages.numbers c.args.device.now c.requires.formed) c.requires.runs c.args.from.now c.args.to.now c.in-Ok-At.old (subst (IsFound g.D.Counts c.args.device.now c.args.meta.now c.args.from.now) c.in-Ok-At.field-0-is c.in-Ok-At.ensures.found) (ap is_too_long (sym c.names.ensures) ∙ sym c.is_long.ensures ∙ c.if-is_long.false) (ap is_too_long (sym c.names-else-is_long.ensures) ∙ sym c.is_long-else-is_long.ensures ∙ c.if-is_long-2.false) (not-empty-root c.args.to.now (λ e. c.if-len-eq0-2.false (c.len-else-len-eq0.ensures.count ∙ ap length e))) ((λ i. paths_eq (sym c.names-in-Ok-At.ensures i) (sym c.names-in-Ok-At-2.ensures i)) ∙ sym c.are_one.ensures ∙ c.if-are_one.true), stays-one (graph_of (g.D.Counts.shape c.args.device.now) (running_on g.D.Counts c.args.device.now c.args.meta.now)) (graph_of (g.D.Counts.shape c.find_node.new.device) (running_on g.D.Counts c.find_node.new.device c.find_node.new.meta)) c.args.from.now c.args.to.now None refl ((λ i. paths_eq (sym c.names-in-Ok-At.ensures i) (sym c.names-in-Ok-At-2.ensures i)) ∙ sym c.are_one.ensures ∙ c.if-are_one.true) (then-graph g.D.Counts c.args.device.now c.args.meta.now c.find_node.new.device c.find_node.new.meta (g.met.D.VirtualPages.numbers c.args.device.now c.requires.formed) c.in-Ok-At.ensures.kept), no-other-path c.args.nodes.now (graph_of (g.D.Counts.shape c.args.device.now) (running_on g.D.Counts c.args.device.now c.args.meta.now)) c.args.from.now c.args.to.now ((λ i. paths_eq (sym c.names-in-Ok-At.ensures i) (sym c.names-in-Ok-At-2.ensures i)) ∙ sym c.are_one.ensures ∙ c.if-are_one.true))
 
 pub returns-then-are_one-clause-left : goal.returns-then-are_one-clause-left
 returns-then-are_one-clause-left g c = kept-changes g.D.Counts c.args.device.now c.args.meta.now c.find_node.new.device c.find_node.new.meta (g.met.D.VirtualPages.numbers c.args.device.now c.requires.formed) c.requires.runs c.in-Ok-At.ensures.kept c.args.nodes.now c.requires.free

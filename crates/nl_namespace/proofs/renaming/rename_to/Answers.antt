@@ -8,7 +8,7 @@ use Rattle.nl_namespace.specs.Finding.{FitsAfter, IfFound, IsFound, MovesIn, pla
 use Rattle.nl_namespace.proofs.MakeDone.{last-is-name, not-empty-root}
 use Rattle.nl_namespace.proofs.MakeReady.{size-fits}
 use Rattle.nl_namespace.proofs.MoveDone.{apart-of, free-changes, free-fits, free-moved, free-named, over-changes, over-fits, over-moved, over-named, over-origin}
-use Rattle.nl_namespace.proofs.MoveRefusals.{free-unrefused, lacks-place, moves-other, over-refused, walk-refused}
+use Rattle.nl_namespace.proofs.MoveRefusals.{free-unrefused, has-place-to, lacks-place, moves-other, over-place-to, over-refused, walk-refused}
 use Rattle.nl_namespace.proofs.renaming.rename_to.Goals as goal
 
 pub find_node-requires-clause-formed : goal.find_node-requires-clause-formed
@@ -57,7 +57,7 @@ pub returns-in-None-clause-formed : goal.returns-in-None-clause-formed
 returns-in-None-clause-formed g c = c.in-Ok-At.ensures.formed
 
 pub returns-in-None-clause-answer : goal.returns-in-None-clause-answer
-returns-in-None-clause-answer g c = (over-refused g.D.Counts c.args.device.now c.args.meta.now (g.met.D.VirtualPages.numbers c.args.device.now c.requires.formed) c.requires.runs c.args.from.now c.args.to.now c.args.old.now c.requires.there c.requires.paths.short c.requires.paths.short_to (not-empty-root c.args.to.now c.requires.paths.not_root) c.requires.other c.requires.not_under c.in-Ok-At.over (subst (IsFound g.D.Counts c.args.device.now c.args.meta.now c.args.to.now) c.in-Ok-At.field-0-is c.in-Ok-At.ensures.found) ∙ (sym c.refused_over.ensures ∙ c.in-None.is), moves-other (graph_of (g.D.Counts.shape c.args.device.now) (running_on g.D.Counts c.args.device.now c.args.meta.now)) (graph_of (g.D.Counts.shape c.find_node.new.device) (running_on g.D.Counts c.find_node.new.device c.move_entry.new.meta)) c.args.from.now c.args.to.now _ c.requires.other (over-moved g.D.Counts c.args.device.now c.args.meta.now c.find_node.new.device c.find_node.new.meta (g.met.D.VirtualPages.numbers c.args.device.now c.requires.formed) (g.met.D.VirtualPages.numbers c.find_node.new.device c.in-Ok-At.ensures.formed) c.requires.runs c.in-Ok-At.ensures.kept c.args.nodes.now c.requires.free c.requires.room c.args.from.now c.args.to.now c.args.old.now c.requires.there c.requires.held c.in-Ok-At.over (subst (IsFound g.D.Counts c.args.device.now c.args.meta.now c.args.to.now) c.in-Ok-At.field-0-is c.in-Ok-At.ensures.found) (subst (IfFound g.D.Counts c.args.device.now c.args.meta.now c.find_node.new.meta) c.in-Ok-At.field-0-is c.in-Ok-At.ensures.held) (apart-of g.D.Counts c.args.device.now c.args.meta.now (g.met.D.VirtualPages.numbers c.args.device.now c.requires.formed) c.requires.runs c.args.from.now c.args.to.now c.args.old.now c.requires.there c.requires.other c.requires.not_under (place_of c.in-Ok-At.over) (subst (IsFound g.D.Counts c.args.device.now c.args.meta.now c.args.to.now) c.in-Ok-At.field-0-is c.in-Ok-At.ensures.found).place) c.take_out.new.meta c.take_out.new.nodes (subst (λ (x : List ℕ). TakesOut c.in-Ok-At.over.dir x c.find_node.new.meta c.take_out.new.meta c.args.nodes.now c.take_out.new.nodes) c.bytes.ensures.value c.take_out.ensures) (sym c.refused_over.ensures ∙ c.in-None.is) c.move_entry.new.meta c.move_entry.new.nodes c.move_entry.ensures))
+returns-in-None-clause-answer g c = (over-refused g.D.Counts c.args.device.now c.args.meta.now (g.met.D.VirtualPages.numbers c.args.device.now c.requires.formed) c.requires.runs c.args.from.now c.args.to.now c.args.old.now c.requires.there c.requires.paths.short c.requires.paths.short_to (not-empty-root c.args.to.now c.requires.paths.not_root) c.requires.other c.requires.not_under c.in-Ok-At.over (subst (IsFound g.D.Counts c.args.device.now c.args.meta.now c.args.to.now) c.in-Ok-At.field-0-is c.in-Ok-At.ensures.found) ∙ (sym c.refused_over.ensures ∙ c.in-None.is), moves-other (graph_of (g.D.Counts.shape c.args.device.now) (running_on g.D.Counts c.args.device.now c.args.meta.now)) (graph_of (g.D.Counts.shape c.find_node.new.device) (running_on g.D.Counts c.find_node.new.device c.move_entry.new.meta)) c.args.from.now c.args.to.now _ c.requires.other (over-moved g.D.Counts c.args.device.now c.args.meta.now c.find_node.new.device c.find_node.new.meta (g.met.D.VirtualPages.numbers c.args.device.now c.requires.formed) (g.met.D.VirtualPages.numbers c.find_node.new.device c.in-Ok-At.ensures.formed) c.requires.runs c.in-Ok-At.ensures.kept c.args.nodes.now c.requires.free c.requires.room c.args.from.now c.args.to.now c.args.old.now c.requires.there c.requires.held c.in-Ok-At.over (subst (IsFound g.D.Counts c.args.device.now c.args.meta.now c.args.to.now) c.in-Ok-At.field-0-is c.in-Ok-At.ensures.found) (subst (IfFound g.D.Counts c.args.device.now c.args.meta.now c.find_node.new.meta) c.in-Ok-At.field-0-is c.in-Ok-At.ensures.held) (apart-of g.D.Counts c.args.device.now c.args.meta.now (g.met.D.VirtualPages.numbers c.args.device.now c.requires.formed) c.requires.runs c.args.from.now c.args.to.now c.args.old.now c.requires.there c.requires.other c.requires.not_under (place_of c.in-Ok-At.over) (subst (IsFound g.D.Counts c.args.device.now c.args.meta.now c.args.to.now) c.in-Ok-At.field-0-is c.in-Ok-At.ensures.found).place) c.take_out.new.meta c.take_out.new.nodes (subst (λ (x : List ℕ). TakesOut c.in-Ok-At.over.dir x c.find_node.new.meta c.take_out.new.meta c.args.nodes.now c.take_out.new.nodes) c.bytes.ensures.value c.take_out.ensures) (sym c.refused_over.ensures ∙ c.in-None.is) c.move_entry.new.meta c.move_entry.new.nodes c.move_entry.ensures), λ far. over-place-to g.D.Counts c.args.device.now c.args.meta.now (g.met.D.VirtualPages.numbers c.args.device.now c.requires.formed) c.requires.runs c.args.from.now c.args.to.now c.args.old.now c.requires.there c.requires.paths.short c.requires.paths.short_to (not-empty-root c.args.to.now c.requires.paths.not_root) c.requires.other c.args.nodes.now c.in-Ok-At.over (subst (IsFound g.D.Counts c.args.device.now c.args.meta.now c.args.to.now) c.in-Ok-At.field-0-is c.in-Ok-At.ensures.found))
 
 pub returns-in-None-clause-left : goal.returns-in-None-clause-left
 returns-in-None-clause-left g c = over-changes g.D.Counts c.args.device.now c.args.meta.now c.find_node.new.device c.find_node.new.meta (g.met.D.VirtualPages.numbers c.args.device.now c.requires.formed) (g.met.D.VirtualPages.numbers c.find_node.new.device c.in-Ok-At.ensures.formed) c.requires.runs c.in-Ok-At.ensures.kept c.args.nodes.now c.requires.free c.requires.room c.args.from.now c.args.to.now c.args.old.now c.requires.there c.requires.held c.in-Ok-At.over (subst (IsFound g.D.Counts c.args.device.now c.args.meta.now c.args.to.now) c.in-Ok-At.field-0-is c.in-Ok-At.ensures.found) (subst (IfFound g.D.Counts c.args.device.now c.args.meta.now c.find_node.new.meta) c.in-Ok-At.field-0-is c.in-Ok-At.ensures.held) (apart-of g.D.Counts c.args.device.now c.args.meta.now (g.met.D.VirtualPages.numbers c.args.device.now c.requires.formed) c.requires.runs c.args.from.now c.args.to.now c.args.old.now c.requires.there c.requires.other c.requires.not_under (place_of c.in-Ok-At.over) (subst (IsFound g.D.Counts c.args.device.now c.args.meta.now c.args.to.now) c.in-Ok-At.field-0-is c.in-Ok-At.ensures.found).place) c.take_out.new.meta c.take_out.new.nodes (subst (λ (x : List ℕ). TakesOut c.in-Ok-At.over.dir x c.find_node.new.meta c.take_out.new.meta c.args.nodes.now c.take_out.new.nodes) c.bytes.ensures.value c.take_out.ensures) (sym c.refused_over.ensures ∙ c.in-None.is) c.move_entry.new.meta c.move_entry.new.nodes c.move_entry.ensures
@@ -69,7 +69,7 @@ pub returns-in-Some-lacks_room-clause-formed : goal.returns-in-Some-lacks_room-c
 returns-in-Some-lacks_room-clause-formed g c = c.in-Ok-Free.ensures.formed
 
 pub returns-in-Some-lacks_room-clause-answer : goal.returns-in-Some-lacks_room-clause-answer
-returns-in-Some-lacks_room-clause-answer g c = inr (free-unrefused g.D.Counts c.args.device.now c.args.meta.now (g.met.D.VirtualPages.numbers c.args.device.now c.requires.formed) c.requires.runs c.args.from.now c.args.to.now c.args.old.now c.requires.there c.requires.paths.short c.requires.paths.short_to (not-empty-root c.args.to.now c.requires.paths.not_root) c.requires.other c.requires.not_under c.in-Ok-Free.place (subst (IsFound g.D.Counts c.args.device.now c.args.meta.now c.args.to.now) c.in-Ok-Free.field-0-is c.in-Ok-Free.ensures.found).0 (subst (IsFound g.D.Counts c.args.device.now c.args.meta.now c.args.to.now) c.in-Ok-Free.field-0-is c.in-Ok-Free.ensures.found).1, lacks-place g.D.Counts c.args.device.now c.args.meta.now (g.met.D.VirtualPages.numbers c.args.device.now c.requires.formed) c.requires.runs c.args.from.now c.args.to.now c.args.old.now c.requires.there c.requires.paths.short c.requires.paths.short_to (not-empty-root c.args.to.now c.requires.paths.not_root) c.requires.other c.args.nodes.now c.in-Ok-Free.place (subst (IsFound g.D.Counts c.args.device.now c.args.meta.now c.args.to.now) c.in-Ok-Free.field-0-is c.in-Ok-Free.ensures.found).0 (subst (IsFound g.D.Counts c.args.device.now c.args.meta.now c.args.to.now) c.in-Ok-Free.field-0-is c.in-Ok-Free.ensures.found).1 c.in-Some-lacks_room.space c.in-Some-lacks_room.ensures.room)
+returns-in-Some-lacks_room-clause-answer g c = inr (free-unrefused g.D.Counts c.args.device.now c.args.meta.now (g.met.D.VirtualPages.numbers c.args.device.now c.requires.formed) c.requires.runs c.args.from.now c.args.to.now c.args.old.now c.requires.there c.requires.paths.short c.requires.paths.short_to (not-empty-root c.args.to.now c.requires.paths.not_root) c.requires.other c.requires.not_under c.in-Ok-Free.place (subst (IsFound g.D.Counts c.args.device.now c.args.meta.now c.args.to.now) c.in-Ok-Free.field-0-is c.in-Ok-Free.ensures.found).0 (subst (IsFound g.D.Counts c.args.device.now c.args.meta.now c.args.to.now) c.in-Ok-Free.field-0-is c.in-Ok-Free.ensures.found).1, lacks-place g.D.Counts c.args.device.now c.args.meta.now (g.met.D.VirtualPages.numbers c.args.device.now c.requires.formed) c.requires.runs c.args.from.now c.args.to.now c.args.old.now c.requires.there c.requires.paths.short c.requires.paths.short_to (not-empty-root c.args.to.now c.requires.paths.not_root) c.requires.other c.args.nodes.now c.in-Ok-Free.place (subst (IsFound g.D.Counts c.args.device.now c.args.meta.now c.args.to.now) c.in-Ok-Free.field-0-is c.in-Ok-Free.ensures.found).0 (apart-of g.D.Counts c.args.device.now c.args.meta.now (g.met.D.VirtualPages.numbers c.args.device.now c.requires.formed) c.requires.runs c.args.from.now c.args.to.now c.args.old.now c.requires.there c.requires.other c.requires.not_under c.in-Ok-Free.place (subst (IsFound g.D.Counts c.args.device.now c.args.meta.now c.args.to.now) c.in-Ok-Free.field-0-is c.in-Ok-Free.ensures.found).0) (subst (IsFound g.D.Counts c.args.device.now c.args.meta.now c.args.to.now) c.in-Ok-Free.field-0-is c.in-Ok-Free.ensures.found).1 c.in-Some-lacks_room.space c.in-Some-lacks_room.ensures.room)
 
 pub returns-in-Some-lacks_room-clause-left : goal.returns-in-Some-lacks_room-clause-left
 returns-in-Some-lacks_room-clause-left g c = (c.in-Ok-Free.ensures.kept, c.in-Some-lacks_room.ensures.same)
@@ -81,7 +81,7 @@ pub returns-in-None-lacks_room-clause-formed : goal.returns-in-None-lacks_room-c
 returns-in-None-lacks_room-clause-formed g c = c.in-Ok-Free.ensures.formed
 
 pub returns-in-None-lacks_room-clause-answer : goal.returns-in-None-lacks_room-clause-answer
-returns-in-None-lacks_room-clause-answer g c = (free-unrefused g.D.Counts c.args.device.now c.args.meta.now (g.met.D.VirtualPages.numbers c.args.device.now c.requires.formed) c.requires.runs c.args.from.now c.args.to.now c.args.old.now c.requires.there c.requires.paths.short c.requires.paths.short_to (not-empty-root c.args.to.now c.requires.paths.not_root) c.requires.other c.requires.not_under c.in-Ok-Free.place (subst (IsFound g.D.Counts c.args.device.now c.args.meta.now c.args.to.now) c.in-Ok-Free.field-0-is c.in-Ok-Free.ensures.found).0 (subst (IsFound g.D.Counts c.args.device.now c.args.meta.now c.args.to.now) c.in-Ok-Free.field-0-is c.in-Ok-Free.ensures.found).1, moves-other (graph_of (g.D.Counts.shape c.args.device.now) (running_on g.D.Counts c.args.device.now c.args.meta.now)) (graph_of (g.D.Counts.shape c.find_node.new.device) (running_on g.D.Counts c.find_node.new.device c.move_entry-in-None-lacks_room.new.meta)) c.args.from.now c.args.to.now _ c.requires.other (free-moved g.D.Counts c.args.device.now c.args.meta.now c.find_node.new.device c.find_node.new.meta (g.met.D.VirtualPages.numbers c.args.device.now c.requires.formed) (g.met.D.VirtualPages.numbers c.find_node.new.device c.in-Ok-Free.ensures.formed) c.requires.runs c.in-Ok-Free.ensures.kept c.args.nodes.now c.requires.free c.requires.room c.args.from.now c.args.to.now c.args.old.now c.requires.there c.requires.held c.in-Ok-Free.place (subst (IsFound g.D.Counts c.args.device.now c.args.meta.now c.args.to.now) c.in-Ok-Free.field-0-is c.in-Ok-Free.ensures.found).0 (subst (IfFound g.D.Counts c.args.device.now c.args.meta.now c.find_node.new.meta) c.in-Ok-Free.field-0-is c.in-Ok-Free.ensures.held) (apart-of g.D.Counts c.args.device.now c.args.meta.now (g.met.D.VirtualPages.numbers c.args.device.now c.requires.formed) c.requires.runs c.args.from.now c.args.to.now c.args.old.now c.requires.there c.requires.other c.requires.not_under c.in-Ok-Free.place (subst (IsFound g.D.Counts c.args.device.now c.args.meta.now c.args.to.now) c.in-Ok-Free.field-0-is c.in-Ok-Free.ensures.found).0) (subst (IsFound g.D.Counts c.args.device.now c.args.meta.now c.args.to.now) c.in-Ok-Free.field-0-is c.in-Ok-Free.ensures.found).1 c.in-None-lacks_room.ensures.room c.name_of.result (ap (λ (k : ℕ). slice_get c.args.to.now (k - 1)) (sym c.len.ensures.count) ∙ c.get-last.ensures ∙ ap (λ (x : List ℕ). Some x) (sym c.bytes-in-None-lacks_room.ensures) ∙ ap (λ (x : List ℕ). Some x) (sym c.name_of.ensures)) c.move_entry-in-None-lacks_room.new.meta c.move_entry-in-None-lacks_room.new.nodes (subst (λ (z : Spaces). MovesIn c.args.old.now.dir c.args.old.now.entry c.in-Ok-Free.place.dir c.name_of.result c.find_node.new.meta c.move_entry-in-None-lacks_room.new.meta z c.move_entry-in-None-lacks_room.new.nodes) c.in-None-lacks_room.ensures.same c.move_entry-in-None-lacks_room.ensures)))
+returns-in-None-lacks_room-clause-answer g c = (free-unrefused g.D.Counts c.args.device.now c.args.meta.now (g.met.D.VirtualPages.numbers c.args.device.now c.requires.formed) c.requires.runs c.args.from.now c.args.to.now c.args.old.now c.requires.there c.requires.paths.short c.requires.paths.short_to (not-empty-root c.args.to.now c.requires.paths.not_root) c.requires.other c.requires.not_under c.in-Ok-Free.place (subst (IsFound g.D.Counts c.args.device.now c.args.meta.now c.args.to.now) c.in-Ok-Free.field-0-is c.in-Ok-Free.ensures.found).0 (subst (IsFound g.D.Counts c.args.device.now c.args.meta.now c.args.to.now) c.in-Ok-Free.field-0-is c.in-Ok-Free.ensures.found).1, moves-other (graph_of (g.D.Counts.shape c.args.device.now) (running_on g.D.Counts c.args.device.now c.args.meta.now)) (graph_of (g.D.Counts.shape c.find_node.new.device) (running_on g.D.Counts c.find_node.new.device c.move_entry-in-None-lacks_room.new.meta)) c.args.from.now c.args.to.now _ c.requires.other (free-moved g.D.Counts c.args.device.now c.args.meta.now c.find_node.new.device c.find_node.new.meta (g.met.D.VirtualPages.numbers c.args.device.now c.requires.formed) (g.met.D.VirtualPages.numbers c.find_node.new.device c.in-Ok-Free.ensures.formed) c.requires.runs c.in-Ok-Free.ensures.kept c.args.nodes.now c.requires.free c.requires.room c.args.from.now c.args.to.now c.args.old.now c.requires.there c.requires.held c.in-Ok-Free.place (subst (IsFound g.D.Counts c.args.device.now c.args.meta.now c.args.to.now) c.in-Ok-Free.field-0-is c.in-Ok-Free.ensures.found).0 (subst (IfFound g.D.Counts c.args.device.now c.args.meta.now c.find_node.new.meta) c.in-Ok-Free.field-0-is c.in-Ok-Free.ensures.held) (apart-of g.D.Counts c.args.device.now c.args.meta.now (g.met.D.VirtualPages.numbers c.args.device.now c.requires.formed) c.requires.runs c.args.from.now c.args.to.now c.args.old.now c.requires.there c.requires.other c.requires.not_under c.in-Ok-Free.place (subst (IsFound g.D.Counts c.args.device.now c.args.meta.now c.args.to.now) c.in-Ok-Free.field-0-is c.in-Ok-Free.ensures.found).0) (subst (IsFound g.D.Counts c.args.device.now c.args.meta.now c.args.to.now) c.in-Ok-Free.field-0-is c.in-Ok-Free.ensures.found).1 c.in-None-lacks_room.ensures.room c.name_of.result (ap (λ (k : ℕ). slice_get c.args.to.now (k - 1)) (sym c.len.ensures.count) ∙ c.get-last.ensures ∙ ap (λ (x : List ℕ). Some x) (sym c.bytes-in-None-lacks_room.ensures) ∙ ap (λ (x : List ℕ). Some x) (sym c.name_of.ensures)) c.move_entry-in-None-lacks_room.new.meta c.move_entry-in-None-lacks_room.new.nodes (subst (λ (z : Spaces). MovesIn c.args.old.now.dir c.args.old.now.entry c.in-Ok-Free.place.dir c.name_of.result c.find_node.new.meta c.move_entry-in-None-lacks_room.new.meta z c.move_entry-in-None-lacks_room.new.nodes) c.in-None-lacks_room.ensures.same c.move_entry-in-None-lacks_room.ensures)), λ far. has-place-to g.D.Counts c.args.device.now c.args.meta.now (g.met.D.VirtualPages.numbers c.args.device.now c.requires.formed) c.requires.runs c.args.from.now c.args.to.now c.args.old.now c.requires.there c.requires.paths.short c.requires.paths.short_to (not-empty-root c.args.to.now c.requires.paths.not_root) c.requires.other c.args.nodes.now c.in-Ok-Free.place (subst (IsFound g.D.Counts c.args.device.now c.args.meta.now c.args.to.now) c.in-Ok-Free.field-0-is c.in-Ok-Free.ensures.found).0 c.in-None-lacks_room.ensures.room)
 
 pub returns-in-None-lacks_room-clause-left : goal.returns-in-None-lacks_room-clause-left
 returns-in-None-lacks_room-clause-left g c = free-changes g.D.Counts c.args.device.now c.args.meta.now c.find_node.new.device c.find_node.new.meta (g.met.D.VirtualPages.numbers c.args.device.now c.requires.formed) (g.met.D.VirtualPages.numbers c.find_node.new.device c.in-Ok-Free.ensures.formed) c.requires.runs c.in-Ok-Free.ensures.kept c.args.nodes.now c.requires.free c.requires.room c.args.from.now c.args.to.now c.args.old.now c.requires.there c.requires.held c.in-Ok-Free.place (subst (IsFound g.D.Counts c.args.device.now c.args.meta.now c.args.to.now) c.in-Ok-Free.field-0-is c.in-Ok-Free.ensures.found).0 (subst (IfFound g.D.Counts c.args.device.now c.args.meta.now c.find_node.new.meta) c.in-Ok-Free.field-0-is c.in-Ok-Free.ensures.held) (apart-of g.D.Counts c.args.device.now c.args.meta.now (g.met.D.VirtualPages.numbers c.args.device.now c.requires.formed) c.requires.runs c.args.from.now c.args.to.now c.args.old.now c.requires.there c.requires.other c.requires.not_under c.in-Ok-Free.place (subst (IsFound g.D.Counts c.args.device.now c.args.meta.now c.args.to.now) c.in-Ok-Free.field-0-is c.in-Ok-Free.ensures.found).0) (subst (IsFound g.D.Counts c.args.device.now c.args.meta.now c.args.to.now) c.in-Ok-Free.field-0-is c.in-Ok-Free.ensures.found).1 c.in-None-lacks_room.ensures.room c.name_of.result (ap (λ (k : ℕ). slice_get c.args.to.now (k - 1)) (sym c.len.ensures.count) ∙ c.get-last.ensures ∙ ap (λ (x : List ℕ). Some x) (sym c.bytes-in-None-lacks_room.ensures) ∙ ap (λ (x : List ℕ). Some x) (sym c.name_of.ensures)) c.move_entry-in-None-lacks_room.new.meta c.move_entry-in-None-lacks_room.new.nodes (subst (λ (z : Spaces). MovesIn c.args.old.now.dir c.args.old.now.entry c.in-Ok-Free.place.dir c.name_of.result c.find_node.new.meta c.move_entry-in-None-lacks_room.new.meta z c.move_entry-in-None-lacks_room.new.nodes) c.in-None-lacks_room.ensures.same c.move_entry-in-None-lacks_room.ensures)
