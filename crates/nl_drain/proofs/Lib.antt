@@ -1,8 +1,6 @@
-mod Counting
 mod Free
 mod Handled
 mod Joined
-mod Loop
 pub mod Marked
 mod Nameless
 mod Pages

@@ -1,8 +1,6 @@
 -- Which callback cannot be handled, and what a call answers then.
-use Rattle.std.specs.Prelude.{◌≡◌, ℕ, ◌≤◌, Option, Some, None}
+use Rattle.std.specs.Prelude.{Option, Some, None}
 use Rattle.nl_handler.specs.Handling.{CannotBeDirty, IsElsewhere}
-use Rattle.nl_iface.specs.Moves.{IsUnhandled}
-use Rattle.nl_iface.specs.Names.{Has, Names}
 use Rattle.nl_iface.specs.declared.Callback.{Callback}
 use Rattle.nl_iface.specs.declared.counts.Counts.{Ghosts}
 use Rattle.nl_running.specs.declared.answer.Stop.{Stop}
@@ -16,18 +14,6 @@ use Rattle.nl_drain.specs.declared.draining.Drained.TheVariants as drained
 pub record IsBlocked {D : Type 0} (g : Ghosts D) (v : Volume D) (c : Callback) : Type 0 where
   pub nowhere : IsElsewhere c.stamp v.flight v.freeing → ⊥
   pub full : CannotBeDirty (g.shape v.device) (running_of g v) v.pages c.tag c.stamp
-
--- of the callbacks that no transaction handled, the one with the least number
-pub record IsNext (names : Names) (c : Callback) : Type 0 where
-  pub pending : Has names.pending c
-  pub unhandled : names.handled c.number ≡ None
-  pub least : (n : ℕ) → IsUnhandled names n → c.number ≤ n
-
--- the next callback cannot be handled
-pub record NextIsBlocked {D : Type 0} (g : Ghosts D) (v : Volume D) : Type 0 where
-  pub callback : Callback
-  pub next : IsNext (g.names v.device) callback
-  pub blocked : IsBlocked g v callback
 
 -- what ended the handling early
 abbrev pub drained_stop : Drained → Option Stop

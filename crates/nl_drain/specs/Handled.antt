@@ -1,5 +1,5 @@
 -- What the handling of callbacks does to a volume: they count as handled, and names of pages change.
-use Rattle.std.specs.Prelude.{◌≡◌, ◌⊎◌, ℕ, ◌<◌, ◌≤◌, true, not, List, count_by, map, Some, is_some}
+use Rattle.std.specs.Prelude.{◌≡◌, ◌⊎◌, ℕ, ◌<◌, ◌≤◌, true, List, map, Some}
 use Rattle.nl_field.specs.Graph.{Graph, NodeBody, directory_node, file_node, unused}
 use Rattle.nl_field.specs.declared.pointer.Pointer.{Pointer}
 use Rattle.nl_flight.specs.Flight.{InFlight, carried}
@@ -41,10 +41,6 @@ nodes_of g v = graph_of (g.shape v.device) (running_of g v)
 -- each pending callback was handled
 abbrev pub AllHandled : Names → Type 0
 AllHandled names = (n : ℕ) → IsUnhandled names n → ⊥
-
--- how many pending callbacks no transaction has handled
-abbrev pub unhandled : Names → ℕ
-unhandled names = count_by (λ c. not (is_some (names.handled c.number))) names.pending
 
 -- Pending callbacks that no transaction had handled count as handled by this one. All else in the tables stays.
 pub record MarksSome (transaction : ℕ) (s t : Names) : Type 0 where

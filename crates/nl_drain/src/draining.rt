@@ -1,6 +1,6 @@
-ghost use Rattle.std.specs.Prelude.{◌≡◌, ◌↔◌, ◌+◌, ◌≤◌, length, IfNone, IfSome};
-ghost use Rattle.nl_drain.specs.Blocked.{IsBlocked, IsNext, NextIsBlocked, drained_stop};
-ghost use Rattle.nl_drain.specs.Handled.{AllHandled, HandlesSome, unhandled, volume};
+ghost use Rattle.std.specs.Prelude.{◌≡◌, ◌+◌, ◌≤◌, length};
+ghost use Rattle.nl_drain.specs.Blocked.{IsBlocked, drained_stop};
+ghost use Rattle.nl_drain.specs.Handled.{HandlesSome, volume};
 ghost use Rattle.nl_iface.specs.Moves.{Marks};
 ghost use Rattle.nl_iface.specs.Names.{Has};
 ghost use Rattle.nl_running.specs.Reading.{Reads};
@@ -16,12 +16,12 @@ use nl_inode::Nodes;
 use nl_meta::Meta;
 use nl_nand::Nand;
 
-/// What the handling of callbacks answers.
+/// What the handling of a callback answers.
 #[derive(Clone, Copy, Debug, PartialEq, Eq)]
 pub enum Drained {
-    /// They were handled.
+    /// It was handled.
     Done,
-    /// A page of the metadata has the next callback's pointer, and cannot be made dirty.
+    /// A page of the metadata has its pointer, and cannot be made dirty.
     NoRoom,
     /// A read failed.
     Fault,
@@ -29,67 +29,14 @@ pub enum Drained {
     Lost { wanted: u64, found: u64 },
 }
 
-/// Handles the pending callbacks that no transaction has handled, in the order of their numbers, until none is left or one cannot be
-/// handled. Each counts as handled by this transaction, which is to come after the one that is frozen: then whoever holds a page holds
-/// it as before, and the committed and the frozen pointers stay safe. Else only names of pages change.
-///
-/// `Done` comes exactly where no pending callback is unhandled afterwards. `NoRoom` comes where the metadata has the next one's pointer
-/// in a page that cannot be made dirty: a commit makes room, and the next call goes on. At most one page becomes dirty for each callback
-/// that counts as handled since. A callback whose page nobody holds is passed over, and counts as handled; there is none where each live
-/// page has its holder.
-pub fn drain<M: Nand>(
-    shape: &Shape,
-    device: &mut Device<M>,
-    meta: &mut Meta,
-    nodes: &mut Nodes,
-    flight: &mut Flight,
-    freeing: &mut PointerList,
-    transaction: u64,
-) -> Drained
-    requires formed { ⟦<Device<M> as Counts>⟧.formed device.old }
-    requires runs { Runs ⟦<Device<M> as Counts>⟧ device.old meta.old }
-    requires shape { shape.now ≡ ⟦<Device<M> as Counts>⟧.shape device.old }
-    ensures formed { ⟦<Device<M> as Counts>⟧.formed device.new }
-    ensures runs { Runs ⟦<Device<M> as Counts>⟧ device.new meta.new }
-    ensures done { result ≡ Drained.Done ↔ AllHandled (⟦<Device<M> as Counts>⟧.names device.new) }
-    ensures no_room { result ≡ Drained.NoRoom → NextIsBlocked ⟦<Device<M> as Counts>⟧ (volume device.new meta.new flight.new freeing.new.items) }
-    ensures handles { HandlesSome ⟦<Device<M> as Counts>⟧ transaction (volume device.old meta.old flight.old freeing.old.items) (volume device.new meta.new flight.new freeing.new.items) }
-    ensures few { length meta.new.dirty + unhandled (⟦<Device<M> as Counts>⟧.names device.new) ≤ length meta.old.dirty + unhandled (⟦<Device<M> as Counts>⟧.names device.old) }
-    ensures nodes { nodes.new ≡ nodes.old }
-    ensures room { freeing.new.room ≡ freeing.old.room }
-    ensures reads { Reads ⟦<Device<M> as Counts>⟧ device.old device.new (drained_stop result) }
-{
-    'each: while let Some(callback) = next_unhandled(device) {
-        match handle_one(
-            &callback,
-            shape,
-            device,
-            meta,
-            nodes,
-            flight,
-            freeing,
-            transaction,
-        ) {
-            Drained::Done => {}
-            answer => return answer,
-        }
-    }
-    Drained::Done
-}
-
-/// The callback of the least number that is pending and that no transaction has handled. None exactly where there is none.
-fn next_unhandled<M: Nand>(device: &Device<M>) -> Option<Callback>
-    ensures some { IfSome result (IsNext (⟦<Device<M> as Counts>⟧.names device.now)) }
-    ensures none { IfNone result (AllHandled (⟦<Device<M> as Counts>⟧.names device.now)) }
-{
-    match device.least() {
-        Some(number) => device.callback(number),
-        None => None,
-    }
-}
-
 /// Handles one pending callback: the pointer of its sequence number gets the name to which its old name leads now, and the callback
-/// counts as handled by this transaction, or by the earlier one that it had. `NoRoom`, `Fault` and `Lost` leave it as it was.
+/// counts as handled by this transaction, or by the earlier one that it had. The transaction is to come after the one that is frozen: then
+/// whoever holds a page holds it as before, and the committed and the frozen pointers stay safe. Else only names of pages change, and at
+/// most one page becomes dirty.
+///
+/// `NoRoom` comes where the metadata has the pointer in a page that cannot be made dirty: a commit makes room. `NoRoom`, `Fault` and `Lost`
+/// leave the callback as it was. One whose page nobody holds is passed over, and counts as handled; there is none where each live page has
+/// its holder.
 pub fn handle_one<M: Nand>(
     callback: &Callback,
     shape: &Shape,

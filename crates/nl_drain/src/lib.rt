@@ -4,4 +4,4 @@
 mod draining;
 pub mod laws;
 
-pub use draining::{Drained, drain, handle_one};
+pub use draining::{Drained, handle_one};
