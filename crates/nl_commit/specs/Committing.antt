@@ -26,6 +26,7 @@ pub record CommitsPages (done : Type 0) (old new : Progress) (pages now : Pages)
 -- what the call may leave.
 pub record CommitsAt {D : Type 0} (g : Ghosts D) (old new : D) (p r : Progress) (pages now : Pages) (A : Stored → Type 0) (moment : ℕ) : Type 0 where
   pub later : Earlier (g.clock old) moment
+  pub from : g.clock old ≤ moment
   pub to : moment ≤ g.clock new
   pub stops : g.tells → HasNumber r (length now.frozen.addresses)
       → Leaves g (Turns ⊤ moment (LeavesOneOf g old (committed_on g old) (finished_on g old p pages) (ahead_on g old p pages)) A) old new

@@ -5,8 +5,8 @@ pub mod Freed
 pub mod HandledNumber
 pub mod Lines
 pub mod Nearer
-pub mod NoPairs
 pub mod NoneBad
+pub mod NonePending
 pub mod Onward
 pub mod Placed
 pub mod Reclaiming

@@ -1,7 +1,7 @@
 -- Calls of a core one after the other.
 use Rattle.std.proofs.Common.{◌≡◌, ◌⊎◌, inl, inr, ⊎_elim, ℕ, ◌+◌, ◌<◌, ◌≤◌, ◌^◌, Option, refl, sym, subst, ◌∙◌, arith}
 use Rattle.std.proofs.lemmas.Bool.{cases_eq, cases_lt}
-use Rattle.nl_field.specs.CrashStates.{Rose, saturated, top}
+use Rattle.nl_field.specs.CrashStates.{Earlier, Rose, saturated, top}
 use Rattle.nl_field.specs.Members.{Has}
 use Rattle.nl_field.specs.declared.shape.Shape.{Shape}
 use Rattle.nl_device.specs.declared.device.Device.{Device}
@@ -51,12 +51,15 @@ module _ {M : Type 0} (g : Ghosts (Device M)) (u v w : Core M) (m n : ℕ) (a : 
         (cases_eq v.stopped 0);
   }
 
-  moment_then : ((w.moment ≡ v.moment) × (w.committed ≡ v.committed)) ⊎ (g.clock w.device < top → g.clock v.device < w.moment)
-      → ((v.moment ≡ u.moment) × (v.committed ≡ u.committed)) ⊎ (g.clock v.device < top → g.clock u.device < v.moment)
-      → ((w.moment ≡ u.moment) × (w.committed ≡ u.committed)) ⊎ (g.clock w.device < top → g.clock u.device < w.moment)
+  moment_then : ((w.moment ≡ v.moment) × (w.committed ≡ v.committed)) ⊎ (Earlier (g.clock v.device) w.moment × (g.clock v.device ≤ w.moment))
+      → ((v.moment ≡ u.moment) × (v.committed ≡ u.committed)) ⊎ (Earlier (g.clock u.device) v.moment × (g.clock u.device ≤ v.moment))
+      → ((w.moment ≡ u.moment) × (w.committed ≡ u.committed)) ⊎ (Earlier (g.clock u.device) w.moment × (g.clock u.device ≤ w.moment))
   moment_then (inl same) (inl first) = inl (same.0 ∙ first.0, same.1 ∙ first.1)
-  moment_then (inl same) (inr first) = inr (λ low. let moment = same.0 in let clock = b.clock in let high = first (omega (arith, clock, low)) in omega (arith, moment, high))
-  moment_then (inr second) any = inr (λ low. let clock = a.clock in let high = second low in omega (arith, clock, high))
+  moment_then (inl same) (inr first) = inr (subst (λ n. Earlier (g.clock u.device) n × (g.clock u.device ≤ n)) (sym same.0) first)
+  moment_then (inr second) any =
+      let clock = a.clock in
+      let from = second.1 in
+      inr (λ low. ⊎_elim (λ below. let high = second.0 below in omega (arith, clock, high)) (λ end. omega (arith, low, end, from)) (cases_lt (g.clock v.device) top), omega (arith, clock, from))
 
   told_first : IsTold g w → IsTold g v
   told_first told = record {
@@ -90,14 +93,15 @@ module _ {M : Type 0} (g : Ghosts (Device M)) (u v w : Core M) (m n : ℕ) (a : 
 
   -- what the first one leaves opens as none earlier than what the second one committed, from its moment on
   after_first : (y z : ℕ) (k : ℕ) → y ≡ w.committed → g.clock w.device < 2 ^ 63 → k ≤ g.clock v.device → (v.moment ≤ k → v.committed ≤ z)
-      → ((w.moment ≡ v.moment) × (w.committed ≡ v.committed)) ⊎ (g.clock w.device < top → g.clock v.device < w.moment) → w.moment ≤ k → y ≤ z
+      → ((w.moment ≡ v.moment) × (w.committed ≡ v.committed)) ⊎ (Earlier (g.clock v.device) w.moment × (g.clock v.device ≤ w.moment)) → w.moment ≤ k → y ≤ z
   after_first y z k is few to after (inl same) high =
       let moment = same.0 in
       let committed = same.1 in
       let low = after (omega (arith, moment, high)) in
       omega (arith, is, committed, low)
   after_first y z k is few to after (inr later) high =
-      let far = later (omega (arith, few)) in
+      let clock = b.clock in
+      let far = later.0 (omega (arith, few, clock)) in
       absurd (let no : ⊥ = omega (arith, far, high, to) in no)
 
   left_then : IsTold g w → (page_of_stamp : ℕ → Option PageOfStamp) (t : Trees) (y : Prefix) → y.0 ≡ w.committed → CoreStands g u page_of_stamp t

@@ -310,8 +310,7 @@ module _ {M : Type 0} (g : Ghosts (Device M)) (v w u : Core M) (answer : Virtual
     numbers = subst (λ (x : Core M). begun_of v ≤ begun_of x) (sym s.others) first.numbers;
     reads = subst (λ n. g.read_faults v.device ≤ n) (sym s.read_faults) first.reads;
     writes = subst (λ n. g.write_faults v.device ≤ n) (sym kept.write_faults) first.writes;
-    moment = subst (λ (x : Core M). ((x.moment ≡ v.moment) × (x.committed ≡ v.committed)) ⊎ (g.clock u.device < top → g.clock v.device < x.moment)) (sym s.others)
-        (subst (λ n. ((w.moment ≡ v.moment) × (w.committed ≡ v.committed)) ⊎ (n < top → g.clock v.device < w.moment)) (sym kept.clock) first.moment);
+    moment = subst (λ (x : Core M). ((x.moment ≡ v.moment) × (x.committed ≡ v.committed)) ⊎ (Earlier (g.clock v.device) x.moment × (g.clock v.device ≤ x.moment))) (sym s.others) first.moment;
     clock = subst (λ n. g.clock v.device ≤ n) (sym kept.clock) first.clock;
     stops = record {
       stands = λ off. ap (λ (x : Core M). x.stopped) s.others ∙ first.stops.stands off;

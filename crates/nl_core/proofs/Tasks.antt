@@ -21,7 +21,7 @@ use Rattle.nl_journal.specs.declared.answers.Committing.{Committing}
 use Rattle.nl_journal.specs.declared.answers.Committing.TheVariants as commits
 use Rattle.nl_nand.specs.Nand.{FaultsCounted}
 use Rattle.nl_pseg.specs.Cleaning.{CannotBegin}
-use Rattle.nl_pseg.specs.Segment.{Physical, wear_of}
+use Rattle.nl_pseg.specs.Segment.{Physical, erasures}
 use Rattle.nl_pseg.specs.Space.{victims}
 use Rattle.nl_pseg.specs.declared.cleaned.Erasure.{Erasure}
 use Rattle.nl_pseg.specs.declared.cleaned.Erasure.TheVariants as erasure
@@ -185,7 +185,7 @@ stable s un = ⊎_elim inl
     (λ few. ⊎_elim (λ full. inr (inr (inl full)))
     (λ free. inr (inr (inr (λ block from below sealed other low high. ⊎_elim (λ lt. lt)
     (λ worn. absurd (un (⊎_elim none (λ rest. ⊎_elim (λ many. omega (arith, many, few)) (λ last. ⊎_elim free (λ all. let lt = all block from below sealed other low high in omega (arith, lt, worn)) last) rest))))
-    (cases_lt (wear_of s other) (wear_of s block + 16))))))
+    (cases_lt (erasures s other) (erasures s block + 16))))))
     (cases_eq s.free 0)) (cases_lt (2 * s.size) (length s.pairs))) (cases_eq (victims s) 1)
 
 pub level_does : {M : Type 0} (g : Ghosts (Device M)) (v : Core M) (t : Device M) (begun : Bool) → (begun ≡ true → Begins g v.device t) → (begun ≡ false → OnlyReads g v.device t)

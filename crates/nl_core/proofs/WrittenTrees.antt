@@ -162,9 +162,9 @@ module _ {M : Type 0} (g : Ghosts (Device M)) (v w : Core M) (answer : VirtualWr
       }
 
   moment_by : (earlier decided : Option ℕ) → IfSome earlier (EarlierAt g v.device w.device v.journal w.journal (counted_pages v) w.meta) → IfSome decided (ChangesAt g v.device w.device v.journal w.journal (counted_pages v) w.meta)
-      → ((moment_of v.moment earlier decided ≡ v.moment) × (committed_count v earlier decided ≡ v.committed)) ⊎ Earlier (g.clock v.device) (moment_of v.moment earlier decided)
-  moment_by earlier (Some m) e d = inr d.later
-  moment_by (Some m) None e d = inr e.later
+      → ((moment_of v.moment earlier decided ≡ v.moment) × (committed_count v earlier decided ≡ v.committed)) ⊎ (Earlier (g.clock v.device) (moment_of v.moment earlier decided) × (g.clock v.device ≤ moment_of v.moment earlier decided))
+  moment_by earlier (Some m) e d = inr (d.later, d.from)
+  moment_by (Some m) None e d = inr (e.later, e.from)
   moment_by None None e d = inl (refl, refl)
 
   pub written_goes : Goes g 512 v w
@@ -176,7 +176,7 @@ module _ {M : Type 0} (g : Ghosts (Device M)) (v w : Core M) (answer : VirtualWr
     reads = b.faults.reads_never_fall;
     writes = b.faults.writes_never_fall;
     moment = ⊎_elim (λ same. inl (b.moment ∙ same.0, b.committed ∙ same.1))
-        (λ later. inr (λ low. subst (λ n. g.clock v.device < n) (sym b.moment) (later (let clock = b.clock in omega (arith, clock, low)))))
+        (λ later. inr (subst (λ n. Earlier (g.clock v.device) n × (g.clock v.device ≤ n)) (sym b.moment) later))
         (moment_by b.earlier b.decided b.earlier_at b.decided_at);
     clock = b.clock;
     stops = stops_on g v w b.stopped b.faults.reads_never_fall b.faults.writes_never_fall;

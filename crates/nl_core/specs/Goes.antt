@@ -1,6 +1,6 @@
 -- What each call of a core keeps and leaves.
-use Rattle.std.specs.Prelude.{◌≡◌, ◌⊎◌, ℕ, ◌+◌, ◌<◌, ◌≤◌, Option}
-use Rattle.nl_field.specs.CrashStates.{Rose, saturated, top}
+use Rattle.std.specs.Prelude.{◌≡◌, ◌⊎◌, ℕ, ◌+◌, ◌≤◌, Option}
+use Rattle.nl_field.specs.CrashStates.{Earlier, Rose, saturated}
 use Rattle.nl_field.specs.Members.{Has}
 use Rattle.nl_device.specs.declared.device.Device.{Device}
 use Rattle.nl_drain.specs.Handled.{SameButNames}
@@ -48,7 +48,7 @@ pub record Goes {M : Type 0} (g : Ghosts (Device M)) (most : ℕ) (old new : Cor
   pub reads : g.read_faults old.device ≤ g.read_faults new.device
   pub writes : g.write_faults old.device ≤ g.write_faults new.device
   pub clock : g.clock old.device ≤ g.clock new.device
-  pub moment : ((new.moment ≡ old.moment) × (new.committed ≡ old.committed)) ⊎ (g.clock new.device < top → g.clock old.device < new.moment)
+  pub moment : ((new.moment ≡ old.moment) × (new.committed ≡ old.committed)) ⊎ (Earlier (g.clock old.device) new.moment × (g.clock old.device ≤ new.moment))
   pub stops : Stops g old new
   pub stamps : StampsRise g most old.device new.device
   pub trees : IsTold g new → (page_of_stamp : ℕ → Option PageOfStamp) (t : Trees) → CoreStands g old page_of_stamp t → GoesTo g old new page_of_stamp t

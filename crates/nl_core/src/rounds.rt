@@ -9,6 +9,7 @@ use crate::state::Core;
 use nl_cleaning::Cleaned;
 use nl_cleaning::laws::a_cleaning_is_of_a_round;
 use nl_device::Device;
+use nl_device::formed_laws::formed_devices;
 use nl_held::laws::device_stands;
 use nl_iface::Counts;
 use nl_journal::Committing;
@@ -121,7 +122,7 @@ impl<M: Nand> Core<M> {
         }
         match self.commit() {
             Committing::Done(_) => {
-                device_stands(&self.device);
+                formed_devices::<M>();
                 if self.stopped != 0 {
                     return Rounded::Fault;
                 }

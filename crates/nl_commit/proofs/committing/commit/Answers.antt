@@ -167,6 +167,7 @@ returns-in-Done-clause-earlier g c =
     let starts : begun q (length mid.dirty) ≡ raised q.number = begun_header q.phase q.number (length mid.dirty) ends.0 can.dirty.pages.some in
     if_some (StaysOpen p q c.store_count.new.meta.frozen mid.frozen) (DecidesAt G s m p q c.store_count.new.meta) (EarlierAt G s t p r pages now) c.complete-first.result.decided e.decided (λ at d. record {
       later = d.later;
+      from = d.from;
       to = let a = d.to in let b = f.clock in omega (arith, a, b);
       stops = λ tells numbers.
           let numbers_q : HasNumber q (length mid.dirty) = subst (λ n. n < 9223372036854775808) f.finishes.begun_stays numbers in
@@ -208,6 +209,7 @@ returns-in-Done-clause-decided g c =
     let starts : begun q (length mid.dirty) ≡ raised q.number = begun_header q.phase q.number (length mid.dirty) ends.0 can.dirty.pages.some in
     if_some (StaysOpen q r (dirty_pages mid) now.frozen) (DecidesAt G m t q r (with_frozen mid)) (ChangesAt G s t p r pages now) c.commit_changes-rest.result.decided f.decided (λ at d. record {
       later = earlier_by (G.clock s) (G.clock m) at e.clock d.later d.from;
+      from = let a = e.clock in let b = d.from in omega (arith, a, b);
       to = d.to;
       stops = λ tells numbers.
           let numbers_q : HasNumber q (length mid.dirty) = subst (λ n. n < 9223372036854775808) f.finishes.begun_stays numbers in
@@ -299,6 +301,7 @@ returns-in_default g c =
       };
       earlier = if_some (StaysOpen p q c.store_count.new.meta.frozen mid.frozen) (DecidesAt G s m p q c.store_count.new.meta) (EarlierAt G s m p q pages mid) c.complete-first.result.decided e.decided (λ at d. record {
         later = d.later;
+        from = d.from;
         to = d.to;
         stops = λ tells numbers. stopped_stops G s m p pages at
             (subst (λ (n : Pages). HasNumber p (length n.frozen.addresses) → Leaves G (Turns ⊤ at (LeavesEither G s (committed_on G s) (finished_on G s p n)) (LeavesOne G s (finished_on G s p n))) s m) is (d.stops tells)

@@ -1,11 +1,10 @@
-use Rattle.std.proofs.Common.{◌≡◌, ◌∙◌, ap, length, map, arith}
-use Rattle.nl_device.specs.Callbacks.{AreCalled}
+use Rattle.std.proofs.Common.{◌≡◌, ap, map, arith}
 use Rattle.nl_device.specs.contracts.counts.DeviceCounts.TheImpl.{ghosts}
 use Rattle.nl_drain.specs.Handled.{nameless_line}
 use Rattle.nl_iface.proofs.RoundSteps.{empties_laws}
 use Rattle.nl_core.specs.Core.{names_of}
 use Rattle.nl_core.specs.declared.rounds.Rounded.TheVariants as rounded
-use Rattle.nl_core.proofs.NoPairs.{no_pairs, none_pending}
+use Rattle.nl_core.proofs.NonePending.{none_pending}
 use Rattle.nl_core.proofs.Onward.{cause_stopped, goes_more, goes_none}
 use Rattle.nl_core.proofs.state.Core.commit_if_due.Goals as goal
 
@@ -47,9 +46,8 @@ returns-else-self-ne0-clause-emptied g c =
     let v = c.args.self.now in
     let w = c.commit.new.self in
     let all = c.in-Done.ensures.commits in
-    let called : AreCalled w.device.pseg w.device.pending = c.commit.ensures.formed.called in
     record {
-      no_pairs = c.device_stands.ensures.names.pairs ∙ ap length (no_pairs w.device called (none_pending (names_of G v) (names_of G w) c.requires.handled all.acknowledged));
+      no_pairs = c.formed_devices.ensures.called w.device c.commit.ensures.formed (none_pending (names_of G v) (names_of G w) c.requires.handled all.acknowledged);
       freed = all.freed;
       space = all.space c.if-self-ne0.false;
       runs = c.if-self-ne0.false;
