@@ -1,24 +1,18 @@
 -- What a device tells that was started, of the image of its medium.
-use Rattle.std.proofs.Common.{◌≡◌, ◌≢◌, ◌⊎◌, inl, inr, ℕ, ◌*◌, ◌<◌, true, false, cond, List, [], ◌∷◌, length, map, refl, sym, ap, subst, ◌∙◌, IsTrue, arith, Option, Some, None, option_and_then, option_map, nat_lt}
-use Rattle.std.specs.Prelude.{filter_map}
-use Rattle.std.specs.List.{enumerate_from}
+use Rattle.std.proofs.Common.{◌≡◌, ◌≢◌, ℕ, false, List, refl, sym, ap, subst, ◌∙◌, IsTrue, Option, Some, None, option_and_then}
 use Rattle.std.proofs.lemmas.Option.{same_Some}
-use Rattle.std.proofs.lemmas.Bool.{cases_Bool, cond-false, ltb-true}
 use Rattle.nl_field.specs.FindingBits.{bits_of, has_finding}
-use Rattle.nl_field.specs.Medium.{readable, readable_pages, shape_of_image}
-use Rattle.nl_field.specs.Numbers.{is_legal}
-use Rattle.nl_field.specs.Page.{Image, Page}
+use Rattle.nl_field.specs.Medium.{shape_of_image}
+use Rattle.nl_field.specs.Page.{Image}
 use Rattle.nl_field.specs.ScanList.{seen_in}
 use Rattle.nl_field.specs.SuperPage.{super_of}
-use Rattle.nl_field.specs.Virtual.{map_bytes, newest, newest_values, or_zeros, virtual_bytes}
+use Rattle.nl_field.specs.Virtual.{virtual_bytes}
 use Rattle.nl_field.specs.declared.findings.Findings.{Findings}
 use Rattle.nl_field.specs.declared.place.Place.{Place}
 use Rattle.nl_field.specs.declared.place.What.{What}
 use Rattle.nl_field.specs.declared.seen.Seen.{Seen}
 use Rattle.nl_field.specs.declared.shape.Shape.{Shape}
-use Rattle.nl_field.proofs.Beyond.{map_is_image}
 use Rattle.nl_iface.specs.Calls.{KeepsVirtual}
-use Rattle.nl_iface.specs.Stored.{Value, value_on}
 use Rattle.nl_iface.specs.declared.counts.Counts.{Ghosts}
 use Rattle.nl_meta.specs.Committed.{VirtualMap, committed, committed_of}
 use Rattle.nl_meta.specs.Nodes.{super_of_pages}
@@ -26,9 +20,6 @@ use Rattle.nl_meta.specs.Pages.{Pages}
 use Rattle.nl_meta.specs.Walk.{walk, walk_over}
 use Rattle.nl_meta.proofs.Lists.{none_some}
 use Rattle.nl_running.specs.Running.{running_on, stored_on}
-use Rattle.nl_nand.specs.ImageLaws.{image_size}
-use Rattle.nl_nand.specs.Nand.{ImageOf, IsLegal}
-use Rattle.nl_nand.specs.declared.geometry.Geometry.{Geometry}
 use Rattle.nl_recover.proofs.BackStands.{stored-same}
 use Rattle.nl_check.specs.Checking.{Checks, CountsCalls, IfFound, SetsFirst}
 use Rattle.nl_check.specs.declared.check.Checked.{Checked}
@@ -58,14 +49,6 @@ counts-committed g s t p shape count e k tells same c = (
 
 -- ---- an image
 
-pub stored-is : (image : Image) (shape : Shape) (values : ℕ → Option Value) → shape ≡ shape_of_image image → ((v : ℕ) → v < shape.vaddrs → values v ≡ option_map value_on (newest image v)) → (v : ℕ) → map_bytes shape values v ≡ virtual_bytes image v
-unfolding map_bytes
-stored-is image shape values e is v = by (cases_Bool (nat_lt v shape.vaddrs)) ∙ ap (λ (s : Shape). map_bytes s (newest_values image) v) e ∙ map_is_image image v
-  where
-    by : (nat_lt v shape.vaddrs ≡ true) ⊎ (nat_lt v shape.vaddrs ≡ false) → map_bytes shape values v ≡ map_bytes shape (newest_values image) v
-    by (inl below) = ap (λ (o : Option Value). cond (nat_lt v shape.vaddrs) (or_zeros shape v (option_map (λ x. x.1) o)) None) (is v (ltb-true v shape.vaddrs below))
-    by (inr off) = cond-false (nat_lt v shape.vaddrs) (or_zeros shape v (option_map (λ (x : Value). x.1) (values v))) None off ∙ sym (cond-false (nat_lt v shape.vaddrs) (or_zeros shape v (option_map (λ (x : Value). x.1) (newest_values image v))) None off)
-
 pub sets-image : (image : Image) (shape : Shape) (stored : VirtualMap) (seen : List Seen) (bits : Findings) (count : ℕ) → shape ≡ shape_of_image image → ((v : ℕ) → stored v ≡ virtual_bytes image v) → seen ≡ seen_in image
     → SetsFirst (walk_over shape (committed shape stored) seen) (committed shape stored) bits count → SetsFirst (walk image) (committed_of image) bits count
 unfolding walk
@@ -73,33 +56,6 @@ sets-image image shape stored seen bits count e f h s =
     subst (λ (l : List Seen). SetsFirst (walk_over (shape_of_image image) (committed_of image) l) (committed_of image) bits count) h
     (subst (λ (b : VirtualMap). SetsFirst (walk_over (shape_of_image image) (committed (shape_of_image image) b) seen) (committed (shape_of_image image) b) bits count) (λ i v. f v i)
     (subst (λ (z : Shape). SetsFirst (walk_over z (committed z stored) seen) (committed z stored) bits count) e s))
-
-map-none : {X Y : Type 0} (f : X → Y) (xs : List X) → map f xs ≡ [] → xs ≡ []
-map-none f [] e = refl
-map-none f (x ∷ xs) e = cc
-
-pub none-readable : (image : Image) → seen_in image ≡ [] → readable_pages image ≡ []
-unfolding seen_in
-none-readable image e = map-none _ (readable_pages image) e
-
-pub none-seen : (image : Image) → readable_pages image ≡ [] → seen_in image ≡ []
-unfolding seen_in
-none-seen image e = ap (map _) e
-
-pub unformed-blank : (image : Image) → length image.contents ≡ 0 → readable_pages image ≡ []
-unfolding readable_pages
-unformed-blank image e = by image.contents e
-  where
-    by : (pages : List Page) → length pages ≡ 0 → filter_map readable (enumerate_from 0 pages) ≡ []
-    by [] e = refl
-    by (x ∷ xs) e = cc
-
--- a medium that was never formed has no readable page
-pub unformed : (geometry : Geometry) (image : Image) → ImageOf geometry image → IsLegal geometry → (IsTrue (is_legal geometry.blocks geometry.pages) → ⊥) → readable_pages image ≡ []
-unformed geometry image fit (inl legal) off = absurd (off legal)
-unformed geometry image fit (inr e) off =
-    let none : 0 * image.pages ≡ 0 = omega arith in
-    unformed-blank image (image_size image fit.whole ∙ ap (λ (n : ℕ). n * image.pages) (fit.blocks ∙ ap (λ (q : Geometry). q.blocks) e) ∙ none)
 
 pub checks-found : (image : Image) (shape : Shape) (stored : VirtualMap) (seen : List Seen) → shape ≡ shape_of_image image → ((v : ℕ) → stored v ≡ virtual_bytes image v) → seen ≡ seen_in image
     → (r : Checked) → IfFound r (SetsFirst (walk_over shape (committed shape stored) seen) (committed shape stored)) → IfFound r (Checks image)

@@ -6,6 +6,7 @@ pub mod EntryFacts
 pub mod Firsts
 pub mod FreeFacts
 pub mod HeldFacts
+pub mod Imaged
 pub mod LoadFacts
 pub mod LookFacts
 pub mod NodesLoaded

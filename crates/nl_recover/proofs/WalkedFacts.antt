@@ -5,7 +5,6 @@ use Rattle.std.specs.List.{list_any}
 use Rattle.std.proofs.lemmas.Bool.{and_parts, both_ways, leb-true, ltb-true}
 use Rattle.nl_field.specs.Numbers.{ShapeBounds}
 use Rattle.nl_field.specs.SuperPage.{super_of}
-use Rattle.nl_field.specs.declared.place.What.TheVariants.{Super}
 use Rattle.nl_field.specs.declared.seen.Seen.{Seen}
 use Rattle.nl_field.specs.declared.shape.Shape.{Shape}
 use Rattle.nl_iface.specs.Calls.{KeepsVirtual}
@@ -23,14 +22,14 @@ use Rattle.nl_meta.specs.Nodes.{Held, inode_at, super_of_pages}
 use Rattle.nl_meta.specs.PageLaws.{IsApart}
 use Rattle.nl_meta.specs.Pages.{Frozen, Pages, none_frozen, page_of}
 use Rattle.nl_meta.specs.Running.{CleanIsStored, or_stored, running_over}
-use Rattle.nl_meta.specs.Walk.{fault_in, walk_over}
+use Rattle.nl_meta.specs.Walk.{walk_over}
 use Rattle.nl_meta.proofs.Lists.{none_some}
 use Rattle.nl_meta.proofs.WalkProofs.{walk_over_is_consistency}
 use Rattle.nl_running.specs.Running.{IsNeeded, running_on, stored_on}
 use Rattle.nl_running.proofs.Holds.{bounds-of}
 use Rattle.nl_recover.specs.Loading.{Loads}
 use Rattle.nl_recover.specs.Looking.{LooksAlike}
-use Rattle.nl_recover.specs.Recovering.{Begins, Finds, IfDamaged, IfReady, IsFault, IsWalked, Walks, count_in}
+use Rattle.nl_recover.specs.Recovering.{Begins, Finds, IfDamaged, IfReady, IsFault, IsFirstFault, IsWalked, Walks, count_in}
 use Rattle.nl_recover.specs.Restoring.{BringsBack, HasRestored, IsRead}
 use Rattle.nl_recover.specs.declared.metadata.Metadata.{Metadata}
 use Rattle.nl_recover.specs.declared.opening.Recovered.{Recovered}
@@ -47,11 +46,6 @@ consistent-of : (shape : Shape) (pages : VirtualMap) (seen : List Seen) → IsVo
 consistent-of shape pages seen is e =
     subst (λ (s : Shape). ConsistentOver s pages seen) (sym is.numbers)
     ((walk_over_is_consistency shape.blocks shape.pages pages seen).0 (ap (λ (s : Shape). walk_over s pages seen) (sym is.numbers) ∙ e))
-
--- pages that are missing everywhere have a fault at once
-pub nothing-walks : (shape : Shape) (seen : List Seen) → walk_over shape (λ _. None) seen ≡ Some (record { place = 0; what = Super })
-unfolding walk_over fault_in super_of_pages
-nothing-walks shape seen = refl
 
 -- ---- each page that is needed is there
 
@@ -247,11 +241,11 @@ module _ {D : Type 0} (g : Ghosts D) where
         by Fault b = tt
         by Memory b = tt
 
-pub damaged-of : (shape : Shape) (seen : List Seen) (journal : Progress) (p : Pages) (r : Recovered) → Walks shape seen journal p r → IfDamaged r (λ place. (pages : VirtualMap) × (walk_over shape pages seen ≡ Some place))
-damaged-of shape seen journal p (Ready w) b = tt
-damaged-of shape seen journal p (Damaged place) b = (page_of p, b)
-damaged-of shape seen journal p Fault b = tt
-damaged-of shape seen journal p Memory b = tt
+pub damaged-of : {D : Type 0} (g : Ghosts D) (s : D) (shape : Shape) (seen : List Seen) (m : Metadata) (r : Recovered) → IsRead g s m → Walks shape seen m.journal m.meta r → IfDamaged r (IsFirstFault g s shape seen)
+damaged-of g s shape seen m (Ready w) is b = tt
+damaged-of g s shape seen m (Damaged place) is b = inl (m, is, b)
+damaged-of g s shape seen m Fault is b = tt
+damaged-of g s shape seen m Memory is b = tt
 
 no-fault : (shape : Shape) (seen : List Seen) (journal : Progress) (p : Pages) (r : Recovered) → Walks shape seen journal p r → IsFault r → ⊥
 no-fault shape seen journal p (Ready w) b f = f

@@ -3,6 +3,7 @@ pub mod Entries
 pub mod Filling
 pub mod Freeing
 pub mod Held
+pub mod Imaged
 pub mod Loading
 pub mod Looking
 pub mod Phases

@@ -1,11 +1,11 @@
-ghost use Rattle.std.specs.Prelude.{◌≡◌, IfOk, Some};
+ghost use Rattle.std.specs.Prelude.{◌≡◌, IfOk};
 ghost use Rattle.nl_field.specs.Numbers.{ShapeBounds};
 ghost use Rattle.nl_iface.specs.Calls.{OnlyReads, ReadsCounted};
-ghost use Rattle.nl_meta.specs.Committed.{VirtualMap, committed};
+ghost use Rattle.nl_meta.specs.Committed.{committed};
 ghost use Rattle.nl_meta.specs.Nodes.{super_of_pages};
 ghost use Rattle.nl_meta.specs.Pages.{page_of};
 ghost use Rattle.nl_meta.specs.Walk.{walk_over};
-ghost use Rattle.nl_recover.specs.Recovering.{Finds, IfDamaged, IfReady, IsFault, IsWalked, Walks, count_in};
+ghost use Rattle.nl_recover.specs.Recovering.{Finds, IfDamaged, IfReady, IsFault, IsFirstFault, IsWalked, Walks, count_in};
 ghost use Rattle.nl_running.specs.Running.{stored_on};
 
 use crate::free::free_lists;
@@ -60,7 +60,7 @@ pub fn recover<D: VirtualPages>(
     ensures device { OnlyReads D.Counts device.old device.new }
     ensures faults { ReadsCounted D.Counts (IsFault result) device.old device.new }
     ensures walked { IfReady result (IsWalked D.Counts device.new scan.now.seen) }
-    ensures damaged { IfDamaged result (λ place. (pages : VirtualMap) × (walk_over shape.now pages scan.now.seen ≡ Some place)) }
+    ensures damaged { IfDamaged result (IsFirstFault D.Counts device.new shape.now scan.now.seen) }
     ensures told { D.tells → Finds (walk_over shape.now (committed shape.now (stored_on D.Counts device.old)) scan.now.seen) result }
 {
     match read_pages(alloc, device, shape) {

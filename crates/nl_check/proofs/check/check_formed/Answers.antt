@@ -1,7 +1,8 @@
 use Rattle.std.proofs.Common.{◌≡◌, ◌∙◌, [], sym}
 use Rattle.nl_field.specs.Medium.{readable_pages, shape_of_image}
 use Rattle.nl_field.specs.Numbers.{shape_for}
-use Rattle.nl_check.proofs.Started.{checks-found, if-still, none-readable, none-seen, stored-is}
+use Rattle.nl_recover.proofs.Imaged.{none-readable, none-seen, stored-is}
+use Rattle.nl_check.proofs.Started.{checks-found, if-still}
 use Rattle.nl_check.proofs.check.check_formed.Goals as goal
 
 pub returns-in-Ready-clause-found : goal.returns-in-Ready-clause-found

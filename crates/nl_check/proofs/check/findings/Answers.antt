@@ -2,7 +2,7 @@ use Rattle.std.proofs.Common.{IsTrue, sym, subst}
 use Rattle.nl_field.specs.Numbers.{is_legal}
 use Rattle.nl_nand.specs.declared.geometry.Geometry.{Geometry}
 use Rattle.nl_meta.proofs.Lists.{true_false}
-use Rattle.nl_check.proofs.Started.{unformed}
+use Rattle.nl_recover.proofs.Imaged.{unformed}
 use Rattle.nl_check.proofs.check.findings.Goals as goal
 
 pub returns-in-None-clause-blank : goal.returns-in-None-clause-blank

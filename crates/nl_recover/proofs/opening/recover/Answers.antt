@@ -1,7 +1,7 @@
-use Rattle.std.proofs.Common.{◌∙◌, None, refl, sym, subst}
+use Rattle.std.proofs.Common.{◌∙◌, inr, refl, sym, subst}
 use Rattle.nl_field.specs.Numbers.{ShapeBounds}
 use Rattle.nl_running.proofs.Holds.{bounds-of}
-use Rattle.nl_recover.proofs.WalkedFacts.{counted-of, damaged-of, finds-of, nothing-walks, walked-of}
+use Rattle.nl_recover.proofs.WalkedFacts.{counted-of, damaged-of, finds-of, walked-of}
 use Rattle.nl_recover.proofs.opening.recover.Goals as goal
 
 pub walk_on-requires : goal.walk_on-requires
@@ -17,7 +17,7 @@ returns-in-Ok-clause-walked g c =
     (c.requires.shape ∙ sym c.read_pages.ensures.device.medium.virtual.same_shape) (g.met.D.VirtualPages.numbers c.read_pages.new.device c.read_pages.ensures.formed) c.in-Done.ensures.read c.in-Ok.recovered c.in-Ok.ensures
 
 pub returns-in-Ok-clause-damaged : goal.returns-in-Ok-clause-damaged
-returns-in-Ok-clause-damaged g c = damaged-of c.args.shape.now c.args.scan.now.seen c.in-Done.field-0.journal c.in-Done.field-0.meta c.in-Ok.recovered c.in-Ok.ensures
+returns-in-Ok-clause-damaged g c = damaged-of g.D.Counts c.read_pages.new.device c.args.shape.now c.args.scan.now.seen c.in-Done.field-0 c.in-Ok.recovered c.in-Done.ensures.read c.in-Ok.ensures
 
 pub returns-in-Ok-clause-told : goal.returns-in-Ok-clause-told
 returns-in-Ok-clause-told g c = λ t.
@@ -26,7 +26,7 @@ returns-in-Ok-clause-told g c = λ t.
     c.args.device.now c.read_pages.ensures.device.medium.virtual t c.in-Ok.recovered c.in-Ok.ensures
 
 pub returns-in-Lost-clause-damaged : goal.returns-in-Lost-clause-damaged
-returns-in-Lost-clause-damaged g c = ((λ _. None), nothing-walks c.args.shape.now c.args.scan.now.seen)
+returns-in-Lost-clause-damaged g c = inr ((λ t. c.in-Lost.ensures.told t refl), refl)
 
 pub returns-in-Lost-clause-told : goal.returns-in-Lost-clause-told
 returns-in-Lost-clause-told g c = λ t. absurd (c.in-Lost.ensures.told t refl)
