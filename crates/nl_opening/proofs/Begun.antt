@@ -1,6 +1,7 @@
 -- A core that is begun after an opening stands.
-use Rattle.std.proofs.Common.{◌≡◌, ◌≢◌, ℕ, ◌+◌, ◌*◌, ◌<◌, ◌≤◌, List, [], map, length, Option, Some, None, IsSome, refl, sym, ap, subst, ◌∙◌, arith}
+use Rattle.std.proofs.Common.{◌≡◌, ◌≢◌, ◌⊎◌, inl, inr, nat_lt, true, false, ℕ, ◌+◌, ◌*◌, ◌<◌, ◌≤◌, List, [], map, length, Option, Some, None, IsSome, refl, sym, ap, subst, ◌∙◌, arith}
 use Rattle.std.specs.Prelude.{AllPairs, is_some}
+use Rattle.std.proofs.lemmas.Bool.{cases_Bool, cond-false, ltb-true}
 use Rattle.std.proofs.lemmas.List.{length-map}
 use Rattle.nl_field.specs.CrashStates.{top}
 use Rattle.nl_field.specs.PointerItems.{PointerItems}
@@ -13,7 +14,7 @@ use Rattle.nl_field.specs.declared.shape.Shape.{Shape}
 use Rattle.nl_device.specs.Reopened.{AreTagged, CanBeRetained}
 use Rattle.nl_device.specs.Retain.{SameMedium}
 use Rattle.nl_device.specs.declared.device.Device.{Device}
-use Rattle.nl_flight.specs.Flight.{IsFlight, carried, nothing}
+use Rattle.nl_flight.specs.Flight.{InFlight, IsFlight, carried, nothing}
 use Rattle.nl_holders.specs.Opening.{Opens}
 use Rattle.nl_iface.specs.Calls.{StoresPages}
 use Rattle.nl_iface.specs.Device.{IsVolumeShape}
@@ -21,11 +22,16 @@ use Rattle.nl_iface.specs.Holders.{tagged}
 use Rattle.nl_iface.specs.Moves.{Retains}
 use Rattle.nl_iface.specs.Names.{Has, IsNames, IsTable, LivePage}
 use Rattle.nl_iface.specs.Space.{CanLand}
-use Rattle.nl_iface.specs.Stored.{NoneFailed}
+use Rattle.nl_iface.specs.Stored.{NamedAgree, NoneFailed, Stored}
 use Rattle.nl_iface.specs.declared.counts.Counts.{Ghosts}
 use Rattle.nl_journal.specs.Outcomes.{IsHome}
+use Rattle.nl_field.specs.Medium.{shape_of_image}
+use Rattle.nl_field.specs.Page.{Image}
 use Rattle.nl_field.specs.Virtual.{map_bytes}
-use Rattle.nl_meta.specs.Committed.{committed}
+use Rattle.nl_tree.specs.Tree.{Tree}
+use Rattle.nl_meta.specs.Committed.{VirtualMap, committed, committed_of}
+use Rattle.nl_meta.specs.Consistent.{page_on}
+use Rattle.nl_meta.proofs.ImageProofs.{image_is_right}
 use Rattle.nl_meta.specs.Running.{running_over}
 use Rattle.nl_meta.specs.Nodes.{Held, held_in}
 use Rattle.nl_meta.specs.PointerLists.{with_tag}
@@ -38,7 +44,15 @@ use Rattle.nl_commit.specs.Standing.{IsJournaled, StandsOn}
 use Rattle.nl_commit.proofs.Standing.{addresses_stand}
 use Rattle.nl_held.specs.Held.{IsHeldVolume, opened}
 use Rattle.nl_held.specs.Committed.{read_as}
-use Rattle.nl_held.specs.Standing.{IsFirm}
+use Rattle.nl_held.specs.Standing.{IsFirm, ShowsPages}
+use Rattle.nl_sound.specs.LeftIsSound.{MapStands}
+use Rattle.nl_sound.proofs.NamedPages.{named_member}
+use Rattle.nl_field.specs.SpareRecord.{stamp_of}
+use Rattle.nl_sound.specs.RightFor.{PagesRepresent}
+use Rattle.nl_sound.specs.Stands.{Stands, bytes_found}
+use Rattle.nl_held.proofs.Stopping.{stands_alike}
+use Rattle.nl_recover.proofs.Imaged.{walks_the_image}
+use Rattle.nl_core.specs.Trees.{CoreStands}
 use Rattle.nl_held.proofs.Holding.{opening_is_held}
 use Rattle.nl_held.proofs.Opening.{opened_is_firm}
 use Rattle.nl_held.proofs.Reading.{committed_reads}
@@ -51,9 +65,10 @@ use Rattle.nl_recover.proofs.StartFacts.{walked_starts}
 use Rattle.nl_core.specs.Core.{HasFree, HasSpace, IsCore}
 use Rattle.nl_core.specs.declared.state.Core.{Core}
 use Rattle.nl_core.proofs.Written.{has_free_on, same_running}
-use Rattle.nl_opening.specs.Beginning.{CanBegin}
+use Rattle.nl_opening.specs.Beginning.{CanBegin, IsOver, all_at, stopped_by}
 use Rattle.nl_opening.proofs.Opens.{are_tagged, opens, tagged_pointers}
 use Rattle.nl_opening.proofs.Owners.{IsSeenAs}
+use Rattle.nl_opening.proofs.Shown.{on_readable, shown}
 
 none_carried : length (carried nothing) ≡ 0
 unfolding carried
@@ -62,6 +77,17 @@ none_carried = refl
 nothing_carried : carried nothing ≡ []
 unfolding carried
 nothing_carried = refl
+
+represented : (image : Image) (count : ℕ) (tree : Tree) → Stands image count tree → PagesRepresent (shape_of_image image) (committed_of image) (page_on image) tree
+unfolding bytes_found
+represented image count tree s = record { is_tree = s.is_tree; depicts = s.depicts }
+
+below_end : (n : ℕ) → stopped_by n ≡ 0 → n < top
+below_end n still = by (cases_Bool (nat_lt n top))
+  where
+    by : (nat_lt n top ≡ true) ⊎ (nat_lt n top ≡ false) → n < top
+    by (inl low) = ltb-true n top low
+    by (inr end) = absurd (let at : top ≡ 0 = sym (cond-false (nat_lt n top) 0 top end) ∙ still in let none : ⊥ = omega (arith, at) in none)
 
 module _ {M : Type 0} (g : Ghosts (Device M)) (s t : Device M) (seen : List Seen) (w : Walked) (freeing : PointerItems) where
   -- the core over either device
@@ -77,7 +103,24 @@ module _ {M : Type 0} (g : Ghosts (Device M)) (s t : Device M) (seen : List Seen
     count = w.count;
     committed = w.count;
     moment = g.clock s;
-    stopped = 0;
+    stopped = stopped_by (g.write_faults s);
+  }
+
+  -- it is the core that is put together so
+  pub made : (d : Device M) (shape : Shape) (flight : List InFlight) (moment stopped : ℕ) → shape ≡ g.shape s → flight ≡ nothing → g.clock s ≡ moment → stopped_by (g.write_faults s) ≡ stopped
+      → core_over d ≡ record { device = d; shape = shape; journal = w.journal; meta = w.meta; nodes = w.nodes; flight = flight; freeing = freeing; count = w.count; committed = w.count; moment = moment; stopped = stopped }
+  made d shape flight moment stopped is_shape is_flight is_moment is_stopped = λ i. record {
+    device = d;
+    shape = (sym is_shape) i;
+    journal = w.journal;
+    meta = w.meta;
+    nodes = w.nodes;
+    flight = (sym is_flight) i;
+    freeing = freeing;
+    count = w.count;
+    committed = w.count;
+    moment = is_moment i;
+    stopped = is_stopped i;
   }
 
   module _ (can : CanBegin g s seen) (is : IsWalked g s seen w) (volume : IsVolumeShape (g.shape s)) where
@@ -208,6 +251,55 @@ module _ {M : Type 0} (g : Ghosts (Device M)) (s t : Device M) (seen : List Seen
           spare = spare;
           lands = lands;
           firm = λ told. firm told.0;
-          counts = subst (λ n. n < top) (sym same.write_faults) can.counts;
+          counts = subst (λ n. n < top) (sym same.write_faults) (below_end (g.write_faults s) still);
         };
       }
+
+      -- over an image that is sound as a tree
+      module _ (tells : g.tells) (image : Image) (tree : Tree) (over : IsOver g s w image tree) where
+        runs : running_on g t w.meta ≡ committed_of image
+        runs =
+            (λ i v. running_over (map_bytes (same_shape i) (same_map tells i)) w.meta v)
+            ∙ (λ i v. is.same tells v i)
+            ∙ (walks_the_image image (g.shape s) (g.map s) over.shape over.map).0
+
+        at : MapStands (shape_of_image image) (committed_of image) (page_on image) w.count tree
+        at = record {
+          super_rec = over.sound.stands.metadata.super_rec;
+          numbers = over.sound.stands.metadata.numbers;
+          count_of_calls = over.sound.stands.count_of_calls;
+          right = image_is_right image over.sound.stands.pages_whole over.sound.stands.metadata;
+          represents = represented image w.count tree over.sound.stands;
+          data_fits = over.sound.data_fits;
+        }
+
+        running : MapStands (g.shape t) (running_on g t w.meta) (page_on image) w.count tree
+        running = subst (λ (b : VirtualMap). MapStands (g.shape t) b (page_on image) w.count tree) (sym runs)
+            (subst (λ (h : Shape). MapStands h (committed_of image) (page_on image) w.count tree) (sym (same_shape ∙ over.shape)) at)
+
+        shows : ShowsPages (g.names t) (g.bytes t) (page_on image)
+        shows p page live =
+            let agree = (firm tells).agree in
+            let here = (stores tells).holds p page live in
+            shown image (subst NamedAgree (ap g.stored_of (same.contents tells) ∙ over.stored) agree) p (record { tag = page.tag; stamp = page.stamp; bytes = g.bytes t p })
+            (ap (λ (c : Stored). c.named p) (sym (ap g.stored_of (same.contents tells) ∙ over.stored)) ∙ here)
+
+        pub begun_stands : CoreStands g (core_over t) (page_on image) (all_at w.count tree)
+        begun_stands = record {
+          stands = record {
+            running = record { right = running.right; represents = running.represents; data_fits = running.data_fits };
+            committed = stands_alike (g.shape t) (running_on g t w.meta) (read_as (g.shape t) (committed_on g t)) (page_on image) w.count tree (stored_runs tells) running;
+            frozen = λ more. absurd (shut more);
+            thawed = λ _. refl;
+            later = omega arith;
+            latest = omega arith;
+          };
+          shows = shows;
+          given = λ stamp page has.
+              let q = on_readable image stamp page has in
+              let m = named_member image q.0 q.1 in
+              let below = (stores tells).named_below q.0.page m.0 (ap (λ (c : Stored). c.named q.0.page) (ap g.stored_of (same.contents tells) ∙ over.stored) ∙ m.1) in
+              let number : m.0.stamp ≡ stamp = sym (ap stamp_of m.2.rec) ∙ q.2 in
+              omega (arith, below, number);
+          committed = refl;
+        }

@@ -1,4 +1,9 @@
+pub mod Agreeing
 pub mod Begun
+pub mod CanOpen
+pub mod Imaged
 pub mod OneKept
+pub mod OnlyRead
 pub mod Opens
 pub mod Owners
+pub mod Shown

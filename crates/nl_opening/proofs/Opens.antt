@@ -1,7 +1,6 @@
 -- Who holds the pages of a volume that is opened: its files, and nobody else.
-use Rattle.std.proofs.Common.{◌≡◌, ◌≢◌, inl, inr, ⊎_elim, ℕ, zero, suc, ◌<◌, ◌≤◌, cond, List, [], ◌∷◌, map, length, get_or, Some, refl, sym, ap, subst, ◌∙◌, arith}
+use Rattle.std.proofs.Common.{◌≡◌, ◌≢◌, inl, inr, ℕ, ◌<◌, ◌≤◌, List, [], ◌∷◌, map, Some, refl, sym, ap, subst, ◌∙◌}
 use Rattle.std.specs.Prelude.{AllPairs}
-use Rattle.std.proofs.lemmas.Bool.{cases_eq, eq-eqb, ne_eqb}
 use Rattle.nl_field.specs.Members as members
 use Rattle.nl_field.specs.SpareRecord.{stamp_of}
 use Rattle.nl_field.specs.declared.pointer.Pointer.{Pointer}
@@ -9,9 +8,10 @@ use Rattle.nl_field.specs.declared.pointer.Tag.{Tag}
 use Rattle.nl_field.specs.declared.seen.Seen.{Seen}
 use Rattle.nl_field.specs.declared.shape.Shape.{Shape}
 use Rattle.nl_device.specs.Reopened.{AreTagged}
+use Rattle.nl_device.proofs.Reopened.{listed, once, some_time}
 use Rattle.nl_holders.specs.Holding.{Holding}
 use Rattle.nl_holders.specs.Opening.{Opens}
-use Rattle.nl_iface.specs.Holders.{one, tagged, times}
+use Rattle.nl_iface.specs.Holders.{tagged, times}
 use Rattle.nl_iface.specs.Moves.{Retains}
 use Rattle.nl_iface.specs.Names.{Has, LivePage, led}
 use Rattle.nl_meta.specs.Committed.{VirtualMap}
@@ -28,48 +28,10 @@ pub tagged_pointers : (hs : List Held) → map tagged (map with_tag hs) ≡ map 
 tagged_pointers [] = refl
 tagged_pointers (h ∷ hs) = ap (λ (ps : List Pointer). h.pointer ∷ ps) (tagged_pointers hs)
 
-listed : (xs : List (Tag × Pointer)) (h : Tag × Pointer) → Has xs h → Has (map tagged xs) (tagged h)
-listed [] h has = absurd has
-listed (x ∷ xs) h (inl same) = inl (ap tagged same)
-listed (x ∷ xs) h (inr has) = inr (listed xs h has)
-
 held_of : (hs : List Held) (x : Tag × Pointer) → Has (map with_tag hs) x → (h : Held) × members.Has hs h × (with_tag h ≡ x)
 held_of [] x has = absurd has
 held_of (h ∷ hs) x (inl same) = (h, inl refl, same)
 held_of (h ∷ hs) x (inr has) = let k = held_of hs x has in (k.0, inr k.1, k.2)
-
-same_one : (s t : ℕ) → s ≡ t → one s t ≡ 1
-same_one s t same = ap (λ b. cond b 1 0) (eq-eqb s t same)
-
-other_one : (s t : ℕ) → s ≢ t → one s t ≡ 0
-other_one s t apart = ap (λ b. cond b 1 0) (ne_eqb s t apart)
-
-some_time : (xs : List (Tag × Pointer)) (p : Pointer) → Has (map tagged xs) p → 1 ≤ times tagged p.stamp xs
-some_time [] p has = absurd has
-some_time (x ∷ xs) p (inl same) = let here = same_one (tagged x).stamp p.stamp (ap (λ (q : Pointer). q.stamp) same) in omega (arith, here)
-some_time (x ∷ xs) p (inr has) = let rest = some_time xs p has in omega (arith, rest)
-
-no_time : (xs : List (Tag × Pointer)) (s : ℕ) → ((i : ℕ) (d : Pointer) → i < length (map tagged xs) → (get_or (map tagged xs) i d).stamp ≢ s) → times tagged s xs ≡ 0
-no_time [] s off = refl
-no_time (x ∷ xs) s off =
-    let here = other_one (tagged x).stamp s (off zero (tagged x) (omega arith)) in
-    let rest = no_time xs s (λ i d within. off (suc i) d (omega (arith, within))) in
-    omega (arith, here, rest)
-
-once : (xs : List (Tag × Pointer)) (s : ℕ) → AllPairs (λ (p q : Pointer). p.stamp ≢ q.stamp) (map tagged xs) → times tagged s xs ≤ 1
-once [] s differ = omega arith
-once (x ∷ xs) s differ = ⊎_elim
-    (λ (same : (tagged x).stamp ≡ s).
-    let here = same_one (tagged x).stamp s same in
-    let rest = no_time xs s (λ i d within e. differ zero (suc i) d (omega arith) (omega (arith, within)) (same ∙ sym e)) in
-    omega (arith, here, rest))
-    (λ (apart : (tagged x).stamp ≢ s).
-    let here = other_one (tagged x).stamp s apart in
-    let rest = once xs s (λ i j d less within. differ (suc i) (suc j) d (omega (arith, less)) (omega (arith, within))) in
-    omega (arith, here, rest))
-    (cases_eq (tagged x).stamp s)
-
--- ---- the owner of each
 
 pub are_tagged : (shape : Shape) (pages : VirtualMap) (seen : List Seen) (place : Pointer → ℕ) (found : List (ℕ × LivePage)) → ConsistentOver shape pages seen → HaveOneOwner shape seen
     → ((p : ℕ) (page : LivePage) → Has found (p, page) → IsSeenAs shape seen page) → AreTagged place found (tagged_in shape pages)

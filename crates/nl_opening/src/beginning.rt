@@ -1,9 +1,12 @@
-ghost use Rattle.std.specs.Prelude.{◌≡◌, ◌≤◌, ◌+◌, ◌*◌, []};
+ghost use Rattle.std.specs.Prelude.{◌≡◌, ◌≤◌, ◌*◌, []};
 ghost use Rattle.nl_core.specs.Core.{IsCore};
-ghost use Rattle.nl_device.specs.Retain.{SameMedium};
+ghost use Rattle.nl_core.specs.Trees.{CoreStands};
+ghost use Rattle.nl_field.specs.Page.{Image};
+ghost use Rattle.nl_meta.specs.Consistent.{page_on};
+ghost use Rattle.nl_tree.specs.Tree.{Tree};
 ghost use Rattle.nl_flight.specs.Flight.{IsFlight, nothing};
 ghost use Rattle.nl_recover.specs.Recovering.{IsWalked};
-ghost use Rattle.nl_opening.specs.Beginning.{BeginsCore, CanBegin};
+ghost use Rattle.nl_opening.specs.Beginning.{BeginsCore, CanBegin, IsOver, all_at, stopped_by};
 
 use nl_core::Core;
 use nl_device::Device;
@@ -18,7 +21,8 @@ use nl_recover::laws::kept_can_be_retained;
 use nl_scan::ScanTables;
 
 /// Begins a core over a device that was started and walked: exactly the pointers of its files are live, each at its place, and nothing is in
-/// flight or awaits its free. The medium is not touched.
+/// flight or awaits its free. Over an image that is sound as a tree it stands for that tree. It is read-only where the count of failed writes
+/// stands at its end. The medium is not touched.
 pub fn begin<M: Nand>(
     device: Device<M>,
     shape: Shape,
@@ -36,6 +40,7 @@ pub fn begin<M: Nand>(
     requires room { shape.pblocks * shape.pages ≤ freeing.room }
     ensures formed { ⟦<Device<M> as Counts>⟧.formed result.device }
     ensures core { IsCore ⟦<Device<M> as Counts>⟧ result }
+    ensures stands { M.tells → (image : Image) (tree : Tree) → IsOver ⟦<Device<M> as Counts>⟧ device walked image tree → CoreStands ⟦<Device<M> as Counts>⟧ result (page_on image) (all_at walked.count tree) }
     ensures begins { BeginsCore ⟦<Device<M> as Counts>⟧ device walked result }
 {
     kept_can_be_retained();
@@ -46,6 +51,7 @@ pub fn begin<M: Nand>(
     device.retain(&walked.kept);
     device_stands(&device);
     let moment = device.clock();
+    let stopped = stopped_by(device.write_faults());
     let Walked {
         journal,
         meta,
@@ -64,8 +70,15 @@ pub fn begin<M: Nand>(
         count,
         committed: count,
         moment,
-        stopped: 0,
+        stopped,
     }
+}
+
+// The volume is begun read-only where its count of failed writes stands at its end.
+fn stopped_by(write_faults: u64) -> u64
+    ensures { result ≡ stopped_by write_faults }
+{
+    if write_faults < u64::MAX { 0 } else { u64::MAX }
 }
 
 // The lines in flight are in order.

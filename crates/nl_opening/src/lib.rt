@@ -2,5 +2,7 @@
 #![tactic(auto)]
 
 mod beginning;
+mod opening;
 
 pub use beginning::begin;
+pub use opening::{Opened, open};

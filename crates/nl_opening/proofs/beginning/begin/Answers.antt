@@ -1,4 +1,4 @@
-use Rattle.std.proofs.Common.{◌≡◌, ◌*◌, ◌≤◌, ◌∙◌, List, subst, sym}
+use Rattle.std.proofs.Common.{◌≡◌, ◌*◌, ◌≤◌, ◌∙◌, List, ap, refl, subst, sym}
 use Rattle.nl_device.specs.Kept.{KeptPages}
 use Rattle.nl_device.specs.Retain.{CanRetain, kept_of, retained_at}
 use Rattle.nl_device.specs.Reopened.{CanBeRetained}
@@ -11,7 +11,10 @@ use Rattle.nl_iface.specs.Names.{Has}
 use Rattle.nl_running.specs.Running.{running_on}
 use Rattle.nl_core.specs.Core.{IsCore}
 use Rattle.nl_core.specs.declared.state.Core.{Core}
-use Rattle.nl_opening.proofs.Begun.{begun_core}
+use Rattle.nl_meta.specs.Consistent.{page_on}
+use Rattle.nl_core.specs.Trees.{CoreStands}
+use Rattle.nl_opening.specs.Beginning.{all_at, stopped_by}
+use Rattle.nl_opening.proofs.Begun.{begun_core, begun_stands, made}
 use Rattle.nl_opening.proofs.OneKept.{one_kept}
 use Rattle.nl_opening.proofs.Owners.{found_is_seen}
 use Rattle.nl_opening.proofs.beginning.begin.Goals as goal
@@ -35,22 +38,41 @@ returns-clause-core g c =
     let seen = c.args.scan.now.seen in
     let e = c.retain.ensures in
     let clock : G.clock s ≡ c.clock-moment.result = sym (c.clock-moment.ensures ∙ e.medium.clock) in
+    let stopped : stopped_by (G.write_faults s) ≡ c.stopped_by-stopped.result = sym (c.stopped_by-stopped.ensures ∙ ap stopped_by (c.write_faults.ensures ∙ e.medium.write_faults)) in
     subst (λ (x : Core g.row.M.Denot). IsCore G x)
-    (λ i. record {
-      device = t;
-      shape = (sym c.requires.shape) i;
-      journal = w.journal;
-      meta = w.meta;
-      nodes = w.nodes;
-      flight = (sym c.requires.flight) i;
-      freeing = c.args.freeing;
-      count = w.count;
-      committed = w.count;
-      moment = clock i;
-      stopped = 0;
-    })
+    (made G s t seen w c.args.freeing t c.args.shape c.args.flight c.clock-moment.result c.stopped_by-stopped.result c.requires.shape c.requires.flight clock stopped)
     (begun_core G s t seen w c.args.freeing c.requires.can c.requires.walked c.device_stands.ensures.volume
     (λ p page has. found_is_seen s.shape seen p page (subst (λ (k : KeptPages). Has (found_by_number k) (p, page)) c.requires.can.kept has))
     e.medium (retained_at (kept_of s) w.kept.items) e.retained c.device_stands-2.ensures.table c.device_stands-2.ensures.names e.space.lands (one_kept t.pseg) c.device_stands-2.ensures.pages
     (subst IsFlight c.requires.flight c.lines_stand.ensures) c.requires.freeing
     (subst (λ (h : Shape). h.pblocks * h.pages ≤ c.args.freeing.room) c.requires.shape c.requires.room))
+
+pub returns-clause-stands : goal.returns-clause-stands
+returns-clause-stands g c tells image tree over =
+    let G = ghosts g.row.M g.M.Nand g.M.Nand-dict in
+    let s = c.args.device in
+    let t = c.retain.new.self in
+    let w = c.args.walked in
+    let seen = c.args.scan.now.seen in
+    let e = c.retain.ensures in
+    let clock : G.clock s ≡ c.clock-moment.result = sym (c.clock-moment.ensures ∙ e.medium.clock) in
+    let stopped : stopped_by (G.write_faults s) ≡ c.stopped_by-stopped.result = sym (c.stopped_by-stopped.ensures ∙ ap stopped_by (c.write_faults.ensures ∙ e.medium.write_faults)) in
+    subst (λ (x : Core g.row.M.Denot). CoreStands G x (page_on image) (all_at w.count tree))
+    (made G s t seen w c.args.freeing t c.args.shape c.args.flight c.clock-moment.result c.stopped_by-stopped.result c.requires.shape c.requires.flight clock stopped)
+    (begun_stands G s t seen w c.args.freeing c.requires.can c.requires.walked c.device_stands.ensures.volume
+    (λ p page has. found_is_seen s.shape seen p page (subst (λ (k : KeptPages). Has (found_by_number k) (p, page)) c.requires.can.kept has))
+    e.medium (retained_at (kept_of s) w.kept.items) e.retained c.device_stands-2.ensures.table c.device_stands-2.ensures.names e.space.lands (one_kept t.pseg) c.device_stands-2.ensures.pages
+    (subst IsFlight c.requires.flight c.lines_stand.ensures) c.requires.freeing
+    (subst (λ (h : Shape). h.pblocks * h.pages ≤ c.args.freeing.room) c.requires.shape c.requires.room)
+    tells image tree over)
+
+pub returns-clause-begins : goal.returns-clause-begins
+returns-clause-begins g c =
+    let e = c.retain.ensures in
+    record {
+      medium = e.medium;
+      metadata = (refl, refl, refl);
+      counts = (refl, refl, c.clock-moment.ensures ∙ e.medium.clock, c.stopped_by-stopped.ensures ∙ ap stopped_by (c.write_faults.ensures ∙ e.medium.write_faults));
+      flight = c.requires.flight;
+      freeing = c.requires.freeing;
+    }
