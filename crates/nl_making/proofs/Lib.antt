@@ -1,0 +1,4 @@
+pub mod Begun
+pub mod Damaged
+pub mod ReadableOnes
+pub mod Safe
