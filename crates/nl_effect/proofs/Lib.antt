@@ -1,0 +1,10 @@
+pub mod DirtyRoom
+pub mod FileInstalled
+pub mod FileRunning
+pub mod FileTrees
+pub mod FilesRight
+pub mod Fits
+pub mod Holders
+pub mod Landing
+pub mod LineEnds
+pub mod Stepping

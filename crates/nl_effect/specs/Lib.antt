@@ -1,0 +1,10 @@
+pub mod Cutting
+pub mod FileRuns
+pub mod FileTrees
+pub mod Fits
+pub mod Holders
+pub mod Installing
+pub mod Landing
+pub mod Reading
+pub mod Steps
+pub mod Taking
