@@ -1,0 +1,3 @@
+pub mod Along
+pub mod Effects
+pub mod Laws
