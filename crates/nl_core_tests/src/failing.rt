@@ -1,0 +1,95 @@
+// Each operation of the rounds fails, and each read.
+use crate::image::image;
+use crate::rig::{Seen, Step};
+use crate::rounds::{BUILT, DEAD};
+use crate::stops::committed_after;
+use crate::visit::{Differs, either, failing, is_fault, reopened, tree, visited};
+use nl_nand::Nand;
+use nl_tree::Duty;
+use std::alloc::Global;
+use std::test::Fail;
+
+// The volume is read-only from then on.
+const WRITE_FAILS: [(Step, Seen); 6] = [
+    (Step::Rounds(4), Seen::Fault),
+    (Step::Stopped, Seen::Number(1)),
+    (Step::Round, Seen::ReadOnly),
+    (Step::Commit, Seen::ReadOnly),
+    (Step::Duty(Duty::Copy), Seen::Nothing),
+    (Step::Program(0, 1), Seen::ReadOnly),
+];
+
+/// The calls of the super page in memory, where that operation fails: the transactions begin with the operations 20, 53 and 84.
+fn running_at(operation: u64) -> u64 {
+    if operation < 20 {
+        7
+    } else if operation < 53 {
+        9
+    } else if operation < 84 {
+        10
+    } else {
+        11
+    }
+}
+
+fn write_differs(alloc: Global, operation: u64) -> Result<Option<Differs>, Fail> {
+    let plan = failing(alloc, 0, BUILT.saturating_add(operation))?;
+    let media = image(alloc, &DEAD, plan)?;
+    let (differs, media) = visited(alloc, media, tree(&WRITE_FAILS, running_at(operation)))?;
+    let calls = committed_after(operation.saturating_sub(1));
+    let again = reopened(alloc, media.restart(None), calls)?;
+    Ok(either(differs, again))
+}
+
+#[test]
+fn each_write_fails(rt: HostRuntime) -> Result<(), Fail> {
+    for operation in 1..90u64 {
+        let differs = write_differs(rt.alloc(), operation)?;
+        assert_eq!(rt; differs, None, "{operation}");
+    }
+    Ok(())
+}
+
+/// An opening reads each page once, and then each of the seven addresses that it has.
+pub const OPENED: u64 = 1024 + 7;
+
+// The victim stays in hand, and the next rounds go on with it.
+const READ_FAILS: [(Step, Seen); 6] = [
+    (Step::Rounds(4), Seen::Fault),
+    (Step::Stopped, Seen::Number(0)),
+    (Step::Rounds(4), Seen::Did),
+    (Step::FreeBlocks, Seen::Number(9)),
+    (Step::Pairs, Seen::Number(0)),
+    (Step::Clean, Seen::Nothing),
+];
+
+fn read_differs(alloc: Global, copy: u64) -> Result<Option<Differs>, Fail> {
+    let plan = failing(alloc, OPENED.saturating_add(copy), 0)?;
+    let media = image(alloc, &DEAD, plan)?;
+    let (differs, _) = visited(alloc, media, tree(&READ_FAILS, 12))?;
+    Ok(differs)
+}
+
+// Each of the 64 copies reads its page.
+#[test]
+fn each_read_fails(rt: HostRuntime) -> Result<(), Fail> {
+    for copy in 1..65u64 {
+        let differs = read_differs(rt.alloc(), copy)?;
+        assert_eq!(rt; differs, None, "{copy}");
+    }
+    Ok(())
+}
+
+fn opening_fails(alloc: Global, read: u64) -> Result<bool, Fail> {
+    let media = image(alloc, &DEAD, failing(alloc, read, 0)?)?;
+    Ok(is_fault(alloc, media))
+}
+
+// Each read of an opening; those of the rounds come behind them.
+#[test]
+fn openings_fail(rt: HostRuntime) -> Result<(), Fail> {
+    for read in 1..1033u64 {
+        assert_eq!(rt; opening_fails(rt.alloc(), read)?, read <= OPENED, "{read}");
+    }
+    Ok(())
+}

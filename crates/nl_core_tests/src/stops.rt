@@ -1,0 +1,83 @@
+// Each operation of the rounds is stopped, with each cut, and the volume is opened again.
+use crate::image::image;
+use crate::rig::{Seen, Step};
+use crate::rounds::{BUILT, DEAD};
+use crate::visit::{Differs, Visit, either, reopened, sound, visited};
+use nl_nand::{Cut, Nand, Stop};
+use nl_tree::Duty;
+use std::alloc::Global;
+use std::test::Fail;
+
+/// After how many calls the metadata is committed once so many operations have finished: commit pages are the operations 25, 56 and 87.
+pub fn committed_after(operations: u64) -> u64 {
+    if operations < 25 {
+        7
+    } else if operations < 56 {
+        9
+    } else if operations < 87 {
+        10
+    } else {
+        11
+    }
+}
+
+const STOPPED: Visit<'static> = Visit {
+    rows: &[
+        (Step::Rounds(4), Seen::Fault),
+        (Step::Stopped, Seen::Number(1)),
+        (Step::Round, Seen::ReadOnly),
+        (Step::Duty(Duty::Commit), Seen::Nothing),
+    ],
+    holds: None,
+};
+
+fn stop_differs(
+    alloc: Global,
+    operation: u64,
+    cut: Cut,
+    calls: u64,
+) -> Result<Option<Differs>, Fail> {
+    let stop = Stop {
+        operation: BUILT.saturating_add(operation),
+        cut,
+    };
+    let media = image(alloc, &DEAD, sound(alloc, Some(stop)))?;
+    let (differs, media) = visited(alloc, media, STOPPED)?;
+    let again = reopened(alloc, media.restart(None), calls)?;
+    Ok(either(differs, again))
+}
+
+/// How many operations have finished after a stop within that one.
+pub fn finished(operation: u64, cut: Cut) -> u64 {
+    match cut {
+        Cut::After => operation,
+        _ => operation.saturating_sub(1),
+    }
+}
+
+/// Of an erased block five pages stay, five are erased, five are uncorrectable, and so on.
+const BY_FIVES: Cut = Cut::Mixed(205465758716988);
+
+#[test]
+fn each_operation_is_stopped(rt: HostRuntime) -> Result<(), Fail> {
+    for operation in 1..90u64 {
+        for cut in [Cut::Before, Cut::After, Cut::Spoilt] {
+            let calls = committed_after(finished(operation, cut));
+            let differs = stop_differs(rt.alloc(), operation, cut, calls)?;
+            assert_eq!(rt; differs, None, "{operation} {cut:?}");
+        }
+    }
+    Ok(())
+}
+
+// The erases of the three blocks.
+#[test]
+fn erases_are_cut_over_their_pages(rt: HostRuntime) -> Result<(), Fail> {
+    for operation in [19u64, 52, 83] {
+        for cut in [BY_FIVES, Cut::Mixed(1), Cut::Mixed(6)] {
+            let differs = stop_differs(rt.alloc(), operation, cut, committed_after(operation))?;
+            assert_eq!(rt; differs, None, "{operation} {cut:?}");
+        }
+    }
+    Ok(())
+}
