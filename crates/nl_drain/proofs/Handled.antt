@@ -1,5 +1,5 @@
 -- One callback is handled, and marked.
-use Rattle.std.proofs.Common.{◌≡◌, ◌≢◌, ◌⊎◌, inl, inr, ℕ, ◌+◌, ◌≤◌, ◌<◌, Bool, true, false, List, length, map, Option, Some, None, refl, sym, ap, subst, ◌∙◌}
+use Rattle.std.proofs.Common.{◌≡◌, ◌≢◌, ◌⊎◌, inl, inr, ⊎_elim, ℕ, ◌+◌, ◌≤◌, ◌<◌, Bool, true, false, List, length, map, Option, Some, None, refl, sym, ap, subst, ◌∙◌}
 use Rattle.std.proofs.lemmas.Bool.{both_ways, cases_Bool, cases_eq}
 use Rattle.nl_field.specs.Graph.{Graph}
 use Rattle.nl_field.specs.Numbers.{ShapeBounds}
@@ -175,6 +175,7 @@ module _ {D : Type 0} {g : Ghosts D} {s : D} {p : Pages} {t : D} {q : Pages} {fl
       pages = pages-changed;
       dirty = altered.dirty;
       flight = flight-nameless c.stamp place flight;
+      names = λ x has. ⊎_elim (λ off. inl off.1) (λ here. inr (c, call.pending, here.0)) ((laws.flies c.stamp place flight).each x has);
       freeing = freeing-nameless c.stamp place freeing;
       medium = keeps_medium_then g s t u altered.reads.medium mark.kept;
     }
@@ -211,6 +212,7 @@ module _ {D : Type 0} {g : Ghosts D} {s : D} {p : Pages} {t : D} {q : Pages} {fl
       pages = pages-changed;
       dirty = altered.dirty;
       flight = flight-nameless c.stamp place flight;
+      names = λ x has. inl (subst (λ (fs : List InFlight). Has (carried fs) x) same-flight has);
       freeing = freeing-nameless c.stamp place freeing;
       medium = on.reads.medium;
     }

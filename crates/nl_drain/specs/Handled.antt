@@ -2,13 +2,15 @@
 use Rattle.std.specs.Prelude.{◌≡◌, ◌⊎◌, ℕ, ◌<◌, ◌≤◌, true, List, map, Some}
 use Rattle.nl_field.specs.Graph.{Graph, NodeBody, directory_node, file_node, unused}
 use Rattle.nl_field.specs.declared.pointer.Pointer.{Pointer}
+use Rattle.nl_field.specs.declared.pointer.Tag.{Tag}
 use Rattle.nl_flight.specs.Flight.{InFlight, carried}
 use Rattle.nl_flight.specs.declared.page.FlightPage.{FlightPage}
 use Rattle.nl_holders.specs.Holding.{Holding}
 use Rattle.nl_holders.specs.Laws.{Keeps}
 use Rattle.nl_iface.specs.Calls.{KeepsMedium}
 use Rattle.nl_iface.specs.Moves.{IsUnhandled}
-use Rattle.nl_iface.specs.Names.{Names}
+use Rattle.nl_iface.specs.Names.{Has, Names, led}
+use Rattle.nl_iface.specs.declared.Callback.{Callback}
 use Rattle.nl_iface.specs.declared.counts.Counts.{Ghosts}
 use Rattle.nl_inode.specs.FreeLaws.{NodesAreFree, PoolIsFree}
 use Rattle.nl_inode.specs.Nodes.{Spaces}
@@ -98,5 +100,7 @@ pub record HandlesSome {D : Type 0} (g : Ghosts D) (transaction : ℕ) (v w : Vo
   -- a page that became dirty has nodes, or pointers of a file
   pub dirty : (a : ℕ) → is_dirty w.pages a ≡ true → (is_dirty v.pages a ≡ true) ⊎ (67 ≤ a)
   pub flight : map nameless_line w.flight ≡ map nameless_line v.flight
+  -- a page in flight has the name that it had, or that of the page of a callback
+  pub names : (x : Tag × Pointer) → Has (carried w.flight) x → Has (carried v.flight) x ⊎ ((c : Callback) × Has (g.names v.device).pending c × (x.1.name ≡ led (g.names v.device) c.before))
   pub freeing : map nameless w.freeing ≡ map nameless v.freeing
   pub medium : KeepsMedium g v.device w.device
