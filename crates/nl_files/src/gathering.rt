@@ -58,7 +58,7 @@ pub fn gather<D: NamedPages>(
     requires within { from ≤ 4104 }
     requires stands { FileStands D.Counts device.old rec.now meta.old }
     requires room { length (pointers_from (running_map D.Counts device.old meta.old) rec.now from) ≤ freeing.old.room }
-    requires few { length freeing.old.items + freeing.old.room < 2 ^ 32 }
+    requires few { length freeing.old.items + length (pointers_from (running_map D.Counts device.old meta.old) rec.now from) < 2 ^ 32 }
     ensures formed { D.formed device.new }
     ensures kept { OnlyReads D.Counts device.old device.new }
     ensures pages { KeepsRunning D.Counts device.old meta.old meta.new }

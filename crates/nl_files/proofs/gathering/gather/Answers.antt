@@ -49,9 +49,8 @@ gather_one-requires-clause-few g c =
     let pointer = ap (λ (p : Pointer). length (as_list p)) (pointer-then d c.args.device.now c.loop-index.device c.args.rec.now c.args.meta.now c.loop-index.meta is.0.reads is.0.keeps c.requires.stands c.loop-index.index) in
     let within = span-within old c.args.rec.now c.args.from c.loop-index.index c.loop-index.auto.index c.loop-index-test.true in
     let items = ap length is.1 ∙ length-append c.args.freeing.now.items (pointers_of_span old c.args.rec.now c.args.from (c.loop-index.index - c.args.from)) in
-    let room = c.requires.room in
     let few = c.requires.few in
-    omega (arith, pointer, within, items, room, few)
+    omega (arith, pointer, within, items, few)
 
 pub loop-index-preserved : goal.loop-index-preserved
 loop-index-preserved g c =
