@@ -1,5 +1,5 @@
 -- A core stands on while a victim of its device is cleaned.
-use Rattle.std.proofs.Common.{◌≡◌, inl, inr, ⊎_elim, ℕ, ◌+◌, ◌*◌, ◌<◌, ◌≤◌, length, Option, Some, refl, sym, ap, subst, ◌∙◌, arith}
+use Rattle.std.proofs.Common.{◌≡◌, inl, inr, ⊎_elim, ℕ, ◌+◌, ◌*◌, ◌≤◌, length, Option, Some, refl, sym, ap, subst, ◌∙◌, arith}
 use Rattle.nl_field.specs.Graph.{Graph}
 use Rattle.nl_field.specs.declared.shape.Shape.{Shape}
 use Rattle.nl_cleaning.specs.Carried.{KeepsHeld, KeepsStored, LeavesHeld}
@@ -28,14 +28,16 @@ use Rattle.nl_held.specs.DeviceLaws.{LeavesHolding}
 use Rattle.nl_held.specs.SettlingLaws.{IsTold as IsHeldTold}
 use Rattle.nl_held.specs.TreeLaws.{OpensFrom}
 use Rattle.nl_held.specs.Trees.{Prefix, Trees}
+use Rattle.nl_tree.specs.Tree.{Tree}
 use Rattle.nl_held.proofs.DeviceTrees.{addresses_go, holding_opens}
 use Rattle.nl_held.proofs.Firm.{stored_keeps_firm}
 use Rattle.nl_held.proofs.Steps.{cleaning_keeps_held}
-use Rattle.nl_core.specs.Core.{HasSpace, IsCore, begun_of, names_of, running_of}
-use Rattle.nl_core.specs.Goes.{Goes, GoesTo}
-use Rattle.nl_core.specs.Trees.{CoreStands, IsTold}
+use Rattle.nl_core.specs.Core.{HasSpace, IsCore, IsPhysical, begun_of, names_of, running_of}
+use Rattle.nl_core.specs.Goes.{Goes, GoesTo, RunsOnAs}
+use Rattle.nl_core.specs.Trees.{CoreRuns, CoreStands, IsTold}
 use Rattle.nl_core.specs.Writing.{stopped_on}
 use Rattle.nl_core.specs.declared.state.Core.{Core}
+use Rattle.nl_core.proofs.Running.{goes_as, runs_on, with_none}
 use Rattle.nl_core.proofs.Written.{below_end, has_free_on, none_failed_on, same_running, stops_on}
 
 -- ---- the numbers of space
@@ -110,6 +112,8 @@ module _ {M : Type 0} (g : Ghosts (Device M)) (v w : Core M) (others : w ≡ rec
     free = has_free_on g v now k.virtual.same_shape volume stands.needed refl core.free;
     held = cleaning_keeps_held g v.device w.device v.journal v.meta (carried v.flight) v.freeing.items volume core.journaled core.held k.virtual k.pages.holders;
     flight = core.flight;
+    named = λ x has. subst (λ (h : Shape). IsPhysical h x.1.name) (sym k.virtual.same_shape) (core.named x has);
+    stamped = core.stamped;
     space = space_now;
     marked = marked;
     moment = let a = core.moment in let b = k.clock in omega (arith, a, b);
@@ -134,7 +138,7 @@ module _ {M : Type 0} (g : Ghosts (Device M)) (v w : Core M) (others : w ≡ rec
         keeps = λ x is. subst (λ (n : Names). Keeps (record x { names = n }) (record x { names = left.moved })) (sym is) (left.carries.holders x);
         shows = λ q page is.
             let old = left.carries.was_live q page is in
-            at.shows old.0 page old.1 ∙ ap (λ bytes. Some (record { tag = page.tag; bytes = bytes })) (sym old.2);
+            at.runs.shows old.0 page old.1 ∙ ap (λ bytes. Some (record { tag = page.tag; bytes = bytes })) (sym old.2);
         pages = left.pages;
       }
     where
@@ -144,24 +148,15 @@ module _ {M : Type 0} (g : Ghosts (Device M)) (v w : Core M) (others : w ≡ rec
   told_held : IsTold g w → HasNumber v.journal (length v.meta.frozen.addresses)
   told_held told = subst (λ (x : Core M). HasNumber x.journal (length x.meta.frozen.addresses)) others told.numbers
 
+  runs_now : g.tells → (page_of_stamp : ℕ → Option PageOfStamp) (tree : Tree) → CoreRuns g v page_of_stamp tree → CoreRuns g now page_of_stamp tree
+  runs_now tells page_of_stamp tree at =
+      (runs_on g v now page_of_stamp tree at k.virtual.same_shape stands.needed
+      (record { live = λ q page is. let old = k.pages.was_live q page is in (old.0, old.1, old.2 tells); stamps = let same = k.next_stamp in omega (arith, same) }))
+
   goes_to : IsTold g w → (page_of_stamp : ℕ → Option PageOfStamp) (t : Trees) → CoreStands g v page_of_stamp t → GoesTo g v w page_of_stamp t
-  goes_to told page_of_stamp t at = record {
-    pages = page_of_stamp;
-    trees = t;
-    stands = subst (λ (x : Core M). CoreStands g x page_of_stamp t) (sym others) (record {
-      stands = addresses_go g v.device w.device v.journal v.meta v.count page_of_stamp t volume told.tells (told_held told) core.journaled k.virtual at.stands;
-      shows = λ q page is.
-          let old = k.pages.was_live q page is in
-          at.shows old.0 page old.1 ∙ ap (λ bytes. Some (record { tag = page.tag; bytes = bytes })) (sym (old.2 told.tells));
-      given = λ stamp page is. subst (λ n. stamp < n) (sym k.next_stamp) (at.given stamp page is);
-      committed = at.committed;
-    });
-    extends = λ stamp page is. is;
-    running = refl;
-    committed = inl refl;
-    frozen = inr (inl refl);
-    later = omega arith;
-  }
+  goes_to told page_of_stamp t at = subst (λ (x : Core M). GoesTo g v x page_of_stamp t) (sym others)
+      (goes_as g v now page_of_stamp t (with_none g now page_of_stamp t.running (runs_now told.tells page_of_stamp t.running at.runs))
+      (addresses_go g v.device w.device v.journal v.meta v.count page_of_stamp t volume told.tells (told_held told) core.journaled k.virtual at.stands) at.committed)
 
   leaves_to : IsTold g w → (page_of_stamp : ℕ → Option PageOfStamp) (t : Trees) (y : Prefix) → y.0 ≡ w.committed → CoreStands g v page_of_stamp t → Leaves g (OpensFrom (g.shape v.device) v.count w.moment t y) v.device w.device
   leaves_to told page_of_stamp t y is at =
@@ -199,6 +194,7 @@ module _ {M : Type 0} (g : Ghosts (Device M)) (v w : Core M) (others : w ≡ rec
       at_most = let n = k.next_stamp in omega (arith, n);
       paid = λ low less. let n = k.next_stamp in let c = k.clock in let f = fails in omega (arith, n, c, f);
     };
+    runs = λ tells page_of_stamp tree at. subst (λ (x : Core M). RunsOnAs g x page_of_stamp tree) (sym others) (with_none g now page_of_stamp tree (runs_now tells page_of_stamp tree at));
     trees = goes_to;
     left = leaves_to;
   }

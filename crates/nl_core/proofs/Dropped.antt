@@ -1,5 +1,5 @@
 -- A core stands on once the pages of a worker's line are freed, and it has none.
-use Rattle.std.proofs.Common.{◌≡◌, ◌⊎◌, inl, inr, ⊎_elim, ℕ, ◌+◌, ◌*◌, ◌<◌, ◌≤◌, ◌==◌, true, false, List, [], ◌∷◌, ◌++◌, length, map, Option, Some, refl, sym, ap, subst, ◌∙◌, arith}
+use Rattle.std.proofs.Common.{◌≡◌, ◌⊎◌, inl, inr, ⊎_elim, ℕ, ◌+◌, ◌*◌, ◌<◌, ◌≤◌, ◌==◌, true, false, List, [], ◌∷◌, ◌++◌, length, map, Option, refl, sym, ap, subst, ◌∙◌, arith}
 use Rattle.std.specs.Prelude.{not}
 use Rattle.std.proofs.lemmas.Bool.{both_ways, cases_Bool, cond-false, cond-true, eq-eqb}
 use Rattle.std.proofs.lemmas.List.{length-append, length-map, set-get_or}
@@ -38,12 +38,14 @@ use Rattle.nl_held.specs.Held.{IsHeldVolume}
 use Rattle.nl_held.specs.Steps.{holding_with}
 use Rattle.nl_held.specs.TreeLaws.{OpensFrom}
 use Rattle.nl_held.specs.Trees.{Trees}
-use Rattle.nl_core.specs.Core.{HasSpace, IsCore, names_of, running_of}
+use Rattle.nl_tree.specs.Tree.{Tree}
+use Rattle.nl_core.specs.Core.{HasSpace, IsCore, IsPhysical, names_of, running_of}
 use Rattle.nl_core.specs.Goes.{Goes, GoesTo, Stops}
-use Rattle.nl_core.specs.Trees.{CoreStands, IsTold}
+use Rattle.nl_core.specs.Trees.{CoreRuns, CoreStands, IsTold}
 use Rattle.nl_core.specs.Dropping.{FreesLine, pointers_of}
 use Rattle.nl_core.specs.declared.state.Core.{Core}
-use Rattle.nl_core.proofs.Lines.{after, before, carried_alike, carried_own, carried_with, held, in_flight, loses_page, none_is_flight}
+use Rattle.nl_core.proofs.Lines.{after, before, carried_alike, carried_own, carried_with, held, in_flight, kept_without, loses_page, none_is_flight}
+use Rattle.nl_core.proofs.Running.{goes_as, runs_on, with_none}
 use Rattle.nl_core.proofs.Settled.{Fewer, frees_fewer, frees_space}
 use Rattle.nl_core.proofs.Written.{has_free_on, same_below_end, same_running}
 
@@ -221,6 +223,8 @@ module _ {M : Type 0} (g : Ghosts (Device M)) (v : Core M) (d : Device M) (worke
     free = has_free_on g v dropped same_shape volume needed refl core.free;
     held = dropped_held;
     flight = none_is_flight v.flight worker core.flight worker_known;
+    named = λ x has. subst (λ (h : Shape). IsPhysical h x.1.name) (sym same_shape) (core.named x (kept_without v.flight worker known x has));
+    stamped = λ x has. core.stamped x (kept_without v.flight worker known x has);
     space = space_on;
     marked = λ c n has at. let old = fewer.pending c has in core.marked c n old.0 (sym old.1 ∙ at);
     moment = subst (λ n. v.moment ≤ n) (sym b.kept.clock) core.moment;
@@ -240,22 +244,14 @@ module _ {M : Type 0} (g : Ghosts (Device M)) (v : Core M) (d : Device M) (worke
     moments = subst (λ n. n < 9223372036854775808) b.kept.clock told.moments;
   }
 
+  runs_to : g.tells → (page_of_stamp : ℕ → Option PageOfStamp) (tree : Tree) → CoreRuns g v page_of_stamp tree → CoreRuns g dropped page_of_stamp tree
+  runs_to tells page_of_stamp tree at =
+      (runs_on g v dropped page_of_stamp tree at same_shape needed
+      (record { live = λ q page is. (q, fewer.live q page is, b.kept.bytes tells q); stamps = let same = b.kept.next_stamp in omega (arith, same) }))
+
   goes_to : IsTold g dropped → (page_of_stamp : ℕ → Option PageOfStamp) (t : Trees) → CoreStands g v page_of_stamp t → GoesTo g v dropped page_of_stamp t
-  goes_to told page_of_stamp t at = record {
-    pages = page_of_stamp;
-    trees = t;
-    stands = record {
-      stands = addresses_go g v.device d v.journal v.meta v.count page_of_stamp t volume told.tells told.numbers core.journaled b.kept.virtual at.stands;
-      shows = λ p page live. at.shows p page (fewer.live p page live) ∙ ap (λ bytes. Some (record { tag = page.tag; bytes = bytes })) (sym (b.kept.bytes told.tells p));
-      given = λ stamp page is. subst (λ n. stamp < n) (sym b.kept.next_stamp) (at.given stamp page is);
-      committed = at.committed;
-    };
-    extends = λ stamp page is. is;
-    running = refl;
-    committed = inl refl;
-    frozen = inr (inl refl);
-    later = omega arith;
-  }
+  goes_to told page_of_stamp t at = goes_as g v dropped page_of_stamp t (with_none g dropped page_of_stamp t.running (runs_to told.tells page_of_stamp t.running at.runs))
+      (addresses_go g v.device d v.journal v.meta v.count page_of_stamp t volume told.tells told.numbers core.journaled b.kept.virtual at.stands) at.committed
 
   pub dropped_goes : Goes g 0 v dropped
   dropped_goes = record {
@@ -273,6 +269,7 @@ module _ {M : Type 0} (g : Ghosts (Device M)) (v : Core M) (d : Device M) (worke
       at_most = let same = b.kept.next_stamp in omega (arith, same);
       paid = λ low less. let n = b.kept.next_stamp in let k = b.kept.clock in let f = b.kept.write_faults in omega (arith, n, k, f);
     };
+    runs = λ tells page_of_stamp tree at. with_none g dropped page_of_stamp tree (runs_to tells page_of_stamp tree at);
     trees = goes_to;
     left = λ told page_of_stamp t y is at. keeps_leave g (OpensFrom (g.shape v.device) v.count v.moment t y) v.device d told.tells b.kept;
   }

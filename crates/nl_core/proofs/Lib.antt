@@ -12,7 +12,9 @@ pub mod Placed
 pub mod Reclaiming
 pub mod Renamed
 pub mod Rounding
+pub mod Running
 pub mod Settled
+pub mod Standing
 pub mod Tasks
 pub mod Tried
 pub mod Unhandled

@@ -35,6 +35,15 @@ gains_push x xs = record {
   size = length-append xs (x ∷ []);
 }
 
+has_behind : {X : Type 0} (xs ys : List X) (x : X) → Has ys x → Has (xs ++ ys) x
+has_behind [] ys x has = has
+has_behind (z ∷ xs) ys x has = inr (has_behind xs ys x has)
+
+has_between : {X : Type 0} (front xs back : List X) (x : X) → Has (front ++ back) x → Has (front ++ (xs ++ back)) x
+has_between [] xs back x has = has_behind xs back x has
+has_between (z ∷ front) xs back x (inl e) = inl e
+has_between (z ∷ front) xs back x (inr has) = inr (has_between front xs back x has)
+
 loses_first : (x : Tag × Pointer) (xs : List (Tag × Pointer)) → ListLoses tagged x (x ∷ xs) xs
 loses_first x xs = record {
   had = inl refl;
@@ -61,6 +70,11 @@ module _ (flight : List InFlight) (worker : ℕ) (known : worker < length flight
 
   pub carried_own : carried flight ≡ before ++ (of_line (of_worker flight worker) ++ after)
   carried_own = ap carried (sym (set-get_or flight worker (begun 0))) ∙ carried_with (of_worker flight worker)
+
+  -- without a line, no other page is in flight
+  pub kept_without : (x : Tag × Pointer) → Has (carried (with_line flight worker (begun 0))) x → Has (carried flight) x
+  kept_without x has =
+      subst (λ (xs : List (Tag × Pointer)). Has xs x) (sym carried_own) (has_between before (of_line (of_worker flight worker)) after x (subst (λ (xs : List (Tag × Pointer)). Has xs x) (carried_with (begun 0)) has))
 
   -- only the pages count
   pub carried_alike : (y z : InFlight) → y.pages ≡ z.pages → carried (with_line flight worker y) ≡ carried (with_line flight worker z)

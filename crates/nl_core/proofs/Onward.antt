@@ -4,6 +4,7 @@ use Rattle.std.proofs.lemmas.Bool.{cases_eq, cases_lt}
 use Rattle.nl_field.specs.CrashStates.{Earlier, Rose, saturated, top}
 use Rattle.nl_field.specs.Members.{Has}
 use Rattle.nl_field.specs.declared.shape.Shape.{Shape}
+use Rattle.nl_tree.specs.Tree.{Tree}
 use Rattle.nl_device.specs.declared.device.Device.{Device}
 use Rattle.nl_iface.specs.Calls.{Leaves}
 use Rattle.nl_iface.specs.declared.counts.Counts.{Ghosts}
@@ -12,9 +13,10 @@ use Rattle.nl_held.specs.TreeLaws.{OpensFrom}
 use Rattle.nl_held.specs.Trees.{OpensAs, Prefix, Trees, prefixes}
 use Rattle.nl_core.specs.Calls.{HasCause}
 use Rattle.nl_core.specs.Core.{IsCore}
-use Rattle.nl_core.specs.Goes.{Goes, GoesTo, Stops}
-use Rattle.nl_core.specs.Trees.{CoreStands, IsTold}
+use Rattle.nl_core.specs.Goes.{Goes, GoesTo, RunsOnAs, Stops}
+use Rattle.nl_core.specs.Trees.{CoreRuns, CoreStands, IsTold}
 use Rattle.nl_core.specs.declared.state.Core.{Core}
+use Rattle.nl_core.proofs.Running.{with_none}
 
 -- a count that did not rise
 not_rose : (x y : ℕ) → (Rose x y → ⊥) → y < saturated (x + 1)
@@ -68,6 +70,12 @@ module _ {M : Type 0} (g : Ghosts (Device M)) (u v w : Core M) (m n : ℕ) (a : 
     calls = subst (λ k. k < 2 ^ 63) b.count told.calls;
     moments = let one = b.clock in let all = told.moments in omega (arith, one, all);
   }
+
+  runs_then : g.tells → (page_of_stamp : ℕ → Option PageOfStamp) (tree : Tree) → CoreRuns g u page_of_stamp tree → RunsOnAs g w page_of_stamp tree
+  runs_then tells page_of_stamp tree at =
+      let k = a.runs tells page_of_stamp tree at in
+      let l = b.runs tells k.pages tree k.runs in
+      record { pages = l.pages; extends = λ stamp page has. l.extends stamp page (k.extends stamp page has); runs = l.runs }
 
   -- a tree of the volume between them is one of that before
   one_of : (page_of_stamp : ℕ → Option PageOfStamp) (t : Trees) (k : GoesTo g u v page_of_stamp t) (z : Prefix) → Has (prefixes v.count k.trees) z → Has (prefixes u.count t) z
@@ -150,6 +158,7 @@ module _ {M : Type 0} (g : Ghosts (Device M)) (u v w : Core M) (m n : ℕ) (a : 
           let two = b.stamps.paid low less in
           omega (arith, one, two);
     };
+    runs = runs_then;
     trees = trees_then;
     left = left_then;
   }
@@ -181,6 +190,7 @@ goes_more g m n u v low a = record {
   moment = a.moment;
   stops = a.stops;
   stamps = record { never_falls = a.stamps.never_falls; at_most = let most = a.stamps.at_most in omega (arith, most, low); paid = a.stamps.paid };
+  runs = a.runs;
   trees = a.trees;
   left = a.left;
 }
@@ -202,6 +212,7 @@ goes_none g v core = record {
     some = λ none later. absurd (later none);
   };
   stamps = record { never_falls = omega arith; at_most = omega arith; paid = λ low less. omega arith };
+  runs = λ tells page_of_stamp tree at. with_none g v page_of_stamp tree at;
   trees = λ told page_of_stamp t at. record {
     pages = page_of_stamp;
     trees = t;

@@ -1,8 +1,9 @@
 -- A core stands on once a page was programmed for a line, or was not.
 use Rattle.std.proofs.Common.{◌≡◌, ◌⊎◌, inl, inr, ⊎_elim, ℕ, ◌+◌, ◌*◌, ◌<◌, ◌≤◌, ◌==◌, true, false, List, length, Option, Some, refl, sym, ap, subst, ◌∙◌, arith}
-use Rattle.std.specs.Prelude.{if◌then◌else◌}
-use Rattle.std.proofs.lemmas.Bool.{cases_Bool, cond-false, cond-true, eq-eqb, eqb-true, ne_eqb}
+use Rattle.std.specs.Prelude.{if◌then◌else◌, nat_le, nat_lt, ◌^◌, IsTrue}
+use Rattle.std.proofs.lemmas.Bool.{and_from, cases_Bool, cond-false, cond-true, eq-eqb, eqb-true, le-leb, lt-ltb, ne_eqb}
 use Rattle.nl_field.specs.Graph.{Graph}
+use Rattle.nl_field.specs.Spelling.{is_stamp}
 use Rattle.nl_field.specs.declared.answers.Named.{Named}
 use Rattle.nl_field.specs.declared.answers.Named.TheVariants as named
 use Rattle.nl_field.specs.declared.pointer.Pointer.{Pointer}
@@ -29,7 +30,7 @@ use Rattle.nl_meta.specs.Consistent.{PageOfStamp}
 use Rattle.nl_meta.specs.Nodes.{graph_of}
 use Rattle.nl_running.specs.Running.{IsNeeded, running_on}
 use Rattle.nl_commit.proofs.Standing.{addresses_stand}
-use Rattle.nl_held.proofs.DeviceTrees.{addresses_go, holding_opens, pages_go}
+use Rattle.nl_held.proofs.DeviceTrees.{addresses_go, holding_opens, pages_go, runs_still}
 use Rattle.nl_held.proofs.Firm.{program_keeps_firm}
 use Rattle.nl_held.proofs.Steps.{program_keeps_held, tables_keep_held}
 use Rattle.nl_held.specs.DeviceLaws.{Extends, LeavesHolding}
@@ -37,14 +38,16 @@ use Rattle.nl_held.specs.Held.{IsHeldVolume}
 use Rattle.nl_held.specs.Standing.{IsFirm, ShowsPages}
 use Rattle.nl_held.specs.TreeLaws.{OpensFrom}
 use Rattle.nl_held.specs.Trees.{Prefix, Trees}
+use Rattle.nl_tree.specs.Tree.{Tree}
 use Rattle.nl_core.specs.Calls.{HasCause}
-use Rattle.nl_core.specs.Core.{HasSpace, IsCore, names_of, running_of}
-use Rattle.nl_core.specs.Goes.{Goes, GoesTo}
+use Rattle.nl_core.specs.Core.{HasSpace, IsCore, IsPhysical, names_of, running_of}
+use Rattle.nl_core.specs.Goes.{Goes, GoesTo, RunsOnAs}
 use Rattle.nl_core.specs.Programming.{Programs, PutsNone, PutsPage, with_page}
-use Rattle.nl_core.specs.Trees.{CoreStands, IsTold}
+use Rattle.nl_core.specs.Trees.{CoreRuns, CoreStands, IsTold}
 use Rattle.nl_core.specs.Writing.{stopped_by, stopped_on}
 use Rattle.nl_core.specs.declared.state.Core.{Core}
 use Rattle.nl_core.proofs.Lines.{gains_put, page_is_flight}
+use Rattle.nl_core.proofs.Running.{goes_as, runs_as, runs_on, with_none}
 use Rattle.nl_core.proofs.Written.{below_end, has_free_on, none_failed_on, same_running, stops_on}
 
 -- ---- the numbers of the space, and the callbacks
@@ -128,14 +131,17 @@ module _ {M : Type 0} (g : Ghosts (Device M)) (v : Core M) (d : Device M) (fligh
         room = subst (λ (h : Shape). h.pblocks * h.pages ≤ length v.freeing.items + v.freeing.room) (sym same_shape) s.room;
       }
 
-  pub programmed_core : (g.tells → StoresPages g d) → IsHeldVolume g d v.journal v.meta (carried flight) v.freeing.items → IsFlight flight
+  pub programmed_core : (g.tells → StoresPages g d) → IsHeldVolume g d v.journal v.meta (carried flight) v.freeing.items → IsFlight flight → ((x : Tag × Pointer) → Has (carried flight) x → IsPhysical (g.shape v.device) x.1.name)
+      → ((x : Tag × Pointer) → Has (carried flight) x → IsTrue (is_stamp x.1.stamp))
       → (g.names d).space.live + length (carried v.flight) ≡ (names_of g v).space.live + length (carried flight) → IsCore g programmed
-  programmed_core stores held lines live = record {
+  programmed_core stores held lines named stamped live = record {
     shape = core.shape ∙ sym same_shape;
     journaled = (addresses_stand g v.device d v.journal v.meta volume core.journaled b.kept.virtual).journaled;
     free = has_free_on g v programmed same_shape volume needed refl core.free;
     held = held;
     flight = lines;
+    named = λ x has. subst (λ (h : Shape). IsPhysical h x.1.name) (sym same_shape) (named x has);
+    stamped = stamped;
     space = space_on live;
     marked = λ c n has at. let old = both.pending c has in core.marked c n old.0 (sym old.1 ∙ at);
     moment = let low = core.moment in let later = b.counts.ticks.clock in omega (arith, low, later);
@@ -188,37 +194,17 @@ module _ {M : Type 0} (g : Ghosts (Device M)) (v : Core M) (d : Device M) (fligh
         t.committed,
         inl refl,
         holding_opens g v.device v.journal v.meta v.count page_of_stamp t (carried v.flight) v.freeing.items c volume told.tells told.numbers core.held (firm told) (map told.tells) at.stands
-            (leaves_holding told page_of_stamp at.shows c x),
+            (leaves_holding told page_of_stamp at.runs.shows c x),
         λ after. let same = at.committed in omega (arith, is, same),
       )
 
   -- ---- how it went on
 
-  goes_with : IsTold g programmed → (page_of_stamp pages : ℕ → Option PageOfStamp) (t : Trees) → CoreStands g v page_of_stamp t → Extends page_of_stamp pages → ShowsPages (g.names d) (g.bytes d) pages
-      → ((stamp : ℕ) (page : PageOfStamp) → pages stamp ≡ Some page → stamp < g.next_stamp d) → GoesTo g v programmed page_of_stamp t
-  goes_with told page_of_stamp pages t at extends shows given = record {
-    pages = pages;
-    trees = t;
-    stands = record {
-      stands = pages_go g d v.journal v.meta v.count page_of_stamp pages t extends
-          (addresses_go g v.device d v.journal v.meta v.count page_of_stamp t volume told.tells told.numbers core.journaled b.kept.virtual at.stands);
-      shows = shows;
-      given = given;
-      committed = at.committed;
-    };
-    extends = extends;
-    running = refl;
-    committed = inl refl;
-    frozen = inr (inl refl);
-    later = omega arith;
-  }
-
   -- none was placed
-  goes_none : (IsPlaced answer → ⊥) → IsTold g programmed → (page_of_stamp : ℕ → Option PageOfStamp) (t : Trees) → CoreStands g v page_of_stamp t → GoesTo g v programmed page_of_stamp t
-  goes_none off told page_of_stamp t at = goes_with told page_of_stamp page_of_stamp t at (λ stamp page is. is)
-      (λ p page live. let was = sym ((b.none off).tables.live p) ∙ live in
-      at.shows p page was ∙ ap (λ bytes. Some (record { tag = page.tag; bytes = bytes })) (sym (b.kept.bytes told.tells p page was)))
-      (λ stamp page is. let low = at.given stamp page is in let rise = b.next_stamp.never_falls in omega (arith, low, rise))
+  runs_none : (IsPlaced answer → ⊥) → g.tells → (page_of_stamp : ℕ → Option PageOfStamp) (tree : Tree) → CoreRuns g v page_of_stamp tree → RunsOnAs g programmed page_of_stamp tree
+  runs_none off tells page_of_stamp tree at = with_none g programmed page_of_stamp tree
+      (runs_on g v programmed page_of_stamp tree at same_shape needed
+      (record { live = λ q page is. let was = sym ((b.none off).tables.live q) ∙ is in (q, was, b.kept.bytes tells q page was); stamps = b.next_stamp.never_falls }))
 
   -- one was: its write sequence number has it
   module _ (p : Pointer) (places : Places g tag main 0 (names_of g v) v.device d p) (taken : g.next_stamp d ≡ g.next_stamp v.device + 1) where
@@ -234,7 +220,7 @@ module _ {M : Type 0} (g : Ghosts (Device M)) (v : Core M) (d : Device M) (fligh
     beside_new : (page_of_stamp : ℕ → Option PageOfStamp) (stamp : ℕ) → (stamp ≡ g.next_stamp v.device → ⊥) → with_new page_of_stamp stamp ≡ page_of_stamp stamp
     beside_new page_of_stamp stamp off = cond-false (stamp == g.next_stamp v.device) (Some new_page) (page_of_stamp stamp) (ne_eqb stamp (g.next_stamp v.device) off)
 
-    module _ (told : IsTold g programmed) (page_of_stamp : ℕ → Option PageOfStamp) (t : Trees) (at : CoreStands g v page_of_stamp t) where
+    module _ (tells : g.tells) (page_of_stamp : ℕ → Option PageOfStamp) (tree : Tree) (at : CoreRuns g v page_of_stamp tree) where
       extends_new : Extends page_of_stamp (with_new page_of_stamp)
       extends_new stamp page is = beside_new page_of_stamp stamp (λ same. let low = at.given stamp page is in let off : ⊥ = omega (arith, low, same) in off) ∙ is
 
@@ -246,11 +232,11 @@ module _ {M : Type 0} (g : Ghosts (Device M)) (v : Core M) (d : Device M) (fligh
               let same : next_page g tag v.device ≡ page = some_in (next_page g tag v.device) page (sym (cond-true (q == p.name) (Some (next_page g tag v.device)) ((names_of g v).live q) here) ∙ sym (places.names.live q) ∙ live) in
               at_new page_of_stamp page.stamp (ap (λ (l : LivePage). l.stamp) (sym same))
               ∙ ap (λ (x : Tag). Some (record { tag = x; bytes = main })) (ap (λ (l : LivePage). l.tag) same)
-              ∙ ap (λ bytes. Some (record { tag = page.tag; bytes = bytes })) (sym (ap (g.bytes d) (eqb-true q p.name here) ∙ places.bytes told.tells))
+              ∙ ap (λ bytes. Some (record { tag = page.tag; bytes = bytes })) (sym (ap (g.bytes d) (eqb-true q p.name here) ∙ places.bytes tells))
           by (inr far) =
               let was : (names_of g v).live q ≡ Some page = sym (cond-false (q == p.name) (Some (next_page g tag v.device)) ((names_of g v).live q) far) ∙ sym (places.names.live q) ∙ live in
               extends_new page.stamp (record { tag = page.tag; bytes = g.bytes v.device q }) (at.shows q page was)
-              ∙ ap (λ bytes. Some (record { tag = page.tag; bytes = bytes })) (sym (b.kept.bytes told.tells q page was))
+              ∙ ap (λ bytes. Some (record { tag = page.tag; bytes = bytes })) (sym (b.kept.bytes tells q page was))
 
       given_new : (stamp : ℕ) (page : PageOfStamp) → with_new page_of_stamp stamp ≡ Some page → stamp < g.next_stamp d
       given_new stamp page is = by (cases_Bool (stamp == g.next_stamp v.device))
@@ -259,20 +245,32 @@ module _ {M : Type 0} (g : Ghosts (Device M)) (v : Core M) (d : Device M) (fligh
           by (inl here) = let same = eqb-true stamp (g.next_stamp v.device) here in omega (arith, same, taken)
           by (inr far) = let low = at.given stamp page (sym (cond-false (stamp == g.next_stamp v.device) (Some new_page) (page_of_stamp stamp) far) ∙ is) in omega (arith, low, taken)
 
-      goes_new : GoesTo g v programmed page_of_stamp t
-      goes_new = goes_with told page_of_stamp (with_new page_of_stamp) t at extends_new shows_new given_new
+      runs_new : RunsOnAs g programmed page_of_stamp tree
+      runs_new = record {
+        pages = with_new page_of_stamp;
+        extends = extends_new;
+        runs = record {
+          runs = runs_still (g.shape d) (running_on g d v.meta) page_of_stamp (with_new page_of_stamp) extends_new tree (runs_as g v programmed page_of_stamp tree at same_shape needed);
+          shows = shows_new;
+          given = given_new;
+        };
+      }
 
-    -- whatever trees it stands for, the page of its number is this one
-    pub shows_page : g.tells → (pages : ℕ → Option PageOfStamp) (t : Trees) → CoreStands g programmed pages t → pages p.stamp ≡ Some new_page
-    shows_page tells pages t at =
-        let live : (g.names d).live p.name ≡ Some (next_page g tag v.device) = places.names.live p.name ∙ cond-true (p.name == p.name) (Some (next_page g tag v.device)) ((names_of g v).live p.name) (eq-eqb p.name p.name refl) in
-        ap pages places.stamp ∙ at.shows p.name (next_page g tag v.device) live ∙ ap (λ bytes. Some (record { tag = tag; bytes = bytes })) (places.bytes tells)
+  runs_by : g.tells → (page_of_stamp : ℕ → Option PageOfStamp) (tree : Tree) → CoreRuns g v page_of_stamp tree → (a : Named) → answer ≡ a → IfPlaced a (Places g tag main 0 (names_of g v) v.device d) → RunsOnAs g programmed page_of_stamp tree
+  runs_by tells page_of_stamp tree at (named.Placed p) is places = runs_new p places (b.next_stamp.taken (subst IsTriedNamed (sym is) tt)) tells page_of_stamp tree at
+  runs_by tells page_of_stamp tree at named.NotLive is places = runs_none (λ placed. subst IsPlaced is placed) tells page_of_stamp tree at
+  runs_by tells page_of_stamp tree at named.NoPage is places = runs_none (λ placed. subst IsPlaced is placed) tells page_of_stamp tree at
+  runs_by tells page_of_stamp tree at named.Fault is places = runs_none (λ placed. subst IsPlaced is placed) tells page_of_stamp tree at
 
-  goes_by : IsTold g programmed → (page_of_stamp : ℕ → Option PageOfStamp) (t : Trees) → CoreStands g v page_of_stamp t → (a : Named) → answer ≡ a → IfPlaced a (Places g tag main 0 (names_of g v) v.device d) → GoesTo g v programmed page_of_stamp t
-  goes_by told page_of_stamp t at (named.Placed p) is places = goes_new p places (b.next_stamp.taken (subst IsTriedNamed (sym is) tt)) told page_of_stamp t at
-  goes_by told page_of_stamp t at named.NotLive is places = goes_none (λ placed. subst IsPlaced is placed) told page_of_stamp t at
-  goes_by told page_of_stamp t at named.NoPage is places = goes_none (λ placed. subst IsPlaced is placed) told page_of_stamp t at
-  goes_by told page_of_stamp t at named.Fault is places = goes_none (λ placed. subst IsPlaced is placed) told page_of_stamp t at
+  runs_to : g.tells → (page_of_stamp : ℕ → Option PageOfStamp) (tree : Tree) → CoreRuns g v page_of_stamp tree → RunsOnAs g programmed page_of_stamp tree
+  runs_to tells page_of_stamp tree at = runs_by tells page_of_stamp tree at answer refl b.placed
+
+  goes_to : IsTold g programmed → (page_of_stamp : ℕ → Option PageOfStamp) (t : Trees) → CoreStands g v page_of_stamp t → GoesTo g v programmed page_of_stamp t
+  goes_to told page_of_stamp t at =
+      let k = runs_to told.tells page_of_stamp t.running at.runs in
+      goes_as g v programmed page_of_stamp t k
+      (pages_go g d v.journal v.meta v.count page_of_stamp k.pages t k.extends
+      (addresses_go g v.device d v.journal v.meta v.count page_of_stamp t volume told.tells told.numbers core.journaled b.kept.virtual at.stands)) at.committed
 
   pub programmed_goes : (g.tells → StoresMap g v.device) → Goes g 1 v programmed
   programmed_goes map = record {
@@ -286,7 +284,8 @@ module _ {M : Type 0} (g : Ghosts (Device M)) (v : Core M) (d : Device M) (fligh
     clock = b.counts.ticks.clock;
     stops = stops_on g v programmed refl reads_on b.counts.faults.never_falls;
     stamps = record { never_falls = b.next_stamp.never_falls; at_most = b.next_stamp.at_most_one; paid = b.next_stamp.paid };
-    trees = λ told page_of_stamp t at. goes_by told page_of_stamp t at answer refl b.placed;
+    runs = runs_to;
+    trees = goes_to;
     left = λ told page_of_stamp t y is at. programmed_left map told page_of_stamp t y is at;
   }
     where
@@ -297,6 +296,10 @@ module _ {M : Type 0} (g : Ghosts (Device M)) (v : Core M) (d : Device M) (fligh
   programmed_cause failed = inr (b.counts.faults.cause failed)
 
 -- ---- both ends of a try
+
+-- a number from 1 on, below 2^63, is spelled
+pub is_spelled : (stamp : ℕ) → 1 ≤ stamp → stamp < 2 ^ 63 → IsTrue (is_stamp stamp)
+is_spelled stamp some low = and_from (nat_le 1 stamp) (nat_lt stamp (2 ^ 63)) (le-leb 1 stamp some) (lt-ltb stamp (2 ^ 63) low)
 
 not_placed : (a : Named) → ((p : Pointer) → a ≡ named.Placed p → ⊥) → IsPlaced a → ⊥
 not_placed (named.Placed p) none placed = none p refl
@@ -320,7 +323,7 @@ module _ {M : Type 0} (g : Ghosts (Device M)) (v w : Core M) (tag : Tag) (main :
 
     pub none_core : IsCore g w
     none_core = subst (λ (x : Core M). IsCore g x) (sym is) (programmed_core g v w.device v.flight tag main answer b core volume writes stores
-        (tables_keep_held g v.device w.device v.journal v.meta (carried v.flight) v.freeing.items volume core.journaled core.held b.kept.virtual (b.none off).tables) core.flight
+        (tables_keep_held g v.device w.device v.journal v.meta (carried v.flight) v.freeing.items volume core.journaled core.held b.kept.virtual (b.none off).tables) core.flight core.named core.stamped
         (let same = same_live g answer v.device w.device off (b.none off) b.refused in omega (arith, same)))
 
     pub none_goes : Goes g 1 v w
@@ -350,10 +353,12 @@ module _ {M : Type 0} (g : Ghosts (Device M)) (v w : Core M) (tag : Tag) (main :
     gains : ListGains tagged (tag, p) (carried v.flight) (carried lines)
     gains = gains_put v.flight worker line tag p core.flight known
 
-    pub put_core : IsCore g put_in
-    put_core = subst (λ (x : Core M). IsCore g x) (sym put_is) (programmed_core g v w.device lines tag main answer b core volume writes stores
+    pub put_core : IsTrue (is_stamp (g.next_stamp v.device)) → IsCore g put_in
+    put_core spelled = subst (λ (x : Core M). IsCore g x) (sym put_is) (programmed_core g v w.device lines tag main answer b core volume writes stores
         (program_keeps_held g v.device w.device v.journal v.meta (carried v.flight) (carried lines) v.freeing.items tag main p volume core.journaled core.held b.kept.virtual numbers places gains)
         (page_is_flight v.flight worker core.flight known line tag p some place)
+        (λ x has. ⊎_elim (λ is. subst (λ (y : Tag × Pointer). IsPhysical (g.shape v.device) y.1.name) (sym is) (places.is_new.low, places.is_new.high)) (core.named x) (gains.only x has))
+        (λ x has. ⊎_elim (λ is. subst (λ (y : Tag × Pointer). IsTrue (is_stamp y.1.stamp)) (sym is) (subst (λ n. IsTrue (is_stamp n)) (sym places.stamp) spelled)) (core.stamped x) (gains.only x has))
         (let more = places.space.live in let size = gains.size in omega (arith, more, size)))
 
     pub put_goes : Goes g 1 v put_in
@@ -364,5 +369,4 @@ module _ {M : Type 0} (g : Ghosts (Device M)) (v w : Core M) (tag : Tag) (main :
       places = places;
       flight = refl;
       others = refl;
-      shows = shows_page g v w.device lines tag main answer b core volume writes p places (b.next_stamp.taken (subst IsTriedNamed (sym placed) tt));
     })

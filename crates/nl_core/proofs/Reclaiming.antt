@@ -107,7 +107,7 @@ module _ {M : Type 0} (g : Ghosts (Device M)) (worker line : ℕ) (tag : Tag) (m
         ∙ cond-true (at.name == at.name) (Some (record { tag = tag; stamp = g.next_stamp u.device })) ((names_of g u).live at.name) (eq-eqb at.name at.name refl)
         ∙ ap (λ s. Some (record { tag = tag; stamp = s })) (sym p.places.stamp);
     is_new = let low = a.stamps.never_falls in let same = p.places.stamp in omega (arith, low, same);
-    shows = p.shows;
+    bytes = p.places.bytes;
   }
 
   puts : (x : Named) → IfPlaced x (PutsPage g worker line tag main u w) → IfPlaced x (λ at. PutsInFlight g worker line tag main start w)

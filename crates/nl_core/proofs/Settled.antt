@@ -40,6 +40,7 @@ use Rattle.nl_commit.proofs.Standing.{addresses_stand}
 use Rattle.nl_held.specs.Held.{IsHeldVolume}
 use Rattle.nl_held.specs.SettlingLaws.{IsTold as IsHeldTold}
 use Rattle.nl_held.specs.Trees.{Trees}
+use Rattle.nl_tree.specs.Tree.{Tree}
 use Rattle.nl_held.proofs.DeviceTrees.{addresses_go}
 use Rattle.nl_held.proofs.Firm.{medium_keeps_firm}
 use Rattle.nl_held.proofs.Holding.{acknowledged_keeps_held, freed_keeps_held}
@@ -50,11 +51,12 @@ use Rattle.nl_commit.specs.Completing.{IsDecided}
 use Rattle.nl_held.specs.TreeLaws.{moment_of}
 use Rattle.nl_held.proofs.Freezing.{freeze_opens}
 use Rattle.nl_core.specs.Calls.{CommitsAll}
-use Rattle.nl_core.specs.Core.{HasSpace, IsCore, begun_of, names_of, running_of}
-use Rattle.nl_core.specs.Goes.{Goes, GoesTo}
-use Rattle.nl_core.specs.Trees.{CoreStands, IsTold}
+use Rattle.nl_core.specs.Core.{HasSpace, IsCore, IsPhysical, begun_of, names_of, running_of}
+use Rattle.nl_core.specs.Goes.{Goes, GoesTo, RunsOnAs}
+use Rattle.nl_core.specs.Trees.{CoreRuns, CoreStands, IsTold}
 use Rattle.nl_core.specs.Writing.{HasTable, Settles, WritesAll, committed_count, counted_pages}
 use Rattle.nl_core.specs.declared.state.Core.{Core}
+use Rattle.nl_core.proofs.Running.{runs_on}
 use Rattle.nl_core.proofs.Written.{has_free_on, held_counted, journaled_counted, none_failed_on, same_running, written_core}
 use Rattle.nl_core.proofs.WrittenTrees.{written_goes}
 use Rattle.nl_iface.proofs.RoundSteps.{empties_laws}
@@ -215,7 +217,7 @@ module _ {M : Type 0} (g : Ghosts (Device M)) (v w u : Core M) (answer : Virtual
   same_w : u.shape ≡ w.shape
   same_w = ap (λ (x : Core M). x.shape) s.others
 
-  settled_at : Core M
+  abbrev settled_at : Core M
   settled_at = record w { device = u.device; freeing = u.freeing }
 
   needed_u : (a : ℕ) → IsNeeded (g.shape w.device) (running_of g w) a → running_on g u.device w.meta a ≡ running_of g w a
@@ -252,6 +254,8 @@ module _ {M : Type 0} (g : Ghosts (Device M)) (v w u : Core M) (answer : Virtual
     held = subst (λ (f : List InFlight). IsHeldVolume g u.device w.journal w.meta (carried f) u.freeing.items) (sym b.rest.flight)
         (subst (λ (xs : List Pointer). IsHeldVolume g u.device w.journal w.meta (carried v.flight) xs) (sym s.items) held_u);
     flight = mid.flight;
+    named = λ x has. subst (λ (h : Shape). IsPhysical h x.1.name) (sym kept.virtual.same_shape) (mid.named x has);
+    stamped = mid.stamped;
     space = space_u;
     marked = λ c n has at. absurd (none_some n (sym (none_marked c has) ∙ at));
     moment = subst (λ n. w.moment ≤ n) (sym kept.clock) mid.moment;
@@ -279,6 +283,15 @@ module _ {M : Type 0} (g : Ghosts (Device M)) (v w u : Core M) (answer : Virtual
     moments = subst (λ n. n < 9223372036854775808) kept.clock told.moments;
   }
 
+  runs_settled : g.tells → (pages : ℕ → Option PageOfStamp) (tree : Tree) → CoreRuns g w pages tree → CoreRuns g settled_at pages tree
+  runs_settled tells pages tree at = runs_on g w settled_at pages tree at kept.virtual.same_shape needed_u
+      (record { live = λ q page is. (q, fewer.live q page is, kept.bytes tells q); stamps = let same = kept.next_stamp in omega (arith, same) })
+
+  runs_to_u : g.tells → (page_of_stamp : ℕ → Option PageOfStamp) (tree : Tree) → CoreRuns g v page_of_stamp tree → RunsOnAs g u page_of_stamp tree
+  runs_to_u tells page_of_stamp tree at =
+      let k = first.runs tells page_of_stamp tree at in
+      record { pages = k.pages; extends = k.extends; runs = subst (λ (x : Core M). CoreRuns g x k.pages tree) (sym s.others) (runs_settled tells k.pages tree k.runs) }
+
   goes_to_u : IsTold g u → (page_of_stamp : ℕ → Option PageOfStamp) (t : Trees) → CoreStands g v page_of_stamp t → GoesTo g v u page_of_stamp t
   goes_to_u told page_of_stamp t at =
       let k = first.trees (told_w told) page_of_stamp t at in
@@ -288,8 +301,7 @@ module _ {M : Type 0} (g : Ghosts (Device M)) (v w u : Core M) (answer : Virtual
         trees = k.trees;
         stands = subst (λ (x : Core M). CoreStands g x k.pages k.trees) (sym s.others) (record {
           stands = addresses_go g w.device u.device w.journal w.meta w.count k.pages k.trees volume_w w_told.tells w_told.numbers mid.journaled kept.virtual k.stands.stands;
-          shows = λ p page live. k.stands.shows p page (fewer.live p page live) ∙ ap (λ bytes. Some (record { tag = page.tag; bytes = bytes })) (sym (kept.bytes w_told.tells p));
-          given = λ stamp page is. subst (λ n. stamp < n) (sym kept.next_stamp) (k.stands.given stamp page is);
+          runs = runs_settled w_told.tells k.pages k.trees.running k.stands.runs;
           committed = k.stands.committed;
         });
         extends = k.extends;
@@ -330,6 +342,7 @@ module _ {M : Type 0} (g : Ghosts (Device M)) (v w u : Core M) (answer : Virtual
       paid = λ low less. let a = first.stamps.paid (subst (λ n. n < top) kept.clock low) (subst (λ n. n < top) kept.write_faults less) in
           let n = kept.next_stamp in let k = kept.clock in let f = kept.write_faults in omega (arith, a, n, k, f);
     };
+    runs = runs_to_u;
     trees = goes_to_u;
     left = λ told page_of_stamp t y is at.
         let l = first.left (told_w told) page_of_stamp t y (is ∙ ap (λ (x : Core M). x.committed) s.others) at in

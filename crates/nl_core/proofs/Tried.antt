@@ -1,8 +1,10 @@
 -- A core stands on once the callback of a number was tried: names of pages changed at most, and the medium was only read.
-use Rattle.std.proofs.Common.{◌≡◌, inl, inr, ⊎_elim, ℕ, zero, suc, ◌+◌, ◌-◌, ◌*◌, ◌<◌, ◌≤◌, List, [], ◌∷◌, map, length, Option, Some, None, option_and_then, refl, sym, ap, subst, ◌∙◌, arith}
+use Rattle.std.proofs.Common.{◌≡◌, inl, inr, ⊎_elim, ℕ, zero, suc, ◌+◌, ◌-◌, ◌*◌, ◌<◌, ◌≤◌, List, [], ◌∷◌, ◌++◌, map, length, Option, Some, None, option_and_then, refl, sym, ap, subst, ◌∙◌, arith}
 use Rattle.std.specs.List.{fold, sum_by}
-use Rattle.std.proofs.lemmas.List.{length-append, length-map}
+use Rattle.std.proofs.lemmas.List.{length-append, length-map, map-append}
+use Rattle.std.specs.Prelude.{IsTrue}
 use Rattle.nl_field.specs.CrashStates.{top}
+use Rattle.nl_field.specs.Spelling.{is_stamp}
 use Rattle.nl_field.specs.declared.pointer.Pointer.{Pointer}
 use Rattle.nl_field.specs.declared.pointer.Tag.{Tag}
 use Rattle.nl_field.specs.declared.shape.Shape.{Shape}
@@ -18,7 +20,7 @@ use Rattle.nl_holders.specs.Holding.{MarkedTo}
 use Rattle.nl_iface.specs.Calls.{KeepsMedium, StoresPages}
 use Rattle.nl_iface.specs.Device.{IsVolumeShape}
 use Rattle.nl_iface.specs.Holders.{IsRef, always, wants_tagged}
-use Rattle.nl_iface.specs.Names.{Has, Names}
+use Rattle.nl_iface.specs.Names.{Has, IsNames, IsTable, Names, led, told_page}
 use Rattle.nl_iface.specs.Space.{CanLand, Space}
 use Rattle.nl_iface.specs.declared.Callback.{Callback}
 use Rattle.nl_iface.specs.declared.counts.Counts.{Ghosts}
@@ -36,17 +38,19 @@ use Rattle.nl_commit.specs.Completing.{IsOpen}
 use Rattle.nl_commit.specs.Holding.{running_holders}
 use Rattle.nl_held.specs.Held.{IsHeldVolume}
 use Rattle.nl_held.specs.Trees.{RunsAs, StandsAs, StandsFor, Trees}
+use Rattle.nl_tree.specs.Tree.{Tree}
 use Rattle.nl_held.proofs.Changing.{steps_journaled}
 use Rattle.nl_held.proofs.DeviceTrees.{addresses_go}
 use Rattle.nl_held.proofs.Firm.{medium_keeps_firm}
 use Rattle.nl_held.proofs.Steps.{handling_keeps_held}
 use Rattle.nl_core.specs.Calls.{HasCause}
-use Rattle.nl_core.specs.Core.{HasFree, HasSpace, IsCore, begun_of, names_of, running_of}
+use Rattle.nl_core.specs.Core.{HasFree, HasSpace, IsCore, IsPhysical, begun_of, names_of, running_of}
 use Rattle.nl_core.specs.Goes.{Goes, Stops}
 use Rattle.nl_core.specs.Handling.{TriesNumber}
-use Rattle.nl_core.specs.Trees.{IsTold}
+use Rattle.nl_core.specs.Trees.{CoreRuns, IsTold}
 use Rattle.nl_core.specs.declared.state.Core.{Core}
 use Rattle.nl_core.proofs.Renamed.{Leads, as_many, runs_renamed}
+use Rattle.nl_core.proofs.Running.{goes_as, runs_with, with_none}
 
 -- ---- lines in flight that are the same but for names
 
@@ -65,6 +69,28 @@ carried_bare (x ∷ xs) =
     length-append (map placed (map bare_page x.pages)) (carried (map nameless_line xs))
     ∙ (λ i. same i + carried_bare xs i)
     ∙ sym (length-append (map placed x.pages) (carried xs))
+
+abbrev bare : Tag × Pointer → Tag × Pointer
+bare x = (x.0, nameless x.1)
+
+pages_seen : (pages : List FlightPage) → map bare (map placed pages) ≡ map placed (map bare_page pages)
+pages_seen [] = refl
+pages_seen (x ∷ xs) = ap (λ (ys : List (Tag × Pointer)). bare (placed x) ∷ ys) (pages_seen xs)
+
+carried_seen : (flight : List InFlight) → map bare (carried flight) ≡ carried (map nameless_line flight)
+unfolding carried
+carried_seen [] = refl
+carried_seen (x ∷ xs) = map-append bare (map placed x.pages) (carried xs) ∙ (λ i. pages_seen x.pages i ++ carried_seen xs i)
+
+has_seen : {X Y : Type 0} (f : X → Y) (xs : List X) (x : X) → Has xs x → Has (map f xs) (f x)
+has_seen f [] x has = absurd has
+has_seen f (y ∷ xs) x (inl e) = inl (ap f e)
+has_seen f (y ∷ xs) x (inr has) = inr (has_seen f xs x has)
+
+seen_has : {X Y : Type 0} (f : X → Y) (xs : List X) (y : Y) → Has (map f xs) y → (x : X) × Has xs x × (f x ≡ y)
+seen_has f [] y has = absurd has
+seen_has f (x ∷ xs) y (inl e) = (x, inl refl, e)
+seen_has f (x ∷ xs) y (inr has) = let k = seen_has f xs y has in (k.0, inr k.1, k.2)
 
 extra_from : (flight : List InFlight) (n : ℕ) → fold (λ (a : ℕ) (x : InFlight). a + extra x) n (map nameless_line flight) ≡ fold (λ (a : ℕ) (x : InFlight). a + extra x) n flight
 extra_from [] n = refl
@@ -91,6 +117,13 @@ module _ (old new : List InFlight) (same : map nameless_line new ≡ map nameles
   pub same_line : (worker : ℕ) → nameless_line (of_worker new worker) ≡ nameless_line (of_worker old worker)
   same_line worker = sym (worker_bare new worker) ∙ ap (λ (f : List InFlight). of_worker f worker) same ∙ worker_bare old worker
 
+  -- the same write sequence numbers are in flight
+  same_stamp : (x : Tag × Pointer) → Has (carried new) x → (y : Tag × Pointer) × Has (carried old) y × (y.1.stamp ≡ x.1.stamp)
+  same_stamp x has =
+      let there = subst (λ (xs : List (Tag × Pointer)). Has xs (bare x)) (carried_seen new ∙ (ap carried same ∙ sym (carried_seen old))) (has_seen bare (carried new) x has) in
+      let k = seen_has bare (carried old) (bare x) there in
+      (k.0, k.1, ap (λ (z : Tag × Pointer). z.1.stamp) k.2)
+
   flight_stays : IsFlight old → IsFlight new
   flight_stays f = record {
     eight = sym (length-map new nameless_line) ∙ ap length same ∙ length-map old nameless_line ∙ f.eight;
@@ -113,7 +146,7 @@ reads_rise g s t (Some (stop.Lost w f)) r = let same = r.0 in omega (arith, same
 -- ---- a core of which one callback was tried
 
 module _ {M : Type 0} (g : Ghosts (Device M)) (v w : Core M) (mark number : ℕ) (answer : Option Drained) (b : TriesNumber g mark number v w answer) (core : IsCore g v) (volume : IsVolumeShape (g.shape v.device))
-    (is : mark ≡ begun_of v + 1) (stores : g.tells → StoresPages g w.device) (trees_stay : TreesStay) where
+    (is : mark ≡ begun_of v + 1) (stores : g.tells → StoresPages g w.device) (trees_stay : TreesStay) (names : IsNames (g.shape v.device) (g.next_stamp v.device) (names_of g v)) (table : IsTable (names_of g v)) where
   kept : KeepsMedium g v.device w.device
   kept = b.handles.medium
 
@@ -164,6 +197,15 @@ module _ {M : Type 0} (g : Ghosts (Device M)) (v w : Core M) (mark number : ℕ)
       omega (arith, e, is, b_is))
       (b.handles.marks.handled c.number)
 
+  -- a page in flight that has another name has that of a live page
+  named_on : (x : Tag × Pointer) → Has (carried w.flight) x → IsPhysical (g.shape v.device) x.1.name
+  named_on x has = ⊎_elim (core.named x)
+      (λ new.
+      let c = new.0 in
+      let live = table.called c new.1 in
+      subst (IsPhysical (g.shape v.device)) (sym new.2) (names.from_first (led (names_of g v) c.before) (told_page c) live, names.to_last (led (names_of g v) c.before) (told_page c) live))
+      (b.handles.names x has)
+
   free_on : HasFree g (record v { device = w.device; meta = w.meta; flight = w.flight; freeing = w.freeing })
   free_on = record {
     count_nodes = core.free.count_nodes ∙ ap (λ (h : Shape). h.nodes) (sym same_shape);
@@ -200,6 +242,8 @@ module _ {M : Type 0} (g : Ghosts (Device M)) (v w : Core M) (mark number : ℕ)
     free = free_on;
     held = held_on;
     flight = flight_stays v.flight w.flight b.handles.flight core.flight;
+    named = λ x has. subst (λ (h : Shape). IsPhysical h x.1.name) (sym same_shape) (named_on x has);
+    stamped = λ x has. let k = same_stamp v.flight w.flight b.handles.flight x has in subst (λ n. IsTrue (is_stamp n)) k.2 (core.stamped k.0 k.1);
     space = space_on;
     marked = marked_on;
     moment = subst (λ n. v.moment ≤ n) (sym kept.clock) core.moment;
@@ -222,14 +266,26 @@ module _ {M : Type 0} (g : Ghosts (Device M)) (v w : Core M) (mark number : ℕ)
             (h.holds.held.running x (subst (λ (xs : List (Tag × Pointer)). Has xs x) (sym h.is_of.runs.running) has));
       }
 
+  renamed_as : (page_of_stamp : ℕ → Option PageOfStamp) (tree : Tree) → RunsAs (g.shape v.device) (running_of g v) page_of_stamp tree → RunsAs (g.shape w.device) (running_of g w) page_of_stamp tree
+  renamed_as page_of_stamp tree at = runs_renamed (g.shape w.device) (running_of g v) (running_of g w) same_names page_of_stamp (names_of g w) leads_on trees_stay tree
+      (subst (λ (h : Shape). RunsAs h (running_of g v) page_of_stamp tree) (sym same_shape) at)
+
+  abbrev now : Core M
+  now = record v { device = w.device; meta = w.meta; flight = w.flight; freeing = w.freeing }
+
+  runs_now : g.tells → (page_of_stamp : ℕ → Option PageOfStamp) (tree : Tree) → CoreRuns g v page_of_stamp tree → CoreRuns g now page_of_stamp tree
+  runs_now tells page_of_stamp tree at =
+      (runs_with g v now page_of_stamp tree at
+      (record { live = λ q page is. (q, sym (b.handles.marks.live q) ∙ is, kept.bytes tells q); stamps = let same = kept.next_stamp in omega (arith, same) })
+      tree (renamed_as page_of_stamp tree at.runs))
+
   stands_on : (page_of_stamp : ℕ → Option PageOfStamp) (t : Trees) → g.tells → HasNumber v.journal (length v.meta.frozen.addresses) → StandsFor g v.device v.journal v.meta v.count page_of_stamp t
       → StandsFor g w.device v.journal w.meta v.count page_of_stamp t
   stands_on page_of_stamp t tells numbers at =
       let on = addresses_go g v.device w.device v.journal v.meta v.count page_of_stamp t volume tells numbers core.journaled kept.virtual at in
       let frozen = sym b.handles.pages.same_frozen in
       record {
-        running = runs_renamed (g.shape w.device) (running_of g v) (running_of g w) same_names page_of_stamp (names_of g w) leads_on trees_stay t.running
-            (subst (λ (h : Shape). RunsAs h (running_of g v) page_of_stamp t.running) (sym same_shape) at.running);
+        running = renamed_as page_of_stamp t.running at.running;
         committed = on.committed;
         frozen = subst (λ (f : Frozen). IsOpen v.journal f → StandsAs (g.shape w.device) (finished v.journal.phase f (committed_on g w.device)) page_of_stamp t.frozen) frozen on.frozen;
         thawed = subst (λ (f : Frozen). (IsOpen v.journal f → ⊥) → t.frozen ≡ t.committed) frozen on.thawed;
@@ -237,7 +293,7 @@ module _ {M : Type 0} (g : Ghosts (Device M)) (v w : Core M) (mark number : ℕ)
         latest = on.latest;
       }
 
-  told_before : IsTold g (record v { device = w.device; meta = w.meta; flight = w.flight; freeing = w.freeing }) → HasNumber v.journal (length v.meta.frozen.addresses)
+  told_before : IsTold g now → HasNumber v.journal (length v.meta.frozen.addresses)
   told_before told = subst (λ (f : Frozen). HasNumber v.journal (length f.addresses)) b.handles.pages.same_frozen told.numbers
 
   pub tried_goes : Goes g 0 v w
@@ -256,21 +312,8 @@ module _ {M : Type 0} (g : Ghosts (Device M)) (v w : Core M) (mark number : ℕ)
       at_most = let n = kept.next_stamp in omega (arith, n);
       paid = λ low less. let n = kept.next_stamp in let k = kept.clock in let f = kept.write_faults in omega (arith, n, k, f);
     };
-    trees = λ told page_of_stamp t at. record {
-      pages = page_of_stamp;
-      trees = t;
-      stands = record {
-        stands = stands_on page_of_stamp t told.tells (told_before told) at.stands;
-        shows = λ p page live. at.shows p page (sym (b.handles.marks.live p) ∙ live) ∙ ap (λ bytes. Some (record { tag = page.tag; bytes = bytes })) (sym (kept.bytes told.tells p));
-        given = λ stamp page has. subst (λ n. stamp < n) (sym kept.next_stamp) (at.given stamp page has);
-        committed = at.committed;
-      };
-      extends = λ stamp page has. has;
-      running = refl;
-      committed = inl refl;
-      frozen = inr (inl refl);
-      later = omega arith;
-    };
+    runs = λ tells page_of_stamp tree at. with_none g now page_of_stamp tree (runs_now tells page_of_stamp tree at);
+    trees = λ told page_of_stamp t at. goes_as g v now page_of_stamp t (with_none g now page_of_stamp t.running (runs_now told.tells page_of_stamp t.running at.runs)) (stands_on page_of_stamp t told.tells (told_before told) at.stands) at.committed;
     left = λ told page_of_stamp t y same at. record {
       later = let k = kept.clock in omega (arith, k);
       each = λ m c left. inl (kept.left told.tells m c left);

@@ -38,7 +38,7 @@ use Rattle.nl_held.proofs.Freezing.{super_pages_hold}
 use Rattle.nl_held.proofs.Holding.{commit_keeps_held}
 use Rattle.nl_held.proofs.Kept.{tagged_same}
 use Rattle.nl_held.specs.TreeLaws.{moment_of}
-use Rattle.nl_core.specs.Core.{CanWrite, HasFree, HasSpace, IsCore, begun_of, names_of, running_of}
+use Rattle.nl_core.specs.Core.{CanWrite, HasFree, HasSpace, IsCore, IsPhysical, begun_of, names_of, running_of}
 use Rattle.nl_core.specs.Goes.{Stops}
 use Rattle.nl_core.specs.Writing.{WritesAll, counted_pages, stopped_by, stopped_on, stored_count}
 use Rattle.nl_core.specs.declared.state.Core.{Core}
@@ -251,6 +251,8 @@ module _ {M : Type 0} (g : Ghosts (Device M)) (v w : Core M) (answer : VirtualWr
     free = has_free_on g v w same_shape volume b.stands.needed b.rest.nodes core.free;
     held = written_held;
     flight = subst IsFlight (sym b.rest.flight) core.flight;
+    named = λ x has. subst (λ (h : Shape). IsPhysical h x.1.name) (sym same_shape) (core.named x (subst (λ (f : List InFlight). Has (carried f) x) b.rest.flight has));
+    stamped = λ x has. core.stamped x (subst (λ (f : List InFlight). Has (carried f) x) b.rest.flight has);
     space = still_space;
     marked = still_marked;
     moment = subst (λ n. n ≤ g.clock w.device) (sym b.moment) (moment_in v.moment b.earlier b.decided (let a = core.moment in let c = b.clock in omega (arith, a, c)) b.earlier_at b.decided_at);

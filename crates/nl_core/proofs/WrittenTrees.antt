@@ -36,13 +36,15 @@ use Rattle.nl_commit.proofs.Places.{at_place}
 use Rattle.nl_held.specs.Committed.{read_as}
 use Rattle.nl_held.specs.TreeLaws.{OpensFrom, committed_by as tree_by, moment_of}
 use Rattle.nl_held.specs.Trees.{Prefix, StandsFor, Trees, prefixes}
+use Rattle.nl_tree.specs.Tree.{Tree}
 use Rattle.nl_held.proofs.CommitTrees.{commit_goes, commit_leaves}
 use Rattle.nl_held.proofs.Reading.{reads_some}
 use Rattle.nl_core.specs.Core.{IsCore, begun_of}
 use Rattle.nl_core.specs.Goes.{Goes, GoesTo}
-use Rattle.nl_core.specs.Trees.{CoreStands, IsTold}
+use Rattle.nl_core.specs.Trees.{CoreRuns, CoreStands, IsTold}
 use Rattle.nl_core.specs.Writing.{WritesAll, committed_count, counted_pages, frozen_count, stored_count}
 use Rattle.nl_core.specs.declared.state.Core.{Core}
+use Rattle.nl_core.proofs.Running.{runs_on, with_none}
 use Rattle.nl_core.proofs.Written.{later_number, stops_on}
 
 -- ---- the count in the frozen super page
@@ -122,19 +124,24 @@ module _ {M : Type 0} (g : Ghosts (Device M)) (v w : Core M) (answer : VirtualWr
   later_tree t one two (Some m) None = one
   later_tree t one two None None = omega arith
 
+  -- no page is programmed under a name
+  runs_to : g.tells → (page_of_stamp : ℕ → Option PageOfStamp) (tree : Tree) → CoreRuns g v page_of_stamp tree → CoreRuns g w page_of_stamp tree
+  runs_to tells page_of_stamp tree at =
+      let named = b.passes.named in
+      runs_on g v w page_of_stamp tree at named.same_shape b.stands.needed
+      (record { live = λ q page is. (q, sym (named.tables.live q) ∙ is, named.bytes tells q); stamps = b.passes.stamps.never_falls })
+
   goes_to : IsTold g w → (page_of_stamp : ℕ → Option PageOfStamp) (t : Trees) → CoreStands g v page_of_stamp t → GoesTo g v w page_of_stamp t
   goes_to told page_of_stamp t at =
       let parts : CommitsInParts g (answer ≡ write.Done) b.earlier b.decided v.device v.journal (with_count (g.shape v.device) v.count v.meta) w.device w.journal w.meta =
       subst (λ (n : Pages). CommitsInParts g (answer ≡ write.Done) b.earlier b.decided v.device v.journal n w.device w.journal w.meta) (counted_is told) b.commits.parts in
       let c = commit_goes g answer v.device w.device v.journal w.journal v.meta w.meta v.count page_of_stamp t b.earlier b.decided volume told.tells told.numbers (small told) core.journaled parts at.stands in
-      let named = b.passes.named in
       record {
         pages = page_of_stamp;
         trees = c.trees;
         stands = record {
           stands = subst (λ n. StandsFor g w.device w.journal w.meta n page_of_stamp c.trees) (sym b.rest.count) c.stands;
-          shows = λ p page live. at.shows p page (sym (named.tables.live p) ∙ live) ∙ ap (λ bytes. Some (record { tag = page.tag; bytes = bytes })) (sym (named.bytes told.tells p));
-          given = λ stamp page is. let old = at.given stamp page is in let rise = b.passes.stamps.never_falls in omega (arith, old, rise);
+          runs = subst (λ (tree : Tree). CoreRuns g w page_of_stamp tree) (sym c.running) (runs_to told.tells page_of_stamp t.running at.runs);
           committed = ap (λ (x : Prefix). x.0) c.committed ∙ count_is page_of_stamp t at b.earlier b.decided b.commits.parts.first_decided ∙ sym b.committed;
         };
         extends = λ stamp page is. is;
@@ -149,7 +156,7 @@ module _ {M : Type 0} (g : Ghosts (Device M)) (v w : Core M) (answer : VirtualWr
   leaves_to told page_of_stamp t y is at =
       let pages = counted_is told in
       let l = commit_leaves g answer v.device w.device v.journal w.journal v.meta w.meta v.count v.moment page_of_stamp t b.earlier b.decided (carried v.flight) v.freeing.items volume told.tells (numbers told) told.numbers
-      (small told) told.moments core.journaled held core.held ((core.writes writes).firm (told.tells, numbers told)) at.shows
+      (small told) told.moments core.journaled held core.held ((core.writes writes).firm (told.tells, numbers told)) at.runs.shows
       (subst (λ (n : Pages). CommitWrites g (answer ≡ write.Done) v.journal w.journal n w.meta v.device w.device) pages (b.writes told.tells told.numbers))
       (subst (λ (n : Pages). IfSome b.earlier (EarlierAt g v.device w.device v.journal w.journal n w.meta)) pages b.earlier_at)
       (subst (λ (n : Pages). IfSome b.decided (ChangesAt g v.device w.device v.journal w.journal n w.meta)) pages b.decided_at) at.stands in
@@ -181,6 +188,7 @@ module _ {M : Type 0} (g : Ghosts (Device M)) (v w : Core M) (answer : VirtualWr
     clock = b.clock;
     stops = stops_on g v w b.stopped b.faults.reads_never_fall b.faults.writes_never_fall;
     stamps = b.passes.stamps;
+    runs = λ tells page_of_stamp tree at. with_none g w page_of_stamp tree (runs_to tells page_of_stamp tree at);
     trees = goes_to;
     left = leaves_to;
   }

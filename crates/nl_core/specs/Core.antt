@@ -1,11 +1,16 @@
 -- What a core keeps between two calls.
-use Rattle.std.specs.Prelude.{◌≡◌, ℕ, ◌+◌, ◌*◌, ◌<◌, ◌≤◌, length}
+use Rattle.std.specs.Prelude.{◌≡◌, ℕ, ◌+◌, ◌*◌, ◌<◌, ◌≤◌, length, IsTrue}
 use Rattle.nl_field.specs.CrashStates.{top}
+use Rattle.nl_field.specs.Medium.{first_physical}
+use Rattle.nl_field.specs.Spelling.{is_stamp}
+use Rattle.nl_field.specs.declared.pointer.Pointer.{Pointer}
+use Rattle.nl_field.specs.declared.pointer.Tag.{Tag}
+use Rattle.nl_field.specs.declared.shape.Shape.{Shape}
 use Rattle.nl_device.specs.declared.device.Device.{Device}
 use Rattle.nl_flight.specs.Flight.{IsFlight, carried}
 use Rattle.nl_holders.specs.Holding.{MarkedTo}
 use Rattle.nl_iface.specs.Holders.{Holders, IsCounted}
-use Rattle.nl_iface.specs.Names.{Names}
+use Rattle.nl_iface.specs.Names.{Has, Names}
 use Rattle.nl_iface.specs.Space.{CanLand}
 use Rattle.nl_iface.specs.declared.counts.Counts.{Ghosts}
 use Rattle.nl_inode.specs.FreeLaws.{NodesAreFree, PoolIsFree}
@@ -56,6 +61,10 @@ pub record HasSpace {M : Type 0} (g : Ghosts (Device M)) (v : Core M) : Type 0 w
   pub all : (names_of g v).space.all ≡ (g.shape v.device).cap + ((names_of g v).space.keep + (names_of g v).space.bad + 3) * (names_of g v).space.block + 160
   pub room : (g.shape v.device).pblocks * (g.shape v.device).pages ≤ length v.freeing.items + v.freeing.room
 
+-- the name is one of the physical segment
+abbrev pub IsPhysical : Shape → ℕ → Type 0
+IsPhysical shape name = (first_physical shape ≤ name) × (name < shape.blocks * shape.pages)
+
 pub record IsCore {M : Type 0} (g : Ghosts (Device M)) (v : Core M) : Type 0 where
   pub shape : v.shape ≡ g.shape v.device
   -- the metadata runs, and its journal is in order,
@@ -63,7 +72,10 @@ pub record IsCore {M : Type 0} (g : Ghosts (Device M)) (v : Core M) : Type 0 whe
   pub free : HasFree g v
   -- each live page is held once, and what is committed keeps its pages,
   pub held : IsHeldVolume g v.device v.journal v.meta (carried v.flight) v.freeing.items
+  -- the pages in flight have names of the physical segment, and write sequence numbers that are spelled,
   pub flight : IsFlight v.flight
+  pub named : (x : Tag × Pointer) → Has (carried v.flight) x → IsPhysical (g.shape v.device) x.1.name
+  pub stamped : (x : Tag × Pointer) → Has (carried v.flight) x → IsTrue (is_stamp x.1.stamp)
   pub space : HasSpace g v
   -- callbacks were handled by the next transaction or an earlier one,
   pub marked : MarkedTo (names_of g v) (begun_of v + 1)

@@ -2,6 +2,7 @@
 use Rattle.std.specs.Prelude.{◌≡◌, ◌⊎◌, ℕ, ◌+◌, ◌≤◌, Option}
 use Rattle.nl_field.specs.CrashStates.{Earlier, Rose, saturated}
 use Rattle.nl_field.specs.Members.{Has}
+use Rattle.nl_tree.specs.Tree.{Tree}
 use Rattle.nl_device.specs.declared.device.Device.{Device}
 use Rattle.nl_drain.specs.Handled.{SameButNames}
 use Rattle.nl_iface.specs.Calls.{Leaves}
@@ -13,7 +14,7 @@ use Rattle.nl_held.specs.DeviceLaws.{Extends}
 use Rattle.nl_held.specs.TreeLaws.{OpensFrom}
 use Rattle.nl_held.specs.Trees.{Prefix, Trees, prefixes}
 use Rattle.nl_core.specs.Core.{begun_of, running_of}
-use Rattle.nl_core.specs.Trees.{CoreStands, IsTold}
+use Rattle.nl_core.specs.Trees.{CoreRuns, CoreStands, IsTold}
 use Rattle.nl_core.specs.declared.state.Core.{Core}
 
 -- The core stands for the same tree of all calls. What is committed is what was committed before or frozen, or all calls; each page that was
@@ -28,6 +29,12 @@ pub record GoesTo {M : Type 0} (g : Ghosts (Device M)) (old new : Core M) (page_
   pub frozen : Has (prefixes old.count t) trees.frozen
   pub later : t.committed.0 ≤ trees.committed.0
 
+-- It runs as the tree, and each page that was programmed before holds what it held.
+pub record RunsOnAs {M : Type 0} (g : Ghosts (Device M)) (new : Core M) (page_of_stamp : ℕ → Option PageOfStamp) (tree : Tree) : Type 0 where
+  pub pages : ℕ → Option PageOfStamp
+  pub extends : Extends page_of_stamp pages
+  pub runs : CoreRuns g new pages tree
+
 -- The volume is read-only from the first write on that failed, under the sum of both fault counts.
 pub record Stops {M : Type 0} (g : Ghosts (Device M)) (old new : Core M) : Type 0 where
   pub stands : (old.stopped ≡ 0 → ⊥) → new.stopped ≡ old.stopped
@@ -37,9 +44,9 @@ pub record Stops {M : Type 0} (g : Ghosts (Device M)) (old new : Core M) : Type 
       × (Rose (g.read_faults old.device + g.write_faults old.device) new.stopped × (new.stopped ≤ saturated (g.read_faults new.device + g.write_faults new.device)))
 
 -- It is the volume that it was, but for what a call does beside: the same calls were answered, and nodes have other names of pages at most.
--- Numbers and counts do not fall, and what is committed changes with a commit page that was finished since. Where it stood for trees, it goes
--- on to stand for them, and what a stop leaves opens as one of them, from the moment of the last commit page on as none earlier than what that
--- one committed.
+-- Numbers and counts do not fall, and what is committed changes with a commit page that was finished since. Where the medium tells its contents,
+-- it runs on as the tree as which it ran. Where counts have not ended either, it goes on to stand for the trees for which it stood, and what a
+-- stop leaves opens as one of them, from the moment of the last commit page on as none earlier than what that one committed.
 pub record Goes {M : Type 0} (g : Ghosts (Device M)) (most : ℕ) (old new : Core M) : Type 0 where
   pub same_shape : g.shape new.device ≡ g.shape old.device
   pub count : new.count ≡ old.count
@@ -51,6 +58,7 @@ pub record Goes {M : Type 0} (g : Ghosts (Device M)) (most : ℕ) (old new : Cor
   pub moment : ((new.moment ≡ old.moment) × (new.committed ≡ old.committed)) ⊎ (Earlier (g.clock old.device) new.moment × (g.clock old.device ≤ new.moment))
   pub stops : Stops g old new
   pub stamps : StampsRise g most old.device new.device
+  pub runs : g.tells → (page_of_stamp : ℕ → Option PageOfStamp) (tree : Tree) → CoreRuns g old page_of_stamp tree → RunsOnAs g new page_of_stamp tree
   pub trees : IsTold g new → (page_of_stamp : ℕ → Option PageOfStamp) (t : Trees) → CoreStands g old page_of_stamp t → GoesTo g old new page_of_stamp t
   pub left : IsTold g new → (page_of_stamp : ℕ → Option PageOfStamp) (t : Trees) (y : Prefix) → y.0 ≡ new.committed → CoreStands g old page_of_stamp t
       → Leaves g (OpensFrom (g.shape old.device) old.count new.moment t y) old.device new.device

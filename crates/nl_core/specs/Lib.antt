@@ -5,6 +5,7 @@ pub mod Dropping
 pub mod Duties
 pub mod Goes
 pub mod Handling
+pub mod Laws
 pub mod Programming
 pub mod Rounds
 pub mod Trees

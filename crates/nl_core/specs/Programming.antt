@@ -1,5 +1,5 @@
 -- A page is programmed for a worker's line, and is in flight.
-use Rattle.std.specs.Prelude.{◌≡◌, ◌≢◌, ◌↔◌, ◌⊎◌, ℕ, ◌+◌, ◌≤◌, ◌^◌, ◌==◌, if◌then◌else◌, List, [], ◌∷◌, ◌++◌, map, Option, Some}
+use Rattle.std.specs.Prelude.{◌≡◌, ◌≢◌, ◌↔◌, ◌⊎◌, ℕ, ◌+◌, ◌≤◌, ◌^◌, ◌==◌, if◌then◌else◌, List, [], ◌∷◌, ◌++◌, map, Some}
 use Rattle.nl_field.specs.declared.answers.Named.{Named}
 use Rattle.nl_field.specs.declared.answers.Named.TheVariants as named
 use Rattle.nl_field.specs.declared.pointer.Pointer.{Pointer}
@@ -12,11 +12,8 @@ use Rattle.nl_iface.specs.Calls.{KeepsPages, LeavesNew, OnlyReads, Places, Place
 use Rattle.nl_iface.specs.Names.{Has}
 use Rattle.nl_iface.specs.Space.{NoneRetired}
 use Rattle.nl_iface.specs.declared.counts.Counts.{Ghosts}
-use Rattle.nl_meta.specs.Consistent.{PageOfStamp}
-use Rattle.nl_held.specs.Trees.{Trees}
 use Rattle.nl_core.specs.Calls.{KeepsLines}
 use Rattle.nl_core.specs.Core.{names_of}
-use Rattle.nl_core.specs.Trees.{CoreStands}
 use Rattle.nl_core.specs.declared.programming.Programmed.{Programmed}
 use Rattle.nl_core.specs.declared.programming.Programmed.TheVariants as programmed
 use Rattle.nl_core.specs.declared.state.Core.{Core}
@@ -49,13 +46,11 @@ pub record Programs {D : Type 0} (g : Ghosts D) (tag : Tag) (main : List ℕ) (a
   pub counts : TriesCounted g answer old new
   pub retired : NoneRetired (g.names old).space (g.names new).space
 
--- The page is placed under the pointer, and in flight behind the others of the worker's line. Whatever trees the core stands for then, the
--- page of its write sequence number is this one.
+-- The page is placed under the pointer, and in flight behind the others of the worker's line.
 pub record PutsPage {M : Type 0} (g : Ghosts (Device M)) (worker line : ℕ) (tag : Tag) (main : List ℕ) (old new : Core M) (at : Pointer) : Type 0 where
   pub places : Places g tag main 0 (names_of g old) old.device new.device at
   pub flight : new.flight ≡ with_page old.flight worker line tag at
   pub others : new ≡ record old { device = new.device; flight = new.flight; stopped = new.stopped }
-  pub shows : g.tells → (pages : ℕ → Option PageOfStamp) (t : Trees) → CoreStands g new pages t → pages at.stamp ≡ Some (record { tag = tag; bytes = main })
 
 -- No page is placed, and those in flight are the same. Where it was refused, nothing was written.
 pub record PutsNone {M : Type 0} (g : Ghosts (Device M)) (answer : Named) (old new : Core M) : Type 0 where
@@ -69,16 +64,15 @@ pub record PutsNone {M : Type 0} (g : Ghosts (Device M)) (answer : Named) (old n
 abbrev pub last_stamp : ℕ
 last_stamp = 2 ^ 62 + 2 ^ 40
 
--- A page with these bytes is programmed under the pointer, and in flight behind the others of the worker's line, which are those of before but for
--- the names of their pages. Its write sequence number was not given before. Whatever trees the core stands for then, the page of that number is
--- this one.
+-- A page with these bytes is live under the pointer, and in flight behind the others of the worker's line, which are those of before but for the
+-- names of their pages. Its write sequence number was not given before.
 pub record PutsInFlight {M : Type 0} (g : Ghosts (Device M)) (worker line : ℕ) (tag : Tag) (main : List ℕ) (old new : Core M) : Type 0 where
   pub at : Pointer
   pub flight : map nameless_line new.flight ≡ map nameless_line (with_page old.flight worker line tag at)
   pub is_in_flight : Has (carried new.flight) (tag, at)
   pub is_live : (names_of g new).live at.name ≡ Some (record { tag = tag; stamp = at.stamp })
   pub is_new : g.next_stamp old.device ≤ at.stamp
-  pub shows : g.tells → (pages : ℕ → Option PageOfStamp) (t : Trees) → CoreStands g new pages t → pages at.stamp ≡ Some (record { tag = tag; bytes = main })
+  pub bytes : g.tells → g.bytes new.device at.name ≡ main
 
 -- What a program does by its answer. Where it did none, the lines in flight are those of before; where it was stopped, all is as before. A page is
 -- lost only with another number found, and never where the medium tells what it stores.

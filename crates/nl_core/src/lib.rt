@@ -7,6 +7,7 @@ mod committing;
 mod dropping;
 mod duties;
 mod handling;
+pub mod laws;
 mod programming;
 mod rounds;
 mod state;

@@ -13,7 +13,7 @@ returns-clause-core g c =
     let answer = c.try_callback-tried.result in
     let number = c.args.number in
     let tries : TriesNumber G (begun_of v + 1) number v w answer = subst (λ n. TriesNumber G n number v w answer) c.mark-mark.ensures.mark c.try_callback-tried.ensures.tries in
-    tried_core G v w (begun_of v + 1) number answer tries c.requires.core c.device_stands.ensures.volume refl c.device_stands-2.ensures.pages c.trees_stay.ensures
+    tried_core G v w (begun_of v + 1) number answer tries c.requires.core c.device_stands.ensures.volume refl c.device_stands-2.ensures.pages c.trees_stay.ensures c.device_stands.ensures.names c.device_stands.ensures.table
 
 pub returns-clause-goes : goal.returns-clause-goes
 returns-clause-goes g c =
@@ -23,7 +23,7 @@ returns-clause-goes g c =
     let answer = c.try_callback-tried.result in
     let number = c.args.number in
     let tries : TriesNumber G (begun_of v + 1) number v w answer = subst (λ n. TriesNumber G n number v w answer) c.mark-mark.ensures.mark c.try_callback-tried.ensures.tries in
-    tried_goes G v w (begun_of v + 1) number answer tries c.requires.core c.device_stands.ensures.volume refl c.device_stands-2.ensures.pages c.trees_stay.ensures
+    tried_goes G v w (begun_of v + 1) number answer tries c.requires.core c.device_stands.ensures.volume refl c.device_stands-2.ensures.pages c.trees_stay.ensures c.device_stands.ensures.names c.device_stands.ensures.table
 
 pub returns-clause-tries : goal.returns-clause-tries
 returns-clause-tries g c =
@@ -43,4 +43,4 @@ returns-clause-faults g c =
     let answer = c.try_callback-tried.result in
     let number = c.args.number in
     let tries : TriesNumber G (begun_of v + 1) number v w answer = subst (λ n. TriesNumber G n number v w answer) c.mark-mark.ensures.mark c.try_callback-tried.ensures.tries in
-    tried_cause G v w (begun_of v + 1) number answer tries c.requires.core c.device_stands.ensures.volume refl c.device_stands-2.ensures.pages c.trees_stay.ensures
+    tried_cause G v w (begun_of v + 1) number answer tries c.requires.core c.device_stands.ensures.volume refl c.device_stands-2.ensures.pages c.trees_stay.ensures c.device_stands.ensures.names c.device_stands.ensures.table

@@ -5,7 +5,7 @@ use Rattle.nl_core.specs.Core.{IsCore}
 use Rattle.nl_core.specs.Goes.{Goes}
 use Rattle.nl_core.specs.Programming.{PutsPage, with_page}
 use Rattle.nl_core.specs.declared.state.Core.{Core}
-use Rattle.nl_core.proofs.Placed.{if_off, none_cause, none_core, none_goes, put_core, put_goes, put_page, puts_none}
+use Rattle.nl_core.proofs.Placed.{if_off, is_spelled, none_cause, none_core, none_goes, put_core, put_goes, put_page, puts_none}
 use Rattle.nl_core.proofs.state.Core.place_once.Goals as goal
 
 pub put_page-requires-clause-place : goal.put_page-requires-clause-place
@@ -20,7 +20,8 @@ returns-in-Placed-clause-core g c =
     let e = c.place.ensures in
     let lines = c.put_page.ensures.put ∙ ap (λ (xs : List InFlight). with_page xs c.args.worker c.args.line c.args.tag c.in-Placed.at) (ap (λ (x : Core g.row.M.Denot). x.flight) e.others) in
     subst (λ (xs : List InFlight). IsCore G (record w { flight = xs })) (sym lines)
-    (put_core G v w c.args.tag c.args.from.now.main c.place.result e.programs e.others c.requires.core e.volume c.requires.writes e.map e.stores c.in-Placed.at c.in-Placed.is c.args.worker c.args.line c.requires.known c.requires.some c.requires.place e.numbers)
+    (put_core G v w c.args.tag c.args.from.now.main c.place.result e.programs e.others c.requires.core e.volume c.requires.writes e.map e.stores c.in-Placed.at c.in-Placed.is c.args.worker c.args.line c.requires.known c.requires.some c.requires.place e.numbers
+    (is_spelled (G.next_stamp v.device) c.requires.formed.stamp.some c.requires.stamp))
 
 pub returns-in-Placed-clause-goes : goal.returns-in-Placed-clause-goes
 returns-in-Placed-clause-goes g c =
