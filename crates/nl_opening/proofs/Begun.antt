@@ -51,6 +51,7 @@ use Rattle.nl_field.specs.SpareRecord.{stamp_of}
 use Rattle.nl_sound.specs.RightFor.{PagesRepresent}
 use Rattle.nl_sound.specs.Stands.{Stands, bytes_found}
 use Rattle.nl_held.proofs.Stopping.{stands_alike}
+use Rattle.nl_held.specs.Trees.{RunsAs}
 use Rattle.nl_recover.proofs.Imaged.{walks_the_image}
 use Rattle.nl_core.specs.Trees.{CoreStands}
 use Rattle.nl_held.proofs.Holding.{opening_is_held}
@@ -244,6 +245,8 @@ module _ {M : Type 0} (g : Ghosts (Device M)) (s t : Device M) (seen : List Seen
         free = has_free_on g (core_over s) (core_over t) same_shape volume stands.needed refl free;
         held = subst (λ (xs : List (Tag × Pointer)). IsHeldVolume g t w.journal w.meta xs freeing.items) (sym nothing_carried) (subst (λ (ps : List Pointer). IsHeldVolume g t w.journal w.meta [] ps) (sym none) held);
         flight = lines;
+        named = λ x has. absurd (subst (λ (xs : List (Tag × Pointer)). Has xs x) nothing_carried has);
+        stamped = λ x has. absurd (subst (λ (xs : List (Tag × Pointer)). Has xs x) nothing_carried has);
         space = space;
         marked = λ c n has at. absurd (none_some n (sym (retains.unhandled c has) ∙ at));
         moment = let clock = same.clock in omega (arith, clock);
@@ -284,22 +287,28 @@ module _ {M : Type 0} (g : Ghosts (Device M)) (s t : Device M) (seen : List Seen
             shown image (subst NamedAgree (ap g.stored_of (same.contents tells) ∙ over.stored) agree) p (record { tag = page.tag; stamp = page.stamp; bytes = g.bytes t p })
             (ap (λ (c : Stored). c.named p) (sym (ap g.stored_of (same.contents tells) ∙ over.stored)) ∙ here)
 
+        as_tree : RunsAs (g.shape t) (running_on g t w.meta) (page_on image) tree
+        as_tree = record { right = running.right; represents = running.represents; data_fits = running.data_fits }
+
         pub begun_stands : CoreStands g (core_over t) (page_on image) (all_at w.count tree)
         begun_stands = record {
           stands = record {
-            running = record { right = running.right; represents = running.represents; data_fits = running.data_fits };
+            running = as_tree;
             committed = stands_alike (g.shape t) (running_on g t w.meta) (read_as (g.shape t) (committed_on g t)) (page_on image) w.count tree (stored_runs tells) running;
             frozen = λ more. absurd (shut more);
             thawed = λ _. refl;
             later = omega arith;
             latest = omega arith;
           };
-          shows = shows;
-          given = λ stamp page has.
-              let q = on_readable image stamp page has in
-              let m = named_member image q.0 q.1 in
-              let below = (stores tells).named_below q.0.page m.0 (ap (λ (c : Stored). c.named q.0.page) (ap g.stored_of (same.contents tells) ∙ over.stored) ∙ m.1) in
-              let number : m.0.stamp ≡ stamp = sym (ap stamp_of m.2.rec) ∙ q.2 in
-              omega (arith, below, number);
+          runs = record {
+            runs = as_tree;
+            shows = shows;
+            given = λ stamp page has.
+                let q = on_readable image stamp page has in
+                let m = named_member image q.0 q.1 in
+                let below = (stores tells).named_below q.0.page m.0 (ap (λ (c : Stored). c.named q.0.page) (ap g.stored_of (same.contents tells) ∙ over.stored) ∙ m.1) in
+                let number : m.0.stamp ≡ stamp = sym (ap stamp_of m.2.rec) ∙ q.2 in
+                omega (arith, below, number);
+          };
           committed = refl;
         }
