@@ -1,5 +1,5 @@
 -- A volume goes along its run.
-use Rattle.std.proofs.Common.{◌≡◌, ◌⊎◌, inl, inr, ⊎_elim, ℕ, ◌+◌, ◌-◌, ◌<◌, ◌≤◌, Bool, true, false, cond, max, nat_le, List, [], ◌∷◌, ◌++◌, fold, length, take, Option, refl, sym, ap, subst, ◌∙◌, arith, length-append}
+use Rattle.std.proofs.Common.{◌≡◌, ◌⊎◌, inl, inr, ⊎_elim, ℕ, ◌+◌, ◌-◌, ◌<◌, ◌≤◌, ◌^◌, Bool, true, false, cond, max, nat_le, List, [], ◌∷◌, ◌++◌, fold, length, take, Option, refl, sym, ap, subst, ◌∙◌, arith, length-append}
 use Rattle.std.proofs.lemmas.Bool.{cases_lt}
 use Rattle.std.proofs.lemmas.List.{take-append-le, take_all}
 use Rattle.nl_field.specs.CrashStates.{saturated}
@@ -11,6 +11,7 @@ use Rattle.nl_tree.specs.Tree.{Tree}
 use Rattle.nl_tree.specs.declared.call.Call.{Call}
 use Rattle.nl_tree.specs.declared.reply.FaultReply.{FaultReply}
 use Rattle.nl_device.specs.declared.device.Device.{Device}
+use Rattle.nl_iface.specs.Calls.{stored}
 use Rattle.nl_iface.specs.Stored.{Stored, stored_in}
 use Rattle.nl_iface.specs.declared.counts.Counts.{Ghosts}
 use Rattle.nl_meta.specs.Consistent.{PageOfStamp}
@@ -20,11 +21,11 @@ use Rattle.nl_sound.proofs.LeftIsSoundProofs.{what_is_left_is_sound}
 use Rattle.nl_sound.proofs.StopsKept.{more_calls, more_syncs}
 use Rattle.nl_held.specs.Trees.{OpensAs, Prefix, Trees, prefixes}
 use Rattle.nl_core.specs.Goes.{Goes}
-use Rattle.nl_core.specs.Trees.{IsTold}
+use Rattle.nl_core.specs.Trees.{CoreRuns, IsTold}
 use Rattle.nl_core.specs.declared.state.Core.{Core}
 use Rattle.nl_opening.specs.Beginning.{all_at}
 use Rattle.nl_stops.specs.Along.{GoesAlong, IsAlong, IsOfRun, opens_as, tree_at}
-use Rattle.nl_stops.specs.Laws.{CallGoesAlong, EffectGoesAlong, OpeningGoesAlong, OpensSound, SyncGoesAlong}
+use Rattle.nl_stops.specs.Laws.{CallGoesAlong, EffectGoesAlong, EndsStanding, OpeningGoesAlong, OpensSound, SyncGoesAlong}
 
 -- ---- syncs
 
@@ -158,11 +159,19 @@ module _ {M : Type 0} (g : Ghosts (Device M)) where
         inr (omega (arith, from, start), x.1, inr (opens_so m c x.2.0 x.2.1 x.2.2, x.2.3, synced_by x.2.0 x.2.1, (of_run x.2.0 x.2.1).from)))
         (l.each m c left)
 
+  runs_after : (n : ℕ) (u v : Core M) (origin : Core M) (first : ℕ) (run : Run) → Goes g n u v → GoesAlong g origin first run u → g.tells
+      → (page_of_stamp : ℕ → Option PageOfStamp) × CoreRuns g v page_of_stamp (replay run.shape run.tree run.calls)
+  runs_after n u v origin first run a w tells =
+      let k = w.runs tells in
+      let go = a.runs tells k.0 (replay run.shape run.tree run.calls) k.1 in
+      (go.pages, go.runs)
+
   pub call_goes_along : CallGoesAlong g
   call_goes_along n u v origin first run a w = record {
     shape = a.same_shape ∙ w.shape;
     from = let one = w.from in let two = a.clock in omega (arith, one, two);
     count = a.count ∙ w.count;
+    runs = runs_after n u v origin first run a w;
     trees = λ told. trees_after n u v origin first run a w told;
     stops = λ told. record {
       each = λ m c left. ⊎_elim inl (λ x. inr (x.0, x.1, ⊎_elim (λ was. was.1) (λ is. is.0) x.2)) (left_after n u v origin first run a w told m c left);
@@ -177,6 +186,7 @@ module _ {M : Type 0} (g : Ghosts (Device M)) where
     shape = a.same_shape ∙ w.shape;
     from = let one = w.from in let two = a.clock in omega (arith, one, two);
     count = a.count ∙ w.count;
+    runs = runs_after n u v origin first run a w;
     trees = λ told.
         let k = trees_after n u v origin first run a w told in
         let al : IsAlong g run v k.0 k.1 = k.2 in (
@@ -220,6 +230,11 @@ module _ {M : Type 0} (g : Ghosts (Device M)) where
     shape = e.same_shape ∙ w.shape;
     from = let one = w.from in let two = e.same_clock in omega (arith, one, two);
     count = let one = e.count in let two = w.count in let more = length-append run.calls (x ∷ []) in omega (arith, one, two, more);
+    runs = λ tells.
+        let k = w.runs tells in
+        let now : CoreRuns g v k.0 (step_marked (g.shape u.device) (replay run.shape run.tree run.calls) x).tree = e.runs tells k.0 (replay run.shape run.tree run.calls) k.1 in
+        let is = (λ i. (step_marked (w.shape i) (replay run.shape run.tree run.calls) x).tree) ∙ sym (replay_more run.shape run.tree run.calls x) in
+        (k.0, subst (λ (tree : Tree). CoreRuns g v k.0 tree) is now);
     trees = λ told.
         let k = w.trees (e.told told) in
         let al : IsAlong g run u k.0 k.1 = k.2 in (
@@ -254,8 +269,9 @@ module _ {M : Type 0} (g : Ghosts (Device M)) where
     shape = refl;
     from = omega arith;
     count = omega (arith, few);
+    runs = λ tells. let k = stands tells in (k.0, subst (λ (t : Tree). CoreRuns g v k.0 t) (sym (replay_none (g.shape v.device) tree)) k.1.runs);
     trees = λ told.
-        let k = stands told in (
+        let k = stands told.tells in (
           k.0,
           all_at v.count tree,
           record { stands = k.1; running = is; committed = first; frozen = first; synced = λ s none. absurd none },
@@ -271,6 +287,19 @@ module _ {M : Type 0} (g : Ghosts (Device M)) where
 
       first : IsOfRun run (v.count, tree)
       first = record { from = omega arith; to = omega arith; tree = is }
+
+  -- the tree after as many calls as are counted is that after all
+  after_all : (run : Run) (v : Core M) → v.count ≡ saturated (run.count + length run.calls) → v.count < 2 ^ 63 → tree_at run v.count ≡ replay run.shape run.tree run.calls
+  after_all run v count few = ap (replay run.shape run.tree) (take_all (v.count - run.count) run.calls (omega (arith, few, count)))
+
+  pub ends_standing : EndsStanding g
+  ends_standing v origin first run opens w all told =
+      let k = w.trees told in
+      let al : IsAlong g run v k.0 k.1 = k.2 in
+      let count = al.stands.committed ∙ all in
+      let tree = al.committed.tree ∙ ap (tree_at run) count ∙ after_all run v w.count told.calls in
+      subst (λ (z : Prefix). OpensAs run.shape (stored g v.device) z) (λ i. (count i, tree i))
+      (subst (λ (h : Shape). OpensAs h (stored g v.device) k.1.committed) w.shape (opens told k.0 k.1 al.stands))
 
 -- ---- images
 

@@ -2,6 +2,7 @@
 use Rattle.std.proofs.Common.{◌≡◌, ℕ, ◌+◌, Option, length, ap, arith}
 use Rattle.nl_field.specs.CrashStates.{saturated}
 use Rattle.nl_tree.specs.Replay.{step_marked}
+use Rattle.nl_tree.specs.Tree.{Tree}
 use Rattle.nl_tree.specs.declared.call.Call.{Call}
 use Rattle.nl_tree.specs.declared.reply.FaultReply.{FaultReply}
 use Rattle.nl_device.specs.declared.device.Device.{Device}
@@ -11,10 +12,10 @@ use Rattle.nl_journal.specs.Progress.{begun}
 use Rattle.nl_meta.specs.Consistent.{PageOfStamp}
 use Rattle.nl_held.specs.Trees.{Trees}
 use Rattle.nl_core.specs.Core.{IsCore}
-use Rattle.nl_core.specs.Trees.{CoreStands, IsTold}
+use Rattle.nl_core.specs.Trees.{CoreRuns, CoreStands, IsTold}
 use Rattle.nl_core.specs.declared.state.Core.{Core}
 use Rattle.nl_effect.specs.Steps.{Steps}
-use Rattle.nl_effect.proofs.Stepping.{steps_go}
+use Rattle.nl_effect.proofs.Stepping.{steps_go, steps_run}
 use Rattle.nl_stops.specs.Effects.{StepTakesEffect, counted}
 
 module _ {M : Type 0} (g : Ghosts (Device M)) (old new : Core M) (x : Call × Option FaultReply) (volume : IsVolumeShape (g.shape old.device)) (core : IsCore g old) (step : Steps g old new) where
@@ -35,6 +36,9 @@ module _ {M : Type 0} (g : Ghosts (Device M)) (old new : Core M) (x : Call × Op
   told_new : IsTold g (counted new) → IsTold g new
   told_new told = record { tells = told.tells; numbers = told.numbers; calls = let all = told.calls in omega (arith, all); moments = told.moments }
 
+  counted_runs : (page_of_stamp : ℕ → Option PageOfStamp) (tree : Tree) → CoreRuns g new page_of_stamp tree → CoreRuns g (counted new) page_of_stamp tree
+  counted_runs page_of_stamp tree at = record { runs = at.runs; shows = at.shows; given = at.given }
+
   -- the count rises
   more : IsTold g (counted new) → (page_of_stamp : ℕ → Option PageOfStamp) (t : Trees) → CoreStands g new page_of_stamp t → CoreStands g (counted new) page_of_stamp t
   more told page_of_stamp t at = record {
@@ -46,8 +50,7 @@ module _ {M : Type 0} (g : Ghosts (Device M)) (old new : Core M) (x : Call × Op
       later = at.stands.later;
       latest = let low = at.stands.latest in let few = told.calls in omega (arith, low, few);
     };
-    shows = at.shows;
-    given = at.given;
+    runs = counted_runs page_of_stamp t.running at.runs;
     committed = at.committed;
   }
 
@@ -58,8 +61,11 @@ step_takes_effect g old new x volume core step makes = record {
   left = step.reads.medium.left;
   count = ap (λ n. saturated (n + 1)) (same_count g old new x volume core step);
   told = told_old g old new x volume core step;
+  runs = λ tells page_of_stamp tree at.
+      let now = (step_marked (g.shape old.device) tree x).tree in
+      counted_runs g old new x volume core step page_of_stamp now (steps_run g old new page_of_stamp tree now tells step at (makes tells page_of_stamp tree at));
   trees = λ told page_of_stamp t at.
       more g old new x volume core step told page_of_stamp (record t { running = (step_marked (g.shape old.device) t.running x).tree })
       (steps_go g old new page_of_stamp t (step_marked (g.shape old.device) t.running x).tree volume core step (told_new g old new x volume core step told) at
-      (makes (told_old g old new x volume core step told) page_of_stamp t at));
+      (makes told.tells page_of_stamp t.running at.runs));
 }

@@ -1,5 +1,5 @@
 //! Laws of the definitions. Each function stands for the laws that its contract names.
-ghost use Rattle.nl_stops.specs.Laws.{CallGoesAlong, EffectGoesAlong, OpeningGoesAlong, OpensSound, SyncGoesAlong};
+ghost use Rattle.nl_stops.specs.Laws.{CallGoesAlong, EffectGoesAlong, EndsStanding, OpeningGoesAlong, OpensSound, SyncGoesAlong};
 ghost use Rattle.nl_stops.specs.Effects.{StepTakesEffect};
 
 use nl_device::Device;
@@ -8,12 +8,14 @@ use nl_nand::Nand;
 
 /// A volume goes along the run of its calls from its opening on: through each call of its core, through the effect of a call, and through
 /// the commit of a sync. So what a stop leaves at any moment was left before, or opens as the tree after the first calls of the run, as
-/// many as the syncs up to that moment made durable and not more than were answered; such an image is sound as that tree.
+/// many as the syncs up to that moment made durable and not more than were answered; such an image is sound as that tree. After a commit
+/// of all calls that left it firm, what is stored opens as the tree after all of them.
 pub fn stops_go_along<M: Nand>()
     ensures opening { OpeningGoesAlong ⟦<Device<M> as Counts>⟧ }
     ensures call { CallGoesAlong ⟦<Device<M> as Counts>⟧ }
     ensures effect { EffectGoesAlong ⟦<Device<M> as Counts>⟧ }
     ensures sync { SyncGoesAlong ⟦<Device<M> as Counts>⟧ }
+    ensures ends { EndsStanding ⟦<Device<M> as Counts>⟧ }
     ensures sound { OpensSound ⟦<Device<M> as Counts>⟧ }
 {}
 

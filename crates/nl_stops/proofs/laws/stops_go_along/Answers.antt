@@ -1,5 +1,5 @@
 use Rattle.nl_device.specs.contracts.counts.DeviceCounts.TheImpl.{ghosts}
-use Rattle.nl_stops.proofs.Along.{call_goes_along, effect_goes_along, opening_goes_along, opens_sound, sync_goes_along}
+use Rattle.nl_stops.proofs.Along.{call_goes_along, effect_goes_along, ends_standing, opening_goes_along, opens_sound, sync_goes_along}
 use Rattle.nl_stops.proofs.laws.stops_go_along.Goals as goal
 
 pub returns-clause-opening : goal.returns-clause-opening
@@ -13,6 +13,9 @@ returns-clause-effect g c = effect_goes_along (ghosts g.row.M g.M.Nand g.M.Nand-
 
 pub returns-clause-sync : goal.returns-clause-sync
 returns-clause-sync g c = sync_goes_along (ghosts g.row.M g.M.Nand g.M.Nand-dict)
+
+pub returns-clause-ends : goal.returns-clause-ends
+returns-clause-ends g c = ends_standing (ghosts g.row.M g.M.Nand g.M.Nand-dict)
 
 pub returns-clause-sound : goal.returns-clause-sound
 returns-clause-sound g c = opens_sound (ghosts g.row.M g.M.Nand g.M.Nand-dict)
