@@ -202,6 +202,7 @@ module _ {M : Type 0} (g : Ghosts (Device M)) (v : Core M) (worker k n size : â„
       as_many = let all = holds.as_many in let sum = length-append v.freeing.items (as_list before) in let now = items in omega (arith, all, sum, now);
       few = few;
       flight = (pages_land v.flight worker lines known).lines (k + 1);
+      fewer = Î» x has. lost.only x has;
     }
 
     pub core_after : IsCore g (with_landed w worker (k + 1))
@@ -239,5 +240,6 @@ module _ {M : Type 0} (g : Ghosts (Device M)) (v : Core M) (worker k n size : â„
       file = file_after;
       there = ran.pages.stays (page_of_node n) hand.there;
       ranges = range_after;
+      taken = taken;
       installed = installed;
     }

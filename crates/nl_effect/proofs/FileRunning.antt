@@ -131,6 +131,13 @@ module _ (shape : Shape) (page_of_stamp : ℕ → Option PageOfStamp) (n : ℕ) 
   has holds = there_again page_of_stamp (held_at n before was i) (held_at n after is i) (r.tree.pointers.there (held_at n before was i) listed)
       (ap (λ (k : ℕ). record { ino = n; generation = k; index = i }) generation) same holds
 
+-- a file of metadata that is right has its pages
+pub file_has_pages : (shape : Shape) (page_of_stamp : ℕ → Option PageOfStamp) (n : ℕ) (rec : InodeRec) (pages : VirtualMap) → RightFor shape pages page_of_stamp → IsFile shape pages n rec → HasPages pages page_of_stamp n rec
+file_has_pages shape page_of_stamp n rec pages r file = record {
+  below = λ i some. r.tree.pointers.below (held_at n pages rec i) (in_all shape pages n rec file i (inside shape pages n rec file i some) some);
+  there = λ i some. r.tree.pointers.there (held_at n pages rec i) (in_all shape pages n rec file i (inside shape pages n rec file i some) some);
+}
+
 -- ---- a pointer is installed
 
 module _ (shape : Shape) (page_of_stamp : ℕ → Option PageOfStamp) (n index : ℕ) (to : Pointer) (was is : InodeRec) (before after : VirtualMap) (s t : Spaces) (r : RightFor shape before page_of_stamp)

@@ -1,5 +1,5 @@
 -- A file changes, and so does the tree.
-use Rattle.std.proofs.Common.{◌≡◌, ⊎_elim, ℕ, List, Option, None, sym, ap, subst, ◌∙◌}
+use Rattle.std.proofs.Common.{◌≡◌, ⊎_elim, ℕ, List, Option, Some, None, option_and_then, sym, ap, subst, ◌∙◌}
 use Rattle.std.proofs.lemmas.Bool.{cases_eq, cond-true, lt-ltb}
 use Rattle.std.specs.Prelude.{nat_lt}
 use Rattle.nl_field.specs.FileContent.{FileContent}
@@ -8,8 +8,8 @@ use Rattle.nl_field.specs.declared.inode.InodeRec.{InodeRec}
 use Rattle.nl_field.specs.declared.shape.Shape.{Shape}
 use Rattle.nl_tree.specs.GraphChanges.{ChangesFile}
 use Rattle.nl_tree.specs.GraphLaws.{entry_at}
-use Rattle.nl_tree.specs.Represents.{Represents, entries_in, node_named, node_of}
-use Rattle.nl_tree.specs.Tree.{IsTree, Tree, file, with_content, with_new}
+use Rattle.nl_tree.specs.Represents.{Represents, entries_in, node_named, node_of, node_reached}
+use Rattle.nl_tree.specs.Tree.{IsTree, Tree, file, node_at, with_content, with_new}
 use Rattle.nl_tree.specs.TreeLaws.{IsInOrder}
 use Rattle.nl_tree.proofs.ChangeProofs.{graph_changes}
 use Rattle.nl_tree.proofs.TreeProofs.{tree_laws}
@@ -26,6 +26,13 @@ use Rattle.nl_effect.specs.FileTrees.{FileChanges, FileChangesTree, held_content
 file_node_is : (shape : Shape) (pages : VirtualMap) (n : ℕ) (rec : InodeRec) → IsFile shape pages n rec → (graph_of shape pages n).body ≡ body_of pages rec rec.kind
 unfolding graph_of
 file_node_is shape pages n rec is = ap (λ (o : Option InodeRec). (node_from pages o).body) (cond-true (nat_lt n shape.nodes) (inode_at pages n) None (lt-ltb n shape.nodes is.below) ∙ is.spelled)
+
+-- what the tree has where a path leads to the file
+pub file_at : (shape : Shape) (pages : VirtualMap) (page_of_stamp : ℕ → Option PageOfStamp) (n : ℕ) (rec : InodeRec) (path : List (List ℕ)) (tree : Tree) → IsFile shape pages n rec → node_reached (graph_of shape pages) 0 path ≡ Some n
+    → PagesRepresent shape pages page_of_stamp tree → node_at tree path ≡ Some (file (held_content page_of_stamp pages rec))
+file_at shape pages page_of_stamp n rec path tree is leads r =
+    r.depicts path ∙ ap (option_and_then (λ m. node_of (bytes_for page_of_stamp) (graph_of shape pages m).body)) leads
+    ∙ ap (node_of (bytes_for page_of_stamp)) (file_node_is shape pages n rec is ∙ ap (body_of pages rec) is.kind)
 
 order_content : (tree : Tree) (path : List (List ℕ)) (content : FileContent) → IsInOrder tree → IsInOrder (with_content tree path content)
 unfolding with_content with_new

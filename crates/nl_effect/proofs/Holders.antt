@@ -54,7 +54,7 @@ gained_size [] old new same = let e = ap length same in omega (arith, e)
 gained_size (x ∷ xs) old new l = let one = l.1.size in let more = gained_size xs l.0 new l.2 in omega (arith, one, more)
 
 -- one pointer in place of another
-changed_size : (tag : Tag) (p q : Pointer) (old new : List (Tag × Pointer)) → OneChanges tag p q old new → length new + length (shown tag p) ≡ length old + length (shown tag q)
+pub changed_size : (tag : Tag) (p q : Pointer) (old new : List (Tag × Pointer)) → OneChanges tag p q old new → length new + length (shown tag p) ≡ length old + length (shown tag q)
 changed_size tag p q old new c =
     let a = ap length c.was ∙ length-append (c.front ++ shown tag p) c.behind in
     let b = length-append c.front (shown tag p) in
@@ -62,11 +62,11 @@ changed_size tag p q old new c =
     let e = length-append c.front (shown tag q) in
     omega (arith, a, b, d, e)
 
-shown_size : (tag : Tag) (p : Pointer) → length (shown tag p) ≡ length (as_list p)
+pub shown_size : (tag : Tag) (p : Pointer) → length (shown tag p) ≡ length (as_list p)
 shown_size tag p = sym (length-map (shown tag p) tagged) ∙ ap length (shown_plain tag p)
 
 -- a pointer with a write sequence number is one
-stamp_some : (p : Pointer) → IsTrue (is_stamp p.stamp) → is_none_pointer p ≡ false
+pub stamp_some : (p : Pointer) → IsTrue (is_stamp p.stamp) → is_none_pointer p ≡ false
 stamp_some p is = by (is_none_pointer p) refl
   where
     by : (b : Bool) → is_none_pointer p ≡ b → b ≡ false

@@ -1,4 +1,7 @@
+pub mod Counts
+pub mod CutContents
 pub mod DirtyRoom
+pub mod FileCut
 pub mod FileInstalled
 pub mod FileRunning
 pub mod FileTrees
@@ -6,5 +9,10 @@ pub mod FilesRight
 pub mod Fits
 pub mod Holders
 pub mod Landing
+pub mod LineContents
 pub mod LineEnds
+pub mod LineGoes
+pub mod LineRoom
+pub mod LineWrites
+pub mod LineWritten
 pub mod Stepping

@@ -6,6 +6,7 @@ use Rattle.nl_device.specs.declared.device.Device.{Device}
 use Rattle.nl_flight.specs.Flight.{InFlight, IsFlight, begun, carried, of_worker, with_line}
 use Rattle.nl_iface.specs.Calls.{StoresPages}
 use Rattle.nl_iface.specs.Device.{IsVolumeShape}
+use Rattle.nl_iface.specs.Names.{Has}
 use Rattle.nl_iface.specs.declared.counts.Counts.{Ghosts}
 use Rattle.nl_meta.proofs.PageProofs.{none}
 use Rattle.nl_running.proofs.Holds.{reads-none}
@@ -32,6 +33,7 @@ module _ {M : Type 0} (g : Ghosts (Device M)) (v : Core M) (flight : List InFlig
     as_many = let n = ap length same in omega (arith, n);
     few = core.space.few;
     flight = lines;
+    fewer = λ x has. subst (λ (xs : List (Tag × Pointer)). Has xs x) same has;
   }
 
   pub other_lines : IsCore g (record v { flight = flight })

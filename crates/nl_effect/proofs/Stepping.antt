@@ -33,11 +33,20 @@ use Rattle.nl_held.proofs.DeviceTrees.{addresses_go}
 use Rattle.nl_held.proofs.Firm.{medium_keeps_firm}
 use Rattle.nl_held.proofs.Replacing.{reading_keeps_held}
 use Rattle.nl_held.proofs.Trees.{runs_alike}
-use Rattle.nl_core.specs.Core.{HasSpace, IsCore, begun_of, names_of, running_of}
-use Rattle.nl_core.specs.Trees.{CoreStands, IsTold}
+use Rattle.nl_core.specs.Core.{HasSpace, IsCore, IsPhysical, begun_of, names_of, running_of}
+use Rattle.nl_core.specs.Trees.{CoreRuns, CoreStands, IsTold}
 use Rattle.nl_core.specs.declared.state.Core.{Core}
+use Rattle.nl_core.proofs.Running.{runs_with}
 use Rattle.nl_core.proofs.Written.{has_free_on, same_running}
-use Rattle.nl_effect.specs.Steps.{IsHeldAfter, ReadAlike, ReadsAreAlike, ReadsOn, Steps, StepsAreCores, StepsGo, StepsLeave, StepsThen}
+use Rattle.nl_effect.specs.Steps.{IsHeldAfter, ReadAlike, ReadsAreAlike, ReadsOn, Steps, StepsAreCores, StepsGo, StepsLeave, StepsRun, StepsThen}
+
+pub steps_run : {M : Type 0} (g : Ghosts (Device M)) → StepsRun g
+steps_run g old new page_of_stamp was tree tells step at runs = runs_with g old new page_of_stamp was at
+    (record {
+      live = λ q page is. (q, sym (ap (λ (m : Names). m.live q) step.reads.names) ∙ is, step.reads.medium.bytes tells q);
+      stamps = let same = step.reads.medium.next_stamp in omega (arith, same);
+    })
+    tree runs
 
 module _ {M : Type 0} (g : Ghosts (Device M)) (v w : Core M) (core : IsCore g v) (volume : IsVolumeShape (g.shape v.device)) (step : Steps g v w) where
   kept : KeepsMedium g v.device w.device
@@ -85,6 +94,8 @@ module _ {M : Type 0} (g : Ghosts (Device M)) (v w : Core M) (core : IsCore g v)
       free = record { count_nodes = h.free.count_nodes; count_pool = h.free.count_pool; nodes = h.free.nodes; pool = h.free.pool };
       held = h.held;
       flight = h.flight;
+      named = λ x has. subst (λ (k : Shape). IsPhysical k x.1.name) (sym same_shape) (core.named x (h.fewer x has));
+      stamped = λ x has. core.stamped x (h.fewer x has);
       space = space_on;
       marked = marked_on;
       moment = subst (λ n. v.moment ≤ n) (sym kept.clock) core.moment;
@@ -116,8 +127,7 @@ module _ {M : Type 0} (g : Ghosts (Device M)) (v w : Core M) (core : IsCore g v)
     pub stands_after : IsTold g w → CoreStands g v page_of_stamp t → CoreStands g w page_of_stamp (record { committed = t.committed; frozen = t.frozen; running = tree })
     stands_after told at = subst (λ (x : Core M). CoreStands g x page_of_stamp (record { committed = t.committed; frozen = t.frozen; running = tree })) (sym step.others) (record {
       stands = stands_on told.tells (numbers_before (ap (λ (x : Core M). x.journal) step.others)) at.stands;
-      shows = λ p page live. at.shows p page (sym (ap (λ (m : Names). m.live p) step.reads.names) ∙ live) ∙ ap (λ bytes. Some (record { tag = page.tag; bytes = bytes })) (sym (kept.bytes told.tells p));
-      given = λ stamp page has. subst (λ n. stamp < n) (sym kept.next_stamp) (at.given stamp page has);
+      runs = subst (λ (x : Core M). CoreRuns g x page_of_stamp tree) step.others (steps_run g v w page_of_stamp t.running tree told.tells step at.runs runs);
       committed = at.committed;
     })
       where
@@ -178,6 +188,7 @@ module _ {M : Type 0} (g : Ghosts (Device M)) (v w : Core M) (volume : IsVolumeS
           as_many = omega (arith, running, fly, free_);
           few = let most = core.space.few in omega (arith, running, most);
           flight = subst IsFlight (sym flight) core.flight;
+          fewer = λ x has. subst (λ (f : List InFlight). Has (carried f) x) flight has;
         }
 
     read_core : IsCore g w

@@ -21,7 +21,7 @@ use Rattle.nl_core.specs.declared.state.Core.{Core}
 use Rattle.nl_effect.specs.Fits.{IsFileOf}
 use Rattle.nl_effect.specs.Landing.{landed}
 use Rattle.nl_effect.specs.Steps.{Steps}
-use Rattle.nl_effect.specs.Taking.{HasRoomToTake}
+use Rattle.nl_effect.specs.Taking.{HasRoomToTake, TakesPage}
 
 -- the core without the first pages of the worker's line in flight: a file has them by now
 abbrev pub with_landed : {M : Type 0} → Core M → ℕ → ℕ → Core M
@@ -59,4 +59,5 @@ pub record InstallsPage {M : Type 0} (g : Ghosts (Device M)) (n size : ℕ) (pag
   pub file : IsFileOf g new.device new.meta n is
   pub there : IsSome (page_of new.meta (page_of_node n))
   pub ranges : (i : ℕ) → HasRange (page_of old.meta) was i → HasRange (page_of new.meta) is i
+  pub taken : TakesPage n page.index page.at size was is old.meta new.meta old.nodes new.nodes
   pub installed : FileIsInstalled (g.shape old.device) n page.index page.at was is (running_of g old) (running_of g new) old.nodes new.nodes

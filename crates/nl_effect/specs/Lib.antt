@@ -5,6 +5,9 @@ pub mod Fits
 pub mod Holders
 pub mod Installing
 pub mod Landing
+pub mod LineNeeds
+pub mod Lines
 pub mod Reading
 pub mod Steps
 pub mod Taking
+pub mod Truncating

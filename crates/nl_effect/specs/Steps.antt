@@ -1,9 +1,12 @@
 -- What a step of a file call does to a core: pages of the metadata change in memory, and the device is only read.
 use Rattle.std.specs.Prelude.{◌≡◌, ℕ, ◌+◌, ◌≤◌, length, Option}
+use Rattle.nl_field.specs.declared.pointer.Pointer.{Pointer}
+use Rattle.nl_field.specs.declared.pointer.Tag.{Tag}
 use Rattle.nl_device.specs.declared.device.Device.{Device}
 use Rattle.nl_flight.specs.Flight.{IsFlight, carried}
 use Rattle.nl_iface.specs.Calls.{Leaves, OnlyReads, StoresPages}
 use Rattle.nl_iface.specs.Device.{IsVolumeShape}
+use Rattle.nl_iface.specs.Names.{Has}
 use Rattle.nl_iface.specs.declared.counts.Counts.{Ghosts}
 use Rattle.nl_meta.specs.Consistent.{PageOfStamp}
 use Rattle.nl_meta.specs.Steps.{ChangesPages}
@@ -14,7 +17,7 @@ use Rattle.nl_held.specs.Held.{IsHeldVolume}
 use Rattle.nl_held.specs.TreeLaws.{OpensFrom}
 use Rattle.nl_held.specs.Trees.{Prefix, RunsAs, Trees}
 use Rattle.nl_core.specs.Core.{HasFree, IsCore, running_of}
-use Rattle.nl_core.specs.Trees.{CoreStands, IsTold}
+use Rattle.nl_core.specs.Trees.{CoreRuns, CoreStands, IsTold}
 use Rattle.nl_core.specs.declared.state.Core.{Core}
 
 -- The device was only read, and pages of the metadata changed in memory. Of the rest at most what is free changed, what is in flight, and what
@@ -27,7 +30,7 @@ pub record Steps {M : Type 0} (g : Ghosts (Device M)) (old new : Core M) : Type 
   pub others : new ≡ record old { device = new.device; meta = new.meta; nodes = new.nodes; flight = new.flight; freeing = new.freeing }
 
 -- The metadata runs, what is free is what no node has, and as many live pages are held as before, each of them once; the files have no more
--- than they may have.
+-- than they may have, and no further page is in flight.
 pub record IsHeldAfter {M : Type 0} (g : Ghosts (Device M)) (old new : Core M) : Type 0 where
   pub runs : Runs g new.device new.meta
   pub free : HasFree g new
@@ -36,6 +39,7 @@ pub record IsHeldAfter {M : Type 0} (g : Ghosts (Device M)) (old new : Core M) :
       ≡ length (running_holders g old.device old.meta) + length (carried old.flight) + length old.freeing.items
   pub few : length (running_holders g new.device new.meta) ≤ (g.shape old.device).cap
   pub flight : IsFlight new.flight
+  pub fewer : (x : Tag × Pointer) → Has (carried new.flight) x → Has (carried old.flight) x
 
 -- Then it is a core again.
 abbrev pub StepsAreCores : {M : Type 0} → Ghosts (Device M) → Type 0
@@ -46,6 +50,12 @@ abbrev pub StepsGo : {M : Type 0} → Ghosts (Device M) → Type 0
 StepsGo {M} g =
     (old new : Core M) (page_of_stamp : ℕ → Option PageOfStamp) (t : Trees) (tree : Tree) → IsVolumeShape (g.shape old.device) → IsCore g old → Steps g old new → IsTold g new → CoreStands g old page_of_stamp t
     → RunsAs (g.shape new.device) (running_of g new) page_of_stamp tree → CoreStands g new page_of_stamp (record { committed = t.committed; frozen = t.frozen; running = tree })
+
+-- Where the medium tells its contents, it runs as any tree for which its pages stand now.
+abbrev pub StepsRun : {M : Type 0} → Ghosts (Device M) → Type 0
+StepsRun {M} g =
+    (old new : Core M) (page_of_stamp : ℕ → Option PageOfStamp) (was tree : Tree) → g.tells → Steps g old new → CoreRuns g old page_of_stamp was
+    → RunsAs (g.shape new.device) (running_of g new) page_of_stamp tree → CoreRuns g new page_of_stamp tree
 
 -- A stop within it leaves nothing that was not left before.
 abbrev pub StepsLeave : {M : Type 0} → Ghosts (Device M) → Type 0

@@ -4,7 +4,8 @@ ghost use Rattle.nl_effect.specs.FileTrees.{FileChangesTree, FileStaysRight};
 ghost use Rattle.nl_effect.specs.Fits.{FilesLead, FilesOfPool, FilesReadRun, FilesStand, FreeFilePages};
 ghost use Rattle.nl_effect.specs.Holders.{CuttingHolds, InstallingHolds};
 ghost use Rattle.nl_effect.specs.Landing.{PagesLand};
-ghost use Rattle.nl_effect.specs.Steps.{ReadsAreAlike, StepsAreCores, StepsGo, StepsLeave, StepsThen};
+ghost use Rattle.nl_effect.specs.Lines.{LinesWriteOver};
+ghost use Rattle.nl_effect.specs.Steps.{ReadsAreAlike, StepsAreCores, StepsGo, StepsLeave, StepsRun, StepsThen};
 
 use nl_device::Device;
 use nl_iface::{Counts, NamedPages};
@@ -20,6 +21,11 @@ pub fn files_change_trees()
 /// The pages of a worker's line leave the flight one after the other, as a file takes them.
 pub fn pages_land()
     ensures { PagesLand }
+{}
+
+/// The pages of a write make of a file's content what the write makes of it, and hold nothing behind its size.
+pub fn lines_write_over()
+    ensures { LinesWriteOver }
 {}
 
 /// A page in flight that a file takes is held by the file, and what the file had there awaits its free. So it is with what a cut takes away.
@@ -48,10 +54,11 @@ pub fn files_run_on<D: NamedPages>()
 {}
 
 /// A core is one again after a step that changes its metadata in memory, where each live page is held once then: it stands for the trees
-/// that are committed, and for any tree for which its pages stand. A stop within leaves what was left before. One step after the other is
-/// a step, and after reads all is as it was.
+/// that are committed, and runs as any tree for which its pages stand. A stop within leaves what was left before. One step after the other
+/// is a step, and after reads all is as it was.
 pub fn steps_go_on<M: Nand>()
     ensures cores { StepsAreCores ⟦<Device<M> as Counts>⟧ }
+    ensures runs { StepsRun ⟦<Device<M> as Counts>⟧ }
     ensures trees { StepsGo ⟦<Device<M> as Counts>⟧ }
     ensures left { StepsLeave ⟦<Device<M> as Counts>⟧ }
     ensures after { StepsThen ⟦<Device<M> as Counts>⟧ }

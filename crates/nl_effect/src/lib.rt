@@ -5,9 +5,13 @@ mod cutting;
 mod ending;
 mod installing;
 pub mod laws;
+mod lines;
 mod reading;
 mod taking;
+mod truncating;
 
 pub use ending::end_line;
 pub use installing::install_page;
-pub use reading::{list_names, look_up, open_node, prepare_file, read_file};
+pub use lines::install_line;
+pub use reading::{count_file, list_names, look_up, open_node, prepare_file, read_file};
+pub use truncating::cut_file;

@@ -5,8 +5,9 @@ ghost use Rattle.nl_meta.specs.Nodes.{graph_of};
 ghost use Rattle.nl_meta.specs.Pages.{page_of};
 ghost use Rattle.nl_running.specs.Reading.{Reads, stop_of};
 ghost use Rattle.nl_running.specs.Running.{IsDirectoryAt, IsUsed};
-ghost use Rattle.nl_files.specs.Answers.{IsLostFile, IsPageStamp, LosesFile};
+ghost use Rattle.nl_files.specs.Answers.{IfPages, IsLostCount, IsLostFile, IsPageStamp, LosesCount, LosesFile};
 ghost use Rattle.nl_files.specs.Reading.{AreBytesFrom, IsWanted, file_page};
+ghost use Rattle.nl_files.specs.Spans.{pointers_from};
 ghost use Rattle.nl_namespace.specs.Listing.{IfListed, ListsNames};
 ghost use Rattle.nl_namespace.specs.Paths.{IfAt, Looks};
 ghost use Rattle.nl_namespace.specs.Reading.{listing_stop, look_stop};
@@ -18,7 +19,7 @@ ghost use Rattle.nl_effect.specs.Steps.{ReadsOn};
 use nl_core::Core;
 use nl_device::Device;
 use nl_field::{InodeRec, PageBuf};
-use nl_files::{FileAnswer, prepare, read};
+use nl_files::{CountPages, FileAnswer, count_pages, prepare, read};
 use nl_held::laws::device_stands;
 use nl_iface::Counts;
 use nl_namespace::{Listing, Look, list, look};
@@ -135,6 +136,25 @@ pub fn read_file<M: Nand>(
 {
     device_stands(&core.device);
     let answer = read(&mut core.device, &mut core.meta, ino, rec, at, out, buf);
+    device_stands(&core.device);
+    answer
+}
+
+/// How many page indexes of a file have a pointer.
+pub fn count_file<M: Nand>(core: &mut Core<M>, rec: &InodeRec) -> CountPages
+    requires formed { ⟦<Device<M> as Counts>⟧.formed core.old.device }
+    requires core { IsCore ⟦<Device<M> as Counts>⟧ core.old }
+    requires file { (n : ℕ) × IsFileOf ⟦<Device<M> as Counts>⟧ core.old.device core.old.meta n rec.now }
+    ensures formed { ⟦<Device<M> as Counts>⟧.formed core.new.device }
+    ensures core { IsCore ⟦<Device<M> as Counts>⟧ core.new }
+    ensures same { ReadsOn ⟦<Device<M> as Counts>⟧ core.old core.new }
+    ensures count { IfPages result (λ n. n ≡ length (pointers_from (running_of ⟦<Device<M> as Counts>⟧ core.old) rec.now 0)) }
+    ensures faults { ReadsCounted ⟦<Device<M> as Counts>⟧ (result ≡ CountPages.Fault) core.old.device core.new.device }
+    ensures lost { LosesCount (IsPageStamp (⟦<Device<M> as Counts>⟧.stamps core.old.device) rec.now) result }
+    ensures told { M.tells → IsLostCount result → ⊥ }
+{
+    device_stands(&core.device);
+    let answer = count_pages(&mut core.device, &mut core.meta, rec);
     device_stands(&core.device);
     answer
 }

@@ -1,9 +1,12 @@
 use Rattle.nl_device.specs.contracts.counts.DeviceCounts.TheImpl.{ghosts}
-use Rattle.nl_effect.proofs.Stepping.{reads_are_alike, steps_are_cores, steps_go, steps_leave, steps_then}
+use Rattle.nl_effect.proofs.Stepping.{reads_are_alike, steps_are_cores, steps_go, steps_leave, steps_run, steps_then}
 use Rattle.nl_effect.proofs.laws.steps_go_on.Goals as goal
 
 pub returns-clause-cores : goal.returns-clause-cores
 returns-clause-cores g c = steps_are_cores (ghosts g.row.M g.M.Nand g.M.Nand-dict)
+
+pub returns-clause-runs : goal.returns-clause-runs
+returns-clause-runs g c = steps_run (ghosts g.row.M g.M.Nand g.M.Nand-dict)
 
 pub returns-clause-trees : goal.returns-clause-trees
 returns-clause-trees g c = steps_go (ghosts g.row.M g.M.Nand g.M.Nand-dict)
