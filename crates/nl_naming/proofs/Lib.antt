@@ -1,0 +1,10 @@
+pub mod Cores
+pub mod Dropped
+pub mod Ended
+pub mod Gathered
+pub mod Graphs
+pub mod Holders
+pub mod Named
+pub mod Settled
+pub mod Stepped
+pub mod Unused

@@ -1,0 +1,4 @@
+pub mod Dropping
+pub mod Gathering
+pub mod Naming
+pub mod Settling

@@ -1,0 +1,81 @@
+ghost use Rattle.std.specs.Prelude.{ℕ, [], IfSome, OnErr, OnOk, Some};
+ghost use Rattle.nl_core.specs.Core.{IsCore, running_of};
+ghost use Rattle.nl_effect.specs.Fits.{IsFileOf};
+ghost use Rattle.nl_files.specs.Spans.{pointers_from};
+ghost use Rattle.nl_namespace.specs.Calls.{IsOfNames};
+ghost use Rattle.nl_naming.specs.Gathering.{GathersOn, OpensNode, graph_on, node_lost, pointers_of_node};
+ghost use Rattle.nl_running.specs.Reading.{Reads, stop_of};
+ghost use Rattle.nl_running.specs.Running.{IsUsed};
+
+use crate::finding::find_lost;
+use nl_core::Core;
+use nl_device::Device;
+use nl_effect::open_node;
+use nl_field::{InodeRec, Kind};
+use nl_files::{FileAnswer, gather};
+use nl_held::laws::device_stands;
+use nl_iface::Counts;
+use nl_nand::Nand;
+use nl_running::Stop;
+use nl_tree::Call;
+
+/// Opens the node that loses its name where the call is done. Its pointers, if it is a file, stand behind those that await their free.
+pub(crate) fn gather_lost<M: Nand>(core: &mut Core<M>, call: &Call) -> Result<(), Stop>
+    requires formed { ⟦<Device<M> as Counts>⟧.formed core.old.device }
+    requires core { IsCore ⟦<Device<M> as Counts>⟧ core.old }
+    requires of_names { IsOfNames call.now }
+    ensures formed { ⟦<Device<M> as Counts>⟧.formed core.new.device }
+    ensures done { OnOk result (GathersOn ⟦<Device<M> as Counts>⟧ core.old core.new (pointers_of_node (graph_on ⟦<Device<M> as Counts>⟧ core.old) (node_lost (graph_on ⟦<Device<M> as Counts>⟧ core.old) call.now))) }
+    ensures opened { OnOk result (IfSome (node_lost (graph_on ⟦<Device<M> as Counts>⟧ core.old) call.now) (OpensNode ⟦<Device<M> as Counts>⟧ core.old core.new)) }
+    ensures stopped { OnErr result (GathersOn ⟦<Device<M> as Counts>⟧ core.old core.new []) }
+    ensures reads { Reads ⟦<Device<M> as Counts>⟧ core.old.device core.new.device (stop_of result) }
+{
+    device_stands(&core.device);
+    match find_lost(core, call) {
+        Ok(found) => match found {
+            Some(ino) => gather_node(core, ino),
+            None => Ok(()),
+        },
+        Err(stop) => Err(stop),
+    }
+}
+
+/// Makes the page of a node's record resident. The pointers of the node, if it is a file, stand behind those that await their free.
+pub(crate) fn gather_node<M: Nand>(core: &mut Core<M>, ino: u32) -> Result<(), Stop>
+    requires formed { ⟦<Device<M> as Counts>⟧.formed core.old.device }
+    requires core { IsCore ⟦<Device<M> as Counts>⟧ core.old }
+    requires used { IsUsed ⟦<Device<M> as Counts>⟧ core.old.device core.old.meta ino }
+    ensures formed { ⟦<Device<M> as Counts>⟧.formed core.new.device }
+    ensures done { OnOk result (GathersOn ⟦<Device<M> as Counts>⟧ core.old core.new (pointers_of_node (graph_on ⟦<Device<M> as Counts>⟧ core.old) (Some ino))) }
+    ensures opened { OnOk result (OpensNode ⟦<Device<M> as Counts>⟧ core.old core.new ino) }
+    ensures stopped { OnErr result (GathersOn ⟦<Device<M> as Counts>⟧ core.old core.new []) }
+    ensures reads { Reads ⟦<Device<M> as Counts>⟧ core.old.device core.new.device (stop_of result) }
+{
+    device_stands(&core.device);
+    match open_node(core, ino) {
+        Ok(rec) => match rec.kind {
+            Kind::File => gather_file(core, &rec),
+            Kind::Dir => Ok(()),
+            Kind::Unused => Ok(()),
+        },
+        Err(stop) => Err(stop),
+    }
+}
+
+// The pointers of a file stand behind those that await their free.
+pub(crate) fn gather_file<M: Nand>(core: &mut Core<M>, rec: &InodeRec) -> Result<(), Stop>
+    requires formed { ⟦<Device<M> as Counts>⟧.formed core.old.device }
+    requires core { IsCore ⟦<Device<M> as Counts>⟧ core.old }
+    requires file { (n : ℕ) × IsFileOf ⟦<Device<M> as Counts>⟧ core.old.device core.old.meta n rec.now }
+    ensures formed { ⟦<Device<M> as Counts>⟧.formed core.new.device }
+    ensures done { OnOk result (GathersOn ⟦<Device<M> as Counts>⟧ core.old core.new (pointers_from (running_of ⟦<Device<M> as Counts>⟧ core.old) rec.now 0)) }
+    ensures stopped { OnErr result (GathersOn ⟦<Device<M> as Counts>⟧ core.old core.new []) }
+    ensures reads { Reads ⟦<Device<M> as Counts>⟧ core.old.device core.new.device (stop_of result) }
+{
+    device_stands(&core.device);
+    match gather(&mut core.device, &mut core.meta, rec, 0, &mut core.freeing) {
+        FileAnswer::Done => Ok(()),
+        FileAnswer::Fault => Err(Stop::Fault),
+        FileAnswer::Lost { wanted, found } => Err(Stop::Lost { wanted, found }),
+    }
+}
