@@ -1,0 +1,4 @@
+pub mod Due
+pub mod Looking
+pub mod Pieces
+pub mod Spots

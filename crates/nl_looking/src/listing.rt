@@ -1,0 +1,66 @@
+ghost use Rattle.std.specs.Prelude.{◌≡◌, [], false};
+ghost use Rattle.nl_namespace.specs.Listing.{ListsNames};
+ghost use Rattle.nl_running.specs.Running.{IsDirectoryAt};
+ghost use Rattle.nl_tree.specs.declared.call.Call.TheVariants.{List};
+ghost use Rattle.nl_core.specs.Core.{IsCore};
+ghost use Rattle.nl_effect.specs.Steps.{ReadsOn};
+ghost use Rattle.nl_looking.specs.Due.{AnswersStep};
+ghost use Rattle.nl_looking.specs.Looking.{Ends, IfNames, IfReplied, IsPlain, brings_bytes};
+
+use crate::answer::{Looked, Spot};
+use crate::spots::find_spot;
+use nl_core::Core;
+use nl_device::Device;
+use nl_effect::list_names;
+use nl_held::laws::device_stands;
+use nl_iface::Counts;
+use nl_namespace::Listing;
+use nl_nand::Nand;
+use nl_tree::{Path, Refusal, Reply, ReplyBuf};
+
+/// The names of a directory, in order.
+pub(crate) fn list_path<M: Nand>(core: &mut Core<M>, path: &Path, out: &mut ReplyBuf) -> Looked
+    requires formed { ⟦<Device<M> as Counts>⟧.formed core.old.device }
+    requires core { IsCore ⟦<Device<M> as Counts>⟧ core.old }
+    requires nothing { out.old ≡ [] }
+    ensures formed { ⟦<Device<M> as Counts>⟧.formed core.new.device }
+    ensures core { IsCore ⟦<Device<M> as Counts>⟧ core.new }
+    ensures same { ReadsOn ⟦<Device<M> as Counts>⟧ core.old core.new }
+    ensures answer { AnswersStep ⟦<Device<M> as Counts>⟧ core.old (List path.now) out.new result }
+    ensures plain { IfReplied result IsPlain }
+    ensures out { brings_bytes result ≡ false → out.new ≡ [] }
+    ensures ends { Ends ⟦<Device<M> as Counts>⟧ core.old.device core.new.device result }
+{
+    device_stands(&core.device);
+    match find_spot(core, path) {
+        Spot::File(..) => Looked::Replied(Reply::No(Refusal::Enotdir)),
+        Spot::Dir(ino, _) => list_directory(core, ino, out),
+        Spot::No(refusal) => Looked::Replied(Reply::No(refusal)),
+        Spot::Lost { wanted, found } => Looked::Lost { wanted, found },
+        Spot::Fault => Looked::Fault,
+    }
+}
+
+fn list_directory<M: Nand>(core: &mut Core<M>, ino: u32, out: &mut ReplyBuf) -> Looked
+    requires formed { ⟦<Device<M> as Counts>⟧.formed core.old.device }
+    requires core { IsCore ⟦<Device<M> as Counts>⟧ core.old }
+    requires directory { IsDirectoryAt ⟦<Device<M> as Counts>⟧ core.old.device core.old.meta ino }
+    ensures formed { ⟦<Device<M> as Counts>⟧.formed core.new.device }
+    ensures core { IsCore ⟦<Device<M> as Counts>⟧ core.new }
+    ensures same { ReadsOn ⟦<Device<M> as Counts>⟧ core.old core.new }
+    ensures names { IfNames result (λ n. ListsNames ⟦<Device<M> as Counts>⟧ core.old.device core.old.meta ino n out.new) }
+    ensures out { brings_bytes result ≡ false → out.new ≡ [] }
+    ensures ends { Ends ⟦<Device<M> as Counts>⟧ core.old.device core.new.device result }
+{
+    match list_names(core, ino, out) {
+        Listing::Listed(count) => Looked::Replied(Reply::Names(count)),
+        Listing::Lost { wanted, found } => {
+            out.clear();
+            Looked::Lost { wanted, found }
+        }
+        Listing::Fault => {
+            out.clear();
+            Looked::Fault
+        }
+    }
+}
