@@ -1,15 +1,19 @@
--- What a core stores, and where its pages in flight lead.
-use Rattle.std.specs.Prelude.{◌≡◌, ℕ, ◌<◌, Option, Some, IsTrue}
+-- What a core stores, where its pages in flight lead, and how many pages files have.
+use Rattle.std.specs.Prelude.{◌≡◌, ℕ, ◌<◌, length, Option, Some, IsTrue}
 use Rattle.nl_field.specs.Spelling.{is_stamp}
 use Rattle.nl_field.specs.declared.pointer.Pointer.{Pointer}
 use Rattle.nl_field.specs.declared.pointer.Tag.{Tag}
+use Rattle.nl_field.specs.declared.shape.Shape.{Shape}
 use Rattle.nl_device.specs.declared.device.Device.{Device}
+use Rattle.nl_drain.specs.Handled.{SameButNames}
 use Rattle.nl_flight.specs.Flight.{carried}
 use Rattle.nl_iface.specs.Calls.{stored}
 use Rattle.nl_iface.specs.Names.{Has, led}
 use Rattle.nl_iface.specs.declared.counts.Counts.{Ghosts}
+use Rattle.nl_meta.specs.Committed.{VirtualMap}
 use Rattle.nl_meta.specs.Consistent.{PageOfStamp}
-use Rattle.nl_meta.specs.Nodes.{is_physical_name}
+use Rattle.nl_meta.specs.Nodes.{graph_of, is_physical_name}
+use Rattle.nl_meta.specs.PointerLists.{tagged_in}
 use Rattle.nl_held.specs.Trees.{OpensAs, Trees}
 use Rattle.nl_core.specs.Core.{names_of}
 use Rattle.nl_core.specs.Trees.{CoreStands, IsTold}
@@ -29,3 +33,7 @@ pub record LeadsLive {M : Type 0} (g : Ghosts (Device M)) (v : Core M) (x : Tag 
 
 abbrev pub FlightLeads : {M : Type 0} → Ghosts (Device M) → Core M → Type 0
 FlightLeads g v = (x : Tag × Pointer) → Has (carried v.flight) x → LeadsLive g v x
+
+-- Where nodes are the same but for names of pages, files have as many pages.
+abbrev pub PagesStayAsMany : Type 0
+PagesStayAsMany = (shape : Shape) (old new : VirtualMap) → SameButNames (graph_of shape old) (graph_of shape new) → length (tagged_in shape new) ≡ length (tagged_in shape old)

@@ -1,7 +1,7 @@
 //! Laws of a core between two calls. Each function stands for the laws that its contract names.
 ghost use Rattle.std.specs.Prelude.{◌≡◌};
 ghost use Rattle.nl_core.specs.Core.{IsCore};
-ghost use Rattle.nl_core.specs.Laws.{FlightLeads, StoredOpens};
+ghost use Rattle.nl_core.specs.Laws.{FlightLeads, PagesStayAsMany, StoredOpens};
 
 use crate::state::Core;
 use nl_device::Device;
@@ -28,3 +28,8 @@ pub fn flight_leads<M: Nand>(core: &Core<M>)
 {
     device_stands(&core.device);
 }
+
+/// Where nodes are the same but for names of pages, files have as many pages.
+pub fn pages_stay_as_many()
+    ensures { PagesStayAsMany }
+{}

@@ -72,7 +72,7 @@ fn only(alloc: Global, number: u64) -> Result<FailList, Fail> {
 
 fn opened(alloc: Global, media: MemNand) -> Result<Rig, Fail> {
     match open(alloc, media) {
-        Opened::Ready(core) => Ok(Rig { core }),
+        Opened::Ready(core, _) => Ok(Rig { core }),
         _ => Err(Fail::from("not opened")),
     }
 }
@@ -153,7 +153,7 @@ pub fn reopened(alloc: Global, media: MemNand, calls: u64) -> Result<Option<Diff
 pub fn is_fault(alloc: Global, media: MemNand) -> bool {
     match open(alloc, media) {
         Opened::Fault(_) => true,
-        Opened::Ready(core) => {
+        Opened::Ready(core, _) => {
             let _ = medium_of(core);
             false
         }

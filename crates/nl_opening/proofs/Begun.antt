@@ -202,6 +202,12 @@ module _ {M : Type 0} (g : Ghosts (Device M)) (s t : Device M) (seen : List Seen
       held : IsHeldVolume g t w.journal w.meta [] []
       held = opening_is_held g t w.journal w.meta w.kept.items place (g.found s) volume_t stands.journaled shut stored_runs table retains opening
 
+      pub as_many_pages : length (running_holders g t w.meta) ≡ length w.kept.items
+      as_many_pages =
+          let kept = sym (ap (λ (ps : List Pointer). length ps) pointers_are) ∙ length-map (running_holders g s w.meta) tagged in
+          let running = ap (λ (xs : List (Tag × Pointer)). length xs) runs_alike in
+          omega (arith, kept, running)
+
       space : HasSpace g (core_over t)
       space =
           let count = retains.count in

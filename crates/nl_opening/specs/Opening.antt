@@ -1,5 +1,5 @@
 -- What an opening answers.
-use Rattle.std.specs.Prelude.{◌≡◌, ◌≢◌, ℕ, ⊤, [], Some}
+use Rattle.std.specs.Prelude.{◌≡◌, ◌≢◌, ℕ, ⊤, [], length, Some}
 use Rattle.nl_field.specs.Medium.{readable_pages}
 use Rattle.nl_field.specs.Page.{Image}
 use Rattle.nl_field.specs.declared.super_page.SuperRec.{SuperRec}
@@ -11,20 +11,29 @@ use Rattle.nl_meta.specs.Committed.{committed_of}
 use Rattle.nl_meta.specs.Consistent.{Consistent}
 use Rattle.nl_meta.specs.Nodes.{super_of_pages}
 use Rattle.nl_meta.specs.Walk.{walk}
+use Rattle.nl_commit.specs.Holding.{running_holders}
 use Rattle.nl_core.specs.declared.state.Core.{Core}
 use Rattle.nl_opening.specs.Beginning.{stopped_by}
 use Rattle.nl_opening.specs.declared.opening.Opened.{Opened}
 use Rattle.nl_opening.specs.declared.opening.Opened.TheVariants.{Ready, Blank, Damaged, Fault, Memory}
 
 abbrev pub IfReady : {M : Type 0} → Opened M → (Core M → Type 0) → Type 0
-IfReady (Ready v) P = P v
+IfReady (Ready v files) P = P v
 IfReady (Blank m) P = ⊤
 IfReady (Damaged place m) P = ⊤
 IfReady (Fault m) P = ⊤
 IfReady (Memory m) P = ⊤
 
+-- it is handed out with the number of pages that its files have
+abbrev pub IfCounted : {M : Type 0} → Ghosts (Device M) → Opened M → Type 0
+IfCounted g (Ready v files) = files ≡ length (running_holders g v.device v.meta)
+IfCounted g (Blank m) = ⊤
+IfCounted g (Damaged place m) = ⊤
+IfCounted g (Fault m) = ⊤
+IfCounted g (Memory m) = ⊤
+
 abbrev pub IsFault : {M : Type 0} → Opened M → Type 0
-IsFault (Ready v) = ⊥
+IsFault (Ready v files) = ⊥
 IsFault (Blank m) = ⊥
 IsFault (Damaged place m) = ⊥
 IsFault (Fault m) = ⊤
@@ -32,7 +41,7 @@ IsFault (Memory m) = ⊥
 
 -- the medium of an answer
 abbrev pub opened_medium : {M : Type 0} → Opened M → M
-opened_medium (Ready v) = medium_of v.device
+opened_medium (Ready v files) = medium_of v.device
 opened_medium (Blank m) = m
 opened_medium (Damaged place m) = m
 opened_medium (Fault m) = m
@@ -48,7 +57,7 @@ pub record OnlyReadsMedium {M : Type 0} (tells : Type 0) (contents : M → Image
 -- What an image opens as: blank where no page is readable, and else ready with the count that its super page tells where it is consistent,
 -- or damaged at the first place at which a walk finds a fault.
 abbrev pub OpensImage : {M : Type 0} → Image → Opened M → Type 0
-OpensImage image (Ready v) = (readable_pages image ≢ []) × Consistent image × ((rec : SuperRec) × (super_of_pages (committed_of image) ≡ Some rec) × (rec.count ≡ v.count))
+OpensImage image (Ready v files) = (readable_pages image ≢ []) × Consistent image × ((rec : SuperRec) × (super_of_pages (committed_of image) ≡ Some rec) × (rec.count ≡ v.count))
 OpensImage image (Blank m) = readable_pages image ≡ []
 OpensImage image (Damaged place m) = (readable_pages image ≢ []) × (walk image ≡ Some place)
 OpensImage image (Fault m) = ⊤

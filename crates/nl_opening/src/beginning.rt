@@ -1,4 +1,5 @@
-ghost use Rattle.std.specs.Prelude.{◌≡◌, ◌≤◌, ◌*◌, []};
+ghost use Rattle.std.specs.Prelude.{◌≡◌, ◌≤◌, ◌*◌, [], length};
+ghost use Rattle.nl_commit.specs.Holding.{running_holders};
 ghost use Rattle.nl_core.specs.Core.{IsCore};
 ghost use Rattle.nl_core.specs.Trees.{CoreStands};
 ghost use Rattle.nl_field.specs.Page.{Image};
@@ -41,6 +42,7 @@ pub fn begin<M: Nand>(
     ensures formed { ⟦<Device<M> as Counts>⟧.formed result.device }
     ensures core { IsCore ⟦<Device<M> as Counts>⟧ result }
     ensures stands { M.tells → (image : Image) (tree : Tree) → IsOver ⟦<Device<M> as Counts>⟧ device walked image tree → CoreStands ⟦<Device<M> as Counts>⟧ result (page_on image) (all_at walked.count tree) }
+    ensures files { length (running_holders ⟦<Device<M> as Counts>⟧ result.device result.meta) ≡ length walked.kept.items }
     ensures begins { BeginsCore ⟦<Device<M> as Counts>⟧ device walked result }
 {
     kept_can_be_retained();

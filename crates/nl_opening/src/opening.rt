@@ -6,7 +6,7 @@ ghost use Rattle.nl_field.specs.Numbers.{ShapeBounds, is_legal, shape_for};
 ghost use Rattle.nl_flight.specs.Flight.{nothing};
 ghost use Rattle.nl_meta.specs.Consistent.{page_on};
 ghost use Rattle.nl_opening.specs.Beginning.{all_at};
-ghost use Rattle.nl_opening.specs.Opening.{IfReady, IsFault, IsOpened, OnlyReadsMedium, OpensImage, opened_medium};
+ghost use Rattle.nl_opening.specs.Opening.{IfCounted, IfReady, IsFault, IsOpened, OnlyReadsMedium, OpensImage, opened_medium};
 ghost use Rattle.nl_sound.specs.Stands.{SoundAs};
 ghost use Rattle.nl_tree.specs.Tree.{Tree};
 
@@ -26,8 +26,8 @@ use std::alloc::Global;
 /// What an opening answers.
 #[derive(Drop)]
 pub enum Opened<M: Nand> {
-    /// The volume that the medium holds.
-    Ready(Core<M>),
+    /// The volume that the medium holds, and how many pages its files have.
+    Ready(Core<M>, u32),
     /// No page is readable.
     Blank(M),
     /// The first place at fault.
@@ -39,11 +39,13 @@ pub enum Opened<M: Nand> {
 
 /// Opens the volume on a medium: one scan, the walk over its committed pages, and the pointers of its files made live, each at its place.
 /// The medium is only read. Over one that tells what it stores it is blank exactly where no page is readable, and else ready exactly where
-/// the image is consistent, or damaged at the walk's first fault; ready, it stands for the tree as which the image is sound.
+/// the image is consistent, or damaged at the walk's first fault; ready, it stands for the tree as which the image is sound. Ready, it tells
+/// how many pages its files have.
 pub fn open<M: Nand>(alloc: Global, media: M) -> Opened<M>
     ensures formed { IfReady result (λ v. ⟦<Device<M> as Counts>⟧.formed v.device) }
     ensures core { IfReady result (λ v. IsCore ⟦<Device<M> as Counts>⟧ v) }
     ensures opened { IfReady result (λ v. IsOpened ⟦<Device<M> as Counts>⟧ v) }
+    ensures files { IfCounted ⟦<Device<M> as Counts>⟧ result }
     ensures told { M.tells → OpensImage (M.contents media) result }
     ensures stands { M.tells → IfReady result (λ v. (tree : Tree) × SoundAs (M.contents media) v.count tree × CoreStands ⟦<Device<M> as Counts>⟧ v (page_on (M.contents media)) (all_at v.count tree)) }
     ensures medium { OnlyReadsMedium M.tells M.contents M.clock M.write_faults M.left media (opened_medium result) }
@@ -64,6 +66,7 @@ fn open_formed<M: Nand>(alloc: Global, media: M, shape: Shape) -> Opened<M>
     ensures formed { IfReady result (λ v. ⟦<Device<M> as Counts>⟧.formed v.device) }
     ensures core { IfReady result (λ v. IsCore ⟦<Device<M> as Counts>⟧ v) }
     ensures opened { IfReady result (λ v. IsOpened ⟦<Device<M> as Counts>⟧ v) }
+    ensures files { IfCounted ⟦<Device<M> as Counts>⟧ result }
     ensures told { M.tells → OpensImage (M.contents media) result }
     ensures stands { M.tells → IfReady result (λ v. (tree : Tree) × SoundAs (M.contents media) v.count tree × CoreStands ⟦<Device<M> as Counts>⟧ v (page_on (M.contents media)) (all_at v.count tree)) }
     ensures medium { OnlyReadsMedium M.tells M.contents M.clock M.write_faults M.left media (opened_medium result) }
@@ -82,7 +85,8 @@ fn open_formed<M: Nand>(alloc: Global, media: M, shape: Shape) -> Opened<M>
             match recover(alloc, &mut device, &shape, &scan) {
                 Recovered::Ready(walked) => match room_for(alloc, &shape) {
                     Ok(Room { flight, freeing }) => {
-                        Opened::Ready(begin(device, shape, &scan, walked, flight, freeing))
+                        let files = walked.kept.len();
+                        Opened::Ready(begin(device, shape, &scan, walked, flight, freeing), files)
                     }
                     Err(Memory) => Opened::Memory(device.into_media()),
                 },

@@ -14,7 +14,7 @@ use Rattle.nl_core.specs.declared.state.Core.{Core}
 use Rattle.nl_meta.specs.Consistent.{page_on}
 use Rattle.nl_core.specs.Trees.{CoreStands}
 use Rattle.nl_opening.specs.Beginning.{all_at, stopped_by}
-use Rattle.nl_opening.proofs.Begun.{begun_core, begun_stands, made}
+use Rattle.nl_opening.proofs.Begun.{as_many_pages, begun_core, begun_stands, made}
 use Rattle.nl_opening.proofs.OneKept.{one_kept}
 use Rattle.nl_opening.proofs.Owners.{found_is_seen}
 use Rattle.nl_opening.proofs.beginning.begin.Goals as goal
@@ -65,6 +65,20 @@ returns-clause-stands g c tells image tree over =
     (subst IsFlight c.requires.flight c.lines_stand.ensures) c.requires.freeing
     (subst (λ (h : Shape). h.pblocks * h.pages ≤ c.args.freeing.room) c.requires.shape c.requires.room)
     tells image tree over)
+
+pub returns-clause-files : goal.returns-clause-files
+returns-clause-files g c =
+    let G = ghosts g.row.M g.M.Nand g.M.Nand-dict in
+    let s = c.args.device in
+    let t = c.retain.new.self in
+    let w = c.args.walked in
+    let seen = c.args.scan.now.seen in
+    let e = c.retain.ensures in
+    as_many_pages G s t seen w c.args.freeing c.requires.can c.requires.walked c.device_stands.ensures.volume
+    (λ p page has. found_is_seen s.shape seen p page (subst (λ (k : KeptPages). Has (found_by_number k) (p, page)) c.requires.can.kept has))
+    e.medium (retained_at (kept_of s) w.kept.items) e.retained c.device_stands-2.ensures.table c.device_stands-2.ensures.names e.space.lands (one_kept t.pseg) c.device_stands-2.ensures.pages
+    (subst IsFlight c.requires.flight c.lines_stand.ensures) c.requires.freeing
+    (subst (λ (h : Shape). h.pblocks * h.pages ≤ c.args.freeing.room) c.requires.shape c.requires.room)
 
 pub returns-clause-begins : goal.returns-clause-begins
 returns-clause-begins g c =
