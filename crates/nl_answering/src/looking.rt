@@ -1,0 +1,49 @@
+ghost use Rattle.std.specs.Prelude.{◌≡◌, []};
+ghost use Rattle.nl_core.specs.Core.{IsCore};
+ghost use Rattle.nl_flight.specs.Flight.{begun, of_worker};
+ghost use Rattle.nl_looking.specs.Looking.{OnlyLooks};
+ghost use Rattle.nl_tree.specs.Calls.{IsBounded};
+ghost use Rattle.nl_answering.specs.Answering.{AnswersCall, pages_of_files};
+
+use crate::answer::{Answer, failed};
+use nl_core::Core;
+use nl_core::laws::pages_stay_as_many;
+use nl_device::Device;
+use nl_field::PageBuf;
+use nl_held::laws::device_stands;
+use nl_iface::Counts;
+use nl_looking::{Looked, look_call};
+use nl_nand::Nand;
+use nl_tree::{Call, FaultReply, Reply, ReplyBuf};
+
+// A call that only looks.
+pub(crate) fn look<M: Nand>(
+    core: &mut Core<M>,
+    worker: u8,
+    call: &Call,
+    files: u32,
+    out: &mut ReplyBuf,
+    page: &mut PageBuf,
+) -> Answer
+    requires formed { ⟦<Device<M> as Counts>⟧.formed core.old.device }
+    requires core { IsCore ⟦<Device<M> as Counts>⟧ core.old }
+    requires idle { of_worker core.old.flight worker ≡ begun 0 }
+    requires looks { OnlyLooks call.now }
+    requires bounded { IsBounded call.now }
+    requires files { files ≡ pages_of_files ⟦<Device<M> as Counts>⟧ core.old }
+    requires nothing { out.old ≡ [] }
+    ensures formed { ⟦<Device<M> as Counts>⟧.formed core.new.device }
+    ensures core { IsCore ⟦<Device<M> as Counts>⟧ core.new }
+    ensures answers { AnswersCall ⟦<Device<M> as Counts>⟧ worker call.now core.old core.new result.reply out.new result.files }
+{
+    pages_stay_as_many();
+    device_stands(&core.device);
+    let looked = look_call(core, call, out, page);
+    device_stands(&core.device);
+    let reply = match looked {
+        Looked::Replied(reply) => reply,
+        Looked::Lost { wanted, found } => Reply::Fault(FaultReply::Edamaged { wanted, found }),
+        Looked::Fault => failed(core),
+    };
+    Answer { reply, files }
+}

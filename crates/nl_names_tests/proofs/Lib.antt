@@ -1,0 +1,5 @@
+pub mod Beginning
+pub mod Blank
+pub mod Dirty
+pub mod OneFile
+pub mod Opened

@@ -1,0 +1,19 @@
+//! Names and contents of files on a volume that runs over a device, on a medium in memory.
+#![tactic(auto)]
+
+#[cfg(test)]
+mod calls;
+#[cfg(test)]
+mod contents;
+#[cfg(test)]
+mod files;
+#[cfg(test)]
+mod making;
+#[cfg(test)]
+mod names;
+#[cfg(test)]
+mod paths;
+#[cfg(test)]
+mod volume;
+#[cfg(test)]
+mod writer;

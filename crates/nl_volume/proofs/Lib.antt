@@ -1,0 +1,16 @@
+pub mod Answering
+pub mod Begins
+pub mod Causes
+pub mod Due
+pub mod Effected
+pub mod Effects
+pub mod Failing
+pub mod Few
+pub mod Flights
+pub mod Given
+pub mod Histories
+pub mod Lines
+pub mod Serving
+pub mod Staged
+pub mod Stages
+pub mod Standing

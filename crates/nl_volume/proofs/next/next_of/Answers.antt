@@ -1,0 +1,35 @@
+use Rattle.std.proofs.Common.{◌≡◌, ◌+◌, length, subst}
+use Rattle.std.specs.Int.{div_ceil}
+use Rattle.std.specs.Prelude.{IsTrue}
+use Rattle.nl_device.specs.contracts.counts.DeviceCounts.TheImpl.{ghosts}
+use Rattle.nl_tree.specs.Event.{is_whole}
+use Rattle.nl_volume.specs.Staging.{IfPage, IsNext}
+use Rattle.nl_volume.proofs.Given.{if_page, next_fill, next_write}
+use Rattle.nl_writing.proofs.Reading.{reads-none}
+use Rattle.nl_volume.proofs.next.next_of.Goals as goal
+
+pub returns-in-Write-clause-page : goal.returns-in-Write-clause-page
+returns-in-Write-clause-page g c =
+    let w = c.in-Write in
+    if_page c.next_in.result (λ tag. (tag.index ≡ div_ceil w.from 4096 + c.args.place) × IsTrue (is_whole w.from (length w.bytes) tag.index)) (IsNext c.args.call.now c.args.place)
+    (λ tag at. next_write c.args.call.now w.path w.from w.bytes c.args.place tag w.is at)
+    (subst (λ bytes. IfPage c.next_in.result (λ tag. (tag.index ≡ div_ceil w.from 4096 + c.args.place) × IsTrue (is_whole w.from (length bytes) tag.index))) c.bytes.ensures c.next_in.ensures.page)
+
+pub returns-in-Fill-clause-page : goal.returns-in-Fill-clause-page
+returns-in-Fill-clause-page g c =
+    let w = c.in-Fill in
+    if_page c.next_in-in-Fill.result (λ tag. (tag.index ≡ div_ceil w.from 4096 + c.args.place) × IsTrue (is_whole w.from w.len tag.index)) (IsNext c.args.call.now c.args.place)
+    (λ tag at. next_fill c.args.call.now w.path w.from w.len w.field-3 c.args.place tag w.is at)
+    (subst (λ len. IfPage c.next_in-in-Fill.result (λ tag. (tag.index ≡ div_ceil w.from 4096 + c.args.place) × IsTrue (is_whole w.from len tag.index))) c.from.ensures c.next_in-in-Fill.ensures.page)
+
+pub returns-in_default : goal.returns-in_default
+returns-in_default g c =
+    let G = ghosts g.row.M g.M.Nand g.M.Nand-dict in
+    record {
+      formed = c.requires.formed;
+      core = c.requires.core;
+      same = reads-none G c.args.core.now c.requires.core;
+      page = tt;
+      fault = λ no. absurd (cc no);
+      lost = λ w f no. absurd (cc no);
+    }

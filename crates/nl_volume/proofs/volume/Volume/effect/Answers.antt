@@ -1,0 +1,112 @@
+use Rattle.std.proofs.Common.{◌∙◌, ◌+◌, ◌++◌, ◌∷◌, [], sym, ap, subst}
+use Rattle.nl_device.specs.contracts.counts.DeviceCounts.TheImpl.{ghosts}
+use Rattle.nl_field.specs.CrashStates.{saturated}
+use Rattle.nl_stops.specs.Effects.{counted}
+use Rattle.nl_turns.specs.Served.{effect_entry}
+use Rattle.nl_volume.specs.Standing.{StandsFor}
+use Rattle.nl_volume.proofs.Answering.{cause_since, later, line_stands}
+use Rattle.nl_volume.proofs.Effected.{line_answers, line_less, line_ordinal, line_place, line_staged, stays_read}
+use Rattle.nl_volume.proofs.Serving.{worker_known}
+use Rattle.nl_volume.proofs.volume.Volume.effect.Goals as goal
+
+pub answer-reply-requires-clause-known : goal.answer-reply-requires-clause-known
+answer-reply-requires-clause-known g c =
+    let G = ghosts g.row.M g.M.Nand g.M.Nand-dict in
+    let r = c.requires in
+    worker_known G r.0.core r.1 r.2 c.args.self.now.core c.args.self.now.done c.args.worker c.args.line c.args.call.now r.3.0.serves r.4
+
+pub returns-clause-stands : goal.returns-clause-stands
+returns-clause-stands g c v o h s of =
+    let G = ghosts g.row.M g.M.Nand g.M.Nand-dict in
+    let r = c.requires in
+    let u = c.args.self.now.core in
+    let w = c.answer-reply.new.self.core in
+    let x = c.answer-reply.ensures.answers in
+    let a = c.saturating_add-self.ensures in
+    let b = c.saturating_add-self-2.ensures ∙ ap (λ n. saturated (n + 1)) c.answer-reply.ensures.done in
+    let k = line_stands G v.core o h u w c.args.self.now.done c.args.worker c.args.line c.args.call.now c.answer-reply.result.reply c.answer-reply.new.out c.answer-reply.result.files s.0 of x c.counts.ensures c.device_stands.ensures.volume in (
+      subst (λ n. StandsFor G v.core o (h ++ effect_entry c.args.line c.answer-reply.result.reply ∷ []) (record w { count = n }) c.saturating_add-self-2.result) (sym a)
+          (subst (λ n. StandsFor G v.core o (h ++ effect_entry c.args.line c.answer-reply.result.reply ∷ []) (counted w) n) (sym b) k),
+      x.files_are,
+    )
+
+pub returns-clause-counts : goal.returns-clause-counts
+returns-clause-counts g c =
+    let G = ghosts g.row.M g.M.Nand g.M.Nand-dict in
+    let r = c.requires in
+    let u = c.args.self.now.core in
+    let w = c.answer-reply.new.self.core in
+    let x = c.answer-reply.ensures.answers in
+    later G r.0.core r.1 r.2 u w c.args.self.now.done c.args.worker c.args.line c.args.call.now c.answer-reply.result.reply c.answer-reply.new.out c.answer-reply.result.files r.3.0 r.4 x c.counts.ensures c.device_stands.ensures.volume
+
+pub returns-clause-less : goal.returns-clause-less
+returns-clause-less g c =
+    let G = ghosts g.row.M g.M.Nand g.M.Nand-dict in
+    let r = c.requires in
+    let u = c.args.self.now.core in
+    let w = c.answer-reply.new.self.core in
+    let x = c.answer-reply.ensures.answers in
+    line_less G u w c.args.worker c.args.line c.args.call.now c.answer-reply.result.reply c.answer-reply.new.out c.answer-reply.result.files x
+
+pub returns-clause-read_only : goal.returns-clause-read_only
+returns-clause-read_only g c =
+    let G = ghosts g.row.M g.M.Nand g.M.Nand-dict in
+    let r = c.requires in
+    let u = c.args.self.now.core in
+    let w = c.answer-reply.new.self.core in
+    let x = c.answer-reply.ensures.answers in
+    stays_read G c.args.call.now u w r.3.0.serves.core c.answer-reply.result.reply x.effect
+
+pub returns-clause-staged : goal.returns-clause-staged
+returns-clause-staged g c =
+    let G = ghosts g.row.M g.M.Nand g.M.Nand-dict in
+    let r = c.requires in
+    let u = c.args.self.now.core in
+    let w = c.answer-reply.new.self.core in
+    let x = c.answer-reply.ensures.answers in
+    line_staged G u w c.args.worker c.args.line c.args.call.now c.answer-reply.result.reply c.answer-reply.new.out c.answer-reply.result.files x
+
+pub returns-clause-place : goal.returns-clause-place
+returns-clause-place g c v o h s of =
+    let G = ghosts g.row.M g.M.Nand g.M.Nand-dict in
+    let r = c.requires in
+    let u = c.args.self.now.core in
+    let w = c.answer-reply.new.self.core in
+    let x = c.answer-reply.ensures.answers in
+    c.saturating_add-self.ensures ∙ line_place G u w c.args.worker c.args.line c.args.call.now c.answer-reply.result.reply c.answer-reply.new.out c.answer-reply.result.files x v.core o h c.args.self.now.done s.0 of c.counts.ensures c.device_stands.ensures.volume
+
+pub returns-clause-ordinal : goal.returns-clause-ordinal
+returns-clause-ordinal g c v o h s of =
+    let G = ghosts g.row.M g.M.Nand g.M.Nand-dict in
+    let r = c.requires in
+    let u = c.args.self.now.core in
+    let w = c.answer-reply.new.self.core in
+    let x = c.answer-reply.ensures.answers in
+    (c.saturating_add-self-2.ensures ∙ ap (λ n. saturated (n + 1)) c.answer-reply.ensures.done) ∙ line_ordinal G u w c.args.worker c.args.line c.args.call.now c.answer-reply.result.reply c.answer-reply.new.out c.answer-reply.result.files x v.core o h c.args.self.now.done s.0 of c.counts.ensures c.device_stands.ensures.volume
+
+pub returns-clause-answer : goal.returns-clause-answer
+returns-clause-answer g c tells v o h s of =
+    let G = ghosts g.row.M g.M.Nand g.M.Nand-dict in
+    let r = c.requires in
+    let u = c.args.self.now.core in
+    let w = c.answer-reply.new.self.core in
+    let x = c.answer-reply.ensures.answers in
+    line_answers G u w c.args.worker c.args.line c.args.call.now c.answer-reply.result.reply c.answer-reply.new.out c.answer-reply.result.files x v.core o h c.args.self.now.done s.0 of c.counts.ensures c.device_stands.ensures.volume tells
+
+pub returns-clause-cause : goal.returns-clause-cause
+returns-clause-cause g c =
+    let G = ghosts g.row.M g.M.Nand g.M.Nand-dict in
+    let r = c.requires in
+    let u = c.args.self.now.core in
+    let w = c.answer-reply.new.self.core in
+    let x = c.answer-reply.ensures.answers in
+    x.due
+
+pub returns-clause-since_opening : goal.returns-clause-since_opening
+returns-clause-since_opening g c v o h s of =
+    let G = ghosts g.row.M g.M.Nand g.M.Nand-dict in
+    let r = c.requires in
+    let u = c.args.self.now.core in
+    let w = c.answer-reply.new.self.core in
+    let x = c.answer-reply.ensures.answers in
+    cause_since G v.core o h u w c.args.self.now.done c.args.worker c.args.line c.args.call.now c.answer-reply.result.reply c.answer-reply.new.out c.answer-reply.result.files s.0 of x c.counts.ensures c.device_stands.ensures.volume

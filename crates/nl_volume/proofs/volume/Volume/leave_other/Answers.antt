@@ -1,0 +1,20 @@
+use Rattle.std.proofs.Common.{◌∙◌, inl, inr, ⊎_elim, sym}
+use Rattle.nl_device.specs.contracts.counts.DeviceCounts.TheImpl.{ghosts}
+use Rattle.nl_volume.proofs.Stages.{passes_dropped, passes_none}
+use Rattle.nl_volume.proofs.volume.Volume.leave_other.Goals as goal
+
+pub returns-then-now-line-clause-passes : goal.returns-then-now-line-clause-passes
+returns-then-now-line-clause-passes g c =
+    let G = ghosts g.row.M g.M.Nand g.M.Nand-dict in
+    let u = c.args.self.now.core in
+    let e = c.drop_line.ensures in
+    passes_dropped G c.args.worker c.args.line u c.drop_line.new.self c.requires.stands.4.serves.core e.core e.formed c.counts.ensures c.requires.known c.requires.some
+    (λ same. c.if-now-line.true (c.line-now.ensures.line ∙ same)) 0 e.goes e.dropped
+
+pub returns-else-now-ne0-clause-passes : goal.returns-else-now-ne0-clause-passes
+returns-else-now-ne0-clause-passes g c =
+    let G = ghosts g.row.M g.M.Nand g.M.Nand-dict in
+    passes_none G c.args.worker c.args.line c.args.self.now.core c.requires.stands.4.serves.core
+
+pub returns-else-now-ne0-clause-line : goal.returns-else-now-ne0-clause-line
+returns-else-now-ne0-clause-line g c = ⊎_elim (λ is. inr (sym c.line-now.ensures.line ∙ is.1)) (λ none. inl (sym c.line-now.ensures.line ∙ none)) c.else-now-ne0.either

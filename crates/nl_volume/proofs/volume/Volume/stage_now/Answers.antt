@@ -1,0 +1,84 @@
+use Rattle.std.proofs.Common.{inl, refl, sym, subst, arith}
+use Rattle.nl_device.specs.contracts.counts.DeviceCounts.TheImpl.{ghosts}
+use Rattle.nl_flight.specs.Flight.{IsFlight}
+use Rattle.nl_core.specs.declared.state.Core.{Core}
+use Rattle.nl_tree.specs.declared.turn.Stage.TheVariants as stage
+use Rattle.nl_volume.specs.Staging.{StagesOn}
+use Rattle.nl_volume.proofs.Few.{few_staged}
+use Rattle.nl_volume.proofs.Flights.{faults_on}
+use Rattle.nl_volume.proofs.Stages.{keeps_line, passes_reads, passes_then, same_lines, stages_failed, stages_lost, stages_whole}
+use Rattle.nl_volume.proofs.volume.Volume.stage_now.Goals as goal
+
+pub next_of-next-requires-clause-few : goal.next_of-next-requires-clause-few
+next_of-next-requires-clause-few g c =
+    let G = ghosts g.row.M g.M.Nand g.M.Nand-dict in
+    let s = c.requires.stands in
+    let few = few_staged G s.1 c.args.self.now.core s.4.serves.core s.4.flight c.args.worker in
+    let count = c.flying-place.ensures in
+    omega (arith, few, count)
+
+pub stage_page-requires-clause-stands : goal.stage_page-requires-clause-stands
+stage_page-requires-clause-stands g c =
+    let G = ghosts g.row.M g.M.Nand g.M.Nand-dict in
+    let s = c.requires.stands in
+    let u = c.args.self.now.core in
+    let v = c.next_of-next.new.core in
+    let e = c.in-Page.ensures in
+    (s.0, s.1, s.2, s.3, (passes_reads G c.args.worker c.args.line u v s.4.serves.core c.device_stands.ensures.volume c.device_stands-2.ensures.pages e.formed c.counts.ensures e.same).on s.0 s.1 s.2 s.3 s.4, s.5)
+
+pub stage_page-requires-clause-line : goal.stage_page-requires-clause-line
+stage_page-requires-clause-line g c =
+    let G = ghosts g.row.M g.M.Nand g.M.Nand-dict in
+    let s = c.requires.stands in
+    let u = c.args.self.now.core in
+    let v = c.next_of-next.new.core in
+    let e = c.in-Page.ensures in
+    keeps_line u.flight v.flight c.args.worker c.args.line (same_lines G c.args.worker c.args.line u v s.4.serves.core c.device_stands.ensures.volume c.device_stands-2.ensures.pages e.formed c.counts.ensures e.same) c.requires.line
+
+pub returns-in-Page-clause-stages : goal.returns-in-Page-clause-stages
+returns-in-Page-clause-stages g c =
+    let G = ghosts g.row.M g.M.Nand g.M.Nand-dict in
+    let s = c.requires.stands in
+    let u = c.args.self.now.core in
+    let v = c.next_of-next.new.core in
+    let e = c.in-Page.ensures in
+    passes_then G c.args.worker c.args.line c.args.call.now u v c.stage_page.new.self.core c.stage_page.result
+    (passes_reads G c.args.worker c.args.line u v s.4.serves.core c.device_stands.ensures.volume c.device_stands-2.ensures.pages e.formed c.counts.ensures e.same) c.stage_page.ensures.stages
+
+pub returns-in-Whole-clause-stages : goal.returns-in-Whole-clause-stages
+returns-in-Whole-clause-stages g c =
+    let G = ghosts g.row.M g.M.Nand g.M.Nand-dict in
+    let s = c.requires.stands in
+    let u = c.args.self.now.core in
+    let v = c.next_of-next.new.core in
+    let e = c.in-Whole.ensures in
+    stages_whole G c.args.worker c.args.line c.args.call.now u v
+    (passes_reads G c.args.worker c.args.line u v s.4.serves.core c.device_stands.ensures.volume c.device_stands-2.ensures.pages e.formed c.counts.ensures e.same)
+
+pub returns-in-Lost-clause-stages : goal.returns-in-Lost-clause-stages
+returns-in-Lost-clause-stages g c =
+    let G = ghosts g.row.M g.M.Nand g.M.Nand-dict in
+    let s = c.requires.stands in
+    let u = c.args.self.now.core in
+    let v = c.next_of-next.new.core in
+    let e = c.in-Lost.ensures in
+    let k = e.lost c.in-Lost.wanted c.in-Lost.found refl in
+    stages_lost G c.args.worker c.args.line c.args.call.now u v
+    (passes_reads G c.args.worker c.args.line u v s.4.serves.core c.device_stands.ensures.volume c.device_stands-2.ensures.pages e.formed c.counts.ensures e.same)
+    c.in-Lost.wanted c.in-Lost.found (k.1, λ same. k.0 (sym same))
+
+pub returns-in-Fault-clause-stages : goal.returns-in-Fault-clause-stages
+returns-in-Fault-clause-stages g c =
+    let G = ghosts g.row.M g.M.Nand g.M.Nand-dict in
+    let s = c.requires.stands in
+    let u = c.args.self.now.core in
+    let v = c.next_of-next.new.core in
+    let e = c.in-Fault.ensures in
+    let noted = c.note_failure.ensures.noted in
+    let p = passes_reads G c.args.worker c.args.line u v s.4.serves.core c.device_stands.ensures.volume c.device_stands-2.ensures.pages e.formed c.counts.ensures e.same in
+    let lines = same_lines G c.args.worker c.args.line u v s.4.serves.core c.device_stands.ensures.volume c.device_stands-2.ensures.pages e.formed c.counts.ensures e.same in
+    subst (λ (x : Core g.row.M.Denot). StagesOn G c.args.worker c.args.line c.args.call.now u x stage.Fault) (sym noted)
+    (stages_failed G c.args.worker c.args.line c.args.call.now u v p
+    s.4.serves.core e.core c.device_stands-2.ensures.volume c.device_stands-2.ensures.pages c.counts.ensures c.requires.known c.requires.some
+    (keeps_line u.flight v.flight c.args.worker c.args.line lines c.requires.line) (inl (e.fault refl)) (faults_on u v lines)
+    (subst (λ (x : Core g.row.M.Denot). IsFlight x.flight) noted c.note_failure.ensures.lines))

@@ -1,0 +1,90 @@
+use Rattle.std.proofs.Common.{◌∙◌, sym, arith}
+use Rattle.nl_device.specs.contracts.counts.DeviceCounts.TheImpl.{ghosts}
+use Rattle.nl_core.proofs.Renamed.{as_many}
+use Rattle.nl_answering.proofs.Answered.{answer_after}
+use Rattle.nl_answering.proofs.Counted.{goes_counted}
+use Rattle.nl_answering.specs.Answering.{counts_of}
+use Rattle.nl_volume.specs.Serving.{refusing_of}
+use Rattle.nl_volume.proofs.Due.{due_tried, tried_may}
+use Rattle.nl_volume.proofs.Few.{few_staged}
+use Rattle.nl_volume.proofs.Lines.{staged_for}
+use Rattle.nl_volume.proofs.Serving.{none_is, runs_of}
+use Rattle.nl_volume.proofs.volume.Volume.try_line.Goals as goal
+
+pub answer_call-requires-clause-formed : goal.answer_call-requires-clause-formed
+answer_call-requires-clause-formed g c =
+    let G = ghosts g.row.M g.M.Nand g.M.Nand-dict in
+    let s = c.requires.stands in
+    let v = c.leave_other.new.self.core in
+    let t = c.leave_other.ensures.passes.on s.0 s.1 s.2 s.3 s.4 in
+    t.serves.formed
+
+pub answer_call-requires-clause-core : goal.answer_call-requires-clause-core
+answer_call-requires-clause-core g c =
+    let G = ghosts g.row.M g.M.Nand g.M.Nand-dict in
+    let s = c.requires.stands in
+    let v = c.leave_other.new.self.core in
+    let t = c.leave_other.ensures.passes.on s.0 s.1 s.2 s.3 s.4 in
+    t.serves.core
+
+pub answer_call-requires-clause-may : goal.answer_call-requires-clause-may
+answer_call-requires-clause-may g c =
+    let G = ghosts g.row.M g.M.Nand g.M.Nand-dict in
+    let s = c.requires.stands in
+    let v = c.leave_other.new.self.core in
+    let t = c.leave_other.ensures.passes.on s.0 s.1 s.2 s.3 s.4 in
+    record {
+      writes = λ changing. c.leave_other.ensures.stopped ∙ none_is c.args.self.now.core.stopped (tried_may (refusing_of G c.args.self.now.core c.args.worker c.args.line) c.args.call.now c.requires.tried changing).0;
+      stamp = λ changing. let low = (tried_may (refusing_of G c.args.self.now.core c.args.worker c.args.line) c.args.call.now c.requires.tried changing).1 in let same = c.leave_other.ensures.stamp in omega (arith, low, same);
+    }
+
+pub answer_call-requires-clause-runs : goal.answer_call-requires-clause-runs
+answer_call-requires-clause-runs g c =
+    let G = ghosts g.row.M g.M.Nand g.M.Nand-dict in
+    let s = c.requires.stands in
+    let v = c.leave_other.new.self.core in
+    let t = c.leave_other.ensures.passes.on s.0 s.1 s.2 s.3 s.4 in
+    runs_of G s.0 s.1 s.2 v v s.3 t
+
+pub answer_call-requires-clause-files : goal.answer_call-requires-clause-files
+answer_call-requires-clause-files g c =
+    let G = ghosts g.row.M g.M.Nand g.M.Nand-dict in
+    let s = c.requires.stands in
+    let v = c.leave_other.new.self.core in
+    let t = c.leave_other.ensures.passes.on s.0 s.1 s.2 s.3 s.4 in
+    c.leave_other.ensures.files ∙ (c.requires.files ∙ sym (goes_counted G _ c.args.self.now.core v c.leave_other.ensures.passes.goes as_many))
+
+pub answer_call-requires-clause-staged : goal.answer_call-requires-clause-staged
+answer_call-requires-clause-staged g c =
+    let G = ghosts g.row.M g.M.Nand g.M.Nand-dict in
+    let s = c.requires.stands in
+    let v = c.leave_other.new.self.core in
+    let t = c.leave_other.ensures.passes.on s.0 s.1 s.2 s.3 s.4 in
+    staged_for G s.1 v c.args.worker c.args.line c.args.call.now t.serves.core t.flight c.leave_other.ensures.line s.5
+
+pub answer_call-requires-clause-others : goal.answer_call-requires-clause-others
+answer_call-requires-clause-others g c =
+    let G = ghosts g.row.M g.M.Nand g.M.Nand-dict in
+    let s = c.requires.stands in
+    let v = c.leave_other.new.self.core in
+    let t = c.leave_other.ensures.passes.on s.0 s.1 s.2 s.3 s.4 in
+    few_staged G s.1 v t.serves.core t.flight
+
+pub returns-clause-answers : goal.returns-clause-answers
+returns-clause-answers g c =
+    let G = ghosts g.row.M g.M.Nand g.M.Nand-dict in
+    let u = c.args.self.now.core in
+    let v = c.leave_other.new.self.core in
+    let r = c.answer_call in
+    let p = c.leave_other.ensures.passes in
+    let x = answer_after G c.args.call.now p.most u v r.new.core p.goes c.args.worker r.result.reply r.new.out r.result.files p.others r.ensures.answers in
+    record {
+      formed = r.ensures.formed;
+      core = r.ensures.core;
+      effect = x.effect;
+      answers = x.answers;
+      due = due_tried g.M.Nand.tells (refusing_of G u c.args.worker c.args.line) (counts_of G u.device) (counts_of G r.new.core.device) c.args.call.now r.result.reply c.requires.tried x.cause;
+      synced = x.synced;
+      ended = x.line;
+      files_are = x.files_are;
+    }

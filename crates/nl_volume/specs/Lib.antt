@@ -1,0 +1,6 @@
+pub mod Effects
+pub mod Opening
+pub mod Serving
+pub mod Staging
+pub mod Standing
+pub mod Turns

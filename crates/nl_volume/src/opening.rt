@@ -1,0 +1,65 @@
+ghost use Rattle.std.specs.Prelude.{◌≡◌, [], List};
+ghost use Rattle.nl_field.specs.CrashStates.{Rose};
+ghost use Rattle.nl_opening.specs.Opening.{OnlyReadsMedium};
+ghost use Rattle.nl_sound.specs.Stands.{SoundAs};
+ghost use Rattle.nl_tree.specs.Tree.{Tree};
+ghost use Rattle.nl_tree.specs.declared.call.Line.{Line as LineOf};
+ghost use Rattle.nl_volume.specs.Standing.{EachIsLine};
+ghost use Rattle.nl_volume.specs.Opening.{IfOpened, IsFault, OpensImage, opened_medium, opening_of};
+
+use crate::volume::Volume;
+use nl_device::Device;
+use nl_field::{PageBuf, Place};
+use nl_iface::Counts;
+use nl_nand::Nand;
+use nl_opening::{Opened as Begun, open};
+use nl_turns::Kept;
+use std::alloc::Global;
+
+/// What the opening of a volume answers.
+#[derive(Drop)]
+pub enum Opened<M: Nand> {
+    Opened(Volume<M>),
+    /// No page is readable.
+    Blank(M),
+    /// The first place at fault.
+    Damaged(M, Place),
+    /// A read failed.
+    Fault(M),
+    Memory(M),
+}
+
+impl<M: Nand> Volume<M> {
+    /// Opens the volume on a medium, which is only read. Over a medium that tells what it stores it is blank exactly where no page is
+    /// readable, and else opened exactly where the image is consistent, or damaged at the walk's first fault. Opened, it stands for a run
+    /// from its count on, and from the tree as which the image is sound, with any lines that are to come.
+    pub fn open_volume(alloc: Global, media: M) -> Opened<M>
+        ensures stands { (tree : Tree) (lines : List LineOf) → EachIsLine lines → IfOpened result (λ v. (M.tells → SoundAs (M.contents media) v.core.count tree) → ⟦<Volume<M> as Kept>⟧.stands v (opening_of ⟦<Device<M> as Counts>⟧ v.core tree lines) [] v) }
+        ensures sound { M.tells → IfOpened result (λ v. (tree : Tree) × SoundAs (M.contents media) v.core.count tree) }
+        ensures told { M.tells → OpensImage (M.contents media) result }
+        ensures medium { OnlyReadsMedium M.tells M.contents M.clock M.write_faults M.left media (opened_medium result) }
+        ensures fault { IsFault result → Rose (M.read_faults media) (M.read_faults (opened_medium result)) }
+        ensures no_fault { (IsFault result → ⊥) → M.read_faults (opened_medium result) ≡ M.read_faults media }
+    {
+        let Ok(page) = PageBuf::new(alloc) else {
+            return Opened::Memory(media);
+        };
+        match open(alloc, media) {
+            Begun::Ready(core, files) => {
+                let volume = Volume {
+                    core,
+                    done: 0,
+                    files,
+                    page,
+                };
+                volume.counts();
+                let _calls = volume.calls();
+                Opened::Opened(volume)
+            }
+            Begun::Blank(media) => Opened::Blank(media),
+            Begun::Damaged(place, media) => Opened::Damaged(media, place),
+            Begun::Fault(media) => Opened::Fault(media),
+            Begun::Memory(media) => Opened::Memory(media),
+        }
+    }
+}

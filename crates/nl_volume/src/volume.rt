@@ -1,0 +1,83 @@
+ghost use Rattle.std.specs.Prelude.{◌≡◌, ◌≤◌, ◌^◌, ◌↔◌, IsTrue};
+ghost use Rattle.nl_device.specs.Medium.{medium_of};
+ghost use Rattle.nl_volume.specs.Turns.{AreCounts};
+
+use nl_core::Core;
+use nl_device::Device;
+use nl_field::PageBuf;
+use nl_iface::Counts;
+use nl_nand::Nand;
+use nl_turns::Kept;
+
+/// The write sequence number from which on a volume is worn.
+pub(crate) const WORN: u64 = 1 << 62;
+
+/// A volume: its core, how many effects it has had since its opening, at most 2^64 - 1, how many pages its files have, and a page that it
+/// works with.
+#[derive(Drop)]
+pub struct Volume<M: Nand> {
+    pub core: Core<M>,
+    pub done: u64,
+    pub files: u32,
+    pub page: PageBuf,
+}
+
+impl<M: Nand> Kept for Volume<M> {
+    ghost use Rattle.std.specs.Prelude.{◌≡◌};
+    ghost use Rattle.nl_answering.specs.Answering.{pages_of_files};
+    ghost use Rattle.nl_volume.specs.Standing.{StandsFor};
+
+    ghost stands = { λ origin o h v. StandsFor ⟦<Device<M> as Counts>⟧ origin.core o h v.core v.done × (v.files ≡ pages_of_files ⟦<Device<M> as Counts>⟧ v.core) };
+}
+
+impl<M: Nand> Volume<M> {
+    /// The count of the calls that it has answered.
+    pub fn calls(&self) -> u64
+        ensures { result ≡ self.now.core.count }
+    {
+        self.core.count
+    }
+
+    /// The Free blocks of its physical segment.
+    pub fn free_blocks(&self) -> u32
+        ensures { result ≡ (⟦<Device<M> as Counts>⟧.names self.now.core.device).space.free }
+    {
+        self.core.device.free_blocks()
+    }
+
+    /// Whether its write sequence numbers are used up: the next one has reached 2^62.
+    pub fn worn(&self) -> bool
+        ensures { IsTrue result ↔ 2 ^ 62 ≤ ⟦<Device<M> as Counts>⟧.next_stamp self.now.core.device }
+    {
+        self.core.device.next_stamp() >= WORN
+    }
+
+    /// The number of the last callback since its opening, or 0.
+    pub fn posted(&self) -> u64
+        ensures { result ≡ (⟦<Device<M> as Counts>⟧.names self.now.core.device).posted }
+    {
+        self.core.device.posted()
+    }
+
+    /// Gives the medium back as it is. Nothing is written.
+    pub fn into_media(self) -> M
+        ensures { result ≡ medium_of self.core.device }
+    {
+        let Volume {
+            core,
+            done: _,
+            files: _,
+            page: _,
+        } = self;
+        let Core { device, .. } = core;
+        device.into_media()
+    }
+
+    // Clock and count of failed writes are numbers of a `u64`.
+    pub(crate) fn counts(&self)
+        ensures { AreCounts ⟦<Device<M> as Counts>⟧ self.now.core }
+    {
+        let _clock = self.core.device.clock();
+        let _faults = self.core.device.write_faults();
+    }
+}

@@ -1,0 +1,155 @@
+ghost use Rattle.std.specs.Prelude.{◌≡◌, ◌≢◌, ◌+◌, ◌≤◌, ◌<◌, ◌*◌, ◌^◌, ℕ, true, OnErr, OnOk, length, Some};
+ghost use Rattle.nl_field.specs.Numbers.{max_bytes};
+ghost use Rattle.nl_flight.specs.Flight.{HasPlace, of_worker};
+ghost use Rattle.nl_running.specs.Reading.{stop_of};
+ghost use Rattle.nl_tree.specs.Represents.{node_reached};
+ghost use Rattle.nl_core.specs.Calls.{KeepsLines};
+ghost use Rattle.nl_core.specs.Core.{IsCore};
+ghost use Rattle.nl_core.specs.Programming.{HasLine, last_stamp};
+ghost use Rattle.nl_effect.specs.Lines.{worker_pages};
+ghost use Rattle.nl_writing.specs.Answers.{EndsEarly};
+ghost use Rattle.nl_writing.specs.Finding.{IsSomeFile, nodes_of};
+ghost use Rattle.nl_writing.specs.Lines.{AddsPage, AreOfCall, HasAll, HasIndex, PutsOn};
+ghost use Rattle.nl_writing.specs.Ranges.{IsWriting, is_written, from_of, len_of, path_of};
+
+use crate::laying::{length_of, offset_of};
+use crate::lining::has_index;
+use crate::paging::make_page;
+use nl_core::{Core, Programmed};
+use nl_device::Device;
+use nl_field::{PageBuf, Tag};
+use nl_held::laws::device_stands;
+use nl_iface::Counts;
+use nl_nand::Nand;
+use nl_running::Stop;
+use nl_tree::Call;
+
+const PAGE: u64 = 4096;
+
+/// Puts in flight for a worker's line each page of a file in which bytes of a call lie and which is not in flight yet, as the call leaves it.
+pub(crate) fn put_pages<M: Nand>(
+    core: &mut Core<M>,
+    worker: u8,
+    line: u32,
+    call: &Call,
+    ino: u32,
+    generation: u32,
+    page: &mut PageBuf,
+) -> Result<(), Stop>
+    requires formed { ⟦<Device<M> as Counts>⟧.formed core.old.device }
+    requires core { IsCore ⟦<Device<M> as Counts>⟧ core.old }
+    requires writes { core.old.stopped ≡ 0 }
+    requires stamp { ⟦<Device<M> as Counts>⟧.next_stamp core.old.device < 2 ^ 62 + 2 ^ 36 }
+    requires known { worker < 8 }
+    requires some { 0 < line }
+    requires line { HasLine core.old.flight worker line }
+    requires writing { IsWriting call.now }
+    requires few { (0 < len_of call.now) × (len_of call.now ≤ max_bytes) }
+    requires within { from_of call.now + len_of call.now ≤ 16809984 }
+    requires leads { node_reached (nodes_of ⟦<Device<M> as Counts>⟧ core.old) 0 (path_of call.now) ≡ Some ino }
+    requires file { IsSomeFile ⟦<Device<M> as Counts>⟧ core.old ino }
+    requires pages { AreOfCall ino generation call.now (worker_pages core.old worker) }
+    requires others { (w : ℕ) → length (of_worker core.old.flight w).pages ≤ 16 }
+    ensures formed { ⟦<Device<M> as Counts>⟧.formed core.new.device }
+    ensures core { IsCore ⟦<Device<M> as Counts>⟧ core.new }
+    ensures puts { PutsOn ⟦<Device<M> as Counts>⟧ (17 * 2 ^ 30) worker call.now core.old core.new }
+    ensures pages { OnOk result (AreOfCall ino generation call.now (worker_pages core.new worker) × HasAll call.now (worker_pages core.new worker)) }
+    ensures early { EndsEarly ⟦<Device<M> as Counts>⟧ core.old core.new (stop_of result) }
+{
+    let first = (offset_of(call) / PAGE) as u32;
+    let last = ((offset_of(call) + length_of(call) - 1) / PAGE) as u32;
+    'indexes: for index in first..last + 1 {
+        if core.stopped != 0 {
+            return Err(Stop::Fault);
+        }
+        let tag = Tag {
+            ino,
+            generation,
+            index,
+        };
+        match put_index(core, worker, line, call, tag, page) {
+            Ok(()) => {}
+            Err(stop) => return Err(stop),
+        }
+    }
+    Ok(())
+}
+
+// The same of the page of one index.
+fn put_index<M: Nand>(
+    core: &mut Core<M>,
+    worker: u8,
+    line: u32,
+    call: &Call,
+    tag: Tag,
+    page: &mut PageBuf,
+) -> Result<(), Stop>
+    requires formed { ⟦<Device<M> as Counts>⟧.formed core.old.device }
+    requires core { IsCore ⟦<Device<M> as Counts>⟧ core.old }
+    requires writes { core.old.stopped ≡ 0 }
+    requires stamp { ⟦<Device<M> as Counts>⟧.next_stamp core.old.device < last_stamp }
+    requires known { worker < 8 }
+    requires some { 0 < line }
+    requires line { HasLine core.old.flight worker line }
+    requires writing { IsWriting call.now }
+    requires few { len_of call.now ≤ max_bytes }
+    requires written { is_written call.now tag.index ≡ true }
+    requires within { tag.index < 4104 }
+    requires leads { node_reached (nodes_of ⟦<Device<M> as Counts>⟧ core.old) 0 (path_of call.now) ≡ Some tag.ino }
+    requires file { IsSomeFile ⟦<Device<M> as Counts>⟧ core.old tag.ino }
+    requires pages { AreOfCall tag.ino tag.generation call.now (worker_pages core.old worker) }
+    requires others { (w : ℕ) → w ≢ worker → length (of_worker core.old.flight w).pages ≤ 16 }
+    ensures formed { ⟦<Device<M> as Counts>⟧.formed core.new.device }
+    ensures core { IsCore ⟦<Device<M> as Counts>⟧ core.new }
+    ensures puts { PutsOn ⟦<Device<M> as Counts>⟧ (2 ^ 30) worker call.now core.old core.new }
+    ensures has { OnOk result (HasIndex tag.ino tag.generation worker line call.now tag.index core.old core.new) }
+    ensures early { EndsEarly ⟦<Device<M> as Counts>⟧ core.old core.new (stop_of result) }
+{
+    if has_index(&core.flight, worker, tag.index) {
+        return Ok(());
+    }
+    put_page(core, worker, line, call, tag, page)
+}
+
+// The same of a page that is not in flight.
+fn put_page<M: Nand>(
+    core: &mut Core<M>,
+    worker: u8,
+    line: u32,
+    call: &Call,
+    tag: Tag,
+    page: &mut PageBuf,
+) -> Result<(), Stop>
+    requires formed { ⟦<Device<M> as Counts>⟧.formed core.old.device }
+    requires core { IsCore ⟦<Device<M> as Counts>⟧ core.old }
+    requires writes { core.old.stopped ≡ 0 }
+    requires stamp { ⟦<Device<M> as Counts>⟧.next_stamp core.old.device < last_stamp }
+    requires known { worker < 8 }
+    requires some { 0 < line }
+    requires line { HasLine core.old.flight worker line }
+    requires place { HasPlace core.old.flight worker }
+    requires writing { IsWriting call.now }
+    requires few { len_of call.now ≤ max_bytes }
+    requires written { is_written call.now tag.index ≡ true }
+    requires within { tag.index < 4104 }
+    requires leads { node_reached (nodes_of ⟦<Device<M> as Counts>⟧ core.old) 0 (path_of call.now) ≡ Some tag.ino }
+    requires file { IsSomeFile ⟦<Device<M> as Counts>⟧ core.old tag.ino }
+    ensures formed { ⟦<Device<M> as Counts>⟧.formed core.new.device }
+    ensures core { IsCore ⟦<Device<M> as Counts>⟧ core.new }
+    ensures puts { PutsOn ⟦<Device<M> as Counts>⟧ (2 ^ 30) worker call.now core.old core.new }
+    ensures added { OnOk result (AddsPage worker line tag core.old core.new) }
+    ensures none { OnErr result (KeepsLines core.old core.new) }
+    ensures early { EndsEarly ⟦<Device<M> as Counts>⟧ core.old core.new (stop_of result) }
+{
+    let made = make_page(core, tag.ino, call, tag.index, page);
+    device_stands(&core.device);
+    match made {
+        Ok(()) => match core.program(worker, line, tag, page) {
+            Programmed::InFlight => Ok(()),
+            Programmed::Stopped => unreachable!(),
+            Programmed::Lost { wanted, found } => Err(Stop::Lost { wanted, found }),
+            Programmed::Fault => Err(Stop::Fault),
+        },
+        Err(stop) => Err(stop),
+    }
+}
