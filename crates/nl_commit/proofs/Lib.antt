@@ -3,6 +3,7 @@ pub mod Places
 pub mod Standing
 pub mod CompletingSteps
 pub mod CommittingSteps
+pub mod Paid
 pub mod HoldingOn
 pub mod PartSteps
 pub mod ReadSteps

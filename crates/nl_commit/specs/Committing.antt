@@ -11,7 +11,7 @@ use Rattle.nl_journal.specs.Left.{LeavesEither, LeavesOne, LeavesOneOf}
 use Rattle.nl_journal.specs.Progress.{HasNumber, Progress, begun, next_after}
 use Rattle.nl_journal.specs.Units.{Ends, Waits}
 use Rattle.nl_meta.specs.Pages.{IsPages, Pages, dirty_pages}
-use Rattle.nl_commit.specs.Completing.{Completes, IsDecided}
+use Rattle.nl_commit.specs.Completing.{Completes, IsDecided, NumberPaid}
 use Rattle.nl_commit.specs.Counting.{with_frozen}
 use Rattle.nl_commit.specs.Standing.{CanFreeze}
 
@@ -51,7 +51,8 @@ pub record CommitsInParts {D : Type 0} (g : Ghosts D) (done : Type 0) (earlier d
   pub second : ((done → ⊥) × (t ≡ between) × (r ≡ halfway) × (now ≡ rest) × (decided ≡ None))
       ⊎ (IsPages rest × CanFreeze (g.shape between).vaddrs halfway rest × Completes g done between halfway (with_frozen rest) t r now × IsDecided decided halfway r (dirty_pages rest) now.frozen)
 
--- What a whole commit does to the pages in memory, and its two parts.
+-- What a whole commit does to the pages in memory, its two parts, and how far the number of transactions rises.
 pub record Commits {D : Type 0} (g : Ghosts D) (done : Type 0) (earlier decided : Option ℕ) (s : D) (p : Progress) (pages : Pages) (t : D) (r : Progress) (now : Pages) : Type 0 where
   pub in_memory : CommitsPages done p r pages now
   pub parts : CommitsInParts g done earlier decided s p pages t r now
+  pub paid : NumberPaid (g.clock s) p.number (g.clock t) r.number

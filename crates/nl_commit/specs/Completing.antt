@@ -1,6 +1,6 @@
 -- A transaction is completed: its commit page is written, and its pages are copied home.
-use Rattle.std.specs.Prelude.{◌≡◌, ℕ, ◌<◌, ◌≤◌, ⊤, length, Option, Some, None}
-use Rattle.nl_field.specs.CrashStates.{Earlier, Turns}
+use Rattle.std.specs.Prelude.{◌≡◌, ℕ, ◌+◌, ◌-◌, ◌^◌, ◌<◌, ◌≤◌, ⊤, min, length, Option, Some, None}
+use Rattle.nl_field.specs.CrashStates.{Earlier, Turns, top}
 use Rattle.nl_iface.specs.Calls.{Leaves}
 use Rattle.nl_iface.specs.Names.{SameTables}
 use Rattle.nl_iface.specs.declared.counts.Counts.{Ghosts}
@@ -34,6 +34,15 @@ StaysOpen p q frozen now = IsOpen p frozen → IsOpen q now
 abbrev pub IsDecided : Option ℕ → Progress → Progress → Frozen → Frozen → Type 0
 IsDecided None p q frozen now = StaysOpen p q frozen now
 IsDecided (Some moment) p q frozen now = IsOpen p frozen × (q.number ≡ begun p (length frozen.addresses))
+
+-- the number of a transaction, up to the greatest that is spelled
+abbrev pub spelled : ℕ → ℕ
+spelled number = min number (2 ^ 63 - 1)
+
+-- A number that was this at that clock rises by no more than the clock does, while the clock stands below its end: each transaction takes a
+-- commit page that is finished.
+abbrev pub NumberPaid : ℕ → ℕ → ℕ → ℕ → Type 0
+NumberPaid clock_before before clock_now now = clock_now < top → spelled now + clock_before ≤ spelled before + clock_now
 
 -- What completing says of the metadata and of who holds pages: the units that were left of the frozen transaction were done, or some of them.
 pub record Completes {D : Type 0} (g : Ghosts D) (done : Type 0) (s : D) (p : Progress) (pages : Pages) (t : D) (q : Progress) (now : Pages) : Type 0 where

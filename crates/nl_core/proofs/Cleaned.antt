@@ -23,6 +23,7 @@ use Rattle.nl_meta.specs.Nodes.{graph_of}
 use Rattle.nl_meta.proofs.Lists.{none_some}
 use Rattle.nl_running.specs.Running.{running_on}
 use Rattle.nl_commit.specs.Standing.{StandsOn}
+use Rattle.nl_commit.proofs.Paid.{paid_same}
 use Rattle.nl_commit.proofs.Standing.{addresses_stand}
 use Rattle.nl_held.specs.DeviceLaws.{LeavesHolding}
 use Rattle.nl_held.specs.SettlingLaws.{IsTold as IsHeldTold}
@@ -184,6 +185,7 @@ module _ {M : Type 0} (g : Ghosts (Device M)) (v w : Core M) (others : w ≡ rec
     count = ap (λ (z : Core M). z.count) others;
     nodes = record { generation = λ n. ap (λ (x : Graph). (x n).generation) graph; body = λ n. ap (λ (x : Graph). nameless_body (x n).body) graph };
     numbers = subst (λ (x : Core M). begun_of v ≤ begun_of x) (sym others) (omega arith);
+    paid = paid_same (g.clock v.device) v.journal.number (g.clock w.device) w.journal.number k.clock (ap (λ (z : Core M). z.journal.number) others);
     reads = reads;
     writes = fails;
     moment = inl (ap (λ (z : Core M). z.moment) others, ap (λ (z : Core M). z.committed) others);

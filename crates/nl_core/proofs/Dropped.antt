@@ -259,6 +259,7 @@ module _ {M : Type 0} (g : Ghosts (Device M)) (v : Core M) (d : Device M) (worke
     count = refl;
     nodes = record { generation = λ n. ap (λ (x : Graph). (x n).generation) graph; body = λ n. ap (λ (x : Graph). nameless_body (x n).body) graph };
     numbers = omega arith;
+    paid = λ low. let same = b.kept.clock in omega (arith, same);
     reads = let same = b.read_faults in omega (arith, same);
     writes = let same = b.kept.write_faults in omega (arith, same);
     moment = inl (refl, refl);

@@ -1,5 +1,5 @@
 -- Calls of a core one after the other.
-use Rattle.std.proofs.Common.{◌≡◌, ◌⊎◌, inl, inr, ⊎_elim, ℕ, ◌+◌, ◌<◌, ◌≤◌, ◌^◌, Option, refl, sym, subst, ◌∙◌, arith}
+use Rattle.std.proofs.Common.{◌≡◌, ◌⊎◌, inl, inr, ⊎_elim, ℕ, ◌+◌, ◌<◌, ◌≤◌, ◌^◌, length, Option, refl, sym, subst, ◌∙◌, arith}
 use Rattle.std.proofs.lemmas.Bool.{cases_eq, cases_lt}
 use Rattle.nl_field.specs.CrashStates.{Earlier, Rose, saturated, top}
 use Rattle.nl_field.specs.Members.{Has}
@@ -9,11 +9,12 @@ use Rattle.nl_device.specs.declared.device.Device.{Device}
 use Rattle.nl_iface.specs.Calls.{Leaves}
 use Rattle.nl_iface.specs.declared.counts.Counts.{Ghosts}
 use Rattle.nl_meta.specs.Consistent.{PageOfStamp}
+use Rattle.nl_commit.proofs.Paid.{has_number, paid_then}
 use Rattle.nl_held.specs.TreeLaws.{OpensFrom}
 use Rattle.nl_held.specs.Trees.{OpensAs, Prefix, Trees, prefixes}
 use Rattle.nl_core.specs.Calls.{HasCause}
-use Rattle.nl_core.specs.Core.{IsCore}
-use Rattle.nl_core.specs.Goes.{Goes, GoesTo, RunsOnAs, Stops}
+use Rattle.nl_core.specs.Core.{IsCore, begun_of}
+use Rattle.nl_core.specs.Goes.{Goes, GoesTo, PaidSince, RunsOnAs, Stops}
 use Rattle.nl_core.specs.Trees.{CoreRuns, CoreStands, IsTold}
 use Rattle.nl_core.specs.declared.state.Core.{Core}
 use Rattle.nl_core.proofs.Running.{with_none}
@@ -143,6 +144,7 @@ module _ {M : Type 0} (g : Ghosts (Device M)) (u v w : Core M) (m n : ℕ) (a : 
     count = b.count ∙ a.count;
     nodes = record { generation = λ k. b.nodes.generation k ∙ a.nodes.generation k; body = λ k. b.nodes.body k ∙ a.nodes.body k };
     numbers = let one = a.numbers in let two = b.numbers in omega (arith, one, two);
+    paid = paid_then (g.clock u.device) u.journal.number (g.clock v.device) v.journal.number (g.clock w.device) w.journal.number b.clock a.paid b.paid;
     reads = let one = a.reads in let two = b.reads in omega (arith, one, two);
     writes = let one = a.writes in let two = b.writes in omega (arith, one, two);
     moment = moment_then b.moment a.moment;
@@ -184,6 +186,7 @@ goes_more g m n u v low a = record {
   count = a.count;
   nodes = a.nodes;
   numbers = a.numbers;
+  paid = a.paid;
   reads = a.reads;
   writes = a.writes;
   clock = a.clock;
@@ -202,6 +205,7 @@ goes_none g v core = record {
   count = refl;
   nodes = record { generation = λ n. refl; body = λ n. refl };
   numbers = omega arith;
+  paid = λ low. omega arith;
   reads = omega arith;
   writes = omega arith;
   clock = omega arith;
@@ -229,3 +233,13 @@ goes_none g v core = record {
 -- where the volume became read-only, a write failed
 pub cause_stopped : {M : Type 0} (g : Ghosts (Device M)) (failed : Type 0) (u v : Core M) (m : ℕ) → Goes g m u v → u.stopped ≡ 0 → (v.stopped ≡ 0 → ⊥) → HasCause g failed u v
 cause_stopped g failed u v m a ran off of = inr (a.stops.some ran off).0
+
+-- the number rises on
+pub paid_on : {M : Type 0} (g : Ghosts (Device M)) (clock number : ℕ) (u v : Core M) (m : ℕ) → Goes g m u v → PaidSince g clock number u → PaidSince g clock number v
+paid_on g clock number u v m a was = paid_then clock number (g.clock u.device) u.journal.number (g.clock v.device) v.journal.number a.clock was a.paid
+
+-- and has a spelling, as long as the clock leaves room
+pub number_lasts : {M : Type 0} (g : Ghosts (Device M)) (clock : ℕ) (origin v : Core M) → PaidSince g clock origin.journal.number v → g.clock v.device < top → begun_of origin + g.clock v.device + 1 < 2 ^ 63 + clock
+    → begun_of v < 2 ^ 63
+number_lasts g clock origin v paid low room =
+    has_number origin.journal (length origin.meta.frozen.addresses) clock v.journal (length v.meta.frozen.addresses) (g.clock v.device) paid low room

@@ -278,6 +278,7 @@ module _ {M : Type 0} (g : Ghosts (Device M)) (v : Core M) (d : Device M) (fligh
     count = refl;
     nodes = record { generation = λ n. ap (λ (x : Graph). (x n).generation) graph; body = λ n. ap (λ (x : Graph). nameless_body (x n).body) graph };
     numbers = omega arith;
+    paid = λ low. let later = b.counts.ticks.clock in omega (arith, later);
     reads = reads_on;
     writes = b.counts.faults.never_falls;
     moment = inl (refl, refl);

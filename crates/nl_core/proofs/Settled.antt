@@ -47,7 +47,7 @@ use Rattle.nl_held.proofs.Holding.{acknowledged_keeps_held, freed_keeps_held}
 use Rattle.std.specs.Prelude.{IfSome}
 use Rattle.nl_meta.specs.Pages.{dirty_pages}
 use Rattle.nl_commit.specs.Committing.{ChangesAt}
-use Rattle.nl_commit.specs.Completing.{IsDecided}
+use Rattle.nl_commit.specs.Completing.{IsDecided, NumberPaid}
 use Rattle.nl_held.specs.TreeLaws.{moment_of}
 use Rattle.nl_held.proofs.Freezing.{freeze_opens}
 use Rattle.nl_core.specs.Calls.{CommitsAll}
@@ -320,6 +320,8 @@ module _ {M : Type 0} (g : Ghosts (Device M)) (v w u : Core M) (answer : Virtual
       body = λ n. ap (λ (x : Graph). nameless_body (x n).body) graph_u ∙ first.nodes.body n;
     };
     numbers = subst (λ (x : Core M). begun_of v ≤ begun_of x) (sym s.others) first.numbers;
+    paid = subst (λ (x : Core M). NumberPaid (g.clock v.device) v.journal.number (g.clock u.device) x.journal.number) (sym s.others)
+        (subst (λ n. NumberPaid (g.clock v.device) v.journal.number n w.journal.number) (sym kept.clock) first.paid);
     reads = subst (λ n. g.read_faults v.device ≤ n) (sym s.read_faults) first.reads;
     writes = subst (λ n. g.write_faults v.device ≤ n) (sym kept.write_faults) first.writes;
     moment = subst (λ (x : Core M). ((x.moment ≡ v.moment) × (x.committed ≡ v.committed)) ⊎ (Earlier (g.clock v.device) x.moment × (g.clock v.device ≤ x.moment))) (sym s.others) first.moment;
@@ -358,7 +360,7 @@ module _ {M : Type 0} (g : Ghosts (Device M)) (v w u : Core M) (answer : Virtual
       graph_u = ap (λ (x : Core M). graph_of (g.shape u.device) (running_on g u.device x.meta)) s.others ∙ (addresses_stand g w.device u.device w.journal w.meta volume_w mid.journaled kept.virtual).graph
 
   -- its commit page was finished
-  decided_by : (o : Option ℕ) → b.decided ≡ o → (w.committed ≡ v.count) × Earlier (g.clock v.device) w.moment
+  decided_by : (o : Option ℕ) → b.decided ≡ o → (w.committed ≡ v.count) × Earlier (g.clock v.device) w.moment × (g.clock v.device ≤ w.moment)
   decided_by None none = absurd (⊎_elim (λ y. y.0 done)
       (λ y. shut (subst (λ (o : Option ℕ). IsDecided o b.commits.parts.halfway w.journal (dirty_pages b.commits.parts.rest) w.meta.frozen) none y.3
       (freeze_opens (g.shape b.commits.parts.between).vaddrs b.commits.parts.halfway b.commits.parts.rest y.1))) b.commits.parts.second)
@@ -366,6 +368,7 @@ module _ {M : Type 0} (g : Ghosts (Device M)) (v w u : Core M) (answer : Virtual
       let d = subst (λ (o : Option ℕ). IfSome o (ChangesAt g v.device w.device v.journal w.journal (counted_pages v) w.meta)) is b.decided_at in (
         b.committed ∙ ap (λ o. committed_count v b.earlier o) is,
         subst (λ n. Earlier (g.clock v.device) n) (sym (b.moment ∙ ap (λ o. moment_of v.moment b.earlier o) is)) d.later,
+        subst (λ n. g.clock v.device ≤ n) (sym (b.moment ∙ ap (λ o. moment_of v.moment b.earlier o) is)) d.from,
       )
 
   pub commits_all : (number : ℕ) → number ≡ next_after (begun_of v) → CommitsAll g v u number
@@ -378,6 +381,7 @@ module _ {M : Type 0} (g : Ghosts (Device M)) (v w u : Core M) (answer : Virtual
     same_nodes = ap (λ (x : Core M). x.nodes) s.others ∙ b.rest.nodes;
     committed = ap (λ (x : Core M). x.committed) s.others ∙ (decided_by b.decided refl).0;
     decided = subst (λ n. Earlier (g.clock v.device) n) (sym (ap (λ (x : Core M). x.moment) s.others)) (decided_by b.decided refl).1;
+    from = subst (λ n. g.clock v.device ≤ n) (sym (ap (λ (x : Core M). x.moment) s.others)) (decided_by b.decided refl).2;
     acknowledged = record {
       pending = λ c has.
           let one = fewer.pending c has in

@@ -302,6 +302,7 @@ module _ {M : Type 0} (g : Ghosts (Device M)) (v w : Core M) (mark number : ℕ)
     count = refl;
     nodes = b.handles.nodes;
     numbers = let same = begun_stays in omega (arith, same);
+    paid = λ low. let same = kept.clock in omega (arith, same);
     reads = reads_most;
     writes = writes_most;
     clock = let same = kept.clock in omega (arith, same);

@@ -180,6 +180,7 @@ module _ {M : Type 0} (g : Ghosts (Device M)) (v w : Core M) (answer : VirtualWr
     count = b.rest.count;
     nodes = record { generation = λ n. ap (λ (x : Graph). (x n).generation) b.stands.graph; body = λ n. ap (λ (x : Graph). nameless_body (x n).body) b.stands.graph };
     numbers = later_number g v w answer b core volume few stores writes;
+    paid = b.commits.paid;
     reads = b.faults.reads_never_fall;
     writes = b.faults.writes_never_fall;
     moment = ⊎_elim (λ same. inl (b.moment ∙ same.0, b.committed ∙ same.1))

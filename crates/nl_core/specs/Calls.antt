@@ -1,5 +1,5 @@
 -- What the calls of a core do beside what all of them keep.
-use Rattle.std.specs.Prelude.{◌≡◌, ◌≢◌, ◌⊎◌, ℕ, [], map, None}
+use Rattle.std.specs.Prelude.{◌≡◌, ◌≢◌, ◌⊎◌, ℕ, ◌≤◌, [], map, None}
 use Rattle.nl_field.specs.CrashStates.{Earlier, Rose}
 use Rattle.nl_device.specs.declared.device.Device.{Device}
 use Rattle.nl_drain.specs.Handled.{nameless_line}
@@ -36,6 +36,7 @@ pub record CommitsAll {M : Type 0} (g : Ghosts (Device M)) (old new : Core M) (n
   pub same_nodes : new.nodes ≡ old.nodes
   pub committed : new.committed ≡ old.count
   pub decided : Earlier (g.clock old.device) new.moment
+  pub from : g.clock old.device ≤ new.moment
   pub acknowledged : Acknowledged (names_of g old) (names_of g new)
   pub space : new.stopped ≡ 0 → Empties (names_of g old).space (names_of g new).space
 

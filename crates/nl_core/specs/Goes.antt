@@ -10,6 +10,7 @@ use Rattle.nl_iface.specs.declared.counts.Counts.{Ghosts}
 use Rattle.nl_journal.specs.Passes.{StampsRise}
 use Rattle.nl_meta.specs.Consistent.{PageOfStamp}
 use Rattle.nl_meta.specs.Nodes.{graph_of}
+use Rattle.nl_commit.specs.Completing.{NumberPaid}
 use Rattle.nl_held.specs.DeviceLaws.{Extends}
 use Rattle.nl_held.specs.TreeLaws.{OpensFrom}
 use Rattle.nl_held.specs.Trees.{Prefix, Trees, prefixes}
@@ -43,15 +44,21 @@ pub record Stops {M : Type 0} (g : Ghosts (Device M)) (old new : Core M) : Type 
       → Rose (g.write_faults old.device) (g.write_faults new.device)
       × (Rose (g.read_faults old.device + g.write_faults old.device) new.stopped × (new.stopped ≤ saturated (g.read_faults new.device + g.write_faults new.device)))
 
+-- Since this clock, when the number of the last transaction was this one, it has risen by no more than the clock.
+abbrev pub PaidSince : {M : Type 0} → Ghosts (Device M) → ℕ → ℕ → Core M → Type 0
+PaidSince g clock number v = NumberPaid clock number (g.clock v.device) v.journal.number
+
 -- It is the volume that it was, but for what a call does beside: the same calls were answered, and nodes have other names of pages at most.
--- Numbers and counts do not fall, and what is committed changes with a commit page that was finished since. Where the medium tells its contents,
--- it runs on as the tree as which it ran. Where counts have not ended either, it goes on to stand for the trees for which it stood, and what a
--- stop leaves opens as one of them, from the moment of the last commit page on as none earlier than what that one committed.
+-- Numbers and counts do not fall, and the number of the last transaction rises by no more than the clock does. What is committed changes with a
+-- commit page that was finished since. Where the medium tells its contents, it runs on as the tree as which it ran. Where counts have not ended
+-- either, it goes on to stand for the trees for which it stood, and what a stop leaves opens as one of them, from the moment of the last commit
+-- page on as none earlier than what that one committed.
 pub record Goes {M : Type 0} (g : Ghosts (Device M)) (most : ℕ) (old new : Core M) : Type 0 where
   pub same_shape : g.shape new.device ≡ g.shape old.device
   pub count : new.count ≡ old.count
   pub nodes : SameButNames (graph_of (g.shape old.device) (running_of g old)) (graph_of (g.shape new.device) (running_of g new))
   pub numbers : begun_of old ≤ begun_of new
+  pub paid : PaidSince g (g.clock old.device) old.journal.number new
   pub reads : g.read_faults old.device ≤ g.read_faults new.device
   pub writes : g.write_faults old.device ≤ g.write_faults new.device
   pub clock : g.clock old.device ≤ g.clock new.device

@@ -23,6 +23,7 @@ use Rattle.nl_held.specs.Trees.{OpensAs, Prefix, Trees, prefixes}
 use Rattle.nl_core.specs.Goes.{Goes}
 use Rattle.nl_core.specs.Trees.{CoreRuns, IsTold}
 use Rattle.nl_core.specs.declared.state.Core.{Core}
+use Rattle.nl_core.proofs.Onward.{paid_on}
 use Rattle.nl_opening.specs.Beginning.{all_at}
 use Rattle.nl_stops.specs.Along.{GoesAlong, IsAlong, IsOfRun, opens_as, tree_at}
 use Rattle.nl_stops.specs.Laws.{CallGoesAlong, EffectGoesAlong, EndsStanding, OpeningGoesAlong, OpensSound, SyncGoesAlong}
@@ -171,6 +172,7 @@ module _ {M : Type 0} (g : Ghosts (Device M)) where
     shape = a.same_shape ∙ w.shape;
     from = let one = w.from in let two = a.clock in omega (arith, one, two);
     count = a.count ∙ w.count;
+    paid = paid_on g first origin.journal.number u v n a w.paid;
     runs = runs_after n u v origin first run a w;
     trees = λ told. trees_after n u v origin first run a w told;
     stops = λ told. record {
@@ -186,6 +188,7 @@ module _ {M : Type 0} (g : Ghosts (Device M)) where
     shape = a.same_shape ∙ w.shape;
     from = let one = w.from in let two = a.clock in omega (arith, one, two);
     count = a.count ∙ w.count;
+    paid = paid_on g first origin.journal.number u v n a w.paid;
     runs = runs_after n u v origin first run a w;
     trees = λ told.
         let k = trees_after n u v origin first run a w told in
@@ -230,6 +233,7 @@ module _ {M : Type 0} (g : Ghosts (Device M)) where
     shape = e.same_shape ∙ w.shape;
     from = let one = w.from in let two = e.same_clock in omega (arith, one, two);
     count = let one = e.count in let two = w.count in let more = length-append run.calls (x ∷ []) in omega (arith, one, two, more);
+    paid = λ low. let clock = e.same_clock in let number = e.same_number in let one = w.paid (omega (arith, low, clock)) in omega (arith, one, clock, number);
     runs = λ tells.
         let k = w.runs tells in
         let now : CoreRuns g v k.0 (step_marked (g.shape u.device) (replay run.shape run.tree run.calls) x).tree = e.runs tells k.0 (replay run.shape run.tree run.calls) k.1 in
@@ -269,6 +273,7 @@ module _ {M : Type 0} (g : Ghosts (Device M)) where
     shape = refl;
     from = omega arith;
     count = omega (arith, few);
+    paid = λ low. omega arith;
     runs = λ tells. let k = stands tells in (k.0, subst (λ (t : Tree). CoreRuns g v k.0 t) (sym (replay_none (g.shape v.device) tree)) k.1.runs);
     trees = λ told.
         let k = stands told.tells in (

@@ -22,13 +22,16 @@ module _ {M : Type 0} (g : Ghosts (Device M)) (old new : Core M) (x : Call × Op
   same_count : new.count ≡ old.count
   same_count = ap (λ (v : Core M). v.count) step.others
 
-  same_number : begun new.journal (length new.meta.frozen.addresses) ≡ begun old.journal (length old.meta.frozen.addresses)
-  same_number = λ i. begun (ap (λ (v : Core M). v.journal) step.others i) (length (step.pages.same_frozen i).addresses)
+  same_begun : begun new.journal (length new.meta.frozen.addresses) ≡ begun old.journal (length old.meta.frozen.addresses)
+  same_begun = λ i. begun (ap (λ (v : Core M). v.journal) step.others i) (length (step.pages.same_frozen i).addresses)
+
+  number_stays : new.journal.number ≡ old.journal.number
+  number_stays = ap (λ (v : Core M). v.journal.number) step.others
 
   told_old : IsTold g (counted new) → IsTold g old
   told_old told = record {
     tells = told.tells;
-    numbers = let all = told.numbers in let same = same_number in omega (arith, all, same);
+    numbers = let all = told.numbers in let same = same_begun in omega (arith, all, same);
     calls = let all = told.calls in let same = same_count in omega (arith, all, same);
     moments = let all = told.moments in let same = step.reads.medium.clock in omega (arith, all, same);
   }
@@ -58,6 +61,7 @@ pub step_takes_effect : {M : Type 0} (g : Ghosts (Device M)) → StepTakesEffect
 step_takes_effect g old new x volume core step makes = record {
   same_shape = step.reads.medium.virtual.same_shape;
   same_clock = step.reads.medium.clock;
+  same_number = number_stays g old new x volume core step;
   left = step.reads.medium.left;
   count = ap (λ n. saturated (n + 1)) (same_count g old new x volume core step);
   told = told_old g old new x volume core step;

@@ -11,6 +11,7 @@ use Rattle.nl_iface.specs.declared.counts.Counts.{Ghosts}
 use Rattle.nl_meta.specs.Consistent.{PageOfStamp}
 use Rattle.nl_sound.specs.Crash.{Run, StopsSafely}
 use Rattle.nl_held.specs.Trees.{OpensAs, Prefix, Trees}
+use Rattle.nl_core.specs.Goes.{PaidSince}
 use Rattle.nl_core.specs.Trees.{CoreRuns, CoreStands, IsTold}
 use Rattle.nl_core.specs.declared.state.Core.{Core}
 
@@ -37,12 +38,13 @@ pub record IsAlong {M : Type 0} (g : Ghosts (Device M)) (run : Run) (v : Core M)
   pub synced : (s : SyncPoint) → Has run.syncs s → s.upto ≤ t.committed.0
 
 -- The volume has answered the calls of the run since its first moment, when it was this one, the origin: what a stop had left before is no part of
--- the run. While the medium tells its contents, it runs as the tree after all of them. While counts have not ended either, it goes along the run,
--- and so does what a stop leaves.
+-- the run. The number of its transactions has risen by no more than the clock since. While the medium tells its contents, it runs as the tree
+-- after all of the calls. While counts have not ended either, it goes along the run, and so does what a stop leaves.
 pub record GoesAlong {M : Type 0} (g : Ghosts (Device M)) (origin : Core M) (first : ℕ) (run : Run) (v : Core M) : Type 0 where
   pub shape : g.shape v.device ≡ run.shape
   pub from : first ≤ g.clock v.device
   pub count : v.count ≡ saturated (run.count + length run.calls)
+  pub paid : PaidSince g first origin.journal.number v
   pub runs : g.tells → (page_of_stamp : ℕ → Option PageOfStamp) × CoreRuns g v page_of_stamp (replay run.shape run.tree run.calls)
   pub trees : IsTold g v → (page_of_stamp : ℕ → Option PageOfStamp) × (t : Trees) × IsAlong g run v page_of_stamp t
   pub stops : IsTold g v → StopsSafely (opens_as g run.shape) (λ m c. g.left origin.device m c) (λ m c. g.left v.device m c) first (g.clock v.device) run

@@ -38,6 +38,7 @@ CallGoesAlong {M} g = (n : ℕ) (u v : Core M) (origin : Core M) (first : ℕ) (
 pub record TakesEffect {M : Type 0} (g : Ghosts (Device M)) (u v : Core M) (x : Call × Option FaultReply) : Type 0 where
   pub same_shape : g.shape v.device ≡ g.shape u.device
   pub same_clock : g.clock v.device ≡ g.clock u.device
+  pub same_number : v.journal.number ≡ u.journal.number
   pub left : g.tells → (m : ℕ) (c : g.Crash) → g.left v.device m c → g.left u.device m c
   pub count : v.count ≡ saturated (u.count + 1)
   pub told : IsTold g v → IsTold g u

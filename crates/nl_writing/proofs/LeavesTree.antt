@@ -10,6 +10,7 @@ use Rattle.nl_iface.specs.declared.counts.Counts.{Ghosts}
 use Rattle.nl_journal.specs.Progress.{begun}
 use Rattle.nl_meta.specs.Consistent.{PageOfStamp}
 use Rattle.nl_meta.specs.Nodes.{graph_of}
+use Rattle.nl_commit.proofs.Paid.{paid_same}
 use Rattle.nl_held.specs.Trees.{RunsAs}
 use Rattle.nl_core.specs.Core.{IsCore, begun_of, running_of}
 use Rattle.nl_core.specs.Goes.{Goes}
@@ -38,6 +39,7 @@ module _ {M : Type 0} (g : Ghosts (Device M)) (v w : Core M) (core : IsCore g v)
         count = ap (λ (x : Core M). x.count) step.others;
         nodes = record { generation = λ n. ap (λ (x : Graph). (x n).generation) graph; body = λ n. ap (λ (x : Graph). nameless_body (x n).body) graph };
         numbers = let same = same_begun in omega (arith, same);
+        paid = paid_same (g.clock v.device) v.journal.number (g.clock w.device) w.journal.number (omega (arith, clock)) (ap (λ (x : Core M). x.journal.number) step.others);
         reads = step.read_faults;
         writes = omega (arith, writes);
         clock = omega (arith, clock);

@@ -1,6 +1,6 @@
 -- A page that is put in flight for a call that writes.
-use Rattle.std.proofs.Common.{◌≡◌, ◌≢◌, ◌⊎◌, inl, inr, ℕ, suc, ◌+◌, ◌-◌, ◌/◌, ◌<◌, ◌≤◌, ◌^◌, true, false, List, [], ◌∷◌, ◌++◌, length, map, sum_by, Some, refl, sym, ap, subst, ◌∙◌, arith}
-use Rattle.std.proofs.lemmas.Bool.{and_parts, cases_eq, cases_lt, leb-true}
+use Rattle.std.proofs.Common.{◌≡◌, ◌≢◌, ◌⊎◌, inl, inr, ℕ, suc, ◌+◌, ◌-◌, ◌*◌, ◌/◌, ◌<◌, ◌≤◌, ◌^◌, true, false, List, [], ◌∷◌, ◌++◌, length, map, sum_by, Some, refl, sym, ap, subst, ◌∙◌, arith}
+use Rattle.std.proofs.lemmas.Bool.{and_from, and_parts, cases_eq, cases_lt, leb-true, lt-ltb}
 use Rattle.std.proofs.lemmas.List.{length-map}
 use Rattle.std.proofs.lemmas.List.FromFn.{length-range_with_len}
 use Rattle.std.proofs.lemmas.List.Sums.{sum_by-cons}
@@ -25,7 +25,7 @@ use Rattle.nl_sound.proofs.Counts.{no_longer}
 use Rattle.nl_core.specs.Calls.{KeepsLines}
 use Rattle.nl_core.specs.Core.{IsCore}
 use Rattle.nl_core.specs.Goes.{Goes}
-use Rattle.nl_core.specs.Programming.{HasLine, PutsInFlight, with_page}
+use Rattle.nl_core.specs.Programming.{HasLine, PutsInFlight, last_stamp, with_page}
 use Rattle.nl_core.specs.declared.state.Core.{Core}
 use Rattle.nl_core.proofs.Onward.{goes_more, goes_none, goes_then}
 use Rattle.nl_effect.specs.Lines.{indexes_of, worker_pages}
@@ -62,6 +62,11 @@ pub puts_more : {M : Type 0} (g : Ghosts (Device M)) (m k worker : ℕ) (call : 
 puts_more g m k worker call u v few a = record { goes = goes_more g m k u v few a.goes; written = a.written; others = a.others }
 
 -- ---- one page
+
+-- where pages were only read, the volume still takes one
+pub not_stopped : {M : Type 0} (g : Ghosts (Device M)) (u v : Core M) → ReadsOn g u v → u.stopped ≡ 0 → g.next_stamp u.device < last_stamp → (v.stopped ≢ 0) ⊎ (last_stamp ≤ g.next_stamp v.device) → ⊥
+not_stopped {M = M} g u v reads none low (inl off) = off (ap (λ (x : Core M). x.stopped) reads.others ∙ none)
+not_stopped g u v reads none low (inr high) = let same = reads.runs.reads.medium.next_stamp in omega (arith, high, same, low)
 
 module _ {M : Type 0} (g : Ghosts (Device M)) (u v : Core M) (core : IsCore g u) (volume : IsVolumeShape (g.shape v.device)) (stores : g.tells → StoresPages g v.device) (reads : ReadsOn g u v) where
   pub reads_first : Goes g 0 u v
@@ -174,6 +179,10 @@ none_extra (x ∷ flight) few =
     let here = few 0 in
     let rest = none_extra flight (λ w. few (suc w)) in
     omega (arith, s, here, rest)
+
+pub in_range : (call : Call) (i : ℕ) → 0 < len_of call → from_of call / 4096 ≤ i → i < (from_of call + len_of call - 1) / 4096 + 1 → is_written call i ≡ true
+in_range call i some low high =
+    and_from _ _ (and_from _ _ (lt-ltb 0 (len_of call) some) (lt-ltb (4096 * i) (from_of call + len_of call) (omega (arith, some, low, high)))) (lt-ltb (from_of call) (4096 * i + 4096) (omega (arith, low)))
 
 -- of the pages of a call, each at an index of its own, there are no more than it touches
 pub index_in_range : (call : Call) (i : ℕ) → is_written call i ≡ true → (from_of call / 4096 ≤ i) × (i < from_of call / 4096 + ((from_of call + len_of call - 1) / 4096 + 1 - from_of call / 4096))

@@ -7,8 +7,9 @@ use Rattle.nl_iface.specs.Calls.{Leaves}
 use Rattle.nl_meta.specs.Pages.{Frozen, Pages, dirty_pages, none_frozen}
 use Rattle.nl_journal.specs.Committing.{committed_on, finished_on}
 use Rattle.nl_journal.specs.Left.{FinishWrites, LeavesEither, LeavesOne}
-use Rattle.nl_journal.specs.Progress.{HasNumber, begun, raised}
+use Rattle.nl_journal.specs.Progress.{HasNumber, IsPhase, begun, raised}
 use Rattle.nl_journal.specs.Units.{Finishes}
+use Rattle.nl_journal.specs.declared.answers.Phase.{Phase}
 use Rattle.nl_journal.proofs.CommitSteps.{begun_header, begun_none, commit_failed, commit_then, dirty_writes, unraised}
 use Rattle.nl_journal.proofs.FinishSteps.{all_finished}
 use Rattle.nl_journal.proofs.Passing.{none_failed, passes_most, passes_then}
@@ -18,6 +19,7 @@ use Rattle.nl_commit.specs.Counting.{record_of, with_count, with_frozen}
 use Rattle.nl_commit.specs.Standing.{IsJournaled, StandsOn}
 use Rattle.nl_field.specs.SuperPage.{super_bytes}
 use Rattle.nl_commit.proofs.CommittingSteps.{changes_stops, done_later, earlier_by, earlier_stops, first_is_dirty, frozen_none, if_some, is_decided_by, stopped_stops}
+use Rattle.nl_commit.proofs.Paid.{paid_then, part_paid}
 use Rattle.nl_commit.proofs.PartSteps.{stands_frozen}
 use Rattle.nl_commit.proofs.Standing.{changes_can_freeze, stands_then, super_page_stands}
 use Rattle.nl_commit.proofs.committing.commit.Goals as goal
@@ -137,6 +139,11 @@ returns-in-Done-clause-commits g c =
           is_decided_by G m t q r (with_frozen mid) now.frozen c.commit_changes-rest.result.decided f.decided,
         );
       };
+      paid = paid_then (G.clock s) p.number (G.clock m) q.number (G.clock t) r.number f.clock
+          (part_paid G s m p q c.store_count.new.meta mid.frozen e.clock (subst (λ (n : Pages). IsPhase p.phase (length n.frozen.addresses)) (sym is) c.requires.journaled.order.phase)
+          e.finishes.number e.finishes.begun_stays c.complete-first.result.decided e.decided)
+          (part_paid G m t q r (with_frozen mid) now.frozen f.clock (subst (λ (x : Phase). IsPhase x (length mid.dirty)) (sym ends.0) tt)
+          f.finishes.number f.finishes.begun_stays c.commit_changes-rest.result.decided f.decided);
     }
 
 pub returns-in-Done-clause-earlier : goal.returns-in-Done-clause-earlier
@@ -298,6 +305,8 @@ returns-in_default g c =
           first_decided = subst (λ (n : Pages). IsDecided c.complete-first.result.decided p q n.frozen mid.frozen) is (is_decided_by G s m p q c.store_count.new.meta mid.frozen c.complete-first.result.decided e.decided);
           second = inl (off, refl, refl, refl, refl);
         };
+        paid = part_paid G s m p q c.store_count.new.meta mid.frozen e.clock (subst (λ (n : Pages). IsPhase p.phase (length n.frozen.addresses)) (sym is) c.requires.journaled.order.phase)
+            e.finishes.number e.finishes.begun_stays c.complete-first.result.decided e.decided;
       };
       earlier = if_some (StaysOpen p q c.store_count.new.meta.frozen mid.frozen) (DecidesAt G s m p q c.store_count.new.meta) (EarlierAt G s m p q pages mid) c.complete-first.result.decided e.decided (λ at d. record {
         later = d.later;

@@ -2,7 +2,7 @@ use Rattle.std.proofs.Common.{Some, refl}
 use Rattle.nl_device.specs.contracts.counts.DeviceCounts.TheImpl.{ghosts}
 use Rattle.nl_running.specs.declared.answer.Stop.TheVariants as stop
 use Rattle.nl_writing.proofs.Early.{early-then}
-use Rattle.nl_writing.proofs.OnePage.{puts_no_page, puts_page, puts_read}
+use Rattle.nl_writing.proofs.OnePage.{not_stopped, puts_no_page, puts_page, puts_read}
 use Rattle.nl_writing.proofs.putting.put_page.Goals as goal
 
 pub returns-in-InFlight-clause-puts : goal.returns-in-InFlight-clause-puts
@@ -32,3 +32,8 @@ pub returns-in-Err-clause-puts : goal.returns-in-Err-clause-puts
 returns-in-Err-clause-puts g c =
     let G = ghosts g.row.M g.M.Nand g.M.Nand-dict in
     puts_read G c.args.core.now c.make_page-made.new.core c.requires.core c.device_stands.ensures.volume c.device_stands.ensures.pages c.make_page-made.ensures.same c.args.worker c.args.call.now
+
+pub unreachable-requires : goal.unreachable-requires
+unreachable-requires g c =
+    let G = ghosts g.row.M g.M.Nand g.M.Nand-dict in
+    not_stopped G c.args.core.now c.make_page-made.new.core c.make_page-made.ensures.same c.requires.writes c.requires.stamp (c.program.ensures.stopped.0 c.in-Stopped.is)

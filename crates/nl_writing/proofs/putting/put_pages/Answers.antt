@@ -3,8 +3,16 @@ use Rattle.nl_device.specs.contracts.counts.DeviceCounts.TheImpl.{ghosts}
 use Rattle.nl_writing.specs.Ranges.{from_of, len_of, path_of}
 use Rattle.nl_writing.proofs.Early.{within-early}
 use Rattle.nl_writing.proofs.Going.{file_on, leads_on}
-use Rattle.nl_writing.proofs.OnePage.{few_left, few_turns, flying_more, index_in_range, others_few, puts_more, puts_then}
+use Rattle.nl_writing.proofs.OnePage.{few_left, few_turns, flying_more, in_range, index_in_range, others_few, puts_more, puts_then}
 use Rattle.nl_writing.proofs.putting.put_pages.Goals as goal
+
+pub put_index-requires-clause-written : goal.put_index-requires-clause-written
+put_index-requires-clause-written g c =
+    let from = c.requires.within in
+    let test = c.indexes-test.true in
+    let offset = c.offset_of-2.ensures in
+    let len = c.length_of.ensures in
+    in_range c.args.call.now c.indexes.index c.requires.few.0 c.indexes.invariant.from (omega (arith, from, test, offset, len))
 
 pub put_index-requires-clause-leads : goal.put_index-requires-clause-leads
 put_index-requires-clause-leads g c =
