@@ -32,6 +32,7 @@ pub fn make<M: Nand>(alloc: Global, media: M, blocks: u32, pages: u32) -> Made<M
     ensures fault { IsFault result → Rose (M.write_faults media) (M.write_faults (made_medium result)) }
     ensures no_fault { (IsFault result → ⊥) → M.write_faults (made_medium result) ≡ M.write_faults media }
     ensures memory { IfMemory result (λ m. Unchanged M.geometry M.contents M.left media m) }
+    ensures clock { IfMemory result (λ m. M.clock m ≡ M.clock media) }
     ensures left { M.tells → (m : ℕ) (c : Image) → M.left (made_medium result) m c → M.left media m c ⊎ OpensAsNew c }
     ensures read_faults { M.read_faults (made_medium result) ≡ M.read_faults media }
 {

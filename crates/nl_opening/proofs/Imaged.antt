@@ -1,6 +1,7 @@
 -- An opening over a medium that tells what it stores: what the walk says of its image.
-use Rattle.std.proofs.Common.{◌≡◌, ℕ, ◌<◌, ◌∙◌, true, Some, None, option_map, sym, ap, subst, IsTrue}
+use Rattle.std.proofs.Common.{◌≡◌, ℕ, ◌<◌, ◌∙◌, length, true, Some, None, option_map, sym, ap, subst, IsTrue}
 use Rattle.std.specs.List.{list_all}
+use Rattle.std.specs.Prelude.{map as map_of}
 use Rattle.nl_field.specs.Medium.{shape_of_image}
 use Rattle.nl_field.specs.Page.{Image, is_image}
 use Rattle.nl_field.specs.ScanList.{seen_in}
@@ -8,13 +9,15 @@ use Rattle.nl_field.specs.Virtual.{map_bytes, newest}
 use Rattle.nl_field.specs.declared.shape.Shape.{Shape}
 use Rattle.nl_field.specs.declared.super_page.SuperRec.{SuperRec}
 use Rattle.nl_tree.specs.Tree.{Tree}
+use Rattle.nl_device.specs.Kept.{kept_of_scan}
+use Rattle.nl_device.specs.Retain.{kept_of, moved_among}
 use Rattle.nl_device.specs.declared.device.Device.{Device}
 use Rattle.nl_iface.specs.Calls.{OnlyReads, stored}
 use Rattle.nl_iface.specs.Stored.{NoneFailed, Value, stored_in, value_on}
 use Rattle.nl_iface.specs.declared.counts.Counts.{Ghosts}
 use Rattle.nl_meta.specs.Committed.{committed, committed_of}
 use Rattle.nl_meta.specs.Consistent.{Consistent}
-use Rattle.nl_meta.specs.Nodes.{super_of_pages}
+use Rattle.nl_meta.specs.Nodes.{Held, committed_pointers, held_in, super_of_pages}
 use Rattle.nl_meta.specs.Walk.{walk, walk_over}
 use Rattle.nl_meta.proofs.Lists.{some_in}
 use Rattle.nl_meta.proofs.WalkProofs.{walk_is_consistency}
@@ -26,7 +29,9 @@ use Rattle.nl_recover.specs.Recovering.{IsWalked}
 use Rattle.nl_recover.specs.declared.opening.Walked.{Walked}
 use Rattle.nl_recover.proofs.Imaged.{walks_the_image}
 use Rattle.nl_opening.specs.Beginning.{IsOver}
+use Rattle.nl_opening.specs.Figures.{pairs_of}
 use Rattle.nl_opening.proofs.Agreeing.{all_agree}
+use Rattle.nl_opening.proofs.Pairs.{pairs_are}
 
 module _ {M : Type 0} (g : Ghosts (Device M)) (s d : Device M) (image : Image) (t : Table) (tells : g.tells) (is : g.shape s ≡ shape_of_image image)
     (map : (v : ℕ) → v < (g.shape s).vaddrs → g.map s v ≡ option_map value_on (newest image v)) (listed : t.seen ≡ seen_in image) where
@@ -57,6 +62,16 @@ module _ {M : Type 0} (g : Ghosts (Device M)) (s d : Device M) (image : Image) (
     -- the count of calls that the super page of the image tells
     pub counted : (rec : SuperRec) × (super_of_pages (committed_of image) ≡ Some rec) × (rec.count ≡ w.count)
     counted = let c = walked.count in (c.0, ap super_of_pages (sym runs) ∙ c.1, c.2)
+
+    -- the pointers of files are those of the image
+    pub kept_are : w.kept.items ≡ map_of (λ (h : Held). h.pointer) (committed_pointers image)
+    kept_are = walked.kept ∙ (λ i. map_of (λ (h : Held). h.pointer) (held_in ((same_shape ∙ is) i) (runs i)))
+
+    -- and as many of them have places that are not their names
+    pub pairs : kept_of d ≡ kept_of_scan (g.shape d) t.seen → length (moved_among (kept_of d) w.kept.items) ≡ pairs_of image
+    pairs kept =
+        (λ i. length (moved_among ((kept ∙ (λ k. kept_of_scan ((same_shape ∙ is) k) (listed k))) i) (kept_are i)))
+        ∙ pairs_are image
 
     -- the tree as which the image is sound
     pub sound : IsTrue (is_image image) → walk image ≡ None → (tree : Tree) × SoundAs image w.count tree

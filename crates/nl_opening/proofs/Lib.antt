@@ -2,8 +2,12 @@ pub mod Agreeing
 pub mod Begun
 pub mod CanOpen
 pub mod Imaged
+pub mod NextNumber
 pub mod OneKept
 pub mod OnlyRead
 pub mod Opens
 pub mod Owners
+pub mod Pairs
+pub mod Readable
+pub mod SeenWear
 pub mod Shown

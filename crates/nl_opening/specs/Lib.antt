@@ -1,2 +1,4 @@
 pub mod Beginning
+pub mod Figures
+pub mod Laws
 pub mod Opening

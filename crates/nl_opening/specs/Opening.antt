@@ -18,7 +18,7 @@ use Rattle.nl_opening.specs.declared.opening.Opened.{Opened}
 use Rattle.nl_opening.specs.declared.opening.Opened.TheVariants.{Ready, Blank, Damaged, Fault, Memory}
 
 abbrev pub IfReady : {M : Type 0} → Opened M → (Core M → Type 0) → Type 0
-IfReady (Ready v files) P = P v
+IfReady (Ready v figures) P = P v
 IfReady (Blank m) P = ⊤
 IfReady (Damaged place m) P = ⊤
 IfReady (Fault m) P = ⊤
@@ -26,14 +26,14 @@ IfReady (Memory m) P = ⊤
 
 -- it is handed out with the number of pages that its files have
 abbrev pub IfCounted : {M : Type 0} → Ghosts (Device M) → Opened M → Type 0
-IfCounted g (Ready v files) = files ≡ length (running_holders g v.device v.meta)
+IfCounted g (Ready v figures) = figures.files ≡ length (running_holders g v.device v.meta)
 IfCounted g (Blank m) = ⊤
 IfCounted g (Damaged place m) = ⊤
 IfCounted g (Fault m) = ⊤
 IfCounted g (Memory m) = ⊤
 
 abbrev pub IsFault : {M : Type 0} → Opened M → Type 0
-IsFault (Ready v files) = ⊥
+IsFault (Ready v figures) = ⊥
 IsFault (Blank m) = ⊥
 IsFault (Damaged place m) = ⊥
 IsFault (Fault m) = ⊤
@@ -41,7 +41,7 @@ IsFault (Memory m) = ⊥
 
 -- the medium of an answer
 abbrev pub opened_medium : {M : Type 0} → Opened M → M
-opened_medium (Ready v files) = medium_of v.device
+opened_medium (Ready v figures) = medium_of v.device
 opened_medium (Blank m) = m
 opened_medium (Damaged place m) = m
 opened_medium (Fault m) = m
@@ -57,7 +57,7 @@ pub record OnlyReadsMedium {M : Type 0} (tells : Type 0) (contents : M → Image
 -- What an image opens as: blank where no page is readable, and else ready with the count that its super page tells where it is consistent,
 -- or damaged at the first place at which a walk finds a fault.
 abbrev pub OpensImage : {M : Type 0} → Image → Opened M → Type 0
-OpensImage image (Ready v files) = (readable_pages image ≢ []) × Consistent image × ((rec : SuperRec) × (super_of_pages (committed_of image) ≡ Some rec) × (rec.count ≡ v.count))
+OpensImage image (Ready v figures) = (readable_pages image ≢ []) × Consistent image × ((rec : SuperRec) × (super_of_pages (committed_of image) ≡ Some rec) × (rec.count ≡ v.count))
 OpensImage image (Blank m) = readable_pages image ≡ []
 OpensImage image (Damaged place m) = (readable_pages image ≢ []) × (walk image ≡ Some place)
 OpensImage image (Fault m) = ⊤

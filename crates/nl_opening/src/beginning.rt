@@ -2,6 +2,7 @@ ghost use Rattle.std.specs.Prelude.{◌≡◌, ◌≤◌, ◌*◌, [], length};
 ghost use Rattle.nl_commit.specs.Holding.{running_holders};
 ghost use Rattle.nl_core.specs.Core.{IsCore};
 ghost use Rattle.nl_core.specs.Trees.{CoreStands};
+ghost use Rattle.nl_device.specs.Retain.{kept_of, moved_among};
 ghost use Rattle.nl_field.specs.Page.{Image};
 ghost use Rattle.nl_meta.specs.Consistent.{page_on};
 ghost use Rattle.nl_tree.specs.Tree.{Tree};
@@ -22,8 +23,8 @@ use nl_recover::laws::kept_can_be_retained;
 use nl_scan::ScanTables;
 
 /// Begins a core over a device that was started and walked: exactly the pointers of its files are live, each at its place, and nothing is in
-/// flight or awaits its free. Over an image that is sound as a tree it stands for that tree. It is read-only where the count of failed writes
-/// stands at its end. The medium is not touched.
+/// flight or awaits its free. There is a pair for each of them whose place is not its name. Over an image that is sound as a tree it stands for
+/// that tree. It is read-only where the count of failed writes stands at its end. The medium is not touched.
 pub fn begin<M: Nand>(
     device: Device<M>,
     shape: Shape,
@@ -42,6 +43,7 @@ pub fn begin<M: Nand>(
     ensures formed { ⟦<Device<M> as Counts>⟧.formed result.device }
     ensures core { IsCore ⟦<Device<M> as Counts>⟧ result }
     ensures stands { M.tells → (image : Image) (tree : Tree) → IsOver ⟦<Device<M> as Counts>⟧ device walked image tree → CoreStands ⟦<Device<M> as Counts>⟧ result (page_on image) (all_at walked.count tree) }
+    ensures pairs { (⟦<Device<M> as Counts>⟧.names result.device).space.pairs ≡ length (moved_among (kept_of device) walked.kept.items) }
     ensures files { length (running_holders ⟦<Device<M> as Counts>⟧ result.device result.meta) ≡ length walked.kept.items }
     ensures begins { BeginsCore ⟦<Device<M> as Counts>⟧ device walked result }
 {

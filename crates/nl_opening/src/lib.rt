@@ -2,7 +2,9 @@
 #![tactic(auto)]
 
 mod beginning;
+pub mod laws;
 mod opening;
+mod wear;
 
 pub use beginning::begin;
-pub use opening::{Opened, open};
+pub use opening::{Figures, Opened, open};

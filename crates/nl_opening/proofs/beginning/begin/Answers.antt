@@ -80,6 +80,9 @@ returns-clause-files g c =
     (subst IsFlight c.requires.flight c.lines_stand.ensures) c.requires.freeing
     (subst (λ (h : Shape). h.pblocks * h.pages ≤ c.args.freeing.room) c.requires.shape c.requires.room)
 
+pub returns-clause-pairs : goal.returns-clause-pairs
+returns-clause-pairs g c = c.retain.ensures.space.pairs
+
 pub returns-clause-begins : goal.returns-clause-begins
 returns-clause-begins g c =
     let e = c.retain.ensures in

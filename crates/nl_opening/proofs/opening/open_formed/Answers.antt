@@ -1,8 +1,9 @@
-use Rattle.std.proofs.Common.{◌≡◌, ◌∙◌, ℕ, List, [], ◌∷◌, None, Some, length, ap, refl, subst, sym}
+use Rattle.std.proofs.Common.{◌≡◌, ◌∙◌, ℕ, List, [], ◌∷◌, None, Some, length, ap, arith, refl, subst, sym}
 use Rattle.nl_field.specs.Medium.{shape_of_image}
 use Rattle.nl_field.specs.Numbers.{ShapeBounds, shape_for}
 use Rattle.nl_field.specs.Page.{Image}
 use Rattle.nl_field.specs.declared.shape.Shape.{Shape}
+use Rattle.nl_device.specs.Kept.{kept_of_scan}
 use Rattle.nl_device.specs.Medium.{medium_of}
 use Rattle.nl_device.specs.contracts.counts.DeviceCounts.TheImpl.{ghosts}
 use Rattle.nl_meta.specs.Consistent.{page_on}
@@ -15,10 +16,13 @@ use Rattle.nl_core.specs.Trees.{CoreStands}
 use Rattle.nl_sound.specs.Stands.{SoundAs}
 use Rattle.nl_recover.proofs.Imaged.{lists_readable}
 use Rattle.nl_opening.specs.Beginning.{all_at}
+use Rattle.nl_opening.specs.Figures.{greatest_seen, least_seen}
 use Rattle.nl_opening.specs.Opening.{OnlyReadsMedium}
 use Rattle.nl_opening.proofs.CanOpen.{can_begin}
-use Rattle.nl_opening.proofs.Imaged.{consistent, counted, none_failed, over, sound, walk_is}
+use Rattle.nl_opening.proofs.Imaged.{consistent, counted, none_failed, over, pairs, sound, walk_is}
+use Rattle.nl_opening.proofs.NextNumber.{next_number_is}
 use Rattle.nl_opening.proofs.OnlyRead.{then_read, was_read}
+use Rattle.nl_opening.proofs.SeenWear.{greatest_is, least_is}
 use Rattle.nl_opening.proofs.opening.open_formed.Goals as goal
 
 -- the numbers of an image are those of its medium
@@ -118,6 +122,57 @@ returns-in-Ok-clause-stands g c = λ tells.
       subst (λ n. SoundAs image n tree.0) count tree.1,
       subst (λ n. CoreStands G v (page_on image) (all_at n tree.0)) count (c.begin.ensures.stands tells image tree.0 it),
     )
+
+pub returns-in-Ok-clause-number : goal.returns-in-Ok-clause-number
+returns-in-Ok-clause-number g c = λ tells.
+    let G = ghosts g.row.M g.M.Nand g.M.Nand-dict in
+    let s = c.in-Ready.device in
+    let d = c.recover.new.device in
+    let t = c.in-Ready.scan in
+    let e = c.in-Ready.ensures in
+    let r = c.recover.ensures in
+    let image = g.M.Nand.contents c.args.media in
+    let same : c.args.shape ≡ s.shape = c.requires.shape ∙ sym e.started.numbers in
+    let fits = λ (tells : g.M.Nand.tells). g.met.M.Nand.contents_fit c.args.media tells in
+    let is : g.M.Nand.tells → s.shape ≡ shape_of_image image = λ tells. e.started.numbers ∙ of_image (g.M.Nand.geometry c.args.media).blocks (g.M.Nand.geometry c.args.media).pages image (fits tells).blocks (fits tells).pages in
+    let listed = λ (tells : g.M.Nand.tells). (e.tables tells).each_page in
+    let none : g.M.Nand.tells → walk image ≡ None = λ tells.
+    sym (walk_is G s d image t tells (is tells) (e.map tells) (listed tells))
+    ∙ subst (λ (h : Shape). walk_over h (committed h (stored_on G s)) t.seen ≡ None) same (c.in-Ready-recover.ensures.told tells) in
+    let w = c.in-Ready-recover.walked in
+    let v = c.begin.result in
+    let tree = sound G s d image t tells (is tells) (e.map tells) (listed tells) w r.device c.in-Ready-recover.ensures.walked (fits tells).whole (none tells) in
+    let it = over G s d image t tells (is tells) (e.map tells) (listed tells) w r.device c.in-Ready-recover.ensures.walked (ap stored_in e.kept.same_contents) tree.0 tree.1 in
+    let shape : (G.shape d).vaddrs ≡ s.shape.vaddrs = ap (λ (h : Shape). h.vaddrs) r.device.medium.virtual.same_shape in
+    let bounds = bounds-of s.shape e.formed.legal in
+    let addresses = bounds.addresses in
+    next_number_is G d t.seen w image tree.0 it c.in-Ready-recover.ensures.walked tells (omega (arith, shape, addresses)) v c.begin.ensures.begins.metadata.0 c.begin.ensures.begins.metadata.1
+
+pub returns-in-Ok-clause-next_stamp : goal.returns-in-Ok-clause-next_stamp
+returns-in-Ok-clause-next_stamp g c = λ tells.
+    c.begin.ensures.begins.medium.next_stamp ∙ (c.recover.ensures.device.medium.next_stamp ∙ (c.in-Ready.ensures.started.stamp ∙ (c.in-Ready.ensures.tables tells).next))
+
+pub returns-in-Ok-clause-pairs : goal.returns-in-Ok-clause-pairs
+returns-in-Ok-clause-pairs g c = λ tells.
+    let G = ghosts g.row.M g.M.Nand g.M.Nand-dict in
+    let s = c.in-Ready.device in
+    let d = c.recover.new.device in
+    let t = c.in-Ready.scan in
+    let e = c.in-Ready.ensures in
+    let r = c.recover.ensures in
+    let image = g.M.Nand.contents c.args.media in
+    let fits = λ (tells : g.M.Nand.tells). g.met.M.Nand.contents_fit c.args.media tells in
+    let is : g.M.Nand.tells → s.shape ≡ shape_of_image image = λ tells. e.started.numbers ∙ of_image (g.M.Nand.geometry c.args.media).blocks (g.M.Nand.geometry c.args.media).pages image (fits tells).blocks (fits tells).pages in
+    let listed = λ (tells : g.M.Nand.tells). (e.tables tells).each_page in
+    let shape = r.device.medium.virtual.same_shape in
+    let kept = c.formed_devices.ensures.kept s d e.formed r.formed shape r.device.medium.found ∙ (e.scanned ∙ ap (λ (h : Shape). kept_of_scan h t.seen) (sym shape)) in
+    c.begin.ensures.pairs ∙ pairs G s d image t tells (is tells) (e.map tells) (listed tells) c.in-Ready-recover.walked r.device c.in-Ready-recover.ensures.walked kept
+
+pub returns-in-Ok-clause-wear : goal.returns-in-Ok-clause-wear
+returns-in-Ok-clause-wear g c = λ tells.
+    let image = g.M.Nand.contents c.args.media in
+    let listed = (c.in-Ready.ensures.tables tells).each_page in
+    (c.least.ensures ∙ (ap least_seen listed ∙ least_is image), c.greatest.ensures ∙ (ap greatest_seen listed ∙ greatest_is image))
 
 pub returns-in-Ok-clause-medium : goal.returns-in-Ok-clause-medium
 returns-in-Ok-clause-medium g c =
