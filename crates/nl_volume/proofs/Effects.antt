@@ -1,8 +1,9 @@
 -- A volume goes on to serve as a call takes effect.
 use Rattle.std.proofs.Common.{◌≡◌, ⊎_elim, ℕ, ◌+◌, ◌≤◌, true, false, cond, ◌&&◌, List, [], ◌∷◌, ◌++◌, length, Option, Some, None, refl, sym, ap, subst, ◌∙◌, arith}
 use Rattle.std.specs.Prelude.{IfSome, is_none, is_some}
+use Rattle.std.proofs.lemmas.Bool.{cases_lt}
 use Rattle.std.proofs.lemmas.List.{append-nil}
-use Rattle.nl_field.specs.CrashStates.{saturated, top}
+use Rattle.nl_field.specs.CrashStates.{Earlier, saturated, top}
 use Rattle.nl_tree.specs.Causes.{HasCause, IsSumSince, NeverFall}
 use Rattle.nl_tree.specs.Order.{SyncPoint}
 use Rattle.nl_tree.specs.declared.call.Call.{Call}
@@ -136,7 +137,7 @@ module _ {M : Type 0} (g : Ghosts (Device M)) (origin : Core M) (o : Opening) (h
           begins = let one = m.begins in omega (arith, one, same);
           ends = let one = m.ends in omega (arith, one, same, c);
           rising = m.rising;
-          within = λ x has. let k = m.within x has in (k.0, let two = k.1 in omega (arith, two, same));
+          within = λ x has. let k = m.within x has in (k.0, k.1, let two = k.2 in omega (arith, two, same));
         }
 
     pub effect_serves : Serves g origin o (h ++ e ∷ []) (counted w) (saturated (done + 1))
@@ -176,14 +177,20 @@ module _ {M : Type 0} (g : Ghosts (Device M)) (origin : Core M) (o : Opening) (h
   upto_is : b.committed ≡ saturated (o.count + effects h)
   upto_is = commits.committed ∙ (s.along.count ∙ ap (λ n. saturated (o.count + n)) (calls_length o h s.known))
 
+  since_opening : Earlier o.clock b.moment
+  since_opening low =
+      let first = s.since.clock in
+      let from = commits.from in
+      ⊎_elim (λ below. let later = commits.decided below in omega (arith, first, later)) (λ end. omega (arith, low, end, from)) (cases_lt (g.clock u.device) top)
+
   moments_then : MomentsRise o (syncs_of h ++ point ∷ []) b.moment (g.clock b.device)
   moments_then =
       let m = serves_then.moments in
       record {
         begins = m.begins;
         ends = m.ends;
-        rising = pairs_more (λ (x y : SyncPoint). x.moment ≤ y.moment) (syncs_of h) point m.rising (λ x has. (m.within x has).1);
-        within = λ x has. ⊎_elim (m.within x) (λ is. subst (λ (y : SyncPoint). (o.clock ≤ y.moment) × (y.moment ≤ b.moment)) is (m.begins, omega arith)) (has_or_last (syncs_of h) point x has);
+        rising = pairs_more (λ (x y : SyncPoint). x.moment ≤ y.moment) (syncs_of h) point m.rising (λ x has. (m.within x has).2);
+        within = λ x has. ⊎_elim (m.within x) (λ is. subst (λ (y : SyncPoint). Earlier o.clock y.moment × (o.clock ≤ y.moment) × (y.moment ≤ b.moment)) is (since_opening, m.begins, omega arith)) (has_or_last (syncs_of h) point x has);
       }
 
   pub sync_serves : Serves g origin o (h ++ e ∷ []) (counted b) (saturated (done + 1))

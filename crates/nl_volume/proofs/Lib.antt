@@ -1,6 +1,7 @@
 pub mod Answering
 pub mod Begins
 pub mod Causes
+pub mod Closes
 pub mod Due
 pub mod Effected
 pub mod Effects

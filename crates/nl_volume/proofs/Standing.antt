@@ -131,7 +131,7 @@ module _ {M : Type 0} (g : Ghosts (Device M)) (origin : Core M) (o : Opening) (h
         begins = let one = m.begins in omega (arith, one, is);
         ends = let one = m.ends in omega (arith, one, is, clock);
         rising = m.rising;
-        within = λ x has. let k = m.within x has in (k.0, let two = k.1 in omega (arith, two, is));
+        within = λ x has. let k = m.within x has in (k.0, k.1, let two = k.2 in omega (arith, two, is));
       }
   moments_on (inr later) =
       let m = s.moments in
@@ -140,7 +140,7 @@ module _ {M : Type 0} (g : Ghosts (Device M)) (origin : Core M) (o : Opening) (h
         begins = let one = s.since.clock in omega (arith, one, up);
         ends = c.core.moment;
         rising = m.rising;
-        within = λ x has. let k = m.within x has in (k.0, let two = k.1 in let end = m.ends in omega (arith, two, end, up));
+        within = λ x has. let k = m.within x has in (k.0, k.1, let two = k.2 in let end = m.ends in omega (arith, two, end, up));
       }
 
   -- no line failed with the number 0

@@ -1,3 +1,4 @@
+pub mod Closing
 pub mod Effects
 pub mod Opening
 pub mod Serving

@@ -1,7 +1,7 @@
 -- For which opening and which history of turns a volume stands.
 use Rattle.std.specs.Prelude.{◌≡◌, ◌≢◌, ◌⊎◌, ℕ, ◌+◌, ◌-◌, ◌<◌, ◌≤◌, List, IfSome, AllPairs, Some, slice_get}
 use Rattle.std.specs.Int.{div_ceil}
-use Rattle.nl_field.specs.CrashStates.{saturated, top}
+use Rattle.nl_field.specs.CrashStates.{Earlier, saturated, top}
 use Rattle.nl_field.specs.Members as members
 use Rattle.nl_tree.specs.Calls.{IsLine}
 use Rattle.nl_tree.specs.Causes.{Counts, HasCause, IsSumSince, NeverFall, WriteFailed, eio_of, erofs_of}
@@ -63,12 +63,12 @@ pub record NumbersDiffer (history : List Entry) (flight : List InFlight) (stoppe
 abbrev pub MarkHasCause : Type 0 → Opening → Counts → Entry → FaultReply → Type 0
 MarkHasCause tells opening now entry fault = (call : Call) × (call_of opening entry ≡ Some call) × HasCause tells (opening_counts opening) now opening.next_stamp call fault
 
--- The moments of the syncs do not fall, and lie between the clock of the opening and the moment of the last commit.
+-- The moments of the syncs do not fall. Each is later than the clock of the opening, and no later than the moment of the last commit.
 pub record MomentsRise (opening : Opening) (syncs : List SyncPoint) (moment now : ℕ) : Type 0 where
   pub begins : opening.clock ≤ moment
   pub ends : moment ≤ now
   pub rising : AllPairs (λ a b. a.moment ≤ b.moment) syncs
-  pub within : (s : SyncPoint) → members.Has syncs s → (opening.clock ≤ s.moment) × (s.moment ≤ moment)
+  pub within : (s : SyncPoint) → members.Has syncs s → Earlier opening.clock s.moment × (opening.clock ≤ s.moment) × (s.moment ≤ moment)
 
 -- each is a line as a script has it
 abbrev pub EachIsLine : List Line → Type 0

@@ -1,6 +1,7 @@
 //! A volume: what it is for an opening and the history of turns since, and its calls.
 #![tactic(auto)]
 
+mod closing;
 mod duty;
 mod effect;
 mod next;
@@ -9,5 +10,6 @@ mod served;
 mod staging;
 mod volume;
 
+pub use closing::Closed;
 pub use opening::Opened;
-pub use volume::Volume;
+pub use volume::{Volume, volumes_can_cross};

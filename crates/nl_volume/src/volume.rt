@@ -12,14 +12,16 @@ use nl_turns::Kept;
 /// The write sequence number from which on a volume is worn.
 pub(crate) const WORN: u64 = 1 << 62;
 
-/// A volume: its core, how many effects it has had since its opening, at most 2^64 - 1, how many pages its files have, and a page that it
-/// works with.
+/// A volume: its core, how many effects it has had since its opening, at most 2^64 - 1, how many pages its files have, a page that it works
+/// with, and the least and the greatest wear of the pages that were readable at its opening.
 #[derive(Drop)]
 pub struct Volume<M: Nand> {
     pub core: Core<M>,
     pub done: u64,
     pub files: u32,
     pub page: PageBuf,
+    pub least: u32,
+    pub greatest: u32,
 }
 
 impl<M: Nand> Kept for Volume<M> {
@@ -63,12 +65,7 @@ impl<M: Nand> Volume<M> {
     pub fn into_media(self) -> M
         ensures { result ≡ medium_of self.core.device }
     {
-        let Volume {
-            core,
-            done: _,
-            files: _,
-            page: _,
-        } = self;
+        let Volume { core, .. } = self;
         let Core { device, .. } = core;
         device.into_media()
     }
@@ -80,4 +77,12 @@ impl<M: Nand> Volume<M> {
         let _clock = self.core.device.clock();
         let _faults = self.core.device.write_faults();
     }
+}
+
+// Stands for each type whose values can be given to another thread.
+fn can_cross<T: Send>() {}
+
+/// A volume can be given to another thread, where its medium can.
+pub fn volumes_can_cross<M: Nand + Send>() {
+    can_cross::<Volume<M>>();
 }

@@ -30,3 +30,15 @@ returns-in-Ready-clause-sound g c tells = let k = c.in-Ready.ensures.stands tell
 
 pub returns-in-Ready-clause-told : goal.returns-in-Ready-clause-told
 returns-in-Ready-clause-told g c tells = let k = c.in-Ready.ensures.told tells in (k.0, k.1)
+
+pub returns-in-Ready-clause-next_stamp : goal.returns-in-Ready-clause-next_stamp
+returns-in-Ready-clause-next_stamp g c tells = c.in-Ready.ensures.next_stamp tells
+
+pub returns-in-Ready-clause-number : goal.returns-in-Ready-clause-number
+returns-in-Ready-clause-number g c tells = c.in-Ready.ensures.number tells
+
+pub returns-in-Ready-clause-pairs : goal.returns-in-Ready-clause-pairs
+returns-in-Ready-clause-pairs g c tells = c.in-Ready.ensures.pairs tells
+
+pub returns-in-Ready-clause-wear : goal.returns-in-Ready-clause-wear
+returns-in-Ready-clause-wear g c tells = c.in-Ready.ensures.wear tells

@@ -1,0 +1,122 @@
+ghost use Rattle.std.specs.Prelude.{◌≡◌, ◌≢◌, ◌⊎◌, ◌↔◌, ◌+◌, ◌≤◌, ◌<◌, ◌^◌, ℕ, List, true, false, IsTrue};
+ghost use Rattle.nl_core.specs.Calls.{CommitsAll, HasCause};
+ghost use Rattle.nl_core.specs.Core.{IsCore, begun_of};
+ghost use Rattle.nl_core.specs.Goes.{Goes};
+ghost use Rattle.nl_device.specs.Medium.{medium_of};
+ghost use Rattle.nl_field.specs.CrashStates.{Rose};
+ghost use Rattle.nl_sound.specs.Crash.{StopsSafely};
+ghost use Rattle.nl_sound.specs.Stands.{SoundAs};
+ghost use Rattle.nl_tree.specs.Causes.{FaultRose, NeverFall};
+ghost use Rattle.nl_turns.specs.History.{Opening, effects, opening_counts, tree_after};
+ghost use Rattle.nl_turns.specs.Served.{StandsForSome};
+ghost use Rattle.nl_turns.specs.declared.entry.Entry.{Entry as TurnEntry};
+ghost use Rattle.nl_answering.specs.Answering.{counts_of};
+ghost use Rattle.nl_volume.specs.Closing.{CommitsLast, IsCommitted, IsYoungAtEnd, counts_on};
+ghost use Rattle.nl_volume.specs.Standing.{run_of};
+ghost use Rattle.nl_volume.specs.declared.volume.Volume.{Volume as VolumeOf};
+
+use crate::volume::Volume;
+use nl_device::Device;
+use nl_held::laws::device_stands;
+use nl_iface::Counts;
+use nl_journal::Committing;
+use nl_nand::Nand;
+use nl_turns::Kept;
+
+/// What closing a volume leaves: its medium; whether an operation of the medium failed in the last commit, or a page was lost; and whether
+/// the write sequence numbers were used up.
+#[derive(Drop)]
+pub struct Closed<M: Nand> {
+    pub media: M,
+    pub fault: bool,
+    pub lost: bool,
+    pub worn: bool,
+}
+
+/// How the last commit ended.
+#[derive(Clone, Copy, Debug)]
+enum Last {
+    /// All calls are committed.
+    Done,
+    /// The volume cannot be written to.
+    Left,
+    Lost,
+    Fault,
+}
+
+impl<M: Nand> Volume<M> {
+    /// Commits once, unless the volume is read-only or worn, and gives the medium back. What a stop left at any moment since the opening was
+    /// left before it, or is sound as the tree after a prefix of the calls that holds each sync up to that moment. Where a volume that can be
+    /// written to is closed with no fault and no page lost, all calls are committed; where no write failed in it either, the medium ends sound
+    /// as the tree after all calls. So it does where no operation failed since the opening and the volume is not worn.
+    pub fn close(self) -> Closed<M>
+        requires { StandsForSome ⟦<Volume<M> as Kept>⟧.stands self }
+        ensures stops { (v : VolumeOf M) (o : Opening) (h : List TurnEntry) → ⟦<Volume<M> as Kept>⟧.stands v o h self → IsYoungAtEnd M.tells o h (begun_of v.core) (M.clock result.media)
+            → StopsSafely SoundAs (λ m c. M.left (medium_of v.core.device) m c) (λ m c. M.left result.media m c) o.clock (M.clock result.media) (run_of o h) }
+        ensures ends { (v : VolumeOf M) (o : Opening) (h : List TurnEntry) → ⟦<Volume<M> as Kept>⟧.stands v o h self → IsYoungAtEnd M.tells o h (begun_of v.core) (M.clock result.media)
+            → IsCommitted self.core result → (Rose (⟦<Device<M> as Counts>⟧.write_faults self.core.device) (M.write_faults result.media) → ⊥) → SoundAs (M.contents result.media) (o.count + effects h) (tree_after o h) }
+        ensures ends_well { (v : VolumeOf M) (o : Opening) (h : List TurnEntry) → ⟦<Volume<M> as Kept>⟧.stands v o h self → IsYoungAtEnd M.tells o h (begun_of v.core) (M.clock result.media)
+            → (FaultRose (opening_counts o) (counts_on M.clock M.read_faults M.write_faults result.media) → ⊥) → result.worn ≡ false → SoundAs (M.contents result.media) (o.count + effects h) (tree_after o h) }
+        ensures commits { IsCommitted self.core result → CommitsLast ⟦<Device<M> as Counts>⟧ self.core result.media }
+        ensures left { (self.core.stopped ≢ 0) ⊎ (result.worn ≡ true) → result.media ≡ medium_of self.core.device }
+        ensures counts { NeverFall (counts_of ⟦<Device<M> as Counts>⟧ self.core.device) (counts_on M.clock M.read_faults M.write_faults result.media) }
+        ensures fault { result.fault ≡ true → FaultRose (counts_of ⟦<Device<M> as Counts>⟧ self.core.device) (counts_on M.clock M.read_faults M.write_faults result.media) }
+        ensures lost { M.tells → result.lost ≡ false }
+        ensures worn { IsTrue result.worn ↔ 2 ^ 62 ≤ ⟦<Device<M> as Counts>⟧.next_stamp self.core.device }
+    {
+        let mut volume = self;
+        let worn = volume.worn();
+        let last = volume.commit_last(worn);
+        device_stands(&volume.core.device);
+        Closed {
+            media: volume.into_media(),
+            fault: is_fault(last),
+            lost: is_lost(last),
+            worn,
+        }
+    }
+
+    // Commits once, unless the volume cannot be written to.
+    fn commit_last(&mut self, worn: bool) -> Last
+        requires formed { ⟦<Device<M> as Counts>⟧.formed self.old.core.device }
+        requires core { IsCore ⟦<Device<M> as Counts>⟧ self.old.core }
+        requires stamp { worn ≡ false → ⟦<Device<M> as Counts>⟧.next_stamp self.old.core.device < 2 ^ 62 }
+        ensures formed { ⟦<Device<M> as Counts>⟧.formed self.new.core.device }
+        ensures core { IsCore ⟦<Device<M> as Counts>⟧ self.new.core }
+        ensures goes { Goes ⟦<Device<M> as Counts>⟧ 512 self.old.core self.new.core }
+        ensures left { result ≡ Last.Left → self.new ≡ self.old }
+        ensures why { result ≡ Last.Left ↔ (worn ≡ true) ⊎ (self.old.core.stopped ≢ 0) }
+        ensures commits { result ≡ Last.Done → (number : ℕ) × CommitsAll ⟦<Device<M> as Counts>⟧ self.old.core self.new.core number }
+        ensures fault { HasCause ⟦<Device<M> as Counts>⟧ (result ≡ Last.Fault) self.old.core self.new.core }
+        ensures lost { M.tells → result ≢ Last.Lost }
+    {
+        if worn || self.core.stopped != 0 {
+            return Last::Left;
+        }
+        match self.core.commit() {
+            Committing::Done(_) => Last::Done,
+            Committing::Lost { .. } => Last::Lost,
+            Committing::Fault => Last::Fault,
+        }
+    }
+}
+
+// It ended with a failure.
+fn is_fault(last: Last) -> bool
+    ensures { IsTrue result ↔ last ≡ Last.Fault }
+{
+    match last {
+        Last::Fault => true,
+        _ => false,
+    }
+}
+
+// It ended with a page that was lost.
+fn is_lost(last: Last) -> bool
+    ensures { IsTrue result ↔ last ≡ Last.Lost }
+{
+    match last {
+        Last::Lost => true,
+        _ => false,
+    }
+}
