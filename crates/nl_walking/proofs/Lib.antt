@@ -1,0 +1,13 @@
+pub mod Charging
+pub mod Climbing
+pub mod Freed
+pub mod Giving
+pub mod Depth
+pub mod Directories
+pub mod Leading
+pub mod Least
+pub mod Printing
+pub mod Resident
+pub mod Sorted
+pub mod Turns
+pub mod Walking

@@ -1,0 +1,9 @@
+pub mod Counts
+pub mod Entries
+pub mod Examples
+pub mod Items
+pub mod Laws
+pub mod Next
+pub mod Onward
+pub mod Printed
+pub mod Walks
