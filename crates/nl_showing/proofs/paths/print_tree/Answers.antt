@@ -1,0 +1,31 @@
+use Rattle.std.proofs.Common.{◌++◌}
+use Rattle.nl_device.specs.contracts.counts.DeviceCounts.TheImpl.{ghosts}
+use Rattle.nl_looking.proofs.Cores.{reads-none}
+use Rattle.nl_print.specs.Texts.{opened_line}
+use Rattle.nl_print.proofs.Written.{then_write}
+use Rattle.nl_showing.specs.Showing.{sink_answer}
+use Rattle.nl_showing.proofs.Ending.{tree_begins, tree_shown}
+use Rattle.nl_showing.proofs.paths.print_tree.Goals as goal
+
+pub returns-in-Took-clause-shows : goal.returns-in-Took-clause-shows
+returns-in-Took-clause-shows g c =
+    let old = g.K.Sink.taken c.args.sink.now in
+    let mid = g.K.Sink.taken c.number_line.new.sink in
+    let new = g.K.Sink.taken c.print_paths.new.sink in
+    let answer = c.print_paths.result in
+    let rest = c.print_paths.ensures.shows in
+    record {
+      text = opened_line c.args.count ++ rest.text;
+      taken = then_write old mid new (sink_answer answer) (opened_line c.args.count) rest.text c.in-Took.ensures.text rest.taken;
+      of_tree = λ tells page_of_stamp tree runs. tree_shown c.args.count tree c.items_are_printed.ensures.text rest.text answer (rest.of_tree tells page_of_stamp tree runs);
+    }
+
+pub returns-in-Failed-clause-same : goal.returns-in-Failed-clause-same
+returns-in-Failed-clause-same g c = reads-none (ghosts g.row.M g.M.Nand g.M.Nand-dict) c.args.core.now c.requires.core
+
+pub returns-in-Failed-clause-shows : goal.returns-in-Failed-clause-shows
+returns-in-Failed-clause-shows g c = record {
+  text = opened_line c.args.count;
+  taken = c.in-Failed.ensures.text;
+  of_tree = λ tells page_of_stamp tree runs. tree_begins c.args.count tree c.items_are_printed.ensures.text;
+}

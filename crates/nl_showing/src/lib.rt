@@ -1,0 +1,8 @@
+//! Prints what a core shows of its volume: every path of its tree, and the report of its counts.
+#![tactic(auto)]
+
+mod paths;
+mod report;
+
+pub use paths::{Shown, print_tree};
+pub use report::print_report;
