@@ -1,0 +1,6 @@
+pub mod Course
+pub mod Examples
+pub mod Headline
+pub mod Status
+pub mod Streams
+pub mod Table
