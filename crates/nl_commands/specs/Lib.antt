@@ -1,0 +1,5 @@
+pub mod Command
+pub mod Complete
+pub mod Ends
+pub mod Input
+pub mod Others

@@ -1,0 +1,62 @@
+// Checks what a medium holds.
+ghost use Rattle.std.specs.Prelude.{◌≡◌, ◌≢◌, ◌⊎◌, ◌≤◌, []};
+ghost use Rattle.nl_field.specs.CrashStates.{Rose};
+ghost use Rattle.nl_field.specs.FindingBits.{bits_of};
+ghost use Rattle.nl_headline.specs.Status.{DoneStatus};
+ghost use Rattle.nl_headline.specs.Streams.{Prints, medium, stream};
+ghost use Rattle.nl_print.specs.Texts.{findings_text, sound_text};
+ghost use Rattle.nl_commands.specs.Ends.{CheckEnds};
+
+use crate::status::{Done, Faults, ended, faults_of, has_failed, status_of, without_lines};
+use nl_check::{Checked, findings};
+use nl_field::Findings;
+use nl_io::Sink;
+use nl_nand::Nand;
+use nl_print::{findings_lines, number_line};
+use std::alloc::Global;
+
+/// Prints what a check finds on a medium: that it is sound after so many calls, with status 0, or what is at fault, with status 8. Of a medium
+/// that is blank it says so, with status 7. The medium is only read.
+pub fn check<K: Sink, M: Nand>(alloc: Global, sink: &mut K, media: M) -> Done<M>
+    ensures { CheckEnds M.tells (stream (K.taken sink.old) (K.faults sink.old)) (stream (K.taken sink.new) (K.faults sink.new))
+        (medium (M.geometry media) (M.contents media) (M.clock media) (M.read_faults media) (M.write_faults media))
+        (medium (M.geometry result.media) (M.contents result.media) (M.clock result.media) (M.read_faults result.media) (M.write_faults result.media))
+        result.order.items result.syncs.items result.status }
+{
+    let before = faults_of(&media);
+    let (checked, media) = findings(alloc, media);
+    match checked {
+        Checked::Found { bits, count } => print_found(alloc, bits, count, before, sink, media),
+        Checked::Blank => ended(alloc, 7, b"blank", sink, media),
+        Checked::Fault => ended(alloc, 5, b"medium fault", sink, media),
+        Checked::Memory => ended(alloc, 6, b"memory", sink, media),
+    }
+}
+
+// Prints what was found.
+fn print_found<K: Sink, M: Nand>(
+    alloc: Global,
+    bits: Findings,
+    count: u64,
+    before: Faults,
+    sink: &mut K,
+    media: M,
+) -> Done<M>
+    requires reads { before.reads ≤ M.read_faults media }
+    requires writes { before.writes ≤ M.write_faults media }
+    ensures sound { bits_of bits ≡ 0 → Prints (stream (K.taken sink.old) (K.faults sink.old)) (stream (K.taken sink.new) (K.faults sink.new)) (sound_text count)
+        × DoneStatus result.status (Rose before.reads (M.read_faults media) ⊎ Rose before.writes (M.write_faults media))
+        (stream (K.taken sink.old) (K.faults sink.old)) (stream (K.taken sink.new) (K.faults sink.new)) (sound_text count) }
+    ensures faults { bits_of bits ≢ 0 → (result.status ≡ 8) × Prints (stream (K.taken sink.old) (K.faults sink.old)) (stream (K.taken sink.new) (K.faults sink.new)) (findings_text bits) }
+    ensures media { result.media ≡ media }
+    ensures order { result.order.items ≡ [] }
+    ensures syncs { result.syncs.items ≡ [] }
+{
+    if !bits.is_none() {
+        let _ = findings_lines(sink, bits);
+        return without_lines(alloc, 8, media);
+    }
+    let answer = number_line(sink, b"sound", count);
+    let failed = has_failed(&media, before);
+    without_lines(alloc, status_of(failed, answer), media)
+}

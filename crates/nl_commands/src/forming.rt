@@ -1,0 +1,46 @@
+// Makes a volume.
+ghost use Rattle.std.specs.Prelude.{◌⊎◌, ℕ, IsTrue};
+ghost use Rattle.nl_field.specs.Numbers.{is_legal};
+ghost use Rattle.nl_field.specs.Page.{Image};
+ghost use Rattle.nl_headline.specs.Streams.{medium, stream};
+ghost use Rattle.nl_making.specs.Making.{OpensAsNew};
+ghost use Rattle.nl_commands.specs.Ends.{FormatEnds};
+
+use crate::status::{Done, ended, faults_of, has_failed, status_of, without_lines};
+use nl_field::shape_of;
+use nl_io::Sink;
+use nl_making::{Made, make};
+use nl_nand::Nand;
+use nl_print::formatted_line;
+use std::alloc::Global;
+
+/// Makes a volume of legal numbers, and prints them. Whatever the medium held is gone. A stop after the forming leaves a blank image, one
+/// damaged at its super page, or the empty volume.
+pub fn format<K: Sink, M: Nand>(
+    alloc: Global,
+    blocks: u32,
+    pages: u32,
+    sink: &mut K,
+    media: M,
+) -> Done<M>
+    requires legal { IsTrue (is_legal blocks pages) }
+    ensures ended { FormatEnds M.tells blocks pages (stream (K.taken sink.old) (K.faults sink.old)) (stream (K.taken sink.new) (K.faults sink.new))
+        (medium (M.geometry media) (M.contents media) (M.clock media) (M.read_faults media) (M.write_faults media))
+        (medium (M.geometry result.media) (M.contents result.media) (M.clock result.media) (M.read_faults result.media) (M.write_faults result.media))
+        result.order.items result.syncs.items result.status }
+    ensures stops { M.tells → (m : ℕ) (c : Image) → M.left result.media m c → M.left media m c ⊎ OpensAsNew c }
+{
+    let before = faults_of(&media);
+    let Some(shape) = shape_of(blocks, pages) else {
+        unreachable!()
+    };
+    match make(alloc, media, blocks, pages) {
+        Made::Done(media) => {
+            let answer = formatted_line(sink, &shape);
+            let failed = has_failed(&media, before);
+            without_lines(alloc, status_of(failed, answer), media)
+        }
+        Made::Fault(media) => ended(alloc, 5, b"medium fault", sink, media),
+        Made::Memory(media) => ended(alloc, 6, b"memory", sink, media),
+    }
+}
