@@ -1,0 +1,30 @@
+-- A volume opens on a medium.
+use Rattle.std.proofs.Common.{◌≡◌, ◌+◌, Some, sym, ◌∙◌, Result, Ok, Err}
+use Rattle.std.specs.Prelude.{IfOk}
+use Rattle.nl_field.specs.Medium.{shape_of_image}
+use Rattle.nl_field.specs.Page.{Image}
+use Rattle.nl_field.specs.Scan.{next_stamp_of}
+use Rattle.nl_field.specs.Virtual.{virtual_bytes}
+use Rattle.nl_field.specs.declared.place.Place.{Place}
+use Rattle.nl_tree.specs.Tree.{Tree}
+use Rattle.nl_device.specs.declared.device.Device.{Device}
+use Rattle.nl_iface.specs.declared.counts.Counts.{Ghosts}
+use Rattle.nl_meta.specs.Committed.{next_number}
+use Rattle.nl_meta.specs.Walk.{walk}
+use Rattle.nl_core.specs.Core.{begun_of}
+use Rattle.nl_core.specs.declared.state.Core.{Core}
+use Rattle.nl_sound.specs.Stands.{Sound, SoundAs}
+use Rattle.nl_sound.proofs.SoundProofs.{walk_is_soundness}
+use Rattle.nl_rounds.specs.Opened.{OpensOn}
+
+pub opens_on : {M : Type 0} (g : Ghosts (Device M)) (image : Image) (v : Core M) (tree : Tree) → SoundAs image v.count tree → g.shape v.device ≡ shape_of_image image → g.next_stamp v.device ≡ next_stamp_of image
+    → begun_of v + 1 ≡ next_number (shape_of_image image) (virtual_bytes image) → OpensOn g image v
+opens_on g image v tree sound shape stamp number = record { tree = tree; opens = record { sound = sound; shape = shape; next_stamp = stamp }; number = number }
+
+-- a walk that finds a fault finds an image that is not sound
+pub not_sound : (image : Image) (place : Place) → walk image ≡ Some place → Sound image → ⊥
+not_sound image place fault s = cc (sym ((walk_is_soundness image s.2.stands.pages_whole).1 s) ∙ fault)
+
+pub both_ok : {T E : Type 0} (r : Result T E) (P Q R : T → Type 0) → ((x : T) → P x → Q x → R x) → IfOk r P → IfOk r Q → IfOk r R
+both_ok (Ok x) P Q R to p q = to x p q
+both_ok (Err e) P Q R to p q = tt

@@ -1,0 +1,103 @@
+ghost use Rattle.std.specs.Prelude.{◌≡◌, ◌+◌, [], true, IfErr, IfOk};
+ghost use Rattle.nl_device.specs.Medium.{medium_of};
+ghost use Rattle.nl_sound.specs.Crash.{StopsSafely};
+ghost use Rattle.nl_sound.specs.Stands.{SoundAs};
+ghost use Rattle.nl_tree.specs.Calls.{AreLines};
+ghost use Rattle.nl_tree.specs.Tree.{Tree};
+ghost use Rattle.nl_volume.specs.Opening.{opening_of};
+ghost use Rattle.nl_workers.specs.Rounds.{IsFirstSeat};
+ghost use Rattle.nl_workers.specs.Table.{IsTableFor};
+ghost use Rattle.nl_headline.specs.Course.{Course};
+ghost use Rattle.nl_headline.specs.Streams.{medium};
+ghost use Rattle.nl_rounds.specs.Opened.{OpensOn};
+ghost use Rattle.nl_rounds.specs.Rounds.{LinesRan};
+
+use crate::tables::Tables;
+use nl_device::Device;
+use nl_iface::Counts;
+use nl_nand::Nand;
+use nl_tree::Lines;
+use nl_turns::{Kept, TurnSeat, Turns};
+use nl_volume::Volume;
+use nl_workers::{Gate, run_rounds};
+use std::alloc::Global;
+use std::marker::Brand;
+use std::sync::Wait;
+use std::thread::Threads;
+
+/// All seats of the lock: eight workers, the cleaner and the handler.
+const SEATS: u32 = 10;
+
+/// What lines leave that were run: the medium, the count with which the volume opened, whether a page was lost, and whether closing found the
+/// write sequence numbers used up.
+#[derive(Drop)]
+pub struct Ran<M: Nand> {
+    pub media: M,
+    pub count: u64,
+    pub lost: bool,
+    pub worn: bool,
+}
+
+/// Runs the lines in turns of a lock over a volume that opened on its medium, and closes it. The sentences of the headline hold of the course
+/// that the answers in the table are of. The volume comes back for want of memory.
+pub fn run_lines<Rt: Threads + Wait + Sync, M: Nand + Send, G: Gate + Sync>(
+    rt: &Rt,
+    alloc: Global,
+    volume: Volume<M>,
+    lines: &Lines,
+    tables: &mut Tables,
+    gate: &G,
+) -> Result<Ran<M>, Volume<M>>
+    requires opened { M.tells → OpensOn ⟦<Device<M> as Counts>⟧ (M.contents (medium_of volume.core.device)) volume.core }
+    requires stands { (tree : Tree) → (M.tells → SoundAs (M.contents (medium_of volume.core.device)) volume.core.count tree) → ⟦<Volume<M> as Kept>⟧.stands volume (opening_of ⟦<Device<M> as Counts>⟧ volume.core tree lines.now) [] volume }
+    requires table { IsTableFor lines.now tables.old.answers }
+    ensures ran { IfOk result (λ r. (course : Course) × (r.count ≡ course.count) × LinesRan M.tells lines.now
+        (StopsSafely SoundAs (λ m c. M.left (medium_of volume.core.device) m c) (λ m c. M.left r.media m c) (M.clock (medium_of volume.core.device)) (M.clock r.media))
+        (medium (M.geometry (medium_of volume.core.device)) (M.contents (medium_of volume.core.device)) (M.clock (medium_of volume.core.device)) (M.read_faults (medium_of volume.core.device)) (M.write_faults (medium_of volume.core.device)))
+        (medium (M.geometry r.media) (M.contents r.media) (M.clock r.media) (M.read_faults r.media) (M.write_faults r.media))
+        tables.new.answers.rows r.lost r.worn course) }
+    ensures lost { IfOk result (λ r. tables.new.answers.lost ≡ true → r.lost ≡ true) }
+    ensures lists { (tables.new.order ≡ tables.old.order) × (tables.new.syncs ≡ tables.old.syncs) }
+    ensures memory { IfErr result (λ v. v ≡ volume) }
+{
+    let _lines = lines.as_slice();
+    let count = volume.calls();
+    let (turns, mut seat) = match open_lock(alloc, volume, lines) {
+        Ok(made) => made,
+        Err(volume) => return Err(volume),
+    };
+    run_rounds(
+        rt,
+        &turns,
+        &mut seat,
+        lines,
+        &mut tables.kit,
+        &mut tables.answers,
+        gate,
+    );
+    let closed = turns.close(seat).close();
+    let _clock = closed.media.clock();
+    let _faults = closed.media.write_faults();
+    Ok(Ran {
+        media: closed.media,
+        count,
+        lost: closed.lost || tables.answers.lost(),
+        worn: closed.worn,
+    })
+}
+
+// The lock over a volume, which stands for the lines from the tree of its image, and its first seat. The volume comes back for want of memory.
+fn open_lock<M: Nand>(
+    alloc: Global,
+    volume: Volume<M>,
+    lines: &Lines,
+) -> Result<(Turns<Volume<M>>, TurnSeat), Volume<M>>
+    requires opened { M.tells → OpensOn ⟦<Device<M> as Counts>⟧ (M.contents (medium_of volume.core.device)) volume.core }
+    requires stands { (tree : Tree) → (M.tells → SoundAs (M.contents (medium_of volume.core.device)) volume.core.count tree) → ⟦<Volume<M> as Kept>⟧.stands volume (opening_of ⟦<Device<M> as Counts>⟧ volume.core tree lines.now) [] volume }
+    ensures opening { IfOk result (λ r. (tree : Tree) × (M.tells → SoundAs (M.contents (medium_of volume.core.device)) volume.core.count tree) × (r.1.opening ≡ opening_of ⟦<Device<M> as Counts>⟧ volume.core tree lines.now)) }
+    ensures first { IfOk result (λ r. IsFirstSeat lines.now r.1) }
+    ensures lock { IfOk result (λ r. (r.1.lock ≡ r.0.name) × (r.1.places + 1 ≡ r.0.seats) × (r.0.origin ≡ volume)) }
+    ensures memory { IfErr result (λ v. v ≡ volume) }
+{
+    Turns::new::<Brand>(alloc, volume, lines, SEATS)
+}
