@@ -1,7 +1,7 @@
-ghost use Rattle.std.specs.Prelude.{◌≡◌, ℕ, Ok, None, false, IsTrue, IsSome, IfOk};
-ghost use Rattle.nl_app.specs.Ended.{EndsOnFile};
-ghost use Rattle.nl_top.specs.Command.{command_of};
-ghost use Rattle.nl_top.specs.Top.{stream};
+ghost use Rattle.std.specs.Prelude.{◌≡◌, Ok, None, IsSome, IfOk};
+ghost use Rattle.nl_app.specs.Ended.{EndsOnFile, makes_a_file};
+ghost use Rattle.nl_commands.specs.Command.{command_of};
+ghost use Rattle.nl_headline.specs.Streams.{stream};
 
 use crate::image::open;
 use crate::notice::Notice;
@@ -17,13 +17,9 @@ use std::thread::Threads;
 
 // Only a format makes a file that is missing.
 fn makes_a_file(command: Command) -> bool
-    ensures format { (blocks pages : ℕ) → command ≡ Command.Format blocks pages → IsTrue result }
-    ensures run { command ≡ Command.Run → result ≡ false }
+    ensures { result ≡ makes_a_file command }
 {
-    match command {
-        Command::Format(_, _) => true,
-        Command::Run => false,
-    }
+    matches!(command, Command::Format(_, _))
 }
 
 fn status_of<M: Drop>(done: Done<M>) -> u8

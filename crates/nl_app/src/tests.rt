@@ -96,7 +96,7 @@ fn faulty_words_leave_the_file(rt: HostRuntime) -> Result<(), Fail> {
     let path = "nl_app_kept.img";
     fs::write(&rt, path, b"kept".as_slice())?;
     assert!(rt; answers(&rt, path, "format 32 31", Ok(2), b"words\n")?);
-    assert!(rt; answers(&rt, path, "run", Ok(2), b"unbuilt\n")?);
+    assert!(rt; answers(&rt, path, "run", Ok(7), b"blank\n")?);
     assert!(rt; fs::read(&rt, path)?.as_slice() == b"kept".as_slice());
     fs::remove_file(&rt, path)?;
     Ok(())

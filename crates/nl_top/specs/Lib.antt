@@ -1,12 +1,3 @@
-pub mod Command
-pub mod Execution
-pub mod Files
-pub mod Form
-pub mod Fresh
-pub mod Input
-pub mod Pages
-pub mod Plain
-pub mod Run
-pub mod Table
-pub mod Tables
-pub mod Top
+pub mod Complete
+pub mod Ends
+pub mod RunEnds

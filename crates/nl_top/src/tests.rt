@@ -1,10 +1,10 @@
 // Commands on a medium of 32 blocks of 32 pages in memory. Expected texts are written by hand.
-use crate::gate::NoGate;
-use crate::lists::{OrderList, Ordered, SyncList, Synced};
-use crate::top::{Done, nameless};
+use crate::top::nameless;
+use nl_commands::Done;
 use nl_field::{FailList, Memory, Text};
 use nl_io::{MemSink, MemSource, Words};
-use nl_nand::{MemNand, Nand};
+use nl_nand::MemNand;
+use nl_workers::NoGate;
 use std::alloc::Global;
 use std::sync::Wait;
 use std::test::Fail;
@@ -42,7 +42,7 @@ fn medium(alloc: Global, failing: Failing) -> Result<MemNand, Memory> {
         list_of(alloc, failing.write)?,
         None,
     );
-    media.reserve(1024)?;
+    media.reserve(4096)?;
     Ok(media)
 }
 
@@ -89,228 +89,124 @@ fn answer<Rt: Threads + Wait + Sync>(
     Ok((status, sink, media, lines))
 }
 
-// The status of a run on a new volume of 32 blocks of 32 pages, its text, and how many lines were answered.
-fn run_on<Rt: Threads + Wait + Sync>(
-    rt: &Rt,
-    alloc: Global,
-    script: &[u8],
-    failing: Failing,
-) -> Result<(u8, MemSink, u32), Memory> {
-    let media = medium(alloc, failing)?;
-    let (_, _, media, _) = answer(rt, alloc, b"format 32 32", b"", NOTHING, media)?;
-    let (status, sink, _, lines) = answer(rt, alloc, b"run", script, failing, media)?;
-    Ok((status, sink, lines))
-}
+const NOTE: &[u8] = b"# save
+0 mkdir /home
+0 mkdir /home/ann
+0 create /home/ann/note
+0 write /home/ann/note 0 6f6c640a
+0 sync
+0 create /home/ann/.note.tmp
+0 write /home/ann/.note.tmp 0 6e65770a
+0 sync
+0 rename /home/ann/.note.tmp /home/ann/note
+0 sync
+0 read /home/ann/note 0 100
+0 list /home/ann
+0 stat /home
+";
 
 #[test]
-fn a_format_tells_its_numbers(rt: HostRuntime) -> Result<(), Fail> {
+fn a_note_is_saved(rt: HostRuntime) -> Result<(), Fail> {
     let alloc = rt.alloc();
-    let rows: [(&[u8], Failing, u8, &[u8]); 11] = [
+    let rows: [(&[u8], &[u8], u8, &[u8]); 9] = [
+        (b"run", b"", 7, b"blank\n"),
         (
             b"format 32 32",
-            NOTHING,
+            b"",
             0,
             b"formatted blocks 32 pages 32 data 480 nodes 64 meta 32\n",
         ),
         (
-            b"format 256 064",
-            NOTHING,
+            b"run",
+            NOTE,
             0,
-            b"formatted blocks 256 pages 64 data 15008 nodes 1024 meta 512\n",
+            b"opened 0\n2 @1 ok\n3 @2 ok\n4 @3 ok\n5 @4 ok 4\n6 @5 ok 4\n7 @6 ok\n8 @7 ok 4\n9 @8 ok 7\n10 @9 ok\n11 @10 ok 9\n12 @11 ok 6e65770a\n13 @12 ok 1 note\n14 @13 ok dir 1\n",
         ),
-        (b"format 31 32", NOTHING, 2, b"words\n"),
-        (b"format 4096 128", NOTHING, 2, b"words\n"),
-        (b"format 32 4294967328", NOTHING, 2, b"words\n"),
-        (b"format 32", NOTHING, 2, b"words\n"),
-        (b"run 32", NOTHING, 2, b"words\n"),
-        (b"tree", NOTHING, 2, b"words\n"),
+        (b"check", b"", 0, b"sound 13\n"),
+        (b"run", b"0 write /a 0 6\n", 2, b"script 1 14 hex\n"),
         (
-            b"format 32 32",
-            Failing {
-                write: 1,
-                ..NOTHING
-            },
-            5,
-            b"medium fault\n",
+            b"run",
+            b"3 read /home/ann/note 0 9\nbarrier\n5 unlink /home/ann/note\n",
+            0,
+            b"opened 13\n1 @14 ok 6e65770a\n3 @15 ok\n",
         ),
-        (
-            b"format 32 32",
-            Failing {
-                write: 2,
-                ..NOTHING
-            },
-            5,
-            b"medium fault\n",
-        ),
-        (b"format 32 32", Failing { sink: 1, ..NOTHING }, 4, b""),
+        (b"check", b"", 0, b"sound 15\n"),
+        (b"tree", b"", 2, b"unbuilt\n"),
+        (b"run run", b"", 2, b"words\n"),
     ];
-    for (line, failing, want, text) in rows {
-        let media = medium(alloc, failing)?;
-        let (status, sink, _, lines) = answer(&rt, alloc, line, b"", failing, media)?;
+    let mut media = medium(alloc, NOTHING)?;
+    for (words, script, want, text) in rows {
+        let (status, sink, after, _) = answer(&rt, alloc, words, script, NOTHING, media)?;
         assert_eq!(rt; status, want);
         assert_eq!(rt; sink.bytes(), text);
-        assert_eq!(rt; lines, 0);
+        media = after;
     }
     Ok(())
 }
 
-#[test]
-fn only_a_new_volume_is_run(rt: HostRuntime) -> Result<(), Fail> {
-    let alloc = rt.alloc();
-    let script = b"0 create /a\n0 write /a 0 61\n".as_slice();
+/// The texts of two scripts, the second on the medium as the first has left it, each run with status 0.
+fn runs<Rt: Threads + Wait + Sync>(
+    rt: &Rt,
+    alloc: Global,
+    first: &[u8],
+    second: &[u8],
+) -> Result<Option<(MemSink, MemSink)>, Memory> {
     let media = medium(alloc, NOTHING)?;
-    let (status, sink, media, _) = answer(&rt, alloc, b"run", script, NOTHING, media)?;
-    assert_eq!(rt; status, 2);
-    assert_eq!(rt; sink.bytes(), b"unbuilt\n".as_slice());
-    let (_, _, media, _) = answer(&rt, alloc, b"format 32 32", b"", NOTHING, media)?;
-    let (status, _, media, _) = answer(&rt, alloc, b"run", script, NOTHING, media)?;
-    assert_eq!(rt; status, 0);
-    let (status, sink, media, _) = answer(&rt, alloc, b"run", script, NOTHING, media)?;
-    assert_eq!(rt; status, 2);
-    assert_eq!(rt; sink.bytes(), b"unbuilt\n".as_slice());
-    let (_, _, media, _) = answer(&rt, alloc, b"format 32 64", b"", NOTHING, media)?;
-    let (status, _, _, _) = answer(&rt, alloc, b"run", script, NOTHING, media)?;
-    assert_eq!(rt; status, 0);
-    Ok(())
-}
-
-#[test]
-fn answers_are_those_of_a_tree(rt: HostRuntime) -> Result<(), Fail> {
-    let alloc = rt.alloc();
-    let rows: [(&[u8], u8, &[u8]); 7] = [
-        (
-            b"0 read /b 0 1\n0 create /b\n0 create /b\n",
-            0,
-            b"opened 0\n1 @1 ENOENT\n2 @2 ok\n3 @3 EEXIST\n",
-        ),
-        (b"", 0, b"opened 0\n"),
-        (
-            b"0 create /a\n0 write /a 4 6f\n0 write /a 0 68656c6c\n0 read /a 1 9\n0 read /a 9 1\n",
-            0,
-            b"opened 0\n1 @1 ok\n2 @2 ok 1\n3 @3 ok 4\n4 @4 ok 656c6c6f\n5 @5 ok -\n",
-        ),
-        (
-            b"0 create /a\n0 write /a 2 61\n0 read /a 0 3\n0 write /b 0 -\n0 write /a 9 -\n0 read /a 0 9\n",
-            0,
-            b"opened 0\n1 @1 ok\n2 @2 ok 1\n3 @3 ok 000061\n4 @4 ENOENT\n5 @5 ok 0\n6 @6 ok 000061\n",
-        ),
-        (b"0 mkdir /d\n", 2, b"unbuilt\n"),
-        (b"0 create /a", 2, b"unbuilt\n"),
-        (b"0 write /a 4096 61\n", 2, b"unbuilt\n"),
-    ];
-    for (script, want, text) in rows {
-        let (status, sink, _) = run_on(&rt, alloc, script, NOTHING)?;
-        assert_eq!(rt; status, want);
-        assert_eq!(rt; sink.bytes(), text);
+    let (_, _, media, _) = answer(rt, alloc, b"format 32 32", b"", NOTHING, media)?;
+    let (one, text, media, _) = answer(rt, alloc, b"run", first, NOTHING, media)?;
+    let (two, more, _, _) = answer(rt, alloc, b"run", second, NOTHING, media)?;
+    if one == 0 && two == 0 {
+        Ok(Some((text, more)))
+    } else {
+        Ok(None)
     }
-    Ok(())
 }
 
 #[test]
-fn a_full_medium_is_told(rt: HostRuntime) -> Result<(), Fail> {
+fn scripts_are_answered(rt: HostRuntime) -> Result<(), Fail> {
     let alloc = rt.alloc();
-    let mut script = Vec::new(alloc);
-    script.extend_from_slice(b"0 create /a\n")?;
-    for _ in 0..737 {
-        script.extend_from_slice(b"0 write /a 0 61\n")?;
-    }
-    script.extend_from_slice(b"0 read /a 0 1\n")?;
-    let (status, sink, lines) = run_on(&rt, alloc, &script, NOTHING)?;
-    assert_eq!(rt; status, 0);
-    assert_eq!(rt; lines, 739);
-    let end = b"\n737 @737 ok 1\n738 @738 ENOSPC data\n739 @739 ok 61\n".as_slice();
-    assert!(rt; sink.bytes().ends_with(end));
-    Ok(())
-}
-
-#[test]
-fn faults_are_told(rt: HostRuntime) -> Result<(), Fail> {
-    let alloc = rt.alloc();
-    let script =
-        b"0 create /a\n0 write /a 0 61\n0 write /a 0 62\n0 read /a 0 1\n0 read /a 0 1\n".as_slice();
-    // The format programs two pages. The look at the medium reads its 1024 pages, and so does the opening. The second write of the script reads
-    // the page of the first.
-    let rows: [(Failing, u8, &[u8], u32); 7] = [
+    let rows: [(&[u8], &[u8], &[u8], &[u8]); 6] = [
         (
-            Failing {
-                source: 1,
-                ..NOTHING
-            },
-            3,
-            b"source fault\n",
-            0,
-        ),
-        (Failing { sink: 1, ..NOTHING }, 4, b"", 5),
-        (Failing { read: 3, ..NOTHING }, 5, b"medium fault\n", 0),
-        (
-            Failing {
-                read: 1025,
-                ..NOTHING
-            },
-            5,
-            b"medium fault\n",
-            0,
+            b"0 mkdir /d\n0 create /d/a\n0 write /d/a 0 68656c6c6f\n0 read /d/a 0 9\n0 list /d\n0 stat /d/a\n0 stat /d\n0 sync\n",
+            b"opened 0\n1 @1 ok\n2 @2 ok\n3 @3 ok 5\n4 @4 ok 68656c6c6f\n5 @5 ok 1 a\n6 @6 ok file 5 1\n7 @7 ok dir 1\n8 @8 ok 7\n",
+            b"0 read /d/a 0 9\n0 stat /d/a\n",
+            b"opened 8\n1 @9 ok 68656c6c6f\n2 @10 ok file 5 1\n",
         ),
         (
-            Failing {
-                write: 4,
-                ..NOTHING
-            },
-            5,
-            b"opened 0\n1 @1 ok\n2 @2 ok 1\n3 @3 EIO 1\n4 @4 ok 61\n5 @5 ok 61\n",
-            5,
+            b"0 create /a\n0 write /a 0 68656c6c6f\n0 truncate /a 3\n0 truncate /a 10\n0 read /a 0 3\n0 stat /a\n",
+            b"opened 0\n1 @1 ok\n2 @2 ok 5\n3 @3 ok\n4 @4 ok\n5 @5 ok 68656c\n6 @6 ok file 10 1\n",
+            b"0 stat /a\n0 read /a 1 4\n",
+            b"opened 6\n1 @7 ok file 10 1\n2 @8 ok 656c0000\n",
         ),
         (
-            Failing {
-                read: 2049,
-                ..NOTHING
-            },
-            5,
-            b"opened 0\n1 @1 ok\n2 @2 ok 1\n3 @3 EIO 1\n4 @4 ok 61\n5 @5 ok 61\n",
-            5,
+            b"0 create /a\n0 fill /a 0 65536 61\n0 fill /a 4095 2 62\n0 read /a 4094 4\n0 stat /a\n0 unlink /a\n0 stat /a\n",
+            b"opened 0\n1 @1 ok\n2 @2 ok 65536\n3 @3 ok 2\n4 @4 ok 61626261\n5 @5 ok file 65536 16\n6 @6 ok\n7 @7 ENOENT\n",
+            b"0 list /\n",
+            b"opened 7\n1 @8 ok 0\n",
         ),
         (
-            Failing {
-                read: 2050,
-                ..NOTHING
-            },
-            5,
-            b"opened 0\n1 @1 ok\n2 @2 ok 1\n3 @3 ok 1\n4 @4 EIO 1\n5 @5 ok 62\n",
-            5,
+            b"0 create /a\n0 create /b\n0 fill /a 0 65536 61\n0 fill /b 0 65536 62\n0 fill /b 0 65536 63\n0 sync\n0 clean\n0 rename /a /c\n",
+            b"opened 0\n1 @1 ok\n2 @2 ok\n3 @3 ok 65536\n4 @4 ok 65536\n5 @5 ok 65536\n6 @6 ok 5\n7 @7 ok\n8 @8 ok\n",
+            b"0 stat /c\n0 read /b 65535 1\n0 stat /a\n",
+            b"opened 8\n1 @9 ok file 65536 16\n2 @10 ok 63\n3 @11 ENOENT\n",
+        ),
+        (
+            b"0 create /a\n0 write /a 40000 61\n0 stat /a\n0 read /a 39999 2\n0 truncate /a 5000\n0 stat /a\n",
+            b"opened 0\n1 @1 ok\n2 @2 ok 1\n3 @3 ok file 40001 1\n4 @4 ok 0061\n5 @5 ok\n6 @6 ok file 5000 0\n",
+            b"0 stat /a\n",
+            b"opened 6\n1 @7 ok file 5000 0\n",
+        ),
+        (
+            b"0 mkdir /d\n0 mkdir /d\n0 create /d/a\n0 rmdir /d\n0 unlink /d\n0 rmdir /d/a\n0 create /x/y\n0 rename /d /d/e\n0 write /d/a 16809984 00\n0 read /d/a 0 5\n0 rename /d /e\n",
+            b"opened 0\n1 @1 ok\n2 @2 EEXIST\n3 @3 ok\n4 @4 ENOTEMPTY\n5 @5 EISDIR\n6 @6 ENOTDIR\n7 @7 ENOENT\n8 @8 EINVAL\n9 @9 EFBIG\n10 @10 ok -\n11 @11 ok\n",
+            b"0 stat /e\n0 stat /e/a\n0 stat /d\n",
+            b"opened 11\n1 @12 ok dir 1\n2 @13 ok file 0 0\n3 @14 ENOENT\n",
         ),
     ];
-    for (failing, want, text, answered) in rows {
-        let (status, sink, lines) = run_on(&rt, alloc, script, failing)?;
-        assert_eq!(rt; status, want);
-        assert_eq!(rt; sink.bytes(), text);
-        assert_eq!(rt; lines, answered);
+    for (first, text, second, more) in rows {
+        let (one, two) = runs(&rt, alloc, first, second)?.ok_or("not run")?;
+        assert_eq!(rt; one.bytes(), text);
+        assert_eq!(rt; two.bytes(), more);
     }
-    Ok(())
-}
-
-#[test]
-fn lists_keep_their_order(rt: HostRuntime) -> Result<(), Fail> {
-    let alloc = rt.alloc();
-    let mut order = OrderList::new(alloc);
-    order.push(Ordered {
-        line: 4,
-        fault: None,
-    })?;
-    assert_eq!(rt; order.len(), 1);
-    assert_eq!(rt; order.get(0).line, 4);
-    let mut syncs = SyncList::new(alloc);
-    syncs.reserve(2)?;
-    syncs.push(Synced {
-        line: 9,
-        upto: 3,
-        moment: 7,
-    })?;
-    syncs.push(Synced {
-        line: 9,
-        upto: 5,
-        moment: 7,
-    })?;
-    assert_eq!(rt; syncs.len(), 2);
-    assert_eq!(rt; syncs.get(1).upto, 5);
     Ok(())
 }

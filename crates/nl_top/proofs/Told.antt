@@ -1,0 +1,59 @@
+-- Endings of a run of lines, from what its parts say.
+use Rattle.std.proofs.Common.{◌≡◌, ◌<◌, ℕ, Bool, List, [], ◌∷◌, length, suc, inl, inr, arith, ap, refl, sym, subst, ◌∙◌}
+use Rattle.std.specs.Prelude.{◌^◌, ⊤}
+use Rattle.std.specs.List.{All}
+use Rattle.nl_field.specs.Members.{Has}
+use Rattle.nl_headline.specs.Course.{Course, count_after, text_in}
+use Rattle.nl_headline.specs.Status.{DoneStatus, RunFailed}
+use Rattle.nl_headline.specs.Streams.{Medium, Prints, Stream}
+use Rattle.nl_headline.specs.declared.lists.Ordered.{Ordered}
+use Rattle.nl_headline.specs.declared.lists.Synced.{Synced}
+use Rattle.nl_print.specs.Texts.{run_text}
+use Rattle.nl_rounds.specs.Rounds.{AreRoomyFor, AreTablesFor, HasRoomFor, LinesRan, order_of_rows, syncs_of_rows}
+use Rattle.nl_sound.specs.Crash.{Run}
+use Rattle.nl_telling.specs.Rows.{PlacedRowsAreARun, rows_text}
+use Rattle.nl_tree.specs.Causes.{Counts}
+use Rattle.nl_tree.specs.declared.call.Line.{Line}
+use Rattle.nl_workers.specs.Table.{Row, TableState}
+use Rattle.nl_headline.specs.Table.{Table}
+use Rattle.nl_top.specs.RunEnds.{RunEnds, ran}
+
+-- ---- lines that were run
+
+module _ (tells : Type 0) (lines : List Line) (stops : Run → Type 0) (sink sink' : Stream) (medium medium' : Medium) (rows : List Row) (lost worn : Bool) (course : Course) (count status : ℕ)
+    (runs : LinesRan tells lines stops medium medium' rows lost worn course) (opened : count ≡ course.count) where
+  text_is : PlacedRowsAreARun → count_after course < 2 ^ 63 → rows_text count rows ≡ text_in course
+  text_is placed few = ap (λ (n : ℕ). rows_text n rows) opened ∙ placed course.count rows (runs.places few) ∙ ap (run_text course.count) runs.said
+
+  pub was_told : PlacedRowsAreARun → (order : List Ordered) (syncs : List Synced) → order ≡ order_of_rows rows → syncs ≡ syncs_of_rows rows
+      → Prints sink sink' (rows_text count rows) → DoneStatus status (RunFailed order medium.counts medium'.counts lost worn) sink sink' (rows_text count rows)
+      → RunEnds tells lines ⊤ text_in stops sink sink' medium medium' order syncs status
+  was_told placed order syncs is_order is_syncs prints done =
+      subst (λ (x : List Ordered × List Synced). RunEnds tells lines ⊤ text_in stops sink sink' medium medium' x.0 x.1 status) (λ i. (sym is_order i, sym is_syncs i))
+      (ran (record {
+        course = course;
+        lost = lost;
+        worn = worn;
+        runs = runs.runs;
+        causes = runs.causes;
+        text = rows_text count rows;
+        text_is = λ spoken few. text_is placed few;
+        prints = prints;
+        done = subst (λ (o : List Ordered). DoneStatus status (RunFailed o medium.counts medium'.counts lost worn) sink sink' (rows_text count rows)) is_order done;
+      }))
+
+-- the lists have room for the rows
+pub room_for : (lines : List Line) (rows : List Row) (answers : TableState) (order order' : Table Ordered) (syncs syncs' : Table Synced) → length rows ≡ length lines → AreTablesFor lines answers order syncs
+    → order' ≡ order → syncs' ≡ syncs → AreRoomyFor rows order' syncs'
+room_for lines rows answers order order' syncs syncs' many tables same_order same_syncs =
+    record {
+      order_room = subst (λ (x : ℕ × Table Ordered). HasRoomFor x.0 x.1) (λ i. (sym many i, sym same_order i)) tables.order_room;
+      syncs_room = subst (λ (x : ℕ × Table Synced). HasRoomFor x.0 x.1) (λ i. (sym many i, sym same_syncs i)) tables.syncs_room;
+    }
+
+-- ---- lines
+
+pub has_each : (P : Line → Type 0) (lines : List Line) (l : Line) → All P lines → Has lines l → P l
+has_each P [] l each has = absurd has
+has_each P (x ∷ lines) l each (inl same) = subst P same (each 0 x (omega arith))
+has_each P (x ∷ lines) l each (inr has) = has_each P lines l (λ i d lt. each (suc i) d (omega (arith, lt))) has

@@ -1,0 +1,80 @@
+// The command that runs a script.
+ghost use Rattle.std.specs.Prelude.{◌≡◌, ⊤};
+ghost use Rattle.nl_headline.specs.Course.{text_in};
+ghost use Rattle.nl_headline.specs.Streams.{medium, stream};
+ghost use Rattle.nl_sound.specs.Crash.{StopsSafely};
+ghost use Rattle.nl_sound.specs.Stands.{SoundAs};
+ghost use Rattle.nl_top.specs.RunEnds.{RunEnds, ScriptEnds};
+
+use crate::opening::refused;
+use crate::telling::tell;
+use nl_commands::{Done, Script, ended, faults_of, read_script, without_lines};
+use nl_io::{Sink, Source};
+use nl_nand::Nand;
+use nl_print::refused_line;
+use nl_rounds::{open, run_lines, tables_for};
+use nl_telling::laws::placed_rows_are_a_run;
+use nl_tree::Lines;
+use nl_workers::Gate;
+use std::alloc::Global;
+use std::sync::Wait;
+use std::thread::Threads;
+
+// Runs the script of a source.
+pub(crate) fn run<Rt: Threads + Wait + Sync, S: Source, K: Sink, M: Nand + Send, G: Gate + Sync>(
+    rt: &Rt,
+    alloc: Global,
+    src: &mut S,
+    sink: &mut K,
+    media: M,
+    gate: &G,
+) -> Done<M>
+    ensures { ScriptEnds M.tells (StopsSafely SoundAs (λ m c. M.left media m c) (λ m c. M.left result.media m c) (M.clock media) (M.clock result.media))
+        (stream (S.left src.old) (S.faults src.old)) (stream (S.left src.new) (S.faults src.new))
+        (stream (K.taken sink.old) (K.faults sink.old)) (stream (K.taken sink.new) (K.faults sink.new))
+        (medium (M.geometry media) (M.contents media) (M.clock media) (M.read_faults media) (M.write_faults media))
+        (medium (M.geometry result.media) (M.contents result.media) (M.clock result.media) (M.read_faults result.media) (M.write_faults result.media))
+        result.order.items result.syncs.items result.status }
+{
+    match read_script(alloc, src) {
+        Script::Lines(lines) => run_on(rt, alloc, &lines, sink, media, gate),
+        Script::Refused { line, column, why } => {
+            let _ = refused_line(sink, line, column, why.word());
+            without_lines(alloc, 2, media)
+        }
+        Script::Failed => ended(alloc, 3, b"source fault", sink, media),
+        Script::Memory => ended(alloc, 6, b"memory", sink, media),
+    }
+}
+
+// Takes the tables, opens the volume, and runs the lines.
+fn run_on<Rt: Threads + Wait + Sync, K: Sink, M: Nand + Send, G: Gate + Sync>(
+    rt: &Rt,
+    alloc: Global,
+    lines: &Lines,
+    sink: &mut K,
+    media: M,
+    gate: &G,
+) -> Done<M>
+    ensures { RunEnds M.tells lines.now ⊤ text_in (StopsSafely SoundAs (λ m c. M.left media m c) (λ m c. M.left result.media m c) (M.clock media) (M.clock result.media)) (stream (K.taken sink.old) (K.faults sink.old)) (stream (K.taken sink.new) (K.faults sink.new))
+        (medium (M.geometry media) (M.contents media) (M.clock media) (M.read_faults media) (M.write_faults media))
+        (medium (M.geometry result.media) (M.contents result.media) (M.clock result.media) (M.read_faults result.media) (M.write_faults result.media))
+        result.order.items result.syncs.items result.status }
+{
+    let _lines = lines.as_slice();
+    let Ok(mut tables) = tables_for(alloc, lines) else {
+        return ended(alloc, 6, b"memory", sink, media);
+    };
+    let before = faults_of(&media);
+    let volume = match open(alloc, media) {
+        Ok(volume) => volume,
+        Err(why) => return refused(alloc, why, sink),
+    };
+    match run_lines(rt, alloc, volume, lines, &mut tables, gate) {
+        Ok(ran) => {
+            placed_rows_are_a_run();
+            tell(ran, tables, before, sink)
+        }
+        Err(volume) => ended(alloc, 6, b"memory", sink, volume.into_media()),
+    }
+}
