@@ -67,6 +67,19 @@ same_then first second = record {
   total = second.total ∙ first.total;
 }
 
+-- a block was restated, and then the same blocks are Free
+pub restated_then : {block : ℕ} {free : Bool} {a b c : Table} → Restated block free a b → SameUse b c → Restated block free a c
+restated_then {block} {free} {a} {b} {c} first second = record {
+  numbers = record {
+    same_first = second.numbers.same_first ∙ first.numbers.same_first;
+    same_size = second.numbers.same_size ∙ first.numbers.same_size;
+    same_count = second.numbers.same_count ∙ first.numbers.same_count;
+  };
+  here = second.free block ∙ first.here;
+  others = λ other ne. second.free other ∙ first.others other ne;
+  total = let t = first.total in let u = second.total in omega (arith, t, u);
+}
+
 -- a block was restated after the same use
 pub restated_after : {block : ℕ} {free : Bool} {a b c : Table} → SameUse a b → Restated block free b c → Restated block free a c
 restated_after {block} {free} {a} {b} {c} first second = record {

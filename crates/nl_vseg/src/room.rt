@@ -53,6 +53,16 @@ fn free_block(blocks: &mut Blocks, block: u32, soiled: bool)
     blocks.erased(block, 0);
 }
 
+/// A block in use was erased before its pages are used.
+fn wear_out(blocks: &mut Blocks, block: u32)
+    requires first { blocks.old.first ≡ 0 }
+    requires within { block < length blocks.old.blocks }
+    ensures states { SameUse blocks.old blocks.new }
+    ensures worn { wears_of blocks.new ≡ wears_after WriteAnswer.Done block (wears_of blocks.old) }
+{
+    blocks.reerased(block);
+}
+
 fn is_free(blocks: &Blocks, block: u32) -> bool
     requires first { blocks.now.first ≡ 0 }
     requires within { block < length blocks.now.blocks }
@@ -73,7 +83,7 @@ pub fn set_wear(blocks: &mut Blocks, block: u32, wear: u32)
         blocks.found(block, wear, 0);
         return;
     }
-    blocks.erased(block, 0);
+    blocks.freed(block, 0);
     blocks.found(block, wear, 0);
     blocks.seal(block);
 }
@@ -132,6 +142,56 @@ impl State {
         }
     }
 
+    /// A block that is in use and holds no page of the map was erased.
+    fn set_worn(&mut self, block: u32)
+        requires formed { IsFormed self.old }
+        requires within { block < length self.old.blocks.blocks }
+        ensures formed { IsFormed self.new }
+        ensures places { self.new.places.items ≡ self.old.places.items }
+        ensures used { self.new.used ≡ self.old.used }
+        ensures active { self.new.active ≡ self.old.active }
+        ensures states { SameUse self.old.blocks self.new.blocks }
+        ensures worn { wears_of self.new.blocks ≡ wears_after WriteAnswer.Done block (wears_of self.old.blocks) }
+        ensures erased { (p : ℕ) → TakenAsErased (seen self.new) p → (p / self.old.blocks.size ≡ block → ⊥) → TakenAsErased (seen self.old) p }
+    {
+        wear_out(&mut self.blocks, block);
+        self.soiled[block as usize] = false;
+    }
+
+    /// Erases a block that was taken before its pages are used. It stays in use; where the erase fails, it is Free.
+    fn erase_taken<M: Nand>(&mut self, media: &mut M, block: u32) -> WriteAnswer
+        requires formed { IsFormed self.old }
+        requires fits { FitsLayout (M.geometry media.old) (seen self.old) }
+        requires within { block < length self.old.blocks.blocks }
+        requires unmapped { IsUnmapped self.old.blocks.size self.old.places.items block }
+        requires idle { self.old.used < self.old.blocks.size → block ≡ self.old.active → ⊥ }
+        requires segment { M.tells → IsLayoutOf (M.contents media.old) (seen self.old) }
+        ensures formed { IsFormed self.new }
+        ensures places { self.new.places.items ≡ self.old.places.items }
+        ensures used { self.new.used ≡ self.old.used }
+        ensures active { self.new.active ≡ self.old.active }
+        ensures kept { result ≡ WriteAnswer.Done → SameUse self.old.blocks self.new.blocks }
+        ensures given { result ≡ WriteAnswer.Failed → Restated block true self.old.blocks self.new.blocks }
+        ensures segment { M.tells → IsLayoutOf (M.contents media.new) (seen self.new) }
+        ensures blank { M.tells → result ≡ WriteAnswer.Done → (p : ℕ) → p / self.old.blocks.size ≡ block → page_at (M.contents media.new) p ≡ erased }
+        ensures others { M.tells → (p : ℕ) → (p / self.old.blocks.size ≡ block → ⊥) → page_at (M.contents media.new) p ≡ page_at (M.contents media.old) p }
+        ensures map { M.tells → KeepsMap M.clock M.contents M.left self.old.blocks.size (bound (seen self.old)) (map_of self.old.places.items (M.contents media.old)) (map_of self.new.places.items (M.contents media.new)) media.old media.new }
+        ensures operates { Operates M.tells self.old.blocks.size (snapshot (wears_of self.old.blocks) (M.clock media.old) (M.contents media.old)) (snapshot (wears_of self.new.blocks) (M.clock media.new) (M.contents media.new)) }
+        ensures geometry { M.geometry media.new ≡ M.geometry media.old }
+        ensures counts { Counted M.clock M.read_faults M.write_faults media.old media.new (result ≡ WriteAnswer.Failed) }
+    {
+        match media.erase(block) {
+            WriteAnswer::Done => {
+                self.set_worn(block);
+                WriteAnswer::Done
+            }
+            WriteAnswer::Failed => {
+                self.set_free(block, true);
+                WriteAnswer::Failed
+            }
+        }
+    }
+
     /// Takes a Free block, and erases it first where it is soiled. None where that failed.
     fn take_erased<M: Nand>(&mut self, media: &mut M) -> Option<u32>
         requires formed { IsFormed self.old }
@@ -158,12 +218,9 @@ impl State {
         if !self.soiled[block as usize] {
             return Some(block);
         }
-        match self.erase(media, block) {
+        match self.erase_taken(media, block) {
             WriteAnswer::Failed => None,
-            WriteAnswer::Done => {
-                self.blocks.seal(block);
-                Some(block)
-            }
+            WriteAnswer::Done => Some(block),
         }
     }
 
