@@ -22,6 +22,9 @@ const HANDLER: u8 = 9;
 /// The cleaner copies while fewer blocks than these are free.
 const FEW_BLOCKS: u32 = 6;
 
+/// The cleaner lets others run at most so many times between two turns.
+const MOST_RESTS: u32 = 1023;
+
 /// What the loop of the cleaner has in hand, and whether one of its tasks found a page without the wanted stamp.
 #[derive(Drop)]
 pub(crate) struct Cleaner {
@@ -136,6 +139,26 @@ fn rest<G: Gate>(gate: &G, worker: u8, answer: DutyAnswer) -> Option<Told>
     }
 }
 
+/// How many times the cleaner lets others run before its next turn: not at all behind a task that did something, and else about twice as often
+/// as before.
+fn rests_after(rests: u32, answer: DutyAnswer) -> u32 {
+    if matches!(answer, DutyAnswer::Did) {
+        0
+    } else {
+        rests.min(MOST_RESTS / 2) * 2 + 1
+    }
+}
+
+/// Lets others run so many times, or until the flag is raised.
+fn pause(stop: &StopFlag, rests: u32) {
+    for _ in 0..rests {
+        if stop.is_raised() {
+            return;
+        }
+        thread::yield_now();
+    }
+}
+
 #[tactic(auto, using(crate::proofs::Serving::handles_none))]
 /// Handles callbacks by the numbers that come, until the flag is raised.
 pub(crate) fn handle<V: Served, R: Wait, G: Gate>(
@@ -166,7 +189,8 @@ pub(crate) fn handle<V: Served, R: Wait, G: Gate>(
 }
 
 #[tactic(auto, using(crate::proofs::Serving::cleans_none))]
-/// Cleans until the flag is raised, and sends the number of each new callback.
+/// Cleans until the flag is raised, and sends the number of each new callback. While there is nothing to do its turns come more and more seldom, so
+/// that workers need not wait for them.
 pub(crate) fn clean<V: Served, R: Wait, G: Gate>(
     rt: &R,
     turns: &Turns<V>,
@@ -179,7 +203,9 @@ pub(crate) fn clean<V: Served, R: Wait, G: Gate>(
     ensures { HasCleaned V.tells notices.now cleaner result }
 {
     let mut wanted = Duty::Copy;
+    let mut rests = 0;
     for _ in rt.forever() {
+        pause(stop, rests);
         if stop.is_raised() {
             return cleaner;
         }
@@ -188,6 +214,7 @@ pub(crate) fn clean<V: Served, R: Wait, G: Gate>(
         cleaner.outbox.send_up_to(rt, notices, cleaned.posted);
         rest(gate, CLEANER, cleaned.answer);
         wanted = next_task(cleaned.task, cleaned.answer);
+        rests = rests_after(rests, cleaned.answer);
     }
     unreachable!()
 }
