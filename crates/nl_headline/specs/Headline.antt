@@ -20,11 +20,11 @@ use Rattle.nl_headline.specs.declared.lists.Synced.{Synced}
 
 -- ---- premises
 
--- The clock, the last place and the numbers of transactions stay below 2^63. Each transaction but the last takes a program that finishes or fails.
+-- The clock, the last place and the numbers of transactions stay below 2^63. The number of the last transaction rises by no more than the clock.
 pub record IsYoung (image : Image) (before now : Counts) (course : Course) : Type 0 where
   pub clock : now.clock < 2 ^ 63
   pub places : count_after course < 2 ^ 63
-  pub transactions : next_number (shape_of_image image) (virtual_bytes image) + (now.clock - before.clock) + (now.write_faults - before.write_faults) < 2 ^ 63
+  pub transactions : next_number (shape_of_image image) (virtual_bytes image) + (now.clock - before.clock) < 2 ^ 63
 
 -- ---- the start
 
