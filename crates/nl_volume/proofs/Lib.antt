@@ -10,7 +10,9 @@ pub mod Few
 pub mod Flights
 pub mod Given
 pub mod Histories
+pub mod Left
 pub mod Lines
+pub mod Nexts
 pub mod Serving
 pub mod Staged
 pub mod Stages

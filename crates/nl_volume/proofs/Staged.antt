@@ -28,7 +28,7 @@ module _ {M : Type 0} (g : Ghosts (Device M)) (worker line : ℕ) (call : Call) 
   staged_counts = never_fall g x.most u w core x.goes
 
   pub staged_less : StagesLess (to_stage_of u.flight) (to_stage_of w.flight) worker line (is_staged answer)
-  staged_less = record { falls = x.room; others = λ k l far. let same = to_stage_same u.flight w.flight k l (x.others k far) in omega (arith, same) }
+  staged_less = record { falls = λ staged. let one = x.room staged in omega (arith, one); others = λ k l far. let same = to_stage_same u.flight w.flight k l (x.others k far) in omega (arith, same) }
 
   pub staged_read_only : StaysReadOnly (counts_of g u.device) (counts_of g w.device) (some_number u.stopped) (some_number w.stopped)
   staged_read_only = stays_read_only g x.most u w core x.goes

@@ -163,13 +163,13 @@ module _ {M : Type 0} (g : Ghosts (Device M)) (worker line : ℕ) (call : Call) 
   count_now : length (of_worker v.flight worker).pages ≡ length was.pages + 1
   count_now = alike_count put (of_worker v.flight worker) own_alike ∙ (length-append (line_of u.flight worker line).pages _ ∙ ap (λ (xs : List FlightPage). length xs + 1) pages_of)
 
-  -- the line has less to stage
-  less : to_stage_of v.flight worker line < to_stage_of u.flight worker line
+  -- the line has room for one page less
+  less : to_stage_of u.flight worker line ≡ to_stage_of v.flight worker line + 1
   less =
       let now = room_at (of_worker v.flight worker) line line_now in
       let count = count_now in
       ⊎_elim
-      (λ is. let far = none_of was (λ same. let none = is.0 in let off : ⊥ = omega (arith, same, none, some) in off) in let old = far.1 in omega (arith, now, count, old, few))
+      (λ is. let far = none_of was (λ same. let none = is.0 in let off : ⊥ = omega (arith, same, none, some) in off) in let old = far.1 in let empty = ap (λ (xs : List FlightPage). length xs) (core.flight.idle worker is.0).0 in omega (arith, now, count, old, empty))
       (λ is. let old = room_at was line is.0 in omega (arith, now, count, old, few))
       (line_cases u.flight worker line has)
     where

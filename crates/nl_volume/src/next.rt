@@ -7,7 +7,8 @@ ghost use Rattle.nl_effect.specs.Steps.{ReadsOn};
 ghost use Rattle.nl_field.specs.CrashStates.{Rose};
 ghost use Rattle.nl_flight.specs.Flight.{of_worker};
 ghost use Rattle.nl_tree.specs.Event.{is_whole, page_given};
-ghost use Rattle.nl_volume.specs.Staging.{IfPage, IsNext};
+ghost use Rattle.nl_volume.specs.Staging.{IfPage, IsNext, IsNextAt, IsNextIn};
+ghost use Rattle.nl_writing.specs.Ranges.{from_of, len_of, path_of};
 
 use nl_core::Core;
 use nl_device::Device;
@@ -17,9 +18,10 @@ use nl_flight::Flight;
 use nl_held::laws::device_stands;
 use nl_iface::Counts;
 use nl_namespace::Look;
+use nl_namespace::laws::looks_in_tree;
 use nl_nand::Nand;
 use nl_running::Stop;
-use nl_tree::{Call, Path, is_long};
+use nl_tree::{Call, Path};
 
 const PAGE: u64 = 4096;
 
@@ -48,6 +50,7 @@ pub(crate) fn next_of<M: Nand>(core: &mut Core<M>, call: &Call, place: u32) -> N
     ensures core { IsCore ⟦<Device<M> as Counts>⟧ core.new }
     ensures same { ReadsOn ⟦<Device<M> as Counts>⟧ core.old core.new }
     ensures page { IfPage result (IsNext call.now place) }
+    ensures left { IsNextIn ⟦<Device<M> as Counts>⟧ core.old (path_of call.now) (from_of call.now) (len_of call.now) place result }
     ensures fault { result ≡ Next.Fault → Rose (⟦<Device<M> as Counts>⟧.read_faults core.old.device) (⟦<Device<M> as Counts>⟧.read_faults core.new.device) }
     ensures lost { (w : ℕ) (f : ℕ) → result ≡ Next.Lost w f → (f ≢ w) × (M.tells → ⊥) }
 {
@@ -73,13 +76,12 @@ fn next_in<M: Nand>(core: &mut Core<M>, path: &Path, from: u64, len: u64, place:
     ensures core { IsCore ⟦<Device<M> as Counts>⟧ core.new }
     ensures same { ReadsOn ⟦<Device<M> as Counts>⟧ core.old core.new }
     ensures page { IfPage result (λ tag. (tag.index ≡ div_ceil from 4096 + place) × IsTrue (is_whole from len tag.index)) }
+    ensures left { IsNextIn ⟦<Device<M> as Counts>⟧ core.old path.now from len place result }
     ensures fault { result ≡ Next.Fault → Rose (⟦<Device<M> as Counts>⟧.read_faults core.old.device) (⟦<Device<M> as Counts>⟧.read_faults core.new.device) }
     ensures lost { (w : ℕ) (f : ℕ) → result ≡ Next.Lost w f → (f ≢ w) × (M.tells → ⊥) }
 {
+    looks_in_tree();
     device_stands(&core.device);
-    if is_long(path.names()) {
-        return Next::Whole;
-    }
     match look_up(core, path) {
         Look::At(ino) => next_at(core, ino, from, len, place),
         Look::Missing | Look::No(_) => Next::Whole,
@@ -98,16 +100,20 @@ fn next_at<M: Nand>(core: &mut Core<M>, ino: u32, from: u64, len: u64, place: u3
     ensures core { IsCore ⟦<Device<M> as Counts>⟧ core.new }
     ensures same { ReadsOn ⟦<Device<M> as Counts>⟧ core.old core.new }
     ensures page { IfPage result (λ tag. (tag.index ≡ div_ceil from 4096 + place) × IsTrue (is_whole from len tag.index)) }
+    ensures left { IsNextAt ⟦<Device<M> as Counts>⟧ core.old ino from len place result }
     ensures fault { result ≡ Next.Fault → Rose (⟦<Device<M> as Counts>⟧.read_faults core.old.device) (⟦<Device<M> as Counts>⟧.read_faults core.new.device) }
     ensures lost { (w : ℕ) (f : ℕ) → result ≡ Next.Lost w f → (f ≢ w) × (M.tells → ⊥) }
 {
     match open_node(core, ino) {
-        Ok(rec) => match whole_at(from, len, place) {
-            Some(index) if rec.kind == Kind::File => Next::Page(Tag {
-                ino,
-                generation: rec.generation,
-                index,
-            }),
+        Ok(rec) => match rec.kind {
+            Kind::File => match whole_at(from, len, place) {
+                Some(index) => Next::Page(Tag {
+                    ino,
+                    generation: rec.generation,
+                    index,
+                }),
+                None => Next::Whole,
+            },
             _ => Next::Whole,
         },
         Err(Stop::Fault) => Next::Fault,
@@ -119,6 +125,7 @@ fn next_at<M: Nand>(core: &mut Core<M>, ino: u32, from: u64, len: u64, place: u3
 fn whole_at(from: u64, len: u64, place: u32) -> Option<u32>
     requires few { place ≤ 16 }
     ensures whole { IfSome result (λ index. (index ≡ div_ceil from 4096 + place) × IsTrue (is_whole from len index)) }
+    ensures within { IsSome result → from + len ≤ max_file_size }
     ensures none { result ≡ None → (from + len ≤ max_file_size) → is_whole from len (div_ceil from 4096 + place) ≡ false }
 {
     if from > MOST || len > MOST - from {

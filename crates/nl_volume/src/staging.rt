@@ -4,7 +4,7 @@ ghost use Rattle.nl_flight.specs.Flight.{IsFlight, of_worker, with_line};
 ghost use Rattle.nl_tree.specs.Causes.{FaultRose, LostHasCause, NeverFall, fault_sum};
 ghost use Rattle.nl_turns.specs.Served.{FromEachWithLine, KeepsStagedFaults, StagesLess, StandsForSomeWithLine, StaysReadOnly, is_fault, is_staged, stage_entry};
 ghost use Rattle.nl_volume.specs.Serving.{refusing_of, some_number, to_stage_of};
-ghost use Rattle.nl_volume.specs.Staging.{IsNext, PassesOn, StagesOn, Stands, StandsWithLine};
+ghost use Rattle.nl_volume.specs.Staging.{IsNext, PassesOn, StagesOn, Stands, StandsWithLine, TellsLeft, staged_indexes};
 ghost use Rattle.nl_answering.specs.Answering.{counts_of};
 ghost use Rattle.nl_volume.specs.Turns.{notes_fault};
 
@@ -23,10 +23,12 @@ use nl_turns::Kept;
 impl<M: Nand> Volume<M> {
     /// Stages one whole page of a line ahead of its effect: it is programmed, and in flight from now on. `Stopped` comes exactly where the
     /// volume is read-only or worn, `Whole` where no whole page of the line is left: its path leads to no file, or it has no further page that
-    /// lies wholly in its range, or its range ends behind the greatest size. Pages in flight of another line of the worker are freed first.
+    /// lies wholly in its range, or its range ends behind the greatest size. Where none is left, `Fault` and `Lost` come only from reading what
+    /// the path leads to. Pages in flight of another line of the worker are freed first.
     pub fn stage(&mut self, worker: u8, line: u32, call: &Call) -> Stage
         requires { StandsForSomeWithLine ⟦<Volume<M> as Kept>⟧.stands self.old worker line call.now }
         ensures stands { FromEachWithLine ⟦<Volume<M> as Kept>⟧.stands self.old worker line call.now (λ v o h. ⟦<Volume<M> as Kept>⟧.stands v o (h ++ stage_entry line result ∷ []) self.new) }
+        ensures left { TellsLeft ⟦<Device<M> as Counts>⟧ worker line call.now self.old.core self.new.core result }
         ensures stopped { result ≡ Stage.Stopped ↔ (self.old.core.stopped ≢ 0) ⊎ (2 ^ 62 ≤ ⟦<Device<M> as Counts>⟧.next_stamp self.old.core.device) }
         ensures counts { NeverFall (counts_of ⟦<Device<M> as Counts>⟧ self.old.core.device) (counts_of ⟦<Device<M> as Counts>⟧ self.new.core.device) }
         ensures less { StagesLess (to_stage_of self.old.core.flight) (to_stage_of self.new.core.flight) worker line (is_staged result) }
@@ -51,6 +53,7 @@ impl<M: Nand> Volume<M> {
         requires writes { self.old.core.stopped ≡ 0 }
         requires stamp { ⟦<Device<M> as Counts>⟧.next_stamp self.old.core.device < 2 ^ 62 }
         ensures stages { StagesOn ⟦<Device<M> as Counts>⟧ worker line call.now self.old.core self.new.core result }
+        ensures left { TellsLeft ⟦<Device<M> as Counts>⟧ worker line call.now self.old.core self.new.core result }
         ensures not_stopped { result ≢ Stage.Stopped }
         ensures done { self.new.done ≡ self.old.done }
         ensures files { self.new.files ≡ self.old.files }
@@ -82,6 +85,7 @@ impl<M: Nand> Volume<M> {
         requires next { IsNext call.now (length (of_worker self.old.core.flight worker).pages) tag }
         ensures stages { StagesOn ⟦<Device<M> as Counts>⟧ worker line call.now self.old.core self.new.core result }
         ensures not_stopped { result ≢ Stage.Stopped }
+        ensures not_whole { result ≢ Stage.Whole }
         ensures done { self.new.done ≡ self.old.done }
         ensures files { self.new.files ≡ self.old.files }
     {
@@ -108,6 +112,7 @@ impl<M: Nand> Volume<M> {
         requires some { 0 < line }
         ensures passes { PassesOn ⟦<Device<M> as Counts>⟧ worker line self.old.core self.new.core }
         ensures line { HasLine self.new.core.flight worker line }
+        ensures staged { staged_indexes self.new.core.flight worker line ≡ staged_indexes self.old.core.flight worker line }
         ensures stopped { self.new.core.stopped ≡ self.old.core.stopped }
         ensures stamp { ⟦<Device<M> as Counts>⟧.next_stamp self.new.core.device ≡ ⟦<Device<M> as Counts>⟧.next_stamp self.old.core.device }
         ensures done { self.new.done ≡ self.old.done }

@@ -1,9 +1,12 @@
-use Rattle.std.proofs.Common.{◌≡◌, ◌+◌, length, subst}
+use Rattle.std.proofs.Common.{◌≡◌, ◌+◌, length, sym, subst}
 use Rattle.std.specs.Int.{div_ceil}
 use Rattle.std.specs.Prelude.{IsTrue}
 use Rattle.nl_device.specs.contracts.counts.DeviceCounts.TheImpl.{ghosts}
 use Rattle.nl_tree.specs.Event.{is_whole}
-use Rattle.nl_volume.specs.Staging.{IfPage, IsNext}
+use Rattle.std.proofs.Common.{inr}
+use Rattle.nl_writing.specs.Ranges.{from_of, len_of, path_of}
+use Rattle.nl_volume.specs.Staging.{IfPage, IsNext, IsNextIn}
+use Rattle.nl_volume.proofs.Left.{none_whole}
 use Rattle.nl_volume.proofs.Given.{if_page, next_fill, next_write}
 use Rattle.nl_writing.proofs.Reading.{reads-none}
 use Rattle.nl_volume.proofs.next.next_of.Goals as goal
@@ -30,6 +33,21 @@ returns-in_default g c =
       core = c.requires.core;
       same = reads-none G c.args.core.now c.requires.core;
       page = tt;
+      left = inr (inr (none_whole c.args.call.now c.args.place c.in_default.not-Write c.in_default.not-Fill));
       fault = λ no. absurd (cc no);
       lost = λ w f no. absurd (cc no);
     }
+
+pub returns-in-Write-clause-left : goal.returns-in-Write-clause-left
+returns-in-Write-clause-left g c =
+    let G = ghosts g.row.M g.M.Nand g.M.Nand-dict in
+    let w = c.in-Write in
+    subst (λ call. IsNextIn G c.args.core.now (path_of call) (from_of call) (len_of call) c.args.place c.next_in.result) (sym w.is)
+    (subst (λ bytes. IsNextIn G c.args.core.now w.path w.from (length bytes) c.args.place c.next_in.result) c.bytes.ensures c.next_in.ensures.left)
+
+pub returns-in-Fill-clause-left : goal.returns-in-Fill-clause-left
+returns-in-Fill-clause-left g c =
+    let G = ghosts g.row.M g.M.Nand g.M.Nand-dict in
+    let w = c.in-Fill in
+    subst (λ call. IsNextIn G c.args.core.now (path_of call) (from_of call) (len_of call) c.args.place c.next_in-in-Fill.result) (sym w.is)
+    (subst (λ len. IsNextIn G c.args.core.now w.path w.from len c.args.place c.next_in-in-Fill.result) c.from.ensures c.next_in-in-Fill.ensures.left)

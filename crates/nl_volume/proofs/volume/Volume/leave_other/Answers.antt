@@ -1,5 +1,6 @@
-use Rattle.std.proofs.Common.{◌∙◌, inl, inr, ⊎_elim, sym}
+use Rattle.std.proofs.Common.{◌∙◌, inl, inr, ⊎_elim, refl, sym}
 use Rattle.nl_device.specs.contracts.counts.DeviceCounts.TheImpl.{ghosts}
+use Rattle.nl_volume.proofs.Nexts.{staged_dropped}
 use Rattle.nl_volume.proofs.Stages.{passes_dropped, passes_none}
 use Rattle.nl_volume.proofs.volume.Volume.leave_other.Goals as goal
 
@@ -18,3 +19,12 @@ returns-else-now-ne0-clause-passes g c =
 
 pub returns-else-now-ne0-clause-line : goal.returns-else-now-ne0-clause-line
 returns-else-now-ne0-clause-line g c = ⊎_elim (λ is. inr (sym c.line-now.ensures.line ∙ is.1)) (λ none. inl (sym c.line-now.ensures.line ∙ none)) c.else-now-ne0.either
+
+pub returns-then-now-line-clause-staged : goal.returns-then-now-line-clause-staged
+returns-then-now-line-clause-staged g c =
+    let G = ghosts g.row.M g.M.Nand g.M.Nand-dict in
+    let u = c.args.self.now.core in
+    staged_dropped G c.args.worker c.args.line u c.drop_line.new.self c.requires.stands.4.serves.core c.requires.known c.requires.some (λ same. c.if-now-line.true (c.line-now.ensures.line ∙ same)) c.drop_line.ensures.dropped
+
+pub returns-else-now-ne0-clause-staged : goal.returns-else-now-ne0-clause-staged
+returns-else-now-ne0-clause-staged g c = refl

@@ -3,6 +3,7 @@ use Rattle.nl_device.specs.contracts.counts.DeviceCounts.TheImpl.{ghosts}
 use Rattle.nl_tree.specs.declared.turn.Stage.TheVariants as stage
 use Rattle.nl_turns.specs.Served.{stage_entry}
 use Rattle.nl_volume.specs.Standing.{StandsFor}
+use Rattle.nl_volume.proofs.Nexts.{tells_through}
 use Rattle.nl_volume.proofs.Serving.{worker_known}
 use Rattle.nl_volume.proofs.Staged.{staged_counts, staged_failed, staged_faults, staged_files, staged_less, staged_read_only, staged_stands}
 use Rattle.nl_volume.proofs.Stages.{passes_then, stages_stopped}
@@ -138,3 +139,12 @@ returns-clause-stopped g c =
       (λ is. absurd (c.stage_now.ensures.not_stopped is)),
       λ why. ⊎_elim (λ off. absurd (off (sym c.leave_other.ensures.stopped ∙ c.if-self-ne0.false))) (λ high. absurd (cc (c.if-worn.ensures.1 (omega (arith, high, same))))) why,
     )
+
+pub returns-then-self-ne0-clause-left : goal.returns-then-self-ne0-clause-left
+returns-then-self-ne0-clause-left g c tells page_of_stamp tree runs = tt
+
+pub returns-clause-left : goal.returns-clause-left
+returns-clause-left g c =
+    let G = ghosts g.row.M g.M.Nand g.M.Nand-dict in
+    tells_through G c.args.worker c.args.line c.args.call.now c.args.self.now.core c.leave_other.new.self.core c.stage_now.new.self.core c.stage_now.result
+    c.leave_other.ensures.passes c.leave_other.ensures.staged c.stage_now.ensures.left

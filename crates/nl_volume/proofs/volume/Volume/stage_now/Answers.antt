@@ -2,10 +2,13 @@ use Rattle.std.proofs.Common.{inl, refl, sym, subst, arith}
 use Rattle.nl_device.specs.contracts.counts.DeviceCounts.TheImpl.{ghosts}
 use Rattle.nl_flight.specs.Flight.{IsFlight}
 use Rattle.nl_core.specs.declared.state.Core.{Core}
+use Rattle.nl_writing.specs.Ranges.{from_of, len_of, path_of}
 use Rattle.nl_tree.specs.declared.turn.Stage.TheVariants as stage
-use Rattle.nl_volume.specs.Staging.{StagesOn}
+use Rattle.nl_volume.specs.Staging.{IsNext, IsNextIn, StagesOn, TellsLeft}
+use Rattle.nl_volume.specs.declared.next.Next.TheVariants as next
 use Rattle.nl_volume.proofs.Few.{few_staged}
 use Rattle.nl_volume.proofs.Flights.{faults_on}
+use Rattle.nl_volume.proofs.Nexts.{tells_page, tells_whole}
 use Rattle.nl_volume.proofs.Stages.{keeps_line, passes_reads, passes_then, same_lines, stages_failed, stages_lost, stages_whole}
 use Rattle.nl_volume.proofs.volume.Volume.stage_now.Goals as goal
 
@@ -82,3 +85,37 @@ returns-in-Fault-clause-stages g c =
     s.4.serves.core e.core c.device_stands-2.ensures.volume c.device_stands-2.ensures.pages c.counts.ensures c.requires.known c.requires.some
     (keeps_line u.flight v.flight c.args.worker c.args.line lines c.requires.line) (inl (e.fault refl)) (faults_on u v lines)
     (subst (λ (x : Core g.row.M.Denot). IsFlight x.flight) noted c.note_failure.ensures.lines))
+
+pub returns-in-Page-clause-left : goal.returns-in-Page-clause-left
+returns-in-Page-clause-left g c =
+    let G = ghosts g.row.M g.M.Nand g.M.Nand-dict in
+    let s = c.requires.stands in
+    let u = c.args.self.now.core in
+    let v = c.next_of-next.new.core in
+    let e = c.in-Page.ensures in
+    let call = c.args.call.now in
+    let tag = c.in-Page.tag in
+    let count = c.flying-place.ensures in
+    tells_page G s.0 s.1 s.2 u s.3 c.args.worker c.args.line call s.4 s.5 c.requires.line tag (subst (λ n. IsNext call n tag) count e.page)
+    (subst (λ n. IsNextIn G u (path_of call) (from_of call) (len_of call) n (next.Page tag)) count e.left) c.stage_page.new.self.core c.stage_page.result
+    (passes_then G c.args.worker c.args.line call u v c.stage_page.new.self.core c.stage_page.result
+    (passes_reads G c.args.worker c.args.line u v s.4.serves.core c.device_stands.ensures.volume c.device_stands-2.ensures.pages e.formed c.counts.ensures e.same) c.stage_page.ensures.stages)
+    c.stage_page.ensures.not_whole
+
+pub returns-in-Whole-clause-left : goal.returns-in-Whole-clause-left
+returns-in-Whole-clause-left g c =
+    let G = ghosts g.row.M g.M.Nand g.M.Nand-dict in
+    let s = c.requires.stands in
+    let u = c.args.self.now.core in
+    let call = c.args.call.now in
+    tells_whole G s.0 s.1 s.2 u s.3 c.args.worker c.args.line call s.4 s.5 c.requires.line c.next_of-next.new.core
+    (subst (λ n. IsNextIn G u (path_of call) (from_of call) (len_of call) n next.Whole) c.flying-place.ensures c.in-Whole.ensures.left)
+
+pub returns-in-Lost-clause-left : goal.returns-in-Lost-clause-left
+returns-in-Lost-clause-left g c tells page_of_stamp tree runs = tt
+
+pub returns-in-Fault-clause-left : goal.returns-in-Fault-clause-left
+returns-in-Fault-clause-left g c =
+    let G = ghosts g.row.M g.M.Nand g.M.Nand-dict in
+    subst (λ (x : Core g.row.M.Denot). TellsLeft G c.args.worker c.args.line c.args.call.now c.args.self.now.core x stage.Fault) (sym c.note_failure.ensures.noted)
+    (λ tells page_of_stamp tree runs none. c.in-Fault.ensures.fault refl)
