@@ -15,7 +15,8 @@ use Rattle.nl_turns.specs.declared.entry.Entry.{Entry}
 use Rattle.nl_workers.specs.Rounds.{AreRows}
 use Rattle.nl_workers.specs.Table.{Row}
 use Rattle.nl_headline.specs.Course.{Course, RepliedLine, calls_in, count_after}
-use Rattle.nl_rounds.specs.Rounds.{HavePlaces, course_of}
+use Rattle.nl_telling.specs.Rows.{HavePlaces}
+use Rattle.nl_rounds.specs.Rounds.{course_of}
 use Rattle.nl_rounds.proofs.Lists.{found_map, inside, pairs_of_each, pairs_of_found, passes, some_same}
 use Rattle.nl_rounds.proofs.Replies.{answers_are, as_many, calls_are, effects_are, entry_at, entry_of, line_or, line_or_is, marked, reply_or, row_is_at, row_known, row_of}
 

@@ -12,6 +12,7 @@ use Rattle.nl_workers.specs.Table.{Row}
 use Rattle.nl_headline.specs.Course.{Course, RepliedLine, lines_in}
 use Rattle.nl_headline.specs.Headline.{AnswersByTree, IsYoung, OpensAs, StopsLeavePrefixes, TellsSyncs}
 use Rattle.nl_headline.specs.Streams.{Medium, MediumRose}
+use Rattle.nl_rounds.specs.declared.charging.Charges.{Charges}
 use Rattle.nl_rounds.specs.Rounds.{LinesRan, syncs_of_rows}
 
 -- what was left before the reading was left before it
@@ -21,7 +22,7 @@ stops_from opens earlier before left first start last run was same s = record {
   each = λ m c is. ⊎_elim (λ b. inl (was m c b)) (λ x. inr ((let low = x.0 in omega (arith, low, same)), x.1, x.2)) (s.each m c is);
 }
 
-module _ (tells : Type 0) (lines : List Line) (stops stops' : Run → Type 0) (earlier medium medium' : Medium) (rows : List Row) (lost worn : Bool) (course : Course)
+module _ (tells : Type 0) (lines : List Line) (stops stops' : Run → Type 0) (earlier medium medium' : Medium) (rows : List Row) (lost worn : Bool) (charges : Charges) (course : Course)
     (contents : tells → medium.contents ≡ earlier.contents) (counts : medium.counts ≡ earlier.counts) (from : tells → (run : Run) → stops run → stops' run) where
   young_from : tells → IsYoung earlier.contents earlier.counts medium'.counts course → IsYoung medium.contents medium.counts medium'.counts course
   young_from t = subst (λ (x : Image × Counts). IsYoung x.0 x.1 medium'.counts course) (λ k. (sym (contents t) k, sym counts k))
@@ -34,7 +35,7 @@ module _ (tells : Type 0) (lines : List Line) (stops stops' : Run → Type 0) (e
       let here = subst (λ (x : Image × Counts). StopsLeavePrefixes x.0 x.1 stops course) (λ k. (contents t k, counts k)) s in
       record { starts = here.starts; leaves = from t _ here.leaves }
 
-  pub ran_from : LinesRan tells lines stops medium medium' rows lost worn course → LinesRan tells lines stops' earlier medium' rows lost worn course
+  pub ran_from : LinesRan tells lines stops medium medium' rows lost worn charges course → LinesRan tells lines stops' earlier medium' rows lost worn charges course
   ran_from r = record {
     runs = record {
       opens = λ t. subst (λ (x : Image). OpensAs x course) (contents t) (r.runs.opens t);
@@ -47,11 +48,12 @@ module _ (tells : Type 0) (lines : List Line) (stops stops' : Run → Type 0) (e
     causes = record { lost_is = r.causes.lost_is; worn_is = λ is. subst (λ (x : Counts). MayBeWorn x medium'.counts course.next_stamp) counts (r.causes.worn_is is) };
     said = r.said;
     places = r.places;
+    charged = r.charged;
   }
 
 -- there are as many rows as lines
-pub as_many_rows : (tells : Type 0) (lines : List Line) (stops : Run → Type 0) (medium medium' : Medium) (rows : List Row) (lost worn : Bool) (course : Course) → LinesRan tells lines stops medium medium' rows lost worn course → length rows ≡ length lines
-as_many_rows tells lines stops medium medium' rows lost worn course r =
+pub as_many_rows : (tells : Type 0) (lines : List Line) (stops : Run → Type 0) (medium medium' : Medium) (rows : List Row) (lost worn : Bool) (charges : Charges) (course : Course) → LinesRan tells lines stops medium medium' rows lost worn charges course → length rows ≡ length lines
+as_many_rows tells lines stops medium medium' rows lost worn charges course r =
     let said = ap length r.said in
     let a = length-map {B = ℕ × Reply × List ℕ} rows (λ (row : Row). (row.line, row.answered.reply, row.bytes)) in
     let b = length-map {B = ℕ × Reply × List ℕ} course.answers (λ (x : RepliedLine). (x.line.line, x.reply, x.bytes)) in

@@ -20,7 +20,8 @@ use Rattle.nl_workers.specs.Table.{Row}
 use Rattle.nl_workers.proofs.Answering.{found_number}
 use Rattle.nl_workers.proofs.Permuting.{Each}
 use Rattle.nl_headline.specs.Course.{RepliedLine, calls_in, line_sync_of, lines_in, order_in, replies_in}
-use Rattle.nl_rounds.specs.Rounds.{course_of, order_of_rows, ordered_row, printed_rows, replied, reply_of_row, synced_row, syncs_of_rows}
+use Rattle.nl_telling.specs.Rows.{said}
+use Rattle.nl_rounds.specs.Rounds.{course_of, order_of_rows, ordered_row, replied, reply_of_row, synced_row, syncs_of_rows}
 use Rattle.nl_rounds.proofs.Lists.{all_found, each_at, found_each, found_map, found_passing, inside, item_at, item_of_map, map_each, map_found, map_map, passes, same_items}
 
 -- ---- a row and its entry
@@ -186,7 +187,7 @@ module _ (tells : Type 0) (o : Opening) (h : List Entry) (rows : List Row) (are 
         (λ row is. λ k. record { line = sym (number_is o.lines row is) k; fault = fault_in row.answered.reply }) rows_known
         ∙ sym (ap (map (λ (a : RepliedLine). record { line = a.line.line; fault = fault_in a.reply })) answers_are ∙ map_map (λ (a : RepliedLine). record { line = a.line.line; fault = fault_in a.reply }) (reply_or o.lines) rows)
 
-    pub printed : printed_rows rows ≡ map (λ (a : RepliedLine). (a.line.line, a.reply, a.bytes)) (course_of o rows).answers
+    pub printed : map said rows ≡ map (λ (a : RepliedLine). (a.line.line, a.reply, a.bytes)) (course_of o rows).answers
     printed =
         map_each (HasItsLine o.lines) (λ (row : Row). (row.line, row.answered.reply, row.bytes)) (λ (row : Row). ((line_or o.lines row.line).line, row.answered.reply, row.bytes)) rows
         (λ row is. λ k. (sym (number_is o.lines row is) k, row.answered.reply, row.bytes)) rows_known

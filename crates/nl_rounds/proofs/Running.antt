@@ -22,6 +22,8 @@ use Rattle.nl_workers.specs.Rounds.{AreRows, RoundsRan}
 use Rattle.nl_workers.specs.Table.{Row}
 use Rattle.nl_headline.specs.Headline.{IsYoung, OpensAs}
 use Rattle.nl_headline.specs.Streams.{Medium}
+use Rattle.nl_rounds.specs.Charges.{AreCharges, TellsCharges}
+use Rattle.nl_rounds.specs.declared.charging.Charges.{Charges}
 use Rattle.nl_rounds.specs.Opened.{OpensOn}
 use Rattle.nl_rounds.specs.Rounds.{LinesRan, course_of}
 use Rattle.nl_rounds.proofs.Kept.{has_kept, worn_so, young_at_end}
@@ -39,12 +41,12 @@ module _ {M : Type 0} (g : Ghosts (Device M)) (origin v : Core M) (done : ℕ) (
   table : AreRows g.tells o h rows
   table = subst (λ (x : Opening). AreRows g.tells x h rows) opening_is ran.table
 
-  module _ (stops : Run → Type 0) (medium medium' : Medium) (lost worn : Bool) (counts : medium.counts ≡ opening_counts o) (later : NeverFall (counts_of g v.device) medium'.counts)
+  module _ (stops : Run → Type 0) (medium medium' : Medium) (lost worn : Bool) (charges : Charges) (counts : medium.counts ≡ opening_counts o) (later : NeverFall (counts_of g v.device) medium'.counts)
       (clock : medium'.counts.clock ≤ top) (writes : medium'.counts.write_faults ≤ top)
       (opened : g.tells → OpensOn g medium.contents origin) (sound : g.tells → SoundAs medium.contents origin.count tree)
       (leaves : IsYoungAtEnd g.tells o h (begun_of origin) medium'.counts.clock → stops (run_of o h))
       (ends : IsYoungAtEnd g.tells o h (begun_of origin) medium'.counts.clock → (FaultRose (opening_counts o) medium'.counts → ⊥) → worn ≡ false → SoundAs medium'.contents (o.count + effects h) (tree_after o h))
-      (none_lost : g.tells → lost ≡ false) (worn_is : IsTrue worn → 2 ^ 62 ≤ g.next_stamp v.device) where
+      (none_lost : g.tells → lost ≡ false) (worn_is : IsTrue worn → 2 ^ 62 ≤ g.next_stamp v.device) (charged : TellsCharges g v charges) where
     opens_so : g.tells → OpensAs medium.contents (course_of o [])
     opens_so t = let k = opened t in record { sound = sound t; shape = k.opens.shape; next_stamp = k.opens.next_stamp }
 
@@ -54,9 +56,12 @@ module _ {M : Type 0} (g : Ghosts (Device M)) (origin v : Core M) (done : ℕ) (
         (many g.tells lines o after.seen rows refl rise ran.order table ran.placed (opening_counts o) (counts_of g v.device) medium'.counts (has_kept g origin o h v done stands medium'.counts later clock writes))
         (opened t).number young
 
-    pub rounds_and_end : LinesRan g.tells lines stops medium medium' rows lost worn (course_of o rows)
+    charges_are : g.tells → AreCharges charges (tree_after o h)
+    charges_are t = let k = stands.serves.along.runs t in charged k.0 (tree_after o h) k.1
+
+    pub rounds_and_end : LinesRan g.tells lines stops medium medium' rows lost worn charges (course_of o rows)
     rounds_and_end =
         lines_ran g.tells lines o after.seen rows refl rise ran.order table ran.placed (opening_counts o) (counts_of g v.device) medium'.counts
-        (has_kept g origin o h v done stands medium'.counts later clock writes) stops medium medium' lost worn counts refl opens_so (λ t young. leaves (young_so t young))
+        (has_kept g origin o h v done stands medium'.counts later clock writes) stops medium medium' lost worn charges counts refl opens_so (λ t young. leaves (young_so t young))
         (λ t young none unworn. ends (young_so t young) (λ rose. none (subst (λ (x : Counts). FaultRose x medium'.counts) (sym counts) rose)) unworn)
-        none_lost (λ is. worn_so g origin o h v done stands medium'.counts later clock writes (worn_is is))
+        none_lost (λ is. worn_so g origin o h v done stands medium'.counts later clock writes (worn_is is)) charges_are

@@ -22,6 +22,8 @@ use Rattle.nl_workers.specs.Table.{Row}
 use Rattle.nl_headline.specs.Course.{Course, count_after, run_in, tree_after}
 use Rattle.nl_headline.specs.Headline.{AnswersByTree, EndsAfterAll, IsOneOrder, IsYoung, OpensAs, RunsLines, StopsLeavePrefixes, TellsSyncs}
 use Rattle.nl_headline.specs.Streams.{Medium, MediumRose}
+use Rattle.nl_rounds.specs.Charges.{AreCharges}
+use Rattle.nl_rounds.specs.declared.charging.Charges.{Charges}
 use Rattle.nl_rounds.specs.Rounds.{LinesRan, course_of, order_of_rows, syncs_of_rows}
 use Rattle.nl_rounds.proofs.Answers.{each_cause, each_due, failed_differ, have_places, refused_alike}
 use Rattle.nl_rounds.proofs.Replies.{as_many, calls_are, lines_are, order_told, printed, syncs_in_course}
@@ -97,11 +99,11 @@ module _ (tells : Type 0) (lines : List Line) (o : Opening) (history : List Pass
       let last = w.2 in
       w.0 (let first = w.1 in omega (arith, first, last, young)))
 
-  module _ (stops : Run → Type 0) (medium medium' : Medium) (lost worn : Bool) (counts : medium.counts ≡ before) (counts' : medium'.counts ≡ now)
+  module _ (stops : Run → Type 0) (medium medium' : Medium) (lost worn : Bool) (charges : Charges) (counts : medium.counts ≡ before) (counts' : medium'.counts ≡ now)
       (opens : tells → OpensAs medium.contents (course_of o []))
       (leaves : tells → IsYoung medium.contents before now course → stops (record { shape = o.shape; count = o.count; tree = o.tree; calls = marked_calls o h; syncs = syncs_of h }))
       (ends : tells → IsYoung medium.contents before now course → (MediumRose medium medium' → ⊥) → worn ≡ false → SoundAs medium'.contents (o.count + effects h) (tree_of_history o h))
-      (none_lost : tells → lost ≡ false) (worn_is : worn ≡ true → MayBeWorn before now o.next_stamp) where
+      (none_lost : tells → lost ≡ false) (worn_is : worn ≡ true → MayBeWorn before now o.next_stamp) (charged : tells → AreCharges charges (tree_of_history o h)) where
     young_is : IsYoung medium.contents medium.counts medium'.counts course → IsYoung medium.contents before now course
     young_is = subst (λ (c : Counts × Counts). IsYoung medium.contents c.0 c.1 course) (λ k. (counts k, counts' k))
 
@@ -124,10 +126,11 @@ module _ (tells : Type 0) (lines : List Line) (o : Opening) (history : List Pass
       ends = λ t young. ends_so t (young_is young);
     }
 
-    pub lines_ran : LinesRan tells lines stops medium medium' rows lost worn course
+    pub lines_ran : LinesRan tells lines stops medium medium' rows lost worn charges course
     lines_ran = record {
       runs = runs;
       causes = record { lost_is = none_lost; worn_is = λ is. subst (λ (c : Counts × Counts). MayBeWorn c.0 c.1 o.next_stamp) (λ k. (sym counts k, sym counts' k)) (worn_is is) };
       said = printed tells o h rows table kept.known;
       places = have_places tells o h rows table kept.known;
+      charged = λ t. subst (AreCharges charges) tree_is (charged t);
     }

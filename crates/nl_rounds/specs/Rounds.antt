@@ -1,20 +1,22 @@
 -- Lines that were run in turns of a lock: the rows of their answers, and the course that they are of.
-use Rattle.std.specs.Prelude.{◌≡◌, ℕ, ◌+◌, ◌<◌, ◌≤◌, ◌^◌, Bool, List, [], length, map, filter_map, slice_get, Option, Some, None, option_map, IfSome}
-use Rattle.nl_print.specs.Texts.{Answered as Printed}
+use Rattle.std.specs.Prelude.{◌≡◌, ℕ, ◌+◌, ◌<◌, ◌≤◌, ◌^◌, Bool, List, [], length, map, filter_map, Option, Some, None, option_map}
 use Rattle.nl_sound.specs.Crash.{Run}
+use Rattle.nl_telling.specs.Rows.{HavePlaces, said}
 use Rattle.nl_tree.specs.Causes.{fault_in}
 use Rattle.nl_tree.specs.declared.call.Line.{Line}
 use Rattle.nl_tree.specs.declared.reply.Reply.{Reply}
 use Rattle.nl_tree.specs.declared.reply.Reply.TheVariants.{Synced as SyncReply}
 use Rattle.nl_turns.specs.History.{Opening, line_at}
 use Rattle.nl_workers.specs.Table.{IsTableFor, Row, TableState}
-use Rattle.nl_headline.specs.Course.{Course, RepliedLine, count_after}
+use Rattle.nl_headline.specs.Course.{Course, RepliedLine, count_after, tree_after}
 use Rattle.nl_headline.specs.Headline.{RunsLines}
 use Rattle.nl_headline.specs.Status.{HaveCauses}
 use Rattle.nl_headline.specs.Streams.{Medium}
 use Rattle.nl_headline.specs.Table.{Table}
 use Rattle.nl_headline.specs.declared.lists.Ordered.{Ordered}
 use Rattle.nl_headline.specs.declared.lists.Synced.{Synced}
+use Rattle.nl_rounds.specs.Charges.{AreCharges}
+use Rattle.nl_rounds.specs.declared.charging.Charges.{Charges}
 
 -- ---- the course of a run
 
@@ -44,13 +46,6 @@ order_of_rows rows = map ordered_row rows
 abbrev pub syncs_of_rows : List Row → List Synced
 syncs_of_rows rows = filter_map (λ (row : Row). synced_row row.line row.answered.reply) rows
 
-abbrev pub printed_rows : List Row → List Printed
-printed_rows rows = map (λ (row : Row). (row.line, row.answered.reply, row.bytes)) rows
-
--- the rows have the places behind this count, one after the other
-abbrev pub HavePlaces : ℕ → List Row → Type 0
-HavePlaces count rows = (i : ℕ) → IfSome (slice_get rows i) (λ row. row.answered.place ≡ count + i + 1)
-
 -- ---- room
 
 -- An empty list with room for so many.
@@ -78,9 +73,10 @@ pub record AreRoomyFor (rows : List Row) (order : Table Ordered) (syncs : Table 
 
 -- They were run on a volume that opened on a medium, and the volume was closed. The rows are their answers. The sentences of the headline hold of
 -- their course, with the order and the syncs that the rows tell; a lost page and a worn volume have their causes; what is printed of the rows is
--- what is printed of the course, and they have its places.
-pub record LinesRan (tells : Type 0) (lines : List Line) (stops : Run → Type 0) (medium medium' : Medium) (rows : List Row) (lost worn : Bool) (course : Course) : Type 0 where
+-- what is printed of the course, and they have its places. Where the medium tells its contents, the charges are those of the tree after all of it.
+pub record LinesRan (tells : Type 0) (lines : List Line) (stops : Run → Type 0) (medium medium' : Medium) (rows : List Row) (lost worn : Bool) (charges : Charges) (course : Course) : Type 0 where
   pub runs : RunsLines tells lines stops medium medium' (order_of_rows rows) (syncs_of_rows rows) worn course
   pub causes : HaveCauses tells medium.counts medium'.counts course.next_stamp lost worn
-  pub said : printed_rows rows ≡ map (λ (a : RepliedLine). (a.line.line, a.reply, a.bytes)) course.answers
+  pub said : map said rows ≡ map (λ (a : RepliedLine). (a.line.line, a.reply, a.bytes)) course.answers
   pub places : count_after course < 2 ^ 63 → HavePlaces course.count rows
+  pub charged : tells → AreCharges charges (tree_after course)

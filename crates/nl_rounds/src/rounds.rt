@@ -12,6 +12,7 @@ ghost use Rattle.nl_headline.specs.Streams.{medium};
 ghost use Rattle.nl_rounds.specs.Opened.{OpensOn};
 ghost use Rattle.nl_rounds.specs.Rounds.{LinesRan};
 
+use crate::charging::{Charges, charges_of};
 use crate::tables::Tables;
 use nl_device::Device;
 use nl_iface::Counts;
@@ -28,14 +29,15 @@ use std::thread::Threads;
 /// All seats of the lock: eight workers, the cleaner and the handler.
 const SEATS: u32 = 10;
 
-/// What lines leave that were run: the medium, the count with which the volume opened, whether a page was lost, and whether closing found the
-/// write sequence numbers used up.
+/// What lines leave that were run: the medium, the count with which the volume opened, whether a page was lost, whether closing found the
+/// write sequence numbers used up, and what the tree took of the volume in the end.
 #[derive(Drop)]
 pub struct Ran<M: Nand> {
     pub media: M,
     pub count: u64,
     pub lost: bool,
     pub worn: bool,
+    pub charges: Charges,
 }
 
 /// Runs the lines in turns of a lock over a volume that opened on its medium, and closes it. The sentences of the headline hold of the course
@@ -55,7 +57,7 @@ pub fn run_lines<Rt: Threads + Wait + Sync, M: Nand + Send, G: Gate + Sync>(
         (StopsSafely SoundAs (λ m c. M.left (medium_of volume.core.device) m c) (λ m c. M.left r.media m c) (M.clock (medium_of volume.core.device)) (M.clock r.media))
         (medium (M.geometry (medium_of volume.core.device)) (M.contents (medium_of volume.core.device)) (M.clock (medium_of volume.core.device)) (M.read_faults (medium_of volume.core.device)) (M.write_faults (medium_of volume.core.device)))
         (medium (M.geometry r.media) (M.contents r.media) (M.clock r.media) (M.read_faults r.media) (M.write_faults r.media))
-        tables.new.answers.rows r.lost r.worn course) }
+        tables.new.answers.rows r.lost r.worn r.charges course) }
     ensures lost { IfOk result (λ r. tables.new.answers.lost ≡ true → r.lost ≡ true) }
     ensures lists { (tables.new.order ≡ tables.old.order) × (tables.new.syncs ≡ tables.old.syncs) }
     ensures memory { IfErr result (λ v. v ≡ volume) }
@@ -75,7 +77,9 @@ pub fn run_lines<Rt: Threads + Wait + Sync, M: Nand + Send, G: Gate + Sync>(
         &mut tables.answers,
         gate,
     );
-    let closed = turns.close(seat).close();
+    let mut volume = turns.close(seat);
+    let charges = charges_of(&mut volume);
+    let closed = volume.close();
     let _clock = closed.media.clock();
     let _faults = closed.media.write_faults();
     Ok(Ran {
@@ -83,6 +87,7 @@ pub fn run_lines<Rt: Threads + Wait + Sync, M: Nand + Send, G: Gate + Sync>(
         count,
         lost: closed.lost || tables.answers.lost(),
         worn: closed.worn,
+        charges,
     })
 }
 
