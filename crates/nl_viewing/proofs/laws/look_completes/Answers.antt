@@ -1,0 +1,9 @@
+use Rattle.nl_viewing.specs.Looking.{Reports, ShowsTree}
+use Rattle.nl_viewing.proofs.Completing.{look_completes}
+use Rattle.nl_viewing.proofs.laws.look_completes.Goals as goal
+
+pub returns-clause-trees : goal.returns-clause-trees
+returns-clause-trees g c = look_completes g.M.Nand.tells ShowsTree
+
+pub returns-clause-reports : goal.returns-clause-reports
+returns-clause-reports g c = look_completes g.M.Nand.tells Reports

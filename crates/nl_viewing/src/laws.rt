@@ -1,0 +1,11 @@
+//! Laws of the definitions. Each function stands for the law that its contract names.
+ghost use Rattle.nl_viewing.specs.Complete.{LookCompletes};
+ghost use Rattle.nl_viewing.specs.Looking.{Reports, ShowsTree};
+
+use nl_nand::Nand;
+
+/// Where nothing fails, the paths of a sound image are printed, and its report, unless memory is wanting.
+pub fn look_completes<M: Nand>()
+    ensures trees { LookCompletes M.tells ShowsTree }
+    ensures reports { LookCompletes M.tells Reports }
+{}

@@ -1,0 +1,11 @@
+//! The commands that only look at the volume of a medium: every path of its tree, and the report of its counts.
+#![tactic(auto)]
+
+pub mod laws;
+mod opening;
+mod reports;
+mod trees;
+
+pub use opening::refused;
+pub use reports::report;
+pub use trees::tree;

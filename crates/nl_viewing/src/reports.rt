@@ -1,0 +1,35 @@
+// The report of a medium.
+ghost use Rattle.std.specs.Prelude.{◌≡◌, ℕ};
+ghost use Rattle.nl_field.specs.Page.{Image};
+ghost use Rattle.nl_headline.specs.Streams.{medium, stream};
+ghost use Rattle.nl_viewing.specs.Looking.{LookEnds, Reports};
+
+use crate::opening::{open, refused};
+use nl_commands::{Done, faults_of, has_failed, status_of, without_lines};
+use nl_io::Sink;
+use nl_nand::Nand;
+use nl_showing::print_report;
+use std::alloc::Global;
+
+/// Opens the volume of a medium, and prints its count of calls, the blocks of its segments, how much of it its tree takes, how many pairs it has,
+/// the least and the greatest wear, and its next write sequence number. The medium is only read.
+pub fn report<K: Sink, M: Nand>(alloc: Global, sink: &mut K, media: M) -> Done<M>
+    ensures ended { LookEnds M.tells Reports (stream (K.taken sink.old) (K.faults sink.old)) (stream (K.taken sink.new) (K.faults sink.new))
+        (medium (M.geometry media) (M.contents media) (M.clock media) (M.read_faults media) (M.write_faults media))
+        (medium (M.geometry result.media) (M.contents result.media) (M.clock result.media) (M.read_faults result.media) (M.write_faults result.media))
+        result.order.items result.syncs.items result.status }
+    ensures left { M.tells → (m : ℕ) (c : Image) → M.left result.media m c → M.left media m c }
+{
+    let before = faults_of(&media);
+    let mut volume = match open(alloc, media) {
+        Ok(volume) => volume,
+        Err(why) => return refused(alloc, why, sink),
+    };
+    let files = volume.files;
+    let least = volume.least;
+    let greatest = volume.greatest;
+    let answer = print_report(sink, &mut volume.core, files, least, greatest);
+    let media = volume.into_media();
+    let failed = has_failed(&media, before);
+    without_lines(alloc, status_of(failed, answer), media)
+}
