@@ -1,5 +1,5 @@
 -- When a run failed: the medium did, an answer is a fault reply, a page was lost, or the volume is worn.
-use Rattle.std.proofs.Common.{◌≡◌, ◌⊎◌, ◌||◌, Bool, true, false, IsTrue, List, refl, sym, subst, inl, inr, ◌∙◌}
+use Rattle.std.proofs.Common.{◌≡◌, ◌||◌, Bool, true, false, IsTrue, List, refl, sym, inl, inr}
 use Rattle.std.specs.Prelude.{is_some}
 use Rattle.std.specs.List.{list_any}
 use Rattle.nl_headline.specs.Status.{RunFailed}

@@ -1,10 +1,10 @@
 -- Where nothing fails, a run is carried out, and no answer is a fault reply.
 use Rattle.std.proofs.Common.{◌≡◌, ◌⊎◌, ◌+◌, ◌-◌, ◌<◌, ◌≤◌, ◌||◌, ℕ, zero, suc, Bool, true, false, IsTrue, List, [], ◌∷◌, ◌++◌, map, length, refl, sym, ap, subst, ◌∙◌, inl, inr, append-nil, length-append, arith}
-use Rattle.std.specs.Prelude.{◌^◌, ⊤, if◌then◌else◌, Option, None, Some, Ok, Err, IfSome, is_some, option_map, slice_get}
+use Rattle.std.specs.Prelude.{◌^◌, if◌then◌else◌, Option, None, Some, Ok, Err, IfSome, is_some, option_map, slice_get}
 use Rattle.std.specs.List.{list_any}
 use Rattle.nl_field.specs.CrashStates.{Rose, saturated, top}
 use Rattle.nl_field.specs.Scan.{next_stamp_of}
-use Rattle.nl_headline.specs.Course.{Course, RepliedLine, order_in, text_in}
+use Rattle.nl_headline.specs.Course.{Course, RepliedLine, order_in}
 use Rattle.nl_headline.specs.Headline.{ReadsScript}
 use Rattle.nl_headline.specs.Status.{DoneStatus, RunFailed}
 use Rattle.nl_headline.specs.Streams.{Medium, MediumRose, ReadsWhole, Stream}
@@ -23,10 +23,10 @@ use Rattle.nl_tree.specs.declared.call.Line.{Line}
 use Rattle.nl_tree.specs.declared.reply.FaultReply.{FaultReply}
 use Rattle.nl_tree.specs.declared.reply.FaultReply.TheVariants.{Eio, Erofs, Eworn, Edamaged}
 use Rattle.nl_commands.specs.Complete.{NothingRose, StartsSound}
-use Rattle.nl_commands.specs.Ends.{NotOpened, RefusesScript, blank, damaged, medium_fault, no_memory}
+use Rattle.nl_commands.specs.Ends.{NotOpened, RefusesScript}
 use Rattle.nl_top.specs.Complete.{CountsLast, NoFaultAnswered, RunCompletes}
-use Rattle.nl_top.specs.RunEnds.{Ran, RunEnds, ScriptEnds, not_run, ran, runs_script, script_refused, source_fault, source_no_memory}
-use Rattle.nl_commands.proofs.Readable.{sound_is_readable}
+use Rattle.nl_top.specs.RunEnds.{Ran, RunEnds, ScriptEnds, TellsAnswers, not_run, ran, runs_script, script_refused, source_fault, source_no_memory}
+use Rattle.nl_viewing.proofs.Completing.{memory_wanting}
 
 -- ---- no fault reply has a cause
 
@@ -86,13 +86,10 @@ script_of_long bytes long = ap (λ (b : Bool). if b then Err (Refused 0 0 Size) 
 module _ (tells : Type 0) (source source' sink sink' : Stream) (medium medium' : Medium) (order : List Ordered) (syncs : List Synced) (status count : ℕ)
     (starts : StartsSound tells medium count) (none : NothingRose source source' sink sink' medium medium') (last : CountsLast medium medium') where
   not_opened : (text : List ℕ) → NotOpened tells medium medium' status text → RunCompletes status order
-  not_opened text (no_memory six is) = inr six
-  not_opened text (medium_fault five is rose) = absurd (none.medium_stays (inl rose))
-  not_opened text (blank seven is image) = absurd (sound_is_readable medium.contents count starts.tree starts.sound (image starts.told))
-  not_opened text (damaged place seven is image) = absurd ((image starts.told).not_sound (count, starts.tree, starts.sound))
+  not_opened text why = inr (memory_wanting tells source source' sink sink' medium medium' count starts none status text why)
 
-  was_run : (lines : List Line) (spoken : Type 0) (text_of : Course → List ℕ) (stops : Run → Type 0) → Ran tells lines spoken text_of stops sink sink' medium medium' order syncs status → RunCompletes status order
-  was_run lines spoken text_of stops r =
+  was_run : (lines : List Line) (shows : Course → List ℕ → Type 0) (stops : Run → Type 0) → Ran tells lines shows stops sink sink' medium medium' order syncs status → RunCompletes status order
+  was_run lines shows stops r =
       let before = medium.counts in
       let now = medium'.counts in
       let stamp : r.course.next_stamp ≡ next_stamp_of medium.contents = (r.runs.opens starts.told).next_stamp in
@@ -117,9 +114,9 @@ module _ (tells : Type 0) (source source' sink sink' : Stream) (medium medium' :
       done bad text not clean (inr (inl four)) = absurd (none.sink_stays four.2)
       done bad text not clean (inr (inr zero_status)) = inl (zero_status.0, clean)
 
-  pub lines_complete : (lines : List Line) (spoken : Type 0) (text_of : Course → List ℕ) (stops : Run → Type 0) → RunEnds tells lines spoken text_of stops sink sink' medium medium' order syncs status → RunCompletes status order
-  lines_complete lines spoken text_of stops (not_run text why before) = not_opened text why
-  lines_complete lines spoken text_of stops (ran r) = was_run lines spoken text_of stops r
+  pub lines_complete : (lines : List Line) (shows : Course → List ℕ → Type 0) (stops : Run → Type 0) → RunEnds tells lines shows stops sink sink' medium medium' order syncs status → RunCompletes status order
+  lines_complete lines shows stops (not_run text why before) = not_opened text why
+  lines_complete lines shows stops (ran r) = was_run lines shows stops r
 
   -- ---- the script of a source
 
@@ -144,4 +141,4 @@ module _ (tells : Type 0) (source source' sink sink' : Stream) (medium medium' :
     script_completes stops (source_fault three rose before) = absurd (none.source_stays rose)
     script_completes stops (source_no_memory six before) = inr six
     script_completes stops (script_refused line column why two refuses before) = absurd (refuses_not line column why refuses)
-    script_completes stops (runs_script these reads ends) = lines_complete these ⊤ text_in stops ends
+    script_completes stops (runs_script these reads ends) = lines_complete these TellsAnswers stops ends

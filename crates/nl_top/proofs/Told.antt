@@ -1,45 +1,53 @@
 -- Endings of a run of lines, from what its parts say.
-use Rattle.std.proofs.Common.{◌≡◌, ◌<◌, ℕ, Bool, List, [], ◌∷◌, length, suc, inl, inr, arith, ap, refl, sym, subst, ◌∙◌}
-use Rattle.std.specs.Prelude.{◌^◌, ⊤}
+use Rattle.std.proofs.Common.{◌≡◌, ℕ, Bool, List, [], ◌∷◌, length, suc, inl, inr, arith, ap, sym, subst, ◌∙◌}
 use Rattle.std.specs.List.{All}
 use Rattle.nl_field.specs.Members.{Has}
-use Rattle.nl_headline.specs.Course.{Course, count_after, text_in}
+use Rattle.nl_headline.specs.Course.{Course}
 use Rattle.nl_headline.specs.Status.{DoneStatus, RunFailed}
 use Rattle.nl_headline.specs.Streams.{Medium, Prints, Stream}
 use Rattle.nl_headline.specs.declared.lists.Ordered.{Ordered}
 use Rattle.nl_headline.specs.declared.lists.Synced.{Synced}
-use Rattle.nl_print.specs.Texts.{run_text}
+use Rattle.nl_print.specs.Texts.{Answered, run_text}
 use Rattle.nl_rounds.specs.Rounds.{AreRoomyFor, AreTablesFor, HasRoomFor, LinesRan, order_of_rows, syncs_of_rows}
 use Rattle.nl_sound.specs.Crash.{Run}
-use Rattle.nl_telling.specs.Rows.{PlacedRowsAreARun, rows_text}
-use Rattle.nl_tree.specs.Causes.{Counts}
+use Rattle.nl_rounds.specs.declared.charging.Charges.{Charges}
+use Rattle.nl_telling.specs.Rows.{PlacedRowsAreARun, rows_text, summary_text}
 use Rattle.nl_tree.specs.declared.call.Line.{Line}
 use Rattle.nl_workers.specs.Table.{Row, TableState}
 use Rattle.nl_headline.specs.Table.{Table}
 use Rattle.nl_top.specs.RunEnds.{RunEnds, ran}
+use Rattle.nl_top.specs.Telling.{Shows, told_text}
+use Rattle.nl_top.specs.declared.telling.Told.{Told}
+use Rattle.nl_top.specs.declared.telling.Told.TheVariants.{Answers, Summary}
 
 -- ---- lines that were run
 
-module _ (tells : Type 0) (lines : List Line) (stops : Run → Type 0) (sink sink' : Stream) (medium medium' : Medium) (rows : List Row) (lost worn : Bool) (course : Course) (count status : ℕ)
-    (runs : LinesRan tells lines stops medium medium' rows lost worn course) (opened : count ≡ course.count) where
-  text_is : PlacedRowsAreARun → count_after course < 2 ^ 63 → rows_text count rows ≡ text_in course
-  text_is placed few = ap (λ (n : ℕ). rows_text n rows) opened ∙ placed course.count rows (runs.places few) ∙ ap (run_text course.count) runs.said
+module _ (tells : Type 0) (lines : List Line) (stops : Run → Type 0) (sink sink' : Stream) (medium medium' : Medium) (rows : List Row) (lost worn : Bool) (charges : Charges) (course : Course) (count status : ℕ)
+    (runs : LinesRan tells lines stops medium medium' rows lost worn charges course) (opened : count ≡ course.count) where
+  -- what is told of the rows shows the course
+  shows_it : (what : Told) → PlacedRowsAreARun → Shows what tells course (told_text what count charges rows)
+  shows_it Answers placed = λ few. ap (λ (n : ℕ). rows_text n rows) opened ∙ placed course.count rows (runs.places few) ∙ ap (run_text course.count) runs.said
+  shows_it Summary placed = record {
+    charges = charges;
+    text_is = ap (λ (answered : List Answered). summary_text answered charges.pages charges.nodes charges.meta) runs.said;
+    charged = runs.charged;
+  }
 
-  pub was_told : PlacedRowsAreARun → (order : List Ordered) (syncs : List Synced) → order ≡ order_of_rows rows → syncs ≡ syncs_of_rows rows
-      → Prints sink sink' (rows_text count rows) → DoneStatus status (RunFailed order medium.counts medium'.counts lost worn) sink sink' (rows_text count rows)
-      → RunEnds tells lines ⊤ text_in stops sink sink' medium medium' order syncs status
-  was_told placed order syncs is_order is_syncs prints done =
-      subst (λ (x : List Ordered × List Synced). RunEnds tells lines ⊤ text_in stops sink sink' medium medium' x.0 x.1 status) (λ i. (sym is_order i, sym is_syncs i))
+  pub was_told : (what : Told) → PlacedRowsAreARun → (order : List Ordered) (syncs : List Synced) → order ≡ order_of_rows rows → syncs ≡ syncs_of_rows rows
+      → Prints sink sink' (told_text what count charges rows) → DoneStatus status (RunFailed order medium.counts medium'.counts lost worn) sink sink' (told_text what count charges rows)
+      → RunEnds tells lines (Shows what tells) stops sink sink' medium medium' order syncs status
+  was_told what placed order syncs is_order is_syncs prints done =
+      subst (λ (x : List Ordered × List Synced). RunEnds tells lines (Shows what tells) stops sink sink' medium medium' x.0 x.1 status) (λ i. (sym is_order i, sym is_syncs i))
       (ran (record {
         course = course;
         lost = lost;
         worn = worn;
         runs = runs.runs;
         causes = runs.causes;
-        text = rows_text count rows;
-        text_is = λ spoken few. text_is placed few;
+        text = told_text what count charges rows;
+        text_is = shows_it what placed;
         prints = prints;
-        done = subst (λ (o : List Ordered). DoneStatus status (RunFailed o medium.counts medium'.counts lost worn) sink sink' (rows_text count rows)) is_order done;
+        done = subst (λ (o : List Ordered). DoneStatus status (RunFailed o medium.counts medium'.counts lost worn) sink sink' (told_text what count charges rows)) is_order done;
       }))
 
 -- the lists have room for the rows

@@ -1,3 +1,5 @@
 pub mod Complete
 pub mod Ends
 pub mod RunEnds
+pub mod Soak
+pub mod Telling

@@ -1,5 +1,5 @@
 -- How a command ends that runs lines, with which status, text and cause, and what it then says of source, sink and medium.
-use Rattle.std.specs.Prelude.{◌≡◌, ⊤, ℕ, ◌<◌, ◌^◌, Bool, List, codes}
+use Rattle.std.specs.Prelude.{◌≡◌, ℕ, ◌<◌, ◌^◌, Bool, List, codes}
 use Rattle.nl_field.specs.CrashStates.{Rose}
 use Rattle.nl_headline.specs.Course.{Course, count_after, text_in}
 use Rattle.nl_headline.specs.Headline.{ReadsScript, RunsLines}
@@ -14,23 +14,27 @@ use Rattle.nl_sound.specs.Crash.{Run}
 use Rattle.nl_tree.specs.declared.call.Line.{Line}
 use Rattle.nl_commands.specs.Ends.{EndsBefore, NotOpened, RefusesScript}
 
--- The lines were run, and a text was printed of their one course: all of it where `spoken` holds and places have not ended.
-pub record Ran (tells : Type 0) (lines : List Line) (spoken : Type 0) (text_of : Course → List ℕ) (stops : Run → Type 0) (sink sink' : Stream) (medium medium' : Medium) (order : List Ordered) (syncs : List Synced) (status : ℕ) : Type 0 where
+-- what is printed of a course by a run: its text, where places have not ended
+abbrev pub TellsAnswers : Course → List ℕ → Type 0
+TellsAnswers course text = count_after course < 2 ^ 63 → text ≡ text_in course
+
+-- The lines were run, and a text was printed that shows their one course.
+pub record Ran (tells : Type 0) (lines : List Line) (shows : Course → List ℕ → Type 0) (stops : Run → Type 0) (sink sink' : Stream) (medium medium' : Medium) (order : List Ordered) (syncs : List Synced) (status : ℕ) : Type 0 where
   pub course : Course
   pub lost : Bool
   pub worn : Bool
   pub runs : RunsLines tells lines stops medium medium' order syncs worn course
   pub causes : HaveCauses tells medium.counts medium'.counts course.next_stamp lost worn
   pub text : List ℕ
-  pub text_is : spoken → count_after course < 2 ^ 63 → text ≡ text_of course
+  pub text_is : shows course text
   pub prints : Prints sink sink' text
   pub done : DoneStatus status (RunFailed order medium.counts medium'.counts lost worn) sink sink' text
 
 -- How a run of lines ends.
-pub data RunEnds (tells : Type 0) (lines : List Line) (spoken : Type 0) (text_of : Course → List ℕ) (stops : Run → Type 0) (sink sink' : Stream) (medium medium' : Medium) (order : List Ordered) (syncs : List Synced) (status : ℕ) : Type 0 where
+pub data RunEnds (tells : Type 0) (lines : List Line) (shows : Course → List ℕ → Type 0) (stops : Run → Type 0) (sink sink' : Stream) (medium medium' : Medium) (order : List Ordered) (syncs : List Synced) (status : ℕ) : Type 0 where
   not_run : (text : List ℕ) → NotOpened tells medium medium' status text → EndsBefore tells text sink sink' medium medium' order syncs
-      → RunEnds tells lines spoken text_of stops sink sink' medium medium' order syncs status
-  ran : Ran tells lines spoken text_of stops sink sink' medium medium' order syncs status → RunEnds tells lines spoken text_of stops sink sink' medium medium' order syncs status
+      → RunEnds tells lines shows stops sink sink' medium medium' order syncs status
+  ran : Ran tells lines shows stops sink sink' medium medium' order syncs status → RunEnds tells lines shows stops sink sink' medium medium' order syncs status
 
 -- How the command ends that runs the script of a source. The order is source, script, memory, opening, run, sink.
 pub data ScriptEnds (tells : Type 0) (stops : Run → Type 0) (source source' sink sink' : Stream) (medium medium' : Medium) (order : List Ordered) (syncs : List Synced) (status : ℕ) : Type 0 where
@@ -41,5 +45,5 @@ pub data ScriptEnds (tells : Type 0) (stops : Run → Type 0) (source source' si
   script_refused : (line column : ℕ) (why : Why) → status ≡ 2 → RefusesScript source source' line column why
       → EndsBefore tells (refused_text line column (cause_word why)) sink sink' medium medium' order syncs
       → ScriptEnds tells stops source source' sink sink' medium medium' order syncs status
-  runs_script : (lines : List Line) → ReadsScript source source' lines → RunEnds tells lines ⊤ text_in stops sink sink' medium medium' order syncs status
+  runs_script : (lines : List Line) → ReadsScript source source' lines → RunEnds tells lines TellsAnswers stops sink sink' medium medium' order syncs status
       → ScriptEnds tells stops source source' sink sink' medium medium' order syncs status

@@ -1,11 +1,9 @@
 //! The top call of a flash store: it answers the words of a command line on a flash medium.
 #![tactic(auto)]
 
-mod opening;
 mod running;
+mod soaking;
 mod telling;
-#[cfg(test)]
-mod tests;
 mod top;
 
 pub use nl_commands::{Command, Done, command_of};

@@ -1,13 +1,12 @@
-// The command that runs a script.
-ghost use Rattle.std.specs.Prelude.{◌≡◌, ⊤};
-ghost use Rattle.nl_headline.specs.Course.{text_in};
+// The command that runs the script of a source, and what it shares with a soak.
+ghost use Rattle.std.specs.Prelude.{◌≡◌};
 ghost use Rattle.nl_headline.specs.Streams.{medium, stream};
 ghost use Rattle.nl_sound.specs.Crash.{StopsSafely};
 ghost use Rattle.nl_sound.specs.Stands.{SoundAs};
 ghost use Rattle.nl_top.specs.RunEnds.{RunEnds, ScriptEnds};
+ghost use Rattle.nl_top.specs.Telling.{Shows};
 
-use crate::opening::refused;
-use crate::telling::tell;
+use crate::telling::{Told, tell};
 use nl_commands::{Done, Script, ended, faults_of, read_script, without_lines};
 use nl_io::{Sink, Source};
 use nl_nand::Nand;
@@ -15,6 +14,7 @@ use nl_print::refused_line;
 use nl_rounds::{open, run_lines, tables_for};
 use nl_telling::laws::placed_rows_are_a_run;
 use nl_tree::Lines;
+use nl_viewing::refused;
 use nl_workers::Gate;
 use std::alloc::Global;
 use std::sync::Wait;
@@ -37,7 +37,7 @@ pub(crate) fn run<Rt: Threads + Wait + Sync, S: Source, K: Sink, M: Nand + Send,
         result.order.items result.syncs.items result.status }
 {
     match read_script(alloc, src) {
-        Script::Lines(lines) => run_on(rt, alloc, &lines, sink, media, gate),
+        Script::Lines(lines) => run_on(rt, alloc, &lines, Told::Answers, sink, media, gate),
         Script::Refused { line, column, why } => {
             let _ = refused_line(sink, line, column, why.word());
             without_lines(alloc, 2, media)
@@ -47,16 +47,17 @@ pub(crate) fn run<Rt: Threads + Wait + Sync, S: Source, K: Sink, M: Nand + Send,
     }
 }
 
-// Takes the tables, opens the volume, and runs the lines.
-fn run_on<Rt: Threads + Wait + Sync, K: Sink, M: Nand + Send, G: Gate + Sync>(
+// Takes the tables, opens the volume, runs the lines, and prints what is to be told of them.
+pub(crate) fn run_on<Rt: Threads + Wait + Sync, K: Sink, M: Nand + Send, G: Gate + Sync>(
     rt: &Rt,
     alloc: Global,
     lines: &Lines,
+    told: Told,
     sink: &mut K,
     media: M,
     gate: &G,
 ) -> Done<M>
-    ensures { RunEnds M.tells lines.now ⊤ text_in (StopsSafely SoundAs (λ m c. M.left media m c) (λ m c. M.left result.media m c) (M.clock media) (M.clock result.media)) (stream (K.taken sink.old) (K.faults sink.old)) (stream (K.taken sink.new) (K.faults sink.new))
+    ensures { RunEnds M.tells lines.now (Shows told M.tells) (StopsSafely SoundAs (λ m c. M.left media m c) (λ m c. M.left result.media m c) (M.clock media) (M.clock result.media)) (stream (K.taken sink.old) (K.faults sink.old)) (stream (K.taken sink.new) (K.faults sink.new))
         (medium (M.geometry media) (M.contents media) (M.clock media) (M.read_faults media) (M.write_faults media))
         (medium (M.geometry result.media) (M.contents result.media) (M.clock result.media) (M.read_faults result.media) (M.write_faults result.media))
         result.order.items result.syncs.items result.status }
@@ -73,7 +74,7 @@ fn run_on<Rt: Threads + Wait + Sync, K: Sink, M: Nand + Send, G: Gate + Sync>(
     match run_lines(rt, alloc, volume, lines, &mut tables, gate) {
         Ok(ran) => {
             placed_rows_are_a_run();
-            tell(ran, tables, before, sink)
+            tell(ran, tables, before, told, sink)
         }
         Err(volume) => ended(alloc, 6, b"memory", sink, volume.into_media()),
     }

@@ -1,18 +1,16 @@
-use Rattle.std.proofs.Common.{◌≡◌, ◌∙◌, ℕ, List, ap, refl, sym, subst, codes}
-use Rattle.std.specs.Prelude.{⊤}
+use Rattle.std.proofs.Common.{◌∙◌, ℕ, ap, refl, sym, subst, codes}
 use Rattle.nl_commands.specs.Ends.{no_memory}
 use Rattle.nl_device.specs.Medium.{medium_of}
 use Rattle.nl_field.specs.Page.{Image}
-use Rattle.nl_headline.specs.Course.{text_in}
 use Rattle.nl_headline.specs.Status.{DoneStatus, RunFailed}
 use Rattle.nl_headline.specs.Streams.{medium, stream}
 use Rattle.nl_rounds.proofs.Reading.{as_many_rows, ran_from, stops_from}
 use Rattle.nl_sound.specs.Crash.{StopsSafely}
 use Rattle.nl_sound.specs.Stands.{SoundAs}
 use Rattle.nl_tree.specs.Calls.{IsLine}
-use Rattle.nl_telling.specs.Rows.{rows_text}
 use Rattle.nl_volume.specs.declared.volume.Volume.{Volume}
 use Rattle.nl_top.specs.RunEnds.{RunEnds, not_run}
+use Rattle.nl_top.specs.Telling.{Shows, told_text}
 use Rattle.nl_top.proofs.Told.{has_each, room_for, was_told}
 use Rattle.nl_top.proofs.running.run_on.Goals as goal
 
@@ -61,7 +59,7 @@ tell-requires g c =
     let r = c.in-Ok-run_lines.ensures.ran in
     record {
       tables = room_for c.args.lines.now c.run_lines.new.tables.answers.rows _ _ _ _ _
-          (as_many_rows m.tells c.args.lines.now _ _ _ c.run_lines.new.tables.answers.rows c.in-Ok-run_lines.ran.lost c.in-Ok-run_lines.ran.worn r.0 r.2)
+          (as_many_rows m.tells c.args.lines.now _ _ _ c.run_lines.new.tables.answers.rows c.in-Ok-run_lines.ran.lost c.in-Ok-run_lines.ran.worn c.in-Ok-run_lines.ran.charges r.0 r.2)
           c.in-Ok.ensures c.run_lines.ensures.lists.0 c.run_lines.ensures.lists.1;
     }
 
@@ -80,6 +78,8 @@ returns-in-Ok-run_lines g c =
     let rows = c.run_lines.new.tables.answers.rows in
     let lost = c.in-Ok-run_lines.ran.lost in
     let worn = c.in-Ok-run_lines.ran.worn in
+    let charges = c.in-Ok-run_lines.ran.charges in
+    let what = c.args.told in
     let r = c.in-Ok-run_lines.ensures.ran in
     let start = medium (m.geometry media) (m.contents media) (m.clock media) (m.read_faults media) (m.write_faults media) in
     let there = medium (m.geometry opened) (m.contents opened) (m.clock opened) (m.read_faults opened) (m.write_faults opened) in
@@ -89,15 +89,15 @@ returns-in-Ok-run_lines g c =
     let run = ran_from m.tells lines
     (StopsSafely SoundAs (λ t i. m.left opened t i) (λ t i. m.left end t i) (m.clock opened) (m.clock end))
     (StopsSafely SoundAs (λ t i. m.left media t i) (λ t i. m.left end t i) (m.clock media) (m.clock end))
-    start there last rows lost worn r.0 (λ told. only.same_contents told)
+    start there last rows lost worn charges r.0 (λ told. only.same_contents told)
     (λ i. record { clock = only.same_clock i; read_faults = fault i; write_faults = only.same_write_faults i })
     (λ told run safe. stops_from SoundAs (λ t i. m.left media t i) (λ t i. m.left opened t i) (λ t i. m.left end t i) (m.clock opened) (m.clock media) (m.clock end) run (λ t i l. only.no_more_left told t i l) (sym only.same_clock) safe)
     r.2 in
-    let done = subst (λ (x : ℕ × ℕ). DoneStatus c.tell.result.status (RunFailed c.tell.result.order.items (record { clock = m.clock media; read_faults = x.0; write_faults = x.1 }) last.counts lost worn) old new (rows_text c.in-Ok-run_lines.ran.count rows))
+    let done = subst (λ (x : ℕ × ℕ). DoneStatus c.tell.result.status (RunFailed c.tell.result.order.items (record { clock = m.clock media; read_faults = x.0; write_faults = x.1 }) last.counts lost worn) old new (told_text what c.in-Ok-run_lines.ran.count charges rows))
     (λ i. (before.0 i, before.1 i)) c.tell.ensures.status in
-    let told = was_told m.tells lines (StopsSafely SoundAs (λ t i. m.left media t i) (λ t i. m.left end t i) (m.clock media) (m.clock end)) old new start last rows lost worn r.0
-    c.in-Ok-run_lines.ran.count c.tell.result.status run r.1 c.placed_rows_are_a_run.ensures c.tell.result.order.items c.tell.result.syncs.items c.tell.ensures.order c.tell.ensures.syncs c.tell.ensures.prints done in
-    subst (λ (x : g.row.M.Denot). RunEnds m.tells lines ⊤ text_in (StopsSafely SoundAs (λ t i. m.left media t i) (λ t i. m.left x t i) (m.clock media) (m.clock x)) old new start
+    let told = was_told m.tells lines (StopsSafely SoundAs (λ t i. m.left media t i) (λ t i. m.left end t i) (m.clock media) (m.clock end)) old new start last rows lost worn charges r.0
+    c.in-Ok-run_lines.ran.count c.tell.result.status run r.1 what c.placed_rows_are_a_run.ensures c.tell.result.order.items c.tell.result.syncs.items c.tell.ensures.order c.tell.ensures.syncs c.tell.ensures.prints done in
+    subst (λ (x : g.row.M.Denot). RunEnds m.tells lines (Shows what m.tells) (StopsSafely SoundAs (λ t i. m.left media t i) (λ t i. m.left x t i) (m.clock media) (m.clock x)) old new start
     (medium (m.geometry x) (m.contents x) (m.clock x) (m.read_faults x) (m.write_faults x)) c.tell.result.order.items c.tell.result.syncs.items c.tell.result.status)
     (sym c.tell.ensures.media) told
 

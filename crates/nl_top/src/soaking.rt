@@ -1,0 +1,45 @@
+// The command that runs a script which is drawn from a seed, and prints a summary.
+ghost use Rattle.std.specs.Prelude.{◌≡◌, ◌<◌, ◌≤◌, List, Ok};
+ghost use Rattle.nl_gen.specs.Soak.{soak_text};
+ghost use Rattle.nl_headline.specs.Streams.{medium, stream};
+ghost use Rattle.nl_script.specs.Script.{script};
+ghost use Rattle.nl_sound.specs.Crash.{StopsSafely};
+ghost use Rattle.nl_sound.specs.Stands.{SoundAs};
+ghost use Rattle.nl_tree.specs.declared.call.Line.{Line};
+ghost use Rattle.nl_top.specs.RunEnds.{RunEnds};
+ghost use Rattle.nl_top.specs.Soak.{Summarises};
+
+use crate::running::run_on;
+use crate::telling::Told;
+use nl_commands::{Done, drawn_lines, ended};
+use nl_io::Sink;
+use nl_nand::Nand;
+use nl_workers::Gate;
+use std::alloc::Global;
+use std::sync::Wait;
+use std::thread::Threads;
+
+// Runs the lines that are drawn from a seed, so many for each of so many workers.
+pub(crate) fn soak<Rt: Threads + Wait + Sync, K: Sink, M: Nand + Send, G: Gate + Sync>(
+    rt: &Rt,
+    alloc: Global,
+    seed: u64,
+    count: u32,
+    workers: u8,
+    sink: &mut K,
+    media: M,
+    gate: &G,
+) -> Done<M>
+    requires count { (0 < count) × (count ≤ 20000) }
+    requires workers { (0 < workers) × (workers ≤ 8) }
+    ensures { (lines : List Line) × (script (soak_text seed count workers) ≡ Ok lines) × RunEnds M.tells lines (Summarises M.tells) (StopsSafely SoundAs (λ m c. M.left media m c) (λ m c. M.left result.media m c) (M.clock media) (M.clock result.media))
+        (stream (K.taken sink.old) (K.faults sink.old)) (stream (K.taken sink.new) (K.faults sink.new))
+        (medium (M.geometry media) (M.contents media) (M.clock media) (M.read_faults media) (M.write_faults media))
+        (medium (M.geometry result.media) (M.contents result.media) (M.clock result.media) (M.read_faults result.media) (M.write_faults result.media))
+        result.order.items result.syncs.items result.status }
+{
+    match drawn_lines(alloc, seed, count, workers) {
+        Some(lines) => run_on(rt, alloc, &lines, Told::Summary, sink, media, gate),
+        None => ended(alloc, 6, b"memory", sink, media),
+    }
+}
