@@ -1,0 +1,131 @@
+// A note that is saved by a new file and a rename, and what a volume holds after each part of it.
+use crate::play::{Step, play};
+use nl_field::Memory;
+use nl_nand::{Cut, MemNand};
+use std::alloc::Global;
+use std::sync::Wait;
+use std::thread::Threads;
+
+/// Saves a note, and saves it anew.
+pub const NOTE: &str = "# save
+0 mkdir /home
+0 mkdir /home/ann
+0 create /home/ann/note
+0 write /home/ann/note 0 6f6c640a
+0 sync
+0 create /home/ann/.note.tmp
+0 write /home/ann/.note.tmp 0 6e65770a
+0 sync
+0 rename /home/ann/.note.tmp /home/ann/note
+0 sync
+0 read /home/ann/note 0 100
+0 list /home/ann
+0 stat /home
+";
+
+/// The text where nothing fails.
+pub const SAVED: &str = "opened 0
+2 @1 ok
+3 @2 ok
+4 @3 ok
+5 @4 ok 4
+6 @5 ok 4
+7 @6 ok
+8 @7 ok 4
+9 @8 ok 7
+10 @9 ok
+11 @10 ok 9
+12 @11 ok 6e65770a
+13 @12 ok 1 note
+14 @13 ok dir 1
+";
+
+/// How many programs the run makes: 1 for the bytes of the note, 12 for the first sync, 1 for the new bytes, 8 for each of the other syncs, and 4
+/// for the closing. A commit of n pages is a header, n images, the commit page, and n pages that are copied home: those of the first are the super
+/// page, the nodes and three directories, those of the others the super page, the nodes and one directory, and that of the last the super page.
+pub const PROGRAMS: u64 = 34;
+
+/// After how many calls the volume opens, once so many programs of the run are finished: commit pages are the programs 8, 19, 27 and 33.
+pub fn committed_after(programs: u64) -> u64 {
+    if programs < 8 {
+        0
+    } else if programs < 19 {
+        4
+    } else if programs < 27 {
+        7
+    } else if programs < 33 {
+        9
+    } else {
+        13
+    }
+}
+
+/// How many programs are finished after a stop within that one.
+pub fn finished(program: u64, cut: Cut) -> u64 {
+    match cut {
+        Cut::After => program,
+        _ => program.saturating_sub(1),
+    }
+}
+
+/// Writes another file.
+pub const OTHER: &str = "0 create /b\n0 write /b 0 62\n0 sync\n0 read /b 0 9\n";
+
+const READS: &str =
+    "0 list /\n0 read /b 0 9\n0 list /home\n0 list /home/ann\n0 read /home/ann/note 0 9\n0 read /home/ann/.note.tmp 0 9\n";
+
+// What these reads answer after so many calls of the saving, but for those of the root and of the other file.
+fn answers(saved: u64) -> [&'static str; 4] {
+    if saved < 4 {
+        ["ENOENT", "ENOENT", "ENOENT", "ENOENT"]
+    } else if saved < 7 {
+        ["ok 1 ann/", "ok 1 note", "ok 6f6c640a", "ENOENT"]
+    } else if saved < 9 {
+        [
+            "ok 1 ann/",
+            "ok 2 .note.tmp note",
+            "ok 6f6c640a",
+            "ok 6e65770a",
+        ]
+    } else {
+        ["ok 1 ann/", "ok 1 note", "ok 6e65770a", "ENOENT"]
+    }
+}
+
+fn root(saved: u64, other: bool) -> [&'static str; 2] {
+    match (saved < 4, other) {
+        (true, false) => ["ok 0", "ENOENT"],
+        (true, true) => ["ok 1 b", "ok 62"],
+        (false, false) => ["ok 1 home/", "ENOENT"],
+        (false, true) => ["ok 2 b home/", "ok 62"],
+    }
+}
+
+/// What is told otherwise than wanted of a volume that opens after so many calls: it is sound, and holds what the saving has after so many of its
+/// calls, and the other file or not. The medium behind it has six more calls.
+pub fn holds<Rt: Threads + Wait + Sync>(
+    rt: &Rt,
+    alloc: Global,
+    media: MemNand,
+    opened: u64,
+    saved: u64,
+    other: bool,
+) -> Result<(String, MemNand), Memory> {
+    let [list, read] = root(saved, other);
+    let [home, ann, note, new] = answers(saved);
+    let at = opened.saturating_add(1);
+    let second = opened.saturating_add(2);
+    let third = opened.saturating_add(3);
+    let fourth = opened.saturating_add(4);
+    let fifth = opened.saturating_add(5);
+    let sixth = opened.saturating_add(6);
+    let sound = format!(in alloc; "sound {opened}\n")?;
+    let text = format!(in alloc;
+        "opened {opened}\n1 @{at} {list}\n2 @{second} {read}\n3 @{third} {home}\n4 @{fourth} {ann}\n5 @{fifth} {note}\n6 @{sixth} {new}\n"
+    )?;
+    let steps: [Step<'_>; 2] = [
+        ("check", "", 0, sound.as_str()),
+        ("run", READS, 0, text.as_str()),
+    ];
+    play(rt, alloc, media, &steps)
+}
