@@ -1,5 +1,5 @@
 -- A Free block that was taken for copies.
-use Rattle.std.proofs.Common.{◌≡◌, ⊎_elim, ℕ, ◌+◌, ◌-◌, ◌*◌, ◌/◌, ◌%◌, ◌<◌, ◌≤◌, ◌&&◌, not, Bool, true, false, Option, Some, None, length, get_or, is_some, refl, sym, ◌∙◌, ap, subst, arith}
+use Rattle.std.proofs.Common.{◌≡◌, inl, ⊎_elim, ℕ, ◌+◌, ◌-◌, ◌*◌, ◌/◌, ◌%◌, ◌<◌, ◌≤◌, ◌&&◌, not, Bool, true, false, Option, Some, None, length, get_or, is_some, refl, sym, ◌∙◌, ap, subst, arith}
 use Rattle.std.specs.Vec.{with_item}
 use Rattle.std.proofs.lemmas.Bool.{cases_eq, true≢false}
 use Rattle.std.proofs.lemmas.List.{get_or-set_other}
@@ -21,7 +21,7 @@ use Rattle.nl_pseg.proofs.Tables.{has_same}
 use Rattle.nl_pseg.proofs.Taken.{free_other}
 use Rattle.nl_pseg.proofs.Tied.{back, named_on}
 use Rattle.std.proofs.lemmas.Nat.{mod-mul-add}
-use Rattle.nl_pseg.proofs.Wearing.{taken_wear}
+use Rattle.nl_pseg.proofs.Wearing.{taken_wear, taken_counts, counts_same}
 
 -- a block whose pages stay as live as they were
 pub dead_same : (a b : Table) → IsTable a → IsTable b → SameNumbers a b → (block : ℕ) → HasBlock a block → ((p : ℕ) → HasPage a p → p / a.size ≡ block → (page_at b p).state ≡ (page_at a p).state) → dead_count (block_at b block) ≡ dead_count (block_at a block)
@@ -167,6 +167,11 @@ module _ (s : State) (is : IsFormed s) (tied : IsTied s) (t : Table) (block : �
             let b : free_count s.blocks * s.blocks.size ≡ (free_count t + 1) * s.blocks.size = ap (λ m. m * s.blocks.size) (sym fewer) in
             let d : (free_count t + 1) * s.blocks.size ≡ free_count t * s.blocks.size + s.blocks.size = omega arith in
             omega (arith, a, b, d, e, full);
+        frees = λ b now. ⊎_elim
+            (λ at. absurd (true≢false (sym now ∙ (ap (λ m. (use_in t m).is_free) at ∙ ap (λ (u : Use). u.is_free) r.here))))
+            (λ ne. ap (λ (u : Use). u.is_free) (sym (r.others b ne)) ∙ now)
+            (cases_eq b block);
+        wears = record { each = taken_counts s t block free r };
         fewer = omega (arith, fewer);
         most = omega (arith, fewer);
         clean = λ clean b now. ⊎_elim
@@ -199,6 +204,8 @@ module _ (s : State) (is : IsFormed s) (tied : IsTied s) (t : Table) (is_a : IsT
         left = over.0;
         gain = over.1;
         lands = λ i. same.total i * n.same_size i + (n.same_size i - s.filled);
+        frees = λ b now. ap (λ (u : Use). u.is_free) (sym (same.uses b)) ∙ now;
+        wears = counts_same (λ b. ap (λ (u : Use). u.wear) (same.uses b)) (λ b. refl);
         fewer = let e = same.total in omega (arith, e);
         most = let e = same.total in omega (arith, e);
         clean = λ clean b now. clean b (sym (ap (λ (u : Use). u.is_kept) (same.uses b)) ∙ now);
@@ -217,6 +224,8 @@ still_readied seg = record {
   left = refl;
   gain = refl;
   lands = refl;
+  frees = λ b free. free;
+  wears = record { each = λ b. inl (refl, refl) };
   fewer = omega arith;
   most = omega arith;
   clean = λ clean. clean;

@@ -159,6 +159,7 @@ module _ {old new : Physical} (g : NamesGone old new) where
     next = g.next.0;
     left = g.next.1;
     soiled = g.same_soiled;
+    wears = g.wears;
     blocks = g.blocks;
     frees = frees;
     still = g.frees;
@@ -217,6 +218,7 @@ nothing_back seg = record {
   next = refl;
   left = refl;
   soiled = λ b. refl;
+  wears = λ b. refl;
   blocks = refl;
   frees = λ b free. inl free;
   still = λ b free. free;

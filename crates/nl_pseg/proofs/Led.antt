@@ -17,7 +17,7 @@ use Rattle.nl_blocks.proofs.TableProofs.{row_size}
 use Rattle.nl_remap.specs.declared.links.Link.{Link}
 use Rattle.nl_remap.specs.Links.{HasLink, link_at, no_link}
 use Rattle.nl_remap.specs.Table.{IsOld, IsRemap, led, led_on, pair, place_of}
-use Rattle.nl_remap.proofs.LinksProofs.{HasLink-insert_back}
+use Rattle.nl_remap.proofs.LinksProofs.{HasLink-insert_back, HasLink-insert_new}
 use Rattle.nl_remap.proofs.TableProofs.{IsOld-insert_back}
 use Rattle.nl_pseg.specs.OldNames.{NameTable, names_among}
 use Rattle.nl_pseg.specs.Segment.{Use, IsNext, IsNextCopy, IsOldName, held_at, soiled, wear_with}
@@ -208,6 +208,9 @@ module _ (s : State) (is : IsFormed s) (tied : IsTied s) (before after : ℕ) (v
           uses = same.uses;
           soiled = refl;
           ways = ways;
+          own =
+              let l = HasLink-insert_new pairs (place_of pairs before) (pair before after) few in
+              seen_old new before (subst (λ (xs : List Link). IsOld xs before) (sym pairs_now) (l.0, l.1, ap (λ (x : Link). x.from) l.2));
           names = λ name old. ⊎_elim (λ e. inl e) (λ old_was. inr (seen_old s name old_was)) (old_back name (subst (λ l. IsOld l name) pairs_now (old_is new name old)));
           pairs =
               let a = ap (λ (l : List Link). length l) pairs_now in

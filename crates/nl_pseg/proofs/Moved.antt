@@ -9,6 +9,7 @@ use Rattle.nl_pseg.specs.Steps.{IsCopyUsed, IsLed, IsReadied}
 use Rattle.nl_pseg.specs.declared.held.Held.{Held}
 use Rattle.nl_pseg.proofs.Numbers.{block_from}
 use Rattle.nl_pseg.proofs.Segments.{pages_back, range_of, within_same}
+use Rattle.nl_pseg.proofs.Wearing.{counts_then, counts_used}
 
 abbrev names_in : ℕ → List (ℕ × ℕ) → Type 0
 names_in name ps = (target : ℕ) × Contains ps (name, target)
@@ -44,6 +45,7 @@ module _ {before : ℕ} {h : Held} {seg mid new : Physical} (u : IsCopyUsed (Som
         dead = dead;
         held = l.held ∙ ap (λ (x : List (Option Held)). set x before None) u.held;
         ways = λ name. l.ways name ∙ ap (λ (ps : List (ℕ × ℕ)). if resolve ps name == before then seg.copy_next else resolve ps name) u.pairs;
+        own = l.own;
         names = λ name old. ⊎_elim (λ e. inl e) (λ is. inr (subst (names_in name) u.pairs is)) (l.names name old);
         pairs = l.pairs ∙ ap (λ (ps : List (ℕ × ℕ)). length ps + 1) u.pairs;
         pair_room = l.pair_room ∙ u.pair_room;
@@ -54,6 +56,9 @@ module _ {before : ℕ} {h : Held} {seg mid new : Physical} (u : IsCopyUsed (Som
             let all : (new.free + waiting new) * new.size ≡ (seg.free + waiting seg) * seg.size = (λ i. (free i + waits i) * size i) in
             omega (arith, all, copies, used, gain, gain_was);
         lands = λ lands. omega (arith, lands, blocks, copies, used, left, left_was);
+        wears = counts_used (λ b. l.uses b ∙ u.uses b) (l.soiled ∙ u.soiled);
+        next = (l.next.0 ∙ u.next.0, l.next.1 ∙ u.next.1);
+        less_room = let r = moved_room in omega (arith, r);
         room_most = let r = moved_room in omega (arith, r);
       }
 
@@ -85,6 +90,7 @@ module _ {seg new : Physical} (u : IsCopyUsed None seg new) where
     victim = u.victim;
     same_waiting = u.waits;
     left = u.left;
+    wears = counts_used u.uses u.soiled;
     less_landing = let l = landing_less in omega (arith, l);
     landing_most = let l = landing_less in omega (arith, l);
     less_room = let r = unmoved_room in omega (arith, r);
@@ -145,6 +151,7 @@ module _ {seg mid : Physical} (r : IsReadied seg mid) where
         dead = readied_dead after m.dead;
         held = m.held ∙ ap (λ (xs : List (Option Held)). set (set xs after (Some h)) before None) r.held;
         ways = λ name. m.ways name ∙ ap (λ (ps : List (ℕ × ℕ)). if resolve ps name == before then after else resolve ps name) r.pairs;
+        own = m.own;
         names = λ name old. ⊎_elim (λ e. inl e) (λ is. inr (subst (names_in name) r.pairs is)) (m.names name old);
         pairs = m.pairs ∙ ap (λ (ps : List (ℕ × ℕ)). length ps + 1) r.pairs;
         pair_room = m.pair_room ∙ r.pair_room;
@@ -153,6 +160,9 @@ module _ {seg mid : Physical} (r : IsReadied seg mid) where
         left = m.left ∙ r.left;
         same_reach = m.same_reach ∙ reach_same;
         lands = λ l. m.lands (readied_lands l);
+        wears = counts_then r.frees r.wears m.wears;
+        next = (m.next.0 ∙ r.next.0, m.next.1 ∙ r.next.1);
+        less_room = omega (arith, same, w.0, left);
         room_most = let e = m.same_size in omega (arith, same, w.1, left);
       }
     where
@@ -175,6 +185,7 @@ module _ {seg mid : Physical} (r : IsReadied seg mid) where
         victim = m.victim ∙ r.victim;
         same_waiting = m.same_waiting ∙ r.waits;
         left = m.left ∙ r.left;
+        wears = counts_then r.frees r.wears m.wears;
         less_landing = let e = r.lands in let a = m.less_landing in omega (arith, e, a);
         landing_most = let e = r.lands in let a = m.landing_most in omega (arith, e, a);
         less_room = omega (arith, same, w.0, left);
@@ -187,6 +198,7 @@ still_none seg = record {
   same_wear = λ b. refl;
   victim = refl;
   same_waiting = refl;
+  wears = record { each = λ b. inl (refl, refl) };
   left = refl;
   less_landing = omega arith;
   landing_most = omega arith;

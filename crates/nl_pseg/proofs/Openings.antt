@@ -1,6 +1,6 @@
 -- How a block is opened.
-use Rattle.std.proofs.Common.{◌≡◌, inl, inr, ⊎_elim, ℕ, suc, ◌+◌, ◌-◌, ◌*◌, ◌/◌, ◌<◌, ◌≤◌, Bool, true, false, cond, List, [], ◌∷◌, length, refl, sym, ◌∙◌, ap, arith, count_by}
-use Rattle.std.proofs.lemmas.Bool.{cases_Bool, cases_eq, cases_lt}
+use Rattle.std.proofs.Common.{◌≡◌, inl, inr, ℕ, suc, ◌+◌, ◌-◌, ◌*◌, ◌/◌, ◌<◌, ◌≤◌, Bool, true, false, cond, List, [], ◌∷◌, length, refl, sym, ◌∙◌, ap, arith, count_by}
+use Rattle.std.proofs.lemmas.Bool.{cases_Bool, cases_lt}
 use Rattle.std.proofs.lemmas.List.{length-map}
 use Rattle.std.proofs.lemmas.List.Sums.{sum_by-cons}
 use Rattle.nl_blocks.specs.Table.{BlockRow, Table, HasBlock, row_at, is_free, free_count}
@@ -10,7 +10,7 @@ use Rattle.nl_pseg.specs.Steps.{IsOpened, Restated, opened_at}
 use Rattle.nl_pseg.specs.declared.state.State.{State}
 use Rattle.nl_pseg.proofs.Numbers.{block_of}
 use Rattle.nl_pseg.proofs.Tables.{free_kept, use_here}
-use Rattle.nl_pseg.proofs.Wearing.{taken_wear}
+use Rattle.nl_pseg.proofs.Wearing.{taken_wear, taken_counts}
 
 abbrev num : Bool → ℕ
 num b = cond b 1 0
@@ -64,6 +64,7 @@ opened s t block is full two r free formed =
       in_use = ap (λ (u : Use). u.is_kept) r.here;
       others = λ b ne. r.others b ne;
       soiled = refl;
+      wears = record { each = taken_counts s t block free r };
       names = record { same_pairs = refl; same_pair_room = refl; same_victim = refl; copies = (λ i. s.target * r.numbers.same_size i + s.filled, λ i. r.numbers.same_size i - s.filled) };
     }
 

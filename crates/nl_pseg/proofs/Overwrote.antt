@@ -8,7 +8,7 @@ use Rattle.nl_field.specs.declared.pointer.Tag.{Tag}
 use Rattle.nl_blocks.specs.Table.{IsTable}
 use Rattle.nl_pseg.specs.Answers.{IfPlaced, IsFault, IsPlaced, is_placed}
 use Rattle.nl_pseg.specs.Effects.{Crashes}
-use Rattle.nl_pseg.specs.Segment.{HasSpare, IsClean, IsReady, IsSpent, IsUnspent, KeepsBlock, Physical, SamePages, room, without_target}
+use Rattle.nl_pseg.specs.Segment.{HasSpare, IsClean, IsReady, IsSpent, IsUnspent, KeepsBlock, Physical, SamePages, room, without_target, CountsErases}
 use Rattle.nl_pseg.specs.Seen.{IsFormed, IsTied, seen}
 use Rattle.nl_pseg.specs.Space.{HasFewPairs, Lessens, SameCleaning, left_of, waiting}
 use Rattle.nl_pseg.specs.Steps.{Ends, Placing, WritesOver}
@@ -20,6 +20,7 @@ use Rattle.nl_pseg.proofs.Lefts.{left_is, live_ended, live_of, live_same}
 use Rattle.nl_pseg.proofs.Segments.{pages_then}
 use Rattle.nl_pseg.proofs.Waits.{waiting_same}
 use Rattle.nl_pseg.proofs.Wrote.{free_spare, placed_cleaning, placed_few, placed_lands, placed_same, placed_spare, placed_spares, some_lands, still_page}
+use Rattle.nl_pseg.proofs.Wearing.{counts_after}
 
 pub placed_or_not : (answer : Named) → IsPlaced answer ⊎ (IsPlaced answer → ⊥)
 placed_or_not (the.Placed at) = inl tt
@@ -170,6 +171,9 @@ module _ (answer : Named) (place stamp : ℕ) (x : Option Held) (s n : State) (i
 
   pub over_pages : SamePages (seen s) (seen n)
   over_pages = ⊎_elim (λ yes. pages_then o.placing.pages (gone_pages (o.ended yes).gone)) (λ not. (only not).pages) (placed_or_not answer)
+
+  pub over_wears : CountsErases (seen s) (seen n)
+  over_wears = ⊎_elim (λ yes. counts_after o.placing.wears (o.ended yes).gone.wears (o.ended yes).gone.same_soiled) (λ not. (only not).wears) (placed_or_not answer)
 
   pub over_clean : IsClean (seen s) → IsClean (seen n)
   over_clean clean = ⊎_elim

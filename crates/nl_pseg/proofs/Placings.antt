@@ -1,5 +1,5 @@
 -- How a page is placed: a block is opened, and its next page is used.
-use Rattle.std.proofs.Common.{◌≡◌, ◌⊎◌, inl, inr, ⊎_elim, ℕ, zero, suc, true, ◌+◌, ◌-◌, ◌*◌, ◌/◌, ◌<◌, ◌≤◌, nat_le, cond, Option, Some, None, Contains, List, [], ◌∷◌, get_or, set, refl, sym, ◌∙◌, ap, subst, arith, is_some}
+use Rattle.std.proofs.Common.{◌≡◌, ◌⊎◌, inl, inr, ⊎_elim, ℕ, true, ◌+◌, ◌-◌, ◌*◌, ◌/◌, ◌<◌, ◌≤◌, nat_le, cond, Option, Some, None, Contains, List, get_or, set, refl, sym, ◌∙◌, ap, subst, arith, is_some}
 use Rattle.std.proofs.lemmas.Bool.{cond-true, cond-false, le-leb}
 use Rattle.std.proofs.lemmas.List.{get_or-set_other, set-get_or}
 use Rattle.std.proofs.lemmas.Bool.{cases_eq, true≢false}
@@ -21,6 +21,7 @@ use Rattle.nl_pseg.proofs.Images.{keeps_then, takes_then}
 use Rattle.nl_pseg.proofs.Gone.{waits}
 use Rattle.nl_pseg.proofs.Waits.{wait_by, wait_free, wait_not}
 use Rattle.nl_pseg.proofs.Segments.{pages_back, pages_then, range_of, within_same}
+use Rattle.nl_pseg.proofs.Wearing.{counts_same, counts_then, counts_used, none_there}
 
 pub if_placed : (answer : Named) {P Q : Pointer → Type 0} → ((at : Pointer) → P at → Q at) → IfPlaced answer P → IfPlaced answer Q
 if_placed (the.Placed at) by is = by at is
@@ -88,6 +89,7 @@ used_failed {seg} {new} stamp now u some dead = record {
   waits = used_waits u some;
   frees = inl (u.free, used_next u some, tt);
   kept = used_kept u some;
+  wears = counts_used u.uses u.soiled;
   names = u.names;
 }
 
@@ -104,6 +106,7 @@ used_placed {h} {seg} {new} page stamp at u some dead = record {
   waits = used_waits u some;
   frees = inl (u.free, used_next u some, (omega (arith, at), omega (arith, at, some)));
   kept = used_kept u some;
+  wears = counts_used u.uses u.soiled;
   names = u.names;
 }
 
@@ -135,12 +138,6 @@ module _ {block : ℕ} {seg mid : Physical} (o : IsOpened block seg mid) where
       one_less n p some =
           let e : (n - 1) + 1 ≡ n = omega (arith, some) in
           subst (λ k. (n - 1) * p + p ≡ k * p) e (omega arith)
-
-  none_there : (xs : List (Option ℕ)) (at : ℕ) → get_or (set xs at None) at None ≡ None
-  none_there [] zero = refl
-  none_there [] (suc at) = refl
-  none_there (x ∷ xs) zero = refl
-  none_there (x ∷ xs) (suc at) = none_there xs at
 
   opened_soiled : (new : Physical) (b : ℕ) → (soiled new b ≡ soiled mid b) ⊎ ((is_free mid b ≡ true) × (soiled new b ≡ None)) → (soiled new b ≡ soiled seg b) ⊎ ((is_free seg b ≡ true) × (soiled new b ≡ None))
   opened_soiled new b x = ⊎_elim
@@ -184,6 +181,12 @@ module _ {block : ℕ} {seg mid : Physical} (o : IsOpened block seg mid) where
       (λ ne. ap waits (o.others b ne))
       (cases_eq b block)
 
+  opened_frees : (b : ℕ) → is_free mid b ≡ true → is_free seg b ≡ true
+  opened_frees b free = ⊎_elim
+      (λ at. absurd (true≢false (sym free ∙ (ap (is_free mid) at ∙ o.here))))
+      (λ ne. ap (λ (w : Use). w.is_free) (sym (o.others b ne)) ∙ free)
+      (cases_eq b block)
+
   pub opened_placing : {new : Physical} {answer : Named} (stamp : ℕ) (h : Held) → 0 < seg.size → Placing stamp (λ at. set mid.held at.name (Some h)) answer mid new
       → Placing stamp (λ at. set seg.held at.name (Some h)) answer seg new
   opened_placing {new} {answer} stamp h some p = record {
@@ -197,6 +200,7 @@ module _ {block : ℕ} {seg mid : Physical} (o : IsOpened block seg mid) where
     waits = λ b. p.waits b ∙ opened_waits b;
     frees = inr (⊎_elim (λ same. let e = same.0 in let a = o.some in omega (arith, e, a)) (λ some. some) p.frees);
     kept = λ k. p.kept o.kept;
+    wears = counts_then opened_frees o.wears p.wears;
     names = names_then o.names p.names;
   }
     where
@@ -270,6 +274,7 @@ opening_failed {seg} {new} stamp now x = record {
   waits = λ b. wait_by seg new b (x.2.same_free b) (x.2.same_kept b);
   frees = inl (x.2.free, (λ p next. let a = x.2.next in let l = x.2.left in (omega (arith, a, next.0), omega (arith, a, l, next.1))), tt);
   kept = kept_same x.0 x.4 x.2.same_kept;
+  wears = counts_same x.2.same_erasures x.2.same_soiled;
   names = x.4;
 }
 
@@ -297,6 +302,7 @@ nothing_placed answer stamp now seg not no_fault = record {
   spent = λ placed. absurd (not placed);
   failed = λ fault. absurd (no_fault fault);
   clean = λ clean. clean;
+  wears = record { each = λ b. inl (refl, refl) };
   waits = λ b. refl;
   frees = inl (refl, (λ p next. next), none answer _ not);
   kept = λ k. k;

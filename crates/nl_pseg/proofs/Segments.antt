@@ -4,9 +4,9 @@ use Rattle.std.proofs.lemmas.Bool.{cases_eq, cases_Bool, cases_lt, leb-true, tru
 use Rattle.std.proofs.lemmas.List.{get_or-set_same, get_or-set_other, get_or_past, get_or_read}
 use Rattle.std.proofs.lemmas.Option.{none-some, same_Some}
 use Rattle.nl_field.specs.Spelling.{is_stamp}
-use Rattle.nl_pseg.specs.Segment.{Physical, Use, IsNext, IsNextCopy, InSegment, IsUnspent, SamePages, TakenAsErased, held_at, is_kept, is_soiled, no_use, stamp_in, use_at}
+use Rattle.nl_pseg.specs.Segment.{Physical, Use, IsNext, IsNextCopy, InSegment, IsUnspent, SamePages, TakenAsErased, held_at, is_kept, is_soiled, no_use, stamp_in, use_at, soiled}
 use Rattle.nl_pseg.specs.Seen.{ArePlaces, IsPlace}
-use Rattle.nl_pseg.specs.Steps.{IsApart, IsUsed, IsOpened, SameRange}
+use Rattle.nl_pseg.specs.Steps.{IsUsed, IsOpened, SameRange}
 use Rattle.nl_pseg.specs.declared.held.Held.{Held}
 use Rattle.nl_pseg.proofs.Numbers.{block_of}
 use Rattle.nl_pseg.proofs.Tables.{use_from, use_before}
@@ -174,7 +174,16 @@ held_places {old} {new} page h range held within place free next are = record {
         let was = are.each p k there.1 in
         place_same p k range (free (p / old.size) was.in_use) (λ n. was.behind (next p n)) was
 
--- apart from one block
+-- Apart from one block, what is taken as erased stays. Nothing of that block is taken as erased then.
+pub record IsApart (block : ℕ) (old new : Physical) : Type 0 where
+  pub range : SameRange old new
+  pub next : new.next ≡ old.next
+  pub left : new.left ≡ old.left
+  pub idle : (p : ℕ) → IsNext old p → p / old.size ≡ block → ⊥
+  pub others_kept : (other : ℕ) → (other ≡ block → ⊥) → is_kept new other ≡ is_kept old other
+  pub others_soiled : (other : ℕ) → (other ≡ block → ⊥) → soiled new other ≡ soiled old other
+  pub gone : is_kept new block ≡ true → is_soiled new block ≡ false → ⊥
+
 module _ {block : ℕ} {old new : Physical} (apart : IsApart block old new) where
   apart_next : (p : ℕ) → IsNext new p → IsNext old p
   apart_next p next = let n = apart.next in let l = apart.left in (omega (arith, n, next.0), omega (arith, n, l, next.1))

@@ -1,5 +1,5 @@
 -- What the calls of cleaning do to a segment and its medium.
-use Rattle.std.specs.Prelude.{◌≡◌, ◌⊎◌, ℕ, ◌+◌, ◌-◌, ◌*◌, ◌/◌, ◌<◌, ◌≤◌, ◌==◌, if◌then◌else◌, ⊤, Bool, true, false, List, length, filter, not, slice_set, Some, None}
+use Rattle.std.specs.Prelude.{◌≡◌, ◌⊎◌, ℕ, ◌+◌, ◌*◌, ◌/◌, ◌<◌, ◌≤◌, ◌==◌, if◌then◌else◌, ⊤, Bool, true, false, List, length, filter, not, slice_set, Some, None}
 use Rattle.nl_blocks.specs.Table.{worn}
 use Rattle.nl_field.specs.CrashStates.{Earlier, Rose, saturated}
 use Rattle.nl_field.specs.Live.{resolve}
@@ -8,7 +8,7 @@ use Rattle.nl_field.specs.declared.answers.Named.{Named}
 use Rattle.nl_field.specs.declared.answers.Named.TheVariants as named
 use Rattle.nl_pseg.specs.Effects.{Crashes}
 use Rattle.nl_pseg.specs.Pages.{IsUnreadable, main_of}
-use Rattle.nl_pseg.specs.Segment.{InVictim, IsDead, IsOldName, Physical, erasures, held_at, is_free, is_kept, is_sealed, is_waiting, room, soiled, wear_of}
+use Rattle.nl_pseg.specs.Segment.{InVictim, IsDead, IsOldName, Physical, erasures, held_at, is_free, is_kept, is_sealed, is_waiting, room, soiled, wear_of, CountsErases}
 use Rattle.nl_pseg.specs.Space.{HasRoomForVictim, dead_in, dead_pages, landing, left_of, reach, victims, waiting}
 use Rattle.nl_pseg.specs.declared.cleaned.Copied.{Copied}
 use Rattle.nl_pseg.specs.declared.cleaned.Copied.TheVariants as copy
@@ -82,6 +82,7 @@ pub record Moves (before after : ℕ) (h : Held) (old new : Physical) : Type 0 w
   pub dead : IsDead old after
   pub held : new.held ≡ slice_set (slice_set old.held after (Some h)) before None
   pub ways : (name : ℕ) → resolve new.pairs name ≡ (if resolve old.pairs name == before then after else resolve old.pairs name)
+  pub own : IsOldName new before
   pub names : (name : ℕ) → IsOldName new name → (name ≡ before) ⊎ IsOldName old name
   pub pairs : length new.pairs ≡ length old.pairs + 1
   pub pair_room : new.pair_room + 1 ≡ old.pair_room
@@ -90,6 +91,9 @@ pub record Moves (before after : ℕ) (h : Held) (old new : Physical) : Type 0 w
   pub left : left_of new + 1 ≡ left_of old
   pub same_reach : reach new ≡ reach old
   pub lands : HasRoomForVictim old → HasRoomForVictim new
+  pub wears : CountsErases old new
+  pub next : (new.next ≡ old.next) × (new.left ≡ old.left)
+  pub less_room : room new ≤ room old
   pub room_most : room old ≤ room new + old.size
 
 -- No page was moved: pages and names are as they were, and where a program or an erase failed a page for copies may be lost.
@@ -99,6 +103,7 @@ pub record MovesNone (old new : Physical) : Type 0 where
   pub victim : new.victim ≡ old.victim
   pub same_waiting : waiting new ≡ waiting old
   pub left : left_of new ≡ left_of old
+  pub wears : CountsErases old new
   pub less_landing : landing new ≤ landing old
   pub landing_most : landing old ≤ landing new + 1
   pub less_room : room new ≤ room old

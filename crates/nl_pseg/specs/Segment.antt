@@ -121,6 +121,19 @@ InSegment seg page = (seg.first * seg.size ≤ page) × (page < seg.blocks * seg
 abbrev pub IsOldName : Physical → ℕ → Type 0
 IsOldName seg name = (target : ℕ) × Contains seg.pairs (name, target)
 
+-- The block was erased as often as before, and is as soiled; or it was Free and soiled, and was erased once.
+abbrev pub CountsErase : Physical → Physical → ℕ → Type 0
+CountsErase old new block = ((erasures new block ≡ erasures old block) × (soiled new block ≡ soiled old block))
+    ⊎ ((is_free old block ≡ true) × (is_some (soiled old block) ≡ true) × (soiled new block ≡ None) × (erasures new block ≡ worn (erasures old block)))
+
+-- so each block
+pub record CountsErases (old new : Physical) : Type 0 where
+  pub each : (block : ℕ) → CountsErase old new block
+
+-- each block was erased as often as before
+abbrev pub SameErasures : Physical → Physical → Type 0
+SameErasures old new = (block : ℕ) → erasures new block ≡ erasures old block
+
 -- The page is one of the segment and not live, its number is no old name, and it is not in the victim.
 pub record IsDead (seg : Physical) (page : ℕ) : Type 0 where
   pub within : InSegment seg page

@@ -2,7 +2,7 @@
 use Rattle.std.specs.Prelude.{◌≡◌, ◌⊎◌, ℕ, ◌+◌, ◌-◌, ◌*◌, ◌/◌, ◌≤◌, ◌&&◌, not, true, false, cond, List, length, sum_by, count_by, Contains, AllPairs, Option, Some, is_some, option_map, unwrap_or}
 use Rattle.std.specs.List.{range_with_len}
 use Rattle.nl_blocks.specs.Table.{is_sealed_state}
-use Rattle.nl_pseg.specs.Segment.{InSegment, InVictim, IsOldName, IsUnspent, KeepsBlock, Physical, IsNext, IsNextCopy, TakenAsErased, held_at, is_free, is_kept, is_waiting, room, row_at, soiled}
+use Rattle.nl_pseg.specs.Segment.{InSegment, InVictim, IsOldName, IsUnspent, KeepsBlock, Physical, IsNext, IsNextCopy, TakenAsErased, held_at, is_free, is_kept, is_waiting, room, row_at, soiled, SameErasures}
 use Rattle.nl_pseg.specs.declared.held.Held.{Held}
 
 -- how many pages are live
@@ -106,6 +106,7 @@ pub record GivesBack (old new : Physical) : Type 0 where
   pub next : new.next ≡ old.next
   pub left : new.left ≡ old.left
   pub soiled : (block : ℕ) → soiled new block ≡ soiled old block
+  pub wears : SameErasures old new
   pub blocks : new.free + waiting new ≡ old.free + waiting old
   pub frees : (block : ℕ) → is_free new block ≡ true → (is_free old block ≡ true) ⊎ (is_waiting old block ≡ true)
   pub still : (block : ℕ) → is_free old block ≡ true → is_free new block ≡ true

@@ -1,7 +1,6 @@
 -- What the steps of a call do to the table of blocks and to the segment.
-use Rattle.std.specs.Prelude.{◌≡◌, ◌⊎◌, ℕ, ◌+◌, ◌-◌, ◌*◌, ◌/◌, ◌^◌, ◌<◌, ◌≤◌, ◌==◌, if◌then◌else◌, min, Bool, true, false, cond, List, length, slice_set, Option, Some, None, unwrap_or}
+use Rattle.std.specs.Prelude.{◌≡◌, ◌⊎◌, ℕ, ◌+◌, ◌*◌, ◌/◌, ◌<◌, ◌≤◌, ◌==◌, if◌then◌else◌, Bool, true, false, cond, List, length, slice_set, Option, Some, None}
 use Rattle.nl_field.specs.CrashStates.{LeavesOnly}
-use Rattle.nl_field.specs.Live.{resolve}
 use Rattle.nl_field.specs.Live.{resolve}
 use Rattle.nl_field.specs.Page.{Image, Page, erased, written, page_at}
 use Rattle.nl_field.specs.declared.answers.Named.{Named}
@@ -17,7 +16,7 @@ use Rattle.nl_blocks.specs.Table.{page_at as page_in}
 use Rattle.nl_pseg.specs.Answers.{IfPlaced, IsFault, IsPlaced}
 use Rattle.nl_pseg.specs.Effects.{Crashes, Keeps, Programmed}
 use Rattle.nl_pseg.specs.Pages.{page_with}
-use Rattle.nl_pseg.specs.Segment.{InSegment, Physical, IsClean, IsDead, IsNext, IsNextCopy, IsPhysicalOf, IsReady, IsSpent, IsUnspent, KeepsBlock, SameNames, SamePages, TakenAsErased, erasures, is_free, is_kept, is_soiled, is_waiting, soiled, use_at, wear_of, without_target, names_another_free, IsOldName}
+use Rattle.nl_pseg.specs.Segment.{InSegment, Physical, IsClean, IsDead, IsNext, IsNextCopy, IsPhysicalOf, IsReady, IsSpent, IsUnspent, KeepsBlock, SameNames, SamePages, TakenAsErased, erasures, is_free, is_kept, is_soiled, is_waiting, soiled, use_at, wear_of, without_target, names_another_free, IsOldName, CountsErases}
 use Rattle.nl_pseg.specs.Space.{gain_of, landing, left_of, waiting}
 use Rattle.nl_pseg.specs.Seen.{IsTied, use_in, use_with}
 use Rattle.nl_pseg.specs.declared.held.Held.{Held}
@@ -162,16 +161,6 @@ pub record IsTaking (s : State) (block : ℕ) : Type 0 where
   pub was_free : (use_in table block).is_free ≡ true
   pub full : s.blocks.size ≤ s.used
 
--- Apart from one block, what is taken as erased stays. Nothing of that block is taken as erased then.
-pub record IsApart (block : ℕ) (old new : Physical) : Type 0 where
-  pub range : SameRange old new
-  pub next : new.next ≡ old.next
-  pub left : new.left ≡ old.left
-  pub idle : (p : ℕ) → IsNext old p → p / old.size ≡ block → ⊥
-  pub others_kept : (other : ℕ) → (other ≡ block → ⊥) → is_kept new other ≡ is_kept old other
-  pub others_soiled : (other : ℕ) → (other ≡ block → ⊥) → soiled new other ≡ soiled old other
-  pub gone : is_kept new block ≡ true → is_soiled new block ≡ false → ⊥
-
 -- A block is Free, and no page is given out. Where it was in use, it is erased before use.
 pub record IsGivenBack (block : ℕ) (old new : Physical) : Type 0 where
   pub range : SameRange old new
@@ -261,6 +250,7 @@ pub record IsOpened (block : ℕ) (old new : Physical) : Type 0 where
   pub in_use : is_kept new block ≡ false
   pub others : (other : ℕ) → (other ≡ block → ⊥) → use_at new.first new.uses other ≡ use_at old.first old.uses other
   pub soiled : new.soiled ≡ slice_set old.soiled block None
+  pub wears : CountsErases old new
   pub names : SameNames old new
 
 -- What was done to have a page to program: nothing where there was one, else a Free block is written to. Where it failed, no page
@@ -294,6 +284,7 @@ pub record Placing (stamp : ℕ) (now : Pointer → List (Option Held)) (answer 
   pub waits : (block : ℕ) → is_waiting new block ≡ is_waiting old block
   pub frees : LeavesFree answer old new
   pub kept : KeepsBlock old → KeepsBlock new
+  pub wears : CountsErases old new
   pub names : SameNames old new
 
 -- What writing over a live page does to it: where a page was placed, the other one is live no longer.
@@ -339,6 +330,8 @@ pub record IsReadied (old new : Physical) : Type 0 where
   pub left : left_of new ≡ left_of old
   pub gain : gain_of new ≡ gain_of old
   pub lands : landing new ≡ landing old
+  pub frees : (block : ℕ) → is_free new block ≡ true → is_free old block ≡ true
+  pub wears : CountsErases old new
   pub fewer : new.free ≤ old.free
   pub most : old.free ≤ new.free + 1
   pub clean : IsClean old → IsClean new
@@ -379,6 +372,7 @@ pub record IsLed (before after : ℕ) (old new : Physical) : Type 0 where
   pub uses : (block : ℕ) → use_at new.first new.uses block ≡ use_at old.first old.uses block
   pub soiled : new.soiled ≡ old.soiled
   pub ways : (name : ℕ) → resolve new.pairs name ≡ (if resolve old.pairs name == before then after else resolve old.pairs name)
+  pub own : IsOldName new before
   pub names : (name : ℕ) → IsOldName new name → (name ≡ before) ⊎ IsOldName old name
   pub pairs : length new.pairs ≡ length old.pairs + 1
   pub pair_room : new.pair_room + 1 ≡ old.pair_room

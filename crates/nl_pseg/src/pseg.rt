@@ -10,7 +10,7 @@ ghost use Rattle.nl_pseg.specs.Effects.{Counted, Crashes, Programmed};
 ghost use Rattle.nl_pseg.specs.Pages.{page_with};
 ghost use Rattle.nl_pseg.specs.Cleaning.{without_name};
 ghost use Rattle.nl_pseg.specs.Space.{GivesBack, HasRoomForVictim, IsWhole, Lessens, SameCleaning, reach, waiting};
-ghost use Rattle.nl_pseg.specs.Segment.{HasSpare, IsNextCopy, is_waiting, names_another_free, CanLead, InSegment, IsNext, IsClean, IsDead, IsLive, IsNewStamp, IsOldName, IsPhysicalOf, IsReady, IsSpent, IsUnspent, KeepsBlock, KeptAreDead, SamePages, TakenAsErased, erasures, held_at, is_free, is_kept, room, soiled, wear_of, without_target};
+ghost use Rattle.nl_pseg.specs.Segment.{CountsErases, HasSpare, IsNextCopy, is_waiting, names_another_free, CanLead, InSegment, IsNext, IsClean, IsDead, IsLive, IsNewStamp, IsOldName, IsPhysicalOf, IsReady, IsSpent, IsUnspent, KeepsBlock, KeptAreDead, SamePages, TakenAsErased, erasures, held_at, is_free, is_kept, room, soiled, wear_of, without_target};
 ghost use Rattle.nl_pseg.specs.Seen.{Fits};
 ghost use Rattle.nl_pseg.specs.declared.held.Held.{Held as HeldOf};
 
@@ -304,6 +304,7 @@ impl PSeg {
         ensures pairs { self.new.pairs ≡ self.old.pairs }
         ensures pages { SamePages self.old self.new }
         ensures cleaning { SameCleaning self.old self.new }
+        ensures wears { CountsErases self.old self.new }
         ensures lands { HasRoomForVictim self.old → HasRoomForVictim self.new }
         ensures spent { IsPlaced result → IsSpent self.old self.new }
         ensures failed { IsFault result → IsSpent self.old self.new ⊎ (IsUnspent self.old self.new × (IsReady self.old → ⊥)) }
@@ -350,6 +351,7 @@ impl PSeg {
         ensures pages { SamePages self.old self.new }
         ensures space { Lessens (cond (is_placed result) 1 0) self.old self.new }
         ensures cleaning { (IsPlaced result → ⊥) → SameCleaning self.old self.new }
+        ensures wears { CountsErases self.old self.new }
         ensures room { IsPlaced result → room self.old ≤ room self.new + 1 }
         ensures blocks { IsPlaced result → self.new.free + waiting self.new ≤ self.old.free + waiting self.old }
         ensures spent { IsPlaced result → waiting self.old ≡ 0 → IsSpent self.old self.new }

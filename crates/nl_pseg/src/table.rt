@@ -1,6 +1,6 @@
 // Steps on the table of blocks.
 ghost use Rattle.std.specs.Prelude.{◌≡◌, ◌/◌, ◌≤◌, ◌<◌, ◌+◌, ◌-◌, ◌^◌, ℕ, cond, true, false};
-ghost use Rattle.nl_blocks.specs.Table.{HasBlock, after_erase, block_at, free_count, in_state, is_retired_state, names_of, with_block, with_page, worn};
+ghost use Rattle.nl_blocks.specs.Table.{HasBlock, IsLeastWornFree, after_erase, block_at, free_count, in_state, is_retired_state, names_of, with_block, with_page, worn};
 ghost use Rattle.nl_pseg.specs.Seen.{use_in};
 ghost use Rattle.nl_pseg.specs.Steps.{IsMarked, IsPut, IsTold, Restated, SameMarks, SameNumbers, SameUse, aside_state, told_state};
 
@@ -13,11 +13,12 @@ pub fn is_free(blocks: &Blocks, block: u32) -> bool
     matches!(blocks.state(block), BlockState::Free)
 }
 
-/// Takes a Free block, the least worn. Another one stays Free.
+/// Takes the least worn Free block, of equals the one with the least number. Another one stays Free.
 pub fn take(blocks: &mut Blocks) -> u32
     requires { 2 ≤ free_count blocks.old }
     ensures has { HasBlock blocks.old result }
     ensures was_free { (use_in blocks.old result).is_free ≡ true }
+    ensures least { IsLeastWornFree blocks.old result }
     ensures active { (block_at blocks.new result).state ≡ BlockState.Active }
     ensures taken { Restated result false (use_in blocks.old result).wear blocks.old blocks.new }
 {
@@ -27,11 +28,12 @@ pub fn take(blocks: &mut Blocks) -> u32
     }
 }
 
-/// Takes the least worn Free block for copies.
+/// Takes the least worn Free block for copies, of equals the one with the least number.
 pub fn take_target(blocks: &mut Blocks) -> u32
     requires { 1 ≤ free_count blocks.old }
     ensures has { HasBlock blocks.old result }
     ensures was_free { (use_in blocks.old result).is_free ≡ true }
+    ensures least { IsLeastWornFree blocks.old result }
     ensures target { (block_at blocks.new result).state ≡ BlockState.Target }
     ensures taken { Restated result false (use_in blocks.old result).wear blocks.old blocks.new }
 {

@@ -1,9 +1,8 @@
 use Rattle.std.proofs.Common.{◌≡◌, false, refl, sym, ◌∙◌, ap, subst}
 use Rattle.nl_blocks.specs.Table.{BlockRow, block_at, worn, worn_row}
-use Rattle.nl_pseg.specs.Segment.{Use}
 use Rattle.nl_pseg.specs.Seen.{use_in, use_of, use_with}
 use Rattle.nl_pseg.specs.Steps.{Restated}
-use Rattle.nl_pseg.proofs.Tables.{free_kept, restated, row_here, use_here}
+use Rattle.nl_pseg.proofs.Tables.{restated, row_here, use_here}
 use Rattle.nl_pseg.proofs.Wearing.{used_free}
 use Rattle.nl_pseg.proofs.table.wear_out.Goals as goal
 

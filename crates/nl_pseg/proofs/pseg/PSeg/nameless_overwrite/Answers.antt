@@ -3,10 +3,10 @@ use Rattle.nl_field.specs.Live.{resolve}
 use Rattle.nl_field.specs.declared.answers.Named.TheVariants.{NoPage, NotLive}
 use Rattle.nl_pseg.specs.Answers.{IfPlaced, IsFault, IsPlaced, is_placed}
 use Rattle.nl_pseg.specs.Effects.{Counted}
-use Rattle.nl_pseg.specs.Segment.{HasSpare, IsDead, KeepsBlock, Physical, IsClean, IsLive, IsReady, IsSpent, IsUnspent, SamePages, room, without_target}
+use Rattle.nl_pseg.specs.Segment.{HasSpare, IsDead, KeepsBlock, Physical, IsClean, IsLive, IsReady, IsSpent, IsUnspent, SamePages, room, without_target, CountsErases}
 use Rattle.nl_pseg.specs.Seen.{seen}
 use Rattle.nl_pseg.specs.Space.{Lessens, SameCleaning, waiting}
-use Rattle.nl_pseg.proofs.Overwrote.{over_blocks, over_clean, over_failed, over_few, over_held, over_kept, over_pages, over_pairs, over_room, over_same, over_space, over_spare, over_spent, refused_cleaning}
+use Rattle.nl_pseg.proofs.Overwrote.{over_blocks, over_clean, over_failed, over_few, over_held, over_kept, over_pages, over_pairs, over_room, over_same, over_space, over_spare, over_spent, refused_cleaning, over_wears}
 use Rattle.nl_pseg.proofs.States.{kept_dead, taken_segment}
 use Rattle.nl_pseg.proofs.pseg.PSeg.nameless_overwrite.Goals as goal
 
@@ -154,3 +154,10 @@ returns-clause-within g c p taken = taken_segment c.overwrite-named.new.self c.o
 
 pub returns-clause-kept_dead : goal.returns-clause-kept_dead
 returns-clause-kept_dead g c = kept_dead c.overwrite-named.new.self c.overwrite-named.ensures.formed
+
+pub returns-clause-wears : goal.returns-clause-wears
+returns-clause-wears g c =
+    let i = c.self.invariant in
+    let e = c.overwrite-named.ensures in
+    subst (λ (s : Physical). CountsErases s (seen c.overwrite-named.new.self)) c.self.view_is
+    (over_wears c.overwrite-named.result (resolve (seen c.self.inside.state).pairs c.args.old.name) c.args.stamp _ c.self.inside.state c.overwrite-named.new.self i.0 i.1 i.3 i.2 e.formed e.tied c.table.ensures e.over)

@@ -1,7 +1,7 @@
 use Rattle.std.proofs.Common.{◌⊎◌, subst}
 use Rattle.nl_pseg.specs.Answers.{IsFault}
 use Rattle.nl_pseg.specs.Effects.{Counted}
-use Rattle.nl_pseg.specs.Segment.{HasSpare, Physical, IsClean, IsReady, IsSpent, IsUnspent}
+use Rattle.nl_pseg.specs.Segment.{HasSpare, Physical, IsClean, IsReady, IsSpent, IsUnspent, CountsErases}
 use Rattle.nl_pseg.specs.Seen.{seen}
 use Rattle.nl_pseg.specs.Space.{HasRoomForVictim, SameCleaning}
 use Rattle.nl_pseg.proofs.States.{kept_dead, taken_segment}
@@ -51,3 +51,6 @@ returns-clause-counts g c =
 
 pub returns-clause-kept_dead : goal.returns-clause-kept_dead
 returns-clause-kept_dead g c = kept_dead c.write-named.new.self c.write-named.ensures.formed
+
+pub returns-clause-wears : goal.returns-clause-wears
+returns-clause-wears g c = subst (λ (s : Physical). CountsErases s (seen c.write-named.new.self)) c.self.view_is c.write-named.ensures.placing.wears

@@ -9,11 +9,11 @@ use Rattle.nl_remap.specs.Links.{link_at}
 use Rattle.nl_remap.specs.Table.{told}
 use Rattle.nl_pseg.specs.Segment.{Use}
 use Rattle.nl_pseg.specs.Seen.{seen, use_in}
-use Rattle.nl_pseg.specs.Steps.{IsApart, IsIdle, SameNumbers}
+use Rattle.nl_pseg.specs.Steps.{IsIdle, SameNumbers}
 use Rattle.nl_pseg.specs.declared.held.Held.{Held}
 use Rattle.nl_pseg.specs.declared.state.State.{State}
 use Rattle.nl_pseg.proofs.Forms.{next_is, left_is}
-use Rattle.nl_pseg.proofs.Segments.{apart_taken}
+use Rattle.nl_pseg.proofs.Segments.{IsApart, apart_taken}
 use Rattle.nl_pseg.proofs.Served.{free_set, served_tied}
 use Rattle.nl_pseg.proofs.States.{next_block}
 use Rattle.nl_pseg.proofs.Tables.{free_state_is, has_same, use_here}

@@ -7,13 +7,13 @@ use Rattle.nl_blocks.specs.Table.{HasBlock, Table, block_at}
 use Rattle.nl_remap.specs.Table.{IsOld}
 use Rattle.nl_pseg.specs.Segment.{Use, InSegment, held_at, is_kept}
 use Rattle.nl_pseg.specs.Seen.{IsPlace, seen, use_in}
-use Rattle.nl_pseg.specs.Steps.{IsApart, IsIdle, SameNumbers}
+use Rattle.nl_pseg.specs.Steps.{IsIdle, SameNumbers}
 use Rattle.nl_pseg.specs.declared.held.Held.{Held}
 use Rattle.nl_pseg.specs.declared.state.State.{State}
 use Rattle.nl_pseg.proofs.Forms.{formed_page, formed_restated, use_places, next_is, left_is}
 use Rattle.nl_pseg.proofs.Numbers.{block_of}
 use Rattle.nl_pseg.proofs.Gone.{old_told}
-use Rattle.nl_pseg.proofs.Segments.{apart_taken, held_places, set_held}
+use Rattle.nl_pseg.proofs.Segments.{IsApart, apart_taken, held_places, set_held}
 use Rattle.nl_pseg.proofs.Served.{idle_copy, idle_next, sealed_set, served_tied}
 use Rattle.nl_pseg.proofs.States.{next_block}
 use Rattle.nl_pseg.proofs.Tables.{numbers_then}

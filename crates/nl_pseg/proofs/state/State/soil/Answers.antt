@@ -5,9 +5,9 @@ use Rattle.std.proofs.lemmas.List.{get_or-set_same, get_or-set_other}
 use Rattle.nl_blocks.specs.Table.{HasBlock, Table, block_at}
 use Rattle.nl_pseg.specs.Segment.{Use}
 use Rattle.nl_pseg.specs.Seen.{seen, use_in}
-use Rattle.nl_pseg.specs.Steps.{IsApart, IsIdle, SameNumbers, told_state}
+use Rattle.nl_pseg.specs.Steps.{IsIdle, SameNumbers, told_state}
 use Rattle.nl_pseg.proofs.Forms.{formed_marks, formed_table, next_is, left_is}
-use Rattle.nl_pseg.proofs.Segments.{apart_taken}
+use Rattle.nl_pseg.proofs.Segments.{IsApart, apart_taken}
 use Rattle.nl_pseg.proofs.States.{next_block}
 use Rattle.nl_pseg.specs.declared.held.Held.{Held}
 use Rattle.nl_pseg.specs.declared.state.State.{State}

@@ -13,7 +13,7 @@ use Rattle.nl_pseg.proofs.Forms.{formed_restated, formed_same, same_pages, same_
 use Rattle.nl_pseg.proofs.Images.{erase_keeps, erase_others, failed_segment, keeps_nothing, opened_segment}
 use Rattle.nl_pseg.proofs.Numbers.{in_block}
 use Rattle.nl_pseg.proofs.Openings.{free_use, last_block, opened, opened_block, two_free}
-use Rattle.nl_pseg.proofs.Tables.{free_kept, has_same, restated_again, restated_same, use_here}
+use Rattle.nl_pseg.proofs.Tables.{free_kept, has_same, restated_again, restated_same}
 use Rattle.nl_pseg.proofs.Taken.{free_again}
 use Rattle.nl_pseg.proofs.Tied.{free_apart, free_copy, free_own}
 use Rattle.nl_pseg.proofs.Wearing.{taken_clean, taken_soiled}
