@@ -7,11 +7,19 @@ use Rattle.nl_headline.specs.Status.{DoneStatus}
 use Rattle.nl_headline.specs.Streams.{Medium, MediumRose, Prints, ReadsWhole, Stream, Untouched}
 use Rattle.nl_headline.specs.declared.lists.Ordered.{Ordered}
 use Rattle.nl_headline.specs.declared.lists.Synced.{Synced}
+use Rattle.nl_io.specs.Streams.{Writes}
+use Rattle.nl_io.specs.declared.sink.SinkAnswer.{SinkAnswer}
+use Rattle.nl_io.specs.declared.sink.SinkAnswer.TheVariants as answers
 use Rattle.nl_print.specs.Texts.{damaged_text}
 use Rattle.nl_script.specs.Script.{max_script, script}
 use Rattle.nl_script.specs.declared.refusal.ScriptRefusal.TheVariants.{Refused}
 use Rattle.nl_script.specs.declared.why.Why.{Why}
 use Rattle.nl_commands.specs.Others.{FindsFaults, FindsSound, Formats, IsBlankImage, IsDamaged}
+
+-- It is the status of a command that was carried out, with whatever text the sink has taken so.
+abbrev pub IsStatusOf : ℕ → Type 0 → SinkAnswer → Type 0
+IsStatusOf status failed answer =
+    (sink sink' : Stream) (text : List ℕ) → Writes sink.bytes sink'.bytes answer text → (answer ≡ answers.Failed → Rose sink.faults sink'.faults) → DoneStatus status failed sink sink' text
 
 -- An ending before any line was run: it prints its text, leaves the medium, and lists no line and no sync.
 pub record EndsBefore (tells : Type 0) (text : List ℕ) (sink sink' : Stream) (medium medium' : Medium) (order : List Ordered) (syncs : List Synced) : Type 0 where

@@ -7,12 +7,13 @@ ghost use Rattle.nl_headline.specs.Streams.{Prints, medium, stream};
 ghost use Rattle.nl_print.specs.Texts.{findings_text, sound_text};
 ghost use Rattle.nl_commands.specs.Ends.{CheckEnds};
 
-use crate::status::{Done, Faults, ended, faults_of, has_failed, status_of, without_lines};
+use crate::status::{Done, Faults, carried_out, ended, faults_of, without_lines};
 use nl_check::{Checked, findings};
 use nl_field::Findings;
 use nl_io::Sink;
 use nl_nand::Nand;
 use nl_print::{findings_lines, number_line};
+use nl_sound::laws::walk_is_soundness;
 use std::alloc::Global;
 
 /// Prints what a check finds on a medium: that it is sound after so many calls, with status 0, or what is at fault, with status 8. Of a medium
@@ -23,6 +24,7 @@ pub fn check<K: Sink, M: Nand>(alloc: Global, sink: &mut K, media: M) -> Done<M>
         (medium (M.geometry result.media) (M.contents result.media) (M.clock result.media) (M.read_faults result.media) (M.write_faults result.media))
         result.order.items result.syncs.items result.status }
 {
+    walk_is_soundness();
     let before = faults_of(&media);
     let (checked, media) = findings(alloc, media);
     match checked {
@@ -57,6 +59,5 @@ fn print_found<K: Sink, M: Nand>(
         return without_lines(alloc, 8, media);
     }
     let answer = number_line(sink, b"sound", count);
-    let failed = has_failed(&media, before);
-    without_lines(alloc, status_of(failed, answer), media)
+    carried_out(alloc, before, answer, media)
 }

@@ -6,7 +6,7 @@ ghost use Rattle.nl_headline.specs.Streams.{medium, stream};
 ghost use Rattle.nl_making.specs.Making.{OpensAsNew};
 ghost use Rattle.nl_commands.specs.Ends.{FormatEnds};
 
-use crate::status::{Done, ended, faults_of, has_failed, status_of, without_lines};
+use crate::status::{Done, carried_out, ended, faults_of};
 use nl_field::shape_of;
 use nl_io::Sink;
 use nl_making::{Made, make};
@@ -37,8 +37,7 @@ pub fn format<K: Sink, M: Nand>(
     match make(alloc, media, blocks, pages) {
         Made::Done(media) => {
             let answer = formatted_line(sink, &shape);
-            let failed = has_failed(&media, before);
-            without_lines(alloc, status_of(failed, answer), media)
+            carried_out(alloc, before, answer, media)
         }
         Made::Fault(media) => ended(alloc, 5, b"medium fault", sink, media),
         Made::Memory(media) => ended(alloc, 6, b"memory", sink, media),

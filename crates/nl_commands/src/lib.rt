@@ -16,4 +16,6 @@ pub use checking::check;
 pub use command::{Command, command_of};
 pub use forming::format;
 pub use script::{Script, drawn_lines, read_script};
-pub use status::{Done, Faults, ended, faults_of, has_failed, status_of, without_lines};
+pub use status::{
+    Done, Faults, carried_out, ended, faults_of, has_failed, status_of, without_lines,
+};

@@ -2,6 +2,7 @@
 ghost use Rattle.std.specs.Prelude.{◌≡◌, ◌⊎◌, ◌↔◌, [], ◌∷◌, ◌++◌, false, IsTrue};
 ghost use Rattle.nl_field.specs.CrashStates.{Rose};
 ghost use Rattle.nl_headline.specs.Streams.{Prints, stream};
+ghost use Rattle.nl_commands.specs.Ends.{IsStatusOf};
 
 use nl_headline::{OrderList, SyncList};
 use nl_io::{Sink, SinkAnswer};
@@ -82,6 +83,7 @@ pub fn status_of(failed: bool, answer: SinkAnswer) -> u8
     ensures five { IsTrue failed → result ≡ 5 }
     ensures four { failed ≡ false → answer ≡ SinkAnswer.Failed → result ≡ 4 }
     ensures zero { failed ≡ false → answer ≡ SinkAnswer.Took → result ≡ 0 }
+    ensures done { IsStatusOf result (IsTrue failed) answer }
 {
     if failed {
         return 5;
@@ -90,4 +92,16 @@ pub fn status_of(failed: bool, answer: SinkAnswer) -> u8
         SinkAnswer::Took => 0,
         SinkAnswer::Failed => 4,
     }
+}
+
+/// Ends a command that was carried out and whose text was printed, before any line was run: with status 5 where a count of faults of the medium
+/// has risen since, else 4 where the sink did not take the text.
+pub fn carried_out<M: Nand>(alloc: Global, before: Faults, answer: SinkAnswer, media: M) -> Done<M>
+    ensures status { IsStatusOf result.status (Rose before.reads (M.read_faults media) ⊎ Rose before.writes (M.write_faults media)) answer }
+    ensures media { result.media ≡ media }
+    ensures order { result.order.items ≡ [] }
+    ensures syncs { result.syncs.items ≡ [] }
+{
+    let failed = has_failed(&media, before);
+    without_lines(alloc, status_of(failed, answer), media)
 }

@@ -2,6 +2,7 @@
 use Rattle.std.proofs.Common.{◌≡◌, ℕ, ◌+◌, ◌<◌, Bool, true, cond, List, filter, Option, Some, None, refl, sym, ap, ◌∙◌, subst, arith}
 use Rattle.std.proofs.Math.Nat.{min-eq_left}
 use Rattle.std.proofs.lemmas.List.Kept.{AllPairs-filter}
+use Rattle.std.proofs.lemmas.Option.{slice_get_within}
 use Rattle.std.specs.Prelude.{◌^◌, ◌≤◌, AllPairs, IfSome, slice_get, filter_map, option_map}
 use Rattle.nl_field.specs.CrashStates.{top}
 use Rattle.nl_field.specs.Members.{Has}
@@ -17,7 +18,7 @@ use Rattle.nl_workers.specs.Table.{Row}
 use Rattle.nl_headline.specs.Course.{Course, RepliedLine, calls_in, count_after}
 use Rattle.nl_telling.specs.Rows.{HavePlaces}
 use Rattle.nl_rounds.specs.Rounds.{course_of}
-use Rattle.nl_rounds.proofs.Lists.{found_map, inside, pairs_of_each, pairs_of_found, passes, some_same}
+use Rattle.nl_rounds.proofs.Lists.{found_map, pairs_of_each, pairs_of_found, passes, some_same}
 use Rattle.nl_rounds.proofs.Replies.{answers_are, as_many, calls_are, effects_are, entry_at, entry_of, line_or, line_or_is, marked, reply_or, row_is_at, row_known, row_of}
 
 module _ (tells : Type 0) (o : Opening) (h : List Entry) (rows : List Row) (are : AreRows tells o h rows) (known : (e : Entry) → Has h e → IsKnown o e) where
@@ -33,7 +34,7 @@ module _ (tells : Type 0) (o : Opening) (h : List Entry) (rows : List Row) (are 
       go None e = tt
       go (Some row) e =
           let r = row_is_at tells o h rows are i row e in
-          let low = inside rows i row e in
+          let low = slice_get_within rows i row e in
           let many = as_many tells o h rows are known in
           let all = are.one_each in
           let place = r.2.place in

@@ -18,24 +18,20 @@ item_at [] i h = absurd (omega arith)
 item_at (x ∷ xs) zero h = (x, refl)
 item_at (x ∷ xs) (suc i) h = item_at xs i (omega arith)
 
-pub inside : {A : Type 0} (xs : List A) (i : ℕ) (x : A) → slice_get xs i ≡ Some x → i < length xs
-inside [] i x e = absurd (cc e)
-inside (y ∷ xs) zero x e = omega arith
-inside (y ∷ xs) (suc i) x e = let h = inside xs i x e in omega arith
-
 pub each_at : {A : Type 0} (P : A → Type 0) (xs : List A) → ((i : ℕ) (x : A) → slice_get xs i ≡ Some x → P x) → Each P xs
 each_at P [] h = tt
 each_at P (x ∷ xs) h = (h 0 x refl, each_at P xs (λ i y e. h (suc i) y e))
-
-pub at_each : {A : Type 0} (P : A → Type 0) (xs : List A) → Each P xs → (i : ℕ) (x : A) → slice_get xs i ≡ Some x → P x
-at_each P [] h i x e = absurd (cc e)
-at_each P (y ∷ xs) h zero x e = subst P (some_same y x e) h.0
-at_each P (y ∷ xs) h (suc i) x e = at_each P xs h.1 i x e
 
 pub has_of_index : {A : Type 0} (xs : List A) (i : ℕ) (d : A) → i < length xs → Has xs (get_or xs i d)
 has_of_index [] i d low = absurd (omega arith)
 has_of_index (x ∷ xs) zero d low = inl refl
 has_of_index (x ∷ xs) (suc i) d low = inr (has_of_index xs i d (omega arith))
+
+-- what holds of each item holds of one that the list has
+pub holds_of : {A : Type 0} (P : A → Type 0) (xs : List A) (x : A) → All P xs → Has xs x → P x
+holds_of P [] x each has = absurd has
+holds_of P (y ∷ xs) x each (inl same) = subst P same (each 0 y (omega arith))
+holds_of P (y ∷ xs) x each (inr has) = holds_of P xs x (λ i d lt. each (suc i) d (omega (arith, lt))) has
 
 -- what passes a test is in the list
 pub passes : {A : Type 0} (p : A → Bool) (xs : List A) (i : ℕ) (x : A) → slice_get (filter p xs) i ≡ Some x → Has xs x × (p x ≡ true)

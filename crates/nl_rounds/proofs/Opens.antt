@@ -1,25 +1,30 @@
 -- A volume opens on a medium.
-use Rattle.std.proofs.Common.{◌≡◌, ◌+◌, Some, sym, ◌∙◌, Result, Ok, Err}
+use Rattle.std.proofs.Common.{◌≡◌, ◌+◌, [], Some, sym, subst, ◌∙◌, Result, Ok, Err}
 use Rattle.std.specs.Prelude.{IfOk}
 use Rattle.nl_field.specs.Medium.{shape_of_image}
 use Rattle.nl_field.specs.Page.{Image}
-use Rattle.nl_field.specs.Scan.{next_stamp_of}
 use Rattle.nl_field.specs.Virtual.{virtual_bytes}
 use Rattle.nl_field.specs.declared.place.Place.{Place}
-use Rattle.nl_tree.specs.Tree.{Tree}
 use Rattle.nl_device.specs.declared.device.Device.{Device}
 use Rattle.nl_iface.specs.declared.counts.Counts.{Ghosts}
 use Rattle.nl_meta.specs.Committed.{next_number}
 use Rattle.nl_meta.specs.Walk.{walk}
 use Rattle.nl_core.specs.Core.{begun_of}
 use Rattle.nl_core.specs.declared.state.Core.{Core}
-use Rattle.nl_sound.specs.Stands.{Sound, SoundAs}
+use Rattle.nl_sound.specs.Stands.{Sound}
 use Rattle.nl_sound.proofs.SoundProofs.{walk_is_soundness}
+use Rattle.nl_headline.specs.Headline.{OpensAs}
+use Rattle.nl_volume.specs.Opening.{opening_of}
 use Rattle.nl_rounds.specs.Opened.{OpensOn}
+use Rattle.nl_rounds.specs.Rounds.{course_of}
 
-pub opens_on : {M : Type 0} (g : Ghosts (Device M)) (image : Image) (v : Core M) (tree : Tree) → SoundAs image v.count tree → g.shape v.device ≡ shape_of_image image → g.next_stamp v.device ≡ next_stamp_of image
-    → begun_of v + 1 ≡ next_number (shape_of_image image) (virtual_bytes image) → OpensOn g image v
-opens_on g image v tree sound shape stamp number = record { tree = tree; opens = record { sound = sound; shape = shape; next_stamp = stamp }; number = number }
+-- so it opened on each medium that has the same contents
+pub opens_on_same : {M : Type 0} (g : Ghosts (Device M)) (image image' : Image) (v : Core M) → (g.tells → image' ≡ image) → OpensOn g image v → OpensOn g image' v
+opens_on_same g image image' v same o = record {
+  tree = o.tree;
+  opens = λ t. subst (λ (i : Image). OpensAs i (course_of (opening_of g v o.tree []) [])) (sym (same t)) (o.opens t);
+  number = λ t. subst (λ (i : Image). begun_of v + 1 ≡ next_number (shape_of_image i) (virtual_bytes i)) (sym (same t)) (o.number t);
+}
 
 -- a walk that finds a fault finds an image that is not sound
 pub not_sound : (image : Image) (place : Place) → walk image ≡ Some place → Sound image → ⊥

@@ -2,6 +2,7 @@
 use Rattle.std.proofs.Common.{◌≡◌, ◌&&◌, ℕ, ◌+◌, Bool, true, false, cond, List, [], ◌∷◌, map, length, filter, Option, Some, None, refl, sym, ap, ◌∙◌, subst, arith}
 use Rattle.std.proofs.lemmas.List.{length-map}
 use Rattle.std.proofs.lemmas.List.Sums.{sum_by-cons}
+use Rattle.std.proofs.lemmas.Option.{slice_get_within}
 use Rattle.std.specs.Prelude.{IfSome, slice_get, filter_map, option_map, is_some, is_none, unwrap_or}
 use Rattle.nl_field.specs.Members.{Has}
 use Rattle.nl_tree.specs.Causes.{fault_in}
@@ -22,7 +23,7 @@ use Rattle.nl_workers.proofs.Permuting.{Each}
 use Rattle.nl_headline.specs.Course.{RepliedLine, calls_in, line_sync_of, lines_in, order_in, replies_in}
 use Rattle.nl_telling.specs.Rows.{said}
 use Rattle.nl_rounds.specs.Rounds.{course_of, order_of_rows, ordered_row, replied, reply_of_row, synced_row, syncs_of_rows}
-use Rattle.nl_rounds.proofs.Lists.{all_found, each_at, found_each, found_map, found_passing, inside, item_at, item_of_map, map_each, map_found, map_map, passes, same_items}
+use Rattle.nl_rounds.proofs.Lists.{all_found, each_at, found_each, found_map, found_passing, item_at, item_of_map, map_each, map_found, map_map, passes, same_items}
 
 -- ---- a row and its entry
 
@@ -93,7 +94,7 @@ none_of (Some a) e = absurd (cc e)
 module _ (tells : Type 0) (o : Opening) (h : List Entry) (rows : List Row) (are : AreRows tells o h rows) where
   pub row_is_at : (i : ℕ) (row : Row) → slice_get rows i ≡ Some row → (e : Entry) × (slice_get (filter is_effect h) i ≡ Some e) × IsRowAt tells o h i e row
   row_is_at i row is =
-      let low = inside rows i row is in
+      let low = slice_get_within rows i row is in
       let many = are.one_each in
       let all = effects_length h in
       let g = item_at (filter is_effect h) i (omega arith) in

@@ -43,18 +43,18 @@ module _ {M : Type 0} (g : Ghosts (Device M)) (origin v : Core M) (done : ℕ) (
 
   module _ (stops : Run → Type 0) (medium medium' : Medium) (lost worn : Bool) (charges : Charges) (counts : medium.counts ≡ opening_counts o) (later : NeverFall (counts_of g v.device) medium'.counts)
       (clock : medium'.counts.clock ≤ top) (writes : medium'.counts.write_faults ≤ top)
-      (opened : g.tells → OpensOn g medium.contents origin) (sound : g.tells → SoundAs medium.contents origin.count tree)
+      (opened : OpensOn g medium.contents origin) (sound : g.tells → SoundAs medium.contents origin.count tree)
       (leaves : IsYoungAtEnd g.tells o h (begun_of origin) medium'.counts.clock → stops (run_of o h))
       (ends : IsYoungAtEnd g.tells o h (begun_of origin) medium'.counts.clock → (FaultRose (opening_counts o) medium'.counts → ⊥) → worn ≡ false → SoundAs medium'.contents (o.count + effects h) (tree_after o h))
       (none_lost : g.tells → lost ≡ false) (worn_is : IsTrue worn → 2 ^ 62 ≤ g.next_stamp v.device) (charged : TellsCharges g v charges) where
     opens_so : g.tells → OpensAs medium.contents (course_of o [])
-    opens_so t = let k = opened t in record { sound = sound t; shape = k.opens.shape; next_stamp = k.opens.next_stamp }
+    opens_so t = let k = opened.opens t in record { sound = sound t; shape = k.shape; next_stamp = k.next_stamp }
 
     young_so : g.tells → IsYoung medium.contents (opening_counts o) medium'.counts (course_of o rows) → IsYoungAtEnd g.tells o h (begun_of origin) medium'.counts.clock
     young_so t young =
         young_at_end g origin o h v done stands medium'.counts later clock writes medium.contents (course_of o rows) t
         (many g.tells lines o after.seen rows refl rise ran.order table ran.placed (opening_counts o) (counts_of g v.device) medium'.counts (has_kept g origin o h v done stands medium'.counts later clock writes))
-        (opened t).number young
+        (opened.number t) young
 
     charges_are : g.tells → AreCharges charges (tree_after o h)
     charges_are t = let k = stands.serves.along.runs t in charged k.0 (tree_after o h) k.1

@@ -18,11 +18,12 @@ use Rattle.nl_rounds.specs.Rounds.{course_of}
 use Rattle.nl_rounds.specs.declared.opening.NotOpened.{NotOpened}
 use Rattle.nl_rounds.specs.declared.opening.NotOpened.TheVariants.{Blank, Damaged, Fault, Memory}
 
--- The volume opened as what the image is, and its next transaction has the number that the image tells.
+-- Where the medium tells its contents, the volume opened as what the image is, with this tree, and its next transaction has the number that the image
+-- tells.
 pub record OpensOn {M : Type 0} (g : Ghosts (Device M)) (image : Image) (v : Core M) : Type 0 where
   pub tree : Tree
-  pub opens : OpensAs image (course_of (opening_of g v tree []) [])
-  pub number : begun_of v + 1 ≡ next_number (shape_of_image image) (virtual_bytes image)
+  pub opens : g.tells → OpensAs image (course_of (opening_of g v tree []) [])
+  pub number : g.tells → begun_of v + 1 ≡ next_number (shape_of_image image) (virtual_bytes image)
 
 -- the medium that came back
 abbrev pub medium_in : {M : Type 0} → NotOpened M → M

@@ -1,5 +1,6 @@
-ghost use Rattle.std.specs.Prelude.{◌≡◌, ◌+◌, [], true, IfErr, IfOk};
+ghost use Rattle.std.specs.Prelude.{◌≡◌, ◌+◌, [], true, length, IfErr, IfOk};
 ghost use Rattle.nl_device.specs.Medium.{medium_of};
+ghost use Rattle.nl_opening.specs.Opening.{OnlyReadsMedium};
 ghost use Rattle.nl_sound.specs.Crash.{StopsSafely};
 ghost use Rattle.nl_sound.specs.Stands.{SoundAs};
 ghost use Rattle.nl_tree.specs.Calls.{AreLines};
@@ -9,10 +10,11 @@ ghost use Rattle.nl_workers.specs.Rounds.{IsFirstSeat};
 ghost use Rattle.nl_workers.specs.Table.{IsTableFor};
 ghost use Rattle.nl_headline.specs.Course.{Course};
 ghost use Rattle.nl_headline.specs.Streams.{medium};
-ghost use Rattle.nl_rounds.specs.Opened.{OpensOn};
+ghost use Rattle.nl_rounds.specs.Opened.{IsReason, OpensOn, medium_in};
 ghost use Rattle.nl_rounds.specs.Rounds.{LinesRan};
 
 use crate::charging::{Charges, charges_of};
+use crate::opening::{NotOpened, open};
 use crate::tables::Tables;
 use nl_device::Device;
 use nl_iface::Counts;
@@ -40,9 +42,42 @@ pub struct Ran<M: Nand> {
     pub charges: Charges,
 }
 
-/// Runs the lines in turns of a lock over a volume that opened on its medium, and closes it. The sentences of the headline hold of the course
-/// that the answers in the table are of. The volume comes back for want of memory.
+/// Opens the volume of a medium, runs the lines on it in turns of a lock, and closes it. The sentences of the headline hold of the course that the
+/// answers in the table are of, of which there is one for each line. Or no volume was opened, or memory was wanting for the lock: then the
+/// medium was only read.
 pub fn run_lines<Rt: Threads + Wait + Sync, M: Nand + Send, G: Gate + Sync>(
+    rt: &Rt,
+    alloc: Global,
+    media: M,
+    lines: &Lines,
+    tables: &mut Tables,
+    gate: &G,
+) -> Result<Ran<M>, NotOpened<M>>
+    requires table { IsTableFor lines.now tables.old.answers }
+    ensures ran { IfOk result (λ r. (course : Course) × (r.count ≡ course.count) × LinesRan M.tells lines.now
+        (StopsSafely SoundAs (λ m c. M.left media m c) (λ m c. M.left r.media m c) (M.clock media) (M.clock r.media))
+        (medium (M.geometry media) (M.contents media) (M.clock media) (M.read_faults media) (M.write_faults media))
+        (medium (M.geometry r.media) (M.contents r.media) (M.clock r.media) (M.read_faults r.media) (M.write_faults r.media))
+        tables.new.answers.rows r.lost r.worn r.charges course) }
+    ensures rows { IfOk result (λ r. length tables.new.answers.rows ≡ length lines.now) }
+    ensures lost { IfOk result (λ r. tables.new.answers.lost ≡ true → r.lost ≡ true) }
+    ensures lists { (tables.new.order ≡ tables.old.order) × (tables.new.syncs ≡ tables.old.syncs) }
+    ensures why { IfErr result (λ why. IsReason M.tells M.contents M.read_faults media why) }
+    ensures left { IfErr result (λ why. OnlyReadsMedium M.tells M.contents M.clock M.write_faults M.left media (medium_in why)) }
+{
+    let _lines = lines.as_slice();
+    let volume = match open(alloc, media) {
+        Ok(volume) => volume,
+        Err(why) => return Err(why),
+    };
+    match run_opened(rt, alloc, volume, lines, tables, gate) {
+        Ok(ran) => Ok(ran),
+        Err(volume) => Err(NotOpened::Memory(volume.into_media())),
+    }
+}
+
+// Runs the lines in turns of a lock over a volume that opened on its medium, and closes it. The volume comes back for want of memory.
+fn run_opened<Rt: Threads + Wait + Sync, M: Nand + Send, G: Gate + Sync>(
     rt: &Rt,
     alloc: Global,
     volume: Volume<M>,
@@ -50,7 +85,7 @@ pub fn run_lines<Rt: Threads + Wait + Sync, M: Nand + Send, G: Gate + Sync>(
     tables: &mut Tables,
     gate: &G,
 ) -> Result<Ran<M>, Volume<M>>
-    requires opened { M.tells → OpensOn ⟦<Device<M> as Counts>⟧ (M.contents (medium_of volume.core.device)) volume.core }
+    requires opened { OpensOn ⟦<Device<M> as Counts>⟧ (M.contents (medium_of volume.core.device)) volume.core }
     requires stands { (tree : Tree) → (M.tells → SoundAs (M.contents (medium_of volume.core.device)) volume.core.count tree) → ⟦<Volume<M> as Kept>⟧.stands volume (opening_of ⟦<Device<M> as Counts>⟧ volume.core tree lines.now) [] volume }
     requires table { IsTableFor lines.now tables.old.answers }
     ensures ran { IfOk result (λ r. (course : Course) × (r.count ≡ course.count) × LinesRan M.tells lines.now
@@ -97,7 +132,7 @@ fn open_lock<M: Nand>(
     volume: Volume<M>,
     lines: &Lines,
 ) -> Result<(Turns<Volume<M>>, TurnSeat), Volume<M>>
-    requires opened { M.tells → OpensOn ⟦<Device<M> as Counts>⟧ (M.contents (medium_of volume.core.device)) volume.core }
+    requires opened { OpensOn ⟦<Device<M> as Counts>⟧ (M.contents (medium_of volume.core.device)) volume.core }
     requires stands { (tree : Tree) → (M.tells → SoundAs (M.contents (medium_of volume.core.device)) volume.core.count tree) → ⟦<Volume<M> as Kept>⟧.stands volume (opening_of ⟦<Device<M> as Counts>⟧ volume.core tree lines.now) [] volume }
     ensures opening { IfOk result (λ r. (tree : Tree) × (M.tells → SoundAs (M.contents (medium_of volume.core.device)) volume.core.count tree) × (r.1.opening ≡ opening_of ⟦<Device<M> as Counts>⟧ volume.core tree lines.now)) }
     ensures first { IfOk result (λ r. IsFirstSeat lines.now r.1) }

@@ -1,17 +1,17 @@
 -- The text of rows, one after the other, and what they count.
-use Rattle.std.proofs.Common.{◌≡◌, ◌<◌, ℕ, zero, suc, ◌+◌, List, [], ◌∷◌, ◌++◌, length, take, drop, flat_map, map, sum_by, count_by, refl, sym, ap, subst, ◌∙◌, arith}
+use Rattle.std.proofs.Common.{◌≡◌, ◌<◌, ℕ, zero, suc, ◌+◌, List, [], ◌∷◌, ◌++◌, length, take, drop, flat_map, map, refl, sym, ap, subst, ◌∙◌, arith}
 use Rattle.std.specs.Prelude.{Option, None, Some, IfSome, min, slice_get, cond}
 use Rattle.nl_field.specs.CrashStates.{saturated}
-use Rattle.std.proofs.lemmas.List.{append-nil, map-append, take-append-drop}
+use Rattle.std.proofs.lemmas.List.{append-nil, map-append, take-append-drop, take_more}
 use Rattle.std.proofs.lemmas.List.Concat.{flat_map-cons}
 use Rattle.std.proofs.lemmas.List.Sums.{sum_by_push}
 use Rattle.std.proofs.lemmas.Grind.{flat_map-append}
+use Rattle.std.proofs.lemmas.Option.{get_or_from_slice_get, slice_get_within}
 use Rattle.nl_io.specs.Streams.{Writes}
 use Rattle.nl_io.specs.declared.sink.SinkAnswer.TheVariants as sink
 use Rattle.nl_print.proofs.Written.{stopped, then_write}
 use Rattle.nl_print.specs.Texts.{Answered, answer_line, answer_lines}
-use Rattle.nl_telling.specs.Rows.{HavePlaces, is_ok, ok_in, read_by, read_in, row_line, rows_text, said, written_by, written_in}
-use Rattle.nl_workers.proofs.Working.{take_snoc}
+use Rattle.nl_telling.specs.Rows.{HavePlaces, is_ok, ok_in, read_by, read_in, row_line, said, written_by, written_in}
 use Rattle.nl_workers.specs.Table.{Row}
 
 -- a sink that took nothing
@@ -19,10 +19,13 @@ pub took_nothing : (old : Option (List ℕ)) → Writes old old sink.Took []
 took_nothing None = refl
 took_nothing (Some taken) = ap Some (sym (append-nil taken))
 
+one_more : (rows : List Row) (i : ℕ) (row : Row) → slice_get rows i ≡ Some row → take (i + 1) rows ≡ take i rows ++ row ∷ []
+one_more rows i row e = take_more rows i row (slice_get_within rows i row e) ∙ ap (λ (r : Row). take i rows ++ r ∷ []) (get_or_from_slice_get rows i row row e)
+
 -- the lines up to a row, with its line
 pub lines_one : (rows : List Row) (i : ℕ) (row : Row) → slice_get rows i ≡ Some row → flat_map row_line (take i rows) ++ row_line row ≡ flat_map row_line (take (i + 1) rows)
 lines_one rows i row e =
-    sym (ap (flat_map row_line) (take_snoc rows i row e) ∙ flat_map-append row_line (take i rows) (row ∷ [])
+    sym (ap (flat_map row_line) (one_more rows i row e) ∙ flat_map-append row_line (take i rows) (row ∷ [])
     ∙ ap (λ (t : List ℕ). flat_map row_line (take i rows) ++ t) (append-nil (row_line row)))
 
 -- the counts up to a row, with it
@@ -31,7 +34,7 @@ pub counts_one : (rows : List Row) (i : ℕ) (row : Row) → slice_get rows i �
     × (written_in (map said (take (i + 1) rows)) ≡ written_in (map said (take i rows)) + written_by row.answered.reply)
     × (read_in (map said (take (i + 1) rows)) ≡ read_in (map said (take i rows)) + read_by row.answered.reply row.bytes)
 counts_one rows i row e =
-    let more = ap (map said) (take_snoc rows i row e) ∙ map-append said (take i rows) (row ∷ []) in (
+    let more = ap (map said) (one_more rows i row e) ∙ map-append said (take i rows) (row ∷ []) in (
       ap ok_in more ∙ sum_by_push (λ (a : Answered). cond (is_ok a.1) 1 0) (map said (take i rows)) (said row),
       ap written_in more ∙ sum_by_push (λ (a : Answered). written_by a.1) (map said (take i rows)) (said row),
       ap read_in more ∙ sum_by_push (λ (a : Answered). read_by a.1 a.2) (map said (take i rows)) (said row),

@@ -1,13 +1,12 @@
 -- Where nothing fails, a run is carried out, and no answer is a fault reply.
-use Rattle.std.proofs.Common.{◌≡◌, ◌⊎◌, ◌+◌, ◌-◌, ◌<◌, ◌≤◌, ◌||◌, ℕ, zero, suc, Bool, true, false, IsTrue, List, [], ◌∷◌, ◌++◌, map, length, refl, sym, ap, subst, ◌∙◌, inl, inr, append-nil, length-append, arith}
+use Rattle.std.proofs.Common.{◌≡◌, ◌⊎◌, ◌+◌, ◌-◌, ◌<◌, ◌≤◌, ◌||◌, ℕ, suc, Bool, true, false, List, [], ◌∷◌, ◌++◌, map, length, refl, sym, ap, ◌∙◌, inl, inr, append-nil, length-append, arith}
 use Rattle.std.specs.Prelude.{◌^◌, if◌then◌else◌, Option, None, Some, Ok, Err, IfSome, is_some, option_map, slice_get}
 use Rattle.std.specs.List.{list_any}
-use Rattle.nl_field.specs.CrashStates.{Rose, saturated, top}
+use Rattle.nl_field.specs.CrashStates.{Rose, top}
 use Rattle.nl_field.specs.Scan.{next_stamp_of}
-use Rattle.nl_headline.specs.Course.{Course, RepliedLine, order_in}
-use Rattle.nl_headline.specs.Headline.{ReadsScript}
+use Rattle.nl_headline.specs.Course.{Course, RepliedLine}
 use Rattle.nl_headline.specs.Status.{DoneStatus, RunFailed}
-use Rattle.nl_headline.specs.Streams.{Medium, MediumRose, ReadsWhole, Stream}
+use Rattle.nl_headline.specs.Streams.{Medium, ReadsWhole, Stream}
 use Rattle.nl_headline.specs.declared.lists.Ordered.{Ordered}
 use Rattle.nl_headline.specs.declared.lists.Synced.{Synced}
 use Rattle.nl_script.specs.Words.{lines_of}
@@ -22,11 +21,10 @@ use Rattle.nl_tree.specs.declared.call.Call.{Call}
 use Rattle.nl_tree.specs.declared.call.Line.{Line}
 use Rattle.nl_tree.specs.declared.reply.FaultReply.{FaultReply}
 use Rattle.nl_tree.specs.declared.reply.FaultReply.TheVariants.{Eio, Erofs, Eworn, Edamaged}
-use Rattle.nl_commands.specs.Complete.{NothingRose, StartsSound}
+use Rattle.nl_commands.specs.Complete.{NothingRose, OpeningCompletes, StartsSound}
 use Rattle.nl_commands.specs.Ends.{NotOpened, RefusesScript}
 use Rattle.nl_top.specs.Complete.{CountsLast, NoFaultAnswered, RunCompletes}
 use Rattle.nl_top.specs.RunEnds.{Ran, RunEnds, ScriptEnds, TellsAnswers, not_run, ran, runs_script, script_refused, source_fault, source_no_memory}
-use Rattle.nl_viewing.proofs.Completing.{memory_wanting}
 
 -- ---- no fault reply has a cause
 
@@ -84,9 +82,9 @@ script_of_long bytes long = ap (λ (b : Bool). if b then Err (Refused 0 0 Size) 
 -- ---- a run
 
 module _ (tells : Type 0) (source source' sink sink' : Stream) (medium medium' : Medium) (order : List Ordered) (syncs : List Synced) (status count : ℕ)
-    (starts : StartsSound tells medium count) (none : NothingRose source source' sink sink' medium medium') (last : CountsLast medium medium') where
+    (opening_completes : OpeningCompletes tells) (starts : StartsSound tells medium count) (none : NothingRose source source' sink sink' medium medium') (last : CountsLast medium medium') where
   not_opened : (text : List ℕ) → NotOpened tells medium medium' status text → RunCompletes status order
-  not_opened text why = inr (memory_wanting tells source source' sink sink' medium medium' count starts none status text why)
+  not_opened text why = inr (opening_completes source source' sink sink' medium medium' status count text why starts none)
 
   was_run : (lines : List Line) (shows : Course → List ℕ → Type 0) (stops : Run → Type 0) → Ran tells lines shows stops sink sink' medium medium' order syncs status → RunCompletes status order
   was_run lines shows stops r =

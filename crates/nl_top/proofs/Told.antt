@@ -1,7 +1,5 @@
 -- Endings of a run of lines, from what its parts say.
-use Rattle.std.proofs.Common.{◌≡◌, ℕ, Bool, List, [], ◌∷◌, length, suc, inl, inr, arith, ap, sym, subst, ◌∙◌}
-use Rattle.std.specs.List.{All}
-use Rattle.nl_field.specs.Members.{Has}
+use Rattle.std.proofs.Common.{◌≡◌, ℕ, Bool, List, length, ap, sym, subst, ◌∙◌}
 use Rattle.nl_headline.specs.Course.{Course}
 use Rattle.nl_headline.specs.Status.{DoneStatus, RunFailed}
 use Rattle.nl_headline.specs.Streams.{Medium, Prints, Stream}
@@ -58,10 +56,3 @@ room_for lines rows answers order order' syncs syncs' many tables same_order sam
       order_room = subst (λ (x : ℕ × Table Ordered). HasRoomFor x.0 x.1) (λ i. (sym many i, sym same_order i)) tables.order_room;
       syncs_room = subst (λ (x : ℕ × Table Synced). HasRoomFor x.0 x.1) (λ i. (sym many i, sym same_syncs i)) tables.syncs_room;
     }
-
--- ---- lines
-
-pub has_each : (P : Line → Type 0) (lines : List Line) (l : Line) → All P lines → Has lines l → P l
-has_each P [] l each has = absurd has
-has_each P (x ∷ lines) l each (inl same) = subst P same (each 0 x (omega arith))
-has_each P (x ∷ lines) l each (inr has) = has_each P lines l (λ i d lt. each (suc i) d (omega (arith, lt))) has

@@ -11,7 +11,7 @@ use nl_commands::{Done, Script, ended, faults_of, read_script, without_lines};
 use nl_io::{Sink, Source};
 use nl_nand::Nand;
 use nl_print::refused_line;
-use nl_rounds::{open, run_lines, tables_for};
+use nl_rounds::{run_lines, tables_for};
 use nl_telling::laws::placed_rows_are_a_run;
 use nl_tree::Lines;
 use nl_viewing::refused;
@@ -47,7 +47,7 @@ pub(crate) fn run<Rt: Threads + Wait + Sync, S: Source, K: Sink, M: Nand + Send,
     }
 }
 
-// Takes the tables, opens the volume, runs the lines, and prints what is to be told of them.
+// Takes the tables, runs the lines on the volume of a medium, and prints what is to be told of them.
 pub(crate) fn run_on<Rt: Threads + Wait + Sync, K: Sink, M: Nand + Send, G: Gate + Sync>(
     rt: &Rt,
     alloc: Global,
@@ -62,20 +62,15 @@ pub(crate) fn run_on<Rt: Threads + Wait + Sync, K: Sink, M: Nand + Send, G: Gate
         (medium (M.geometry result.media) (M.contents result.media) (M.clock result.media) (M.read_faults result.media) (M.write_faults result.media))
         result.order.items result.syncs.items result.status }
 {
-    let _lines = lines.as_slice();
     let Ok(mut tables) = tables_for(alloc, lines) else {
         return ended(alloc, 6, b"memory", sink, media);
     };
     let before = faults_of(&media);
-    let volume = match open(alloc, media) {
-        Ok(volume) => volume,
-        Err(why) => return refused(alloc, why, sink),
-    };
-    match run_lines(rt, alloc, volume, lines, &mut tables, gate) {
+    match run_lines(rt, alloc, media, lines, &mut tables, gate) {
         Ok(ran) => {
             placed_rows_are_a_run();
             tell(ran, tables, before, told, sink)
         }
-        Err(volume) => ended(alloc, 6, b"memory", sink, volume.into_media()),
+        Err(why) => refused(alloc, why, sink),
     }
 }

@@ -12,9 +12,11 @@ ghost use Rattle.nl_top.specs.Ends.{Ends};
 
 use crate::running::run;
 use crate::soaking::soak;
+use nl_commands::laws::{check_completes, opening_completes};
 use nl_commands::{Command, Done, check, command_of, ended, format};
 use nl_io::{Sink, Source, Words};
 use nl_nand::Nand;
+use nl_viewing::laws::look_completes;
 use nl_viewing::{report, tree};
 use nl_workers::Gate;
 use std::alloc::Global;
@@ -88,11 +90,24 @@ pub fn nameless<Rt: Threads + Wait + Sync, S: Source, K: Sink, M: Nand + Send, G
     match command_of(words) {
         None => ended(alloc, 2, b"words", sink, media),
         Some(Command::Format(blocks, pages)) => format(alloc, blocks, pages, sink, media),
-        Some(Command::Run) => run(rt, alloc, src, sink, media, gate),
-        Some(Command::Check) => check(alloc, sink, media),
-        Some(Command::Tree) => tree(alloc, sink, media),
-        Some(Command::Report) => report(alloc, sink, media),
+        Some(Command::Run) => {
+            opening_completes::<M>();
+            run(rt, alloc, src, sink, media, gate)
+        }
+        Some(Command::Check) => {
+            check_completes::<M>();
+            check(alloc, sink, media)
+        }
+        Some(Command::Tree) => {
+            look_completes::<M>();
+            tree(alloc, sink, media)
+        }
+        Some(Command::Report) => {
+            look_completes::<M>();
+            report(alloc, sink, media)
+        }
         Some(Command::Soak(seed, count, workers)) => {
+            opening_completes::<M>();
             soak(rt, alloc, seed, count, workers, sink, media, gate)
         }
     }

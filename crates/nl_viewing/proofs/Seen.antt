@@ -1,8 +1,8 @@
 -- How a command ends that printed what it saw of a volume.
-use Rattle.std.proofs.Common.{◌≡◌, ◌≤◌, ◌∙◌, ℕ, Bool, false, IsTrue, List, [], ◌++◌, length, drop, inl, inr, refl, sym, ap, subst}
+use Rattle.std.proofs.Common.{◌≡◌, ◌≤◌, ◌∙◌, ℕ, List, [], ◌++◌, length, drop, inl, inr, refl, sym, ap, subst}
+use Rattle.std.proofs.lemmas.List.{take-append-drop}
 use Rattle.std.specs.Prelude.{◌⊎◌}
-use Rattle.nl_commands.specs.Ends.{EndsBefore, NotOpened}
-use Rattle.nl_commands.proofs.Ending.{done_status}
+use Rattle.nl_commands.specs.Ends.{EndsBefore, IsStatusOf, NotOpened}
 use Rattle.nl_field.specs.CrashStates.{Rose}
 use Rattle.nl_field.specs.Page.{Image}
 use Rattle.nl_headline.specs.Streams.{Medium, MediumRose, Prints, Stream, Untouched, medium}
@@ -15,8 +15,7 @@ use Rattle.nl_io.specs.declared.sink.SinkAnswer.TheVariants as answers
 use Rattle.nl_nand.specs.declared.geometry.Geometry.{Geometry}
 use Rattle.nl_opening.specs.Opening.{OnlyReadsMedium}
 use Rattle.nl_print.proofs.Written.{stopped}
-use Rattle.nl_showing.proofs.Lines.{with_rest}
-use Rattle.nl_showing.specs.Showing.{IsShown, ReadsFor, sink_answer}
+use Rattle.nl_showing.specs.Showing.{Begins, IsShown, ReadsFor, sink_answer}
 use Rattle.nl_showing.specs.declared.paths.Shown.{Shown}
 use Rattle.nl_showing.specs.declared.paths.Shown.TheVariants as shown
 use Rattle.nl_viewing.specs.Looking.{LookEnds, cut_short, not_seen, seen}
@@ -54,33 +53,28 @@ pub lost_untold : {D : Type 0} (g : Ghosts D) (s t : D) (answer : Shown) → Rea
 lost_untold g s t answer reads is = (subst (ReadsFor g s t) is reads).1
 
 -- the counts of faults before were these
-module _ (reads writes : ℕ) (start middle : Medium) (is_reads : reads ≡ start.counts.read_faults) (is_writes : writes ≡ start.counts.write_faults) where
-  abbrev pub Rises : ℕ × ℕ → Type 0
-  Rises k = Rose k.0 middle.counts.read_faults ⊎ Rose k.1 middle.counts.write_faults
-
-  pub rose_before : Rises (reads, writes) → MediumRose start middle
-  rose_before = subst Rises (λ j. (is_reads j, is_writes j))
-
-  pub rose_since : MediumRose start middle → Rises (reads, writes)
-  rose_since = subst Rises (λ j. (sym is_reads j, sym is_writes j))
+pub status_since : (reads writes status : ℕ) (answer : SinkAnswer) (start middle : Medium) → (reads ≡ start.counts.read_faults) × (writes ≡ start.counts.write_faults)
+    → IsStatusOf status (Rose reads middle.counts.read_faults ⊎ Rose writes middle.counts.write_faults) answer → IsStatusOf status (MediumRose start middle) answer
+status_since reads writes status answer start middle before =
+    subst (λ (k : ℕ × ℕ). IsStatusOf status (Rose k.0 middle.counts.read_faults ⊎ Rose k.1 middle.counts.write_faults) answer) (λ j. (before.0 j, before.1 j))
 
 -- ---- endings
 
--- A command has only read the medium and lists no line. `bad`: a count of faults of the medium rose.
-pub record Looked (tells : Type 0) (sink sink' : Stream) (start middle : Medium) (order : List Ordered) (syncs : List Synced) (status : ℕ) (bad : Bool) : Type 0 where
+-- the whole, as a beginning and a rest
+with_rest : (text whole : List ℕ) → Begins text whole → text ++ drop (length text) whole ≡ whole
+with_rest text whole begins = ap (λ (t : List ℕ). t ++ drop (length text) whole) begins ∙ take-append-drop (length text) whole
+
+-- A command has only read the medium and lists no line.
+pub record Looked (tells : Type 0) (sink sink' : Stream) (start middle : Medium) (order : List Ordered) (syncs : List Synced) : Type 0 where
   pub untouched : Untouched tells start middle
   pub no_lines : order ≡ []
   pub no_syncs : syncs ≡ []
   pub later : sink.faults ≤ sink'.faults
-  pub up : IsTrue bad → MediumRose start middle
-  pub down : MediumRose start middle → IsTrue bad
-  pub five : IsTrue bad → status ≡ 5
 
 differ : answers.Took ≡ answers.Failed → ⊥
 differ e = cc
 
-module _ (tells : Type 0) (shows : Image → List ℕ → Type 0) (sink sink' : Stream) (start middle : Medium) (order : List Ordered) (syncs : List Synced) (status : ℕ) (bad : Bool)
-    (looked : Looked tells sink sink' start middle order syncs status bad) where
+module _ (tells : Type 0) (shows : Image → List ℕ → Type 0) (sink sink' : Stream) (start middle : Medium) (order : List Ordered) (syncs : List Synced) (status : ℕ) (looked : Looked tells sink sink' start middle order syncs) where
   ends_before : (answer : SinkAnswer) (text : List ℕ) → Writes sink.bytes sink'.bytes answer text → (answer ≡ answers.Failed → Rose sink.faults sink'.faults) → EndsBefore tells text sink sink' start middle order syncs
   ends_before answer text taken cause =
       record {
@@ -92,9 +86,8 @@ module _ (tells : Type 0) (shows : Image → List ℕ → Type 0) (sink sink' : 
 
   -- the sink was given a text
   pub was_seen : (answer : SinkAnswer) (text : List ℕ) → (tells → shows start.contents text) → Writes sink.bytes sink'.bytes answer text → (answer ≡ answers.Failed → Rose sink.faults sink'.faults)
-      → (bad ≡ false → answer ≡ answers.Failed → status ≡ 4) → (bad ≡ false → answer ≡ answers.Took → status ≡ 0) → LookEnds tells shows sink sink' start middle order syncs status
-  was_seen answer text shown taken cause four zero =
-      seen text shown (ends_before answer text taken cause) (done_status status bad answer (MediumRose start middle) sink sink' text looked.up looked.down taken cause looked.five four zero)
+      → IsStatusOf status (MediumRose start middle) answer → LookEnds tells shows sink sink' start middle order syncs status
+  was_seen answer text shown taken cause done = seen text shown (ends_before answer text taken cause) (done sink sink' text taken cause)
 
   -- it was given a text, or a beginning of it
   module _ (whole text : List ℕ) (shown_whole : tells → shows start.contents whole) where
@@ -103,14 +96,14 @@ module _ (tells : Type 0) (shows : Image → List ℕ → Type 0) (sink sink' : 
 
     pub was_shown : (answer : Shown) → (tells → IsShown answer text whole) → Writes sink.bytes sink'.bytes (sink_answer answer) text → (answer ≡ shown.NotTaken → Rose sink.faults sink'.faults)
         → (answer ≡ shown.Fault → Rose start.counts.read_faults middle.counts.read_faults) → (answer ≡ shown.Lost → tells → ⊥)
-        → (answer ≡ shown.Fault → status ≡ 5) → (answer ≡ shown.Lost → status ≡ 5) → (bad ≡ false → answer ≡ shown.NotTaken → status ≡ 4) → (bad ≡ false → answer ≡ shown.All → status ≡ 0)
-        → LookEnds tells shows sink sink' start middle order syncs status
-    was_shown shown.All is taken cause rose untold fault lost four zero =
-        was_seen answers.Took text (λ t. subst (shows start.contents) (sym (is t)) (shown_whole t)) taken (λ f. absurd (differ f)) (λ good f. absurd (differ f)) (λ good took. zero good refl)
-    was_shown shown.NotTaken is taken cause rose untold fault lost four zero =
-        was_seen answers.Failed (text ++ drop (length text) whole) (λ t. shown_rest (with_rest text whole (is t)) t) (stopped sink.bytes sink'.bytes text (drop (length text) whole) taken)
-        (λ f. cause refl) (λ good f. four good refl) (λ good took. absurd (differ (sym took)))
-    was_shown shown.Fault is taken cause rose untold fault lost four zero =
+        → (answer ≡ shown.Fault → status ≡ 5) → (answer ≡ shown.Lost → status ≡ 5) → (answer ≡ shown.All → IsStatusOf status (MediumRose start middle) answers.Took)
+        → (answer ≡ shown.NotTaken → IsStatusOf status (MediumRose start middle) answers.Failed) → LookEnds tells shows sink sink' start middle order syncs status
+    was_shown shown.All is taken cause rose untold fault lost all failed =
+        was_seen answers.Took text (λ t. subst (shows start.contents) (sym (is t)) (shown_whole t)) taken (λ f. absurd (differ f)) (all refl)
+    was_shown shown.NotTaken is taken cause rose untold fault lost all failed =
+        was_seen answers.Failed (text ++ drop (length text) whole) (λ t. shown_rest (with_rest text whole (is t)) t) (stopped sink.bytes sink'.bytes text (drop (length text) whole) taken) (λ f. cause refl)
+        (failed refl)
+    was_shown shown.Fault is taken cause rose untold fault lost all failed =
         cut_short text (drop (length text) whole) (fault refl) (inl (rose refl)) (λ t. shown_rest (with_rest text whole (is t)) t) (ends_before answers.Took text taken (λ f. absurd (differ f))) taken
-    was_shown shown.Lost is taken cause rose untold fault lost four zero =
+    was_shown shown.Lost is taken cause rose untold fault lost all failed =
         cut_short text (drop (length text) whole) (lost refl) (inr (untold refl)) (λ t. shown_rest (with_rest text whole (is t)) t) (ends_before answers.Took text taken (λ f. absurd (differ f))) taken

@@ -1,3 +1,2 @@
 pub mod Complete
 pub mod Looking
-pub mod Viewed

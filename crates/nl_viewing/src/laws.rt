@@ -2,10 +2,14 @@
 ghost use Rattle.nl_viewing.specs.Complete.{LookCompletes};
 ghost use Rattle.nl_viewing.specs.Looking.{Reports, ShowsTree};
 
+use nl_commands::laws::{done_completes, opening_completes};
 use nl_nand::Nand;
 
 /// Where nothing fails, the paths of a sound image are printed, and its report, unless memory is wanting.
 pub fn look_completes<M: Nand>()
     ensures trees { LookCompletes M.tells ShowsTree }
     ensures reports { LookCompletes M.tells Reports }
-{}
+{
+    done_completes();
+    opening_completes::<M>();
+}

@@ -2,10 +2,10 @@
 #![tactic(auto)]
 
 pub mod laws;
-mod opening;
+mod refusing;
 mod reports;
 mod trees;
 
-pub use opening::refused;
+pub use refusing::refused;
 pub use reports::report;
 pub use trees::tree;

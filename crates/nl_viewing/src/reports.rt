@@ -4,10 +4,11 @@ ghost use Rattle.nl_field.specs.Page.{Image};
 ghost use Rattle.nl_headline.specs.Streams.{medium, stream};
 ghost use Rattle.nl_viewing.specs.Looking.{LookEnds, Reports};
 
-use crate::opening::{open, refused};
-use nl_commands::{Done, faults_of, has_failed, status_of, without_lines};
+use crate::refusing::refused;
+use nl_commands::{Done, carried_out, faults_of};
 use nl_io::Sink;
 use nl_nand::Nand;
+use nl_rounds::open;
 use nl_showing::print_report;
 use std::alloc::Global;
 
@@ -30,6 +31,5 @@ pub fn report<K: Sink, M: Nand>(alloc: Global, sink: &mut K, media: M) -> Done<M
     let greatest = volume.greatest;
     let answer = print_report(sink, &mut volume.core, files, least, greatest);
     let media = volume.into_media();
-    let failed = has_failed(&media, before);
-    without_lines(alloc, status_of(failed, answer), media)
+    carried_out(alloc, before, answer, media)
 }

@@ -1,13 +1,16 @@
 // Every path of the tree of a medium.
-ghost use Rattle.std.specs.Prelude.{◌≡◌, ℕ, false, IsTrue};
+ghost use Rattle.std.specs.Prelude.{◌≡◌, ◌⊎◌, ℕ, []};
+ghost use Rattle.nl_commands.specs.Ends.{IsStatusOf};
+ghost use Rattle.nl_field.specs.CrashStates.{Rose};
 ghost use Rattle.nl_field.specs.Page.{Image};
 ghost use Rattle.nl_headline.specs.Streams.{medium, stream};
 ghost use Rattle.nl_viewing.specs.Looking.{LookEnds, ShowsTree};
 
-use crate::opening::{open, refused};
-use nl_commands::{Done, ended, faults_of, has_failed, status_of, without_lines};
+use crate::refusing::refused;
+use nl_commands::{Done, Faults, carried_out, ended, faults_of, without_lines};
 use nl_io::{Sink, SinkAnswer};
 use nl_nand::Nand;
+use nl_rounds::open;
 use nl_showing::{Shown, print_tree};
 use nl_walking::TreeWalk;
 use std::alloc::Global;
@@ -32,21 +35,22 @@ pub fn tree<K: Sink, M: Nand>(alloc: Global, sink: &mut K, media: M) -> Done<M>
     let count = volume.calls();
     let shown = print_tree(sink, &mut volume.core, &mut walk, count);
     let media = volume.into_media();
-    let failed = has_failed(&media, before);
-    without_lines(alloc, shown_status(shown, failed), media)
+    ending_of(alloc, before, shown, media)
 }
 
-// The status after paths were printed: 5 where a read failed, a page was lost or the medium has failed; else 4 where the sink failed.
-fn shown_status(shown: Shown, failed: bool) -> u8
-    ensures fault { shown ≡ Shown.Fault → result ≡ 5 }
-    ensures lost { shown ≡ Shown.Lost → result ≡ 5 }
-    ensures five { IsTrue failed → result ≡ 5 }
-    ensures four { failed ≡ false → shown ≡ Shown.NotTaken → result ≡ 4 }
-    ensures zero { failed ≡ false → shown ≡ Shown.All → result ≡ 0 }
+// The ending after paths were printed: with status 5 where a read failed or a page was lost, else with that of a command that was carried out.
+fn ending_of<M: Nand>(alloc: Global, before: Faults, shown: Shown, media: M) -> Done<M>
+    ensures fault { shown ≡ Shown.Fault → result.status ≡ 5 }
+    ensures lost { shown ≡ Shown.Lost → result.status ≡ 5 }
+    ensures all { shown ≡ Shown.All → IsStatusOf result.status (Rose before.reads (M.read_faults media) ⊎ Rose before.writes (M.write_faults media)) SinkAnswer.Took }
+    ensures not_taken { shown ≡ Shown.NotTaken → IsStatusOf result.status (Rose before.reads (M.read_faults media) ⊎ Rose before.writes (M.write_faults media)) SinkAnswer.Failed }
+    ensures media { result.media ≡ media }
+    ensures order { result.order.items ≡ [] }
+    ensures syncs { result.syncs.items ≡ [] }
 {
     match shown {
-        Shown::All => status_of(failed, SinkAnswer::Took),
-        Shown::NotTaken => status_of(failed, SinkAnswer::Failed),
-        Shown::Fault | Shown::Lost => 5,
+        Shown::All => carried_out(alloc, before, SinkAnswer::Took, media),
+        Shown::NotTaken => carried_out(alloc, before, SinkAnswer::Failed, media),
+        Shown::Fault | Shown::Lost => without_lines(alloc, 5, media),
     }
 }

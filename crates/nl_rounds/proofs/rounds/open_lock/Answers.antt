@@ -9,13 +9,13 @@ use Rattle.nl_rounds.proofs.rounds.open_lock.Goals as goal
 pub new-requires-clause-stands : goal.new-requires-clause-stands
 new-requires-clause-stands g c =
     let image = g.M.Nand.contents (medium_of c.args.volume.core.device) in
-    c.requires.stands (tree_of image) (λ t. let k = c.requires.opened t in sound_as_it image c.args.volume.core.count k.tree k.opens.sound)
+    c.requires.stands (tree_of image) (λ t. sound_as_it image c.args.volume.core.count c.requires.opened.tree (c.requires.opened.opens t).sound)
 
 pub returns-clause-opening : goal.returns-clause-opening
 returns-clause-opening g c =
     let image = g.M.Nand.contents (medium_of c.args.volume.core.device) in
     IfOk-weaker c.new.result _ _
-    (λ r s. (tree_of image, λ t. let k = c.requires.opened t in sound_as_it image c.args.volume.core.count k.tree k.opens.sound, ap (λ (z : SeatState). z.opening) s))
+    (λ r s. (tree_of image, λ t. sound_as_it image c.args.volume.core.count c.requires.opened.tree (c.requires.opened.opens t).sound, ap (λ (z : SeatState). z.opening) s))
     c.new.ensures.seat
 
 pub returns-clause-first : goal.returns-clause-first

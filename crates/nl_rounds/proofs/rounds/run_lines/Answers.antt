@@ -1,72 +1,75 @@
-use Rattle.std.proofs.Common.{◌≡◌, ◌∙◌, ◌≤◌, ap, refl, sym, subst, arith}
-use Rattle.nl_answering.specs.Answering.{pages_of_files}
+use Rattle.std.proofs.Common.{◌∙◌, ap, sym, subst}
 use Rattle.nl_device.specs.Medium.{medium_of}
 use Rattle.nl_device.specs.contracts.counts.DeviceCounts.TheImpl.{ghosts}
-use Rattle.nl_field.specs.CrashStates.{top}
+use Rattle.nl_field.specs.Page.{Image}
+use Rattle.nl_headline.specs.Streams.{medium}
 use Rattle.nl_sound.specs.Crash.{StopsSafely}
 use Rattle.nl_sound.specs.Stands.{SoundAs}
-use Rattle.nl_turns.specs.History.{Opening}
-use Rattle.nl_turns.specs.Seat.{SeatState, entries}
-use Rattle.nl_headline.specs.Streams.{medium}
-use Rattle.nl_volume.specs.Opening.{opening_of}
-use Rattle.nl_volume.specs.Standing.{StandsFor}
+use Rattle.nl_tree.specs.Calls.{IsLine}
 use Rattle.nl_volume.specs.declared.volume.Volume.{Volume}
-use Rattle.nl_rounds.specs.Charges.{TellsCharges}
-use Rattle.nl_rounds.specs.Rounds.{course_of}
-use Rattle.nl_rounds.proofs.Running.{rounds_and_end}
-use Rattle.nl_rounds.proofs.rounds.run_lines.Goals.{else-closed, then-closed}
+use Rattle.nl_rounds.proofs.Lists.{holds_of}
+use Rattle.nl_rounds.proofs.Opens.{opens_on_same}
+use Rattle.nl_rounds.proofs.Reading.{as_many_rows, ran_from, stops_from}
 use Rattle.nl_rounds.proofs.rounds.run_lines.Goals as goal
 
--- the volume is as it was before its charges were counted
-pub close-closed-requires : goal.close-closed-requires
-close-closed-requires g c =
-    let G = ghosts g.row.M g.M.Nand g.M.Nand-dict in
-    let origin = c.in-Ok.made.0.origin in
-    let seat = c.run_rounds.new.seat in (
-      origin,
-      seat.opening,
-      entries seat.seen,
-      subst (λ (x : Volume _). StandsFor G origin.core seat.opening (entries seat.seen) x.core x.done × (x.files ≡ pages_of_files G x.core)) (sym c.charges_of-charges.ensures.same) c.close-volume.ensures,
+pub run_opened-requires-clause-opened : goal.run_opened-requires-clause-opened
+run_opened-requires-clause-opened g c = λ lifetimes outlives.
+    let v = c.in-Ok.volume.core in
+    opens_on_same (ghosts g.row.M g.M.Nand g.M.Nand-dict) (g.M.Nand.contents c.args.media) (g.M.Nand.contents (medium_of v.device)) v c.in-Ok.ensures.only_read.same_contents c.in-Ok.ensures.opened
+
+pub run_opened-requires-clause-stands : goal.run_opened-requires-clause-stands
+run_opened-requires-clause-stands g c = λ lifetimes outlives tree sound.
+    c.in-Ok.ensures.stands tree c.args.lines.now (λ l has. holds_of IsLine c.args.lines.now l c.as_slice-lines.ensures.each.each has)
+    (λ told. subst (λ (i : Image). SoundAs i c.in-Ok.volume.core.count tree) (c.in-Ok.ensures.only_read.same_contents told) (sound told))
+
+-- the lines were run: what is said from the opened medium on is said from the medium on
+pub returns-in-Ok-run_opened-clause-ran : goal.returns-in-Ok-run_opened-clause-ran
+returns-in-Ok-run_opened-clause-ran g c =
+    let m = g.M.Nand in
+    let media = c.args.media in
+    let opened = medium_of c.in-Ok.volume.core.device in
+    let ran = c.in-Ok-run_opened.ran in
+    let end = ran.media in
+    let only = c.in-Ok.ensures.only_read in
+    let r = c.in-Ok-run_opened.ensures.ran in (
+      r.0,
+      r.1,
+      ran_from m.tells c.args.lines.now
+          (StopsSafely SoundAs (λ t i. m.left opened t i) (λ t i. m.left end t i) (m.clock opened) (m.clock end))
+          (StopsSafely SoundAs (λ t i. m.left media t i) (λ t i. m.left end t i) (m.clock media) (m.clock end))
+          (medium (m.geometry media) (m.contents media) (m.clock media) (m.read_faults media) (m.write_faults media))
+          (medium (m.geometry opened) (m.contents opened) (m.clock opened) (m.read_faults opened) (m.write_faults opened))
+          (medium (m.geometry end) (m.contents end) (m.clock end) (m.read_faults end) (m.write_faults end))
+          c.run_opened.new.tables.answers.rows ran.lost ran.worn ran.charges r.0 (λ told. only.same_contents told)
+          (λ i. record { clock = only.same_clock i; read_faults = c.in-Ok.ensures.no_fault i; write_faults = only.same_write_faults i })
+          (λ told run safe.
+          stops_from SoundAs (λ t i. m.left media t i) (λ t i. m.left opened t i) (λ t i. m.left end t i) (m.clock opened) (m.clock media) (m.clock end) run (λ t i l. only.no_more_left told t i l)
+          (sym only.same_clock) safe)
+          r.2,
     )
 
-pub returns-clause-lost : goal.returns-clause-lost
-returns-clause-lost g c is = elim c.if-closed.branch [ then-closed w ↦ w.result-is ∙ w.if-closed.true | else-closed w ↦ w.result-is ∙ (w.lost.ensures ∙ is) ]
+pub returns-in-Ok-run_opened-clause-rows : goal.returns-in-Ok-run_opened-clause-rows
+returns-in-Ok-run_opened-clause-rows g c =
+    let m = g.M.Nand in
+    let opened = medium_of c.in-Ok.volume.core.device in
+    let ran = c.in-Ok-run_opened.ran in
+    let end = ran.media in
+    let r = c.in-Ok-run_opened.ensures.ran in
+    as_many_rows m.tells c.args.lines.now
+    (StopsSafely SoundAs (λ t i. m.left opened t i) (λ t i. m.left end t i) (m.clock opened) (m.clock end))
+    (medium (m.geometry opened) (m.contents opened) (m.clock opened) (m.read_faults opened) (m.write_faults opened))
+    (medium (m.geometry end) (m.contents end) (m.clock end) (m.read_faults end) (m.write_faults end))
+    c.run_opened.new.tables.answers.rows ran.lost ran.worn ran.charges r.0 r.2
 
-pub returns-clause-ran : goal.returns-clause-ran
-returns-clause-ran g c =
-    let G = ghosts g.row.M g.M.Nand g.M.Nand-dict in
-    let N = g.M.Nand in
-    let v0 = c.args.volume.core in
-    let old = medium_of v0.device in
-    let opening = c.in-Ok.ensures.opening in
-    let after = c.run_rounds.new.seat in
-    let ran = c.run_rounds.ensures.ran in
-    let rows = c.run_rounds.new.answers.rows in
-    let last = c.charges_of-charges.new.volume in
-    let same = c.charges_of-charges.ensures.same in
-    let v = last.core in
-    let media = c.close-closed.result.media in
-    let e = c.close-closed.ensures in
-    let o = opening_of G v0 opening.0 c.args.lines.now in
-    let h = entries after.seen in
-    let stands = subst (λ (x : Volume _ × Opening × Volume _). StandsFor G x.0.core x.1 h x.2.core x.2.done × (x.2.files ≡ pages_of_files G x.2.core))
-    (λ k. (c.in-Ok.ensures.lock.2 k, (ap (λ (z : SeatState). z.opening) ran.same ∙ opening.2) k, sym same k)) c.close-volume.ensures in
-    let charged = subst (λ (x : Volume _). TellsCharges G x.core c.charges_of-charges.result) (sym same) c.charges_of-charges.ensures.charges in
-    let clock = c.clock-clock.ensures in
-    let clock_fits = c.clock-clock.type_inv in
-    let faults = c.write_faults-faults.ensures in
-    let faults_fit = c.write_faults-faults.type_inv in
-    let few : N.clock media ≤ top = omega (arith, clock, clock_fits) in
-    let writes : N.write_faults media ≤ top = omega (arith, faults, faults_fit) in (
-      course_of o rows,
-      c.calls-count.ensures,
-      rounds_and_end G v0 v last.done opening.0 c.args.lines.now c.in-Ok.made.1 after rows opening.2 c.as_slice-lines.ensures.each ran stands.0
-          (StopsSafely SoundAs (λ m i. N.left old m i) (λ m i. N.left media m i) (N.clock old) (N.clock media))
-          (medium (N.geometry old) (N.contents old) (N.clock old) (N.read_faults old) (N.write_faults old)) (medium (N.geometry media) (N.contents media) (N.clock media) (N.read_faults media) (N.write_faults media))
-          c.if-closed.result c.close-closed.result.worn c.charges_of-charges.result refl e.counts few writes c.requires.opened opening.1
-          (λ young. e.stops c.args.volume o h stands young)
-          (λ young none unworn. e.ends_well c.args.volume o h stands young none unworn)
-          (λ t. elim c.if-closed.branch [ then-closed w ↦ w.result-is ∙ e.lost t | else-closed w ↦ w.result-is ∙ (w.lost.ensures ∙ c.run_rounds.ensures.lost t) ])
-          e.worn.0
-          charged,
-    )
+-- no memory for the lock
+pub returns-in-Err-run_opened-clause-left : goal.returns-in-Err-run_opened-clause-left
+returns-in-Err-run_opened-clause-left g c =
+    let m = g.M.Nand in
+    let only = c.in-Ok.ensures.only_read in
+    let same = c.into_media.ensures ∙ ap (λ (v : Volume g.row.M.Denot). medium_of v.core.device) c.in-Err-run_opened.ensures.memory in
+    record {
+      same_contents = λ told. ap m.contents same ∙ only.same_contents told;
+      no_more_left = λ told t i was. only.no_more_left told t i (subst (λ (x : g.row.M.Denot). m.left x t i) same was);
+      same_clock = ap m.clock same ∙ only.same_clock;
+      same_write_faults = ap m.write_faults same ∙ only.same_write_faults;
+    }

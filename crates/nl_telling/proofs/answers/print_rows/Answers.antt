@@ -1,11 +1,5 @@
-use Rattle.std.proofs.Common.{◌≡◌, take, le_trans, subst, flat_map, arith}
-use Rattle.std.proofs.lemmas.Grind.{common_steps}
-use Rattle.std.specs.Prelude.{IfSome, List, slice_get, ℕ, length}
-use Rattle.nl_io.specs.Streams.{Writes}
-use Rattle.nl_io.specs.declared.sink.SinkAnswer.TheVariants as sink
-use Rattle.nl_telling.specs.Rows.{row_line}
+use Rattle.std.proofs.Common.{le_trans, arith}
 use Rattle.nl_telling.proofs.Texts.{failed_within, took_nothing, took_one}
-use Rattle.nl_workers.specs.Table.{Row}
 use Rattle.nl_telling.proofs.answers.print_rows.Goals as goal
 
 pub rows-init : goal.rows-init

@@ -1,9 +1,8 @@
-use Rattle.std.proofs.Common.{◌≡◌, ◌≤◌, ◌+◌, ◌∙◌, ap, arith, subst, sym, ℕ}
+use Rattle.std.proofs.Common.{◌≡◌, ◌≤◌, ◌+◌, ◌∙◌, ap, arith, subst, sym}
 use Rattle.std.specs.Prelude.{Bool, true, false, IfSome, Option, cond, map, min, take}
 use Rattle.nl_field.specs.CrashStates.{saturated}
 use Rattle.nl_telling.proofs.Texts.{counts_one, row_there, saturated_more}
 use Rattle.nl_telling.specs.Rows.{is_ok, read_by, read_in, said, written_by, written_in}
-use Rattle.nl_tree.specs.declared.reply.Reply.{Reply}
 use Rattle.nl_tree.specs.declared.turn.Answered.{Answered}
 use Rattle.nl_workers.specs.Table.{Row}
 use Rattle.nl_telling.proofs.summary.tally_of.Goals as goal

@@ -1,4 +1,4 @@
-use Rattle.std.proofs.Common.{◌≡◌, ap, refl, subst, List, ℕ}
+use Rattle.std.proofs.Common.{ap, subst, List, ℕ}
 use Rattle.nl_headline.specs.Streams.{Prints, stream}
 use Rattle.nl_print.specs.Texts.{refused_text}
 use Rattle.nl_top.specs.RunEnds.{runs_script, script_refused}

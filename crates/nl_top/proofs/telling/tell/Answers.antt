@@ -1,10 +1,9 @@
 use Rattle.std.proofs.Common.{IsTrue, refl, subst, sym}
-use Rattle.nl_commands.proofs.Ending.{done_status}
 use Rattle.nl_headline.specs.Status.{RunFailed}
 use Rattle.nl_headline.specs.Streams.{stream}
 use Rattle.nl_tree.specs.Causes.{Counts}
 use Rattle.nl_top.specs.Telling.{told_text}
-use Rattle.nl_top.proofs.Failed.{failed_some, some_failed}
+use Rattle.nl_top.proofs.Failed.{failed_by, failed_some, some_failed}
 use Rattle.nl_top.proofs.telling.tell.Goals as goal
 
 pub returns-clause-prints : goal.returns-clause-prints
@@ -26,9 +25,10 @@ returns-clause-status g c =
     let before : Counts = record { clock = m.clock ran.media; read_faults = c.args.before.reads; write_faults = c.args.before.writes } in
     let now : Counts = record { clock = m.clock ran.media; read_faults = m.read_faults ran.media; write_faults = m.write_faults ran.media } in
     let any = c.any_of-failed.ensures in
-    done_status c.status_of.result c.any_of-failed.result c.print-answer.result (RunFailed order before now ran.lost ran.worn)
-    (stream (k.taken c.args.sink.now) (k.faults c.args.sink.now)) (stream (k.taken c.print-answer.new.sink) (k.faults c.print-answer.new.sink))
-    (told_text c.args.told ran.count ran.charges c.args.tables.answers.rows)
+    let old = stream (k.taken c.args.sink.now) (k.faults c.args.sink.now) in
+    let new = stream (k.taken c.print-answer.new.sink) (k.faults c.print-answer.new.sink) in
+    let text = told_text c.args.told ran.count ran.charges c.args.tables.answers.rows in
+    failed_by c.status_of.result (IsTrue c.any_of-failed.result) (RunFailed order before now ran.lost ran.worn) old new text
     (λ yes. some_failed order before now ran.lost ran.worn c.has_failed.result c.has_fault.result ran.lost ran.worn c.has_failed.ensures.yes c.has_fault.ensures refl refl (subst IsTrue any yes))
     (λ failed. subst IsTrue (sym any) (failed_some order before now ran.lost ran.worn c.has_failed.result c.has_fault.result ran.lost ran.worn c.has_failed.ensures.no c.has_fault.ensures refl refl failed))
-    c.print-answer.ensures.text c.print-answer.ensures.cause c.status_of.ensures.five c.status_of.ensures.four c.status_of.ensures.zero
+    (c.status_of.ensures.done old new text c.print-answer.ensures.text c.print-answer.ensures.cause)

@@ -1,11 +1,8 @@
 use Rattle.std.proofs.Common.{◌∙◌, ap, refl, sym, Some}
-use Rattle.nl_commands.proofs.Completing.{check_completes}
 use Rattle.nl_headline.specs.Streams.{medium, stream}
 use Rattle.nl_sound.specs.Crash.{StopsSafely}
 use Rattle.nl_sound.specs.Stands.{SoundAs}
 use Rattle.nl_top.specs.Ends.{checks, formats, reports, runs, shows_tree, soaks}
-use Rattle.nl_viewing.specs.Looking.{Reports, ShowsTree}
-use Rattle.nl_viewing.proofs.Completing.{look_completes}
 use Rattle.nl_top.specs.Soak.{Summarises}
 use Rattle.nl_top.proofs.RunCompleting.{lines_complete, script_completes}
 use Rattle.nl_top.proofs.top.nameless.Goals as goal
@@ -28,7 +25,7 @@ returns-in-Some-Run-clause-runs g c = λ bytes lines count is left script starts
     (stream (k.taken c.args.sink.now) (k.faults c.args.sink.now)) (stream (k.taken c.run.new.sink) (k.faults c.run.new.sink))
     (medium (m.geometry media) (m.contents media) (m.clock media) (m.read_faults media) (m.write_faults media))
     (medium (m.geometry end) (m.contents end) (m.clock end) (m.read_faults end) (m.write_faults end))
-    c.run.result.order.items c.run.result.syncs.items c.run.result.status count starts none last bytes lines left script
+    c.run.result.order.items c.run.result.syncs.items c.run.result.status count c.opening_completes.ensures starts none last bytes lines left script
     (StopsSafely SoundAs (λ t i. m.left media t i) (λ t i. m.left end t i) (m.clock media) (m.clock end)) c.run.ensures
 
 pub returns-in-Some-Check-clause-ended : goal.returns-in-Some-Check-clause-ended
@@ -42,7 +39,7 @@ returns-in-Some-Check-clause-checks g c = λ count is starts none.
     let media = c.args.media in
     let end = c.check.result.media in
     let source = stream (s.left c.args.src.now) (s.faults c.args.src.now) in
-    check_completes m.tells source source
+    c.check_completes.ensures source source
     (stream (k.taken c.args.sink.now) (k.faults c.args.sink.now)) (stream (k.taken c.check.new.sink) (k.faults c.check.new.sink))
     (medium (m.geometry media) (m.contents media) (m.clock media) (m.read_faults media) (m.write_faults media))
     (medium (m.geometry end) (m.contents end) (m.clock end) (m.read_faults end) (m.write_faults end))
@@ -59,7 +56,7 @@ returns-in-Some-Tree-clause-trees g c = λ count is starts none.
     let media = c.args.media in
     let end = c.tree.result.media in
     let source = stream (s.left c.args.src.now) (s.faults c.args.src.now) in
-    look_completes m.tells ShowsTree source source
+    c.look_completes.ensures.trees source source
     (stream (k.taken c.args.sink.now) (k.faults c.args.sink.now)) (stream (k.taken c.tree.new.sink) (k.faults c.tree.new.sink))
     (medium (m.geometry media) (m.contents media) (m.clock media) (m.read_faults media) (m.write_faults media))
     (medium (m.geometry end) (m.contents end) (m.clock end) (m.read_faults end) (m.write_faults end))
@@ -76,7 +73,7 @@ returns-in-Some-Report-clause-reports g c = λ count is starts none.
     let media = c.args.media in
     let end = c.report.result.media in
     let source = stream (s.left c.args.src.now) (s.faults c.args.src.now) in
-    look_completes m.tells Reports source source
+    c.look_completes-in-Some-Report.ensures.reports source source
     (stream (k.taken c.args.sink.now) (k.faults c.args.sink.now)) (stream (k.taken c.report.new.sink) (k.faults c.report.new.sink))
     (medium (m.geometry media) (m.contents media) (m.clock media) (m.read_faults media) (m.write_faults media))
     (medium (m.geometry end) (m.contents end) (m.clock end) (m.read_faults end) (m.write_faults end))
@@ -98,5 +95,5 @@ returns-in-Some-Soak-clause-soaks g c = λ seed lines workers count is starts no
     (stream (k.taken c.args.sink.now) (k.faults c.args.sink.now)) (stream (k.taken c.soak.new.sink) (k.faults c.soak.new.sink))
     (medium (m.geometry media) (m.contents media) (m.clock media) (m.read_faults media) (m.write_faults media))
     (medium (m.geometry end) (m.contents end) (m.clock end) (m.read_faults end) (m.write_faults end))
-    c.soak.result.order.items c.soak.result.syncs.items c.soak.result.status count starts none last c.soak.ensures.0 (Summarises m.tells)
+    c.soak.result.order.items c.soak.result.syncs.items c.soak.result.status count c.opening_completes-in-Some-Soak.ensures starts none last c.soak.ensures.0 (Summarises m.tells)
     (StopsSafely SoundAs (λ t i. m.left media t i) (λ t i. m.left end t i) (m.clock media) (m.clock end)) c.soak.ensures.2

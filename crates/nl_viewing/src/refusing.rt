@@ -1,0 +1,33 @@
+// The ending of a command whose volume was not opened.
+ghost use Rattle.std.specs.Prelude.{◌≡◌, [], ℕ, List};
+ghost use Rattle.nl_commands.specs.Ends.{NotOpened as WasNotOpened};
+ghost use Rattle.nl_headline.specs.Streams.{Prints, medium, stream};
+ghost use Rattle.nl_rounds.specs.Opened.{IsReason, medium_in};
+
+use nl_commands::{Done, ended, without_lines};
+use nl_io::Sink;
+use nl_nand::Nand;
+use nl_print::damaged_line;
+use nl_rounds::NotOpened;
+use std::alloc::Global;
+
+/// Prints why no volume was opened.
+pub fn refused<K: Sink, M: Nand>(alloc: Global, why: NotOpened<M>, sink: &mut K) -> Done<M>
+    ensures media { result.media ≡ medium_in why }
+    ensures order { result.order.items ≡ [] }
+    ensures syncs { result.syncs.items ≡ [] }
+    ensures ended { (before : M) → IsReason M.tells M.contents M.read_faults before why → (text : List ℕ)
+        × WasNotOpened M.tells (medium (M.geometry before) (M.contents before) (M.clock before) (M.read_faults before) (M.write_faults before))
+        (medium (M.geometry result.media) (M.contents result.media) (M.clock result.media) (M.read_faults result.media) (M.write_faults result.media)) result.status text
+        × Prints (stream (K.taken sink.old) (K.faults sink.old)) (stream (K.taken sink.new) (K.faults sink.new)) text }
+{
+    match why {
+        NotOpened::Blank(media) => ended(alloc, 7, b"blank", sink, media),
+        NotOpened::Damaged(media, place) => {
+            let _ = damaged_line(sink, &place);
+            without_lines(alloc, 7, media)
+        }
+        NotOpened::Fault(media) => ended(alloc, 5, b"medium fault", sink, media),
+        NotOpened::Memory(media) => ended(alloc, 6, b"memory", sink, media),
+    }
+}
