@@ -1,23 +1,13 @@
-//! Tests of the top call, from outside its crate.
+//! Tests of the top call on media in memory, from outside its crate, and what tests of it share.
 #![tactic(auto)]
 
-#[cfg(test)]
-mod damaged;
-#[cfg(test)]
-mod erased;
-#[cfg(test)]
-mod failing;
-#[cfg(test)]
-mod note;
-#[cfg(test)]
-mod play;
-#[cfg(test)]
-mod program;
+pub mod built;
+pub mod note;
+pub mod play;
+pub mod program;
 #[cfg(test)]
 mod rows;
 #[cfg(test)]
 mod soaks;
-#[cfg(test)]
-mod stops;
 #[cfg(test)]
 mod views;

@@ -1,5 +1,7 @@
 // A note that is saved by a new file and a rename, and what a volume holds after each part of it.
-use crate::play::{Step, play};
+ghost use Rattle.std.specs.Prelude.{◌<◌};
+
+use crate::play::{answered, play, sound_wrong};
 use nl_field::Memory;
 use nl_nand::{Cut, MemNand};
 use std::alloc::Global;
@@ -74,58 +76,91 @@ pub const OTHER: &str = "0 create /b\n0 write /b 0 62\n0 sync\n0 read /b 0 9\n";
 const READS: &str =
     "0 list /\n0 read /b 0 9\n0 list /home\n0 list /home/ann\n0 read /home/ann/note 0 9\n0 read /home/ann/.note.tmp 0 9\n";
 
-// What these reads answer after so many calls of the saving, but for those of the root and of the other file.
-fn answers(saved: u64) -> [&'static str; 4] {
-    if saved < 4 {
-        ["ENOENT", "ENOENT", "ENOENT", "ENOENT"]
-    } else if saved < 7 {
-        ["ok 1 ann/", "ok 1 note", "ok 6f6c640a", "ENOENT"]
-    } else if saved < 9 {
-        [
-            "ok 1 ann/",
-            "ok 2 .note.tmp note",
-            "ok 6f6c640a",
-            "ok 6e65770a",
-        ]
-    } else {
-        ["ok 1 ann/", "ok 1 note", "ok 6e65770a", "ENOENT"]
-    }
-}
+// What these reads answer without the other file and with it, where the saving has not made the note, has made it, has made the new file, and has renamed
+// it.
+const ANSWERS: [[&str; 6]; 8] = [
+    ["ok 0", "ENOENT", "ENOENT", "ENOENT", "ENOENT", "ENOENT"],
+    ["ok 1 b", "ok 62", "ENOENT", "ENOENT", "ENOENT", "ENOENT"],
+    [
+        "ok 1 home/",
+        "ENOENT",
+        "ok 1 ann/",
+        "ok 1 note",
+        "ok 6f6c640a",
+        "ENOENT",
+    ],
+    [
+        "ok 2 b home/",
+        "ok 62",
+        "ok 1 ann/",
+        "ok 1 note",
+        "ok 6f6c640a",
+        "ENOENT",
+    ],
+    [
+        "ok 1 home/",
+        "ENOENT",
+        "ok 1 ann/",
+        "ok 2 .note.tmp note",
+        "ok 6f6c640a",
+        "ok 6e65770a",
+    ],
+    [
+        "ok 2 b home/",
+        "ok 62",
+        "ok 1 ann/",
+        "ok 2 .note.tmp note",
+        "ok 6f6c640a",
+        "ok 6e65770a",
+    ],
+    [
+        "ok 1 home/",
+        "ENOENT",
+        "ok 1 ann/",
+        "ok 1 note",
+        "ok 6e65770a",
+        "ENOENT",
+    ],
+    [
+        "ok 2 b home/",
+        "ok 62",
+        "ok 1 ann/",
+        "ok 1 note",
+        "ok 6e65770a",
+        "ENOENT",
+    ],
+];
 
-fn root(saved: u64, other: bool) -> [&'static str; 2] {
-    match (saved < 4, other) {
-        (true, false) => ["ok 0", "ENOENT"],
-        (true, true) => ["ok 1 b", "ok 62"],
-        (false, false) => ["ok 1 home/", "ENOENT"],
-        (false, true) => ["ok 2 b home/", "ok 62"],
-    }
+// Which of them it is after so many calls of the saving.
+fn row(saved: u64, other: bool) -> usize
+    ensures { result < 8 }
+{
+    let stage = if saved < 4 {
+        0
+    } else if saved < 7 {
+        2
+    } else if saved < 9 {
+        4
+    } else {
+        6
+    };
+    if other { stage + 1 } else { stage }
 }
 
 /// What is told otherwise than wanted of a volume that opens after so many calls: it is sound, and holds what the saving has after so many of its
-/// calls, and the other file or not. The medium behind it has six more calls.
+/// calls, and the other file or not. It has six more calls afterwards.
 pub fn holds<Rt: Threads + Wait + Sync>(
     rt: &Rt,
     alloc: Global,
-    media: MemNand,
+    media: &mut MemNand,
     opened: u64,
     saved: u64,
     other: bool,
-) -> Result<(String, MemNand), Memory> {
-    let [list, read] = root(saved, other);
-    let [home, ann, note, new] = answers(saved);
-    let at = opened.saturating_add(1);
-    let second = opened.saturating_add(2);
-    let third = opened.saturating_add(3);
-    let fourth = opened.saturating_add(4);
-    let fifth = opened.saturating_add(5);
-    let sixth = opened.saturating_add(6);
-    let sound = format!(in alloc; "sound {opened}\n")?;
-    let text = format!(in alloc;
-        "opened {opened}\n1 @{at} {list}\n2 @{second} {read}\n3 @{third} {home}\n4 @{fourth} {ann}\n5 @{fifth} {note}\n6 @{sixth} {new}\n"
-    )?;
-    let steps: [Step<'_>; 2] = [
-        ("check", "", 0, sound.as_str()),
-        ("run", READS, 0, text.as_str()),
-    ];
-    play(rt, alloc, media, &steps)
+) -> Result<String, Memory> {
+    let text = answered(alloc, opened, 0, &ANSWERS[row(saved, other)])?;
+    let wrong = sound_wrong(rt, alloc, media, opened)?;
+    if !wrong.is_empty() {
+        return Ok(wrong);
+    }
+    play(rt, alloc, media, &[("run", READS, 0, text.as_str())])
 }

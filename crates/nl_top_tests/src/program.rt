@@ -1,18 +1,28 @@
 // The program over a source, a sink and a medium in memory.
 use nl_field::{FailList, Memory, Text};
 use nl_io::{MemSink, MemSource, Words};
-use nl_nand::MemNand;
+use nl_nand::{MemNand, Stop};
 use nl_top::{Done, Gate, NoGate, OrderList, SyncList, nameless};
 use std::alloc::Global;
+use std::mem;
 use std::sync::Wait;
 use std::thread::Threads;
 
-/// What the program told, and the medium behind it.
+/// What the program is given beside its medium: the words, the script, and the read of the source and the write of the sink that fail, where they are
+/// not 0.
+#[derive(Clone, Copy)]
+pub struct Given<'a> {
+    pub words: &'a str,
+    pub script: &'a str,
+    pub read: u64,
+    pub write: u64,
+}
+
+/// What the program told.
 #[derive(Drop)]
 pub struct Told {
     pub status: u8,
-    pub sink: MemSink,
-    pub media: MemNand,
+    sink: MemSink,
     pub syncs: SyncList,
     pub order: OrderList,
 }
@@ -20,6 +30,10 @@ pub struct Told {
 impl Told {
     pub fn text(&self) -> &[u8] {
         self.sink.bytes()
+    }
+
+    pub fn is(&self, status: u8, text: &str) -> bool {
+        self.status == status && self.text() == text.as_bytes()
     }
 
     /// What the last sync that was answered ok has made durable, 0 where there is none.
@@ -34,9 +48,9 @@ impl Told {
 }
 
 /// The room of a sink.
-pub const ROOM: u32 = 1_000_000;
+const ROOM: u32 = 1_000_000;
 
-/// The calls of these numbers fail, where they are not 0.
+/// The call of this number fails, where it is not 0.
 pub fn only(alloc: Global, number: u64) -> Result<FailList, Memory> {
     let mut list = FailList::new(alloc);
     if 0 < number {
@@ -45,19 +59,20 @@ pub fn only(alloc: Global, number: u64) -> Result<FailList, Memory> {
     Ok(list)
 }
 
-/// A source of these bytes whose read of that number fails.
-pub fn source(alloc: Global, bytes: &str, failing: u64) -> Result<MemSource, Memory> {
-    Ok(MemSource::new(Text::of(alloc, bytes.as_bytes())?, only(alloc, failing)?))
+/// A medium that was never formed.
+pub fn blank(alloc: Global) -> MemNand {
+    MemNand::new(alloc, FailList::new(alloc), FailList::new(alloc), None)
 }
 
-/// A sink whose write of that number fails.
-pub fn sink(alloc: Global, failing: u64) -> Result<MemSink, Memory> {
-    MemSink::new(alloc, ROOM, only(alloc, failing)?)
+/// What a medium is after a crash, with its next stop.
+pub fn restart(alloc: Global, media: &mut MemNand, stop: Option<Stop>) {
+    let before = mem::replace(media, blank(alloc));
+    *media = before.restart(stop);
 }
 
 fn words_of(alloc: Global, line: &str) -> Result<Words, Memory> {
     let mut words = Words::new(alloc);
-    for word in line.as_bytes().split(|b| *b == b' ') {
+    for word in line.as_bytes().split(|byte| *byte == b' ') {
         if words.len() < 9 {
             words.push(word)?;
         }
@@ -65,59 +80,80 @@ fn words_of(alloc: Global, line: &str) -> Result<Words, Memory> {
     Ok(words)
 }
 
-// It promises nothing, so that no caller carries what the call promises.
+// It promises nothing, so that no caller carries what the call promises, and it alone owns a medium.
 fn call<Rt: Threads + Wait + Sync, G: Gate + Sync>(
     rt: &Rt,
     alloc: Global,
     words: &Words,
-    mut source: MemSource,
+    source: &mut MemSource,
     mut sink: MemSink,
-    media: MemNand,
+    media: &mut MemNand,
     gate: &G,
 ) -> Told {
+    let before = mem::replace(media, blank(alloc));
+    let done = nameless(rt, alloc, words, source, &mut sink, before, gate);
     let Done {
         status,
-        media,
+        media: after,
         syncs,
         order,
-    } = nameless(rt, alloc, words, &mut source, &mut sink, media, gate);
+    } = done;
+    *media = after;
     Told {
         status,
         sink,
-        media,
         syncs,
         order,
     }
 }
 
-/// What the program tells of these words, under a gate.
+fn source_of(alloc: Global, given: &Given<'_>) -> Result<MemSource, Memory> {
+    let failing = only(alloc, given.read)?;
+    Ok(MemSource::new(Text::of(alloc, given.script.as_bytes())?, failing))
+}
+
+fn sink_of(alloc: Global, given: &Given<'_>) -> Result<MemSink, Memory> {
+    MemSink::new(alloc, ROOM, only(alloc, given.write)?)
+}
+
+fn tell_words<Rt: Threads + Wait + Sync, G: Gate + Sync>(
+    rt: &Rt,
+    alloc: Global,
+    words: &Words,
+    given: &Given<'_>,
+    media: &mut MemNand,
+    gate: &G,
+) -> Result<Told, Memory> {
+    let sink = sink_of(alloc, given)?;
+    let mut source = source_of(alloc, given)?;
+    Ok(call(rt, alloc, words, &mut source, sink, media, gate))
+}
+
+/// What the program tells, under a gate.
 pub fn tell_with<Rt: Threads + Wait + Sync, G: Gate + Sync>(
     rt: &Rt,
     alloc: Global,
-    line: &str,
-    source: MemSource,
-    sink: MemSink,
-    media: MemNand,
+    given: &Given<'_>,
+    media: &mut MemNand,
     gate: &G,
 ) -> Result<Told, Memory> {
-    let words = words_of(alloc, line)?;
-    Ok(call(rt, alloc, &words, source, sink, media, gate))
+    let words = words_of(alloc, given.words)?;
+    tell_words(rt, alloc, &words, given, media, gate)
 }
 
 /// What the program tells of these words and this script.
 pub fn tell<Rt: Threads + Wait + Sync>(
     rt: &Rt,
     alloc: Global,
-    line: &str,
+    words: &str,
     script: &str,
-    media: MemNand,
+    media: &mut MemNand,
 ) -> Result<Told, Memory> {
-    let source = source(alloc, script, 0)?;
-    let sink = sink(alloc, 0)?;
-    tell_with(rt, alloc, line, source, sink, media, &NoGate)
-}
-
-/// A medium that was never formed.
-pub fn blank(alloc: Global) -> MemNand {
-    MemNand::new(alloc, FailList::new(alloc), FailList::new(alloc), None)
+    let given = Given {
+        words,
+        script,
+        read: 0,
+        write: 0,
+    };
+    tell_with(rt, alloc, &given, media, &NoGate)
 }

@@ -1,29 +1,30 @@
 // Scripts of one worker on a new volume of 32 blocks of 32 pages, and their texts.
-use crate::play::{FORMAT, Step, play, played};
-use crate::program::blank;
+use crate::note::{NOTE, SAVED};
+use crate::play::{FORMAT, Step, play_blank, play_rows};
 use std::test::Fail;
+
+const GEOMETRIES: [Step<'static>; 6] = [
+    ("run", "", 7, "blank\n"),
+    ("check", "", 7, "blank\n"),
+    FORMAT,
+    ("check", "", 0, "sound 0\n"),
+    (
+        "format 256 64",
+        "",
+        0,
+        "formatted blocks 256 pages 64 data 15008 nodes 1024 meta 512\n",
+    ),
+    ("run", "0 stat /\n", 0, "opened 0\n1 @1 ok dir 0\n"),
+];
 
 #[test]
 fn geometries(rt: HostRuntime) -> Result<(), Fail> {
-    let steps: [Step<'static>; 6] = [
-        ("run", "", 7, "blank\n"),
-        ("check", "", 7, "blank\n"),
-        FORMAT,
-        ("check", "", 0, "sound 0\n"),
-        (
-            "format 256 64",
-            "",
-            0,
-            "formatted blocks 256 pages 64 data 15008 nodes 1024 meta 512\n",
-        ),
-        ("run", "0 stat /\n", 0, "opened 0\n1 @1 ok dir 0\n"),
-    ];
-    let (wrong, _) = play(&rt, rt.alloc(), blank(rt.alloc()), &steps)?;
+    let wrong = play_blank(&rt, rt.alloc(), &GEOMETRIES)?;
     assert_eq!(rt; wrong.as_str(), "");
     Ok(())
 }
 
-const ROWS: [&[Step<'static>]; 9] = [
+const ROWS: [&[Step<'static>]; 11] = [
     // What was synced is there when the volume is opened again.
     &[
         (
@@ -134,26 +135,16 @@ const ROWS: [&[Step<'static>]; 9] = [
         ),
         ("check", "", 0, "sound 8\n"),
     ],
-];
-
-#[test]
-fn rows(rt: HostRuntime) -> Result<(), Fail> {
-    for row in ROWS {
-        let wrong = played(&rt, rt.alloc(), row)?;
-        assert_eq!(rt; wrong.as_str(), "");
-    }
-    Ok(())
-}
-
-#[test]
-fn a_note_is_saved(rt: HostRuntime) -> Result<(), Fail> {
-    let steps: [Step<'static>; 3] = [
-        (
-            "run",
-            "# save\n0 mkdir /home\n0 mkdir /home/ann\n0 create /home/ann/note\n0 write /home/ann/note 0 6f6c640a\n0 sync\n0 create /home/ann/.note.tmp\n0 write /home/ann/.note.tmp 0 6e65770a\n0 sync\n0 rename /home/ann/.note.tmp /home/ann/note\n0 sync\n0 read /home/ann/note 0 100\n0 list /home/ann\n0 stat /home\n",
-            0,
-            "opened 0\n2 @1 ok\n3 @2 ok\n4 @3 ok\n5 @4 ok 4\n6 @5 ok 4\n7 @6 ok\n8 @7 ok 4\n9 @8 ok 7\n10 @9 ok\n11 @10 ok 9\n12 @11 ok 6e65770a\n13 @12 ok 1 note\n14 @13 ok dir 1\n",
-        ),
+    // A file that is not there, and one that is.
+    &[(
+        "run",
+        "0 read /b 0 1\n0 create /b\n0 create /b\n",
+        0,
+        "opened 0\n1 @1 ENOENT\n2 @2 ok\n3 @3 EEXIST\n",
+    )],
+    // A saved note.
+    &[
+        ("run", NOTE, 0, SAVED),
         ("check", "", 0, "sound 13\n"),
         (
             "run",
@@ -161,8 +152,12 @@ fn a_note_is_saved(rt: HostRuntime) -> Result<(), Fail> {
             0,
             "opened 13\n1 @14 ok 6e65770a\n3 @15 ok\n",
         ),
-    ];
-    let wrong = played(&rt, rt.alloc(), &steps)?;
+    ],
+];
+
+#[test]
+fn rows(rt: HostRuntime) -> Result<(), Fail> {
+    let wrong = play_rows(&rt, rt.alloc(), &ROWS)?;
     assert_eq!(rt; wrong.as_str(), "");
     Ok(())
 }

@@ -1,0 +1,123 @@
+// Commands of which one may be for want of memory: it is not carried out then, or the medium failed for want of it. With ample memory all is as ever.
+use nl_field::Memory;
+use nl_nand::{MemNand, Nand};
+use nl_top_tests::play::{FORMAT, Step, answered, counted, play};
+use nl_top_tests::program::{blank, tell};
+use std::alloc::Global;
+use std::sync::Wait;
+use std::test::Fail;
+use std::thread::Threads;
+
+const STEPS: [Step<'static>; 4] = [
+    FORMAT,
+    (
+        "run",
+        "0 create /a\n0 write /a 0 68656c6c6f\n0 sync\n",
+        0,
+        "opened 0\n1 @1 ok\n2 @2 ok 5\n3 @3 ok 2\n",
+    ),
+    ("check", "", 0, "sound 3\n"),
+    (
+        "run",
+        "0 read /a 0 9\n",
+        0,
+        "opened 3\n1 @4 ok 68656c6c6f\n",
+    ),
+];
+
+// How a command ended.
+#[derive(Clone, Copy)]
+enum Ending {
+    Whole,
+    // For want of memory, and the medium was not written to.
+    Wanting,
+    // A program failed, and so many calls were durable before.
+    Failed(u64),
+    Wrong,
+}
+
+fn ended<Rt: Threads + Wait + Sync>(
+    rt: &Rt,
+    alloc: Global,
+    media: &mut MemNand,
+    step: &Step<'_>,
+) -> Result<Ending, Memory> {
+    let (words, script, status, text) = *step;
+    let clock = media.clock();
+    let faults = media.write_faults();
+    let told = tell(rt, alloc, words, script, media)?;
+    let failed = media.write_faults() != faults;
+    Ok(if told.is(status, text) && !failed {
+        Ending::Whole
+    } else if told.is(6, "memory\n") && !failed && media.clock() == clock {
+        Ending::Wanting
+    } else if told.status == 5 && failed {
+        Ending::Failed(told.synced())
+    } else {
+        Ending::Wrong
+    })
+}
+
+// What is told otherwise than wanted of a volume that opens after at least so many calls.
+fn left_wrong<Rt: Threads + Wait + Sync>(
+    rt: &Rt,
+    alloc: Global,
+    media: &mut MemNand,
+    least: u64,
+) -> Result<String, Memory> {
+    let Some(count) = counted(rt, alloc, media)? else {
+        return String::from_str(alloc, "not sound");
+    };
+    if count < least || 4 < count {
+        return String::from_str(alloc, "another count");
+    }
+    let answer = match count {
+        0 => "ENOENT",
+        1 => "ok -",
+        _ => "ok 68656c6c6f",
+    };
+    let text = answered(alloc, count, 0, &[answer])?;
+    play(
+        rt,
+        alloc,
+        media,
+        &[("run", "0 read /a 0 9\n", 0, text.as_str())],
+    )
+}
+
+// What is told otherwise than wanted of these steps on this medium.
+fn steps_wrong<Rt: Threads + Wait + Sync>(
+    rt: &Rt,
+    alloc: Global,
+    media: &mut MemNand,
+) -> Result<String, Memory> {
+    for (at, step) in STEPS.iter().enumerate() {
+        let wrong = match ended(rt, alloc, media, step)? {
+            Ending::Whole => String::new(alloc),
+            Ending::Wanting => play(rt, alloc, media, &[*step])?,
+            Ending::Failed(_) if at == 0 => play(rt, alloc, media, &[*step])?,
+            Ending::Failed(synced) => return left_wrong(rt, alloc, media, synced),
+            Ending::Wrong => String::from_str(alloc, "another ending")?,
+        };
+        if !wrong.is_empty() {
+            return Ok(wrong);
+        }
+    }
+    Ok(String::new(alloc))
+}
+
+fn steps<Rt: Threads + Wait + Sync>(rt: &Rt, alloc: Global) -> Result<String, Memory> {
+    let mut media = blank(alloc);
+    steps_wrong(rt, alloc, &mut media)
+}
+
+// Where the allocation is one of the test's own, nothing is told.
+#[test]
+fn a_volume(rt: HostRuntime) -> Result<(), Fail> {
+    let wrong = match steps(&rt, rt.alloc()) {
+        Ok(wrong) => wrong,
+        Err(_) => String::new(rt.alloc()),
+    };
+    assert_eq!(rt; wrong.as_str(), "");
+    Ok(())
+}
