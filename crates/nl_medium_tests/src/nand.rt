@@ -5,7 +5,6 @@ ghost use Rattle.nl_nand.specs.Memory.{geometry_of, contents_of};
 use nl_field::{FailList, PageBuf};
 use nl_nand::{Cut, FormAnswer, MemNand, Nand, ReadAnswer, Stop, WriteAnswer};
 use std::alloc::Global;
-use std::test::Fail;
 
 /// A medium of 32 blocks of 32 erased pages.
 fn formed(alloc: Global, reads: FailList, writes: FailList, stop: Option<Stop>) -> Option<MemNand>
@@ -64,91 +63,178 @@ fn seen(media: &mut MemNand, page: u32, buf: &mut PageBuf) -> u8
     }
 }
 
-#[test]
-fn a_stop_within_a_program(rt: HostRuntime) -> Result<(), Fail> {
-    let alloc = rt.alloc();
-    for (cut, want) in [
-        (Cut::Before, b'E'),
-        (Cut::After, b'b'),
-        (Cut::Spoilt, b'U'),
-        (Cut::Mixed(0), b'E'),
-        (Cut::Mixed(4), b'b'),
-        (Cut::Mixed(5), b'U'),
-    ] {
-        let mut buf = PageBuf::new(alloc)?;
-        let mut media = stopping(alloc, 2, cut).ok_or("form")?;
-        assert!(rt; media.reserve(2).is_ok());
-        assert_eq!(rt; put(&mut media, 0, b'a', &mut buf), WriteAnswer::Done);
-        assert_eq!(rt; put(&mut media, 1, b'b', &mut buf), WriteAnswer::Failed);
-        assert_eq!(rt; seen(&mut media, 0, &mut buf), b'F');
-        assert_eq!(rt; put(&mut media, 2, b'c', &mut buf), WriteAnswer::Failed);
-        assert_eq!(rt; media.erase(0), WriteAnswer::Failed);
-        assert_eq!(rt; media.form(32, 32), FormAnswer::Failed);
-        assert_eq!(rt;
-            (media.clock(), media.read_faults(), media.write_faults()),
-            (1, 1, 4)
-        );
-        let mut media = media.restart(None);
-        assert_eq!(rt;
-            (media.clock(), media.read_faults(), media.write_faults()),
-            (0, 0, 0)
-        );
-        assert_eq!(rt; seen(&mut media, 0, &mut buf), b'a', "{cut:?}");
-        assert_eq!(rt; seen(&mut media, 1, &mut buf), want, "{cut:?}");
-        assert_eq!(rt; seen(&mut media, 2, &mut buf), b'E', "{cut:?}");
+/// What a program or an erase answers, as a letter.
+fn letter(answer: WriteAnswer) -> u8 {
+    match answer {
+        WriteAnswer::Done => b'D',
+        WriteAnswer::Failed => b'F',
     }
-    Ok(())
 }
 
-#[test]
-fn a_stop_within_an_erase(rt: HostRuntime) -> Result<(), Fail> {
-    let alloc = rt.alloc();
-    for (cut, want) in [
-        (Cut::Before, [b'a', b'b', b'E', b'E']),
-        (Cut::After, [b'E', b'E', b'E', b'E']),
-        (Cut::Spoilt, [b'U', b'U', b'U', b'U']),
-        (Cut::Mixed(7), [b'E', b'U', b'E', b'E']),
-        (Cut::Mixed(11), [b'U', b'b', b'E', b'E']),
-        (Cut::Mixed(1235346792567894), [b'a', b'b', b'E', b'U']),
-    ] {
-        let mut buf = PageBuf::new(alloc)?;
-        let mut media = stopping(alloc, 4, cut).ok_or("form")?;
-        assert_eq!(rt; put(&mut media, 0, b'a', &mut buf), WriteAnswer::Done);
-        assert_eq!(rt; put(&mut media, 1, b'b', &mut buf), WriteAnswer::Done);
-        assert_eq!(rt; put(&mut media, 32, b'c', &mut buf), WriteAnswer::Done);
-        assert_eq!(rt; media.erase(0), WriteAnswer::Failed);
-        assert_eq!(rt; (media.clock(), media.write_faults()), (3, 1));
-        let mut media = media.restart(None);
-        assert_eq!(rt; seen(&mut media, 0, &mut buf), want[0], "{cut:?}");
-        assert_eq!(rt; seen(&mut media, 1, &mut buf), want[1], "{cut:?}");
-        assert_eq!(rt; seen(&mut media, 2, &mut buf), want[2], "{cut:?}");
-        assert_eq!(rt; seen(&mut media, 31, &mut buf), want[3], "{cut:?}");
-        assert_eq!(rt; seen(&mut media, 32, &mut buf), b'c', "{cut:?}");
-    }
-    Ok(())
+fn erase(media: &mut MemNand) -> u8
+    requires { geometry_of media.old ≡ record { blocks = 32; pages = 32 } }
+    ensures { geometry_of media.new ≡ record { blocks = 32; pages = 32 } }
+{
+    letter(media.erase(0))
 }
 
+fn form(media: &mut MemNand) -> u8
+    requires { geometry_of media.old ≡ record { blocks = 32; pages = 32 } }
+    ensures { geometry_of media.new ≡ record { blocks = 32; pages = 32 } }
+{
+    match media.form(32, 32) {
+        FormAnswer::Done => b'D',
+        FormAnswer::Failed => b'F',
+        FormAnswer::Memory => b'M',
+    }
+}
+
+/// The programs of pages 0 and 1 with the letters a and b.
+fn put_two(media: &mut MemNand, buf: &mut PageBuf) -> [u8; 2]
+    requires geometry { geometry_of media.old ≡ record { blocks = 32; pages = 32 } }
+    requires erased { ErasedWithin (contents_of media.old) 0 1024 }
+    ensures geometry { geometry_of media.new ≡ record { blocks = 32; pages = 32 } }
+    ensures erased { ErasedWithin (contents_of media.new) 2 1024 }
+{
+    let first = letter(put(media, 0, b'a', buf));
+    let second = letter(put(media, 1, b'b', buf));
+    [first, second]
+}
+
+fn pages(media: &mut MemNand, buf: &mut PageBuf) -> [u8; 5]
+    requires { geometry_of media.old ≡ record { blocks = 32; pages = 32 } }
+{
+    let first = seen(media, 0, buf);
+    let second = seen(media, 1, buf);
+    let third = seen(media, 2, buf);
+    let last = seen(media, 31, buf);
+    [first, second, third, last, seen(media, 32, buf)]
+}
+
+/// Operations that finished, failed reads, and failed operations.
+fn counts(media: &MemNand) -> [u64; 3] {
+    [media.clock(), media.read_faults(), media.write_faults()]
+}
+
+/// What the calls answer, the counts behind them, the counts of the medium after a restart, and its pages 0, 1, 2, 31 and 32.
+type Left = ([u8; 6], [u64; 3], [u64; 3], [u8; 5]);
+
+/// Three programs, an erase, a read and a forming.
+fn calls(media: &mut MemNand, buf: &mut PageBuf) -> [u8; 6]
+    requires geometry { geometry_of media.old ≡ record { blocks = 32; pages = 32 } }
+    requires erased { ErasedWithin (contents_of media.old) 0 1024 }
+    ensures { geometry_of media.new ≡ record { blocks = 32; pages = 32 } }
+{
+    let [first, second] = put_two(media, buf);
+    let third = letter(put(media, 32, b'c', buf));
+    let erased = erase(media);
+    let read = seen(media, 0, buf);
+    [first, second, third, erased, read, form(media)]
+}
+
+/// What a stop within this operation leaves.
+fn left(alloc: Global, operation: u64, cut: Cut) -> Option<Left> {
+    let mut buf = PageBuf::new(alloc).ok()?;
+    let mut media = stopping(alloc, operation, cut)?;
+    media.reserve(3).ok()?;
+    let calls = calls(&mut media, &mut buf);
+    let before = counts(&media);
+    let mut media = media.restart(None);
+    Some((calls, before, counts(&media), pages(&mut media, &mut buf)))
+}
+
+/// The first row with other pages, or other calls and counts than these.
+fn differs(
+    alloc: Global,
+    operation: u64,
+    calls: [u8; 6],
+    counts: [u64; 3],
+    table: &[(Cut, [u8; 5])],
+) -> Option<usize> {
+    for row in 0..table.len() {
+        let (cut, pages) = table[row];
+        if left(alloc, operation, cut) != Some((calls, counts, [0, 0, 0], pages)) {
+            return Some(row);
+        }
+    }
+    None
+}
+
+const SECOND_PROGRAM: [(Cut, [u8; 5]); 6] = [
+    (Cut::Before, *b"aEEEE"),
+    (Cut::After, *b"abEEE"),
+    (Cut::Spoilt, *b"aUEEE"),
+    (Cut::Mixed(0), *b"aEEEE"),
+    (Cut::Mixed(4), *b"abEEE"),
+    (Cut::Mixed(5), *b"aUEEE"),
+];
+
 #[test]
-fn calls_that_fail_by_the_lists(rt: HostRuntime) -> Result<(), Fail> {
-    let alloc = rt.alloc();
-    let mut buf = PageBuf::new(alloc)?;
-    let mut reads = FailList::new(alloc);
-    reads.push(2)?;
-    let mut writes = FailList::new(alloc);
-    writes.push(2)?;
-    writes.push(3)?;
-    let mut media = formed(alloc, reads, writes, None).ok_or("form")?;
-    assert_eq!(rt; put(&mut media, 0, b'a', &mut buf), WriteAnswer::Done);
-    assert_eq!(rt; put(&mut media, 1, b'b', &mut buf), WriteAnswer::Failed);
-    assert_eq!(rt; media.erase(0), WriteAnswer::Failed);
-    assert_eq!(rt; seen(&mut media, 0, &mut buf), b'a');
-    assert_eq!(rt; seen(&mut media, 0, &mut buf), b'F');
-    assert_eq!(rt; seen(&mut media, 1, &mut buf), b'E');
-    assert_eq!(rt; media.erase(0), WriteAnswer::Done);
-    assert_eq!(rt; seen(&mut media, 0, &mut buf), b'E');
+fn a_stop_within_a_program(rt: HostRuntime) {
     assert_eq!(rt;
-        (media.clock(), media.read_faults(), media.write_faults()),
-        (2, 1, 2)
+        differs(rt.alloc(), 2, *b"DFFFFF", [1, 1, 4], &SECOND_PROGRAM),
+        None
     );
-    Ok(())
+}
+
+const ERASE: [(Cut, [u8; 5]); 6] = [
+    (Cut::Before, *b"abEEc"),
+    (Cut::After, *b"EEEEc"),
+    (Cut::Spoilt, *b"UUUUc"),
+    (Cut::Mixed(7), *b"EUEEc"),
+    (Cut::Mixed(11), *b"UbEEc"),
+    (Cut::Mixed(1235346792567894), *b"abEUc"),
+];
+
+#[test]
+fn a_stop_within_an_erase(rt: HostRuntime) {
+    assert_eq!(rt; differs(rt.alloc(), 4, *b"DDDFFF", [3, 1, 2], &ERASE), None);
+}
+
+/// Two programs, an erase, three reads, an erase and a read.
+fn failing_calls(media: &mut MemNand, buf: &mut PageBuf) -> [u8; 8]
+    requires geometry { geometry_of media.old ≡ record { blocks = 32; pages = 32 } }
+    requires erased { ErasedWithin (contents_of media.old) 0 1024 }
+{
+    let [first, second] = put_two(media, buf);
+    let erased = erase(media);
+    let one = seen(media, 0, buf);
+    let two = seen(media, 0, buf);
+    let three = seen(media, 1, buf);
+    let again = erase(media);
+    [
+        first,
+        second,
+        erased,
+        one,
+        two,
+        three,
+        again,
+        seen(media, 0, buf),
+    ]
+}
+
+/// The calls of these numbers fail.
+fn failing(alloc: Global, first: u64, more: u64) -> Option<FailList>
+    requires { 0 < first }
+{
+    let mut list = FailList::new(alloc);
+    list.push(first).ok()?;
+    if first < more {
+        list.push(more).ok()?;
+    }
+    Some(list)
+}
+
+/// What the calls answer where the second read fails, and the second and third operation, and the counts.
+fn failed(alloc: Global) -> Option<([u8; 8], [u64; 3])> {
+    let mut buf = PageBuf::new(alloc).ok()?;
+    let mut media = formed(alloc, failing(alloc, 2, 0)?, failing(alloc, 2, 3)?, None)?;
+    let calls = failing_calls(&mut media, &mut buf);
+    Some((calls, counts(&media)))
+}
+
+#[test]
+fn calls_that_fail_by_the_lists(rt: HostRuntime) {
+    assert_eq!(rt; failed(rt.alloc()), Some((*b"DFFaFEDE", [2, 1, 2])));
 }

@@ -1,4 +1,4 @@
-ghost use Rattle.std.specs.Prelude.{◌≡◌, ◌<◌, ◌≤◌, ℕ, IfOk, IfSome, length};
+ghost use Rattle.std.specs.Prelude.{◌≡◌, ◌<◌, ◌≤◌, ℕ, length};
 ghost use Rattle.nl_meta.specs.Pages.{no_pages, page_of};
 ghost use Rattle.nl_dir.specs.Directory.{IsDirectory};
 
@@ -90,25 +90,9 @@ fn add_first(rec: &mut InodeRec, meta: &mut Meta, count: u32) -> bool
     true
 }
 
-// A directory with the first entries, so many, and its pages.
-fn filled(alloc: Global, count: u32) -> Result<Option<(InodeRec, Meta)>, Memory>
-    requires { count ≤ 1024 }
-    ensures { IfOk result (λ o. IfSome o (λ d. IsDirectory (page_of d.1) d.0)) }
-{
-    let mut meta = Meta::new(alloc, SHAPE)?;
-    let mut rec = empty();
-    if add_first(&mut rec, &mut meta, count) {
-        Ok(Some((rec, meta)))
-    } else {
-        Ok(None)
-    }
-}
-
 // Sixteen main bytes of a resident page.
-fn bytes_at(meta: &Meta, vaddr: u32, at: usize) -> Option<[u8; 16]>
-    requires { at < 4080 }
-{
-    if !meta.resident(vaddr) {
+fn bytes_at(meta: &Meta, vaddr: u32, at: usize) -> Option<[u8; 16]> {
+    if at >= 4080 || !meta.resident(vaddr) {
         return None;
     }
     let mut out = [0; 16];
@@ -116,60 +100,83 @@ fn bytes_at(meta: &Meta, vaddr: u32, at: usize) -> Option<[u8; 16]>
     Some(out)
 }
 
-// Bytes of a directory with so many entries.
-fn inserted(alloc: Global, count: u32, vaddr: u32, at: usize) -> Result<Option<[u8; 16]>, Memory>
-    requires few { count ≤ 1024 }
-    requires at { at < 4080 }
-{
-    let Some((rec, meta)) = filled(alloc, count)? else {
-        return Ok(None);
-    };
-    Ok(bytes_at(&meta, vaddr, at))
+/// What is asked of a directory.
+#[derive(Clone, Copy)]
+enum Call {
+    /// Bytes of a page.
+    Bytes(u32, usize),
+    /// An entry is removed, and then bytes are seen.
+    Remove(u32, u32, usize),
+    Find(&'static [u8]),
+    At(u32),
 }
 
-// What a directory with so many entries gives up where one is removed, how many are left, and bytes of it.
-fn removed(
-    alloc: Global,
-    count: u32,
-    gone: u32,
-    vaddr: u32,
-    at: usize,
-) -> Result<Option<(Option<u32>, u64, Option<[u8; 16]>)>, Memory>
-    requires few { count ≤ 1024 }
-    requires at { at < 4080 }
+#[derive(Clone, Copy, PartialEq)]
+enum Answer {
+    Bytes(Option<[u8; 16]>),
+    /// The address that is given up, how many entries are left, and the bytes.
+    Removed(Option<u32>, u64, Option<[u8; 16]>),
+    /// The node of an entry.
+    Node(u32),
+    None,
+}
+
+fn removed(rec: &mut InodeRec, meta: &mut Meta, gone: u32) -> Option<Option<u32>>
+    requires { IsDirectory (page_of meta.old) rec.old }
 {
-    let Some((mut rec, mut meta)) = filled(alloc, count)? else {
-        return Ok(None);
-    };
     let name = digits(gone);
-    if meta.dirty() > 61 || find(&rec, &meta, &name).is_none() {
-        return Ok(None);
+    if meta.dirty() > 61 || find(rec, meta, &name).is_none() {
+        return None;
     }
-    let given = remove(&mut rec, &mut meta, &name);
-    Ok(Some((given, rec.size, bytes_at(&meta, vaddr, at))))
+    Some(remove(rec, meta, &name))
 }
 
-// The node of a name in a directory with so many entries.
-fn found(alloc: Global, count: u32, name: &[u8]) -> Result<Option<u32>, Memory>
-    requires { count ≤ 1024 }
+fn run(rec: &mut InodeRec, meta: &mut Meta, call: Call) -> Answer
+    requires { IsDirectory (page_of meta.old) rec.old }
 {
-    let Some((rec, meta)) = filled(alloc, count)? else {
-        return Ok(None);
-    };
-    Ok(find(&rec, &meta, name).map(|entry| entry.ino))
+    match call {
+        Call::Bytes(vaddr, at) => Answer::Bytes(bytes_at(meta, vaddr, at)),
+        Call::Remove(gone, vaddr, at) => match removed(rec, meta, gone) {
+            Some(given) => Answer::Removed(given, rec.size, bytes_at(meta, vaddr, at)),
+            None => Answer::None,
+        },
+        Call::Find(name) => match find(rec, meta, name) {
+            Some(entry) => Answer::Node(entry.ino),
+            None => Answer::None,
+        },
+        Call::At(place) => {
+            if u64::from(place) >= rec.size {
+                return Answer::None;
+            }
+            Answer::Node(entry_at(rec, meta, place).ino)
+        }
+    }
 }
 
-// The node of the entry at a place of a directory with so many entries.
-fn at_place(alloc: Global, count: u32, place: u32) -> Result<Option<u32>, Memory>
+// What a directory with the first entries, so many, answers.
+fn answered(alloc: Global, count: u32, call: Call) -> Result<Option<Answer>, Memory>
     requires { count ≤ 1024 }
 {
-    let Some((rec, meta)) = filled(alloc, count)? else {
-        return Ok(None);
-    };
-    if u64::from(place) >= rec.size {
+    let mut meta = Meta::new(alloc, SHAPE)?;
+    let mut rec = empty();
+    if !add_first(&mut rec, &mut meta, count) {
         return Ok(None);
     }
-    Ok(Some(entry_at(&rec, &meta, place).ino))
+    Ok(Some(run(&mut rec, &mut meta, call)))
+}
+
+/// How many entries there are, what is asked, and the answer.
+type Row = (u32, Call, Answer);
+
+// The first row that is answered otherwise.
+fn differs(alloc: Global, rows: &[Row]) -> Result<Option<usize>, Memory> {
+    for row in 0..rows.len() {
+        let (count, call, want) = rows[row];
+        if count > 1024 || answered(alloc, count, call)? != Some(want) {
+            return Ok(Some(row));
+        }
+    }
+    Ok(None)
 }
 
 const ZEROS: [u8; 16] = [0; 16];
@@ -193,62 +200,82 @@ const ENTRY_960: [u8; 16] = [
 const ENTRY_1023: [u8; 16] = [0, 4, 0, 0, 7, 0, 0, 0, 4, 0x31, 0x30, 0x32, 0x33, 0, 0, 0];
 
 // 64 entries of 64 bytes to a page, one behind the other, with zeros behind them.
+const INSERTED: [Row; 7] = [
+    (1, Call::Bytes(71, 0), Answer::Bytes(Some(ENTRY_0))),
+    (1, Call::Bytes(71, 64), Answer::Bytes(Some(ZEROS))),
+    (64, Call::Bytes(71, 4032), Answer::Bytes(Some(ENTRY_63))),
+    (64, Call::Bytes(72, 0), Answer::Bytes(None)),
+    (65, Call::Bytes(72, 0), Answer::Bytes(Some(ENTRY_64))),
+    (65, Call::Bytes(72, 64), Answer::Bytes(Some(ZEROS))),
+    (1024, Call::Bytes(86, 4032), Answer::Bytes(Some(ENTRY_1023))),
+];
+
 #[test]
 fn entries_stand_in_pages(rt: HostRuntime) -> Result<(), Fail> {
-    assert_eq!(rt; inserted(rt.alloc(), 1, 71, 0)?, Some(ENTRY_0));
-    assert_eq!(rt; inserted(rt.alloc(), 1, 71, 64)?, Some(ZEROS));
-    assert_eq!(rt; inserted(rt.alloc(), 64, 71, 4032)?, Some(ENTRY_63));
-    assert_eq!(rt; inserted(rt.alloc(), 64, 72, 0)?, None);
-    assert_eq!(rt; inserted(rt.alloc(), 65, 72, 0)?, Some(ENTRY_64));
-    assert_eq!(rt; inserted(rt.alloc(), 65, 72, 64)?, Some(ZEROS));
-    assert_eq!(rt; inserted(rt.alloc(), 1024, 86, 4032)?, Some(ENTRY_1023));
+    assert_eq!(rt; differs(rt.alloc(), &INSERTED)?, None);
     Ok(())
 }
 
 // The last entry takes the place of the one that is removed, and a page that lost its only entry is given up.
+const REMOVED: [Row; 8] = [
+    (
+        1,
+        Call::Remove(0, 72, 0),
+        Answer::Removed(Some(71), 0, None),
+    ),
+    (
+        64,
+        Call::Remove(63, 71, 4032),
+        Answer::Removed(None, 63, Some(ZEROS)),
+    ),
+    (
+        64,
+        Call::Remove(0, 71, 0),
+        Answer::Removed(None, 63, Some(ENTRY_63)),
+    ),
+    (
+        65,
+        Call::Remove(64, 71, 4032),
+        Answer::Removed(Some(72), 64, Some(ENTRY_63)),
+    ),
+    (
+        65,
+        Call::Remove(0, 71, 0),
+        Answer::Removed(Some(72), 64, Some(ENTRY_64)),
+    ),
+    (
+        961,
+        Call::Remove(0, 71, 0),
+        Answer::Removed(Some(86), 960, Some(ENTRY_960)),
+    ),
+    (
+        1024,
+        Call::Remove(63, 71, 4032),
+        Answer::Removed(None, 1023, Some(ENTRY_1023)),
+    ),
+    (
+        1024,
+        Call::Remove(63, 86, 4032),
+        Answer::Removed(None, 1023, Some(ZEROS)),
+    ),
+];
+
 #[test]
 fn the_last_entry_moves(rt: HostRuntime) -> Result<(), Fail> {
-    assert_eq!(rt;
-        removed(rt.alloc(), 1, 0, 72, 0)?,
-        Some((Some(71), 0, None))
-    );
-    assert_eq!(rt;
-        removed(rt.alloc(), 64, 63, 71, 4032)?,
-        Some((None, 63, Some(ZEROS)))
-    );
-    assert_eq!(rt;
-        removed(rt.alloc(), 64, 0, 71, 0)?,
-        Some((None, 63, Some(ENTRY_63)))
-    );
-    assert_eq!(rt;
-        removed(rt.alloc(), 65, 64, 71, 4032)?,
-        Some((Some(72), 64, Some(ENTRY_63)))
-    );
-    assert_eq!(rt;
-        removed(rt.alloc(), 65, 0, 71, 0)?,
-        Some((Some(72), 64, Some(ENTRY_64)))
-    );
-    assert_eq!(rt;
-        removed(rt.alloc(), 961, 0, 71, 0)?,
-        Some((Some(86), 960, Some(ENTRY_960)))
-    );
-    assert_eq!(rt;
-        removed(rt.alloc(), 1024, 63, 71, 4032)?,
-        Some((None, 1023, Some(ENTRY_1023)))
-    );
-    assert_eq!(rt;
-        removed(rt.alloc(), 1024, 63, 86, 4032)?,
-        Some((None, 1023, Some(ZEROS)))
-    );
+    assert_eq!(rt; differs(rt.alloc(), &REMOVED)?, None);
     Ok(())
 }
 
+const FOUND: [Row; 5] = [
+    (65, Call::Find(b"0064"), Answer::Node(65)),
+    (65, Call::Find(b"0065"), Answer::None),
+    (65, Call::Find(b"006"), Answer::None),
+    (65, Call::Find(b"00640"), Answer::None),
+    (65, Call::At(64), Answer::Node(65)),
+];
+
 #[test]
 fn names_are_found(rt: HostRuntime) -> Result<(), Fail> {
-    assert_eq!(rt; found(rt.alloc(), 65, b"0064")?, Some(65));
-    assert_eq!(rt; found(rt.alloc(), 65, b"0065")?, None);
-    assert_eq!(rt; found(rt.alloc(), 65, b"006")?, None);
-    assert_eq!(rt; found(rt.alloc(), 65, b"00640")?, None);
-    assert_eq!(rt; at_place(rt.alloc(), 65, 64)?, Some(65));
+    assert_eq!(rt; differs(rt.alloc(), &FOUND)?, None);
     Ok(())
 }

@@ -1,14 +1,38 @@
 use nl_field::{Pointer, Tag};
 use nl_flight::Flight;
-use std::test::Fail;
+
+#[derive(Clone, Copy)]
+enum Step {
+    Begin(u8, u32),
+    /// Puts the page of a number behind those of the worker.
+    Put(u8, u32),
+    /// Puts sixteen pages: those of the numbers from 0 on for worker 0, and those from 16 on for worker 1.
+    PutAll,
+    Goal(u8, u64),
+    Fault(u8, u64),
+    Rename(u64, u32),
+    Clear(u8),
+    Line(u8),
+    /// Whether the worker has at a place the page of that number, under this name.
+    Get(u8, u32, u32, u32),
+}
+
+#[derive(Clone, Copy, PartialEq)]
+enum Answer {
+    Yes,
+    No,
+    /// The line, its fault and its goal.
+    Line(u32, u64, Option<u64>),
+    Nothing,
+}
 
 // A page of the file 3: its index, its place with write sequence number, its owner.
-fn page(number: u32) -> (u32, Pointer, Tag) {
+fn page(number: u32, name: u32) -> (u32, Pointer, Tag) {
     (
         number,
         Pointer {
-            name: 500 + number % 100,
-            stamp: number as u64 + 1,
+            name,
+            stamp: u64::from(number) + 1,
         },
         Tag {
             ino: 3,
@@ -31,7 +55,7 @@ fn begin(flight: &mut Flight, worker: u8, line: u32) -> bool {
 fn put(flight: &mut Flight, worker: u8, number: u32) -> bool {
     let is_met = worker < 8 && flight.line(worker) > 0 && flight.get(worker, 15).is_none();
     if is_met {
-        let (index, at, tag) = page(number);
+        let (index, at, tag) = page(number, 500 + number % 100);
         flight.put(worker, index, at, tag);
     }
     is_met
@@ -45,70 +69,127 @@ fn set_goal(flight: &mut Flight, worker: u8, goal: u64) -> bool {
     is_met
 }
 
-// Worker 2 has pages of a line, worker 7 a line without pages.
-#[test]
-fn lines_are_in_flight(rt: HostRuntime) -> Result<(), Fail> {
-    let alloc = rt.alloc();
-    let mut flight = Flight::new(alloc)?;
-    assert_eq!(rt;
-        (flight.line(2), flight.fault(2), flight.goal(2)),
-        (0, 0, None)
-    );
-    assert_eq!(rt; flight.get(2, 0), None);
-    assert!(rt; !put(&mut flight, 2, 0) && !set_goal(&mut flight, 2, 9));
-    assert!(rt; begin(&mut flight, 2, 11) && begin(&mut flight, 7, 12));
-    assert!(rt; !begin(&mut flight, 2, 13));
-    for number in 0..3 {
-        assert!(rt; put(&mut flight, 2, number));
+// Whether all were put.
+fn put_all(flight: &mut Flight) -> bool {
+    for number in 0..16 {
+        if !put(flight, 0, number) || !put(flight, 1, number + 16) {
+            return false;
+        }
     }
-    flight.set_fault(2, 5);
-    assert!(rt; set_goal(&mut flight, 7, 9));
-    assert_eq!(rt;
-        (flight.line(2), flight.fault(2), flight.goal(2)),
-        (11, 5, None)
-    );
-    assert_eq!(rt;
-        (flight.line(7), flight.fault(7), flight.goal(7)),
-        (12, 0, Some(9))
-    );
-    assert_eq!(rt; flight.get(2, 2), Some(page(2)));
-    assert_eq!(rt; flight.get(2, 3), None);
-    assert_eq!(rt; flight.get(7, 0), None);
-    // The page of number 2 is that of write sequence number 3.
-    assert!(rt; flight.rename(3, 77));
-    assert!(rt; !flight.rename(4, 78));
-    let rows: [(u32, u32); 3] = [(0, 500), (1, 501), (2, 77)];
-    for (place, name) in rows {
-        let (index, at, tag) = page(place);
-        let stamp = at.stamp;
-        assert_eq!(rt;
-            flight.get(2, place),
-            Some((index, Pointer { name, stamp }, tag))
-        );
-    }
-    flight.clear(2);
-    assert_eq!(rt;
-        (flight.line(2), flight.fault(2), flight.goal(2)),
-        (0, 0, None)
-    );
-    assert_eq!(rt; flight.get(2, 0), None);
-    assert_eq!(rt; flight.line(7), 12);
-    assert!(rt; !flight.rename(3, 79));
-    Ok(())
+    true
 }
 
-#[test]
-fn pages_fill_their_places(rt: HostRuntime) -> Result<(), Fail> {
-    let alloc = rt.alloc();
-    let mut flight = Flight::new(alloc)?;
-    assert!(rt; begin(&mut flight, 0, 1) && begin(&mut flight, 1, 2));
-    for number in 0..16 {
-        assert!(rt; put(&mut flight, 0, number) && put(&mut flight, 1, number + 16));
+fn line(flight: &Flight, worker: u8) -> Answer {
+    if worker >= 8 {
+        return Answer::Nothing;
     }
-    assert!(rt; !put(&mut flight, 0, 32));
-    assert_eq!(rt; flight.get(0, 15), Some(page(15)));
-    assert_eq!(rt; flight.get(1, 0), Some(page(16)));
-    assert_eq!(rt; flight.get(1, 15), Some(page(31)));
-    assert_eq!(rt; flight.get(1, 16), None);
-    Ok(())
+    Answer::Line(
+        flight.line(worker),
+        flight.fault(worker),
+        flight.goal(worker),
+    )
+}
+
+fn yes(answer: bool) -> Answer {
+    if answer { Answer::Yes } else { Answer::No }
+}
+
+fn get(flight: &Flight, worker: u8, place: u32, number: u32, name: u32) -> Answer {
+    if worker >= 8 {
+        return Answer::Nothing;
+    }
+    match flight.get(worker, place) {
+        Some(found) => yes(found == page(number, name)),
+        None => Answer::Nothing,
+    }
+}
+
+fn change(flight: &mut Flight, worker: u8, step: Step) -> Answer {
+    if worker >= 8 {
+        return Answer::Nothing;
+    }
+    match step {
+        Step::Fault(_, sum) => flight.set_fault(worker, sum),
+        _ => flight.clear(worker),
+    }
+    Answer::Yes
+}
+
+fn run(flight: &mut Flight, step: Step) -> Answer {
+    match step {
+        Step::Begin(worker, line) => yes(begin(flight, worker, line)),
+        Step::Put(worker, number) => yes(put(flight, worker, number)),
+        Step::PutAll => yes(put_all(flight)),
+        Step::Goal(worker, goal) => yes(set_goal(flight, worker, goal)),
+        Step::Fault(worker, _) | Step::Clear(worker) => change(flight, worker, step),
+        Step::Rename(stamp, to) => yes(flight.rename(stamp, to)),
+        Step::Line(worker) => line(flight, worker),
+        Step::Get(worker, place, number, name) => get(flight, worker, place, number, name),
+    }
+}
+
+// The first row that is answered otherwise.
+fn differs(flight: &mut Flight, rows: &[(Step, Answer)]) -> Option<usize> {
+    for row in 0..rows.len() {
+        let (step, want) = rows[row];
+        if run(flight, step) != want {
+            return Some(row);
+        }
+    }
+    None
+}
+
+// Worker 2 has pages of a line, worker 7 a line without pages.
+const LINES: [(Step, Answer); 27] = [
+    (Step::Line(2), Answer::Line(0, 0, None)),
+    (Step::Get(2, 0, 0, 500), Answer::Nothing),
+    (Step::Put(2, 0), Answer::No),
+    (Step::Goal(2, 9), Answer::No),
+    (Step::Begin(2, 11), Answer::Yes),
+    (Step::Begin(7, 12), Answer::Yes),
+    (Step::Begin(2, 13), Answer::No),
+    (Step::Put(2, 0), Answer::Yes),
+    (Step::Put(2, 1), Answer::Yes),
+    (Step::Put(2, 2), Answer::Yes),
+    (Step::Fault(2, 5), Answer::Yes),
+    (Step::Goal(7, 9), Answer::Yes),
+    (Step::Line(2), Answer::Line(11, 5, None)),
+    (Step::Line(7), Answer::Line(12, 0, Some(9))),
+    (Step::Get(2, 2, 2, 502), Answer::Yes),
+    (Step::Get(2, 3, 3, 503), Answer::Nothing),
+    (Step::Get(7, 0, 0, 500), Answer::Nothing),
+    // The page of number 2 is that of write sequence number 3.
+    (Step::Rename(3, 77), Answer::Yes),
+    (Step::Rename(4, 78), Answer::No),
+    (Step::Get(2, 0, 0, 500), Answer::Yes),
+    (Step::Get(2, 1, 1, 501), Answer::Yes),
+    (Step::Get(2, 2, 2, 77), Answer::Yes),
+    (Step::Clear(2), Answer::Yes),
+    (Step::Line(2), Answer::Line(0, 0, None)),
+    (Step::Get(2, 0, 0, 500), Answer::Nothing),
+    (Step::Line(7), Answer::Line(12, 0, Some(9))),
+    (Step::Rename(3, 79), Answer::No),
+];
+
+#[test]
+fn lines_are_in_flight(rt: HostRuntime) {
+    let mut flight = Flight::new(rt.alloc()).expect(&rt, "there is memory");
+    assert_eq!(rt; differs(&mut flight, &LINES), None);
+}
+
+const FULL: [(Step, Answer); 8] = [
+    (Step::Begin(0, 1), Answer::Yes),
+    (Step::Begin(1, 2), Answer::Yes),
+    (Step::PutAll, Answer::Yes),
+    (Step::Put(0, 32), Answer::No),
+    (Step::Get(0, 15, 15, 515), Answer::Yes),
+    (Step::Get(1, 0, 16, 516), Answer::Yes),
+    (Step::Get(1, 15, 31, 531), Answer::Yes),
+    (Step::Get(1, 16, 32, 532), Answer::Nothing),
+];
+
+#[test]
+fn pages_fill_their_places(rt: HostRuntime) {
+    let mut flight = Flight::new(rt.alloc()).expect(&rt, "there is memory");
+    assert_eq!(rt; differs(&mut flight, &FULL), None);
 }

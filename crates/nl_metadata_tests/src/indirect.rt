@@ -106,7 +106,7 @@ fn blank(alloc: Global, range: u32) -> Result<Meta, Memory>
 }
 
 /// What a pointer leaves that is stored at an index of an empty file, and taken away again.
-#[derive(Clone, Copy, Debug, PartialEq)]
+#[derive(Clone, Copy, PartialEq)]
 struct Left {
     stored: Option<Stored>,
     stamp: Option<u64>,
@@ -142,43 +142,53 @@ fn stored_and_taken(alloc: Global, range: u32, index: u32, at: usize) -> Result<
     })
 }
 
+const IN_NODE: Left = Left {
+    stored: Some(Stored::Done),
+    stamp: Some(5),
+    address: 0,
+    byte: None,
+    taken: Some(Stored::Done),
+    stamp_then: None,
+    address_then: 0,
+};
+
+const IN_PAGE: Left = Left {
+    stored: Some(Stored::Done),
+    stamp: Some(5),
+    address: 71,
+    byte: Some(5),
+    taken: Some(Stored::Emptied(71)),
+    stamp_then: None,
+    address_then: 0,
+};
+
 // The first and the last index of the node, of the first range, and of all: range, index, and the byte of the page where the
 // sequence number begins.
-#[test]
-fn pointers_at_borders(rt: HostRuntime) -> Result<(), Fail> {
-    let in_node = Left {
-        stored: Some(Stored::Done),
-        stamp: Some(5),
-        address: 0,
-        byte: None,
-        taken: Some(Stored::Done),
-        stamp_then: None,
-        address_then: 0,
-    };
-    let in_page = Left {
-        stored: Some(Stored::Done),
-        stamp: Some(5),
-        address: 71,
-        byte: Some(5),
-        taken: Some(Stored::Emptied(71)),
-        stamp_then: None,
-        address_then: 0,
-    };
-    let rows = [
-        (0, 0, 0, in_node),
-        (0, 7, 0, in_node),
-        (0, 8, 8, in_page),
-        (0, 9, 24, in_page),
-        (0, 263, 4088, in_page),
-        (1, 264, 8, in_page),
-        (1, 519, 4088, in_page),
-        (15, 4103, 4088, in_page),
-    ];
-    for (range, index, at, expected) in rows {
-        if index < 4104 {
-            assert_eq!(rt; stored_and_taken(rt.alloc(), range, index, at)?, expected);
+const BORDERS: [(u32, u32, usize); 8] = [
+    (0, 0, 0),
+    (0, 7, 0),
+    (0, 8, 8),
+    (0, 9, 24),
+    (0, 263, 4088),
+    (1, 264, 8),
+    (1, 519, 4088),
+    (15, 4103, 4088),
+];
+
+fn borders_differ(alloc: Global) -> Result<Option<usize>, Memory> {
+    for row in 0..8usize {
+        let (range, index, at) = BORDERS[row];
+        let want = if index < 8 { IN_NODE } else { IN_PAGE };
+        if index >= 4104 || stored_and_taken(alloc, range, index, at)? != want {
+            return Ok(Some(row));
         }
     }
+    Ok(None)
+}
+
+#[test]
+fn pointers_at_borders(rt: HostRuntime) -> Result<(), Fail> {
+    assert_eq!(rt; borders_differ(rt.alloc())?, None);
     Ok(())
 }
 
@@ -201,28 +211,49 @@ fn step(
     (stored, stamps)
 }
 
+const DONE: Option<Stored> = Some(Stored::Done);
+
+const EMPTIED: Option<Stored> = Some(Stored::Emptied(71));
+
+/// An index and the write sequence number that is stored there, the answer, and what the three indexes have then.
+type Row = ((u32, u64), (Option<Stored>, [Option<u64>; 3]));
+
+const OF_A_RANGE: [Row; 10] = [
+    ((8, 5), (DONE, [None, Some(5), None])),
+    ((263, 6), (DONE, [None, Some(5), Some(6)])),
+    ((7, 4), (DONE, [Some(4), Some(5), Some(6)])),
+    ((8, 9), (DONE, [Some(4), Some(9), Some(6)])),
+    ((8, 0), (DONE, [Some(4), None, Some(6)])),
+    ((8, 0), (DONE, [Some(4), None, Some(6)])),
+    ((263, 0), (EMPTIED, [Some(4), None, None])),
+    ((263, 0), (DONE, [Some(4), None, None])),
+    ((8, 7), (DONE, [Some(4), Some(7), None])),
+    ((7, 0), (DONE, [None, Some(7), None])),
+];
+
+// The first row that is answered otherwise.
+fn differs(rec: &mut InodeRec, meta: &mut Meta, rows: &[Row]) -> Option<usize>
+    requires { IsTested 0 rec.old meta.old }
+{
+    for row in 0..rows.len() {
+        let ((index, stamp), want) = rows[row];
+        if step(rec, meta, index, stamp) != want {
+            return Some(row);
+        }
+    }
+    None
+}
+
+fn range_differs(alloc: Global) -> Result<Option<usize>, Memory> {
+    let mut meta = blank(alloc, 0)?;
+    let mut rec = EMPTY;
+    Ok(differs(&mut rec, &mut meta, &OF_A_RANGE))
+}
+
 // A page is given back with its last pointer alone, and a new one has no pointer of the last.
 #[test]
 fn pointers_of_a_range(rt: HostRuntime) -> Result<(), Fail> {
-    let mut meta = blank(rt.alloc(), 0)?;
-    let mut rec = EMPTY;
-    let done = Some(Stored::Done);
-    let emptied = Some(Stored::Emptied(71));
-    let rows = [
-        ((8, 5), (done, [None, Some(5), None])),
-        ((263, 6), (done, [None, Some(5), Some(6)])),
-        ((7, 4), (done, [Some(4), Some(5), Some(6)])),
-        ((8, 9), (done, [Some(4), Some(9), Some(6)])),
-        ((8, 0), (done, [Some(4), None, Some(6)])),
-        ((8, 0), (done, [Some(4), None, Some(6)])),
-        ((263, 0), (emptied, [Some(4), None, None])),
-        ((263, 0), (done, [Some(4), None, None])),
-        ((8, 7), (done, [Some(4), Some(7), None])),
-        ((7, 0), (done, [None, Some(7), None])),
-    ];
-    for ((index, stamp), expected) in rows {
-        assert_eq!(rt; step(&mut rec, &mut meta, index, stamp), expected);
-    }
+    assert_eq!(rt; range_differs(rt.alloc())?, None);
     Ok(())
 }
 
@@ -256,21 +287,30 @@ fn cut_from(
     ))
 }
 
+const CUTS: [(u64, u32, (u64, u32, Option<u8>, Option<u8>)); 8] = [
+    (5, 264, (4, 71, Some(5), Some(6))),
+    (5, 263, (4, 71, Some(5), Some(0))),
+    (5, 9, (4, 71, Some(5), Some(0))),
+    (5, 8, (4, 0, Some(5), Some(6))),
+    (5, 7, (0, 0, Some(5), Some(6))),
+    (5, 0, (0, 0, Some(5), Some(6))),
+    (0, 264, (4, 71, Some(0), Some(6))),
+    (0, 263, (4, 0, Some(0), Some(6))),
+];
+
+fn cuts_differ(alloc: Global) -> Result<Option<usize>, Memory> {
+    for row in 0..8usize {
+        let (first, from, want) = CUTS[row];
+        if cut_from(alloc, first, from)? != want {
+            return Ok(Some(row));
+        }
+    }
+    Ok(None)
+}
+
 // A page is cut where a pointer before the index stays, and else it is the file's no longer.
 #[test]
 fn pointers_from_an_index_on(rt: HostRuntime) -> Result<(), Fail> {
-    let rows = [
-        (5, 264, (4, 71, Some(5), Some(6))),
-        (5, 263, (4, 71, Some(5), Some(0))),
-        (5, 9, (4, 71, Some(5), Some(0))),
-        (5, 8, (4, 0, Some(5), Some(6))),
-        (5, 7, (0, 0, Some(5), Some(6))),
-        (5, 0, (0, 0, Some(5), Some(6))),
-        (0, 264, (4, 71, Some(0), Some(6))),
-        (0, 263, (4, 0, Some(0), Some(6))),
-    ];
-    for (first, from, expected) in rows {
-        assert_eq!(rt; cut_from(rt.alloc(), first, from)?, expected);
-    }
+    assert_eq!(rt; cuts_differ(rt.alloc())?, None);
     Ok(())
 }

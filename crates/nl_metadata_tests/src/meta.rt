@@ -1,8 +1,9 @@
 ghost use Rattle.std.specs.Prelude.{◌≡◌, ◌<◌, [], IsTrue, length};
 ghost use Rattle.nl_field.specs.Members.{Has};
 
-use nl_field::Shape;
+use nl_field::{Memory, Shape};
 use nl_meta::Meta;
+use std::alloc::Global;
 use std::test::Fail;
 
 /// The numbers of a volume of 32 blocks of 32 pages, which has 103 addresses.
@@ -18,7 +19,7 @@ const SHAPE: Shape = Shape {
     cap: 480,
 };
 
-#[derive(Clone, Copy, Debug)]
+#[derive(Clone, Copy)]
 enum Step {
     /// Fresh pages from one address on, up to another.
     Fresh(u32, u32),
@@ -33,7 +34,7 @@ enum Step {
     FrozenByte(u32),
 }
 
-#[derive(Clone, Copy, Debug, PartialEq)]
+#[derive(Clone, Copy, PartialEq)]
 enum Answer {
     Did,
     Full,
@@ -144,40 +145,56 @@ fn run(meta: &mut Meta, step: Step) -> Answer
     }
 }
 
+// The first row that is answered otherwise.
+fn differs(meta: &mut Meta, rows: &[(Step, Answer)]) -> Option<usize>
+    requires { length meta.old.running ≡ 103 }
+{
+    for row in 0..rows.len() {
+        let (step, want) = rows[row];
+        if run(meta, step) != want {
+            return Some(row);
+        }
+    }
+    None
+}
+
+const PAGES: [(Step, Answer); 26] = [
+    (Step::Byte(67), Answer::Nothing),
+    (Step::Fresh(67, 97), Answer::Number(30)),
+    (Step::Fresh(1, 34), Answer::Number(33)),
+    (Step::Dirty, Answer::Number(63)),
+    (Step::Fresh(97, 98), Answer::Number(0)),
+    (Step::Put(67, 5), Answer::Did),
+    (Step::Fresh(0, 1), Answer::Number(1)),
+    (Step::Dirty, Answer::Number(64)),
+    (Step::Slots, Answer::Number(64)),
+    (Step::Freeze, Answer::Did),
+    (Step::Dirty, Answer::Number(0)),
+    (Step::Freeze, Answer::Nothing),
+    (Step::Frozen(0), Answer::Number(0)),
+    (Step::Frozen(33), Answer::Number(33)),
+    (Step::Frozen(34), Answer::Number(67)),
+    (Step::Frozen(63), Answer::Number(96)),
+    (Step::Frozen(64), Answer::Nothing),
+    (Step::Put(67, 6), Answer::Did),
+    (Step::Byte(67), Answer::Number(6)),
+    (Step::FrozenByte(67), Answer::Number(5)),
+    (Step::FrozenByte(97), Answer::Nothing),
+    (Step::Dirty, Answer::Number(1)),
+    (Step::Thaw, Answer::Did),
+    (Step::FrozenByte(67), Answer::Nothing),
+    (Step::Byte(67), Answer::Number(6)),
+    (Step::Slots, Answer::Number(64)),
+];
+
+fn pages_differ(alloc: Global) -> Result<Option<usize>, Memory> {
+    let mut meta = Meta::new(alloc, SHAPE)?;
+    Ok(differs(&mut meta, &PAGES))
+}
+
 // 63 pages besides address 0 are dirty at most, and a frozen page does not follow the running one.
 #[test]
 fn pages_run_and_are_frozen(rt: HostRuntime) -> Result<(), Fail> {
-    let mut meta = Meta::new(rt.alloc(), SHAPE)?;
-    let rows = [
-        (Step::Byte(67), Answer::Nothing),
-        (Step::Fresh(67, 97), Answer::Number(30)),
-        (Step::Fresh(1, 34), Answer::Number(33)),
-        (Step::Dirty, Answer::Number(63)),
-        (Step::Fresh(97, 98), Answer::Number(0)),
-        (Step::Put(67, 5), Answer::Did),
-        (Step::Fresh(0, 1), Answer::Number(1)),
-        (Step::Dirty, Answer::Number(64)),
-        (Step::Slots, Answer::Number(64)),
-        (Step::Freeze, Answer::Did),
-        (Step::Dirty, Answer::Number(0)),
-        (Step::Freeze, Answer::Nothing),
-        (Step::Frozen(0), Answer::Number(0)),
-        (Step::Frozen(33), Answer::Number(33)),
-        (Step::Frozen(34), Answer::Number(67)),
-        (Step::Frozen(63), Answer::Number(96)),
-        (Step::Frozen(64), Answer::Nothing),
-        (Step::Put(67, 6), Answer::Did),
-        (Step::Byte(67), Answer::Number(6)),
-        (Step::FrozenByte(67), Answer::Number(5)),
-        (Step::FrozenByte(97), Answer::Nothing),
-        (Step::Dirty, Answer::Number(1)),
-        (Step::Thaw, Answer::Did),
-        (Step::FrozenByte(67), Answer::Nothing),
-        (Step::Byte(67), Answer::Number(6)),
-        (Step::Slots, Answer::Number(64)),
-    ];
-    for (step, answer) in rows {
-        assert_eq!(rt; run(&mut meta, step), answer);
-    }
+    assert_eq!(rt; pages_differ(rt.alloc())?, None);
     Ok(())
 }

@@ -3,7 +3,6 @@ use nl_gen::soak_script;
 use nl_script::script_of;
 use nl_tree::{Lines, Plain, Refusal, Reply, ReplyBuf};
 use std::alloc::Global;
-use std::test::Fail;
 
 /// What another program gives for the number 7, 16 lines and 2 workers.
 const SIXTEEN: &str = "\
@@ -43,23 +42,28 @@ const SIXTEEN: &str = "\
 1 rename /w1/f2 /w1/f3\n\
 ";
 
-#[test]
-fn two_workers_with_sixteen_lines(rt: HostRuntime) -> Result<(), Fail> {
-    let text = soak_script(rt.alloc(), 7, 16, 2)?;
-    assert!(rt; text.bytes() == SIXTEEN.as_bytes());
-    Ok(())
+fn is_text(alloc: Global, want: &str) -> Option<bool> {
+    let text = soak_script(alloc, 7, 16, 2).ok()?;
+    Some(text.bytes() == want.as_bytes())
 }
 
 #[test]
-fn eight_workers_have_a_script(rt: HostRuntime) -> Result<(), Fail> {
-    let alloc = rt.alloc();
-    let text = soak_script(alloc, 7, 200, 8)?;
-    assert_eq!(rt; text.bytes().len(), 37386);
+fn two_workers_with_sixteen_lines(rt: HostRuntime) {
+    assert_eq!(rt; is_text(rt.alloc(), SIXTEEN), Some(true));
+}
+
+// How many bytes the script of eight workers with 200 lines has, and how many lines it is read as.
+fn sizes(alloc: Global) -> Option<(usize, u32)> {
+    let text = soak_script(alloc, 7, 200, 8).ok()?;
     match script_of(alloc, text.bytes()) {
-        Ok(lines) => assert_eq!(rt; lines.len(), 1608),
-        Err(_) => return Err(Fail::new("the script is refused")),
+        Ok(lines) => Some((text.bytes().len(), lines.len())),
+        Err(_) => None,
     }
-    Ok(())
+}
+
+#[test]
+fn eight_workers_have_a_script(rt: HostRuntime) {
+    assert_eq!(rt; sizes(rt.alloc()), Some((37386, 1608)));
 }
 
 // How many calls of the lines were done, and how many were refused since the volume was full.
@@ -77,23 +81,32 @@ fn replies_of(alloc: Global, lines: &Lines, plain: &mut Plain) -> Result<(u32, u
     Ok((done, full))
 }
 
+fn drawn(alloc: Global, seed: u64, count: u32, workers: u8) -> Option<Lines> {
+    if count == 0 || count > 20000 || workers == 0 || workers > 8 {
+        return None;
+    }
+    let text = soak_script(alloc, seed, count, workers).ok()?;
+    script_of(alloc, text.bytes()).ok()
+}
+
+// Whether more than half of the lines were done, and none was refused since the volume was full.
+fn has_room(alloc: Global, seed: u64, count: u32, workers: u8) -> Option<bool> {
+    let lines = drawn(alloc, seed, count, workers)?;
+    let mut plain = Plain::new(alloc, shape_of(32, 32)?).ok()?;
+    let (done, full) = replies_of(alloc, &lines, &mut plain).ok()?;
+    Some(full == 0 && done > lines.len() / 2)
+}
+
+const SEEDS: [(u64, u32, u8); 3] = [(7, 200, 8), (1, 300, 8), (2, 40, 1)];
+
 // The least volume has room for what eight workers do.
 #[test]
-fn no_call_meets_a_full_volume(rt: HostRuntime) -> Result<(), Fail> {
-    let alloc = rt.alloc();
-    let Some(shape) = shape_of(32, 32) else {
-        return Err(Fail::new("the geometry is refused"));
-    };
-    let rows: [(u64, u32, u8); 3] = [(7, 200, 8), (1, 300, 8), (2, 40, 1)];
-    for (seed, count, workers) in rows {
-        let text = soak_script(alloc, seed, count, workers)?;
-        let Ok(lines) = script_of(alloc, text.bytes()) else {
-            return Err(Fail::new("the script is refused"));
-        };
-        let mut plain = Plain::new(alloc, shape)?;
-        let (done, full) = replies_of(alloc, &lines, &mut plain)?;
-        assert_eq!(rt; full, 0);
-        assert!(rt; done > lines.len() / 2);
+fn no_call_meets_a_full_volume(rt: HostRuntime) {
+    for (seed, count, workers) in SEEDS.iter() {
+        assert_eq!(rt;
+            has_room(rt.alloc(), *seed, *count, *workers),
+            Some(true),
+            "{seed}"
+        );
     }
-    Ok(())
 }

@@ -2,7 +2,7 @@ use Rattle.std.proofs.Common.{◌≡◌, ◌∙◌, List, Option, None, ℕ, ap,
 use Rattle.std.proofs.lemmas.List.{length-replicate}
 use Rattle.nl_meta.specs.Pages.{Pages, no_pages, page_of}
 use Rattle.nl_dir.specs.Directory.{IsDirectory}
-use Rattle.nl_metadata_tests.proofs.dir.filled.Goals as goal
+use Rattle.nl_metadata_tests.proofs.dir.answered.Goals as goal
 
 count : length (no_pages 103).running ≡ 103
 unfolding no_pages
