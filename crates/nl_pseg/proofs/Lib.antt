@@ -16,6 +16,7 @@ mod Begun
 mod Picked
 mod Chooses
 mod Left
+mod Looked
 mod Released
 mod Erasing
 mod Aimed

@@ -77,5 +77,6 @@ impl State {
         choose(&mut self.blocks, block);
         let _ = self.blocks.count();
         self.victim = Some(block);
+        self.looked = 0;
     }
 }

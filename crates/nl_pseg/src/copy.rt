@@ -24,7 +24,7 @@ use nl_field::{NamedRead, PageBuf};
 use nl_nand::{Nand, WriteAnswer};
 
 impl State {
-    /// The first live page of a block.
+    /// A live page of a block: the first one from the place on where the last one was found, or else the first one.
     pub fn first_live(&self, block: u32) -> Option<u32>
         requires formed { IsFormed self.now }
         requires has { HasBlock self.now.blocks block }
@@ -32,7 +32,22 @@ impl State {
         ensures none { IfNone result ((page : ℕ) → page / self.now.blocks.size ≡ block → held_at (seen self.now) page ≡ None) }
     {
         let pages = self.blocks.pages();
-        for at in 0..pages {
+        match self.live_among(block, self.looked, pages) {
+            Some(page) => Some(page),
+            None => self.live_among(block, 0, pages),
+        }
+    }
+
+    /// The first live page of a block from one place on up to another.
+    fn live_among(&self, block: u32, from: u32, to: u32) -> Option<u32>
+        requires formed { IsFormed self.now }
+        requires has { HasBlock self.now.blocks block }
+        requires within { to ≤ self.now.blocks.size }
+        ensures some { IfSome result (λ page. (page / self.now.blocks.size ≡ block) × IsSome (held_at (seen self.now) page)) }
+        ensures none { IfNone result ((at : ℕ) → from ≤ at → at < to → held_at (seen self.now) (block * self.now.blocks.size + at) ≡ None) }
+    {
+        let pages = self.blocks.pages();
+        for at in from..to {
             let page = block * pages + at;
             if self.held[page as usize].is_some() {
                 return Some(page);
@@ -273,6 +288,7 @@ impl State {
         let Some(held) = self.live_on(before) else {
             return Copied::Nothing;
         };
+        self.looked = before % self.blocks.pages();
         self.move_page(media, before, held, buf)
     }
 }

@@ -30,6 +30,8 @@ pub struct State {
     pub filled: u32,
     /// The block whose live pages are moved away.
     pub victim: Option<u32>,
+    /// The place in the victim where its last live page was found: the search for the next one begins there.
+    pub looked: u32,
     pub names: OldNames,
     pub buf: PageBuf,
 }
@@ -51,6 +53,7 @@ impl State {
             target: shape.vblocks,
             filled: shape.pages,
             victim: None,
+            looked: 0,
             names: OldNames::new(alloc, 4 * shape.pages, shape.pages, shape.blocks)?,
             buf: PageBuf::new(alloc)?,
         })

@@ -3,6 +3,7 @@ use Rattle.nl_blocks.specs.Table.{block_at}
 use Rattle.nl_pseg.proofs.Begun.{begins, few_begun}
 use Rattle.nl_pseg.proofs.Chosen.{chosen_tied}
 use Rattle.nl_pseg.proofs.Forms.{formed_same}
+use Rattle.nl_pseg.proofs.Looked.{tied_looked}
 use Rattle.nl_pseg.proofs.state.State.choose.Goals as goal
 
 pub returns-clause-formed : goal.returns-clause-formed
@@ -14,7 +15,7 @@ returns-clause-formed c =
     record { some = x.some; numbers = x.numbers; pages = x.pages; marks = x.marks; active_in = x.active_in; used_fits = x.used_fits; taken = x.taken; places = record { each = λ p h held. let w = x.places.each p h held in record { within = w.within; in_use = w.in_use; behind = w.behind; spelled = w.spelled } }; marked = x.marked }
 
 pub returns-clause-tied : goal.returns-clause-tied
-returns-clause-tied c = chosen_tied c.args.self.now c.requires.tied c.requires.none c.choose.new.blocks c.choose.ensures.same c.args.block c.requires.has c.requires.sealed c.choose.ensures.here c.choose.ensures.others
+returns-clause-tied c = tied_looked _ 0 (chosen_tied c.args.self.now c.requires.tied c.requires.none c.choose.new.blocks c.choose.ensures.same c.args.block c.requires.has c.requires.sealed c.choose.ensures.here c.choose.ensures.others)
 
 pub returns-clause-few : goal.returns-clause-few
 returns-clause-few c = few_begun c.args.self.now c.count.ensures.table c.requires.none c.requires.few c.requires.some c.args.block c.requires.has c.requires.sealed c.choose.new.blocks c.choose.ensures.table c.choose.ensures.same

@@ -2,6 +2,7 @@ use Rattle.std.proofs.Common.{◌≡◌, ⊎_elim, inr, Some, refl, sym, ◌∙�
 use Rattle.nl_pseg.specs.Segment.{held_at}
 use Rattle.nl_pseg.specs.Seen.{seen}
 use Rattle.nl_pseg.proofs.Left.{left_is, none_live, some_live}
+use Rattle.nl_pseg.proofs.Looked.{formed_looked, tied_looked}
 use Rattle.nl_pseg.proofs.MoveSteps.{moved_if, moved_or_not}
 use Rattle.nl_pseg.proofs.state.State.copy_one.Goals as goal
 
@@ -15,6 +16,12 @@ returns-in_default-first_live-clause-nothing g c =
     let has = (c.requires.tied.phases.victim_in block c.in-Some.is).0 in
     let all = none_live s c.requires.formed c.count.ensures.table block has c.in_default-first_live.ensures.none in
     let left = left_is s block has c.in-Some.is in (λ e. omega (arith, all, left), λ none. refl)
+
+pub move_page-requires-clause-formed : goal.move_page-requires-clause-formed
+move_page-requires-clause-formed g c = formed_looked c.args.self.now _ c.requires.formed
+
+pub move_page-requires-clause-tied : goal.move_page-requires-clause-tied
+move_page-requires-clause-tied g c = tied_looked c.args.self.now _ c.requires.tied
 
 pub move_page-requires-clause-room : goal.move_page-requires-clause-room
 move_page-requires-clause-room g c =

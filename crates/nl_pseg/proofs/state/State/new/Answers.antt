@@ -31,6 +31,7 @@ returns-clause-seen c =
       target = c.args.shape.now.vblocks;
       filled = c.args.shape.now.pages;
       victim = None;
+      looked = 0;
       names = c.in_ok-new-2.field-0;
       buf = c.in_ok-new-3.field-0;
     } in

@@ -15,7 +15,7 @@ use Rattle.nl_pseg.proofs.Images.{erase_keeps, erase_others, keeps_nothing}
 use Rattle.nl_pseg.proofs.Numbers.{block_of, in_block}
 use Rattle.nl_pseg.proofs.Openings.{free_use, last_block}
 use Rattle.nl_pseg.proofs.Readied.{again_segment, aimed_segment, free_dead, taken_formed}
-use Rattle.nl_pseg.proofs.Tables.{free_kept, has_same, restated_again, restated_same, use_here}
+use Rattle.nl_pseg.proofs.Tables.{free_kept, has_same, restated_again, restated_same}
 use Rattle.nl_pseg.proofs.Taken.{free_again, free_other}
 use Rattle.nl_pseg.proofs.Tied.{free_apart, free_own}
 use Rattle.nl_blocks.specs.declared.states.BlockState.TheVariants.{Active}

@@ -1,7 +1,0 @@
-use Rattle.std.proofs.Common.{◌≡◌, ℕ, ◌+◌, ◌*◌, ◌<◌, None}
-use Rattle.nl_pseg.specs.Segment.{held_at}
-use Rattle.nl_pseg.specs.Seen.{seen}
-use Rattle.nl_pseg.proofs.state.State.first_live.Given as goal
-
-abbrev pub invariant-loop-at : goal.invariant-loop-at
-invariant-loop-at l = (k : ℕ) → k < l.at → held_at (seen l.self) (l.block * l.self.blocks.size + k) ≡ None
