@@ -10,8 +10,6 @@ mod page_record;
 pub mod rows;
 mod target;
 #[cfg(test)]
-mod tests;
-#[cfg(test)]
 mod write_order;
 
 pub use file_nand::{Attach, FileNand};
