@@ -2,4 +2,3 @@ pub mod Blank
 pub mod Landing
 pub mod Reopened
 pub mod Retaining
-pub mod Rigs

@@ -4,7 +4,6 @@ ghost use Rattle.nl_device_tests.specs.Rigs.{HasAddressed};
 ghost use Rattle.nl_nand.specs.Memory.{contents_of, geometry_of};
 ghost use Rattle.nl_nand.specs.Nand.{IsBlank};
 
-use crate::medium::{blank, failing};
 use nl_device::{Copying, Device, Started};
 use nl_field::{
     FailList, Named, NamedRead, PageBuf, Pointer, PointerList, Tag, VirtualRead, VirtualWrite,
@@ -12,6 +11,7 @@ use nl_field::{
 use nl_iface::{Counts, NamedPages, VirtualPages};
 use nl_nand::{MemNand, Stop};
 use nl_pseg::Erasure;
+use nl_segments_tests::medium::{blank, failing};
 use std::alloc::Global;
 use std::marker::Model;
 use std::test::Fail;
@@ -53,7 +53,7 @@ pub enum Step {
 }
 
 /// What it answered: a pointer, the first byte of a page, the names before and after a move with the stamp, or a number.
-#[derive(Clone, Copy, Debug, PartialEq)]
+#[derive(Clone, Copy, PartialEq)]
 pub enum Seen {
     At(u32, u64),
     Byte(u8),
@@ -361,13 +361,12 @@ impl Rig {
         }
     }
 
-    /// The first row whose call answers something else, with what it answered.
-    pub fn differs(&mut self, table: &[(Step, Seen)]) -> Option<(usize, Seen)> {
+    /// The first row whose call answers something else.
+    pub fn differs(&mut self, table: &[(Step, Seen)]) -> Option<usize> {
         for row in 0..table.len() {
             let (step, want) = table[row];
-            let seen = self.step(step);
-            if seen != want {
-                return Some((row, seen));
+            if self.step(step) != want {
+                return Some(row);
             }
         }
         None
@@ -387,7 +386,7 @@ pub fn differs(
     read: u64,
     writes: (u64, u64),
     table: &[(Step, Seen)],
-) -> Result<Option<(usize, Seen)>, Fail> {
+) -> Result<Option<usize>, Fail> {
     let reads = failing(alloc, read, 0)?;
     let writes = failing(alloc, writes.0, writes.1)?;
     let mut rig = fresh(alloc, reads, writes, None)?;

@@ -195,7 +195,7 @@ fn stopped(alloc: Global, stop: Stop) -> Result<MemNand, Fail> {
 }
 
 /// What a device answers that was opened with these names of the two pages of the victim; `next` is the name of the next page.
-fn kept(rig: &mut Rig, first: u32, second: u32, next: u32) -> Option<(usize, Seen)> {
+fn kept(rig: &mut Rig, first: u32, second: u32, next: u32) -> Option<usize> {
     rig.differs(&[
         (Step::FreeBlocks, Seen::Number(22)),
         (Step::Pairs, Seen::Number(0)),
@@ -209,7 +209,7 @@ fn kept(rig: &mut Rig, first: u32, second: u32, next: u32) -> Option<(usize, See
 
 /// The same with the old names of pages that were copied. Each of the two has a callback, in the order of the pointers, and their block
 /// waits for both names.
-fn led(rig: &mut Rig, next: u32) -> Option<(usize, Seen)> {
+fn led(rig: &mut Rig, next: u32) -> Option<usize> {
     rig.differs(&[
         (Step::FreeBlocks, Seen::Number(21)),
         (Step::Pairs, Seen::Number(2)),
@@ -238,7 +238,7 @@ fn led(rig: &mut Rig, next: u32) -> Option<(usize, Seen)> {
     ])
 }
 
-fn answers(rig: &mut Rig, left: Left, next: u32) -> Option<(usize, Seen)> {
+fn answers(rig: &mut Rig, left: Left, next: u32) -> Option<usize> {
     match left {
         Left::Written | Left::OneCopied => kept(rig, 258, 270, next),
         Left::Copied | Left::Erased | Left::Partly => kept(rig, 320, 321, next),
@@ -277,7 +277,7 @@ fn differs(
     cut: Cut,
     left: Left,
     next: u32,
-) -> Result<Option<(usize, Seen)>, Fail> {
+) -> Result<Option<usize>, Fail> {
     let media = stopped(alloc, Stop { operation, cut })?;
     let mut rig = reopened(alloc, media, opening_after(left))?;
     Ok(answers(&mut rig, left, next))

@@ -3,7 +3,7 @@ use Rattle.nl_field.specs.Numbers.{shape_for}
 use Rattle.nl_nand.specs.Memory.{contents_of}
 use Rattle.nl_nand.specs.declared.geometry.Geometry.{Geometry}
 use Rattle.nl_device_tests.proofs.Blank.{blank_spare}
-use Rattle.nl_device_tests.proofs.Rigs.{least}
+use Rattle.nl_segments_tests.proofs.Rigs.{least}
 use Rattle.nl_device_tests.proofs.device.started.Goals as goal
 
 pub returns-in-Ready : goal.returns-in-Ready

@@ -1,5 +1,5 @@
-use Rattle.nl_device_tests.proofs.Rigs.{kept_addresses}
-use Rattle.nl_device_tests.proofs.addressed.Rig.write.Goals as goal
+use Rattle.nl_segments_tests.proofs.Rigs.{kept_addresses}
+use Rattle.nl_segments_tests.proofs.addressed.Rig.write.Goals as goal
 
 pub invariant_of-self : goal.invariant_of-self
 invariant_of-self c =

@@ -22,7 +22,7 @@ enum Step {
 }
 
 /// What a call answered, with the first byte that a read found.
-#[derive(Clone, Copy, Debug, PartialEq)]
+#[derive(Clone, Copy, PartialEq)]
 enum Seen {
     Wrote,
     Byte(u8),
@@ -44,7 +44,7 @@ struct Rig {
 }
 
 impl Model for Rig {
-    ghost use Rattle.nl_device_tests.specs.Rigs.{HasAddresses};
+    ghost use Rattle.nl_segments_tests.specs.Rigs.{HasAddresses};
     ghost use Rattle.nl_nand.specs.Memory.{contents_of, geometry_of};
 
     ghost Value = { Unit {0} };
@@ -193,13 +193,12 @@ impl Rig {
         }
     }
 
-    /// The first row whose call answers something else, with what it answered.
-    fn differs(&mut self, table: &[(Step, Seen)]) -> Option<(usize, Seen)> {
+    /// The first row whose call answers something else.
+    fn differs(&mut self, table: &[(Step, Seen)]) -> Option<usize> {
         for row in 0..table.len() {
             let (step, want) = table[row];
-            let seen = self.step(step);
-            if seen != want {
-                return Some((row, seen));
+            if self.step(step) != want {
+                return Some(row);
             }
         }
         None
@@ -261,7 +260,7 @@ fn differs(
     read: u64,
     write: u64,
     table: &[(Step, Seen)],
-) -> Result<Option<(usize, Seen)>, Fail> {
+) -> Result<Option<usize>, Fail> {
     let reads = failing(alloc, read, 0)?;
     let writes = failing(alloc, write, 0)?;
     let mut rig = fresh(alloc, reads, writes, None)?;

@@ -1,6 +1,6 @@
 use Rattle.std.proofs.Common.{arith}
-use Rattle.nl_device_tests.proofs.Rigs.{new_dead}
-use Rattle.nl_device_tests.proofs.named.loaded.Goals as goal
+use Rattle.nl_segments_tests.proofs.Rigs.{new_dead}
+use Rattle.nl_segments_tests.proofs.named.loaded.Goals as goal
 
 pub load-requires-clause-dead : goal.load-requires-clause-dead
 load-requires-clause-dead c =

@@ -1,5 +1,5 @@
-use Rattle.nl_device_tests.proofs.Rigs.{new_addresses}
-use Rattle.nl_device_tests.proofs.addressed.fresh.Goals as goal
+use Rattle.nl_segments_tests.proofs.Rigs.{new_addresses}
+use Rattle.nl_segments_tests.proofs.addressed.fresh.Goals as goal
 
 pub invariant_of-result : goal.invariant_of-result
 invariant_of-result c =

@@ -1,5 +1,5 @@
-use Rattle.nl_device_tests.proofs.Rigs.{new_names}
-use Rattle.nl_device_tests.proofs.named.fresh.Goals as goal
+use Rattle.nl_segments_tests.proofs.Rigs.{new_names}
+use Rattle.nl_segments_tests.proofs.named.fresh.Goals as goal
 
 pub invariant_of-result : goal.invariant_of-result
 invariant_of-result c =

@@ -1,6 +1,6 @@
 // A segment of pages under names: what an opening tells it.
 ghost use Rattle.std.specs.Prelude.{◌≡◌, ℕ, IfOk, IsTrue, None};
-ghost use Rattle.nl_device_tests.specs.Rigs.{HasNames};
+ghost use Rattle.nl_segments_tests.specs.Rigs.{HasNames};
 ghost use Rattle.nl_nand.specs.Memory.{contents_of, geometry_of};
 ghost use Rattle.nl_pseg.specs.Segment.{held_at};
 

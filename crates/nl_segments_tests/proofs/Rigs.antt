@@ -11,7 +11,7 @@ use Rattle.nl_pseg.specs.Segment.{Physical, IsDead, IsPhysicalOf}
 use Rattle.nl_pseg.specs.declared.held.Held.{Held}
 use Rattle.nl_vseg.specs.Segment.{Segment, SameSize, KeepsSpare, IsSegmentOf}
 use Rattle.nl_vseg.specs.declared.place.Place.{Place}
-use Rattle.nl_device_tests.specs.Rigs.{HasAddresses, HasNames, IsLeast}
+use Rattle.nl_segments_tests.specs.Rigs.{HasAddresses, HasNames, IsLeast}
 
 pub least : (shape : Shape) → shape ≡ shape_for 32 32 → IsLeast shape
 unfolding shape_for

@@ -1,7 +1,7 @@
 use Rattle.std.proofs.Common.{List, Option, None, get_or, sym, ◌∙◌, ap, arith}
 use Rattle.std.proofs.lemmas.Option.{none-some}
 use Rattle.nl_pseg.specs.declared.held.Held.{Held}
-use Rattle.nl_device_tests.proofs.named.Rig.give_back.Goals as goal
+use Rattle.nl_segments_tests.proofs.named.Rig.give_back.Goals as goal
 
 pub invariant_of-self : goal.invariant_of-self
 invariant_of-self c =
