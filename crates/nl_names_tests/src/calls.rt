@@ -14,7 +14,7 @@ use nl_running::node;
 use nl_tree::{Call, Path, Refusal, ReplyBuf};
 
 /// What a call answered: the node that lost its name, the node of a path, or how many names there are and how their text begins.
-#[derive(Clone, Copy, Debug, PartialEq)]
+#[derive(Clone, Copy, PartialEq)]
 pub enum Seen {
     Done,
     Gone(u32),

@@ -1,12 +1,8 @@
-//! Names and contents of files on a volume that runs over a device, on a medium in memory.
+//! Names of files on a volume that runs over a device, on a medium in memory.
 #![tactic(auto)]
 
 #[cfg(test)]
 mod calls;
-#[cfg(test)]
-mod contents;
-#[cfg(test)]
-mod files;
 #[cfg(test)]
 mod making;
 #[cfg(test)]

@@ -4,11 +4,11 @@ ghost use Rattle.nl_names_tests.specs.Volumes.{CanWrite, IsOpen};
 ghost use Rattle.nl_namespace.specs.Calls.{HasNames, IsOfNames};
 
 use crate::calls::Seen;
-use crate::files::Stamps;
 use crate::paths::{Names, Series, path_of};
 use crate::volume::{After, Volume, change_names, list_names, make_all, opened, reopened};
 use crate::writer::{Fresh, begun, format};
 use nl_field::{Memory, PageBuf, Shape, shape_of};
+use nl_files_tests::device::Stamps;
 use nl_scan::ScanTables;
 use nl_tree::{Call, Refusal, Space};
 use std::alloc::Global;
@@ -78,7 +78,7 @@ fn answered<D: Stamps>(
     }
 }
 
-/// The first row from a number on that is answered otherwise, and the answer.
+/// The first row from a number on that is answered otherwise.
 fn first_other<D: Stamps>(
     alloc: Global,
     device: &mut D,
@@ -87,7 +87,7 @@ fn first_other<D: Stamps>(
     volume: Volume,
     rows: &[(Step, Seen)],
     row: usize,
-) -> Result<Option<(usize, Seen)>, Memory>
+) -> Result<Option<usize>, Memory>
     requires write { CanWrite D.Counts device.old shape.now }
     requires volume { IsOpen D.Counts device.old volume.meta volume.nodes }
 {
@@ -97,19 +97,19 @@ fn first_other<D: Stamps>(
     let (step, want) = rows[row];
     let After { volume, seen } = answered(alloc, device, shape, scan, volume, step)?;
     if seen != want {
-        return Ok(Some((row, seen)));
+        return Ok(Some(row));
     }
     first_other(alloc, device, shape, scan, volume, rows, row + 1)
 }
 
-/// The first row that is answered otherwise, and the answer, on a volume with an empty root.
+/// The first row that is answered otherwise, on a volume with an empty root.
 fn other<D: Stamps>(
     alloc: Global,
     device: &mut D,
     shape: &Shape,
     scan: &ScanTables,
     rows: &[(Step, Seen)],
-) -> Result<Option<(usize, Seen)>, Memory>
+) -> Result<Option<usize>, Memory>
     requires write { CanWrite D.Counts device.old shape.now }
 {
     let mut buf = PageBuf::new(alloc)?;
@@ -126,7 +126,7 @@ fn differs(
     blocks: u32,
     pages: u32,
     rows: &[(Step, Seen)],
-) -> Result<Option<(usize, Seen)>, Memory> {
+) -> Result<Option<usize>, Memory> {
     match shape_of(blocks, pages) {
         Some(shape) => {
             let Fresh { mut device, scan } = begun(alloc, shape)?;

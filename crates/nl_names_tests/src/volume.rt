@@ -4,11 +4,11 @@ ghost use Rattle.nl_names_tests.specs.Volumes.{CanWrite, IsOpen};
 ghost use Rattle.nl_namespace.specs.Calls.{HasNames, IsOfNames};
 
 use crate::calls::{Outcome, Seen, changed, listed};
-use crate::files::Stamps;
 use crate::making::makes;
 use crate::paths::Series;
 use crate::writer::save;
 use nl_field::{Memory, PageBuf, Shape};
+use nl_files_tests::device::Stamps;
 use nl_inode::Nodes;
 use nl_meta::Meta;
 use nl_recover::{Recovered, Walked, recover};

@@ -1,17 +1,15 @@
 // A device whose addresses are written.
-ghost use Rattle.std.specs.Prelude.{◌≡◌, IfOk, IsTrue};
-ghost use Rattle.nl_field.specs.Numbers.{ShapeBounds, is_legal};
+ghost use Rattle.std.specs.Prelude.{IfOk, IsTrue};
+ghost use Rattle.nl_field.specs.Numbers.{ShapeBounds};
 ghost use Rattle.nl_iface.specs.Device.{IsVolumeShape};
 ghost use Rattle.nl_names_tests.specs.Volumes.{CanWrite};
-ghost use Rattle.nl_nand.specs.Memory.{contents_of, geometry_of};
-ghost use Rattle.nl_nand.specs.Nand.{IsBlank};
 
-use crate::files::Stamps;
 use nl_device::{Device, Started};
-use nl_field::{FailList, Memory, PageBuf, Shape, VirtualWrite};
+use nl_field::{Memory, PageBuf, Shape, VirtualWrite};
+use nl_files_tests::device::{Stamps, blank};
 use nl_iface::Counts;
 use nl_meta::Meta;
-use nl_nand::{FormAnswer, MemNand, Nand};
+use nl_nand::MemNand;
 use nl_scan::ScanTables;
 use std::alloc::Global;
 
@@ -20,20 +18,6 @@ use std::alloc::Global;
 pub struct Fresh {
     pub device: Device<MemNand>,
     pub scan: ScanTables,
-}
-
-/// A blank medium.
-pub fn blank(alloc: Global, blocks: u32, pages: u32) -> Result<MemNand, Memory>
-    requires { IsTrue (is_legal blocks pages) }
-    ensures numbers { IfOk result (λ m. geometry_of m ≡ record { blocks = blocks; pages = pages }) }
-    ensures erased { IfOk result (λ m. IsBlank (contents_of m)) }
-{
-    let none = FailList::new(alloc);
-    let mut media = MemNand::new(alloc, none, FailList::new(alloc), None);
-    match media.form(blocks, pages) {
-        FormAnswer::Done => Ok(media),
-        _ => Err(Memory),
-    }
 }
 
 /// A device of these numbers, on a blank medium.

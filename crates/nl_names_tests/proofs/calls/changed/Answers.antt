@@ -1,5 +1,5 @@
 use Rattle.std.proofs.Common.{◌∙◌, sym, arith}
-use Rattle.nl_names_tests.proofs.Dirty.{room-for-names}
+use Rattle.nl_files_tests.proofs.Dirty.{room-for-names}
 use Rattle.nl_names_tests.proofs.Opened.{left-reads, open-left}
 use Rattle.nl_names_tests.proofs.calls.changed.Goals as goal
 
