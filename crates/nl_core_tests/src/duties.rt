@@ -1,9 +1,7 @@
 // The cleaning of a block, task by task.
-use crate::image::image;
 use crate::rig::{Seen, Step};
 use crate::rounds::{BUILT, DEAD};
-use crate::visit::{reopened, sound, tree, visited};
-use nl_nand::Nand;
+use crate::visit::{differing, sound, tree};
 use nl_tree::Duty;
 use std::test::Fail;
 
@@ -38,9 +36,7 @@ const TASKS: [(Step, Seen); 24] = [
 #[test]
 fn task_by_task(rt: HostRuntime) -> Result<(), Fail> {
     let alloc = rt.alloc();
-    let media = image(alloc, &DEAD, sound(alloc, None))?;
-    let (differs, media) = visited(alloc, media, tree(&TASKS, 8))?;
-    assert_eq!(rt; differs, None);
-    assert_eq!(rt; reopened(alloc, media.restart(None), 8)?, None);
+    let found = differing(alloc, &DEAD, sound(alloc, None), tree(&TASKS, 8), Some(8))?;
+    assert_eq!(rt; found, None);
     Ok(())
 }

@@ -3,8 +3,7 @@ use crate::image::image;
 use crate::rig::{Seen, Step};
 use crate::rounds::{BUILT, DEAD};
 use crate::stops::committed_after;
-use crate::visit::{Differs, either, failing, is_fault, reopened, tree, visited};
-use nl_nand::Nand;
+use crate::visit::{Differs, differing, failing, is_fault, tree};
 use nl_tree::Duty;
 use std::alloc::Global;
 use std::test::Fail;
@@ -34,18 +33,16 @@ fn running_at(operation: u64) -> u64 {
 
 fn write_differs(alloc: Global, operation: u64) -> Result<Option<Differs>, Fail> {
     let plan = failing(alloc, 0, BUILT.saturating_add(operation))?;
-    let media = image(alloc, &DEAD, plan)?;
-    let (differs, media) = visited(alloc, media, tree(&WRITE_FAILS, running_at(operation)))?;
     let calls = committed_after(operation.saturating_sub(1));
-    let again = reopened(alloc, media.restart(None), calls)?;
-    Ok(either(differs, again))
+    let with = tree(&WRITE_FAILS, running_at(operation));
+    differing(alloc, &DEAD, plan, with, Some(calls))
 }
 
 #[test]
 fn each_write_fails(rt: HostRuntime) -> Result<(), Fail> {
     for operation in 1..90u64 {
-        let differs = write_differs(rt.alloc(), operation)?;
-        assert_eq!(rt; differs, None, "{operation}");
+        let found = write_differs(rt.alloc(), operation)?;
+        assert_eq!(rt; found, None, "{operation}");
     }
     Ok(())
 }
@@ -65,17 +62,15 @@ const READ_FAILS: [(Step, Seen); 6] = [
 
 fn read_differs(alloc: Global, copy: u64) -> Result<Option<Differs>, Fail> {
     let plan = failing(alloc, OPENED.saturating_add(copy), 0)?;
-    let media = image(alloc, &DEAD, plan)?;
-    let (differs, _) = visited(alloc, media, tree(&READ_FAILS, 12))?;
-    Ok(differs)
+    differing(alloc, &DEAD, plan, tree(&READ_FAILS, 12), None)
 }
 
 // Each of the 64 copies reads its page.
 #[test]
 fn each_read_fails(rt: HostRuntime) -> Result<(), Fail> {
     for copy in 1..65u64 {
-        let differs = read_differs(rt.alloc(), copy)?;
-        assert_eq!(rt; differs, None, "{copy}");
+        let found = read_differs(rt.alloc(), copy)?;
+        assert_eq!(rt; found, None, "{copy}");
     }
     Ok(())
 }

@@ -1,10 +1,10 @@
 // Pages are programmed where few blocks are Free, with rounds of reclaiming that make room.
 use crate::failing::OPENED;
-use crate::image::{Layout, image};
+use crate::image::Layout;
 use crate::rig::{Seen, Step};
 use crate::stops::finished;
-use crate::visit::{Differs, Holds, Visit, either, failing, reopened, sound, visited};
-use nl_nand::{Cut, Nand, Stop};
+use crate::visit::{Differs, Holds, Visit, differing, failing, sound};
+use nl_nand::{Cut, Stop};
 use std::alloc::Global;
 use std::test::Fail;
 
@@ -20,7 +20,7 @@ const BUILT: u64 = 647;
 // pages: each has 24 copies and an erase, and all but the first begin with a transaction, the second one of addresses 0, 67 and 72, and the others
 // of 0 and 72. Of the four blocks of pages that are gained then, the copies of the last round wait for the end of their old names, two blocks
 // were filled, and one takes the last 32 pages.
-const PROGRAMS: [(Step, Seen); 12] = [
+const PROGRAMS: [(Step, Seen); 28] = [
     (Step::FreeBlocks, Seen::Number(4)),
     (Step::Program(0, 16), Seen::Did),
     (Step::Program(1, 16), Seen::Did),
@@ -33,10 +33,7 @@ const PROGRAMS: [(Step, Seen); 12] = [
     (Step::Program(6, 1), Seen::Did),
     (Step::Clock, Seen::Number(BUILT + 341)),
     (Step::Pairs, Seen::Number(24)),
-];
-
-// The lines are filled, half of them dropped, and filled again.
-const FILLED: [(Step, Seen); 16] = [
+    // The lines are filled, half of them dropped, and filled again.
     (Step::Program(6, 15), Seen::Did),
     (Step::Program(7, 16), Seen::Did),
     (Step::Program(7, 1), Seen::Nothing),
@@ -67,12 +64,9 @@ fn with_flight(rows: &[(Step, Seen)], calls: u64, in_flight: u32) -> Visit<'_> {
 #[test]
 fn room_is_made(rt: HostRuntime) -> Result<(), Fail> {
     let alloc = rt.alloc();
-    let mut rows = PROGRAMS.to_vec(alloc)?;
-    rows.extend_from_slice(&FILLED)?;
-    let media = image(alloc, &CROWDED, sound(alloc, None))?;
-    let (differs, media) = visited(alloc, media, with_flight(&rows, 7, 128))?;
-    assert_eq!(rt; differs, None);
-    assert_eq!(rt; reopened(alloc, media.restart(None), 7)?, None);
+    let with = with_flight(&PROGRAMS, 7, 128);
+    let found = differing(alloc, &CROWDED, sound(alloc, None), with, Some(7))?;
+    assert_eq!(rt; found, None);
     Ok(())
 }
 
@@ -120,15 +114,12 @@ fn stop_differs(alloc: Global, operation: u64, cut: Cut) -> Result<Option<Differ
         operation: BUILT.saturating_add(operation),
         cut,
     };
-    let media = image(alloc, &CROWDED, sound(alloc, Some(stop)))?;
     let with = Visit {
         rows: &WRITE_FAILS,
         holds: None,
     };
-    let (differs, media) = visited(alloc, media, with)?;
     let calls = committed_after(finished(operation, cut));
-    let again = reopened(alloc, media.restart(None), calls)?;
-    Ok(either(differs, again))
+    differing(alloc, &CROWDED, sound(alloc, Some(stop)), with, Some(calls))
 }
 
 // The operations 97 to 340 are those of the rounds, and the next one is the page.
@@ -136,8 +127,8 @@ fn stop_differs(alloc: Global, operation: u64, cut: Cut) -> Result<Option<Differ
 fn rounds_that_make_room_are_stopped(rt: HostRuntime) -> Result<(), Fail> {
     for operation in 97..342u64 {
         for cut in [Cut::Before, Cut::After, Cut::Spoilt] {
-            let differs = stop_differs(rt.alloc(), operation, cut)?;
-            assert_eq!(rt; differs, None, "{operation} {cut:?}");
+            let found = stop_differs(rt.alloc(), operation, cut)?;
+            assert_eq!(rt; found, None, "{operation} {cut:?}");
         }
     }
     Ok(())
@@ -145,36 +136,31 @@ fn rounds_that_make_room_are_stopped(rt: HostRuntime) -> Result<(), Fail> {
 
 fn write_differs(alloc: Global, operation: u64) -> Result<Option<Differs>, Fail> {
     let plan = failing(alloc, 0, BUILT.saturating_add(operation))?;
-    let media = image(alloc, &CROWDED, plan)?;
     let with = with_flight(&WRITE_FAILS, running_at(operation), 96);
-    let (differs, media) = visited(alloc, media, with)?;
     let calls = committed_after(operation.saturating_sub(1));
-    let again = reopened(alloc, media.restart(None), calls)?;
-    Ok(either(differs, again))
+    differing(alloc, &CROWDED, plan, with, Some(calls))
 }
 
 #[test]
 fn writes_of_rounds_that_make_room_fail(rt: HostRuntime) -> Result<(), Fail> {
     for operation in 97..342u64 {
-        let differs = write_differs(rt.alloc(), operation)?;
-        assert_eq!(rt; differs, None, "{operation}");
+        let found = write_differs(rt.alloc(), operation)?;
+        assert_eq!(rt; found, None, "{operation}");
     }
     Ok(())
 }
 
 fn read_differs(alloc: Global, copy: u64) -> Result<Option<Differs>, Fail> {
     let plan = failing(alloc, OPENED.saturating_add(copy), 0)?;
-    let media = image(alloc, &CROWDED, plan)?;
-    let (differs, _) = visited(alloc, media, with_flight(&READ_FAILS, 8, 97))?;
-    Ok(differs)
+    differing(alloc, &CROWDED, plan, with_flight(&READ_FAILS, 8, 97), None)
 }
 
 // Each of the copies of eight rounds reads its page.
 #[test]
 fn reads_of_rounds_that_make_room_fail(rt: HostRuntime) -> Result<(), Fail> {
     for copy in 1..193u64 {
-        let differs = read_differs(rt.alloc(), copy)?;
-        assert_eq!(rt; differs, None, "{copy}");
+        let found = read_differs(rt.alloc(), copy)?;
+        assert_eq!(rt; found, None, "{copy}");
     }
     Ok(())
 }

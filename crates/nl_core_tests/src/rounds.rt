@@ -1,8 +1,7 @@
 // Rounds of reclaiming until no page is dead.
-use crate::image::{Layout, image};
+use crate::image::Layout;
 use crate::rig::{Seen, Step};
-use crate::visit::{reopened, sound, tree, visited};
-use nl_nand::Nand;
+use crate::visit::{differing, sound, tree};
 use std::test::Fail;
 
 /// Thirteen blocks of live pages, and three with 8, 10 and 14 dead pages.
@@ -59,9 +58,13 @@ const ROUNDS: [(Step, Seen); 35] = [
 #[test]
 fn until_no_page_is_dead(rt: HostRuntime) -> Result<(), Fail> {
     let alloc = rt.alloc();
-    let media = image(alloc, &DEAD, sound(alloc, None))?;
-    let (differs, media) = visited(alloc, media, tree(&ROUNDS, 11))?;
-    assert_eq!(rt; differs, None);
-    assert_eq!(rt; reopened(alloc, media.restart(None), 11)?, None);
+    let found = differing(
+        alloc,
+        &DEAD,
+        sound(alloc, None),
+        tree(&ROUNDS, 11),
+        Some(11),
+    )?;
+    assert_eq!(rt; found, None);
     Ok(())
 }

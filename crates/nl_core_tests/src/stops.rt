@@ -1,9 +1,8 @@
 // Each operation of the rounds is stopped, with each cut, and the volume is opened again.
-use crate::image::image;
 use crate::rig::{Seen, Step};
 use crate::rounds::{BUILT, DEAD};
-use crate::visit::{Differs, Visit, either, reopened, sound, visited};
-use nl_nand::{Cut, Nand, Stop};
+use crate::visit::{Differs, Visit, differing, sound};
+use nl_nand::{Cut, Stop};
 use nl_tree::Duty;
 use std::alloc::Global;
 use std::test::Fail;
@@ -41,10 +40,7 @@ fn stop_differs(
         operation: BUILT.saturating_add(operation),
         cut,
     };
-    let media = image(alloc, &DEAD, sound(alloc, Some(stop)))?;
-    let (differs, media) = visited(alloc, media, STOPPED)?;
-    let again = reopened(alloc, media.restart(None), calls)?;
-    Ok(either(differs, again))
+    differing(alloc, &DEAD, sound(alloc, Some(stop)), STOPPED, Some(calls))
 }
 
 /// How many operations have finished after a stop within that one.
@@ -63,8 +59,8 @@ fn each_operation_is_stopped(rt: HostRuntime) -> Result<(), Fail> {
     for operation in 1..90u64 {
         for cut in [Cut::Before, Cut::After, Cut::Spoilt] {
             let calls = committed_after(finished(operation, cut));
-            let differs = stop_differs(rt.alloc(), operation, cut, calls)?;
-            assert_eq!(rt; differs, None, "{operation} {cut:?}");
+            let found = stop_differs(rt.alloc(), operation, cut, calls)?;
+            assert_eq!(rt; found, None, "{operation} {cut:?}");
         }
     }
     Ok(())
@@ -75,8 +71,8 @@ fn each_operation_is_stopped(rt: HostRuntime) -> Result<(), Fail> {
 fn erases_are_cut_over_their_pages(rt: HostRuntime) -> Result<(), Fail> {
     for operation in [19u64, 52, 83] {
         for cut in [BY_FIVES, Cut::Mixed(1), Cut::Mixed(6)] {
-            let differs = stop_differs(rt.alloc(), operation, cut, committed_after(operation))?;
-            assert_eq!(rt; differs, None, "{operation} {cut:?}");
+            let found = stop_differs(rt.alloc(), operation, cut, committed_after(operation))?;
+            assert_eq!(rt; found, None, "{operation} {cut:?}");
         }
     }
     Ok(())

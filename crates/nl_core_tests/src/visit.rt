@@ -1,5 +1,5 @@
 // A volume is opened, goes through a table of calls, and is read back.
-use crate::image::Plan;
+use crate::image::{Layout, Plan, image};
 use crate::reading::{Work, Wrong, first_wrong};
 use crate::rig::{Rig, Seen, Step};
 use nl_core::Core;
@@ -107,7 +107,7 @@ fn medium_of(core: Core<MemNand>) -> MemNand {
 }
 
 /// What differs in a visit of the volume of a medium, and the medium then.
-pub fn visited(
+fn visited(
     alloc: Global,
     media: MemNand,
     visit: Visit<'_>,
@@ -134,7 +134,7 @@ const CLEANED: [(Step, Seen); 4] = [
 ];
 
 /// The first of two.
-pub fn either(first: Option<Differs>, second: Option<Differs>) -> Option<Differs> {
+fn either(first: Option<Differs>, second: Option<Differs>) -> Option<Differs> {
     match first {
         Some(differs) => Some(differs),
         None => second,
@@ -142,11 +142,27 @@ pub fn either(first: Option<Differs>, second: Option<Differs>) -> Option<Differs
 }
 
 /// What differs in a volume that is opened again: it has answered so many calls, and holds what it held, also once no page is dead any more.
-pub fn reopened(alloc: Global, media: MemNand, calls: u64) -> Result<Option<Differs>, Fail> {
+fn reopened(alloc: Global, media: MemNand, calls: u64) -> Result<Option<Differs>, Fail> {
     let counted = [(Step::Count, Seen::Number(calls))];
     let (first, media) = visited(alloc, media, tree(&counted, calls))?;
     let (second, _) = visited(alloc, media, tree(&CLEANED, calls))?;
     Ok(either(first, second))
+}
+
+/// What differs in a visit of the volume of that layout, and then, where the number of its calls is told, once it is opened again.
+pub fn differing(
+    alloc: Global,
+    layout: &Layout,
+    plan: Plan,
+    visit: Visit<'_>,
+    calls: Option<u64>,
+) -> Result<Option<Differs>, Fail> {
+    let media = image(alloc, layout, plan)?;
+    let (first, media) = visited(alloc, media, visit)?;
+    match calls {
+        Some(calls) => Ok(either(first, reopened(alloc, media.restart(None), calls)?)),
+        None => Ok(first),
+    }
 }
 
 /// Whether an opening of the medium fails.
