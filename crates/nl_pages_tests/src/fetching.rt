@@ -11,7 +11,7 @@ use nl_nand::MemNand;
 use std::alloc::Global;
 
 /// What a fetch answers, the first byte of the page where it is resident then, and how many pages are.
-#[derive(Clone, Copy, Debug, PartialEq)]
+#[derive(Clone, Copy, PartialEq)]
 pub struct Fetched {
     pub answer: Fetch,
     pub byte: Option<u8>,

@@ -26,7 +26,7 @@ pub struct Volume {
 }
 
 /// What an opening finds: which transaction counts, and the first byte of each committed page that has one.
-#[derive(Clone, Copy, Debug, PartialEq)]
+#[derive(Clone, Copy, PartialEq)]
 pub struct Stopped {
     pub found: ReadBack,
     pub bytes: [Option<u8>; 5],
@@ -134,20 +134,20 @@ fn opened(alloc: Global, media: MemNand) -> Result<Stopped, Memory> {
         return Err(Memory);
     }
     match Device::start(alloc, media) {
-        Started::Ready(device, _) => read_all(alloc, device),
+        Started::Ready(mut device, _) => read_all(alloc, &mut device),
         _ => Err(Memory),
     }
 }
 
-fn read_all(alloc: Global, mut device: Device<MemNand>) -> Result<Stopped, Memory>
-    requires formed { ⟦<Device<MemNand> as Counts>⟧.formed device }
-    requires numbers { ⟦<Device<MemNand> as Counts>⟧.shape device ≡ shape_for 32 32 }
+fn read_all(alloc: Global, device: &mut Device<MemNand>) -> Result<Stopped, Memory>
+    requires formed { ⟦<Device<MemNand> as Counts>⟧.formed device.old }
+    requires numbers { ⟦<Device<MemNand> as Counts>⟧.shape device.old ≡ shape_for 32 32 }
 {
     let mut journal = Journal::new(alloc)?;
     match shape_of(32, 32) {
         Some(shape) => {
-            let found = journal.read_back(&mut device, &shape);
-            let bytes = bytes_of(alloc, &mut device, matches!(found, ReadBack::Agreed(_)))?;
+            let found = journal.read_back(device, &shape);
+            let bytes = bytes_of(alloc, device, matches!(found, ReadBack::Agreed(_)))?;
             Ok(Stopped { found, bytes })
         }
         None => Err(Memory),
