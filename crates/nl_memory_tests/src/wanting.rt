@@ -8,7 +8,15 @@ use std::sync::Wait;
 use std::test::Fail;
 use std::thread::Threads;
 
-const STEPS: [Step<'static>; 4] = [
+// The soak's summary is that of a generator and a tree of files that were written apart from the program.
+const STEPS: [Step<'static>; 8] = [
+    FORMAT,
+    (
+        "soak 7 5 2",
+        "",
+        0,
+        "soak calls 12 ok 8 refused 4\nbytes written 0 read 0\ndata 0 nodes 6 meta 3\n",
+    ),
     FORMAT,
     (
         "run",
@@ -23,7 +31,21 @@ const STEPS: [Step<'static>; 4] = [
         0,
         "opened 3\n1 @4 ok 68656c6c6f\n",
     ),
+    ("tree", "", 0, "opened 4\nd / 1\nf /a 5 1\n"),
+    // The making programs 2 pages, the file has 1, the sync writes 3 pages by 8 programs, and each closing 1 page by 4; before the second one the page of
+    // the last transaction is copied home once more. The block of the making has no needed page then: it is erased, and takes the pages of the second run.
+    (
+        "report",
+        "",
+        0,
+        "opened 4\nblocks virtual 8 physical 24\npages data 1 of 480 nodes 2 of 64 meta 1 of 32\nremap 0\nwear least 0 greatest 1\nstamp 21\n",
+    ),
 ];
+
+// Which of them is the soak, and how many calls it has.
+const SOAK: usize = 1;
+
+const SOAKED: u64 = 12;
 
 // How a command ended.
 #[derive(Clone, Copy)]
@@ -56,6 +78,20 @@ fn ended<Rt: Threads + Wait + Sync>(
     } else {
         Ending::Wrong
     })
+}
+
+// What is told otherwise than wanted of a volume on which a soak broke off after at least so many calls.
+fn soaked_wrong<Rt: Threads + Wait + Sync>(
+    rt: &Rt,
+    alloc: Global,
+    media: &mut MemNand,
+    least: u64,
+) -> Result<String, Memory> {
+    match counted(rt, alloc, media)? {
+        Some(count) if least <= count && count <= SOAKED => Ok(String::new(alloc)),
+        Some(_) => String::from_str(alloc, "another count"),
+        None => String::from_str(alloc, "not sound"),
+    }
 }
 
 // What is told otherwise than wanted of a volume that opens after at least so many calls.
@@ -95,7 +131,8 @@ fn steps_wrong<Rt: Threads + Wait + Sync>(
         let wrong = match ended(rt, alloc, media, step)? {
             Ending::Whole => String::new(alloc),
             Ending::Wanting => play(rt, alloc, media, &[*step])?,
-            Ending::Failed(_) if at == 0 => play(rt, alloc, media, &[*step])?,
+            Ending::Failed(_) if at == 0 || at == SOAK + 1 => play(rt, alloc, media, &[*step])?,
+            Ending::Failed(synced) if at == SOAK => return soaked_wrong(rt, alloc, media, synced),
             Ending::Failed(synced) => return left_wrong(rt, alloc, media, synced),
             Ending::Wrong => String::from_str(alloc, "another ending")?,
         };
