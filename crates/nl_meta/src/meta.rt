@@ -203,6 +203,17 @@ impl Meta {
         self.add_image(vaddr, from);
     }
 
+    /// No page is resident any more, none is dirty, and none is frozen.
+    pub fn clear(&mut self)
+        ensures { self.new ≡ no_pages (length self.old.running) }
+    {
+        self.resident.fill(false);
+        self.count = 0;
+        self.dirty = AddressList::new();
+        self.recent = AddressList::new();
+        self.frozen = AddressList::new();
+    }
+
     // One more page is frozen.
     fn add_image(&mut self, vaddr: u32, from: &PageBuf)
         requires last { rises (self.old.frozen.addresses ++ vaddr ∷ []) ≡ true }
