@@ -14,6 +14,7 @@ use Rattle.nl_iface.specs.Stored.{Value}
 use Rattle.nl_journal.specs.Outcomes.{bytes_of}
 use Rattle.nl_journal.specs.Transaction.{head, mark}
 use Rattle.nl_journal.proofs.Counted.{counting_as}
+use Rattle.nl_journal.proofs.BackFacts.{header-parts}
 use Rattle.nl_journal.proofs.Openings.{counting_is, counting_same, header_if}
 use Rattle.nl_meta.specs.Committed.{VirtualMap, committed, counting, counts, home_or_image, place_in}
 use Rattle.nl_meta.proofs.Lists.{none_some, some_in}
@@ -84,7 +85,7 @@ module _ (shape : Shape) (values : ℕ → Option Value) (wide : 67 ≤ shape.va
 
 pub few_addresses : (shape : Shape) (b : Option (List ℕ)) (h : HeaderRec) → head shape b ≡ Some h → length h.addresses ≤ 64
 few_addresses shape None h is = absurd (none_some h is)
-few_addresses shape (Some main) h is = (header_if shape main (header_of main) (Some h) (sym is) refl).1
+few_addresses shape (Some main) h is = (header-parts h (header_if shape main (header_of main) (Some h) (sym is) refl).1.spelled).1
 
 pub committed_reads : CommittedReads
 unfolding committed

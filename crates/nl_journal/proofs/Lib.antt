@@ -13,5 +13,9 @@ pub mod FrozenPages
 pub mod Freezing
 pub mod DirtyPages
 pub mod Openings
+pub mod Restores
+pub mod BackFacts
+pub mod BackStands
+pub mod BackReads
 pub mod InOrders
 pub mod HomeWrites

@@ -2,7 +2,7 @@
 use Rattle.std.proofs.Common.{◌≡◌, ◌⊎◌, inl, inr, ⊎_elim, ℕ, zero, suc, ◌+◌, ◌-◌, ◌<◌, ◌≤◌, ◌^◌, max, nat_lt, nat_le, ◌==◌, if◌then◌else◌, Bool, true, false, cond, ◌&&◌, Option, Some, None, option_and_then, option_map, unwrap_or, is_some, List, length, bytes_eq, refl, sym, ◌∙◌, ap, subst, arith}
 use Rattle.std.specs.Prelude.{IfSome}
 use Rattle.std.specs.List.{list_all, range_with_len}
-use Rattle.std.proofs.lemmas.Bool.{and_from, and_parts, cases_Bool, eq-eqb, ne_eqb, cond-true, cond-false, eqb-true, leb-true, ltb-true}
+use Rattle.std.proofs.lemmas.Bool.{and_parts, cases_Bool, cond-true, cond-false, eqb-true, leb-true, ltb-true}
 use Rattle.std.proofs.lemmas.Option.{same_Some, none-some}
 use Rattle.std.proofs.lemmas.List.Quantifiers.{position-Some}
 use Rattle.nl_field.specs.Journal.{commit_of, commit_fields, commit_bytes, is_commit, header_of, header_fields, header_bytes, is_header, are_home_addresses}
@@ -16,7 +16,8 @@ use Rattle.nl_meta.specs.Committed.{VirtualMap, commit_at, counts, counting, hea
 use Rattle.nl_meta.specs.Pages.{Frozen}
 use Rattle.nl_journal.specs.Outcomes.{bytes_of, May}
 use Rattle.nl_journal.specs.Laws.{OpenedInOrder}
-use Rattle.nl_journal.specs.Opening.{HasImages, Opened, are_there, commit_number, header_number}
+use Rattle.nl_journal.specs.Opening.{HasImages, Opened, are_there, commit_number, counted_in, deciding, header_number}
+use Rattle.nl_journal.specs.Restoring.{IsListing}
 use Rattle.nl_journal.specs.Standing.{Keeps}
 use Rattle.nl_journal.specs.Transaction.{head, mark, header, place}
 use Rattle.nl_journal.specs.declared.answers.Phase.{Phase}
@@ -70,9 +71,24 @@ spelled_at (Some main) x is = header_short main x is
 head_short : (shape : Shape) (b : Option (List ℕ)) (h : HeaderRec) → head shape b ≡ Some h → IsShort h
 head_short shape b h is = within_short shape (option_and_then header_of b) h (λ x at. spelled_at b x at) is
 
-pub header_if : (shape : Shape) (main : List ℕ) (spelled o : Option HeaderRec) → o ≡ option_and_then (within_volume shape) spelled → spelled ≡ header_of main → IfSome o (λ h. (h.number < 2 ^ 63) × (length h.addresses ≤ 64))
+-- a header that is spelled on a volume lists addresses of it
+spelled_at_all : (main : List ℕ) (h : HeaderRec) → header_of main ≡ Some h → is_header h ≡ true
+unfolding header_of
+spelled_at_all main h is = spelled_has (λ (x : HeaderRec). is_header x ≡ true) (header_fields main) h (is_header (header_fields main)) (bytes_eq (header_bytes (header_fields main)) main) (λ e. e) is
+
+listing_of : (shape : Shape) (main : List ℕ) (o : Option HeaderRec) (h : HeaderRec) → o ≡ header_of main → option_and_then (within_volume shape) o ≡ Some h → IsListing shape h
+listing_of shape main None h at is = absurd (none-some h is)
+listing_of shape main (Some x) h at is = by (cases_Bool (list_all (λ a. nat_lt a shape.vaddrs) x.addresses))
+  where
+    by : (list_all (λ a. nat_lt a shape.vaddrs) x.addresses ≡ true) ⊎ (list_all (λ a. nat_lt a shape.vaddrs) x.addresses ≡ false) → IsListing shape h
+    by (inl below) = subst (IsListing shape) (same_Some x h (sym (cond-true (list_all (λ a. nat_lt a shape.vaddrs) x.addresses) (Some x) None below) ∙ is))
+        (record { spelled = spelled_at_all main x (sym at); within = below })
+    by (inr far) = absurd (none-some h (sym (cond-false (list_all (λ a. nat_lt a shape.vaddrs) x.addresses) (Some x) None far) ∙ is))
+
+pub header_if : (shape : Shape) (main : List ℕ) (spelled o : Option HeaderRec) → o ≡ option_and_then (within_volume shape) spelled → spelled ≡ header_of main → IfSome o (λ h. (h.number < 2 ^ 63) × IsListing shape h)
 header_if shape main spelled None is same = tt
-header_if shape main spelled (Some h) is same = head_short shape (Some main) h (sym (is ∙ ap (option_and_then (within_volume shape)) same))
+header_if shape main spelled (Some h) is same =
+    ((head_short shape (Some main) h (sym (is ∙ ap (option_and_then (within_volume shape)) same))).0, listing_of shape main spelled h same (sym is))
 
 pub commit_if : (main : List ℕ) (o : Option CommitRec) → o ≡ commit_of main → IfSome o (λ k. k.number < 2 ^ 63)
 commit_if main None is = tt
@@ -191,40 +207,46 @@ there_on f g from (suc n) some same is =
     ∙ same_range (λ i. is_some (g (2 + i))) (λ i. is_some (f (2 + i))) (from + 1) n (λ i lt. ap is_some (same (2 + (from + 1 + i))))
     ∙ sym (ap (λ b. b && are_there f (from + 1) n) is)
 
-pub nothing_header : (shape : Shape) (f : VirtualMap) → head shape (f 1) ≡ None → counting shape f ≡ None
-nothing_header shape f is = counting_as shape f ∙ ap (λ o. option_and_then (λ (h : HeaderRec). option_and_then (λ (commit : CommitRec). if counts f h commit then Some h else None) (mark (f 66))) o) is
+-- one that is not there
+pub there_not : (f : VirtualMap) (from count : ℕ) → 1 ≤ count → f (2 + from) ≡ None → false ≡ are_there f from count
+there_not f from zero some is = absurd (omega (arith, some))
+there_not f from (suc n) some is = sym (ap (λ b. b && are_there f (from + 1) n) (ap is_some is))
 
-no_mark : (f : VirtualMap) (o : Option HeaderRec) → option_and_then (λ (h : HeaderRec). option_and_then (λ (commit : CommitRec). if counts f h commit then Some h else None) None) o ≡ None
-no_mark f None = refl
-no_mark f (Some h) = refl
+pub there_none : (f : VirtualMap) (from count : ℕ) → count ≡ 0 → true ≡ are_there f from count
+there_none f from count e = sym (ap (are_there f from) e)
 
-pub nothing_mark : (shape : Shape) (f : VirtualMap) → mark (f 66) ≡ None → counting shape f ≡ None
-nothing_mark shape f is =
-    counting_as shape f ∙ ap (λ m. option_and_then (λ (h : HeaderRec). option_and_then (λ (commit : CommitRec). if counts f h commit then Some h else None) m) (head shape (f 1))) is ∙ no_mark f (head shape (f 1))
+-- which transaction counts, by the header whose images decide
+pub counting_decides : (shape : Shape) (f : VirtualMap) → counting shape f ≡ counted_in f (deciding (head shape (f 1)) (mark (f 66)))
+counting_decides shape f = counting_as shape f ∙ by (head shape (f 1)) (mark (f 66))
+  where
+    both : (h : HeaderRec) (a : Bool) → cond (a && are_there f 0 (length h.addresses)) (Some h) None ≡ counted_in f (cond a (Some h) None)
+    both h true = refl
+    both h false = refl
 
-counting_both : (shape : Shape) (f : VirtualMap) (h : HeaderRec) (k : CommitRec) → head shape (f 1) ≡ Some h → mark (f 66) ≡ Some k → counting shape f ≡ (if counts f h k then Some h else None)
-counting_both shape f h k begins ends =
-    counting_as shape f
-    ∙ ap (λ o. option_and_then (λ (x : HeaderRec). option_and_then (λ (commit : CommitRec). if counts f x commit then Some x else None) (mark (f 66))) o) begins
-    ∙ ap (λ m. option_and_then (λ (commit : CommitRec). if counts f h commit then Some h else None) m) ends
+    by : (o : Option HeaderRec) (m : Option CommitRec) → option_and_then (λ (h : HeaderRec). option_and_then (λ (commit : CommitRec). if counts f h commit then Some h else None) m) o ≡ counted_in f (deciding o m)
+    by None m = refl
+    by (Some h) None = refl
+    by (Some h) (Some k) = both h (h.number == k.number)
 
-not_counted : (shape : Shape) (f : VirtualMap) (h : HeaderRec) (k : CommitRec) → head shape (f 1) ≡ Some h → mark (f 66) ≡ Some k → counts f h k ≡ false → counting shape f ≡ None
-not_counted shape f h k begins ends not_so = counting_both shape f h k begins ends ∙ cond-false (counts f h k) (Some h) None not_so
+pub deciding_has : (P : HeaderRec → Type 0) (o : Option HeaderRec) (m : Option CommitRec) → IfSome o P → IfSome (deciding o m) P
+deciding_has P None m has = tt
+deciding_has P (Some h) None has = tt
+deciding_has P (Some h) (Some k) has = by (h.number == k.number)
+  where
+    by : (a : Bool) → IfSome (cond a (Some h) None) P
+    by true = has
+    by false = tt
 
-last_false : (a c : Bool) → c ≡ false → (a && c) ≡ false
-last_false true c is = is
-last_false false c is = refl
+pub some_of : (o : Option HeaderRec) → IfSome o (λ h. o ≡ Some h)
+some_of None = tt
+some_of (Some h) = refl
 
-pub other_numbers : (shape : Shape) (f : VirtualMap) (h : HeaderRec) (k : CommitRec) → head shape (f 1) ≡ Some h → mark (f 66) ≡ Some k → (h.number ≡ k.number → ⊥) → counting shape f ≡ None
-other_numbers shape f h k begins ends ne = not_counted shape f h k begins ends (ap (λ b. b && are_there f 0 (length h.addresses)) (ne_eqb h.number k.number ne))
+-- all images of the header are there, or not
+pub counted_all : (f : VirtualMap) (h : HeaderRec) → are_there f 0 (length h.addresses) ≡ true → counted_in f (Some h) ≡ Some h
+counted_all f h is = cond-true (are_there f 0 (length h.addresses)) (Some h) None is
 
-pub no_image : (shape : Shape) (f : VirtualMap) (h : HeaderRec) (k : CommitRec) → head shape (f 1) ≡ Some h → mark (f 66) ≡ Some k → are_there f 0 (length h.addresses) ≡ false → counting shape f ≡ None
-no_image shape f h k begins ends is = not_counted shape f h k begins ends (last_false (h.number == k.number) (are_there f 0 (length h.addresses)) is)
-
-pub all_agree : (shape : Shape) (f : VirtualMap) (h : HeaderRec) (k : CommitRec) → head shape (f 1) ≡ Some h → mark (f 66) ≡ Some k → h.number ≡ k.number
-    → are_there f 0 (length h.addresses) ≡ true → counting shape f ≡ Some h
-all_agree shape f h k begins ends numbers there = counting_both shape f h k begins ends ∙ cond-true (counts f h k) (Some h) None
-    (and_from (h.number == k.number) (are_there f 0 (length h.addresses)) (eq-eqb h.number k.number numbers) there)
+pub counted_none : (f : VirtualMap) (h : HeaderRec) → are_there f 0 (length h.addresses) ≡ false → counted_in f (Some h) ≡ None
+counted_none f h is = cond-false (are_there f 0 (length h.addresses)) (Some h) None is
 
 opened_as : (phase : Phase) (number : ℕ) (shape : Shape) (map : ℕ → Option Value) (failed : ℕ → Value → Type 0) (frozen : Frozen) → 67 ≤ shape.vaddrs → NoneFailed shape.vaddrs failed
     → Opened phase shape (bytes_of map) number frozen → Keeps shape map failed (record { number = number; phase = phase }) frozen

@@ -8,4 +8,5 @@ pub mod Homes
 pub mod Passes
 pub mod Left
 pub mod Opening
+pub mod Restoring
 pub mod Laws

@@ -1,5 +1,5 @@
 -- What the journal finds at an opening.
-use Rattle.std.specs.Prelude.{◌≡◌, ⊤, ℕ, ◌+◌, ◌<◌, ◌≤◌, Bool, List, length, Option, Some, None, is_some}
+use Rattle.std.specs.Prelude.{◌≡◌, ⊤, ℕ, ◌+◌, ◌<◌, ◌≤◌, ◌==◌, if◌then◌else◌, Bool, true, List, length, Option, Some, None, is_some}
 use Rattle.std.specs.List.{list_all, range_with_len}
 use Rattle.nl_field.specs.declared.shape.Shape.{Shape}
 use Rattle.nl_field.specs.declared.header.HeaderRec.{HeaderRec}
@@ -47,11 +47,28 @@ abbrev pub commit_number : Option CommitRec → ℕ
 commit_number None = 0
 commit_number (Some k) = k.number
 
+-- the header whose images decide whether its transaction counts: that of a commit page with its number
+abbrev pub deciding : Option HeaderRec → Option CommitRec → Option HeaderRec
+deciding None k = None
+deciding (Some h) None = None
+deciding (Some h) (Some k) = if h.number == k.number then Some h else None
+
 -- what a read of one page finds
 abbrev pub SeenAt : Option (List ℕ) → List ℕ → Seen → Type 0
 SeenAt b main seen.There = b ≡ Some main
 SeenAt b main seen.Absent = b ≡ None
 SeenAt b main seen.Fault = ⊤
+
+abbrev pub IfThere : Seen → Type 0 → Type 0
+IfThere seen.There P = P
+IfThere seen.Absent P = ⊤
+IfThere seen.Fault P = ⊤
+
+-- whether a page is there, by a read of it
+abbrev pub TellsOf : Option (List ℕ) → Seen → Type 0
+TellsOf b seen.There = is_some b ≡ true
+TellsOf b seen.Absent = b ≡ None
+TellsOf b seen.Fault = ⊤
 
 abbrev pub IsFault : Seen → Type 0
 IsFault seen.There = ⊥
@@ -61,3 +78,8 @@ IsFault seen.Fault = ⊤
 -- so many images from a place on are there
 abbrev pub are_there : VirtualMap → ℕ → ℕ → Bool
 are_there f from count = list_all (λ i. is_some (f (2 + i))) (range_with_len from count)
+
+-- the header, where all its images are there
+abbrev pub counted_in : VirtualMap → Option HeaderRec → Option HeaderRec
+counted_in f None = None
+counted_in f (Some h) = if are_there f 0 (length h.addresses) then Some h else None

@@ -1,23 +1,24 @@
-ghost use Rattle.std.specs.Prelude.{◌≡◌, ◌⊎◌, ◌<◌, ◌≤◌, ◌+◌, ◌-◌, ◌^◌, ℕ, [], length, max, IfOk, IfSome, Some};
+ghost use Rattle.std.specs.Prelude.{◌≡◌, ◌⊎◌, ◌<◌, ◌≤◌, ◌+◌, ◌-◌, ◌^◌, ℕ, [], length, max, IfOk, IfSome, None, Some};
 ghost use Rattle.nl_field.specs.CrashStates.{Earlier};
 ghost use Rattle.nl_iface.specs.Answers.{IsLost, LosesStamp};
 ghost use Rattle.nl_iface.specs.Calls.{CallCounted, DoneOrFailed, LeavesAt, OnlyReads, ReadsCounted, TakesStamp, Ticks};
-ghost use Rattle.nl_meta.specs.Committed.{next_number as number_of_next};
 ghost use Rattle.nl_journal.specs.Committing.{ahead_on, committed_on, finished_on};
 ghost use Rattle.nl_journal.specs.Homes.{BringsHome, WritesHome};
 ghost use Rattle.nl_journal.specs.Left.{CommitWrites, DirtyWrites, FinishWrites, UnitWrites};
-ghost use Rattle.nl_journal.specs.Opening.{Finds, commit_number, header_number, phase_found};
+ghost use Rattle.nl_journal.specs.Opening.{Finds, commit_number, counted_in, deciding, header_number, phase_found};
 ghost use Rattle.nl_journal.specs.Outcomes.{Agrees, bytes_of};
 ghost use Rattle.nl_journal.specs.Passes.{Passes};
 ghost use Rattle.nl_journal.specs.Progress.{HasNumber, IsPhase, Progress, begun, next, next_after as after, raised as raised_from, units_left};
+ghost use Rattle.nl_journal.specs.Restoring.{BringsBack, IsListing, Restores};
 ghost use Rattle.nl_journal.specs.Standing.{InOrder};
-ghost use Rattle.nl_journal.specs.Transaction.{IsTransaction, head, mark};
+ghost use Rattle.nl_journal.specs.Transaction.{IsTransaction, head};
 ghost use Rattle.nl_journal.specs.Units.{Advances, Ends, Finishes, IfCommitted, IfLost, IfLostUnit, IsCommitted, IsDone, OtherFound, Waits, answer};
-ghost use Rattle.nl_meta.specs.Pages.{dirty_pages};
+ghost use Rattle.nl_meta.specs.Committed.{counting, next_number as number_of_next};
+ghost use Rattle.nl_meta.specs.Pages.{dirty_pages, no_pages};
 
 use crate::due::{LAST, due, frozen_len, next_after};
 use crate::put::put;
-use crate::reading::{commit_page, header, images};
+use crate::reading::{are_there, commit_page, header, images};
 use crate::{Committing, Phase, ReadBack, Unit};
 use nl_field::{CommitRec, HeaderRec, Memory, PageBuf, Shape, VirtualWrite};
 use nl_iface::VirtualPages;
@@ -168,83 +169,146 @@ impl Journal {
         ensures kept { OnlyReads D.Counts device.old device.new }
         ensures faults { ReadsCounted D.Counts (result ≡ ReadBack.Fault) device.old device.new }
     {
-        self.number = 0;
-        self.phase = Phase::Header;
-        match header(device, &mut self.page, shape) {
+        match self.read_ends(device, shape) {
             None => ReadBack::Fault,
-            Some(header) => match commit_page(device, &mut self.page) {
-                None => ReadBack::Fault,
-                Some(commit) => self.agree(device, header, commit),
-            },
+            Some(None) => ReadBack::Nothing,
+            Some(Some(header)) => {
+                match are_there(device, &mut self.page, 0, header.addresses.len()) {
+                    None => ReadBack::Fault,
+                    Some(false) => ReadBack::Nothing,
+                    Some(true) => {
+                        self.phase = Phase::Home(0);
+                        ReadBack::Agreed(header.number)
+                    }
+                }
+            }
         }
     }
 
-    fn agree<D: VirtualPages>(
+    /// Reads the journal back, each page of it once, and makes the images of the transaction that counts the frozen pages, and resident.
+    /// Where none counts no page is resident, as none was before.
+    pub fn bring_back<D: VirtualPages>(
         &mut self,
         device: &mut D,
-        header: Option<HeaderRec>,
-        commit: Option<CommitRec>,
+        meta: &mut Meta,
+        shape: &Shape,
     ) -> ReadBack
         requires formed { D.formed device.old }
-        requires header { D.tells → header ≡ head (D.shape device.old) (bytes_of (D.map device.old) 1) }
-        requires commit { D.tells → commit ≡ mark (bytes_of (D.map device.old) 66) }
-        requires spelled_header { IfSome header (λ h. (h.number < 2 ^ 63) × (length h.addresses ≤ 64)) }
-        requires spelled_commit { IfSome commit (λ k. k.number < 2 ^ 63) }
-        requires phase { self.old.phase ≡ Phase.Header }
+        requires shape { shape.now ≡ D.shape device.old }
+        requires none { meta.old ≡ no_pages shape.now.vaddrs }
         ensures formed { D.formed device.new }
         ensures found { D.tells → Finds (D.shape device.old) (bytes_of (D.map device.old)) result }
-        ensures number { self.new.number ≡ max (header_number header) (commit_number commit) }
+        ensures back { (result ≡ ReadBack.Fault → ⊥) → BringsBack D.Counts device.new self.new meta.new }
         ensures phase { self.new.phase ≡ phase_found result }
         ensures kept { OnlyReads D.Counts device.old device.new }
         ensures faults { ReadsCounted D.Counts (result ≡ ReadBack.Fault) device.old device.new }
     {
-        match (header, commit) {
-            (Some(header), Some(commit)) => {
-                self.number = header.number.max(commit.number);
-                self.compare(device, header, commit)
-            }
-            (Some(header), None) => {
-                self.number = header.number;
+        match self.read_ends(device, shape) {
+            None => ReadBack::Fault,
+            Some(None) => {
+                meta.stands();
                 ReadBack::Nothing
             }
-            (None, Some(commit)) => {
-                self.number = commit.number;
-                ReadBack::Nothing
-            }
-            (None, None) => {
-                self.number = 0;
-                ReadBack::Nothing
+            Some(Some(header)) => {
+                let found = self.bring_images(device, meta, header);
+                meta.stands();
+                found
             }
         }
     }
 
-    fn compare<D: VirtualPages>(
+    // Makes the images that the header lists the frozen pages, and resident, where all are there.
+    fn bring_images<D: VirtualPages>(
         &mut self,
         device: &mut D,
+        meta: &mut Meta,
         header: HeaderRec,
-        commit: CommitRec,
     ) -> ReadBack
         requires formed { D.formed device.old }
+        requires none { meta.old ≡ no_pages (D.shape device.old).vaddrs }
+        requires listing { IsListing (D.shape device.old) header }
         requires header { D.tells → head (D.shape device.old) (bytes_of (D.map device.old) 1) ≡ Some header }
-        requires commit { D.tells → mark (bytes_of (D.map device.old) 66) ≡ Some commit }
-        requires few { length header.addresses ≤ 64 }
+        requires decides { D.tells → counting (D.shape device.old) (bytes_of (D.map device.old)) ≡ counted_in (bytes_of (D.map device.old)) (Some header) }
         requires phase { self.old.phase ≡ Phase.Header }
         ensures formed { D.formed device.new }
         ensures found { D.tells → Finds (D.shape device.old) (bytes_of (D.map device.old)) result }
+        ensures count { length meta.new.running ≡ length meta.old.running }
+        ensures restored { Restores D.tells (D.shape device.old) (bytes_of (D.map device.old)) result meta.new }
         ensures number { self.new.number ≡ self.old.number }
         ensures phase { self.new.phase ≡ phase_found result }
         ensures kept { OnlyReads D.Counts device.old device.new }
         ensures faults { ReadsCounted D.Counts (result ≡ ReadBack.Fault) device.old device.new }
     {
-        if header.number != commit.number {
-            return ReadBack::Nothing;
-        }
-        match images(device, &mut self.page, 0, header.addresses.len()) {
+        match images(device, meta, &mut self.page, &header.addresses, 0) {
             None => ReadBack::Fault,
-            Some(false) => ReadBack::Nothing,
+            Some(false) => {
+                meta.clear();
+                ReadBack::Nothing
+            }
             Some(true) => {
                 self.phase = Phase::Home(0);
                 ReadBack::Agreed(header.number)
+            }
+        }
+    }
+
+    // Reads header and commit page. The header whose images decide whether its transaction counts, if there is one, None in place of that
+    // where a read failed.
+    fn read_ends<D: VirtualPages>(
+        &mut self,
+        device: &mut D,
+        shape: &Shape,
+    ) -> Option<Option<HeaderRec>>
+        requires formed { D.formed device.old }
+        requires shape { shape.now ≡ D.shape device.old }
+        ensures formed { D.formed device.new }
+        ensures listing { IfSome result (λ o. IfSome o (IsListing shape.now)) }
+        ensures header { D.tells → IfSome result (λ o. IfSome o (λ h. head (D.shape device.old) (bytes_of (D.map device.old) 1) ≡ Some h)) }
+        ensures decides { D.tells → IfSome result (λ o. counting (D.shape device.old) (bytes_of (D.map device.old)) ≡ counted_in (bytes_of (D.map device.old)) o) }
+        ensures number { D.tells → IfSome result (λ o. self.new.number + 1 ≡ number_of_next (D.shape device.old) (bytes_of (D.map device.old))) }
+        ensures phase { self.new.phase ≡ Phase.Header }
+        ensures kept { OnlyReads D.Counts device.old device.new }
+        ensures faults { ReadsCounted D.Counts (result ≡ None) device.old device.new }
+    {
+        self.number = 0;
+        self.phase = Phase::Header;
+        match header(device, &mut self.page, shape) {
+            None => None,
+            Some(header) => match commit_page(device, &mut self.page) {
+                None => None,
+                Some(commit) => Some(self.judge(header, commit)),
+            },
+        }
+    }
+
+    // Keeps the greater number of the two records. The header, where both have one.
+    fn judge(&mut self, header: Option<HeaderRec>, commit: Option<CommitRec>) -> Option<HeaderRec>
+        requires header { IfSome header (λ h. h.number < 2 ^ 63) }
+        requires commit { IfSome commit (λ k. k.number < 2 ^ 63) }
+        ensures decides { result ≡ deciding header commit }
+        ensures number { self.new.number ≡ max (header_number header) (commit_number commit) }
+        ensures phase { self.new.phase ≡ self.old.phase }
+    {
+        match (header, commit) {
+            (Some(header), Some(commit)) => {
+                self.number = header.number.max(commit.number);
+                if header.number == commit.number {
+                    Some(header)
+                } else {
+                    None
+                }
+            }
+            (Some(header), None) => {
+                self.number = header.number;
+                None
+            }
+            (None, Some(commit)) => {
+                self.number = commit.number;
+                None
+            }
+            (None, None) => {
+                self.number = 0;
+                None
             }
         }
     }

@@ -1,13 +1,16 @@
-ghost use Rattle.std.specs.Prelude.{◌≡◌, ◌<◌, ◌≤◌, ◌+◌, ◌*◌, ◌^◌, ℕ, length, Some, None, IfSome, nat_lt, option_and_then};
+ghost use Rattle.std.specs.Prelude.{◌≡◌, ◌<◌, ◌≤◌, ◌+◌, ◌-◌, ◌*◌, ◌^◌, ℕ, length, Some, None, IfSome, nat_lt, true, option_and_then};
 ghost use Rattle.std.specs.List.{list_all};
+ghost use Rattle.nl_field.specs.Journal.{are_home_addresses};
 ghost use Rattle.nl_iface.specs.Calls.{OnlyReads, ReadsCounted};
 ghost use Rattle.nl_meta.specs.Committed.{within_volume};
-ghost use Rattle.nl_journal.specs.Opening.{IsFault, SeenAt, are_there};
+ghost use Rattle.nl_journal.specs.Opening.{IfThere, IsFault, SeenAt, TellsOf, are_there};
 ghost use Rattle.nl_journal.specs.Outcomes.{bytes_of};
+ghost use Rattle.nl_journal.specs.Restoring.{AreRestored, IsListing};
 ghost use Rattle.nl_journal.specs.Transaction.{head, mark};
 
-use nl_field::{CommitRec, HeaderRec, PageBuf, Shape, VirtualRead};
+use nl_field::{AddressList, CommitRec, HeaderRec, PageBuf, Shape, VirtualRead};
 use nl_iface::VirtualPages;
+use nl_meta::Meta;
 
 /// What a read of one page of the journal finds.
 #[derive(Clone, Copy, Debug, PartialEq, Eq)]
@@ -44,7 +47,7 @@ pub(crate) fn header<D: VirtualPages>(
     requires formed { D.formed device.old }
     requires shape { shape.now ≡ D.shape device.old }
     ensures formed { D.formed device.new }
-    ensures spelled { IfSome result (λ o. IfSome o (λ h. (h.number < 2 ^ 63) × (length h.addresses ≤ 64))) }
+    ensures spelled { IfSome result (λ o. IfSome o (λ h. (h.number < 2 ^ 63) × IsListing shape.now h)) }
     ensures header { D.tells → IfSome result (λ h. h ≡ head (D.shape device.old) (bytes_of (D.map device.old) 1)) }
     ensures kept { OnlyReads D.Counts device.old device.new }
     ensures faults { ReadsCounted D.Counts (result ≡ None) device.old device.new }
@@ -93,7 +96,7 @@ pub(crate) fn commit_page<D: VirtualPages>(
 }
 
 /// Whether so many images from a place on are there, None where a read failed.
-pub(crate) fn images<D: VirtualPages>(
+pub(crate) fn are_there<D: VirtualPages>(
     device: &mut D,
     page: &mut PageBuf,
     from: u32,
@@ -110,9 +113,74 @@ pub(crate) fn images<D: VirtualPages>(
         return Some(true);
     }
     match see(device, 2 + from, page) {
-        Seen::There => images(device, page, from + 1, count - 1),
+        Seen::There => are_there(device, page, from + 1, count - 1),
         Seen::Absent => Some(false),
         Seen::Fault => None,
+    }
+}
+
+/// Makes the images of these addresses from a place on the frozen pages behind those before, and resident. False where one of them is not
+/// there, None where a read failed.
+pub(crate) fn images<D: VirtualPages>(
+    device: &mut D,
+    meta: &mut Meta,
+    page: &mut PageBuf,
+    addresses: &AddressList,
+    from: u32,
+) -> Option<bool>
+    requires formed { D.formed device.old }
+    requires few { length addresses.now ≤ 64 }
+    requires rise { are_home_addresses addresses.now ≡ true }
+    requires inside { list_all (λ a. nat_lt a (length meta.old.running)) addresses.now ≡ true }
+    requires within { from ≤ length addresses.now }
+    requires before { AreRestored D.tells (bytes_of (D.map device.old)) addresses.now from meta.old }
+    ensures formed { D.formed device.new }
+    ensures count { length meta.new.running ≡ length meta.old.running }
+    ensures images { D.tells → IfSome result (λ b. b ≡ are_there (bytes_of (D.map device.old)) from (length addresses.now - from)) }
+    ensures restored { result ≡ Some true → AreRestored D.tells (bytes_of (D.map device.old)) addresses.now (length addresses.now) meta.new }
+    ensures kept { OnlyReads D.Counts device.old device.new }
+    ensures faults { ReadsCounted D.Counts (result ≡ None) device.old device.new }
+{
+    if addresses.len() <= from {
+        return Some(true);
+    }
+    match image(device, meta, page, addresses, from) {
+        Seen::There => images(device, meta, page, addresses, from + 1),
+        Seen::Absent => Some(false),
+        Seen::Fault => None,
+    }
+}
+
+// Makes the image of the address at a place a frozen page behind those before, and resident.
+fn image<D: VirtualPages>(
+    device: &mut D,
+    meta: &mut Meta,
+    page: &mut PageBuf,
+    addresses: &AddressList,
+    at: u32,
+) -> Seen
+    requires formed { D.formed device.old }
+    requires few { length addresses.now ≤ 64 }
+    requires rise { are_home_addresses addresses.now ≡ true }
+    requires inside { list_all (λ a. nat_lt a (length meta.old.running)) addresses.now ≡ true }
+    requires below { at < length addresses.now }
+    requires before { AreRestored D.tells (bytes_of (D.map device.old)) addresses.now at meta.old }
+    ensures formed { D.formed device.new }
+    ensures count { length meta.new.running ≡ length meta.old.running }
+    ensures inside { list_all (λ a. nat_lt a (length meta.new.running)) addresses.now ≡ true }
+    ensures tells { D.tells → TellsOf (bytes_of (D.map device.old) (2 + at)) result }
+    ensures restored { IfThere result (AreRestored D.tells (bytes_of (D.map device.new)) addresses.now (at + 1) meta.new) }
+    ensures kept { OnlyReads D.Counts device.old device.new }
+    ensures faults { ReadsCounted D.Counts (IsFault result) device.old device.new }
+{
+    meta.stands();
+    match see(device, 2 + at, page) {
+        Seen::There => {
+            meta.restore(*addresses.get(at), page);
+            Seen::There
+        }
+        Seen::Absent => Seen::Absent,
+        Seen::Fault => Seen::Fault,
     }
 }
 

@@ -1,19 +1,39 @@
-use Rattle.std.proofs.Common.{Option, option_map, ◌∙◌, ap}
-use Rattle.nl_iface.specs.Stored.{Value}
+use Rattle.std.proofs.Common.{Option, refl, sym, subst, ◌∙◌, ap, arith}
+use Rattle.std.specs.Prelude.{IfSome}
+use Rattle.nl_field.specs.declared.header.HeaderRec.{HeaderRec}
+use Rattle.nl_journal.specs.Opening.{are_there, counted_in}
 use Rattle.nl_journal.specs.Outcomes.{bytes_of}
-use Rattle.nl_journal.specs.Transaction.{mark}
-use Rattle.nl_journal.proofs.Openings.{number_is}
+use Rattle.nl_journal.specs.Restoring.{IsListing}
+use Rattle.nl_journal.proofs.BackFacts.{header-parts}
+use Rattle.nl_journal.proofs.BackStands.{bytes-same}
+use Rattle.nl_journal.proofs.Openings.{counted_all, counted_none}
 use Rattle.nl_journal.proofs.journal.Journal.read_back.Goals as goal
 
-pub agree-requires-clause-spelled_header : goal.agree-requires-clause-spelled_header
-agree-requires-clause-spelled_header g c = c.in-Some.ensures.spelled
+pub are_there-requires-clause-few : goal.are_there-requires-clause-few
+are_there-requires-clause-few g c =
+    let listing : IsListing c.args.shape.now c.in-Some-Some.header = subst (λ (o : Option HeaderRec). IfSome o (IsListing c.args.shape.now)) c.in-Some-Some.field-0-is c.in-Some-Some.ensures.listing in
+    let few = (header-parts c.in-Some-Some.header listing.spelled).1 in
+    let e = c.len.ensures.count in
+    omega (arith, few, e)
 
-pub agree-requires-clause-spelled_commit : goal.agree-requires-clause-spelled_commit
-agree-requires-clause-spelled_commit g c = c.in-Some-commit_page.ensures.spelled
-
-pub returns-in-Some-commit_page-clause-number : goal.returns-in-Some-commit_page-clause-number
-returns-in-Some-commit_page-clause-number g c t off =
+pub returns-in-Some-false-clause-found : goal.returns-in-Some-false-clause-found
+returns-in-Some-false-clause-found g c t =
     let G = g.D.Counts in
-    let old = c.args.device.now in
-    number_is (G.shape old) (bytes_of (G.map old)) c.agree.new.self.number c.in-Some.header c.in-Some-commit_page.commit c.agree.ensures.number (c.in-Some.ensures.header t)
-    (c.in-Some-commit_page.ensures.mark t ∙ ap (λ (o : Option Value). mark (option_map (λ (x : Value). x.1) o)) (c.header.ensures.kept.medium.virtual.same_map t 66))
+    let same = bytes-same G c.args.device.now c.read_ends.new.device c.read_ends.ensures.kept.medium.virtual t in
+    let h = c.in-Some-Some.header in
+    c.in-Some-Some.ensures.decides t ∙ ap (counted_in (bytes_of (G.map c.args.device.now))) c.in-Some-Some.field-0-is ∙ counted_none (bytes_of (G.map c.args.device.now)) h
+    (ap (are_there (bytes_of (G.map c.args.device.now)) 0) (sym c.len.ensures.count) ∙ sym (λ i. are_there (same i) 0 c.len.result) ∙ sym (c.in-Some-false.ensures.images t) ∙ c.in-Some-false.field-0-test)
+
+pub returns-in-Some-true-clause-found : goal.returns-in-Some-true-clause-found
+returns-in-Some-true-clause-found g c t =
+    let G = g.D.Counts in
+    let same = bytes-same G c.args.device.now c.read_ends.new.device c.read_ends.ensures.kept.medium.virtual t in
+    let h = c.in-Some-Some.header in (
+      h,
+      c.in-Some-Some.ensures.decides t ∙ ap (counted_in (bytes_of (G.map c.args.device.now))) c.in-Some-Some.field-0-is ∙ counted_all (bytes_of (G.map c.args.device.now)) h
+          (ap (are_there (bytes_of (G.map c.args.device.now)) 0) (sym c.len.ensures.count) ∙ sym (λ i. are_there (same i) 0 c.len.result) ∙ sym (c.in-Some-true.ensures.images t) ∙ c.in-Some-true.field-0-test),
+      refl,
+    )
+
+pub returns-in-Some-None-clause-found : goal.returns-in-Some-None-clause-found
+returns-in-Some-None-clause-found g c t = c.in-Some-None.ensures.decides t ∙ ap (counted_in (bytes_of (g.D.Counts.map c.args.device.now))) c.in-Some-None.field-0-is
