@@ -20,7 +20,7 @@ use Rattle.nl_meta.specs.Pages.{Pages}
 use Rattle.nl_meta.specs.Walk.{walk, walk_over}
 use Rattle.nl_meta.proofs.Lists.{none_some}
 use Rattle.nl_running.specs.Running.{running_on, stored_on}
-use Rattle.nl_recover.proofs.BackStands.{stored-same}
+use Rattle.nl_journal.proofs.BackStands.{stored-same}
 use Rattle.nl_check.specs.Checking.{Checks, CountsCalls, IfFound, SetsFirst}
 use Rattle.nl_check.specs.declared.check.Checked.{Checked}
 use Rattle.nl_check.specs.declared.check.Checked.TheVariants as checked

@@ -19,9 +19,9 @@ use Rattle.nl_journal.proofs.Openings.{next_is}
 use Rattle.nl_meta.specs.Committed.{VirtualMap, next_number}
 use Rattle.nl_meta.specs.Pages.{Frozen, Pages}
 use Rattle.nl_recover.specs.Recovering.{IsWalked}
-use Rattle.nl_recover.specs.Restoring.{HasRestored}
+use Rattle.nl_journal.specs.Restoring.{HasRestored}
 use Rattle.nl_recover.specs.declared.opening.Walked.{Walked}
-use Rattle.nl_recover.proofs.BackFacts.{journal-bytes}
+use Rattle.nl_journal.proofs.BackFacts.{journal-bytes}
 use Rattle.nl_recover.proofs.Imaged.{stored-is}
 use Rattle.nl_core.specs.Core.{begun_of}
 use Rattle.nl_core.specs.declared.state.Core.{Core}

@@ -1,7 +1,5 @@
 pub mod AddressFacts
 pub mod Alike
-pub mod BackFacts
-pub mod BackStands
 pub mod EntryFacts
 pub mod Firsts
 pub mod FreeFacts
@@ -13,7 +11,7 @@ pub mod NodesLoaded
 pub mod PlacesThere
 pub mod PointerPages
 pub mod ReachFacts
-pub mod Restores
+pub mod ReadStands
 pub mod Retains
 pub mod Scans
 pub mod StampFacts

@@ -1,5 +1,5 @@
 -- Pages of a device that become resident, one after the other.
-use Rattle.std.proofs.Common.{◌≡◌, ℕ, ◌<◌, false, cond, List, length, get_or, set, refl, sym, ap, subst, ◌∙◌, Option, Some, None, IsSome, is_some, option_map, ◌⊎◌, inl, inr, nat_lt}
+use Rattle.std.proofs.Common.{◌≡◌, ℕ, ◌<◌, false, List, length, get_or, set, refl, sym, ap, subst, ◌∙◌, Option, Some, None, IsSome, is_some, option_map, ◌⊎◌, inl, inr}
 use Rattle.std.proofs.lemmas.Bool.{both_ways, cases_eq, cond-false, cond-true, lt-ltb}
 use Rattle.std.proofs.lemmas.List.{get_or-set_other, get_or-set_same, length-set}
 use Rattle.nl_field.specs.Virtual.{is_inode_address, map_bytes, or_zeros}
@@ -13,12 +13,6 @@ use Rattle.nl_meta.specs.Steps.{with_admitted, without_page}
 use Rattle.nl_recover.specs.Loading.{Loads, Settled}
 
 -- ---- what a device has
-
-pub same-bytes : (shape shape' : Shape) (map map' : ℕ → Option Value) (v : ℕ) → shape' ≡ shape → map' v ≡ map v → map_bytes shape' map' v ≡ map_bytes shape map v
-unfolding map_bytes
-same-bytes shape shape' map map' v e f =
-    ap (λ (s : Shape). cond (nat_lt v s.vaddrs) (or_zeros s v (option_map (λ x. x.1) (map' v))) None) e
-    ∙ ap (λ (o : Option Value). cond (nat_lt v shape.vaddrs) (or_zeros shape v (option_map (λ x. x.1) o)) None) f
 
 pub absent-bytes : (shape : Shape) (map : ℕ → Option Value) (v : ℕ) → v < shape.vaddrs → map v ≡ None → is_inode_address shape v ≡ false → map_bytes shape map v ≡ None
 unfolding map_bytes

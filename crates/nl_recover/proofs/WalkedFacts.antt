@@ -30,13 +30,14 @@ use Rattle.nl_running.proofs.Holds.{bounds-of}
 use Rattle.nl_recover.specs.Loading.{Loads}
 use Rattle.nl_recover.specs.Looking.{LooksAlike}
 use Rattle.nl_recover.specs.Recovering.{Begins, Finds, IfDamaged, IfReady, IsFault, IsFirstFault, IsWalked, Walks, count_in}
-use Rattle.nl_recover.specs.Restoring.{BringsBack, HasRestored, IsRead}
+use Rattle.nl_journal.specs.Restoring.{BringsBack, HasRestored}
+use Rattle.nl_recover.specs.Reading.{IsRead}
 use Rattle.nl_recover.specs.declared.metadata.Metadata.{Metadata}
 use Rattle.nl_recover.specs.declared.opening.Recovered.{Recovered}
 use Rattle.nl_recover.specs.declared.opening.Recovered.TheVariants.{Ready, Damaged, Fault, Memory}
 use Rattle.nl_recover.specs.declared.opening.Walked.{Walked}
 use Rattle.nl_recover.proofs.Alike.{held-same, super-same, walks_alike}
-use Rattle.nl_recover.proofs.BackStands.{stored-same}
+use Rattle.nl_journal.proofs.BackStands.{stored-same}
 use Rattle.nl_recover.proofs.LoadFacts.{runs}
 use Rattle.nl_recover.proofs.NodesLoaded.{in-memory, same-node, there}
 
@@ -243,7 +244,7 @@ module _ {D : Type 0} (g : Ghosts D) where
 
 pub damaged-of : {D : Type 0} (g : Ghosts D) (s : D) (shape : Shape) (seen : List Seen) (m : Metadata) (r : Recovered) → IsRead g s m → Walks shape seen m.journal m.meta r → IfDamaged r (IsFirstFault g s shape seen)
 damaged-of g s shape seen m (Ready w) is b = tt
-damaged-of g s shape seen m (Damaged place) is b = inl (m, is, b)
+damaged-of g s shape seen m (Damaged place) is b = (m, is, b)
 damaged-of g s shape seen m Fault is b = tt
 damaged-of g s shape seen m Memory is b = tt
 

@@ -8,8 +8,8 @@ pub mod Loading
 pub mod Looking
 pub mod Phases
 pub mod Reaching
+pub mod Reading
 pub mod Recovering
-pub mod Restoring
 pub mod Retaining
 pub mod Scanning
 pub mod Starting

@@ -1,7 +1,6 @@
 -- What an opening answers.
-use Rattle.std.specs.Prelude.{◌≡◌, ◌⊎◌, ⊤, ℕ, ◌+◌, ◌<◌, ◌≤◌, List, [], map, Option, Some, None, IsSome}
+use Rattle.std.specs.Prelude.{◌≡◌, ⊤, ℕ, ◌+◌, ◌<◌, ◌≤◌, List, [], map, Option, Some, None, IsSome}
 use Rattle.nl_field.specs.declared.place.Place.{Place}
-use Rattle.nl_field.specs.declared.place.What.TheVariants.{Super}
 use Rattle.nl_field.specs.declared.seen.Seen.{Seen}
 use Rattle.nl_field.specs.declared.shape.Shape.{Shape}
 use Rattle.nl_field.specs.declared.super_page.SuperRec.{SuperRec}
@@ -10,6 +9,7 @@ use Rattle.nl_iface.specs.declared.counts.Counts.{Ghosts}
 use Rattle.nl_inode.specs.Nodes.{AreFree}
 use Rattle.nl_journal.specs.Outcomes.{bytes_of}
 use Rattle.nl_journal.specs.Progress.{Progress}
+use Rattle.nl_journal.specs.Restoring.{HasRestored}
 use Rattle.nl_journal.specs.Standing.{InOrder}
 use Rattle.nl_meta.specs.Committed.{committed, next_number}
 use Rattle.nl_meta.specs.Consistent.{ConsistentOver}
@@ -18,7 +18,7 @@ use Rattle.nl_meta.specs.Pages.{Pages, page_of}
 use Rattle.nl_meta.specs.Walk.{walk_over}
 use Rattle.nl_running.specs.Running.{IsNeeded, Runs, running_on, stored_on}
 use Rattle.nl_recover.specs.Freeing.{SpacesOf}
-use Rattle.nl_recover.specs.Restoring.{HasRestored, IsRead}
+use Rattle.nl_recover.specs.Reading.{IsRead}
 use Rattle.nl_recover.specs.declared.metadata.Metadata.{Metadata}
 use Rattle.nl_recover.specs.declared.opening.Recovered.{Recovered}
 use Rattle.nl_recover.specs.declared.opening.Recovered.TheVariants.{Ready, Damaged, Fault, Memory}
@@ -60,10 +60,9 @@ IfDamaged (Damaged place) P = P place
 IfDamaged Fault P = ⊤
 IfDamaged Memory P = ⊤
 
--- A walk over pages as they can have been read from the device, beside the list of the scan, finds its first fault there. Where a page of the
--- journal was lost between two reads, the super page counts as missing; this comes of a device alone that does not tell what it stores.
+-- A walk over pages as they can have been read from the device, beside the list of the scan, finds its first fault there.
 abbrev pub IsFirstFault : {D : Type 0} → Ghosts D → D → Shape → List Seen → Place → Type 0
-IsFirstFault g s shape seen place = ((m : Metadata) × IsRead g s m × (walk_over shape (page_of m.meta) seen ≡ Some place)) ⊎ ((g.tells → ⊥) × (place ≡ record { place = 0; what = Super }))
+IsFirstFault g s shape seen place = (m : Metadata) × IsRead g s m × (walk_over shape (page_of m.meta) seen ≡ Some place)
 
 -- It is ready exactly where a walk finds no fault, and else damaged at the first one.
 abbrev pub Finds : Option Place → Recovered → Type 0

@@ -12,7 +12,6 @@ mod metadata;
 mod nodes;
 mod opening;
 mod reach;
-mod restoring;
 mod stamps;
 mod walk;
 

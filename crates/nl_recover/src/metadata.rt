@@ -1,13 +1,12 @@
 ghost use Rattle.std.specs.Prelude.{◌≡◌, IfOk};
 ghost use Rattle.nl_iface.specs.Calls.{OnlyReads, ReadsCounted};
 ghost use Rattle.nl_meta.specs.Pages.{no_pages};
-ghost use Rattle.nl_recover.specs.Restoring.{IfRead, IsFailed, IsRead};
+ghost use Rattle.nl_recover.specs.Reading.{IfRead, IsFailed, IsRead};
 
 use crate::loading::load;
-use crate::restoring::{Restored, bring_back};
-use nl_field::{Memory, PageBuf, Shape};
+use nl_field::{Memory, Shape};
 use nl_iface::VirtualPages;
-use nl_journal::Journal;
+use nl_journal::{Journal, ReadBack};
 use nl_meta::Meta;
 use std::alloc::Global;
 
@@ -22,15 +21,13 @@ pub struct Metadata {
 #[derive(Drop)]
 pub enum ReadPages {
     Done(Metadata),
-    /// A page of the journal was lost that was there before.
-    Lost,
     /// A read failed.
     Fault,
     Memory,
 }
 
 /// Reads the journal, makes the images of the transaction that counts the frozen pages, and makes resident the committed pages at which
-/// a walk looks. The device is only read. `Lost` comes from a device alone that does not tell what it stores.
+/// a walk looks. The device is only read, and no page twice that is there.
 pub fn read_pages<D: VirtualPages>(alloc: Global, device: &mut D, shape: &Shape) -> ReadPages
     requires formed { D.formed device.old }
     requires shape { shape.now ≡ D.shape device.old }
@@ -38,7 +35,6 @@ pub fn read_pages<D: VirtualPages>(alloc: Global, device: &mut D, shape: &Shape)
     ensures device { OnlyReads D.Counts device.old device.new }
     ensures faults { ReadsCounted D.Counts (IsFailed result) device.old device.new }
     ensures read { IfRead result (IsRead D.Counts device.new) }
-    ensures told { D.tells → result ≡ ReadPages.Lost → ⊥ }
 {
     match empty_tables(alloc, shape) {
         Ok(tables) => fill(device, tables, shape),
@@ -51,7 +47,6 @@ pub fn read_pages<D: VirtualPages>(alloc: Global, device: &mut D, shape: &Shape)
 struct Tables {
     journal: Journal,
     meta: Meta,
-    page: PageBuf,
 }
 
 fn empty_tables(alloc: Global, shape: &Shape) -> Result<Tables, Memory>
@@ -59,12 +54,7 @@ fn empty_tables(alloc: Global, shape: &Shape) -> Result<Tables, Memory>
 {
     let journal = Journal::new(alloc)?;
     let meta = Meta::new(alloc, *shape)?;
-    let page = PageBuf::new(alloc)?;
-    Ok(Tables {
-        journal,
-        meta,
-        page,
-    })
+    Ok(Tables { journal, meta })
 }
 
 fn fill<D: VirtualPages>(device: &mut D, tables: Tables, shape: &Shape) -> ReadPages
@@ -75,22 +65,19 @@ fn fill<D: VirtualPages>(device: &mut D, tables: Tables, shape: &Shape) -> ReadP
     ensures device { OnlyReads D.Counts device.old device.new }
     ensures faults { ReadsCounted D.Counts (IsFailed result) device.old device.new }
     ensures read { IfRead result (IsRead D.Counts device.new) }
-    ensures told { D.tells → result ≡ ReadPages.Lost → ⊥ }
 {
     let Tables {
         mut journal,
         mut meta,
-        mut page,
     } = tables;
-    match bring_back(device, &mut journal, &mut meta, &mut page, shape) {
-        Restored::Done => {
+    match journal.bring_back(device, &mut meta, shape) {
+        ReadBack::Agreed(_) | ReadBack::Nothing => {
             if load(device, &mut meta, shape) {
                 ReadPages::Done(Metadata { journal, meta })
             } else {
                 ReadPages::Fault
             }
         }
-        Restored::Lost => ReadPages::Lost,
-        Restored::Fault => ReadPages::Fault,
+        ReadBack::Fault => ReadPages::Fault,
     }
 }

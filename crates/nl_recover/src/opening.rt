@@ -12,7 +12,7 @@ use crate::free::free_lists;
 use crate::look::super_rec;
 use crate::metadata::{Metadata, ReadPages, read_pages};
 use crate::walk::{Outcome, walk_pages};
-use nl_field::{Memory, Place, PointerList, Shape, What};
+use nl_field::{Memory, Place, PointerList, Shape};
 use nl_iface::VirtualPages;
 use nl_inode::Nodes;
 use nl_journal::Journal;
@@ -45,9 +45,7 @@ pub enum Recovered {
 }
 
 /// Reads the journal and the metadata of a volume, and walks over its committed pages beside those that a scan saw. It is ready
-/// exactly where the walk finds no fault, and else damaged at the first one. The device is only read.
-///
-/// A device that does not tell what it stores may lose a page of the journal between two reads. Then the super page counts as missing.
+/// exactly where the walk finds no fault, and else damaged at the first one. The device is only read, and no page twice that is there.
 pub fn recover<D: VirtualPages>(
     alloc: Global,
     device: &mut D,
@@ -70,10 +68,6 @@ pub fn recover<D: VirtualPages>(
                 Err(Memory) => Recovered::Memory,
             }
         }
-        ReadPages::Lost => Recovered::Damaged(Place {
-            place: 0,
-            what: What::Super,
-        }),
         ReadPages::Fault => Recovered::Fault,
         ReadPages::Memory => Recovered::Memory,
     }

@@ -2,7 +2,8 @@ use Rattle.std.proofs.Common.{◌≡◌, ◌≤◌, ◌+◌, inl, inr, ℕ, get_
 use Rattle.std.proofs.lemmas.Bool.{cases_eq}
 use Rattle.nl_field.specs.Virtual.{map_bytes}
 use Rattle.nl_recover.specs.Loading.{IsPoolAddress, Settled}
-use Rattle.nl_recover.proofs.LoadFacts.{loads-then, same-bytes, settled-later, settled-stays}
+use Rattle.nl_journal.proofs.BackFacts.{same-bytes}
+use Rattle.nl_recover.proofs.LoadFacts.{loads-then, settled-later, settled-stays}
 use Rattle.nl_recover.proofs.loading.+load_addresses.Goals as goal
 
 pub returns-clause-loads : goal.returns-clause-loads

@@ -4,7 +4,8 @@ use Rattle.nl_field.specs.Virtual.{map_bytes}
 use Rattle.nl_meta.specs.Consistent.{AddressAt}
 use Rattle.nl_meta.specs.Pages.{page_of}
 use Rattle.nl_recover.specs.Loading.{Settled}
-use Rattle.nl_recover.proofs.LoadFacts.{loads-then, same-bytes, settled-later, settled-stays}
+use Rattle.nl_journal.proofs.BackFacts.{same-bytes}
+use Rattle.nl_recover.proofs.LoadFacts.{loads-then, settled-later, settled-stays}
 use Rattle.nl_recover.proofs.NodesLoaded.{still-at}
 use Rattle.nl_recover.proofs.loading.+load_nodes.Goals as goal
 

@@ -1,6 +1,7 @@
 use Rattle.std.proofs.Common.{arith}
 use Rattle.nl_field.specs.Virtual.{map_bytes}
-use Rattle.nl_recover.proofs.LoadFacts.{loads-then, same-bytes, settled-later, settled-stays}
+use Rattle.nl_journal.proofs.BackFacts.{same-bytes}
+use Rattle.nl_recover.proofs.LoadFacts.{loads-then, settled-later, settled-stays}
 use Rattle.nl_recover.proofs.NodesLoaded.{in-memory, table-of}
 use Rattle.nl_recover.proofs.loading.load.Goals as goal
 

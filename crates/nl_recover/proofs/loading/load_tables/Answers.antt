@@ -1,7 +1,8 @@
 use Rattle.std.proofs.Common.{inl, inr, ℕ, sym, subst}
 use Rattle.nl_field.specs.Virtual.{map_bytes}
 use Rattle.nl_recover.specs.Loading.{Settled}
-use Rattle.nl_recover.proofs.LoadFacts.{loads-then, same-bytes, settled-later, settled-stays}
+use Rattle.nl_journal.proofs.BackFacts.{same-bytes}
+use Rattle.nl_recover.proofs.LoadFacts.{loads-then, settled-later, settled-stays}
 use Rattle.nl_recover.proofs.loading.load_tables.Goals as goal
 
 pub returns-clause-loads : goal.returns-clause-loads

@@ -1,4 +1,4 @@
-use Rattle.std.proofs.Common.{◌∙◌, inr, refl, sym, subst}
+use Rattle.std.proofs.Common.{◌∙◌, sym, subst}
 use Rattle.nl_field.specs.Numbers.{ShapeBounds}
 use Rattle.nl_running.proofs.Holds.{bounds-of}
 use Rattle.nl_recover.proofs.WalkedFacts.{counted-of, damaged-of, finds-of, walked-of}
@@ -24,9 +24,3 @@ returns-in-Ok-clause-told g c = λ t.
     finds-of g.D.Counts c.read_pages.new.device c.args.scan.now.seen c.in-Done.field-0 c.args.shape.now
     (c.requires.shape ∙ sym c.read_pages.ensures.device.medium.virtual.same_shape) (g.met.D.VirtualPages.numbers c.read_pages.new.device c.read_pages.ensures.formed) c.in-Done.ensures.read
     c.args.device.now c.read_pages.ensures.device.medium.virtual t c.in-Ok.recovered c.in-Ok.ensures
-
-pub returns-in-Lost-clause-damaged : goal.returns-in-Lost-clause-damaged
-returns-in-Lost-clause-damaged g c = inr ((λ t. c.in-Lost.ensures.told t refl), refl)
-
-pub returns-in-Lost-clause-told : goal.returns-in-Lost-clause-told
-returns-in-Lost-clause-told g c = λ t. absurd (c.in-Lost.ensures.told t refl)
