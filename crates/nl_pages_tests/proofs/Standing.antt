@@ -65,18 +65,21 @@ five-transaction pages is count dirty =
 
 pub begun-order : {D : Type 0} (g : Ghosts D) (s t : D) (p : Progress) (frozen : Frozen) → g.shape s ≡ shape_for 32 32 → NoneFailed (g.shape s).vaddrs (g.failed s)
     → p.phase ≡ Header → frozen.addresses ≡ []
-    → (g.tells → counting (g.shape s) (bytes_of (g.map s)) ≡ None) → (g.tells → p.number + 1 ≡ next_number (g.shape s) (bytes_of (g.map s))) → KeepsVirtual g s t → InOrder g t p frozen
+    → (g.tells → counting (g.shape s) (bytes_of (g.map s)) ≡ None) → (g.tells → p.number + 1 ≡ next_number (g.shape t) (bytes_of (g.map t))) → KeepsVirtual g s t → InOrder g t p frozen
 begun-order g s t p frozen numbers none header empty nothing number keeps =
     let volume = least-volume (g.shape s) numbers in
     (stays g s t p frozen volume
     (opens_in_order g s p frozen volume
     (subst (λ (f : Phase). IsPhase f (length frozen.addresses)) (sym header) tt)
     (λ some. absurd (less some))
-    (λ tells. (none, subst (λ (f : Phase). Opened f (g.shape s) (bytes_of (g.map s)) p.number frozen) (sym header) (nothing tells, number tells))))
+    (λ tells. (none, subst (λ (f : Phase). Opened f (g.shape s) (bytes_of (g.map s)) p.number frozen) (sym header) (nothing tells, number tells ∙ same tells))))
     keeps).0
   where
     less : 1 ≤ length frozen.addresses → ⊥
     less h = let e = ap length empty in omega (arith, h, e)
+
+    same : g.tells → next_number (g.shape t) (bytes_of (g.map t)) ≡ next_number (g.shape s) (bytes_of (g.map s))
+    same tells = λ i. next_number (keeps.same_shape i) (bytes_of (λ (u : ℕ). keeps.same_map tells u i))
 
 pub least-inodes : (shape : Shape) → shape ≡ shape_for 32 32 → (v : ℕ) → 67 ≤ v → v < 71 → is_inode_address shape v ≡ true
 unfolding shape_for

@@ -25,10 +25,12 @@ pub struct Volume {
     meta: Meta,
 }
 
-/// What an opening finds: which transaction counts, and the first byte of each committed page that has one.
+/// What an opening finds: which transaction counts, as both calls tell it, and the first byte of each page that has one, once its images
+/// were brought back.
 #[derive(Clone, Copy, PartialEq)]
 pub struct Stopped {
     pub found: ReadBack,
+    pub brought: ReadBack,
     pub bytes: [Option<u8>; 5],
 }
 
@@ -53,8 +55,8 @@ fn begin(alloc: Global, media: MemNand) -> Result<Volume, Memory>
     let mut journal = Journal::new(alloc)?;
     match shape_of(32, 32) {
         Some(shape) => {
-            let meta = Meta::new(alloc, shape)?;
-            match journal.read_back(&mut device, &shape) {
+            let mut meta = Meta::new(alloc, shape)?;
+            match journal.bring_back(&mut device, &mut meta, &shape) {
                 ReadBack::Nothing => Ok(Volume {
                     device,
                     journal,
@@ -146,41 +148,54 @@ fn read_all(alloc: Global, device: &mut Device<MemNand>) -> Result<Stopped, Memo
     let mut journal = Journal::new(alloc)?;
     match shape_of(32, 32) {
         Some(shape) => {
+            let mut meta = Meta::new(alloc, shape)?;
             let found = journal.read_back(device, &shape);
-            let bytes = bytes_of(alloc, device, matches!(found, ReadBack::Agreed(_)))?;
-            Ok(Stopped { found, bytes })
+            let brought = journal.bring_back(device, &mut meta, &shape);
+            let bytes = bytes_of(alloc, device, &meta)?;
+            Ok(Stopped {
+                found,
+                brought,
+                bytes,
+            })
         }
         None => Err(Memory),
     }
 }
 
-// The first byte of each committed page: of its image, where a transaction counts, and else of the page at home.
+// The first byte of each page: of the one that is resident, and else of the page at home.
 fn bytes_of(
     alloc: Global,
     device: &mut Device<MemNand>,
-    counts: bool,
+    meta: &Meta,
 ) -> Result<[Option<u8>; 5], Memory>
     requires formed { ⟦<Device<MemNand> as Counts>⟧.formed device.old }
     requires addresses { (⟦<Device<MemNand> as Counts>⟧.shape device.old).vaddrs ≡ 103 }
 {
     let mut buf = PageBuf::new(alloc)?;
-    let first = byte_at(device, address(0, counts), &mut buf)?;
-    let second = byte_at(device, address(1, counts), &mut buf)?;
-    let third = byte_at(device, address(2, counts), &mut buf)?;
-    let fourth = byte_at(device, address(3, counts), &mut buf)?;
-    let fifth = byte_at(device, address(4, counts), &mut buf)?;
+    let first = byte_of(device, meta, ADDRESSES[0], &mut buf)?;
+    let second = byte_of(device, meta, ADDRESSES[1], &mut buf)?;
+    let third = byte_of(device, meta, ADDRESSES[2], &mut buf)?;
+    let fourth = byte_of(device, meta, ADDRESSES[3], &mut buf)?;
+    let fifth = byte_of(device, meta, ADDRESSES[4], &mut buf)?;
     Ok([first, second, third, fourth, fifth])
 }
 
-fn address(place: usize, counts: bool) -> u32
-    requires { place < 5 }
-    ensures { result ≤ 102 }
+fn byte_of(
+    device: &mut Device<MemNand>,
+    meta: &Meta,
+    vaddr: u32,
+    buf: &mut PageBuf,
+) -> Result<Option<u8>, Memory>
+    requires formed { ⟦<Device<MemNand> as Counts>⟧.formed device.old }
+    requires addresses { (⟦<Device<MemNand> as Counts>⟧.shape device.old).vaddrs ≡ 103 }
+    requires within { vaddr ≤ 102 }
+    ensures formed { ⟦<Device<MemNand> as Counts>⟧.formed device.new }
+    ensures addresses { (⟦<Device<MemNand> as Counts>⟧.shape device.new).vaddrs ≡ 103 }
 {
-    if counts {
-        2 + place as u32
-    } else {
-        ADDRESSES[place]
+    if meta.resident(vaddr) {
+        return Ok(Some(meta.page(vaddr).main()[0]));
     }
+    byte_at(device, vaddr, buf)
 }
 
 fn byte_at(

@@ -84,6 +84,7 @@ fn commits_differ(alloc: Global) -> Result<Option<(u64, usize)>, Memory> {
             for cut in 0..3usize {
                 let want = Stopped {
                     found: row.found[cut],
+                    brought: row.found[cut],
                     bytes: row.bytes[cut],
                 };
                 if stopped_at(alloc, operation, CUTS[cut])? != want {

@@ -1,27 +1,37 @@
-use Rattle.std.proofs.Common.{◌≡◌, [], List, ℕ, ap, sym, ◌∙◌, length}
-use Rattle.nl_meta.specs.Pages.{Pages}
-use Rattle.nl_journal.specs.declared.answers.ReadBack.{ReadBack}
+use Rattle.std.proofs.Common.{◌≡◌, ◌⊎◌, ◌≤◌, inl, inr, [], List, ap, sym, ◌∙◌, length, arith}
+use Rattle.nl_meta.specs.Pages.{Frozen, Pages, none_frozen}
+use Rattle.nl_journal.specs.Progress.{Progress}
+use Rattle.nl_journal.specs.Restoring.{HasRestored}
+use Rattle.nl_journal.specs.declared.answers.Phase.TheVariants.{Header, Home}
 use Rattle.nl_journal.specs.declared.answers.ReadBack.TheVariants as back
-use Rattle.nl_pages_tests.proofs.Standing.{begun-order, least-addresses, none-count, none-dirty, none-frozen}
+use Rattle.nl_pages_tests.proofs.Standing.{begun-order, least-addresses}
 use Rattle.nl_pages_tests.proofs.journal.begin.Goals as goal
 
-pub read_back-requires-clause-shape : goal.read_back-requires-clause-shape
-read_back-requires-clause-shape c = c.in-Some.ensures.numbers ∙ sym c.in_ok-device.ensures.numbers
+pub bring_back-requires-clause-shape : goal.bring_back-requires-clause-shape
+bring_back-requires-clause-shape c = c.in-Some.ensures.numbers ∙ sym c.in_ok-device.ensures.numbers
 
 pub returns-in-Nothing : goal.returns-in-Nothing
 returns-in-Nothing c =
     let kept = c.in-Nothing.ensures.kept.medium.virtual in
-    let thawed : c.in_ok-meta-in-Some.meta.frozen.addresses ≡ [] = ap (λ (p : Pages). p.frozen.addresses) c.in_ok-meta-in-Some.ensures ∙ none-frozen c.in-Some.shape.vaddrs in
+    let brought = c.in-Nothing.ensures.back not-fault in
+    let thawed : c.bring_back.new.meta.frozen.addresses ≡ [] = none c.bring_back.new.self c.bring_back.new.meta brought.restored c.in-Nothing.ensures.phase in
     record {
       formed = c.in-Nothing.ensures.formed;
       numbers = kept.same_shape ∙ c.in_ok-device.ensures.numbers;
       spare = kept.spare c.in_ok-device.ensures.spare;
       order = begun-order _ _ _ _ _ c.in_ok-device.ensures.numbers c.in_ok-device.ensures.none_failed c.in-Nothing.ensures.phase thawed
-          c.in-Nothing.ensures.found (λ tells. c.in-Nothing.ensures.number tells not-fault) kept;
-      count = ap (λ (p : Pages). length p.running) c.in_ok-meta-in-Some.ensures ∙ none-count c.in-Some.shape.vaddrs ∙ least-addresses c.in-Some.shape c.in-Some.ensures.numbers;
-      clean = ap (λ (p : Pages). p.dirty) c.in_ok-meta-in-Some.ensures ∙ none-dirty c.in-Some.shape.vaddrs;
+          c.in-Nothing.ensures.found brought.number kept;
+      count = brought.count ∙ least-addresses _ (kept.same_shape ∙ c.in_ok-device.ensures.numbers);
+      clean = brought.clean;
       thawed = thawed;
     }
   where
     not-fault : back.Nothing ≡ back.Fault → ⊥
     not-fault e = cc
+
+    none : (journal : Progress) (p : Pages) → HasRestored journal p → journal.phase ≡ Header → p.frozen.addresses ≡ []
+    none journal p r idle = by r.due
+      where
+        by : ((journal.phase ≡ Header) × (p.frozen ≡ none_frozen)) ⊎ ((journal.phase ≡ Home 0) × (1 ≤ length p.frozen.addresses)) → p.frozen.addresses ≡ []
+        by (inl e) = ap (λ (f : Frozen). f.addresses) e.1
+        by (inr e) = let no : Header ≡ Home 0 = sym idle ∙ e.0 in cc
