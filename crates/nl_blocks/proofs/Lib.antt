@@ -1,2 +1,3 @@
 pub mod TableProofs
 pub mod TableLaws
+pub mod Tournaments

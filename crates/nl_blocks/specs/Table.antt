@@ -1,5 +1,5 @@
 -- What the table of the blocks of one segment says.
-use Rattle.std.specs.Prelude.{◌≡◌, ℕ, suc, zero, ◌+◌, ◌-◌, ◌*◌, ◌/◌, ◌%◌, ◌^◌, ◌<◌, ◌≤◌, List, [], length, Bool, true, false, replicate, slice_index_or, slice_set, count_by, map, min, All, Option, MatchOption}
+use Rattle.std.specs.Prelude.{◌≡◌, ℕ, suc, zero, ◌+◌, ◌-◌, ◌*◌, ◌/◌, ◌%◌, ◌^◌, ◌<◌, ◌≤◌, List, [], length, Bool, true, false, replicate, slice_index_or, slice_set, count_by, map, min, All, Option, Some, None, MatchOption, if◌then◌else◌}
 use Rattle.nl_blocks.specs.declared.states.BlockState.{BlockState}
 use Rattle.nl_blocks.specs.declared.states.BlockState.TheVariants.{Free, Active, Target, Sealed, Victim, Retired}
 use Rattle.nl_blocks.specs.declared.states.PageState.{PageState}
@@ -141,6 +141,12 @@ worn_row row = record { state = row.state; wear = worn row.wear; pages = row.pag
 abbrev pub AreMarkedBefore : List Page → ℕ → Type 0
 AreMarkedBefore pages next = (k : ℕ) → k < next → (slice_index_or pages k new_page).marked ≡ true
 
+-- the first page that is not marked, or the number of pages
+pub record IsFirstUnmarked (pages : List Page) (next : ℕ) : Type 0 where
+  pub within : next ≤ length pages
+  pub before : AreMarkedBefore pages next
+  pub here : (slice_index_or pages next new_page).marked ≡ false
+
 -- the number of Free blocks
 abbrev pub free_count : Table → ℕ
 free_count t = count_by is_free t.blocks
@@ -162,6 +168,10 @@ BestOf test key rows n best = MatchOption best (NonePass test rows n) (IsFirstLe
 
 abbrev pub wear_of : BlockRow → ℕ
 wear_of row = row.wear
+
+-- the wear of a Free block
+abbrev pub wear_if_free : BlockRow → Option ℕ
+wear_if_free row = if is_free row then Some row.wear else None
 
 -- The Free block with the least wear, of equals the one with the least number.
 pub record IsLeastWornFree (t : Table) (block : ℕ) : Type 0 where
@@ -187,3 +197,9 @@ pub record IsTable (t : Table) : Type 0 where
   pub some : 0 < t.size
   pub numbers : (t.first + length t.blocks) * t.size < 2 ^ 32
   pub each : All (IsRow t.size) t.blocks
+
+-- What is kept of the table beside its rows: the number of Free blocks, and the wear of each.
+pub record IsTied (t : Table) (free : ℕ) (waiting : List (Option ℕ)) : Type 0 where
+  pub table : IsTable t
+  pub counted : free ≡ free_count t
+  pub keyed : waiting ≡ map wear_if_free t.blocks

@@ -4,6 +4,7 @@ ghost use Rattle.nl_blocks.specs.Table.{BestOf, HasBlock, HasPage, IsLeastWornFr
 use crate::Memory;
 use crate::row::{Block, state_with};
 use crate::states::{BlockState, PageState};
+use crate::tournament::Tournament;
 use std::alloc::Global;
 use std::marker::Model;
 
@@ -16,18 +17,18 @@ pub struct Blocks {
     blocks: Vec<Block>,
     /// The number of Free blocks.
     free: usize,
+    /// The wear of each Free block.
+    waiting: Tournament,
 }
 
 impl Model for Blocks {
-    ghost use Rattle.std.specs.Prelude.{◌≡◌};
-    ghost use Rattle.nl_blocks.specs.Table.{Table, IsTable, free_count};
+    ghost use Rattle.nl_blocks.specs.Table.{Table, IsTied};
 
     ghost Value = { Table };
 
     ghost view = { λ b. record { first = b.first; size = b.size; blocks = b.blocks.items } };
 
-    ghost invariant = { λ b. IsTable (record { first = b.first; size = b.size; blocks = b.blocks.items })
-        × (b.free ≡ free_count (record { first = b.first; size = b.size; blocks = b.blocks.items })) };
+    ghost invariant = { λ b. IsTied (record { first = b.first; size = b.size; blocks = b.blocks.items }) b.free b.waiting };
 }
 
 impl Blocks {
@@ -39,14 +40,17 @@ impl Blocks {
         ensures { IfOk result (λ b. b ≡ new_table first count pages) }
     {
         let mut blocks = Vec::with_capacity(alloc, count as usize)?;
-        'made: for _ in 0..count {
+        let mut waiting = Tournament::new(alloc, count)?;
+        'made: for at in 0..count {
             blocks.push(Block::new(alloc, pages)?)?;
+            waiting.set(at, Some(0));
         }
         Ok(Blocks {
             first,
             size: pages,
             blocks,
             free: count as usize,
+            waiting,
         })
     }
 
@@ -110,36 +114,13 @@ impl Blocks {
         self.free as u32
     }
 
-    /// The better of the best Free block so far and block `i`: the one with less wear.
-    fn better(&self, best: Option<usize>, i: usize) -> Option<usize>
-        requires within { i < length self.now.blocks }
-        requires so_far { BestOf is_free wear_of self.now.blocks i best }
-        ensures { BestOf is_free wear_of self.now.blocks (i + 1) result }
-    {
-        if !matches!(self.blocks[i].state(), BlockState::Free) {
-            return best;
-        }
-        let Some(b) = best else {
-            return Some(i);
-        };
-        if self.blocks[i].wear() < self.blocks[b].wear() {
-            Some(i)
-        } else {
-            Some(b)
-        }
-    }
-
     /// The index of the Free block with the least wear, of equals the first.
-    fn least_worn(&self) -> Option<usize>
+    fn least_worn(&self) -> Option<u32>
         ensures best { BestOf is_free wear_of self.now.blocks (length self.now.blocks) result }
         ensures some { IfSome result (λ _. 1 ≤ free_count self.now) }
         ensures none { IfNone result (free_count self.now ≡ 0) }
     {
-        let mut best = None;
-        for i in 0..self.blocks.len() {
-            best = self.better(best, i);
-        }
-        best
+        self.waiting.least()
     }
 
     /// Gives out the Free block with the least wear, of equals the one with the least number; it becomes Active, with
@@ -153,10 +134,11 @@ impl Blocks {
         if self.free() < 2 {
             return None;
         }
-        let i = self.least_worn()?;
-        self.blocks[i].take(BlockState::Active);
+        let at = self.least_worn()?;
+        self.blocks[at as usize].take(BlockState::Active);
         self.free -= 1;
-        Some(self.first + i as u32)
+        self.waiting.set(at, None);
+        Some(self.first + at)
     }
 
     /// Gives out the Free block with the least wear, of equals the one with the least number, to the cleaner; it
@@ -167,10 +149,11 @@ impl Blocks {
         ensures taken { IfSome result (λ block. self.new ≡ with_block self.old block (taken (block_at self.old block) BlockState.Target)) }
         ensures none { IfNone result (self.new ≡ self.old) }
     {
-        let i = self.least_worn()?;
-        self.blocks[i].take(BlockState::Target);
+        let at = self.least_worn()?;
+        self.blocks[at as usize].take(BlockState::Target);
         self.free -= 1;
-        Some(self.first + i as u32)
+        self.waiting.set(at, None);
+        Some(self.first + at)
     }
 
     /// The first page of the block that was not marked since the block was taken, or since `new` where it never was.
@@ -212,10 +195,12 @@ impl Blocks {
         requires { HasBlock self.old block }
         ensures { self.new ≡ with_block self.old block (in_state (block_at self.old block) BlockState.Sealed) }
     {
-        let i = (block - self.first) as usize;
+        let at = block - self.first;
+        let i = at as usize;
         let was = self.blocks[i].is_free();
         self.blocks[i].set_state(BlockState::Sealed);
         self.free = recounted(self.free, was, false);
+        self.waiting.set(at, None);
     }
 
     /// Makes a Sealed block the Victim.
@@ -234,10 +219,12 @@ impl Blocks {
         requires { HasBlock self.old block }
         ensures { self.new ≡ with_block self.old block (erased_row (block_at self.old block) names) }
     {
-        let i = (block - self.first) as usize;
+        let at = block - self.first;
+        let i = at as usize;
         let was = self.blocks[i].is_free();
         self.blocks[i].erased(names);
         self.free = recounted(self.free, was, names == 0);
+        self.waiting.set(at, self.blocks[i].wear_if_free());
     }
 
     /// A block in use was erased again before its pages are used: its wear is one more, and its state and its pages stay.
@@ -245,7 +232,10 @@ impl Blocks {
         requires { HasBlock self.old block }
         ensures { self.new ≡ with_block self.old block (worn_row (block_at self.old block)) }
     {
-        self.blocks[(block - self.first) as usize].reerased();
+        let at = block - self.first;
+        let i = at as usize;
+        self.blocks[i].reerased();
+        self.waiting.set(at, self.blocks[i].wear_if_free());
     }
 
     /// Gives the block back as it is, without an erase: it is Free where no name of its pages is in use, and else Retired
@@ -255,10 +245,12 @@ impl Blocks {
         requires { HasBlock self.old block }
         ensures { self.new ≡ with_block self.old block (in_state (block_at self.old block) (after_erase names)) }
     {
-        let i = (block - self.first) as usize;
+        let at = block - self.first;
+        let i = at as usize;
         let was = self.blocks[i].is_free();
         self.blocks[i].set_state(state_with(names));
         self.free = recounted(self.free, was, names == 0);
+        self.waiting.set(at, self.blocks[i].wear_if_free());
     }
 
     /// Takes one name from a Retired block; on the last name it is Free.
@@ -268,10 +260,12 @@ impl Blocks {
         requires retired { is_retired_state (block_at self.old block).state ≡ true }
         ensures { let row = block_at self.old block in self.new ≡ with_block self.old block (in_state row (after_erase (names_of row.state - 1))) }
     {
-        let i = (block - self.first) as usize;
+        let at = block - self.first;
+        let i = at as usize;
         if let BlockState::Retired(names) = self.blocks[i].state() {
             self.blocks[i].set_state(state_with(names.saturating_sub(1)));
             self.free = recounted(self.free, false, names == 1);
+            self.waiting.set(at, self.blocks[i].wear_if_free());
         }
     }
 
@@ -283,10 +277,12 @@ impl Blocks {
         requires idle { (is_free_state (block_at self.old block).state ≡ true) ⊎ (is_retired_state (block_at self.old block).state ≡ true) }
         ensures { self.new ≡ with_block self.old block (record { state = after_erase names; wear = wear; pages = (block_at self.old block).pages }) }
     {
-        let i = (block - self.first) as usize;
+        let at = block - self.first;
+        let i = at as usize;
         let was = self.blocks[i].is_free();
         self.blocks[i].found(wear, names);
         self.free = recounted(self.free, was, names == 0);
+        self.waiting.set(at, self.blocks[i].wear_if_free());
     }
 }
 

@@ -4,6 +4,7 @@
 mod blocks;
 mod row;
 mod states;
+mod tournament;
 
 pub use blocks::Blocks;
 pub use states::{BlockState, PageState};

@@ -1,5 +1,5 @@
 ghost use Rattle.std.specs.Prelude.{◌≡◌, ℕ, ◌^◌, ◌<◌, ◌≤◌, ◌↔◌, length, map, true, false, IfOk, IfSome, IsNone, slice_index_or};
-ghost use Rattle.nl_blocks.specs.Table.{after_erase, dead_count, erased_row, in_state, is_free, new_page, new_row, taken, unmarked, with_mark, worn_row};
+ghost use Rattle.nl_blocks.specs.Table.{AreMarkedBefore, IsFirstUnmarked, after_erase, dead_count, erased_row, in_state, is_free, new_page, new_row, taken, unmarked, wear_if_free, with_mark, worn_row};
 
 use crate::Memory;
 use crate::states::{BlockState, Page, PageState};
@@ -13,20 +13,20 @@ pub struct Block {
     wear: u32,
     /// The number of its dead pages.
     dead: u32,
-    /// All pages before this one are marked.
+    /// The first page that is not marked, or the number of pages.
     next: u32,
     pages: Vec<Page>,
 }
 
 impl Model for Block {
-    ghost use Rattle.std.specs.Prelude.{◌≡◌, ℕ, ◌<◌, ◌≤◌, ◌^◌, length, count_by};
-    ghost use Rattle.nl_blocks.specs.Table.{BlockRow, AreMarkedBefore, is_dead};
+    ghost use Rattle.std.specs.Prelude.{◌≡◌, ◌<◌, ◌^◌, length, count_by};
+    ghost use Rattle.nl_blocks.specs.Table.{BlockRow, IsFirstUnmarked, is_dead};
 
     ghost Value = { BlockRow };
 
     ghost view = { λ b. record { state = b.state; wear = b.wear; pages = b.pages.items } };
 
-    ghost invariant = { λ b. (b.dead ≡ count_by is_dead b.pages.items) × (length b.pages.items < 2 ^ 32) × (b.next ≤ length b.pages.items) × AreMarkedBefore b.pages.items b.next };
+    ghost invariant = { λ b. (b.dead ≡ count_by is_dead b.pages.items) × (length b.pages.items < 2 ^ 32) × IsFirstUnmarked b.pages.items b.next };
 }
 
 impl Block {
@@ -81,12 +81,11 @@ impl Block {
         ensures earlier { IfSome result (λ at. (k : ℕ) → k < at → (slice_index_or self.now.pages k new_page).marked ≡ true) }
         ensures none { IsNone result ↔ ((k : ℕ) → k < length self.now.pages → (slice_index_or self.now.pages k new_page).marked ≡ true) }
     {
-        for at in self.next as usize..self.pages.len() {
-            if !self.pages[at].marked {
-                return Some(at as u32);
-            }
+        if (self.next as usize) < self.pages.len() {
+            Some(self.next)
+        } else {
+            None
         }
-        None
     }
 
     pub fn set_state(&mut self, state: BlockState)
@@ -106,6 +105,16 @@ impl Block {
         ensures { result ≡ is_free self.now }
     {
         matches!(self.state, BlockState::Free)
+    }
+
+    pub fn wear_if_free(&self) -> Option<u32>
+        ensures { result ≡ wear_if_free self.now }
+    {
+        if self.is_free() {
+            Some(self.wear)
+        } else {
+            None
+        }
     }
 
     /// One more erase; the wear stands at the end of its type.
@@ -147,7 +156,7 @@ impl Block {
             marked: true,
         };
         if at == self.next as usize {
-            self.next += 1;
+            self.next = first_unmarked(&self.pages, self.next + 1);
         }
     }
 }
@@ -161,6 +170,21 @@ pub fn state_with(names: u32) -> BlockState
     } else {
         BlockState::Retired(names)
     }
+}
+
+/// The first page from one on that is not marked, where those before it are marked.
+fn first_unmarked(pages: &[Page], from: u32) -> u32
+    requires fits { length pages.now < 2 ^ 32 }
+    requires within { from ≤ length pages.now }
+    requires before { AreMarkedBefore pages.now from }
+    ensures { IsFirstUnmarked pages.now result }
+{
+    for at in from as usize..pages.len() {
+        if !pages[at].marked {
+            return at as u32;
+        }
+    }
+    pages.len() as u32
 }
 
 fn unmark(pages: &mut Vec<Page>)

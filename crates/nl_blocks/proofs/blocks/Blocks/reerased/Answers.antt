@@ -1,0 +1,17 @@
+use Rattle.std.proofs.Common.{◌≡◌, ◌∙◌, ◌-◌, ◌<◌, length, ap, sym, subst, refl, arith, true}
+use Rattle.nl_blocks.specs.Table.{BlockRow, HasBlock, Table, is_free, is_retired_state, names_of}
+use Rattle.nl_blocks.proofs.TableProofs.{renewed}
+use Rattle.nl_blocks.proofs.blocks.Blocks.reerased.Goals as goal
+
+pub invariant_of-self : goal.invariant_of-self
+invariant_of-self c =
+    let t : Table = record { first = c.self.inside.first; size = c.self.inside.size; blocks = c.self.inside.blocks.items } in
+    let has : HasBlock t c.args.block = subst (λ (s : Table). HasBlock s c.args.block) (sym c.self.view_is) c.requires in
+    let from = has.from in
+    let below = has.below in
+    let inside : c.args.block - t.first < length t.blocks = omega (arith, from, below) in
+    renewed t c.self.inside.free c.self.inside.waiting c.self.invariant (c.args.block - t.first) inside c.index_mut.result.now c.index_mut.result.now c.reerased.new.self c.index.result.now
+    c.index_mut.ensures.value c.index_mut.ensures.value c.index.ensures
+    (λ row. record { pages = ap (λ (r : BlockRow). length r.pages) c.reerased.ensures ∙ row.pages; names = subst (λ (r : BlockRow). is_retired_state r.state ≡ true → 0 < names_of r.state) (sym c.reerased.ensures) row.names })
+    c.self.inside.free (is_free c.index_mut.result.now) (is_free c.index_mut.result.now) refl refl (sym (ap is_free c.reerased.ensures))
+    c.set.new.self c.wear_if_free.result c.set.ensures c.wear_if_free.ensures
