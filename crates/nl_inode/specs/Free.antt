@@ -1,11 +1,15 @@
 -- Which numbers are free.
-use Rattle.std.specs.Prelude.{◌≡◌, ◌≢◌, ℕ, ◌<◌, Bool, true, false, List, length, slice_index_or}
+use Rattle.std.specs.Prelude.{◌≡◌, ◌≢◌, ℕ, ◌<◌, Bool, true, false, List, length, count_by, slice_index_or}
 
 abbrev pub is_free : List Bool → ℕ → Bool
 is_free free k = slice_index_or free k false
 
 abbrev pub NoneFree : List Bool → Type 0
 NoneFree free = (k : ℕ) → is_free free k ≡ false
+
+-- how many numbers are free
+abbrev pub count_free : List Bool → ℕ
+count_free free = count_by (λ b. b) free
 
 -- k is free, and no lesser number is.
 pub record IsLeast (k : ℕ) (free : List Bool) : Type 0 where

@@ -1,5 +1,5 @@
 ghost use Rattle.std.specs.Prelude.{◌≡◌, ◌<◌, ◌≤◌, ◌+◌, ◌*◌, ◌/◌, ◌^◌, ◌||◌, ℕ, IfOk, MatchOption, true, false, length, slice_index_or, slice_set};
-ghost use Rattle.nl_inode.specs.Free.{Becomes, IsLeast, NoneFree, is_free};
+ghost use Rattle.nl_inode.specs.Free.{Becomes, IsLeast, NoneFree, count_free, is_free};
 ghost use Rattle.nl_inode.specs.Tree.{IsFirstIn, MarksBelow, MarksBelowBut, SameLeaves, mark_at};
 
 use nl_field::Memory;
@@ -83,6 +83,20 @@ impl FreeSet {
         } else {
             None
         }
+    }
+
+    /// How many numbers are free.
+    pub(crate) fn free(&self) -> u32
+        ensures { result ≡ count_free self.now }
+    {
+        let leaves = &self.tree[self.width..self.width + self.count];
+        let mut free = 0;
+        for leaf in leaves {
+            if *leaf {
+                free += 1;
+            }
+        }
+        free
     }
 
     /// A number is free from now on, or not.

@@ -4,7 +4,7 @@ ghost use Rattle.nl_field.specs.Numbers.{ShapeBounds};
 ghost use Rattle.nl_meta.specs.Nodes.{inode_at};
 ghost use Rattle.nl_meta.specs.Pages.{has_room, page_of};
 ghost use Rattle.nl_meta.specs.SlotLaws.{with_slot};
-ghost use Rattle.nl_inode.specs.Free.{IsLeast, NoneFree};
+ghost use Rattle.nl_inode.specs.Free.{IsLeast, NoneFree, count_free};
 ghost use Rattle.nl_inode.specs.Nodes.{AddressBecomes, IsLeastAddress, NodeBecomes, PutsNode, is_free_address, is_free_node, page_of_node, taken_as};
 
 use crate::free_set::FreeSet;
@@ -100,6 +100,20 @@ impl Nodes {
             Some(k) => Some(self.first + k),
             None => None,
         }
+    }
+
+    /// How many nodes are free.
+    pub fn free_nodes(&self) -> u32
+        ensures { result ≡ count_free self.now.nodes }
+    {
+        self.nodes.free()
+    }
+
+    /// How many addresses of the pool are free.
+    pub fn free_pool(&self) -> u32
+        ensures { result ≡ count_free self.now.pool }
+    {
+        self.pool.free()
     }
 
     /// A node is free from now on.
