@@ -9,7 +9,7 @@ use nl_meta::Meta;
 use nl_running::{Stop, hold};
 
 /// The pages of a directory are resident.
-pub(crate) fn hold_entries<D: VirtualPages>(
+pub fn hold_entries<D: VirtualPages>(
     device: &mut D,
     meta: &mut Meta,
     rec: &InodeRec,

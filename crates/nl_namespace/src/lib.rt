@@ -20,6 +20,7 @@ mod walk;
 
 pub use answer::{Change, Listing, Look};
 pub use changing::change;
+pub use hold::hold_entries;
 pub use making::make;
 pub use names::list;
 pub use nl_running::Stop;

@@ -10,6 +10,7 @@ pub mod LeftIsSoundProofs
 pub mod MetaCharge
 pub mod NamedPages
 pub mod PagesOfFiles
+pub mod Ranges
 pub mod ReadableProofs
 pub mod Represented
 pub mod SoundProofs
