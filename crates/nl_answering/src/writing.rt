@@ -20,7 +20,8 @@ use nl_held::laws::device_stands;
 use nl_iface::Counts;
 use nl_nand::Nand;
 use nl_tree::{Call, FaultReply, Path, Reply};
-use nl_writing::{Written, length_of, truncate_call, write_call};
+use nl_truncating::truncate_call;
+use nl_writing::{Written, length_of, write_call};
 
 // A write or a fill.
 pub(crate) fn write<M: Nand>(

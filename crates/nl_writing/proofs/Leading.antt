@@ -17,7 +17,7 @@ use Rattle.nl_effect.specs.Steps.{ReadsOn}
 use Rattle.nl_writing.specs.Finding.{IsFileOrNot, IsFound, IsSomeFile, nodes_of}
 use Rattle.nl_writing.specs.declared.answer.Found.{Found}
 use Rattle.nl_writing.specs.declared.answer.Found.TheVariants as found
-use Rattle.nl_writing.proofs.Found.{look-directory}
+use Rattle.nl_writing.proofs.FoundFiles.{look-directory}
 use Rattle.nl_writing.proofs.Reading.{node-back, some-back}
 
 -- a used node that is no file is a directory

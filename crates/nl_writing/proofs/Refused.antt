@@ -39,7 +39,7 @@ use Rattle.nl_writing.specs.Contents.{count_indexes, first_index, indexes_writte
 use Rattle.nl_effect.specs.LineNeeds.{free_addresses, gets_page, new_pointers, new_ranges}
 use Rattle.nl_writing.specs.Room.{room_refusal}
 use Rattle.nl_writing.proofs.Pool.{pool-counted}
-use Rattle.nl_writing.proofs.Ranges.{range_there}
+use Rattle.nl_sound.proofs.Ranges.{range_there}
 use Rattle.nl_writing.proofs.Room.{longer, ranges-more, space-is}
 use Rattle.nl_writing.specs.Ranges.{IsWriting, data_of, from_of, len_of, path_of}
 use Rattle.nl_writing.proofs.Spans.{meets, some-in-range}

@@ -10,4 +10,3 @@ pub mod Ranges
 pub mod Refusals
 pub mod Room
 pub mod Staged
-pub mod Truncating

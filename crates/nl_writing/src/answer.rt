@@ -3,7 +3,7 @@ use nl_tree::Refusal;
 
 /// What a path leads to, of a call on a file.
 #[derive(Clone, Copy, Debug, PartialEq, Eq)]
-pub(crate) enum Found {
+pub enum Found {
     File(u32),
     No(Refusal),
 }

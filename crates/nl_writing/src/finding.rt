@@ -20,7 +20,7 @@ use nl_running::Stop;
 use nl_tree::{Path, Refusal, is_long};
 
 /// The file that a path leads to, or why it leads to none.
-pub(crate) fn find_file<M: Nand>(core: &mut Core<M>, path: &Path) -> Result<Found, Stop>
+pub fn find_file<M: Nand>(core: &mut Core<M>, path: &Path) -> Result<Found, Stop>
     requires formed { ⟦<Device<M> as Counts>⟧.formed core.old.device }
     requires core { IsCore ⟦<Device<M> as Counts>⟧ core.old }
     ensures formed { ⟦<Device<M> as Counts>⟧.formed core.new.device }

@@ -69,7 +69,7 @@ pub(crate) fn fits<M: Nand>(
 }
 
 /// Commits where fewer than four more pages may become dirty.
-pub(crate) fn make_room<M: Nand>(core: &mut Core<M>) -> Result<(), Stop>
+pub fn make_room<M: Nand>(core: &mut Core<M>) -> Result<(), Stop>
     requires formed { ⟦<Device<M> as Counts>⟧.formed core.old.device }
     requires core { IsCore ⟦<Device<M> as Counts>⟧ core.old }
     requires writes { core.old.stopped ≡ 0 }

@@ -59,7 +59,7 @@ pub(crate) fn make_page<M: Nand>(
 }
 
 /// Reads the page of an index of a file over zeros.
-pub(crate) fn read_page<M: Nand>(
+pub fn read_page<M: Nand>(
     core: &mut Core<M>,
     ino: u32,
     index: u32,

@@ -4,7 +4,7 @@ use Rattle.nl_device.specs.contracts.counts.DeviceCounts.TheImpl.{ghosts}
 use Rattle.nl_running.specs.Reading.{stop_of}
 use Rattle.nl_core.specs.Core.{running_of}
 use Rattle.nl_writing.proofs.Early.{early-then}
-use Rattle.nl_writing.proofs.Found.{look-missing, look-refused, too-long}
+use Rattle.nl_writing.proofs.FoundFiles.{look-missing, look-refused, too-long}
 use Rattle.nl_writing.proofs.Leading.{at-end}
 use Rattle.nl_writing.proofs.Reading.{reads-none, reads-then, still-used}
 use Rattle.nl_writing.proofs.finding.find_file.Goals as goal

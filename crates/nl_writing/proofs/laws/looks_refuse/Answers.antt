@@ -1,4 +1,4 @@
-use Rattle.nl_writing.proofs.Found.{looks-refuse}
+use Rattle.nl_writing.proofs.FoundFiles.{looks-refuse}
 use Rattle.nl_writing.proofs.laws.looks_refuse.Goals as goal
 
 pub returns : goal.returns

@@ -1,0 +1,9 @@
+pub mod CutEnds
+pub mod CutFlight
+pub mod CutHolders
+pub mod CutMade
+pub mod CutNodes
+pub mod CutPages
+pub mod CutPut
+pub mod CutReads
+pub mod CutStep

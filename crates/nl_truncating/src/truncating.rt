@@ -1,0 +1,276 @@
+ghost use Rattle.std.specs.Prelude.{◌≡◌, ◌≤◌, ◌<◌, ◌+◌, ◌-◌, ◌/◌, ◌^◌, false, IfOk, OnErr, Some, length};
+ghost use Rattle.nl_flight.specs.Flight.{begun, of_worker};
+ghost use Rattle.nl_tree.specs.Represents.{node_reached};
+ghost use Rattle.nl_tree.specs.Step.{is_too_long};
+ghost use Rattle.nl_tree.specs.declared.call.Call.TheVariants.{Truncate};
+ghost use Rattle.nl_iface.specs.Calls.{StoresPages};
+ghost use Rattle.nl_iface.specs.Device.{IsVolumeShape};
+ghost use Rattle.nl_meta.specs.Pages.{besides_0, most};
+ghost use Rattle.nl_running.specs.Reading.{stop_of};
+ghost use Rattle.nl_core.specs.Core.{IsCore};
+ghost use Rattle.nl_core.specs.Goes.{Goes};
+ghost use Rattle.nl_effect.specs.Installing.{IsAtHand};
+ghost use Rattle.nl_effect.specs.Steps.{ReadsOn};
+ghost use Rattle.nl_effect.specs.Taking.{HasRoomToTake};
+ghost use Rattle.nl_effect.specs.Truncating.{CutsFileTo, HasPartial};
+ghost use Rattle.nl_writing.specs.Answers.{EndsEarly};
+ghost use Rattle.nl_writing.specs.Calls.{HasPagesOfFiles, IfDone, IfUndone, RunsAsSome, TakesCall, stop_in};
+ghost use Rattle.nl_writing.specs.Finding.{IsFound, IsSomeFile, nodes_of};
+ghost use Rattle.nl_writing.specs.Lines.{OthersStay};
+ghost use Rattle.nl_truncating.specs.Truncating.{AnswersTruncate, CanCut, CutsFile, IsCut, IsUncut, Truncates};
+
+use crate::cutting::{hold_end, open_file, put_cut};
+use nl_core::Core;
+use nl_device::Device;
+use nl_effect::cut_file;
+use nl_field::{InodeRec, PageBuf};
+use nl_files::FileAnswer;
+use nl_flight::Flight;
+use nl_held::laws::device_stands;
+use nl_iface::Counts;
+use nl_namespace::laws::looks_in_tree;
+use nl_nand::Nand;
+use nl_running::Stop;
+use nl_tree::{Path, Refusal};
+use nl_writing::{Found, Written, find_file, make_room};
+
+/// The greatest size of a file.
+const MOST: u64 = 16_809_984;
+
+/// Cuts a file to a size or lengthens it, on a volume that can be written and whose files have so many pages. The pages that the worker has in flight
+/// are dropped. `Done` comes where the step of the tree is done, with how many pages files have then; `No` with its refusal, which is never for want of
+/// room; `Fault` where a program, a read or a commit failed; and `Lost` where a page does not hold the write sequence number under which it is looked
+/// for. But for `Done` the tree and the number of pages are as before, and a page may be in flight for the line.
+pub fn truncate_call<M: Nand>(
+    core: &mut Core<M>,
+    worker: u8,
+    line: u32,
+    path: &Path,
+    size: u64,
+    files: u32,
+    page: &mut PageBuf,
+) -> Written
+    requires formed { ⟦<Device<M> as Counts>⟧.formed core.old.device }
+    requires core { IsCore ⟦<Device<M> as Counts>⟧ core.old }
+    requires writes { core.old.stopped ≡ 0 }
+    requires stamp { ⟦<Device<M> as Counts>⟧.next_stamp core.old.device < 2 ^ 62 }
+    requires runs { RunsAsSome ⟦<Device<M> as Counts>⟧ core.old }
+    requires known { worker < 8 }
+    requires some { 0 < line }
+    requires files { HasPagesOfFiles ⟦<Device<M> as Counts>⟧ core.old files }
+    ensures formed { ⟦<Device<M> as Counts>⟧.formed core.new.device }
+    ensures core { IsCore ⟦<Device<M> as Counts>⟧ core.new }
+    ensures done { IfDone result (λ now. TakesCall ⟦<Device<M> as Counts>⟧ worker (Truncate path.now size) core.old core.new × HasPagesOfFiles ⟦<Device<M> as Counts>⟧ core.new now) }
+    ensures undone { IfUndone result (Goes ⟦<Device<M> as Counts>⟧ (2 ^ 40) core.old core.new × HasPagesOfFiles ⟦<Device<M> as Counts>⟧ core.new files) }
+    ensures answer { AnswersTruncate ⟦<Device<M> as Counts>⟧ path.now size core.old result }
+    ensures others { OthersStay worker core.old.flight core.new.flight }
+    ensures early { EndsEarly ⟦<Device<M> as Counts>⟧ core.old core.new (stop_in result) }
+{
+    core.drop_line(worker);
+    truncate_alone(core, worker, line, path, size, files, page)
+}
+
+// The same of a worker without a line.
+fn truncate_alone<M: Nand>(
+    core: &mut Core<M>,
+    worker: u8,
+    line: u32,
+    path: &Path,
+    size: u64,
+    files: u32,
+    page: &mut PageBuf,
+) -> Written
+    requires formed { ⟦<Device<M> as Counts>⟧.formed core.old.device }
+    requires core { IsCore ⟦<Device<M> as Counts>⟧ core.old }
+    requires writes { core.old.stopped ≡ 0 }
+    requires stamp { ⟦<Device<M> as Counts>⟧.next_stamp core.old.device < 2 ^ 62 }
+    requires runs { RunsAsSome ⟦<Device<M> as Counts>⟧ core.old }
+    requires known { worker < 8 }
+    requires some { 0 < line }
+    requires none { of_worker core.old.flight worker ≡ begun 0 }
+    requires files { HasPagesOfFiles ⟦<Device<M> as Counts>⟧ core.old files }
+    ensures formed { ⟦<Device<M> as Counts>⟧.formed core.new.device }
+    ensures ends { Truncates ⟦<Device<M> as Counts>⟧ worker path.now size core.old core.new result }
+{
+    match find_there(core, path) {
+        Ok(Found::File(ino)) => truncate_found(core, worker, line, path, ino, size, files, page),
+        Ok(Found::No(refusal)) => Written::No(refusal),
+        Err(Stop::Fault) => Written::Fault,
+        Err(Stop::Lost { wanted, found }) => Written::Lost { wanted, found },
+    }
+}
+
+// What the path leads to.
+fn find_there<M: Nand>(core: &mut Core<M>, path: &Path) -> Result<Found, Stop>
+    requires formed { ⟦<Device<M> as Counts>⟧.formed core.old.device }
+    requires core { IsCore ⟦<Device<M> as Counts>⟧ core.old }
+    ensures formed { ⟦<Device<M> as Counts>⟧.formed core.new.device }
+    ensures core { IsCore ⟦<Device<M> as Counts>⟧ core.new }
+    ensures volume { IsVolumeShape (⟦<Device<M> as Counts>⟧.shape core.old.device) }
+    ensures stores { M.tells → StoresPages ⟦<Device<M> as Counts>⟧ core.new.device }
+    ensures same { ReadsOn ⟦<Device<M> as Counts>⟧ core.old core.new }
+    ensures found { IfOk result (IsFound ⟦<Device<M> as Counts>⟧ core.old path.now) }
+    ensures early { EndsEarly ⟦<Device<M> as Counts>⟧ core.old core.new (stop_of result) }
+{
+    device_stands(&core.device);
+    let found = find_file(core, path);
+    device_stands(&core.device);
+    found
+}
+
+// The same of the file to which the path leads.
+fn truncate_found<M: Nand>(
+    core: &mut Core<M>,
+    worker: u8,
+    line: u32,
+    path: &Path,
+    ino: u32,
+    size: u64,
+    files: u32,
+    page: &mut PageBuf,
+) -> Written
+    requires formed { ⟦<Device<M> as Counts>⟧.formed core.old.device }
+    requires core { IsCore ⟦<Device<M> as Counts>⟧ core.old }
+    requires writes { core.old.stopped ≡ 0 }
+    requires stamp { ⟦<Device<M> as Counts>⟧.next_stamp core.old.device < 2 ^ 62 }
+    requires runs { RunsAsSome ⟦<Device<M> as Counts>⟧ core.old }
+    requires known { worker < 8 }
+    requires some { 0 < line }
+    requires none { of_worker core.old.flight worker ≡ begun 0 }
+    requires short { is_too_long path.now ≡ false }
+    requires leads { node_reached (nodes_of ⟦<Device<M> as Counts>⟧ core.old) 0 path.now ≡ Some ino }
+    requires file { IsSomeFile ⟦<Device<M> as Counts>⟧ core.old ino }
+    requires files { HasPagesOfFiles ⟦<Device<M> as Counts>⟧ core.old files }
+    ensures formed { ⟦<Device<M> as Counts>⟧.formed core.new.device }
+    ensures ends { Truncates ⟦<Device<M> as Counts>⟧ worker path.now size core.old core.new result }
+{
+    looks_in_tree();
+    if size > MOST {
+        return Written::No(Refusal::Efbig);
+    }
+    match truncate_file(core, worker, line, ino, size, files, page) {
+        Ok(now) => Written::Done(now),
+        Err(Stop::Fault) => Written::Fault,
+        Err(Stop::Lost { wanted, found }) => Written::Lost { wanted, found },
+    }
+}
+
+// Cuts a file to a size that a file may have, and tells how many pages files have then.
+fn truncate_file<M: Nand>(
+    core: &mut Core<M>,
+    worker: u8,
+    line: u32,
+    ino: u32,
+    size: u64,
+    files: u32,
+    page: &mut PageBuf,
+) -> Result<u32, Stop>
+    requires formed { ⟦<Device<M> as Counts>⟧.formed core.old.device }
+    requires core { IsCore ⟦<Device<M> as Counts>⟧ core.old }
+    requires writes { core.old.stopped ≡ 0 }
+    requires stamp { ⟦<Device<M> as Counts>⟧.next_stamp core.old.device < 2 ^ 62 }
+    requires runs { RunsAsSome ⟦<Device<M> as Counts>⟧ core.old }
+    requires known { worker < 8 }
+    requires some { 0 < line }
+    requires none { of_worker core.old.flight worker ≡ begun 0 }
+    requires file { IsSomeFile ⟦<Device<M> as Counts>⟧ core.old ino }
+    requires size { size ≤ 16809984 }
+    requires files { HasPagesOfFiles ⟦<Device<M> as Counts>⟧ core.old files }
+    ensures formed { ⟦<Device<M> as Counts>⟧.formed core.new.device }
+    ensures core { IsCore ⟦<Device<M> as Counts>⟧ core.new }
+    ensures cut { IfOk result (λ n. CutsFile ⟦<Device<M> as Counts>⟧ (2 ^ 31) worker ino size core.old core.new) }
+    ensures files { IfOk result (HasPagesOfFiles ⟦<Device<M> as Counts>⟧ core.new) }
+    ensures uncut { OnErr result (Goes ⟦<Device<M> as Counts>⟧ (2 ^ 31) core.old core.new) }
+    ensures others { OthersStay worker core.old.flight core.new.flight }
+    ensures early { EndsEarly ⟦<Device<M> as Counts>⟧ core.old core.new (stop_of result) }
+{
+    put_cut(core, worker, line, ino, size, page)?;
+    if core.stopped != 0 {
+        return Err(Stop::Fault);
+    }
+    make_room(core)?;
+    device_stands(&core.device);
+    cut_now(core, worker, ino, size, files)
+}
+
+// The same where the page in which the file ends then is in flight, if it needs one, and pages may become dirty.
+fn cut_now<M: Nand>(
+    core: &mut Core<M>,
+    worker: u8,
+    ino: u32,
+    size: u64,
+    files: u32,
+) -> Result<u32, Stop>
+    requires formed { ⟦<Device<M> as Counts>⟧.formed core.old.device }
+    requires core { IsCore ⟦<Device<M> as Counts>⟧ core.old }
+    requires known { worker < 8 }
+    requires size { size ≤ 16809984 }
+    requires ready { CanCut ⟦<Device<M> as Counts>⟧ core.old worker ino size }
+    requires room { length (besides_0 core.old.meta.dirty) + 4 ≤ most }
+    requires files { HasPagesOfFiles ⟦<Device<M> as Counts>⟧ core.old files }
+    ensures formed { ⟦<Device<M> as Counts>⟧.formed core.new.device }
+    ensures core { IsCore ⟦<Device<M> as Counts>⟧ core.new }
+    ensures cut { IfOk result (λ n. IsCut ⟦<Device<M> as Counts>⟧ worker ino size core.old core.new) }
+    ensures files { IfOk result (HasPagesOfFiles ⟦<Device<M> as Counts>⟧ core.new) }
+    ensures uncut { OnErr result (IsUncut ⟦<Device<M> as Counts>⟧ core.old core.new) }
+    ensures early { EndsEarly ⟦<Device<M> as Counts>⟧ core.old core.new (stop_of result) }
+{
+    let mut rec = open_file(core, ino)?;
+    hold_end(core, &rec, size)?;
+    cut_held(core, worker, ino, &mut rec, size, files)
+}
+
+// The same of a file whose record is resident, and the page that has the pointer of the index in which it ends then.
+fn cut_held<M: Nand>(
+    core: &mut Core<M>,
+    worker: u8,
+    ino: u32,
+    rec: &mut InodeRec,
+    size: u64,
+    files: u32,
+) -> Result<u32, Stop>
+    requires formed { ⟦<Device<M> as Counts>⟧.formed core.old.device }
+    requires core { IsCore ⟦<Device<M> as Counts>⟧ core.old }
+    requires known { worker < 8 }
+    requires hand { IsAtHand ⟦<Device<M> as Counts>⟧ core.old ino (size / 4096) rec.old }
+    requires partial { HasPartial ⟦<Device<M> as Counts>⟧ core.old worker ino size rec.old }
+    requires room { HasRoomToTake core.old.meta rec.old ino (size / 4096) }
+    requires size { size ≤ 16809984 }
+    requires files { HasPagesOfFiles ⟦<Device<M> as Counts>⟧ core.old files }
+    ensures formed { ⟦<Device<M> as Counts>⟧.formed core.new.device }
+    ensures core { IsCore ⟦<Device<M> as Counts>⟧ core.new }
+    ensures cut { IfOk result (λ n. CutsFileTo ⟦<Device<M> as Counts>⟧ worker ino size rec.old rec.new core.old core.new) }
+    ensures files { IfOk result (HasPagesOfFiles ⟦<Device<M> as Counts>⟧ core.new) }
+    ensures uncut { OnErr result (IsUncut ⟦<Device<M> as Counts>⟧ core.old core.new) }
+    ensures early { EndsEarly ⟦<Device<M> as Counts>⟧ core.old core.new (stop_of result) }
+{
+    device_stands(&core.device);
+    let landing = pages_of(&core.flight, worker);
+    let awaited = core.freeing.len();
+    match cut_file(core, worker, ino, rec, size) {
+        FileAnswer::Done => Ok(files_after(files, landing, awaited, core.freeing.len())),
+        FileAnswer::Fault => Err(Stop::Fault),
+        FileAnswer::Lost { wanted, found } => Err(Stop::Lost { wanted, found }),
+    }
+}
+
+// How many pages a worker has in flight, of which it has one at most.
+fn pages_of(flight: &Flight, worker: u8) -> u32
+    requires known { worker < 8 }
+    requires one { length (of_worker flight.now worker).pages ≤ 1 }
+    ensures { result ≡ length (of_worker flight.now worker).pages }
+{
+    match flight.get(worker, 0) {
+        Some(_) => 1,
+        None => 0,
+    }
+}
+
+// How many pages files have, of those that they had, those that landed in them, and how many more await their free.
+fn files_after(files: u32, landed: u32, before: u32, after: u32) -> u32
+    requires enough { after ≤ files + landed + before }
+    requires fits { files + landed + before < 2 ^ 32 + after }
+    ensures { result + after ≡ files + landed + before }
+{
+    (u64::from(files) + u64::from(landed) + u64::from(before) - u64::from(after)) as u32
+}
