@@ -14,7 +14,7 @@ use Rattle.nl_field.specs.declared.inode.Kind.TheVariants.{Dir, File, Unused}
 use Rattle.nl_field.specs.declared.shape.Shape.{Shape}
 use Rattle.nl_field.proofs.Bounds.{bounds}
 use Rattle.nl_held.specs.Trees.{RunsAs}
-use Rattle.nl_inode.specs.Free.{is_free}
+use Rattle.nl_inode.specs.Free.{count_free, is_free}
 use Rattle.nl_inode.specs.FreeLaws.{NodesAreFree, PoolIsFree, Uses}
 use Rattle.nl_inode.specs.Nodes.{Spaces}
 use Rattle.nl_meta.specs.Committed.{VirtualMap}
@@ -32,7 +32,6 @@ use Rattle.nl_tree.specs.Charges.{meta_charge, node_charge}
 use Rattle.nl_tree.specs.CountLaws.{Differ}
 use Rattle.nl_tree.specs.Tree.{Tree}
 use Rattle.nl_tree.proofs.CountProofs.{count_laws}
-use Rattle.nl_walking.specs.Counts.{count_free}
 
 false-true : false ≡ true → ⊥
 false-true e = cc

@@ -1,6 +1,5 @@
 pub mod Charging
 pub mod Climbing
-pub mod Freed
 pub mod Giving
 pub mod Depth
 pub mod Directories

@@ -1,6 +1,5 @@
 -- How much of a volume its tree takes, by what a core keeps.
-use Rattle.std.specs.Prelude.{◌≡◌, ℕ, Bool, List, length, Option}
-use Rattle.std.specs.List.{count_by}
+use Rattle.std.specs.Prelude.{◌≡◌, ℕ, length, Option}
 use Rattle.nl_tree.specs.Charges.{data_charge, meta_charge, node_charge}
 use Rattle.nl_tree.specs.Tree.{Tree}
 use Rattle.nl_device.specs.declared.device.Device.{Device}
@@ -10,10 +9,6 @@ use Rattle.nl_commit.specs.Holding.{running_holders}
 use Rattle.nl_core.specs.Trees.{CoreRuns}
 use Rattle.nl_core.specs.declared.state.Core.{Core}
 use Rattle.nl_walking.specs.declared.counting.Taken.{Taken}
-
--- how many are free
-abbrev pub count_free : List Bool → ℕ
-count_free free = count_by (λ b. b) free
 
 -- They are the charges of each tree as which the core runs: its nodes, and its pages of entries and of pointers.
 pub record IsCharged (taken : Taken) (tree : Tree) : Type 0 where

@@ -2,9 +2,8 @@ ghost use Rattle.std.specs.Prelude.{◌≡◌, ◌≤◌, IfOk};
 ghost use Rattle.nl_dir.specs.Directory.{IsDirectory};
 ghost use Rattle.nl_meta.specs.Nodes.{entries_of_inode, graph_of};
 ghost use Rattle.nl_meta.specs.Pages.{page_of};
-ghost use Rattle.nl_namespace.specs.Holding.{HasEntries};
 ghost use Rattle.nl_running.specs.Reading.{Reads, stop_of};
-ghost use Rattle.nl_running.specs.Running.{IsDirectoryOf, IsUsed, Runs, RunsOn, running_on};
+ghost use Rattle.nl_running.specs.Running.{IsUsed, Runs, RunsOn, running_on};
 ghost use Rattle.nl_walking.specs.Entries.{IsLeastOf, LeastBehind, is_behind, is_lesser};
 
 use nl_dir::entry_at;
@@ -12,7 +11,8 @@ use nl_field::{EntryRec, InodeRec, Kind};
 use nl_iface::VirtualPages;
 use nl_inode::Nodes;
 use nl_meta::Meta;
-use nl_running::{Stop, hold, node};
+use nl_namespace::hold_entries;
+use nl_running::{Stop, node};
 use std::cmp::Ordering;
 
 /// The entry of a node whose name is the least behind this one, none where it has none, as a file. Each name comes behind the one without
@@ -39,30 +39,6 @@ pub(crate) fn least_behind<D: VirtualPages>(
     }
     hold_entries(device, meta, &rec)?;
     Ok(least_entry(&rec, meta, after))
-}
-
-/// The pages of a directory are resident.
-fn hold_entries<D: VirtualPages>(
-    device: &mut D,
-    meta: &mut Meta,
-    rec: &InodeRec,
-) -> Result<(), Stop>
-    requires formed { D.formed device.old }
-    requires runs { Runs D.Counts device.old meta.old }
-    requires directory { IsDirectoryOf D.Counts device.old meta.old rec.now }
-    ensures formed { D.formed device.new }
-    ensures kept { RunsOn D.Counts device.old meta.old device.new meta.new }
-    ensures reads { Reads D.Counts device.old device.new (stop_of result) }
-    ensures there { IfOk result (λ u. HasEntries D.Counts device.old meta.old meta.new rec.now) }
-{
-    let rows = rec.size.div_ceil(64) as usize;
-    for row in 0..rows {
-        match hold(device, meta, rec.addresses[row]) {
-            Ok(()) => {}
-            Err(stop) => return Err(stop),
-        }
-    }
-    Ok(())
 }
 
 /// The entry of a directory whose name is the least behind this one.
