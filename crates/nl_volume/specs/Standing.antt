@@ -19,10 +19,11 @@ use Rattle.nl_core.specs.declared.state.Core.{Core}
 use Rattle.nl_stops.specs.Along.{GoesAlong}
 use Rattle.nl_writing.specs.Calls.{IsStagedPage}
 use Rattle.nl_writing.specs.Ranges.{from_of}
-use Rattle.nl_answering.specs.Answering.{counts_of}
+use Rattle.nl_answering.specs.Answering.{counts_of, pages_of_files}
 use Rattle.nl_turns.specs.History.{IsKnown, Opening, SyncsInRange, call_of, effects, fault_of, marked_calls, opening_counts, syncs_of}
 use Rattle.nl_turns.specs.Served.{IsLineOf}
 use Rattle.nl_turns.specs.declared.entry.Entry.{Entry}
+use Rattle.nl_volume.specs.declared.volume.Volume.{Volume}
 
 -- the run of the calls that had their effects, from the opening on
 abbrev pub run_of : Opening → List Entry → Run
@@ -97,3 +98,7 @@ pub record StandsFor {M : Type 0} (g : Ghosts (Device M)) (origin : Core M) (ope
   pub serves : Serves g origin opening history v done
   pub flight : FlightStands g opening v.device v.flight
   pub numbers : NumbersDiffer history v.flight v.stopped
+
+-- The core of a volume stands for that, since it was the one of the origin, and the volume knows how many pages its files have.
+abbrev pub VolumeStands : {M : Type 0} → Ghosts (Device M) → Volume M → Opening → List Entry → Volume M → Type 0
+VolumeStands g origin opening history v = StandsFor g origin.core opening history v.core v.done × (v.files ≡ pages_of_files g v.core)

@@ -30,6 +30,7 @@ impl<M: Nand> Volume<M> {
         ensures staged { (w : ℕ) (l : ℕ) → (refusing_of ⟦<Device<M> as Counts>⟧ self.new.core w l).staged ≡ (refusing_of ⟦<Device<M> as Counts>⟧ self.old.core w l).staged }
         ensures fault { result ≡ DutyAnswer.Fault → FaultRose (counts_of ⟦<Device<M> as Counts>⟧ self.old.core.device) (counts_of ⟦<Device<M> as Counts>⟧ self.new.core.device) }
         ensures lost { (wanted : ℕ) (found : ℕ) → result ≡ DutyAnswer.Lost wanted found → LostHasCause M.tells wanted found }
+        ensures wear { (self.new.least ≡ self.old.least) × (self.new.greatest ≡ self.old.greatest) }
     {
         pages_stay_as_many();
         device_stands(&self.core.device);

@@ -33,6 +33,7 @@ impl<M: Nand> Volume<M> {
         ensures answer { M.tells → FromEachWithLine ⟦<Volume<M> as Kept>⟧.stands self.old worker line call.now (λ v o h. Answers (outcome_due o h call.now result.reply) result.reply out.new) }
         ensures cause { FaultIsDue M.tells (refusing_of ⟦<Device<M> as Counts>⟧ self.old.core worker line) (counts_of ⟦<Device<M> as Counts>⟧ self.old.core.device) (counts_of ⟦<Device<M> as Counts>⟧ self.new.core.device) call.now result.reply }
         ensures since_opening { FromEachWithLine ⟦<Volume<M> as Kept>⟧.stands self.old worker line call.now (λ v o h. FaultHasCause M.tells o (counts_of ⟦<Device<M> as Counts>⟧ self.new.core.device) call.now result.reply) }
+        ensures wear { (self.new.least ≡ self.old.least) × (self.new.greatest ≡ self.old.greatest) }
     {
         out.clear();
         let Answer { reply, files } = self.answer(worker, line, call, out);
@@ -56,6 +57,7 @@ impl<M: Nand> Volume<M> {
         requires nothing { out.old ≡ [] }
         ensures answers { AnswersLine ⟦<Device<M> as Counts>⟧ worker line call.now self.old.core self.new.core result.reply out.new result.files }
         ensures done { self.new.done ≡ self.old.done }
+        ensures wear { (self.new.least ≡ self.old.least) × (self.new.greatest ≡ self.old.greatest) }
     {
         match self.refusal(worker, line, call) {
             Some(fault) => {
@@ -78,6 +80,7 @@ impl<M: Nand> Volume<M> {
         requires tried { fault_due (refusing_of ⟦<Device<M> as Counts>⟧ self.old.core worker line) call.now ≡ None }
         ensures answers { AnswersLine ⟦<Device<M> as Counts>⟧ worker line call.now self.old.core self.new.core result.reply out.new result.files }
         ensures done { self.new.done ≡ self.old.done }
+        ensures wear { (self.new.least ≡ self.old.least) × (self.new.greatest ≡ self.old.greatest) }
     {
         self.leave_other(worker, line);
         answer_call(

@@ -36,6 +36,7 @@ impl<M: Nand> Volume<M> {
         ensures staged { KeepsStagedFaults (refusing_of ⟦<Device<M> as Counts>⟧ self.old.core) (refusing_of ⟦<Device<M> as Counts>⟧ self.new.core) worker line (is_fault result) (fault_sum (counts_of ⟦<Device<M> as Counts>⟧ self.new.core.device)) }
         ensures fault { result ≡ Stage.Fault → FaultRose (counts_of ⟦<Device<M> as Counts>⟧ self.old.core.device) (counts_of ⟦<Device<M> as Counts>⟧ self.new.core.device) }
         ensures lost { (wanted : ℕ) (found : ℕ) → result ≡ Stage.Lost wanted found → LostHasCause M.tells wanted found }
+        ensures wear { (self.new.least ≡ self.old.least) × (self.new.greatest ≡ self.old.greatest) }
     {
         self.leave_other(worker, line);
         if self.core.stopped != 0 || self.worn() {
@@ -57,6 +58,7 @@ impl<M: Nand> Volume<M> {
         ensures not_stopped { result ≢ Stage.Stopped }
         ensures done { self.new.done ≡ self.old.done }
         ensures files { self.new.files ≡ self.old.files }
+        ensures wear { (self.new.least ≡ self.old.least) × (self.new.greatest ≡ self.old.greatest) }
     {
         device_stands(&self.core.device);
         let place = flying(&self.core.flight, worker);
@@ -88,6 +90,7 @@ impl<M: Nand> Volume<M> {
         ensures not_whole { result ≢ Stage.Whole }
         ensures done { self.new.done ≡ self.old.done }
         ensures files { self.new.files ≡ self.old.files }
+        ensures wear { (self.new.least ≡ self.old.least) × (self.new.greatest ≡ self.old.greatest) }
     {
         device_stands(&self.core.device);
         fill_page(&mut self.page, call, tag.index);
@@ -117,6 +120,7 @@ impl<M: Nand> Volume<M> {
         ensures stamp { ⟦<Device<M> as Counts>⟧.next_stamp self.new.core.device ≡ ⟦<Device<M> as Counts>⟧.next_stamp self.old.core.device }
         ensures done { self.new.done ≡ self.old.done }
         ensures files { self.new.files ≡ self.old.files }
+        ensures wear { (self.new.least ≡ self.old.least) × (self.new.greatest ≡ self.old.greatest) }
     {
         let now = self.core.flight.line(worker);
         if now != 0 && now != line {
@@ -134,6 +138,7 @@ impl<M: Nand> Volume<M> {
         ensures lines { IsFlight self.new.core.flight }
         ensures done { self.new.done ≡ self.old.done }
         ensures files { self.new.files ≡ self.old.files }
+        ensures wear { (self.new.least ≡ self.old.least) × (self.new.greatest ≡ self.old.greatest) }
     {
         let sum = self.core.faults();
         keep_failure(&mut self.core.flight, worker, line, sum);

@@ -25,11 +25,9 @@ pub struct Volume<M: Nand> {
 }
 
 impl<M: Nand> Kept for Volume<M> {
-    ghost use Rattle.std.specs.Prelude.{◌≡◌};
-    ghost use Rattle.nl_answering.specs.Answering.{pages_of_files};
-    ghost use Rattle.nl_volume.specs.Standing.{StandsFor};
+    ghost use Rattle.nl_volume.specs.Standing.{VolumeStands};
 
-    ghost stands = { λ origin o h v. StandsFor ⟦<Device<M> as Counts>⟧ origin.core o h v.core v.done × (v.files ≡ pages_of_files ⟦<Device<M> as Counts>⟧ v.core) };
+    ghost stands = { λ origin o h v. VolumeStands ⟦<Device<M> as Counts>⟧ origin o h v };
 }
 
 impl<M: Nand> Volume<M> {
