@@ -112,8 +112,8 @@ fn run_opened<Rt: Threads + Wait + Sync, M: Nand + Send, G: Gate + Sync>(
         &mut tables.answers,
         gate,
     );
-    let mut volume = turns.close(seat);
-    let charges = charges_of(&mut volume);
+    let volume = turns.close(seat);
+    let charges = charges_of(&volume);
     let closed = volume.close();
     let _clock = closed.media.clock();
     let _faults = closed.media.write_faults();

@@ -1,4 +1,4 @@
-//! Prints what a core shows of its volume: every path of its tree, and the report of its counts.
+//! Prints what a volume shows: every path of its tree, and the report of its counts.
 #![tactic(auto)]
 
 mod paths;

@@ -78,8 +78,7 @@ fn print<K: Sink>(
     match told {
         Told::Answers => print_answers(sink, count, answers),
         Told::Summary => {
-            let pages = u64::from(charges.pages);
-            print_summary(sink, answers, pages, charges.nodes, charges.meta)
+            print_summary(sink, answers, charges.pages, charges.nodes, charges.meta)
         }
     }
 }

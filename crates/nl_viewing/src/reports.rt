@@ -22,14 +22,11 @@ pub fn report<K: Sink, M: Nand>(alloc: Global, sink: &mut K, media: M) -> Done<M
     ensures left { M.tells → (m : ℕ) (c : Image) → M.left result.media m c → M.left media m c }
 {
     let before = faults_of(&media);
-    let mut volume = match open(alloc, media) {
+    let volume = match open(alloc, media) {
         Ok(volume) => volume,
         Err(why) => return refused(alloc, why, sink),
     };
-    let files = volume.files;
-    let least = volume.least;
-    let greatest = volume.greatest;
-    let answer = print_report(sink, &mut volume.core, files, least, greatest);
+    let answer = print_report(sink, &volume);
     let media = volume.into_media();
     carried_out(alloc, before, answer, media)
 }

@@ -12,7 +12,7 @@ use nl_io::{Sink, SinkAnswer};
 use nl_nand::Nand;
 use nl_rounds::open;
 use nl_showing::{Shown, print_tree};
-use nl_walking::TreeWalk;
+use nl_volume::TreeWalk;
 use std::alloc::Global;
 
 /// Opens the volume of a medium, and prints its count of calls and a line for each path of its tree. Where a read fails on the way, or a page is
@@ -33,7 +33,7 @@ pub fn tree<K: Sink, M: Nand>(alloc: Global, sink: &mut K, media: M) -> Done<M>
         return ended(alloc, 6, b"memory", sink, volume.into_media());
     };
     let count = volume.calls();
-    let shown = print_tree(sink, &mut volume.core, &mut walk, count);
+    let shown = print_tree(sink, &mut volume, &mut walk, count);
     let media = volume.into_media();
     ending_of(alloc, before, shown, media)
 }

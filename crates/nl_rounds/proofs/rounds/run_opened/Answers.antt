@@ -11,13 +11,11 @@ use Rattle.nl_headline.specs.Streams.{medium}
 use Rattle.nl_volume.specs.Opening.{opening_of}
 use Rattle.nl_volume.specs.Standing.{StandsFor}
 use Rattle.nl_volume.specs.declared.volume.Volume.{Volume}
-use Rattle.nl_rounds.specs.Charges.{TellsCharges}
 use Rattle.nl_rounds.specs.Rounds.{course_of}
 use Rattle.nl_rounds.proofs.Running.{rounds_and_end}
 use Rattle.nl_rounds.proofs.rounds.run_opened.Goals.{else-closed, then-closed}
 use Rattle.nl_rounds.proofs.rounds.run_opened.Goals as goal
 
--- the volume is as it was before its charges were counted
 pub close-closed-requires : goal.close-closed-requires
 close-closed-requires g c =
     let G = ghosts g.row.M g.M.Nand g.M.Nand-dict in
@@ -26,7 +24,7 @@ close-closed-requires g c =
       origin,
       seat.opening,
       entries seat.seen,
-      subst (λ (x : Volume _). StandsFor G origin.core seat.opening (entries seat.seen) x.core x.done × (x.files ≡ pages_of_files G x.core)) (sym c.charges_of-charges.ensures.same) c.close-volume.ensures,
+      c.close-volume.ensures,
     )
 
 pub returns-clause-lost : goal.returns-clause-lost
@@ -42,16 +40,15 @@ returns-clause-ran g c =
     let after = c.run_rounds.new.seat in
     let ran = c.run_rounds.ensures.ran in
     let rows = c.run_rounds.new.answers.rows in
-    let last = c.charges_of-charges.new.volume in
-    let same = c.charges_of-charges.ensures.same in
+    let last = c.close-volume.result in
     let v = last.core in
     let media = c.close-closed.result.media in
     let e = c.close-closed.ensures in
     let o = opening_of G v0 opening.0 c.args.lines.now in
     let h = entries after.seen in
-    let stands = subst (λ (x : Volume _ × Opening × Volume _). StandsFor G x.0.core x.1 h x.2.core x.2.done × (x.2.files ≡ pages_of_files G x.2.core))
-    (λ k. (c.in-Ok.ensures.lock.2 k, (ap (λ (z : SeatState). z.opening) ran.same ∙ opening.2) k, sym same k)) c.close-volume.ensures in
-    let charged = subst (λ (x : Volume _). TellsCharges G x.core c.charges_of-charges.result) (sym same) c.charges_of-charges.ensures.charges in
+    let stands = subst (λ (x : Volume _ × Opening). StandsFor G x.0.core x.1 h last.core last.done × (last.files ≡ pages_of_files G last.core))
+    (λ k. (c.in-Ok.ensures.lock.2 k, (ap (λ (z : SeatState). z.opening) ran.same ∙ opening.2) k)) c.close-volume.ensures in
+    let charged = c.charges_of-charges.ensures in
     let clock = c.clock-clock.ensures in
     let clock_fits = c.clock-clock.type_inv in
     let faults = c.write_faults-faults.ensures in

@@ -1,11 +1,21 @@
-use Rattle.std.proofs.Common.{◌++◌}
+use Rattle.std.proofs.Common.{◌++◌, ◌∙◌, ℕ, [], ap, refl, arith}
 use Rattle.nl_device.specs.contracts.counts.DeviceCounts.TheImpl.{ghosts}
 use Rattle.nl_looking.proofs.Cores.{reads-none}
 use Rattle.nl_print.specs.Texts.{opened_line}
 use Rattle.nl_print.proofs.Written.{then_write}
 use Rattle.nl_showing.specs.Showing.{sink_answer}
 use Rattle.nl_showing.proofs.Ending.{tree_begins, tree_shown}
+use Rattle.nl_field.specs.declared.shape.Shape.{Shape}
+use Rattle.nl_walking.specs.Walks.{WalkState}
 use Rattle.nl_showing.proofs.paths.print_tree.Goals as goal
+
+-- a walk before the root
+abbrev made : ℕ → WalkState
+made room = record { path = []; nodes = []; room = room }
+
+pub print_paths-requires-clause-way : goal.print_paths-requires-clause-way
+print_paths-requires-clause-way g c =
+    c.walks_begin.ensures.begin c.args.volume.now.core c.args.walk.now (c.requires.fresh ∙ ap made (ap (λ (s : Shape). s.nodes) c.requires.stands.3.0.serves.core.shape))
 
 pub returns-in-Took-clause-shows : goal.returns-in-Took-clause-shows
 returns-in-Took-clause-shows g c =
@@ -21,7 +31,7 @@ returns-in-Took-clause-shows g c =
     }
 
 pub returns-in-Failed-clause-same : goal.returns-in-Failed-clause-same
-returns-in-Failed-clause-same g c = reads-none (ghosts g.row.M g.M.Nand g.M.Nand-dict) c.args.core.now c.requires.core
+returns-in-Failed-clause-same g c = reads-none (ghosts g.row.M g.M.Nand g.M.Nand-dict) c.args.volume.now.core c.requires.stands.3.0.serves.core
 
 pub returns-in-Failed-clause-shows : goal.returns-in-Failed-clause-shows
 returns-in-Failed-clause-shows g c = record {
@@ -29,3 +39,12 @@ returns-in-Failed-clause-shows g c = record {
   taken = c.in-Failed.ensures.text;
   of_tree = λ tells page_of_stamp tree runs. tree_begins c.args.count tree c.items_are_printed.ensures.text;
 }
+
+pub returns-in-Took-clause-cause : goal.returns-in-Took-clause-cause
+returns-in-Took-clause-cause g c is =
+    let low = c.in-Took.ensures.never_falls in
+    let rose = c.print_paths.ensures.cause is in
+    omega (arith, low, rose)
+
+pub returns-in-Failed-clause-cause : goal.returns-in-Failed-clause-cause
+returns-in-Failed-clause-cause g c is = c.in-Failed.ensures.cause refl

@@ -1,7 +1,6 @@
 use Rattle.std.proofs.Common.{◌≡◌, ◌∙◌, ℕ, [], List, ap, sym, subst}
 use Rattle.nl_device.specs.Medium.{medium_of}
 use Rattle.nl_device.specs.contracts.counts.DeviceCounts.TheImpl.{ghosts}
-use Rattle.nl_core.specs.declared.state.Core.{Core}
 use Rattle.nl_field.specs.Medium.{shape_of_image}
 use Rattle.nl_field.specs.Scan.{greatest_wear, least_wear, next_stamp_of}
 use Rattle.nl_opening.specs.Figures.{pairs_of}
@@ -9,6 +8,7 @@ use Rattle.nl_headline.specs.Streams.{medium, stream}
 use Rattle.nl_print.specs.Texts.{report_text}
 use Rattle.nl_tree.specs.Charges.{data_charge, meta_charge, node_charge}
 use Rattle.nl_rounds.specs.Opened.{medium_in}
+use Rattle.nl_volume.specs.Opening.{opening_of}
 use Rattle.nl_viewing.specs.Looking.{LookEnds, Reports}
 use Rattle.nl_viewing.proofs.Seen.{no_more_left, status_since, untouched_by, was_not_seen, was_seen}
 use Rattle.nl_viewing.proofs.Viewed.{runs_as}
@@ -32,9 +32,10 @@ returns-in-Err-clause-left g c =
 
 pub print_report-answer-requires : goal.print_report-answer-requires
 print_report-answer-requires g c =
+    let G = ghosts g.row.M g.M.Nand g.M.Nand-dict in
     let e = c.in-Ok.ensures in
     let stands = e.stands e.opened.tree [] (λ l none. absurd none) (λ t. (e.opened.opens t).sound) in
-    record { formed = stands.0.serves.formed; core = stands.0.serves.core; files = stands.1 }
+    (c.in-Ok.volume, opening_of G c.in-Ok.volume.core e.opened.tree [], [], stands)
 
 -- the report was printed
 pub returns-clause-ended : goal.returns-clause-ended
@@ -51,7 +52,7 @@ returns-clause-ended g c =
     let print = c.print_report-answer in
     let reports = print.ensures.reports in
     let given = c.into_media-media.result in
-    let same : given ≡ medium_of v.device = c.into_media-media.ensures ∙ ap (λ (x : Core g.row.M.Denot). medium_of x.device) print.ensures.same in
+    let same : given ≡ medium_of v.device = c.into_media-media.ensures in
     let before = c.faults_of-before in
     let end = c.carried_out in
     let old = stream (k.taken c.args.sink.now) (k.faults c.args.sink.now) in
@@ -88,4 +89,4 @@ pub returns-clause-left : goal.returns-clause-left
 returns-clause-left g c =
     let m = g.M.Nand in
     no_more_left m.tells m.geometry m.contents m.clock m.read_faults m.write_faults m.left c.args.media (medium_of c.in-Ok.volume.core.device) c.carried_out.result.media c.in-Ok.ensures.only_read
-    (c.carried_out.ensures.media ∙ c.into_media-media.ensures ∙ ap (λ (x : Core g.row.M.Denot). medium_of x.device) c.print_report-answer.ensures.same)
+    (c.carried_out.ensures.media ∙ c.into_media-media.ensures)

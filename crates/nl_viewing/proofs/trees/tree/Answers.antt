@@ -7,6 +7,7 @@ use Rattle.nl_headline.specs.Streams.{medium, stream}
 use Rattle.nl_io.specs.declared.sink.SinkAnswer.TheVariants as answers
 use Rattle.nl_print.specs.Texts.{tree_text}
 use Rattle.nl_rounds.specs.Opened.{medium_in}
+use Rattle.nl_volume.specs.Opening.{opening_of}
 use Rattle.nl_viewing.specs.Looking.{LookEnds, ShowsTree}
 use Rattle.nl_viewing.proofs.Seen.{fault_rose, lost_untold, no_more_left, status_since, was_not_seen, was_shown}
 use Rattle.nl_viewing.proofs.Viewed.{runs_as}
@@ -44,11 +45,11 @@ returns-in_default-clause-left g c =
     let m = g.M.Nand in
     no_more_left m.tells m.geometry m.contents m.clock m.read_faults m.write_faults m.left c.args.media (medium_of c.in-Ok.volume.core.device) c.ended.result.media c.in-Ok.ensures.only_read (c.ended.ensures.media ∙ c.into_media.ensures)
 
-pub print_tree-shown-requires-clause-formed : goal.print_tree-shown-requires-clause-formed
-print_tree-shown-requires-clause-formed g c = let e = c.in-Ok.ensures in (e.stands e.opened.tree [] (λ l none. absurd none) (λ t. (e.opened.opens t).sound)).0.serves.formed
-
-pub print_tree-shown-requires-clause-core : goal.print_tree-shown-requires-clause-core
-print_tree-shown-requires-clause-core g c = let e = c.in-Ok.ensures in (e.stands e.opened.tree [] (λ l none. absurd none) (λ t. (e.opened.opens t).sound)).0.serves.core
+pub print_tree-shown-requires-clause-stands : goal.print_tree-shown-requires-clause-stands
+print_tree-shown-requires-clause-stands g c =
+    let G = ghosts g.row.M g.M.Nand g.M.Nand-dict in
+    let e = c.in-Ok.ensures in
+    (c.in-Ok.volume, opening_of G c.in-Ok.volume.core e.opened.tree [], [], e.stands e.opened.tree [] (λ l none. absurd none) (λ t. (e.opened.opens t).sound))
 
 -- paths were printed
 pub returns-clause-ended : goal.returns-clause-ended
@@ -64,7 +65,7 @@ returns-clause-ended g c =
     let shown = c.print_tree-shown in
     let reads = shown.ensures.same.runs.reads.medium in
     let given = c.into_media-media.result in
-    let same : given ≡ medium_of shown.new.core.device = c.into_media-media.ensures in
+    let same : given ≡ medium_of shown.new.volume.core.device = c.into_media-media.ensures in
     let before = c.faults_of-before in
     let end = c.ending_of in
     let old = stream (k.taken c.args.sink.now) (k.faults c.args.sink.now) in
@@ -87,8 +88,8 @@ returns-clause-ended g c =
     shown.result
     (λ told. let w = runs_as G v opened.tree c.in-Ok.volume.done stands told in shown.ensures.shows.of_tree told w.0 opened.tree w.1)
     shown.ensures.shows.taken shown.ensures.cause
-    (λ is. subst (λ (n : ℕ × ℕ). Rose n.0 n.1) (λ j. (c.in-Ok.ensures.no_fault j, m.read_faults (sym same j))) (fault_rose G v.device shown.new.core.device shown.result shown.ensures.reads is))
-    (λ is. lost_untold G v.device shown.new.core.device shown.result shown.ensures.reads is)
+    (λ is. subst (λ (n : ℕ × ℕ). Rose n.0 n.1) (λ j. (c.in-Ok.ensures.no_fault j, m.read_faults (sym same j))) (fault_rose G v.device shown.new.volume.core.device shown.result shown.ensures.reads is))
+    (λ is. lost_untold G v.device shown.new.volume.core.device shown.result shown.ensures.reads is)
     end.ensures.fault end.ensures.lost
     (λ is. status_since before.result.reads before.result.writes end.result.status answers.Took start middle before.ensures (end.ensures.all is))
     (λ is. status_since before.result.reads before.result.writes end.result.status answers.Failed start middle before.ensures (end.ensures.not_taken is)) in
