@@ -1,4 +1,4 @@
+pub mod Digits
 pub mod OnLiterals
 pub mod Fields
 pub mod Names
-pub mod Written

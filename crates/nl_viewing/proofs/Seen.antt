@@ -14,7 +14,7 @@ use Rattle.nl_io.specs.declared.sink.SinkAnswer.{SinkAnswer}
 use Rattle.nl_io.specs.declared.sink.SinkAnswer.TheVariants as answers
 use Rattle.nl_nand.specs.declared.geometry.Geometry.{Geometry}
 use Rattle.nl_opening.specs.Opening.{OnlyReadsMedium}
-use Rattle.nl_print.proofs.Written.{stopped}
+use Rattle.nl_io.specs.StreamsLaws.{stopped}
 use Rattle.nl_showing.specs.Showing.{Begins, IsShown, ReadsFor, sink_answer}
 use Rattle.nl_showing.specs.declared.paths.Shown.{Shown}
 use Rattle.nl_showing.specs.declared.paths.Shown.TheVariants as shown

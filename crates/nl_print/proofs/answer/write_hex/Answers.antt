@@ -4,7 +4,8 @@ use Rattle.std.proofs.lemmas.Grind.{common_steps}
 use Rattle.hex.specs.Hex.{encode_lower}
 use Rattle.nl_io.specs.Streams.{Writes}
 use Rattle.nl_io.specs.declared.sink.SinkAnswer.TheVariants as sink
-use Rattle.nl_print.proofs.Written.{then_write, stopped, digits_split, digits_end}
+use Rattle.nl_print.proofs.Digits.{digits_split, digits_end}
+use Rattle.nl_io.specs.StreamsLaws.{then_write, stopped}
 use Rattle.nl_print.proofs.answer.write_hex.Goals as goal
 
 pub pieces-preserved : goal.pieces-preserved
