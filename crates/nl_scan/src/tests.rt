@@ -6,6 +6,7 @@ use crate::{ScanTables, Scanned, Seen, scan};
 use nl_field::{FailList, PageBuf, SpareRec, Tag};
 use nl_nand::{Cut, FormAnswer, MemNand, Nand, Stop, WriteAnswer};
 use std::alloc::Global;
+use std::process::Abort;
 use std::test::Fail;
 
 /// A page to be written: its record byte by byte, its first main bytes and its last one. And what a scan is to see of it, the
@@ -150,6 +151,28 @@ fn put(media: &mut MemNand, page: u32, buf: &PageBuf) -> WriteAnswer
     media.program(page, buf)
 }
 
+/// Writes the rows to a formed medium, and a page behind them.
+fn write_rows(media: &mut MemNand, rows: &[Sample], buf: &mut PageBuf) -> Result<(), Fail>
+    requires geometry { geometry_of media.old ≡ record { blocks = 32; pages = 32 } }
+    requires erased { ErasedWithin (contents_of media.old) 0 1024 }
+{
+    let mut next = 0;
+    'rows: for row in rows {
+        if row.page < next || row.page >= 1024 {
+            return Err(Fail::from("rising"));
+        }
+        fill(row, buf);
+        if put(media, row.page, buf) != WriteAnswer::Done {
+            return Err(Fail::from("program"));
+        }
+        next = row.page + 1;
+    }
+    if next <= 320 {
+        let _ = put(media, 320, buf);
+    }
+    Ok(())
+}
+
 /// A medium with the rows, that is stopped within the program behind them.
 fn written(
     alloc: Global,
@@ -159,20 +182,7 @@ fn written(
 ) -> Result<MemNand, Fail> {
     let mut buf = PageBuf::new(alloc)?;
     let mut media = formed(alloc, reads, stop).ok_or("form")?;
-    let mut next = 0;
-    'rows: for row in rows {
-        if row.page < next || row.page >= 1024 {
-            return Err(Fail::from("rising"));
-        }
-        fill(row, &mut buf);
-        if put(&mut media, row.page, &buf) != WriteAnswer::Done {
-            return Err(Fail::from("program"));
-        }
-        next = row.page + 1;
-    }
-    if next <= 320 {
-        let _ = put(&mut media, 320, &buf);
-    }
+    write_rows(&mut media, rows, &mut buf)?;
     Ok(media)
 }
 
@@ -184,19 +194,16 @@ fn tables_of(scanned: Scanned) -> Result<ScanTables, Fail> {
     }
 }
 
-#[test]
-fn exactly_the_readable_pages(rt: HostRuntime) -> Result<(), Fail> {
-    let alloc = rt.alloc();
-    let rows = rows(alloc)?;
-    let stop = Stop {
-        operation: 18,
-        cut: Cut::Spoilt,
-    };
-    let media = written(alloc, &rows, FailList::new(alloc), Some(stop))?;
-    let mut media = media.restart(None);
-    let tables = tables_of(scan(alloc, &mut media))?;
+// A scan sees exactly the readable pages of the rows.
+fn sees_rows(
+    rt: &impl Abort,
+    alloc: Global,
+    rows: &[Sample],
+    media: &mut MemNand,
+) -> Result<(), Fail> {
+    let tables = tables_of(scan(alloc, media))?;
     let mut at = 0;
-    for row in &rows {
+    for row in rows {
         if let Some((zeros, agrees)) = row.seen {
             let want = Seen {
                 page: row.page,
@@ -221,6 +228,52 @@ fn exactly_the_readable_pages(rt: HostRuntime) -> Result<(), Fail> {
     Ok(())
 }
 
+#[test]
+fn exactly_the_readable_pages(rt: HostRuntime) -> Result<(), Fail> {
+    let alloc = rt.alloc();
+    let rows = rows(alloc)?;
+    let stop = Stop {
+        operation: 18,
+        cut: Cut::Spoilt,
+    };
+    let media = written(alloc, &rows, FailList::new(alloc), Some(stop))?;
+    let mut media = media.restart(None);
+    sees_rows(&rt, alloc, &rows, &mut media)
+}
+
+// A first scan is a fault where it is to be one, and the next one sees all.
+fn sees_all(
+    rt: &impl Abort,
+    alloc: Global,
+    media: &mut MemNand,
+    number: u64,
+    fails: bool,
+) -> Result<(), Fail> {
+    if fails {
+        let faulty = matches!(scan(alloc, media), Scanned::Fault);
+        assert!(rt; faulty, "{number}");
+    }
+    assert_eq!(rt; media.read_faults(), u64::from(fails));
+    let tables = tables_of(scan(alloc, media))?;
+    assert_eq!(rt; tables.len(), 16);
+    assert_eq!(rt; media.read_faults(), u64::from(fails));
+    Ok(())
+}
+
+// Over a medium whose read of this number fails.
+fn read_may_fail(
+    rt: &impl Abort,
+    alloc: Global,
+    rows: &[Sample],
+    number: u64,
+    fails: bool,
+) -> Result<(), Fail> {
+    let mut reads = FailList::new(alloc);
+    reads.push(number.max(1))?;
+    let mut media = written(alloc, rows, reads, None)?;
+    sees_all(rt, alloc, &mut media, number, fails)
+}
+
 // 1024 pages are read, and seven of them are compared with a first one that is read again: pages 4, 5, 6, 32, 288, 289 and
 // 320, by the reads 6, 8, 10, 37, 294, 296 and 328.
 #[test]
@@ -230,40 +283,19 @@ fn each_read_may_fail(rt: HostRuntime) -> Result<(), Fail> {
     for number in [
         1, 2, 5, 6, 7, 8, 9, 10, 11, 37, 294, 296, 328, 329, 1030, 1031,
     ] {
-        let mut reads = FailList::new(alloc);
-        reads.push(number)?;
-        let mut media = written(alloc, &rows, reads, None)?;
-        let faulty = matches!(scan(alloc, &mut media), Scanned::Fault);
-        assert!(rt; faulty, "{number}");
-        assert_eq!(rt; media.read_faults(), 1);
-        let tables = tables_of(scan(alloc, &mut media))?;
-        assert_eq!(rt; tables.len(), 16);
+        read_may_fail(&rt, alloc, &rows, number, true)?;
     }
-    let mut reads = FailList::new(alloc);
-    reads.push(1032)?;
-    let mut media = written(alloc, &rows, reads, None)?;
-    let tables = tables_of(scan(alloc, &mut media))?;
-    assert_eq!(rt; tables.len(), 16);
-    assert_eq!(rt; media.read_faults(), 0);
-    Ok(())
+    read_may_fail(&rt, alloc, &rows, 1032, false)
 }
 
-#[test]
-fn no_readable_page(rt: HostRuntime) -> Result<(), Fail> {
-    let alloc = rt.alloc();
-    let mut media = MemNand::new(alloc, FailList::new(alloc), FailList::new(alloc), None);
-    let tables = tables_of(scan(alloc, &mut media))?;
-    assert_eq!(rt; tables.len(), 0);
-    assert_eq!(rt;
-        (
-            tables.next_stamp(),
-            tables.super_version(),
-            tables.erased(0)
-        ),
-        (1, 0, false)
-    );
-    let mut media = formed(alloc, FailList::new(alloc), None).ok_or("form")?;
-    let tables = tables_of(scan(alloc, &mut media))?;
+// A scan sees no page; the last block is erased, or there is none.
+fn sees_nothing(
+    rt: &impl Abort,
+    alloc: Global,
+    media: &mut MemNand,
+    erased: bool,
+) -> Result<(), Fail> {
+    let tables = tables_of(scan(alloc, media))?;
     assert_eq!(rt; tables.len(), 0);
     assert_eq!(rt;
         (
@@ -271,7 +303,21 @@ fn no_readable_page(rt: HostRuntime) -> Result<(), Fail> {
             tables.super_version(),
             tables.erased(31)
         ),
-        (1, 0, true)
+        (1, 0, erased)
     );
     Ok(())
+}
+
+#[test]
+fn no_readable_page(rt: HostRuntime) -> Result<(), Fail> {
+    let alloc = rt.alloc();
+    let mut media = formed(alloc, FailList::new(alloc), None).ok_or("form")?;
+    sees_nothing(&rt, alloc, &mut media, true)
+}
+
+#[test]
+fn no_block(rt: HostRuntime) -> Result<(), Fail> {
+    let alloc = rt.alloc();
+    let mut media = MemNand::new(alloc, FailList::new(alloc), FailList::new(alloc), None);
+    sees_nothing(&rt, alloc, &mut media, false)
 }
