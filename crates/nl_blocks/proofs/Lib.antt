@@ -1,3 +1,4 @@
 pub mod TableProofs
 pub mod TableLaws
 pub mod Tournaments
+pub mod UsedLaws
