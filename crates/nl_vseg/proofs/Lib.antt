@@ -15,6 +15,7 @@ pub mod Segments
 pub mod Shapes
 pub mod Spares
 pub mod Standing
+pub mod Using
 pub mod Views
 pub mod Wears
 pub mod Writing

@@ -10,7 +10,7 @@ use Rattle.nl_nand.proofs.Crashes.{outside, operation, leaves_cut}
 use Rattle.nl_blocks.specs.Table.{Table}
 use Rattle.nl_vseg.specs.Pages.{fact_of, main_of, IsBeside}
 use Rattle.nl_vseg.specs.Places.{place_of, value_at, map_of, IsUnmapped, Holds, AreBelow}
-use Rattle.nl_vseg.specs.Layout.{Layout, bound, is_soiled, block_is_free, IsNext, TakenAsErased, IsLayoutOf, ArePlaces, IsLayout, HasSpare, room}
+use Rattle.nl_vseg.specs.Layout.{Layout, bound, is_soiled, block_is_free, IsNext, TakenAsErased, IsLayoutOf, ArePlaces, IsLayout, room}
 use Rattle.nl_vseg.specs.Copying.{SameNumbers, SameUse, Restated}
 use Rattle.nl_vseg.specs.Effects.{Keeps, KeepsMap}
 use Rattle.nl_vseg.specs.declared.place.Place.{Place}
@@ -160,28 +160,6 @@ taken_without old new block numbers active_is used_is free idle p taken = cases 
         let f = free (p / old.table.size) x.0 x.1 in
         ((n.0, inr (f.1, f.2)), f.0)
 
--- a Free block is in use now
-pub sealed_taken : (old : Layout) (table : Table) (block : ℕ) → Restated block false old.table table → (p : ℕ) → TakenAsErased (record old { table = table }) p → TakenAsErased old p
-sealed_taken old table block restated p taken = cases n.1
-  where
-    n : (p < length old.table.blocks * old.table.size) × (((old.active * old.table.size + old.used ≤ p) × (p < old.active * old.table.size + old.table.size))
-        ⊎ ((block_is_free table (p / old.table.size) ≡ true) × (is_soiled old (p / old.table.size) ≡ false)))
-    n = taken_cases (record old { table = table }) old.table.size (length old.table.blocks) restated.numbers.same_size restated.numbers.same_count p taken
-
-    cases : ((old.active * old.table.size + old.used ≤ p) × (p < old.active * old.table.size + old.table.size))
-        ⊎ ((block_is_free table (p / old.table.size) ≡ true) × (is_soiled old (p / old.table.size) ≡ false)) → TakenAsErased old p
-    cases (inl x) = (n.0, inl x)
-    cases (inr x) = (
-      n.0,
-      inr (
-        ⊎_elim
-            (λ is. absurd (true≢false (sym x.0 ∙ (ap (block_is_free table) is ∙ restated.here))))
-            (λ ne. sym (restated.others (p / old.table.size) ne) ∙ x.0)
-            (cases_eq (p / old.table.size) block),
-        x.1,
-      ),
-    )
-
 -- an address got a page of a block that is in use now, and is not written to
 pub loaded : (old : Layout) (table : Table) (block v : ℕ) (new : Place) → IsLayout old → Restated block false old.table table → new.page / old.table.size ≡ block → new.page < bound old → IsTrue (is_stamp new.stamp)
     → v < length old.places → (old.used < old.table.size → block ≡ old.active → ⊥)
@@ -239,35 +217,6 @@ freed old table soiled block is restated marks idle unmapped = record {
     bound_same : length table.blocks * table.size ≡ length old.table.blocks * old.table.size
     bound_same i = restated.numbers.same_count i * restated.numbers.same_size i
 
--- a block is the active one now, and none of its pages is used
-pub started : (old : Layout) (block : ℕ) → IsLayout old → block < length old.table.blocks → block_is_free old.table block ≡ false → IsUnmapped old.table.size old.places block
-    → IsLayout (record old { active = block; used = 0 })
-started old block is within taken unmapped = record {
-  first = is.first;
-  some = is.some;
-  numbers = is.numbers;
-  marks = is.marks;
-  few = is.few;
-  active_is = within;
-  used_fits = omega arith;
-  taken = λ lt. taken;
-  places_are = record {
-    each = λ v place named.
-        let was = is.places_are.each v place named in
-        record { within = was.within; behind = ⊎_elim (λ lt. inl (omega (arith, lt))) (λ ge. inr ge) (unmapped v place named); spelled = was.spelled };
-  };
-  in_use = is.in_use;
-}
-
-pub started_segment : (old : Layout) (block : ℕ) (image : Image) → ((p : ℕ) → p / old.table.size ≡ block → page_at image p ≡ erased) → IsLayoutOf image old → IsLayoutOf image (record old { active = block; used = 0 })
-started_segment old block image blank seg = record {
-  holds = seg.holds;
-  blank = λ p taken. ⊎_elim
-      (λ next. blank p (block_of p old.table.size block (omega (arith, next.0)) next.1))
-      (λ free. seg.blank p (taken.0, inr free))
-      taken.1;
-}
-
 abbrev room_of : ℕ → ℕ → ℕ → ℕ
 room_of size free used = cond (nat_le 1 free) ((size - used) + (free - 1) * size) 0
 
@@ -290,13 +239,6 @@ module _ (seg : Layout) (table : Table) (use_is : SameUse seg.table table) where
     where
       bound_same : length table.blocks * table.size ≡ length seg.table.blocks * seg.table.size
       bound_same i = use_is.numbers.same_count i * use_is.numbers.same_size i
-
-  pub same_use_spare : HasSpare seg → HasSpare (record seg { table = table })
-  same_use_spare is = record {
-    block = is.block;
-    within = subst (λ n. is.block < n) (sym use_is.numbers.same_count) is.within;
-    unmapped = subst (λ n. IsUnmapped n seg.places is.block) (sym use_is.numbers.same_size) is.unmapped;
-  }
 
   pub same_use_room : room (record seg { table = table }) ≡ room seg
   same_use_room i = room_of (use_is.numbers.same_size i) (use_is.total i) seg.used

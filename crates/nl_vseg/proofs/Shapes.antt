@@ -1,19 +1,22 @@
 -- The numbers of a shape that a segment rests on.
 use Rattle.std.proofs.Common.{◌≡◌, inl, inr, ℕ, zero, suc, ◌+◌, ◌-◌, ◌*◌, ◌/◌, ◌^◌, ◌<◌, ◌≤◌, true, false, Option, None, length, replicate, refl, sym, ◌∙◌, ap, subst, arith, mul-le-mul_right, nat_le, count_by, cond, get_or}
-use Rattle.std.proofs.lemmas.Bool.{cond-true, le-leb}
+use Rattle.std.proofs.lemmas.Bool.{cond-true, false≢true, le-leb}
 use Rattle.std.proofs.lemmas.List.Sums.{sum_by-cons}
 use Rattle.nl_field.specs.Numbers.{ShapeBounds}
 use Rattle.nl_field.proofs.Bounds.{legal_parts}
 use Rattle.nl_field.specs.declared.shape.Shape.{Shape}
 use Rattle.std.proofs.lemmas.List.{length-replicate}
 use Rattle.std.proofs.lemmas.Option.{none-some}
-use Rattle.nl_blocks.specs.Table.{free_count, is_free, new_row, new_table, row_at}
+use Rattle.nl_blocks.specs.Table.{block_at, free_count, is_free, new_row, new_table, row_at}
 use Rattle.nl_nand.specs.declared.geometry.Geometry.{Geometry}
 use Rattle.nl_nand.specs.Nand.{IsLegal}
 use Rattle.nl_vseg.specs.Layout.{IsLayout, HasSpare, block_is_free, bound, room, shown}
 use Rattle.nl_vseg.specs.Segment.{is_blank, wear_of}
 use Rattle.nl_vseg.specs.declared.place.Place.{Place}
+use Rattle.nl_blocks.proofs.UsedLaws.{used-full}
+use Rattle.nl_vseg.specs.Used.{AreRising, is_open_state, used_of}
 use Rattle.nl_vseg.proofs.Places.{all_none}
+use Rattle.nl_vseg.proofs.Using.{free_shut}
 use Rattle.nl_vseg.proofs.Views.{taken_blank, wear_at}
 
 -- the pages of the segment are counted by a `u32`
@@ -91,6 +94,16 @@ new_free shape block = at shape.vblocks (block - 0)
     at zero k = refl
     at (suc n) zero = refl
     at (suc n) (suc k) = at n k
+
+-- no block is open
+new_shut : (shape : Shape) (block : ℕ) → is_open_state (block_at (new_table 0 shape.vblocks shape.pages) block).state ≡ false
+new_shut shape block = free_shut (block_at (new_table 0 shape.vblocks shape.pages) block).state (new_free shape block)
+
+pub new_used : (shape : Shape) → used_of (new_table 0 shape.vblocks shape.pages) 0 ≡ shape.pages
+new_used shape = used-full is_open_state (new_table 0 shape.vblocks shape.pages) 0 (new_shut shape 0)
+
+pub new_rising : (shape : Shape) → AreRising (new_table 0 shape.vblocks shape.pages)
+new_rising shape = record { each = λ block has is. absurd (false≢true (sym (new_shut shape block) ∙ is)) }
 
 new_clean : (count block : ℕ) → get_or (replicate count false) block false ≡ false
 new_clean zero block = refl

@@ -17,6 +17,10 @@ pub record Layout : Type 0 where
   pub active : ℕ
   pub used : ℕ
 
+-- the same segment where each page of the active block is used
+abbrev pub closed : Layout → Layout
+closed seg = record seg { used = seg.table.size }
+
 -- the number behind the last page
 abbrev pub bound : Layout → ℕ
 bound seg = length seg.table.blocks * seg.table.size

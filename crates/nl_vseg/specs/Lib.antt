@@ -8,4 +8,5 @@ pub mod Pages
 pub mod Places
 pub mod Seen
 pub mod Segment
+pub mod Used
 pub mod Writes

@@ -6,8 +6,9 @@ ghost use Rattle.nl_field.specs.Spelling.{is_stamp};
 ghost use Rattle.nl_nand.specs.Nand.{CanProgram, Cut, ErasedWithin, Filled};
 ghost use Rattle.nl_vseg.specs.Pages.{fact_of, main_of};
 ghost use Rattle.nl_vseg.specs.Places.{Holds, IsUnmapped, map_of, place_of, stamp_in_place};
-ghost use Rattle.nl_vseg.specs.Layout.{ArePlaces};
-ghost use Rattle.nl_vseg.specs.Copying.{copy_of, target_at, AreMoved, AreTargets, ChangedIn, HasHole, IsAt, IsMovedPlace, LeavesHole};
+ghost use Rattle.nl_vseg.specs.Layout.{ArePlaces, wears_of};
+ghost use Rattle.nl_vseg.specs.Used.{AreRising, used_of};
+ghost use Rattle.nl_vseg.specs.Copying.{copy_of, target_at, AreMoved, AreTargets, ChangedIn, HasHole, IsAt, IsMovedPlace, LeavesHole, SameUse};
 ghost use Rattle.nl_vseg.specs.Effects.{Counted};
 ghost use Rattle.nl_vseg.specs.Answers.{IsLost};
 ghost use Rattle.nl_vseg.specs.Operations.{Operates, snapshot, wear_in};
@@ -15,6 +16,8 @@ ghost use Rattle.nl_vseg.specs.declared.place.Place.{Place as PlaceOf};
 
 use crate::pages::{program_page, read_page};
 use crate::place::Place;
+use crate::used::use_next;
+use nl_blocks::Blocks;
 use nl_field::{PageBuf, VirtualRead, VirtualWrite};
 use nl_nand::{Nand, WriteAnswer};
 
@@ -66,33 +69,40 @@ fn copy_one<M: Nand>(
     pages: u32,
     target: u32,
     wear: u32,
-    used: &mut u32,
+    blocks: &mut Blocks,
 ) -> VirtualWrite
     requires pages { (M.geometry media.old).pages ≡ pages }
     requires some { 0 < pages }
     requires blocks { target < (M.geometry media.old).blocks }
+    requires first { blocks.old.first ≡ 0 }
+    requires within { target < length blocks.old.blocks }
+    requires width { blocks.old.size ≡ pages }
+    requires rising { AreRising blocks.old }
     requires numbers { (M.geometry media.old).blocks * pages < 2 ^ 32 }
     requires few { length copies.old.items < 2 ^ 32 }
     requires vaddr { v < length copies.old.items }
-    requires places { ArePlaces pages ((M.geometry media.old).blocks * pages) target used.old copies.old.items }
+    requires places { ArePlaces pages ((M.geometry media.old).blocks * pages) target (used_of blocks.old target) copies.old.items }
     requires other { target ≡ victim → ⊥ }
-    requires targets { AreTargets pages target used.old targets.old.items }
+    requires targets { AreTargets pages target (used_of blocks.old target) targets.old.items }
     requires hole { LeavesHole pages victim (place_of copies.old.items v) targets.old.items }
     requires fresh { M.tells → (at page : ℕ) → target_at targets.old.items at ≡ Some page → IsAt pages victim at (place_of copies.old.items v) → ⊥ }
     requires holds { M.tells → Holds (M.contents media.old) copies.old.items }
-    requires erased { M.tells → ErasedWithin (M.contents media.old) (target * pages + used.old) (target * pages + pages) }
-    ensures used { used.new < pages }
-    ensures more { used.old ≤ used.new }
-    ensures places { result ≡ VirtualWrite.Done → ArePlaces pages ((M.geometry media.old).blocks * pages) target used.new copies.new.items }
+    requires erased { M.tells → ErasedWithin (M.contents media.old) (target * pages + used_of blocks.old target) (target * pages + pages) }
+    ensures used { used_of blocks.new target < pages }
+    ensures rising { AreRising blocks.new }
+    ensures states { SameUse blocks.old blocks.new }
+    ensures wears { wears_of blocks.new ≡ wears_of blocks.old }
+    ensures more { used_of blocks.old target ≤ used_of blocks.new target }
+    ensures places { result ≡ VirtualWrite.Done → ArePlaces pages ((M.geometry media.old).blocks * pages) target (used_of blocks.new target) copies.new.items }
     ensures count { length copies.new.items ≡ length copies.old.items }
     ensures stamps { (u : ℕ) → stamp_in_place (place_of copies.new.items u) ≡ stamp_in_place (place_of copies.old.items u) }
     ensures same { (u : ℕ) → (u ≡ v → ⊥) → place_of copies.new.items u ≡ place_of copies.old.items u }
-    ensures moved { result ≡ VirtualWrite.Done → IsMovedPlace pages victim target used.new (place_of copies.old.items v) (place_of copies.new.items v) }
-    ensures targets { result ≡ VirtualWrite.Done → AreTargets pages target used.new targets.new.items }
+    ensures moved { result ≡ VirtualWrite.Done → IsMovedPlace pages victim target (used_of blocks.new target) (place_of copies.old.items v) (place_of copies.new.items v) }
+    ensures targets { result ≡ VirtualWrite.Done → AreTargets pages target (used_of blocks.new target) targets.new.items }
     ensures size { length targets.new.items ≡ length targets.old.items }
     ensures grown { (at page : ℕ) → target_at targets.new.items at ≡ Some page → (target_at targets.old.items at ≡ Some page) ⊎ IsAt pages victim at (place_of copies.old.items v) }
     ensures holds { M.tells → result ≡ VirtualWrite.Done → Holds (M.contents media.new) copies.new.items }
-    ensures erased { M.tells → result ≡ VirtualWrite.Done → ErasedWithin (M.contents media.new) (target * pages + used.new) (target * pages + pages) }
+    ensures erased { M.tells → result ≡ VirtualWrite.Done → ErasedWithin (M.contents media.new) (target * pages + used_of blocks.new target) (target * pages + pages) }
     ensures map { M.tells → result ≡ VirtualWrite.Done → (u : ℕ) → map_of copies.new.items (M.contents media.new) u ≡ map_of copies.old.items (M.contents media.old) u }
     ensures changed { M.tells → (first : List (Option PlaceOf)) (image : Image) → place_of first v ≡ place_of copies.old.items v → IsUnmapped pages first target → ChangedIn pages target first image (M.contents media.old) → ChangedIn pages target first image (M.contents media.new) }
     ensures crash { M.tells → (first : List (Option PlaceOf)) (image : Image) → place_of first v ≡ place_of copies.old.items v → IsUnmapped pages first target → ChangedIn pages target first image (M.contents media.old) → LeavesOnly M.clock M.left media.old media.new (λ m c. ChangedIn pages target first image c) }
@@ -116,8 +126,7 @@ fn copy_one<M: Nand>(
         });
         return VirtualWrite::Done;
     }
-    let to = target * pages + *used;
-    *used += 1;
+    let to = use_next(blocks, target);
     match copy_page(media, buf, v as u32, place, to, wear) {
         VirtualWrite::Lost { wanted, found } => VirtualWrite::Lost { wanted, found },
         VirtualWrite::Fault => VirtualWrite::Fault,
@@ -150,28 +159,35 @@ pub fn copy_block<M: Nand>(
     pages: u32,
     target: u32,
     wear: u32,
-    used: &mut u32,
+    blocks: &mut Blocks,
 ) -> VirtualWrite
     requires pages { (M.geometry media.old).pages ≡ pages }
     requires some { 0 < pages }
     requires blocks { target < (M.geometry media.old).blocks }
+    requires first { blocks.old.first ≡ 0 }
+    requires within { target < length blocks.old.blocks }
+    requires width { blocks.old.size ≡ pages }
+    requires rising { AreRising blocks.old }
     requires numbers { (M.geometry media.old).blocks * pages < 2 ^ 32 }
     requires few { length copies.old.items < 2 ^ 32 }
-    requires places { ArePlaces pages ((M.geometry media.old).blocks * pages) target used.old copies.old.items }
+    requires places { ArePlaces pages ((M.geometry media.old).blocks * pages) target (used_of blocks.old target) copies.old.items }
     requires unmapped { IsUnmapped pages copies.old.items target }
-    requires begins { used.old ≡ 0 }
+    requires begins { used_of blocks.old target ≡ 0 }
     requires other { target ≡ victim → ⊥ }
     requires targets { targets.old.items ≡ replicate pages None }
     requires hole { HasHole pages victim copies.old.items }
     requires holds { M.tells → Holds (M.contents media.old) copies.old.items }
     requires erased { M.tells → ErasedWithin (M.contents media.old) (target * pages) (target * pages + pages) }
-    ensures used { used.new < pages }
-    ensures places { result ≡ VirtualWrite.Done → ArePlaces pages ((M.geometry media.old).blocks * pages) target used.new copies.new.items }
+    ensures used { used_of blocks.new target < pages }
+    ensures rising { AreRising blocks.new }
+    ensures states { SameUse blocks.old blocks.new }
+    ensures wears { wears_of blocks.new ≡ wears_of blocks.old }
+    ensures places { result ≡ VirtualWrite.Done → ArePlaces pages ((M.geometry media.old).blocks * pages) target (used_of blocks.new target) copies.new.items }
     ensures count { length copies.new.items ≡ length copies.old.items }
     ensures size { length targets.new.items ≡ length targets.old.items }
-    ensures moved { result ≡ VirtualWrite.Done → AreMoved pages victim target used.new copies.old.items copies.new.items }
+    ensures moved { result ≡ VirtualWrite.Done → AreMoved pages victim target (used_of blocks.new target) copies.old.items copies.new.items }
     ensures holds { M.tells → result ≡ VirtualWrite.Done → Holds (M.contents media.new) copies.new.items }
-    ensures erased { M.tells → result ≡ VirtualWrite.Done → ErasedWithin (M.contents media.new) (target * pages + used.new) (target * pages + pages) }
+    ensures erased { M.tells → result ≡ VirtualWrite.Done → ErasedWithin (M.contents media.new) (target * pages + used_of blocks.new target) (target * pages + pages) }
     ensures map { M.tells → result ≡ VirtualWrite.Done → (v : ℕ) → map_of copies.new.items (M.contents media.new) v ≡ map_of copies.old.items (M.contents media.old) v }
     ensures changed { M.tells → ChangedIn pages target copies.old.items (M.contents media.old) (M.contents media.new) }
     ensures crash { M.tells → LeavesOnly M.clock M.left media.old media.new (λ m c. ChangedIn pages target copies.old.items (M.contents media.old) c) }
@@ -183,7 +199,7 @@ pub fn copy_block<M: Nand>(
 {
     for v in 0..copies.len() {
         match copy_one(
-            media, buf, copies, targets, v, victim, pages, target, wear, used,
+            media, buf, copies, targets, v, victim, pages, target, wear, blocks,
         ) {
             VirtualWrite::Done => {}
             VirtualWrite::Lost { wanted, found } => {

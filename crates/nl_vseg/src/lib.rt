@@ -9,6 +9,7 @@ mod place;
 mod read;
 mod room;
 mod state;
+mod used;
 mod victim;
 mod vseg;
 mod write;

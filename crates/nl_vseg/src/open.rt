@@ -24,7 +24,6 @@ impl State {
         ensures wear { (block : ℕ) → wear_of (segment_of self.new) block ≡ wear_of (segment_of self.old) block }
     {
         let block = page / self.blocks.pages();
-        self.close(block);
         self.blocks.seal(block);
         self.places[vaddr as usize] = Some(Place { page, stamp });
     }
@@ -40,7 +39,6 @@ impl State {
         ensures erased { (p : ℕ) → is_blank (segment_of self.new) p ≡ true → (is_blank (segment_of self.old) p ≡ true) × (p / self.old.blocks.size ≡ block → ⊥) }
         ensures still { (p : ℕ) → is_blank (segment_of self.old) p ≡ true → (p / self.old.blocks.size ≡ block → ⊥) → is_blank (segment_of self.new) p ≡ true }
     {
-        self.close(block);
         set_wear(&mut self.blocks, block, wear);
         self.soiled[block as usize] = true;
     }

@@ -1,18 +1,20 @@
 // Sees to it that a page can be programmed, and that one block holds no page of the map.
-ghost use Rattle.std.specs.Prelude.{◌≡◌, ◌⊎◌, ℕ, ◌+◌, ◌*◌, ◌/◌, ◌<◌, ◌≤◌, length, true, false, IfNone, IfSome, IsNone};
+ghost use Rattle.std.specs.Prelude.{◌≡◌, ◌⊎◌, ℕ, ◌+◌, ◌*◌, ◌/◌, ◌<◌, ◌≤◌, length, true, false};
 ghost use Rattle.nl_field.specs.Page.{erased, page_at};
 ghost use Rattle.nl_blocks.specs.Table.{block_at, free_count};
 ghost use Rattle.nl_vseg.specs.Places.{IsUnmapped, map_of, stamp_for};
-ghost use Rattle.nl_vseg.specs.Layout.{IsLayoutOf, HasSpare, SameShape, TakenAsErased, block_is_free, bound, is_soiled, room, wears_of};
+ghost use Rattle.nl_vseg.specs.Layout.{IsLayoutOf, HasSpare, SameShape, TakenAsErased, block_is_free, bound, closed, is_soiled, room, wears_of};
 ghost use Rattle.nl_vseg.specs.Seen.{seen, IsFormed, FitsLayout};
 ghost use Rattle.nl_vseg.specs.Copying.{HasHole, Restated, SameUse, StaysOrErased};
+ghost use Rattle.nl_vseg.specs.Used.{IsClosed, IsOpened, KeepsUsed};
 ghost use Rattle.nl_vseg.specs.Effects.{Counted, KeepsMap};
 ghost use Rattle.nl_vseg.specs.Answers.{IsLost, LosesStamp};
 ghost use Rattle.nl_vseg.specs.Operations.{Operates, snapshot, wears_after};
 
 use crate::copy::{clear, copy_block};
 use crate::state::State;
-use crate::victim::choose;
+use crate::used::has_room;
+use crate::victim::{choose, seal_used};
 use nl_blocks::{BlockState, Blocks};
 use nl_field::VirtualWrite;
 use nl_nand::{Nand, WriteAnswer};
@@ -25,6 +27,7 @@ fn take(blocks: &mut Blocks) -> u32
     ensures within { result < length blocks.old.blocks }
     ensures was_free { block_is_free blocks.old result ≡ true }
     ensures taken { Restated result false blocks.old blocks.new }
+    ensures used { IsOpened result blocks.old blocks.new }
     ensures wears { wears_of blocks.new ≡ wears_of blocks.old }
 {
     let taken = if blocks.free() < 2 {
@@ -43,6 +46,7 @@ fn free_block(blocks: &mut Blocks, block: u32, soiled: bool)
     requires first { blocks.old.first ≡ 0 }
     requires within { block < length blocks.old.blocks }
     ensures states { Restated block true blocks.old blocks.new }
+    ensures used { IsClosed block blocks.old blocks.new }
     ensures kept { soiled ≡ true → wears_of blocks.new ≡ wears_of blocks.old }
     ensures worn { soiled ≡ false → wears_of blocks.new ≡ wears_after WriteAnswer.Done block (wears_of blocks.old) }
 {
@@ -58,6 +62,7 @@ fn wear_out(blocks: &mut Blocks, block: u32)
     requires first { blocks.old.first ≡ 0 }
     requires within { block < length blocks.old.blocks }
     ensures states { SameUse blocks.old blocks.new }
+    ensures used { KeepsUsed blocks.old blocks.new }
     ensures worn { wears_of blocks.new ≡ wears_after WriteAnswer.Done block (wears_of blocks.old) }
 {
     blocks.reerased(block);
@@ -76,6 +81,7 @@ pub fn set_wear(blocks: &mut Blocks, block: u32, wear: u32)
     requires first { blocks.old.first ≡ 0 }
     requires within { block < length blocks.old.blocks }
     ensures states { SameUse blocks.old blocks.new }
+    ensures used { IsClosed block blocks.old blocks.new }
     ensures wear { (block_at blocks.new block).wear ≡ wear }
     ensures others { (other : ℕ) → (other ≡ block → ⊥) → (block_at blocks.new other).wear ≡ (block_at blocks.old other).wear }
 {
@@ -94,10 +100,9 @@ impl State {
         requires formed { IsFormed self.old }
         requires within { block < length self.old.blocks.blocks }
         requires unmapped { IsUnmapped self.old.blocks.size self.old.places.items block }
-        requires idle { self.old.used < self.old.blocks.size → block ≡ self.old.active → ⊥ }
         ensures formed { IsFormed self.new }
         ensures places { self.new.places.items ≡ self.old.places.items }
-        ensures used { self.new.used ≡ self.old.used }
+        ensures used { IsClosed block self.old.blocks self.new.blocks }
         ensures active { self.new.active ≡ self.old.active }
         ensures states { Restated block true self.old.blocks self.new.blocks }
         ensures kept { soiled ≡ true → wears_of self.new.blocks ≡ wears_of self.old.blocks }
@@ -115,11 +120,10 @@ impl State {
         requires fits { FitsLayout (M.geometry media.old) (seen self.old) }
         requires within { block < length self.old.blocks.blocks }
         requires unmapped { IsUnmapped self.old.blocks.size self.old.places.items block }
-        requires idle { self.old.used < self.old.blocks.size → block ≡ self.old.active → ⊥ }
         requires segment { M.tells → IsLayoutOf (M.contents media.old) (seen self.old) }
         ensures formed { IsFormed self.new }
         ensures places { self.new.places.items ≡ self.old.places.items }
-        ensures used { self.new.used ≡ self.old.used }
+        ensures used { IsClosed block self.old.blocks self.new.blocks }
         ensures active { self.new.active ≡ self.old.active }
         ensures states { Restated block true self.old.blocks self.new.blocks }
         ensures segment { M.tells → IsLayoutOf (M.contents media.new) (seen self.new) }
@@ -148,7 +152,7 @@ impl State {
         requires within { block < length self.old.blocks.blocks }
         ensures formed { IsFormed self.new }
         ensures places { self.new.places.items ≡ self.old.places.items }
-        ensures used { self.new.used ≡ self.old.used }
+        ensures used { (seen self.new).used ≡ (seen self.old).used }
         ensures active { self.new.active ≡ self.old.active }
         ensures states { SameUse self.old.blocks self.new.blocks }
         ensures worn { wears_of self.new.blocks ≡ wears_after WriteAnswer.Done block (wears_of self.old.blocks) }
@@ -158,28 +162,28 @@ impl State {
         self.soiled[block as usize] = false;
     }
 
-    /// Erases a block that was taken before its pages are used. It stays in use; where the erase fails, it is Free.
-    fn erase_taken<M: Nand>(&mut self, media: &mut M, block: u32) -> WriteAnswer
+    /// Erases the active block before its pages are used. It stays in use; where the erase fails, it is Free.
+    fn erase_active<M: Nand>(&mut self, media: &mut M) -> WriteAnswer
         requires formed { IsFormed self.old }
         requires fits { FitsLayout (M.geometry media.old) (seen self.old) }
-        requires within { block < length self.old.blocks.blocks }
-        requires unmapped { IsUnmapped self.old.blocks.size self.old.places.items block }
-        requires idle { self.old.used < self.old.blocks.size → block ≡ self.old.active → ⊥ }
-        requires segment { M.tells → IsLayoutOf (M.contents media.old) (seen self.old) }
+        requires unmapped { IsUnmapped self.old.blocks.size self.old.places.items self.old.active }
+        requires segment { M.tells → IsLayoutOf (M.contents media.old) (closed (seen self.old)) }
         ensures formed { IsFormed self.new }
         ensures places { self.new.places.items ≡ self.old.places.items }
-        ensures used { self.new.used ≡ self.old.used }
         ensures active { self.new.active ≡ self.old.active }
         ensures kept { result ≡ WriteAnswer.Done → SameUse self.old.blocks self.new.blocks }
-        ensures given { result ≡ WriteAnswer.Failed → Restated block true self.old.blocks self.new.blocks }
+        ensures used { result ≡ WriteAnswer.Done → (seen self.new).used ≡ (seen self.old).used }
+        ensures given { result ≡ WriteAnswer.Failed → Restated self.old.active true self.old.blocks self.new.blocks }
+        ensures closed { result ≡ WriteAnswer.Failed → (seen self.new).used ≡ self.new.blocks.size }
         ensures segment { M.tells → IsLayoutOf (M.contents media.new) (seen self.new) }
-        ensures blank { M.tells → result ≡ WriteAnswer.Done → (p : ℕ) → p / self.old.blocks.size ≡ block → page_at (M.contents media.new) p ≡ erased }
-        ensures others { M.tells → (p : ℕ) → (p / self.old.blocks.size ≡ block → ⊥) → page_at (M.contents media.new) p ≡ page_at (M.contents media.old) p }
+        ensures blank { M.tells → result ≡ WriteAnswer.Done → (p : ℕ) → p / self.old.blocks.size ≡ self.old.active → page_at (M.contents media.new) p ≡ erased }
+        ensures others { M.tells → (p : ℕ) → (p / self.old.blocks.size ≡ self.old.active → ⊥) → page_at (M.contents media.new) p ≡ page_at (M.contents media.old) p }
         ensures map { M.tells → KeepsMap M.clock M.contents M.left self.old.blocks.size (bound (seen self.old)) (map_of self.old.places.items (M.contents media.old)) (map_of self.new.places.items (M.contents media.new)) media.old media.new }
         ensures operates { Operates M.tells self.old.blocks.size (snapshot (wears_of self.old.blocks) (M.clock media.old) (M.contents media.old)) (snapshot (wears_of self.new.blocks) (M.clock media.new) (M.contents media.new)) }
         ensures geometry { M.geometry media.new ≡ M.geometry media.old }
         ensures counts { Counted M.clock M.read_faults M.write_faults media.old media.new (result ≡ WriteAnswer.Failed) }
     {
+        let block = self.active;
         match media.erase(block) {
             WriteAnswer::Done => {
                 self.set_worn(block);
@@ -192,51 +196,19 @@ impl State {
         }
     }
 
-    /// Takes a Free block, and erases it first where it is soiled. None where that failed.
-    fn take_erased<M: Nand>(&mut self, media: &mut M) -> Option<u32>
-        requires formed { IsFormed self.old }
-        requires fits { FitsLayout (M.geometry media.old) (seen self.old) }
-        requires closed { self.old.used ≡ self.old.blocks.size }
-        requires free { 1 ≤ free_count self.old.blocks }
-        requires segment { M.tells → IsLayoutOf (M.contents media.old) (seen self.old) }
-        ensures formed { IsFormed self.new }
-        ensures places { self.new.places.items ≡ self.old.places.items }
-        ensures used { self.new.used ≡ self.old.used }
-        ensures none { IfNone result (SameUse self.old.blocks self.new.blocks) }
-        ensures some { IfSome result (λ block. block < length self.old.blocks.blocks) }
-        ensures was_free { IfSome result (λ block. block_is_free self.old.blocks block ≡ true) }
-        ensures taken { IfSome result (λ block. Restated block false self.old.blocks self.new.blocks) }
-        ensures segment { M.tells → IsLayoutOf (M.contents media.new) (seen self.new) }
-        ensures blank { M.tells → IfSome result (λ block. (p : ℕ) → p / self.old.blocks.size ≡ block → page_at (M.contents media.new) p ≡ erased) }
-        ensures others { M.tells → IfSome result (λ block. (p : ℕ) → (p / self.old.blocks.size ≡ block → ⊥) → page_at (M.contents media.new) p ≡ page_at (M.contents media.old) p) }
-        ensures map { M.tells → KeepsMap M.clock M.contents M.left self.old.blocks.size (bound (seen self.old)) (map_of self.old.places.items (M.contents media.old)) (map_of self.new.places.items (M.contents media.new)) media.old media.new }
-        ensures operates { Operates M.tells self.old.blocks.size (snapshot (wears_of self.old.blocks) (M.clock media.old) (M.contents media.old)) (snapshot (wears_of self.new.blocks) (M.clock media.new) (M.contents media.new)) }
-        ensures geometry { M.geometry media.new ≡ M.geometry media.old }
-        ensures counts { Counted M.clock M.read_faults M.write_faults media.old media.new (IsNone result) }
-    {
-        let block = take(&mut self.blocks);
-        if !self.soiled[block as usize] {
-            return Some(block);
-        }
-        match self.erase_taken(media, block) {
-            WriteAnswer::Failed => None,
-            WriteAnswer::Done => Some(block),
-        }
-    }
-
     /// Makes a Free block the active one, and erases it first where it is soiled.
     fn start<M: Nand>(&mut self, media: &mut M) -> WriteAnswer
         requires formed { IsFormed self.old }
         requires fits { FitsLayout (M.geometry media.old) (seen self.old) }
-        requires closed { self.old.used ≡ self.old.blocks.size }
+        requires closed { (seen self.old).used ≡ self.old.blocks.size }
         requires free { 1 ≤ free_count self.old.blocks }
         requires segment { M.tells → IsLayoutOf (M.contents media.old) (seen self.old) }
         ensures formed { IsFormed self.new }
         ensures places { self.new.places.items ≡ self.old.places.items }
         ensures same { result ≡ WriteAnswer.Failed → SameUse self.old.blocks self.new.blocks }
-        ensures closed { result ≡ WriteAnswer.Failed → self.new.used ≡ self.new.blocks.size }
+        ensures closed { result ≡ WriteAnswer.Failed → (seen self.new).used ≡ self.new.blocks.size }
         ensures taken { result ≡ WriteAnswer.Done → Restated self.new.active false self.old.blocks self.new.blocks }
-        ensures begins { result ≡ WriteAnswer.Done → self.new.used ≡ 0 }
+        ensures begins { result ≡ WriteAnswer.Done → (seen self.new).used ≡ 0 }
         ensures was_free { result ≡ WriteAnswer.Done → block_is_free self.old.blocks self.new.active ≡ true }
         ensures segment { M.tells → IsLayoutOf (M.contents media.new) (seen self.new) }
         ensures others { M.tells → result ≡ WriteAnswer.Done → StaysOrErased self.old.blocks.size self.new.active (M.contents media.old) (M.contents media.new) }
@@ -245,14 +217,12 @@ impl State {
         ensures geometry { M.geometry media.new ≡ M.geometry media.old }
         ensures counts { Counted M.clock M.read_faults M.write_faults media.old media.new (result ≡ WriteAnswer.Failed) }
     {
-        match self.take_erased(media) {
-            None => WriteAnswer::Failed,
-            Some(block) => {
-                self.active = block;
-                self.used = 0;
-                WriteAnswer::Done
-            }
+        let block = take(&mut self.blocks);
+        self.active = block;
+        if !self.soiled[block as usize] {
+            return WriteAnswer::Done;
         }
+        self.erase_active(media)
     }
 
     /// Leaves the active block, which holds no page of the map. It is Free, and erased before use.
@@ -261,39 +231,20 @@ impl State {
         requires unmapped { IsUnmapped self.old.blocks.size self.old.places.items self.old.active }
         ensures formed { IsFormed self.new }
         ensures places { self.new.places.items ≡ self.old.places.items }
-        ensures closed { self.new.used ≡ self.new.blocks.size }
+        ensures closed { (seen self.new).used ≡ self.new.blocks.size }
         ensures states { Restated self.old.active true self.old.blocks self.new.blocks }
         ensures wears { wears_of self.new.blocks ≡ wears_of self.old.blocks }
         ensures erased { (p : ℕ) → TakenAsErased (seen self.new) p → TakenAsErased (seen self.old) p × (p / self.old.blocks.size ≡ self.old.active → ⊥) }
     {
         let block = self.active;
-        self.close(block);
         self.set_free(block, true);
-    }
-
-    /// Nothing more is programmed in this block before it is erased.
-    pub fn close(&mut self, block: u32)
-        requires { IsFormed self.old }
-        ensures formed { IsFormed self.new }
-        ensures places { self.new.places.items ≡ self.old.places.items }
-        ensures table { self.new.blocks ≡ self.old.blocks }
-        ensures soiled { self.new.soiled.items ≡ self.old.soiled.items }
-        ensures active { self.new.active ≡ self.old.active }
-        ensures used { self.new.active ≡ block → self.new.used ≡ self.new.blocks.size }
-        ensures idle { self.new.used < self.new.blocks.size → block ≡ self.new.active → ⊥ }
-        ensures erased { (p : ℕ) → TakenAsErased (seen self.new) p → TakenAsErased (seen self.old) p }
-        ensures still { (p : ℕ) → TakenAsErased (seen self.old) p → (p / self.old.blocks.size ≡ block → ⊥) → TakenAsErased (seen self.new) p }
-    {
-        if block == self.active {
-            self.used = self.blocks.pages();
-        }
     }
 
     /// Copies the pages of the victim that addresses have to the active block. The map has the copies once all are made.
     fn move_pages<M: Nand>(&mut self, media: &mut M, victim: u32) -> VirtualWrite
         requires formed { IsFormed self.old }
         requires fits { FitsLayout (M.geometry media.old) (seen self.old) }
-        requires begins { self.old.used ≡ 0 }
+        requires begins { (seen self.old).used ≡ 0 }
         requires unmapped { IsUnmapped self.old.blocks.size self.old.places.items self.old.active }
         requires other { self.old.active ≡ victim → ⊥ }
         requires hole { HasHole self.old.blocks.size victim self.old.places.items }
@@ -301,12 +252,12 @@ impl State {
         ensures formed { IsFormed self.new }
         ensures moved { result ≡ VirtualWrite.Done → IsUnmapped self.new.blocks.size self.new.places.items victim }
         ensures stamps { (v : ℕ) → stamp_for self.new.places.items v ≡ stamp_for self.old.places.items v }
-        ensures table { result ≡ VirtualWrite.Done → self.new.blocks ≡ self.old.blocks }
+        ensures states { result ≡ VirtualWrite.Done → SameUse self.old.blocks self.new.blocks }
         ensures active { result ≡ VirtualWrite.Done → self.new.active ≡ self.old.active }
-        ensures used { result ≡ VirtualWrite.Done → self.new.used < self.new.blocks.size }
+        ensures used { result ≡ VirtualWrite.Done → (seen self.new).used < self.new.blocks.size }
         ensures count { length self.new.places.items ≡ length self.old.places.items }
         ensures kept_places { (result ≡ VirtualWrite.Done → ⊥) → self.new.places.items ≡ self.old.places.items }
-        ensures closed { (result ≡ VirtualWrite.Done → ⊥) → self.new.used ≡ self.new.blocks.size }
+        ensures closed { (result ≡ VirtualWrite.Done → ⊥) → (seen self.new).used ≡ self.new.blocks.size }
         ensures given { (result ≡ VirtualWrite.Done → ⊥) → Restated self.old.active true self.old.blocks self.new.blocks }
         ensures segment { M.tells → IsLayoutOf (M.contents media.new) (seen self.new) }
         ensures map { M.tells → KeepsMap M.clock M.contents M.left self.old.blocks.size (bound (seen self.old)) (map_of self.old.places.items (M.contents media.old)) (map_of self.new.places.items (M.contents media.new)) media.old media.new }
@@ -329,7 +280,7 @@ impl State {
             pages,
             self.active,
             wear,
-            &mut self.used,
+            &mut self.blocks,
         ) {
             VirtualWrite::Done => {
                 std::mem::swap(&mut self.places, &mut self.copies);
@@ -350,12 +301,12 @@ impl State {
     fn clean<M: Nand>(&mut self, media: &mut M) -> VirtualWrite
         requires formed { IsFormed self.old }
         requires fits { FitsLayout (M.geometry media.old) (seen self.old) }
-        requires closed { self.old.used ≡ self.old.blocks.size }
+        requires closed { (seen self.old).used ≡ self.old.blocks.size }
         requires free { free_count self.old.blocks ≡ 1 }
         requires segment { M.tells → IsLayoutOf (M.contents media.old) (seen self.old) }
         ensures formed { IsFormed self.new }
         ensures spare { 1 ≤ free_count self.new.blocks }
-        ensures room { result ≡ VirtualWrite.Done → self.new.used < self.new.blocks.size }
+        ensures room { result ≡ VirtualWrite.Done → (seen self.new).used < self.new.blocks.size }
         ensures stamps { (v : ℕ) → stamp_for self.new.places.items v ≡ stamp_for self.old.places.items v }
         ensures numbers { SameShape (seen self.old) (seen self.new) }
         ensures segment { M.tells → IsLayoutOf (M.contents media.new) (seen self.new) }
@@ -386,12 +337,12 @@ impl State {
     fn free_one<M: Nand>(&mut self, media: &mut M) -> WriteAnswer
         requires formed { IsFormed self.old }
         requires fits { FitsLayout (M.geometry media.old) (seen self.old) }
-        requires closed { self.old.used ≡ self.old.blocks.size }
+        requires closed { (seen self.old).used ≡ self.old.blocks.size }
         requires spare { HasSpare (seen self.old) }
         requires segment { M.tells → IsLayoutOf (M.contents media.old) (seen self.old) }
         ensures formed { IsFormed self.new }
         ensures places { self.new.places.items ≡ self.old.places.items }
-        ensures closed { self.new.used ≡ self.new.blocks.size }
+        ensures closed { (seen self.new).used ≡ self.new.blocks.size }
         ensures free { 1 ≤ free_count self.new.blocks }
         ensures same { 1 ≤ free_count self.old.blocks → seen self.new ≡ seen self.old }
         ensures still { 1 ≤ free_count self.old.blocks → M.contents media.new ≡ M.contents media.old }
@@ -417,7 +368,7 @@ impl State {
         requires segment { M.tells → IsLayoutOf (M.contents media.old) (seen self.old) }
         ensures formed { IsFormed self.new }
         ensures spare { HasSpare (seen self.new) }
-        ensures room { result ≡ VirtualWrite.Done → (self.new.used < self.new.blocks.size) × (1 ≤ free_count self.new.blocks) }
+        ensures room { result ≡ VirtualWrite.Done → ((seen self.new).used < self.new.blocks.size) × (1 ≤ free_count self.new.blocks) }
         ensures stamps { (v : ℕ) → stamp_for self.new.places.items v ≡ stamp_for self.old.places.items v }
         ensures numbers { SameShape (seen self.old) (seen self.new) }
         ensures direct { 0 < room (seen self.old) → result ≡ VirtualWrite.Done → (room (seen self.new) ≡ room (seen self.old)) × (self.new.places.items ≡ self.old.places.items) }
@@ -430,11 +381,11 @@ impl State {
         ensures geometry { M.geometry media.new ≡ M.geometry media.old }
         ensures counts { Counted M.clock M.read_faults M.write_faults media.old media.new (result ≡ VirtualWrite.Fault) }
     {
-        let pages = self.blocks.pages();
-        if self.used < pages && self.blocks.free() > 0 {
+        if has_room(&self.blocks, self.active) && self.blocks.free() > 0 {
             return VirtualWrite::Done;
         }
-        self.used = pages;
+        // The active block is left, whether or not each of its pages is used.
+        seal_used(&mut self.blocks, self.active);
         match self.free_one(media) {
             WriteAnswer::Done => {}
             WriteAnswer::Failed => return VirtualWrite::Fault,

@@ -19,10 +19,8 @@ pub struct State {
     pub targets: Vec<Option<u32>>,
     /// Blocks that are erased before use where they are Free.
     pub soiled: Vec<bool>,
-    /// The block that is written to.
+    /// The block that is written to, where the table has it as Active or as Target. Its marked pages are used.
     pub active: u32,
-    /// How many of its pages are used.
-    pub used: u32,
     pub buf: PageBuf,
 }
 
@@ -52,7 +50,6 @@ impl State {
             blocks: Blocks::new(alloc, 0, shape.vblocks, shape.pages)?,
             soiled: no_marks(alloc, shape.vblocks as usize)?,
             active: 0,
-            used: shape.pages,
             buf: PageBuf::new(alloc)?,
         })
     }

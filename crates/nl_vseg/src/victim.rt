@@ -5,9 +5,11 @@ ghost use Rattle.nl_vseg.specs.Places.{AreBelow, IsUnmapped, place_of};
 ghost use Rattle.nl_vseg.specs.declared.place.Place.{Place as PlaceOf};
 ghost use Rattle.nl_vseg.specs.Layout.{block_is_free, wears_of};
 ghost use Rattle.nl_victim.specs.Victims.{IsMostDead};
+ghost use Rattle.nl_vseg.specs.Used.{IsClosed, KeepsUsed, used_of};
 ghost use Rattle.nl_vseg.specs.Copying.{mapped_in, HasHole, IsMarked, IsSettled, SameStates, SameUse};
 
 use crate::place::Place;
+use crate::used::has_room;
 use nl_blocks::{BlockState, Blocks, PageState};
 use nl_victim::most_dead;
 
@@ -15,6 +17,7 @@ use nl_victim::most_dead;
 pub fn seal_used(blocks: &mut Blocks, block: u32)
     requires first { blocks.old.first ≡ 0 }
     requires within { block < length blocks.old.blocks }
+    ensures used { IsClosed block blocks.old blocks.new }
     ensures states { SameUse blocks.old blocks.new }
     ensures here { block_is_free blocks.new block ≡ false → is_sealed (block_at blocks.new block) ≡ true }
     ensures wear { (other : ℕ) → (block_at blocks.new other).wear ≡ (block_at blocks.old other).wear }
@@ -25,6 +28,23 @@ pub fn seal_used(blocks: &mut Blocks, block: u32)
         return;
     }
     blocks.seal(block);
+}
+
+/// Seals a block in use where each of its pages is used.
+pub fn seal_full(blocks: &mut Blocks, block: u32)
+    requires first { blocks.old.first ≡ 0 }
+    requires within { block < length blocks.old.blocks }
+    requires in_use { block_is_free blocks.old block ≡ false }
+    ensures used { KeepsUsed blocks.old blocks.new }
+    ensures states { SameUse blocks.old blocks.new }
+    ensures sealed { used_of blocks.new block ≡ blocks.new.size → is_sealed (block_at blocks.new block) ≡ true }
+    ensures wear { (other : ℕ) → (block_at blocks.new other).wear ≡ (block_at blocks.old other).wear }
+    ensures wears { wears_of blocks.new ≡ wears_of blocks.old }
+{
+    if has_room(blocks, block) {
+        return;
+    }
+    seal_used(blocks, block);
 }
 
 /// Each block in use is Sealed: also the active one, which is left where no other block is Free.

@@ -15,7 +15,8 @@ ghost use Rattle.nl_vseg.specs.Operations.{Operates, snapshot};
 use crate::pages::program_page;
 use crate::place::Place;
 use crate::state::State;
-use crate::victim::seal_used;
+use crate::used::use_next;
+use crate::victim::seal_full;
 use nl_field::{PageBuf, VirtualWrite};
 use nl_nand::{Nand, WriteAnswer};
 
@@ -32,12 +33,13 @@ impl State {
         requires fits { FitsLayout (M.geometry media.old) (seen self.old) }
         requires vaddr { vaddr < length self.old.places.items }
         requires stamp { IsTrue (is_stamp stamp) }
-        requires room { self.old.used < self.old.blocks.size }
+        requires room { (seen self.old).used < self.old.blocks.size }
         requires free { 1 ≤ free_count self.old.blocks }
         requires segment { M.tells → IsLayoutOf (M.contents media.old) (seen self.old) }
         ensures formed { IsFormed self.new }
         ensures spare { HasSpare (seen self.new) }
-        ensures table { self.new.blocks ≡ self.old.blocks }
+        ensures states { SameUse self.old.blocks self.new.blocks }
+        ensures wear { (block_at self.new.blocks self.old.active).wear ≡ (block_at self.old.blocks self.old.active).wear }
         ensures active { self.new.active ≡ self.old.active }
         ensures numbers { SameShape (seen self.old) (seen self.new) }
         ensures room { room (seen self.new) + 1 ≡ room (seen self.old) }
@@ -59,9 +61,8 @@ impl State {
         ensures counts { Counted M.clock M.read_faults M.write_faults media.old media.new (result ≡ WriteAnswer.Failed) }
         ensures write_fault { result ≡ WriteAnswer.Failed → Rose (M.write_faults media.old) (M.write_faults media.new) }
     {
-        let page = self.active * self.blocks.pages() + self.used;
         let wear = self.blocks.wear(self.active);
-        self.used += 1;
+        let page = use_next(&mut self.blocks, self.active);
         self.buf.copy_from(from);
         match program_page(media, page, &mut self.buf, vaddr, stamp, wear) {
             WriteAnswer::Failed => WriteAnswer::Failed,
@@ -78,13 +79,13 @@ impl State {
         requires fits { FitsLayout (M.geometry media.old) (seen self.old) }
         requires vaddr { vaddr < length self.old.places.items }
         requires stamp { IsTrue (is_stamp stamp) }
-        requires room { self.old.used < self.old.blocks.size }
+        requires room { (seen self.old).used < self.old.blocks.size }
         requires free { 1 ≤ free_count self.old.blocks }
         requires segment { M.tells → IsLayoutOf (M.contents media.old) (seen self.old) }
         ensures formed { IsFormed self.new }
         ensures spare { HasSpare (seen self.new) }
         ensures states { SameUse self.old.blocks self.new.blocks }
-        ensures sealed { self.new.used ≡ self.new.blocks.size → is_sealed (block_at self.new.blocks self.new.active) ≡ true }
+        ensures sealed { (seen self.new).used ≡ self.new.blocks.size → is_sealed (block_at self.new.blocks self.new.active) ≡ true }
         ensures numbers { SameShape (seen self.old) (seen self.new) }
         ensures room { room (seen self.new) + 1 ≡ room (seen self.old) }
         ensures done { result ≡ WriteAnswer.Done → (v : ℕ) → stamp_for self.new.places.items v ≡ (if v == vaddr then Some stamp else stamp_for self.old.places.items v) }
@@ -106,9 +107,7 @@ impl State {
         ensures write_fault { result ≡ WriteAnswer.Failed → Rose (M.write_faults media.old) (M.write_faults media.new) }
     {
         let answer = self.program(media, vaddr, from, stamp);
-        if self.used == self.blocks.pages() {
-            seal_used(&mut self.blocks, self.active);
-        }
+        seal_full(&mut self.blocks, self.active);
         answer
     }
 

@@ -1,10 +1,12 @@
-use Rattle.std.proofs.Common.{◌≡◌, refl, Some, inl, inr, ⊎_elim, ◌*◌, ◌≤◌, sym, ◌∙◌, ap, subst, arith}
+use Rattle.std.proofs.Common.{◌≡◌, refl, Some, inl, inr, ⊎_elim, ◌*◌, ◌<◌, ◌≤◌, sym, ◌∙◌, ap, subst, arith}
 use Rattle.std.proofs.lemmas.Bool.{cases_eq}
 use Rattle.nl_nand.specs.declared.geometry.Geometry.{Geometry}
 use Rattle.nl_nand.proofs.Crashes.{then}
 use Rattle.nl_vseg.specs.Places.{place_of}
 use Rattle.nl_vseg.specs.Layout.{ArePlaces}
 use Rattle.nl_vseg.specs.Copying.{target_at, AreTargets, IsAt, LeavesHole}
+use Rattle.nl_vseg.specs.Used.{used_of}
+use Rattle.nl_vseg.proofs.Blocks.{same_then, same_use}
 use Rattle.nl_vseg.proofs.Copies.{used_below, fresh_page, hole_left, new_targets, no_target}
 use Rattle.nl_vseg.proofs.Counts.{counted_as, counted_start, counted_then}
 use Rattle.nl_vseg.proofs.Images.{changed_none}
@@ -14,6 +16,9 @@ use Rattle.nl_vseg.proofs.copy.copy_block.Goals as goal
 
 pub loop-v-init : goal.loop-v-init
 loop-v-init g c = record {
+  states = same_use c.args.blocks.now;
+  wears = refl;
+  rising = c.requires.rising;
   places = c.requires.places;
   count = refl;
   stamps = λ u. refl;
@@ -53,7 +58,10 @@ loop-v-preserved g c =
     let done = c.in-Done.is in
     let here : c.loop-v.v ≤ c.loop-v.v = omega arith in
     record {
-      places = subst (λ (n : Geometry). ArePlaces c.args.pages (n.blocks * c.args.pages) c.args.target c.copy_one.new.used c.copy_one.new.copies.items) i.geometry (e.places done);
+      states = same_then i.states e.states;
+      wears = e.wears ∙ i.wears;
+      rising = e.rising;
+      places = subst (λ (n : Geometry). ArePlaces c.args.pages (n.blocks * c.args.pages) c.args.target (used_of c.copy_one.new.blocks c.args.target) c.copy_one.new.copies.items) i.geometry (e.places done);
       count = e.count ∙ i.count;
       stamps = λ u. e.stamps u ∙ i.stamps u;
       behind = λ u from. e.same u (λ is. omega (arith, is, from)) ∙ i.behind u (omega (arith, from));
@@ -109,3 +117,12 @@ returns-in-Fault-clause-crash g c t =
     let i = c.loop-v.invariant in
     let here : c.loop-v.v ≤ c.loop-v.v = omega arith in
     then _ (i.crash t) (c.copy_one.ensures.crash t c.args.copies.now.items (g.M.Nand.contents c.args.media.now) (sym (i.behind c.loop-v.v here)) c.requires.unmapped (i.changed t))
+
+pub copy_one-requires-clause-first : goal.copy_one-requires-clause-first
+copy_one-requires-clause-first g c = c.loop-v.invariant.states.numbers.same_first ∙ c.requires.first
+
+pub copy_one-requires-clause-within : goal.copy_one-requires-clause-within
+copy_one-requires-clause-within g c = subst (λ n. c.args.target < n) (sym c.loop-v.invariant.states.numbers.same_count) c.requires.within
+
+pub copy_one-requires-clause-width : goal.copy_one-requires-clause-width
+copy_one-requires-clause-width g c = c.loop-v.invariant.states.numbers.same_size ∙ c.requires.width

@@ -1,23 +1,34 @@
-use Rattle.std.proofs.Common.{set, refl, sym, ◌∙◌, length-set}
+use Rattle.std.proofs.Common.{set, refl, sym, ◌∙◌, subst, length-set}
+use Rattle.nl_vseg.specs.Layout.{IsLayout}
 use Rattle.nl_vseg.specs.Seen.{seen}
+use Rattle.nl_vseg.specs.Used.{used_of}
 use Rattle.nl_vseg.proofs.Segments.{freed, freed_taken}
+use Rattle.nl_vseg.proofs.Using.{closed_fewer, closed_idle, closed_in, closed_is, closed_used}
 use Rattle.nl_vseg.proofs.state.State.set_free.Goals as goal
 
 pub returns-clause-erased : goal.returns-clause-erased
 returns-clause-erased c p taken =
+    let seg = seen c.args.self.now in
     let is = c.requires.formed.segment in
-    freed_taken (seen c.args.self.now) (record { places = c.args.self.now.places.items; table = c.free_block.new.blocks; soiled = set c.args.self.now.soiled.items c.args.block c.args.soiled; active = c.args.self.now.active; used = c.args.self.now.used })
+    let t = c.free_block.new.blocks in
+    let step = c.free_block.ensures in
+    let e = freed_taken (closed_in seg c.args.block) (record { places = seg.places; table = t; soiled = set seg.soiled c.args.block c.args.soiled; active = seg.active; used = used_of t seg.active })
     c.args.block c.args.soiled is.some is.marks
-    c.free_block.ensures.states
-    refl refl refl c.requires.within c.requires.idle p taken
+    step.states
+    refl refl (closed_used seg c.args.block t step.used step.states.numbers.same_size is.active_is refl) c.requires.within (closed_idle seg c.args.block) p taken in
+    (e.0, λ ne. closed_fewer seg c.args.block p (e.1 ne))
 
 pub returns-clause-formed : goal.returns-clause-formed
 returns-clause-formed c =
-    let old = c.args.self.now in
-    let n = c.free_block.ensures.states.numbers in
+    let seg = seen c.args.self.now in
+    let is = c.requires.formed.segment in
+    let t = c.free_block.new.blocks in
+    let step = c.free_block.ensures in
+    let soiled = set seg.soiled c.args.block c.args.soiled in
     record {
-      segment = freed (seen old) c.free_block.new.blocks (set old.soiled.items c.args.block c.args.soiled) c.args.block c.requires.formed.segment c.free_block.ensures.states
-          (length-set old.soiled.items c.args.block c.args.soiled) c.requires.idle c.requires.unmapped;
+      segment = subst (λ n. IsLayout (record seg { table = t; soiled = soiled; used = n })) (sym (closed_used seg c.args.block t step.used step.states.numbers.same_size is.active_is refl))
+          (freed (closed_in seg c.args.block) t soiled c.args.block (closed_is seg c.args.block is) step.states (length-set seg.soiled c.args.block c.args.soiled) (closed_idle seg c.args.block) c.requires.unmapped);
+      rising = step.used.rising c.requires.formed.rising;
       copies = c.requires.formed.copies;
-      targets = c.requires.formed.targets ∙ sym n.same_size;
+      targets = c.requires.formed.targets ∙ sym step.states.numbers.same_size;
     }
