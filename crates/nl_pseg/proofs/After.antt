@@ -4,13 +4,13 @@ use Rattle.nl_blocks.specs.Table.{IsTable}
 use Rattle.nl_pseg.specs.Seen.{IsFormed, IsTied, seen}
 use Rattle.nl_pseg.specs.Space.{GivesBack, HasFewPairs, Lessens, gain_of, left_of, reach}
 use Rattle.nl_pseg.specs.Steps.{Ends, NamesGone}
-use Rattle.nl_pseg.specs.declared.state.State.{State}
+use Rattle.nl_pseg.specs.Kept.{Kept}
 use Rattle.nl_pseg.proofs.Ended.{few_on, gone_back, gone_lessens, same_reach}
 use Rattle.nl_pseg.proofs.Holds.{holds_whole}
 use Rattle.nl_pseg.proofs.Lefts.{gain_by, left_ended, left_same}
 use Rattle.nl_pseg.proofs.States.{within_length}
 
-module _ (s x : State) (is : IsFormed s) (tied : IsTied s) (table : IsTable s.blocks) (few : HasFewPairs (seen s)) (now : IsFormed x) (tied_now : IsTied x) (table_now : IsTable x.blocks) where
+module _ (s x : Kept) (is : IsFormed s) (tied : IsTied s) (table : IsTable s.blocks) (few : HasFewPairs (seen s)) (now : IsFormed x) (tied_now : IsTied x) (table_now : IsTable x.blocks) where
   module _ (g : NamesGone (seen s) (seen x)) (held : x.held ≡ s.held) where
     same_left : left_of (seen x) ≡ left_of (seen s)
     same_left = left_same s x is tied table now tied_now table_now g.range.range_size g.victim (λ b p named from below. (λ i. get_or (held i).items p None))

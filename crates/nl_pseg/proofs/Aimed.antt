@@ -14,7 +14,7 @@ use Rattle.nl_pseg.specs.Seen.{HasPhases, IsFormed, IsNamed, IsTied, seen, use_i
 use Rattle.nl_pseg.specs.Space.{dead_in, gain_of, left_of}
 use Rattle.nl_pseg.specs.Steps.{IsReadied, IsTargeted, Restated, SameMarks, SameNumbers, SameUse, aimed_at}
 use Rattle.nl_pseg.specs.declared.held.Held.{Held}
-use Rattle.nl_pseg.specs.declared.state.State.{State}
+use Rattle.nl_pseg.specs.Kept.{Kept}
 use Rattle.nl_pseg.proofs.Numbers.{block_of}
 use Rattle.nl_pseg.proofs.Rows.{dead_here, num, sum_same, waiting_same, waiting_used, waits}
 use Rattle.nl_pseg.proofs.Tables.{has_same}
@@ -60,17 +60,17 @@ left_over old new victim size dead = by old.victim refl
       ap (λ v. gain_of (record new { victim = v })) (victim ∙ e) ∙ (dead b e ∙ sym (ap (λ v. gain_of (record old { victim = v })) e)),
     )
 
-module _ (s : State) (tied : IsTied s) (t : Table) (is_a : IsTable s.blocks) (is_b : IsTable t) (n : SameNumbers s.blocks t) where
+module _ (s : Kept) (tied : IsTied s) (t : Table) (is_a : IsTable s.blocks) (is_b : IsTable t) (n : SameNumbers s.blocks t) where
   pub dead_kept : (block : ℕ) → s.victim ≡ Some block → ((p : ℕ) → HasPage s.blocks p → p / s.blocks.size ≡ block → (page_at t p).state ≡ (page_at s.blocks p).state) → dead_in (seen (record s { blocks = t })) block ≡ dead_in (seen s) block
   dead_kept block named same =
       let has = (tied.phases.victim_in block named).0 in
       dead_here t block (has_same block n has) ∙ (dead_same s.blocks t is_a is_b n block has same ∙ sym (dead_here s.blocks block has))
 
-module _ (s : State) (block : ℕ) (k : IsTargeted s block) (some : 0 < s.blocks.size) (target : (block_at s.blocks block).state ≡ Target) (idle : (p : ℕ) (h : Held) → held_at (seen s) p ≡ Some h → p / s.blocks.size ≡ block → ⊥) where
-  abbrev before : State
+module _ (s : Kept) (block : ℕ) (k : IsTargeted s block) (some : 0 < s.blocks.size) (target : (block_at s.blocks block).state ≡ Target) (idle : (p : ℕ) (h : Held) → held_at (seen s) p ≡ Some h → p / s.blocks.size ≡ block → ⊥) where
+  abbrev before : Kept
   before = record s { blocks = k.table }
 
-  abbrev after : State
+  abbrev after : Kept
   after = record s { soiled = with_item s.soiled block None; target = block; filled = 0 }
 
   size : s.blocks.size ≡ k.table.size
@@ -134,7 +134,7 @@ module _ (s : State) (block : ℕ) (k : IsTargeted s block) (some : 0 < s.blocks
   aimed_tied = record { named = named; phases = phases; behind = λ p h held copy. idle p h held (copy_in p copy) }
 
 -- a Free block was taken, and copies are programmed in it
-module _ (s : State) (is : IsFormed s) (tied : IsTied s) (t : Table) (block : ℕ) (is_a : IsTable s.blocks) (is_b : IsTable t) (full : s.blocks.size ≤ s.filled) (r : Restated block false (wear_of (seen s) block) s.blocks t) (free : (use_in s.blocks block).is_free ≡ true) where
+module _ (s : Kept) (is : IsFormed s) (tied : IsTied s) (t : Table) (block : ℕ) (is_a : IsTable s.blocks) (is_b : IsTable t) (full : s.blocks.size ≤ s.filled) (r : Restated block false (wear_of (seen s) block) s.blocks t) (free : (use_in s.blocks block).is_free ≡ true) where
   pub aimed_readied : IsReadied (seen s) (aimed_at (seen (record s { blocks = t })) block)
   aimed_readied =
       let n = r.numbers in
@@ -188,7 +188,7 @@ module _ (s : State) (is : IsFormed s) (tied : IsTied s) (t : Table) (block : �
           none false = refl
 
 -- the block is Free again
-module _ (s : State) (is : IsFormed s) (tied : IsTied s) (t : Table) (is_a : IsTable s.blocks) (is_b : IsTable t) (same : SameUse s.blocks t) (marks : SameMarks s.blocks t) where
+module _ (s : Kept) (is : IsFormed s) (tied : IsTied s) (t : Table) (is_a : IsTable s.blocks) (is_b : IsTable t) (same : SameUse s.blocks t) (marks : SameMarks s.blocks t) where
   pub again_readied : IsReadied (seen s) (seen (record s { blocks = t }))
   again_readied =
       let n = same.numbers in

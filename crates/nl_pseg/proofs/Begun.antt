@@ -12,7 +12,7 @@ use Rattle.nl_pseg.specs.Segment.{Use, row_in, soiled, wear_with}
 use Rattle.nl_pseg.specs.Seen.{row_of, seen, use_of}
 use Rattle.nl_pseg.specs.Space.{HasFewPairs, gain_of}
 use Rattle.nl_pseg.specs.Steps.{SameUse}
-use Rattle.nl_pseg.specs.declared.state.State.{State}
+use Rattle.nl_pseg.specs.Kept.{Kept}
 use Rattle.nl_pseg.proofs.Numbers.{block_from}
 use Rattle.nl_pseg.proofs.Rows.{dead_few, dead_here, sum_map, to_gain, waiting_used}
 use Rattle.nl_pseg.proofs.Tables.{has_same}
@@ -21,9 +21,9 @@ use Rattle.nl_pseg.proofs.Tables.{has_same}
 pub told_length : (pairs : List Link) → length (told pairs) ≡ length pairs
 told_length pairs = length-map pairs (λ p. (p.from, p.to))
 
-module _ (s : State) (table : IsTable s.blocks) (none : s.victim ≡ None) (few : length s.names.pairs ≤ 2 * s.blocks.size) (some : 0 < free_count s.blocks) (block : ℕ) (has : HasBlock s.blocks block) (sealed : (block_at s.blocks block).state ≡ Sealed)
+module _ (s : Kept) (table : IsTable s.blocks) (none : s.victim ≡ None) (few : length s.names.pairs ≤ 2 * s.blocks.size) (some : 0 < free_count s.blocks) (block : ℕ) (has : HasBlock s.blocks block) (sealed : (block_at s.blocks block).state ≡ Sealed)
     (t : Table) (whole : t ≡ with_block s.blocks block (in_state (block_at s.blocks block) Victim)) (same : SameUse s.blocks t) where
-  abbrev after : State
+  abbrev after : Kept
   after = record s { blocks = t; victim = Some block }
 
   abbrev dead : ℕ

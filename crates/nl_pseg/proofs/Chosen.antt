@@ -8,13 +8,13 @@ use Rattle.nl_blocks.specs.Table.{Table, HasBlock, block_at}
 use Rattle.nl_pseg.specs.Segment.{Use, IsNext, IsNextCopy}
 use Rattle.nl_pseg.specs.Seen.{IsTied, seen, use_in}
 use Rattle.nl_pseg.specs.Steps.{SameUse}
-use Rattle.nl_pseg.specs.declared.state.State.{State}
+use Rattle.nl_pseg.specs.Kept.{Kept}
 use Rattle.nl_pseg.proofs.Tables.{has_same}
 use Rattle.nl_pseg.proofs.Tied.{back, named_on}
 
-module _ (s : State) (tied : IsTied s) (none : s.victim ≡ None) (t : Table) (same : SameUse s.blocks t) (block : ℕ) (has_block : HasBlock s.blocks block) (sealed : (block_at s.blocks block).state ≡ Sealed)
+module _ (s : Kept) (tied : IsTied s) (none : s.victim ≡ None) (t : Table) (same : SameUse s.blocks t) (block : ℕ) (has_block : HasBlock s.blocks block) (sealed : (block_at s.blocks block).state ≡ Sealed)
     (here : (block_at t block).state ≡ Victim) (others : (b : ℕ) → HasBlock s.blocks b → (b ≡ block → ⊥) → (block_at t b).state ≡ (block_at s.blocks b).state) where
-  abbrev after : State
+  abbrev after : Kept
   after = record s { blocks = t; victim = Some block }
 
   size : t.size ≡ s.blocks.size

@@ -10,7 +10,7 @@ use Rattle.nl_pseg.specs.Segment.{HasSpare, InVictim, IsDead, IsNext, IsNextCopy
 use Rattle.nl_pseg.specs.Seen.{IsFormed, IsTied, seen}
 use Rattle.nl_pseg.specs.Steps.{IsCopyUsed, IsLed, IsReadied}
 use Rattle.nl_pseg.specs.declared.held.Held.{Held}
-use Rattle.nl_pseg.specs.declared.state.State.{State}
+use Rattle.nl_pseg.specs.Kept.{Kept}
 use Rattle.nl_pseg.proofs.CopyUsed.{copy_apart, copy_block, copy_in_use, copy_segment, is_copy}
 use Rattle.nl_pseg.proofs.Images.{program_others, shows_same}
 use Rattle.nl_pseg.proofs.Segments.{set_held}
@@ -21,7 +21,7 @@ no_some None never = refl
 no_some (Some h) never = absurd (never h refl)
 
 -- the page that the next copy is programmed on is not live
-module _ (s : State) (is : IsFormed s) (tied : IsTied s) (room : s.filled < s.blocks.size) where
+module _ (s : Kept) (is : IsFormed s) (tied : IsTied s) (room : s.filled < s.blocks.size) where
   pub copy_dead : IsDead (seen s) (seen s).copy_next
   copy_dead = record {
     within = copy_segment s is tied room;

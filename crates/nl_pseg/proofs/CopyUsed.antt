@@ -12,7 +12,7 @@ use Rattle.nl_pseg.specs.Segment.{Use, InSegment, IsNext, IsNextCopy, held_at, i
 use Rattle.nl_pseg.specs.Seen.{AreMarked, ArePlaces, HasPhases, IsFormed, IsNamed, IsTied, is_kept_state, seen}
 use Rattle.nl_pseg.specs.Steps.{IsCopyUsed, SameUse}
 use Rattle.nl_pseg.specs.declared.held.Held.{Held}
-use Rattle.nl_pseg.specs.declared.state.State.{State}
+use Rattle.nl_pseg.specs.Kept.{Kept}
 use Rattle.nl_pseg.proofs.Aimed.{dead_kept, left_over}
 use Rattle.nl_pseg.proofs.Numbers.{block_of}
 use Rattle.nl_pseg.proofs.Rows.{waiting_used}
@@ -22,7 +22,7 @@ use Rattle.nl_pseg.proofs.Tables.{has_same, use_here}
 use Rattle.nl_pseg.proofs.Tied.{back, named_on}
 
 -- the page that the next copy is programmed on
-module _ (s : State) (is : IsFormed s) (tied : IsTied s) (room : s.filled < s.blocks.size) where
+module _ (s : Kept) (is : IsFormed s) (tied : IsTied s) (room : s.filled < s.blocks.size) where
   pub is_copy : IsNextCopy (seen s) (s.target * s.blocks.size + s.filled)
   is_copy = (omega arith, omega (arith, room))
 
@@ -50,10 +50,10 @@ module _ (s : State) (is : IsFormed s) (tied : IsTied s) (room : s.filled < s.bl
   pub copy_apart : s.victim ≡ Some s.target → ⊥
   copy_apart named = cc (sym (tied.phases.victim_in s.target named).1 ∙ tied.phases.filling room)
 
-module _ (s : State) (is : IsFormed s) (tied : IsTied s) (room : s.filled < s.blocks.size) (t : Table) (same : SameUse s.blocks t) (page : ℕ) (at : page ≡ s.target * s.blocks.size + s.filled) (x : Option Held)
+module _ (s : Kept) (is : IsFormed s) (tied : IsTied s) (room : s.filled < s.blocks.size) (t : Table) (same : SameUse s.blocks t) (page : ℕ) (at : page ≡ s.target * s.blocks.size + s.filled) (x : Option Held)
     (more : s.filled + 1 < s.blocks.size → (block_at t s.target).state ≡ Target) (done : (s.filled + 1 < s.blocks.size → ⊥) → (block_at t s.target).state ≡ Sealed)
     (others : (b : ℕ) → HasBlock s.blocks b → (b ≡ s.target → ⊥) → (block_at t b).state ≡ (block_at s.blocks b).state) where
-  abbrev new : State
+  abbrev new : Kept
   new = record s { held = with_item s.held page x; blocks = t; filled = s.filled + 1 }
 
   within : page < length s.held.items

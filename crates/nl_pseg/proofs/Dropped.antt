@@ -15,7 +15,7 @@ use Rattle.nl_pseg.specs.Segment.{Use, IsNext, IsNextCopy, held_at}
 use Rattle.nl_pseg.specs.Seen.{IsFormed, IsTied, seen, use_in}
 use Rattle.nl_pseg.specs.Steps.{SameMarks, SameNumbers}
 use Rattle.nl_pseg.specs.declared.held.Held.{Held}
-use Rattle.nl_pseg.specs.declared.state.State.{State}
+use Rattle.nl_pseg.specs.Kept.{Kept}
 use Rattle.nl_pseg.proofs.Forms.{formed_table}
 use Rattle.nl_pseg.proofs.Named.{names_some, names_taken, old_within}
 use Rattle.nl_pseg.proofs.Tables.{has_same, use_here}
@@ -51,7 +51,7 @@ retired_is the.Sealed is = absurd (true≢false (sym is))
 retired_is the.Victim is = absurd (true≢false (sym is))
 retired_is (the.Retired names) is = refl
 
-module _ (s x : State) (tied : IsTied s) (name : ℕ) (old : IsOld s.names.pairs name) (some : 0 < s.blocks.size)
+module _ (s x : Kept) (tied : IsTied s) (name : ℕ) (old : IsOld s.names.pairs name) (some : 0 < s.blocks.size)
     (taken : x.names ≡ record s.names { pairs = remove s.names.pairs (place_of s.names.pairs name); room = s.names.room + 1 }) (table : IsRemap x.names.pairs) (held : x.held ≡ s.held)
     (n : SameNumbers s.blocks x.blocks) (next : (x.active ≡ s.active) × (x.used ≡ s.used)) (copy : (x.target ≡ s.target) × (x.filled ≡ s.filled) × (x.victim ≡ s.victim))
     (uses : (b : ℕ) → (b ≡ name / s.blocks.size → ⊥) → use_in x.blocks b ≡ use_in s.blocks b)
@@ -194,7 +194,7 @@ module _ (s x : State) (tied : IsTied s) (name : ℕ) (old : IsOld s.names.pairs
       }
 
 -- the table of blocks keeps what it keeps for the cleaner, and the pairs are others
-pub formed_names : (s : State) → IsFormed s → (t : Table) (names : NameTable) → SameNumbers s.blocks t → ((b : ℕ) → (use_in t b).is_kept ≡ (use_in s.blocks b).is_kept) → SameMarks s.blocks t
+pub formed_names : (s : Kept) → IsFormed s → (t : Table) (names : NameTable) → SameNumbers s.blocks t → ((b : ℕ) → (use_in t b).is_kept ≡ (use_in s.blocks b).is_kept) → SameMarks s.blocks t
     → (s.used < s.blocks.size → (block_at t s.active).state ≡ the.Active) → IsFormed (record s { blocks = t; names = names })
 formed_names s is t names n kept marks active =
     let f = formed_table s is t n active (λ p h named. kept (p / s.blocks.size) ∙ (is.places.each p h named).in_use) marks in

@@ -9,10 +9,10 @@ use Rattle.nl_pseg.specs.Cleaning.{without_name}
 use Rattle.nl_pseg.specs.Segment.{without_target}
 use Rattle.nl_pseg.specs.Seen.{IsFormed, IsTied, seen}
 use Rattle.nl_pseg.specs.Steps.{NamesGone}
-use Rattle.nl_pseg.specs.declared.state.State.{State}
+use Rattle.nl_pseg.specs.Kept.{Kept}
 use Rattle.nl_pseg.proofs.Named.{old_within}
 
-pub record Dropping (target : ℕ) (first now : State) : Type 0 where
+pub record Dropping (target : ℕ) (first now : Kept) : Type 0 where
   pub formed : IsFormed now
   pub tied : IsTied now
   pub beside : beside now.names.pairs target ≡ beside first.names.pairs target

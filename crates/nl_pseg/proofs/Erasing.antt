@@ -13,7 +13,7 @@ use Rattle.nl_pseg.specs.Seen.{IsFormed, IsTied, is_kept_state, seen}
 use Rattle.nl_pseg.specs.declared.cleaned.Erasure.{Erasure}
 use Rattle.nl_pseg.specs.declared.cleaned.Erasure.TheVariants as the
 use Rattle.nl_pseg.specs.declared.held.Held.{Held}
-use Rattle.nl_pseg.specs.declared.state.State.{State}
+use Rattle.nl_pseg.specs.Kept.{Kept}
 use Rattle.nl_pseg.proofs.Images.{shows_same}
 use Rattle.nl_pseg.proofs.Numbers.{block_of}
 use Rattle.nl_pseg.proofs.States.{kept_block, next_block}
@@ -29,7 +29,7 @@ keeps_beside seg block g same cut p = ⊎_elim
 pub beside_same : (seg : Physical) (block : ℕ) (image : Image) → KeepsBeside seg block image image
 beside_same seg block image p = inl refl
 
-module _ (s : State) (is : IsFormed s) (tied : IsTied s) (block : ℕ) (named : s.victim ≡ Some block) where
+module _ (s : Kept) (is : IsFormed s) (tied : IsTied s) (block : ℕ) (named : s.victim ≡ Some block) where
   has : HasBlock s.blocks block
   has = (tied.phases.victim_in block named).0
 
@@ -111,7 +111,7 @@ module _ {block : ℕ} {old new : Physical} (e : Erases block old new) where
       (cases_eq b block)
 
 -- the block that was the victim is kept then
-pub erases_kept : {block : ℕ} {old : Physical} (s : State) → Erases block old (seen s) → KeepsBlock (seen s)
+pub erases_kept : {block : ℕ} {old : Physical} (s : Kept) → Erases block old (seen s) → KeepsBlock (seen s)
 erases_kept {block} s e = let has = kept_block s block e.kept in record { block = block; from = has.from; below = has.below; kept = inl e.kept }
 
 pub done_or_not : (answer : Erasure) → (answer ≡ the.Done) ⊎ (answer ≡ the.Done → ⊥)

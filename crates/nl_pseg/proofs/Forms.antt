@@ -9,12 +9,12 @@ use Rattle.nl_pseg.specs.Segment.{Use, IsNext, IsUnspent, SamePages, held_at, so
 use Rattle.nl_pseg.specs.Seen.{ArePlaces, IsFormed, seen, use_in, AreMarked, state_for}
 use Rattle.nl_pseg.specs.Steps.{SameNumbers, SameRange, SameUse, Restated, IsMarked, SameMarks}
 use Rattle.nl_pseg.specs.declared.held.Held.{Held}
-use Rattle.nl_pseg.specs.declared.state.State.{State}
+use Rattle.nl_pseg.specs.Kept.{Kept}
 use Rattle.nl_pseg.proofs.Segments.{place_same}
 use Rattle.nl_pseg.proofs.Tables.{has_same, page_back}
 
 -- the table has the same numbers
-module _ (s : State) (is : IsFormed s) (t : Table) (n : SameNumbers s.blocks t) where
+module _ (s : Kept) (is : IsFormed s) (t : Table) (n : SameNumbers s.blocks t) where
   bound : (t.first + length t.blocks) * t.size ≡ (s.blocks.first + length s.blocks.blocks) * s.blocks.size
   bound i = (n.same_first i + n.same_count i) * n.same_size i
 
@@ -32,7 +32,7 @@ module _ (s : State) (is : IsFormed s) (t : Table) (n : SameNumbers s.blocks t) 
 
   pub formed_table : (s.used < s.blocks.size → (block_at t s.active).state ≡ Active) → ((p : ℕ) (h : Held) → held_at (seen s) p ≡ Some h → (use_in t (p / s.blocks.size)).is_kept ≡ false) → SameMarks s.blocks t → IsFormed (record s { blocks = t })
   formed_table active in_use marks = record {
-    marked = record { each = λ p has. let back = page_back p n has in marks.same p back ∙ is.marked.each p back };
+    marked = record { each = λ p has. let back = page_back p n has in marks.same p back ∙ is.marked.each p back; rising = marks.rises is.marked.rising };
     some = subst (λ k. 0 < k) (sym n.same_size) is.some;
     numbers = subst (λ k. k < 2 ^ 32) (sym bound) is.numbers;
     pages = is.pages ∙ sym bound;
@@ -48,11 +48,11 @@ module _ (s : State) (is : IsFormed s) (t : Table) (n : SameNumbers s.blocks t) 
   }
 
 -- each block has the same use
-pub formed_same : (s : State) (t : Table) → IsFormed s → SameUse s.blocks t → SameMarks s.blocks t → (s.used < s.blocks.size → (block_at t s.active).state ≡ Active) → IsFormed (record s { blocks = t })
+pub formed_same : (s : Kept) (t : Table) → IsFormed s → SameUse s.blocks t → SameMarks s.blocks t → (s.used < s.blocks.size → (block_at t s.active).state ≡ Active) → IsFormed (record s { blocks = t })
 formed_same s t is same marks active = formed_table s is t same.numbers active
     (λ p h named. ap (λ (u : Use). u.is_kept) (same.uses (p / s.blocks.size)) ∙ (is.places.each p h named).in_use) marks
 
-pub use_places : (s : State) (t : Table) → IsFormed s → SameUse s.blocks t → ArePlaces (seen (record s { blocks = t }))
+pub use_places : (s : Kept) (t : Table) → IsFormed s → SameUse s.blocks t → ArePlaces (seen (record s { blocks = t }))
 use_places s t is same = record {
   each = λ p h named.
       let was = is.places.each p h named in
@@ -60,7 +60,7 @@ use_places s t is same = record {
 }
 
 -- One block is Free now, or in use. Where it is Free, no page of it is live.
-pub formed_restated : (s : State) (t : Table) (block wear : ℕ) (free : Bool) → IsFormed s → Restated block free wear s.blocks t → (s.used < s.blocks.size → block ≡ s.active → ⊥)
+pub formed_restated : (s : Kept) (t : Table) (block wear : ℕ) (free : Bool) → IsFormed s → Restated block free wear s.blocks t → (s.used < s.blocks.size → block ≡ s.active → ⊥)
     → (free ≡ true → (p : ℕ) (h : Held) → held_at (seen s) p ≡ Some h → p / s.blocks.size ≡ block → ⊥) → IsFormed (record s { blocks = t })
 formed_restated s t block wear free is r idle dead = formed_table s is t r.numbers
     (λ room. r.states s.active is.active_in (λ same. idle room (sym same)) ∙ is.taken room)
@@ -74,7 +74,7 @@ formed_restated s t block wear free is r idle dead = formed_table s is t r.numbe
     not_free false never = refl
 
 -- other blocks are told to be soiled
-pub formed_marks : (s : State) (block : ℕ) (told : Option ℕ) → IsFormed s → IsFormed (record s { soiled = with_item s.soiled block told })
+pub formed_marks : (s : Kept) (block : ℕ) (told : Option ℕ) → IsFormed s → IsFormed (record s { soiled = with_item s.soiled block told })
 formed_marks s block told is = record {
   marked = is.marked;
   some = is.some;
@@ -88,9 +88,10 @@ formed_marks s block told is = record {
 }
 
 -- a page was marked as it is now
-module _ (s : State) (is : IsFormed s) (t : Table) (same : SameUse s.blocks t) (page : ℕ) (x : Option Held) (marked : IsMarked page (state_for x) s.blocks t) (within : page < length s.held.items) where
+module _ (s : Kept) (is : IsFormed s) (t : Table) (same : SameUse s.blocks t) (page : ℕ) (x : Option Held) (marked : IsMarked page (state_for x) s.blocks t) (within : page < length s.held.items) where
   pub marked_are : AreMarked t (set s.held.items page x)
   marked_are = record {
+    rising = marked.rising;
     each = λ p has. ⊎_elim
         (λ here. ap (λ q. (page_at t q).state) here ∙ (marked.here ∙ sym (ap state_for (ap (λ q. get_or (set s.held.items page x) q None) here ∙ get_or-set_same s.held.items page x None within))))
         (λ ne. let back = page_back p same.numbers has in marked.others p back ne ∙ (is.marked.each p back ∙ sym (ap state_for (get_or-set_other s.held.items page p x None ne))))
@@ -113,7 +114,7 @@ module _ (s : State) (is : IsFormed s) (t : Table) (same : SameUse s.blocks t) (
       }
 
 -- the segment keeps its pages, and no page is given out
-module _ (s : State) (t : Table) (same : SameUse s.blocks t) where
+module _ (s : Kept) (t : Table) (same : SameUse s.blocks t) where
   pub same_pages : SamePages (seen s) (seen (record s { blocks = t }))
   same_pages = record {
     same_first = same.numbers.same_first;

@@ -8,7 +8,7 @@ use Rattle.nl_blocks.specs.Table.{is_free as is_free_row}
 use Rattle.nl_pseg.specs.Segment.{Physical, Use, erasures, is_free, soiled}
 use Rattle.nl_pseg.specs.Seen.{IsFormed, IsTied, seen}
 use Rattle.nl_pseg.specs.Steps.{AllFree, AreGivenBack, IsGivenBack}
-use Rattle.nl_pseg.specs.declared.state.State.{State}
+use Rattle.nl_pseg.specs.Kept.{Kept}
 use Rattle.nl_pseg.proofs.Tables.{use_here}
 
 pub given_none : (seg : Physical) → AreGivenBack seg.first seg seg
@@ -102,7 +102,7 @@ all_counted (row ∷ rows) counted (suc i) less =
     let few = count_by-le-length is_free_row rows in
     all_counted rows (omega (arith, counted, e, most, few)) i (omega (arith, less))
 
-module _ (s : State) (is : IsFormed s) where
+module _ (s : Kept) (is : IsFormed s) where
   pub free_counted : AllFree (seen s) → (seen s).first + (seen s).free ≡ (seen s).blocks
   free_counted all =
       let count = count_all s.blocks.blocks
@@ -126,7 +126,7 @@ module _ (s : State) (is : IsFormed s) where
   ]
 
 -- and none is for copies
-pub copies_none : (s : State) → IsTied s → AllFree (seen s) → (seen s).copy_left ≡ 0
+pub copies_none : (s : Kept) → IsTied s → AllFree (seen s) → (seen s).copy_left ≡ 0
 copies_none s tied all = elim (cases_lt s.filled s.blocks.size) [
   | inl room ↦
       let at = tied.phases.target_in in

@@ -13,7 +13,7 @@ use Rattle.nl_pseg.specs.OldNames.{NameTable}
 use Rattle.nl_pseg.specs.Segment.{Use, no_use}
 use Rattle.nl_pseg.specs.Seen.{is_kept_state, seen, use_in, use_of}
 use Rattle.nl_pseg.specs.Steps.{NamesGone, SameNumbers}
-use Rattle.nl_pseg.specs.declared.state.State.{State}
+use Rattle.nl_pseg.specs.Kept.{Kept}
 use Rattle.nl_pseg.proofs.Tables.{free_kept, use_from}
 
 abbrev num : Bool → ℕ
@@ -83,7 +83,7 @@ old_told ps m old =
     let to : ℕ = (link_at ps old.0).to in
     (to, (old.0, subst (λ k. old.0 < k) (sym (length-map ps turn)) old.1, get_or-map turn ps old.0 no_link (m, to) old.1 ∙ (λ i. (old.2 i, to))))
 
-module _ (s : State) (t : Table) (names : NameTable) (n : SameNumbers s.blocks t) (keeps : (b : ℕ) → (use_in t b).is_kept ≡ (use_in s.blocks b).is_kept) (wears : (b : ℕ) → (use_in t b).wear ≡ (use_in s.blocks b).wear)
+module _ (s : Kept) (t : Table) (names : NameTable) (n : SameNumbers s.blocks t) (keeps : (b : ℕ) → (use_in t b).is_kept ≡ (use_in s.blocks b).is_kept) (wears : (b : ℕ) → (use_in t b).wear ≡ (use_in s.blocks b).wear)
     (frees : (b : ℕ) → (use_in s.blocks b).is_free ≡ true → (use_in t b).is_free ≡ true) (olds : (m : ℕ) → IsOld names.pairs m → IsOld s.names.pairs m) (fewer : length names.pairs ≤ length s.names.pairs) where
   at : (u : Table) (i : ℕ) → use_in u (u.first + i) ≡ get_or (map use_of u.blocks) i no_use
   at u i = use_from u.first (map use_of u.blocks) (u.first + i) (omega arith) ∙ ap (λ k. get_or (map use_of u.blocks) k no_use) (omega arith)

@@ -14,7 +14,7 @@ use Rattle.nl_pseg.specs.Segment.{InVictim, Use, KeepsBlock, held_at, is_kept, n
 use Rattle.nl_pseg.specs.Seen.{IsFormed, IsTied, seen, use_of}
 use Rattle.nl_pseg.specs.Space.{HasFewPairs, HasPages, IsWhole, dead_pages, gain_of, left_of, live_in, victims, waiting}
 use Rattle.nl_pseg.specs.declared.held.Held.{Held}
-use Rattle.nl_pseg.specs.declared.state.State.{State}
+use Rattle.nl_pseg.specs.Kept.{Kept}
 use Rattle.nl_pseg.proofs.Dropped.{retired_is}
 use Rattle.nl_pseg.proofs.Erasing.{apart_next}
 use Rattle.nl_pseg.proofs.Gone.{all_kept, kept, waits}
@@ -49,7 +49,7 @@ by_place f (u ∷ us) first each =
     let rest = by_place f us (first + 1) (λ i within. ap f (omega arith) ∙ each (suc i) (omega (arith, within))) in
     omega (arith, a, b, here, rest)
 
-module _ (s : State) (is : IsFormed s) where
+module _ (s : Kept) (is : IsFormed s) where
   -- some block is kept, where one is Free or waits
   pub kept_some : 1 ≤ (seen s).free + waiting (seen s) → (block : ℕ) × HasBlock s.blocks block × ((get_or (map use_of s.blocks.blocks) (block - s.blocks.first) no_use).is_kept ≡ true)
   kept_some some =
@@ -59,7 +59,7 @@ module _ (s : State) (is : IsFormed s) where
       let e : s.blocks.first + at.0 - s.blocks.first ≡ at.0 = omega arith in
       (s.blocks.first + at.0, record { from = omega arith; below = omega (arith, within) }, ap (λ k. (get_or (map use_of s.blocks.blocks) k no_use).is_kept) e ∙ at.2)
 
-module _ (s : State) (is : IsFormed s) (tied : IsTied s) where
+module _ (s : Kept) (is : IsFormed s) (tied : IsTied s) where
   has_pages : HasPages (seen s)
   has_pages = record {
     live_within = λ p h held. (is.places.each p h held).within;

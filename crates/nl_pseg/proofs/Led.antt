@@ -25,7 +25,7 @@ use Rattle.nl_pseg.specs.Seen.{IsFormed, IsNamed, IsStanding, IsTied, seen, stat
 use Rattle.nl_pseg.specs.Space.{gain_of}
 use Rattle.nl_pseg.specs.Steps.{IsLed, IsMarked, SameUse}
 use Rattle.nl_pseg.specs.declared.held.Held.{Held}
-use Rattle.nl_pseg.specs.declared.state.State.{State}
+use Rattle.nl_pseg.specs.Kept.{Kept}
 use Rattle.nl_pseg.proofs.Begun.{told_length}
 use Rattle.nl_pseg.proofs.Forms.{formed_page, use_places}
 use Rattle.nl_pseg.proofs.Left.{left_is, there_is}
@@ -47,7 +47,7 @@ old_led xs old new name is =
     let less : is.0 < length xs = subst (λ k. is.0 < k) (length-map xs (led_on old new)) is.1 in
     (is.0, less, sym (ap (λ (l : Link). l.from) (get_or-map (led_on old new) xs is.0 no_link no_link less)) ∙ is.2)
 
-module _ (s : State) (is : IsFormed s) (tied : IsTied s) (before after : ℕ) (victim : s.victim ≡ Some (before / s.blocks.size)) (live : IsSome (held_at (seen s) before)) (there : IsSome (held_at (seen s) after)) (apart : before ≡ after → ⊥) where
+module _ (s : Kept) (is : IsFormed s) (tied : IsTied s) (before after : ℕ) (victim : s.victim ≡ Some (before / s.blocks.size)) (live : IsSome (held_at (seen s) before)) (there : IsSome (held_at (seen s) after)) (apart : before ≡ after → ⊥) where
   abbrev pairs : List Link
   pairs = map (led_on before after) s.names.pairs
 
@@ -73,7 +73,7 @@ module _ (s : State) (is : IsFormed s) (tied : IsTied s) (before after : ℕ) (v
   old_back name old = ⊎_elim (λ was. inr (old_led s.names.pairs before after name was)) (λ here. inl here) (IsOld-insert_back pairs (place_of pairs before) (pair before after) name few old)
 
   module _ (t : Table) (same : SameUse s.blocks t) (states : (b : ℕ) → (block_at t b).state ≡ (block_at s.blocks b).state) (names : NameTable) (put : names ≡ record s.names { pairs = added; room = s.names.room - 1 }) (remap : IsRemap names.pairs) (room : 0 < s.names.room) where
-    abbrev new : State
+    abbrev new : Kept
     new = record s { held = with_item s.held before None; blocks = t; names = names }
 
     within : before < length s.held.items
@@ -257,7 +257,7 @@ module _ (s : State) (is : IsFormed s) (tied : IsTied s) (before after : ℕ) (v
             let most = count_by-le-length is_dead (with_mark (block_at s.blocks (before / s.blocks.size)) (before % s.blocks.size) Dead).pages in
             omega (arith, long, set_long, now, most)
 
-        seen_old : (s : State) (name : ℕ) → IsOld s.names.pairs name → IsOldName (seen s) name
+        seen_old : (s : Kept) (name : ℕ) → IsOld s.names.pairs name → IsOldName (seen s) name
         seen_old s name old =
             let turn : Link → ℕ × ℕ = λ p. (p.from, p.to) in
             ((link_at s.names.pairs old.0).to, (old.0, subst (λ n. old.0 < n) (sym (length-map s.names.pairs turn)) old.1, get_or-map turn s.names.pairs old.0 no_link (name, (link_at s.names.pairs old.0).to) old.1 ∙ (λ i. (old.2 i, (link_at s.names.pairs old.0).to))))

@@ -19,7 +19,7 @@ use Rattle.nl_pseg.specs.Segment.{IsNext, IsNextCopy, Use, held_at}
 use Rattle.nl_pseg.specs.Seen.{HasPhases, IsFormed, IsNamed, IsStanding, IsTied, seen, use_in}
 use Rattle.nl_pseg.specs.Steps.{IsAside, IsIdle, LeadsFrom, SameNumbers, aside_state}
 use Rattle.nl_pseg.specs.declared.held.Held.{Held}
-use Rattle.nl_pseg.specs.declared.state.State.{State}
+use Rattle.nl_pseg.specs.Kept.{Kept}
 use Rattle.nl_pseg.proofs.Dropped.{formed_names}
 use Rattle.nl_pseg.proofs.Gone.{old_told, told_old}
 use Rattle.nl_pseg.proofs.Led.{link_led, old_led}
@@ -82,7 +82,7 @@ aside_waits the.Victim k n free waits is = absurd (cc is)
 aside_waits (the.Retired j) k n free waits is = let e : j + 1 ≡ k = cc is in let z = waits j refl in omega (arith, e, z)
 
 -- what setting a block aside leaves
-pub record SetAside (block : ℕ) (s m : State) : Type 0 where
+pub record SetAside (block : ℕ) (s m : Kept) : Type 0 where
   pub same : m ≡ record s { blocks = m.blocks; used = m.used; filled = m.filled }
   pub numbers : SameNumbers s.blocks m.blocks
   pub idle : IsIdle block s m
@@ -102,7 +102,7 @@ names_most the.Sealed n most = omega arith
 names_most the.Victim n most = omega arith
 names_most (the.Retired names) n most = most names refl
 
-module _ (s : State) (is : IsFormed s) (tied : IsTied s) (none : s.victim ≡ None) (block : ℕ) where
+module _ (s : Kept) (is : IsFormed s) (tied : IsTied s) (none : s.victim ≡ None) (block : ℕ) where
   out_free : (HasBlock s.blocks block → ⊥) → (use_in s.blocks block).is_free ≡ false
   out_free out = ⊎_elim (λ yes. absurd (out (kept_block s block (free_kept s.blocks block yes)))) (λ no. no) (cases_Bool (use_in s.blocks block).is_free)
 
@@ -125,7 +125,7 @@ module _ (s : State) (is : IsFormed s) (tied : IsTied s) (none : s.victim ≡ No
     waits = λ b k has st. inl ((λ e. out (subst (HasBlock s.blocks) e has)), st);
   }
 
-  in_aside : (m : State) → HasBlock s.blocks block → IsAside block s m → SetAside block s m
+  in_aside : (m : Kept) → HasBlock s.blocks block → IsAside block s m → SetAside block s m
   in_aside m has a =
       let st = (block_at s.blocks block).state in
       let not_victim : (block_at s.blocks block).state ≡ the.Victim → ⊥ = (λ e. none-some block (sym none ∙ tied.phases.one_victim block has e)) in
@@ -133,7 +133,7 @@ module _ (s : State) (is : IsFormed s) (tied : IsTied s) (none : s.victim ≡ No
         same = a.same;
         numbers = a.put.numbers;
         idle = a.idle;
-        phases = served_phases s m tied block a.idle a.put.numbers none (ap (λ (q : State). q.victim) a.same) (subst IsSet (sym a.put.here) (aside_set st not_victim)) a.put.states;
+        phases = served_phases s m tied block a.idle a.put.numbers none (ap (λ (q : Kept). q.victim) a.same) (subst IsSet (sym a.put.here) (aside_set st not_victim)) a.put.states;
         kept = a.put.kept;
         wears = a.put.wears;
         frees = a.put.frees;
@@ -151,7 +151,7 @@ module _ (s : State) (is : IsFormed s) (tied : IsTied s) (none : s.victim ≡ No
             (cases_eq b block);
       }
 
-  pub set_aside_is : (m : State) → ((HasBlock s.blocks block → ⊥) × (m ≡ s)) ⊎ (HasBlock s.blocks block × IsAside block s m) → SetAside block s m
+  pub set_aside_is : (m : Kept) → ((HasBlock s.blocks block → ⊥) × (m ≡ s)) ⊎ (HasBlock s.blocks block × IsAside block s m) → SetAside block s m
   set_aside_is m (inl out) = subst (SetAside block s) (sym out.1) (out_aside out.0)
   set_aside_is m (inr inside) = in_aside m inside.0 inside.1
 
@@ -159,7 +159,7 @@ some_held : (o : Option Held) → IsSome o → (h : Held) × (o ≡ Some h)
 some_held None some = absurd (true≢false (sym some))
 some_held (Some h) some = (h, refl)
 
-module _ (s : State) (is : IsFormed s) (tied : IsTied s) (name page : ℕ) (fresh : IsOld s.names.pairs name → ⊥) (dead : held_at (seen s) name ≡ None) (there : IsSome (held_at (seen s) page)) where
+module _ (s : Kept) (is : IsFormed s) (tied : IsTied s) (name page : ℕ) (fresh : IsOld s.names.pairs name → ⊥) (dead : held_at (seen s) name ≡ None) (there : IsSome (held_at (seen s) page)) where
   k : (h : Held) × (held_at (seen s) page ≡ Some h)
   k = some_held (held_at (seen s) page) there
 
@@ -194,15 +194,15 @@ module _ (s : State) (is : IsFormed s) (tied : IsTied s) (name page : ℕ) (fres
       (λ no. ne (sym (led_not s.names.pairs other no) ∙ e))
       (old_or_not s.names.pairs other)
 
-  module _ (m : State) (a : SetAside (name / s.blocks.size) s m) (names : NameTable) (put : names ≡ record s.names { pairs = added; room = s.names.room - 1 }) (remap : IsRemap names.pairs) (room : 0 < s.names.room) where
-    abbrev x : State
+  module _ (m : Kept) (a : SetAside (name / s.blocks.size) s m) (names : NameTable) (put : names ≡ record s.names { pairs = added; room = s.names.room - 1 }) (remap : IsRemap names.pairs) (room : 0 < s.names.room) where
+    abbrev x : Kept
     x = record m { names = names }
 
     size : m.blocks.size ≡ s.blocks.size
     size = a.numbers.same_size
 
     held_is : m.held ≡ s.held
-    held_is = ap (λ (q : State). q.held) a.same
+    held_is = ap (λ (q : Kept). q.held) a.same
 
     was : (p : ℕ) (h : Held) → held_at (seen x) p ≡ Some h → held_at (seen s) p ≡ Some h
     was p h live = (λ i. get_or (sym held_is i).items p None) ∙ live
@@ -321,13 +321,13 @@ module _ (s : State) (is : IsFormed s) (tied : IsTied s) (name page : ℕ) (fres
               let v : length (map turn s.names.pairs) ≡ length s.names.pairs = length-map s.names.pairs turn in
               let r = ap (λ (y : NameTable). y.room) put in
               (omega (arith, b, c, d, u, v), omega (arith, r, room));
-          victim = ap (λ (q : State). q.victim) a.same;
+          victim = ap (λ (q : Kept). q.victim) a.same;
           kept = a.kept;
           wears = a.wears;
           frees = a.frees;
           here = a.here;
           free = a.total;
-          soiled = ap (λ (q : State). q.soiled.items) a.same;
+          soiled = ap (λ (q : Kept). q.soiled.items) a.same;
           left = let e = size in ⊎_elim (λ h. let u = h.1 in omega (arith, u, e)) (λ h. let u = h.1 in omega (arith, u, e)) a.idle.used;
           next = λ p next. (nexts p next).0;
           still = λ p next ne.
@@ -344,4 +344,4 @@ module _ (s : State) (is : IsFormed s) (tied : IsTied s) (name page : ℕ) (fres
         }
 
     pub from_formed : IsFormed m → IsFormed (record m { names = names })
-    from_formed f = formed_names m f m.blocks names (record { same_first = refl; same_size = refl; same_count = refl }) (λ b. refl) (record { same = λ p has. refl }) f.taken
+    from_formed f = formed_names m f m.blocks names (record { same_first = refl; same_size = refl; same_count = refl }) (λ b. refl) (record { same = λ p has. refl; rises = λ rising. rising }) f.taken

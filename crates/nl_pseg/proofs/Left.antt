@@ -13,7 +13,7 @@ use Rattle.nl_pseg.specs.Segment.{held_at}
 use Rattle.nl_pseg.specs.Seen.{IsFormed, seen, state_for}
 use Rattle.nl_pseg.specs.Space.{left_of, victims}
 use Rattle.nl_pseg.specs.declared.held.Held.{Held}
-use Rattle.nl_pseg.specs.declared.state.State.{State}
+use Rattle.nl_pseg.specs.Kept.{Kept}
 use Rattle.nl_pseg.proofs.Numbers.{block_of, in_block}
 use Rattle.nl_pseg.proofs.Rows.{dead_here}
 
@@ -53,7 +53,7 @@ one_live (p ∷ ps) (suc k) less live =
     let one = small (is_dead p) in
     omega (arith, e, rest, one)
 
-module _ (s : State) (is : IsFormed s) (table : IsTable s.blocks) (block : ℕ) (has : HasBlock s.blocks block) where
+module _ (s : Kept) (is : IsFormed s) (table : IsTable s.blocks) (block : ℕ) (has : HasBlock s.blocks block) where
   -- a page of the block by its place
   page_of : (k : ℕ) → k < s.blocks.size → (get_or (block_at s.blocks block).pages k new_page).state ≡ state_for (held_at (seen s) (block * s.blocks.size + k))
   page_of k less =
@@ -83,10 +83,10 @@ module _ (s : State) (is : IsFormed s) (table : IsTable s.blocks) (block : ℕ) 
       omega (arith, few, n)
 
 -- the live pages of a victim
-pub left_is : (s : State) (block : ℕ) → HasBlock s.blocks block → s.victim ≡ Some block → left_of (seen s) ≡ s.blocks.size - dead_count (block_at s.blocks block)
+pub left_is : (s : Kept) (block : ℕ) → HasBlock s.blocks block → s.victim ≡ Some block → left_of (seen s) ≡ s.blocks.size - dead_count (block_at s.blocks block)
 left_is s block has named = ap (λ v. left_of (record (seen s) { victim = v })) named ∙ ap (λ d. s.blocks.size - d) (dead_here s.blocks block has)
 
-pub victims_is : (s : State) (block : ℕ) → s.victim ≡ Some block → victims (seen s) ≡ 1
+pub victims_is : (s : Kept) (block : ℕ) → s.victim ≡ Some block → victims (seen s) ≡ 1
 victims_is s block named = ap (λ v. victims (record (seen s) { victim = v })) named
 
 pub none_is : {A : Type 0} (o : Option A) {P : Type 0} → is_some o ≡ false → IfNone o P → P

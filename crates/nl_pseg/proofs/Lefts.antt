@@ -4,14 +4,14 @@ use Rattle.nl_blocks.specs.Table.{IsTable}
 use Rattle.nl_pseg.specs.Seen.{IsFormed, IsTied, seen}
 use Rattle.nl_pseg.specs.Space.{IsWhole, gain_of, left_of, victims}
 use Rattle.nl_pseg.specs.declared.held.Held.{Held}
-use Rattle.nl_pseg.specs.declared.state.State.{State}
+use Rattle.nl_pseg.specs.Kept.{Kept}
 use Rattle.nl_pseg.proofs.Runs.{dead_seen, run, run_ended, run_same}
 
 -- the live pages of a block, where there is one
 abbrev pub live_of : List (Option Held) → ℕ → Option ℕ → ℕ
 live_of held size victim = unwrap_or (option_map (λ block. run held (block * size) size) victim) 0
 
-pub left_is : (s : State) → IsFormed s → IsTied s → IsTable s.blocks → left_of (seen s) ≡ live_of s.held.items s.blocks.size s.victim
+pub left_is : (s : Kept) → IsFormed s → IsTied s → IsTable s.blocks → left_of (seen s) ≡ live_of s.held.items s.blocks.size s.victim
 left_is s is tied table = of s.victim refl
   where
     of : (v : Option ℕ) → s.victim ≡ v → left_of (record (seen s) { victim = v }) ≡ live_of s.held.items s.blocks.size v
@@ -26,7 +26,7 @@ pub live_ended : (xs : List (Option Held)) (page size : ℕ) (v : Option ℕ) �
 live_ended xs page size None within = (omega arith, omega arith)
 live_ended xs page size (Some b) within = run_ended xs page (b * size) size within
 
-module _ (s x : State) (is : IsFormed s) (tied : IsTied s) (table : IsTable s.blocks) (now : IsFormed x) (tied_now : IsTied x) (table_now : IsTable x.blocks) (size : x.blocks.size ≡ s.blocks.size) (victim : x.victim ≡ s.victim) where
+module _ (s x : Kept) (is : IsFormed s) (tied : IsTied s) (table : IsTable s.blocks) (now : IsFormed x) (tied_now : IsTied x) (table_now : IsTable x.blocks) (size : x.blocks.size ≡ s.blocks.size) (victim : x.victim ≡ s.victim) where
   now_is : left_of (seen x) ≡ live_of x.held.items s.blocks.size s.victim
   now_is = left_is x now tied_now table_now ∙ (λ i. live_of x.held.items (size i) (victim i))
 

@@ -10,7 +10,12 @@ pub mod LedFrom
 pub mod Holds
 pub mod Sums
 pub mod Runs
+mod Closed
+mod Nexts
+mod Lives
+mod Taking
 mod Gone
+mod Marking
 mod Rows
 mod Begun
 mod Picked

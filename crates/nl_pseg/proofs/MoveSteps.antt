@@ -32,6 +32,12 @@ if_moved_both copy.Nothing by p q = p
 if_moved_both (copy.Lost wanted found) by p q = p
 if_moved_both copy.Fault by p q = p
 
+pub moved_gives : (answer : Copied) {P : ℕ → ℕ → Held → Type 0} {Q : Type 0} → IsMoved answer → IfMoved answer P → ((b a : ℕ) (h : Held) → P b a h → Q) → Q
+moved_gives (copy.Moved before after tag stamp) moved is by = by before after (record { tag = tag; stamp = stamp }) is
+moved_gives copy.Nothing moved is by = absurd moved
+moved_gives (copy.Lost wanted found) moved is by = absurd moved
+moved_gives copy.Fault moved is by = absurd moved
+
 pub moved_or_not : (answer : Copied) → IsMoved answer ⊎ (IsMoved answer → ⊥)
 moved_or_not (copy.Moved before after tag stamp) = inl tt
 moved_or_not copy.Nothing = inr (λ m. m)

@@ -1,6 +1,6 @@
 -- A segment of which no page was used.
-use Rattle.std.proofs.Common.{◌≡◌, inl, inr, ℕ, zero, suc, ◌+◌, ◌-◌, ◌*◌, ◌/◌, ◌^◌, ◌<◌, ◌≤◌, nat_le, true, false, cond, Option, None, List, length, map, get_or, replicate, refl, sym, ◌∙◌, ap, subst, arith, count_by, [], ◌∷◌, is_some, ◌%◌}
-use Rattle.std.proofs.lemmas.Bool.{cases_Bool, cases_lt, leb-true}
+use Rattle.std.proofs.Common.{◌≡◌, inl, inr, ℕ, zero, suc, ◌+◌, ◌-◌, ◌*◌, ◌/◌, ◌^◌, ◌<◌, ◌≤◌, nat_le, true, false, cond, Option, None, List, length, map, get_or, replicate, refl, sym, ◌∙◌, ap, subst, arith, count_by, [], ◌∷◌, is_some, ◌%◌, Bool}
+use Rattle.std.proofs.lemmas.Bool.{cases_Bool, cases_lt, leb-true, true≢false}
 use Rattle.std.proofs.lemmas.List.{get_or-replicate, length-replicate}
 use Rattle.std.proofs.lemmas.List.Sums.{sum_by-cons}
 use Rattle.std.proofs.lemmas.Nat.{div_below}
@@ -16,10 +16,12 @@ use Rattle.nl_pseg.specs.OldNames.{NameTable}
 use Rattle.nl_pseg.specs.Segment.{Use, InSegment, KeepsBlock, TakenAsErased, no_use, room, use_at}
 use Rattle.nl_pseg.specs.Seen.{IsFormed, IsTied, new_segment, row_of, seen, use_of, use_with, state_for}
 use Rattle.nl_pseg.specs.declared.held.Held.{Held}
-use Rattle.nl_pseg.specs.declared.state.State.{State}
+use Rattle.nl_pseg.specs.Kept.{Kept}
 use Rattle.nl_pseg.proofs.Numbers.{in_block, block_below}
 use Rattle.nl_field.specs.Numbers.{ShapeBounds}
 use Rattle.nl_pseg.proofs.Shapes.{few_pages, some_pages, two_blocks}
+use Rattle.nl_blocks.specs.Used.{is_active_state, is_target_state, used_in}
+use Rattle.nl_blocks.proofs.UsedLaws.{used-full}
 use Rattle.nl_pseg.proofs.Tables.{use_before, use_from}
 
 all_free : (count size : ℕ) → count_by is_free (replicate count (new_row size)) ≡ count
@@ -60,12 +62,20 @@ all_rows (suc count) size = (λ i. record { state = the.Free; dead = all_dead si
         let e : count_by is_dead (replicate (suc n) new_page) ≡ 1 + count_by is_dead (replicate n new_page) = sum_by-cons (λ x. cond (is_dead x) 1 0) new_page (replicate n new_page) in
         omega (arith, e, rest)
 
+-- in a new table each block counts as full
+pub new_used : (kind : BlockState → Bool) → kind the.Free ≡ false → (shape : Shape) → ShapeBounds shape → (t : Table) → t ≡ new_table shape.vblocks shape.pblocks shape.pages → used_in kind t shape.vblocks ≡ shape.pages
+new_used kind other shape roomy t table =
+    let many = two_blocks roomy in
+    let made = new_table shape.vblocks shape.pblocks shape.pages in
+    let row : block_at made shape.vblocks ≡ new_row shape.pages = get_or-replicate shape.pblocks (shape.vblocks - shape.vblocks) (new_row shape.pages) no_row (omega (arith, many)) in
+    ap (λ (n : Table). used_in kind n shape.vblocks) table ∙ used-full kind made shape.vblocks (ap (λ (r : BlockRow). kind r.state) row ∙ other)
+
 -- the pairs of a new segment
 abbrev pub new_names : Shape → NameTable
 new_names shape = record { pairs = []; room = 4 * shape.pages; size = shape.pages; blocks = shape.blocks }
 
 -- a state with these is that segment
-module _ (shape : Shape) (roomy : ShapeBounds shape) (s : State) (table : s.blocks ≡ new_table shape.vblocks shape.pblocks shape.pages) (held : s.held.items ≡ replicate (shape.blocks * shape.pages) None)
+module _ (shape : Shape) (roomy : ShapeBounds shape) (s : Kept) (table : s.blocks ≡ new_table shape.vblocks shape.pblocks shape.pages) (held : s.held.items ≡ replicate (shape.blocks * shape.pages) None)
     (soiled : s.soiled.items ≡ replicate shape.blocks None) (active : s.active ≡ shape.vblocks) (used : s.used ≡ shape.pages) (target : s.target ≡ shape.vblocks) (filled : s.filled ≡ shape.pages)
     (victim : s.victim ≡ None) (names : s.names ≡ new_names shape) where
   last : s.blocks.first + length s.blocks.blocks ≡ shape.blocks
@@ -122,6 +132,14 @@ module _ (shape : Shape) (roomy : ShapeBounds shape) (s : State) (table : s.bloc
       let first : s.blocks.first ≡ shape.vblocks = ap (λ (t : Table). t.first) table in
       record { from = omega (arith, first); below = omega (arith, end, many, all) }
 
+  -- each block is Free
+  state_free : (b : ℕ) (state : BlockState) → HasBlock s.blocks b → (block_at s.blocks b).state ≡ state → the.Free ≡ state
+  state_free b state has is =
+      let count : length (new_table shape.vblocks shape.pblocks shape.pages).blocks ≡ shape.pblocks = length-replicate shape.pblocks (new_row shape.pages) in
+      let now : HasBlock (new_table shape.vblocks shape.pblocks shape.pages) b = subst (λ (t : Table). HasBlock t b) table has in
+      let e : get_or (replicate shape.pblocks (new_row shape.pages)) (b - shape.vblocks) no_row ≡ new_row shape.pages = get_or-replicate shape.pblocks (b - shape.vblocks) (new_row shape.pages) no_row (let f = now.from in let w = now.below in omega (arith, f, w, count)) in
+      sym (ap (λ (t : Table). (block_at t b).state) table ∙ ap (λ (r : BlockRow). r.state) e) ∙ is
+
   pub new_formed : IsFormed s
   new_formed =
       let some = some_pages roomy in
@@ -134,19 +152,15 @@ module _ (shape : Shape) (roomy : ShapeBounds shape) (s : State) (table : s.bloc
         used_fits = omega (arith, size, used);
         taken = λ lt. absurd (omega (arith, lt, size, used));
         marked = record {
+          rising = record {
+            active = record { each = λ b has is. absurd (true≢false (sym is ∙ ap is_active_state (sym (state_free b _ has refl)))) };
+            target = record { each = λ b has is. absurd (true≢false (sym is ∙ ap is_target_state (sym (state_free b _ has refl)))) };
+          };
           each = λ p has. ap (λ (t : Table). (page_at t p).state) table ∙ (ap (λ (q : Page). q.state) (new_pages shape.pblocks shape.pages (p / shape.pages - shape.vblocks) (p % shape.pages))
               ∙ sym (ap state_for (none_held p)));
         };
         places = record { each = λ p h named. absurd (none-some h (sym (none_held p) ∙ named)) };
       }
-
-  -- each block is Free
-  state_free : (b : ℕ) (state : BlockState) → HasBlock s.blocks b → (block_at s.blocks b).state ≡ state → the.Free ≡ state
-  state_free b state has is =
-      let count : length (new_table shape.vblocks shape.pblocks shape.pages).blocks ≡ shape.pblocks = length-replicate shape.pblocks (new_row shape.pages) in
-      let now : HasBlock (new_table shape.vblocks shape.pblocks shape.pages) b = subst (λ (t : Table). HasBlock t b) table has in
-      let e : get_or (replicate shape.pblocks (new_row shape.pages)) (b - shape.vblocks) no_row ≡ new_row shape.pages = get_or-replicate shape.pblocks (b - shape.vblocks) (new_row shape.pages) no_row (let f = now.from in let w = now.below in omega (arith, f, w, count)) in
-      sym (ap (λ (t : Table). (block_at t b).state) table ∙ ap (λ (r : BlockRow). r.state) e) ∙ is
 
   no_old : (n : ℕ) → IsOld s.names.pairs n → ⊥
   no_old n old = let w = subst (λ (t : NameTable). IsOld t.pairs n) names old in omega (arith, w.1)

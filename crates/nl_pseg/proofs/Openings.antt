@@ -7,7 +7,7 @@ use Rattle.nl_blocks.specs.Table.{BlockRow, Table, HasBlock, row_at, is_free, fr
 use Rattle.nl_pseg.specs.Segment.{Physical, Use, KeepsBlock, wear_of}
 use Rattle.nl_pseg.specs.Seen.{IsFormed, seen, use_in, use_of, use_with}
 use Rattle.nl_pseg.specs.Steps.{IsOpened, Restated, opened_at}
-use Rattle.nl_pseg.specs.declared.state.State.{State}
+use Rattle.nl_pseg.specs.Kept.{Kept}
 use Rattle.nl_pseg.proofs.Numbers.{block_of}
 use Rattle.nl_pseg.proofs.Tables.{free_kept, use_here}
 use Rattle.nl_pseg.proofs.Wearing.{taken_wear, taken_counts}
@@ -33,11 +33,11 @@ some_free t some =
     let has : HasBlock t (t.first + row.0) = record { from = omega arith; below = omega (arith, row.1) } in
     (t.first + row.0, has, ap (λ (u : Use). u.is_free) (use_here t (t.first + row.0) has) ∙ (ap (λ n. is_free (row_at t.blocks n)) (omega arith) ∙ row.2))
 
-pub some_kept : (s : State) → IsFormed s → 1 ≤ free_count s.blocks → KeepsBlock (seen s)
+pub some_kept : (s : Kept) → IsFormed s → 1 ≤ free_count s.blocks → KeepsBlock (seen s)
 some_kept s is some = let free = some_free s.blocks some in record { block = free.0; from = free.1.from; below = free.1.below; kept = inl (free_kept s.blocks free.0 free.2) }
 
 -- a block that was taken is opened
-pub opened : (s : State) (t : Table) (block : ℕ) → IsFormed s → s.blocks.size ≤ s.used → 2 ≤ free_count s.blocks → Restated block false (wear_of (seen s) block) s.blocks t → (use_in s.blocks block).is_free ≡ true
+pub opened : (s : Kept) (t : Table) (block : ℕ) → IsFormed s → s.blocks.size ≤ s.used → 2 ≤ free_count s.blocks → Restated block false (wear_of (seen s) block) s.blocks t → (use_in s.blocks block).is_free ≡ true
     → IsFormed (record s { blocks = t }) → IsOpened block (seen s) (opened_at (seen (record s { blocks = t })) block)
 opened s t block is full two r free formed =
     let was : num (use_in s.blocks block).is_free ≡ 1 = ap num free in
@@ -83,11 +83,11 @@ two_free size used free full room = elim (cases_lt 1 free) [
 ]
 
 -- a Free block is kept too
-pub free_use : (s : State) (block : ℕ) → IsFormed s → (use_in s.blocks block).is_free ≡ true → use_in s.blocks block ≡ use_with true (use_in s.blocks block).wear
+pub free_use : (s : Kept) (block : ℕ) → IsFormed s → (use_in s.blocks block).is_free ≡ true → use_in s.blocks block ≡ use_with true (use_in s.blocks block).wear
 free_use s block is free =
     let kept : (use_in s.blocks block).is_kept ≡ true = free_kept s.blocks block free in
     (λ i. record { is_free = free i; is_kept = kept i; wear = (use_in s.blocks block).wear })
 
 -- the number behind the last block
-pub last_block : (s : State) → (seen s).blocks ≡ (seen s).first + length (seen s).uses
+pub last_block : (s : Kept) → (seen s).blocks ≡ (seen s).first + length (seen s).uses
 last_block s = ap (λ n. s.blocks.first + n) (sym (length-map s.blocks.blocks use_of))

@@ -13,7 +13,7 @@ use Rattle.nl_pseg.specs.Seen.{IsFormed, IsTied, seen}
 use Rattle.nl_pseg.specs.Space.{HasFewPairs, Lessens, SameCleaning, left_of, waiting}
 use Rattle.nl_pseg.specs.Steps.{Ends, Placing, WritesOver}
 use Rattle.nl_pseg.specs.declared.held.Held.{Held}
-use Rattle.nl_pseg.specs.declared.state.State.{State}
+use Rattle.nl_pseg.specs.Kept.{Kept}
 use Rattle.nl_pseg.proofs.Ended.{ended_was, few_on, gone_kept, gone_pages, gone_room, gone_spare, gone_unspent, more_landing}
 use Rattle.nl_pseg.proofs.Holds.{holds_whole}
 use Rattle.nl_pseg.proofs.Lefts.{left_is, live_ended, live_of, live_same}
@@ -56,7 +56,7 @@ same_length the.NotLive stamp x old new is = ap length (is.same (λ n. n))
 same_length the.NoPage stamp x old new is = ap length (is.same (λ n. n))
 same_length the.Fault stamp x old new is = ap length (is.same (λ n. n))
 
-module _ (answer : Named) (place stamp : ℕ) (x : Option Held) (s n : State) (is : IsFormed s) (tied : IsTied s) (table : IsTable s.blocks) (few : HasFewPairs (seen s)) (now : IsFormed n) (tied_now : IsTied n) (table_now : IsTable n.blocks)
+module _ (answer : Named) (place stamp : ℕ) (x : Option Held) (s n : Kept) (is : IsFormed s) (tied : IsTied s) (table : IsTable s.blocks) (few : HasFewPairs (seen s)) (now : IsFormed n) (tied_now : IsTied n) (table_now : IsTable n.blocks)
     (o : WritesOver place stamp (λ at. set s.held.items at.name x) answer (seen s) (seen n)) where
   -- no page was placed
   module _ (not : IsPlaced answer → ⊥) where

@@ -9,7 +9,7 @@ use Rattle.nl_victim.specs.Victims.{IsColdest, IsLevel, IsMostDead, IsSealed}
 use Rattle.nl_pseg.specs.Cleaning.{IsChosen, NoneChosen}
 use Rattle.nl_pseg.specs.Segment.{Row, Use, is_sealed, erasures}
 use Rattle.nl_pseg.specs.Seen.{row_of, seen}
-use Rattle.nl_pseg.specs.declared.state.State.{State}
+use Rattle.nl_pseg.specs.Kept.{Kept}
 use Rattle.nl_pseg.proofs.Rows.{dead_here, known_here, sum_map, to_gain}
 use Rattle.nl_pseg.proofs.Tables.{use_here}
 
@@ -45,7 +45,7 @@ cond_zero : (b : Bool) (n : ℕ) → (b ≡ true → n ≡ 0) → cond b n 0 ≡
 cond_zero true n is = is refl
 cond_zero false n is = refl
 
-module _ (s : State) where
+module _ (s : Kept) where
   sealed_here : (block : ℕ) → HasBlock s.blocks block → is_sealed (seen s) block ≡ is_sealed_state (block_at s.blocks block).state
   sealed_here block has = ap (λ (r : Row). is_sealed_state r.state) (known_here s.blocks block has)
 

@@ -9,7 +9,7 @@ use Rattle.nl_pseg.specs.Segment.{Physical, Use, IsNext, IsPhysicalOf, TakenAsEr
 use Rattle.nl_pseg.specs.Seen.{IsFormed, seen, use_in}
 use Rattle.nl_pseg.specs.Steps.{Restated, SameUse, aimed_at}
 use Rattle.nl_pseg.specs.declared.held.Held.{Held}
-use Rattle.nl_pseg.specs.declared.state.State.{State}
+use Rattle.nl_pseg.specs.Kept.{Kept}
 use Rattle.nl_pseg.proofs.Forms.{formed_restated, same_pages, same_unspent}
 use Rattle.nl_pseg.proofs.Images.{shows_same}
 use Rattle.nl_pseg.proofs.Numbers.{block_of}
@@ -18,7 +18,7 @@ use Rattle.nl_pseg.proofs.States.{next_block}
 use Rattle.nl_pseg.proofs.Tables.{free_kept}
 use Rattle.nl_pseg.proofs.Taken.{free_other}
 
-module _ (s : State) (is : IsFormed s) (block : ℕ) (has : HasBlock s.blocks block) (free : (use_in s.blocks block).is_free ≡ true) where
+module _ (s : Kept) (is : IsFormed s) (block : ℕ) (has : HasBlock s.blocks block) (free : (use_in s.blocks block).is_free ≡ true) where
   free_next : (p : ℕ) → IsNext (seen s) p → p / s.blocks.size ≡ block → ⊥
   free_next p next at =
       let fits = is.used_fits in

@@ -14,14 +14,14 @@ use Rattle.nl_pseg.specs.OldNames.{names_among}
 use Rattle.nl_pseg.specs.Segment.{Use, held_at, row_in}
 use Rattle.nl_pseg.specs.Seen.{HasPhases, IsFormed, IsNamed, IsTied, is_kept_state, row_of, seen, use_in, use_of}
 use Rattle.nl_pseg.specs.Space.{gain_of, left_of}
-use Rattle.nl_pseg.specs.Steps.{SameMarks, SameNumbers}
-use Rattle.nl_pseg.specs.declared.state.State.{State}
+use Rattle.nl_pseg.specs.Steps.{SameFill, SameMarks, SameNumbers}
+use Rattle.nl_pseg.specs.Kept.{Kept}
 use Rattle.nl_pseg.proofs.Forms.{formed_marks, formed_table}
 use Rattle.nl_pseg.proofs.Left.{none_live}
 use Rattle.nl_pseg.proofs.Named.{names_some}
 use Rattle.nl_pseg.proofs.Numbers.{block_from}
 use Rattle.nl_pseg.proofs.Rows.{dead_here, num, sum_map, waits}
-use Rattle.nl_pseg.proofs.Tables.{has_same, row_here, same_marks, use_here, use_other, with_has}
+use Rattle.nl_pseg.proofs.Tables.{fill_shut, has_same, row_here, same_marks, shut_after, shut_risen, shut_victim, use_here, use_other, with_has}
 use Rattle.nl_pseg.proofs.Tied.{back, old_is}
 
 kept_after : (n : ℕ) → is_kept_state (after_erase n) ≡ true
@@ -55,7 +55,7 @@ retired_after (suc n) k e = names_same e
     names_same : Retired (suc n) ≡ Retired k → suc n ≡ k
     names_same same = ap names_in same
 
-module _ (s : State) (is : IsFormed s) (tied : IsTied s) (table : IsTable s.blocks) (block : ℕ) (named_is : s.victim ≡ Some block) (dead : (p : ℕ) → p / s.blocks.size ≡ block → held_at (seen s) p ≡ None)
+module _ (s : Kept) (is : IsFormed s) (tied : IsTied s) (table : IsTable s.blocks) (block : ℕ) (named_is : s.victim ≡ Some block) (dead : (p : ℕ) → p / s.blocks.size ≡ block → held_at (seen s) p ≡ None)
     (n : ℕ) (counted : n ≡ names_among s.blocks.size block s.names.pairs) where
   abbrev row : BlockRow
   row = erased_row (block_at s.blocks block) n
@@ -63,7 +63,7 @@ module _ (s : State) (is : IsFormed s) (tied : IsTied s) (table : IsTable s.bloc
   abbrev t : Table
   t = with_block s.blocks block row
 
-  abbrev after : State
+  abbrev after : Kept
   after = record s { blocks = t; soiled = with_item s.soiled block None; victim = None }
 
   has : HasBlock s.blocks block
@@ -86,7 +86,11 @@ module _ (s : State) (is : IsFormed s) (tied : IsTied s) (table : IsTable s.bloc
   other b state not_it st e = not_it (sym was ∙ (ap (λ k. (block_at s.blocks k).state) (sym e) ∙ st))
 
   marks : SameMarks s.blocks t
-  marks = same_marks s.blocks block row has (λ k. refl)
+  marks = same_marks s.blocks block row has (λ k. refl) (λ rising. shut_risen row (shut_after n))
+
+  -- as many pages of each block are used: the victim counts as full, and still does
+  pub released_fill : SameFill s.blocks t
+  released_fill = fill_shut s.blocks block row has (shut_victim (block_at s.blocks block).state was) (shut_after n)
 
   formed_blocks : IsFormed (record s { blocks = t })
   formed_blocks = formed_table s is t numbers

@@ -12,7 +12,7 @@ use Rattle.nl_pseg.specs.Segment.{Row, no_row, row_in}
 use Rattle.nl_pseg.specs.Seen.{IsFormed, row_of, seen, state_for}
 use Rattle.nl_pseg.specs.Space.{dead_in, live_in}
 use Rattle.nl_pseg.specs.declared.held.Held.{Held}
-use Rattle.nl_pseg.specs.declared.state.State.{State}
+use Rattle.nl_pseg.specs.Kept.{Kept}
 
 abbrev num : Bool → ℕ
 num b = cond b 1 0
@@ -101,7 +101,7 @@ row_from first rows block from = cond-true (nat_le first block) (get_or rows (bl
 pub row_here : (t : Table) (block : ℕ) → HasBlock t block → row_in t.first (map row_of t.blocks) block ≡ row_of (block_at t block)
 row_here t block has = row_from t.first (map row_of t.blocks) block has.from ∙ get_or-map row_of t.blocks (block - t.first) no_block no_row (omega (arith, has.from, has.below))
 
-module _ (s : State) (is : IsFormed s) (table : IsTable s.blocks) where
+module _ (s : Kept) (is : IsFormed s) (table : IsTable s.blocks) where
   -- the pages of a block that are not live, and those that are
   pub dead_is : (block : ℕ) → HasBlock s.blocks block → dead_count (block_at s.blocks block) + run s.held.items (block * s.blocks.size) s.blocks.size ≡ s.blocks.size
   dead_is block has =

@@ -7,18 +7,18 @@ use Rattle.nl_blocks.specs.declared.states.BlockState.{BlockState}
 use Rattle.nl_blocks.specs.Table.{HasBlock}
 use Rattle.nl_pseg.specs.Segment.{Use, IsNext, InSegment, KeptAreDead, TakenAsErased, is_kept, no_use, use_at}
 use Rattle.nl_pseg.specs.Seen.{IsFormed, is_kept_state, seen, use_of}
-use Rattle.nl_pseg.specs.declared.state.State.{State}
+use Rattle.nl_pseg.specs.Kept.{Kept}
 use Rattle.nl_pseg.proofs.Numbers.{in_block, block_of, block_below, block_from}
 use Rattle.nl_pseg.proofs.Tables.{use_before, use_from, use_here}
 
 -- the pages of a block of the table are pages of the segment
-pub block_segment : (s : State) (block p : ℕ) → HasBlock s.blocks block → block * s.blocks.size ≤ p → p < block * s.blocks.size + s.blocks.size → InSegment (seen s) p
+pub block_segment : (s : Kept) (block p : ℕ) → HasBlock s.blocks block → block * s.blocks.size ≤ p → p < block * s.blocks.size + s.blocks.size → InSegment (seen s) p
 block_segment s block p has from below =
     let low = block_from s.blocks.first block s.blocks.size has.from in
     let high = block_below block (s.blocks.first + length s.blocks.blocks) s.blocks.size has.below in
     (omega (arith, low, from), omega (arith, high, below))
 
-pub segment_block : (s : State) (p : ℕ) → 0 < s.blocks.size → InSegment (seen s) p → HasBlock s.blocks (p / s.blocks.size)
+pub segment_block : (s : Kept) (p : ℕ) → 0 < s.blocks.size → InSegment (seen s) p → HasBlock s.blocks (p / s.blocks.size)
 segment_block s p some within = record {
   from = elim (cases_lt (p / s.blocks.size) s.blocks.first) [
     | inl lt ↦
@@ -43,13 +43,13 @@ kept_from first uses block free = elim (cases_Bool (nat_le first block)) [
 ]
 
 -- a block that is kept is one of the table
-pub kept_block : (s : State) (block : ℕ) → is_kept (seen s) block ≡ true → HasBlock s.blocks block
+pub kept_block : (s : Kept) (block : ℕ) → is_kept (seen s) block ≡ true → HasBlock s.blocks block
 kept_block s block free =
     let h = kept_from s.blocks.first (map use_of s.blocks.blocks) block free in
     let n : length (map use_of s.blocks.blocks) ≡ length s.blocks.blocks = length-map s.blocks.blocks use_of in
     record { from = h.0; below = omega (arith, h.1, n) }
 
-module _ (s : State) (is : IsFormed s) where
+module _ (s : Kept) (is : IsFormed s) where
   -- what is taken as erased is a page of the segment
   pub taken_segment : (p : ℕ) → TakenAsErased (seen s) p → InSegment (seen s) p
   taken_segment p (inl next) = block_segment s s.active p is.active_in (omega (arith, next.0)) (let fits = is.used_fits in omega (arith, next.1, next.0, fits))
@@ -80,5 +80,5 @@ module _ (s : State) (is : IsFormed s) where
     next_in_use p next = ap (is_kept (seen s)) (next_block p next) ∙ active_in_use
 
 -- no page of a block that is kept is live
-pub kept_dead : (s : State) → IsFormed s → KeptAreDead (seen s)
+pub kept_dead : (s : Kept) → IsFormed s → KeptAreDead (seen s)
 kept_dead s is p h held = (is.places.each p h held).in_use

@@ -1,15 +1,17 @@
 -- What the calls on the table of blocks do to the uses of blocks.
 use Rattle.std.proofs.Common.{◌≡◌, inl, inr, ⊎_elim, ℕ, zero, suc, ◌+◌, ◌-◌, ◌/◌, ◌%◌, ◌<◌, ◌≤◌, nat_le, Bool, true, false, cond, List, [], ◌∷◌, length, map, get_or, refl, sym, ◌∙◌, ap, subst, arith, length-set, set}
-use Rattle.std.proofs.lemmas.Bool.{cases_eq, cases_Bool, le-leb, leb-true, cond-true, cond-false, true≢false}
+use Rattle.std.proofs.lemmas.Bool.{both_ways, cases_eq, cases_Bool, le-leb, leb-true, cond-true, cond-false, true≢false}
 use Rattle.std.proofs.lemmas.List.{get_or-set_same, get_or-set_other, get_or-map, map-set}
 use Rattle.nl_blocks.specs.declared.states.BlockState.{BlockState}
 use Rattle.nl_blocks.specs.declared.states.BlockState.TheVariants as the
 use Rattle.nl_blocks.specs.declared.states.Page.{Page}
-use Rattle.nl_blocks.specs.Table.{BlockRow, Table, HasBlock, HasPage, block_at, new_page, no_row, page_at, with_block, after_erase, in_state, is_free, is_free_state, free_count}
+use Rattle.nl_blocks.specs.Table.{BlockRow, Table, HasBlock, HasPage, block_at, new_page, no_row, page_at, with_block, after_erase, in_state, is_free, is_free_state, is_retired_state, free_count}
+use Rattle.nl_blocks.specs.Used.{IsRisen, first_unmarked, is_active_state, is_target_state}
 use Rattle.nl_blocks.proofs.TableLaws.{sum_by-with_block, block_at-with_block_other}
+use Rattle.nl_blocks.proofs.UsedLaws.{rising-with, used-each, used-other}
 use Rattle.nl_pseg.specs.Segment.{Use, no_use, use_at}
-use Rattle.nl_pseg.specs.Seen.{is_kept_state, use_of, use_in, use_with}
-use Rattle.nl_pseg.specs.Steps.{IsPut, IsTold, SameMarks, SameNumbers, SameUse, Restated, told_state}
+use Rattle.nl_pseg.specs.Seen.{AreRising, is_kept_state, use_of, use_in, use_with}
+use Rattle.nl_pseg.specs.Steps.{IsPut, IsTold, SameFill, SameFillBeside, SameMarks, SameNumbers, SameUse, Restated, aside_state, told_state}
 
 abbrev num : Bool → ℕ
 num b = cond b 1 0
@@ -90,9 +92,75 @@ page_back {a} {b} page numbers has =
 page_here : (t : Table) (page block : ℕ) → page / t.size ≡ block → page_at t page ≡ get_or (block_at t block).pages (page % t.size) new_page
 page_here t page block e = ap (λ (b : ℕ). get_or (block_at t b).pages (page % t.size) new_page) e
 
+free_is : (state : BlockState) → is_free_state state ≡ true → state ≡ the.Free
+free_is the.Free is = refl
+free_is the.Active is = absurd (true≢false (sym is))
+free_is the.Target is = absurd (true≢false (sym is))
+free_is the.Sealed is = absurd (true≢false (sym is))
+free_is the.Victim is = absurd (true≢false (sym is))
+free_is (the.Retired names) is = absurd (true≢false (sym is))
+
+-- a block in none of the states in which pages are used
+pub record IsShut (state : BlockState) : Type 0 where
+  pub active : is_active_state state ≡ false
+  pub target : is_target_state state ≡ false
+
+pub shut_sealed : (state : BlockState) → state ≡ the.Sealed → IsShut state
+shut_sealed state is = record { active = ap is_active_state is; target = ap is_target_state is }
+
+pub shut_free : (state : BlockState) → is_free_state state ≡ true → IsShut state
+shut_free state free = record { active = ap is_active_state (free_is state free); target = ap is_target_state (free_is state free) }
+
+pub shut_after : (names : ℕ) → IsShut (after_erase names)
+shut_after zero = record { active = refl; target = refl }
+shut_after (suc names) = record { active = refl; target = refl }
+
+pub shut_victim : (state : BlockState) → state ≡ the.Victim → IsShut state
+shut_victim state is = record { active = ap is_active_state is; target = ap is_target_state is }
+
+pub shut_retired : (state : BlockState) → is_retired_state state ≡ true → IsShut state
+shut_retired the.Free is = record { active = refl; target = refl }
+shut_retired the.Active is = absurd (true≢false (sym is))
+shut_retired the.Target is = absurd (true≢false (sym is))
+shut_retired the.Sealed is = record { active = refl; target = refl }
+shut_retired the.Victim is = record { active = refl; target = refl }
+shut_retired (the.Retired names) is = record { active = refl; target = refl }
+
+pub shut_told : (state : BlockState) → IsShut (told_state state)
+shut_told the.Free = record { active = refl; target = refl }
+shut_told the.Active = record { active = refl; target = refl }
+shut_told the.Target = record { active = refl; target = refl }
+shut_told the.Sealed = record { active = refl; target = refl }
+shut_told the.Victim = record { active = refl; target = refl }
+shut_told (the.Retired names) = record { active = refl; target = refl }
+
+pub shut_aside : (state : BlockState) → IsShut (aside_state state)
+shut_aside the.Free = record { active = refl; target = refl }
+shut_aside the.Active = record { active = refl; target = refl }
+shut_aside the.Target = record { active = refl; target = refl }
+shut_aside the.Sealed = record { active = refl; target = refl }
+shut_aside the.Victim = record { active = refl; target = refl }
+shut_aside (the.Retired names) = record { active = refl; target = refl }
+
+-- the pages of a block in its new state are marked in rising order, where it is one in which pages are used
+pub record IsRowRisen (row : BlockRow) : Type 0 where
+  pub active : is_active_state row.state ≡ true → IsRisen row.pages
+  pub target : is_target_state row.state ≡ true → IsRisen row.pages
+
+pub shut_risen : (row : BlockRow) → IsShut row.state → IsRowRisen row
+shut_risen row is = record { active = λ e. absurd (both_ways _ is.active e); target = λ e. absurd (both_ways _ is.target e) }
+
+pub rows_rise : (t : Table) (block : ℕ) (row : BlockRow) → HasBlock t block → AreRising t → IsRowRisen row → AreRising (with_block t block row)
+rows_rise t block row has rising risen = record {
+  active = rising-with is_active_state t block row has rising.active risen.active;
+  target = rising-with is_target_state t block row has rising.target risen.target;
+}
+
 -- a block whose pages stay as live as they were
-pub same_marks : (t : Table) (block : ℕ) (row : BlockRow) → HasBlock t block → ((k : ℕ) → (get_or row.pages k new_page).state ≡ (get_or (block_at t block).pages k new_page).state) → SameMarks t (with_block t block row)
-same_marks t block row has same = record {
+pub same_marks : (t : Table) (block : ℕ) (row : BlockRow) → HasBlock t block → ((k : ℕ) → (get_or row.pages k new_page).state ≡ (get_or (block_at t block).pages k new_page).state) → (AreRising t → IsRowRisen row)
+    → SameMarks t (with_block t block row)
+same_marks t block row has same risen = record {
+  rises = λ rising. rows_rise t block row has rising (risen rising);
   same = λ page has_page. ⊎_elim
       (λ here. ap (λ (p : Page). p.state) (page_here (with_block t block row) page block here) ∙ (ap (λ (r : BlockRow). (get_or r.pages (page % t.size) new_page).state) (row_here t block row has)
       ∙ (same (page % t.size) ∙ sym (ap (λ (p : Page). p.state) (page_here t page block here)))))
@@ -102,14 +170,38 @@ same_marks t block row has same = record {
 
 pub marks_then : {a b c : Table} → b.size ≡ a.size → SameNumbers a b → SameMarks a b → SameMarks b c → SameMarks a c
 marks_then {a} {b} {c} size numbers first second = record {
+  rises = λ rising. second.rises (first.rises rising);
   same = λ page has. second.same page (subst (λ n. HasBlock b (page / n)) (sym size) (has_same (page / a.size) numbers has)) ∙ first.same page has;
+}
+
+-- in the other blocks as many pages are used
+pub fill_beside : (t : Table) (block : ℕ) (row : BlockRow) → HasBlock t block → SameFillBeside block t (with_block t block row)
+fill_beside t block row has = record {
+  used = λ other has_other ne. used-other is_active_state t block row has other has_other ne;
+  filled = λ other has_other ne. used-other is_target_state t block row has other has_other ne;
+}
+
+pub fill_then : {block : ℕ} {a b c : Table} → SameNumbers a b → SameFillBeside block a b → SameFillBeside block b c → SameFillBeside block a c
+fill_then numbers first second = record {
+  used = λ other has ne. second.used other (has_same other numbers has) ne ∙ first.used other has ne;
+  filled = λ other has ne. second.filled other (has_same other numbers has) ne ∙ first.filled other has ne;
+}
+
+-- The block was in none of the states in which pages are used, and is in none.
+pub fill_shut : (t : Table) (block : ℕ) (row : BlockRow) → HasBlock t block → IsShut (block_at t block).state → IsShut row.state → SameFill t (with_block t block row)
+fill_shut t block row has was now = record {
+  used = used-each is_active_state t block row has (cond-false (is_active_state row.state) (first_unmarked row.pages) t.size now.active
+      ∙ sym (cond-false (is_active_state (block_at t block).state) (first_unmarked (block_at t block).pages) t.size was.active));
+  filled = used-each is_target_state t block row has (cond-false (is_target_state row.state) (first_unmarked row.pages) t.size now.target
+      ∙ sym (cond-false (is_target_state (block_at t block).state) (first_unmarked (block_at t block).pages) t.size was.target));
 }
 
 -- the table is over one block
 pub restated : (t : Table) (block : ℕ) (row : BlockRow) (free : Bool) (wear : ℕ) → HasBlock t block → use_of row ≡ use_with free wear → ((k : ℕ) → (get_or row.pages k new_page).state ≡ (get_or (block_at t block).pages k new_page).state)
-    → Restated block free wear t (with_block t block row)
-restated t block row free wear has use_is same = record {
-  marks = same_marks t block row has same;
+    → (AreRising t → IsRowRisen row) → Restated block free wear t (with_block t block row)
+restated t block row free wear has use_is same risen = record {
+  marks = same_marks t block row has same risen;
+  fill = fill_beside t block row has;
   numbers = record { same_first = refl; same_size = refl; same_count = length-set t.blocks (block - t.first) row };
   here = use_here (with_block t block row) block (with_has t block block row has) ∙ (ap use_of (row_here t block row has) ∙ use_is);
   others = λ other ne. use_other t block other row has ne;
@@ -128,6 +220,7 @@ restated_again {block} {wear} {more} {was} {now} {a} {b} {c} first second = reco
   here = second.here;
   others = λ other ne. second.others other ne ∙ first.others other ne;
   marks = marks_then first.numbers.same_size first.numbers first.marks second.marks;
+  fill = fill_then first.numbers first.fill second.fill;
   states = λ other has ne. second.states other (has_same other first.numbers has) ne ∙ first.states other has ne;
   total =
       let t1 = first.total in
@@ -170,8 +263,9 @@ same_row t block row has use_is = record {
 
 -- a block has another wear
 pub told_block : (t : Table) (block : ℕ) (row : BlockRow) (wear : ℕ) → HasBlock t block → use_of row ≡ record { is_free = (use_in t block).is_free; is_kept = (use_in t block).is_kept; wear = wear }
-    → ((k : ℕ) → (get_or row.pages k new_page).state ≡ (get_or (block_at t block).pages k new_page).state) → IsTold block wear t (with_block t block row)
-told_block t block row wear has use_is same = record {
+    → ((k : ℕ) → (get_or row.pages k new_page).state ≡ (get_or (block_at t block).pages k new_page).state) → (AreRising t → IsRowRisen row) → IsTold block wear t (with_block t block row)
+told_block t block row wear has use_is same risen = record {
+  fill = fill_beside t block row has;
   numbers = record { same_first = refl; same_size = refl; same_count = length-set t.blocks (block - t.first) row };
   here = use_here (with_block t block row) block (with_has t block block row has) ∙ (ap use_of (row_here t block row has) ∙ use_is);
   others = λ other ne. use_other t block other row has ne;
@@ -181,7 +275,7 @@ told_block t block row wear has use_is same = record {
       let was : num (use_in t block).is_free ≡ num (is_free (block_at t block)) = ap (λ (u : Use). num u.is_free) (use_here t block has) in
       let now : num (is_free row) ≡ num (use_in t block).is_free = ap (λ (u : Use). num u.is_free) use_is in
       omega (arith, sums, was, now);
-  marks = same_marks t block row has same;
+  marks = same_marks t block row has same risen;
 }
 
 -- a block that is Free, or in use, is that still
@@ -193,15 +287,8 @@ told_restated t n block wear free is_free_now is_kept_now r = record {
   states = r.states;
   total = let t1 = r.total in let e : num (use_in t block).is_free ≡ num free = ap num is_free_now in omega (arith, t1, e);
   marks = r.marks;
+  fill = r.fill;
 }
-
-free_is : (state : BlockState) → is_free_state state ≡ true → state ≡ the.Free
-free_is the.Free is = refl
-free_is the.Active is = absurd (true≢false (sym is))
-free_is the.Target is = absurd (true≢false (sym is))
-free_is the.Sealed is = absurd (true≢false (sym is))
-free_is the.Victim is = absurd (true≢false (sym is))
-free_is (the.Retired names) is = absurd (true≢false (sym is))
 
 -- the state of a block that is Free
 pub free_state_is : (t : Table) (block : ℕ) → HasBlock t block → (use_in t block).is_free ≡ true → (block_at t block).state ≡ the.Free
@@ -221,8 +308,8 @@ used_state the.Victim free waits = (refl, refl, refl)
 used_state (the.Retired names) free waits = absurd (waits names refl)
 
 -- a block is in another state, and kept where it was
-pub put_block : (t n : Table) (block : ℕ) (state now : BlockState) → HasBlock t block → n ≡ with_block t block (in_state (block_at t block) now) → now ≡ state → is_kept_state now ≡ is_kept_state (block_at t block).state → IsPut block state t n
-put_block t n block state now has made is kept = subst (λ u. IsPut block state t u) (sym made) (record {
+pub put_block : (t n : Table) (block : ℕ) (state now : BlockState) → HasBlock t block → n ≡ with_block t block (in_state (block_at t block) now) → now ≡ state → is_kept_state now ≡ is_kept_state (block_at t block).state → IsShut now → IsPut block state t n
+put_block t n block state now has made is kept shut = subst (λ u. IsPut block state t u) (sym made) (record {
   numbers = record { same_first = refl; same_size = refl; same_count = length-set t.blocks (block - t.first) row };
   here = ap (λ (r : BlockRow). r.state) (row_here t block row has) ∙ is;
   states = λ other has_other ne. ap (λ (r : BlockRow). r.state) (block_at-with_block_other t block other row has has_other ne);
@@ -240,7 +327,8 @@ put_block t n block state now has made is kept = subst (λ u. IsPut block state 
       let before : num (use_in t block).is_free ≡ num (is_free (block_at t block)) = ap (λ (u : Use). num u.is_free) was in
       let after : num (is_free_state now) ≡ num (is_free_state state) = ap (λ (b : BlockState). num (is_free_state b)) is in
       omega (arith, sums, before, after);
-  marks = same_marks t block row has (λ k. refl);
+  marks = same_marks t block row has (λ k. refl) (λ rising. shut_risen row shut);
+  fill = fill_beside t block row has;
 })
   where
     row : BlockRow
@@ -267,5 +355,6 @@ put_same t block state has is free = record {
   total =
       let a : num (use_in t block).is_free ≡ num (is_free_state state) = ap (λ (u : Use). num u.is_free) (use_here t block has) ∙ ap (λ (b : BlockState). num (is_free_state b)) is in
       omega (arith, a);
-  marks = record { same = λ p has_page. refl };
+  marks = record { same = λ p has_page. refl; rises = λ rising. rising };
+  fill = record { used = λ other has_other ne. refl; filled = λ other has_other ne. refl };
 }

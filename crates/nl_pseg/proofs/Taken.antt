@@ -8,7 +8,7 @@ use Rattle.nl_blocks.specs.Table.{Table, HasBlock, block_at, is_free_state}
 use Rattle.nl_pseg.specs.Segment.{Use, IsNext, IsNextCopy}
 use Rattle.nl_pseg.specs.Seen.{HasPhases, IsNamed, IsTied, seen, use_in}
 use Rattle.nl_pseg.specs.Steps.{IsTaking, SameUse}
-use Rattle.nl_pseg.specs.declared.state.State.{State}
+use Rattle.nl_pseg.specs.Kept.{Kept}
 use Rattle.nl_pseg.proofs.Numbers.{block_of}
 use Rattle.nl_pseg.proofs.Tables.{has_same, use_here}
 use Rattle.nl_pseg.proofs.Tied.{back, named_on}
@@ -22,11 +22,11 @@ pub free_other : (t : Table) (block b : ℕ) (state : BlockState) → HasBlock t
 free_other t block b state has free not st e =
     true≢false (sym (state_free t block has free) ∙ (ap (λ n. is_free_state (block_at t n).state) (sym e) ∙ (ap (λ (x : BlockState). is_free_state x) st ∙ not)))
 
-module _ (s : State) (block : ℕ) (k : IsTaking s block) (some : 0 < s.blocks.size) (active : (block_at s.blocks block).state ≡ Active) where
-  abbrev before : State
+module _ (s : Kept) (block : ℕ) (k : IsTaking s block) (some : 0 < s.blocks.size) (active : (block_at s.blocks block).state ≡ Active) where
+  abbrev before : Kept
   before = record s { blocks = k.table }
 
-  abbrev after : State
+  abbrev after : Kept
   after = record s { soiled = with_item s.soiled block None; active = block; used = 0 }
 
   size : s.blocks.size ≡ k.table.size
@@ -92,9 +92,9 @@ module _ (s : State) (block : ℕ) (k : IsTaking s block) (some : 0 < s.blocks.s
   taken_tied = record { named = named; phases = phases; behind = λ p h held copy. k.tied.behind p h held (copies p copy) }
 
 -- a block that is Free as it was
-module _ (s : State) (tied : IsTied s) (t : Table) (same : SameUse s.blocks t) (block : ℕ) (has_block : HasBlock s.blocks block) (free : (use_in s.blocks block).is_free ≡ true)
+module _ (s : Kept) (tied : IsTied s) (t : Table) (same : SameUse s.blocks t) (block : ℕ) (has_block : HasBlock s.blocks block) (free : (use_in s.blocks block).is_free ≡ true)
     (others : (b : ℕ) → HasBlock s.blocks b → (b ≡ block → ⊥) → (block_at t b).state ≡ (block_at s.blocks b).state) where
-  abbrev again : State
+  abbrev again : Kept
   again = record s { blocks = t }
 
   size_is : t.size ≡ s.blocks.size

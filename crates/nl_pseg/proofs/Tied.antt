@@ -15,7 +15,7 @@ use Rattle.nl_pseg.specs.Segment.{IsNext, IsNextCopy, IsOldName, Use, held_at, i
 use Rattle.nl_pseg.specs.Seen.{HasPhases, IsFormed, IsNamed, IsStanding, IsTied, seen, use_in}
 use Rattle.nl_pseg.specs.Steps.{SameNumbers, SameUse}
 use Rattle.nl_pseg.specs.declared.held.Held.{Held}
-use Rattle.nl_pseg.specs.declared.state.State.{State}
+use Rattle.nl_pseg.specs.Kept.{Kept}
 use Rattle.nl_pseg.proofs.Numbers.{block_of}
 use Rattle.nl_pseg.proofs.Segments.{set_held}
 use Rattle.nl_pseg.proofs.States.{next_block}
@@ -25,7 +25,7 @@ pub back : {a b : Table} → SameNumbers a b → SameNumbers b a
 back n = record { same_first = sym n.same_first; same_size = sym n.same_size; same_count = sym n.same_count }
 
 -- The same pairs: each old name stands still and is no live page, each pair leads to a live page, and no other block waits.
-pub named_on : (s x : State) → IsNamed s → x.names ≡ s.names → SameNumbers s.blocks x.blocks → ((p : ℕ) (h : Held) → held_at (seen x) p ≡ Some h → IsOld s.names.pairs p → ⊥)
+pub named_on : (s x : Kept) → IsNamed s → x.names ≡ s.names → SameNumbers s.blocks x.blocks → ((p : ℕ) (h : Held) → held_at (seen x) p ≡ Some h → IsOld s.names.pairs p → ⊥)
     → ((pair : Link) → HasLink s.names.pairs pair → (h : Held) × (held_at (seen x) pair.to ≡ Some h)) → ((n : ℕ) → IsOld s.names.pairs n → IsStanding (seen s) n → IsStanding (seen x) n)
     → ((b k : ℕ) → HasBlock s.blocks b → (block_at x.blocks b).state ≡ Retired k → (block_at s.blocks b).state ≡ Retired k) → IsNamed x
 named_on s x is same n own live stands waits = record {
@@ -40,13 +40,13 @@ named_on s x is same n own live stands waits = record {
 }
 
 -- The states of all blocks but one are as they were, and that one's is none of those that are written to, or it is one that is.
-pub record Stays (s x : State) (block : ℕ) (state : BlockState) : Type 0 where
+pub record Stays (s x : Kept) (block : ℕ) (state : BlockState) : Type 0 where
   pub numbers : SameNumbers s.blocks x.blocks
   pub here : (block_at x.blocks block).state ≡ state
   pub others : (b : ℕ) → HasBlock s.blocks b → (b ≡ block → ⊥) → (block_at x.blocks b).state ≡ (block_at s.blocks b).state
 
 -- all states are as they were
-pub phases_same : (s x : State) → HasPhases s → SameNumbers s.blocks x.blocks → ((b : ℕ) → (block_at x.blocks b).state ≡ (block_at s.blocks b).state)
+pub phases_same : (s x : Kept) → HasPhases s → SameNumbers s.blocks x.blocks → ((b : ℕ) → (block_at x.blocks b).state ≡ (block_at s.blocks b).state)
     → x.active ≡ s.active → x.used ≡ s.used → x.target ≡ s.target → x.filled ≡ s.filled → x.victim ≡ s.victim → HasPhases x
 phases_same s x is n states active used target filled victim = record {
   target_in = subst (HasBlock x.blocks) (sym target) (has_same s.target n is.target_in);
@@ -59,14 +59,14 @@ phases_same s x is n states active used target filled victim = record {
 }
 
 -- an old name that is seen is one of the table
-pub old_is : (s : State) (n : ℕ) → IsOldName (seen s) n → IsOld s.names.pairs n
+pub old_is : (s : Kept) (n : ℕ) → IsOldName (seen s) n → IsOld s.names.pairs n
 old_is s n old =
     let turn : Link → ℕ × ℕ = λ p. (p.from, p.to) in
     let within : old.1.0 < length s.names.pairs = subst (λ k. old.1.0 < k) (length-map s.names.pairs turn) old.1.1 in
     let e : turn (link_at s.names.pairs old.1.0) ≡ (n, old.0) = sym (get_or-map turn s.names.pairs old.1.0 no_link (n, old.0) within) ∙ old.1.2 in
     (old.1.0, within, ap (λ (p : ℕ × ℕ). p.0) e)
 
-module _ (s : State) (is : IsFormed s) (tied : IsTied s) where
+module _ (s : Kept) (is : IsFormed s) (tied : IsTied s) where
   -- a page that is taken for a copy lies in a Target block
   pub copy_target : (p : ℕ) → IsNextCopy (seen s) p → (p / s.blocks.size ≡ s.target) × ((block_at s.blocks s.target).state ≡ Target)
   copy_target p next =
@@ -110,10 +110,10 @@ module _ (s : State) (is : IsFormed s) (tied : IsTied s) where
     free_copy = not_copy block has (block_at s.blocks block).state refl (λ e. true≢false (sym free_is ∙ ap (λ (b : BlockState). is_free_state b) e))
 
 -- a live page died, to which no pair leads
-pub ended_tied : (s : State) → IsTied s → (t : Table) → SameUse s.blocks t → ((b : ℕ) → (block_at t b).state ≡ (block_at s.blocks b).state) → (page : ℕ) → page < length s.held.items → ((name : ℕ) → HasLink s.names.pairs (pair name page) → ⊥)
+pub ended_tied : (s : Kept) → IsTied s → (t : Table) → SameUse s.blocks t → ((b : ℕ) → (block_at t b).state ≡ (block_at s.blocks b).state) → (page : ℕ) → page < length s.held.items → ((name : ℕ) → HasLink s.names.pairs (pair name page) → ⊥)
     → IsTied (record s { held = with_item s.held page None; blocks = t })
 ended_tied s tied t same states page within alone =
-    let x : State = record s { held = with_item s.held page None; blocks = t } in
+    let x : Kept = record s { held = with_item s.held page None; blocks = t } in
     let e = same.numbers.same_size in
     let was = λ (p : ℕ) (h : Held) (held : held_at (seen x) p ≡ Some h). ⊎_elim (λ here. absurd (none-some h here.1)) (λ there. there.1) (set_held s.held.items page None within p h held) in
     let copies = λ (p : ℕ) (n : IsNextCopy (seen x) p). copy_back s t same p n in
@@ -133,13 +133,13 @@ ended_tied s tied t same states page within alone =
       behind = λ p h held copy. tied.behind p h (was p h held) (copies p copy);
     }
   where
-    next_same : (s : State) (t : Table) → SameUse s.blocks t → (p : ℕ) → IsNext (seen (record s { blocks = t })) p → IsNext (seen s) p
+    next_same : (s : Kept) (t : Table) → SameUse s.blocks t → (p : ℕ) → IsNext (seen (record s { blocks = t })) p → IsNext (seen s) p
     next_same s t same p n =
         let e = same.numbers.same_size in
         let a : s.active * t.size ≡ s.active * s.blocks.size = ap (λ m. s.active * m) e in
         (omega (arith, a, n.0), omega (arith, a, e, n.1))
 
-    copy_back : (s : State) (t : Table) → SameUse s.blocks t → (p : ℕ) → IsNextCopy (seen (record s { blocks = t })) p → IsNextCopy (seen s) p
+    copy_back : (s : Kept) (t : Table) → SameUse s.blocks t → (p : ℕ) → IsNextCopy (seen (record s { blocks = t })) p → IsNextCopy (seen s) p
     copy_back s t same p n =
         let e = same.numbers.same_size in
         let a : s.target * t.size ≡ s.target * s.blocks.size = ap (λ m. s.target * m) e in

@@ -10,16 +10,16 @@ use Rattle.nl_pseg.specs.Segment.{Use, IsNext, IsNextCopy, held_at, use_at}
 use Rattle.nl_pseg.specs.Seen.{HasPhases, IsFormed, IsNamed, IsTied, seen}
 use Rattle.nl_pseg.specs.Steps.{SameUse}
 use Rattle.nl_pseg.specs.declared.held.Held.{Held}
-use Rattle.nl_pseg.specs.declared.state.State.{State}
+use Rattle.nl_pseg.specs.Kept.{Kept}
 use Rattle.nl_pseg.proofs.Segments.{dead_next, set_held}
 use Rattle.nl_pseg.proofs.States.{is_next}
 use Rattle.nl_pseg.proofs.Tables.{has_same}
 use Rattle.nl_pseg.proofs.Tied.{back, named_on, next_copy}
 
-module _ (s : State) (is : IsFormed s) (tied : IsTied s) (room : s.used < s.blocks.size) (t : Table) (same : SameUse s.blocks t) (page : ℕ) (at : page ≡ s.active * s.blocks.size + s.used) (x : Option Held)
+module _ (s : Kept) (is : IsFormed s) (tied : IsTied s) (room : s.used < s.blocks.size) (t : Table) (same : SameUse s.blocks t) (page : ℕ) (at : page ≡ s.active * s.blocks.size + s.used) (x : Option Held)
     (here : (((block_at t s.active).state ≡ Active) × (s.used + 1 < s.blocks.size)) ⊎ ((block_at t s.active).state ≡ Sealed))
     (others : (b : ℕ) → HasBlock s.blocks b → (b ≡ s.active → ⊥) → (block_at t b).state ≡ (block_at s.blocks b).state) (within : page < length s.held.items) where
-  abbrev new : State
+  abbrev new : Kept
   new = record s { held = with_item s.held page x; blocks = t; used = s.used + 1 }
 
   next : IsNext (seen s) page

@@ -16,7 +16,7 @@ use Rattle.nl_pseg.specs.Seen.{IsFormed, IsTied, seen}
 use Rattle.nl_pseg.specs.Space.{HasFewPairs, HasRoomForVictim, IsWhole, SameCleaning, left_of, victims, waiting}
 use Rattle.nl_pseg.specs.Steps.{Placing}
 use Rattle.nl_pseg.specs.declared.held.Held.{Held}
-use Rattle.nl_pseg.specs.declared.state.State.{State}
+use Rattle.nl_pseg.specs.Kept.{Kept}
 use Rattle.nl_pseg.proofs.Ended.{few_on}
 use Rattle.nl_pseg.proofs.Holds.{holds_whole, kept_some}
 use Rattle.nl_pseg.proofs.Lefts.{gain_by, left_same}
@@ -59,7 +59,7 @@ some_lands seg whole some =
     omega (arith, fits, one)
 
 -- where a block is Free, some block can be done without
-pub free_spare : (s : State) → IsFormed s → 1 ≤ (seen s).free + waiting (seen s) → (image : Image) → HasSpare image (seen s)
+pub free_spare : (s : Kept) → IsFormed s → 1 ≤ (seen s).free + waiting (seen s) → (image : Image) → HasSpare image (seen s)
 free_spare s is some image =
     let k = kept_some s is some in
     let kept : is_kept (seen s) k.0 ≡ true = ap (λ (u : Use). u.is_kept) (use_from s.blocks.first (seen s).uses k.0 k.1.from) ∙ k.2 in
@@ -110,7 +110,7 @@ placed_spares answer stamp x old new p nexts next i j still spare =
           (w.0, p.names.same_victim ∙ (w.1 ∙ ap (λ m. Some (w.0 / m)) (sym size)), (λ e. w.2 (ap (λ m. w.0 / m) (sym size) ∙ e)), ap shown_by second ∙ (w.3 ∙ ap shown_by (sym first)));
     }
 
-module _ (answer : Named) (stamp : ℕ) (x : Option Held) (s n : State) (is : IsFormed s) (tied : IsTied s) (table : IsTable s.blocks) (few : HasFewPairs (seen s)) (now : IsFormed n) (tied_now : IsTied n) (table_now : IsTable n.blocks)
+module _ (answer : Named) (stamp : ℕ) (x : Option Held) (s n : Kept) (is : IsFormed s) (tied : IsTied s) (table : IsTable s.blocks) (few : HasFewPairs (seen s)) (now : IsFormed n) (tied_now : IsTied n) (table_now : IsTable n.blocks)
     (p : Placing stamp (λ at. set s.held.items at.name x) answer (seen s) (seen n)) where
   same_left : left_of (seen n) ≡ left_of (seen s)
   same_left = left_same s n is tied table now tied_now table_now p.pages.same_size p.names.same_victim (placed_same answer stamp x (seen s) (seen n) p)

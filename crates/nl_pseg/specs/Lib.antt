@@ -7,3 +7,4 @@ pub mod Space
 pub mod Cleaning
 pub mod Seen
 pub mod Steps
+pub mod Kept

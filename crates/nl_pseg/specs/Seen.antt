@@ -8,13 +8,14 @@ use Rattle.nl_blocks.specs.declared.states.BlockState.TheVariants.{Free, Active,
 use Rattle.nl_blocks.specs.declared.states.PageState.{PageState}
 use Rattle.nl_blocks.specs.declared.states.PageState.TheVariants.{Dead, Live}
 use Rattle.nl_blocks.specs.Table.{BlockRow, Table, HasBlock, block_at, dead_count, is_free, free_count, HasPage, page_at}
+use Rattle.nl_blocks.specs.Used.{IsRising, is_active_state, is_target_state}
 use Rattle.nl_remap.specs.Links.{HasLink}
 use Rattle.nl_remap.specs.Table.{IsOld, IsRemap, told}
 use Rattle.nl_remap.specs.declared.links.Link.{Link}
 use Rattle.nl_pseg.specs.OldNames.{names_among}
 use Rattle.nl_pseg.specs.Segment.{Physical, Row, Use, InSegment, IsNext, IsNextCopy, held_at, use_at}
 use Rattle.nl_pseg.specs.declared.held.Held.{Held}
-use Rattle.nl_pseg.specs.declared.state.State.{State}
+use Rattle.nl_pseg.specs.Kept.{Kept}
 
 abbrev pub is_kept_state : BlockState → Bool
 is_kept_state Free = true
@@ -39,7 +40,7 @@ use_in table block = use_at table.first (map use_of table.blocks) block
 abbrev pub row_of : BlockRow → Row
 row_of row = record { state = row.state; dead = dead_count row }
 
-abbrev pub seen : State → Physical
+abbrev pub seen : Kept → Physical
 seen s = record {
   first = s.blocks.first;
   blocks = s.blocks.first + length s.blocks.blocks;
@@ -92,8 +93,14 @@ abbrev pub state_for : Option Held → PageState
 state_for None = Dead
 state_for (Some h) = Live
 
--- each page is marked as it is: live, or dead
+-- in an Active and in a Target block the pages are marked in rising order
+pub record AreRising (table : Table) : Type 0 where
+  pub active : IsRising is_active_state table
+  pub target : IsRising is_target_state table
+
+-- Each page is marked as it is: live, or dead. Where pages are still to be used they are marked in rising order.
 pub record AreMarked (table : Table) (held : List (Option Held)) : Type 0 where
+  pub rising : AreRising table
   pub each : (page : ℕ) → HasPage table page → (page_at table page).state ≡ state_for (slice_index_or held page None)
 
 -- An old name is that of a page in a block that is not Free, and not one of those that are programmed next.
@@ -104,7 +111,7 @@ pub record IsStanding (seg : Physical) (name : ℕ) : Type 0 where
 
 -- The pairs of the state: each old name stands, and is no live page; each pair leads to a live page; a block that waits for its names
 -- waits for as many as stand in it.
-pub record IsNamed (s : State) : Type 0 where
+pub record IsNamed (s : Kept) : Type 0 where
   pub size : s.names.size ≡ s.blocks.size
   pub blocks : s.names.blocks ≡ s.blocks.first + length s.blocks.blocks
   pub room : length s.names.pairs + s.names.room ≡ 4 * s.blocks.size
@@ -116,7 +123,7 @@ pub record IsNamed (s : State) : Type 0 where
 
 -- Of the blocks in use one is written to, and one takes copies, where they are not full; one is the victim, where it is in hand; and
 -- the others are Sealed.
-pub record HasPhases (s : State) : Type 0 where
+pub record HasPhases (s : Kept) : Type 0 where
   pub target_in : HasBlock s.blocks s.target
   pub filled_fits : s.filled ≤ s.blocks.size
   pub filling : s.filled < s.blocks.size → (block_at s.blocks s.target).state ≡ Target
@@ -126,7 +133,7 @@ pub record HasPhases (s : State) : Type 0 where
   pub victim_in : (block : ℕ) → s.victim ≡ Some block → HasBlock s.blocks block × ((block_at s.blocks block).state ≡ Victim)
 
 -- what holds of every state
-pub record IsFormed (s : State) : Type 0 where
+pub record IsFormed (s : Kept) : Type 0 where
   pub some : 0 < s.blocks.size
   pub numbers : (s.blocks.first + length s.blocks.blocks) * s.blocks.size < 2 ^ 32
   pub pages : length s.held.items ≡ (s.blocks.first + length s.blocks.blocks) * s.blocks.size
@@ -143,7 +150,7 @@ pub record Fits (geometry : Geometry) (seg : Physical) : Type 0 where
   pub blocks : seg.blocks ≤ geometry.blocks
 
 -- what holds beside it of the pairs and of the blocks that are cleaned, between two calls
-pub record IsTied (s : State) : Type 0 where
+pub record IsTied (s : Kept) : Type 0 where
   pub named : IsNamed s
   pub phases : HasPhases s
   pub behind : (page : ℕ) (h : Held) → held_at (seen s) page ≡ Some h → IsNextCopy (seen s) page → ⊥

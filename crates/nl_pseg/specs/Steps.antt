@@ -1,5 +1,5 @@
 -- What the steps of a call do to the table of blocks and to the segment.
-use Rattle.std.specs.Prelude.{◌≡◌, ◌⊎◌, ℕ, ◌+◌, ◌*◌, ◌/◌, ◌<◌, ◌≤◌, ◌==◌, if◌then◌else◌, Bool, true, false, cond, List, length, slice_set, Option, Some, None}
+use Rattle.std.specs.Prelude.{◌≡◌, ◌⊎◌, ℕ, ◌+◌, ◌*◌, ◌/◌, ◌%◌, ◌<◌, ◌≤◌, ◌==◌, if◌then◌else◌, Bool, true, false, cond, List, length, slice_set, Option, Some, None}
 use Rattle.nl_field.specs.CrashStates.{LeavesOnly}
 use Rattle.nl_field.specs.Live.{resolve}
 use Rattle.nl_field.specs.Page.{Image, Page, erased, written, page_at}
@@ -13,14 +13,15 @@ use Rattle.nl_blocks.specs.declared.states.BlockState.TheVariants.{Free, Active,
 use Rattle.nl_blocks.specs.declared.states.PageState.{PageState}
 use Rattle.nl_blocks.specs.Table.{Table, HasBlock, block_at, free_count, is_free_state, HasPage}
 use Rattle.nl_blocks.specs.Table.{page_at as page_in}
+use Rattle.nl_blocks.specs.Used.{SameUsed, is_active_state, is_target_state, used_in}
 use Rattle.nl_pseg.specs.Answers.{IfPlaced, IsFault, IsPlaced}
 use Rattle.nl_pseg.specs.Effects.{Crashes, Keeps, Programmed}
 use Rattle.nl_pseg.specs.Pages.{page_with}
 use Rattle.nl_pseg.specs.Segment.{InSegment, Physical, IsClean, IsDead, IsNext, IsNextCopy, IsPhysicalOf, IsReady, IsSpent, IsUnspent, KeepsBlock, SameNames, SamePages, TakenAsErased, erasures, is_free, is_kept, is_soiled, is_waiting, soiled, use_at, wear_of, without_target, names_another_free, IsOldName, CountsErases}
 use Rattle.nl_pseg.specs.Space.{gain_of, landing, left_of, waiting}
-use Rattle.nl_pseg.specs.Seen.{IsTied, use_in, use_with}
+use Rattle.nl_pseg.specs.Seen.{AreRising, IsTied, use_in, use_with}
 use Rattle.nl_pseg.specs.declared.held.Held.{Held}
-use Rattle.nl_pseg.specs.declared.state.State.{State}
+use Rattle.nl_pseg.specs.Kept.{Kept}
 
 -- as many blocks, with the same numbers
 pub record SameNumbers (old new : Table) : Type 0 where
@@ -34,12 +35,34 @@ pub record SameUse (old new : Table) : Type 0 where
   pub uses : (block : ℕ) → use_in new block ≡ use_in old block
   pub total : free_count new ≡ free_count old
 
--- each page is as live as it was
+-- in each block as many pages are used, for new names and for copies
+pub record SameFill (old new : Table) : Type 0 where
+  pub used : (block : ℕ) → HasBlock old block → SameUsed is_active_state block old new
+  pub filled : (block : ℕ) → HasBlock old block → SameUsed is_target_state block old new
+
+-- so but for this block
+pub record SameFillBeside (block : ℕ) (old new : Table) : Type 0 where
+  pub used : (other : ℕ) → HasBlock old other → (other ≡ block → ⊥) → SameUsed is_active_state other old new
+  pub filled : (other : ℕ) → HasBlock old other → (other ≡ block → ⊥) → SameUsed is_target_state other old new
+
+-- each page is as live as it was, and pages that were marked in rising order still are
 pub record SameMarks (old new : Table) : Type 0 where
   pub same : (page : ℕ) → HasPage old page → (page_in new page).state ≡ (page_in old page).state
+  pub rises : AreRising old → AreRising new
+
+-- in blocks of this kind of state the page is used, or the next one that is
+abbrev pub IsUpTo : (BlockState → Bool) → ℕ → Table → Type 0
+IsUpTo kind page t = page % t.size ≤ used_in kind t (page / t.size)
+
+-- What marking a page does to the number of the used pages: a page that is used leaves it, and the next one is used now.
+pub record Uses (kind : BlockState → Bool) (page : ℕ) (old new : Table) : Type 0 where
+  pub again : page % old.size < used_in kind old (page / old.size) → (block : ℕ) → HasBlock old block → SameUsed kind block old new
+  pub next : page % old.size ≡ used_in kind old (page / old.size) → used_in kind new (page / old.size) ≡ used_in kind old (page / old.size) + 1
+  pub others : (block : ℕ) → HasBlock old block → (block ≡ page / old.size → ⊥) → SameUsed kind block old new
 
 -- one page is live now, or not, and the others are as before
 pub record IsMarked (page : ℕ) (state : PageState) (old new : Table) : Type 0 where
+  pub rising : AreRising new
   pub here : (page_in new page).state ≡ state
   pub others : (other : ℕ) → HasPage old other → (other ≡ page → ⊥) → (page_in new other).state ≡ (page_in old other).state
 
@@ -51,6 +74,7 @@ pub record Restated (block : ℕ) (free : Bool) (wear : ℕ) (old new : Table) :
   pub states : (other : ℕ) → HasBlock old other → (other ≡ block → ⊥) → (block_at new other).state ≡ (block_at old other).state
   pub total : free_count new + cond (use_in old block).is_free 1 0 ≡ free_count old + cond free 1 0
   pub marks : SameMarks old new
+  pub fill : SameFillBeside block old new
 
 -- the same blocks and pages
 pub record SameRange (old new : Physical) : Type 0 where
@@ -75,6 +99,7 @@ pub record IsTold (block : ℕ) (wear : ℕ) (old new : Table) : Type 0 where
   pub states : (other : ℕ) → HasBlock old other → (other ≡ block → ⊥) → (block_at new other).state ≡ (block_at old other).state
   pub total : free_count new ≡ free_count old
   pub marks : SameMarks old new
+  pub fill : SameFillBeside block old new
 
 -- the state of a block in which one old name more stands, and in which nothing more is programmed
 abbrev pub aside_state : BlockState → BlockState
@@ -95,16 +120,17 @@ pub record IsPut (block : ℕ) (state : BlockState) (old new : Table) : Type 0 w
   pub frees : (other : ℕ) → (other ≡ block → ⊥) → (use_in new other).is_free ≡ (use_in old other).is_free
   pub total : free_count new + cond (use_in old block).is_free 1 0 ≡ free_count old + cond (is_free_state state) 1 0
   pub marks : SameMarks old new
+  pub fill : SameFillBeside block old new
 
 -- nothing more is programmed in this block, and the pages of another one that are programmed next are the same
-pub record IsIdle (block : ℕ) (old new : State) : Type 0 where
+pub record IsIdle (block : ℕ) (old new : Kept) : Type 0 where
   pub active : new.active ≡ old.active
   pub target : new.target ≡ old.target
   pub used : ((block ≡ old.active) × (new.used ≡ old.blocks.size)) ⊎ ((block ≡ old.active → ⊥) × (new.used ≡ old.used))
   pub filled : ((block ≡ old.target) × (new.filled ≡ old.blocks.size)) ⊎ ((block ≡ old.target → ⊥) × (new.filled ≡ old.filled))
 
 -- The block is set aside for one old name more, where it is one of the table.
-pub record IsAside (block : ℕ) (old new : State) : Type 0 where
+pub record IsAside (block : ℕ) (old new : Kept) : Type 0 where
   pub same : new ≡ record old { blocks = new.blocks; used = new.used; filled = new.filled }
   pub idle : IsIdle block old new
   pub put : IsPut block (aside_state (block_at old.blocks block).state) old.blocks new.blocks
@@ -152,7 +178,7 @@ pub record Loads (page : ℕ) (at : Pointer) (tag : Tag) (old new : Physical) : 
   pub copies : (p : ℕ) → IsNextCopy new p → IsNextCopy old p
 
 -- A block was taken that was Free, where the block that was written to is full, and no page of it is used.
-pub record IsTaking (s : State) (block : ℕ) : Type 0 where
+pub record IsTaking (s : Kept) (block : ℕ) : Type 0 where
   pub table : Table
   pub wear : ℕ
   pub tied : IsTied (record s { blocks = table })
@@ -305,7 +331,7 @@ pub record PlacingOn {M : Type 0} (clock : M → ℕ) (contents : M → Image) (
   pub crash : Crashes clock contents left seg tag stamp main old new answer
 
 -- A block was taken for copies that was Free, where the one before it is full, and no page of it is used.
-pub record IsTargeted (s : State) (block : ℕ) : Type 0 where
+pub record IsTargeted (s : Kept) (block : ℕ) : Type 0 where
   pub table : Table
   pub wear : ℕ
   pub tied : IsTied (record s { blocks = table })

@@ -5,6 +5,8 @@ ghost use Rattle.nl_field.specs.Page.{page_at, written};
 ghost use Rattle.nl_field.specs.Spelling.{is_stamp};
 ghost use Rattle.nl_nand.specs.Nand.{FaultsCounted};
 ghost use Rattle.nl_blocks.specs.Table.{HasBlock, IsTable, block_at};
+ghost use Rattle.nl_blocks.specs.Used.{is_target_state, used_in};
+ghost use Rattle.nl_pseg.specs.Kept.{all_filled, kept};
 ghost use Rattle.nl_pseg.specs.Cleaning.{CountedMove, CrashesMove, IfMoved, IsMoved, Moves, MovesNone, programmed_by};
 ghost use Rattle.nl_pseg.specs.Effects.{Crashes, Programmed};
 ghost use Rattle.nl_pseg.specs.Pages.{main_of, page_with, shown_by};
@@ -18,7 +20,7 @@ use crate::cleaned::Copied;
 use crate::held::Held;
 use crate::pages::{program_page, read_page};
 use crate::state::State;
-use crate::table::{give_back, mark, seal_filled, take_target, wear_out};
+use crate::table::{give_back, mark, next_copy, seal_filled, take_target, wear_out};
 use nl_blocks::BlockState;
 use nl_field::{NamedRead, PageBuf};
 use nl_nand::{Nand, WriteAnswer};
@@ -26,10 +28,10 @@ use nl_nand::{Nand, WriteAnswer};
 impl State {
     /// A live page of a block: the first one from the place on where the last one was found, or else the first one.
     pub fn first_live(&self, block: u32) -> Option<u32>
-        requires formed { IsFormed self.now }
+        requires formed { IsFormed (kept self.now) }
         requires has { HasBlock self.now.blocks block }
-        ensures some { IfSome result (λ page. (page / self.now.blocks.size ≡ block) × IsSome (held_at (seen self.now) page)) }
-        ensures none { IfNone result ((page : ℕ) → page / self.now.blocks.size ≡ block → held_at (seen self.now) page ≡ None) }
+        ensures some { IfSome result (λ page. (page / self.now.blocks.size ≡ block) × IsSome (held_at (seen (kept self.now)) page)) }
+        ensures none { IfNone result ((page : ℕ) → page / self.now.blocks.size ≡ block → held_at (seen (kept self.now)) page ≡ None) }
     {
         let pages = self.blocks.pages();
         match self.live_among(block, self.looked, pages) {
@@ -40,11 +42,11 @@ impl State {
 
     /// The first live page of a block from one place on up to another.
     fn live_among(&self, block: u32, from: u32, to: u32) -> Option<u32>
-        requires formed { IsFormed self.now }
+        requires formed { IsFormed (kept self.now) }
         requires has { HasBlock self.now.blocks block }
         requires within { to ≤ self.now.blocks.size }
-        ensures some { IfSome result (λ page. (page / self.now.blocks.size ≡ block) × IsSome (held_at (seen self.now) page)) }
-        ensures none { IfNone result ((at : ℕ) → from ≤ at → at < to → held_at (seen self.now) (block * self.now.blocks.size + at) ≡ None) }
+        ensures some { IfSome result (λ page. (page / self.now.blocks.size ≡ block) × IsSome (held_at (seen (kept self.now)) page)) }
+        ensures none { IfNone result ((at : ℕ) → from ≤ at → at < to → held_at (seen (kept self.now)) (block * self.now.blocks.size + at) ≡ None) }
     {
         let pages = self.blocks.pages();
         for at in from..to {
@@ -59,23 +61,23 @@ impl State {
     /// Sees to it that the block for copies has a page that is not used: where it is full, takes a Free block, and erases it first
     /// where it is soiled. Where that fails, the block is Free again.
     fn ready<M: Nand>(&mut self, media: &mut M) -> WriteAnswer
-        requires formed { IsFormed self.old }
-        requires tied { IsTied self.old }
-        requires fits { Fits (M.geometry media.old) (seen self.old) }
-        requires lands { 0 < landing (seen self.old) }
-        requires segment { M.tells → IsPhysicalOf (M.contents media.old) (seen self.old) }
-        ensures formed { IsFormed self.new }
-        ensures tied { IsTied self.new }
-        ensures left { result ≡ WriteAnswer.Done → self.new.filled < self.new.blocks.size }
-        ensures readied { IsReadied (seen self.old) (seen self.new) }
-        ensures medium { M.tells → ReadiedOn M.clock M.contents M.left result (seen self.old) (seen self.new) media.old media.new }
+        requires formed { IsFormed (kept self.old) }
+        requires tied { IsTied (kept self.old) }
+        requires fits { Fits (M.geometry media.old) (seen (kept self.old)) }
+        requires lands { 0 < landing (seen (kept self.old)) }
+        requires segment { M.tells → IsPhysicalOf (M.contents media.old) (seen (kept self.old)) }
+        ensures formed { IsFormed (kept self.new) }
+        ensures tied { IsTied (kept self.new) }
+        ensures left { result ≡ WriteAnswer.Done → (kept self.new).filled < self.new.blocks.size }
+        ensures readied { IsReadied (seen (kept self.old)) (seen (kept self.new)) }
+        ensures medium { M.tells → ReadiedOn M.clock M.contents M.left result (seen (kept self.old)) (seen (kept self.new)) media.old media.new }
         ensures geometry { M.geometry media.new ≡ M.geometry media.old }
-        ensures clean { IsClean (seen self.old) → (result ≡ WriteAnswer.Done) × (M.clock media.new ≡ M.clock media.old) }
+        ensures clean { IsClean (seen (kept self.old)) → (result ≡ WriteAnswer.Done) × (M.clock media.new ≡ M.clock media.old) }
         ensures clock { (M.clock media.old ≤ M.clock media.new) × (M.clock media.new ≤ M.clock media.old + 1) }
         ensures read_faults { M.read_faults media.new ≡ M.read_faults media.old }
         ensures write_faults { FaultsCounted (M.write_faults media.old) (M.write_faults media.new) (result ≡ WriteAnswer.Failed) }
     {
-        if self.filled < self.blocks.pages() {
+        if next_copy(&self.blocks, self.target).is_some() {
             return WriteAnswer::Done;
         }
         let _ = self.blocks.count();
@@ -102,55 +104,53 @@ impl State {
 
     /// Copies are written to this block. No page of it is used.
     fn aim(&mut self, block: u32)
-        requires formed { IsFormed self.old }
+        requires formed { IsFormed (all_filled (kept self.old)) }
         requires has { HasBlock self.old.blocks block }
         requires target { (block_at self.old.blocks block).state ≡ BlockState.Target }
-        requires targeted { IsTargeted self.old block }
-        requires in_use { (p : ℕ) (h : HeldOf) → held_at (seen self.old) p ≡ Some h → p / self.old.blocks.size ≡ block → ⊥ }
-        ensures formed { IsFormed self.new }
-        ensures tied { IsTied self.new }
-        ensures aimed { seen self.new ≡ aimed_at (seen self.old) block }
-        ensures filled { self.new.filled ≡ 0 }
+        requires unused { used_in is_target_state self.old.blocks block ≡ 0 }
+        requires targeted { IsTargeted (all_filled (kept self.old)) block }
+        requires in_use { (p : ℕ) (h : HeldOf) → held_at (seen (kept self.old)) p ≡ Some h → p / self.old.blocks.size ≡ block → ⊥ }
+        ensures formed { IsFormed (kept self.new) }
+        ensures tied { IsTied (kept self.new) }
+        ensures aimed { seen (kept self.new) ≡ aimed_at (seen (kept self.old)) block }
+        ensures filled { (kept self.new).filled ≡ 0 }
         ensures pages { self.new.blocks.size ≡ self.old.blocks.size }
     {
         self.soiled[block as usize] = None;
         self.target = block;
-        self.filled = 0;
     }
 
     /// Uses the next page for copies: it holds this. A block that is full is Sealed.
-    fn use_copy(&mut self, held: Option<Held>)
-        requires formed { IsFormed self.old }
-        requires tied { IsTied self.old }
-        requires room { self.old.filled < self.old.blocks.size }
+    fn use_copy(&mut self, page: u32, held: Option<Held>)
+        requires formed { IsFormed (kept self.old) }
+        requires tied { IsTied (kept self.old) }
+        requires room { (kept self.old).filled < self.old.blocks.size }
+        requires next { page ≡ (seen (kept self.old)).copy_next }
         requires spelled { IfSome held (λ h. IsTrue (is_stamp h.stamp)) }
-        ensures formed { IsFormed self.new }
-        ensures tied { IsTied self.new }
-        ensures used { IsCopyUsed held (seen self.old) (seen self.new) }
+        ensures formed { IsFormed (kept self.new) }
+        ensures tied { IsTied (kept self.new) }
+        ensures used { IsCopyUsed held (seen (kept self.old)) (seen (kept self.new)) }
     {
         let _ = self.blocks.count();
-        let pages = self.blocks.pages();
-        let page = self.target * pages + self.filled;
         mark(&mut self.blocks, page, held.is_some());
         self.held[page as usize] = held;
-        self.filled += 1;
-        seal_filled(&mut self.blocks, self.target, self.filled == pages);
+        seal_filled(&mut self.blocks, self.target);
         let _ = self.blocks.count();
     }
 
     /// The live page of the victim is at the other page now.
     fn lead(&mut self, before: u32, after: u32)
-        requires formed { IsFormed self.old }
-        requires tied { IsTied self.old }
+        requires formed { IsFormed (kept self.old) }
+        requires tied { IsTied (kept self.old) }
         requires victim { self.old.victim ≡ Some (before / self.old.blocks.size) }
-        requires live { IsSome (held_at (seen self.old) before) }
-        requires there { IsSome (held_at (seen self.old) after) }
+        requires live { IsSome (held_at (seen (kept self.old)) before) }
+        requires there { IsSome (held_at (seen (kept self.old)) after) }
         requires apart { before ≡ after → ⊥ }
         requires room { 0 < self.old.names.room }
-        ensures formed { IsFormed self.new }
-        ensures tied { IsTied self.new }
+        ensures formed { IsFormed (kept self.new) }
+        ensures tied { IsTied (kept self.new) }
         ensures table { IsTable self.new.blocks }
-        ensures led { IsLed before after (seen self.old) (seen self.new) }
+        ensures led { IsLed before after (seen (kept self.old)) (seen (kept self.new)) }
     {
         let _ = self.blocks.count();
         mark(&mut self.blocks, before, false);
@@ -161,40 +161,42 @@ impl State {
 
     /// Programs the buffer as the copy of a live page of the victim.
     fn land<M: Nand>(&mut self, media: &mut M, before: u32, held: Held, buf: &mut PageBuf) -> Copied
-        requires formed { IsFormed self.old }
-        requires tied { IsTied self.old }
-        requires few { HasFewPairs (seen self.old) }
-        requires fits { Fits (M.geometry media.old) (seen self.old) }
-        requires room { self.old.filled < self.old.blocks.size }
-        requires victim { InVictim (seen self.old) before }
-        requires live { held_at (seen self.old) before ≡ Some held }
-        requires segment { M.tells → IsPhysicalOf (M.contents media.old) (seen self.old) }
-        ensures formed { IsFormed self.new }
-        ensures tied { IsTied self.new }
-        ensures few { HasFewPairs (seen self.new) }
-        ensures moved { IfMoved result (λ was after h. (was ≡ before) × (after ≡ (seen self.old).copy_next) × (h ≡ held) × Moves was after h (seen self.old) (seen self.new)) }
-        ensures kept { (IsMoved result → ⊥) → (result ≡ Copied.Fault) × MovesNone (seen self.old) (seen self.new) }
-        ensures same_room { room (seen self.new) ≡ room (seen self.old) }
-        ensures clean { IsClean (seen self.old) → IsClean (seen self.new) }
-        ensures segment { M.tells → IsPhysicalOf (M.contents media.new) (seen self.new) }
-        ensures spare { M.tells → shown_by (page_at (M.contents media.old) before) ≡ Some (held.tag, held.stamp, buf.old.main) → HasSpare (M.contents media.old) (seen self.old) → HasSpare (M.contents media.new) (seen self.new) }
-        ensures alone { M.tells → IfMoved result (λ was after h. IsAlone after (written (page_with buf.old.main held.tag held.stamp (wear_of (seen self.old) (after / self.old.blocks.size)))) (M.contents media.old) (M.contents media.new)) }
-        ensures crash { M.tells → Crashes M.clock M.contents M.left (seen self.old) held.tag held.stamp buf.old.main media.old media.new (programmed_by result) }
+        requires formed { IsFormed (kept self.old) }
+        requires tied { IsTied (kept self.old) }
+        requires few { HasFewPairs (seen (kept self.old)) }
+        requires fits { Fits (M.geometry media.old) (seen (kept self.old)) }
+        requires room { (kept self.old).filled < self.old.blocks.size }
+        requires victim { InVictim (seen (kept self.old)) before }
+        requires live { held_at (seen (kept self.old)) before ≡ Some held }
+        requires segment { M.tells → IsPhysicalOf (M.contents media.old) (seen (kept self.old)) }
+        ensures formed { IsFormed (kept self.new) }
+        ensures tied { IsTied (kept self.new) }
+        ensures few { HasFewPairs (seen (kept self.new)) }
+        ensures moved { IfMoved result (λ was after h. (was ≡ before) × (after ≡ (seen (kept self.old)).copy_next) × (h ≡ held) × Moves was after h (seen (kept self.old)) (seen (kept self.new))) }
+        ensures kept { (IsMoved result → ⊥) → (result ≡ Copied.Fault) × MovesNone (seen (kept self.old)) (seen (kept self.new)) }
+        ensures same_room { room (seen (kept self.new)) ≡ room (seen (kept self.old)) }
+        ensures clean { IsClean (seen (kept self.old)) → IsClean (seen (kept self.new)) }
+        ensures segment { M.tells → IsPhysicalOf (M.contents media.new) (seen (kept self.new)) }
+        ensures spare { M.tells → shown_by (page_at (M.contents media.old) before) ≡ Some (held.tag, held.stamp, buf.old.main) → HasSpare (M.contents media.old) (seen (kept self.old)) → HasSpare (M.contents media.new) (seen (kept self.new)) }
+        ensures alone { M.tells → IfMoved result (λ was after h. IsAlone after (written (page_with buf.old.main held.tag held.stamp (wear_of (seen (kept self.old)) (after / self.old.blocks.size)))) (M.contents media.old) (M.contents media.new)) }
+        ensures crash { M.tells → Crashes M.clock M.contents M.left (seen (kept self.old)) held.tag held.stamp buf.old.main media.old media.new (programmed_by result) }
         ensures geometry { M.geometry media.new ≡ M.geometry media.old }
         ensures later { M.clock media.old ≤ M.clock media.new }
         ensures clock { (IsMoved result → M.clock media.new ≡ saturated (M.clock media.old + 1)) × ((IsMoved result → ⊥) → M.clock media.new ≡ M.clock media.old) }
         ensures read_faults { M.read_faults media.new ≡ M.read_faults media.old }
         ensures write_faults { FaultsCounted (M.write_faults media.old) (M.write_faults media.new) (result ≡ Copied.Fault) }
     {
-        let after = self.target * self.blocks.pages() + self.filled;
+        let Some(after) = next_copy(&self.blocks, self.target) else {
+            unreachable!();
+        };
         let wear = self.blocks.wear(self.target);
         match program_page(media, after, buf, held.tag, held.stamp, wear) {
             WriteAnswer::Failed => {
-                self.use_copy(None);
+                self.use_copy(after, None);
                 Copied::Fault
             }
             WriteAnswer::Done => {
-                self.use_copy(Some(held));
+                self.use_copy(after, Some(held));
                 self.lead(before, after);
                 Copied::Moved {
                     before,
@@ -214,30 +216,30 @@ impl State {
         held: Held,
         buf: &mut PageBuf,
     ) -> Copied
-        requires formed { IsFormed self.old }
-        requires tied { IsTied self.old }
-        requires few { HasFewPairs (seen self.old) }
-        requires fits { Fits (M.geometry media.old) (seen self.old) }
-        requires victim { InVictim (seen self.old) before }
-        requires live { held_at (seen self.old) before ≡ Some held }
-        requires room { 0 < landing (seen self.old) }
-        requires segment { M.tells → IsPhysicalOf (M.contents media.old) (seen self.old) }
-        ensures formed { IsFormed self.new }
-        ensures tied { IsTied self.new }
-        ensures few { HasFewPairs (seen self.new) }
+        requires formed { IsFormed (kept self.old) }
+        requires tied { IsTied (kept self.old) }
+        requires few { HasFewPairs (seen (kept self.old)) }
+        requires fits { Fits (M.geometry media.old) (seen (kept self.old)) }
+        requires victim { InVictim (seen (kept self.old)) before }
+        requires live { held_at (seen (kept self.old)) before ≡ Some held }
+        requires room { 0 < landing (seen (kept self.old)) }
+        requires segment { M.tells → IsPhysicalOf (M.contents media.old) (seen (kept self.old)) }
+        ensures formed { IsFormed (kept self.new) }
+        ensures tied { IsTied (kept self.new) }
+        ensures few { HasFewPairs (seen (kept self.new)) }
         ensures nothing { result ≡ Copied.Nothing → ⊥ }
-        ensures moved { IfMoved result (λ was after h. (was ≡ before) × (h ≡ held) × Moves was after h (seen self.old) (seen self.new)) }
-        ensures kept { (IsMoved result → ⊥) → MovesNone (seen self.old) (seen self.new) }
+        ensures moved { IfMoved result (λ was after h. (was ≡ before) × (h ≡ held) × Moves was after h (seen (kept self.old)) (seen (kept self.new))) }
+        ensures kept { (IsMoved result → ⊥) → MovesNone (seen (kept self.old)) (seen (kept self.new)) }
         ensures lost { (w f : ℕ) → result ≡ Copied.Lost w f → (f ≡ w → ⊥) × (held.stamp ≡ w) }
         ensures told { M.tells → (w f : ℕ) → result ≡ Copied.Lost w f → ⊥ }
-        ensures clean { IsClean (seen self.old) → IsClean (seen self.new) }
-        ensures lands { HasRoomForVictim (seen self.old) → Rose (M.write_faults media.old) (M.write_faults media.new) ⊎ HasRoomForVictim (seen self.new) }
-        ensures segment { M.tells → IsPhysicalOf (M.contents media.new) (seen self.new) }
-        ensures spare { M.tells → HasSpare (M.contents media.old) (seen self.old) → HasSpare (M.contents media.new) (seen self.new) }
-        ensures programmed { M.tells → IfMoved result (λ was after h. Programmed (seen self.old) after (written (page_with (main_of (page_at (M.contents media.old) was)) h.tag h.stamp (wear_of (seen self.old) (after / self.old.blocks.size)))) (M.contents media.old) (M.contents media.new)) }
-        ensures crash { M.tells → Crashes M.clock M.contents M.left (seen self.old) held.tag held.stamp (main_of (page_at (M.contents media.old) before)) media.old media.new (programmed_by result) }
+        ensures clean { IsClean (seen (kept self.old)) → IsClean (seen (kept self.new)) }
+        ensures lands { HasRoomForVictim (seen (kept self.old)) → Rose (M.write_faults media.old) (M.write_faults media.new) ⊎ HasRoomForVictim (seen (kept self.new)) }
+        ensures segment { M.tells → IsPhysicalOf (M.contents media.new) (seen (kept self.new)) }
+        ensures spare { M.tells → HasSpare (M.contents media.old) (seen (kept self.old)) → HasSpare (M.contents media.new) (seen (kept self.new)) }
+        ensures programmed { M.tells → IfMoved result (λ was after h. Programmed (seen (kept self.old)) after (written (page_with (main_of (page_at (M.contents media.old) was)) h.tag h.stamp (wear_of (seen (kept self.old)) (after / self.old.blocks.size)))) (M.contents media.old) (M.contents media.new)) }
+        ensures crash { M.tells → Crashes M.clock M.contents M.left (seen (kept self.old)) held.tag held.stamp (main_of (page_at (M.contents media.old) before)) media.old media.new (programmed_by result) }
         ensures geometry { M.geometry media.new ≡ M.geometry media.old }
-        ensures counts { CountedMove M.clock M.read_faults M.write_faults (IsClean (seen self.old)) media.old media.new result }
+        ensures counts { CountedMove M.clock M.read_faults M.write_faults (IsClean (seen (kept self.old))) media.old media.new result }
     {
         match read_page(media, before, held.tag, held.stamp, buf) {
             NamedRead::Done => {}
@@ -253,30 +255,30 @@ impl State {
 
     /// Moves one live page of the victim.
     pub fn copy_one<M: Nand>(&mut self, media: &mut M, buf: &mut PageBuf) -> Copied
-        requires formed { IsFormed self.old }
-        requires tied { IsTied self.old }
-        requires few { HasFewPairs (seen self.old) }
-        requires fits { Fits (M.geometry media.old) (seen self.old) }
-        requires lands { HasRoomForVictim (seen self.old) }
-        requires segment { M.tells → IsPhysicalOf (M.contents media.old) (seen self.old) }
-        ensures formed { IsFormed self.new }
-        ensures tied { IsTied self.new }
-        ensures few { HasFewPairs (seen self.new) }
-        ensures nothing { result ≡ Copied.Nothing ↔ left_of (seen self.old) ≡ 0 }
-        ensures refused { result ≡ Copied.Nothing → (seen self.new ≡ seen self.old) × (media.new ≡ media.old) }
-        ensures moved { IfMoved result (λ before after h. Moves before after h (seen self.old) (seen self.new)) }
-        ensures kept { (IsMoved result → ⊥) → MovesNone (seen self.old) (seen self.new) }
-        ensures lost { (w f : ℕ) → result ≡ Copied.Lost w f → (f ≡ w → ⊥) × ((p : ℕ) × (h : HeldOf) × InVictim (seen self.old) p × (held_at (seen self.old) p ≡ Some h) × (h.stamp ≡ w)) }
+        requires formed { IsFormed (kept self.old) }
+        requires tied { IsTied (kept self.old) }
+        requires few { HasFewPairs (seen (kept self.old)) }
+        requires fits { Fits (M.geometry media.old) (seen (kept self.old)) }
+        requires lands { HasRoomForVictim (seen (kept self.old)) }
+        requires segment { M.tells → IsPhysicalOf (M.contents media.old) (seen (kept self.old)) }
+        ensures formed { IsFormed (kept self.new) }
+        ensures tied { IsTied (kept self.new) }
+        ensures few { HasFewPairs (seen (kept self.new)) }
+        ensures nothing { result ≡ Copied.Nothing ↔ left_of (seen (kept self.old)) ≡ 0 }
+        ensures refused { result ≡ Copied.Nothing → (seen (kept self.new) ≡ seen (kept self.old)) × (media.new ≡ media.old) }
+        ensures moved { IfMoved result (λ before after h. Moves before after h (seen (kept self.old)) (seen (kept self.new))) }
+        ensures kept { (IsMoved result → ⊥) → MovesNone (seen (kept self.old)) (seen (kept self.new)) }
+        ensures lost { (w f : ℕ) → result ≡ Copied.Lost w f → (f ≡ w → ⊥) × ((p : ℕ) × (h : HeldOf) × InVictim (seen (kept self.old)) p × (held_at (seen (kept self.old)) p ≡ Some h) × (h.stamp ≡ w)) }
         ensures told { M.tells → (w f : ℕ) → result ≡ Copied.Lost w f → ⊥ }
-        ensures clean { IsClean (seen self.old) → IsClean (seen self.new) }
-        ensures kept_block { KeepsBlock (seen self.old) → KeepsBlock (seen self.new) }
-        ensures lands { Rose (M.write_faults media.old) (M.write_faults media.new) ⊎ HasRoomForVictim (seen self.new) }
-        ensures segment { M.tells → IsPhysicalOf (M.contents media.new) (seen self.new) }
-        ensures spare { M.tells → HasSpare (M.contents media.old) (seen self.old) → HasSpare (M.contents media.new) (seen self.new) }
-        ensures programmed { M.tells → IfMoved result (λ before after h. Programmed (seen self.old) after (written (page_with (main_of (page_at (M.contents media.old) before)) h.tag h.stamp (wear_of (seen self.old) (after / self.old.blocks.size)))) (M.contents media.old) (M.contents media.new)) }
-        ensures crash { M.tells → (result ≡ Copied.Nothing → ⊥) → CrashesMove M.clock M.contents M.left (seen self.old) media.old media.new result }
+        ensures clean { IsClean (seen (kept self.old)) → IsClean (seen (kept self.new)) }
+        ensures kept_block { KeepsBlock (seen (kept self.old)) → KeepsBlock (seen (kept self.new)) }
+        ensures lands { Rose (M.write_faults media.old) (M.write_faults media.new) ⊎ HasRoomForVictim (seen (kept self.new)) }
+        ensures segment { M.tells → IsPhysicalOf (M.contents media.new) (seen (kept self.new)) }
+        ensures spare { M.tells → HasSpare (M.contents media.old) (seen (kept self.old)) → HasSpare (M.contents media.new) (seen (kept self.new)) }
+        ensures programmed { M.tells → IfMoved result (λ before after h. Programmed (seen (kept self.old)) after (written (page_with (main_of (page_at (M.contents media.old) before)) h.tag h.stamp (wear_of (seen (kept self.old)) (after / self.old.blocks.size)))) (M.contents media.old) (M.contents media.new)) }
+        ensures crash { M.tells → (result ≡ Copied.Nothing → ⊥) → CrashesMove M.clock M.contents M.left (seen (kept self.old)) media.old media.new result }
         ensures geometry { M.geometry media.new ≡ M.geometry media.old }
-        ensures counts { CountedMove M.clock M.read_faults M.write_faults (IsClean (seen self.old)) media.old media.new result }
+        ensures counts { CountedMove M.clock M.read_faults M.write_faults (IsClean (seen (kept self.old))) media.old media.new result }
     {
         let _ = self.blocks.count();
         let Some(victim) = self.victim else {

@@ -4,7 +4,8 @@ ghost use Rattle.nl_field.specs.Live.{resolve};
 ghost use Rattle.nl_blocks.specs.Table.{IsTable, free_count};
 ghost use Rattle.nl_remap.specs.Links.{HasLink};
 ghost use Rattle.nl_remap.specs.Table.{pair};
-ghost use Rattle.nl_pseg.specs.Segment.{InSegment, IsLive, IsUnspent, SameNames, SamePages};
+ghost use Rattle.nl_pseg.specs.Kept.{kept};
+ghost use Rattle.nl_pseg.specs.Segment.{InSegment, IsLive, IsUnspent, SameNames, SamePages, held_at};
 ghost use Rattle.nl_pseg.specs.Seen.{seen, IsFormed, IsTied};
 ghost use Rattle.nl_pseg.specs.Space.{HasFewPairs, IsWhole};
 ghost use Rattle.nl_pseg.specs.Steps.{Ends};
@@ -24,12 +25,12 @@ impl State {
 
     /// What holds of each segment.
     pub fn whole(&self)
-        requires formed { IsFormed self.now }
-        requires tied { IsTied self.now }
-        requires few { HasFewPairs (seen self.now) }
+        requires formed { IsFormed (kept self.now) }
+        requires tied { IsTied (kept self.now) }
+        requires few { HasFewPairs (seen (kept self.now)) }
         ensures table { IsTable self.now.blocks }
-        ensures few { HasFewPairs (seen self.now) }
-        ensures whole { IsWhole (seen self.now) }
+        ensures few { HasFewPairs (seen (kept self.now)) }
+        ensures whole { IsWhole (seen (kept self.now)) }
     {
         let _ = self.blocks.count();
     }
@@ -52,10 +53,11 @@ impl State {
 
     /// The page to which the pointer leads, where it is live under the pointer's number.
     pub fn place_of(&self, at: Pointer) -> Option<u32>
-        requires { IsFormed self.now }
-        ensures some { IfSome result (λ place. place ≡ resolve (seen self.now).pairs at.name) }
-        ensures within { IfSome result (λ place. InSegment (seen self.now) place) }
-        ensures live { IsSome result ↔ IsLive (seen self.now) at }
+        requires { IsFormed (kept self.now) }
+        ensures some { IfSome result (λ place. place ≡ resolve (seen (kept self.now)).pairs at.name) }
+        ensures within { IfSome result (λ place. InSegment (seen (kept self.now)) place) }
+        ensures held { IfSome result (λ place. IsSome (held_at (seen (kept self.now)) place)) }
+        ensures live { IsSome result ↔ IsLive (seen (kept self.now)) at }
     {
         let place = self.resolve(at.name);
         match self.live_on(place) {
@@ -72,17 +74,18 @@ impl State {
 
     /// A live page is dead. No pair leads to it.
     pub fn end(&mut self, page: u32)
-        requires formed { IsFormed self.old }
-        requires tied { IsTied self.old }
+        requires formed { IsFormed (kept self.old) }
+        requires tied { IsTied (kept self.old) }
         requires alone { (name : ℕ) → HasLink self.old.names.pairs (pair name page) → ⊥ }
-        requires within { InSegment (seen self.old) page }
-        ensures formed { IsFormed self.new }
-        ensures tied { IsTied self.new }
+        requires within { InSegment (seen (kept self.old)) page }
+        requires live { IsSome (held_at (seen (kept self.old)) page) }
+        ensures formed { IsFormed (kept self.new) }
+        ensures tied { IsTied (kept self.new) }
         ensures held { self.new.held.items ≡ slice_set self.old.held.items page None }
-        ensures pages { SamePages (seen self.old) (seen self.new) }
-        ensures space { IsUnspent (seen self.old) (seen self.new) }
+        ensures pages { SamePages (seen (kept self.old)) (seen (kept self.new)) }
+        ensures space { IsUnspent (seen (kept self.old)) (seen (kept self.new)) }
         ensures names { self.new.names ≡ self.old.names }
-        ensures same { SameNames (seen self.old) (seen self.new) }
+        ensures same { SameNames (seen (kept self.old)) (seen (kept self.new)) }
     {
         mark(&mut self.blocks, page, false);
         self.held[page as usize] = None;
@@ -90,13 +93,13 @@ impl State {
 
     /// The page to which the pointer leads is dead. False exactly where it leads to no live page of its number.
     pub fn free(&mut self, at: Pointer) -> bool
-        requires formed { IsFormed self.old }
-        requires tied { IsTied self.old }
-        ensures formed { IsFormed self.new }
-        ensures tied { IsTied self.new }
-        ensures found { IsTrue result ↔ IsLive (seen self.old) at }
-        ensures ended { OnTrue result (Ends (resolve (seen self.old).pairs at.name) (seen self.old) (seen self.new)) }
-        ensures kept { OnFalse result (seen self.new ≡ seen self.old) }
+        requires formed { IsFormed (kept self.old) }
+        requires tied { IsTied (kept self.old) }
+        ensures formed { IsFormed (kept self.new) }
+        ensures tied { IsTied (kept self.new) }
+        ensures found { IsTrue result ↔ IsLive (seen (kept self.old)) at }
+        ensures ended { OnTrue result (Ends (resolve (seen (kept self.old)).pairs at.name) (seen (kept self.old)) (seen (kept self.new))) }
+        ensures kept { OnFalse result (seen (kept self.new) ≡ seen (kept self.old)) }
     {
         let Some(place) = self.place_of(at) else {
             return false;
@@ -107,12 +110,13 @@ impl State {
 
     /// A live page is dead, and no pair leads to it any more.
     pub fn end_all(&mut self, page: u32)
-        requires formed { IsFormed self.old }
-        requires tied { IsTied self.old }
-        requires within { InSegment (seen self.old) page }
-        ensures formed { IsFormed self.new }
-        ensures tied { IsTied self.new }
-        ensures ended { Ends page (seen self.old) (seen self.new) }
+        requires formed { IsFormed (kept self.old) }
+        requires tied { IsTied (kept self.old) }
+        requires within { InSegment (seen (kept self.old)) page }
+        requires live { IsSome (held_at (seen (kept self.old)) page) }
+        ensures formed { IsFormed (kept self.new) }
+        ensures tied { IsTied (kept self.new) }
+        ensures ended { Ends page (seen (kept self.old)) (seen (kept self.new)) }
     {
         self.drop_names(page);
         self.end(page);

@@ -1,6 +1,7 @@
 // Serves an opening: gives blocks back that are in use while no page is live.
 ghost use Rattle.std.specs.Prelude.{◌≡◌, ◌/◌, ℕ, length, None, Some};
 ghost use Rattle.nl_blocks.specs.Table.{HasBlock};
+ghost use Rattle.nl_pseg.specs.Kept.{kept};
 ghost use Rattle.nl_pseg.specs.Segment.{held_at};
 ghost use Rattle.nl_pseg.specs.Seen.{seen, IsFormed, IsTied};
 ghost use Rattle.nl_pseg.specs.Steps.{AreGivenBack, IsGivenBack};
@@ -11,33 +12,32 @@ use crate::table::{give_back, is_free};
 impl State {
     /// The block is Free. Where it was in use, it is erased before use.
     fn give_back(&mut self, block: u32)
-        requires formed { IsFormed self.old }
-        requires tied { IsTied self.old }
+        requires formed { IsFormed (kept self.old) }
+        requires tied { IsTied (kept self.old) }
         requires within { HasBlock self.old.blocks block }
-        requires none { (page : ℕ) → held_at (seen self.old) page ≡ None }
+        requires none { (page : ℕ) → held_at (seen (kept self.old)) page ≡ None }
         requires no_victim { self.old.victim ≡ None }
-        ensures formed { IsFormed self.new }
-        ensures tied { IsTied self.new }
-        ensures given { IsGivenBack block (seen self.old) (seen self.new) }
+        ensures formed { IsFormed (kept self.new) }
+        ensures tied { IsTied (kept self.new) }
+        ensures given { IsGivenBack block (seen (kept self.old)) (seen (kept self.new)) }
     {
         if is_free(&self.blocks, block) {
             return;
         }
         let wear = self.blocks.wear(block);
-        self.close(block);
         give_back(&mut self.blocks, block);
         self.soiled[block as usize] = Some(wear);
     }
 
     /// Every block is Free. One that was in use is erased before use.
     pub fn give_back_all(&mut self)
-        requires formed { IsFormed self.old }
-        requires tied { IsTied self.old }
-        requires none { (page : ℕ) → held_at (seen self.old) page ≡ None }
+        requires formed { IsFormed (kept self.old) }
+        requires tied { IsTied (kept self.old) }
+        requires none { (page : ℕ) → held_at (seen (kept self.old)) page ≡ None }
         requires no_victim { self.old.victim ≡ None }
-        ensures formed { IsFormed self.new }
-        ensures tied { IsTied self.new }
-        ensures given { AreGivenBack (seen self.old).blocks (seen self.old) (seen self.new) }
+        ensures formed { IsFormed (kept self.new) }
+        ensures tied { IsTied (kept self.new) }
+        ensures given { AreGivenBack (seen (kept self.old)).blocks (seen (kept self.old)) (seen (kept self.new)) }
     {
         let first = self.blocks.first();
         for block in first..first + self.blocks.count() {

@@ -34,12 +34,13 @@ impl Model for PSeg {
     ghost Value = { Physical };
 
     ghost use Rattle.nl_blocks.specs.Table.{IsTable};
+    ghost use Rattle.nl_pseg.specs.Kept.{kept};
     ghost use Rattle.nl_pseg.specs.Seen.{seen, IsFormed, IsTied};
     ghost use Rattle.nl_pseg.specs.Space.{HasFewPairs};
 
-    ghost view = { λ s. seen s.state };
+    ghost view = { λ s. seen (kept s.state) };
 
-    ghost invariant = { λ s. IsFormed s.state × IsTied s.state × HasFewPairs (seen s.state) × IsTable s.state.blocks };
+    ghost invariant = { λ s. IsFormed (kept s.state) × IsTied (kept s.state) × HasFewPairs (seen (kept s.state)) × IsTable s.state.blocks };
 }
 
 impl PSeg {

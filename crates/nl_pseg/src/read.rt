@@ -2,6 +2,7 @@ ghost use Rattle.std.specs.Prelude.{◌≡◌, ◌⊎◌, Some};
 ghost use Rattle.nl_field.specs.Live.{resolve};
 ghost use Rattle.nl_field.specs.Page.{page_at, written};
 ghost use Rattle.nl_nand.specs.Nand.{FaultsCounted, SameLeft};
+ghost use Rattle.nl_pseg.specs.Kept.{kept};
 ghost use Rattle.nl_pseg.specs.Answers.{ReadsHeld};
 ghost use Rattle.nl_pseg.specs.Segment.{IsPhysicalOf, held_at};
 ghost use Rattle.nl_pseg.specs.Seen.{seen, Fits, IsFormed};
@@ -19,12 +20,12 @@ impl State {
         tag: Tag,
         buf: &mut PageBuf,
     ) -> NamedRead
-        requires formed { IsFormed self.now }
-        requires fits { Fits (M.geometry media.old) (seen self.now) }
-        requires segment { M.tells → IsPhysicalOf (M.contents media.old) (seen self.now) }
-        ensures answer { ReadsHeld (held_at (seen self.now) (resolve (seen self.now).pairs at.name)) tag at.stamp buf.new result }
-        ensures value { M.tells → result ≡ NamedRead.Done → page_at (M.contents media.old) (resolve (seen self.now).pairs at.name) ≡ written buf.new }
-        ensures kept { M.tells → held_at (seen self.now) (resolve (seen self.now).pairs at.name) ≡ Some (record { tag = tag; stamp = at.stamp }) → (result ≡ NamedRead.Done) ⊎ (result ≡ NamedRead.Fault) }
+        requires formed { IsFormed (kept self.now) }
+        requires fits { Fits (M.geometry media.old) (seen (kept self.now)) }
+        requires segment { M.tells → IsPhysicalOf (M.contents media.old) (seen (kept self.now)) }
+        ensures answer { ReadsHeld (held_at (seen (kept self.now)) (resolve (seen (kept self.now)).pairs at.name)) tag at.stamp buf.new result }
+        ensures value { M.tells → result ≡ NamedRead.Done → page_at (M.contents media.old) (resolve (seen (kept self.now)).pairs at.name) ≡ written buf.new }
+        ensures kept { M.tells → held_at (seen (kept self.now)) (resolve (seen (kept self.now)).pairs at.name) ≡ Some (record { tag = tag; stamp = at.stamp }) → (result ≡ NamedRead.Done) ⊎ (result ≡ NamedRead.Fault) }
         ensures geometry { M.geometry media.new ≡ M.geometry media.old }
         ensures contents { M.contents media.new ≡ M.contents media.old }
         ensures left { SameLeft M.left media.old media.new }

@@ -1,8 +1,9 @@
 // Steps on the table of blocks.
-ghost use Rattle.std.specs.Prelude.{◌≡◌, ◌/◌, ◌≤◌, ◌<◌, ◌+◌, ◌-◌, ◌^◌, ℕ, cond, true, false};
+ghost use Rattle.std.specs.Prelude.{◌≡◌, ◌*◌, ◌/◌, ◌≤◌, ◌<◌, ◌+◌, ◌-◌, ◌^◌, ℕ, cond, true, false, IfSome, IfNone};
 ghost use Rattle.nl_blocks.specs.Table.{HasBlock, IsLeastWornFree, after_erase, block_at, free_count, in_state, is_retired_state, names_of, with_block, with_page, worn};
-ghost use Rattle.nl_pseg.specs.Seen.{use_in};
-ghost use Rattle.nl_pseg.specs.Steps.{IsMarked, IsPut, IsTold, Restated, SameMarks, SameNumbers, SameUse, aside_state, told_state};
+ghost use Rattle.nl_blocks.specs.Used.{is_active_state, is_target_state, used_in, SameUsed};
+ghost use Rattle.nl_pseg.specs.Seen.{use_in, AreRising};
+ghost use Rattle.nl_pseg.specs.Steps.{IsMarked, IsPut, IsTold, IsUpTo, Restated, SameFill, SameMarks, SameNumbers, SameUse, Uses, aside_state, told_state};
 
 use nl_blocks::{BlockState, Blocks, PageState};
 
@@ -13,6 +14,32 @@ pub fn is_free(blocks: &Blocks, block: u32) -> bool
     matches!(blocks.state(block), BlockState::Free)
 }
 
+/// The page that is used next for a new name in this block, where it is Active and has one that is not used.
+pub fn next_page(blocks: &Blocks, block: u32) -> Option<u32>
+    requires { HasBlock blocks.now block }
+    ensures some { IfSome result (λ page. (used_in is_active_state blocks.now block < blocks.now.size) × (page ≡ block * blocks.now.size + used_in is_active_state blocks.now block)) }
+    ensures none { IfNone result (used_in is_active_state blocks.now block ≡ blocks.now.size) }
+{
+    let _ = blocks.count();
+    match blocks.state(block) {
+        BlockState::Active => blocks.next_page(block),
+        _ => None,
+    }
+}
+
+/// The page that is used next for a copy in this block, where it is a Target and has one that is not used.
+pub fn next_copy(blocks: &Blocks, block: u32) -> Option<u32>
+    requires { HasBlock blocks.now block }
+    ensures some { IfSome result (λ page. (used_in is_target_state blocks.now block < blocks.now.size) × (page ≡ block * blocks.now.size + used_in is_target_state blocks.now block)) }
+    ensures none { IfNone result (used_in is_target_state blocks.now block ≡ blocks.now.size) }
+{
+    let _ = blocks.count();
+    match blocks.state(block) {
+        BlockState::Target => blocks.next_page(block),
+        _ => None,
+    }
+}
+
 /// Takes the least worn Free block, of equals the one with the least number. Another one stays Free.
 pub fn take(blocks: &mut Blocks) -> u32
     requires { 2 ≤ free_count blocks.old }
@@ -21,6 +48,8 @@ pub fn take(blocks: &mut Blocks) -> u32
     ensures least { IsLeastWornFree blocks.old result }
     ensures active { (block_at blocks.new result).state ≡ BlockState.Active }
     ensures taken { Restated result false (use_in blocks.old result).wear blocks.old blocks.new }
+    ensures used { used_in is_active_state blocks.new result ≡ 0 }
+    ensures filled { (block : ℕ) → HasBlock blocks.old block → SameUsed is_target_state block blocks.old blocks.new }
 {
     match blocks.take_free() {
         Some(block) => block,
@@ -36,6 +65,8 @@ pub fn take_target(blocks: &mut Blocks) -> u32
     ensures least { IsLeastWornFree blocks.old result }
     ensures target { (block_at blocks.new result).state ≡ BlockState.Target }
     ensures taken { Restated result false (use_in blocks.old result).wear blocks.old blocks.new }
+    ensures filled { used_in is_target_state blocks.new result ≡ 0 }
+    ensures used { (block : ℕ) → HasBlock blocks.old block → SameUsed is_active_state block blocks.old blocks.new }
 {
     match blocks.take_reserve() {
         Some(block) => block,
@@ -43,13 +74,18 @@ pub fn take_target(blocks: &mut Blocks) -> u32
     }
 }
 
-/// Marks a page live or dead.
+/// Marks a page live or dead, which is used, or is the next one of its block.
 pub fn mark(blocks: &mut Blocks, page: u32, live: bool)
-    requires { HasBlock blocks.old (page / blocks.old.size) }
+    requires has { HasBlock blocks.old (page / blocks.old.size) }
+    requires rising { AreRising blocks.old }
+    requires used { IsUpTo is_active_state page blocks.old }
+    requires filled { IsUpTo is_target_state page blocks.old }
     ensures same { SameUse blocks.old blocks.new }
     ensures states { (block : ℕ) → (block_at blocks.new block).state ≡ (block_at blocks.old block).state }
     ensures marked { IsMarked page (cond live PageState.Live PageState.Dead) blocks.old blocks.new }
     ensures table { blocks.new ≡ with_page blocks.old page (cond live PageState.Live PageState.Dead) }
+    ensures uses { Uses is_active_state page blocks.old blocks.new }
+    ensures fills { Uses is_target_state page blocks.old blocks.new }
 {
     let _ = blocks.count();
     if live {
@@ -60,31 +96,35 @@ pub fn mark(blocks: &mut Blocks, page: u32, live: bool)
 }
 
 /// Seals a block that is in use, where it is full.
-pub fn seal_full(blocks: &mut Blocks, block: u32, full: bool)
+pub fn seal_full(blocks: &mut Blocks, block: u32)
     requires has { HasBlock blocks.old block }
     requires active { (block_at blocks.old block).state ≡ BlockState.Active }
     ensures same { SameUse blocks.old blocks.new }
     ensures marks { SameMarks blocks.old blocks.new }
-    ensures more { full ≡ false → (block_at blocks.new block).state ≡ BlockState.Active }
-    ensures sealed { full ≡ true → (block_at blocks.new block).state ≡ BlockState.Sealed }
+    ensures fill { SameFill blocks.old blocks.new }
+    ensures more { used_in is_active_state blocks.old block < blocks.old.size → (block_at blocks.new block).state ≡ BlockState.Active }
+    ensures sealed { used_in is_active_state blocks.old block ≡ blocks.old.size → (block_at blocks.new block).state ≡ BlockState.Sealed }
     ensures others { (other : ℕ) → HasBlock blocks.old other → (other ≡ block → ⊥) → (block_at blocks.new other).state ≡ (block_at blocks.old other).state }
 {
-    if full {
+    let _ = blocks.count();
+    if blocks.next_page(block).is_none() {
         blocks.seal(block);
     }
 }
 
 /// Seals a block for copies, where it is full.
-pub fn seal_filled(blocks: &mut Blocks, block: u32, full: bool)
+pub fn seal_filled(blocks: &mut Blocks, block: u32)
     requires has { HasBlock blocks.old block }
     requires target { (block_at blocks.old block).state ≡ BlockState.Target }
     ensures same { SameUse blocks.old blocks.new }
     ensures marks { SameMarks blocks.old blocks.new }
-    ensures more { full ≡ false → (block_at blocks.new block).state ≡ BlockState.Target }
-    ensures sealed { full ≡ true → (block_at blocks.new block).state ≡ BlockState.Sealed }
+    ensures fill { SameFill blocks.old blocks.new }
+    ensures more { used_in is_target_state blocks.old block < blocks.old.size → (block_at blocks.new block).state ≡ BlockState.Target }
+    ensures sealed { used_in is_target_state blocks.old block ≡ blocks.old.size → (block_at blocks.new block).state ≡ BlockState.Sealed }
     ensures others { (other : ℕ) → HasBlock blocks.old other → (other ≡ block → ⊥) → (block_at blocks.new other).state ≡ (block_at blocks.old other).state }
 {
-    if full {
+    let _ = blocks.count();
+    if blocks.next_page(block).is_none() {
         blocks.seal(block);
     }
 }
@@ -95,6 +135,7 @@ pub fn choose(blocks: &mut Blocks, block: u32)
     requires sealed { (block_at blocks.old block).state ≡ BlockState.Sealed }
     ensures same { SameUse blocks.old blocks.new }
     ensures marks { SameMarks blocks.old blocks.new }
+    ensures fill { SameFill blocks.old blocks.new }
     ensures here { (block_at blocks.new block).state ≡ BlockState.Victim }
     ensures table { blocks.new ≡ with_block blocks.old block (in_state (block_at blocks.old block) BlockState.Victim) }
     ensures others { (other : ℕ) → HasBlock blocks.old other → (other ≡ block → ⊥) → (block_at blocks.new other).state ≡ (block_at blocks.old other).state }
@@ -113,6 +154,7 @@ pub fn end_name(blocks: &mut Blocks, block: u32)
     ensures here { (block_at blocks.new block).state ≡ after_erase (names_of (block_at blocks.old block).state - 1) }
     ensures others { (other : ℕ) → HasBlock blocks.old other → (other ≡ block → ⊥) → (block_at blocks.new other).state ≡ (block_at blocks.old other).state }
     ensures marks { SameMarks blocks.old blocks.new }
+    ensures fill { SameFill blocks.old blocks.new }
 {
     blocks.name_gone(block);
 }
@@ -131,6 +173,7 @@ pub fn wear_out(blocks: &mut Blocks, block: u32)
     requires used { (use_in blocks.old block).is_kept ≡ false }
     ensures worn { Restated block false (worn (use_in blocks.old block).wear) blocks.old blocks.new }
     ensures state { (block_at blocks.new block).state ≡ (block_at blocks.old block).state }
+    ensures fill { SameFill blocks.old blocks.new }
 {
     blocks.reerased(block);
 }

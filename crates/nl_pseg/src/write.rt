@@ -2,6 +2,7 @@ ghost use Rattle.std.specs.Prelude.{◌≡◌, ◌⊎◌, ◌*◌, ◌/◌, ◌<
 ghost use Rattle.nl_field.specs.Live.{resolve};
 ghost use Rattle.nl_field.specs.Page.{written};
 ghost use Rattle.nl_field.specs.Spelling.{is_stamp};
+ghost use Rattle.nl_pseg.specs.Kept.{kept};
 ghost use Rattle.nl_pseg.specs.Answers.{IfPlaced, IsFault, IsPlaced, IsTried};
 ghost use Rattle.nl_pseg.specs.Effects.{Counted, Crashes, Programmed};
 ghost use Rattle.nl_pseg.specs.Pages.{page_with};
@@ -12,39 +13,42 @@ ghost use Rattle.nl_pseg.specs.Steps.{IsAlone, Placing, PlacingOn, WritesOver};
 use crate::held::Held;
 use crate::pages::program_page;
 use crate::state::State;
+use crate::table::next_page;
 use nl_field::{Named, PageBuf, Pointer, Tag};
 use nl_nand::{Nand, WriteAnswer};
 
 impl State {
     /// Programs the next page of the block that is written to.
     fn put<M: Nand>(&mut self, media: &mut M, tag: Tag, from: &PageBuf, stamp: u64) -> Named
-        requires formed { IsFormed self.old }
-        requires tied { IsTied self.old }
-        requires fits { Fits (M.geometry media.old) (seen self.old) }
+        requires formed { IsFormed (kept self.old) }
+        requires tied { IsTied (kept self.old) }
+        requires fits { Fits (M.geometry media.old) (seen (kept self.old)) }
         requires stamp { IsTrue (is_stamp stamp) }
-        requires room { self.old.used < self.old.blocks.size }
-        requires segment { M.tells → IsPhysicalOf (M.contents media.old) (seen self.old) }
-        ensures formed { IsFormed self.new }
-        ensures tied { IsTied self.new }
+        requires room { (kept self.old).used < self.old.blocks.size }
+        requires segment { M.tells → IsPhysicalOf (M.contents media.old) (seen (kept self.old)) }
+        ensures formed { IsFormed (kept self.new) }
+        ensures tied { IsTied (kept self.new) }
         ensures tried { IsTried result }
-        ensures placing { Placing stamp (λ at. slice_set self.old.held.items at.name (Some (record { tag = tag; stamp = stamp }))) result (seen self.old) (seen self.new) }
-        ensures segment { M.tells → IsPhysicalOf (M.contents media.new) (seen self.new) }
-        ensures next { IfPlaced result (λ at. at.name ≡ (seen self.old).next) }
-        ensures alone { M.tells → IfPlaced result (λ at. IsAlone at.name (written (page_with from.now.main tag stamp (wear_of (seen self.old) (at.name / self.old.blocks.size)))) (M.contents media.old) (M.contents media.new)) }
-        ensures crash { M.tells → Crashes M.clock M.contents M.left (seen self.old) tag stamp from.now.main media.old media.new result }
+        ensures placing { Placing stamp (λ at. slice_set self.old.held.items at.name (Some (record { tag = tag; stamp = stamp }))) result (seen (kept self.old)) (seen (kept self.new)) }
+        ensures segment { M.tells → IsPhysicalOf (M.contents media.new) (seen (kept self.new)) }
+        ensures next { IfPlaced result (λ at. at.name ≡ (seen (kept self.old)).next) }
+        ensures alone { M.tells → IfPlaced result (λ at. IsAlone at.name (written (page_with from.now.main tag stamp (wear_of (seen (kept self.old)) (at.name / self.old.blocks.size)))) (M.contents media.old) (M.contents media.new)) }
+        ensures crash { M.tells → Crashes M.clock M.contents M.left (seen (kept self.old)) tag stamp from.now.main media.old media.new result }
         ensures geometry { M.geometry media.new ≡ M.geometry media.old }
-        ensures counts { Counted M.clock M.read_faults M.write_faults (IsReady (seen self.old)) media.old media.new result }
+        ensures counts { Counted M.clock M.read_faults M.write_faults (IsReady (seen (kept self.old))) media.old media.new result }
     {
-        let page = self.active * self.blocks.pages() + self.used;
+        let Some(page) = next_page(&self.blocks, self.active) else {
+            unreachable!();
+        };
         let wear = self.blocks.wear(self.active);
         self.buf.copy_from(from);
         match program_page(media, page, &mut self.buf, tag, stamp, wear) {
             WriteAnswer::Failed => {
-                self.use_next(None);
+                self.use_next(page, None);
                 Named::Fault
             }
             WriteAnswer::Done => {
-                self.use_next(Some(Held { tag, stamp }));
+                self.use_next(page, Some(Held { tag, stamp }));
                 Named::Placed(Pointer { name: page, stamp })
             }
         }
@@ -52,20 +56,20 @@ impl State {
 
     /// Programs a page for a new name, where there is room.
     fn place<M: Nand>(&mut self, media: &mut M, tag: Tag, from: &PageBuf, stamp: u64) -> Named
-        requires formed { IsFormed self.old }
-        requires tied { IsTied self.old }
-        requires fits { Fits (M.geometry media.old) (seen self.old) }
+        requires formed { IsFormed (kept self.old) }
+        requires tied { IsTied (kept self.old) }
+        requires fits { Fits (M.geometry media.old) (seen (kept self.old)) }
         requires stamp { IsTrue (is_stamp stamp) }
-        requires room { 0 < room (seen self.old) }
-        requires segment { M.tells → IsPhysicalOf (M.contents media.old) (seen self.old) }
-        ensures formed { IsFormed self.new }
-        ensures tied { IsTied self.new }
+        requires room { 0 < room (seen (kept self.old)) }
+        requires segment { M.tells → IsPhysicalOf (M.contents media.old) (seen (kept self.old)) }
+        ensures formed { IsFormed (kept self.new) }
+        ensures tied { IsTied (kept self.new) }
         ensures tried { IsTried result }
-        ensures placing { Placing stamp (λ at. slice_set self.old.held.items at.name (Some (record { tag = tag; stamp = stamp }))) result (seen self.old) (seen self.new) }
-        ensures segment { M.tells → IsPhysicalOf (M.contents media.new) (seen self.new) }
-        ensures medium { M.tells → PlacingOn M.clock M.contents M.left tag stamp from.now.main result (seen self.old) media.old media.new }
+        ensures placing { Placing stamp (λ at. slice_set self.old.held.items at.name (Some (record { tag = tag; stamp = stamp }))) result (seen (kept self.old)) (seen (kept self.new)) }
+        ensures segment { M.tells → IsPhysicalOf (M.contents media.new) (seen (kept self.new)) }
+        ensures medium { M.tells → PlacingOn M.clock M.contents M.left tag stamp from.now.main result (seen (kept self.old)) media.old media.new }
         ensures geometry { M.geometry media.new ≡ M.geometry media.old }
-        ensures counts { Counted M.clock M.read_faults M.write_faults (IsReady (seen self.old)) media.old media.new result }
+        ensures counts { Counted M.clock M.read_faults M.write_faults (IsReady (seen (kept self.old))) media.old media.new result }
     {
         match self.start(media) {
             WriteAnswer::Failed => Named::Fault,
@@ -74,22 +78,22 @@ impl State {
     }
 
     pub fn write<M: Nand>(&mut self, media: &mut M, tag: Tag, from: &PageBuf, stamp: u64) -> Named
-        requires formed { IsFormed self.old }
-        requires tied { IsTied self.old }
-        requires fits { Fits (M.geometry media.old) (seen self.old) }
+        requires formed { IsFormed (kept self.old) }
+        requires tied { IsTied (kept self.old) }
+        requires fits { Fits (M.geometry media.old) (seen (kept self.old)) }
         requires stamp { IsTrue (is_stamp stamp) }
-        requires segment { M.tells → IsPhysicalOf (M.contents media.old) (seen self.old) }
-        ensures formed { IsFormed self.new }
-        ensures tied { IsTied self.new }
+        requires segment { M.tells → IsPhysicalOf (M.contents media.old) (seen (kept self.old)) }
+        ensures formed { IsFormed (kept self.new) }
+        ensures tied { IsTied (kept self.new) }
         ensures live { result ≡ Named.NotLive → ⊥ }
-        ensures full { result ≡ Named.NoPage ↔ room (seen self.old) ≡ 0 }
-        ensures refused { result ≡ Named.NoPage → (seen self.new ≡ seen self.old) × (media.new ≡ media.old) }
-        ensures placing { Placing stamp (λ at. slice_set self.old.held.items at.name (Some (record { tag = tag; stamp = stamp }))) result (seen self.old) (seen self.new) }
-        ensures segment { M.tells → IsPhysicalOf (M.contents media.new) (seen self.new) }
-        ensures programmed { M.tells → IfPlaced result (λ at. Programmed (seen self.old) at.name (written (page_with from.now.main tag stamp (wear_of (seen self.old) (at.name / self.old.blocks.size)))) (M.contents media.old) (M.contents media.new)) }
-        ensures crash { M.tells → Crashes M.clock M.contents M.left (seen self.old) tag stamp from.now.main media.old media.new result }
+        ensures full { result ≡ Named.NoPage ↔ room (seen (kept self.old)) ≡ 0 }
+        ensures refused { result ≡ Named.NoPage → (seen (kept self.new) ≡ seen (kept self.old)) × (media.new ≡ media.old) }
+        ensures placing { Placing stamp (λ at. slice_set self.old.held.items at.name (Some (record { tag = tag; stamp = stamp }))) result (seen (kept self.old)) (seen (kept self.new)) }
+        ensures segment { M.tells → IsPhysicalOf (M.contents media.new) (seen (kept self.new)) }
+        ensures programmed { M.tells → IfPlaced result (λ at. Programmed (seen (kept self.old)) at.name (written (page_with from.now.main tag stamp (wear_of (seen (kept self.old)) (at.name / self.old.blocks.size)))) (M.contents media.old) (M.contents media.new)) }
+        ensures crash { M.tells → Crashes M.clock M.contents M.left (seen (kept self.old)) tag stamp from.now.main media.old media.new result }
         ensures geometry { M.geometry media.new ≡ M.geometry media.old }
-        ensures counts { Counted M.clock M.read_faults M.write_faults (IsReady (seen self.old)) media.old media.new result }
+        ensures counts { Counted M.clock M.read_faults M.write_faults (IsReady (seen (kept self.old))) media.old media.new result }
     {
         if !self.has_room() {
             return Named::NoPage;
@@ -105,22 +109,22 @@ impl State {
         from: &PageBuf,
         stamp: u64,
     ) -> Named
-        requires formed { IsFormed self.old }
-        requires tied { IsTied self.old }
-        requires fits { Fits (M.geometry media.old) (seen self.old) }
+        requires formed { IsFormed (kept self.old) }
+        requires tied { IsTied (kept self.old) }
+        requires fits { Fits (M.geometry media.old) (seen (kept self.old)) }
         requires stamp { IsTrue (is_stamp stamp) }
-        requires segment { M.tells → IsPhysicalOf (M.contents media.old) (seen self.old) }
-        ensures formed { IsFormed self.new }
-        ensures tied { IsTied self.new }
-        ensures live { result ≡ Named.NotLive ↔ (IsLive (seen self.old) old → ⊥) }
-        ensures full { result ≡ Named.NoPage ↔ (IsLive (seen self.old) old × (room (seen self.old) ≡ 0)) }
-        ensures refused { (result ≡ Named.NotLive) ⊎ (result ≡ Named.NoPage) → (seen self.new ≡ seen self.old) × (media.new ≡ media.old) }
-        ensures over { WritesOver (resolve (seen self.old).pairs old.name) stamp (λ at. slice_set self.old.held.items at.name (Some (record { tag = tag; stamp = stamp }))) result (seen self.old) (seen self.new) }
-        ensures segment { M.tells → IsPhysicalOf (M.contents media.new) (seen self.new) }
-        ensures programmed { M.tells → IfPlaced result (λ at. Programmed (seen self.old) at.name (written (page_with from.now.main tag stamp (wear_of (seen self.old) (at.name / self.old.blocks.size)))) (M.contents media.old) (M.contents media.new)) }
-        ensures crash { M.tells → Crashes M.clock M.contents M.left (seen self.old) tag stamp from.now.main media.old media.new result }
+        requires segment { M.tells → IsPhysicalOf (M.contents media.old) (seen (kept self.old)) }
+        ensures formed { IsFormed (kept self.new) }
+        ensures tied { IsTied (kept self.new) }
+        ensures live { result ≡ Named.NotLive ↔ (IsLive (seen (kept self.old)) old → ⊥) }
+        ensures full { result ≡ Named.NoPage ↔ (IsLive (seen (kept self.old)) old × (room (seen (kept self.old)) ≡ 0)) }
+        ensures refused { (result ≡ Named.NotLive) ⊎ (result ≡ Named.NoPage) → (seen (kept self.new) ≡ seen (kept self.old)) × (media.new ≡ media.old) }
+        ensures over { WritesOver (resolve (seen (kept self.old)).pairs old.name) stamp (λ at. slice_set self.old.held.items at.name (Some (record { tag = tag; stamp = stamp }))) result (seen (kept self.old)) (seen (kept self.new)) }
+        ensures segment { M.tells → IsPhysicalOf (M.contents media.new) (seen (kept self.new)) }
+        ensures programmed { M.tells → IfPlaced result (λ at. Programmed (seen (kept self.old)) at.name (written (page_with from.now.main tag stamp (wear_of (seen (kept self.old)) (at.name / self.old.blocks.size)))) (M.contents media.old) (M.contents media.new)) }
+        ensures crash { M.tells → Crashes M.clock M.contents M.left (seen (kept self.old)) tag stamp from.now.main media.old media.new result }
         ensures geometry { M.geometry media.new ≡ M.geometry media.old }
-        ensures counts { Counted M.clock M.read_faults M.write_faults (IsReady (seen self.old)) media.old media.new result }
+        ensures counts { Counted M.clock M.read_faults M.write_faults (IsReady (seen (kept self.old))) media.old media.new result }
     {
         let Some(place) = self.place_of(old) else {
             return Named::NotLive;

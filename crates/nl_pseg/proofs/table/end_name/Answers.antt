@@ -6,8 +6,8 @@ use Rattle.nl_blocks.specs.Table.{BlockRow, Table, HasBlock, after_erase, block_
 use Rattle.nl_blocks.proofs.TableLaws.{block_at-with_block_other}
 use Rattle.nl_pseg.specs.Segment.{Use}
 use Rattle.nl_pseg.specs.Seen.{is_kept_state, use_in, use_of}
-use Rattle.nl_pseg.specs.Steps.{SameMarks, SameNumbers}
-use Rattle.nl_pseg.proofs.Tables.{row_here, same_marks, use_here, use_other, with_has}
+use Rattle.nl_pseg.specs.Steps.{SameFill, SameMarks, SameNumbers}
+use Rattle.nl_pseg.proofs.Tables.{fill_shut, row_here, same_marks, shut_after, shut_retired, shut_risen, use_here, use_other, with_has}
 use Rattle.nl_pseg.proofs.table.end_name.Goals as goal
 
 kept_after : (n : ℕ) → is_kept_state (after_erase n) ≡ true
@@ -80,4 +80,10 @@ returns-clause-others c other has ne =
 pub returns-clause-marks : goal.returns-clause-marks
 returns-clause-marks c =
     let t = c.args.blocks.now in
-    subst (SameMarks t) (sym c.name_gone.ensures) (same_marks t c.args.block (row_of (block_at t c.args.block)) c.requires.has (λ k. refl))
+    subst (SameMarks t) (sym c.name_gone.ensures) (same_marks t c.args.block (row_of (block_at t c.args.block)) c.requires.has (λ k. refl) (λ rising. shut_risen (row_of (block_at t c.args.block)) (shut_after (names_of (block_at t c.args.block).state - 1))))
+
+pub returns-clause-fill : goal.returns-clause-fill
+returns-clause-fill c =
+    let t = c.args.blocks.now in
+    subst (SameFill t) (sym c.name_gone.ensures)
+    (fill_shut t c.args.block (row_of (block_at t c.args.block)) c.requires.has (shut_retired (block_at t c.args.block).state c.requires.retired) (shut_after (names_of (block_at t c.args.block).state - 1)))

@@ -4,7 +4,7 @@ use Rattle.nl_blocks.specs.Table.{HasBlock, block_at, in_state}
 use Rattle.nl_pseg.specs.Segment.{Use}
 use Rattle.nl_pseg.specs.Seen.{use_in, use_with}
 use Rattle.nl_pseg.specs.Steps.{Restated}
-use Rattle.nl_pseg.proofs.Tables.{restated, use_here}
+use Rattle.nl_pseg.proofs.Tables.{restated, shut_risen, shut_sealed, use_here}
 use Rattle.nl_pseg.proofs.table.shut.Goals as goal
 
 pub returns-clause-restated : goal.returns-clause-restated
@@ -13,4 +13,4 @@ returns-clause-restated c =
     let b = c.args.block in
     let has : HasBlock t b = record { from = c.requires.from; below = c.requires.below } in
     subst (Restated b false (use_in t b).wear t) (sym c.seal.ensures)
-    (restated t b (in_state (block_at t b) Sealed) false (use_in t b).wear has (ap (λ (u : Use). use_with false u.wear) (sym (use_here t b has))) (λ k. refl))
+    (restated t b (in_state (block_at t b) Sealed) false (use_in t b).wear has (ap (λ (u : Use). use_with false u.wear) (sym (use_here t b has))) (λ k. refl) (λ rising. shut_risen (in_state (block_at t b) Sealed) (shut_sealed Sealed refl)))

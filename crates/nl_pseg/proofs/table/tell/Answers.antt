@@ -1,6 +1,6 @@
 use Rattle.std.proofs.Common.{◌≡◌, true, false, sym, ◌∙◌, ap}
 use Rattle.nl_blocks.specs.declared.states.BlockState.{BlockState}
-use Rattle.nl_blocks.specs.declared.states.BlockState.TheVariants.{Free, Retired}
+use Rattle.nl_blocks.specs.declared.states.BlockState.TheVariants.{Free}
 use Rattle.nl_blocks.specs.Table.{block_at, is_free_state}
 use Rattle.nl_pseg.specs.Segment.{Use}
 use Rattle.nl_pseg.specs.Seen.{is_kept_state, use_in}

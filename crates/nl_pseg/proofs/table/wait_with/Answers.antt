@@ -4,7 +4,7 @@ use Rattle.nl_blocks.specs.Table.{BlockRow, after_erase, block_at, is_retired_st
 use Rattle.nl_blocks.specs.declared.states.BlockState.{BlockState}
 use Rattle.nl_pseg.specs.Seen.{use_of}
 use Rattle.nl_pseg.specs.Steps.{IsTold}
-use Rattle.nl_pseg.proofs.Tables.{after_some, row_here, told_block, use_here}
+use Rattle.nl_pseg.proofs.Tables.{after_some, row_here, shut_after, shut_risen, told_block, use_here}
 use Rattle.nl_pseg.proofs.table.wait_with.Goals as goal
 
 pub returns-clause-told : goal.returns-clause-told
@@ -20,7 +20,7 @@ returns-clause-told c =
     subst (IsTold b c.args.wear t) (sym c.found.ensures)
     (told_block t b row c.args.wear has
     ((λ i. use_of (record row { state = (now ∙ sym state) i })) ∙ (λ i. record { is_free = (sym was i).is_free; is_kept = (sym was i).is_kept; wear = c.args.wear }))
-    (λ k. refl))
+    (λ k. refl) (λ rising. shut_risen row (shut_after c.args.names)))
 
 pub returns-clause-state : goal.returns-clause-state
 returns-clause-state c =

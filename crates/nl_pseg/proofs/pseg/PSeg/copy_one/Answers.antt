@@ -1,6 +1,7 @@
 use Rattle.std.proofs.Common.{◌≡◌, ℕ, Some, subst}
 use Rattle.nl_pseg.specs.Cleaning.{CountedMove, CrashesMove, IsMoved, MovesNone}
 use Rattle.nl_pseg.specs.Segment.{InVictim, IsClean, Physical, held_at}
+use Rattle.nl_pseg.specs.Kept.{kept}
 use Rattle.nl_pseg.specs.Seen.{seen}
 use Rattle.nl_pseg.specs.declared.cleaned.Copied.TheVariants.{Lost, Nothing}
 use Rattle.nl_pseg.specs.declared.held.Held.{Held}
@@ -9,7 +10,7 @@ use Rattle.nl_pseg.proofs.pseg.PSeg.copy_one.Goals as goal
 pub returns-clause-kept : goal.returns-clause-kept
 returns-clause-kept g c =
     let e = c.copy_one-copied in
-    subst (λ (s : Physical). (IsMoved e.result → ⊥) → MovesNone s (seen e.new.self)) c.self.view_is e.ensures.kept
+    subst (λ (s : Physical). (IsMoved e.result → ⊥) → MovesNone s (seen (kept e.new.self))) c.self.view_is e.ensures.kept
 
 pub returns-clause-lost : goal.returns-clause-lost
 returns-clause-lost g c =
@@ -19,7 +20,7 @@ returns-clause-lost g c =
 pub returns-clause-clean : goal.returns-clause-clean
 returns-clause-clean g c =
     let e = c.copy_one-copied in
-    subst (λ (s : Physical). IsClean s → IsClean (seen e.new.self)) c.self.view_is e.ensures.clean
+    subst (λ (s : Physical). IsClean s → IsClean (seen (kept e.new.self))) c.self.view_is e.ensures.clean
 
 pub returns-clause-crash : goal.returns-clause-crash
 returns-clause-crash g c t =

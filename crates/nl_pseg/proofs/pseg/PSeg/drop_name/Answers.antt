@@ -10,67 +10,68 @@ use Rattle.nl_pseg.proofs.After.{dropped_back, dropped_few, dropped_reach, dropp
 use Rattle.nl_pseg.proofs.Dropping.{dropped_told}
 use Rattle.nl_pseg.proofs.Ended.{gone_clean, gone_kept, gone_segment, gone_spare}
 use Rattle.nl_pseg.proofs.Gone.{old_told, told_old}
+use Rattle.nl_pseg.specs.Kept.{kept}
 use Rattle.nl_pseg.proofs.pseg.PSeg.drop_name.Goals as goal
 
 pub whole-requires-clause-few : goal.whole-requires-clause-few
 whole-requires-clause-few c =
-    let s = c.self.inside.state in
+    let s = kept c.self.inside.state in
     let i = c.self.invariant in
     let d = c.drop_name-dropped.ensures in
-    dropped_few s c.drop_name-dropped.new.self i.0 i.1 i.3 i.2 d.formed d.tied c.table.ensures d.gone d.held
+    dropped_few s (kept c.drop_name-dropped.new.self) i.0 i.1 i.3 i.2 d.formed d.tied c.table.ensures d.gone d.held
 
 pub returns-clause-found : goal.returns-clause-found
 returns-clause-found c =
-    let s = c.self.inside.state in
+    let s = kept c.self.inside.state in
     let d = c.drop_name-dropped.ensures in
     subst (λ (o : Physical). IsTrue c.drop_name-dropped.result ↔ IsOldName o c.args.name) c.self.view_is
     ((λ yes. old_told s.names.pairs c.args.name (d.found.0 yes)), (λ old. d.found.1 (told_old s.names.pairs c.args.name old)))
 
 pub returns-clause-pairs : goal.returns-clause-pairs
 returns-clause-pairs c =
-    let s = c.self.inside.state in
+    let s = kept c.self.inside.state in
     let i = c.self.invariant in
     let d = c.drop_name-dropped.ensures in
-    let x = c.drop_name-dropped.new.self in
+    let x = kept c.drop_name-dropped.new.self in
     OnTrue_from c.drop_name-dropped.result (told x.names.pairs ≡ without_name c.args.name c.args.self.now.pairs)
     (λ yes. ap told (OnTrue_at yes d.pairs) ∙ (dropped_told s.names.pairs c.args.name i.1.named.remap (d.found.0 yes) ∙ ap (λ (o : Physical). without_name c.args.name o.pairs) c.self.view_is))
 
 pub returns-clause-space : goal.returns-clause-space
 returns-clause-space c =
-    let s = c.self.inside.state in
+    let s = kept c.self.inside.state in
     let i = c.self.invariant in
     let d = c.drop_name-dropped.ensures in
-    let x = c.drop_name-dropped.new.self in
+    let x = kept c.drop_name-dropped.new.self in
     subst (λ (o : Physical). Lessens 0 o (seen x)) c.self.view_is (dropped_space s x i.0 i.1 i.3 i.2 d.formed d.tied c.table.ensures d.gone d.held)
 
 pub returns-clause-reach : goal.returns-clause-reach
 returns-clause-reach c =
-    let s = c.self.inside.state in
+    let s = kept c.self.inside.state in
     let i = c.self.invariant in
     let d = c.drop_name-dropped.ensures in
-    let x = c.drop_name-dropped.new.self in
+    let x = kept c.drop_name-dropped.new.self in
     subst (λ (o : Physical). reach (seen x) ≡ reach o) c.self.view_is (dropped_reach s x i.0 i.1 i.3 i.2 d.formed d.tied c.table.ensures d.gone d.held)
 
 pub returns-clause-back : goal.returns-clause-back
 returns-clause-back c =
-    let s = c.self.inside.state in
+    let s = kept c.self.inside.state in
     let i = c.self.invariant in
     let d = c.drop_name-dropped.ensures in
-    let x = c.drop_name-dropped.new.self in
+    let x = kept c.drop_name-dropped.new.self in
     subst (λ (o : Physical). GivesBack o (seen x)) c.self.view_is (dropped_back s x i.0 i.1 i.3 i.2 d.formed d.tied c.table.ensures d.gone d.held)
 
 pub returns-clause-segment : goal.returns-clause-segment
 returns-clause-segment c =
     let d = c.drop_name-dropped.ensures in
-    subst (λ (o : Physical). (image : Image) → IsPhysicalOf image o → IsPhysicalOf image (seen c.drop_name-dropped.new.self)) c.self.view_is (gone_segment d.gone (λ p h live. (λ i. get_or (sym d.held i).items p None) ∙ live))
+    subst (λ (o : Physical). (image : Image) → IsPhysicalOf image o → IsPhysicalOf image (seen (kept c.drop_name-dropped.new.self))) c.self.view_is (gone_segment d.gone (λ p h live. (λ i. get_or (sym d.held i).items p None) ∙ live))
 
 pub returns-clause-spare : goal.returns-clause-spare
 returns-clause-spare c =
     let d = c.drop_name-dropped.ensures in
-    subst (λ (o : Physical). (image : Image) → HasSpare image o → HasSpare image (seen c.drop_name-dropped.new.self)) c.self.view_is (gone_spare d.gone (λ p h live. (λ i. get_or (sym d.held i).items p None) ∙ live))
+    subst (λ (o : Physical). (image : Image) → HasSpare image o → HasSpare image (seen (kept c.drop_name-dropped.new.self))) c.self.view_is (gone_spare d.gone (λ p h live. (λ i. get_or (sym d.held i).items p None) ∙ live))
 
 pub returns-clause-kept_block : goal.returns-clause-kept_block
-returns-clause-kept_block c = subst (λ (o : Physical). KeepsBlock o → KeepsBlock (seen c.drop_name-dropped.new.self)) c.self.view_is (gone_kept c.drop_name-dropped.ensures.gone)
+returns-clause-kept_block c = subst (λ (o : Physical). KeepsBlock o → KeepsBlock (seen (kept c.drop_name-dropped.new.self))) c.self.view_is (gone_kept c.drop_name-dropped.ensures.gone)
 
 pub returns-clause-clean : goal.returns-clause-clean
-returns-clause-clean c = subst (λ (o : Physical). IsClean o → IsClean (seen c.drop_name-dropped.new.self)) c.self.view_is (gone_clean c.drop_name-dropped.ensures.gone)
+returns-clause-clean c = subst (λ (o : Physical). IsClean o → IsClean (seen (kept c.drop_name-dropped.new.self))) c.self.view_is (gone_clean c.drop_name-dropped.ensures.gone)

@@ -4,11 +4,12 @@ use Rattle.nl_pseg.specs.Cleaning.{KeepsBeside}
 use Rattle.nl_pseg.specs.Segment.{IsClean, KeepsBlock, Physical}
 use Rattle.nl_pseg.specs.Seen.{seen}
 use Rattle.nl_pseg.proofs.Erasing.{done_or_not, erases_clean, erases_kept}
+use Rattle.nl_pseg.specs.Kept.{kept}
 use Rattle.nl_pseg.proofs.pseg.PSeg.erase_victim.Goals as goal
 
 pub returns-clause-clean : goal.returns-clause-clean
 returns-clause-clean g c =
-    let x = seen c.erase_victim-erased.new.self in
+    let x = seen (kept c.erase_victim-erased.new.self) in
     let e = c.erase_victim-erased.ensures in
     subst (λ (s : Physical). IsClean s → IsClean x) c.self.view_is
     (⊎_elim
@@ -18,11 +19,11 @@ returns-clause-clean g c =
 
 pub returns-clause-kept_block : goal.returns-clause-kept_block
 returns-clause-kept_block g c =
-    let x = seen c.erase_victim-erased.new.self in
+    let x = seen (kept c.erase_victim-erased.new.self) in
     let e = c.erase_victim-erased.ensures in
     subst (λ (s : Physical). KeepsBlock s → KeepsBlock x) c.self.view_is
     (⊎_elim
-    (λ done is. erases_kept c.erase_victim-erased.new.self (e.erased done).1)
+    (λ done is. erases_kept (kept c.erase_victim-erased.new.self) (e.erased done).1)
     (λ not is. subst KeepsBlock (sym (e.kept not)) is)
     (done_or_not c.erase_victim-erased.result))
 

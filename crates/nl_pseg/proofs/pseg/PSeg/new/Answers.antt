@@ -4,6 +4,7 @@ use Rattle.nl_pseg.proofs.News.{new_clean, new_kept, new_room, new_taken, new_us
 use Rattle.nl_pseg.proofs.Shapes.{legal_bounds, two_blocks}
 use Rattle.nl_pseg.proofs.States.{taken_segment}
 use Rattle.nl_pseg.proofs.Wrote.{free_spare}
+use Rattle.nl_pseg.specs.Kept.{kept}
 use Rattle.nl_pseg.proofs.pseg.PSeg.new.Goals as goal
 
 pub returns-clause-each : goal.returns-clause-each
@@ -37,11 +38,11 @@ returns-clause-kept c =
     subst KeepsBlock (sym c.in_ok-state.ensures.seen) (new_kept c.args.shape.now roomy)
 
 pub returns-clause-within : goal.returns-clause-within
-returns-clause-within c = taken_segment c.in_ok-state.state c.in_ok-state.ensures.formed
+returns-clause-within c = taken_segment (kept c.in_ok-state.state) c.in_ok-state.ensures.formed
 
 pub returns-clause-spare : goal.returns-clause-spare
 returns-clause-spare c =
     let roomy = legal_bounds c.args.shape.now c.requires.legal c.requires.numbers in
     let free = ap (λ (s : Physical). s.free) c.in_ok-state.ensures.seen in
     let two = two_blocks roomy in
-    free_spare c.in_ok-state.state c.in_ok-state.ensures.formed (omega (arith, free, two))
+    free_spare (kept c.in_ok-state.state) c.in_ok-state.ensures.formed (omega (arith, free, two))

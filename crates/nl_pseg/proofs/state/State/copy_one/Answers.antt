@@ -4,6 +4,7 @@ use Rattle.nl_pseg.specs.Seen.{seen}
 use Rattle.nl_pseg.proofs.Left.{left_is, none_live, some_live}
 use Rattle.nl_pseg.proofs.Looked.{formed_looked, tied_looked}
 use Rattle.nl_pseg.proofs.MoveSteps.{moved_if, moved_or_not}
+use Rattle.nl_pseg.specs.Kept.{kept}
 use Rattle.nl_pseg.proofs.state.State.copy_one.Goals as goal
 
 pub first_live-requires-clause-has : goal.first_live-requires-clause-has
@@ -11,21 +12,21 @@ first_live-requires-clause-has g c = (c.requires.tied.phases.victim_in c.in-Some
 
 pub returns-in_default-first_live-clause-nothing : goal.returns-in_default-first_live-clause-nothing
 returns-in_default-first_live-clause-nothing g c =
-    let s = c.args.self.now in
+    let s = kept c.args.self.now in
     let block = c.in-Some.victim in
     let has = (c.requires.tied.phases.victim_in block c.in-Some.is).0 in
     let all = none_live s c.requires.formed c.count.ensures.table block has c.in_default-first_live.ensures.none in
     let left = left_is s block has c.in-Some.is in (λ e. omega (arith, all, left), λ none. refl)
 
 pub move_page-requires-clause-formed : goal.move_page-requires-clause-formed
-move_page-requires-clause-formed g c = formed_looked c.args.self.now _ c.requires.formed
+move_page-requires-clause-formed g c = formed_looked (kept c.args.self.now) _ c.requires.formed
 
 pub move_page-requires-clause-tied : goal.move_page-requires-clause-tied
-move_page-requires-clause-tied g c = tied_looked c.args.self.now _ c.requires.tied
+move_page-requires-clause-tied g c = tied_looked (kept c.args.self.now) _ c.requires.tied
 
 pub move_page-requires-clause-room : goal.move_page-requires-clause-room
 move_page-requires-clause-room g c =
-    let s = c.args.self.now in
+    let s = kept c.args.self.now in
     let block = c.in-Some.victim in
     let has = (c.requires.tied.phases.victim_in block c.in-Some.is).0 in
     let before = c.in-Some-first_live.before in
@@ -38,7 +39,7 @@ move_page-requires-clause-room g c =
 
 pub returns-clause-nothing : goal.returns-clause-nothing
 returns-clause-nothing g c =
-    let s = c.args.self.now in
+    let s = kept c.args.self.now in
     let block = c.in-Some.victim in
     let has = (c.requires.tied.phases.victim_in block c.in-Some.is).0 in
     let before = c.in-Some-first_live.before in
@@ -50,7 +51,7 @@ returns-clause-nothing g c =
 
 pub returns-clause-lost : goal.returns-clause-lost
 returns-clause-lost g c w f e =
-    let s = c.args.self.now in
+    let s = kept c.args.self.now in
     let block = c.in-Some.victim in
     let has = (c.requires.tied.phases.victim_in block c.in-Some.is).0 in
     let before = c.in-Some-first_live.before in
@@ -61,7 +62,7 @@ returns-clause-lost g c w f e =
 
 pub returns-clause-kept_block : goal.returns-clause-kept_block
 returns-clause-kept_block g c was =
-    let x = c.move_page.new.self in
+    let x = kept c.move_page.new.self in
     let named : x.victim ≡ Some c.in-Some.victim = ⊎_elim (λ moved. moved_if c.move_page.result moved (λ b a h m. m.2.victim) c.move_page.ensures.moved) (λ not. (c.move_page.ensures.kept not).victim) (moved_or_not c.move_page.result) ∙ c.in-Some.is in
     let has = (c.move_page.ensures.tied.phases.victim_in c.in-Some.victim named).0 in
     record { block = c.in-Some.victim; from = has.from; below = has.below; kept = inr named }

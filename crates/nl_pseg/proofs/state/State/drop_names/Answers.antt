@@ -6,11 +6,12 @@ use Rattle.nl_remap.proofs.Ways.{led_has}
 use Rattle.nl_pseg.specs.Seen.{seen, use_in}
 use Rattle.nl_pseg.proofs.Ended.{gone_none, gone_then}
 use Rattle.nl_pseg.proofs.Tables.{free_kept}
+use Rattle.nl_pseg.specs.Kept.{kept}
 use Rattle.nl_pseg.proofs.state.State.drop_names.Goals as goal
 
 pub loop-name-init : goal.loop-name-init
 loop-name-init c =
-    let s = c.args.self.now in
+    let s = kept c.args.self.now in
     record {
       formed = c.requires.formed;
       tied = c.requires.tied;
@@ -30,7 +31,7 @@ loop-name-preserved c =
     record {
       formed = d.formed;
       tied = d.tied;
-      beside = subst (λ t. beside c.drop_name.new.self.names.pairs t ≡ beside s.names.pairs t) to (OnTrue_at (d.found.1 old) d.beside) ∙ inv.beside;
+      beside = subst (λ t. beside (kept c.drop_name.new.self).names.pairs t ≡ beside s.names.pairs t) to (OnTrue_at (d.found.1 old) d.beside) ∙ inv.beside;
       held = d.held ∙ inv.held;
       gone = gone_then inv.gone d.gone;
     }

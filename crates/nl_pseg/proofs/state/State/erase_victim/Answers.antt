@@ -11,6 +11,7 @@ use Rattle.nl_pseg.proofs.Erasing.{cut_segment, dead_spare, done_segment, done_s
 use Rattle.nl_pseg.proofs.Images.{erase_others}
 use Rattle.nl_pseg.proofs.Left.{left_is, none_is, none_live, some_is, some_live, there_is, victims_is}
 use Rattle.nl_pseg.proofs.Numbers.{in_block}
+use Rattle.nl_pseg.specs.Kept.{kept}
 use Rattle.nl_pseg.proofs.state.State.erase_victim.Goals as goal
 
 pub first_live-requires-clause-has : goal.first_live-requires-clause-has
@@ -18,7 +19,7 @@ first_live-requires-clause-has g c = (c.requires.tied.phases.victim_in c.in-Some
 
 pub returns-then-is_some-clause-nothing : goal.returns-then-is_some-clause-nothing
 returns-then-is_some-clause-nothing g c =
-    let s = c.args.self.now in
+    let s = kept c.args.self.now in
     let block = c.in-Some.victim in
     let has = (c.requires.tied.phases.victim_in block c.in-Some.is).0 in
     let page = some_is c.first_live.result (sym c.is_some.ensures ∙ c.if-is_some.true) c.first_live.ensures.some in
@@ -35,7 +36,7 @@ erase-requires g c =
 
 pub returns-in-Failed-clause-nothing : goal.returns-in-Failed-clause-nothing
 returns-in-Failed-clause-nothing g c =
-    let s = c.args.self.now in
+    let s = kept c.args.self.now in
     let block = c.in-Some.victim in
     let has = (c.requires.tied.phases.victim_in block c.in-Some.is).0 in
     let dead = none_is c.first_live.result (sym c.is_some.ensures ∙ c.if-is_some.false) c.first_live.ensures.none in
@@ -44,27 +45,27 @@ returns-in-Failed-clause-nothing g c =
 
 pub returns-in-Failed-clause-segment : goal.returns-in-Failed-clause-segment
 returns-in-Failed-clause-segment g c t =
-    let s = c.args.self.now in
+    let s = kept c.args.self.now in
     let block = c.in-Some.victim in
     let dead = none_is c.first_live.result (sym c.is_some.ensures ∙ c.if-is_some.false) c.first_live.ensures.none in
     cut_segment s c.requires.formed c.requires.tied block c.in-Some.is dead (c.requires.segment t) (erase_others block (g.M.Nand.geometry c.args.media.now).pages s.blocks.size c.requires.fits.pages (c.in-Failed.ensures.effect t))
 
 pub returns-in-Failed-clause-spare : goal.returns-in-Failed-clause-spare
 returns-in-Failed-clause-spare g c t not =
-    let s = c.args.self.now in
+    let s = kept c.args.self.now in
     let dead = none_is c.first_live.result (sym c.is_some.ensures ∙ c.if-is_some.false) c.first_live.ensures.none in
     dead_spare s c.requires.formed c.requires.tied c.in-Some.victim c.in-Some.is dead (g.M.Nand.contents c.erase.new.self)
 
 pub returns-in-Failed-clause-pages : goal.returns-in-Failed-clause-pages
 returns-in-Failed-clause-pages g c t block named =
-    let s = c.args.self.now in
+    let s = kept c.args.self.now in
     let pages = (g.M.Nand.geometry c.args.media.now).pages in
     subst (λ b. KeepsBeside (seen s) b (g.M.Nand.contents c.args.media.now) (g.M.Nand.contents c.erase.new.self)) (same_Some c.in-Some.victim block (sym c.in-Some.is ∙ named))
     (keeps_beside (seen s) c.in-Some.victim pages c.requires.fits.pages (c.in-Failed.ensures.effect t))
 
 pub returns-in-Failed-clause-crash : goal.returns-in-Failed-clause-crash
 returns-in-Failed-clause-crash g c t block named =
-    let s = c.args.self.now in
+    let s = kept c.args.self.now in
     let pages = (g.M.Nand.geometry c.args.media.now).pages in
     let old = g.M.Nand.contents c.args.media.now in
     let same = same_Some c.in-Some.victim block (sym c.in-Some.is ∙ named) in
@@ -73,7 +74,7 @@ returns-in-Failed-clause-crash g c t block named =
 
 pub returns-in-Done-clause-segment : goal.returns-in-Done-clause-segment
 returns-in-Done-clause-segment g c t =
-    let s = c.args.self.now in
+    let s = kept c.args.self.now in
     let block = c.in-Some.victim in
     let pages = (g.M.Nand.geometry c.args.media.now).pages in
     let dead = none_is c.first_live.result (sym c.is_some.ensures ∙ c.if-is_some.false) c.first_live.ensures.none in
@@ -85,20 +86,20 @@ returns-in-Done-clause-segment g c t =
 
 pub returns-in-Done-clause-spare : goal.returns-in-Done-clause-spare
 returns-in-Done-clause-spare g c t not =
-    let s = c.args.self.now in
+    let s = kept c.args.self.now in
     let dead = none_is c.first_live.result (sym c.is_some.ensures ∙ c.if-is_some.false) c.first_live.ensures.none in
     done_spare s c.requires.formed c.requires.tied c.in-Some.victim c.in-Some.is dead c.release.ensures.erases (g.M.Nand.contents c.erase.new.self)
 
 pub returns-in-Done-clause-pages : goal.returns-in-Done-clause-pages
 returns-in-Done-clause-pages g c t block named =
-    let s = c.args.self.now in
+    let s = kept c.args.self.now in
     let pages = (g.M.Nand.geometry c.args.media.now).pages in
     subst (λ b. KeepsBeside (seen s) b (g.M.Nand.contents c.args.media.now) (g.M.Nand.contents c.erase.new.self)) (same_Some c.in-Some.victim block (sym c.in-Some.is ∙ named))
     (keeps_beside (seen s) c.in-Some.victim pages c.requires.fits.pages (filled_cut (c.in-Done.ensures.effect t)))
 
 pub returns-in-Done-clause-crash : goal.returns-in-Done-clause-crash
 returns-in-Done-clause-crash g c t block named =
-    let s = c.args.self.now in
+    let s = kept c.args.self.now in
     let pages = (g.M.Nand.geometry c.args.media.now).pages in
     let old = g.M.Nand.contents c.args.media.now in
     let same = same_Some c.in-Some.victim block (sym c.in-Some.is ∙ named) in

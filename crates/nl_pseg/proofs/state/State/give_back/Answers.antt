@@ -1,56 +1,64 @@
-use Rattle.std.proofs.Common.{◌≡◌, inl, ℕ, ◌+◌, ◌-◌, ◌<◌, List, Option, Some, None, length, get_or, is_some, refl, sym, ◌∙◌, ap, subst, arith}
+use Rattle.std.proofs.Common.{◌≡◌, inl, ◌+◌, ◌<◌, Some, None, length, is_some, refl, sym, ◌∙◌, ap, subst, arith, true}
 use Rattle.std.specs.Vec.{with_item}
 use Rattle.std.proofs.lemmas.Bool.{true≢false}
 use Rattle.std.proofs.lemmas.List.{get_or-set_same, get_or-set_other}
 use Rattle.std.proofs.lemmas.Option.{none-some}
 use Rattle.nl_blocks.specs.declared.states.BlockState.TheVariants.{Free}
-use Rattle.nl_blocks.specs.Table.{HasBlock, Table, block_at}
+use Rattle.nl_blocks.specs.Table.{block_at}
 use Rattle.nl_remap.specs.Links.{link_at}
-use Rattle.nl_remap.specs.Table.{told}
 use Rattle.nl_pseg.specs.Segment.{Use}
-use Rattle.nl_pseg.specs.Seen.{seen, use_in}
+use Rattle.nl_pseg.specs.Seen.{seen}
 use Rattle.nl_pseg.specs.Steps.{IsIdle, SameNumbers}
-use Rattle.nl_pseg.specs.declared.held.Held.{Held}
-use Rattle.nl_pseg.specs.declared.state.State.{State}
-use Rattle.nl_pseg.proofs.Forms.{next_is, left_is}
+use Rattle.nl_pseg.specs.Kept.{Kept, kept}
+use Rattle.nl_pseg.proofs.Closed.{closed_by, closing}
+use Rattle.nl_pseg.proofs.Forms.{next_is, left_is, formed_marks, formed_restated}
 use Rattle.nl_pseg.proofs.Segments.{IsApart, apart_taken}
 use Rattle.nl_pseg.proofs.Served.{free_set, served_tied}
 use Rattle.nl_pseg.proofs.States.{next_block}
-use Rattle.nl_pseg.proofs.Tables.{free_state_is, has_same, use_here}
+use Rattle.nl_pseg.proofs.Tables.{free_state_is, has_same, shut_free, use_here}
 use Rattle.nl_pseg.proofs.state.State.give_back.Goals as goal
+
+pub returns-clause-formed : goal.returns-clause-formed
+returns-clause-formed c =
+    let t = c.give_back.new.blocks in
+    let m = closed_by c.args.self.now t in
+    let e = closing c.args.self.now c.requires.formed c.requires.tied c.give_back.new.blocks c.give_back.ensures.numbers c.args.block c.give_back.ensures.fill
+    (shut_free _ (sym (ap (λ (u : Use). u.is_free) (use_here c.give_back.new.blocks c.args.block (has_same c.args.block c.give_back.ensures.numbers c.requires.within))) ∙ ap (λ (u : Use). u.is_free) c.give_back.ensures.here)) in
+    formed_marks (record m { blocks = t }) c.args.block (Some c.wear-wear.result)
+    (formed_restated m t c.args.block _ true e.formed c.give_back.ensures e.idle (λ yes p h held at. none-some h (sym (c.requires.none p) ∙ held)))
 
 pub returns-clause-tied : goal.returns-clause-tied
 returns-clause-tied c =
-    let s = c.args.self.now in
-    let m = c.close.new.self in
-    let e = c.close.ensures in
+    let s = kept c.args.self.now in
+    let m = closed_by c.args.self.now c.give_back.new.blocks in
+    let e = closing c.args.self.now c.requires.formed c.requires.tied c.give_back.new.blocks c.give_back.ensures.numbers c.args.block c.give_back.ensures.fill
+    (shut_free _ (sym (ap (λ (u : Use). u.is_free) (use_here c.give_back.new.blocks c.args.block (has_same c.args.block c.give_back.ensures.numbers c.requires.within))) ∙ ap (λ (u : Use). u.is_free) c.give_back.ensures.here)) in
     let g = c.give_back.ensures in
-    let x : State = record m { blocks = c.give_back.new.blocks; soiled = with_item m.soiled c.args.block (Some c.wear-wear.result) } in
-    let n : SameNumbers s.blocks x.blocks = subst (λ u. SameNumbers u c.give_back.new.blocks) e.table g.numbers in
-    let i : IsIdle c.args.block s x = record { active = e.shut.active; target = e.shut.target; used = e.shut.used; filled = e.shut.filled } in
+    let x : Kept = record m { blocks = c.give_back.new.blocks; soiled = with_item m.soiled c.args.block (Some c.wear-wear.result) } in
+    let n : SameNumbers s.blocks x.blocks = g.numbers in
+    let i : IsIdle c.args.block s x = record { active = refl; target = refl; used = e.shut.used; filled = e.shut.filled } in
     let state : (block_at x.blocks c.args.block).state ≡ Free = free_state_is c.give_back.new.blocks c.args.block (has_same c.args.block n c.requires.within) (ap (λ (u : Use). u.is_free) g.here) in
-    served_tied s x c.requires.tied c.args.block i n c.requires.no_victim (ap (λ (q : State). q.victim) e.same) (free_set _ state)
-    (λ b has_b ne. g.states b (subst (λ u. HasBlock u b) (sym e.table) has_b) ne ∙ ap (λ u. (block_at u b).state) e.table)
-    (ap (λ (q : State). q.names) e.same)
+    served_tied s x c.requires.tied c.args.block i n c.requires.no_victim refl (free_set _ state)
+    g.states
+    refl
     (λ k old. let live = c.requires.tied.named.to_live (link_at s.names.pairs old.0) (old.0, old.1, refl) in absurd (none-some live.0 (sym (c.requires.none (link_at s.names.pairs old.0).to) ∙ live.1)))
     (λ k is. absurd (cc (sym state ∙ is)))
-    (λ p h held. inl (sym (ap (λ (l : List (Option Held)). get_or l p None) e.held) ∙ held))
-    (λ p h held. (h, ap (λ (l : List (Option Held)). get_or l p None) e.held ∙ held))
+    (λ p h held. inl held)
+    (λ p h held. (h, held))
 
 pub returns-clause-given : goal.returns-clause-given
 returns-clause-given c =
-    let s = c.args.self.now in
-    let m = c.close.new.self in
-    let e = c.close.ensures in
+    let s = kept c.args.self.now in
+    let m = closed_by c.args.self.now c.give_back.new.blocks in
+    let e = closing c.args.self.now c.requires.formed c.requires.tied c.give_back.new.blocks c.give_back.ensures.numbers c.args.block c.give_back.ensures.fill
+    (shut_free _ (sym (ap (λ (u : Use). u.is_free) (use_here c.give_back.new.blocks c.args.block (has_same c.args.block c.give_back.ensures.numbers c.requires.within))) ∙ ap (λ (u : Use). u.is_free) c.give_back.ensures.here)) in
     let g = c.give_back.ensures in
     let is = e.formed in
     let t = c.give_back.new.blocks in
     let n = g.numbers in
-    let x : State = record m { blocks = t; soiled = with_item m.soiled c.args.block (Some c.wear-wear.result) } in
-    let now : SameNumbers s.blocks x.blocks = subst (λ u. SameNumbers u t) e.table n in
-    let has : HasBlock m.blocks c.args.block = subst (λ u. HasBlock u c.args.block) (sym e.table) c.requires.within in
-    let within : c.args.block < length m.soiled.items = subst (λ k. c.args.block < k) (sym is.marks) has.below in
-    let size = ap (λ (u : Table). u.size) e.table in
+    let x : Kept = record m { blocks = t; soiled = with_item m.soiled c.args.block (Some c.wear-wear.result) } in
+    let now : SameNumbers s.blocks x.blocks = n in
+    let within : c.args.block < length m.soiled.items = subst (λ k. c.args.block < k) (sym is.marks) c.requires.within.below in
     let apart : IsApart c.args.block (seen m) (seen x) = record {
       range = record { range_first = n.same_first; range_blocks = λ i. n.same_first i + n.same_count i; range_size = n.same_size };
       next = next_is m is t n;
@@ -62,15 +70,15 @@ returns-clause-given c =
     } in
     record {
       range = record { range_first = now.same_first; range_blocks = λ i. now.same_first i + now.same_count i; range_size = now.same_size };
-      held = e.held;
-      names = (ap (λ (q : State). told q.names.pairs) e.same, ap (λ (q : State). q.names.room) e.same);
-      victim = ap (λ (q : State). q.victim) e.same;
+      held = refl;
+      names = (refl, refl);
+      victim = refl;
       left = let l = e.left in let z = n.same_size in omega (arith, l, z);
       here = ap (λ (u : Use). u.is_free) g.here;
       told = λ used. get_or-set_same m.soiled.items c.args.block (Some c.wear-wear.result) None within ∙ ap (λ w. Some w) (c.wear-wear.ensures ∙ sym (ap (λ (u : Use). u.wear) (use_here s.blocks c.args.block c.requires.within)));
-      wear = ap (λ (u : Use). u.wear) g.here ∙ ap (λ u. (use_in u c.args.block).wear) e.table;
-      others = λ b ne. g.others b ne ∙ ap (λ u. use_in u b) e.table;
-      others_soiled = λ b ne. get_or-set_other m.soiled.items c.args.block b (Some c.wear-wear.result) None ne ∙ ap (λ (l : List (Option ℕ)). get_or l b None) e.soiled;
+      wear = ap (λ (u : Use). u.wear) g.here;
+      others = g.others;
+      others_soiled = λ b ne. get_or-set_other m.soiled.items c.args.block b (Some c.wear-wear.result) None ne;
       erased = λ p taken. e.erased p (apart_taken apart p taken).0;
       same = λ free. absurd (true≢false (sym free ∙ (sym c.is_free.ensures ∙ c.if-is_free.false)));
     }

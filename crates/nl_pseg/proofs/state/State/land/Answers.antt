@@ -18,6 +18,7 @@ use Rattle.nl_pseg.proofs.Moved.{moved, moved_clean, unmoved, unmoved_held}
 use Rattle.nl_pseg.proofs.States.{within_length}
 use Rattle.nl_pseg.proofs.Tables.{use_here}
 use Rattle.nl_pseg.proofs.Wearing.{wear_used}
+use Rattle.nl_pseg.specs.Kept.{kept}
 use Rattle.nl_pseg.proofs.state.State.land.Goals as goal
 
 -- as many pages as before
@@ -26,12 +27,12 @@ within_mid {x} {old} {new} u p less = subst (λ n. p < n) (sym (ap (λ (l : List
 
 pub program_page-requires-clause-erased : goal.program_page-requires-clause-erased
 program_page-requires-clause-erased g c t =
-    let s = c.args.self.now in
+    let s = kept c.args.self.now in
     let is = c.requires.formed in
     let tied = c.requires.tied in
     let room = c.requires.room in
-    let after = s.target * c.pages.result + s.filled in
-    let at : after ≡ (seen s).copy_next = ap (λ n. s.target * n + s.filled) c.pages.ensures in
+    let after = c.in-Some.after in
+    let at : after ≡ (seen s).copy_next = c.in-Some.ensures.some.1 in
     let dead = copy_dead s is tied room in
     let fit = g.met.M.Nand.contents_fit c.args.media.now t in
     let pages : (g.M.Nand.contents c.args.media.now).pages ≡ s.blocks.size = fit.pages ∙ c.requires.fits.pages in
@@ -51,34 +52,34 @@ use_copy-requires-in-Done-clause-spelled g c = (c.requires.formed.places.each c.
 
 pub lead-requires-clause-there : goal.lead-requires-clause-there
 lead-requires-clause-there g c =
-    let s = c.args.self.now in
+    let s = kept c.args.self.now in
     let is = c.requires.formed in
     let tied = c.requires.tied in
     let room = c.requires.room in
-    let after = s.target * c.pages.result + s.filled in
-    let at : after ≡ (seen s).copy_next = ap (λ n. s.target * n + s.filled) c.pages.ensures in
+    let after = c.in-Some.after in
+    let at : after ≡ (seen s).copy_next = c.in-Some.ensures.some.1 in
     let dead = copy_dead s is tied room in
-    ap is_some (ap (λ n. held_at (seen c.use_copy-in-Done.new.self) n) at ∙ (ap (λ (l : List (Option Held)). get_or l (seen s).copy_next None) c.use_copy-in-Done.ensures.used.held ∙ get_or-set_same s.held.items (seen s).copy_next (Some c.args.held) None (copy_within s is tied room)))
+    ap is_some (ap (λ n. held_at (seen (kept c.use_copy-in-Done.new.self)) n) at ∙ (ap (λ (l : List (Option Held)). get_or l (seen s).copy_next None) c.use_copy-in-Done.ensures.used.held ∙ get_or-set_same s.held.items (seen s).copy_next (Some c.args.held) None (copy_within s is tied room)))
 
 pub lead-requires-clause-apart : goal.lead-requires-clause-apart
 lead-requires-clause-apart g c e =
-    let s = c.args.self.now in
+    let s = kept c.args.self.now in
     let is = c.requires.formed in
     let tied = c.requires.tied in
     let room = c.requires.room in
-    let after = s.target * c.pages.result + s.filled in
-    let at : after ≡ (seen s).copy_next = ap (λ n. s.target * n + s.filled) c.pages.ensures in
+    let after = c.in-Some.after in
+    let at : after ≡ (seen s).copy_next = c.in-Some.ensures.some.1 in
     let dead = copy_dead s is tied room in
     none-some c.args.held (sym dead.dead ∙ (ap (held_at (seen s)) (sym (e ∙ at)) ∙ c.requires.live))
 
 pub returns-in-Failed-clause-segment : goal.returns-in-Failed-clause-segment
 returns-in-Failed-clause-segment g c t =
-    let s = c.args.self.now in
+    let s = kept c.args.self.now in
     let is = c.requires.formed in
     let tied = c.requires.tied in
     let room = c.requires.room in
-    let after = s.target * c.pages.result + s.filled in
-    let at : after ≡ (seen s).copy_next = ap (λ n. s.target * n + s.filled) c.pages.ensures in
+    let after = c.in-Some.after in
+    let at : after ≡ (seen s).copy_next = c.in-Some.ensures.some.1 in
     let dead = copy_dead s is tied room in
     let value = written (page_with c.args.buf.now.main c.args.held.tag c.args.held.stamp c.wear-wear.result) in
     let old = g.M.Nand.contents c.args.media.now in
@@ -88,12 +89,12 @@ returns-in-Failed-clause-segment g c t =
 
 pub returns-in-Failed-clause-spare : goal.returns-in-Failed-clause-spare
 returns-in-Failed-clause-spare g c t shows spare =
-    let s = c.args.self.now in
+    let s = kept c.args.self.now in
     let is = c.requires.formed in
     let tied = c.requires.tied in
     let room = c.requires.room in
-    let after = s.target * c.pages.result + s.filled in
-    let at : after ≡ (seen s).copy_next = ap (λ n. s.target * n + s.filled) c.pages.ensures in
+    let after = c.in-Some.after in
+    let at : after ≡ (seen s).copy_next = c.in-Some.ensures.some.1 in
     let dead = copy_dead s is tied room in
     let value = written (page_with c.args.buf.now.main c.args.held.tag c.args.held.stamp c.wear-wear.result) in
     let old = g.M.Nand.contents c.args.media.now in
@@ -103,12 +104,12 @@ returns-in-Failed-clause-spare g c t shows spare =
 
 pub returns-in-Failed-clause-crash : goal.returns-in-Failed-clause-crash
 returns-in-Failed-clause-crash g c t =
-    let s = c.args.self.now in
+    let s = kept c.args.self.now in
     let is = c.requires.formed in
     let tied = c.requires.tied in
     let room = c.requires.room in
-    let after = s.target * c.pages.result + s.filled in
-    let at : after ≡ (seen s).copy_next = ap (λ n. s.target * n + s.filled) c.pages.ensures in
+    let after = c.in-Some.after in
+    let at : after ≡ (seen s).copy_next = c.in-Some.ensures.some.1 in
     let dead = copy_dead s is tied room in
     let block : after / s.blocks.size ≡ s.target = ap (λ n. n / s.blocks.size) at ∙ copy_block s is tied room in
     let worn : c.wear-wear.result ≡ wear_of (seen s) (after / s.blocks.size) = c.wear-wear.ensures ∙ sym (wear_used (use_in s.blocks (after / s.blocks.size)) (soiled (seen s) (after / s.blocks.size)) (ap (λ (b : ℕ). (use_in s.blocks b).is_kept) block ∙ copy_in_use s is tied room) ∙ (ap (λ (b : ℕ). (use_in s.blocks b).wear) block ∙ ap (λ (u : Use). u.wear) (use_here s.blocks s.target tied.phases.target_in))) in
@@ -117,38 +118,38 @@ returns-in-Failed-clause-crash g c t =
 
 pub returns-in-Done-clause-moved : goal.returns-in-Done-clause-moved
 returns-in-Done-clause-moved g c =
-    let s = c.args.self.now in
+    let s = kept c.args.self.now in
     let is = c.requires.formed in
     let tied = c.requires.tied in
     let room = c.requires.room in
-    let after = s.target * c.pages.result + s.filled in
-    let at : after ≡ (seen s).copy_next = ap (λ n. s.target * n + s.filled) c.pages.ensures in
+    let after = c.in-Some.after in
+    let at : after ≡ (seen s).copy_next = c.in-Some.ensures.some.1 in
     let dead = copy_dead s is tied room in
     let used = c.use_copy-in-Done.ensures.used in
-    let led : IsLed c.args.before (seen s).copy_next (seen c.use_copy-in-Done.new.self) (seen c.lead.new.self) = subst (λ n. IsLed c.args.before n (seen c.use_copy-in-Done.new.self) (seen c.lead.new.self)) at c.lead.ensures.led in
-    (refl, at, refl, subst (λ n. Moves c.args.before n c.args.held (seen s) (seen c.lead.new.self)) (sym at) (moved used led c.requires.victim c.requires.live dead))
+    let led : IsLed c.args.before (seen s).copy_next (seen (kept c.use_copy-in-Done.new.self)) (seen (kept c.lead.new.self)) = subst (λ n. IsLed c.args.before n (seen (kept c.use_copy-in-Done.new.self)) (seen (kept c.lead.new.self))) at c.lead.ensures.led in
+    (refl, at, refl, subst (λ n. Moves c.args.before n c.args.held (seen s) (seen (kept c.lead.new.self))) (sym at) (moved used led c.requires.victim c.requires.live dead))
 
 pub returns-in-Done-clause-clean : goal.returns-in-Done-clause-clean
 returns-in-Done-clause-clean g c =
-    let s = c.args.self.now in
+    let s = kept c.args.self.now in
     let is = c.requires.formed in
     let tied = c.requires.tied in
     let room = c.requires.room in
-    let after = s.target * c.pages.result + s.filled in
-    let at : after ≡ (seen s).copy_next = ap (λ n. s.target * n + s.filled) c.pages.ensures in
+    let after = c.in-Some.after in
+    let at : after ≡ (seen s).copy_next = c.in-Some.ensures.some.1 in
     let dead = copy_dead s is tied room in
     let used = c.use_copy-in-Done.ensures.used in
-    let led : IsLed c.args.before (seen s).copy_next (seen c.use_copy-in-Done.new.self) (seen c.lead.new.self) = subst (λ n. IsLed c.args.before n (seen c.use_copy-in-Done.new.self) (seen c.lead.new.self)) at c.lead.ensures.led in
+    let led : IsLed c.args.before (seen s).copy_next (seen (kept c.use_copy-in-Done.new.self)) (seen (kept c.lead.new.self)) = subst (λ n. IsLed c.args.before n (seen (kept c.use_copy-in-Done.new.self)) (seen (kept c.lead.new.self))) at c.lead.ensures.led in
     moved_clean used led
 
 pub returns-in-Done-clause-segment : goal.returns-in-Done-clause-segment
 returns-in-Done-clause-segment g c t =
-    let s = c.args.self.now in
+    let s = kept c.args.self.now in
     let is = c.requires.formed in
     let tied = c.requires.tied in
     let room = c.requires.room in
-    let after = s.target * c.pages.result + s.filled in
-    let at : after ≡ (seen s).copy_next = ap (λ n. s.target * n + s.filled) c.pages.ensures in
+    let after = c.in-Some.after in
+    let at : after ≡ (seen s).copy_next = c.in-Some.ensures.some.1 in
     let dead = copy_dead s is tied room in
     let value = written (page_with c.args.buf.now.main c.args.held.tag c.args.held.stamp c.wear-wear.result) in
     let old = g.M.Nand.contents c.args.media.now in
@@ -157,20 +158,20 @@ returns-in-Done-clause-segment g c t =
     let cut : Cut (seen s).copy_next ((seen s).copy_next + 1) value old new = subst (λ n. Cut n (n + 1) value old new) at (filled_cut filled) in
     let has : page_at new (seen s).copy_next ≡ value = subst (λ n. page_at new n ≡ value) at (filled.inside after (omega arith) (omega arith)) in
     let used = c.use_copy-in-Done.ensures.used in
-    let led : IsLed c.args.before (seen s).copy_next (seen c.use_copy-in-Done.new.self) (seen c.lead.new.self) = subst (λ n. IsLed c.args.before n (seen c.use_copy-in-Done.new.self) (seen c.lead.new.self)) at c.lead.ensures.led in
-    let mid = c.use_copy-in-Done.new.self in
+    let led : IsLed c.args.before (seen s).copy_next (seen (kept c.use_copy-in-Done.new.self)) (seen (kept c.lead.new.self)) = subst (λ n. IsLed c.args.before n (seen (kept c.use_copy-in-Done.new.self)) (seen (kept c.lead.new.self))) at c.lead.ensures.led in
+    let mid = kept c.use_copy-in-Done.new.self in
     after_led led (within_mid c.use_copy-in-Done.ensures.used c.args.before (within_length s is c.args.before (is.places.each c.args.before c.args.held c.requires.live).within))
     (after_copy used (copy_within s is tied room) (copy_kept s is tied room) (copy_behind s is tied room) (c.requires.segment t) cut
     (λ h some. shows_placed c.args.held.tag c.args.held.stamp h (page_with c.args.buf.now.main c.args.held.tag c.args.held.stamp c.wear-wear.result) has c.program_page.ensures.shows some))
 
 pub returns-in-Done-clause-spare : goal.returns-in-Done-clause-spare
 returns-in-Done-clause-spare g c t shows spare =
-    let s = c.args.self.now in
+    let s = kept c.args.self.now in
     let is = c.requires.formed in
     let tied = c.requires.tied in
     let room = c.requires.room in
-    let after = s.target * c.pages.result + s.filled in
-    let at : after ≡ (seen s).copy_next = ap (λ n. s.target * n + s.filled) c.pages.ensures in
+    let after = c.in-Some.after in
+    let at : after ≡ (seen s).copy_next = c.in-Some.ensures.some.1 in
     let dead = copy_dead s is tied room in
     let value = written (page_with c.args.buf.now.main c.args.held.tag c.args.held.stamp c.wear-wear.result) in
     let old = g.M.Nand.contents c.args.media.now in
@@ -179,18 +180,18 @@ returns-in-Done-clause-spare g c t shows spare =
     let cut : Cut (seen s).copy_next ((seen s).copy_next + 1) value old new = subst (λ n. Cut n (n + 1) value old new) at (filled_cut filled) in
     let has : page_at new (seen s).copy_next ≡ value = subst (λ n. page_at new n ≡ value) at (filled.inside after (omega arith) (omega arith)) in
     let used = c.use_copy-in-Done.ensures.used in
-    let led : IsLed c.args.before (seen s).copy_next (seen c.use_copy-in-Done.new.self) (seen c.lead.new.self) = subst (λ n. IsLed c.args.before n (seen c.use_copy-in-Done.new.self) (seen c.lead.new.self)) at c.lead.ensures.led in
+    let led : IsLed c.args.before (seen s).copy_next (seen (kept c.use_copy-in-Done.new.self)) (seen (kept c.lead.new.self)) = subst (λ n. IsLed c.args.before n (seen (kept c.use_copy-in-Done.new.self)) (seen (kept c.lead.new.self))) at c.lead.ensures.led in
     copied_spare used led c.requires.victim dead (copy_within s is tied room) (within_mid used c.args.before (within_length s is c.args.before (is.places.each c.args.before c.args.held c.requires.live).within)) cut
     (shows ∙ sym (ap shown_by has ∙ c.program_page.ensures.shows)) spare
 
 pub returns-in-Done-clause-alone : goal.returns-in-Done-clause-alone
 returns-in-Done-clause-alone g c t =
-    let s = c.args.self.now in
+    let s = kept c.args.self.now in
     let is = c.requires.formed in
     let tied = c.requires.tied in
     let room = c.requires.room in
-    let after = s.target * c.pages.result + s.filled in
-    let at : after ≡ (seen s).copy_next = ap (λ n. s.target * n + s.filled) c.pages.ensures in
+    let after = c.in-Some.after in
+    let at : after ≡ (seen s).copy_next = c.in-Some.ensures.some.1 in
     let dead = copy_dead s is tied room in
     let value = written (page_with c.args.buf.now.main c.args.held.tag c.args.held.stamp c.wear-wear.result) in
     let old = g.M.Nand.contents c.args.media.now in
@@ -201,12 +202,12 @@ returns-in-Done-clause-alone g c t =
 
 pub returns-in-Done-clause-crash : goal.returns-in-Done-clause-crash
 returns-in-Done-clause-crash g c t =
-    let s = c.args.self.now in
+    let s = kept c.args.self.now in
     let is = c.requires.formed in
     let tied = c.requires.tied in
     let room = c.requires.room in
-    let after = s.target * c.pages.result + s.filled in
-    let at : after ≡ (seen s).copy_next = ap (λ n. s.target * n + s.filled) c.pages.ensures in
+    let after = c.in-Some.after in
+    let at : after ≡ (seen s).copy_next = c.in-Some.ensures.some.1 in
     let dead = copy_dead s is tied room in
     let block : after / s.blocks.size ≡ s.target = ap (λ n. n / s.blocks.size) at ∙ copy_block s is tied room in
     let worn : c.wear-wear.result ≡ wear_of (seen s) (after / s.blocks.size) = c.wear-wear.ensures ∙ sym (wear_used (use_in s.blocks (after / s.blocks.size)) (soiled (seen s) (after / s.blocks.size)) (ap (λ (b : ℕ). (use_in s.blocks b).is_kept) block ∙ copy_in_use s is tied room) ∙ (ap (λ (b : ℕ). (use_in s.blocks b).wear) block ∙ ap (λ (u : Use). u.wear) (use_here s.blocks s.target tied.phases.target_in))) in
@@ -215,5 +216,5 @@ returns-in-Done-clause-crash g c t =
 
 pub returns-in-Failed-clause-kept : goal.returns-in-Failed-clause-kept
 returns-in-Failed-clause-kept g c not =
-    let s = c.args.self.now in
+    let s = kept c.args.self.now in
     (refl, unmoved c.use_copy.ensures.used (copy_dead s c.requires.formed c.requires.tied c.requires.room).dead)

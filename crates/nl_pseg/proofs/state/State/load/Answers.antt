@@ -3,17 +3,19 @@ use Rattle.std.specs.Vec.{with_item}
 use Rattle.std.proofs.lemmas.List.{get_or-set_other}
 use Rattle.std.proofs.lemmas.Option.{none-some}
 use Rattle.std.proofs.lemmas.Bool.{cases_eq, true≢false}
-use Rattle.nl_blocks.specs.Table.{HasBlock, Table, block_at}
+use Rattle.nl_blocks.specs.Table.{block_at}
+use Rattle.nl_blocks.specs.Used.{is_active_state, is_target_state}
 use Rattle.nl_remap.specs.Table.{IsOld}
 use Rattle.nl_pseg.specs.Segment.{Use, InSegment, held_at, is_kept}
 use Rattle.nl_pseg.specs.Seen.{IsPlace, seen, use_in}
 use Rattle.nl_pseg.specs.Steps.{IsIdle, SameNumbers}
 use Rattle.nl_pseg.specs.declared.held.Held.{Held}
-use Rattle.nl_pseg.specs.declared.state.State.{State}
+use Rattle.nl_pseg.specs.Kept.{Kept, kept}
 use Rattle.nl_pseg.proofs.Forms.{formed_page, formed_restated, use_places, next_is, left_is}
 use Rattle.nl_pseg.proofs.Numbers.{block_of}
+use Rattle.nl_pseg.proofs.Closed.{closed_by, marked_closing, shut_used}
 use Rattle.nl_pseg.proofs.Gone.{old_told}
-use Rattle.nl_pseg.proofs.Segments.{IsApart, apart_taken, held_places, set_held}
+use Rattle.nl_pseg.proofs.Segments.{IsApart, apart_still, apart_taken, held_places, set_held}
 use Rattle.nl_pseg.proofs.Served.{idle_copy, idle_next, sealed_set, served_tied}
 use Rattle.nl_pseg.proofs.States.{next_block}
 use Rattle.nl_pseg.proofs.Tables.{numbers_then}
@@ -21,92 +23,141 @@ use Rattle.nl_pseg.proofs.state.State.load.Goals as goal
 
 pub returns-clause-formed : goal.returns-clause-formed
 returns-clause-formed c =
-    let s = c.close.new.self in
-    let is = c.close.ensures.formed in
+    let s = closed_by c.args.self.now c.mark.new.blocks in
+    let e = marked_closing c.args.self.now c.requires.formed c.requires.tied (c.args.page / c.pages.result) c.args.page _ c.shut.new.blocks c.mark.new.blocks c.shut.ensures.restated c.shut.ensures.state
+    (ap (λ k. c.args.page / k) (c.shut.ensures.restated.numbers.same_size ∙ sym c.pages.ensures)) c.mark.ensures.same c.mark.ensures.states c.mark.ensures.uses c.mark.ensures.fills in
+    let is = e.formed in
     let block = c.args.page / c.pages.result in
     let t = c.mark.new.blocks in
-    let first = formed_restated s c.shut.new.blocks block _ false is c.shut.ensures.restated c.close.ensures.idle (λ yes. absurd (true≢false (sym yes))) in
-    let mid : State = record s { blocks = c.shut.new.blocks } in
+    let first = formed_restated s c.shut.new.blocks block _ false is c.shut.ensures.restated e.idle (λ yes. absurd (true≢false (sym yes))) in
+    let mid : Kept = record s { blocks = c.shut.new.blocks } in
     let same = c.mark.ensures.same in
     let active = λ (room : s.used < c.shut.new.blocks.size). c.mark.ensures.states s.active ∙ first.taken room in
-    let x : State = record s { blocks = t } in
+    let x : Kept = record s { blocks = t } in
     let h : Held = record { tag = c.args.tag; stamp = c.args.stamp } in
     let n = numbers_then c.shut.ensures.restated.numbers c.mark.ensures.same.numbers in
-    let size = ap (λ (k : Table). k.size) c.close.ensures.table in
-    let same_block : c.args.page / t.size ≡ block = ap (λ k. c.args.page / k) (n.same_size ∙ (size ∙ sym c.pages.ensures)) in
+    let same_block : c.args.page / t.size ≡ block = ap (λ k. c.args.page / k) (n.same_size ∙ sym c.pages.ensures) in
     let free : is_kept (seen x) block ≡ false = ap (λ (u : Use). u.is_kept) (c.mark.ensures.same.uses block ∙ c.shut.ensures.restated.here) in
     let within : InSegment (seen x) c.args.page =
-    (let low : t.first * t.size ≡ c.args.self.now.blocks.first * c.args.self.now.blocks.size = (λ i. (n.same_first ∙ ap (λ (k : Table). k.first) c.close.ensures.table) i * (n.same_size ∙ size) i) in
-    let count : length t.blocks ≡ length c.args.self.now.blocks.blocks = n.same_count ∙ ap (λ (k : Table). length k.blocks) c.close.ensures.table in
-    let high : (t.first + length t.blocks) * t.size ≡ (c.args.self.now.blocks.first + length c.args.self.now.blocks.blocks) * c.args.self.now.blocks.size = (λ i. ((n.same_first ∙ ap (λ (k : Table). k.first) c.close.ensures.table) i + count i) * (n.same_size ∙ size) i) in
+    (let low : t.first * t.size ≡ c.args.self.now.blocks.first * c.args.self.now.blocks.size = (λ i. n.same_first i * n.same_size i) in
+    let count : length t.blocks ≡ length c.args.self.now.blocks.blocks = n.same_count in
+    let high : (t.first + length t.blocks) * t.size ≡ (c.args.self.now.blocks.first + length c.args.self.now.blocks.blocks) * c.args.self.now.blocks.size = (λ i. (n.same_first i + count i) * n.same_size i) in
     (omega (arith, low, c.requires.dead.within.0), omega (arith, high, c.requires.dead.within.1))) in
     let place : IsPlace (record (seen x) { held = set s.held.items c.args.page (Some h) }) c.args.page h = record {
       within = within;
       in_use = ap (λ b. (use_in t b).is_kept) same_block ∙ free;
       behind = λ next.
           let room : s.used < t.size = omega (arith, next.0, next.1) in
-          c.close.ensures.idle (subst (λ k. s.used < k) n.same_size room) (sym same_block ∙ block_of c.args.page t.size s.active (omega (arith, next.0)) (omega (arith, next.1, room)));
+          e.idle (subst (λ k. s.used < k) n.same_size room) (sym same_block ∙ block_of c.args.page t.size s.active (omega (arith, next.0)) (omega (arith, next.1, room)));
       spelled = c.requires.stamp;
     } in
     let pages = is.pages in
-    let bound : (s.blocks.first + length s.blocks.blocks) * s.blocks.size ≡ (c.args.self.now.blocks.first + length c.args.self.now.blocks.blocks) * c.args.self.now.blocks.size = ap (λ (k : Table). (k.first + length k.blocks) * k.size) c.close.ensures.table in
+    let bound : (s.blocks.first + length s.blocks.blocks) * s.blocks.size ≡ (c.args.self.now.blocks.first + length c.args.self.now.blocks.blocks) * c.args.self.now.blocks.size = refl in
     let below : c.args.page < length s.held.items = omega (arith, pages, bound, c.requires.dead.within.1) in
     formed_page mid first t same c.args.page (Some h) c.mark.ensures.marked below active
     (held_places c.args.page h (record { range_first = refl; range_blocks = refl; range_size = refl }) refl below place (λ b was. was) (λ p next. next) (use_places mid t first same))
+
+pub mark-requires-clause-rising : goal.mark-requires-clause-rising
+mark-requires-clause-rising c = c.shut.ensures.restated.marks.rises c.requires.formed.marked.rising
+
+pub mark-requires-clause-used : goal.mark-requires-clause-used
+mark-requires-clause-used c =
+    let n = c.shut.ensures.restated.numbers in
+    let at : c.args.page / c.shut.new.blocks.size ≡ c.args.page / c.pages.result = ap (λ k. c.args.page / k) (n.same_size ∙ sym c.pages.ensures) in
+    let less = shut_used is_active_state c.shut.new.blocks c.args.page (subst (λ k. 0 < k) (sym n.same_size) c.requires.formed.some) (ap (λ b. is_active_state (block_at c.shut.new.blocks b).state) at ∙ ap is_active_state c.shut.ensures.state) in
+    omega (arith, less)
+
+pub mark-requires-clause-filled : goal.mark-requires-clause-filled
+mark-requires-clause-filled c =
+    let n = c.shut.ensures.restated.numbers in
+    let at : c.args.page / c.shut.new.blocks.size ≡ c.args.page / c.pages.result = ap (λ k. c.args.page / k) (n.same_size ∙ sym c.pages.ensures) in
+    let less = shut_used is_target_state c.shut.new.blocks c.args.page (subst (λ k. 0 < k) (sym n.same_size) c.requires.formed.some) (ap (λ b. is_target_state (block_at c.shut.new.blocks b).state) at ∙ ap is_target_state c.shut.ensures.state) in
+    omega (arith, less)
+
+pub returns-clause-left : goal.returns-clause-left
+returns-clause-left c =
+    let e = marked_closing c.args.self.now c.requires.formed c.requires.tied (c.args.page / c.pages.result) c.args.page _ c.shut.new.blocks c.mark.new.blocks c.shut.ensures.restated c.shut.ensures.state
+    (ap (λ k. c.args.page / k) (c.shut.ensures.restated.numbers.same_size ∙ sym c.pages.ensures)) c.mark.ensures.same c.mark.ensures.states c.mark.ensures.uses c.mark.ensures.fills in
+    let n = numbers_then c.shut.ensures.restated.numbers c.mark.ensures.same.numbers in
+    let size = n.same_size in
+    let less = e.left in
+    omega (arith, size, less)
 
 pub returns-clause-wears : goal.returns-clause-wears
 returns-clause-wears c b =
     let block = c.args.page / c.pages.result in
     ap (λ (u : Use). u.wear) (c.mark.ensures.same.uses b) ∙ (⊎_elim
-    (λ at. ap (λ n. (use_in c.shut.new.blocks n).wear) at ∙ (ap (λ (u : Use). u.wear) c.shut.ensures.restated.here ∙ ap (λ n. (use_in c.close.new.self.blocks n).wear) (sym at)))
+    (λ at. ap (λ n. (use_in c.shut.new.blocks n).wear) at ∙ (ap (λ (u : Use). u.wear) c.shut.ensures.restated.here ∙ ap (λ n. (use_in c.args.self.now.blocks n).wear) (sym at)))
     (λ ne. ap (λ (u : Use). u.wear) (c.shut.ensures.restated.others b ne))
-    (cases_eq b block)
-    ∙ ap (λ u. (use_in u b).wear) c.close.ensures.table)
+    (cases_eq b block))
 
 pub returns-clause-erased : goal.returns-clause-erased
 returns-clause-erased c p taken =
-    let s = c.close.new.self in
-    let is = c.close.ensures.formed in
+    let s = closed_by c.args.self.now c.mark.new.blocks in
+    let e = marked_closing c.args.self.now c.requires.formed c.requires.tied (c.args.page / c.pages.result) c.args.page _ c.shut.new.blocks c.mark.new.blocks c.shut.ensures.restated c.shut.ensures.state
+    (ap (λ k. c.args.page / k) (c.shut.ensures.restated.numbers.same_size ∙ sym c.pages.ensures)) c.mark.ensures.same c.mark.ensures.states c.mark.ensures.uses c.mark.ensures.fills in
+    let is = e.formed in
     let block = c.args.page / c.pages.result in
     let t = c.mark.new.blocks in
     let n = numbers_then c.shut.ensures.restated.numbers c.mark.ensures.same.numbers in
-    let size = ap (λ (x : Table). x.size) c.close.ensures.table in
     let apart : IsApart block (seen s) (record (seen (record s { blocks = t })) { held = set s.held.items c.args.page (Some (record { tag = c.args.tag; stamp = c.args.stamp })) }) = record {
       range = record { range_first = n.same_first; range_blocks = λ i. n.same_first i + n.same_count i; range_size = n.same_size };
       next = next_is s is t n;
       left = left_is s is t n;
-      idle = λ q next at. let room : s.used < s.blocks.size = omega (arith, next.0, next.1) in c.close.ensures.idle room (sym at ∙ next_block s is room q next);
+      idle = λ q next at. let room : s.used < s.blocks.size = omega (arith, next.0, next.1) in e.idle room (sym at ∙ next_block s is room q next);
       others_kept = λ b ne. ap (λ (u : Use). u.is_kept) (c.mark.ensures.same.uses b ∙ c.shut.ensures.restated.others b ne);
       others_soiled = λ b ne. refl;
       gone = λ free clean. true≢false (sym free ∙ ap (λ (u : Use). u.is_kept) (c.mark.ensures.same.uses block ∙ c.shut.ensures.restated.here));
     } in
     let out = apart_taken apart p taken in
-    (c.close.ensures.erased p out.0, λ at. out.1 (ap (λ k. p / k) size ∙ (at ∙ ap (λ k. c.args.page / k) (sym c.pages.ensures))))
+    (e.erased p out.0, λ at. out.1 (at ∙ ap (λ k. c.args.page / k) (sym c.pages.ensures)))
+
+pub returns-clause-still : goal.returns-clause-still
+returns-clause-still c p taken ne =
+    let s = closed_by c.args.self.now c.mark.new.blocks in
+    let e = marked_closing c.args.self.now c.requires.formed c.requires.tied (c.args.page / c.pages.result) c.args.page _ c.shut.new.blocks c.mark.new.blocks c.shut.ensures.restated c.shut.ensures.state
+    (ap (λ k. c.args.page / k) (c.shut.ensures.restated.numbers.same_size ∙ sym c.pages.ensures)) c.mark.ensures.same c.mark.ensures.states c.mark.ensures.uses c.mark.ensures.fills in
+    let is = e.formed in
+    let block = c.args.page / c.pages.result in
+    let t = c.mark.new.blocks in
+    let n = numbers_then c.shut.ensures.restated.numbers c.mark.ensures.same.numbers in
+    let apart : IsApart block (seen s) (record (seen (record s { blocks = t })) { held = set s.held.items c.args.page (Some (record { tag = c.args.tag; stamp = c.args.stamp })) }) = record {
+      range = record { range_first = n.same_first; range_blocks = λ i. n.same_first i + n.same_count i; range_size = n.same_size };
+      next = next_is s is t n;
+      left = left_is s is t n;
+      idle = λ q next at. let room : s.used < s.blocks.size = omega (arith, next.0, next.1) in e.idle room (sym at ∙ next_block s is room q next);
+      others_kept = λ b ne. ap (λ (u : Use). u.is_kept) (c.mark.ensures.same.uses b ∙ c.shut.ensures.restated.others b ne);
+      others_soiled = λ b ne. refl;
+      gone = λ free clean. true≢false (sym free ∙ ap (λ (u : Use). u.is_kept) (c.mark.ensures.same.uses block ∙ c.shut.ensures.restated.here));
+    } in
+    let away : p / s.blocks.size ≡ block → ⊥ = (λ at. ne (at ∙ ap (λ k. c.args.page / k) c.pages.ensures)) in
+    apart_still apart p (e.still p taken away) away
 
 pub returns-clause-tied : goal.returns-clause-tied
 returns-clause-tied c =
-    let s = c.args.self.now in
-    let m = c.close.new.self in
-    let e = c.close.ensures in
+    let s = kept c.args.self.now in
+    let m = closed_by c.args.self.now c.mark.new.blocks in
+    let e = marked_closing c.args.self.now c.requires.formed c.requires.tied (c.args.page / c.pages.result) c.args.page _ c.shut.new.blocks c.mark.new.blocks c.shut.ensures.restated c.shut.ensures.state
+    (ap (λ k. c.args.page / k) (c.shut.ensures.restated.numbers.same_size ∙ sym c.pages.ensures)) c.mark.ensures.same c.mark.ensures.states c.mark.ensures.uses c.mark.ensures.fills in
     let r = c.shut.ensures.restated in
     let t = c.mark.new.blocks in
     let block = c.args.page / c.pages.result in
     let h : Held = record { tag = c.args.tag; stamp = c.args.stamp } in
-    let x : State = record m { held = with_item m.held c.args.page (Some h); blocks = t } in
-    let n : SameNumbers s.blocks t = subst (λ u. SameNumbers u t) e.table (numbers_then r.numbers c.mark.ensures.same.numbers) in
-    let i : IsIdle block s x = record { active = e.shut.active; target = e.shut.target; used = e.shut.used; filled = e.shut.filled } in
+    let x : Kept = record m { held = with_item m.held c.args.page (Some h); blocks = t } in
+    let n : SameNumbers s.blocks t = numbers_then r.numbers c.mark.ensures.same.numbers in
+    let i : IsIdle block s x = record { active = refl; target = refl; used = e.shut.used; filled = e.shut.filled } in
     let state = c.mark.ensures.states block ∙ c.shut.ensures.state in
     let at : c.args.page / s.blocks.size ≡ block = ap (λ k. c.args.page / k) (sym c.pages.ensures) in
     let count = c.requires.formed.pages in
     let below : c.args.page < length s.held.items = omega (arith, count, c.requires.dead.within.1) in
-    let held : x.held.items ≡ set s.held.items c.args.page (Some h) = ap (λ (l : List (Option Held)). set l c.args.page (Some h)) e.held in
+    let held : x.held.items ≡ set s.held.items c.args.page (Some h) = refl in
     let dead : held_at (seen s) c.args.page ≡ None = c.requires.dead.dead in
-    served_tied s x c.requires.tied block i n c.requires.none (ap (λ (q : State). q.victim) e.same) (sealed_set _ state)
-    (λ b has_b ne. c.mark.ensures.states b ∙ (r.states b (subst (λ u. HasBlock u b) (sym e.table) has_b) ne ∙ ap (λ u. (block_at u b).state) e.table))
-    (ap (λ (q : State). q.names) e.same)
+    served_tied s x c.requires.tied block i n c.requires.none refl (sealed_set _ state)
+    (λ b has_b ne. c.mark.ensures.states b ∙ r.states b has_b ne)
+    refl
     (λ k old. ap (λ (u : Use). u.is_free) (c.mark.ensures.same.uses (k / s.blocks.size)) ∙ ⊎_elim
     (λ q. ap (λ b. (use_in c.shut.new.blocks b).is_free) q ∙ ap (λ (u : Use). u.is_free) r.here)
-    (λ ne. ap (λ (u : Use). u.is_free) (r.others (k / s.blocks.size) ne) ∙ (ap (λ u. (use_in u (k / s.blocks.size)).is_free) e.table ∙ (c.requires.tied.named.standing k old).in_use))
+    (λ ne. ap (λ (u : Use). u.is_free) (r.others (k / s.blocks.size) ne) ∙ (c.requires.tied.named.standing k old).in_use)
     (cases_eq (k / s.blocks.size) block))
     (λ k is. absurd (cc (sym state ∙ is)))
     (λ p g live. ⊎_elim
@@ -117,24 +168,26 @@ returns-clause-tied c =
 
 pub returns-clause-next : goal.returns-clause-next
 returns-clause-next c p next =
-    let s = c.args.self.now in
-    let m = c.close.new.self in
-    let e = c.close.ensures in
+    let s = kept c.args.self.now in
+    let m = closed_by c.args.self.now c.mark.new.blocks in
+    let e = marked_closing c.args.self.now c.requires.formed c.requires.tied (c.args.page / c.pages.result) c.args.page _ c.shut.new.blocks c.mark.new.blocks c.shut.ensures.restated c.shut.ensures.state
+    (ap (λ k. c.args.page / k) (c.shut.ensures.restated.numbers.same_size ∙ sym c.pages.ensures)) c.mark.ensures.same c.mark.ensures.states c.mark.ensures.uses c.mark.ensures.fills in
     let t = c.mark.new.blocks in
     let block = c.args.page / c.pages.result in
     let h : Held = record { tag = c.args.tag; stamp = c.args.stamp } in
-    let x : State = record m { held = with_item m.held c.args.page (Some h); blocks = t } in
-    let n : SameNumbers s.blocks t = subst (λ u. SameNumbers u t) e.table (numbers_then c.shut.ensures.restated.numbers c.mark.ensures.same.numbers) in
-    (idle_next s x block (record { active = e.shut.active; target = e.shut.target; used = e.shut.used; filled = e.shut.filled }) n p next).0
+    let x : Kept = record m { held = with_item m.held c.args.page (Some h); blocks = t } in
+    let n : SameNumbers s.blocks t = numbers_then c.shut.ensures.restated.numbers c.mark.ensures.same.numbers in
+    (idle_next s x block (record { active = refl; target = refl; used = e.shut.used; filled = e.shut.filled }) n p next).0
 
 pub returns-clause-copies : goal.returns-clause-copies
 returns-clause-copies c p next =
-    let s = c.args.self.now in
-    let m = c.close.new.self in
-    let e = c.close.ensures in
+    let s = kept c.args.self.now in
+    let m = closed_by c.args.self.now c.mark.new.blocks in
+    let e = marked_closing c.args.self.now c.requires.formed c.requires.tied (c.args.page / c.pages.result) c.args.page _ c.shut.new.blocks c.mark.new.blocks c.shut.ensures.restated c.shut.ensures.state
+    (ap (λ k. c.args.page / k) (c.shut.ensures.restated.numbers.same_size ∙ sym c.pages.ensures)) c.mark.ensures.same c.mark.ensures.states c.mark.ensures.uses c.mark.ensures.fills in
     let t = c.mark.new.blocks in
     let block = c.args.page / c.pages.result in
     let h : Held = record { tag = c.args.tag; stamp = c.args.stamp } in
-    let x : State = record m { held = with_item m.held c.args.page (Some h); blocks = t } in
-    let n : SameNumbers s.blocks t = subst (λ u. SameNumbers u t) e.table (numbers_then c.shut.ensures.restated.numbers c.mark.ensures.same.numbers) in
-    (idle_copy s x block (record { active = e.shut.active; target = e.shut.target; used = e.shut.used; filled = e.shut.filled }) n p next).0
+    let x : Kept = record m { held = with_item m.held c.args.page (Some h); blocks = t } in
+    let n : SameNumbers s.blocks t = numbers_then c.shut.ensures.restated.numbers c.mark.ensures.same.numbers in
+    (idle_copy s x block (record { active = refl; target = refl; used = e.shut.used; filled = e.shut.filled }) n p next).0

@@ -10,6 +10,7 @@ use Rattle.nl_pseg.specs.Seen.{seen}
 use Rattle.nl_pseg.specs.declared.held.Held.{Held}
 use Rattle.nl_pseg.proofs.Gone.{old_told}
 use Rattle.nl_pseg.proofs.States.{within_length}
+use Rattle.nl_pseg.specs.Kept.{kept}
 use Rattle.nl_pseg.proofs.state.State.load_as.Goals as goal
 
 abbrev num : Bool → ℕ
@@ -23,25 +24,25 @@ lead_from-requires-clause-room c =
 
 pub lead_from-requires-clause-fresh : goal.lead_from-requires-clause-fresh
 lead_from-requires-clause-fresh c old =
-    (c.requires.away c.if-at-page.false).fresh (old_told c.args.self.now.names.pairs c.args.at.name (subst (λ (t : NameTable). IsOld t.pairs c.args.at.name) c.load.ensures.names old))
+    (c.requires.away c.if-at-page.false).fresh (old_told (kept c.args.self.now).names.pairs c.args.at.name (subst (λ (t : NameTable). IsOld t.pairs c.args.at.name) c.load.ensures.names old))
 
 pub lead_from-requires-clause-dead : goal.lead_from-requires-clause-dead
 lead_from-requires-clause-dead c =
-    let s = c.args.self.now in
+    let s = kept c.args.self.now in
     let h : Held = record { tag = c.args.tag; stamp = c.args.at.stamp } in
     ap (λ (l : List (Option Held)). get_or l c.args.at.name None) c.load.ensures.held
     ∙ (get_or-set_other s.held.items c.args.page c.args.at.name (Some h) None c.if-at-page.false ∙ (c.requires.away c.if-at-page.false).dead)
 
 pub lead_from-requires-clause-there : goal.lead_from-requires-clause-there
 lead_from-requires-clause-there c =
-    let s = c.args.self.now in
+    let s = kept c.args.self.now in
     let h : Held = record { tag = c.args.tag; stamp = c.args.at.stamp } in
     ap is_some (ap (λ (l : List (Option Held)). get_or l c.args.page None) c.load.ensures.held ∙ get_or-set_same s.held.items c.args.page (Some h) None (within_length s c.requires.formed c.args.page c.requires.dead.within))
 
 pub returns-then-at-page-clause-loads : goal.returns-then-at-page-clause-loads
 returns-then-at-page-clause-loads c =
-    let s = c.args.self.now in
-    let x = c.load.new.self in
+    let s = kept c.args.self.now in
+    let x = kept c.load.new.self in
     let e = c.load.ensures in
     let same = c.if-at-page.true in
     let pairs : (seen x).pairs ≡ (seen s).pairs = ap (λ (t : NameTable). told t.pairs) e.names in
@@ -71,9 +72,9 @@ returns-then-at-page-clause-loads c =
 
 pub returns-clause-loads : goal.returns-clause-loads
 returns-clause-loads c =
-    let s = c.args.self.now in
-    let m = c.load.new.self in
-    let x = c.lead_from.new.self in
+    let s = kept c.args.self.now in
+    let m = kept c.load.new.self in
+    let x = kept c.lead_from.new.self in
     let e = c.load.ensures in
     let l = c.lead_from.ensures.led in
     let ne = c.if-at-page.false in
@@ -125,12 +126,12 @@ returns-clause-loads c =
       copies = λ p next. e.copies p (l.copies p next);
     }
   where
-    back : (p : ℕ) → TakenAsErased (seen c.lead_from.new.self) p → TakenAsErased (seen c.load.new.self) p
+    back : (p : ℕ) → TakenAsErased (seen (kept c.lead_from.new.self)) p → TakenAsErased (seen (kept c.load.new.self)) p
     back p (inl next) = inl (c.lead_from.ensures.led.next p next)
     back p (inr free) =
         let l = c.lead_from.ensures.led in
-        let m = c.load.new.self in
-        let x = c.lead_from.new.self in
+        let m = kept c.load.new.self in
+        let x = kept c.lead_from.new.self in
         inr (
           sym (l.kept (p / m.blocks.size)) ∙ (ap (λ k. is_kept (seen x) (p / k)) (sym l.range.range_size) ∙ free.0),
           ap (λ (k : List (Option ℕ)). is_some (get_or k (p / m.blocks.size) None)) (sym l.soiled) ∙ (ap (λ k. is_soiled (seen x) (p / k)) (sym l.range.range_size) ∙ free.1),

@@ -1,4 +1,6 @@
-use Rattle.std.proofs.Common.{◌≡◌, ⊎_elim, ℕ, ◌/◌, Option, Some, None, List, get_or, sym, ◌∙◌, ap, subst, arith}
+use Rattle.nl_field.specs.CrashStates.{saturated}
+use Rattle.nl_pseg.specs.Space.{HasRoomForVictim}
+use Rattle.std.proofs.Common.{◌≡◌, ⊎_elim, ℕ, ◌/◌, Option, Some, None, List, get_or, sym, ◌∙◌, ap, subst, arith, inl, inr, ◌+◌}
 use Rattle.std.proofs.lemmas.Option.{none-some}
 use Rattle.nl_field.specs.Page.{page_at, written}
 use Rattle.nl_pseg.specs.Cleaning.{IsMoved, programmed_by}
@@ -10,7 +12,8 @@ use Rattle.nl_pseg.specs.Steps.{ReadiedOn}
 use Rattle.nl_pseg.specs.declared.held.Held.{Held}
 use Rattle.nl_pseg.proofs.CopyImages.{keeps_spare, readied_spare}
 use Rattle.nl_pseg.proofs.Moved.{moves_then, none_then, readied_dead, readied_none}
-use Rattle.nl_pseg.proofs.MoveSteps.{if_moved, if_moved_both, landed_counts, landed_crashes, landed_programmed, read_crashes, readied_crashes, readied_read, ready_fault_counts}
+use Rattle.nl_pseg.proofs.MoveSteps.{if_moved, if_moved_both, landed_counts, landed_crashes, landed_programmed, read_crashes, readied_crashes, readied_read, ready_fault_counts, moved_gives, moved_or_not}
+use Rattle.nl_pseg.specs.Kept.{kept}
 use Rattle.nl_pseg.proofs.state.State.move_page.Goals as goal
 
 pub read_page-requires-clause-spelled : goal.read_page-requires-clause-spelled
@@ -33,22 +36,22 @@ returns-in-Failed-clause-kept g c not = readied_none c.ready.ensures.readied
 
 pub returns-in-Failed-clause-spare : goal.returns-in-Failed-clause-spare
 returns-in-Failed-clause-spare g c t spare =
-    let s = c.args.self.now in
+    let s = kept c.args.self.now in
     let held = c.args.held in
     let r = c.ready.ensures.readied in
     let read = c.read_page.ensures in
     let old = g.M.Nand.contents c.args.media.now in
-    let on = readied_read read.contents read.clock read.left (subst (λ x. ReadiedOn g.M.Nand.clock g.M.Nand.contents g.M.Nand.left x (seen s) (seen c.ready.new.self) c.read_page.new.media c.ready.new.media) c.in-Failed.is (c.ready.ensures.medium t)) in
+    let on = readied_read read.contents read.clock read.left (subst (λ x. ReadiedOn g.M.Nand.clock g.M.Nand.contents g.M.Nand.left x (seen s) (seen (kept c.ready.new.self)) c.read_page.new.media c.ready.new.media) c.in-Failed.is (c.ready.ensures.medium t)) in
     readied_spare r (keeps_spare on.keeps spare)
 
 pub returns-in-Failed-clause-crash : goal.returns-in-Failed-clause-crash
 returns-in-Failed-clause-crash g c t =
-    let s = c.args.self.now in
+    let s = kept c.args.self.now in
     let held = c.args.held in
     let r = c.ready.ensures.readied in
     let read = c.read_page.ensures in
     let old = g.M.Nand.contents c.args.media.now in
-    let on = readied_read read.contents read.clock read.left (subst (λ x. ReadiedOn g.M.Nand.clock g.M.Nand.contents g.M.Nand.left x (seen s) (seen c.ready.new.self) c.read_page.new.media c.ready.new.media) c.in-Failed.is (c.ready.ensures.medium t)) in
+    let on = readied_read read.contents read.clock read.left (subst (λ x. ReadiedOn g.M.Nand.clock g.M.Nand.contents g.M.Nand.left x (seen s) (seen (kept c.ready.new.self)) c.read_page.new.media c.ready.new.media) c.in-Failed.is (c.ready.ensures.medium t)) in
     readied_crashes held.tag held.stamp (main_of (page_at old c.args.before)) on
 
 pub returns-in-Failed-clause-counts : goal.returns-in-Failed-clause-counts
@@ -70,26 +73,26 @@ returns-in-Done-ready-clause-clean g c clean = c.land.ensures.clean (c.ready.ens
 
 pub returns-in-Done-ready-clause-spare : goal.returns-in-Done-ready-clause-spare
 returns-in-Done-ready-clause-spare g c t spare =
-    let s = c.args.self.now in
+    let s = kept c.args.self.now in
     let held = c.args.held in
     let r = c.ready.ensures.readied in
     let read = c.read_page.ensures in
     let old = g.M.Nand.contents c.args.media.now in
-    let on = readied_read read.contents read.clock read.left (subst (λ x. ReadiedOn g.M.Nand.clock g.M.Nand.contents g.M.Nand.left x (seen s) (seen c.ready.new.self) c.read_page.new.media c.ready.new.media) c.in-Done-ready.is (c.ready.ensures.medium t)) in
+    let on = readied_read read.contents read.clock read.left (subst (λ x. ReadiedOn g.M.Nand.clock g.M.Nand.contents g.M.Nand.left x (seen s) (seen (kept c.ready.new.self)) c.read_page.new.media c.ready.new.media) c.in-Done-ready.is (c.ready.ensures.medium t)) in
     let value = read.value t c.in-Done.is in
     let main : main_of (page_at old c.args.before) ≡ c.read_page.new.buf.main = ap main_of value in
-    let live : held_at (seen c.ready.new.self) c.args.before ≡ Some held = ap (λ (l : List (Option Held)). get_or l c.args.before None) r.held ∙ c.requires.live in
+    let live : held_at (seen (kept c.ready.new.self)) c.args.before ≡ Some held = ap (λ (l : List (Option Held)). get_or l c.args.before None) r.held ∙ c.requires.live in
     let stays : page_at (g.M.Nand.contents c.ready.new.media) c.args.before ≡ page_at old c.args.before = ⊎_elim (λ same. same) (λ dead. absurd (none-some held (sym dead.0.dead ∙ c.requires.live))) (on.keeps.each c.args.before) in
     c.land.ensures.spare t (on.segment.holds c.args.before held live ∙ ap (λ (m : List ℕ). Some (held.tag, held.stamp, m)) (ap main_of stays ∙ main)) (readied_spare r (keeps_spare on.keeps spare))
 
 pub returns-in-Done-ready-clause-programmed : goal.returns-in-Done-ready-clause-programmed
 returns-in-Done-ready-clause-programmed g c t =
-    let s = c.args.self.now in
+    let s = kept c.args.self.now in
     let held = c.args.held in
     let r = c.ready.ensures.readied in
     let read = c.read_page.ensures in
     let old = g.M.Nand.contents c.args.media.now in
-    let on = readied_read read.contents read.clock read.left (subst (λ x. ReadiedOn g.M.Nand.clock g.M.Nand.contents g.M.Nand.left x (seen s) (seen c.ready.new.self) c.read_page.new.media c.ready.new.media) c.in-Done-ready.is (c.ready.ensures.medium t)) in
+    let on = readied_read read.contents read.clock read.left (subst (λ x. ReadiedOn g.M.Nand.clock g.M.Nand.contents g.M.Nand.left x (seen s) (seen (kept c.ready.new.self)) c.read_page.new.media c.ready.new.media) c.in-Done-ready.is (c.ready.ensures.medium t)) in
     let value = read.value t c.in-Done.is in
     let main : main_of (page_at old c.args.before) ≡ c.read_page.new.buf.main = ap main_of value in
     if_moved_both c.land.result
@@ -102,12 +105,12 @@ returns-in-Done-ready-clause-programmed g c t =
 
 pub returns-in-Done-ready-clause-crash : goal.returns-in-Done-ready-clause-crash
 returns-in-Done-ready-clause-crash g c t =
-    let s = c.args.self.now in
+    let s = kept c.args.self.now in
     let held = c.args.held in
     let r = c.ready.ensures.readied in
     let read = c.read_page.ensures in
     let old = g.M.Nand.contents c.args.media.now in
-    let on = readied_read read.contents read.clock read.left (subst (λ x. ReadiedOn g.M.Nand.clock g.M.Nand.contents g.M.Nand.left x (seen s) (seen c.ready.new.self) c.read_page.new.media c.ready.new.media) c.in-Done-ready.is (c.ready.ensures.medium t)) in
+    let on = readied_read read.contents read.clock read.left (subst (λ x. ReadiedOn g.M.Nand.clock g.M.Nand.contents g.M.Nand.left x (seen s) (seen (kept c.ready.new.self)) c.read_page.new.media c.ready.new.media) c.in-Done-ready.is (c.ready.ensures.medium t)) in
     let value = read.value t c.in-Done.is in
     let main : main_of (page_at old c.args.before) ≡ c.read_page.new.buf.main = ap main_of value in
     subst (λ (m : List ℕ). Crashes g.M.Nand.clock g.M.Nand.contents g.M.Nand.left (seen s) held.tag held.stamp m c.args.media.now c.land.new.media (programmed_by c.land.result)) (sym main)
@@ -118,3 +121,17 @@ returns-in-Done-ready-clause-counts g c =
     let read = c.read_page.ensures in
     landed_counts c.args.media.now c.read_page.new.media c.ready.new.media read.clock (read.read_faults.stays (λ f. cc (f, c.in-Done.is))) read.write_faults c.ready.ensures.clock c.ready.ensures.read_faults c.land.result c.land.ensures.later (λ clean. (c.ready.ensures.clean clean).1)
     (c.ready.ensures.write_faults.stays (λ f. cc (f, c.in-Done-ready.is))) c.land.ensures.clock c.land.ensures.read_faults c.land.ensures.write_faults
+
+pub returns-in-Done-ready-clause-lands : goal.returns-in-Done-ready-clause-lands
+returns-in-Done-ready-clause-lands g c room =
+    let r = c.ready.ensures.readied in
+    let left = r.left in
+    let lands = r.lands in
+    let mid : HasRoomForVictim (seen (kept c.ready.new.self)) = omega (arith, left, lands, room) in
+    ⊎_elim
+    (λ moved. inr (moved_gives c.land.result moved c.land.ensures.moved (λ b a h m. m.3.lands mid)))
+    (λ not.
+    let same = c.ready.ensures.write_faults.stays (λ f. cc (f, c.in-Done-ready.is)) ∙ c.read_page.ensures.write_faults in
+    let rose = c.land.ensures.write_faults.cause (c.land.ensures.kept not).0 ∙ ap (λ k. saturated (k + 1)) same in
+    inl (omega (arith, rose)))
+    (moved_or_not c.land.result)

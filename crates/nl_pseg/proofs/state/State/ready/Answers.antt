@@ -1,4 +1,7 @@
-use Rattle.std.proofs.Common.{◌≡◌, inl, inr, ⊎_elim, ℕ, ◌+◌, ◌*◌, ◌/◌, ◌<◌, ◌≤◌, true, false, refl, sym, ◌∙◌, ap, subst, arith}
+use Rattle.nl_blocks.specs.Used.{is_target_state, used_in}
+use Rattle.nl_pseg.proofs.Taking.{again_counted, none_holds, some_holds, targeted_counted}
+use Rattle.nl_pseg.specs.declared.state.State.{State}
+use Rattle.std.proofs.Common.{◌≡◌, inl, inr, ⊎_elim, ℕ, ◌+◌, ◌*◌, ◌/◌, ◌<◌, ◌≤◌, true, false, refl, sym, ◌∙◌, ap, subst, arith, IfNone, Option, is_some}
 use Rattle.std.proofs.lemmas.Bool.{cases_eq, true≢false}
 use Rattle.nl_field.specs.Page.{Image, erased}
 use Rattle.nl_nand.specs.ImageLaws.{filled_cut}
@@ -7,8 +10,8 @@ use Rattle.nl_nand.proofs.Crashes.{operation}
 use Rattle.nl_nand.proofs.Crashes as crashes
 use Rattle.nl_pseg.specs.Effects.{Keeps}
 use Rattle.nl_pseg.specs.Segment.{Physical, Use, IsPhysicalOf, is_free, is_kept, is_soiled}
-use Rattle.nl_pseg.specs.Seen.{seen, use_in}
-use Rattle.nl_pseg.specs.Steps.{IsReadied, Restated}
+use Rattle.nl_pseg.specs.Seen.{seen, use_in, IsFormed, IsTied}
+use Rattle.nl_pseg.specs.Steps.{IsReadied, Restated, aimed_at}
 use Rattle.nl_pseg.proofs.Aimed.{again_readied, aimed_readied}
 use Rattle.nl_pseg.proofs.Forms.{formed_same}
 use Rattle.nl_pseg.proofs.Images.{erase_keeps, erase_others, keeps_nothing}
@@ -20,21 +23,26 @@ use Rattle.nl_pseg.proofs.Taken.{free_again, free_other}
 use Rattle.nl_pseg.proofs.Tied.{free_apart, free_own}
 use Rattle.nl_blocks.specs.declared.states.BlockState.TheVariants.{Active}
 use Rattle.nl_pseg.proofs.Wearing.{taken_clean, taken_soiled}
+use Rattle.nl_pseg.specs.Kept.{kept, Kept}
 use Rattle.nl_pseg.proofs.state.State.ready.Goals as goal
+
+full_is : (s : State) (next : Option ℕ) → IfNone next (used_in is_target_state s.blocks s.target ≡ s.blocks.size) → is_some next ≡ false → s.blocks.size ≤ (kept s).filled
+full_is s next holds none = let e = none_holds next _ holds none in omega (arith, e)
 
 pub aim-requires-clause-formed : goal.aim-requires-clause-formed
 aim-requires-clause-formed g c =
-    let s = c.args.self.now in
+    let s = kept c.args.self.now in
     let is = c.requires.formed in
     let block = c.take_target-block.result in
     let has = c.take_target-block.ensures.has in
     let free = c.take_target-block.ensures.was_free in
     let r = c.take_target-block.ensures.taken in
-    taken_formed s is block has free c.take_target-block.new.blocks r
+    subst (λ (k : Kept). IsFormed (record k { blocks = c.take_target-block.new.blocks })) (targeted_counted c.args.self.now c.requires.formed c.requires.tied c.take_target-block.new.blocks c.take_target-block.ensures.taken.numbers (full_is c.args.self.now c.next_copy.result c.next_copy.ensures.none (sym c.is_some.ensures ∙ c.if-is_some.false)) c.take_target-block.ensures.used)
+    (taken_formed s is block has free c.take_target-block.new.blocks r)
 
 pub aim-requires-clause-in_use : goal.aim-requires-clause-in_use
 aim-requires-clause-in_use g c p h held at =
-    let s = c.args.self.now in
+    let s = kept c.args.self.now in
     let is = c.requires.formed in
     let block = c.take_target-block.result in
     let has = c.take_target-block.ensures.has in
@@ -44,17 +52,19 @@ aim-requires-clause-in_use g c p h held at =
 
 pub aim-requires-in-Done-clause-formed : goal.aim-requires-in-Done-clause-formed
 aim-requires-in-Done-clause-formed g c =
-    let s = c.args.self.now in
+    let s = kept c.args.self.now in
     let is = c.requires.formed in
     let block = c.take_target-block.result in
     let has = c.take_target-block.ensures.has in
     let free = c.take_target-block.ensures.was_free in
     let r = taken_soiled s c.take_target-block.new.blocks c.wear_out.new.blocks block free (sym c.is_soiled.ensures ∙ c.if-not-is_soiled.false) c.take_target-block.ensures.taken c.wear_out.ensures.worn in
-    taken_formed s is block has free c.wear_out.new.blocks r
+    subst (λ (k : Kept). IsFormed (record k { blocks = c.wear_out.new.blocks })) (targeted_counted c.args.self.now c.requires.formed c.requires.tied c.wear_out.new.blocks (restated_again c.take_target-block.ensures.taken c.wear_out.ensures.worn).numbers (full_is c.args.self.now c.next_copy.result c.next_copy.ensures.none (sym c.is_some.ensures ∙ c.if-is_some.false))
+    (λ b has_b. c.wear_out.ensures.fill.used b (has_same b c.take_target-block.ensures.taken.numbers has_b) ∙ c.take_target-block.ensures.used b has_b))
+    (taken_formed s is block has free c.wear_out.new.blocks r)
 
 pub aim-requires-in-Done-clause-in_use : goal.aim-requires-in-Done-clause-in_use
 aim-requires-in-Done-clause-in_use g c p h held at =
-    let s = c.args.self.now in
+    let s = kept c.args.self.now in
     let is = c.requires.formed in
     let block = c.take_target-block.result in
     let has = c.take_target-block.ensures.has in
@@ -64,31 +74,34 @@ aim-requires-in-Done-clause-in_use g c p h held at =
 
 pub returns-then-not-is_soiled-clause-readied : goal.returns-then-not-is_soiled-clause-readied
 returns-then-not-is_soiled-clause-readied g c =
-    let s = c.args.self.now in
+    let s = kept c.args.self.now in
     let is = c.requires.formed in
     let block = c.take_target-block.result in
     let has = c.take_target-block.ensures.has in
     let free = c.take_target-block.ensures.was_free in
     let r = taken_clean s c.take_target-block.new.blocks block (sym c.is_soiled.ensures ∙ c.if-not-is_soiled.true) c.take_target-block.ensures.taken in
-    let full : s.blocks.size ≤ s.filled = (let f = c.if-self-pages.false in let e = c.pages.ensures in omega (arith, f, e)) in
+    let full : s.blocks.size ≤ s.filled = (full_is c.args.self.now c.next_copy.result c.next_copy.ensures.none (sym c.is_some.ensures ∙ c.if-is_some.false)) in
     subst (IsReadied (seen s)) (sym c.aim.ensures.aimed)
-    (aimed_readied s is c.requires.tied c.take_target-block.new.blocks block c.count.ensures.table c.count-2.ensures.table full r free)
+    (subst (λ (k : Kept). IsReadied (seen s) (aimed_at (seen (record k { blocks = c.take_target-block.new.blocks })) block)) (targeted_counted c.args.self.now c.requires.formed c.requires.tied c.take_target-block.new.blocks c.take_target-block.ensures.taken.numbers (full_is c.args.self.now c.next_copy.result c.next_copy.ensures.none (sym c.is_some.ensures ∙ c.if-is_some.false)) c.take_target-block.ensures.used)
+    (aimed_readied s is c.requires.tied c.take_target-block.new.blocks block c.count.ensures.table c.count-2.ensures.table full r free))
 
 pub returns-in-Done-clause-readied : goal.returns-in-Done-clause-readied
 returns-in-Done-clause-readied g c =
-    let s = c.args.self.now in
+    let s = kept c.args.self.now in
     let is = c.requires.formed in
     let block = c.take_target-block.result in
     let has = c.take_target-block.ensures.has in
     let free = c.take_target-block.ensures.was_free in
     let r = taken_soiled s c.take_target-block.new.blocks c.wear_out.new.blocks block free (sym c.is_soiled.ensures ∙ c.if-not-is_soiled.false) c.take_target-block.ensures.taken c.wear_out.ensures.worn in
-    let full : s.blocks.size ≤ s.filled = (let f = c.if-self-pages.false in let e = c.pages.ensures in omega (arith, f, e)) in
+    let full : s.blocks.size ≤ s.filled = (full_is c.args.self.now c.next_copy.result c.next_copy.ensures.none (sym c.is_some.ensures ∙ c.if-is_some.false)) in
     subst (IsReadied (seen s)) (sym c.aim-in-Done.ensures.aimed)
-    (aimed_readied s is c.requires.tied c.wear_out.new.blocks block c.count.ensures.table c.count-in-Done.ensures.table full r free)
+    (subst (λ (k : Kept). IsReadied (seen s) (aimed_at (seen (record k { blocks = c.wear_out.new.blocks })) block)) (targeted_counted c.args.self.now c.requires.formed c.requires.tied c.wear_out.new.blocks (restated_again c.take_target-block.ensures.taken c.wear_out.ensures.worn).numbers (full_is c.args.self.now c.next_copy.result c.next_copy.ensures.none (sym c.is_some.ensures ∙ c.if-is_some.false))
+    (λ b has_b. c.wear_out.ensures.fill.used b (has_same b c.take_target-block.ensures.taken.numbers has_b) ∙ c.take_target-block.ensures.used b has_b))
+    (aimed_readied s is c.requires.tied c.wear_out.new.blocks block c.count.ensures.table c.count-in-Done.ensures.table full r free))
 
 pub returns-then-not-is_soiled-clause-medium : goal.returns-then-not-is_soiled-clause-medium
 returns-then-not-is_soiled-clause-medium g c t =
-    let s = c.args.self.now in
+    let s = kept c.args.self.now in
     let is = c.requires.formed in
     let block = c.take_target-block.result in
     let has = c.take_target-block.ensures.has in
@@ -97,8 +110,10 @@ returns-then-not-is_soiled-clause-medium g c t =
     let image = g.M.Nand.contents c.args.media.now in
     let clean : is_soiled (seen s) block ≡ false = sym c.is_soiled.ensures ∙ c.if-not-is_soiled.true in
     record {
-      segment = subst (IsPhysicalOf image) (sym c.aim.ensures.aimed) (aimed_segment s is block has free c.take_target-block.new.blocks r (c.requires.segment t) (λ p ne. refl)
-          (λ p at. (c.requires.segment t).blank p (inr (ap (is_kept (seen s)) at ∙ free_kept s.blocks block free, ap (is_soiled (seen s)) at ∙ clean))));
+      segment = subst (IsPhysicalOf image) (sym c.aim.ensures.aimed)
+          (subst (λ (k : Kept). IsPhysicalOf image (aimed_at (seen (record k { blocks = c.take_target-block.new.blocks })) block)) (targeted_counted c.args.self.now c.requires.formed c.requires.tied c.take_target-block.new.blocks c.take_target-block.ensures.taken.numbers (full_is c.args.self.now c.next_copy.result c.next_copy.ensures.none (sym c.is_some.ensures ∙ c.if-is_some.false)) c.take_target-block.ensures.used)
+          (aimed_segment s is block has free c.take_target-block.new.blocks r (c.requires.segment t) (λ p ne. refl)
+          (λ p at. (c.requires.segment t).blank p (inr (ap (is_kept (seen s)) at ∙ free_kept s.blocks block free, ap (is_soiled (seen s)) at ∙ clean)))));
       keeps = keeps_nothing (seen s) image;
       crash = crashes.start c.args.media.now (λ m i. Keeps (seen s) image i);
       others = λ done p. inl refl;
@@ -106,7 +121,7 @@ returns-then-not-is_soiled-clause-medium g c t =
 
 pub returns-in-Done-clause-medium : goal.returns-in-Done-clause-medium
 returns-in-Done-clause-medium g c t =
-    let s = c.args.self.now in
+    let s = kept c.args.self.now in
     let is = c.requires.formed in
     let block = c.take_target-block.result in
     let has = c.take_target-block.ensures.has in
@@ -120,9 +135,12 @@ returns-in-Done-clause-medium g c t =
     let inside = λ (p : ℕ) (at : p / s.blocks.size ≡ block).
     (let w = in_block p s.blocks.size block is.some at in
     filled.inside p (subst (λ n. block * n ≤ p) (sym c.requires.fits.pages) w.0) (subst (λ n. p < block * n + n) (sym c.requires.fits.pages) w.1)) in
-    let next : (seen c.aim-in-Done.new.self).copy_next / s.blocks.size ≡ block = ap (λ (x : Physical). x.copy_next / s.blocks.size) c.aim-in-Done.ensures.aimed ∙ (let e = r.numbers.same_size in let a : block * c.wear_out.new.blocks.size ≡ block * s.blocks.size = ap (λ n. block * n) e in block_of (block * c.wear_out.new.blocks.size) s.blocks.size block (omega (arith, a)) (let some = is.some in omega (arith, a, some))) in
+    let next : (seen (kept c.aim-in-Done.new.self)).copy_next / s.blocks.size ≡ block = ap (λ (x : Physical). x.copy_next / s.blocks.size) c.aim-in-Done.ensures.aimed ∙ (let e = r.numbers.same_size in let a : block * c.wear_out.new.blocks.size ≡ block * s.blocks.size = ap (λ n. block * n) e in block_of (block * c.wear_out.new.blocks.size) s.blocks.size block (omega (arith, a)) (let some = is.some in omega (arith, a, some))) in
     record {
-      segment = subst (IsPhysicalOf (g.M.Nand.contents c.erase.new.self)) (sym c.aim-in-Done.ensures.aimed) (aimed_segment s is block has free c.wear_out.new.blocks r (c.requires.segment t) (erase_others block pages s.blocks.size c.requires.fits.pages (filled_cut filled)) inside);
+      segment = subst (IsPhysicalOf (g.M.Nand.contents c.erase.new.self)) (sym c.aim-in-Done.ensures.aimed)
+          (subst (λ (k : Kept). IsPhysicalOf (g.M.Nand.contents c.erase.new.self) (aimed_at (seen (record k { blocks = c.wear_out.new.blocks })) block)) (targeted_counted c.args.self.now c.requires.formed c.requires.tied c.wear_out.new.blocks (restated_again c.take_target-block.ensures.taken c.wear_out.ensures.worn).numbers (full_is c.args.self.now c.next_copy.result c.next_copy.ensures.none (sym c.is_some.ensures ∙ c.if-is_some.false))
+          (λ b has_b. c.wear_out.ensures.fill.used b (has_same b c.take_target-block.ensures.taken.numbers has_b) ∙ c.take_target-block.ensures.used b has_b))
+          (aimed_segment s is block has free c.wear_out.new.blocks r (c.requires.segment t) (erase_others block pages s.blocks.size c.requires.fits.pages (filled_cut filled)) inside));
       keeps = keep _ (filled_cut filled);
       crash = operation c.erase.result (λ i. Keeps (seen s) old i) c.erase.ensures.crash (c.erase.ensures.effect t) keep;
       others = λ done p. ⊎_elim
@@ -133,7 +151,7 @@ returns-in-Done-clause-medium g c t =
 
 pub returns-in-Failed-clause-formed : goal.returns-in-Failed-clause-formed
 returns-in-Failed-clause-formed g c =
-    let s = c.args.self.now in
+    let s = kept c.args.self.now in
     let is = c.requires.formed in
     let block = c.take_target-block.result in
     let has = c.take_target-block.ensures.has in
@@ -144,11 +162,12 @@ returns-in-Failed-clause-formed g c =
     let again : Restated block true (use_in s.blocks block).wear mid c.give_back.new.blocks = subst (λ n. Restated block true n mid c.give_back.new.blocks) (ap (λ (u : Use). u.wear) r.here) c.give_back.ensures in
     let both = restated_again r again in
     let same = restated_same (free_use s block is free) both in
-    formed_same s c.give_back.new.blocks is same both.marks (λ room. both.states s.active is.active_in (free_other s.blocks block s.active Active has free refl (is.taken room)) ∙ is.taken room)
+    subst (λ (k : Kept). IsFormed (record k { blocks = c.give_back.new.blocks })) (again_counted c.args.self.now is c.requires.tied block _ has free c.give_back.new.blocks both)
+    (formed_same s c.give_back.new.blocks is same both.marks (λ room. both.states s.active is.active_in (free_other s.blocks block s.active Active has free refl (is.taken room)) ∙ is.taken room))
 
 pub returns-in-Failed-clause-tied : goal.returns-in-Failed-clause-tied
 returns-in-Failed-clause-tied g c =
-    let s = c.args.self.now in
+    let s = kept c.args.self.now in
     let is = c.requires.formed in
     let block = c.take_target-block.result in
     let has = c.take_target-block.ensures.has in
@@ -159,11 +178,12 @@ returns-in-Failed-clause-tied g c =
     let again : Restated block true (use_in s.blocks block).wear mid c.give_back.new.blocks = subst (λ n. Restated block true n mid c.give_back.new.blocks) (ap (λ (u : Use). u.wear) r.here) c.give_back.ensures in
     let both = restated_again r again in
     let same = restated_same (free_use s block is free) both in
-    free_again s c.requires.tied c.give_back.new.blocks same block has free both.states
+    subst (λ (k : Kept). IsTied (record k { blocks = c.give_back.new.blocks })) (again_counted c.args.self.now is c.requires.tied block _ has free c.give_back.new.blocks both)
+    (free_again s c.requires.tied c.give_back.new.blocks same block has free both.states)
 
 pub returns-in-Failed-clause-readied : goal.returns-in-Failed-clause-readied
 returns-in-Failed-clause-readied g c =
-    let s = c.args.self.now in
+    let s = kept c.args.self.now in
     let is = c.requires.formed in
     let block = c.take_target-block.result in
     let has = c.take_target-block.ensures.has in
@@ -174,17 +194,18 @@ returns-in-Failed-clause-readied g c =
     let again : Restated block true (use_in s.blocks block).wear mid c.give_back.new.blocks = subst (λ n. Restated block true n mid c.give_back.new.blocks) (ap (λ (u : Use). u.wear) r.here) c.give_back.ensures in
     let both = restated_again r again in
     let same = restated_same (free_use s block is free) both in
-    again_readied s is c.requires.tied c.give_back.new.blocks c.count.ensures.table c.count-in-Failed.ensures.table same both.marks
+    subst (λ (k : Kept). IsReadied (seen s) (seen (record k { blocks = c.give_back.new.blocks }))) (again_counted c.args.self.now is c.requires.tied block _ has free c.give_back.new.blocks both)
+    (again_readied s is c.requires.tied c.give_back.new.blocks c.count.ensures.table c.count-in-Failed.ensures.table same both.marks)
 
 pub returns-in-Failed-clause-medium : goal.returns-in-Failed-clause-medium
 returns-in-Failed-clause-medium g c t =
-    let s = c.args.self.now in
+    let s = kept c.args.self.now in
     let is = c.requires.formed in
     let block = c.take_target-block.result in
     let has = c.take_target-block.ensures.has in
     let free = c.take_target-block.ensures.was_free in
     let r = c.take_target-block.ensures.taken in
-    let full : s.blocks.size ≤ s.filled = (let f = c.if-self-pages.false in let e = c.pages.ensures in omega (arith, f, e)) in
+    let full : s.blocks.size ≤ s.filled = (full_is c.args.self.now c.next_copy.result c.next_copy.ensures.none (sym c.is_some.ensures ∙ c.if-is_some.false)) in
     let mid = c.take_target-block.new.blocks in
     let has_mid = has_same block r.numbers has in
     let again : Restated block true (use_in s.blocks block).wear mid c.give_back.new.blocks = subst (λ n. Restated block true n mid c.give_back.new.blocks) (ap (λ (u : Use). u.wear) r.here) c.give_back.ensures in
@@ -196,7 +217,8 @@ returns-in-Failed-clause-medium g c t =
     let keep = λ (i : Image) (cut : Cut (block * pages) (block * pages + pages) erased old i). erase_keeps (seen s) block pages c.requires.fits.pages (last_block s) is.places (free_kept s.blocks block free) (free_own s is c.requires.tied block free) (free_apart s is c.requires.tied block has free) cut in
     let cut = c.in-Failed.ensures.effect t in
     record {
-      segment = again_segment s is block has free c.give_back.new.blocks same full dirty (c.requires.segment t) (erase_others block pages s.blocks.size c.requires.fits.pages cut);
+      segment = subst (λ (k : Kept). IsPhysicalOf (g.M.Nand.contents c.erase.new.self) (seen (record k { blocks = c.give_back.new.blocks }))) (again_counted c.args.self.now is c.requires.tied block _ has free c.give_back.new.blocks both)
+          (again_segment s is block has free c.give_back.new.blocks same full dirty (c.requires.segment t) (erase_others block pages s.blocks.size c.requires.fits.pages cut));
       keeps = keep _ cut;
       crash = operation c.erase.result (λ i. Keeps (seen s) old i) c.erase.ensures.crash (c.erase.ensures.effect t) keep;
       others = λ done. absurd (cc done);
@@ -204,28 +226,50 @@ returns-in-Failed-clause-medium g c t =
 
 pub returns-in-Done-clause-clean : goal.returns-in-Done-clause-clean
 returns-in-Done-clause-clean g c clean =
-    let s = c.args.self.now in
+    let s = kept c.args.self.now in
     let block = c.take_target-block.result in
     let dirty : is_soiled (seen s) block ≡ true = sym c.is_soiled.ensures ∙ c.if-not-is_soiled.false in
     absurd (true≢false (sym dirty ∙ clean block (free_kept s.blocks block c.take_target-block.ensures.was_free)))
 
 pub returns-in-Failed-clause-clean : goal.returns-in-Failed-clause-clean
 returns-in-Failed-clause-clean g c clean =
-    let s = c.args.self.now in
+    let s = kept c.args.self.now in
     let block = c.take_target-block.result in
     let dirty : is_soiled (seen s) block ≡ true = sym c.is_soiled.ensures ∙ c.if-not-is_soiled.false in
     absurd (true≢false (sym dirty ∙ clean block (free_kept s.blocks block c.take_target-block.ensures.was_free)))
 
 pub aim-requires-in-Done-clause-targeted : goal.aim-requires-in-Done-clause-targeted
 aim-requires-in-Done-clause-targeted g c =
-    let s = c.args.self.now in
+    let s = kept c.args.self.now in
     let r = restated_again c.take_target-block.ensures.taken c.wear_out.ensures.worn in
     record {
       table = s.blocks;
       wear = _;
-      tied = c.requires.tied;
+      tied = subst IsTied (targeted_counted c.args.self.now c.requires.formed c.requires.tied c.wear_out.new.blocks (restated_again c.take_target-block.ensures.taken c.wear_out.ensures.worn).numbers (full_is c.args.self.now c.next_copy.result c.next_copy.ensures.none (sym c.is_some.ensures ∙ c.if-is_some.false))
+          (λ b has_b. c.wear_out.ensures.fill.used b (has_same b c.take_target-block.ensures.taken.numbers has_b) ∙ c.take_target-block.ensures.used b has_b)) c.requires.tied;
       restated = r;
       had = c.take_target-block.ensures.has;
       was_free = c.take_target-block.ensures.was_free;
-      full = let f = c.if-self-pages.false in let e = c.pages.ensures in let n = r.numbers.same_size in omega (arith, f, e, n);
+      full = omega arith;
     }
+
+pub aim-requires-clause-targeted : goal.aim-requires-clause-targeted
+aim-requires-clause-targeted g c =
+    let s = kept c.args.self.now in
+    record {
+      table = s.blocks;
+      wear = _;
+      tied = subst IsTied (targeted_counted c.args.self.now c.requires.formed c.requires.tied c.take_target-block.new.blocks c.take_target-block.ensures.taken.numbers (full_is c.args.self.now c.next_copy.result c.next_copy.ensures.none (sym c.is_some.ensures ∙ c.if-is_some.false)) c.take_target-block.ensures.used) c.requires.tied;
+      restated = c.take_target-block.ensures.taken;
+      had = c.take_target-block.ensures.has;
+      was_free = c.take_target-block.ensures.was_free;
+      full = omega arith;
+    }
+
+pub aim-requires-in-Done-clause-unused : goal.aim-requires-in-Done-clause-unused
+aim-requires-in-Done-clause-unused g c =
+    c.wear_out.ensures.fill.filled c.take_target-block.result (has_same c.take_target-block.result c.take_target-block.ensures.taken.numbers c.take_target-block.ensures.has) ∙ c.take_target-block.ensures.filled
+
+pub returns-then-is_some-clause-left : goal.returns-then-is_some-clause-left
+returns-then-is_some-clause-left g c done =
+    some_holds c.next_copy.result _ _ c.next_copy.ensures.some (sym c.is_some.ensures ∙ c.if-is_some.true)

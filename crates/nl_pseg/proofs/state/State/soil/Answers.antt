@@ -1,91 +1,122 @@
-use Rattle.std.proofs.Common.{◌≡◌, inl, ◌+◌, ◌/◌, ◌<◌, List, Option, Some, None, length, get_or, set, sym, ◌∙◌, ap, subst, arith, is_some}
+use Rattle.std.proofs.Common.{◌≡◌, inl, ◌+◌, ◌/◌, ◌<◌, Some, None, length, set, sym, ◌∙◌, ap, subst, arith, is_some, refl}
 use Rattle.std.specs.Vec.{with_item}
 use Rattle.std.proofs.lemmas.Bool.{true≢false}
 use Rattle.std.proofs.lemmas.List.{get_or-set_same, get_or-set_other}
-use Rattle.nl_blocks.specs.Table.{HasBlock, Table, block_at}
+use Rattle.nl_blocks.specs.Table.{block_at}
 use Rattle.nl_pseg.specs.Segment.{Use}
-use Rattle.nl_pseg.specs.Seen.{seen, use_in}
+use Rattle.nl_pseg.specs.Seen.{seen}
 use Rattle.nl_pseg.specs.Steps.{IsIdle, SameNumbers, told_state}
 use Rattle.nl_pseg.proofs.Forms.{formed_marks, formed_table, next_is, left_is}
-use Rattle.nl_pseg.proofs.Segments.{IsApart, apart_taken}
+use Rattle.nl_pseg.proofs.Segments.{IsApart, apart_still, apart_taken}
+use Rattle.nl_pseg.proofs.Closed.{closed_by, closing}
 use Rattle.nl_pseg.proofs.States.{next_block}
-use Rattle.nl_pseg.specs.declared.held.Held.{Held}
-use Rattle.nl_pseg.specs.declared.state.State.{State}
+use Rattle.nl_pseg.proofs.Tables.{IsShut, shut_told}
+use Rattle.nl_pseg.specs.Kept.{Kept, kept}
 use Rattle.nl_pseg.proofs.Served.{idle_copy, idle_next, served_tied, told_free, told_kept, told_set, told_waits}
 use Rattle.nl_pseg.proofs.state.State.soil.Goals as goal
 
 pub returns-clause-formed : goal.returns-clause-formed
 returns-clause-formed c =
-    let s = c.close.new.self in
-    let is = c.close.ensures.formed in
+    let s = closed_by c.args.self.now c.tell.new.blocks in
+    let e = closing c.args.self.now c.requires.formed c.requires.tied c.tell.new.blocks c.tell.ensures.told.numbers c.args.block c.tell.ensures.told.fill
+    (subst IsShut (sym c.tell.ensures.state) (shut_told (block_at c.args.self.now.blocks c.args.block).state)) in
+    let is = e.formed in
     let t = c.tell.ensures.told in
     formed_marks (record s { blocks = c.tell.new.blocks }) c.args.block (Some c.args.wear)
     (formed_table s is c.tell.new.blocks t.numbers
-    (λ room. t.states s.active is.active_in (λ same. c.close.ensures.idle room (sym same)) ∙ is.taken room)
+    (λ room. t.states s.active is.active_in (λ same. e.idle room (sym same)) ∙ is.taken room)
     (λ p h named. told_kept s c.tell.new.blocks c.args.block _ t (p / s.blocks.size) ∙ (is.places.each p h named).in_use)
     t.marks)
 
 pub returns-clause-tied : goal.returns-clause-tied
 returns-clause-tied c =
-    let s = c.args.self.now in
-    let m = c.close.new.self in
-    let e = c.close.ensures in
-    let same = e.same in
+    let s = kept c.args.self.now in
+    let m = closed_by c.args.self.now c.tell.new.blocks in
+    let e = closing c.args.self.now c.requires.formed c.requires.tied c.tell.new.blocks c.tell.ensures.told.numbers c.args.block c.tell.ensures.told.fill
+    (subst IsShut (sym c.tell.ensures.state) (shut_told (block_at c.args.self.now.blocks c.args.block).state)) in
     let t = c.tell.ensures.told in
-    let x : State = record m { blocks = c.tell.new.blocks; soiled = with_item m.soiled c.args.block (Some c.args.wear) } in
-    let n : SameNumbers s.blocks x.blocks = subst (λ u. SameNumbers u c.tell.new.blocks) e.table t.numbers in
-    let has : HasBlock m.blocks c.args.block = subst (λ u. HasBlock u c.args.block) (sym e.table) c.requires.within in
-    let i : IsIdle c.args.block s x = record { active = e.shut.active; target = e.shut.target; used = e.shut.used; filled = e.shut.filled } in
-    let state : (block_at x.blocks c.args.block).state ≡ told_state (block_at s.blocks c.args.block).state = c.tell.ensures.state ∙ ap (λ u. told_state (block_at u c.args.block).state) e.table in
-    served_tied s x c.requires.tied c.args.block i n c.requires.none (ap (λ (q : State). q.victim) same) (told_set (block_at s.blocks c.args.block).state _ state)
-    (λ b has_b ne. t.states b (subst (λ u. HasBlock u b) (sym e.table) has_b) ne ∙ ap (λ u. (block_at u b).state) e.table)
-    (ap (λ (q : State). q.names) same)
-    (λ k old. told_free m c.tell.new.blocks c.args.block _ t (k / s.blocks.size) ∙ (ap (λ u. (use_in u (k / s.blocks.size)).is_free) e.table ∙ (c.requires.tied.named.standing k old).in_use))
+    let x : Kept = record m { blocks = c.tell.new.blocks; soiled = with_item m.soiled c.args.block (Some c.args.wear) } in
+    let n : SameNumbers s.blocks x.blocks = t.numbers in
+    let i : IsIdle c.args.block s x = record { active = refl; target = refl; used = e.shut.used; filled = e.shut.filled } in
+    let state : (block_at x.blocks c.args.block).state ≡ told_state (block_at s.blocks c.args.block).state = c.tell.ensures.state in
+    served_tied s x c.requires.tied c.args.block i n c.requires.none refl (told_set (block_at s.blocks c.args.block).state _ state)
+    (λ b has_b ne. t.states b has_b ne)
+    refl
+    (λ k old. told_free m c.tell.new.blocks c.args.block _ t (k / s.blocks.size) ∙ (c.requires.tied.named.standing k old).in_use)
     (λ k is. told_waits (block_at s.blocks c.args.block).state k (sym state ∙ is))
-    (λ p h held. inl (sym (ap (λ (l : List (Option Held)). get_or l p None) e.held) ∙ held))
-    (λ p h held. (h, ap (λ (l : List (Option Held)). get_or l p None) e.held ∙ held))
+    (λ p h held. inl held)
+    (λ p h held. (h, held))
 
 pub returns-clause-next : goal.returns-clause-next
 returns-clause-next c p next =
-    let s = c.args.self.now in
-    let m = c.close.new.self in
-    let e = c.close.ensures in
-    let x : State = record m { blocks = c.tell.new.blocks; soiled = with_item m.soiled c.args.block (Some c.args.wear) } in
-    let i : IsIdle c.args.block s x = record { active = e.shut.active; target = e.shut.target; used = e.shut.used; filled = e.shut.filled } in
-    (idle_next s x c.args.block i (subst (λ u. SameNumbers u c.tell.new.blocks) e.table c.tell.ensures.told.numbers) p next).0
+    let s = kept c.args.self.now in
+    let m = closed_by c.args.self.now c.tell.new.blocks in
+    let e = closing c.args.self.now c.requires.formed c.requires.tied c.tell.new.blocks c.tell.ensures.told.numbers c.args.block c.tell.ensures.told.fill
+    (subst IsShut (sym c.tell.ensures.state) (shut_told (block_at c.args.self.now.blocks c.args.block).state)) in
+    let x : Kept = record m { blocks = c.tell.new.blocks; soiled = with_item m.soiled c.args.block (Some c.args.wear) } in
+    let i : IsIdle c.args.block s x = record { active = refl; target = refl; used = e.shut.used; filled = e.shut.filled } in
+    (idle_next s x c.args.block i c.tell.ensures.told.numbers p next).0
 
 pub returns-clause-copies : goal.returns-clause-copies
 returns-clause-copies c p next =
-    let s = c.args.self.now in
-    let m = c.close.new.self in
-    let e = c.close.ensures in
-    let x : State = record m { blocks = c.tell.new.blocks; soiled = with_item m.soiled c.args.block (Some c.args.wear) } in
-    let i : IsIdle c.args.block s x = record { active = e.shut.active; target = e.shut.target; used = e.shut.used; filled = e.shut.filled } in
-    idle_copy s x c.args.block i (subst (λ u. SameNumbers u c.tell.new.blocks) e.table c.tell.ensures.told.numbers) p next
+    let s = kept c.args.self.now in
+    let m = closed_by c.args.self.now c.tell.new.blocks in
+    let e = closing c.args.self.now c.requires.formed c.requires.tied c.tell.new.blocks c.tell.ensures.told.numbers c.args.block c.tell.ensures.told.fill
+    (subst IsShut (sym c.tell.ensures.state) (shut_told (block_at c.args.self.now.blocks c.args.block).state)) in
+    let x : Kept = record m { blocks = c.tell.new.blocks; soiled = with_item m.soiled c.args.block (Some c.args.wear) } in
+    let i : IsIdle c.args.block s x = record { active = refl; target = refl; used = e.shut.used; filled = e.shut.filled } in
+    idle_copy s x c.args.block i c.tell.ensures.told.numbers p next
 
 pub returns-clause-same : goal.returns-clause-same
 returns-clause-same c other =
-    let m = c.close.new.self in
-    let e = c.close.ensures in
-    (told_free m c.tell.new.blocks c.args.block _ c.tell.ensures.told other ∙ ap (λ u. (use_in u other).is_free) e.table, told_kept m c.tell.new.blocks c.args.block _ c.tell.ensures.told other ∙ ap (λ u. (use_in u other).is_kept) e.table)
+    let m = closed_by c.args.self.now c.tell.new.blocks in
+    (told_free m c.tell.new.blocks c.args.block _ c.tell.ensures.told other, told_kept m c.tell.new.blocks c.args.block _ c.tell.ensures.told other)
 
 pub returns-clause-erased : goal.returns-clause-erased
 returns-clause-erased c p taken =
-    let s = c.close.new.self in
-    let is = c.close.ensures.formed in
+    let s = closed_by c.args.self.now c.tell.new.blocks in
+    let e = closing c.args.self.now c.requires.formed c.requires.tied c.tell.new.blocks c.tell.ensures.told.numbers c.args.block c.tell.ensures.told.fill
+    (subst IsShut (sym c.tell.ensures.state) (shut_told (block_at c.args.self.now.blocks c.args.block).state)) in
+    let is = e.formed in
     let t = c.tell.new.blocks in
     let n = c.tell.ensures.told.numbers in
-    let size = ap (λ (x : Table). x.size) c.close.ensures.table in
-    let has : HasBlock s.blocks c.args.block = subst (λ x. HasBlock x c.args.block) (sym c.close.ensures.table) c.requires.within in
-    let within : c.args.block < length s.soiled.items = subst (λ k. c.args.block < k) (sym is.marks) has.below in
+    let within : c.args.block < length s.soiled.items = subst (λ k. c.args.block < k) (sym is.marks) c.requires.within.below in
     let apart : IsApart c.args.block (seen s) (record (seen (record s { blocks = t })) { soiled = set s.soiled.items c.args.block (Some c.args.wear) }) = record {
       range = record { range_first = n.same_first; range_blocks = λ i. n.same_first i + n.same_count i; range_size = n.same_size };
       next = next_is s is t n;
       left = left_is s is t n;
-      idle = λ q next at. let room : s.used < s.blocks.size = omega (arith, next.0, next.1) in c.close.ensures.idle room (sym at ∙ next_block s is room q next);
+      idle = λ q next at. let room : s.used < s.blocks.size = omega (arith, next.0, next.1) in e.idle room (sym at ∙ next_block s is room q next);
       others_kept = λ b ne. ap (λ (u : Use). u.is_kept) (c.tell.ensures.told.others b ne);
       others_soiled = λ b ne. get_or-set_other s.soiled.items c.args.block b (Some c.args.wear) None ne;
       gone = λ free clean. true≢false (sym (ap is_some (get_or-set_same s.soiled.items c.args.block (Some c.args.wear) None within)) ∙ clean);
     } in
     let out = apart_taken apart p taken in
-    (c.close.ensures.erased p out.0, λ at. out.1 (ap (λ k. p / k) size ∙ at))
+    (e.erased p out.0, out.1)
+
+pub returns-clause-still : goal.returns-clause-still
+returns-clause-still c p taken ne =
+    let s = closed_by c.args.self.now c.tell.new.blocks in
+    let e = closing c.args.self.now c.requires.formed c.requires.tied c.tell.new.blocks c.tell.ensures.told.numbers c.args.block c.tell.ensures.told.fill
+    (subst IsShut (sym c.tell.ensures.state) (shut_told (block_at c.args.self.now.blocks c.args.block).state)) in
+    let is = e.formed in
+    let t = c.tell.new.blocks in
+    let n = c.tell.ensures.told.numbers in
+    let within : c.args.block < length s.soiled.items = subst (λ k. c.args.block < k) (sym is.marks) c.requires.within.below in
+    let apart : IsApart c.args.block (seen s) (record (seen (record s { blocks = t })) { soiled = set s.soiled.items c.args.block (Some c.args.wear) }) = record {
+      range = record { range_first = n.same_first; range_blocks = λ i. n.same_first i + n.same_count i; range_size = n.same_size };
+      next = next_is s is t n;
+      left = left_is s is t n;
+      idle = λ q next at. let room : s.used < s.blocks.size = omega (arith, next.0, next.1) in e.idle room (sym at ∙ next_block s is room q next);
+      others_kept = λ b ne. ap (λ (u : Use). u.is_kept) (c.tell.ensures.told.others b ne);
+      others_soiled = λ b ne. get_or-set_other s.soiled.items c.args.block b (Some c.args.wear) None ne;
+      gone = λ free clean. true≢false (sym (ap is_some (get_or-set_same s.soiled.items c.args.block (Some c.args.wear) None within)) ∙ clean);
+    } in
+    apart_still apart p (e.still p taken ne) ne
+
+pub returns-clause-left : goal.returns-clause-left
+returns-clause-left c =
+    let e = closing c.args.self.now c.requires.formed c.requires.tied c.tell.new.blocks c.tell.ensures.told.numbers c.args.block c.tell.ensures.told.fill
+    (subst IsShut (sym c.tell.ensures.state) (shut_told (block_at c.args.self.now.blocks c.args.block).state)) in
+    let size = c.tell.ensures.told.numbers.same_size in
+    let less = e.left in
+    omega (arith, size, less)

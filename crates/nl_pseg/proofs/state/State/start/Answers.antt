@@ -1,4 +1,9 @@
-use Rattle.std.proofs.Common.{◌≡◌, inl, inr, ⊎_elim, ℕ, ◌+◌, ◌*◌, ◌/◌, ◌<◌, ◌≤◌, true, false, refl, sym, ◌∙◌, ap, subst, arith}
+use Rattle.nl_pseg.proofs.Readied.{taken_formed}
+use Rattle.nl_blocks.specs.Used.{is_active_state, used_in}
+use Rattle.nl_pseg.proofs.Taking.{again_counted, none_holds, some_holds, taken_counted}
+use Rattle.nl_nand.specs.declared.answers.WriteAnswer.TheVariants as wrote
+use Rattle.nl_pseg.specs.declared.state.State.{State}
+use Rattle.std.proofs.Common.{◌≡◌, inl, inr, ⊎_elim, ℕ, ◌+◌, ◌*◌, ◌/◌, ◌<◌, ◌≤◌, true, false, refl, sym, ◌∙◌, ap, subst, arith, IfNone, Option, is_some}
 use Rattle.std.proofs.lemmas.Bool.{cases_eq, true≢false}
 use Rattle.nl_field.specs.Page.{Image, erased}
 use Rattle.nl_nand.specs.ImageLaws.{filled_cut}
@@ -6,9 +11,9 @@ use Rattle.nl_nand.specs.Nand.{Cut}
 use Rattle.nl_nand.proofs.Crashes.{operation}
 use Rattle.nl_nand.proofs.Crashes as crashes
 use Rattle.nl_pseg.specs.Effects.{Keeps}
-use Rattle.nl_pseg.specs.Segment.{Use, is_free, is_kept, is_soiled}
-use Rattle.nl_pseg.specs.Seen.{seen, use_in}
-use Rattle.nl_pseg.specs.Steps.{IsOpened, Restated}
+use Rattle.nl_pseg.specs.Segment.{Use, is_free, is_kept, is_soiled, IsPhysicalOf}
+use Rattle.nl_pseg.specs.Seen.{seen, use_in, IsFormed, IsTied}
+use Rattle.nl_pseg.specs.Steps.{IsOpened, Restated, Opening, opened_at}
 use Rattle.nl_pseg.proofs.Forms.{formed_restated, formed_same, same_pages, same_unspent}
 use Rattle.nl_pseg.proofs.Images.{erase_keeps, erase_others, failed_segment, keeps_nothing, opened_segment}
 use Rattle.nl_pseg.proofs.Numbers.{in_block}
@@ -17,54 +22,106 @@ use Rattle.nl_pseg.proofs.Tables.{free_kept, has_same, restated_again, restated_
 use Rattle.nl_pseg.proofs.Taken.{free_again}
 use Rattle.nl_pseg.proofs.Tied.{free_apart, free_copy, free_own}
 use Rattle.nl_pseg.proofs.Wearing.{taken_clean, taken_soiled}
+use Rattle.nl_pseg.specs.Kept.{kept, Kept}
 use Rattle.nl_pseg.proofs.state.State.start.Goals as goal
+
+full_is : (s : State) (next : Option ℕ) → IfNone next (used_in is_active_state s.blocks s.active ≡ s.blocks.size) → is_some next ≡ false → s.blocks.size ≤ (kept s).used
+full_is s next holds none = let e = none_holds next _ holds none in omega (arith, e)
+
+pub returns-then-is_some-clause-left : goal.returns-then-is_some-clause-left
+returns-then-is_some-clause-left g c done =
+    some_holds c.next_page.result _ _ c.next_page.ensures.some (sym c.is_some.ensures ∙ c.if-is_some.true)
 
 pub write_to-requires-clause-formed : goal.write_to-requires-clause-formed
 write_to-requires-clause-formed g c =
-    let s = c.args.self.now in
-    formed_restated s c.take-block.new.blocks c.take-block.result _ false c.requires.formed c.take-block.ensures.taken
-    (λ room. let full = c.if-self-pages.false in let e = c.pages.ensures in absurd (omega (arith, room, full, e))) (λ yes. absurd (true≢false (sym yes)))
-
-pub write_to-requires-clause-in_use : goal.write_to-requires-clause-in_use
-write_to-requires-clause-in_use g c p h named at =
-    let s = c.args.self.now in
-    let here : p / s.blocks.size ≡ c.take-block.result = ap (λ n. p / n) (sym c.take-block.ensures.taken.numbers.same_size) ∙ at in
-    true≢false (sym (free_kept s.blocks c.take-block.result c.take-block.ensures.was_free) ∙ (ap (is_kept (seen s)) (sym here) ∙ (c.requires.formed.places.each p h named).in_use))
+    let s = kept c.args.self.now in
+    let is = c.requires.formed in
+    let t = c.take-block.new.blocks in
+    let r = c.take-block.ensures.taken in
+    subst (λ (k : Kept). IsFormed (record k { blocks = t })) (taken_counted c.args.self.now is c.requires.tied t r.numbers (full_is c.args.self.now c.next_page.result c.next_page.ensures.none (sym c.is_some.ensures ∙ c.if-is_some.false)) c.take-block.ensures.filled)
+    (taken_formed s is c.take-block.result c.take-block.ensures.has c.take-block.ensures.was_free t r)
 
 pub write_to-requires-in-Done-clause-formed : goal.write_to-requires-in-Done-clause-formed
 write_to-requires-in-Done-clause-formed g c =
+    let s = kept c.args.self.now in
+    let is = c.requires.formed in
+    let t = c.wear_out.new.blocks in
+    let r = restated_again c.take-block.ensures.taken c.wear_out.ensures.worn in
+    subst (λ (k : Kept). IsFormed (record k { blocks = t })) (taken_counted c.args.self.now is c.requires.tied t r.numbers (full_is c.args.self.now c.next_page.result c.next_page.ensures.none (sym c.is_some.ensures ∙ c.if-is_some.false)) (λ b has. c.wear_out.ensures.fill.filled b (has_same b c.take-block.ensures.taken.numbers has) ∙ c.take-block.ensures.filled b has))
+    (taken_formed s is c.take-block.result c.take-block.ensures.has c.take-block.ensures.was_free t r)
+
+pub write_to-requires-in-Done-clause-unused : goal.write_to-requires-in-Done-clause-unused
+write_to-requires-in-Done-clause-unused g c =
+    c.wear_out.ensures.fill.used c.take-block.result (has_same c.take-block.result c.take-block.ensures.taken.numbers c.take-block.ensures.has) ∙ c.take-block.ensures.used
+
+pub write_to-requires-clause-taking : goal.write_to-requires-clause-taking
+write_to-requires-clause-taking g c =
     let s = c.args.self.now in
-    formed_restated s c.wear_out.new.blocks c.take-block.result _ false c.requires.formed (restated_again c.take-block.ensures.taken c.wear_out.ensures.worn)
-    (λ room. let full = c.if-self-pages.false in let e = c.pages.ensures in absurd (omega (arith, room, full, e))) (λ yes. absurd (true≢false (sym yes)))
+    let t = c.take-block.new.blocks in
+    let r = c.take-block.ensures.taken in
+    record {
+      table = s.blocks;
+      wear = _;
+      tied = subst IsTied (taken_counted s c.requires.formed c.requires.tied t r.numbers (full_is c.args.self.now c.next_page.result c.next_page.ensures.none (sym c.is_some.ensures ∙ c.if-is_some.false)) c.take-block.ensures.filled) c.requires.tied;
+      restated = r;
+      had = c.take-block.ensures.has;
+      was_free = c.take-block.ensures.was_free;
+      full = omega arith;
+    }
+
+pub write_to-requires-in-Done-clause-taking : goal.write_to-requires-in-Done-clause-taking
+write_to-requires-in-Done-clause-taking g c =
+    let s = c.args.self.now in
+    let t = c.wear_out.new.blocks in
+    let r = restated_again c.take-block.ensures.taken c.wear_out.ensures.worn in
+    record {
+      table = s.blocks;
+      wear = _;
+      tied = subst IsTied (taken_counted s c.requires.formed c.requires.tied t r.numbers (full_is c.args.self.now c.next_page.result c.next_page.ensures.none (sym c.is_some.ensures ∙ c.if-is_some.false)) (λ b has. c.wear_out.ensures.fill.filled b (has_same b c.take-block.ensures.taken.numbers has) ∙ c.take-block.ensures.filled b has)) c.requires.tied;
+      restated = r;
+      had = c.take-block.ensures.has;
+      was_free = c.take-block.ensures.was_free;
+      full = omega arith;
+    }
+
+pub write_to-requires-clause-in_use : goal.write_to-requires-clause-in_use
+write_to-requires-clause-in_use g c p h named at =
+    let s = kept c.args.self.now in
+    let here : p / s.blocks.size ≡ c.take-block.result = ap (λ n. p / n) (sym c.take-block.ensures.taken.numbers.same_size) ∙ at in
+    true≢false (sym (free_kept s.blocks c.take-block.result c.take-block.ensures.was_free) ∙ (ap (is_kept (seen s)) (sym here) ∙ (c.requires.formed.places.each p h named).in_use))
 
 pub write_to-requires-in-Done-clause-in_use : goal.write_to-requires-in-Done-clause-in_use
 write_to-requires-in-Done-clause-in_use g c p h named at =
-    let s = c.args.self.now in
+    let s = kept c.args.self.now in
     let here : p / s.blocks.size ≡ c.take-block.result = ap (λ n. p / n) (sym (restated_again c.take-block.ensures.taken c.wear_out.ensures.worn).numbers.same_size) ∙ at in
     true≢false (sym (free_kept s.blocks c.take-block.result c.take-block.ensures.was_free) ∙ (ap (is_kept (seen s)) (sym here) ∙ (c.requires.formed.places.each p h named).in_use))
 
 pub returns-then-not-is_soiled-clause-opening : goal.returns-then-not-is_soiled-clause-opening
 returns-then-not-is_soiled-clause-opening g c =
-    let s = c.args.self.now in
-    let full : s.blocks.size ≤ s.used = (let f = c.if-self-pages.false in let e = c.pages.ensures in omega (arith, f, e)) in
+    let s = kept c.args.self.now in
+    let full : s.blocks.size ≤ s.used = (full_is c.args.self.now c.next_page.result c.next_page.ensures.none (sym c.is_some.ensures ∙ c.if-is_some.false)) in
     let r = taken_clean s c.take-block.new.blocks c.take-block.result (sym c.is_soiled.ensures ∙ c.if-not-is_soiled.true) c.take-block.ensures.taken in
     let formed = formed_restated s c.take-block.new.blocks c.take-block.result _ false c.requires.formed r (λ room. absurd (omega (arith, room, full))) (λ yes. absurd (true≢false (sym yes))) in
     inr (
       c.take-block.result,
       subst (IsOpened c.take-block.result (seen s)) (sym c.write_to.ensures.opened)
-          (opened s c.take-block.new.blocks c.take-block.result c.requires.formed full (two_free _ s.used _ full c.requires.room) r c.take-block.ensures.was_free formed),
+          (subst (λ (k : Kept). IsOpened c.take-block.result (seen s) (opened_at (seen (record k { blocks = c.take-block.new.blocks })) c.take-block.result))
+          (taken_counted c.args.self.now c.requires.formed c.requires.tied c.take-block.new.blocks r.numbers full c.take-block.ensures.filled)
+          (opened s c.take-block.new.blocks c.take-block.result c.requires.formed full (two_free _ s.used _ full c.requires.room) r c.take-block.ensures.was_free formed)),
     )
 
 pub returns-then-not-is_soiled-clause-medium : goal.returns-then-not-is_soiled-clause-medium
 returns-then-not-is_soiled-clause-medium g c t =
-    let s = c.args.self.now in
+    let s = kept c.args.self.now in
     let is = c.requires.formed in
     let block = c.take-block.result in
-    let full : s.blocks.size ≤ s.used = (let f = c.if-self-pages.false in let e = c.pages.ensures in omega (arith, f, e)) in
+    let full : s.blocks.size ≤ s.used = (full_is c.args.self.now c.next_page.result c.next_page.ensures.none (sym c.is_some.ensures ∙ c.if-is_some.false)) in
     let r = taken_clean s c.take-block.new.blocks block (sym c.is_soiled.ensures ∙ c.if-not-is_soiled.true) c.take-block.ensures.taken in
     let formed = formed_restated s c.take-block.new.blocks block _ false is r (λ room. absurd (omega (arith, room, full))) (λ yes. absurd (true≢false (sym yes))) in
-    let o : IsOpened block (seen s) (seen c.write_to.new.self) = subst (IsOpened block (seen s)) (sym c.write_to.ensures.opened)
-    (opened s c.take-block.new.blocks block is full (two_free _ s.used _ full c.requires.room) r c.take-block.ensures.was_free formed) in
+    let o : IsOpened block (seen s) (seen (kept c.write_to.new.self)) = subst (IsOpened block (seen s)) (sym c.write_to.ensures.opened)
+    (subst (λ (k : Kept). IsOpened block (seen s) (opened_at (seen (record k { blocks = c.take-block.new.blocks })) block))
+    (taken_counted c.args.self.now is c.requires.tied c.take-block.new.blocks r.numbers full c.take-block.ensures.filled)
+    (opened s c.take-block.new.blocks block is full (two_free _ s.used _ full c.requires.room) r c.take-block.ensures.was_free formed)) in
     let image = g.M.Nand.contents c.args.media.now in
     let clean : is_soiled (seen s) block ≡ false = sym c.is_soiled.ensures ∙ c.if-not-is_soiled.true in
     record {
@@ -77,26 +134,30 @@ returns-then-not-is_soiled-clause-medium g c t =
 
 pub returns-in-Done-clause-opening : goal.returns-in-Done-clause-opening
 returns-in-Done-clause-opening g c =
-    let s = c.args.self.now in
-    let full : s.blocks.size ≤ s.used = (let f = c.if-self-pages.false in let e = c.pages.ensures in omega (arith, f, e)) in
+    let s = kept c.args.self.now in
+    let full : s.blocks.size ≤ s.used = (full_is c.args.self.now c.next_page.result c.next_page.ensures.none (sym c.is_some.ensures ∙ c.if-is_some.false)) in
     let r = taken_soiled s c.take-block.new.blocks c.wear_out.new.blocks c.take-block.result c.take-block.ensures.was_free (sym c.is_soiled.ensures ∙ c.if-not-is_soiled.false) c.take-block.ensures.taken c.wear_out.ensures.worn in
     let formed = formed_restated s c.wear_out.new.blocks c.take-block.result _ false c.requires.formed r (λ room. absurd (omega (arith, room, full))) (λ yes. absurd (true≢false (sym yes))) in
     inr (
       c.take-block.result,
       subst (IsOpened c.take-block.result (seen s)) (sym c.write_to-in-Done.ensures.opened)
-          (opened s c.wear_out.new.blocks c.take-block.result c.requires.formed full (two_free _ s.used _ full c.requires.room) r c.take-block.ensures.was_free formed),
+          (subst (λ (k : Kept). IsOpened c.take-block.result (seen s) (opened_at (seen (record k { blocks = c.wear_out.new.blocks })) c.take-block.result))
+          (taken_counted c.args.self.now c.requires.formed c.requires.tied c.wear_out.new.blocks r.numbers full (λ b has. c.wear_out.ensures.fill.filled b (has_same b c.take-block.ensures.taken.numbers has) ∙ c.take-block.ensures.filled b has))
+          (opened s c.wear_out.new.blocks c.take-block.result c.requires.formed full (two_free _ s.used _ full c.requires.room) r c.take-block.ensures.was_free formed)),
     )
 
 pub returns-in-Done-clause-medium : goal.returns-in-Done-clause-medium
 returns-in-Done-clause-medium g c t =
-    let s = c.args.self.now in
+    let s = kept c.args.self.now in
     let is = c.requires.formed in
     let block = c.take-block.result in
-    let full : s.blocks.size ≤ s.used = (let f = c.if-self-pages.false in let e = c.pages.ensures in omega (arith, f, e)) in
+    let full : s.blocks.size ≤ s.used = (full_is c.args.self.now c.next_page.result c.next_page.ensures.none (sym c.is_some.ensures ∙ c.if-is_some.false)) in
     let r = taken_soiled s c.take-block.new.blocks c.wear_out.new.blocks block c.take-block.ensures.was_free (sym c.is_soiled.ensures ∙ c.if-not-is_soiled.false) c.take-block.ensures.taken c.wear_out.ensures.worn in
     let formed = formed_restated s c.wear_out.new.blocks block _ false is r (λ room. absurd (omega (arith, room, full))) (λ yes. absurd (true≢false (sym yes))) in
-    let o : IsOpened block (seen s) (seen c.write_to-in-Done.new.self) = subst (IsOpened block (seen s)) (sym c.write_to-in-Done.ensures.opened)
-    (opened s c.wear_out.new.blocks block is full (two_free _ s.used _ full c.requires.room) r c.take-block.ensures.was_free formed) in
+    let o : IsOpened block (seen s) (seen (kept c.write_to-in-Done.new.self)) = subst (IsOpened block (seen s)) (sym c.write_to-in-Done.ensures.opened)
+    (subst (λ (k : Kept). IsOpened block (seen s) (opened_at (seen (record k { blocks = c.wear_out.new.blocks })) block))
+    (taken_counted c.args.self.now is c.requires.tied c.wear_out.new.blocks r.numbers full (λ b has. c.wear_out.ensures.fill.filled b (has_same b c.take-block.ensures.taken.numbers has) ∙ c.take-block.ensures.filled b has))
+    (opened s c.wear_out.new.blocks block is full (two_free _ s.used _ full c.requires.room) r c.take-block.ensures.was_free formed)) in
     let pages = (g.M.Nand.geometry c.args.media.now).pages in
     let filled = c.in-Done.ensures.effect t in
     let dirty : is_soiled (seen s) block ≡ true = sym c.is_soiled.ensures ∙ c.if-not-is_soiled.false in
@@ -115,116 +176,99 @@ returns-in-Done-clause-medium g c t =
           (cases_eq (p / s.blocks.size) block);
     }
 
-pub returns-in-Failed-clause-formed : goal.returns-in-Failed-clause-formed
-returns-in-Failed-clause-formed g c =
-    let s = c.args.self.now in
-    let is = c.requires.formed in
-    let block = c.take-block.result in
-    let mid = c.take-block.new.blocks in
-    let r = c.take-block.ensures.taken in
-    let has = has_same block r.numbers c.take-block.ensures.has in
-    let back : Restated block true (use_in s.blocks block).wear mid c.give_back.new.blocks = subst (λ n. Restated block true n mid c.give_back.new.blocks) (ap (λ (u : Use). u.wear) r.here) c.give_back.ensures in
-    let same = restated_same (free_use s block is c.take-block.ensures.was_free) (restated_again r back) in
-    formed_same s c.give_back.new.blocks is same (restated_again r back).marks (λ room. let f = c.if-self-pages.false in let e = c.pages.ensures in absurd (omega (arith, room, f, e)))
-
-pub returns-in-Failed-clause-opening : goal.returns-in-Failed-clause-opening
-returns-in-Failed-clause-opening g c =
-    let s = c.args.self.now in
-    let is = c.requires.formed in
-    let block = c.take-block.result in
-    let mid = c.take-block.new.blocks in
-    let r = c.take-block.ensures.taken in
-    let has = has_same block r.numbers c.take-block.ensures.has in
-    let back : Restated block true (use_in s.blocks block).wear mid c.give_back.new.blocks = subst (λ n. Restated block true n mid c.give_back.new.blocks) (ap (λ (u : Use). u.wear) r.here) c.give_back.ensures in
-    let same = restated_same (free_use s block is c.take-block.ensures.was_free) (restated_again r back) in
-    let dirty : is_soiled (seen s) block ≡ true = sym c.is_soiled.ensures ∙ c.if-not-is_soiled.false in (
-      same_pages s c.give_back.new.blocks same,
-      refl,
-      same_unspent s c.give_back.new.blocks same,
-      λ ready. ⊎_elim
-          (λ lt. let f = c.if-self-pages.false in let e = c.pages.ensures in omega (arith, lt, f, e))
-          (λ clean. true≢false (sym dirty ∙ clean block (free_kept s.blocks block c.take-block.ensures.was_free)))
-          ready,
-      record { same_pairs = refl; same_pair_room = refl; same_victim = refl; copies = (same_unspent s c.give_back.new.blocks same).copies },
-    )
-
-pub returns-in-Failed-clause-medium : goal.returns-in-Failed-clause-medium
-returns-in-Failed-clause-medium g c t =
-    let s = c.args.self.now in
-    let is = c.requires.formed in
-    let block = c.take-block.result in
-    let mid = c.take-block.new.blocks in
-    let r = c.take-block.ensures.taken in
-    let has = has_same block r.numbers c.take-block.ensures.has in
-    let back : Restated block true (use_in s.blocks block).wear mid c.give_back.new.blocks = subst (λ n. Restated block true n mid c.give_back.new.blocks) (ap (λ (u : Use). u.wear) r.here) c.give_back.ensures in
-    let same = restated_same (free_use s block is c.take-block.ensures.was_free) (restated_again r back) in
-    let pages = (g.M.Nand.geometry c.args.media.now).pages in
-    let cut = c.in-Failed.ensures.effect t in
-    let dirty : is_soiled (seen s) block ≡ true = sym c.is_soiled.ensures ∙ c.if-not-is_soiled.false in
-    let keep = λ (i : Image) (cut_is : Cut (block * pages) (block * pages + pages) erased (g.M.Nand.contents c.args.media.now) i). erase_keeps (seen s) block pages c.requires.fits.pages (last_block s) is.places (free_kept s.blocks block c.take-block.ensures.was_free) (free_own s is c.requires.tied block c.take-block.ensures.was_free) (free_apart s is c.requires.tied block c.take-block.ensures.has c.take-block.ensures.was_free) cut_is in
-    record {
-      segment = failed_segment block (same_pages s c.give_back.new.blocks same) refl (same_unspent s c.give_back.new.blocks same) is.places (free_copy s is c.requires.tied block c.take-block.ensures.has c.take-block.ensures.was_free) (c.requires.segment t) (free_kept s.blocks block c.take-block.ensures.was_free) dirty
-          (let f = c.if-self-pages.false in let e = c.pages.ensures in omega (arith, f, e)) (erase_others block pages s.blocks.size c.requires.fits.pages cut);
-      keeps = keep _ cut;
-      crash = operation c.erase.result (λ i. Keeps (seen s) (g.M.Nand.contents c.args.media.now) i) c.erase.ensures.crash (c.erase.ensures.effect t) keep;
-      others = λ done. absurd (cc done);
-    }
-
-pub write_to-requires-clause-taking : goal.write_to-requires-clause-taking
-write_to-requires-clause-taking g c =
-    let s = c.args.self.now in
-    record {
-      table = s.blocks;
-      wear = _;
-      tied = c.requires.tied;
-      restated = c.take-block.ensures.taken;
-      had = c.take-block.ensures.has;
-      was_free = c.take-block.ensures.was_free;
-      full = let f = c.if-self-pages.false in let e = c.pages.ensures in let n = c.take-block.ensures.taken.numbers.same_size in omega (arith, f, e, n);
-    }
-
-pub write_to-requires-in-Done-clause-taking : goal.write_to-requires-in-Done-clause-taking
-write_to-requires-in-Done-clause-taking g c =
-    let s = c.args.self.now in
-    let r = restated_again c.take-block.ensures.taken c.wear_out.ensures.worn in
-    record {
-      table = s.blocks;
-      wear = _;
-      tied = c.requires.tied;
-      restated = r;
-      had = c.take-block.ensures.has;
-      was_free = c.take-block.ensures.was_free;
-      full = let f = c.if-self-pages.false in let e = c.pages.ensures in let n = r.numbers.same_size in omega (arith, f, e, n);
-    }
-
-pub returns-in-Failed-clause-tied : goal.returns-in-Failed-clause-tied
-returns-in-Failed-clause-tied g c =
-    let s = c.args.self.now in
-    let is = c.requires.formed in
-    let block = c.take-block.result in
-    let mid = c.take-block.new.blocks in
-    let r = c.take-block.ensures.taken in
-    let has = has_same block r.numbers c.take-block.ensures.has in
-    let back : Restated block true (use_in s.blocks block).wear mid c.give_back.new.blocks = subst (λ n. Restated block true n mid c.give_back.new.blocks) (ap (λ (u : Use). u.wear) r.here) c.give_back.ensures in
-    let whole = restated_again r back in
-    free_again s c.requires.tied c.give_back.new.blocks (restated_same (free_use s block is c.take-block.ensures.was_free) whole) block c.take-block.ensures.has c.take-block.ensures.was_free whole.states
-
 pub returns-in-Done-clause-ready : goal.returns-in-Done-clause-ready
 returns-in-Done-clause-ready g c ready =
-    let s = c.args.self.now in
+    let s = kept c.args.self.now in
     let block = c.take-block.result in
     let dirty : is_soiled (seen s) block ≡ true = sym c.is_soiled.ensures ∙ c.if-not-is_soiled.false in
     absurd (⊎_elim
-    (λ lt. let f = c.if-self-pages.false in let e = c.pages.ensures in omega (arith, lt, f, e))
+    (λ lt. let full = (full_is c.args.self.now c.next_page.result c.next_page.ensures.none (sym c.is_some.ensures ∙ c.if-is_some.false)) in omega (arith, lt, full))
     (λ clean. true≢false (sym dirty ∙ clean block (free_kept s.blocks block c.take-block.ensures.was_free)))
     ready)
 
 pub returns-in-Failed-clause-ready : goal.returns-in-Failed-clause-ready
 returns-in-Failed-clause-ready g c ready =
-    let s = c.args.self.now in
+    let s = kept c.args.self.now in
     let block = c.take-block.result in
     let dirty : is_soiled (seen s) block ≡ true = sym c.is_soiled.ensures ∙ c.if-not-is_soiled.false in
     absurd (⊎_elim
-    (λ lt. let f = c.if-self-pages.false in let e = c.pages.ensures in omega (arith, lt, f, e))
+    (λ lt. let full = (full_is c.args.self.now c.next_page.result c.next_page.ensures.none (sym c.is_some.ensures ∙ c.if-is_some.false)) in omega (arith, lt, full))
     (λ clean. true≢false (sym dirty ∙ clean block (free_kept s.blocks block c.take-block.ensures.was_free)))
     ready)
+
+pub returns-in-Failed-clause-formed : goal.returns-in-Failed-clause-formed
+returns-in-Failed-clause-formed g c =
+    let s = kept c.args.self.now in
+    let is = c.requires.formed in
+    let block = c.take-block.result in
+    let mid = c.take-block.new.blocks in
+    let t = c.give_back.new.blocks in
+    let r = c.take-block.ensures.taken in
+    let back : Restated block true (use_in s.blocks block).wear mid t = subst (λ n. Restated block true n mid t) (ap (λ (u : Use). u.wear) r.here) c.give_back.ensures in
+    let whole = restated_again r back in
+    let same = restated_same (free_use s block is c.take-block.ensures.was_free) whole in
+    let counted = again_counted c.args.self.now is c.requires.tied block _ c.take-block.ensures.has c.take-block.ensures.was_free t whole in
+    subst (λ (k : Kept). IsFormed (record k { blocks = t })) counted (formed_same s t is same whole.marks (λ room. let full = (full_is c.args.self.now c.next_page.result c.next_page.ensures.none (sym c.is_some.ensures ∙ c.if-is_some.false)) in absurd (omega (arith, room, full))))
+
+pub returns-in-Failed-clause-tied : goal.returns-in-Failed-clause-tied
+returns-in-Failed-clause-tied g c =
+    let s = kept c.args.self.now in
+    let is = c.requires.formed in
+    let block = c.take-block.result in
+    let mid = c.take-block.new.blocks in
+    let t = c.give_back.new.blocks in
+    let r = c.take-block.ensures.taken in
+    let back : Restated block true (use_in s.blocks block).wear mid t = subst (λ n. Restated block true n mid t) (ap (λ (u : Use). u.wear) r.here) c.give_back.ensures in
+    let whole = restated_again r back in
+    let same = restated_same (free_use s block is c.take-block.ensures.was_free) whole in
+    let counted = again_counted c.args.self.now is c.requires.tied block _ c.take-block.ensures.has c.take-block.ensures.was_free t whole in
+    subst (λ (k : Kept). IsTied (record k { blocks = t })) counted (free_again s c.requires.tied t same block c.take-block.ensures.has c.take-block.ensures.was_free whole.states)
+
+pub returns-in-Failed-clause-opening : goal.returns-in-Failed-clause-opening
+returns-in-Failed-clause-opening g c =
+    let s = kept c.args.self.now in
+    let is = c.requires.formed in
+    let block = c.take-block.result in
+    let mid = c.take-block.new.blocks in
+    let t = c.give_back.new.blocks in
+    let r = c.take-block.ensures.taken in
+    let back : Restated block true (use_in s.blocks block).wear mid t = subst (λ n. Restated block true n mid t) (ap (λ (u : Use). u.wear) r.here) c.give_back.ensures in
+    let whole = restated_again r back in
+    let same = restated_same (free_use s block is c.take-block.ensures.was_free) whole in
+    let counted = again_counted c.args.self.now is c.requires.tied block _ c.take-block.ensures.has c.take-block.ensures.was_free t whole in
+    let dirty : is_soiled (seen s) block ≡ true = sym c.is_soiled.ensures ∙ c.if-not-is_soiled.false in
+    subst (λ (k : Kept). Opening wrote.Failed (seen s) (seen (record k { blocks = t }))) counted (
+      same_pages s t same,
+      refl,
+      same_unspent s t same,
+      λ ready. ⊎_elim
+          (λ lt. let full = (full_is c.args.self.now c.next_page.result c.next_page.ensures.none (sym c.is_some.ensures ∙ c.if-is_some.false)) in omega (arith, lt, full))
+          (λ clean. true≢false (sym dirty ∙ clean block (free_kept s.blocks block c.take-block.ensures.was_free)))
+          ready,
+      record { same_pairs = refl; same_pair_room = refl; same_victim = refl; copies = (same_unspent s t same).copies },
+    )
+
+pub returns-in-Failed-clause-medium : goal.returns-in-Failed-clause-medium
+returns-in-Failed-clause-medium g c tells =
+    let s = kept c.args.self.now in
+    let is = c.requires.formed in
+    let block = c.take-block.result in
+    let mid = c.take-block.new.blocks in
+    let t = c.give_back.new.blocks in
+    let r = c.take-block.ensures.taken in
+    let back : Restated block true (use_in s.blocks block).wear mid t = subst (λ n. Restated block true n mid t) (ap (λ (u : Use). u.wear) r.here) c.give_back.ensures in
+    let whole = restated_again r back in
+    let same = restated_same (free_use s block is c.take-block.ensures.was_free) whole in
+    let counted = again_counted c.args.self.now is c.requires.tied block _ c.take-block.ensures.has c.take-block.ensures.was_free t whole in
+    let pages = (g.M.Nand.geometry c.args.media.now).pages in
+    let cut = c.in-Failed.ensures.effect tells in
+    let dirty : is_soiled (seen s) block ≡ true = sym c.is_soiled.ensures ∙ c.if-not-is_soiled.false in
+    let keep = λ (i : Image) (cut_is : Cut (block * pages) (block * pages + pages) erased (g.M.Nand.contents c.args.media.now) i). erase_keeps (seen s) block pages c.requires.fits.pages (last_block s) is.places (free_kept s.blocks block c.take-block.ensures.was_free) (free_own s is c.requires.tied block c.take-block.ensures.was_free) (free_apart s is c.requires.tied block c.take-block.ensures.has c.take-block.ensures.was_free) cut_is in
+    record {
+      segment = subst (λ (k : Kept). IsPhysicalOf (g.M.Nand.contents c.erase.new.self) (seen (record k { blocks = t }))) counted
+          (failed_segment block (same_pages s t same) refl (same_unspent s t same) is.places (free_copy s is c.requires.tied block c.take-block.ensures.has c.take-block.ensures.was_free) (c.requires.segment tells) (free_kept s.blocks block c.take-block.ensures.was_free) dirty
+          (let full = (full_is c.args.self.now c.next_page.result c.next_page.ensures.none (sym c.is_some.ensures ∙ c.if-is_some.false)) in omega (arith, full)) (erase_others block pages s.blocks.size c.requires.fits.pages cut));
+      keeps = keep _ cut;
+      crash = operation c.erase.result (λ i. Keeps (seen s) (g.M.Nand.contents c.args.media.now) i) c.erase.ensures.crash (c.erase.ensures.effect tells) keep;
+      others = λ done. absurd (cc done);
+    }
