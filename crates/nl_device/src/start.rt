@@ -73,10 +73,10 @@ fn after_scan(alloc: Global, shape: &Shape, tables: &ScanTables) -> Result<Parts
     ensures pending { IfOk result (λ p. p.pending ≡ record { callbacks = []; posted = 0; room = 4 * shape.now.pages }) }
     ensures kept { IfOk result (λ p. p.kept ≡ kept_of_scan shape.now tables.now.seen) }
 {
-    let Opened { vseg, pseg } = open(alloc, shape, tables)?;
     let pending = Pending::new(alloc, 4 * shape.pages)?;
     let kept = kept_after(alloc, shape, tables)?;
     let buf = PageBuf::new(alloc)?;
+    let Opened { vseg, pseg } = open(alloc, shape, tables)?;
     Ok(Parts {
         vseg,
         pseg,
