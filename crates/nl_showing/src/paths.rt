@@ -40,6 +40,7 @@ pub fn print_tree<K: Sink, M: Nand>(
 ) -> Shown
     requires stands { StandsForSome ⟦<Volume<M> as Kept>⟧.stands volume.old }
     requires fresh { walk.old ≡ record { path = []; nodes = []; room = volume.old.core.shape.nodes } }
+    ensures stands { StandsForSome ⟦<Volume<M> as Kept>⟧.stands volume.new }
     ensures same { ReadsOn ⟦<Device<M> as Counts>⟧ volume.old.core volume.new.core }
     ensures shows { Shows ⟦<Device<M> as Counts>⟧ volume.old.core (λ tree. tree_text count tree) (K.taken sink.old) (K.taken sink.new) result }
     ensures reads { ReadsFor ⟦<Device<M> as Counts>⟧ volume.old.core.device volume.new.core.device result }
@@ -59,6 +60,7 @@ fn print_paths<K: Sink, M: Nand>(sink: &mut K, volume: &mut Volume<M>, walk: &mu
     requires stands { StandsForSome ⟦<Volume<M> as Kept>⟧.stands volume.old }
     requires way { IsOnWay ⟦<Device<M> as Counts>⟧ volume.old.core walk.old }
     requires before { walk.old.nodes ≡ [] }
+    ensures stands { StandsForSome ⟦<Volume<M> as Kept>⟧.stands volume.new }
     ensures same { ReadsOn ⟦<Device<M> as Counts>⟧ volume.old.core volume.new.core }
     ensures shows { Shows ⟦<Device<M> as Counts>⟧ volume.old.core paths_text (K.taken sink.old) (K.taken sink.new) result }
     ensures reads { ReadsFor ⟦<Device<M> as Counts>⟧ volume.old.core.device volume.new.core.device result }

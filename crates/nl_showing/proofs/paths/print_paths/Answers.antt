@@ -5,7 +5,7 @@ use Rattle.nl_looking.proofs.Cores.{reads-none, reads-then, runs-then}
 use Rattle.nl_showing.proofs.Ending.{reads_for_after}
 use Rattle.nl_showing.proofs.Lines.{ends_with, none_left, so_far_all, so_far_next, so_far_none, took_nothing}
 use Rattle.nl_showing.specs.Showing.{sink_answer}
-use Rattle.nl_print.proofs.Written.{then_write}
+use Rattle.nl_io.specs.StreamsLaws.{then_write}
 use Rattle.nl_io.specs.declared.sink.SinkAnswer.TheVariants as sink
 use Rattle.nl_showing.proofs.paths.print_paths.Goals as goal
 
@@ -81,3 +81,9 @@ returns-clause-shows g c =
           so_far_all tree c.paths.walk c.paths.at i.lines.text f (none_left tree c.paths.walk c.paths.at i.lines.text f (omega (arith, few, shape, c.paths-test.false, c.paths.auto.at-end)))
           );
     }
+
+pub returns-in-Some-clause-stands : goal.returns-in-Some-clause-stands
+returns-in-Some-clause-stands g c = c.in-Some.ensures.stands
+
+pub returns-clause-stands : goal.returns-clause-stands
+returns-clause-stands g c = c.paths.invariant.stands

@@ -2,7 +2,7 @@ use Rattle.std.proofs.Common.{◌++◌, ◌∙◌, ℕ, [], ap, refl, arith}
 use Rattle.nl_device.specs.contracts.counts.DeviceCounts.TheImpl.{ghosts}
 use Rattle.nl_looking.proofs.Cores.{reads-none}
 use Rattle.nl_print.specs.Texts.{opened_line}
-use Rattle.nl_print.proofs.Written.{then_write}
+use Rattle.nl_io.specs.StreamsLaws.{then_write}
 use Rattle.nl_showing.specs.Showing.{sink_answer}
 use Rattle.nl_showing.proofs.Ending.{tree_begins, tree_shown}
 use Rattle.nl_field.specs.declared.shape.Shape.{Shape}
@@ -48,3 +48,9 @@ returns-in-Took-clause-cause g c is =
 
 pub returns-in-Failed-clause-cause : goal.returns-in-Failed-clause-cause
 returns-in-Failed-clause-cause g c is = c.in-Failed.ensures.cause refl
+
+pub returns-in-Took-clause-stands : goal.returns-in-Took-clause-stands
+returns-in-Took-clause-stands g c = c.print_paths.ensures.stands
+
+pub returns-in-Failed-clause-stands : goal.returns-in-Failed-clause-stands
+returns-in-Failed-clause-stands g c = c.requires.stands
