@@ -343,22 +343,35 @@ fn names(alloc: Global, contents: &[Content]) -> Result<Vec<u32>, Fail> {
     Ok(names)
 }
 
-/// The medium of the volume. Its pages are programmed one after the other, and then its calls begin.
+/// Whether each page could be programmed, one after the other.
+fn put_all(media: &mut MemNand, contents: &[Content], names: &[u32], buf: &mut PageBuf) -> bool
+    requires geometry { geometry_of media.old ≡ record { blocks = 32; pages = 32 } }
+    requires erased { ErasedWithin (contents_of media.old) 0 1024 }
+{
+    'pages: for page in 0..1024 {
+        match contents.get(page as usize) {
+            None | Some(Content::Erased) => {}
+            Some(content) => {
+                fill(*content, names, buf);
+                if put(media, page, buf) != WriteAnswer::Done {
+                    return false;
+                }
+            }
+        }
+    }
+    true
+}
+
+/// The medium of the volume. Its pages are programmed, and then its calls begin.
 pub fn image(alloc: Global, layout: &Layout, plan: Plan) -> Result<MemNand, Fail> {
     let mut buf = PageBuf::new(alloc)?;
     let contents = contents(alloc, layout)?;
     let names = names(alloc, &contents)?;
     let mut media = formed(alloc, plan)?;
-    'pages: for page in 0..1024 {
-        match contents.get(page as usize) {
-            None | Some(Content::Erased) => {}
-            Some(content) => {
-                fill(*content, &names, &mut buf);
-                if put(&mut media, page, &buf) != WriteAnswer::Done {
-                    return Err(Fail::from("program"));
-                }
-            }
-        }
+    if put_all(&mut media, &contents, &names, &mut buf) {
+        Ok(media)
+    } else {
+        drop(media);
+        Err(Fail::from("program"))
     }
-    Ok(media)
 }

@@ -25,9 +25,10 @@ pub enum Wrong {
     InFlight(u32),
 }
 
-/// Room for two pages, and for the names of the pages of the files.
+/// Room for three pages, and for the names of the pages of the files.
 #[derive(Drop)]
 pub struct Work {
+    pub page: PageBuf,
     buf: PageBuf,
     wanted: PageBuf,
     names: Vec<u32>,
@@ -40,6 +41,7 @@ impl Work {
             names.push(0u32)?;
         }
         Ok(Work {
+            page: PageBuf::new(alloc)?,
             buf: PageBuf::new(alloc)?,
             wanted: PageBuf::new(alloc)?,
             names,

@@ -4,7 +4,7 @@ use crate::reading::{Work, Wrong, first_wrong};
 use crate::rig::{Rig, Seen, Step};
 use nl_core::Core;
 use nl_device::Device;
-use nl_field::{FailList, PageBuf};
+use nl_field::FailList;
 use nl_iface::Counts;
 use nl_nand::{MemNand, Stop};
 use nl_opening::{Opened, open};
@@ -73,7 +73,10 @@ fn only(alloc: Global, number: u64) -> Result<FailList, Fail> {
 fn opened(alloc: Global, media: MemNand) -> Result<Rig, Fail> {
     match open(alloc, media) {
         Opened::Ready(core, _) => Ok(Rig { core }),
-        _ => Err(Fail::from("not opened")),
+        other => {
+            drop(other);
+            Err(Fail::from("not opened"))
+        }
     }
 }
 
@@ -111,13 +114,12 @@ fn visited(
     alloc: Global,
     media: MemNand,
     visit: Visit<'_>,
+    work: &mut Work,
 ) -> Result<(Option<Differs>, MemNand), Fail> {
-    let mut work = Work::new(alloc)?;
-    let mut buf = PageBuf::new(alloc)?;
     let mut rig = opened(alloc, media)?;
-    let row = rig.differs(visit.rows, &mut buf);
+    let row = rig.differs(visit.rows, &mut work.page);
     let Rig { mut core } = rig;
-    let holds = looks(&mut core, visit.holds, &mut work);
+    let holds = looks(&mut core, visit.holds, work);
     let media = medium_of(core);
     match row {
         Some((at, seen)) => Ok((Some(Differs::Row(at, seen)), media)),
@@ -142,10 +144,16 @@ fn either(first: Option<Differs>, second: Option<Differs>) -> Option<Differs> {
 }
 
 /// What differs in a volume that is opened again: it has answered so many calls, and holds what it held, also once no page is dead any more.
-fn reopened(alloc: Global, media: MemNand, calls: u64) -> Result<Option<Differs>, Fail> {
+fn reopened(
+    alloc: Global,
+    media: MemNand,
+    calls: u64,
+    work: &mut Work,
+) -> Result<Option<Differs>, Fail> {
     let counted = [(Step::Count, Seen::Number(calls))];
-    let (first, media) = visited(alloc, media, tree(&counted, calls))?;
-    let (second, _) = visited(alloc, media, tree(&CLEANED, calls))?;
+    let (first, media) = visited(alloc, media, tree(&counted, calls), work)?;
+    let (second, media) = visited(alloc, media, tree(&CLEANED, calls), work)?;
+    drop(media);
     Ok(either(first, second))
 }
 
@@ -157,22 +165,31 @@ pub fn differing(
     visit: Visit<'_>,
     calls: Option<u64>,
 ) -> Result<Option<Differs>, Fail> {
+    let mut work = Work::new(alloc)?;
     let media = image(alloc, layout, plan)?;
-    let (first, media) = visited(alloc, media, visit)?;
+    let (first, media) = visited(alloc, media, visit, &mut work)?;
     match calls {
-        Some(calls) => Ok(either(first, reopened(alloc, media.restart(None), calls)?)),
-        None => Ok(first),
+        Some(calls) => {
+            let second = reopened(alloc, media.restart(None), calls, &mut work)?;
+            Ok(either(first, second))
+        }
+        None => {
+            drop(media);
+            Ok(first)
+        }
     }
 }
 
 /// Whether an opening of the medium fails.
 pub fn is_fault(alloc: Global, media: MemNand) -> bool {
     match open(alloc, media) {
-        Opened::Fault(_) => true,
-        Opened::Ready(core, _) => {
-            let _ = medium_of(core);
+        Opened::Fault(media) => {
+            drop(media);
+            true
+        }
+        other => {
+            drop(other);
             false
         }
-        _ => false,
     }
 }

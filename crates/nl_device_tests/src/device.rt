@@ -113,7 +113,10 @@ fn started(alloc: Global, media: MemNand) -> Result<Device<MemNand>, Fail>
             device.retain(&PointerList::new(alloc));
             Ok(device)
         }
-        _ => Err(Fail::from("not started")),
+        other => {
+            drop(other);
+            Err(Fail::from("not started"))
+        }
     }
 }
 
@@ -390,7 +393,9 @@ pub fn differs(
     let reads = failing(alloc, read, 0)?;
     let writes = failing(alloc, writes.0, writes.1)?;
     let mut rig = fresh(alloc, reads, writes, None)?;
-    Ok(rig.differs(table))
+    let row = rig.differs(table);
+    drop(rig);
+    Ok(row)
 }
 
 const NAMES: [(Step, Seen); 29] = [
@@ -536,7 +541,9 @@ fn addressed(alloc: Global) -> Result<(Option<usize>, u64), Fail> {
     let media = blank(alloc, FailList::new(alloc), FailList::new(alloc), None)?;
     let mut device = started(alloc, media)?;
     let row = differs_at(&mut device, &mut buf, &ADDRESSED);
-    Ok((row, device.next_stamp()))
+    let next = device.next_stamp();
+    drop(device);
+    Ok((row, next))
 }
 
 // The least volume has 103 addresses. A write takes the next number, as a page under a name does.

@@ -97,6 +97,7 @@ fn scanned(
 {
     let geometry = media.geometry();
     if geometry.blocks != 32 || geometry.pages != 32 {
+        drop(media);
         return Err(Fail::from("other numbers"));
     }
     match Device::start(alloc, media) {
@@ -104,10 +105,14 @@ fn scanned(
             if are_seen(&tables, first, fives, count) {
                 Ok(device)
             } else {
+                drop(device);
                 Err(Fail::from("other pages"))
             }
         }
-        _ => Err(Fail::from("not started")),
+        other => {
+            drop(other);
+            Err(Fail::from("not started"))
+        }
     }
 }
 
@@ -280,7 +285,9 @@ fn differs(
 ) -> Result<Option<usize>, Fail> {
     let media = stopped(alloc, Stop { operation, cut })?;
     let mut rig = reopened(alloc, media, opening_after(left))?;
-    Ok(answers(&mut rig, left, next))
+    let row = answers(&mut rig, left, next);
+    drop(rig);
+    Ok(row)
 }
 
 // Two copies and the erase of their block, each stopped with each cut.

@@ -37,9 +37,13 @@ pub fn started(alloc: Global, media: MemNand) -> Result<Device<MemNand>, Memory>
             if tables.len() == 0 {
                 Ok(device)
             } else {
+                drop(device);
                 Err(Memory)
             }
         }
-        _ => Err(Memory),
+        other => {
+            drop(other);
+            Err(Memory)
+        }
     }
 }

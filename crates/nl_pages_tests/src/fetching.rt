@@ -28,12 +28,28 @@ pub fn fetched_twice(alloc: Global, vaddr: u32, failing: u32) -> Result<[Fetched
     reads.push(1024 + u64::from(failing))?;
     let media = blank(alloc, reads, None)?;
     let mut device = started(alloc, media)?;
-    write(alloc, &mut device, vaddr)?;
+    let fetched = write_and_fetch(alloc, &mut device, vaddr);
+    drop(device);
+    fetched
+}
+
+fn write_and_fetch(
+    alloc: Global,
+    device: &mut Device<MemNand>,
+    vaddr: u32,
+) -> Result<[Fetched; 2], Memory>
+    requires formed { ⟦<Device<MemNand> as Counts>⟧.formed device.old }
+    requires numbers { ⟦<Device<MemNand> as Counts>⟧.shape device.old ≡ shape_for 32 32 }
+    requires spare { ⟦<Device<MemNand> as Counts>⟧.keeps_spare device.old }
+    requires low { 67 ≤ vaddr }
+    requires high { vaddr < 71 }
+{
+    write(alloc, device, vaddr)?;
     match shape_of(32, 32) {
         Some(shape) => {
             let mut meta = Meta::new(alloc, shape)?;
-            let first = fetch_one(&mut device, &mut meta, vaddr);
-            let second = fetch_one(&mut device, &mut meta, vaddr);
+            let first = fetch_one(device, &mut meta, vaddr);
+            let second = fetch_one(device, &mut meta, vaddr);
             Ok([first, second])
         }
         None => Err(Memory),

@@ -2,6 +2,7 @@ ghost use Rattle.std.specs.Prelude.{◌≡◌, ◌<◌, ◌≤◌, [], ◌∷◌
 ghost use Rattle.nl_field.specs.Numbers.{shape_for};
 ghost use Rattle.nl_meta.specs.Pages.{with_address};
 ghost use Rattle.nl_nand.specs.Memory.{contents_of, geometry_of};
+ghost use Rattle.nl_iface.specs.Stored.{NoneFailed};
 ghost use Rattle.nl_nand.specs.Nand.{IsBlank};
 ghost use Rattle.nl_pages_tests.specs.Standing.{Stands};
 
@@ -52,16 +53,41 @@ fn begin(alloc: Global, media: MemNand) -> Result<Volume, Memory>
     ensures { IfOk result (λ v. Stands ⟦<Device<MemNand> as Counts>⟧ v.device v.journal v.meta) }
 {
     let mut device = started(alloc, media)?;
+    match make_beside(alloc, &mut device) {
+        Ok(beside) => Ok(Volume {
+            device,
+            journal: beside.journal,
+            meta: beside.meta,
+        }),
+        Err(memory) => {
+            drop(device);
+            Err(memory)
+        }
+    }
+}
+
+// What a volume has beside its device.
+#[derive(Drop)]
+struct Beside {
+    journal: Journal,
+    meta: Meta,
+}
+
+// A journal and the pages, beside the device of a blank medium.
+fn make_beside(alloc: Global, device: &mut Device<MemNand>) -> Result<Beside, Memory>
+    requires formed { ⟦<Device<MemNand> as Counts>⟧.formed device.old }
+    requires numbers { ⟦<Device<MemNand> as Counts>⟧.shape device.old ≡ shape_for 32 32 }
+    requires spare { ⟦<Device<MemNand> as Counts>⟧.keeps_spare device.old }
+    requires idle { (⟦<Device<MemNand> as Counts>⟧.names device.old).pending ≡ [] }
+    requires none_failed { NoneFailed (⟦<Device<MemNand> as Counts>⟧.shape device.old).vaddrs (⟦<Device<MemNand> as Counts>⟧.failed device.old) }
+    ensures { IfOk result (λ b. Stands ⟦<Device<MemNand> as Counts>⟧ device.new b.journal b.meta) }
+{
     let mut journal = Journal::new(alloc)?;
     match shape_of(32, 32) {
         Some(shape) => {
             let mut meta = Meta::new(alloc, shape)?;
-            match journal.bring_back(&mut device, &mut meta, &shape) {
-                ReadBack::Nothing => Ok(Volume {
-                    device,
-                    journal,
-                    meta,
-                }),
+            match journal.bring_back(device, &mut meta, &shape) {
+                ReadBack::Nothing => Ok(Beside { journal, meta }),
                 _ => Err(Memory),
             }
         }
@@ -133,11 +159,19 @@ fn put(meta: &mut Meta, vaddr: u32, byte: u8) -> bool
 fn opened(alloc: Global, media: MemNand) -> Result<Stopped, Memory> {
     let geometry = media.geometry();
     if geometry.blocks != 32 || geometry.pages != 32 {
+        drop(media);
         return Err(Memory);
     }
     match Device::start(alloc, media) {
-        Started::Ready(mut device, _) => read_all(alloc, &mut device),
-        _ => Err(Memory),
+        Started::Ready(mut device, _) => {
+            let stopped = read_all(alloc, &mut device);
+            drop(device);
+            stopped
+        }
+        other => {
+            drop(other);
+            Err(Memory)
+        }
     }
 }
 

@@ -6,20 +6,27 @@ use nl_io::{
 use std::io;
 use std::test::Fail;
 
+// Whether a read of at most three bytes answers so and gives these.
+fn reads<S: Source>(source: &mut S, want: SourceAnswer, bytes: &[u8]) -> bool {
+    let mut out = [0u8; 3];
+    source.read(&mut out) == want && out.starts_with(bytes)
+}
+
+fn writes<K: Sink>(sink: &mut K, bytes: &[u8], want: SinkAnswer) -> bool {
+    sink.write(bytes) == want
+}
+
 #[test]
 fn a_source_is_read_to_its_end(rt: HostRuntime) -> Result<(), Fail> {
     let alloc = rt.alloc();
     let mut failing = FailList::new(alloc);
     failing.push(2)?;
     let mut source = MemSource::new(Text::of(alloc, b"hello")?, failing);
-    let mut out = [0u8; 3];
-    assert_eq!(rt; source.read(&mut out), SourceAnswer::Got(3));
-    assert_eq!(rt; out.as_slice(), b"hel".as_slice());
-    assert_eq!(rt; source.read(&mut out), SourceAnswer::Failed);
-    assert_eq!(rt; source.faults(), 1);
-    assert_eq!(rt; source.read(&mut out), SourceAnswer::Got(2));
-    assert_eq!(rt; &out[..2], b"lo".as_slice());
-    assert_eq!(rt; source.read(&mut out), SourceAnswer::End);
+    assert!(rt; reads(&mut source, SourceAnswer::Got(3), b"hel"));
+    assert!(rt; reads(&mut source, SourceAnswer::Failed, b""));
+    assert!(rt; source.faults() == 1);
+    assert!(rt; reads(&mut source, SourceAnswer::Got(2), b"lo"));
+    assert!(rt; reads(&mut source, SourceAnswer::End, b""));
     Ok(())
 }
 
@@ -29,12 +36,12 @@ fn a_sink_takes_what_fits(rt: HostRuntime) -> Result<(), Fail> {
     let mut failing = FailList::new(alloc);
     failing.push(1)?;
     let mut sink = MemSink::new(alloc, 5, failing)?;
-    assert_eq!(rt; sink.write(b"no"), SinkAnswer::Failed);
-    assert_eq!(rt; sink.write(b"abc"), SinkAnswer::Took);
-    assert_eq!(rt; sink.write(b"def"), SinkAnswer::Failed);
-    assert_eq!(rt; sink.write(b"de"), SinkAnswer::Took);
-    assert_eq!(rt; sink.bytes(), b"abcde".as_slice());
-    assert_eq!(rt; sink.faults(), 2);
+    assert!(rt; writes(&mut sink, b"no", SinkAnswer::Failed));
+    assert!(rt; writes(&mut sink, b"abc", SinkAnswer::Took));
+    assert!(rt; writes(&mut sink, b"def", SinkAnswer::Failed));
+    assert!(rt; writes(&mut sink, b"de", SinkAnswer::Took));
+    assert!(rt; sink.bytes() == b"abcde".as_slice());
+    assert!(rt; sink.faults() == 2);
     Ok(())
 }
 
@@ -99,15 +106,14 @@ impl io::Write for SecondFails {
 #[test]
 fn a_call_that_fails_is_no_end(rt: HostRuntime) -> Result<(), Fail> {
     let mut source = StdSource::new(SecondFails { calls: 0 });
-    let mut out = [0u8; 8];
-    assert_eq!(rt; source.read(&mut out), SourceAnswer::Got(1));
-    assert_eq!(rt; source.read(&mut out), SourceAnswer::Failed);
-    assert_eq!(rt; source.read(&mut out), SourceAnswer::Got(1));
-    assert_eq!(rt; source.faults(), 1);
+    assert!(rt; reads(&mut source, SourceAnswer::Got(1), b"x"));
+    assert!(rt; reads(&mut source, SourceAnswer::Failed, b""));
+    assert!(rt; reads(&mut source, SourceAnswer::Got(1), b"x"));
+    assert!(rt; source.faults() == 1);
     // The second byte is not taken.
     let mut sink = StdSink::new(SecondFails { calls: 0 });
-    assert_eq!(rt; sink.write(b"ab"), SinkAnswer::Failed);
-    assert_eq!(rt; sink.write(b"ab"), SinkAnswer::Took);
-    assert_eq!(rt; sink.faults(), 1);
+    assert!(rt; writes(&mut sink, b"ab", SinkAnswer::Failed));
+    assert!(rt; writes(&mut sink, b"ab", SinkAnswer::Took));
+    assert!(rt; sink.faults() == 1);
     Ok(())
 }

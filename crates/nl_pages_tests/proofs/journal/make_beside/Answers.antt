@@ -5,10 +5,10 @@ use Rattle.nl_journal.specs.Restoring.{HasRestored}
 use Rattle.nl_journal.specs.declared.answers.Phase.TheVariants.{Header, Home}
 use Rattle.nl_journal.specs.declared.answers.ReadBack.TheVariants as back
 use Rattle.nl_pages_tests.proofs.Standing.{begun-order, least-addresses}
-use Rattle.nl_pages_tests.proofs.journal.begin.Goals as goal
+use Rattle.nl_pages_tests.proofs.journal.make_beside.Goals as goal
 
 pub bring_back-requires-clause-shape : goal.bring_back-requires-clause-shape
-bring_back-requires-clause-shape c = c.in-Some.ensures.numbers ∙ sym c.in_ok-device.ensures.numbers
+bring_back-requires-clause-shape c = c.in-Some.ensures.numbers ∙ sym c.requires.numbers
 
 pub returns-in-Nothing : goal.returns-in-Nothing
 returns-in-Nothing c =
@@ -17,11 +17,11 @@ returns-in-Nothing c =
     let thawed : c.bring_back.new.meta.frozen.addresses ≡ [] = none c.bring_back.new.self c.bring_back.new.meta brought.restored c.in-Nothing.ensures.phase in
     record {
       formed = c.in-Nothing.ensures.formed;
-      numbers = kept.same_shape ∙ c.in_ok-device.ensures.numbers;
-      spare = kept.spare c.in_ok-device.ensures.spare;
-      order = begun-order _ _ _ _ _ c.in_ok-device.ensures.numbers c.in_ok-device.ensures.none_failed c.in-Nothing.ensures.phase thawed
+      numbers = kept.same_shape ∙ c.requires.numbers;
+      spare = kept.spare c.requires.spare;
+      order = begun-order _ _ _ _ _ c.requires.numbers c.requires.none_failed c.in-Nothing.ensures.phase thawed
           c.in-Nothing.ensures.found brought.number kept;
-      count = brought.count ∙ least-addresses _ (kept.same_shape ∙ c.in_ok-device.ensures.numbers);
+      count = brought.count ∙ least-addresses _ (kept.same_shape ∙ c.requires.numbers);
       clean = brought.clean;
       thawed = thawed;
     }

@@ -1,7 +1,7 @@
 use Rattle.std.proofs.Common.{ap, ◌∙◌, length}
 use Rattle.nl_meta.specs.Pages.{Pages}
 use Rattle.nl_pages_tests.proofs.Standing.{least-addresses, none-count}
-use Rattle.nl_pages_tests.proofs.fetching.fetched_twice.Goals as goal
+use Rattle.nl_pages_tests.proofs.fetching.write_and_fetch.Goals as goal
 
 pub fetch_one-first-requires-clause-count : goal.fetch_one-first-requires-clause-count
 fetch_one-first-requires-clause-count c =
