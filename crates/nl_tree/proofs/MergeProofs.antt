@@ -9,7 +9,8 @@ use Rattle.std.specs.Bool.{passes}
 use Rattle.std.specs.FinMap.Entries.{put, by_order, where_key, is_sorted, below_all}
 use Rattle.nl_tree.specs.Tree.{Tree, Node, path_cmp, with_all}
 use Rattle.nl_tree.specs.TreeLaws.{IsInOrder}
-use Rattle.nl_tree.specs.PlainTree.{place_in, behind_first}
+use Rattle.nl_content.specs.Places.{place_in}
+use Rattle.nl_tree.specs.PlainTree.{behind_first}
 use Rattle.nl_tree.proofs.TreeProofs.{paths_total, paths_antisymmetric, from_T}
 
 abbrev Path : Type 0

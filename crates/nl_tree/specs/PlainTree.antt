@@ -1,12 +1,11 @@
 -- What the plain tree as a program keeps beside the tree.
-use Rattle.std.specs.Prelude.{◌≡◌, ℕ, suc, ◌+◌, ◌*◌, drop, ◌==◌, ◌&&◌, ◌≤◌, ◌<◌, ◌^◌, is_none, Option, Some, None, nat_le, nat_lt, count_by, Bool, false, if◌then◌else◌, List, [], ◌∷◌, length}
+use Rattle.std.specs.Prelude.{◌≡◌, ℕ, ◌+◌, drop, ◌==◌, ◌&&◌, ◌≤◌, ◌<◌, ◌^◌, is_none, Option, Some, None, Bool, false, if◌then◌else◌, List, [], ◌∷◌, length}
 use Rattle.std.specs.declared.cmp.Ordering.{Ordering}
-use Rattle.std.specs.Ordering.{is_gt, eq_by_cmp}
-use Rattle.std.specs.List.{AllByRecursion, list_any, range_with_len}
+use Rattle.std.specs.List.{AllByRecursion, list_any}
 use Rattle.std.specs.Int.{div_ceil}
-use Rattle.nl_field.specs.Numbers.{max_file_size, max_name, max_entries}
-use Rattle.nl_field.specs.ContentLaws.{cut_page}
+use Rattle.nl_field.specs.Numbers.{max_name, max_entries}
 use Rattle.nl_field.specs.FileContent.{FileContent}
+use Rattle.nl_content.specs.Places.{is_first}
 use Rattle.nl_tree.specs.Tree.{Node, file, Tree, is_at_or_under, entries_of, last_name, node_at}
 use Rattle.nl_tree.specs.declared.call.Call.{Call}
 use Rattle.nl_field.specs.declared.shape.Shape.{Shape}
@@ -17,26 +16,6 @@ use Rattle.nl_tree.specs.declared.reply.Refusal.TheVariants.{Enametoolong}
 use Rattle.nl_tree.specs.Step.{when, first_of, is_too_long, paths_of, own_refusal, space_refusal}
 use Rattle.nl_tree.specs.TreeLaws.{IsInOrder}
 use Rattle.nl_tree.specs.Charges.{data_of_node, ranges_of_node}
-
--- each page has 4096 bytes
-abbrev pub AreWhole : List (ℕ × List ℕ) → Type 0
-AreWhole pages = AllByRecursion (λ page. length page.1 ≡ 4096) pages
-
--- the file is not too large, its pages are whole, and it has some in so many ranges
-pub record IsFileBuf (content : FileContent) (ranges : ℕ) : Type 0 where
-  pub small : content.size ≤ max_file_size
-  pub whole : AreWhole content.pages
-  pub counted : ranges ≡ ranges_of_node (file content)
-
--- how many entries are before the first whose key is not below this
-abbrev pub place_in : {K X : Type 0} → (K → K → Ordering) → K → List (K × X) → ℕ
-place_in R key [] = 0
-place_in R key (e ∷ entries) = if is_gt (R key e.0) then suc (place_in R key entries) else 0
-
--- the first entry is at the key
-abbrev pub is_first : {K X : Type 0} → (K → K → Ordering) → K → List (K × X) → Bool
-is_first R key [] = false
-is_first R key (e ∷ entries) = eq_by_cmp R key e.0
 
 -- the entries behind the first one, where that is at the key
 abbrev pub behind_first : {K X : Type 0} → (K → K → Ordering) → K → List (K × X) → List (K × X)
@@ -58,17 +37,6 @@ meta_of_entry tree e = div_ceil (length (entries_of tree e.0)) 64 + ranges_of_no
 -- the data pages that one path takes
 abbrev pub data_of_entry : List (List ℕ) × Node → ℕ
 data_of_entry e = data_of_node e.1
-
--- a page lies in the range
-abbrev pub is_in_range : List (ℕ × List ℕ) → ℕ → Bool
-is_in_range pages r = list_any (λ page. nat_le (8 + 256 * r) page.0 && nat_lt page.0 (264 + 256 * r)) pages
-
-abbrev pub ranges_of_pages : List (ℕ × List ℕ) → ℕ
-ranges_of_pages pages = count_by (is_in_range pages) (range_with_len 0 16)
-
--- what a cut to a size leaves of a page
-abbrev pub cut_entry : ℕ → ℕ × List ℕ → ℕ × List ℕ
-cut_entry size page = (page.0, cut_page size page.0 page.1)
 
 -- each path ends in a name of at most 55 bytes
 abbrev pub HasShortNames : Tree → Type 0

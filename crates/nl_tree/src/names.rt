@@ -1,5 +1,7 @@
 ghost use Rattle.std.specs.Prelude.{◌≡◌, ◌<◌, length, slice_get, Some};
 
+use nl_content::Path;
+
 /// A path whose names can be read, from the root on.
 pub trait Names {
     ghost use Rattle.std.specs.Prelude.{List, ℕ};
@@ -14,4 +16,16 @@ pub trait Names {
     fn name_at(&self, at: u32) -> &[u8]
         requires { at < length (names self.now) }
         ensures { slice_get (names self.now) at ≡ Some result.now };
+}
+
+impl Names for Path {
+    ghost names = { λ p. p };
+
+    fn count(&self) -> u32 {
+        self.len()
+    }
+
+    fn name_at(&self, at: u32) -> &[u8] {
+        self.get(at).bytes()
+    }
 }

@@ -1,19 +1,18 @@
 //! The tree after a call that is not refused.
-ghost use Rattle.std.specs.Prelude.{◌≡◌, ◌<◌, ◌≤◌, ◌+◌, ◌∷◌, length, IfOk, IfSome, IfNone, if◌then◌else◌, Some, None, Ok, replicate};
+ghost use Rattle.std.specs.Prelude.{◌≡◌, ◌<◌, ◌≤◌, ◌+◌, length, IfOk, IfSome, IfNone, if◌then◌else◌, Some, None, Ok, replicate};
 ghost use Rattle.std.specs.Option.{option_map_or};
 ghost use Rattle.nl_field.specs.Numbers.{max_bytes, max_file_size};
 ghost use Rattle.nl_field.specs.FileContent.{empty_file, written_over, cut_to};
-ghost use Rattle.nl_tree.specs.Tree.{Node, directory, file, node_at, with_new, with_content, without as tree_without, with_renamed, paths_eq, content_of};
+ghost use Rattle.nl_tree.specs.Tree.{directory, file, node_at, with_new, with_content, without as tree_without, with_renamed, paths_eq, content_of};
 ghost use Rattle.nl_tree.specs.Step.{effect_of, own_refusal};
 ghost use Rattle.nl_tree.specs.Calls.{HasFewBytes};
 
 use super::entries::{Entry, copy, find, put, without};
-use super::file_buf::FileBuf;
-use super::file_ops::{cut, written};
 use super::names::are_equal;
-use super::rename::{copied_path, renamed};
+use super::rename::renamed;
 use super::shared::SharedNode;
 use crate::{Call, Path};
+use nl_content::{FileBuf, copied_path, cut, written};
 use nl_field::{Memory, Text};
 use std::alloc::Global;
 

@@ -1,13 +1,14 @@
 //! A tree as the list of its paths with their nodes, in the order of the paths.
-ghost use Rattle.std.specs.Prelude.{◌≡◌, ◌+◌, ◌≤◌, ◌==◌, ◌&&◌, ◌++◌, [], ◌∷◌, if◌then◌else◌, not, length, map, drop, IfOk, OnOk, OnErr};
+ghost use Rattle.std.specs.Prelude.{◌≡◌, ◌+◌, ◌≤◌, ◌==◌, ◌&&◌, ◌++◌, [], ◌∷◌, if◌then◌else◌, not, length, drop, IfOk, OnOk, OnErr};
 ghost use Rattle.std.specs.Option.{option_copied};
-ghost use Rattle.std.specs.FinMap.Entries.{find as value_at, put as with_entry, where_key};
-ghost use Rattle.nl_tree.specs.Tree.{path_cmp, paths_eq, is_at_or_under, with_all, node_at, entries_of};
-ghost use Rattle.nl_tree.specs.PlainTree.{place_in, is_first, is_entry_of, run_of};
+ghost use Rattle.std.specs.FinMap.Entries.{put as with_entry, where_key};
+ghost use Rattle.nl_tree.specs.Tree.{path_cmp, paths_eq, is_at_or_under, node_at, entries_of};
+ghost use Rattle.nl_content.specs.Places.{place_in, is_first};
+ghost use Rattle.nl_tree.specs.PlainTree.{is_entry_of, run_of};
 
 use super::names::{are_equal, compare, is_under};
-use super::shared::{SharedNode, SharedPath};
-use crate::Path;
+use super::shared::SharedNode;
+use nl_content::SharedPath;
 use nl_field::{Memory, Text};
 use std::alloc::Global;
 use std::cmp::Ordering;

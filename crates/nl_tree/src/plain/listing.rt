@@ -6,8 +6,9 @@ ghost use Rattle.nl_tree.specs.Step.{listing};
 ghost use Rattle.nl_tree.specs.PlainTree.{is_entry_of};
 
 use super::entries::{Entry, is_entry};
-use super::shared::{SharedNode, SharedPath};
+use super::shared::SharedNode;
 use crate::ReplyBuf;
+use nl_content::SharedPath;
 use nl_field::Text;
 
 /// Adds a space and the name for each entry of a directory.

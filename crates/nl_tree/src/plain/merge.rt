@@ -1,13 +1,13 @@
 //! Many entries put into a tree at once.
-ghost use Rattle.std.specs.Prelude.{◌≡◌, ◌<◌, ◌≤◌, ◌++◌, ◌∷◌, [], length, drop, if◌then◌else◌, IfOk, OnOk};
+ghost use Rattle.std.specs.Prelude.{◌≡◌, ◌<◌, ◌≤◌, length, drop, IfOk};
 ghost use Rattle.std.specs.Ordering.{is_lt};
 ghost use Rattle.nl_tree.specs.Tree.{path_cmp, with_all};
 ghost use Rattle.nl_tree.specs.TreeLaws.{IsInOrder};
-ghost use Rattle.nl_tree.specs.PlainTree.{is_first, behind_first};
+ghost use Rattle.nl_tree.specs.PlainTree.{behind_first};
 
 use super::entries::{Entry, is_at, place_of, push, push_all};
 use super::names::compare;
-use super::shared::SharedPath;
+use nl_content::SharedPath;
 use nl_field::Memory;
 use std::alloc::Global;
 use std::cmp::Ordering;

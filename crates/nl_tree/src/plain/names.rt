@@ -1,5 +1,5 @@
 //! Comparisons of paths.
-ghost use Rattle.std.specs.Prelude.{◌≡◌, ℕ, length};
+ghost use Rattle.std.specs.Prelude.{◌≡◌};
 ghost use Rattle.std.specs.Ordering.{nat_cmp};
 ghost use Rattle.std.specs.Cmp.Lexicographic.{slice_cmp};
 ghost use Rattle.nl_tree.specs.Tree.{path_cmp, paths_eq, is_at_or_under};

@@ -1,7 +1,7 @@
 //! The refusals of the calls, in their order.
-ghost use Rattle.std.specs.Prelude.{◌≡◌, ◌<◌, ◌≤◌, ◌^◌, ◌&&◌, ◌||◌, ◌+◌, [], ◌∷◌, ℕ, is_none, is_some, length, nat_lt, if◌then◌else◌, None};
+ghost use Rattle.std.specs.Prelude.{◌≡◌, ◌<◌, ◌&&◌, ◌||◌, ◌+◌, [], ◌∷◌, is_none, length, nat_lt, if◌then◌else◌, None};
 ghost use Rattle.std.specs.List.{list_any};
-ghost use Rattle.nl_tree.specs.Tree.{node_at, entries_of, is_root, is_file, is_directory, is_at_or_under, paths_eq};
+ghost use Rattle.nl_tree.specs.Tree.{node_at, entries_of, is_root, is_file, is_directory, paths_eq};
 ghost use Rattle.nl_field.specs.Numbers.{max_file_size};
 ghost use Rattle.nl_tree.specs.Calls.{HasFewBytes};
 ghost use Rattle.nl_tree.specs.PlainTree.{refusal_before};

@@ -6,8 +6,8 @@ ghost use Rattle.nl_tree.specs.Tree.{path_cmp, is_at_or_under, with_renamed};
 use super::entries::{Entry, staying};
 use super::merge::put_all;
 use super::names::is_under;
-use super::shared::{SharedNode, SharedPath};
-use crate::Path;
+use super::shared::SharedNode;
+use nl_content::{SharedPath, behind, joined};
 use nl_field::{Memory, Text};
 use std::alloc::Global;
 
@@ -64,42 +64,5 @@ fn push(moved: &mut Vec<Entry>, path: SharedPath, node: &SharedNode) -> Result<(
 {
     let shared = node.share()?;
     moved.push((path, shared))?;
-    Ok(())
-}
-
-/// The names behind the first ones.
-fn behind<'a>(first: &[Text], names: &'a [Text]) -> &'a [Text]
-    ensures { result.now ≡ drop (length first.now) names.now }
-{
-    if first.len() > names.len() {
-        return &names[names.len()..];
-    }
-    &names[first.len()..]
-}
-
-fn joined(alloc: Global, first: &[Text], more: &[Text]) -> Result<SharedPath, Memory>
-    ensures { IfOk result (λ p. p ≡ first.now ++ more.now) }
-{
-    let mut path = Path::new(alloc);
-    push_all(alloc, &mut path, first)?;
-    push_all(alloc, &mut path, more)?;
-    SharedPath::new(alloc, path)
-}
-
-/// A copy of a path that can be shared.
-pub(crate) fn copied_path(alloc: Global, path: &Path) -> Result<SharedPath, Memory>
-    ensures { IfOk result (λ p. p ≡ path.now) }
-{
-    let mut copied = Path::new(alloc);
-    push_all(alloc, &mut copied, path.names())?;
-    SharedPath::new(alloc, copied)
-}
-
-fn push_all(alloc: Global, path: &mut Path, names: &[Text]) -> Result<(), Memory>
-    ensures { OnOk result (path.new ≡ path.old ++ names.now) }
-{
-    'names: for name in names {
-        path.push(Text::of(alloc, name.bytes())?)?;
-    }
     Ok(())
 }

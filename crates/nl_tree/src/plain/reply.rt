@@ -1,6 +1,6 @@
 //! What a call answers that is not refused.
 ghost use Rattle.nl_field.specs.Numbers.{max_bytes};
-ghost use Rattle.std.specs.Prelude.{◌≡◌, ◌≤◌, ◌+◌, ◌++◌, [], false, None, length, is_none};
+ghost use Rattle.std.specs.Prelude.{◌≡◌, ◌≤◌, [], false, None, length, is_none};
 ghost use Rattle.nl_field.specs.FileContent.{bytes_read};
 ghost use Rattle.nl_tree.specs.Tree.{node_at, entries_of, content_of};
 ghost use Rattle.nl_tree.specs.Step.{listing, status_of, effect_of, own_refusal};
@@ -10,10 +10,9 @@ ghost use Rattle.nl_tree.specs.declared.reply.Reply.TheVariants.{Names};
 
 use super::after::content_at;
 use super::entries::{Entry, count_entries, find};
-use super::file_buf::FileBuf;
-use super::file_ops::read;
 use super::listing::push_names;
 use crate::{Call, Path, Refusal, Reply, ReplyBuf};
+use nl_content::{FileBuf, read};
 use nl_field::Text;
 use std::alloc::Global;
 

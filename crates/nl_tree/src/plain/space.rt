@@ -4,7 +4,7 @@ ghost use Rattle.std.specs.List.{list_any};
 ghost use Rattle.nl_field.specs.Numbers.{max_entries};
 ghost use Rattle.nl_tree.specs.Tree.{Node, entries_of};
 ghost use Rattle.nl_tree.specs.TreeLaws.{IsInOrder};
-ghost use Rattle.nl_tree.specs.Charges.{data_of_node, ranges_of_node, data_charge, node_charge, meta_charge};
+ghost use Rattle.nl_tree.specs.Charges.{ranges_of_node, data_charge, node_charge, meta_charge};
 ghost use Rattle.nl_tree.specs.PlainTree.{meta_of_entry, data_of_entry};
 
 use super::entries::{Entry, run};

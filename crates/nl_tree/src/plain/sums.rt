@@ -1,10 +1,8 @@
 //! The sums that are kept beside a tree.
-ghost use Rattle.std.specs.Prelude.{◌≡◌, ◌<◌, ◌≤◌, ◌^◌, ◌+◌, ◌||◌, Option, None, Some, IfOk, IfErr, OnOk, IfSome, IfNone, false, true, is_some, length, nat_lt};
+ghost use Rattle.std.specs.Prelude.{◌≡◌, ◌<◌, ◌^◌, ◌+◌, ◌||◌, Option, None, Some, IfOk, IfErr, OnOk, false, true, is_some, length, nat_lt};
 ghost use Rattle.std.specs.Option.{option_copied};
-ghost use Rattle.nl_field.specs.Numbers.{max_entries};
-ghost use Rattle.nl_tree.specs.Tree.{Node, node_at, entries_of};
+ghost use Rattle.nl_tree.specs.Tree.{node_at};
 ghost use Rattle.nl_tree.specs.TreeLaws.{IsInOrder};
-ghost use Rattle.nl_tree.specs.Charges.{data_of_node, ranges_of_node, data_charge, node_charge, meta_charge};
 ghost use Rattle.nl_tree.specs.Step.{space_refusal};
 ghost use Rattle.nl_tree.specs.KeptSums.{AreCharges, IsChangeAt, has_overfull, parent_of, data_part, ranges_part, count_at, count_part, pages_of_entries, overfull};
 

@@ -1,6 +1,6 @@
 use Rattle.std.proofs.Common.{◌≡◌, ◌+◌, ◌-◌, ◌≤◌, drop, length}
 use Rattle.nl_tree.specs.Tree.{path_cmp}
-use Rattle.nl_tree.specs.PlainTree.{place_in}
+use Rattle.nl_content.specs.Places.{place_in}
 use Rattle.nl_tree.proofs.plain.entries.place_of.Given as goal
 
 abbrev pub invariant-entries : goal.invariant-entries

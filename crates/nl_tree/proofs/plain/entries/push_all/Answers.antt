@@ -1,4 +1,4 @@
-use Rattle.nl_tree.proofs.LoopProofs.{pushed_behind}
+use Rattle.nl_content.proofs.LoopProofs.{pushed_behind}
 use Rattle.nl_tree.proofs.plain.entries.push_all.Goals as goal
 
 pub entries-preserved : goal.entries-preserved

@@ -1,7 +1,7 @@
 use Rattle.std.proofs.Common.{◌≡◌, ℕ, List, drop, arith, ap, sym, ◌∙◌}
 use Rattle.nl_tree.specs.Tree.{Tree, path_cmp}
-use Rattle.nl_tree.specs.PlainTree.{place_in, is_first}
-use Rattle.nl_tree.proofs.PlaceProofs.{place_in-le, put-there, put-new}
+use Rattle.nl_content.specs.Places.{place_in, is_first}
+use Rattle.nl_content.proofs.PlaceProofs.{place_in-le, put-there, put-new}
 use Rattle.nl_tree.proofs.plain.entries.put.Goals as goal
 
 -- what is said of the entries as a slice is said of those of the tree

@@ -2,7 +2,7 @@ use Rattle.std.proofs.Common.{◌&&◌, not, refl}
 use Rattle.nl_tree.specs.Tree.{paths_eq, is_at_or_under, path_cmp}
 use Rattle.nl_tree.proofs.EntriesSteps.{where_key_step}
 use Rattle.std.specs.FinMap.Entries.{where_key}
-use Rattle.nl_tree.proofs.LoopProofs.{from_none, all_read}
+use Rattle.nl_content.proofs.LoopProofs.{from_none, all_read}
 use Rattle.nl_tree.proofs.plain.entries.staying.Goals as goal
 
 pub entries-preserved : goal.entries-preserved

@@ -1,5 +1,5 @@
 use Rattle.nl_tree.proofs.MergeProofs.{merged_step, merged_end}
-use Rattle.nl_tree.proofs.LoopProofs.{from_none}
+use Rattle.nl_content.proofs.LoopProofs.{from_none}
 use Rattle.std.proofs.Common.{◌∙◌}
 use Rattle.nl_tree.proofs.plain.merge.merged.Goals as goal
 

@@ -2,7 +2,7 @@ use Rattle.std.proofs.Common.{◌++◌, drop, length, refl, map}
 use Rattle.nl_tree.specs.Tree.{is_at_or_under, path_cmp, Tree}
 use Rattle.nl_tree.proofs.MergeProofs.{moved_step}
 use Rattle.std.specs.FinMap.Entries.{where_key}
-use Rattle.nl_tree.proofs.LoopProofs.{from_none, all_read}
+use Rattle.nl_content.proofs.LoopProofs.{from_none, all_read}
 use Rattle.nl_tree.proofs.plain.rename.all_moved.Goals as goal
 
 pub entries-preserved : goal.entries-preserved

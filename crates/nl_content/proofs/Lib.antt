@@ -1,0 +1,3 @@
+pub mod FileProofs
+pub mod LoopProofs
+pub mod PlaceProofs
