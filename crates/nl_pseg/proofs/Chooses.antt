@@ -1,9 +1,15 @@
 -- What a victim that was taken leaves of a segment and its images.
-use Rattle.std.proofs.Common.{◌≡◌, inl, inr, ⊎_elim, ℕ, ◌/◌, ◌<◌, ◌≤◌, Bool, true, false, Option, Some, None, List, get_or, is_some, sym, ◌∙◌, ap, subst, arith}
+use Rattle.nl_pseg.proofs.Begun.{told_length}
+use Rattle.nl_pseg.specs.Kept.{Kept}
+use Rattle.nl_pseg.specs.Space.{victims}
+use Rattle.nl_pseg.specs.Seen.{seen}
+use Rattle.nl_blocks.specs.Table.{free_count}
+use Rattle.std.proofs.lemmas.Bool.{cases_lt, true≢false}
+use Rattle.std.proofs.Common.{◌≡◌, inl, inr, ⊎_elim, ℕ, ◌/◌, ◌<◌, ◌≤◌, Bool, true, false, Option, Some, None, List, get_or, is_some, sym, ◌∙◌, ap, subst, arith, ◌↔◌, ◌*◌, cond, length, refl, IsTrue, ◌⊎◌}
 use Rattle.std.proofs.lemmas.Option.{none-some}
 use Rattle.std.specs.Bool.{OnFalse, OnTrue}
 use Rattle.nl_field.specs.Page.{Image}
-use Rattle.nl_pseg.specs.Cleaning.{Begins}
+use Rattle.nl_pseg.specs.Cleaning.{Begins, CannotBegin, IsChosen, NoneChosen}
 use Rattle.nl_pseg.specs.Segment.{HasSpare, IsClean, IsNext, IsNextCopy, IsPhysicalOf, KeepsBlock, Physical, TakenAsErased, held_at, is_kept, is_soiled}
 use Rattle.nl_pseg.specs.declared.held.Held.{Held}
 
@@ -57,3 +63,38 @@ module _ {block : ℕ} {old new : Physical} (b : Begins block old new) where
 pub by_answer : (b : Bool) {A B : Type 0} (C : Type 0) → OnTrue b A → OnFalse b B → (A → C) → (B → C) → C
 by_answer true C a b done kept = done a
 by_answer false C a b done kept = kept b
+
+none_not : {seg new : Physical} {block : ℕ} (cold : Bool) → IsChosen cold seg block → Begins block seg new → NoneChosen cold seg → ⊥
+none_not {seg} {new} {block} true chosen begins none =
+    let other = chosen.worn refl in
+    let low = none block chosen.from chosen.below chosen.sealed other.0 other.1 other.2 in
+    let high = other.3 in
+    omega (arith, low, high)
+none_not false chosen begins none = let all = begins.dead in let some = chosen.some refl in omega (arith, all, some, none)
+
+-- a victim was begun, so it could be
+pub can_begin : {cold : Bool} {seg new : Physical} {block : ℕ} → IsChosen cold seg block → Begins block seg new → 0 < seg.free → CannotBegin cold seg → ⊥
+can_begin {cold} {seg} chosen begins some cannot = ⊎_elim
+    (λ one. let none : victims seg ≡ 0 = ap (λ (o : Option ℕ). cond (is_some o) 1 0) begins.none in omega (arith, one, none))
+    (λ rest. ⊎_elim
+    (λ many. let few = begins.few in omega (arith, many, few))
+    (λ last. ⊎_elim (λ full. omega (arith, full, some)) (λ none. none_not cold chosen begins none) last)
+    rest)
+    cannot
+
+none_or : (o : Option ℕ) → (is_some o ≡ true) ⊎ (o ≡ None)
+none_or None = inr refl
+none_or (Some n) = inl refl
+
+-- why none is begun, where none may be
+pub may_not : (s : Kept) (cold : Bool) {may : Bool} → (IsTrue may ↔ ((s.victim ≡ None) × (length s.names.pairs ≤ 2 * s.blocks.size) × (0 < free_count s.blocks))) → may ≡ false → CannotBegin cold (seen s)
+may_not s cold is not = ⊎_elim
+    (λ some. inl (ap (λ (b : Bool). cond b 1 0) some))
+    (λ none. ⊎_elim
+    (λ many. inr (inl (let e = told_length s.names.pairs in omega (arith, many, e))))
+    (λ few. ⊎_elim
+    (λ free. absurd (true≢false (sym (is.1 (none, few, free)) ∙ not)))
+    (λ full. inr (inr (inl (omega (arith, full)))))
+    (cases_lt 0 (free_count s.blocks)))
+    (cases_lt (2 * s.blocks.size) (length s.names.pairs)))
+    (none_or s.victim)

@@ -5,11 +5,11 @@ use Rattle.std.proofs.lemmas.Option.{none-some, same_Some}
 use Rattle.nl_blocks.specs.declared.states.BlockState.{BlockState}
 use Rattle.nl_blocks.specs.declared.states.BlockState.TheVariants.{Active, Retired, Sealed, Target, Victim}
 use Rattle.nl_blocks.specs.Table.{Table, HasBlock, block_at}
-use Rattle.nl_pseg.specs.Segment.{Use, IsNext, IsNextCopy}
-use Rattle.nl_pseg.specs.Seen.{IsTied, seen, use_in}
-use Rattle.nl_pseg.specs.Steps.{SameUse}
+use Rattle.nl_pseg.specs.Segment.{IsNext, IsNextCopy}
+use Rattle.nl_pseg.specs.Seen.{IsTied, seen}
+use Rattle.nl_uses.specs.Uses.{Use, use_in, SameUse}
 use Rattle.nl_pseg.specs.Kept.{Kept}
-use Rattle.nl_pseg.proofs.Tables.{has_same}
+use Rattle.nl_uses.proofs.Tables.{has_same}
 use Rattle.nl_pseg.proofs.Tied.{back, named_on}
 
 module _ (s : Kept) (tied : IsTied s) (none : s.victim ≡ None) (t : Table) (same : SameUse s.blocks t) (block : ℕ) (has_block : HasBlock s.blocks block) (sealed : (block_at s.blocks block).state ≡ Sealed)

@@ -1,6 +1,8 @@
 -- The counts of a medium over two calls.
-use Rattle.std.proofs.Common.{◌≡◌, inl, inr, ℕ, ◌+◌, ◌≤◌, refl, ◌∙◌, ap, arith}
-use Rattle.std.proofs.lemmas.Bool.{cases_lt}
+use Rattle.nl_pseg.specs.Answers.{IsFault, IsPlaced}
+use Rattle.nl_field.specs.declared.pointer.Pointer.{Pointer}
+use Rattle.std.proofs.Common.{◌≡◌, inl, inr, ℕ, ◌+◌, ◌≤◌, refl, ◌∙◌, ap, arith, ⊎_elim, ◌<◌, ◌↔◌, Bool, false, IsTrue, sym}
+use Rattle.std.proofs.lemmas.Bool.{cases_lt, true≢false}
 use Rattle.nl_field.specs.CrashStates.{Earlier, saturated, top}
 use Rattle.nl_field.specs.declared.answers.Named.{Named}
 use Rattle.nl_field.specs.declared.answers.Named.TheVariants as the
@@ -49,3 +51,50 @@ module _ {M : Type 0} {clock read_faults write_faults : M → ℕ} where
         | inl lt ↦ let less = strict lt in omega (arith, within.0, less)
         | inr end ↦ omega (arith, end, below, c.later)
       ]
+
+  -- nothing was done
+  pub nothing_counted : {ready : Type 0} (a : M) (answer : Named) → (IsPlaced answer → ⊥) → (IsFault answer → ⊥) → Counted clock read_faults write_faults ready a a answer
+  nothing_counted a answer none well = record {
+    later = omega arith;
+    few = omega arith;
+    placed = λ placed. absurd (none placed);
+    one = λ r placed. absurd (none placed);
+    none = λ r not. refl;
+    reads = refl;
+    more = omega arith;
+    failed = λ fault. absurd (well fault);
+    well = λ not. refl;
+  }
+
+  -- a program failed
+  pub program_failed : {ready failed : Type 0} {a b : M} → clock b ≡ clock a → read_faults b ≡ read_faults a → FaultsCounted (write_faults a) (write_faults b) failed → failed → Counted clock read_faults write_faults ready a b the.Fault
+  program_failed still reads writes f = record {
+    later = omega (arith, still);
+    few = omega (arith, still);
+    placed = λ placed. absurd placed;
+    one = λ r placed. absurd placed;
+    none = λ r not. still;
+    reads = reads;
+    more = writes.never_falls;
+    failed = λ fault. writes.cause f;
+    well = λ not. absurd (not refl);
+  }
+
+  -- a page was programmed
+  pub program_done : {ready failed : Type 0} {a b : M} (at : Pointer) → clock a ≤ clock b → clock b ≡ saturated (clock a + 1) → read_faults b ≡ read_faults a → FaultsCounted (write_faults a) (write_faults b) failed → (failed → ⊥)
+      → Counted clock read_faults write_faults ready a b (the.Placed at)
+  program_done at later tick reads writes well = record {
+    later = later;
+    few = omega (arith, tick);
+    placed = λ placed below. omega (arith, tick, below);
+    one = λ r placed. tick;
+    none = λ r not. absurd (not tt);
+    reads = reads;
+    more = writes.never_falls;
+    failed = λ fault. absurd (cc fault);
+    well = λ not. writes.stays well;
+  }
+
+-- there is none where there are not some
+pub none_left : {n : ℕ} {some : Bool} → (IsTrue some ↔ (0 < n)) → some ≡ false → n ≡ 0
+none_left {n} is not = ⊎_elim (λ more. absurd (true≢false (sym (is.1 more) ∙ not))) (λ few. omega (arith, few)) (cases_lt 0 n)

@@ -1,5 +1,5 @@
 -- What an erase of a victim leaves of the images of a segment.
-use Rattle.std.proofs.Common.{◌≡◌, ◌⊎◌, inl, inr, ⊎_elim, ℕ, ◌+◌, ◌*◌, ◌/◌, ◌<◌, ◌≤◌, false, Option, Some, None, get_or, is_some, refl, sym, ◌∙◌, ap, subst, arith, List}
+use Rattle.std.proofs.Common.{◌≡◌, inl, inr, ⊎_elim, ℕ, ◌+◌, ◌*◌, ◌/◌, ◌<◌, ◌≤◌, false, Option, Some, None, get_or, is_some, refl, sym, ◌∙◌, ap, subst, arith, List}
 use Rattle.std.proofs.lemmas.Bool.{cases_eq, true≢false}
 use Rattle.std.proofs.lemmas.Option.{none-some}
 use Rattle.nl_blocks.specs.declared.states.BlockState.{BlockState}
@@ -7,9 +7,12 @@ use Rattle.nl_blocks.specs.declared.states.BlockState.TheVariants.{Victim}
 use Rattle.nl_blocks.specs.Table.{HasBlock, block_at}
 use Rattle.nl_field.specs.Page.{Image, erased, page_at}
 use Rattle.nl_nand.specs.Nand.{Cut}
+use Rattle.nl_nand.proofs.Crashes.{start}
 use Rattle.nl_pseg.specs.Cleaning.{Erases, KeepsBeside}
-use Rattle.nl_pseg.specs.Segment.{HasSpare, IsClean, IsNext, IsNextCopy, IsPhysicalOf, KeepsBlock, Physical, TakenAsErased, Use, held_at, is_kept, is_soiled, soiled}
-use Rattle.nl_pseg.specs.Seen.{IsFormed, IsTied, is_kept_state, seen}
+use Rattle.nl_pseg.specs.Copies.{ErasesIfDone, ErasesOn}
+use Rattle.nl_pseg.specs.Segment.{HasSpare, IsClean, IsNext, IsNextCopy, IsPhysicalOf, KeepsBlock, Physical, TakenAsErased, held_at, is_kept, is_soiled, soiled}
+use Rattle.nl_pseg.specs.Seen.{IsFormed, IsTied, seen}
+use Rattle.nl_uses.specs.Uses.{Use, is_kept_state}
 use Rattle.nl_pseg.specs.declared.cleaned.Erasure.{Erasure}
 use Rattle.nl_pseg.specs.declared.cleaned.Erasure.TheVariants as the
 use Rattle.nl_pseg.specs.declared.held.Held.{Held}
@@ -17,7 +20,7 @@ use Rattle.nl_pseg.specs.Kept.{Kept}
 use Rattle.nl_pseg.proofs.Images.{shows_same}
 use Rattle.nl_pseg.proofs.Numbers.{block_of}
 use Rattle.nl_pseg.proofs.States.{kept_block, next_block}
-use Rattle.nl_pseg.proofs.Tables.{use_here}
+use Rattle.nl_uses.proofs.Tables.{use_here}
 use Rattle.nl_pseg.proofs.Tied.{not_copy}
 
 pub keeps_beside : (seg : Physical) (block g : ℕ) {old c : Image} → g ≡ seg.size → Cut (block * g) (block * g + g) erased old c → KeepsBeside seg block old c
@@ -25,9 +28,6 @@ keeps_beside seg block g same cut p = ⊎_elim
     (λ is. inl is)
     (λ w. inr (block_of p seg.size block (subst (λ k. block * k ≤ p) same w.0) (subst (λ k. p < block * k + k) same w.1), w.2))
     (cut.each p)
-
-pub beside_same : (seg : Physical) (block : ℕ) (image : Image) → KeepsBeside seg block image image
-beside_same seg block image p = inl refl
 
 module _ (s : Kept) (is : IsFormed s) (tied : IsTied s) (block : ℕ) (named : s.victim ≡ Some block) where
   has : HasBlock s.blocks block
@@ -114,7 +114,29 @@ module _ {block : ℕ} {old new : Physical} (e : Erases block old new) where
 pub erases_kept : {block : ℕ} {old : Physical} (s : Kept) → Erases block old (seen s) → KeepsBlock (seen s)
 erases_kept {block} s e = let has = kept_block s block e.kept in record { block = block; from = has.from; below = has.below; kept = inl e.kept }
 
-pub done_or_not : (answer : Erasure) → (answer ≡ the.Done) ⊎ (answer ≡ the.Done → ⊥)
-done_or_not the.Done = inl refl
-done_or_not the.Nothing = inr (λ e. cc e)
-done_or_not the.Fault = inr (λ e. cc e)
+-- the erase was done
+pub done_erases : {block : ℕ} {old : Physical} (s : Kept) → Erases block old (seen s) → ErasesIfDone the.Done old (seen s)
+done_erases {block} s e = record {
+  kept = λ not. absurd (not refl);
+  erased = λ done. (block, e);
+  clean = erases_clean e;
+  kept_block = λ k. erases_kept s e;
+}
+
+-- it was not
+pub not_erases : (answer : Erasure) (seg : Physical) → (answer ≡ the.Done → ⊥) → ErasesIfDone answer seg seg
+not_erases answer seg not = record {
+  kept = λ un. refl;
+  erased = λ done. absurd (not done);
+  clean = λ clean. clean;
+  kept_block = λ k. k;
+}
+
+-- there was nothing to erase
+pub nothing_erases_on : {M : Type 0} {clock : M → ℕ} {contents : M → Image} {left : M → ℕ → Image → Type 0} {seg : Physical} (a : M) → IsPhysicalOf (contents a) seg → ErasesOn clock contents left the.Nothing seg seg a a
+nothing_erases_on {clock = clock} {contents = contents} {left = left} {seg = seg} a is = record {
+  segment = is;
+  spare = λ not. absurd (not refl);
+  pages = λ block named p. inl refl;
+  crash = λ block named. start a (λ m c. KeepsBeside seg block (contents a) c);
+}

@@ -5,11 +5,13 @@ use Rattle.std.proofs.lemmas.List.Sums.{count_by-le-length, sum_by-cons}
 use Rattle.nl_blocks.specs.declared.states.BlockState.{BlockState}
 use Rattle.nl_blocks.specs.Table.{BlockRow, HasBlock, is_free_state, row_at}
 use Rattle.nl_blocks.specs.Table.{is_free as is_free_row}
-use Rattle.nl_pseg.specs.Segment.{Physical, Use, erasures, is_free, soiled}
+use Rattle.nl_pseg.specs.Segment.{Physical, erasures, is_free, soiled}
+use Rattle.nl_uses.specs.Uses.{Use}
 use Rattle.nl_pseg.specs.Seen.{IsFormed, IsTied, seen}
+use Rattle.nl_pseg.specs.Opened.{GivesAllBack}
 use Rattle.nl_pseg.specs.Steps.{AllFree, AreGivenBack, IsGivenBack}
 use Rattle.nl_pseg.specs.Kept.{Kept}
-use Rattle.nl_pseg.proofs.Tables.{use_here}
+use Rattle.nl_uses.proofs.Tables.{free_kept, use_here}
 
 pub given_none : (seg : Physical) → AreGivenBack seg.first seg seg
 given_none seg = record {
@@ -134,3 +136,22 @@ copies_none s tied all = elim (cases_lt s.filled s.blocks.size) [
       absurd (true≢false (sym (all s.target at.from at.below) ∙ in_use))
   | inr full ↦ omega (arith, full)
 ]
+
+pub gives_all_back : (s n : Kept) → IsFormed s → IsFormed n → IsTied n → AreGivenBack (seen s).blocks (seen s) (seen n) → GivesAllBack (seen s) (seen n)
+gives_all_back s n was is tied g =
+    let all = all_given g in
+    record {
+      range = g.range;
+      held = g.held;
+      pairs = g.names;
+      victim = g.victim;
+      free = free_counted n is all;
+      each = λ block from below. let free = g.each block from below in (free, free_kept n.blocks block free);
+      left = left_none n is all;
+      copies = copies_none n tied all;
+      told = g.told;
+      wears = g.wears;
+      others = g.free_before;
+      erased = g.erased;
+      same = λ count. g.same (counted_free s was count);
+    }

@@ -10,8 +10,9 @@ use Rattle.nl_blocks.specs.Table.{BlockRow, HasBlock, IsTable, block_at, dead_co
 use Rattle.nl_remap.specs.Links.{HasLink, link_at, no_link}
 use Rattle.nl_remap.specs.Table.{pair}
 use Rattle.nl_remap.specs.declared.links.Link.{Link}
-use Rattle.nl_pseg.specs.Segment.{InVictim, Use, KeepsBlock, held_at, is_kept, no_use}
-use Rattle.nl_pseg.specs.Seen.{IsFormed, IsTied, seen, use_of}
+use Rattle.nl_pseg.specs.Segment.{InVictim, KeepsBlock, held_at, is_kept}
+use Rattle.nl_pseg.specs.Seen.{IsFormed, IsTied, seen}
+use Rattle.nl_uses.specs.Uses.{Use, no_use, use_of}
 use Rattle.nl_pseg.specs.Space.{HasFewPairs, HasPages, IsWhole, dead_pages, gain_of, left_of, live_in, victims, waiting}
 use Rattle.nl_pseg.specs.declared.held.Held.{Held}
 use Rattle.nl_pseg.specs.Kept.{Kept}
@@ -23,7 +24,7 @@ use Rattle.nl_pseg.proofs.Runs.{dead_is, dead_seen, run, run_all, run_plus}
 use Rattle.nl_pseg.proofs.Segments.{kept_within}
 use Rattle.nl_pseg.proofs.States.{block_segment, taken_segment}
 use Rattle.nl_pseg.proofs.Sums.{active_is, all_covered, is_active, is_target, one_of, some_of, target_is, waits_few}
-use Rattle.nl_pseg.proofs.Tables.{use_from}
+use Rattle.nl_uses.proofs.Tables.{use_from}
 use Rattle.nl_pseg.proofs.Tied.{copy_target, old_is}
 
 abbrev num : Bool → ℕ
@@ -38,6 +39,11 @@ link_is ps name target has =
     let within : has.0 < length ps = subst (λ k. has.0 < k) (length-map ps turn) has.1 in
     let e : turn (link_at ps has.0) ≡ (name, target) = sym (get_or-map turn ps has.0 no_link (name, target) within) ∙ has.2 in
     (has.0, within, (λ i. record { from = (e i).0; to = (e i).1 }))
+
+pub link_told : (ps : List Link) (name target : ℕ) → HasLink ps (pair name target) → Contains (map turn ps) (name, target)
+link_told ps name target has =
+    let within : has.0 < length (map turn ps) = subst (λ k. has.0 < k) (sym (length-map ps turn)) has.1 in
+    (has.0, within, get_or-map turn ps has.0 no_link (name, target) has.1 ∙ ap turn has.2)
 
 -- the uses that are kept, by the numbers of their blocks
 by_place : (f : ℕ → Bool) (uses : List Use) (first : ℕ) → ((i : ℕ) → i < length uses → f (first + i) ≡ (get_or uses i no_use).is_kept) → count_by kept uses ≡ count_by f (range_with_len first (length uses))

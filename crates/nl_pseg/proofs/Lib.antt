@@ -15,7 +15,6 @@ mod Nexts
 mod Lives
 mod Taking
 mod Gone
-mod Marking
 mod Rows
 mod Begun
 mod Picked
@@ -31,22 +30,25 @@ mod Led
 mod Moved
 mod CopyImages
 mod MoveSteps
+mod MoveAnswers
+mod Soiled
 mod Dropped
 mod Chosen
 mod Taken
 mod Used
 mod Tied
-mod Named
 pub mod Counts
 pub mod Forms
 pub mod GivenBack
 pub mod Images
 pub mod News
+pub mod Apart
+pub mod Medium
+pub mod Small
 pub mod Numbers
 pub mod Openings
 pub mod Placings
 pub mod Segments
 pub mod Shapes
 pub mod States
-pub mod Tables
 mod Wearing

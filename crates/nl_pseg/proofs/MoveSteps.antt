@@ -11,7 +11,7 @@ use Rattle.nl_nand.proofs.Crashes.{still, turns_later, weaken}
 use Rattle.nl_pseg.specs.Answers.{IsPlaced}
 use Rattle.nl_pseg.specs.Cleaning.{CountedMove, IfMoved, IsMoved, programmed_by}
 use Rattle.nl_pseg.specs.Effects.{Crashes, Keeps, Places, Programmed, Takes}
-use Rattle.nl_pseg.specs.Pages.{page_with, shown_by}
+use Rattle.nl_owned.specs.Pages.{page_with, shown_by}
 use Rattle.nl_pseg.specs.Segment.{Physical, IsDead, is_free, is_soiled, wear_of}
 use Rattle.nl_pseg.specs.Steps.{IsAlone, IsReadied, ReadiedOn}
 use Rattle.nl_pseg.specs.declared.cleaned.Copied.{Copied}
@@ -25,12 +25,6 @@ if_moved (copy.Moved before after tag stamp) by is = by before after (record { t
 if_moved copy.Nothing by is = is
 if_moved (copy.Lost wanted found) by is = is
 if_moved copy.Fault by is = is
-
-pub if_moved_both : (answer : Copied) {P Q R : ℕ → ℕ → Held → Type 0} → ((b a : ℕ) (h : Held) → P b a h → Q b a h → R b a h) → IfMoved answer P → IfMoved answer Q → IfMoved answer R
-if_moved_both (copy.Moved before after tag stamp) by p q = by before after (record { tag = tag; stamp = stamp }) p q
-if_moved_both copy.Nothing by p q = p
-if_moved_both (copy.Lost wanted found) by p q = p
-if_moved_both copy.Fault by p q = p
 
 pub moved_gives : (answer : Copied) {P : ℕ → ℕ → Held → Type 0} {Q : Type 0} → IsMoved answer → IfMoved answer P → ((b a : ℕ) (h : Held) → P b a h → Q) → Q
 moved_gives (copy.Moved before after tag stamp) moved is by = by before after (record { tag = tag; stamp = stamp }) is
@@ -55,6 +49,20 @@ moved_if (copy.Moved before after tag stamp) moved by is = by before after (reco
 moved_if copy.Nothing moved by is = absurd moved
 moved_if (copy.Lost wanted found) moved by is = absurd moved
 moved_if copy.Fault moved by is = absurd moved
+
+-- nothing was done
+pub nothing_counts : {M : Type 0} {clock read_faults write_faults : M → ℕ} {clean : Type 0} (a : M) → CountedMove clock read_faults write_faults clean a a copy.Nothing
+nothing_counts a = record {
+  later = omega arith;
+  few = omega arith;
+  moved = λ m. absurd m;
+  one = λ is m. absurd m;
+  none = λ is not. refl;
+  reads = omega arith;
+  writes = omega arith;
+  failed = λ e. absurd (cc e);
+  well = λ not. (refl, refl);
+}
 
 -- nothing but a read
 module _ {M : Type 0} {clock read_faults write_faults : M → ℕ} {clean : Type 0} {a r : M} (still_is : clock r ≡ clock a) (writes : write_faults r ≡ write_faults a) where

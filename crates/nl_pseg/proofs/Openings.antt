@@ -4,12 +4,13 @@ use Rattle.std.proofs.lemmas.Bool.{cases_Bool, cases_lt}
 use Rattle.std.proofs.lemmas.List.{length-map}
 use Rattle.std.proofs.lemmas.List.Sums.{sum_by-cons}
 use Rattle.nl_blocks.specs.Table.{BlockRow, Table, HasBlock, row_at, is_free, free_count}
-use Rattle.nl_pseg.specs.Segment.{Physical, Use, KeepsBlock, wear_of}
-use Rattle.nl_pseg.specs.Seen.{IsFormed, seen, use_in, use_of, use_with}
-use Rattle.nl_pseg.specs.Steps.{IsOpened, Restated, opened_at}
+use Rattle.nl_pseg.specs.Segment.{Physical, KeepsBlock, wear_of}
+use Rattle.nl_pseg.specs.Seen.{IsFormed, seen}
+use Rattle.nl_pseg.specs.Steps.{IsOpened, opened_at}
+use Rattle.nl_uses.specs.Uses.{Use, use_in, use_of, use_with, Restated}
 use Rattle.nl_pseg.specs.Kept.{Kept}
 use Rattle.nl_pseg.proofs.Numbers.{block_of}
-use Rattle.nl_pseg.proofs.Tables.{free_kept, use_here}
+use Rattle.nl_uses.proofs.Tables.{free_kept, use_here}
 use Rattle.nl_pseg.proofs.Wearing.{taken_wear, taken_counts}
 
 abbrev num : Bool → ℕ
@@ -79,6 +80,16 @@ two_free size used free full room = elim (cases_lt 1 free) [
   | inr few ↦
       let none : free - 1 ≡ 0 = omega (arith, few) in
       let product : (free - 1) * size ≡ 0 * size = ap (λ n. n * size) none in
+      absurd (omega (arith, room, product, full))
+]
+
+-- with no page left for copies, they land in a Free block
+pub one_free : (size filled free : ℕ) → size ≤ filled → 0 < free * size + (size - filled) → 1 ≤ free
+one_free size filled free full room = elim (cases_lt 0 free) [
+  | inl some ↦ some
+  | inr few ↦
+      let none : free ≡ 0 = omega (arith, few) in
+      let product : free * size ≡ 0 * size = ap (λ n. n * size) none in
       absurd (omega (arith, room, product, full))
 ]
 

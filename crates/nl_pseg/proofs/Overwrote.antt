@@ -1,5 +1,5 @@
 -- What is seen of two states, where a page was written over another one.
-use Rattle.std.proofs.Common.{◌≡◌, ◌⊎◌, inl, inr, ⊎_elim, ℕ, ◌+◌, ◌-◌, ◌*◌, ◌<◌, ◌≤◌, Bool, cond, is_some, Option, None, List, length, set, length-set, refl, sym, ◌∙◌, ap, subst, arith}
+use Rattle.std.proofs.Common.{◌≡◌, ◌⊎◌, inl, inr, ⊎_elim, ℕ, ◌+◌, ◌-◌, ◌*◌, ◌<◌, ◌≤◌, Bool, cond, is_some, Option, None, List, length, set, Some, length-set, refl, sym, ◌∙◌, ap, subst, arith}
 use Rattle.nl_field.specs.Page.{Image}
 use Rattle.nl_field.specs.declared.answers.Named.{Named}
 use Rattle.nl_field.specs.declared.answers.Named.TheVariants as the
@@ -12,6 +12,7 @@ use Rattle.nl_pseg.specs.Segment.{HasSpare, IsClean, IsReady, IsSpent, IsUnspent
 use Rattle.nl_pseg.specs.Seen.{IsFormed, IsTied, seen}
 use Rattle.nl_pseg.specs.Space.{HasFewPairs, Lessens, SameCleaning, left_of, waiting}
 use Rattle.nl_pseg.specs.Steps.{Ends, Placing, WritesOver}
+use Rattle.nl_pseg.specs.Writes.{ReplacesPage, Writes}
 use Rattle.nl_pseg.specs.declared.held.Held.{Held}
 use Rattle.nl_pseg.specs.Kept.{Kept}
 use Rattle.nl_pseg.proofs.Ended.{ended_was, few_on, gone_kept, gone_pages, gone_room, gone_spare, gone_unspent, more_landing}
@@ -63,7 +64,7 @@ module _ (answer : Named) (place stamp : ℕ) (x : Option Held) (s n : Kept) (is
     only : Placing stamp (λ at. set s.held.items at.name x) answer (seen s) (seen n)
     only = subst (Placing stamp (λ at. set s.held.items at.name x) answer (seen s)) (sym (o.none not)) o.placing
 
-    pub refused_cleaning : SameCleaning (seen s) (seen n)
+    refused_cleaning : SameCleaning (seen s) (seen n)
     refused_cleaning = placed_cleaning answer stamp x s n is tied table few now tied_now table_now only
 
   -- one was
@@ -120,13 +121,13 @@ module _ (answer : Named) (place stamp : ℕ) (x : Option Held) (s n : Kept) (is
           o.placing.frees;
     }
 
-    pub over_room : room (seen s) ≤ room (seen n) + 1
+    over_room : room (seen s) ≤ room (seen n) + 1
     over_room = let a = (o.placing.spent yes).room in let b = gone_room d.gone in omega (arith, a, b)
 
-    pub over_blocks : (seen n).free + waiting (seen n) ≤ (seen s).free + waiting (seen s)
+    over_blocks : (seen n).free + waiting (seen n) ≤ (seen s).free + waiting (seen s)
     over_blocks = let a = (o.placing.spent yes).taken in let b = d.gone.blocks in let w = waits_mid in omega (arith, a, b, w)
 
-    pub over_spent : waiting (seen s) ≡ 0 → IsSpent (seen s) (seen n)
+    over_spent : waiting (seen s) ≡ 0 → IsSpent (seen s) (seen n)
     over_spent none =
         let w = waits_mid in
         let u = gone_unspent d.gone (omega (arith, none, w)) in
@@ -139,22 +140,22 @@ module _ (answer : Named) (place stamp : ℕ) (x : Option Held) (s n : Kept) (is
           soiled = λ b. ⊎_elim (λ same. inl (u.same_soiled b ∙ same)) (λ gone. inr (gone.0, u.same_soiled b ∙ gone.1)) (was.soiled b);
         }
 
-    pub over_pairs : (seen n).pairs ≡ without_target place (seen s).pairs
+    over_pairs : (seen n).pairs ≡ without_target place (seen s).pairs
     over_pairs = d.pairs ∙ ap (λ (ps : List (ℕ × ℕ)). without_target place ps) o.placing.names.same_pairs
 
-  pub over_same : (IsPlaced answer → ⊥) → n.held.items ≡ s.held.items
+  over_same : (IsPlaced answer → ⊥) → n.held.items ≡ s.held.items
   over_same not = (only not).same not
 
-  pub over_failed : IsFault answer → IsSpent (seen s) (seen n) ⊎ (IsUnspent (seen s) (seen n) × (IsReady (seen s) → ⊥))
+  over_failed : IsFault answer → IsSpent (seen s) (seen n) ⊎ (IsUnspent (seen s) (seen n) × (IsReady (seen s) → ⊥))
   over_failed fault = (only (λ yes. failed_not answer yes fault)).failed fault
 
-  pub over_held : IfPlaced answer (λ at. n.held.items ≡ set (set s.held.items at.name x) place None)
+  over_held : IfPlaced answer (λ at. n.held.items ≡ set (set s.held.items at.name x) place None)
   over_held = if_placed_is answer (λ at. set s.held.items at.name x) o.mid.held n.held.items place o.placing.held (λ yes. (o.ended yes).held)
 
   pub over_few : HasFewPairs (seen n)
   over_few = ⊎_elim over_few_placed (λ not. placed_few answer stamp x s n is tied table few now tied_now table_now (only not)) (placed_or_not answer)
 
-  pub over_space : Lessens (cond (is_placed answer) 1 0) (seen s) (seen n)
+  over_space : Lessens (cond (is_placed answer) 1 0) (seen s) (seen n)
   over_space = ⊎_elim
       (λ yes. subst (λ k. Lessens k (seen s) (seen n)) (sym (one_placed answer yes)) (over_space_placed yes))
       (λ not.
@@ -169,19 +170,19 @@ module _ (answer : Named) (place stamp : ℕ) (x : Option Held) (s n : Kept) (is
       })
       (placed_or_not answer)
 
-  pub over_pages : SamePages (seen s) (seen n)
+  over_pages : SamePages (seen s) (seen n)
   over_pages = ⊎_elim (λ yes. pages_then o.placing.pages (gone_pages (o.ended yes).gone)) (λ not. (only not).pages) (placed_or_not answer)
 
-  pub over_wears : CountsErases (seen s) (seen n)
+  over_wears : CountsErases (seen s) (seen n)
   over_wears = ⊎_elim (λ yes. counts_after o.placing.wears (o.ended yes).gone.wears (o.ended yes).gone.same_soiled) (λ not. (only not).wears) (placed_or_not answer)
 
-  pub over_clean : IsClean (seen s) → IsClean (seen n)
+  over_clean : IsClean (seen s) → IsClean (seen n)
   over_clean clean = ⊎_elim
       (λ yes b kept. let e = (o.ended yes).gone in ap is_some (e.same_soiled b) ∙ o.placing.clean clean b (sym (e.kept b) ∙ kept))
       (λ not. (only not).clean clean)
       (placed_or_not answer)
 
-  pub over_kept : KeepsBlock (seen s) → KeepsBlock (seen n)
+  over_kept : KeepsBlock (seen s) → KeepsBlock (seen n)
   over_kept k = ⊎_elim (λ yes. gone_kept (o.ended yes).gone (o.placing.kept k)) (λ not. (only not).kept k) (placed_or_not answer)
 
   pub over_spare : {M : Type 0} {clock : M → ℕ} {contents : M → Image} {left : M → ℕ → Image → Type 0} {tag : Tag} {number : ℕ} {main : List ℕ} {a b : M} → Crashes clock contents left (seen s) tag number main a b answer
@@ -194,3 +195,31 @@ module _ (answer : Named) (place stamp : ℕ) (x : Option Held) (s n : Kept) (is
       o.placing.frees)
       (λ not. placed_spare answer stamp x s n is tied table few now tied_now table_now (only not) k spare)
       (placed_or_not answer)
+
+  over_writes : Writes stamp answer (seen s) (seen n)
+  over_writes = record {
+    pages = over_pages;
+    placed = o.placing.placed;
+    same = over_same;
+    same_pairs = λ not. (only not).names.same_pairs;
+    same_cleaning = λ not. refused_cleaning not;
+    failed = over_failed;
+    clean = over_clean;
+    kept = over_kept;
+    wears = over_wears;
+  }
+
+-- what an overwrite does, where the page that it placed holds this owner and this number
+pub over_replaces : (answer : Named) (place : ℕ) (tag : Tag) (stamp : ℕ) (s n : Kept) → IsFormed s → IsTied s → IsTable s.blocks → HasFewPairs (seen s) → IsFormed n → IsTied n → IsTable n.blocks
+    → WritesOver place stamp (λ at. set s.held.items at.name (Some (record { tag = tag; stamp = stamp }))) answer (seen s) (seen n) → ReplacesPage place tag stamp answer (seen s) (seen n)
+over_replaces answer place tag stamp s n is tied table few now tied_now table_now o =
+    let x : Option Held = Some (record { tag = tag; stamp = stamp }) in
+    record {
+      writes = over_writes answer place stamp x s n is tied table few now tied_now table_now o;
+      held = over_held answer place stamp x s n is tied table few now tied_now table_now o;
+      pairs = over_pairs answer place stamp x s n is tied table few now tied_now table_now o;
+      spent = over_spent answer place stamp x s n is tied table few now tied_now table_now o;
+      space = over_space answer place stamp x s n is tied table few now tied_now table_now o;
+      blocks = over_blocks answer place stamp x s n is tied table few now tied_now table_now o;
+      room = over_room answer place stamp x s n is tied table few now tied_now table_now o;
+    }

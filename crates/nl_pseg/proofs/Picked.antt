@@ -7,11 +7,12 @@ use Rattle.nl_blocks.specs.declared.states.BlockState.TheVariants as the
 use Rattle.nl_blocks.specs.Table.{BlockRow, HasBlock, block_at, dead_count, is_sealed_state, no_row}
 use Rattle.nl_victim.specs.Victims.{IsColdest, IsLevel, IsMostDead, IsSealed}
 use Rattle.nl_pseg.specs.Cleaning.{IsChosen, NoneChosen}
-use Rattle.nl_pseg.specs.Segment.{Row, Use, is_sealed, erasures}
+use Rattle.nl_pseg.specs.Segment.{Row, is_sealed, erasures}
+use Rattle.nl_uses.specs.Uses.{Use}
 use Rattle.nl_pseg.specs.Seen.{row_of, seen}
 use Rattle.nl_pseg.specs.Kept.{Kept}
 use Rattle.nl_pseg.proofs.Rows.{dead_here, known_here, sum_map, to_gain}
-use Rattle.nl_pseg.proofs.Tables.{use_here}
+use Rattle.nl_uses.proofs.Tables.{use_here}
 
 pub if_some : {A : Type 0} (o : Option A) {P Q : A → Type 0} → ((x : A) → P x → Q x) → IfSome o P → IfSome o Q
 if_some None by is = is

@@ -13,12 +13,15 @@ use Rattle.nl_nand.specs.declared.answers.WriteAnswer.TheVariants as wrote
 use Rattle.nl_nand.proofs.Crashes.{turns_later, weaken}
 use Rattle.nl_pseg.specs.Answers.{IfPlaced, IsPlaced}
 use Rattle.nl_pseg.specs.Effects.{Crashes, Keeps, Places, Programmed, Takes}
-use Rattle.nl_pseg.specs.Pages.{page_with, shown_by}
-use Rattle.nl_pseg.specs.Segment.{Physical, Use, IsClean, IsDead, IsNext, IsSpent, is_waiting, KeepsBlock, SameNames, SamePages, held_at, is_free, is_kept, is_soiled, room, soiled, wear_of}
-use Rattle.nl_pseg.specs.Steps.{IsAlone, IsOpened, IsUsed, Opening, OpeningOn, Placing, PlacingOn}
+use Rattle.nl_owned.specs.Pages.{page_with, shown_by}
+use Rattle.nl_pseg.specs.Segment.{Physical, IsClean, IsDead, IsNext, IsSpent, is_waiting, IsPhysicalOf, KeepsBlock, SameNames, SamePages, held_at, is_free, is_kept, is_soiled, room, soiled, wear_of}
+use Rattle.nl_uses.specs.Uses.{Use}
+use Rattle.nl_pseg.specs.Steps.{IsAlone, IsOpened, IsUsed, Opening, OpeningOn, Placing}
+use Rattle.nl_pseg.specs.Writes.{ProgramsOn, WritesOn}
 use Rattle.nl_pseg.specs.declared.held.Held.{Held}
 use Rattle.nl_pseg.proofs.Images.{keeps_then, takes_then}
 use Rattle.nl_pseg.proofs.Gone.{waits}
+use Rattle.nl_pseg.proofs.Medium.{nothing_crashes}
 use Rattle.nl_pseg.proofs.Waits.{wait_by, wait_free, wait_not}
 use Rattle.nl_pseg.proofs.Segments.{pages_back, pages_then, range_of, within_same}
 use Rattle.nl_pseg.proofs.Wearing.{counts_same, counts_then, counts_used, none_there}
@@ -230,7 +233,7 @@ value {seg} {mid} opening tag stamp main page =
 -- what that does to the medium
 module _ {M : Type 0} {clock : M → ℕ} {contents : M → Image} {left : M → ℕ → Image → Type 0} {seg mid : Physical} {a b : M} (opening : Opening wrote.Done seg mid) (on : OpeningOn clock contents left wrote.Done seg mid a b)
     (tag : Tag) (stamp : ℕ) (main : List ℕ) (answer : Named) where
-  pub programmed_then : (d : M) → IfPlaced answer (λ at. IsDead mid at.name) → IfPlaced answer (λ at. at.name ≡ mid.next)
+  programmed_then : (d : M) → IfPlaced answer (λ at. IsDead mid at.name) → IfPlaced answer (λ at. at.name ≡ mid.next)
       → IfPlaced answer (λ at. IsAlone at.name (written (page_with main tag stamp (wear_of mid (at.name / mid.size)))) (contents b) (contents d))
       → IfPlaced answer (λ at. Programmed seg at.name (written (page_with main tag stamp (wear_of seg (at.name / seg.size)))) (contents a) (contents d))
   programmed_then d dead next alone = if_placed_three answer (λ at dead_is next_is alone_is. record {
@@ -243,7 +246,7 @@ module _ {M : Type 0} {clock : M → ℕ} {contents : M → Image} {left : M →
         (on.others refl p);
   }) dead next alone
 
-  pub crashes_then : {d : M} → (IsPlaced answer → Earlier (clock b) (clock d)) → Crashes clock contents left mid tag stamp main b d answer → Crashes clock contents left seg tag stamp main a d answer
+  crashes_then : {d : M} → (IsPlaced answer → Earlier (clock b) (clock d)) → Crashes clock contents left mid tag stamp main b d answer → Crashes clock contents left seg tag stamp main a d answer
   crashes_then {d} strict k = record {
     page = k.page;
     named = k.named;
@@ -260,6 +263,11 @@ module _ {M : Type 0} {clock : M → ℕ} {contents : M → Image} {left : M →
         takes = subst (λ v. Takes seg k.page v (contents a) c) (value opening tag stamp main k.page) (takes_then (opening_dead opening) on.keeps x.takes);
         shows = sym (ap shown_by (value opening tag stamp main k.page)) ∙ x.shows;
       }
+
+  -- and then the page was programmed
+  pub writes_then : {new : Physical} {d : M} → IfPlaced answer (λ at. IsDead mid at.name) → IfPlaced answer (λ at. at.name ≡ mid.next) → (IsPlaced answer → Earlier (clock b) (clock d)) → ProgramsOn clock contents left tag stamp main answer mid new b d
+      → WritesOn clock contents left tag stamp main answer seg new a d
+  writes_then {new} {d} dead next strict p = record { segment = p.segment; programmed = programmed_then d dead next p.alone; crash = crashes_then strict p.crash }
 
 -- an erase failed
 pub opening_failed : {seg new : Physical} (stamp : ℕ) (now : Pointer → List (Option Held)) → Opening wrote.Failed seg new → Placing stamp now the.Fault seg new
@@ -280,8 +288,9 @@ opening_failed {seg} {new} stamp now x = record {
 
 -- what it leaves of the medium
 pub failed_on : {M : Type 0} {clock : M → ℕ} {contents : M → Image} {left : M → ℕ → Image → Type 0} {seg new : Physical} {a b : M} (tag : Tag) (stamp : ℕ) (main : List ℕ) → OpeningOn clock contents left wrote.Failed seg new a b
-    → PlacingOn clock contents left tag stamp main the.Fault seg a b
+    → WritesOn clock contents left tag stamp main the.Fault seg new a b
 failed_on {M} {clock} {contents} {left} {seg} {new} {a} {b} tag stamp main on = record {
+  segment = on.segment;
   programmed = tt;
   crash = record {
     page = 0;
@@ -292,25 +301,31 @@ failed_on {M} {clock} {contents} {left} {seg} {new} {a} {b} tag stamp main on = 
   };
 }
 
+-- no page was placed
+if_none : (answer : Named) (P : Pointer → Type 0) → (IsPlaced answer → ⊥) → IfPlaced answer P
+if_none (the.Placed at) P never = absurd (never tt)
+if_none the.NotLive P never = tt
+if_none the.NoPage P never = tt
+if_none the.Fault P never = tt
+
 -- nothing was tried
 pub nothing_placed : (answer : Named) (stamp : ℕ) (now : Pointer → List (Option Held)) (seg : Physical) → (IsPlaced answer → ⊥) → (answer ≡ the.Fault → ⊥) → Placing stamp now answer seg seg
 nothing_placed answer stamp now seg not no_fault = record {
   pages = record { same_first = refl; same_blocks = refl; same_size = refl; same_wear = λ b. refl };
-  placed = none answer _ not;
-  held = none answer _ not;
+  placed = if_none answer _ not;
+  held = if_none answer _ not;
   same = λ n. refl;
   spent = λ placed. absurd (not placed);
   failed = λ fault. absurd (no_fault fault);
   clean = λ clean. clean;
   wears = record { each = λ b. inl (refl, refl) };
   waits = λ b. refl;
-  frees = inl (refl, (λ p next. next), none answer _ not);
+  frees = inl (refl, (λ p next. next), if_none answer _ not);
   kept = λ k. k;
   names = record { same_pairs = refl; same_pair_room = refl; same_victim = refl; copies = (refl, refl) };
 }
-  where
-    none : (a : Named) (P : Pointer → Type 0) → (IsPlaced a → ⊥) → IfPlaced a P
-    none (the.Placed at) P never = absurd (never tt)
-    none the.NotLive P never = tt
-    none the.NoPage P never = tt
-    none the.Fault P never = tt
+
+-- and the medium is as it was
+pub nothing_on : {M : Type 0} {clock : M → ℕ} {contents : M → Image} {left : M → ℕ → Image → Type 0} {seg : Physical} (a : M) (tag : Tag) (stamp : ℕ) (main : List ℕ) (answer : Named) → (IsPlaced answer → ⊥) → IsPhysicalOf (contents a) seg
+    → WritesOn clock contents left tag stamp main answer seg seg a a
+nothing_on a tag stamp main answer not is = record { segment = is; programmed = if_none answer _ not; crash = nothing_crashes a tag stamp main answer (if_none answer _ not) }

@@ -5,9 +5,10 @@ use Rattle.std.proofs.lemmas.List.{get_or-set_other}
 use Rattle.nl_field.specs.Page.{Image, erased, page_at}
 use Rattle.nl_blocks.specs.declared.states.BlockState.TheVariants.{Active}
 use Rattle.nl_blocks.specs.Table.{Table, HasBlock}
-use Rattle.nl_pseg.specs.Segment.{Physical, Use, IsNext, IsPhysicalOf, TakenAsErased, held_at, is_kept, is_soiled}
-use Rattle.nl_pseg.specs.Seen.{IsFormed, seen, use_in}
-use Rattle.nl_pseg.specs.Steps.{Restated, SameUse, aimed_at}
+use Rattle.nl_pseg.specs.Segment.{Physical, IsNext, IsPhysicalOf, TakenAsErased, held_at, is_kept, is_soiled}
+use Rattle.nl_pseg.specs.Seen.{IsFormed, seen}
+use Rattle.nl_pseg.specs.Steps.{IsReadied, aimed_at}
+use Rattle.nl_uses.specs.Uses.{Use, use_in, Restated, SameUse}
 use Rattle.nl_pseg.specs.declared.held.Held.{Held}
 use Rattle.nl_pseg.specs.Kept.{Kept}
 use Rattle.nl_pseg.proofs.Forms.{formed_restated, same_pages, same_unspent}
@@ -15,8 +16,28 @@ use Rattle.nl_pseg.proofs.Images.{shows_same}
 use Rattle.nl_pseg.proofs.Numbers.{block_of}
 use Rattle.nl_pseg.proofs.Segments.{unspent_taken}
 use Rattle.nl_pseg.proofs.States.{next_block}
-use Rattle.nl_pseg.proofs.Tables.{free_kept}
+use Rattle.nl_uses.proofs.Tables.{free_kept}
 use Rattle.nl_pseg.proofs.Taken.{free_other}
+
+-- a block takes copies already
+pub still_readied : (seg : Physical) → IsReadied seg seg
+still_readied seg = record {
+  pages = record { same_first = refl; same_blocks = refl; same_size = refl; same_wear = λ b. refl };
+  held = refl;
+  pairs = refl;
+  pair_room = refl;
+  victim = refl;
+  next = (refl, refl);
+  waits = refl;
+  left = refl;
+  gain = refl;
+  lands = refl;
+  frees = λ b free. free;
+  wears = record { each = λ b. inl (refl, refl) };
+  fewer = omega arith;
+  most = omega arith;
+  clean = λ clean. clean;
+}
 
 module _ (s : Kept) (is : IsFormed s) (block : ℕ) (has : HasBlock s.blocks block) (free : (use_in s.blocks block).is_free ≡ true) where
   free_next : (p : ℕ) → IsNext (seen s) p → p / s.blocks.size ≡ block → ⊥

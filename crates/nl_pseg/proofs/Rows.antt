@@ -6,10 +6,10 @@ use Rattle.std.proofs.lemmas.List.Sums.{count_by-le-length, sum_by-cons}
 use Rattle.nl_blocks.specs.Table.{Table, HasBlock, IsTable, block_at, dead_count, is_dead, is_sealed_state}
 use Rattle.nl_blocks.specs.Table.{no_row as no_block}
 use Rattle.nl_blocks.proofs.TableProofs.{row_size}
-use Rattle.nl_pseg.specs.Segment.{Row, Use, no_row, no_use, row_in}
-use Rattle.nl_pseg.specs.Seen.{row_of, use_in, use_of}
-use Rattle.nl_pseg.specs.Steps.{SameNumbers, SameUse}
-use Rattle.nl_pseg.proofs.Tables.{use_from}
+use Rattle.nl_pseg.specs.Segment.{Row, no_row, row_in}
+use Rattle.nl_pseg.specs.Seen.{row_of}
+use Rattle.nl_uses.specs.Uses.{Use, no_use, use_in, use_of, SameNumbers, SameUse}
+use Rattle.nl_uses.proofs.Tables.{use_from}
 
 abbrev pub num : Bool → ℕ
 num b = cond b 1 0

@@ -7,13 +7,14 @@ use Rattle.nl_blocks.specs.declared.states.BlockState.TheVariants.{Active, Retir
 use Rattle.nl_blocks.specs.declared.states.BlockState.TheVariants as the
 use Rattle.nl_blocks.specs.Table.{Table, HasBlock, block_at}
 use Rattle.nl_remap.specs.Table.{IsOld}
-use Rattle.nl_pseg.specs.Segment.{IsNext, IsNextCopy, Use, held_at}
-use Rattle.nl_pseg.specs.Seen.{HasPhases, IsTied, seen, use_in}
-use Rattle.nl_pseg.specs.Steps.{IsIdle, IsTold, SameNumbers, told_state}
+use Rattle.nl_pseg.specs.Segment.{IsNext, IsNextCopy, held_at}
+use Rattle.nl_pseg.specs.Seen.{HasPhases, IsTied, seen}
+use Rattle.nl_pseg.specs.Steps.{IsIdle}
+use Rattle.nl_uses.specs.Uses.{Use, use_in, IsTold, SameNumbers, told_state}
 use Rattle.nl_pseg.specs.declared.held.Held.{Held}
 use Rattle.nl_pseg.specs.Kept.{Kept}
 use Rattle.nl_pseg.proofs.Numbers.{block_of}
-use Rattle.nl_pseg.proofs.Tables.{has_same}
+use Rattle.nl_uses.proofs.Tables.{has_same}
 use Rattle.nl_pseg.proofs.Tied.{back, named_on}
 
 module _ (s x : Kept) (block : ℕ) (i : IsIdle block s x) (n : SameNumbers s.blocks x.blocks) where

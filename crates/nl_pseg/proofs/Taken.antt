@@ -5,12 +5,13 @@ use Rattle.std.proofs.lemmas.Bool.{cases_eq, true≢false}
 use Rattle.nl_blocks.specs.declared.states.BlockState.{BlockState}
 use Rattle.nl_blocks.specs.declared.states.BlockState.TheVariants.{Active, Retired, Target, Victim}
 use Rattle.nl_blocks.specs.Table.{Table, HasBlock, block_at, is_free_state}
-use Rattle.nl_pseg.specs.Segment.{Use, IsNext, IsNextCopy}
-use Rattle.nl_pseg.specs.Seen.{HasPhases, IsNamed, IsTied, seen, use_in}
-use Rattle.nl_pseg.specs.Steps.{IsTaking, SameUse}
+use Rattle.nl_pseg.specs.Segment.{IsNext, IsNextCopy}
+use Rattle.nl_pseg.specs.Seen.{HasPhases, IsNamed, IsTied, seen}
+use Rattle.nl_pseg.specs.Steps.{IsTaking}
+use Rattle.nl_uses.specs.Uses.{Use, use_in, SameUse}
 use Rattle.nl_pseg.specs.Kept.{Kept}
 use Rattle.nl_pseg.proofs.Numbers.{block_of}
-use Rattle.nl_pseg.proofs.Tables.{has_same, use_here}
+use Rattle.nl_uses.proofs.Tables.{has_same, use_here}
 use Rattle.nl_pseg.proofs.Tied.{back, named_on}
 
 -- the state of a Free block

@@ -3,15 +3,11 @@ use Rattle.std.proofs.Common.{◌≡◌, ◌⊎◌, inl, inr, ⊎_elim, ℕ, zer
 use Rattle.std.proofs.lemmas.Bool.{cases_Bool, cases_eq, true≢false}
 use Rattle.std.proofs.lemmas.List.{get_or-set_other}
 use Rattle.nl_blocks.specs.Table.{Table, worn}
-use Rattle.nl_pseg.specs.Segment.{CountsErases, Physical, Use, erasures, is_free, is_soiled, soiled, use_at, wear_of, wear_with}
-use Rattle.nl_pseg.specs.Seen.{seen, use_in}
-use Rattle.nl_pseg.specs.Steps.{Restated}
+use Rattle.nl_pseg.specs.Segment.{CountsErases, Physical, erasures, is_free, is_soiled, soiled, wear_of, wear_with}
+use Rattle.nl_pseg.specs.Seen.{seen}
+use Rattle.nl_uses.specs.Uses.{Use, use_at, use_in, Restated}
 use Rattle.nl_pseg.specs.Kept.{Kept}
-use Rattle.nl_pseg.proofs.Tables.{free_kept, restated_again}
-
--- a block that is not kept is not Free
-pub used_free : (t : Table) (block : ℕ) → (use_in t block).is_kept ≡ false → (use_in t block).is_free ≡ false
-used_free t block used = ⊎_elim (λ free. absurd (true≢false (sym (free_kept t block free) ∙ used))) (λ no. no) (cases_Bool (use_in t block).is_free)
+use Rattle.nl_uses.proofs.Tables.{free_kept, restated_again}
 
 -- a block in use
 pub wear_used : (u : Use) (told : Option ℕ) → u.is_kept ≡ false → wear_with u told ≡ u.wear

@@ -10,11 +10,13 @@ use Rattle.nl_field.specs.declared.pointer.Tag.{Tag}
 use Rattle.nl_blocks.specs.Table.{IsTable}
 use Rattle.nl_pseg.specs.Answers.{IfPlaced}
 use Rattle.nl_pseg.specs.Effects.{Crashes}
-use Rattle.nl_pseg.specs.Pages.{shown_by}
-use Rattle.nl_pseg.specs.Segment.{HasSpare, IsDead, IsNext, Physical, Use, held_at, is_kept}
+use Rattle.nl_owned.specs.Pages.{shown_by}
+use Rattle.nl_pseg.specs.Segment.{HasSpare, IsDead, IsNext, Physical, held_at, is_kept}
+use Rattle.nl_uses.specs.Uses.{Use}
 use Rattle.nl_pseg.specs.Seen.{IsFormed, IsTied, seen}
 use Rattle.nl_pseg.specs.Space.{HasFewPairs, HasRoomForVictim, IsWhole, SameCleaning, left_of, victims, waiting}
 use Rattle.nl_pseg.specs.Steps.{Placing}
+use Rattle.nl_pseg.specs.Writes.{AddsPage, Writes}
 use Rattle.nl_pseg.specs.declared.held.Held.{Held}
 use Rattle.nl_pseg.specs.Kept.{Kept}
 use Rattle.nl_pseg.proofs.Ended.{few_on}
@@ -22,7 +24,7 @@ use Rattle.nl_pseg.proofs.Holds.{holds_whole, kept_some}
 use Rattle.nl_pseg.proofs.Lefts.{gain_by, left_same}
 use Rattle.nl_pseg.proofs.Numbers.{block_from, block_of}
 use Rattle.nl_pseg.proofs.States.{next_in_use}
-use Rattle.nl_pseg.proofs.Tables.{use_from}
+use Rattle.nl_uses.proofs.Tables.{use_from}
 use Rattle.nl_pseg.proofs.Waits.{waiting_same}
 
 -- pages of the victim are as live as they were
@@ -150,3 +152,30 @@ module _ (answer : Named) (stamp : ℕ) (x : Option Held) (s n : Kept) (is : IsF
       (λ same. placed_spares answer stamp x (seen s) (seen n) p same.1 same.2 (contents a) (contents b) (still_page k) spare)
       (λ some. free_spare n now (omega (arith, some)) (contents b))
       p.frees
+
+  placed_writes : Writes stamp answer (seen s) (seen n)
+  placed_writes = record {
+    pages = p.pages;
+    placed = p.placed;
+    same = p.same;
+    same_pairs = λ not. p.names.same_pairs;
+    same_cleaning = λ not. placed_cleaning;
+    failed = p.failed;
+    clean = p.clean;
+    kept = p.kept;
+    wears = p.wears;
+  }
+
+-- what a write does, where the page that it placed holds this owner and this number
+pub placed_adds : (answer : Named) (tag : Tag) (stamp : ℕ) (s n : Kept) → IsFormed s → IsTied s → IsTable s.blocks → HasFewPairs (seen s) → IsFormed n → IsTied n → IsTable n.blocks
+    → Placing stamp (λ at. set s.held.items at.name (Some (record { tag = tag; stamp = stamp }))) answer (seen s) (seen n) → AddsPage tag stamp answer (seen s) (seen n)
+placed_adds answer tag stamp s n is tied table few now tied_now table_now p =
+    let x : Option Held = Some (record { tag = tag; stamp = stamp }) in
+    record {
+      writes = placed_writes answer stamp x s n is tied table few now tied_now table_now p;
+      held = p.held;
+      pairs = p.names.same_pairs;
+      spent = p.spent;
+      cleaning = placed_cleaning answer stamp x s n is tied table few now tied_now table_now p;
+      lands = placed_lands answer stamp x s n is tied table few now tied_now table_now p;
+    }

@@ -1,10 +1,12 @@
 pub mod Answers
 pub mod Effects
-pub mod OldNames
-pub mod Pages
+pub use Rattle.nl_owned.specs.Pages
 pub mod Segment
 pub mod Space
 pub mod Cleaning
+pub mod Copies
 pub mod Seen
 pub mod Steps
+pub mod Opened
+pub mod Writes
 pub mod Kept

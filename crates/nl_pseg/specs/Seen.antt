@@ -1,40 +1,20 @@
 -- The segment that a state is.
-use Rattle.std.specs.Prelude.{◌≡◌, ℕ, ◌+◌, ◌-◌, ◌*◌, ◌/◌, ◌^◌, ◌<◌, ◌≤◌, Bool, true, false, [], length, map, replicate, slice_index_or, Some, None, IsTrue, Option, List}
+use Rattle.std.specs.Prelude.{◌≡◌, ℕ, ◌+◌, ◌-◌, ◌*◌, ◌/◌, ◌^◌, ◌<◌, ◌≤◌, true, false, [], length, map, replicate, slice_index_or, Some, None, IsTrue, Option, List}
 use Rattle.nl_field.specs.Spelling.{is_stamp}
 use Rattle.nl_field.specs.declared.shape.Shape.{Shape}
 use Rattle.nl_nand.specs.declared.geometry.Geometry.{Geometry}
-use Rattle.nl_blocks.specs.declared.states.BlockState.{BlockState}
-use Rattle.nl_blocks.specs.declared.states.BlockState.TheVariants.{Free, Active, Target, Sealed, Victim, Retired}
+use Rattle.nl_blocks.specs.declared.states.BlockState.TheVariants.{Free, Active, Target, Victim, Retired}
 use Rattle.nl_blocks.specs.declared.states.PageState.{PageState}
 use Rattle.nl_blocks.specs.declared.states.PageState.TheVariants.{Dead, Live}
-use Rattle.nl_blocks.specs.Table.{BlockRow, Table, HasBlock, block_at, dead_count, is_free, free_count, HasPage, page_at}
-use Rattle.nl_blocks.specs.Used.{IsRising, is_active_state, is_target_state}
+use Rattle.nl_blocks.specs.Table.{BlockRow, Table, HasBlock, block_at, dead_count, free_count, HasPage, page_at}
 use Rattle.nl_remap.specs.Links.{HasLink}
 use Rattle.nl_remap.specs.Table.{IsOld, IsRemap, told}
 use Rattle.nl_remap.specs.declared.links.Link.{Link}
-use Rattle.nl_pseg.specs.OldNames.{names_among}
-use Rattle.nl_pseg.specs.Segment.{Physical, Row, Use, InSegment, IsNext, IsNextCopy, held_at, use_at}
+use Rattle.nl_old_names.specs.OldNames.{names_among}
+use Rattle.nl_pseg.specs.Segment.{Physical, Row, InSegment, IsNext, IsNextCopy, held_at}
+use Rattle.nl_uses.specs.Uses.{AreRising, use_at, use_of, use_with}
 use Rattle.nl_pseg.specs.declared.held.Held.{Held}
 use Rattle.nl_pseg.specs.Kept.{Kept}
-
-abbrev pub is_kept_state : BlockState → Bool
-is_kept_state Free = true
-is_kept_state Active = false
-is_kept_state Target = false
-is_kept_state Sealed = false
-is_kept_state Victim = false
-is_kept_state (Retired names) = true
-
-abbrev pub use_of : BlockRow → Use
-use_of row = record { is_free = is_free row; is_kept = is_kept_state row.state; wear = row.wear }
-
--- the use of a block that is Free, or else in use
-abbrev pub use_with : Bool → ℕ → Use
-use_with free wear = record { is_free = free; is_kept = free; wear = wear }
-
--- what a block of the table is good for
-abbrev pub use_in : Table → ℕ → Use
-use_in table block = use_at table.first (map use_of table.blocks) block
 
 -- what cleaning knows of a block
 abbrev pub row_of : BlockRow → Row
@@ -92,11 +72,6 @@ pub record ArePlaces (seg : Physical) : Type 0 where
 abbrev pub state_for : Option Held → PageState
 state_for None = Dead
 state_for (Some h) = Live
-
--- in an Active and in a Target block the pages are marked in rising order
-pub record AreRising (table : Table) : Type 0 where
-  pub active : IsRising is_active_state table
-  pub target : IsRising is_target_state table
 
 -- Each page is marked as it is: live, or dead. Where pages are still to be used they are marked in rising order.
 pub record AreMarked (table : Table) (held : List (Option Held)) : Type 0 where

@@ -6,15 +6,9 @@ use Rattle.nl_blocks.specs.Table.{is_sealed_state, worn}
 use Rattle.nl_field.specs.Live.{resolve}
 use Rattle.nl_field.specs.Page.{Image, erased, page_at}
 use Rattle.nl_field.specs.declared.pointer.Pointer.{Pointer}
-use Rattle.nl_pseg.specs.Pages.{shown_by, main_of}
+use Rattle.nl_owned.specs.Pages.{shown_by, main_of}
 use Rattle.nl_pseg.specs.declared.held.Held.{Held}
-
--- What a block is good for: whether it is Free, whether it is kept for the cleaner, as it is Free or waits to be, and how often it was
--- erased.
-pub record Use : Type 0 where
-  pub is_free : Bool
-  pub is_kept : Bool
-  pub wear : ℕ
+use Rattle.nl_uses.specs.Uses.{Use, use_at}
 
 -- What cleaning knows of a block: what it is used for, and how many of its pages are not live.
 pub record Row : Type 0 where
@@ -50,13 +44,6 @@ pub record Physical : Type 0 where
   pub victim : Option ℕ
   -- what cleaning knows of each block of the segment
   pub rows : List Row
-
-abbrev pub no_use : Use
-no_use = record { is_free = false; is_kept = false; wear = 0 }
-
--- the use of a block, where the list begins with that of block `first`
-unfoldable pub use_at : ℕ → List Use → ℕ → Use
-use_at first uses block = if nat_le first block then slice_index_or uses (block - first) no_use else no_use
 
 abbrev pub no_row : Row
 no_row = record { state = Sealed; dead = 0 }

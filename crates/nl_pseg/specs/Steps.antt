@@ -1,126 +1,28 @@
 -- What the steps of a call do to the table of blocks and to the segment.
-use Rattle.std.specs.Prelude.{◌≡◌, ◌⊎◌, ℕ, ◌+◌, ◌*◌, ◌/◌, ◌%◌, ◌<◌, ◌≤◌, ◌==◌, if◌then◌else◌, Bool, true, false, cond, List, length, slice_set, Option, Some, None}
+use Rattle.std.specs.Prelude.{◌≡◌, ◌⊎◌, ℕ, ◌+◌, ◌*◌, ◌/◌, ◌<◌, ◌≤◌, ◌==◌, if◌then◌else◌, true, false, cond, List, length, slice_set, Option, Some, None}
 use Rattle.nl_field.specs.CrashStates.{LeavesOnly}
 use Rattle.nl_field.specs.Live.{resolve}
-use Rattle.nl_field.specs.Page.{Image, Page, erased, written, page_at}
+use Rattle.nl_field.specs.Page.{Image, Page, erased, page_at}
 use Rattle.nl_field.specs.declared.answers.Named.{Named}
 use Rattle.nl_field.specs.declared.pointer.Pointer.{Pointer}
 use Rattle.nl_field.specs.declared.pointer.Tag.{Tag}
 use Rattle.nl_nand.specs.declared.answers.WriteAnswer.{WriteAnswer}
 use Rattle.nl_nand.specs.declared.answers.WriteAnswer.TheVariants as wrote
-use Rattle.nl_blocks.specs.declared.states.BlockState.{BlockState}
-use Rattle.nl_blocks.specs.declared.states.BlockState.TheVariants.{Free, Active, Target, Sealed, Victim, Retired}
-use Rattle.nl_blocks.specs.declared.states.PageState.{PageState}
-use Rattle.nl_blocks.specs.Table.{Table, HasBlock, block_at, free_count, is_free_state, HasPage}
-use Rattle.nl_blocks.specs.Table.{page_at as page_in}
-use Rattle.nl_blocks.specs.Used.{SameUsed, is_active_state, is_target_state, used_in}
+use Rattle.nl_blocks.specs.Table.{Table, HasBlock, block_at}
 use Rattle.nl_pseg.specs.Answers.{IfPlaced, IsFault, IsPlaced}
-use Rattle.nl_pseg.specs.Effects.{Crashes, Keeps, Programmed}
-use Rattle.nl_pseg.specs.Pages.{page_with}
-use Rattle.nl_pseg.specs.Segment.{InSegment, Physical, IsClean, IsDead, IsNext, IsNextCopy, IsPhysicalOf, IsReady, IsSpent, IsUnspent, KeepsBlock, SameNames, SamePages, TakenAsErased, erasures, is_free, is_kept, is_soiled, is_waiting, soiled, use_at, wear_of, without_target, names_another_free, IsOldName, CountsErases}
+use Rattle.nl_pseg.specs.Effects.{Keeps}
+use Rattle.nl_pseg.specs.Segment.{InSegment, Physical, IsClean, IsDead, IsNext, IsNextCopy, IsPhysicalOf, IsReady, IsSpent, IsUnspent, KeepsBlock, SameNames, SamePages, TakenAsErased, erasures, is_free, is_kept, is_soiled, is_waiting, soiled, without_target, names_another_free, IsOldName, CountsErases}
 use Rattle.nl_pseg.specs.Space.{gain_of, landing, left_of, waiting}
-use Rattle.nl_pseg.specs.Seen.{AreRising, IsTied, use_in, use_with}
+use Rattle.nl_pseg.specs.Seen.{IsTied}
+use Rattle.nl_uses.specs.Uses.{IsPut, Restated, aside_state, use_at, use_in}
 use Rattle.nl_pseg.specs.declared.held.Held.{Held}
 use Rattle.nl_pseg.specs.Kept.{Kept}
-
--- as many blocks, with the same numbers
-pub record SameNumbers (old new : Table) : Type 0 where
-  pub same_first : new.first ≡ old.first
-  pub same_size : new.size ≡ old.size
-  pub same_count : length new.blocks ≡ length old.blocks
-
--- each block has the same use
-pub record SameUse (old new : Table) : Type 0 where
-  pub numbers : SameNumbers old new
-  pub uses : (block : ℕ) → use_in new block ≡ use_in old block
-  pub total : free_count new ≡ free_count old
-
--- in each block as many pages are used, for new names and for copies
-pub record SameFill (old new : Table) : Type 0 where
-  pub used : (block : ℕ) → HasBlock old block → SameUsed is_active_state block old new
-  pub filled : (block : ℕ) → HasBlock old block → SameUsed is_target_state block old new
-
--- so but for this block
-pub record SameFillBeside (block : ℕ) (old new : Table) : Type 0 where
-  pub used : (other : ℕ) → HasBlock old other → (other ≡ block → ⊥) → SameUsed is_active_state other old new
-  pub filled : (other : ℕ) → HasBlock old other → (other ≡ block → ⊥) → SameUsed is_target_state other old new
-
--- each page is as live as it was, and pages that were marked in rising order still are
-pub record SameMarks (old new : Table) : Type 0 where
-  pub same : (page : ℕ) → HasPage old page → (page_in new page).state ≡ (page_in old page).state
-  pub rises : AreRising old → AreRising new
-
--- in blocks of this kind of state the page is used, or the next one that is
-abbrev pub IsUpTo : (BlockState → Bool) → ℕ → Table → Type 0
-IsUpTo kind page t = page % t.size ≤ used_in kind t (page / t.size)
-
--- What marking a page does to the number of the used pages: a page that is used leaves it, and the next one is used now.
-pub record Uses (kind : BlockState → Bool) (page : ℕ) (old new : Table) : Type 0 where
-  pub again : page % old.size < used_in kind old (page / old.size) → (block : ℕ) → HasBlock old block → SameUsed kind block old new
-  pub next : page % old.size ≡ used_in kind old (page / old.size) → used_in kind new (page / old.size) ≡ used_in kind old (page / old.size) + 1
-  pub others : (block : ℕ) → HasBlock old block → (block ≡ page / old.size → ⊥) → SameUsed kind block old new
-
--- one page is live now, or not, and the others are as before
-pub record IsMarked (page : ℕ) (state : PageState) (old new : Table) : Type 0 where
-  pub rising : AreRising new
-  pub here : (page_in new page).state ≡ state
-  pub others : (other : ℕ) → HasPage old other → (other ≡ page → ⊥) → (page_in new other).state ≡ (page_in old other).state
-
--- one block is Free now, or in use, and has this wear; the others are as before
-pub record Restated (block : ℕ) (free : Bool) (wear : ℕ) (old new : Table) : Type 0 where
-  pub numbers : SameNumbers old new
-  pub here : use_in new block ≡ use_with free wear
-  pub others : (other : ℕ) → (other ≡ block → ⊥) → use_in new other ≡ use_in old other
-  pub states : (other : ℕ) → HasBlock old other → (other ≡ block → ⊥) → (block_at new other).state ≡ (block_at old other).state
-  pub total : free_count new + cond (use_in old block).is_free 1 0 ≡ free_count old + cond free 1 0
-  pub marks : SameMarks old new
-  pub fill : SameFillBeside block old new
 
 -- the same blocks and pages
 pub record SameRange (old new : Physical) : Type 0 where
   pub range_first : new.first ≡ old.first
   pub range_blocks : new.blocks ≡ old.blocks
   pub range_size : new.size ≡ old.size
-
--- the state of a block that is erased before use
-abbrev pub told_state : BlockState → BlockState
-told_state Free = Free
-told_state Active = Sealed
-told_state Target = Sealed
-told_state Sealed = Sealed
-told_state Victim = Sealed
-told_state (Retired names) = Retired names
-
--- one block has this wear, and is as Free and as kept as it was; the others are as before
-pub record IsTold (block : ℕ) (wear : ℕ) (old new : Table) : Type 0 where
-  pub numbers : SameNumbers old new
-  pub here : use_in new block ≡ record { is_free = (use_in old block).is_free; is_kept = (use_in old block).is_kept; wear = wear }
-  pub others : (other : ℕ) → (other ≡ block → ⊥) → use_in new other ≡ use_in old other
-  pub states : (other : ℕ) → HasBlock old other → (other ≡ block → ⊥) → (block_at new other).state ≡ (block_at old other).state
-  pub total : free_count new ≡ free_count old
-  pub marks : SameMarks old new
-  pub fill : SameFillBeside block old new
-
--- the state of a block in which one old name more stands, and in which nothing more is programmed
-abbrev pub aside_state : BlockState → BlockState
-aside_state Free = Retired 1
-aside_state Active = Sealed
-aside_state Target = Sealed
-aside_state Sealed = Sealed
-aside_state Victim = Victim
-aside_state (Retired names) = Retired (names + 1)
-
--- one block is in this state, and is kept for the cleaner where it was; the others are as before
-pub record IsPut (block : ℕ) (state : BlockState) (old new : Table) : Type 0 where
-  pub numbers : SameNumbers old new
-  pub here : (block_at new block).state ≡ state
-  pub states : (other : ℕ) → HasBlock old other → (other ≡ block → ⊥) → (block_at new other).state ≡ (block_at old other).state
-  pub kept : (other : ℕ) → (use_in new other).is_kept ≡ (use_in old other).is_kept
-  pub wears : (other : ℕ) → (use_in new other).wear ≡ (use_in old other).wear
-  pub frees : (other : ℕ) → (other ≡ block → ⊥) → (use_in new other).is_free ≡ (use_in old other).is_free
-  pub total : free_count new + cond (use_in old block).is_free 1 0 ≡ free_count old + cond (is_free_state state) 1 0
-  pub marks : SameMarks old new
-  pub fill : SameFillBeside block old new
 
 -- nothing more is programmed in this block, and the pages of another one that are programmed next are the same
 pub record IsIdle (block : ℕ) (old new : Kept) : Type 0 where
@@ -324,11 +226,6 @@ pub record WritesOver (place stamp : ℕ) (now : Pointer → List (Option Held))
 pub record IsAlone (page : ℕ) (value : Page) (old new : Image) : Type 0 where
   pub has : page_at new page ≡ value
   pub others : (p : ℕ) → (p ≡ page → ⊥) → page_at new p ≡ page_at old p
-
--- what it does to the medium
-pub record PlacingOn {M : Type 0} (clock : M → ℕ) (contents : M → Image) (left : M → ℕ → Image → Type 0) (tag : Tag) (stamp : ℕ) (main : List ℕ) (answer : Named) (seg : Physical) (old new : M) : Type 0 where
-  pub programmed : IfPlaced answer (λ at. Programmed seg at.name (written (page_with main tag stamp (wear_of seg (at.name / seg.size)))) (contents old) (contents new))
-  pub crash : Crashes clock contents left seg tag stamp main old new answer
 
 -- A block was taken for copies that was Free, where the one before it is full, and no page of it is used.
 pub record IsTargeted (s : Kept) (block : ℕ) : Type 0 where

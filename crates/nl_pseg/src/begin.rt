@@ -8,8 +8,8 @@ ghost use Rattle.nl_pseg.specs.Seen.{IsFormed, IsTied, seen};
 ghost use Rattle.nl_pseg.specs.Space.{HasFewPairs, IsWhole};
 
 use crate::state::State;
-use crate::table::choose;
 use nl_blocks::BlockState;
+use nl_uses::choose;
 use nl_victim::{coldest, most_dead};
 
 impl State {

@@ -1,15 +1,13 @@
 // What a segment does to be cleaned.
-ghost use Rattle.std.specs.Prelude.{◌≡◌, ◌⊎◌, ℕ, ◌+◌, ◌*◌, ◌/◌, ◌<◌, ◌≤◌, ◌↔◌, ⊤, Some, None, IsTrue, IsSome};
+ghost use Rattle.std.specs.Prelude.{◌≡◌, ◌⊎◌, ℕ, ◌+◌, ◌↔◌, IsTrue};
 ghost use Rattle.std.specs.Bool.{OnTrue, OnFalse};
-ghost use Rattle.nl_field.specs.CrashStates.{LeavesOnly, Rose, saturated};
-ghost use Rattle.nl_field.specs.Page.{Image, erased, page_at, written};
+ghost use Rattle.nl_field.specs.CrashStates.{Rose, saturated};
+ghost use Rattle.nl_field.specs.Page.{Image};
 ghost use Rattle.nl_nand.specs.Nand.{FaultsCounted};
-ghost use Rattle.nl_pseg.specs.Cleaning.{Begins, CannotBegin, CountedMove, CrashesMove, Erases, IfMoved, IsChosen, IsMoved, KeepsBeside, Moves, MovesNone};
-ghost use Rattle.nl_pseg.specs.Effects.{Programmed};
-ghost use Rattle.nl_pseg.specs.Pages.{main_of, page_with};
-ghost use Rattle.nl_pseg.specs.Segment.{HasSpare, IsClean, IsPhysicalOf, KeepsBlock, InVictim, held_at, wear_of};
+ghost use Rattle.nl_pseg.specs.Cleaning.{Begins, CannotBegin, CountedMove, IsChosen};
+ghost use Rattle.nl_pseg.specs.Copies.{CopiesOn, CopiesPage, ErasesIfDone, ErasesOn};
+ghost use Rattle.nl_pseg.specs.Segment.{HasSpare, IsClean, IsPhysicalOf, KeepsBlock};
 ghost use Rattle.nl_pseg.specs.Seen.{Fits};
-ghost use Rattle.nl_pseg.specs.declared.held.Held.{Held as HeldOf};
 ghost use Rattle.nl_pseg.specs.Space.{HasRoomForVictim, IsWhole, left_of, victims};
 
 use crate::cleaned::{Copied, Erasure};
@@ -45,18 +43,10 @@ impl PSeg {
         requires segment { M.tells → IsPhysicalOf (M.contents media.old) self.old }
         ensures nothing { result ≡ Copied.Nothing ↔ left_of self.old ≡ 0 }
         ensures refused { result ≡ Copied.Nothing → (self.new ≡ self.old) × (media.new ≡ media.old) }
-        ensures moved { IfMoved result (λ before after h. Moves before after h self.old self.new) }
-        ensures kept { (IsMoved result → ⊥) → MovesNone self.old self.new }
-        ensures lost { (w f : ℕ) → result ≡ Copied.Lost w f → (f ≡ w → ⊥) × ((p : ℕ) × (h : HeldOf) × InVictim self.old p × (held_at self.old p ≡ Some h) × (h.stamp ≡ w)) }
-        ensures told { M.tells → (w f : ℕ) → result ≡ Copied.Lost w f → ⊥ }
+        ensures copies { CopiesPage result self.old self.new }
         ensures whole { IsWhole self.new }
-        ensures clean { IsClean self.old → IsClean self.new }
-        ensures kept_block { KeepsBlock self.old → KeepsBlock self.new }
         ensures lands { Rose (M.write_faults media.old) (M.write_faults media.new) ⊎ HasRoomForVictim self.new }
-        ensures segment { M.tells → IsPhysicalOf (M.contents media.new) self.new }
-        ensures spare { M.tells → HasSpare (M.contents media.old) self.old → HasSpare (M.contents media.new) self.new }
-        ensures programmed { M.tells → IfMoved result (λ before after h. Programmed self.old after (written (page_with (main_of (page_at (M.contents media.old) before)) h.tag h.stamp (wear_of self.old (after / self.old.size)))) (M.contents media.old) (M.contents media.new)) }
-        ensures crash { M.tells → (result ≡ Copied.Nothing → ⊥) → CrashesMove M.clock M.contents M.left self.old media.old media.new result }
+        ensures medium { M.tells → CopiesOn M.clock M.contents M.left result self.old self.new media.old media.new }
         ensures geometry { M.geometry media.new ≡ M.geometry media.old }
         ensures counts { CountedMove M.clock M.read_faults M.write_faults (IsClean self.old) media.old media.new result }
     {
@@ -72,15 +62,9 @@ impl PSeg {
         requires segment { M.tells → IsPhysicalOf (M.contents media.old) self.old }
         ensures nothing { result ≡ Erasure.Nothing ↔ ((victims self.old ≡ 1) × (left_of self.old ≡ 0) → ⊥) }
         ensures refused { result ≡ Erasure.Nothing → media.new ≡ media.old }
-        ensures kept { (result ≡ Erasure.Done → ⊥) → self.new ≡ self.old }
-        ensures erased { result ≡ Erasure.Done → (block : ℕ) × Erases block self.old self.new }
+        ensures erases { ErasesIfDone result self.old self.new }
         ensures whole { IsWhole self.new }
-        ensures clean { IsClean self.old → IsClean self.new }
-        ensures kept_block { KeepsBlock self.old → KeepsBlock self.new }
-        ensures segment { M.tells → IsPhysicalOf (M.contents media.new) self.new }
-        ensures spare { M.tells → (result ≡ Erasure.Nothing → ⊥) → HasSpare (M.contents media.new) self.new }
-        ensures pages { M.tells → (block : ℕ) → self.old.victim ≡ Some block → KeepsBeside self.old block (M.contents media.old) (M.contents media.new) }
-        ensures crash { M.tells → (block : ℕ) → self.old.victim ≡ Some block → LeavesOnly M.clock M.left media.old media.new (λ m c. KeepsBeside self.old block (M.contents media.old) c) }
+        ensures medium { M.tells → ErasesOn M.clock M.contents M.left result self.old self.new media.old media.new }
         ensures geometry { M.geometry media.new ≡ M.geometry media.old }
         ensures clock { (result ≡ Erasure.Done → M.clock media.new ≡ saturated (M.clock media.old + 1)) × ((result ≡ Erasure.Done → ⊥) → M.clock media.new ≡ M.clock media.old) }
         ensures read_faults { M.read_faults media.new ≡ M.read_faults media.old }

@@ -1,29 +1,30 @@
 // Moves live pages of the victim.
 ghost use Rattle.std.specs.Prelude.{◌≡◌, ◌⊎◌, ◌↔◌, ℕ, ◌+◌, ◌*◌, ◌/◌, ◌<◌, ◌≤◌, Some, None, IfNone, IfSome, IsSome, IsTrue};
 ghost use Rattle.nl_field.specs.CrashStates.{Rose, saturated};
-ghost use Rattle.nl_field.specs.Page.{page_at, written};
+ghost use Rattle.nl_field.specs.Page.{page_at};
 ghost use Rattle.nl_field.specs.Spelling.{is_stamp};
 ghost use Rattle.nl_nand.specs.Nand.{FaultsCounted};
 ghost use Rattle.nl_blocks.specs.Table.{HasBlock, IsTable, block_at};
 ghost use Rattle.nl_blocks.specs.Used.{is_target_state, used_in};
+ghost use Rattle.nl_owned.specs.Pages.{shown_by};
+ghost use Rattle.nl_pseg.specs.Cleaning.{CountedMove, IsMoved, programmed_by};
+ghost use Rattle.nl_pseg.specs.Copies.{CopiesOn, CopiesPage, IsConsistent, LandsPage};
 ghost use Rattle.nl_pseg.specs.Kept.{all_filled, kept};
-ghost use Rattle.nl_pseg.specs.Cleaning.{CountedMove, CrashesMove, IfMoved, IsMoved, Moves, MovesNone, programmed_by};
-ghost use Rattle.nl_pseg.specs.Effects.{Crashes, Programmed};
-ghost use Rattle.nl_pseg.specs.Pages.{main_of, page_with, shown_by};
-ghost use Rattle.nl_pseg.specs.Segment.{HasSpare, InVictim, IsClean, IsPhysicalOf, KeepsBlock, held_at, room, wear_of};
 ghost use Rattle.nl_pseg.specs.Seen.{seen, Fits, IsFormed, IsTied};
-ghost use Rattle.nl_pseg.specs.Space.{HasFewPairs, HasRoomForVictim, landing, left_of};
-ghost use Rattle.nl_pseg.specs.Steps.{IsAlone, IsCopyUsed, IsLed, IsReadied, IsTargeted, ReadiedOn, aimed_at};
+ghost use Rattle.nl_pseg.specs.Segment.{HasSpare, InVictim, IsClean, IsPhysicalOf, held_at};
+ghost use Rattle.nl_pseg.specs.Space.{HasRoomForVictim, landing, left_of};
+ghost use Rattle.nl_pseg.specs.Steps.{IsCopyUsed, IsLed, IsReadied, IsTargeted, ReadiedOn, aimed_at};
+ghost use Rattle.nl_pseg.specs.Writes.{ProgramsOn};
 ghost use Rattle.nl_pseg.specs.declared.held.Held.{Held as HeldOf};
 
 use crate::cleaned::Copied;
 use crate::held::Held;
-use crate::pages::{program_page, read_page};
 use crate::state::State;
-use crate::table::{give_back, mark, next_copy, seal_filled, take_target, wear_out};
 use nl_blocks::BlockState;
 use nl_field::{NamedRead, PageBuf};
 use nl_nand::{Nand, WriteAnswer};
+use nl_owned::{program_page, read_page};
+use nl_uses::{give_back, mark, next_copy, seal_filled, take_target, wear_out};
 
 impl State {
     /// A live page of a block: the first one from the place on where the last one was found, or else the first one.
@@ -161,25 +162,16 @@ impl State {
 
     /// Programs the buffer as the copy of a live page of the victim.
     fn land<M: Nand>(&mut self, media: &mut M, before: u32, held: Held, buf: &mut PageBuf) -> Copied
-        requires formed { IsFormed (kept self.old) }
-        requires tied { IsTied (kept self.old) }
-        requires few { HasFewPairs (seen (kept self.old)) }
+        requires consistent { IsConsistent (kept self.old) }
         requires fits { Fits (M.geometry media.old) (seen (kept self.old)) }
         requires room { (kept self.old).filled < self.old.blocks.size }
         requires victim { InVictim (seen (kept self.old)) before }
         requires live { held_at (seen (kept self.old)) before ≡ Some held }
         requires segment { M.tells → IsPhysicalOf (M.contents media.old) (seen (kept self.old)) }
-        ensures formed { IsFormed (kept self.new) }
-        ensures tied { IsTied (kept self.new) }
-        ensures few { HasFewPairs (seen (kept self.new)) }
-        ensures moved { IfMoved result (λ was after h. (was ≡ before) × (after ≡ (seen (kept self.old)).copy_next) × (h ≡ held) × Moves was after h (seen (kept self.old)) (seen (kept self.new))) }
-        ensures kept { (IsMoved result → ⊥) → (result ≡ Copied.Fault) × MovesNone (seen (kept self.old)) (seen (kept self.new)) }
-        ensures same_room { room (seen (kept self.new)) ≡ room (seen (kept self.old)) }
-        ensures clean { IsClean (seen (kept self.old)) → IsClean (seen (kept self.new)) }
-        ensures segment { M.tells → IsPhysicalOf (M.contents media.new) (seen (kept self.new)) }
+        ensures consistent { IsConsistent (kept self.new) }
+        ensures lands { LandsPage before held result (seen (kept self.old)) (seen (kept self.new)) }
+        ensures medium { M.tells → ProgramsOn M.clock M.contents M.left held.tag held.stamp buf.old.main (programmed_by result) (seen (kept self.old)) (seen (kept self.new)) media.old media.new }
         ensures spare { M.tells → shown_by (page_at (M.contents media.old) before) ≡ Some (held.tag, held.stamp, buf.old.main) → HasSpare (M.contents media.old) (seen (kept self.old)) → HasSpare (M.contents media.new) (seen (kept self.new)) }
-        ensures alone { M.tells → IfMoved result (λ was after h. IsAlone after (written (page_with buf.old.main held.tag held.stamp (wear_of (seen (kept self.old)) (after / self.old.blocks.size)))) (M.contents media.old) (M.contents media.new)) }
-        ensures crash { M.tells → Crashes M.clock M.contents M.left (seen (kept self.old)) held.tag held.stamp buf.old.main media.old media.new (programmed_by result) }
         ensures geometry { M.geometry media.new ≡ M.geometry media.old }
         ensures later { M.clock media.old ≤ M.clock media.new }
         ensures clock { (IsMoved result → M.clock media.new ≡ saturated (M.clock media.old + 1)) × ((IsMoved result → ⊥) → M.clock media.new ≡ M.clock media.old) }
@@ -216,28 +208,17 @@ impl State {
         held: Held,
         buf: &mut PageBuf,
     ) -> Copied
-        requires formed { IsFormed (kept self.old) }
-        requires tied { IsTied (kept self.old) }
-        requires few { HasFewPairs (seen (kept self.old)) }
+        requires consistent { IsConsistent (kept self.old) }
         requires fits { Fits (M.geometry media.old) (seen (kept self.old)) }
         requires victim { InVictim (seen (kept self.old)) before }
         requires live { held_at (seen (kept self.old)) before ≡ Some held }
         requires room { 0 < landing (seen (kept self.old)) }
         requires segment { M.tells → IsPhysicalOf (M.contents media.old) (seen (kept self.old)) }
-        ensures formed { IsFormed (kept self.new) }
-        ensures tied { IsTied (kept self.new) }
-        ensures few { HasFewPairs (seen (kept self.new)) }
+        ensures consistent { IsConsistent (kept self.new) }
         ensures nothing { result ≡ Copied.Nothing → ⊥ }
-        ensures moved { IfMoved result (λ was after h. (was ≡ before) × (h ≡ held) × Moves was after h (seen (kept self.old)) (seen (kept self.new))) }
-        ensures kept { (IsMoved result → ⊥) → MovesNone (seen (kept self.old)) (seen (kept self.new)) }
-        ensures lost { (w f : ℕ) → result ≡ Copied.Lost w f → (f ≡ w → ⊥) × (held.stamp ≡ w) }
-        ensures told { M.tells → (w f : ℕ) → result ≡ Copied.Lost w f → ⊥ }
-        ensures clean { IsClean (seen (kept self.old)) → IsClean (seen (kept self.new)) }
+        ensures copies { CopiesPage result (seen (kept self.old)) (seen (kept self.new)) }
         ensures lands { HasRoomForVictim (seen (kept self.old)) → Rose (M.write_faults media.old) (M.write_faults media.new) ⊎ HasRoomForVictim (seen (kept self.new)) }
-        ensures segment { M.tells → IsPhysicalOf (M.contents media.new) (seen (kept self.new)) }
-        ensures spare { M.tells → HasSpare (M.contents media.old) (seen (kept self.old)) → HasSpare (M.contents media.new) (seen (kept self.new)) }
-        ensures programmed { M.tells → IfMoved result (λ was after h. Programmed (seen (kept self.old)) after (written (page_with (main_of (page_at (M.contents media.old) was)) h.tag h.stamp (wear_of (seen (kept self.old)) (after / self.old.blocks.size)))) (M.contents media.old) (M.contents media.new)) }
-        ensures crash { M.tells → Crashes M.clock M.contents M.left (seen (kept self.old)) held.tag held.stamp (main_of (page_at (M.contents media.old) before)) media.old media.new (programmed_by result) }
+        ensures medium { M.tells → CopiesOn M.clock M.contents M.left result (seen (kept self.old)) (seen (kept self.new)) media.old media.new }
         ensures geometry { M.geometry media.new ≡ M.geometry media.old }
         ensures counts { CountedMove M.clock M.read_faults M.write_faults (IsClean (seen (kept self.old))) media.old media.new result }
     {
@@ -255,28 +236,16 @@ impl State {
 
     /// Moves one live page of the victim.
     pub fn copy_one<M: Nand>(&mut self, media: &mut M, buf: &mut PageBuf) -> Copied
-        requires formed { IsFormed (kept self.old) }
-        requires tied { IsTied (kept self.old) }
-        requires few { HasFewPairs (seen (kept self.old)) }
+        requires consistent { IsConsistent (kept self.old) }
         requires fits { Fits (M.geometry media.old) (seen (kept self.old)) }
         requires lands { HasRoomForVictim (seen (kept self.old)) }
         requires segment { M.tells → IsPhysicalOf (M.contents media.old) (seen (kept self.old)) }
-        ensures formed { IsFormed (kept self.new) }
-        ensures tied { IsTied (kept self.new) }
-        ensures few { HasFewPairs (seen (kept self.new)) }
+        ensures consistent { IsConsistent (kept self.new) }
         ensures nothing { result ≡ Copied.Nothing ↔ left_of (seen (kept self.old)) ≡ 0 }
         ensures refused { result ≡ Copied.Nothing → (seen (kept self.new) ≡ seen (kept self.old)) × (media.new ≡ media.old) }
-        ensures moved { IfMoved result (λ before after h. Moves before after h (seen (kept self.old)) (seen (kept self.new))) }
-        ensures kept { (IsMoved result → ⊥) → MovesNone (seen (kept self.old)) (seen (kept self.new)) }
-        ensures lost { (w f : ℕ) → result ≡ Copied.Lost w f → (f ≡ w → ⊥) × ((p : ℕ) × (h : HeldOf) × InVictim (seen (kept self.old)) p × (held_at (seen (kept self.old)) p ≡ Some h) × (h.stamp ≡ w)) }
-        ensures told { M.tells → (w f : ℕ) → result ≡ Copied.Lost w f → ⊥ }
-        ensures clean { IsClean (seen (kept self.old)) → IsClean (seen (kept self.new)) }
-        ensures kept_block { KeepsBlock (seen (kept self.old)) → KeepsBlock (seen (kept self.new)) }
+        ensures copies { CopiesPage result (seen (kept self.old)) (seen (kept self.new)) }
         ensures lands { Rose (M.write_faults media.old) (M.write_faults media.new) ⊎ HasRoomForVictim (seen (kept self.new)) }
-        ensures segment { M.tells → IsPhysicalOf (M.contents media.new) (seen (kept self.new)) }
-        ensures spare { M.tells → HasSpare (M.contents media.old) (seen (kept self.old)) → HasSpare (M.contents media.new) (seen (kept self.new)) }
-        ensures programmed { M.tells → IfMoved result (λ before after h. Programmed (seen (kept self.old)) after (written (page_with (main_of (page_at (M.contents media.old) before)) h.tag h.stamp (wear_of (seen (kept self.old)) (after / self.old.blocks.size)))) (M.contents media.old) (M.contents media.new)) }
-        ensures crash { M.tells → (result ≡ Copied.Nothing → ⊥) → CrashesMove M.clock M.contents M.left (seen (kept self.old)) media.old media.new result }
+        ensures medium { M.tells → CopiesOn M.clock M.contents M.left result (seen (kept self.old)) (seen (kept self.new)) media.old media.new }
         ensures geometry { M.geometry media.new ≡ M.geometry media.old }
         ensures counts { CountedMove M.clock M.read_faults M.write_faults (IsClean (seen (kept self.old))) media.old media.new result }
     {

@@ -1,11 +1,12 @@
 // Erases the victim.
 ghost use Rattle.std.specs.Prelude.{◌≡◌, ◌↔◌, ℕ, ◌+◌, ◌/◌, Some, None};
-ghost use Rattle.nl_field.specs.CrashStates.{LeavesOnly, saturated};
+ghost use Rattle.nl_field.specs.CrashStates.{saturated};
 ghost use Rattle.nl_nand.specs.Nand.{FaultsCounted};
 ghost use Rattle.nl_blocks.specs.Table.{IsTable};
+ghost use Rattle.nl_pseg.specs.Cleaning.{Erases};
+ghost use Rattle.nl_pseg.specs.Copies.{ErasesIfDone, ErasesOn, IsConsistent};
 ghost use Rattle.nl_pseg.specs.Kept.{kept};
-ghost use Rattle.nl_pseg.specs.Cleaning.{Erases, KeepsBeside};
-ghost use Rattle.nl_pseg.specs.Segment.{HasSpare, IsPhysicalOf, held_at};
+ghost use Rattle.nl_pseg.specs.Segment.{IsPhysicalOf, held_at};
 ghost use Rattle.nl_pseg.specs.Seen.{seen, Fits, IsFormed, IsTied};
 ghost use Rattle.nl_pseg.specs.Space.{HasFewPairs, left_of, victims};
 
@@ -36,23 +37,15 @@ impl State {
 
     /// Erases the victim, where no page of it is live.
     pub fn erase_victim<M: Nand>(&mut self, media: &mut M) -> Erasure
-        requires formed { IsFormed (kept self.old) }
-        requires tied { IsTied (kept self.old) }
-        requires few { HasFewPairs (seen (kept self.old)) }
+        requires consistent { IsConsistent (kept self.old) }
         requires fits { Fits (M.geometry media.old) (seen (kept self.old)) }
         requires segment { M.tells → IsPhysicalOf (M.contents media.old) (seen (kept self.old)) }
-        ensures formed { IsFormed (kept self.new) }
-        ensures tied { IsTied (kept self.new) }
-        ensures few { HasFewPairs (seen (kept self.new)) }
+        ensures consistent { IsConsistent (kept self.new) }
         ensures table { IsTable self.new.blocks }
         ensures nothing { result ≡ Erasure.Nothing ↔ ((victims (seen (kept self.old)) ≡ 1) × (left_of (seen (kept self.old)) ≡ 0) → ⊥) }
         ensures refused { result ≡ Erasure.Nothing → media.new ≡ media.old }
-        ensures kept { (result ≡ Erasure.Done → ⊥) → seen (kept self.new) ≡ seen (kept self.old) }
-        ensures erased { result ≡ Erasure.Done → (block : ℕ) × Erases block (seen (kept self.old)) (seen (kept self.new)) }
-        ensures segment { M.tells → IsPhysicalOf (M.contents media.new) (seen (kept self.new)) }
-        ensures spare { M.tells → (result ≡ Erasure.Nothing → ⊥) → HasSpare (M.contents media.new) (seen (kept self.new)) }
-        ensures pages { M.tells → (block : ℕ) → self.old.victim ≡ Some block → KeepsBeside (seen (kept self.old)) block (M.contents media.old) (M.contents media.new) }
-        ensures crash { M.tells → (block : ℕ) → self.old.victim ≡ Some block → LeavesOnly M.clock M.left media.old media.new (λ m c. KeepsBeside (seen (kept self.old)) block (M.contents media.old) c) }
+        ensures erases { ErasesIfDone result (seen (kept self.old)) (seen (kept self.new)) }
+        ensures medium { M.tells → ErasesOn M.clock M.contents M.left result (seen (kept self.old)) (seen (kept self.new)) media.old media.new }
         ensures geometry { M.geometry media.new ≡ M.geometry media.old }
         ensures clock { (result ≡ Erasure.Done → M.clock media.new ≡ saturated (M.clock media.old + 1)) × ((result ≡ Erasure.Done → ⊥) → M.clock media.new ≡ M.clock media.old) }
         ensures read_faults { M.read_faults media.new ≡ M.read_faults media.old }

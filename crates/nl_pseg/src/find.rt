@@ -12,8 +12,8 @@ ghost use Rattle.nl_pseg.specs.Steps.{Ends};
 
 use crate::held::Held;
 use crate::state::State;
-use crate::table::mark;
 use nl_field::Pointer;
+use nl_uses::mark;
 
 impl State {
     /// What holds of each table of blocks.

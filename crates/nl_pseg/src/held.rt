@@ -14,31 +14,12 @@ pub struct Held {
 pub fn no_pages(alloc: Global, count: u32) -> Result<Vec<Option<Held>>, Memory>
     ensures { IfOk result (λ v. v.items ≡ replicate count None) }
 {
-    let mut held = Vec::with_capacity(alloc, count as usize)?;
-    for _ in 0..count {
-        held.push(None)?;
-    }
-    Ok(held)
+    Ok(vec![in alloc; None; count as usize]?)
 }
 
 /// So many blocks that were not told to be soiled.
 pub fn no_marks(alloc: Global, count: u32) -> Result<Vec<Option<u32>>, Memory>
     ensures { IfOk result (λ v. v.items ≡ replicate count None) }
 {
-    let mut marks = Vec::with_capacity(alloc, count as usize)?;
-    for _ in 0..count {
-        marks.push(None)?;
-    }
-    Ok(marks)
-}
-
-/// So many blocks in which no old name stands.
-pub fn no_names(alloc: Global, count: u32) -> Result<Vec<u32>, Memory>
-    ensures { IfOk result (λ v. v.items ≡ replicate count 0) }
-{
-    let mut names = Vec::with_capacity(alloc, count as usize)?;
-    for _ in 0..count {
-        names.push(0)?;
-    }
-    Ok(names)
+    Ok(vec![in alloc; None; count as usize]?)
 }

@@ -11,14 +11,11 @@ mod find;
 mod give_back;
 mod held;
 mod names;
-mod old_names;
 mod open;
-mod pages;
 mod pseg;
 mod read;
 mod room;
 mod state;
-mod table;
 mod write;
 
 pub use cleaned::{Copied, Erasure};

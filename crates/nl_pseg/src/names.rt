@@ -9,8 +9,8 @@ ghost use Rattle.nl_pseg.specs.Seen.{IsFormed, IsTied, seen};
 ghost use Rattle.nl_pseg.specs.Steps.{NamesGone};
 
 use crate::state::State;
-use crate::table::end_name;
 use nl_blocks::BlockState;
+use nl_uses::end_name;
 
 impl State {
     /// The page to which the name leads.

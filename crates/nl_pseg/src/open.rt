@@ -1,16 +1,17 @@
-ghost use Rattle.std.specs.Prelude.{◌≡◌, ◌⊎◌, ℕ, ◌+◌, ◌*◌, ◌/◌, ◌<◌, ◌≤◌, ◌^◌, cond, ◌-◌, true, false, length, slice_set, slice_index_or, None, Some, IsSome, IsTrue};
+ghost use Rattle.std.specs.Prelude.{◌≡◌, ◌⊎◌, ◌+◌, ◌/◌, ◌<◌, ◌^◌, None, IsSome, IsTrue};
 ghost use Rattle.nl_field.specs.Spelling.{is_stamp};
-ghost use Rattle.nl_blocks.specs.Table.{HasBlock, block_at, free_count, names_of};
+ghost use Rattle.nl_blocks.specs.Table.{HasBlock, block_at, names_of};
 ghost use Rattle.nl_remap.specs.Table.{IsOld};
 ghost use Rattle.nl_pseg.specs.Kept.{kept};
-ghost use Rattle.nl_pseg.specs.Segment.{CanLead, IsDead, IsNext, IsNextCopy, TakenAsErased, held_at};
-ghost use Rattle.nl_pseg.specs.Seen.{seen, use_in, IsFormed, IsTied};
+ghost use Rattle.nl_pseg.specs.Opened.{LoadsPage, Soils};
+ghost use Rattle.nl_pseg.specs.Segment.{CanLead, IsDead, held_at};
+ghost use Rattle.nl_pseg.specs.Seen.{seen, IsFormed, IsTied};
 ghost use Rattle.nl_pseg.specs.Steps.{IsAside, LeadsFrom, Loads};
 
 use crate::held::Held;
 use crate::state::State;
-use crate::table::{mark, set_aside, shut, tell};
 use nl_field::{Pointer, Tag};
+use nl_uses::{mark, set_aside, shut, tell};
 
 impl State {
     /// The page holds what the pointer and the owner say.
@@ -32,6 +33,7 @@ impl State {
         self.lead_from(at.name, page);
     }
 
+    /// The page holds the number and the owner.
     fn load(&mut self, page: u32, stamp: u64, tag: Tag)
         requires formed { IsFormed (kept self.old) }
         requires tied { IsTied (kept self.old) }
@@ -41,21 +43,7 @@ impl State {
         ensures formed { IsFormed (kept self.new) }
         ensures tied { IsTied (kept self.new) }
         ensures names { self.new.names ≡ self.old.names }
-        ensures victim { self.new.victim ≡ self.old.victim }
-        ensures next { (p : ℕ) → IsNext (seen (kept self.new)) p → IsNext (seen (kept self.old)) p }
-        ensures copies { (p : ℕ) → IsNextCopy (seen (kept self.new)) p → IsNextCopy (seen (kept self.old)) p }
-        ensures held { self.new.held.items ≡ slice_set self.old.held.items page (Some (record { tag = tag; stamp = stamp })) }
-        ensures first { self.new.blocks.first ≡ self.old.blocks.first }
-        ensures blocks { self.new.blocks.first + length self.new.blocks.blocks ≡ self.old.blocks.first + length self.old.blocks.blocks }
-        ensures pages { self.new.blocks.size ≡ self.old.blocks.size }
-        ensures here { (use_in self.new.blocks (page / self.old.blocks.size)).is_free ≡ false }
-        ensures free { free_count self.new.blocks + cond ((use_in self.old.blocks (page / self.old.blocks.size)).is_free) 1 0 ≡ free_count self.old.blocks }
-        ensures others { (block : ℕ) → (block ≡ page / self.old.blocks.size → ⊥) → ((use_in self.new.blocks block).is_free ≡ (use_in self.old.blocks block).is_free) × ((use_in self.new.blocks block).is_kept ≡ (use_in self.old.blocks block).is_kept) }
-        ensures left { (seen (kept self.new)).left ≤ (seen (kept self.old)).left }
-        ensures soiled { self.new.soiled.items ≡ self.old.soiled.items }
-        ensures wears { (block : ℕ) → (use_in self.new.blocks block).wear ≡ (use_in self.old.blocks block).wear }
-        ensures erased { (p : ℕ) → TakenAsErased (seen (kept self.new)) p → TakenAsErased (seen (kept self.old)) p × (p / self.old.blocks.size ≡ page / self.old.blocks.size → ⊥) }
-        ensures still { (p : ℕ) → TakenAsErased (seen (kept self.old)) p → (p / self.old.blocks.size ≡ page / self.old.blocks.size → ⊥) → TakenAsErased (seen (kept self.new)) p }
+        ensures loads { LoadsPage page (record { tag = tag; stamp = stamp }) (seen (kept self.old)) (seen (kept self.new)) }
     {
         let block = page / self.blocks.pages();
         shut(&mut self.blocks, block);
@@ -96,6 +84,7 @@ impl State {
         self.names.add(name, page);
     }
 
+    /// The block does not read as erased, and was erased so often.
     pub fn soil(&mut self, block: u32, wear: u32)
         requires formed { IsFormed (kept self.old) }
         requires tied { IsTied (kept self.old) }
@@ -103,23 +92,7 @@ impl State {
         requires within { HasBlock self.old.blocks block }
         ensures formed { IsFormed (kept self.new) }
         ensures tied { IsTied (kept self.new) }
-        ensures held { self.new.held.items ≡ self.old.held.items }
-        ensures names { self.new.names ≡ self.old.names }
-        ensures victim { self.new.victim ≡ self.old.victim }
-        ensures first { self.new.blocks.first ≡ self.old.blocks.first }
-        ensures blocks { self.new.blocks.first + length self.new.blocks.blocks ≡ self.old.blocks.first + length self.old.blocks.blocks }
-        ensures pages { self.new.blocks.size ≡ self.old.blocks.size }
-        ensures free { free_count self.new.blocks ≡ free_count self.old.blocks }
-        ensures left { (seen (kept self.new)).left ≤ (seen (kept self.old)).left }
-        ensures next { (p : ℕ) → IsNext (seen (kept self.new)) p → IsNext (seen (kept self.old)) p }
-        ensures copies { (p : ℕ) → IsNextCopy (seen (kept self.new)) p → IsNextCopy (seen (kept self.old)) p × (p / self.old.blocks.size ≡ block → ⊥) }
-        ensures same { (other : ℕ) → ((use_in self.new.blocks other).is_free ≡ (use_in self.old.blocks other).is_free) × ((use_in self.new.blocks other).is_kept ≡ (use_in self.old.blocks other).is_kept) }
-        ensures soiled { slice_index_or self.new.soiled.items block None ≡ Some wear }
-        ensures others { (other : ℕ) → (other ≡ block → ⊥) → slice_index_or self.new.soiled.items other None ≡ slice_index_or self.old.soiled.items other None }
-        ensures wear { (use_in self.new.blocks block).wear ≡ wear }
-        ensures wears { (other : ℕ) → (other ≡ block → ⊥) → (use_in self.new.blocks other).wear ≡ (use_in self.old.blocks other).wear }
-        ensures erased { (p : ℕ) → TakenAsErased (seen (kept self.new)) p → TakenAsErased (seen (kept self.old)) p × (p / self.old.blocks.size ≡ block → ⊥) }
-        ensures still { (p : ℕ) → TakenAsErased (seen (kept self.old)) p → (p / self.old.blocks.size ≡ block → ⊥) → TakenAsErased (seen (kept self.new)) p }
+        ensures soils { Soils block wear (seen (kept self.old)) (seen (kept self.new)) }
     {
         tell(&mut self.blocks, block, wear);
         self.soiled[block as usize] = Some(wear);

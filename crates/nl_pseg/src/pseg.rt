@@ -1,18 +1,19 @@
-ghost use Rattle.std.specs.Prelude.{◌≡◌, ◌⊎◌, ℕ, ◌+◌, ◌-◌, ◌*◌, ◌/◌, ◌<◌, ◌≤◌, ◌↔◌, Bool, true, false, cond, [], length, slice_set, replicate, None, Some, Contains, IsTrue, IfOk, IfSome, IfNone};
+ghost use Rattle.std.specs.Prelude.{◌≡◌, ◌⊎◌, ℕ, ◌+◌, ◌*◌, ◌<◌, ◌≤◌, ◌↔◌, length, slice_set, None, Some, Contains, IsTrue, IfOk, IfSome, IfNone};
 ghost use Rattle.std.specs.Bool.{OnTrue, OnFalse};
 ghost use Rattle.nl_field.specs.Live.{resolve};
 ghost use Rattle.nl_field.specs.Numbers.{is_legal, shape_for};
 ghost use Rattle.nl_field.specs.Page.{Image, page_at, written};
 ghost use Rattle.nl_field.specs.Spelling.{is_stamp};
 ghost use Rattle.nl_nand.specs.Nand.{FaultsCounted, SameLeft};
-ghost use Rattle.nl_pseg.specs.Answers.{IfPlaced, IsFault, IsPlaced, ReadsHeld, is_placed};
-ghost use Rattle.nl_pseg.specs.Effects.{Counted, Crashes, Programmed};
-ghost use Rattle.nl_pseg.specs.Pages.{page_with};
+ghost use Rattle.nl_pseg.specs.Answers.{ReadsHeld};
 ghost use Rattle.nl_pseg.specs.Cleaning.{without_name};
-ghost use Rattle.nl_pseg.specs.Space.{GivesBack, HasRoomForVictim, IsWhole, Lessens, SameCleaning, reach, waiting};
-ghost use Rattle.nl_pseg.specs.Segment.{CountsErases, HasSpare, IsNextCopy, is_waiting, names_another_free, CanLead, InSegment, IsNext, IsClean, IsDead, IsLive, IsNewStamp, IsOldName, IsPhysicalOf, IsReady, IsSpent, IsUnspent, KeepsBlock, KeptAreDead, SamePages, TakenAsErased, erasures, held_at, is_free, is_kept, room, soiled, wear_of, without_target};
+ghost use Rattle.nl_pseg.specs.Effects.{Counted};
+ghost use Rattle.nl_pseg.specs.Opened.{GivesAllBack, IsNew, Soils};
 ghost use Rattle.nl_pseg.specs.Seen.{Fits};
-ghost use Rattle.nl_pseg.specs.declared.held.Held.{Held as HeldOf};
+ghost use Rattle.nl_pseg.specs.Segment.{CanLead, HasSpare, IsClean, IsDead, IsLive, IsNewStamp, IsOldName, IsPhysicalOf, IsReady, KeepsBlock, KeptAreDead, SamePages, held_at, room, without_target};
+ghost use Rattle.nl_pseg.specs.Space.{GivesBack, IsWhole, Lessens, reach, waiting};
+ghost use Rattle.nl_pseg.specs.Steps.{Loads};
+ghost use Rattle.nl_pseg.specs.Writes.{AddsPage, ReplacesPage, WritesOn};
 
 use crate::state::State;
 use nl_field::{Memory, Named, NamedRead, PageBuf, Pointer, Shape, Tag};
@@ -48,25 +49,7 @@ impl PSeg {
     pub fn new(alloc: Global, shape: &Shape) -> Result<PSeg, Memory>
         requires legal { IsTrue (is_legal shape.now.blocks shape.now.pages) }
         requires numbers { shape.now ≡ shape_for shape.now.blocks shape.now.pages }
-        ensures first { IfOk result (λ s. s.first ≡ shape.now.vblocks) }
-        ensures blocks { IfOk result (λ s. s.blocks ≡ shape.now.blocks) }
-        ensures pages { IfOk result (λ s. s.size ≡ shape.now.pages) }
-        ensures live { IfOk result (λ s. s.held ≡ replicate (shape.now.blocks * shape.now.pages) None) }
-        ensures pairs { IfOk result (λ s. s.pairs ≡ []) }
-        ensures free { IfOk result (λ s. s.free ≡ shape.now.pblocks) }
-        ensures left { IfOk result (λ s. s.left ≡ 0) }
-        ensures each { IfOk result (λ s. (block : ℕ) → s.first ≤ block → block < s.blocks → is_free s block ≡ true) }
-        ensures erased { IfOk result (λ s. (page : ℕ) → InSegment s page → TakenAsErased s page) }
-        ensures within { IfOk result (λ s. (page : ℕ) → TakenAsErased s page → InSegment s page) }
-        ensures clean { IfOk result IsClean }
-        ensures wear { IfOk result (λ s. (block : ℕ) → erasures s block ≡ 0) }
-        ensures room { IfOk result (λ s. room s + shape.now.pages ≡ shape.now.pblocks * shape.now.pages) }
-        ensures kept { IfOk result KeepsBlock }
-        ensures victim { IfOk result (λ s. s.victim ≡ None) }
-        ensures pair_room { IfOk result (λ s. s.pair_room ≡ 4 * shape.now.pages) }
-        ensures copies { IfOk result (λ s. s.copy_left ≡ 0) }
-        ensures whole { IfOk result IsWhole }
-        ensures spare { IfOk result (λ s. (image : Image) → HasSpare image s) }
+        ensures { IfOk result (IsNew shape.now) }
     {
         let state = State::new(alloc, shape)?;
         state.table();
@@ -80,34 +63,14 @@ impl PSeg {
     pub fn load(&mut self, page: u32, at: Pointer, tag: Tag)
         requires none { self.old.victim ≡ None }
         requires dead { IsDead self.old page }
-        requires fresh { IsOldName self.old page → ⊥ }
         requires stamp { IsTrue (is_stamp at.stamp) }
         requires new_stamp { IsNewStamp self.old at.stamp }
         requires away { (at.name ≡ page → ⊥) → CanLead self.old at.name }
         ensures whole { IsWhole self.new }
-        ensures live { self.new.held ≡ slice_set self.old.held page (Some (record { tag = tag; stamp = at.stamp })) }
-        ensures leads { resolve self.new.pairs at.name ≡ page }
-        ensures names { (name : ℕ) → (name ≡ at.name → ⊥) → resolve self.new.pairs name ≡ resolve self.old.pairs name }
-        ensures pairs { at.name ≡ page → self.new.pairs ≡ self.old.pairs }
-        ensures olds { (name : ℕ) → IsOldName self.new name → (name ≡ at.name) ⊎ IsOldName self.old name }
-        ensures more { (at.name ≡ page → ⊥) → (length self.new.pairs ≡ length self.old.pairs + 1) × (self.new.pair_room + 1 ≡ self.old.pair_room) }
-        ensures first { self.new.first ≡ self.old.first }
-        ensures blocks { self.new.blocks ≡ self.old.blocks }
-        ensures pages { self.new.size ≡ self.old.size }
+        ensures loads { Loads page at tag self.old self.new }
         ensures victim { self.new.victim ≡ None }
-        ensures here { is_free self.new (page / self.old.size) ≡ false }
-        ensures name_here { (at.name ≡ page → ⊥) → is_free self.new (at.name / self.old.size) ≡ false }
-        ensures free { self.new.free + cond (is_free self.old (page / self.old.size)) 1 0 + cond (names_another_free self.old page at.name) 1 0 ≡ self.old.free }
-        ensures left { self.new.left ≤ self.old.left }
-        ensures others { (block : ℕ) → (block ≡ page / self.old.size → ⊥) → (is_kept self.new block ≡ is_kept self.old block) × ((block ≡ at.name / self.old.size → ⊥) → is_free self.new block ≡ is_free self.old block) }
-        ensures soiled { (block : ℕ) → soiled self.new block ≡ soiled self.old block }
-        ensures wears { (block : ℕ) → erasures self.new block ≡ erasures self.old block }
-        ensures erased { (p : ℕ) → TakenAsErased self.new p → TakenAsErased self.old p × (p / self.old.size ≡ page / self.old.size → ⊥) }
-        ensures still { (p : ℕ) → TakenAsErased self.old p → (p / self.old.size ≡ page / self.old.size → ⊥) → (IsNext self.old p → p / self.old.size ≡ at.name / self.old.size → ⊥) → TakenAsErased self.new p }
-        ensures copies { (p : ℕ) → IsNextCopy self.new p → IsNextCopy self.old p }
         ensures kept { (1 ≤ self.new.free + waiting self.new) → KeepsBlock self.new }
         ensures spare { (image : Image) → 1 ≤ self.new.free + waiting self.new → HasSpare image self.new }
-        ensures kept_dead { KeptAreDead self.new }
     {
         self.state.load_as(page, at, tag);
         self.state.table();
@@ -121,24 +84,9 @@ impl PSeg {
         requires from { self.old.first ≤ block }
         requires below { block < self.old.blocks }
         ensures whole { IsWhole self.new }
-        ensures live { self.new.held ≡ self.old.held }
-        ensures pairs { self.new.pairs ≡ self.old.pairs }
-        ensures first { self.new.first ≡ self.old.first }
-        ensures blocks { self.new.blocks ≡ self.old.blocks }
-        ensures pages { self.new.size ≡ self.old.size }
-        ensures free { self.new.free ≡ self.old.free }
-        ensures left { self.new.left ≤ self.old.left }
-        ensures same { (other : ℕ) → (is_free self.new other ≡ is_free self.old other) × (is_kept self.new other ≡ is_kept self.old other) }
-        ensures soiled { soiled self.new block ≡ Some wear }
-        ensures others { (other : ℕ) → (other ≡ block → ⊥) → soiled self.new other ≡ soiled self.old other }
-        ensures wear { erasures self.new block ≡ wear }
-        ensures wears { (other : ℕ) → (other ≡ block → ⊥) → erasures self.new other ≡ erasures self.old other }
-        ensures erased { (p : ℕ) → TakenAsErased self.new p → TakenAsErased self.old p × (p / self.old.size ≡ block → ⊥) }
-        ensures still { (p : ℕ) → TakenAsErased self.old p → (p / self.old.size ≡ block → ⊥) → TakenAsErased self.new p }
-        ensures copies { (p : ℕ) → IsNextCopy self.new p → IsNextCopy self.old p × (p / self.old.size ≡ block → ⊥) }
-        ensures kept { KeepsBlock self.old → KeepsBlock self.new }
+        ensures soils { Soils block wear self.old self.new }
         ensures victim { self.new.victim ≡ None }
-        ensures waits { (other : ℕ) → is_waiting self.new other ≡ is_waiting self.old other }
+        ensures kept { KeepsBlock self.old → KeepsBlock self.new }
         ensures spare { (image : Image) → HasSpare image self.old → HasSpare image self.new }
     {
         self.state.soil(block, wear);
@@ -152,23 +100,10 @@ impl PSeg {
         requires none { (page : ℕ) → held_at self.old page ≡ None }
         requires no_victim { self.old.victim ≡ None }
         ensures whole { IsWhole self.new }
-        ensures live { self.new.held ≡ self.old.held }
-        ensures pairs { self.new.pairs ≡ self.old.pairs }
+        ensures given { GivesAllBack self.old self.new }
         ensures victim { self.new.victim ≡ None }
-        ensures copies { self.new.copy_left ≡ 0 }
-        ensures spare { (image : Image) → HasSpare image self.new }
-        ensures first { self.new.first ≡ self.old.first }
-        ensures blocks { self.new.blocks ≡ self.old.blocks }
-        ensures pages { self.new.size ≡ self.old.size }
-        ensures free { self.new.first + self.new.free ≡ self.new.blocks }
-        ensures left { self.new.left ≡ 0 }
-        ensures each { (block : ℕ) → self.old.first ≤ block → block < self.old.blocks → (is_free self.new block ≡ true) × (is_kept self.new block ≡ true) }
-        ensures soiled { (block : ℕ) → self.old.first ≤ block → block < self.old.blocks → is_free self.old block ≡ false → soiled self.new block ≡ Some (erasures self.old block) }
-        ensures wears { (block : ℕ) → self.old.first ≤ block → block < self.old.blocks → erasures self.new block ≡ erasures self.old block }
-        ensures others { (block : ℕ) → is_free self.old block ≡ true → (soiled self.new block ≡ soiled self.old block) × (erasures self.new block ≡ erasures self.old block) }
-        ensures erased { (p : ℕ) → TakenAsErased self.new p → TakenAsErased self.old p }
-        ensures same { self.old.first + self.old.free ≡ self.old.blocks → self.new ≡ self.old }
         ensures kept { 1 ≤ self.new.free → KeepsBlock self.new }
+        ensures spare { (image : Image) → HasSpare image self.new }
     {
         self.state.give_back_all();
         self.state.table();
@@ -299,25 +234,10 @@ impl PSeg {
         ensures live { result ≡ Named.NotLive → ⊥ }
         ensures full { result ≡ Named.NoPage ↔ room self.old ≡ 0 }
         ensures refused { result ≡ Named.NoPage → (self.new ≡ self.old) × (media.new ≡ media.old) }
-        ensures placed { IfPlaced result (λ at. IsDead self.old at.name × (at.stamp ≡ stamp)) }
-        ensures held { IfPlaced result (λ at. self.new.held ≡ slice_set self.old.held at.name (Some (record { tag = tag; stamp = stamp }))) }
-        ensures same { (IsPlaced result → ⊥) → self.new.held ≡ self.old.held }
-        ensures pairs { self.new.pairs ≡ self.old.pairs }
-        ensures pages { SamePages self.old self.new }
-        ensures cleaning { SameCleaning self.old self.new }
-        ensures wears { CountsErases self.old self.new }
-        ensures lands { HasRoomForVictim self.old → HasRoomForVictim self.new }
-        ensures spent { IsPlaced result → IsSpent self.old self.new }
-        ensures failed { IsFault result → IsSpent self.old self.new ⊎ (IsUnspent self.old self.new × (IsReady self.old → ⊥)) }
-        ensures clean { IsClean self.old → IsClean self.new }
-        ensures kept { KeepsBlock self.old → KeepsBlock self.new }
-        ensures kept_dead { KeptAreDead self.new }
+        ensures adds { AddsPage tag stamp result self.old self.new }
         ensures whole { IsWhole self.new }
+        ensures medium { M.tells → WritesOn M.clock M.contents M.left tag stamp from.now.main result self.old self.new media.old media.new }
         ensures spare { M.tells → HasSpare (M.contents media.old) self.old → HasSpare (M.contents media.new) self.new }
-        ensures within { (p : ℕ) → TakenAsErased self.new p → InSegment self.new p }
-        ensures segment { M.tells → IsPhysicalOf (M.contents media.new) self.new }
-        ensures programmed { M.tells → IfPlaced result (λ at. Programmed self.old at.name (written (page_with from.now.main tag stamp (wear_of self.old (at.name / self.old.size)))) (M.contents media.old) (M.contents media.new)) }
-        ensures crash { M.tells → Crashes M.clock M.contents M.left self.old tag stamp from.now.main media.old media.new result }
         ensures geometry { M.geometry media.new ≡ M.geometry media.old }
         ensures counts { Counted M.clock M.read_faults M.write_faults (IsReady self.old) media.old media.new result }
     {
@@ -344,28 +264,10 @@ impl PSeg {
         ensures live { result ≡ Named.NotLive ↔ (IsLive self.old old → ⊥) }
         ensures full { result ≡ Named.NoPage ↔ (IsLive self.old old × (room self.old ≡ 0)) }
         ensures refused { (result ≡ Named.NotLive) ⊎ (result ≡ Named.NoPage) → (self.new ≡ self.old) × (media.new ≡ media.old) }
-        ensures placed { IfPlaced result (λ at. IsDead self.old at.name × (at.stamp ≡ stamp)) }
-        ensures held { IfPlaced result (λ at. self.new.held ≡ slice_set (slice_set self.old.held at.name (Some (record { tag = tag; stamp = stamp }))) (resolve self.old.pairs old.name) None) }
-        ensures same { (IsPlaced result → ⊥) → self.new.held ≡ self.old.held }
-        ensures pairs { IsPlaced result → self.new.pairs ≡ without_target (resolve self.old.pairs old.name) self.old.pairs }
-        ensures same_pairs { (IsPlaced result → ⊥) → self.new.pairs ≡ self.old.pairs }
-        ensures pages { SamePages self.old self.new }
-        ensures space { Lessens (cond (is_placed result) 1 0) self.old self.new }
-        ensures cleaning { (IsPlaced result → ⊥) → SameCleaning self.old self.new }
-        ensures wears { CountsErases self.old self.new }
-        ensures room { IsPlaced result → room self.old ≤ room self.new + 1 }
-        ensures blocks { IsPlaced result → self.new.free + waiting self.new ≤ self.old.free + waiting self.old }
-        ensures spent { IsPlaced result → waiting self.old ≡ 0 → IsSpent self.old self.new }
-        ensures failed { IsFault result → IsSpent self.old self.new ⊎ (IsUnspent self.old self.new × (IsReady self.old → ⊥)) }
-        ensures clean { IsClean self.old → IsClean self.new }
-        ensures kept { KeepsBlock self.old → KeepsBlock self.new }
-        ensures kept_dead { KeptAreDead self.new }
+        ensures replaces { ReplacesPage (resolve self.old.pairs old.name) tag stamp result self.old self.new }
         ensures whole { IsWhole self.new }
+        ensures medium { M.tells → WritesOn M.clock M.contents M.left tag stamp from.now.main result self.old self.new media.old media.new }
         ensures spare { M.tells → HasSpare (M.contents media.old) self.old → HasSpare (M.contents media.new) self.new }
-        ensures within { (p : ℕ) → TakenAsErased self.new p → InSegment self.new p }
-        ensures segment { M.tells → IsPhysicalOf (M.contents media.new) self.new }
-        ensures programmed { M.tells → IfPlaced result (λ at. Programmed self.old at.name (written (page_with from.now.main tag stamp (wear_of self.old (at.name / self.old.size)))) (M.contents media.old) (M.contents media.new)) }
-        ensures crash { M.tells → Crashes M.clock M.contents M.left self.old tag stamp from.now.main media.old media.new result }
         ensures geometry { M.geometry media.new ≡ M.geometry media.old }
         ensures counts { Counted M.clock M.read_faults M.write_faults (IsReady self.old) media.old media.new result }
     {

@@ -7,10 +7,10 @@ ghost use Rattle.nl_pseg.specs.Answers.{ReadsHeld};
 ghost use Rattle.nl_pseg.specs.Segment.{IsPhysicalOf, held_at};
 ghost use Rattle.nl_pseg.specs.Seen.{seen, Fits, IsFormed};
 
-use crate::pages::read_page;
 use crate::state::State;
 use nl_field::{NamedRead, PageBuf, Pointer, Tag};
 use nl_nand::Nand;
+use nl_owned::read_page;
 
 impl State {
     pub fn read<M: Nand>(

@@ -10,9 +10,9 @@ ghost use Rattle.nl_pseg.specs.Steps.{IsTaking, Opening, OpeningOn, opened_at};
 ghost use Rattle.nl_pseg.specs.declared.held.Held.{Held as HeldOf};
 
 use crate::state::State;
-use crate::table::{give_back, next_page, take, wear_out};
 use nl_blocks::BlockState;
 use nl_nand::{Nand, WriteAnswer};
+use nl_uses::{give_back, next_page, take, wear_out};
 
 impl State {
     /// Whether a page can be programmed for a new name.

@@ -7,10 +7,10 @@ ghost use Rattle.nl_pseg.specs.Seen.{new_segment, seen, IsFormed, IsTied};
 ghost use Rattle.nl_pseg.specs.Steps.{IsUsed};
 
 use crate::held::{Held, no_marks, no_pages};
-use crate::old_names::OldNames;
-use crate::table::{mark, seal_full};
 use nl_blocks::{BlockState, Blocks};
 use nl_field::{Memory, PageBuf, Shape};
+use nl_old_names::OldNames;
+use nl_uses::{mark, seal_full};
 use std::alloc::Global;
 
 /// What a segment keeps.
@@ -43,14 +43,14 @@ impl State {
     {
         Ok(State {
             held: no_pages(alloc, shape.blocks * shape.pages)?,
-            blocks: Blocks::new(alloc, shape.vblocks, shape.pblocks, shape.pages)?,
             soiled: no_marks(alloc, shape.blocks)?,
+            buf: PageBuf::new(alloc)?,
+            blocks: Blocks::new(alloc, shape.vblocks, shape.pblocks, shape.pages)?,
+            names: OldNames::new(alloc, 4 * shape.pages, shape.pages, shape.blocks)?,
             active: shape.vblocks,
             target: shape.vblocks,
             victim: None,
             looked: 0,
-            names: OldNames::new(alloc, 4 * shape.pages, shape.pages, shape.blocks)?,
-            buf: PageBuf::new(alloc)?,
         })
     }
 

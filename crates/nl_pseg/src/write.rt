@@ -1,21 +1,20 @@
-ghost use Rattle.std.specs.Prelude.{◌≡◌, ◌⊎◌, ◌*◌, ◌/◌, ◌<◌, ◌↔◌, slice_set, None, Some, IsTrue};
+ghost use Rattle.std.specs.Prelude.{◌≡◌, ◌⊎◌, ◌<◌, ◌↔◌, slice_set, Some, IsTrue};
 ghost use Rattle.nl_field.specs.Live.{resolve};
-ghost use Rattle.nl_field.specs.Page.{written};
 ghost use Rattle.nl_field.specs.Spelling.{is_stamp};
+ghost use Rattle.nl_pseg.specs.Answers.{IfPlaced, IsTried};
+ghost use Rattle.nl_pseg.specs.Effects.{Counted};
 ghost use Rattle.nl_pseg.specs.Kept.{kept};
-ghost use Rattle.nl_pseg.specs.Answers.{IfPlaced, IsFault, IsPlaced, IsTried};
-ghost use Rattle.nl_pseg.specs.Effects.{Counted, Crashes, Programmed};
-ghost use Rattle.nl_pseg.specs.Pages.{page_with};
-ghost use Rattle.nl_pseg.specs.Segment.{IsClean, IsDead, IsLive, IsPhysicalOf, IsReady, IsSpent, IsUnspent, KeepsBlock, SamePages, room, wear_of};
 ghost use Rattle.nl_pseg.specs.Seen.{seen, Fits, IsFormed, IsTied};
-ghost use Rattle.nl_pseg.specs.Steps.{IsAlone, Placing, PlacingOn, WritesOver};
+ghost use Rattle.nl_pseg.specs.Segment.{IsLive, IsPhysicalOf, IsReady, room};
+ghost use Rattle.nl_pseg.specs.Steps.{Placing, WritesOver};
+ghost use Rattle.nl_pseg.specs.Writes.{ProgramsOn, WritesOn};
 
 use crate::held::Held;
-use crate::pages::program_page;
 use crate::state::State;
-use crate::table::next_page;
 use nl_field::{Named, PageBuf, Pointer, Tag};
 use nl_nand::{Nand, WriteAnswer};
+use nl_owned::program_page;
+use nl_uses::next_page;
 
 impl State {
     /// Programs the next page of the block that is written to.
@@ -30,10 +29,8 @@ impl State {
         ensures tied { IsTied (kept self.new) }
         ensures tried { IsTried result }
         ensures placing { Placing stamp (λ at. slice_set self.old.held.items at.name (Some (record { tag = tag; stamp = stamp }))) result (seen (kept self.old)) (seen (kept self.new)) }
-        ensures segment { M.tells → IsPhysicalOf (M.contents media.new) (seen (kept self.new)) }
         ensures next { IfPlaced result (λ at. at.name ≡ (seen (kept self.old)).next) }
-        ensures alone { M.tells → IfPlaced result (λ at. IsAlone at.name (written (page_with from.now.main tag stamp (wear_of (seen (kept self.old)) (at.name / self.old.blocks.size)))) (M.contents media.old) (M.contents media.new)) }
-        ensures crash { M.tells → Crashes M.clock M.contents M.left (seen (kept self.old)) tag stamp from.now.main media.old media.new result }
+        ensures medium { M.tells → ProgramsOn M.clock M.contents M.left tag stamp from.now.main result (seen (kept self.old)) (seen (kept self.new)) media.old media.new }
         ensures geometry { M.geometry media.new ≡ M.geometry media.old }
         ensures counts { Counted M.clock M.read_faults M.write_faults (IsReady (seen (kept self.old))) media.old media.new result }
     {
@@ -66,8 +63,7 @@ impl State {
         ensures tied { IsTied (kept self.new) }
         ensures tried { IsTried result }
         ensures placing { Placing stamp (λ at. slice_set self.old.held.items at.name (Some (record { tag = tag; stamp = stamp }))) result (seen (kept self.old)) (seen (kept self.new)) }
-        ensures segment { M.tells → IsPhysicalOf (M.contents media.new) (seen (kept self.new)) }
-        ensures medium { M.tells → PlacingOn M.clock M.contents M.left tag stamp from.now.main result (seen (kept self.old)) media.old media.new }
+        ensures medium { M.tells → WritesOn M.clock M.contents M.left tag stamp from.now.main result (seen (kept self.old)) (seen (kept self.new)) media.old media.new }
         ensures geometry { M.geometry media.new ≡ M.geometry media.old }
         ensures counts { Counted M.clock M.read_faults M.write_faults (IsReady (seen (kept self.old))) media.old media.new result }
     {
@@ -89,9 +85,7 @@ impl State {
         ensures full { result ≡ Named.NoPage ↔ room (seen (kept self.old)) ≡ 0 }
         ensures refused { result ≡ Named.NoPage → (seen (kept self.new) ≡ seen (kept self.old)) × (media.new ≡ media.old) }
         ensures placing { Placing stamp (λ at. slice_set self.old.held.items at.name (Some (record { tag = tag; stamp = stamp }))) result (seen (kept self.old)) (seen (kept self.new)) }
-        ensures segment { M.tells → IsPhysicalOf (M.contents media.new) (seen (kept self.new)) }
-        ensures programmed { M.tells → IfPlaced result (λ at. Programmed (seen (kept self.old)) at.name (written (page_with from.now.main tag stamp (wear_of (seen (kept self.old)) (at.name / self.old.blocks.size)))) (M.contents media.old) (M.contents media.new)) }
-        ensures crash { M.tells → Crashes M.clock M.contents M.left (seen (kept self.old)) tag stamp from.now.main media.old media.new result }
+        ensures medium { M.tells → WritesOn M.clock M.contents M.left tag stamp from.now.main result (seen (kept self.old)) (seen (kept self.new)) media.old media.new }
         ensures geometry { M.geometry media.new ≡ M.geometry media.old }
         ensures counts { Counted M.clock M.read_faults M.write_faults (IsReady (seen (kept self.old))) media.old media.new result }
     {
@@ -120,9 +114,7 @@ impl State {
         ensures full { result ≡ Named.NoPage ↔ (IsLive (seen (kept self.old)) old × (room (seen (kept self.old)) ≡ 0)) }
         ensures refused { (result ≡ Named.NotLive) ⊎ (result ≡ Named.NoPage) → (seen (kept self.new) ≡ seen (kept self.old)) × (media.new ≡ media.old) }
         ensures over { WritesOver (resolve (seen (kept self.old)).pairs old.name) stamp (λ at. slice_set self.old.held.items at.name (Some (record { tag = tag; stamp = stamp }))) result (seen (kept self.old)) (seen (kept self.new)) }
-        ensures segment { M.tells → IsPhysicalOf (M.contents media.new) (seen (kept self.new)) }
-        ensures programmed { M.tells → IfPlaced result (λ at. Programmed (seen (kept self.old)) at.name (written (page_with from.now.main tag stamp (wear_of (seen (kept self.old)) (at.name / self.old.blocks.size)))) (M.contents media.old) (M.contents media.new)) }
-        ensures crash { M.tells → Crashes M.clock M.contents M.left (seen (kept self.old)) tag stamp from.now.main media.old media.new result }
+        ensures medium { M.tells → WritesOn M.clock M.contents M.left tag stamp from.now.main result (seen (kept self.old)) (seen (kept self.new)) media.old media.new }
         ensures geometry { M.geometry media.new ≡ M.geometry media.old }
         ensures counts { Counted M.clock M.read_faults M.write_faults (IsReady (seen (kept self.old))) media.old media.new result }
     {

@@ -1,14 +1,17 @@
-use Rattle.std.proofs.Common.{◌≡◌, ◌↔◌, get_or, None, sym, ◌∙◌, ap, subst, IsTrue}
+use Rattle.nl_pseg.specs.declared.held.Held.{Held}
+use Rattle.std.specs.Bool.{OnTrue, OnFalse}
+use Rattle.std.specs.Global.{Global}
+use Rattle.std.proofs.Common.{◌≡◌, ◌↔◌, get_or, None, sym, ◌∙◌, ap, subst, IsTrue, ◌+◌, Option, Vec}
 use Rattle.std.proofs.lemmas.Bool.{OnTrue_at, OnTrue_from}
 use Rattle.nl_field.specs.Page.{Image}
 use Rattle.nl_remap.specs.Table.{told}
 use Rattle.nl_pseg.specs.Cleaning.{without_name}
-use Rattle.nl_pseg.specs.Segment.{HasSpare, IsClean, IsOldName, IsPhysicalOf, KeepsBlock, Physical}
+use Rattle.nl_pseg.specs.Segment.{HasSpare, IsClean, IsOldName, IsPhysicalOf, KeepsBlock, Physical, SamePages}
 use Rattle.nl_pseg.specs.Seen.{seen}
 use Rattle.nl_pseg.specs.Space.{GivesBack, Lessens, reach}
 use Rattle.nl_pseg.proofs.After.{dropped_back, dropped_few, dropped_reach, dropped_space}
 use Rattle.nl_pseg.proofs.Dropping.{dropped_told}
-use Rattle.nl_pseg.proofs.Ended.{gone_clean, gone_kept, gone_segment, gone_spare}
+use Rattle.nl_pseg.proofs.Ended.{gone_clean, gone_kept, gone_segment, gone_spare, gone_pages}
 use Rattle.nl_pseg.proofs.Gone.{old_told, told_old}
 use Rattle.nl_pseg.specs.Kept.{kept}
 use Rattle.nl_pseg.proofs.pseg.PSeg.drop_name.Goals as goal
@@ -75,3 +78,30 @@ returns-clause-kept_block c = subst (λ (o : Physical). KeepsBlock o → KeepsBl
 
 pub returns-clause-clean : goal.returns-clause-clean
 returns-clause-clean c = subst (λ (o : Physical). IsClean o → IsClean (seen (kept c.drop_name-dropped.new.self))) c.self.view_is (gone_clean c.drop_name-dropped.ensures.gone)
+
+pub drop_name-dropped-requires-clause-formed : goal.drop_name-dropped-requires-clause-formed
+drop_name-dropped-requires-clause-formed c = c.self.invariant.0
+
+pub drop_name-dropped-requires-clause-tied : goal.drop_name-dropped-requires-clause-tied
+drop_name-dropped-requires-clause-tied c = c.self.invariant.1
+
+pub whole-requires-clause-formed : goal.whole-requires-clause-formed
+whole-requires-clause-formed c = c.drop_name-dropped.ensures.formed
+
+pub whole-requires-clause-tied : goal.whole-requires-clause-tied
+whole-requires-clause-tied c = c.drop_name-dropped.ensures.tied
+
+pub returns-clause-whole : goal.returns-clause-whole
+returns-clause-whole c = c.whole.ensures.whole
+
+pub returns-clause-room : goal.returns-clause-room
+returns-clause-room c = subst (λ (s : Physical). OnTrue c.drop_name-dropped.result ((seen (kept c.drop_name-dropped.new.self)).pair_room ≡ s.pair_room + 1)) c.self.view_is c.drop_name-dropped.ensures.room
+
+pub returns-clause-kept : goal.returns-clause-kept
+returns-clause-kept c = subst (λ (s : Physical). OnFalse c.drop_name-dropped.result ((seen (kept c.drop_name-dropped.new.self)) ≡ s)) c.self.view_is c.drop_name-dropped.ensures.kept
+
+pub returns-clause-live : goal.returns-clause-live
+returns-clause-live c = subst (λ (s : Physical). (seen (kept c.drop_name-dropped.new.self)).held ≡ s.held) c.self.view_is (ap (λ (v : Vec (Option Held) Global). v.items) c.drop_name-dropped.ensures.held)
+
+pub returns-clause-pages : goal.returns-clause-pages
+returns-clause-pages c = subst (λ (s : Physical). SamePages s (seen (kept c.drop_name-dropped.new.self))) c.self.view_is (gone_pages c.drop_name-dropped.ensures.gone)

@@ -1,51 +1,57 @@
-use Rattle.std.proofs.Common.{◌≡◌, inl, inr, ⊎_elim, ℕ, ◌<◌, ◌≤◌, ◌/◌, List, Option, Some, None, get_or, sym, ◌∙◌, ap, subst}
-use Rattle.nl_pseg.specs.Segment.{HasSpare, IsNextCopy, KeepsBlock, Physical, TakenAsErased, is_waiting}
-use Rattle.nl_pseg.specs.Seen.{seen}
-use Rattle.nl_pseg.specs.declared.held.Held.{Held}
-use Rattle.nl_pseg.proofs.Ended.{few_none}
-use Rattle.nl_pseg.proofs.Waits.{wait_by}
+use Rattle.std.proofs.Common.{◌∙◌, ◌<◌, ◌≤◌, ap, subst, sym}
+use Rattle.nl_field.specs.Page.{Image}
 use Rattle.nl_pseg.specs.Kept.{kept}
+use Rattle.nl_pseg.specs.Opened.{Soils}
+use Rattle.nl_pseg.specs.Seen.{seen}
+use Rattle.nl_pseg.specs.Segment.{HasSpare, KeepsBlock, Physical}
+use Rattle.nl_pseg.proofs.Ended.{few_none}
+use Rattle.nl_pseg.proofs.Soiled.{soils_kept, soils_spare}
 use Rattle.nl_pseg.proofs.pseg.PSeg.soiled.Goals as goal
 
+pub soil-requires-clause-formed : goal.soil-requires-clause-formed
+soil-requires-clause-formed c =
+    c.self.invariant.0
+
+pub soil-requires-clause-tied : goal.soil-requires-clause-tied
+soil-requires-clause-tied c =
+    c.self.invariant.1
+
+pub soil-requires-clause-none : goal.soil-requires-clause-none
+soil-requires-clause-none c =
+    ap (λ (o : Physical). o.victim) c.self.view_is ∙ c.requires.none
+
+pub soil-requires-clause-within : goal.soil-requires-clause-within
+soil-requires-clause-within c =
+    record { from = subst (λ (s : Physical). s.first ≤ c.args.block) (sym c.self.view_is) c.requires.from; below = subst (λ (s : Physical). c.args.block < s.blocks) (sym c.self.view_is) c.requires.below }
+
+pub whole-requires-clause-formed : goal.whole-requires-clause-formed
+whole-requires-clause-formed c =
+    c.soil.ensures.formed
+
+pub whole-requires-clause-tied : goal.whole-requires-clause-tied
+whole-requires-clause-tied c =
+    c.soil.ensures.tied
+
 pub whole-requires-clause-few : goal.whole-requires-clause-few
-whole-requires-clause-few c = few_none (seen (kept c.soil.new.self)) (c.soil.ensures.victim ∙ (ap (λ (o : Physical). o.victim) c.self.view_is ∙ c.requires.none))
+whole-requires-clause-few c =
+    few_none (seen (kept c.soil.new.self)) (c.soil.ensures.soils.victim ∙ (ap (λ (o : Physical). o.victim) c.self.view_is ∙ c.requires.none))
+
+pub returns-clause-whole : goal.returns-clause-whole
+returns-clause-whole c =
+    c.whole.ensures.whole
+
+pub returns-clause-soils : goal.returns-clause-soils
+returns-clause-soils c =
+    subst (λ (s : Physical). Soils c.args.block c.args.wear s (seen (kept c.soil.new.self))) c.self.view_is c.soil.ensures.soils
+
+pub returns-clause-victim : goal.returns-clause-victim
+returns-clause-victim c =
+    c.soil.ensures.soils.victim ∙ (ap (λ (o : Physical). o.victim) c.self.view_is ∙ c.requires.none)
 
 pub returns-clause-kept : goal.returns-clause-kept
 returns-clause-kept c =
-    let e = c.soil.ensures in
-    subst (λ (s : Physical). KeepsBlock s → KeepsBlock (seen (kept c.soil.new.self))) c.self.view_is (λ k. record {
-      block = k.block;
-      from = subst (λ n. n ≤ k.block) (sym e.first) k.from;
-      below = subst (λ n. k.block < n) (sym e.blocks) k.below;
-      kept = ⊎_elim (λ is. inl ((e.same k.block).1 ∙ is)) (λ is. inr (e.victim ∙ is)) k.kept;
-    })
-
-pub returns-clause-waits : goal.returns-clause-waits
-returns-clause-waits c other =
-    let e = c.soil.ensures in
-    subst (λ (s : Physical). is_waiting (seen (kept c.soil.new.self)) other ≡ is_waiting s other) c.self.view_is (wait_by (seen (kept c.self.inside.state)) (seen (kept c.soil.new.self)) other (e.same other).0 (e.same other).1)
+    subst (λ (s : Physical). KeepsBlock s → KeepsBlock (seen (kept c.soil.new.self))) c.self.view_is (soils_kept c.soil.ensures.soils)
 
 pub returns-clause-spare : goal.returns-clause-spare
-returns-clause-spare c image =
-    let s = kept c.self.inside.state in
-    let e = c.soil.ensures in
-    let size = e.pages in
-    subst (λ (o : Physical). HasSpare image o → HasSpare image (seen (kept c.soil.new.self))) c.self.view_is (λ k. record {
-      block = k.block;
-      from = subst (λ n. n ≤ k.block) (sym e.first) k.from;
-      below = subst (λ n. k.block < n) (sym e.blocks) k.below;
-      idle = λ p next at. k.idle p (e.next p next) (ap (λ n. p / n) (sym size) ∙ at);
-      copied = λ p h held at.
-          let w = k.copied p h (ap (λ (l : List (Option Held)). get_or l p None) (sym e.held) ∙ held) (ap (λ n. p / n) (sym size) ∙ at) in
-          (w.0, e.victim ∙ (w.1 ∙ ap (λ n. Some (w.0 / n)) (sym size)), (λ q. w.2 (ap (λ n. w.0 / n) (sym size) ∙ q)), w.3);
-    })
-
-pub returns-clause-erased : goal.returns-clause-erased
-returns-clause-erased c p taken =
-    subst (λ (o : Physical). TakenAsErased o p × (p / o.size ≡ c.args.block → ⊥)) c.self.view_is (c.soil.ensures.erased p taken)
-
-pub returns-clause-copies : goal.returns-clause-copies
-returns-clause-copies c p next = subst (λ (o : Physical). IsNextCopy o p × (p / o.size ≡ c.args.block → ⊥)) c.self.view_is (c.soil.ensures.copies p next)
-
-pub returns-clause-still : goal.returns-clause-still
-returns-clause-still c = subst (λ (s : Physical). (p : ℕ) → TakenAsErased s p → (p / s.size ≡ c.args.block → ⊥) → TakenAsErased (seen (kept c.soil.new.self)) p) c.self.view_is c.soil.ensures.still
+returns-clause-spare c =
+    subst (λ (s : Physical). (image : Image) → HasSpare image s → HasSpare image (seen (kept c.soil.new.self))) c.self.view_is (soils_spare c.soil.ensures.soils)

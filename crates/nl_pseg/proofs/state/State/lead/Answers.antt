@@ -1,3 +1,6 @@
+use Rattle.nl_pseg.proofs.States.{within_length}
+use Rattle.nl_pseg.proofs.Left.{there_is}
+use Rattle.nl_pseg.specs.Segment.{held_at}
 use Rattle.std.specs.Vec.{with_item}
 use Rattle.nl_pseg.proofs.Lives.{live_counted, live_filled, live_used}
 use Rattle.nl_pseg.specs.Steps.{IsLed}
@@ -43,3 +46,19 @@ mark-requires-clause-used c = let less = live_used c.args.self.now c.requires.fo
 
 pub mark-requires-clause-filled : goal.mark-requires-clause-filled
 mark-requires-clause-filled c = let less = live_filled c.args.self.now c.requires.formed c.requires.tied c.args.before c.requires.live in omega (arith, less)
+
+pub add-requires-clause-room : goal.add-requires-clause-room
+add-requires-clause-room c = c.requires.room
+
+pub add-requires-clause-other : goal.add-requires-clause-other
+add-requires-clause-other c = c.requires.apart
+
+pub returns-clause-table : goal.returns-clause-table
+returns-clause-table c = c.count-2.ensures.table
+
+pub index_mut-requires : goal.index_mut-requires
+index_mut-requires c =
+    let s = kept c.args.self.now in
+    let live = there_is (held_at (seen s) c.args.before) c.requires.live in
+    let within = within_length s c.requires.formed c.args.before (c.requires.formed.places.each c.args.before live.0 live.1).within in
+    omega (arith, within, c.args.self.now.held.ok.0)

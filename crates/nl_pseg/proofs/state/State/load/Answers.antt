@@ -1,14 +1,16 @@
-use Rattle.std.proofs.Common.{◌≡◌, inl, inr, ⊎_elim, ◌+◌, ◌*◌, ◌/◌, ◌<◌, false, List, Option, Some, None, length, set, get_or, refl, sym, ◌∙◌, ap, subst, arith}
+use Rattle.nl_pseg.proofs.Small.{fewer_with}
+use Rattle.std.proofs.Common.{◌≡◌, inl, inr, ⊎_elim, ◌+◌, ◌*◌, ◌/◌, ◌<◌, false, List, Option, Some, None, length, set, get_or, refl, sym, ◌∙◌, ap, subst, arith, cond}
 use Rattle.std.specs.Vec.{with_item}
 use Rattle.std.proofs.lemmas.List.{get_or-set_other}
 use Rattle.std.proofs.lemmas.Option.{none-some}
 use Rattle.std.proofs.lemmas.Bool.{cases_eq, true≢false}
-use Rattle.nl_blocks.specs.Table.{block_at}
+use Rattle.nl_blocks.specs.Table.{block_at, free_count}
 use Rattle.nl_blocks.specs.Used.{is_active_state, is_target_state}
 use Rattle.nl_remap.specs.Table.{IsOld}
-use Rattle.nl_pseg.specs.Segment.{Use, InSegment, held_at, is_kept}
-use Rattle.nl_pseg.specs.Seen.{IsPlace, seen, use_in}
-use Rattle.nl_pseg.specs.Steps.{IsIdle, SameNumbers}
+use Rattle.nl_pseg.specs.Segment.{InSegment, held_at, is_kept}
+use Rattle.nl_pseg.specs.Seen.{IsPlace, seen}
+use Rattle.nl_pseg.specs.Steps.{IsIdle}
+use Rattle.nl_uses.specs.Uses.{Use, use_in, SameNumbers}
 use Rattle.nl_pseg.specs.declared.held.Held.{Held}
 use Rattle.nl_pseg.specs.Kept.{Kept, kept}
 use Rattle.nl_pseg.proofs.Forms.{formed_page, formed_restated, use_places, next_is, left_is}
@@ -18,7 +20,7 @@ use Rattle.nl_pseg.proofs.Gone.{old_told}
 use Rattle.nl_pseg.proofs.Segments.{IsApart, apart_still, apart_taken, held_places, set_held}
 use Rattle.nl_pseg.proofs.Served.{idle_copy, idle_next, sealed_set, served_tied}
 use Rattle.nl_pseg.proofs.States.{next_block}
-use Rattle.nl_pseg.proofs.Tables.{numbers_then}
+use Rattle.nl_uses.proofs.Tables.{numbers_then}
 use Rattle.nl_pseg.proofs.state.State.load.Goals as goal
 
 pub returns-clause-formed : goal.returns-clause-formed
@@ -74,65 +76,6 @@ mark-requires-clause-filled c =
     let less = shut_used is_target_state c.shut.new.blocks c.args.page (subst (λ k. 0 < k) (sym n.same_size) c.requires.formed.some) (ap (λ b. is_target_state (block_at c.shut.new.blocks b).state) at ∙ ap is_target_state c.shut.ensures.state) in
     omega (arith, less)
 
-pub returns-clause-left : goal.returns-clause-left
-returns-clause-left c =
-    let e = marked_closing c.args.self.now c.requires.formed c.requires.tied (c.args.page / c.pages.result) c.args.page _ c.shut.new.blocks c.mark.new.blocks c.shut.ensures.restated c.shut.ensures.state
-    (ap (λ k. c.args.page / k) (c.shut.ensures.restated.numbers.same_size ∙ sym c.pages.ensures)) c.mark.ensures.same c.mark.ensures.states c.mark.ensures.uses c.mark.ensures.fills in
-    let n = numbers_then c.shut.ensures.restated.numbers c.mark.ensures.same.numbers in
-    let size = n.same_size in
-    let less = e.left in
-    omega (arith, size, less)
-
-pub returns-clause-wears : goal.returns-clause-wears
-returns-clause-wears c b =
-    let block = c.args.page / c.pages.result in
-    ap (λ (u : Use). u.wear) (c.mark.ensures.same.uses b) ∙ (⊎_elim
-    (λ at. ap (λ n. (use_in c.shut.new.blocks n).wear) at ∙ (ap (λ (u : Use). u.wear) c.shut.ensures.restated.here ∙ ap (λ n. (use_in c.args.self.now.blocks n).wear) (sym at)))
-    (λ ne. ap (λ (u : Use). u.wear) (c.shut.ensures.restated.others b ne))
-    (cases_eq b block))
-
-pub returns-clause-erased : goal.returns-clause-erased
-returns-clause-erased c p taken =
-    let s = closed_by c.args.self.now c.mark.new.blocks in
-    let e = marked_closing c.args.self.now c.requires.formed c.requires.tied (c.args.page / c.pages.result) c.args.page _ c.shut.new.blocks c.mark.new.blocks c.shut.ensures.restated c.shut.ensures.state
-    (ap (λ k. c.args.page / k) (c.shut.ensures.restated.numbers.same_size ∙ sym c.pages.ensures)) c.mark.ensures.same c.mark.ensures.states c.mark.ensures.uses c.mark.ensures.fills in
-    let is = e.formed in
-    let block = c.args.page / c.pages.result in
-    let t = c.mark.new.blocks in
-    let n = numbers_then c.shut.ensures.restated.numbers c.mark.ensures.same.numbers in
-    let apart : IsApart block (seen s) (record (seen (record s { blocks = t })) { held = set s.held.items c.args.page (Some (record { tag = c.args.tag; stamp = c.args.stamp })) }) = record {
-      range = record { range_first = n.same_first; range_blocks = λ i. n.same_first i + n.same_count i; range_size = n.same_size };
-      next = next_is s is t n;
-      left = left_is s is t n;
-      idle = λ q next at. let room : s.used < s.blocks.size = omega (arith, next.0, next.1) in e.idle room (sym at ∙ next_block s is room q next);
-      others_kept = λ b ne. ap (λ (u : Use). u.is_kept) (c.mark.ensures.same.uses b ∙ c.shut.ensures.restated.others b ne);
-      others_soiled = λ b ne. refl;
-      gone = λ free clean. true≢false (sym free ∙ ap (λ (u : Use). u.is_kept) (c.mark.ensures.same.uses block ∙ c.shut.ensures.restated.here));
-    } in
-    let out = apart_taken apart p taken in
-    (e.erased p out.0, λ at. out.1 (at ∙ ap (λ k. c.args.page / k) (sym c.pages.ensures)))
-
-pub returns-clause-still : goal.returns-clause-still
-returns-clause-still c p taken ne =
-    let s = closed_by c.args.self.now c.mark.new.blocks in
-    let e = marked_closing c.args.self.now c.requires.formed c.requires.tied (c.args.page / c.pages.result) c.args.page _ c.shut.new.blocks c.mark.new.blocks c.shut.ensures.restated c.shut.ensures.state
-    (ap (λ k. c.args.page / k) (c.shut.ensures.restated.numbers.same_size ∙ sym c.pages.ensures)) c.mark.ensures.same c.mark.ensures.states c.mark.ensures.uses c.mark.ensures.fills in
-    let is = e.formed in
-    let block = c.args.page / c.pages.result in
-    let t = c.mark.new.blocks in
-    let n = numbers_then c.shut.ensures.restated.numbers c.mark.ensures.same.numbers in
-    let apart : IsApart block (seen s) (record (seen (record s { blocks = t })) { held = set s.held.items c.args.page (Some (record { tag = c.args.tag; stamp = c.args.stamp })) }) = record {
-      range = record { range_first = n.same_first; range_blocks = λ i. n.same_first i + n.same_count i; range_size = n.same_size };
-      next = next_is s is t n;
-      left = left_is s is t n;
-      idle = λ q next at. let room : s.used < s.blocks.size = omega (arith, next.0, next.1) in e.idle room (sym at ∙ next_block s is room q next);
-      others_kept = λ b ne. ap (λ (u : Use). u.is_kept) (c.mark.ensures.same.uses b ∙ c.shut.ensures.restated.others b ne);
-      others_soiled = λ b ne. refl;
-      gone = λ free clean. true≢false (sym free ∙ ap (λ (u : Use). u.is_kept) (c.mark.ensures.same.uses block ∙ c.shut.ensures.restated.here));
-    } in
-    let away : p / s.blocks.size ≡ block → ⊥ = (λ at. ne (at ∙ ap (λ k. c.args.page / k) c.pages.ensures)) in
-    apart_still apart p (e.still p taken away) away
-
 pub returns-clause-tied : goal.returns-clause-tied
 returns-clause-tied c =
     let s = kept c.args.self.now in
@@ -166,28 +109,51 @@ returns-clause-tied c =
     (set_held s.held.items c.args.page (Some h) below p g (ap (λ (l : List (Option Held)). get_or l p None) (sym held) ∙ live)))
     (λ p g live. (g, ap (λ (l : List (Option Held)). get_or l p None) held ∙ (get_or-set_other s.held.items c.args.page p (Some h) None (λ q. none-some g (sym dead ∙ (ap (held_at (seen s)) (sym q) ∙ live))) ∙ live)))
 
-pub returns-clause-next : goal.returns-clause-next
-returns-clause-next c p next =
-    let s = kept c.args.self.now in
-    let m = closed_by c.args.self.now c.mark.new.blocks in
-    let e = marked_closing c.args.self.now c.requires.formed c.requires.tied (c.args.page / c.pages.result) c.args.page _ c.shut.new.blocks c.mark.new.blocks c.shut.ensures.restated c.shut.ensures.state
-    (ap (λ k. c.args.page / k) (c.shut.ensures.restated.numbers.same_size ∙ sym c.pages.ensures)) c.mark.ensures.same c.mark.ensures.states c.mark.ensures.uses c.mark.ensures.fills in
-    let t = c.mark.new.blocks in
-    let block = c.args.page / c.pages.result in
-    let h : Held = record { tag = c.args.tag; stamp = c.args.stamp } in
-    let x : Kept = record m { held = with_item m.held c.args.page (Some h); blocks = t } in
-    let n : SameNumbers s.blocks t = numbers_then c.shut.ensures.restated.numbers c.mark.ensures.same.numbers in
-    (idle_next s x block (record { active = refl; target = refl; used = e.shut.used; filled = e.shut.filled }) n p next).0
+pub returns-clause-names : goal.returns-clause-names
+returns-clause-names c = refl
 
-pub returns-clause-copies : goal.returns-clause-copies
-returns-clause-copies c p next =
+pub returns-clause-loads : goal.returns-clause-loads
+returns-clause-loads c =
     let s = kept c.args.self.now in
     let m = closed_by c.args.self.now c.mark.new.blocks in
     let e = marked_closing c.args.self.now c.requires.formed c.requires.tied (c.args.page / c.pages.result) c.args.page _ c.shut.new.blocks c.mark.new.blocks c.shut.ensures.restated c.shut.ensures.state
     (ap (λ k. c.args.page / k) (c.shut.ensures.restated.numbers.same_size ∙ sym c.pages.ensures)) c.mark.ensures.same c.mark.ensures.states c.mark.ensures.uses c.mark.ensures.fills in
+    let r = c.shut.ensures.restated in
+    let same = c.mark.ensures.same in
     let t = c.mark.new.blocks in
+    let was = c.args.self.now.blocks in
     let block = c.args.page / c.pages.result in
     let h : Held = record { tag = c.args.tag; stamp = c.args.stamp } in
     let x : Kept = record m { held = with_item m.held c.args.page (Some h); blocks = t } in
-    let n : SameNumbers s.blocks t = numbers_then c.shut.ensures.restated.numbers c.mark.ensures.same.numbers in
-    (idle_copy s x block (record { active = refl; target = refl; used = e.shut.used; filled = e.shut.filled }) n p next).0
+    let n : SameNumbers s.blocks t = numbers_then r.numbers same.numbers in
+    let i : IsIdle block s x = record { active = refl; target = refl; used = e.shut.used; filled = e.shut.filled } in
+    let apart : IsApart block (seen m) (seen x) = record {
+      range = record { range_first = n.same_first; range_blocks = λ k. n.same_first k + n.same_count k; range_size = n.same_size };
+      next = next_is m e.formed t n;
+      left = left_is m e.formed t n;
+      idle = λ q next at. let room : m.used < m.blocks.size = omega (arith, next.0, next.1) in e.idle room (sym at ∙ next_block m e.formed room q next);
+      others_kept = λ b ne. ap (λ (u : Use). u.is_kept) (same.uses b ∙ r.others b ne);
+      others_soiled = λ b ne. refl;
+      gone = λ free clean. true≢false (sym free ∙ ap (λ (u : Use). u.is_kept) (same.uses block ∙ r.here));
+    } in
+    record {
+      range = record { range_first = n.same_first; range_blocks = λ k. n.same_first k + n.same_count k; range_size = n.same_size };
+      held = refl;
+      victim = refl;
+      here = ap (λ k. (use_in t (c.args.page / k)).is_free) (sym c.pages.ensures) ∙ ap (λ (u : Use). u.is_free) (same.uses block ∙ r.here);
+      free =
+          let fewer : free_count c.shut.new.blocks + cond (use_in was block).is_free 1 0 ≡ free_count was + 0 = r.total in
+          let at : cond (use_in was (c.args.page / was.size)).is_free 1 0 ≡ cond (use_in was block).is_free 1 0 = ap (λ k. cond (use_in was (c.args.page / k)).is_free 1 0) (sym c.pages.ensures) in
+          fewer_with {was = cond (use_in was (c.args.page / was.size)).is_free 1 0} same.total fewer at;
+      others = λ b ne. let u = same.uses b ∙ r.others b (λ at. ne (at ∙ ap (λ k. c.args.page / k) c.pages.ensures)) in (ap (λ (w : Use). w.is_free) u, ap (λ (w : Use). w.is_kept) u);
+      left = let size = n.same_size in let less = e.left in omega (arith, size, less);
+      same_soiled = refl;
+      wears = λ b. ap (λ (u : Use). u.wear) (same.uses b) ∙ (⊎_elim
+          (λ at. ap (λ k. (use_in c.shut.new.blocks k).wear) at ∙ (ap (λ (u : Use). u.wear) r.here ∙ ap (λ k. (use_in was k).wear) (sym at)))
+          (λ ne. ap (λ (u : Use). u.wear) (r.others b ne))
+          (cases_eq b block));
+      next = λ p next. (idle_next s x block i n p next).0;
+      copies = λ p next. (idle_copy s x block i n p next).0;
+      erased = λ p taken. let out = apart_taken apart p taken in (e.erased p out.0, λ at. out.1 (at ∙ ap (λ k. c.args.page / k) (sym c.pages.ensures)));
+      still = λ p taken ne. let away : p / s.blocks.size ≡ block → ⊥ = (λ at. ne (at ∙ ap (λ k. c.args.page / k) c.pages.ensures)) in apart_still apart p (e.still p taken away) away;
+    }

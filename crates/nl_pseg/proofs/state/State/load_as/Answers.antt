@@ -4,7 +4,7 @@ use Rattle.std.proofs.lemmas.Bool.{cases_eq}
 use Rattle.std.proofs.lemmas.List.{get_or-set_other, get_or-set_same}
 use Rattle.nl_remap.specs.Table.{IsOld, told}
 use Rattle.nl_remap.proofs.Ways.{led_not}
-use Rattle.nl_pseg.specs.OldNames.{NameTable}
+use Rattle.nl_old_names.specs.OldNames.{NameTable}
 use Rattle.nl_pseg.specs.Segment.{IsOldName, TakenAsErased, is_free, is_kept, is_soiled, names_another_free}
 use Rattle.nl_pseg.specs.Seen.{seen}
 use Rattle.nl_pseg.specs.declared.held.Held.{Held}
@@ -30,30 +30,30 @@ pub lead_from-requires-clause-dead : goal.lead_from-requires-clause-dead
 lead_from-requires-clause-dead c =
     let s = kept c.args.self.now in
     let h : Held = record { tag = c.args.tag; stamp = c.args.at.stamp } in
-    ap (λ (l : List (Option Held)). get_or l c.args.at.name None) c.load.ensures.held
+    ap (λ (l : List (Option Held)). get_or l c.args.at.name None) c.load.ensures.loads.held
     ∙ (get_or-set_other s.held.items c.args.page c.args.at.name (Some h) None c.if-at-page.false ∙ (c.requires.away c.if-at-page.false).dead)
 
 pub lead_from-requires-clause-there : goal.lead_from-requires-clause-there
 lead_from-requires-clause-there c =
     let s = kept c.args.self.now in
     let h : Held = record { tag = c.args.tag; stamp = c.args.at.stamp } in
-    ap is_some (ap (λ (l : List (Option Held)). get_or l c.args.page None) c.load.ensures.held ∙ get_or-set_same s.held.items c.args.page (Some h) None (within_length s c.requires.formed c.args.page c.requires.dead.within))
+    ap is_some (ap (λ (l : List (Option Held)). get_or l c.args.page None) c.load.ensures.loads.held ∙ get_or-set_same s.held.items c.args.page (Some h) None (within_length s c.requires.formed c.args.page c.requires.dead.within))
 
 pub returns-then-at-page-clause-loads : goal.returns-then-at-page-clause-loads
 returns-then-at-page-clause-loads c =
     let s = kept c.args.self.now in
     let x = kept c.load.new.self in
-    let e = c.load.ensures in
+    let e = c.load.ensures.loads in
     let same = c.if-at-page.true in
-    let pairs : (seen x).pairs ≡ (seen s).pairs = ap (λ (t : NameTable). told t.pairs) e.names in
+    let pairs : (seen x).pairs ≡ (seen s).pairs = ap (λ (t : NameTable). told t.pairs) c.load.ensures.names in
     record {
       held = e.held;
-      leads = ap (λ (t : NameTable). resolve (told t.pairs) c.args.at.name) e.names ∙ (led_not s.names.pairs c.args.at.name (λ old. c.requires.dead.own (subst (IsOldName (seen s)) same (old_told s.names.pairs c.args.at.name old))) ∙ same);
-      ways = λ n ne. ap (λ (t : NameTable). resolve (told t.pairs) n) e.names;
+      leads = ap (λ (t : NameTable). resolve (told t.pairs) c.args.at.name) c.load.ensures.names ∙ (led_not s.names.pairs c.args.at.name (λ old. c.requires.dead.own (subst (IsOldName (seen s)) same (old_told s.names.pairs c.args.at.name old))) ∙ same);
+      ways = λ n ne. ap (λ (t : NameTable). resolve (told t.pairs) n) c.load.ensures.names;
       pairs = λ q. pairs;
       olds = λ n old. inr (subst (λ (ps : List (ℕ × ℕ)). (target : ℕ) × Contains ps (n, target)) pairs old);
       more = λ ne. absurd (ne same);
-      range = record { range_first = e.first; range_blocks = e.blocks; range_size = e.pages };
+      range = e.range;
       victim = e.victim;
       here = e.here;
       name_here = λ ne. absurd (ne same);
@@ -63,7 +63,7 @@ returns-then-at-page-clause-loads c =
           omega (arith, f, none);
       left = e.left;
       others = λ b ne. ((e.others b ne).1, (λ n. (e.others b ne).0));
-      same_soiled = λ b. ap (λ (l : List (Option ℕ)). get_or l b None) e.soiled;
+      same_soiled = λ b. ap (λ (l : List (Option ℕ)). get_or l b None) e.same_soiled;
       wears = e.wears;
       erased = e.erased;
       still = λ p taken ne next. e.still p taken ne;
@@ -75,26 +75,26 @@ returns-clause-loads c =
     let s = kept c.args.self.now in
     let m = kept c.load.new.self in
     let x = kept c.lead_from.new.self in
-    let e = c.load.ensures in
+    let e = c.load.ensures.loads in
     let l = c.lead_from.ensures.led in
     let ne = c.if-at-page.false in
     let name = c.args.at.name in
     let page = c.args.page in
-    let size : m.blocks.size ≡ s.blocks.size = e.pages in
-    let pairs : (seen m).pairs ≡ (seen s).pairs = ap (λ (t : NameTable). told t.pairs) e.names in
+    let size : m.blocks.size ≡ s.blocks.size = e.range.range_size in
+    let pairs : (seen m).pairs ≡ (seen s).pairs = ap (λ (t : NameTable). told t.pairs) c.load.ensures.names in
     let nb : name / m.blocks.size ≡ name / s.blocks.size = ap (λ k. name / k) size in
     let name_free : is_free (seen x) (name / s.blocks.size) ≡ false = ap (is_free (seen x)) (sym nb) ∙ l.here in
     record {
       held = l.held ∙ e.held;
       leads = l.leads;
-      ways = λ n other. l.ways n other ∙ ap (λ (t : NameTable). resolve (told t.pairs) n) e.names;
+      ways = λ n other. l.ways n other ∙ ap (λ (t : NameTable). resolve (told t.pairs) n) c.load.ensures.names;
       pairs = λ q. absurd (ne q);
       olds = λ n old. ⊎_elim (λ q. inl q) (λ w. inr (subst (λ (ps : List (ℕ × ℕ)). (target : ℕ) × Contains ps (n, target)) pairs w)) (l.olds n old);
       more = λ q.
           let n = ap (λ (ps : List (ℕ × ℕ)). length ps) pairs in
-          let r = ap (λ (t : NameTable). t.room) e.names in
+          let r = ap (λ (t : NameTable). t.room) c.load.ensures.names in
           (let a = l.more.0 in omega (arith, a, n), let b = l.more.1 in omega (arith, b, r));
-      range = record { range_first = l.range.range_first ∙ e.first; range_blocks = l.range.range_blocks ∙ e.blocks; range_size = l.range.range_size ∙ e.pages };
+      range = record { range_first = l.range.range_first ∙ e.range.range_first; range_blocks = l.range.range_blocks ∙ e.range.range_blocks; range_size = l.range.range_size ∙ e.range.range_size };
       victim = l.victim ∙ e.victim;
       here = ⊎_elim
           (λ q. ap (is_free (seen x)) q ∙ name_free)
@@ -113,7 +113,7 @@ returns-clause-loads c =
           omega (arith, f, g, at, same);
       left = let a = l.left in let b = e.left in omega (arith, a, b);
       others = λ b other. (l.kept b ∙ (e.others b other).1, (λ away. l.frees b (λ q. away (q ∙ nb)) ∙ (e.others b other).0));
-      same_soiled = λ b. ap (λ (k : List (Option ℕ)). get_or k b None) (l.soiled ∙ e.soiled);
+      same_soiled = λ b. ap (λ (k : List (Option ℕ)). get_or k b None) (l.soiled ∙ e.same_soiled);
       wears = λ b. l.wears b ∙ e.wears b;
       erased = λ p taken. e.erased p (back p taken);
       still = λ p taken other away. ⊎_elim

@@ -1,10 +1,12 @@
-use Rattle.std.proofs.Common.{◌≡◌, ⊎_elim, ◌+◌, ◌*◌, Some, None, length, get_or, refl, sym, ◌∙◌, ap, subst, arith, IsTrue}
+use Rattle.nl_pseg.proofs.Apart.{read_done_fault, read_fault_done, read_not_live_done, read_not_live_fault, read_lost_done, read_lost_fault}
+use Rattle.nl_pseg.proofs.Medium.{done_unfailed, failed_fault, none_failed, same_left, within_medium}
+use Rattle.nl_field.specs.Page.{page_at}
+use Rattle.std.proofs.Common.{◌≡◌, ⊎_elim, Some, None, get_or, refl, sym, ◌∙◌, ap, subst, IsTrue, inl, inr}
 use Rattle.std.proofs.lemmas.Bool.{true≢false}
 use Rattle.nl_field.specs.Spelling.{is_stamp}
 use Rattle.nl_pseg.specs.Segment.{held_at}
 use Rattle.nl_pseg.specs.Seen.{seen}
 use Rattle.nl_pseg.specs.declared.held.Held.{Held}
-use Rattle.nl_pseg.proofs.Numbers.{block_from}
 use Rattle.nl_pseg.proofs.Segments.{live_stamp}
 use Rattle.nl_remap.specs.Table.{led}
 use Rattle.nl_pseg.specs.Kept.{kept}
@@ -23,13 +25,7 @@ returns-else-eq-clause-answer g c =
     ((c.in-Some-live_on.held, e, stamp), refl, λ zero_is. true≢false (sym (subst (λ n. IsTrue (is_stamp n)) (sym zero_is) spelled)))
 
 pub read_page-requires-clause-within : goal.read_page-requires-clause-within
-read_page-requires-clause-within g c =
-    let s = kept c.args.self.now in
-    let w = c.in-Some.ensures.within in
-    let size = c.requires.fits.pages in
-    let more = block_from (s.blocks.first + length s.blocks.blocks) (g.M.Nand.geometry c.args.media.now).blocks s.blocks.size c.requires.fits.blocks in
-    let e : (g.M.Nand.geometry c.args.media.now).blocks * (g.M.Nand.geometry c.args.media.now).pages ≡ (g.M.Nand.geometry c.args.media.now).blocks * s.blocks.size = ap (λ n. (g.M.Nand.geometry c.args.media.now).blocks * n) size in
-    omega (arith, w.1, more, e)
+read_page-requires-clause-within g c = within_medium c.requires.fits c.in-Some.place c.in-Some.ensures.within.1
 
 pub returns-in-Lost-clause-answer : goal.returns-in-Lost-clause-answer
 returns-in-Lost-clause-answer g c =
@@ -43,4 +39,139 @@ returns-in-Lost-clause-kept g c t named =
     let h : Held = record { tag = c.args.tag; stamp = c.args.at.stamp } in
     let here : held_at (seen (kept c.args.self.now)) c.in-Some.place ≡ Some h = ap (λ n. get_or (kept c.args.self.now).held.items n None) c.in-Some.ensures.some ∙ named in
     let shows = (c.requires.segment t).holds c.in-Some.place h here in
-    absurd (⊎_elim (λ done. cc (done, c.in-Lost.is)) (λ fault. cc (fault, c.in-Lost.is)) (c.read_page.ensures.kept t shows))
+    absurd (⊎_elim (λ done. read_lost_done (sym c.in-Lost.is ∙ done)) (λ fault. read_lost_fault (sym c.in-Lost.is ∙ fault)) (c.read_page.ensures.kept t shows))
+
+pub place_of-requires : goal.place_of-requires
+place_of-requires g c = c.requires.formed
+
+pub returns-in_default-clause-value : goal.returns-in_default-clause-value
+returns-in_default-clause-value g c t e = absurd (read_not_live_done e)
+
+pub returns-in_default-clause-geometry : goal.returns-in_default-clause-geometry
+returns-in_default-clause-geometry g c = refl
+
+pub returns-in_default-clause-contents : goal.returns-in_default-clause-contents
+returns-in_default-clause-contents g c = refl
+
+pub returns-in_default-clause-left : goal.returns-in_default-clause-left
+returns-in_default-clause-left g c = same_left
+
+pub returns-in_default-clause-clock : goal.returns-in_default-clause-clock
+returns-in_default-clause-clock g c = refl
+
+pub returns-in_default-clause-write_faults : goal.returns-in_default-clause-write_faults
+returns-in_default-clause-write_faults g c = refl
+
+pub returns-in_default-clause-read_faults : goal.returns-in_default-clause-read_faults
+returns-in_default-clause-read_faults g c = none_failed read_not_live_fault
+
+pub returns-in_default-live_on-clause-value : goal.returns-in_default-live_on-clause-value
+returns-in_default-live_on-clause-value g c t e = absurd (read_not_live_done e)
+
+pub returns-in_default-live_on-clause-geometry : goal.returns-in_default-live_on-clause-geometry
+returns-in_default-live_on-clause-geometry g c = refl
+
+pub returns-in_default-live_on-clause-contents : goal.returns-in_default-live_on-clause-contents
+returns-in_default-live_on-clause-contents g c = refl
+
+pub returns-in_default-live_on-clause-left : goal.returns-in_default-live_on-clause-left
+returns-in_default-live_on-clause-left g c = same_left
+
+pub returns-in_default-live_on-clause-clock : goal.returns-in_default-live_on-clause-clock
+returns-in_default-live_on-clause-clock g c = refl
+
+pub returns-in_default-live_on-clause-write_faults : goal.returns-in_default-live_on-clause-write_faults
+returns-in_default-live_on-clause-write_faults g c = refl
+
+pub returns-in_default-live_on-clause-read_faults : goal.returns-in_default-live_on-clause-read_faults
+returns-in_default-live_on-clause-read_faults g c = none_failed read_not_live_fault
+
+pub returns-then-eq-clause-geometry : goal.returns-then-eq-clause-geometry
+returns-then-eq-clause-geometry g c = c.read_page.ensures.geometry
+
+pub returns-then-eq-clause-contents : goal.returns-then-eq-clause-contents
+returns-then-eq-clause-contents g c = c.read_page.ensures.contents
+
+pub returns-then-eq-clause-left : goal.returns-then-eq-clause-left
+returns-then-eq-clause-left g c = c.read_page.ensures.left
+
+pub returns-then-eq-clause-clock : goal.returns-then-eq-clause-clock
+returns-then-eq-clause-clock g c = c.read_page.ensures.clock
+
+pub returns-then-eq-clause-write_faults : goal.returns-then-eq-clause-write_faults
+returns-then-eq-clause-write_faults g c = c.read_page.ensures.write_faults
+
+pub returns-then-eq-clause-value : goal.returns-then-eq-clause-value
+returns-then-eq-clause-value g c t e = ap (page_at (g.M.Nand.contents c.args.media.now)) (sym c.in-Some.ensures.some) ∙ c.read_page.ensures.value t c.in-Done.is
+
+pub returns-then-eq-clause-kept : goal.returns-then-eq-clause-kept
+returns-then-eq-clause-kept g c t named = inl refl
+
+pub returns-then-eq-clause-read_faults : goal.returns-then-eq-clause-read_faults
+returns-then-eq-clause-read_faults g c = done_unfailed c.read_page.ensures.read_faults (λ e. read_done_fault (sym c.in-Done.is ∙ e)) read_done_fault
+
+pub returns-else-eq-clause-geometry : goal.returns-else-eq-clause-geometry
+returns-else-eq-clause-geometry g c = c.read_page.ensures.geometry
+
+pub returns-else-eq-clause-contents : goal.returns-else-eq-clause-contents
+returns-else-eq-clause-contents g c = c.read_page.ensures.contents
+
+pub returns-else-eq-clause-left : goal.returns-else-eq-clause-left
+returns-else-eq-clause-left g c = c.read_page.ensures.left
+
+pub returns-else-eq-clause-clock : goal.returns-else-eq-clause-clock
+returns-else-eq-clause-clock g c = c.read_page.ensures.clock
+
+pub returns-else-eq-clause-write_faults : goal.returns-else-eq-clause-write_faults
+returns-else-eq-clause-write_faults g c = c.read_page.ensures.write_faults
+
+pub returns-else-eq-clause-value : goal.returns-else-eq-clause-value
+returns-else-eq-clause-value g c t e = absurd (read_lost_done e)
+
+pub returns-else-eq-clause-read_faults : goal.returns-else-eq-clause-read_faults
+returns-else-eq-clause-read_faults g c = done_unfailed c.read_page.ensures.read_faults (λ e. read_done_fault (sym c.in-Done.is ∙ e)) read_lost_fault
+
+pub returns-in-Lost-clause-geometry : goal.returns-in-Lost-clause-geometry
+returns-in-Lost-clause-geometry g c = c.read_page.ensures.geometry
+
+pub returns-in-Lost-clause-contents : goal.returns-in-Lost-clause-contents
+returns-in-Lost-clause-contents g c = c.read_page.ensures.contents
+
+pub returns-in-Lost-clause-left : goal.returns-in-Lost-clause-left
+returns-in-Lost-clause-left g c = c.read_page.ensures.left
+
+pub returns-in-Lost-clause-clock : goal.returns-in-Lost-clause-clock
+returns-in-Lost-clause-clock g c = c.read_page.ensures.clock
+
+pub returns-in-Lost-clause-write_faults : goal.returns-in-Lost-clause-write_faults
+returns-in-Lost-clause-write_faults g c = c.read_page.ensures.write_faults
+
+pub returns-in-Lost-clause-value : goal.returns-in-Lost-clause-value
+returns-in-Lost-clause-value g c t e = absurd (read_lost_done e)
+
+pub returns-in-Lost-clause-read_faults : goal.returns-in-Lost-clause-read_faults
+returns-in-Lost-clause-read_faults g c = done_unfailed c.read_page.ensures.read_faults (λ e. read_lost_fault (sym c.in-Lost.is ∙ e)) read_lost_fault
+
+pub returns-in-Fault-clause-geometry : goal.returns-in-Fault-clause-geometry
+returns-in-Fault-clause-geometry g c = c.read_page.ensures.geometry
+
+pub returns-in-Fault-clause-contents : goal.returns-in-Fault-clause-contents
+returns-in-Fault-clause-contents g c = c.read_page.ensures.contents
+
+pub returns-in-Fault-clause-left : goal.returns-in-Fault-clause-left
+returns-in-Fault-clause-left g c = c.read_page.ensures.left
+
+pub returns-in-Fault-clause-clock : goal.returns-in-Fault-clause-clock
+returns-in-Fault-clause-clock g c = c.read_page.ensures.clock
+
+pub returns-in-Fault-clause-write_faults : goal.returns-in-Fault-clause-write_faults
+returns-in-Fault-clause-write_faults g c = c.read_page.ensures.write_faults
+
+pub returns-in-Fault-clause-value : goal.returns-in-Fault-clause-value
+returns-in-Fault-clause-value g c t e = absurd (read_fault_done e)
+
+pub returns-in-Fault-clause-kept : goal.returns-in-Fault-clause-kept
+returns-in-Fault-clause-kept g c t named = inr refl
+
+pub returns-in-Fault-clause-read_faults : goal.returns-in-Fault-clause-read_faults
+returns-in-Fault-clause-read_faults g c = failed_fault c.read_page.ensures.read_faults c.in-Fault.is refl

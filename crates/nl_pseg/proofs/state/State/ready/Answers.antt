@@ -1,3 +1,6 @@
+use Rattle.nl_pseg.proofs.Small.{same_most, none_used, below_count, below_more, clock_same, clock_ticks, clock_stays}
+use Rattle.nl_pseg.proofs.Apart.{wrote_done_failed, wrote_failed_done}
+use Rattle.nl_pseg.proofs.Medium.{done_unfailed, failed_fault, none_failed}
 use Rattle.nl_blocks.specs.Used.{is_target_state, used_in}
 use Rattle.nl_pseg.proofs.Taking.{again_counted, none_holds, some_holds, targeted_counted}
 use Rattle.nl_pseg.specs.declared.state.State.{State}
@@ -9,16 +12,17 @@ use Rattle.nl_nand.specs.Nand.{Cut}
 use Rattle.nl_nand.proofs.Crashes.{operation}
 use Rattle.nl_nand.proofs.Crashes as crashes
 use Rattle.nl_pseg.specs.Effects.{Keeps}
-use Rattle.nl_pseg.specs.Segment.{Physical, Use, IsPhysicalOf, is_free, is_kept, is_soiled}
-use Rattle.nl_pseg.specs.Seen.{seen, use_in, IsFormed, IsTied}
-use Rattle.nl_pseg.specs.Steps.{IsReadied, Restated, aimed_at}
+use Rattle.nl_pseg.specs.Segment.{Physical, IsPhysicalOf, is_free, is_kept, is_soiled}
+use Rattle.nl_pseg.specs.Seen.{seen, IsFormed, IsTied}
+use Rattle.nl_pseg.specs.Steps.{IsReadied, aimed_at}
+use Rattle.nl_uses.specs.Uses.{Use, use_in, Restated}
 use Rattle.nl_pseg.proofs.Aimed.{again_readied, aimed_readied}
 use Rattle.nl_pseg.proofs.Forms.{formed_same}
 use Rattle.nl_pseg.proofs.Images.{erase_keeps, erase_others, keeps_nothing}
 use Rattle.nl_pseg.proofs.Numbers.{block_of, in_block}
-use Rattle.nl_pseg.proofs.Openings.{free_use, last_block}
-use Rattle.nl_pseg.proofs.Readied.{again_segment, aimed_segment, free_dead, taken_formed}
-use Rattle.nl_pseg.proofs.Tables.{free_kept, has_same, restated_again, restated_same}
+use Rattle.nl_pseg.proofs.Openings.{free_use, last_block, one_free}
+use Rattle.nl_pseg.proofs.Readied.{again_segment, aimed_segment, free_dead, taken_formed, still_readied}
+use Rattle.nl_uses.proofs.Tables.{free_kept, has_same, restated_again, restated_same}
 use Rattle.nl_pseg.proofs.Taken.{free_again, free_other}
 use Rattle.nl_pseg.proofs.Tied.{free_apart, free_own}
 use Rattle.nl_blocks.specs.declared.states.BlockState.TheVariants.{Active}
@@ -221,7 +225,7 @@ returns-in-Failed-clause-medium g c t =
           (again_segment s is block has free c.give_back.new.blocks same full dirty (c.requires.segment t) (erase_others block pages s.blocks.size c.requires.fits.pages cut));
       keeps = keep _ cut;
       crash = operation c.erase.result (λ i. Keeps (seen s) old i) c.erase.ensures.crash (c.erase.ensures.effect t) keep;
-      others = λ done. absurd (cc done);
+      others = λ done. absurd (wrote_failed_done done);
     }
 
 pub returns-in-Done-clause-clean : goal.returns-in-Done-clause-clean
@@ -250,7 +254,7 @@ aim-requires-in-Done-clause-targeted g c =
       restated = r;
       had = c.take_target-block.ensures.has;
       was_free = c.take_target-block.ensures.was_free;
-      full = omega arith;
+      full = same_most;
     }
 
 pub aim-requires-clause-targeted : goal.aim-requires-clause-targeted
@@ -263,7 +267,7 @@ aim-requires-clause-targeted g c =
       restated = c.take_target-block.ensures.taken;
       had = c.take_target-block.ensures.has;
       was_free = c.take_target-block.ensures.was_free;
-      full = omega arith;
+      full = same_most;
     }
 
 pub aim-requires-in-Done-clause-unused : goal.aim-requires-in-Done-clause-unused
@@ -273,3 +277,126 @@ aim-requires-in-Done-clause-unused g c =
 pub returns-then-is_some-clause-left : goal.returns-then-is_some-clause-left
 returns-then-is_some-clause-left g c done =
     some_holds c.next_copy.result _ _ c.next_copy.ensures.some (sym c.is_some.ensures ∙ c.if-is_some.true)
+
+pub is_soiled-requires : goal.is_soiled-requires
+is_soiled-requires g c = below_count c.take_target-block.ensures.has.below c.requires.formed.marks
+
+pub erase-requires : goal.erase-requires
+erase-requires g c = below_more c.take_target-block.ensures.has.below c.requires.fits.blocks
+
+pub wear_out-requires-clause-has : goal.wear_out-requires-clause-has
+wear_out-requires-clause-has g c = has_same c.take_target-block.result c.take_target-block.ensures.taken.numbers c.take_target-block.ensures.has
+
+pub wear_out-requires-clause-used : goal.wear_out-requires-clause-used
+wear_out-requires-clause-used g c = ap (λ (u : Use). u.is_kept) c.take_target-block.ensures.taken.here
+
+pub give_back-requires : goal.give_back-requires
+give_back-requires g c = has_same c.take_target-block.result c.take_target-block.ensures.taken.numbers c.take_target-block.ensures.has
+
+pub aim-requires-clause-has : goal.aim-requires-clause-has
+aim-requires-clause-has g c = has_same c.take_target-block.result c.take_target-block.ensures.taken.numbers c.take_target-block.ensures.has
+
+pub aim-requires-in-Done-clause-has : goal.aim-requires-in-Done-clause-has
+aim-requires-in-Done-clause-has g c = has_same c.take_target-block.result (restated_again c.take_target-block.ensures.taken c.wear_out.ensures.worn).numbers c.take_target-block.ensures.has
+
+pub aim-requires-clause-target : goal.aim-requires-clause-target
+aim-requires-clause-target g c = c.take_target-block.ensures.target
+
+pub aim-requires-in-Done-clause-target : goal.aim-requires-in-Done-clause-target
+aim-requires-in-Done-clause-target g c = c.wear_out.ensures.state ∙ c.take_target-block.ensures.target
+
+pub aim-requires-clause-unused : goal.aim-requires-clause-unused
+aim-requires-clause-unused g c = c.take_target-block.ensures.filled
+
+pub returns-then-is_some-clause-formed : goal.returns-then-is_some-clause-formed
+returns-then-is_some-clause-formed g c = c.requires.formed
+
+pub returns-then-is_some-clause-tied : goal.returns-then-is_some-clause-tied
+returns-then-is_some-clause-tied g c = c.requires.tied
+
+pub returns-then-is_some-clause-medium : goal.returns-then-is_some-clause-medium
+returns-then-is_some-clause-medium g c t = record { segment = c.requires.segment t; keeps = keeps_nothing (seen (kept c.args.self.now)) (g.M.Nand.contents c.args.media.now); crash = crashes.start c.args.media.now (λ m i. Keeps (seen (kept c.args.self.now)) (g.M.Nand.contents c.args.media.now) i); others = λ done p. inl refl }
+
+pub returns-then-is_some-clause-geometry : goal.returns-then-is_some-clause-geometry
+returns-then-is_some-clause-geometry g c = refl
+
+pub returns-then-is_some-clause-clock : goal.returns-then-is_some-clause-clock
+returns-then-is_some-clause-clock g c = clock_same
+
+pub returns-then-is_some-clause-read_faults : goal.returns-then-is_some-clause-read_faults
+returns-then-is_some-clause-read_faults g c = refl
+
+pub returns-then-is_some-clause-write_faults : goal.returns-then-is_some-clause-write_faults
+returns-then-is_some-clause-write_faults g c = none_failed wrote_done_failed
+
+pub returns-then-is_some-clause-clean : goal.returns-then-is_some-clause-clean
+returns-then-is_some-clause-clean g c x = (refl, refl)
+
+pub returns-then-not-is_soiled-clause-formed : goal.returns-then-not-is_soiled-clause-formed
+returns-then-not-is_soiled-clause-formed g c = c.aim.ensures.formed
+
+pub returns-then-not-is_soiled-clause-tied : goal.returns-then-not-is_soiled-clause-tied
+returns-then-not-is_soiled-clause-tied g c = c.aim.ensures.tied
+
+pub returns-then-not-is_soiled-clause-left : goal.returns-then-not-is_soiled-clause-left
+returns-then-not-is_soiled-clause-left g c done = none_used c.aim.ensures.filled c.aim.ensures.pages c.take_target-block.ensures.taken.numbers.same_size c.requires.formed.some
+
+pub returns-then-not-is_soiled-clause-geometry : goal.returns-then-not-is_soiled-clause-geometry
+returns-then-not-is_soiled-clause-geometry g c = refl
+
+pub returns-then-not-is_soiled-clause-clock : goal.returns-then-not-is_soiled-clause-clock
+returns-then-not-is_soiled-clause-clock g c = clock_same
+
+pub returns-then-not-is_soiled-clause-read_faults : goal.returns-then-not-is_soiled-clause-read_faults
+returns-then-not-is_soiled-clause-read_faults g c = refl
+
+pub returns-then-not-is_soiled-clause-write_faults : goal.returns-then-not-is_soiled-clause-write_faults
+returns-then-not-is_soiled-clause-write_faults g c = none_failed wrote_done_failed
+
+pub returns-then-not-is_soiled-clause-clean : goal.returns-then-not-is_soiled-clause-clean
+returns-then-not-is_soiled-clause-clean g c x = (refl, refl)
+
+pub returns-in-Done-clause-formed : goal.returns-in-Done-clause-formed
+returns-in-Done-clause-formed g c = c.aim-in-Done.ensures.formed
+
+pub returns-in-Done-clause-tied : goal.returns-in-Done-clause-tied
+returns-in-Done-clause-tied g c = c.aim-in-Done.ensures.tied
+
+pub returns-in-Done-clause-left : goal.returns-in-Done-clause-left
+returns-in-Done-clause-left g c done = none_used c.aim-in-Done.ensures.filled c.aim-in-Done.ensures.pages (restated_again c.take_target-block.ensures.taken c.wear_out.ensures.worn).numbers.same_size c.requires.formed.some
+
+pub returns-in-Done-clause-geometry : goal.returns-in-Done-clause-geometry
+returns-in-Done-clause-geometry g c = c.erase.ensures.counted.same_geometry
+
+pub returns-in-Done-clause-clock : goal.returns-in-Done-clause-clock
+returns-in-Done-clause-clock g c = (c.erase.ensures.crash.later, clock_ticks (g.M.Nand.clock c.args.media.now) c.in-Done.ensures.counted.ticks)
+
+pub returns-in-Done-clause-read_faults : goal.returns-in-Done-clause-read_faults
+returns-in-Done-clause-read_faults g c = c.erase.ensures.counted.same_read_faults
+
+pub returns-in-Done-clause-write_faults : goal.returns-in-Done-clause-write_faults
+returns-in-Done-clause-write_faults g c = done_unfailed c.erase.ensures.counted.failures (λ e. wrote_done_failed (sym c.in-Done.is ∙ e)) wrote_done_failed
+
+pub returns-in-Failed-clause-left : goal.returns-in-Failed-clause-left
+returns-in-Failed-clause-left g c done = absurd (wrote_failed_done done)
+
+pub returns-in-Failed-clause-geometry : goal.returns-in-Failed-clause-geometry
+returns-in-Failed-clause-geometry g c = c.erase.ensures.counted.same_geometry
+
+pub returns-in-Failed-clause-clock : goal.returns-in-Failed-clause-clock
+returns-in-Failed-clause-clock g c = (c.erase.ensures.crash.later, clock_stays c.in-Failed.ensures.counted.ticks)
+
+pub returns-in-Failed-clause-read_faults : goal.returns-in-Failed-clause-read_faults
+returns-in-Failed-clause-read_faults g c = c.erase.ensures.counted.same_read_faults
+
+pub returns-in-Failed-clause-write_faults : goal.returns-in-Failed-clause-write_faults
+returns-in-Failed-clause-write_faults g c = failed_fault c.erase.ensures.counted.failures c.in-Failed.is refl
+
+pub next_copy-requires : goal.next_copy-requires
+next_copy-requires g c = c.requires.tied.phases.target_in
+
+pub take_target-block-requires : goal.take_target-block-requires
+take_target-block-requires g c = one_free c.args.self.now.blocks.size (kept c.args.self.now).filled _ (full_is c.args.self.now c.next_copy.result c.next_copy.ensures.none (sym c.is_some.ensures ∙ c.if-is_some.false)) c.requires.lands
+
+pub returns-then-is_some-clause-readied : goal.returns-then-is_some-clause-readied
+returns-then-is_some-clause-readied g c = still_readied (seen (kept c.args.self.now))

@@ -9,11 +9,12 @@ use Rattle.std.proofs.lemmas.Bool.{cases_lt}
 use Rattle.nl_blocks.specs.declared.states.PageState.TheVariants.{Dead, Live}
 use Rattle.nl_pseg.specs.Seen.{state_for, IsFormed, IsTied, seen}
 use Rattle.nl_blocks.specs.Table.{Table, HasBlock, HasPage, block_at}
-use Rattle.nl_pseg.specs.Steps.{IsMarked, SameNumbers, IsCopyUsed, SameFill, SameUse, Uses}
+use Rattle.nl_pseg.specs.Steps.{IsCopyUsed}
+use Rattle.nl_uses.specs.Uses.{IsMarked, SameNumbers, SameFill, SameUse, Uses}
 use Rattle.nl_pseg.specs.declared.held.Held.{Held}
-use Rattle.nl_pseg.proofs.CopyUsed.{copied, copied_formed, copied_tied, copy_within}
+use Rattle.nl_pseg.proofs.CopyUsed.{copied, copied_formed, copied_tied, copy_within, copy_block}
 use Rattle.nl_pseg.proofs.Forms.{marked_are}
-use Rattle.nl_pseg.proofs.Tables.{has_same, page_back, same_then}
+use Rattle.nl_uses.proofs.Tables.{has_same, page_back, same_then}
 use Rattle.nl_pseg.specs.Kept.{kept, Kept}
 use Rattle.nl_pseg.proofs.state.State.use_copy.Goals as goal
 
@@ -113,3 +114,17 @@ returns-clause-used c =
     (done s is tied room c.args.page c.requires.next c.args.held mid t m.uses m.fills m.same f.same f.fill f.more f.sealed)
     (λ b has ne. f.others b (has_same b m.same.numbers has) ne ∙ m.states b) c.count.ensures.table c.count-2.ensures.table
     (λ q has ne. f.marks.same q (page_on q m.same.numbers has) ∙ m.marked.others q has ne))
+
+pub mark-requires-clause-has : goal.mark-requires-clause-has
+mark-requires-clause-has c = subst (HasBlock c.args.self.now.blocks) (sym (ap (λ n. n / c.args.self.now.blocks.size) c.requires.next ∙ copy_block (kept c.args.self.now) c.requires.formed c.requires.tied c.requires.room)) c.requires.tied.phases.target_in
+
+pub seal_filled-requires-clause-has : goal.seal_filled-requires-clause-has
+seal_filled-requires-clause-has c = has_same c.args.self.now.target c.mark.ensures.same.numbers c.requires.tied.phases.target_in
+
+pub seal_filled-requires-clause-target : goal.seal_filled-requires-clause-target
+seal_filled-requires-clause-target c = c.mark.ensures.states c.args.self.now.target ∙ c.requires.tied.phases.filling c.requires.room
+
+pub index_mut-requires : goal.index_mut-requires
+index_mut-requires c =
+    let within = subst (λ n. n < length c.args.self.now.held.items) (sym c.requires.next) (copy_within (kept c.args.self.now) c.requires.formed c.requires.tied c.requires.room) in
+    omega (arith, within, c.args.self.now.held.ok.0)

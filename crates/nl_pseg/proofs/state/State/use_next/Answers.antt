@@ -1,21 +1,22 @@
 use Rattle.nl_field.specs.Spelling.{is_stamp}
 use Rattle.nl_blocks.specs.Used.{is_active_state, is_target_state, used_in}
-use Rattle.nl_blocks.specs.Table.{Table, block_at}
+use Rattle.nl_blocks.specs.Table.{Table, block_at, HasBlock}
 use Rattle.nl_pseg.specs.declared.state.State.{State}
 use Rattle.nl_blocks.specs.declared.states.BlockState.TheVariants.{Active}
-use Rattle.std.proofs.Common.{◌≡◌, inl, inr, ⊎_elim, ◌+◌, ◌-◌, ◌*◌, ◌<◌, ◌^◌, length, set, refl, sym, ◌∙◌, ap, subst, arith, length-set, cond, is_some, Option, Some, None, IfSome, IsTrue, ℕ}
+use Rattle.std.proofs.Common.{◌≡◌, inl, inr, ⊎_elim, ◌+◌, ◌-◌, ◌*◌, ◌<◌, ◌^◌, length, set, refl, sym, ◌∙◌, ap, subst, arith, length-set, cond, is_some, Option, Some, None, IfSome, IsTrue, ℕ, ◌/◌}
 use Rattle.std.specs.Vec.{with_item}
-use Rattle.nl_pseg.specs.Segment.{Use, soiled, wear_with}
+use Rattle.nl_pseg.specs.Segment.{soiled, wear_with}
 use Rattle.nl_pseg.specs.Seen.{seen, state_for, AreMarked, IsTied, IsFormed}
-use Rattle.nl_pseg.specs.Steps.{IsMarked, IsUsed, SameFill, SameUse, Uses}
+use Rattle.nl_pseg.specs.Steps.{IsUsed}
+use Rattle.nl_uses.specs.Uses.{Use, IsMarked, SameFill, SameUse, Uses}
 use Rattle.nl_blocks.specs.declared.states.PageState.TheVariants.{Dead, Live}
 use Rattle.nl_pseg.specs.declared.held.Held.{Held}
 use Rattle.nl_pseg.proofs.Closed.{as_counted}
 use Rattle.nl_pseg.proofs.Forms.{marked_are}
 use Rattle.nl_pseg.proofs.Nexts.{next_fill, next_filled, next_up, next_used}
 use Rattle.nl_pseg.proofs.Segments.{used_places}
-use Rattle.nl_pseg.proofs.States.{within_length, next_segment, is_next, next_in_use}
-use Rattle.nl_pseg.proofs.Tables.{has_same, page_back, same_then}
+use Rattle.nl_pseg.proofs.States.{within_length, next_segment, is_next, next_in_use, next_block}
+use Rattle.nl_uses.proofs.Tables.{has_same, page_back, same_then}
 use Rattle.nl_pseg.proofs.Used.{used_tied}
 use Rattle.std.proofs.lemmas.Bool.{cases_eq}
 use Rattle.nl_pseg.specs.Kept.{kept, Kept}
@@ -150,3 +151,20 @@ returns-clause-tied c =
     (cases_eq ((kept s).used + 1) s.blocks.size))
     (λ b has ne. f.others b (has_same b m.same.numbers has) ne ∙ m.states b)
     (within s is c.requires.tied room c.args.page n c.args.held mid t m.uses m.fills m.same f.same f.fill))
+
+pub mark-requires-clause-has : goal.mark-requires-clause-has
+mark-requires-clause-has c =
+    let s = kept c.args.self.now in
+    subst (HasBlock s.blocks) (sym (ap (λ n. n / s.blocks.size) c.requires.next ∙ next_block s c.requires.formed c.requires.room (seen s).next (is_next s c.requires.formed c.requires.room))) c.requires.formed.active_in
+
+pub seal_full-requires-clause-has : goal.seal_full-requires-clause-has
+seal_full-requires-clause-has c = has_same c.args.self.now.active c.mark.ensures.same.numbers c.requires.formed.active_in
+
+pub seal_full-requires-clause-active : goal.seal_full-requires-clause-active
+seal_full-requires-clause-active c = c.mark.ensures.states c.args.self.now.active ∙ c.requires.formed.taken c.requires.room
+
+pub index_mut-requires : goal.index_mut-requires
+index_mut-requires c =
+    let s = kept c.args.self.now in
+    let within = subst (λ n. n < length s.held.items) (sym c.requires.next) (within_length s c.requires.formed (seen s).next (next_segment s c.requires.formed c.requires.room (seen s).next (is_next s c.requires.formed c.requires.room))) in
+    omega (arith, within, c.args.self.now.held.ok.0)
