@@ -1,6 +1,6 @@
 -- A cleaning copies the pages of a block one by one.
 use Rattle.std.proofs.Common.{◌≡◌, ◌⊎◌, inl, inr, ⊎_elim, ℕ, zero, suc, ◌+◌, ◌-◌, ◌*◌, ◌/◌, ◌%◌, ◌<◌, ◌≤◌, nat_le, Option, Some, None, List, length, get_or, replicate, set, cond, refl, count_by, length-set, sym, ◌∙◌, ap, subst, arith, false}
-use Rattle.std.proofs.lemmas.Bool.{cases_eq, cases_lt, cond-false, lt-leb, true≢false}
+use Rattle.std.proofs.lemmas.Bool.{cases_eq, cases_lt, cond-false, cond-true, le-leb, lt-leb, true≢false}
 use Rattle.std.proofs.lemmas.List.{get_or-set_same, get_or-set_other, get_or_read, length-replicate}
 use Rattle.std.proofs.lemmas.List.Sums.{sum_by-cons}
 use Rattle.std.proofs.lemmas.Option.{none-some, same_Some}
@@ -304,6 +304,29 @@ room_free seg some = elim (cases_lt 0 (free_count seg.table)) [
       let zero : room seg ≡ 0 = cond-false (nat_le 1 (free_count seg.table)) ((seg.table.size - seg.used) + (free_count seg.table - 1) * seg.table.size) 0 none_is in
       absurd (omega (arith, zero, some))
 ]
+
+-- where there is room and each page of the active block is used, two blocks are Free
+pub full_room : (seg : Layout) → seg.used ≡ seg.table.size → 0 < room seg → 2 ≤ free_count seg.table
+full_room seg full some = elim (cases_lt 1 (free_count seg.table)) [
+  | inl lt ↦ omega (arith, lt)
+  | inr few ↦
+      let least = room_free seg some in
+      let one : free_count seg.table ≡ 1 = omega (arith, few, least) in
+      let is : room seg ≡ (seg.table.size - seg.used) + (free_count seg.table - 1) * seg.table.size = cond-true (nat_le 1 (free_count seg.table)) ((seg.table.size - seg.used) + (free_count seg.table - 1) * seg.table.size) 0 (le-leb 1 (free_count seg.table) least) in
+      let rest : free_count seg.table - 1 ≡ 0 = omega (arith, one) in
+      let none : (free_count seg.table - 1) * seg.table.size ≡ 0 * seg.table.size = ap (λ n. n * seg.table.size) rest in
+      absurd (omega (arith, is, none, full, some))
+]
+
+-- once one of them is the active one there is as much room
+pub opened_room : (old new : Layout) → old.used ≡ old.table.size → 2 ≤ free_count old.table → new.used ≡ 0 → new.table.size ≡ old.table.size → free_count new.table + 1 ≡ free_count old.table → room new ≡ room old
+opened_room old new full two begins size less =
+    let was : room old ≡ (old.table.size - old.used) + (free_count old.table - 1) * old.table.size = cond-true (nat_le 1 (free_count old.table)) ((old.table.size - old.used) + (free_count old.table - 1) * old.table.size) 0 (le-leb 1 (free_count old.table) (omega (arith, two))) in
+    let is : room new ≡ (new.table.size - new.used) + (free_count new.table - 1) * new.table.size = cond-true (nat_le 1 (free_count new.table)) ((new.table.size - new.used) + (free_count new.table - 1) * new.table.size) 0 (le-leb 1 (free_count new.table) (omega (arith, two, less))) in
+    let more : free_count old.table - 1 ≡ (free_count new.table - 1) + 1 = omega (arith, two, less) in
+    let product : (free_count old.table - 1) * old.table.size ≡ ((free_count new.table - 1) + 1) * old.table.size = ap (λ n. n * old.table.size) more in
+    let same : (free_count new.table - 1) * new.table.size ≡ (free_count new.table - 1) * old.table.size = ap (λ n. (free_count new.table - 1) * n) size in
+    omega (arith, was, is, product, same, full, begins, size)
 
 -- with these numbers for those
 pub resized : (P : ℕ → ℕ → Type 0) (old new : Layout) → SameShape old new → P new.table.size (bound new) → P old.table.size (bound old)

@@ -2,7 +2,7 @@
 use Rattle.std.proofs.Common.{◌≡◌, inl, inr, ⊎_elim, ℕ, ◌≤◌, refl, ◌∙◌, arith, List, Option}
 use Rattle.nl_field.specs.CrashStates.{Rose, LeavesOnly, Turns, Earlier}
 use Rattle.nl_field.specs.Page.{Image}
-use Rattle.nl_nand.specs.Nand.{FaultsCounted}
+use Rattle.nl_nand.specs.Nand.{FaultsCounted, ticked}
 use Rattle.nl_nand.specs.declared.answers.WriteAnswer.{WriteAnswer}
 use Rattle.nl_nand.specs.declared.answers.WriteAnswer.TheVariants as write
 use Rattle.nl_nand.proofs.Crashes.{weaken, then, turns_later}
@@ -10,6 +10,14 @@ use Rattle.nl_vseg.specs.Effects.{Keeps, Takes, KeepsMap, Counted}
 
 rose_later : (a b d : ℕ) → b ≡ a → Rose b d → Rose a d
 rose_later a b d same rose = omega (arith, same, rose)
+
+-- a count rose with the failure that it counts
+pub rose_counted : {before now : ℕ} {F : Type 0} → F → FaultsCounted before now F → Rose before now
+rose_counted failed counted = let e = counted.cause failed in omega (arith, e)
+
+-- a moment before that after an operation
+pub ticked_done : (old new : ℕ) → new ≡ ticked old write.Done → Earlier old new
+ticked_done old new tick below = omega (arith, tick, below)
 
 module _ {M : Type 0} {clock read_faults write_faults : M → ℕ} where
   -- nothing was called

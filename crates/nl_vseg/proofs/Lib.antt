@@ -1,4 +1,6 @@
 pub mod Blocks
+pub mod Cleaning
+pub mod Copied
 pub mod Copies
 pub mod Counting
 pub mod Counts
@@ -13,9 +15,11 @@ pub mod ReadPlaces
 pub mod Records
 pub mod Segments
 pub mod Shapes
+mod Small
 pub mod Spares
 pub mod Standing
 pub mod Using
 pub mod Views
 pub mod Wears
 pub mod Writing
+pub mod Written

@@ -1,5 +1,5 @@
 -- The next page of the active block is programmed.
-use Rattle.std.proofs.Common.{◌≡◌, ◌⊎◌, inl, inr, ⊎_elim, ℕ, ◌+◌, ◌*◌, ◌/◌, ◌<◌, ◌≤◌, true, false, Option, Some, List, length, set, sym, ◌∙◌, ap, subst, arith, IsTrue, eq-eqb, ne_eqb, ◌==◌, length-set}
+use Rattle.std.proofs.Common.{◌≡◌, ◌⊎◌, inl, inr, ⊎_elim, ℕ, ◌+◌, ◌*◌, ◌/◌, ◌<◌, ◌≤◌, true, false, Option, Some, List, length, set, sym, ◌∙◌, ap, subst, arith, IsTrue, eq-eqb, ne_eqb, ◌==◌, if◌then◌else◌, length-set}
 use Rattle.std.proofs.lemmas.Bool.{cases_eq, cond-true, cond-false, true≢false}
 use Rattle.nl_field.specs.Page.{Page, erased, written, Image, page_at}
 use Rattle.nl_field.specs.Spelling.{is_stamp}
@@ -12,7 +12,7 @@ use Rattle.nl_blocks.specs.Table.{free_count}
 use Rattle.nl_field.specs.CrashStates.{LeavesOnly, Turns}
 use Rattle.nl_vseg.specs.Maps.{with_at}
 use Rattle.nl_vseg.specs.Pages.{fact_of, main_of, IsBeside, page_with}
-use Rattle.nl_vseg.specs.Places.{place_of, value_at, map_of}
+use Rattle.nl_vseg.specs.Places.{place_of, stamp_for, stamp_in_place, value_at, map_of}
 use Rattle.nl_vseg.specs.Layout.{Layout, bound, block_is_free, HasSpare, TakenAsErased, IsLayoutOf, IsLayout}
 use Rattle.nl_vseg.specs.Effects.{Keeps, Takes, Programmed}
 use Rattle.nl_vseg.specs.declared.place.Place.{Place}
@@ -20,6 +20,13 @@ use Rattle.nl_vseg.proofs.Places.{block_of, beside_of, block_below, place_here, 
 use Rattle.nl_vseg.proofs.Images.{apart_from_erased, keeps_or_takes, takes_new}
 use Rattle.nl_vseg.proofs.Blocks.{some_free}
 use Rattle.nl_vseg.proofs.Segments.{below_of, free_unmapped, holds_same, map_same}
+
+-- the number of each address, with one that is written
+pub stamp_put : (places : List (Option Place)) (v page s : ℕ) → v < length places → (u : ℕ) → stamp_for (set places v (Some (record { page = page; stamp = s }))) u ≡ (if u == v then Some s else stamp_for places u)
+stamp_put places v page s within u = elim (cases_eq u v) [
+  | inl same ↦ ap stamp_in_place (place_here places v u (Some (record { page = page; stamp = s })) within same) ∙ sym (cond-true (u == v) (Some s) (stamp_for places u) (eq-eqb u v same))
+  | inr ne ↦ ap stamp_in_place (place_other places v u (Some (record { page = page; stamp = s })) ne) ∙ sym (cond-false (u == v) (Some s) (stamp_for places u) (ne_eqb u v ne))
+]
 
 module _ (seg : Layout) (is : IsLayout seg) (room : seg.used < seg.table.size) (page : ℕ) (at : page ≡ seg.active * seg.table.size + seg.used) where
   pub page_end : page < seg.active * seg.table.size + seg.table.size

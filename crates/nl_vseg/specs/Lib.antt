@@ -1,4 +1,6 @@
 pub mod Answers
+pub mod Cleaning
+pub mod Copies
 pub mod Copying
 pub mod Effects
 pub mod Layout
@@ -6,7 +8,9 @@ pub mod Maps
 pub mod Operations
 pub mod Pages
 pub mod Places
+pub mod Putting
 pub mod Seen
 pub mod Segment
+pub mod Storing
 pub mod Used
 pub mod Writes

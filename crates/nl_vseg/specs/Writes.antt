@@ -1,27 +1,33 @@
 -- What the write of an address does to the segment and to its medium.
-use Rattle.std.specs.Prelude.{◌≡◌, ◌⊎◌, ℕ, ◌==◌, if◌then◌else◌, List, Option, Some}
-use Rattle.nl_field.specs.CrashStates.{LeavesOnly, Rose, Turns}
-use Rattle.nl_field.specs.Page.{Image}
-use Rattle.nl_vseg.specs.Effects.{Keeps, Takes}
-use Rattle.nl_vseg.specs.Maps.{with_at}
-use Rattle.nl_vseg.specs.Places.{map_of, stamp_for}
-use Rattle.nl_vseg.specs.Segment.{Segment}
-use Rattle.nl_vseg.specs.declared.place.Place.{Place}
+use Rattle.std.specs.Prelude.{◌≡◌, ℕ, ◌+◌, ◌<◌, List, true}
+use Rattle.nl_field.specs.CrashStates.{Earlier}
+use Rattle.nl_nand.specs.declared.nand.Nand.{Ghosts}
+use Rattle.nl_vseg.specs.Effects.{Counted, Programmed}
+use Rattle.nl_vseg.specs.Operations.{Operates, snapshot}
+use Rattle.nl_vseg.specs.Places.{AreBelow}
+use Rattle.nl_vseg.specs.Segment.{IsSegmentOf, KeepsSpare, SameSize, Segment, is_blank, wear_of}
+use Rattle.nl_vseg.specs.Storing.{WritesStamp, WritesValue}
 
--- Once the write is done the address has this number; else each address has what it had.
-pub record WritesStamp (v s : ℕ) (done : Type 0) (old new : List (Option Place)) : Type 0 where
-  pub taken : done → (u : ℕ) → stamp_for new u ≡ (if u == v then Some s else stamp_for old u)
-  pub same : (done → ⊥) → (u : ℕ) → stamp_for new u ≡ stamp_for old u
+-- Once the write is done the address has the value and the others have theirs; else each has its own. A stop leaves the one or the
+-- other. The medium was programmed and erased as the wears tell, has its numbers, and counts what finished and what failed.
+pub record Writes {M : Type 0} (g : Ghosts M) (v s : ℕ) (main : List ℕ) (done failed : Type 0) (seg now : Segment) (old new : M) : Type 0 where
+  pub stamps : WritesStamp v s done seg.places now.places
+  pub value : g.tells → WritesValue g.clock g.write_faults g.contents g.left v s main done seg now old new
+  pub operates : Operates g.tells seg.pages (snapshot seg.wears (g.clock old) (g.contents old)) (snapshot now.wears (g.clock new) (g.contents new))
+  pub geometry : g.geometry new ≡ g.geometry old
+  pub ticks : done → Earlier (g.clock old) (g.clock new)
+  pub counts : Counted g.clock g.read_faults g.write_faults old new failed
 
--- Once the write is done the map has this value, and the medium takes it. Else the map is as it was, and the medium keeps it; it may
--- show the value too where a write failed. A stop within the write leaves a medium that keeps the map, or takes the value.
-pub record WritesValue {M : Type 0} (clock write_faults : M → ℕ) (contents : M → Image) (left : M → ℕ → Image → Type 0) (v s : ℕ) (main : List ℕ) (done : Type 0) (seg now : Segment) (old new : M) : Type 0 where
-  pub map : done → (u : ℕ) → map_of now.places (contents new) u ≡ with_at (map_of seg.places (contents old)) v (s, main) u
-  pub same : (done → ⊥) → (u : ℕ) → map_of now.places (contents new) u ≡ map_of seg.places (contents old) u
-  pub takes : done → Takes seg.pages seg.bound (map_of seg.places (contents old)) v s main (contents old) (contents new)
-  pub either : Keeps seg.pages seg.bound (map_of seg.places (contents old)) (contents old) (contents new)
-      ⊎ Takes seg.pages seg.bound (map_of seg.places (contents old)) v s main (contents old) (contents new)
-  pub unused : (done → ⊥) → (Rose (write_faults old) (write_faults new) → ⊥) → Keeps seg.pages seg.bound (map_of seg.places (contents old)) (contents old) (contents new)
-  pub crash : LeavesOnly clock left old new (Turns done (clock new)
-      (λ c. Keeps seg.pages seg.bound (map_of seg.places (contents old)) (contents old) c)
-      (λ c. Takes seg.pages seg.bound (map_of seg.places (contents old)) v s main (contents old) c))
+-- No block was cleaned: one page was programmed, in a block that was erased first where it had to be.
+pub record WritesDirectly {M : Type 0} (g : Ghosts M) (v s : ℕ) (main : List ℕ) (seg now : Segment) (old new : M) : Type 0 where
+  pub less : now.room + 1 ≡ seg.room
+  pub programmed : g.tells → (block : ℕ) × Programmed seg.pages seg.bound block v s (wear_of now block) main (g.contents old) (g.contents new)
+
+-- The segment still serves: it has as many addresses and pages, its places and what it takes as erased are pages of its own, some block
+-- holds no page of the map, and the medium is one of the segment.
+pub record StillServes {M : Type 0} (g : Ghosts M) (seg now : Segment) (medium : M) : Type 0 where
+  pub spare : KeepsSpare now
+  pub numbers : SameSize seg now
+  pub below : AreBelow now.bound now.places
+  pub within : (p : ℕ) → is_blank now p ≡ true → p < now.bound
+  pub segment : g.tells → IsSegmentOf (g.contents medium) now

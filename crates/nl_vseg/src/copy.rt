@@ -1,14 +1,14 @@
 // Copies the pages of one block that addresses have.
-ghost use Rattle.std.specs.Prelude.{◌≡◌, ◌⊎◌, ℕ, ◌+◌, ◌*◌, ◌/◌, ◌^◌, ◌<◌, ◌≤◌, List, Option, length, replicate, None, Some, IsTrue};
+ghost use Rattle.std.specs.Prelude.{◌≡◌, ℕ, ◌+◌, ◌*◌, ◌/◌, ◌<◌, List, Option, length, replicate, None, Some, IsTrue};
 ghost use Rattle.nl_field.specs.CrashStates.{LeavesOnly};
 ghost use Rattle.nl_field.specs.Page.{Image, page_at};
 ghost use Rattle.nl_field.specs.Spelling.{is_stamp};
-ghost use Rattle.nl_nand.specs.Nand.{CanProgram, Cut, ErasedWithin, Filled};
+ghost use Rattle.nl_nand.specs.Nand.{CanProgram, Cut, Filled};
 ghost use Rattle.nl_vseg.specs.Pages.{fact_of, main_of};
-ghost use Rattle.nl_vseg.specs.Places.{Holds, IsUnmapped, map_of, place_of, stamp_in_place};
-ghost use Rattle.nl_vseg.specs.Layout.{ArePlaces, wears_of};
-ghost use Rattle.nl_vseg.specs.Used.{AreRising, used_of};
-ghost use Rattle.nl_vseg.specs.Copying.{copy_of, target_at, AreMoved, AreTargets, ChangedIn, HasHole, IsAt, IsMovedPlace, LeavesHole, SameUse};
+ghost use Rattle.nl_vseg.specs.Places.{IsUnmapped, place_of, stamp_in_place};
+ghost use Rattle.nl_vseg.specs.Used.{used_of};
+ghost use Rattle.nl_vseg.specs.Copies.{CanCopy, ChangesIn, CopiesTo, HasCopied, MarksCopy, MovesPlace, UsesMore};
+ghost use Rattle.nl_vseg.specs.Copying.{copy_of, target_at, AreMoved, AreTargets, ChangedIn, HasHole, IsAt, LeavesHole};
 ghost use Rattle.nl_vseg.specs.Effects.{Counted};
 ghost use Rattle.nl_vseg.specs.Answers.{IsLost};
 ghost use Rattle.nl_vseg.specs.Operations.{Operates, snapshot, wear_in};
@@ -71,46 +71,18 @@ fn copy_one<M: Nand>(
     wear: u32,
     blocks: &mut Blocks,
 ) -> VirtualWrite
-    requires pages { (M.geometry media.old).pages ≡ pages }
-    requires some { 0 < pages }
-    requires blocks { target < (M.geometry media.old).blocks }
-    requires first { blocks.old.first ≡ 0 }
-    requires within { target < length blocks.old.blocks }
-    requires width { blocks.old.size ≡ pages }
-    requires rising { AreRising blocks.old }
-    requires numbers { (M.geometry media.old).blocks * pages < 2 ^ 32 }
-    requires few { length copies.old.items < 2 ^ 32 }
+    requires can { CanCopy M.Nand pages victim target copies.old.items blocks.old media.old }
     requires vaddr { v < length copies.old.items }
-    requires places { ArePlaces pages ((M.geometry media.old).blocks * pages) target (used_of blocks.old target) copies.old.items }
-    requires other { target ≡ victim → ⊥ }
     requires targets { AreTargets pages target (used_of blocks.old target) targets.old.items }
     requires hole { LeavesHole pages victim (place_of copies.old.items v) targets.old.items }
     requires fresh { M.tells → (at page : ℕ) → target_at targets.old.items at ≡ Some page → IsAt pages victim at (place_of copies.old.items v) → ⊥ }
-    requires holds { M.tells → Holds (M.contents media.old) copies.old.items }
-    requires erased { M.tells → ErasedWithin (M.contents media.old) (target * pages + used_of blocks.old target) (target * pages + pages) }
-    ensures used { used_of blocks.new target < pages }
-    ensures rising { AreRising blocks.new }
-    ensures states { SameUse blocks.old blocks.new }
-    ensures wears { wears_of blocks.new ≡ wears_of blocks.old }
-    ensures more { used_of blocks.old target ≤ used_of blocks.new target }
-    ensures places { result ≡ VirtualWrite.Done → ArePlaces pages ((M.geometry media.old).blocks * pages) target (used_of blocks.new target) copies.new.items }
-    ensures count { length copies.new.items ≡ length copies.old.items }
-    ensures stamps { (u : ℕ) → stamp_in_place (place_of copies.new.items u) ≡ stamp_in_place (place_of copies.old.items u) }
-    ensures same { (u : ℕ) → (u ≡ v → ⊥) → place_of copies.new.items u ≡ place_of copies.old.items u }
-    ensures moved { result ≡ VirtualWrite.Done → IsMovedPlace pages victim target (used_of blocks.new target) (place_of copies.old.items v) (place_of copies.new.items v) }
-    ensures targets { result ≡ VirtualWrite.Done → AreTargets pages target (used_of blocks.new target) targets.new.items }
-    ensures size { length targets.new.items ≡ length targets.old.items }
-    ensures grown { (at page : ℕ) → target_at targets.new.items at ≡ Some page → (target_at targets.old.items at ≡ Some page) ⊎ IsAt pages victim at (place_of copies.old.items v) }
-    ensures holds { M.tells → result ≡ VirtualWrite.Done → Holds (M.contents media.new) copies.new.items }
-    ensures erased { M.tells → result ≡ VirtualWrite.Done → ErasedWithin (M.contents media.new) (target * pages + used_of blocks.new target) (target * pages + pages) }
-    ensures map { M.tells → result ≡ VirtualWrite.Done → (u : ℕ) → map_of copies.new.items (M.contents media.new) u ≡ map_of copies.old.items (M.contents media.old) u }
-    ensures changed { M.tells → (first : List (Option PlaceOf)) (image : Image) → place_of first v ≡ place_of copies.old.items v → IsUnmapped pages first target → ChangedIn pages target first image (M.contents media.old) → ChangedIn pages target first image (M.contents media.new) }
-    ensures crash { M.tells → (first : List (Option PlaceOf)) (image : Image) → place_of first v ≡ place_of copies.old.items v → IsUnmapped pages first target → ChangedIn pages target first image (M.contents media.old) → LeavesOnly M.clock M.left media.old media.new (λ m c. ChangedIn pages target first image c) }
+    ensures used { UsesMore pages target blocks.old blocks.new }
+    ensures done { result ≡ VirtualWrite.Done → HasCopied M.Nand pages victim target copies.old.items copies.new.items blocks.new media.old media.new }
+    ensures places { MovesPlace pages victim target (used_of blocks.new target) v (result ≡ VirtualWrite.Done) copies.old.items copies.new.items }
+    ensures targets { MarksCopy pages victim target (used_of blocks.new target) (place_of copies.old.items v) (result ≡ VirtualWrite.Done) targets.old.items targets.new.items }
+    ensures changed { M.tells → (first : List (Option PlaceOf)) (image : Image) → place_of first v ≡ place_of copies.old.items v → IsUnmapped pages first target → ChangedIn pages target first image (M.contents media.old) → ChangesIn M.Nand pages target first image media.old media.new }
     ensures lost { (w f : ℕ) → result ≡ VirtualWrite.Lost w f → (stamp_in_place (place_of copies.old.items v) ≡ Some w) × (f ≡ w → ⊥) }
-    ensures kept { M.tells → IsLost result → ⊥ }
-    ensures operates { (wears : List ℕ) → wear_in wears target ≡ wear → Operates M.tells pages (snapshot wears (M.clock media.old) (M.contents media.old)) (snapshot wears (M.clock media.new) (M.contents media.new)) }
-    ensures geometry { M.geometry media.new ≡ M.geometry media.old }
-    ensures counts { Counted M.clock M.read_faults M.write_faults media.old media.new (result ≡ VirtualWrite.Fault) }
+    ensures medium { CopiesTo M.Nand pages target wear result media.old media.new }
 {
     let Some(place) = copies[v] else {
         return VirtualWrite::Done;
@@ -161,41 +133,19 @@ pub fn copy_block<M: Nand>(
     wear: u32,
     blocks: &mut Blocks,
 ) -> VirtualWrite
-    requires pages { (M.geometry media.old).pages ≡ pages }
-    requires some { 0 < pages }
-    requires blocks { target < (M.geometry media.old).blocks }
-    requires first { blocks.old.first ≡ 0 }
-    requires within { target < length blocks.old.blocks }
-    requires width { blocks.old.size ≡ pages }
-    requires rising { AreRising blocks.old }
-    requires numbers { (M.geometry media.old).blocks * pages < 2 ^ 32 }
-    requires few { length copies.old.items < 2 ^ 32 }
-    requires places { ArePlaces pages ((M.geometry media.old).blocks * pages) target (used_of blocks.old target) copies.old.items }
+    requires can { CanCopy M.Nand pages victim target copies.old.items blocks.old media.old }
     requires unmapped { IsUnmapped pages copies.old.items target }
     requires begins { used_of blocks.old target ≡ 0 }
-    requires other { target ≡ victim → ⊥ }
     requires targets { targets.old.items ≡ replicate pages None }
     requires hole { HasHole pages victim copies.old.items }
-    requires holds { M.tells → Holds (M.contents media.old) copies.old.items }
-    requires erased { M.tells → ErasedWithin (M.contents media.old) (target * pages) (target * pages + pages) }
-    ensures used { used_of blocks.new target < pages }
-    ensures rising { AreRising blocks.new }
-    ensures states { SameUse blocks.old blocks.new }
-    ensures wears { wears_of blocks.new ≡ wears_of blocks.old }
-    ensures places { result ≡ VirtualWrite.Done → ArePlaces pages ((M.geometry media.old).blocks * pages) target (used_of blocks.new target) copies.new.items }
+    ensures used { UsesMore pages target blocks.old blocks.new }
+    ensures done { result ≡ VirtualWrite.Done → HasCopied M.Nand pages victim target copies.old.items copies.new.items blocks.new media.old media.new }
+    ensures moved { result ≡ VirtualWrite.Done → AreMoved pages victim target (used_of blocks.new target) copies.old.items copies.new.items }
     ensures count { length copies.new.items ≡ length copies.old.items }
     ensures size { length targets.new.items ≡ length targets.old.items }
-    ensures moved { result ≡ VirtualWrite.Done → AreMoved pages victim target (used_of blocks.new target) copies.old.items copies.new.items }
-    ensures holds { M.tells → result ≡ VirtualWrite.Done → Holds (M.contents media.new) copies.new.items }
-    ensures erased { M.tells → result ≡ VirtualWrite.Done → ErasedWithin (M.contents media.new) (target * pages + used_of blocks.new target) (target * pages + pages) }
-    ensures map { M.tells → result ≡ VirtualWrite.Done → (v : ℕ) → map_of copies.new.items (M.contents media.new) v ≡ map_of copies.old.items (M.contents media.old) v }
-    ensures changed { M.tells → ChangedIn pages target copies.old.items (M.contents media.old) (M.contents media.new) }
-    ensures crash { M.tells → LeavesOnly M.clock M.left media.old media.new (λ m c. ChangedIn pages target copies.old.items (M.contents media.old) c) }
+    ensures changed { M.tells → ChangesIn M.Nand pages target copies.old.items (M.contents media.old) media.old media.new }
     ensures lost { (w f : ℕ) → result ≡ VirtualWrite.Lost w f → ((v : ℕ) × (stamp_in_place (place_of copies.old.items v) ≡ Some w)) × (f ≡ w → ⊥) }
-    ensures kept { M.tells → IsLost result → ⊥ }
-    ensures operates { (wears : List ℕ) → wear_in wears target ≡ wear → Operates M.tells pages (snapshot wears (M.clock media.old) (M.contents media.old)) (snapshot wears (M.clock media.new) (M.contents media.new)) }
-    ensures geometry { M.geometry media.new ≡ M.geometry media.old }
-    ensures counts { Counted M.clock M.read_faults M.write_faults media.old media.new (result ≡ VirtualWrite.Fault) }
+    ensures medium { CopiesTo M.Nand pages target wear result media.old media.new }
 {
     for v in 0..copies.len() {
         match copy_one(

@@ -1,15 +1,14 @@
 // Sees to it that a page can be programmed, and that one block holds no page of the map.
-ghost use Rattle.std.specs.Prelude.{◌≡◌, ◌⊎◌, ℕ, ◌+◌, ◌*◌, ◌/◌, ◌<◌, ◌≤◌, length, true, false};
+ghost use Rattle.std.specs.Prelude.{◌≡◌, ℕ, ◌/◌, ◌<◌, ◌≤◌, length, true, false};
 ghost use Rattle.nl_field.specs.Page.{erased, page_at};
 ghost use Rattle.nl_blocks.specs.Table.{block_at, free_count};
-ghost use Rattle.nl_vseg.specs.Places.{IsUnmapped, map_of, stamp_for};
-ghost use Rattle.nl_vseg.specs.Layout.{IsLayoutOf, HasSpare, SameShape, TakenAsErased, block_is_free, bound, closed, is_soiled, room, wears_of};
+ghost use Rattle.nl_vseg.specs.Places.{IsUnmapped};
+ghost use Rattle.nl_vseg.specs.Layout.{IsLayoutOf, HasSpare, TakenAsErased, block_is_free, closed, is_soiled, room, wears_of};
 ghost use Rattle.nl_vseg.specs.Seen.{seen, IsFormed, FitsLayout};
+ghost use Rattle.nl_vseg.specs.Cleaning.{Frees, GivesBack, KeepsValues, LosesUntold, Opens, StandsOn, Vacates};
 ghost use Rattle.nl_vseg.specs.Copying.{HasHole, Restated, SameUse, StaysOrErased};
 ghost use Rattle.nl_vseg.specs.Used.{IsClosed, IsOpened, KeepsUsed};
-ghost use Rattle.nl_vseg.specs.Effects.{Counted, KeepsMap};
-ghost use Rattle.nl_vseg.specs.Answers.{IsLost, LosesStamp};
-ghost use Rattle.nl_vseg.specs.Operations.{Operates, snapshot, wears_after};
+ghost use Rattle.nl_vseg.specs.Operations.{wears_after};
 
 use crate::copy::{clear, copy_block};
 use crate::state::State;
@@ -101,10 +100,7 @@ impl State {
         requires within { block < length self.old.blocks.blocks }
         requires unmapped { IsUnmapped self.old.blocks.size self.old.places.items block }
         ensures formed { IsFormed self.new }
-        ensures places { self.new.places.items ≡ self.old.places.items }
-        ensures used { IsClosed block self.old.blocks self.new.blocks }
-        ensures active { self.new.active ≡ self.old.active }
-        ensures states { Restated block true self.old.blocks self.new.blocks }
+        ensures free { Frees block self.old self.new }
         ensures kept { soiled ≡ true → wears_of self.new.blocks ≡ wears_of self.old.blocks }
         ensures worn { soiled ≡ false → wears_of self.new.blocks ≡ wears_after WriteAnswer.Done block (wears_of self.old.blocks) }
         ensures soiled { is_soiled (seen self.new) block ≡ soiled }
@@ -116,23 +112,13 @@ impl State {
 
     /// Erases a block that holds no page of the map. It is Free.
     fn erase<M: Nand>(&mut self, media: &mut M, block: u32) -> WriteAnswer
-        requires formed { IsFormed self.old }
-        requires fits { FitsLayout (M.geometry media.old) (seen self.old) }
+        requires stands { StandsOn M.Nand self.old media.old }
         requires within { block < length self.old.blocks.blocks }
         requires unmapped { IsUnmapped self.old.blocks.size self.old.places.items block }
-        requires segment { M.tells → IsLayoutOf (M.contents media.old) (seen self.old) }
-        ensures formed { IsFormed self.new }
-        ensures places { self.new.places.items ≡ self.old.places.items }
-        ensures used { IsClosed block self.old.blocks self.new.blocks }
-        ensures active { self.new.active ≡ self.old.active }
-        ensures states { Restated block true self.old.blocks self.new.blocks }
-        ensures segment { M.tells → IsLayoutOf (M.contents media.new) (seen self.new) }
+        ensures keeps { KeepsValues M.Nand (result ≡ WriteAnswer.Failed) self.old self.new media.old media.new }
+        ensures free { Frees block self.old self.new }
         ensures blank { M.tells → result ≡ WriteAnswer.Done → (p : ℕ) → p / self.old.blocks.size ≡ block → page_at (M.contents media.new) p ≡ erased }
         ensures others { M.tells → (p : ℕ) → (p / self.old.blocks.size ≡ block → ⊥) → page_at (M.contents media.new) p ≡ page_at (M.contents media.old) p }
-        ensures map { M.tells → KeepsMap M.clock M.contents M.left self.old.blocks.size (bound (seen self.old)) (map_of self.old.places.items (M.contents media.old)) (map_of self.new.places.items (M.contents media.new)) media.old media.new }
-        ensures operates { Operates M.tells self.old.blocks.size (snapshot (wears_of self.old.blocks) (M.clock media.old) (M.contents media.old)) (snapshot (wears_of self.new.blocks) (M.clock media.new) (M.contents media.new)) }
-        ensures geometry { M.geometry media.new ≡ M.geometry media.old }
-        ensures counts { Counted M.clock M.read_faults M.write_faults media.old media.new (result ≡ WriteAnswer.Failed) }
     {
         match media.erase(block) {
             WriteAnswer::Done => {
@@ -168,20 +154,14 @@ impl State {
         requires fits { FitsLayout (M.geometry media.old) (seen self.old) }
         requires unmapped { IsUnmapped self.old.blocks.size self.old.places.items self.old.active }
         requires segment { M.tells → IsLayoutOf (M.contents media.old) (closed (seen self.old)) }
-        ensures formed { IsFormed self.new }
+        ensures keeps { KeepsValues M.Nand (result ≡ WriteAnswer.Failed) self.old self.new media.old media.new }
         ensures places { self.new.places.items ≡ self.old.places.items }
         ensures active { self.new.active ≡ self.old.active }
         ensures kept { result ≡ WriteAnswer.Done → SameUse self.old.blocks self.new.blocks }
         ensures used { result ≡ WriteAnswer.Done → (seen self.new).used ≡ (seen self.old).used }
-        ensures given { result ≡ WriteAnswer.Failed → Restated self.old.active true self.old.blocks self.new.blocks }
-        ensures closed { result ≡ WriteAnswer.Failed → (seen self.new).used ≡ self.new.blocks.size }
-        ensures segment { M.tells → IsLayoutOf (M.contents media.new) (seen self.new) }
+        ensures given { result ≡ WriteAnswer.Failed → GivesBack self.old self.new }
         ensures blank { M.tells → result ≡ WriteAnswer.Done → (p : ℕ) → p / self.old.blocks.size ≡ self.old.active → page_at (M.contents media.new) p ≡ erased }
         ensures others { M.tells → (p : ℕ) → (p / self.old.blocks.size ≡ self.old.active → ⊥) → page_at (M.contents media.new) p ≡ page_at (M.contents media.old) p }
-        ensures map { M.tells → KeepsMap M.clock M.contents M.left self.old.blocks.size (bound (seen self.old)) (map_of self.old.places.items (M.contents media.old)) (map_of self.new.places.items (M.contents media.new)) media.old media.new }
-        ensures operates { Operates M.tells self.old.blocks.size (snapshot (wears_of self.old.blocks) (M.clock media.old) (M.contents media.old)) (snapshot (wears_of self.new.blocks) (M.clock media.new) (M.contents media.new)) }
-        ensures geometry { M.geometry media.new ≡ M.geometry media.old }
-        ensures counts { Counted M.clock M.read_faults M.write_faults media.old media.new (result ≡ WriteAnswer.Failed) }
     {
         let block = self.active;
         match media.erase(block) {
@@ -198,24 +178,15 @@ impl State {
 
     /// Makes a Free block the active one, and erases it first where it is soiled.
     fn start<M: Nand>(&mut self, media: &mut M) -> WriteAnswer
-        requires formed { IsFormed self.old }
-        requires fits { FitsLayout (M.geometry media.old) (seen self.old) }
+        requires stands { StandsOn M.Nand self.old media.old }
         requires closed { (seen self.old).used ≡ self.old.blocks.size }
         requires free { 1 ≤ free_count self.old.blocks }
-        requires segment { M.tells → IsLayoutOf (M.contents media.old) (seen self.old) }
-        ensures formed { IsFormed self.new }
+        ensures keeps { KeepsValues M.Nand (result ≡ WriteAnswer.Failed) self.old self.new media.old media.new }
         ensures places { self.new.places.items ≡ self.old.places.items }
         ensures same { result ≡ WriteAnswer.Failed → SameUse self.old.blocks self.new.blocks }
         ensures closed { result ≡ WriteAnswer.Failed → (seen self.new).used ≡ self.new.blocks.size }
-        ensures taken { result ≡ WriteAnswer.Done → Restated self.new.active false self.old.blocks self.new.blocks }
-        ensures begins { result ≡ WriteAnswer.Done → (seen self.new).used ≡ 0 }
-        ensures was_free { result ≡ WriteAnswer.Done → block_is_free self.old.blocks self.new.active ≡ true }
-        ensures segment { M.tells → IsLayoutOf (M.contents media.new) (seen self.new) }
+        ensures opened { result ≡ WriteAnswer.Done → Opens self.old self.new }
         ensures others { M.tells → result ≡ WriteAnswer.Done → StaysOrErased self.old.blocks.size self.new.active (M.contents media.old) (M.contents media.new) }
-        ensures map { M.tells → KeepsMap M.clock M.contents M.left self.old.blocks.size (bound (seen self.old)) (map_of self.old.places.items (M.contents media.old)) (map_of self.new.places.items (M.contents media.new)) media.old media.new }
-        ensures operates { Operates M.tells self.old.blocks.size (snapshot (wears_of self.old.blocks) (M.clock media.old) (M.contents media.old)) (snapshot (wears_of self.new.blocks) (M.clock media.new) (M.contents media.new)) }
-        ensures geometry { M.geometry media.new ≡ M.geometry media.old }
-        ensures counts { Counted M.clock M.read_faults M.write_faults media.old media.new (result ≡ WriteAnswer.Failed) }
     {
         let block = take(&mut self.blocks);
         self.active = block;
@@ -230,9 +201,7 @@ impl State {
         requires formed { IsFormed self.old }
         requires unmapped { IsUnmapped self.old.blocks.size self.old.places.items self.old.active }
         ensures formed { IsFormed self.new }
-        ensures places { self.new.places.items ≡ self.old.places.items }
-        ensures closed { (seen self.new).used ≡ self.new.blocks.size }
-        ensures states { Restated self.old.active true self.old.blocks self.new.blocks }
+        ensures given { GivesBack self.old self.new }
         ensures wears { wears_of self.new.blocks ≡ wears_of self.old.blocks }
         ensures erased { (p : ℕ) → TakenAsErased (seen self.new) p → TakenAsErased (seen self.old) p × (p / self.old.blocks.size ≡ self.old.active → ⊥) }
     {
@@ -242,30 +211,15 @@ impl State {
 
     /// Copies the pages of the victim that addresses have to the active block. The map has the copies once all are made.
     fn move_pages<M: Nand>(&mut self, media: &mut M, victim: u32) -> VirtualWrite
-        requires formed { IsFormed self.old }
-        requires fits { FitsLayout (M.geometry media.old) (seen self.old) }
+        requires stands { StandsOn M.Nand self.old media.old }
         requires begins { (seen self.old).used ≡ 0 }
         requires unmapped { IsUnmapped self.old.blocks.size self.old.places.items self.old.active }
         requires other { self.old.active ≡ victim → ⊥ }
         requires hole { HasHole self.old.blocks.size victim self.old.places.items }
-        requires segment { M.tells → IsLayoutOf (M.contents media.old) (seen self.old) }
-        ensures formed { IsFormed self.new }
-        ensures moved { result ≡ VirtualWrite.Done → IsUnmapped self.new.blocks.size self.new.places.items victim }
-        ensures stamps { (v : ℕ) → stamp_for self.new.places.items v ≡ stamp_for self.old.places.items v }
-        ensures states { result ≡ VirtualWrite.Done → SameUse self.old.blocks self.new.blocks }
-        ensures active { result ≡ VirtualWrite.Done → self.new.active ≡ self.old.active }
-        ensures used { result ≡ VirtualWrite.Done → (seen self.new).used < self.new.blocks.size }
-        ensures count { length self.new.places.items ≡ length self.old.places.items }
-        ensures kept_places { (result ≡ VirtualWrite.Done → ⊥) → self.new.places.items ≡ self.old.places.items }
-        ensures closed { (result ≡ VirtualWrite.Done → ⊥) → (seen self.new).used ≡ self.new.blocks.size }
-        ensures given { (result ≡ VirtualWrite.Done → ⊥) → Restated self.old.active true self.old.blocks self.new.blocks }
-        ensures segment { M.tells → IsLayoutOf (M.contents media.new) (seen self.new) }
-        ensures map { M.tells → KeepsMap M.clock M.contents M.left self.old.blocks.size (bound (seen self.old)) (map_of self.old.places.items (M.contents media.old)) (map_of self.new.places.items (M.contents media.new)) media.old media.new }
-        ensures lost { LosesStamp self.old.places.items result }
-        ensures kept { M.tells → IsLost result → ⊥ }
-        ensures operates { Operates M.tells self.old.blocks.size (snapshot (wears_of self.old.blocks) (M.clock media.old) (M.contents media.old)) (snapshot (wears_of self.new.blocks) (M.clock media.new) (M.contents media.new)) }
-        ensures geometry { M.geometry media.new ≡ M.geometry media.old }
-        ensures counts { Counted M.clock M.read_faults M.write_faults media.old media.new (result ≡ VirtualWrite.Fault) }
+        ensures keeps { KeepsValues M.Nand (result ≡ VirtualWrite.Fault) self.old self.new media.old media.new }
+        ensures moved { result ≡ VirtualWrite.Done → Vacates victim self.old self.new }
+        ensures given { (result ≡ VirtualWrite.Done → ⊥) → GivesBack self.old self.new }
+        ensures lost { LosesUntold M.tells self.old.places.items result }
     {
         let wear = self.blocks.wear(self.active);
         let pages = self.blocks.pages();
@@ -299,23 +253,13 @@ impl State {
 
     /// Cleans the block with the most pages that no address has. One block is Free.
     fn clean<M: Nand>(&mut self, media: &mut M) -> VirtualWrite
-        requires formed { IsFormed self.old }
-        requires fits { FitsLayout (M.geometry media.old) (seen self.old) }
+        requires stands { StandsOn M.Nand self.old media.old }
         requires closed { (seen self.old).used ≡ self.old.blocks.size }
         requires free { free_count self.old.blocks ≡ 1 }
-        requires segment { M.tells → IsLayoutOf (M.contents media.old) (seen self.old) }
-        ensures formed { IsFormed self.new }
+        ensures keeps { KeepsValues M.Nand (result ≡ VirtualWrite.Fault) self.old self.new media.old media.new }
         ensures spare { 1 ≤ free_count self.new.blocks }
         ensures room { result ≡ VirtualWrite.Done → (seen self.new).used < self.new.blocks.size }
-        ensures stamps { (v : ℕ) → stamp_for self.new.places.items v ≡ stamp_for self.old.places.items v }
-        ensures numbers { SameShape (seen self.old) (seen self.new) }
-        ensures segment { M.tells → IsLayoutOf (M.contents media.new) (seen self.new) }
-        ensures map { M.tells → KeepsMap M.clock M.contents M.left self.old.blocks.size (bound (seen self.old)) (map_of self.old.places.items (M.contents media.old)) (map_of self.new.places.items (M.contents media.new)) media.old media.new }
-        ensures lost { LosesStamp self.old.places.items result }
-        ensures kept { M.tells → IsLost result → ⊥ }
-        ensures operates { Operates M.tells self.old.blocks.size (snapshot (wears_of self.old.blocks) (M.clock media.old) (M.contents media.old)) (snapshot (wears_of self.new.blocks) (M.clock media.new) (M.contents media.new)) }
-        ensures geometry { M.geometry media.new ≡ M.geometry media.old }
-        ensures counts { Counted M.clock M.read_faults M.write_faults media.old media.new (result ≡ VirtualWrite.Fault) }
+        ensures lost { LosesUntold M.tells self.old.places.items result }
     {
         let victim = choose(&mut self.blocks, &self.places);
         match self.start(media) {
@@ -335,23 +279,15 @@ impl State {
 
     /// Sees to it that a block is Free. Where none is, some block in use holds no page of the map.
     fn free_one<M: Nand>(&mut self, media: &mut M) -> WriteAnswer
-        requires formed { IsFormed self.old }
-        requires fits { FitsLayout (M.geometry media.old) (seen self.old) }
+        requires stands { StandsOn M.Nand self.old media.old }
         requires closed { (seen self.old).used ≡ self.old.blocks.size }
         requires spare { HasSpare (seen self.old) }
-        requires segment { M.tells → IsLayoutOf (M.contents media.old) (seen self.old) }
-        ensures formed { IsFormed self.new }
+        ensures keeps { KeepsValues M.Nand (result ≡ WriteAnswer.Failed) self.old self.new media.old media.new }
         ensures places { self.new.places.items ≡ self.old.places.items }
         ensures closed { (seen self.new).used ≡ self.new.blocks.size }
         ensures free { 1 ≤ free_count self.new.blocks }
         ensures same { 1 ≤ free_count self.old.blocks → seen self.new ≡ seen self.old }
         ensures still { 1 ≤ free_count self.old.blocks → M.contents media.new ≡ M.contents media.old }
-        ensures numbers { SameShape (seen self.old) (seen self.new) }
-        ensures segment { M.tells → IsLayoutOf (M.contents media.new) (seen self.new) }
-        ensures map { M.tells → KeepsMap M.clock M.contents M.left self.old.blocks.size (bound (seen self.old)) (map_of self.old.places.items (M.contents media.old)) (map_of self.new.places.items (M.contents media.new)) media.old media.new }
-        ensures operates { Operates M.tells self.old.blocks.size (snapshot (wears_of self.old.blocks) (M.clock media.old) (M.contents media.old)) (snapshot (wears_of self.new.blocks) (M.clock media.new) (M.contents media.new)) }
-        ensures geometry { M.geometry media.new ≡ M.geometry media.old }
-        ensures counts { Counted M.clock M.read_faults M.write_faults media.old media.new (result ≡ WriteAnswer.Failed) }
     {
         if self.blocks.free() > 0 {
             return WriteAnswer::Done;
@@ -362,24 +298,14 @@ impl State {
 
     /// Sees to it that the active block has a page that is not used, and another block is Free.
     pub fn make_room<M: Nand>(&mut self, media: &mut M) -> VirtualWrite
-        requires formed { IsFormed self.old }
-        requires fits { FitsLayout (M.geometry media.old) (seen self.old) }
+        requires stands { StandsOn M.Nand self.old media.old }
         requires spare { HasSpare (seen self.old) }
-        requires segment { M.tells → IsLayoutOf (M.contents media.old) (seen self.old) }
-        ensures formed { IsFormed self.new }
+        ensures keeps { KeepsValues M.Nand (result ≡ VirtualWrite.Fault) self.old self.new media.old media.new }
         ensures spare { HasSpare (seen self.new) }
         ensures room { result ≡ VirtualWrite.Done → ((seen self.new).used < self.new.blocks.size) × (1 ≤ free_count self.new.blocks) }
-        ensures stamps { (v : ℕ) → stamp_for self.new.places.items v ≡ stamp_for self.old.places.items v }
-        ensures numbers { SameShape (seen self.old) (seen self.new) }
         ensures direct { 0 < room (seen self.old) → result ≡ VirtualWrite.Done → (room (seen self.new) ≡ room (seen self.old)) × (self.new.places.items ≡ self.old.places.items) }
         ensures others { M.tells → 0 < room (seen self.old) → result ≡ VirtualWrite.Done → StaysOrErased self.old.blocks.size self.new.active (M.contents media.old) (M.contents media.new) }
-        ensures segment { M.tells → IsLayoutOf (M.contents media.new) (seen self.new) }
-        ensures map { M.tells → KeepsMap M.clock M.contents M.left self.old.blocks.size (bound (seen self.old)) (map_of self.old.places.items (M.contents media.old)) (map_of self.new.places.items (M.contents media.new)) media.old media.new }
-        ensures lost { LosesStamp self.old.places.items result }
-        ensures kept { M.tells → IsLost result → ⊥ }
-        ensures operates { Operates M.tells self.old.blocks.size (snapshot (wears_of self.old.blocks) (M.clock media.old) (M.contents media.old)) (snapshot (wears_of self.new.blocks) (M.clock media.new) (M.contents media.new)) }
-        ensures geometry { M.geometry media.new ≡ M.geometry media.old }
-        ensures counts { Counted M.clock M.read_faults M.write_faults media.old media.new (result ≡ VirtualWrite.Fault) }
+        ensures lost { LosesUntold M.tells self.old.places.items result }
     {
         if has_room(&self.blocks, self.active) && self.blocks.free() > 0 {
             return VirtualWrite::Done;

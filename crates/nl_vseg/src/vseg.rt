@@ -1,14 +1,12 @@
-ghost use Rattle.std.specs.Prelude.{◌≡◌, ◌⊎◌, ℕ, ◌+◌, ◌*◌, ◌/◌, ◌<◌, ◌≤◌, ◌==◌, length, slice_set, replicate, true, if◌then◌else◌, None, Some, IsTrue, IfOk};
-ghost use Rattle.nl_field.specs.CrashStates.{Earlier};
+ghost use Rattle.std.specs.Prelude.{◌≡◌, ℕ, ◌+◌, ◌*◌, ◌/◌, ◌<◌, ◌≤◌, length, slice_set, replicate, true, None, Some, IsTrue, IfOk};
 ghost use Rattle.nl_field.specs.Numbers.{is_legal, shape_for};
 ghost use Rattle.nl_field.specs.Spelling.{is_stamp};
 ghost use Rattle.nl_nand.specs.Nand.{FaultsCounted, OnlyReads};
-ghost use Rattle.nl_vseg.specs.Places.{AreBelow, map_of, place_of, stamp_for};
+ghost use Rattle.nl_vseg.specs.Places.{map_of, place_of, stamp_for};
 ghost use Rattle.nl_vseg.specs.Segment.{Fits, IsSegmentOf, KeepsSpare, SameSize, is_blank, wear_of};
-ghost use Rattle.nl_vseg.specs.Effects.{Counted, Programmed};
-ghost use Rattle.nl_vseg.specs.Operations.{Operates, snapshot};
-ghost use Rattle.nl_vseg.specs.Answers.{IsLost, LosesStamp, ReadsStamp, ReadsValue};
-ghost use Rattle.nl_vseg.specs.Writes.{WritesStamp, WritesValue};
+ghost use Rattle.nl_vseg.specs.Answers.{ReadsStamp, ReadsValue};
+ghost use Rattle.nl_vseg.specs.Cleaning.{LosesUntold};
+ghost use Rattle.nl_vseg.specs.Writes.{StillServes, Writes, WritesDirectly};
 
 use crate::state::State;
 use nl_field::{Memory, PageBuf, Shape, VirtualRead, VirtualWrite};
@@ -118,21 +116,10 @@ impl VSeg {
         requires stamp { IsTrue (is_stamp stamp) }
         requires spare { KeepsSpare self.old }
         requires segment { M.tells → IsSegmentOf (M.contents media.old) self.old }
-        ensures spare { KeepsSpare self.new }
-        ensures numbers { SameSize self.old self.new }
-        ensures below { AreBelow self.new.bound self.new.places }
-        ensures within { (p : ℕ) → is_blank self.new p ≡ true → p < self.new.bound }
-        ensures stamps { WritesStamp vaddr stamp (result ≡ VirtualWrite.Done) self.old.places self.new.places }
-        ensures room { 0 < self.old.room → result ≡ VirtualWrite.Done → self.new.room + 1 ≡ self.old.room }
-        ensures segment { M.tells → IsSegmentOf (M.contents media.new) self.new }
-        ensures value { M.tells → WritesValue M.clock M.write_faults M.contents M.left vaddr stamp from.now.main (result ≡ VirtualWrite.Done) self.old self.new media.old media.new }
-        ensures programmed { M.tells → 0 < self.old.room → result ≡ VirtualWrite.Done → (block : ℕ) × Programmed self.old.pages self.old.bound block vaddr stamp (wear_of self.new block) from.now.main (M.contents media.old) (M.contents media.new) }
-        ensures lost { LosesStamp self.old.places result }
-        ensures kept { M.tells → IsLost result → ⊥ }
-        ensures operates { Operates M.tells self.old.pages (snapshot self.old.wears (M.clock media.old) (M.contents media.old)) (snapshot self.new.wears (M.clock media.new) (M.contents media.new)) }
-        ensures geometry { M.geometry media.new ≡ M.geometry media.old }
-        ensures ticks { result ≡ VirtualWrite.Done → Earlier (M.clock media.old) (M.clock media.new) }
-        ensures counts { Counted M.clock M.read_faults M.write_faults media.old media.new (result ≡ VirtualWrite.Fault) }
+        ensures serves { StillServes M.Nand self.old self.new media.new }
+        ensures writes { Writes M.Nand vaddr stamp from.now.main (result ≡ VirtualWrite.Done) (result ≡ VirtualWrite.Fault) self.old self.new media.old media.new }
+        ensures direct { 0 < self.old.room → result ≡ VirtualWrite.Done → WritesDirectly M.Nand vaddr stamp from.now.main self.old self.new media.old media.new }
+        ensures lost { LosesUntold M.tells self.old.places result }
     {
         self.state.write(media, vaddr, from, stamp)
     }

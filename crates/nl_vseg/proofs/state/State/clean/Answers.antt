@@ -1,131 +1,161 @@
-use Rattle.std.proofs.Common.{◌≡◌, ◌*◌, ◌<◌, List, Option, refl, sym, ◌∙◌, ap, subst, arith}
+use Rattle.std.proofs.Common.{◌≡◌, ◌<◌, false, refl, sym, ◌∙◌, ap, subst, arith}
 use Rattle.std.proofs.lemmas.Bool.{true≢false}
+use Rattle.nl_field.specs.declared.answers.VirtualWrite.TheVariants.{Fault}
+use Rattle.nl_nand.specs.declared.answers.WriteAnswer.TheVariants.{Failed}
+use Rattle.nl_vseg.specs.Cleaning.{LosesUntold}
 use Rattle.nl_vseg.specs.Layout.{block_is_free}
 use Rattle.nl_vseg.specs.Places.{IsUnmapped}
 use Rattle.nl_vseg.specs.Seen.{seen}
-use Rattle.nl_vseg.specs.declared.place.Place.{Place}
-use Rattle.nl_vseg.proofs.Counts.{keeps_then}
-use Rattle.nl_vseg.proofs.Operating.{operates_as, operates_both, operates_still}
-use Rattle.nl_vseg.proofs.Segments.{below_of, free_unmapped, keeps_as}
-use Rattle.nl_vseg.proofs.Using.{numbered, numbered_image, settled_full, settled_rising}
 use Rattle.nl_vseg.specs.Used.{used_of}
+use Rattle.nl_vseg.proofs.Cleaning.{loses_as, settled_used, stands_settled, values_as, values_from, values_then, with_table}
+use Rattle.nl_vseg.proofs.Segments.{below_of, free_unmapped}
+use Rattle.nl_vseg.proofs.Small.{done_fault, fault_done, given_free, hole_then, le_is, le_one, lost_done, numbers_then, page_done_failed}
 use Rattle.nl_vseg.proofs.state.State.clean.Goals as goal
 
-pub choose-victim-requires-clause-below : goal.choose-victim-requires-clause-below
-choose-victim-requires-clause-below g c = below_of (seen c.args.self.now) c.requires.formed.segment
+pub choose-victim-requires : goal.choose-victim-requires
+choose-victim-requires g c =
+    let is = c.requires.stands.formed.segment in
+    record { some = is.some; first = is.first; below = below_of (seen c.args.self.now) is; few = is.few; free = le_is _ c.requires.free }
 
-pub move_pages-requires-clause-unmapped : goal.move_pages-requires-clause-unmapped
-move_pages-requires-clause-unmapped g c =
-    let seg = seen c.args.self.now in
-    let s = c.choose-victim.ensures.states in
-    let e = c.start.ensures in
-    let done = c.in-Done.is in
-    let size = (e.taken done).numbers.same_size ∙ s.numbers.same_size in
-    subst (λ n. IsUnmapped n c.start.new.self.places.items c.start.new.self.active) (sym size)
-    (subst (λ (l : List (Option Place)). IsUnmapped seg.table.size l c.start.new.self.active) (sym e.places)
-    (free_unmapped seg c.requires.formed.segment c.start.new.self.active (sym (s.free c.start.new.self.active) ∙ e.was_free done)))
-
-pub returns-in-Lost-clause-operates : goal.returns-in-Lost-clause-operates
-returns-in-Lost-clause-operates g c =
-    let s = c.choose-victim.ensures.states.numbers in
-    let n = (c.start.ensures.taken c.in-Done.is).numbers in
-    operates_both (operates_both (operates_still _ _ _ _ _ _ c.choose-victim.ensures.wears refl refl) (operates_as s.same_size c.start.ensures.operates)) (operates_as (n.same_size ∙ s.same_size) c.move_pages.ensures.operates)
-
-pub returns-in-Fault-clause-operates : goal.returns-in-Fault-clause-operates
-returns-in-Fault-clause-operates g c =
-    let s = c.choose-victim.ensures.states.numbers in
-    let n = (c.start.ensures.taken c.in-Done.is).numbers in
-    operates_both (operates_both (operates_still _ _ _ _ _ _ c.choose-victim.ensures.wears refl refl) (operates_as s.same_size c.start.ensures.operates)) (operates_as (n.same_size ∙ s.same_size) c.move_pages.ensures.operates)
-
-pub returns-in-Done-erase-clause-operates : goal.returns-in-Done-erase-clause-operates
-returns-in-Done-erase-clause-operates g c =
-    let s = c.choose-victim.ensures.states.numbers in
-    let n = (c.start.ensures.taken c.in-Done.is).numbers in
-    let size = n.same_size ∙ s.same_size in
-    let size_2 = (c.move_pages.ensures.states c.in-Done-move_pages.is).numbers.same_size ∙ size in
-    operates_both (operates_both (operates_both (operates_still _ _ _ _ _ _ c.choose-victim.ensures.wears refl refl) (operates_as s.same_size c.start.ensures.operates)) (operates_as size c.move_pages.ensures.operates))
-    (operates_as size_2 c.erase.ensures.operates)
-
-pub returns-in-Failed-erase-clause-operates : goal.returns-in-Failed-erase-clause-operates
-returns-in-Failed-erase-clause-operates g c =
-    let s = c.choose-victim.ensures.states.numbers in
-    let n = (c.start.ensures.taken c.in-Done.is).numbers in
-    let size = n.same_size ∙ s.same_size in
-    let size_2 = (c.move_pages.ensures.states c.in-Done-move_pages.is).numbers.same_size ∙ size in
-    operates_both (operates_both (operates_both (operates_still _ _ _ _ _ _ c.choose-victim.ensures.wears refl refl) (operates_as s.same_size c.start.ensures.operates)) (operates_as size c.move_pages.ensures.operates))
-    (operates_as size_2 c.erase.ensures.operates)
-
-pub returns-in-Fault-clause-map : goal.returns-in-Fault-clause-map
-returns-in-Fault-clause-map g c t =
-    let s = c.choose-victim.ensures.states.numbers in
-    let n = (c.start.ensures.taken c.in-Done.is).numbers in
-    let size = n.same_size ∙ s.same_size in
-    let count = n.same_count ∙ s.same_count in
-    keeps_then (keeps_as s.same_size (λ i. s.same_count i * s.same_size i) (c.start.ensures.map t)) (keeps_as size (λ i. count i * size i) (c.move_pages.ensures.map t))
-
-pub returns-in-Done-erase-clause-map : goal.returns-in-Done-erase-clause-map
-returns-in-Done-erase-clause-map g c t =
-    let s = c.choose-victim.ensures.states.numbers in
-    let n = (c.start.ensures.taken c.in-Done.is).numbers in
-    let size = n.same_size ∙ s.same_size in
-    let count = n.same_count ∙ s.same_count in
-    let m = (c.move_pages.ensures.states c.in-Done-move_pages.is).numbers in
-    let size_2 = m.same_size ∙ size in
-    let count_2 = m.same_count ∙ count in
-    keeps_then (keeps_then (keeps_as s.same_size (λ i. s.same_count i * s.same_size i) (c.start.ensures.map t)) (keeps_as size (λ i. count i * size i) (c.move_pages.ensures.map t)))
-    (keeps_as size_2 (λ i. count_2 i * size_2 i) (c.erase.ensures.map t))
-
-pub returns-in-Failed-erase-clause-map : goal.returns-in-Failed-erase-clause-map
-returns-in-Failed-erase-clause-map g c t =
-    let s = c.choose-victim.ensures.states.numbers in
-    let n = (c.start.ensures.taken c.in-Done.is).numbers in
-    let size = n.same_size ∙ s.same_size in
-    let count = n.same_count ∙ s.same_count in
-    let m = (c.move_pages.ensures.states c.in-Done-move_pages.is).numbers in
-    let size_2 = m.same_size ∙ size in
-    let count_2 = m.same_count ∙ count in
-    keeps_then (keeps_then (keeps_as s.same_size (λ i. s.same_count i * s.same_size i) (c.start.ensures.map t)) (keeps_as size (λ i. count i * size i) (c.move_pages.ensures.map t)))
-    (keeps_as size_2 (λ i. count_2 i * size_2 i) (c.erase.ensures.map t))
-
-pub start-requires-clause-formed : goal.start-requires-clause-formed
-start-requires-clause-formed g c =
-    let seg = seen c.args.self.now in
-    let is = c.requires.formed.segment in
-    let t = c.choose-victim.new.blocks in
+pub start-requires : goal.start-requires
+start-requires g c =
+    let s = c.args.self.now in
     let e = c.choose-victim.ensures in
-    let first = e.states.numbers.same_first ∙ is.first in
-    let full = settled_full seg.places t first e.settled seg.active (subst (λ n. seg.active < n) (sym e.states.numbers.same_count) is.active_is) in
     record {
-      segment = numbered seg t e.states (full ∙ (e.states.numbers.same_size ∙ sym c.requires.closed)) is;
-      rising = settled_rising seg.places t first e.settled;
-      copies = c.requires.formed.copies;
-      targets = c.requires.formed.targets ∙ sym e.states.numbers.same_size;
+      stands = stands_settled g.M.Nand c.choose-victim.new.blocks c.requires.closed e.states e.settled c.requires.stands;
+      closed = settled_used s c.choose-victim.new.blocks c.requires.stands.formed e.states e.settled;
+      free = le_one _ (e.states.total ∙ c.requires.free);
     }
 
-pub start-requires-clause-closed : goal.start-requires-clause-closed
-start-requires-clause-closed g c =
-    let seg = seen c.args.self.now in
-    let is = c.requires.formed.segment in
-    let e = c.choose-victim.ensures in
-    settled_full seg.places c.choose-victim.new.blocks (e.states.numbers.same_first ∙ is.first) e.settled seg.active (subst (λ n. seg.active < n) (sym e.states.numbers.same_count) is.active_is)
-
-pub start-requires-clause-segment : goal.start-requires-clause-segment
-start-requires-clause-segment g c t =
-    let seg = seen c.args.self.now in
-    let is = c.requires.formed.segment in
-    let e = c.choose-victim.ensures in
-    let full = settled_full seg.places c.choose-victim.new.blocks (e.states.numbers.same_first ∙ is.first) e.settled seg.active (subst (λ n. seg.active < n) (sym e.states.numbers.same_count) is.active_is) in
-    numbered_image seg c.choose-victim.new.blocks e.states (full ∙ (e.states.numbers.same_size ∙ sym c.requires.closed)) (g.M.Nand.contents c.args.media.now) (c.requires.segment t)
-
-pub returns-in-Done-erase-clause-room : goal.returns-in-Done-erase-clause-room
-returns-in-Done-erase-clause-room g c done =
-    let mid = c.move_pages.new.self in
-    let e = c.erase.ensures in
+pub returns-in-Failed : goal.returns-in-Failed
+returns-in-Failed g c =
+    let s = c.args.self.now in
     let chosen = c.choose-victim.ensures in
-    let apart : mid.active ≡ c.choose-victim.result → ⊥ = (λ same.
-    true≢false (sym (c.start.ensures.was_free c.in-Done.is) ∙ (ap (block_is_free c.choose-victim.new.blocks) (sym (c.move_pages.ensures.active c.in-Done-move_pages.is) ∙ same) ∙ (chosen.states.free c.choose-victim.result ∙ chosen.in_use)))) in
-    let same : used_of c.erase.new.self.blocks c.erase.new.self.active ≡ used_of mid.blocks mid.active =
-    ap (used_of c.erase.new.self.blocks) e.active ∙ e.used.others mid.active c.move_pages.ensures.formed.segment.active_is apart in
-    let left = c.move_pages.ensures.used c.in-Done-move_pages.is in
-    let size = e.states.numbers.same_size in
-    omega (arith, same, left, size)
+    let e = c.start.ensures in
+    let begun = values_from g.M.Nand s (with_table s c.choose-victim.new.blocks) refl chosen.states.numbers chosen.wears e.keeps in
+    record {
+      keeps = values_as g.M.Nand (λ failed. refl) (λ failed. c.in-Failed.is) begun;
+      spare = le_one _ ((e.same c.in-Failed.is).total ∙ (chosen.states.total ∙ c.requires.free));
+      room = λ done. absurd (fault_done done);
+      lost = record { lost = tt; kept = λ t is. is };
+    }
+
+pub move_pages-requires : goal.move_pages-requires
+move_pages-requires g c =
+    let s = c.args.self.now in
+    let chosen = c.choose-victim.ensures in
+    let e = c.start.ensures in
+    let opened = e.opened c.in-Done.is in
+    let size = (numbers_then chosen.states.numbers opened.taken.numbers).same_size in
+    record {
+      stands = e.keeps.stands;
+      begins = opened.begins;
+      unmapped = subst (λ n. IsUnmapped n c.start.new.self.places.items c.start.new.self.active) (sym size)
+          (subst (λ l. IsUnmapped s.blocks.size l c.start.new.self.active) (sym e.places)
+          (free_unmapped (seen s) c.requires.stands.formed.segment c.start.new.self.active (sym (chosen.states.free c.start.new.self.active) ∙ opened.was_free)));
+      other = λ same.
+          true≢false (sym opened.was_free ∙ (ap (block_is_free c.choose-victim.new.blocks) same ∙ (chosen.states.free c.choose-victim.result ∙ chosen.in_use)));
+      hole = hole_then _ _ _ _ _ size e.places chosen.hole;
+    }
+
+pub returns-in-Lost : goal.returns-in-Lost
+returns-in-Lost g c =
+    let s = c.args.self.now in
+    let chosen = c.choose-victim.ensures in
+    let e = c.start.ensures in
+    let begun = values_from g.M.Nand s (with_table s c.choose-victim.new.blocks) refl chosen.states.numbers chosen.wears e.keeps in
+    let opened = e.opened c.in-Done.is in
+    let started : c.start.result ≡ Failed → ⊥ = λ failed. page_done_failed (sym c.in-Done.is ∙ failed) in
+    let m = c.move_pages.ensures in
+    let moves = values_then g.M.Nand started begun m.keeps in
+    record {
+      keeps = values_as g.M.Nand (λ failed. sym c.in-Lost.is ∙ failed) (λ failed. c.in-Lost.is ∙ failed) moves;
+      spare = given_free opened.taken.here (m.given (λ done. lost_done _ _ (sym c.in-Lost.is ∙ done))).states;
+      room = λ done. absurd (lost_done _ _ done);
+      lost = subst (LosesUntold g.M.Nand.tells s.places.items) c.in-Lost.is (loses_as e.places m.lost);
+    }
+
+pub returns-in-Fault : goal.returns-in-Fault
+returns-in-Fault g c =
+    let s = c.args.self.now in
+    let chosen = c.choose-victim.ensures in
+    let e = c.start.ensures in
+    let begun = values_from g.M.Nand s (with_table s c.choose-victim.new.blocks) refl chosen.states.numbers chosen.wears e.keeps in
+    let opened = e.opened c.in-Done.is in
+    let started : c.start.result ≡ Failed → ⊥ = λ failed. page_done_failed (sym c.in-Done.is ∙ failed) in
+    let m = c.move_pages.ensures in
+    let moves = values_then g.M.Nand started begun m.keeps in
+    record {
+      keeps = values_as g.M.Nand (λ failed. sym c.in-Fault.is ∙ failed) (λ failed. c.in-Fault.is ∙ failed) moves;
+      spare = given_free opened.taken.here (m.given (λ done. fault_done (sym c.in-Fault.is ∙ done))).states;
+      room = λ done. absurd (fault_done done);
+      lost = record { lost = tt; kept = λ t is. is };
+    }
+
+pub erase-requires : goal.erase-requires
+erase-requires g c =
+    let chosen = c.choose-victim.ensures in
+    let opened = c.start.ensures.opened c.in-Done.is in
+    let vacated = c.move_pages.ensures.moved c.in-Done-move_pages.is in
+    record {
+      stands = c.move_pages.ensures.keeps.stands;
+      within = subst (λ n. c.choose-victim.result < n) (sym (numbers_then chosen.states.numbers (numbers_then opened.taken.numbers vacated.states.numbers)).same_count) chosen.within;
+      unmapped = vacated.unmapped;
+    }
+
+pub returns-in-Done-erase : goal.returns-in-Done-erase
+returns-in-Done-erase g c =
+    let s = c.args.self.now in
+    let chosen = c.choose-victim.ensures in
+    let e = c.start.ensures in
+    let begun = values_from g.M.Nand s (with_table s c.choose-victim.new.blocks) refl chosen.states.numbers chosen.wears e.keeps in
+    let opened = e.opened c.in-Done.is in
+    let started : c.start.result ≡ Failed → ⊥ = λ failed. page_done_failed (sym c.in-Done.is ∙ failed) in
+    let m = c.move_pages.ensures in
+    let moves = values_then g.M.Nand started begun m.keeps in
+    let vacated = m.moved c.in-Done-move_pages.is in
+    let er = c.erase.ensures in
+    let not_fault : c.move_pages.result ≡ Fault → ⊥ = λ failed. done_fault (sym c.in-Done-move_pages.is ∙ failed) in
+    let erases = values_then g.M.Nand not_fault moves er.keeps in
+    let apart : c.start.new.self.active ≡ c.choose-victim.result → ⊥ = λ same.
+    true≢false (sym opened.was_free ∙ (ap (block_is_free c.choose-victim.new.blocks) same ∙ (chosen.states.free c.choose-victim.result ∙ chosen.in_use))) in
+    let in_use : block_is_free c.move_pages.new.self.blocks c.choose-victim.result ≡ false =
+    vacated.states.free c.choose-victim.result ∙ (opened.taken.others c.choose-victim.result (λ is. apart (sym is)) ∙ (chosen.states.free c.choose-victim.result ∙ chosen.in_use)) in
+    record {
+      keeps = values_as g.M.Nand (λ failed. absurd (page_done_failed (sym c.in-Done-erase.is ∙ failed))) (λ failed. absurd (done_fault failed)) erases;
+      spare = given_free in_use er.free.states;
+      room = λ done.
+          let mid = c.move_pages.new.self in
+          let other : mid.active ≡ c.choose-victim.result → ⊥ = λ same. apart (sym vacated.same_active ∙ same) in
+          let same : used_of c.erase.new.self.blocks c.erase.new.self.active ≡ used_of mid.blocks mid.active =
+          ap (used_of c.erase.new.self.blocks) er.free.same_active ∙ er.free.used.others mid.active m.keeps.stands.formed.segment.active_is other in
+          let left = vacated.left in
+          let size = er.free.states.numbers.same_size in
+          omega (arith, same, left, size);
+      lost = record { lost = tt; kept = λ t is. is };
+    }
+
+pub returns-in-Failed-erase : goal.returns-in-Failed-erase
+returns-in-Failed-erase g c =
+    let s = c.args.self.now in
+    let chosen = c.choose-victim.ensures in
+    let e = c.start.ensures in
+    let begun = values_from g.M.Nand s (with_table s c.choose-victim.new.blocks) refl chosen.states.numbers chosen.wears e.keeps in
+    let opened = e.opened c.in-Done.is in
+    let started : c.start.result ≡ Failed → ⊥ = λ failed. page_done_failed (sym c.in-Done.is ∙ failed) in
+    let m = c.move_pages.ensures in
+    let moves = values_then g.M.Nand started begun m.keeps in
+    let vacated = m.moved c.in-Done-move_pages.is in
+    let er = c.erase.ensures in
+    let not_fault : c.move_pages.result ≡ Fault → ⊥ = λ failed. done_fault (sym c.in-Done-move_pages.is ∙ failed) in
+    let erases = values_then g.M.Nand not_fault moves er.keeps in
+    let apart : c.start.new.self.active ≡ c.choose-victim.result → ⊥ = λ same.
+    true≢false (sym opened.was_free ∙ (ap (block_is_free c.choose-victim.new.blocks) same ∙ (chosen.states.free c.choose-victim.result ∙ chosen.in_use))) in
+    let in_use : block_is_free c.move_pages.new.self.blocks c.choose-victim.result ≡ false =
+    vacated.states.free c.choose-victim.result ∙ (opened.taken.others c.choose-victim.result (λ is. apart (sym is)) ∙ (chosen.states.free c.choose-victim.result ∙ chosen.in_use)) in
+    record {
+      keeps = values_as g.M.Nand (λ failed. refl) (λ failed. c.in-Failed-erase.is) erases;
+      spare = given_free in_use er.free.states;
+      room = λ done. absurd (fault_done done);
+      lost = record { lost = tt; kept = λ t is. is };
+    }

@@ -1,67 +1,42 @@
-use Rattle.std.proofs.Common.{◌+◌, ◌*◌, length, true, false, refl, sym, subst}
-use Rattle.nl_field.specs.Page.{erased}
-use Rattle.nl_nand.specs.Nand.{Leaves}
-use Rattle.nl_nand.specs.declared.answers.WriteAnswer.TheVariants.{Done, Failed}
+use Rattle.std.proofs.Common.{true, false, refl}
 use Rattle.std.proofs.lemmas.Bool.{true≢false}
+use Rattle.nl_nand.specs.declared.answers.WriteAnswer.TheVariants.{Done, Failed}
 use Rattle.nl_nand.specs.ImageLaws.{filled_cut}
-use Rattle.nl_vseg.specs.Places.{map_of}
-use Rattle.nl_vseg.specs.Layout.{bound, wears_of}
 use Rattle.nl_vseg.specs.Seen.{seen}
-use Rattle.nl_vseg.specs.Effects.{KeepsMap}
-use Rattle.nl_vseg.proofs.Operating.{operates_block}
+use Rattle.nl_vseg.proofs.Cleaning.{values_erased}
 use Rattle.nl_vseg.proofs.Places.{beside_of}
-use Rattle.nl_vseg.proofs.Segments.{erase_segment, erase_keeps, erased_inside, erased_outside, below_of}
+use Rattle.nl_vseg.proofs.Segments.{erase_segment, erased_inside, erased_outside}
+use Rattle.nl_vseg.proofs.Small.{page_failed_done}
 use Rattle.nl_vseg.proofs.state.State.erase.Goals as goal
 
-pub returns-in-Done-clause-segment : goal.returns-in-Done-clause-segment
-returns-in-Done-clause-segment g c t =
-    let filled = c.in-Done.ensures.effect t in
-    erase_segment (seen c.args.self.now) (seen c.set_free.new.self) c.args.block (g.M.Nand.geometry c.args.media.now).pages false (g.M.Nand.contents c.args.media.now) (g.M.Nand.contents c.erase.new.self)
-    c.requires.formed.segment.some c.requires.fits.pages c.set_free.ensures.places c.requires.unmapped (filled_cut filled) (λ e. filled) c.set_free.ensures.erased (c.requires.segment t)
+pub returns-in-Done : goal.returns-in-Done
+returns-in-Done g c =
+    let formed = c.requires.stands.formed in
+    let fits = c.requires.stands.fits in
+    let free = c.set_free.ensures.free in
+    let pages = (g.M.Nand.geometry c.args.media.now).pages in
+    record {
+      keeps = values_erased g.M.Nand c.args.self.now c.set_free.new.self c.args.block Done formed fits (λ t. (c.requires.stands.segment t).holds) c.requires.within c.requires.unmapped
+          c.erase.ensures.crash c.in-Done.ensures.effect c.in-Done.ensures.counted free.same_places free.states.numbers (c.set_free.ensures.worn refl) c.set_free.ensures.formed
+          (λ t. erase_segment (seen c.args.self.now) (seen c.set_free.new.self) c.args.block pages false (g.M.Nand.contents c.args.media.now) (g.M.Nand.contents c.erase.new.self)
+          formed.segment.some fits.pages free.same_places c.requires.unmapped (filled_cut (c.in-Done.ensures.effect t)) (λ e. c.in-Done.ensures.effect t) c.set_free.ensures.erased (c.requires.stands.segment t));
+      free = free;
+      blank = λ t done p at. erased_inside c.args.block pages c.args.self.now.blocks.size fits.pages (c.in-Done.ensures.effect t) formed.segment.some p at;
+      others = λ t p ne. erased_outside c.args.block pages c.args.self.now.blocks.size fits.pages (filled_cut (c.in-Done.ensures.effect t)) p (beside_of p c.args.self.now.blocks.size c.args.block ne);
+    }
 
-pub returns-in-Done-clause-blank : goal.returns-in-Done-clause-blank
-returns-in-Done-clause-blank g c t done p at =
-    erased_inside c.args.block (g.M.Nand.geometry c.args.media.now).pages c.args.self.now.blocks.size c.requires.fits.pages (c.in-Done.ensures.effect t) c.requires.formed.segment.some p at
-
-pub returns-in-Done-clause-others : goal.returns-in-Done-clause-others
-returns-in-Done-clause-others g c t p ne =
-    erased_outside c.args.block (g.M.Nand.geometry c.args.media.now).pages c.args.self.now.blocks.size c.requires.fits.pages (filled_cut (c.in-Done.ensures.effect t)) p
-    (beside_of p c.args.self.now.blocks.size c.args.block ne)
-
-pub returns-in-Done-clause-map : goal.returns-in-Done-clause-map
-returns-in-Done-clause-map g c t =
-    let seg = seen c.args.self.now in
-    subst (λ places. KeepsMap g.M.Nand.clock g.M.Nand.contents g.M.Nand.left seg.table.size (bound seg) (map_of seg.places (g.M.Nand.contents c.args.media.now)) (map_of places (g.M.Nand.contents c.erase.new.self)) c.args.media.now c.erase.new.self)
-    (sym c.set_free.ensures.places)
-    (erase_keeps c.args.block (g.M.Nand.geometry c.args.media.now).pages seg.table.size (length seg.table.blocks) seg.places c.erase.result c.requires.fits.pages c.requires.within (c.requires.segment t).holds
-    (below_of seg c.requires.formed.segment) c.requires.unmapped c.erase.ensures.crash (c.erase.ensures.effect t))
-
-pub returns-in-Failed-clause-segment : goal.returns-in-Failed-clause-segment
-returns-in-Failed-clause-segment g c t =
-    erase_segment (seen c.args.self.now) (seen c.set_free-in-Failed.new.self) c.args.block (g.M.Nand.geometry c.args.media.now).pages true (g.M.Nand.contents c.args.media.now) (g.M.Nand.contents c.erase.new.self)
-    c.requires.formed.segment.some c.requires.fits.pages c.set_free-in-Failed.ensures.places c.requires.unmapped (c.in-Failed.ensures.effect t) (λ e. absurd (true≢false e)) c.set_free-in-Failed.ensures.erased (c.requires.segment t)
-
-pub returns-in-Failed-clause-others : goal.returns-in-Failed-clause-others
-returns-in-Failed-clause-others g c t p ne =
-    erased_outside c.args.block (g.M.Nand.geometry c.args.media.now).pages c.args.self.now.blocks.size c.requires.fits.pages (c.in-Failed.ensures.effect t) p
-    (beside_of p c.args.self.now.blocks.size c.args.block ne)
-
-pub returns-in-Failed-clause-map : goal.returns-in-Failed-clause-map
-returns-in-Failed-clause-map g c t =
-    let seg = seen c.args.self.now in
-    subst (λ places. KeepsMap g.M.Nand.clock g.M.Nand.contents g.M.Nand.left seg.table.size (bound seg) (map_of seg.places (g.M.Nand.contents c.args.media.now)) (map_of places (g.M.Nand.contents c.erase.new.self)) c.args.media.now c.erase.new.self)
-    (sym c.set_free-in-Failed.ensures.places)
-    (erase_keeps c.args.block (g.M.Nand.geometry c.args.media.now).pages seg.table.size (length seg.table.blocks) seg.places c.erase.result c.requires.fits.pages c.requires.within (c.requires.segment t).holds
-    (below_of seg c.requires.formed.segment) c.requires.unmapped c.erase.ensures.crash (c.erase.ensures.effect t))
-
-pub returns-in-Done-clause-operates : goal.returns-in-Done-clause-operates
-returns-in-Done-clause-operates g c =
-    let size = c.args.self.now.blocks.size in
-    operates_block size c.args.block Done (wears_of c.args.self.now.blocks) (wears_of c.set_free.new.self.blocks) _ _ _ _ (c.set_free.ensures.worn refl) c.in-Done.ensures.counted.ticks
-    (λ t. subst (λ n. Leaves (c.args.block * n) (c.args.block * n + n) erased (g.M.Nand.contents c.args.media.now) Done (g.M.Nand.contents c.erase.new.self)) c.requires.fits.pages (c.in-Done.ensures.effect t))
-
-pub returns-in-Failed-clause-operates : goal.returns-in-Failed-clause-operates
-returns-in-Failed-clause-operates g c =
-    let size = c.args.self.now.blocks.size in
-    operates_block size c.args.block Failed (wears_of c.args.self.now.blocks) (wears_of c.set_free-in-Failed.new.self.blocks) _ _ _ _ (c.set_free-in-Failed.ensures.kept refl) c.in-Failed.ensures.counted.ticks
-    (λ t. subst (λ n. Leaves (c.args.block * n) (c.args.block * n + n) erased (g.M.Nand.contents c.args.media.now) Failed (g.M.Nand.contents c.erase.new.self)) c.requires.fits.pages (c.in-Failed.ensures.effect t))
+pub returns-in-Failed : goal.returns-in-Failed
+returns-in-Failed g c =
+    let formed = c.requires.stands.formed in
+    let fits = c.requires.stands.fits in
+    let free = c.set_free-in-Failed.ensures.free in
+    let pages = (g.M.Nand.geometry c.args.media.now).pages in
+    record {
+      keeps = values_erased g.M.Nand c.args.self.now c.set_free-in-Failed.new.self c.args.block Failed formed fits (λ t. (c.requires.stands.segment t).holds) c.requires.within c.requires.unmapped
+          c.erase.ensures.crash c.in-Failed.ensures.effect c.in-Failed.ensures.counted free.same_places free.states.numbers (c.set_free-in-Failed.ensures.kept refl) c.set_free-in-Failed.ensures.formed
+          (λ t. erase_segment (seen c.args.self.now) (seen c.set_free-in-Failed.new.self) c.args.block pages true (g.M.Nand.contents c.args.media.now) (g.M.Nand.contents c.erase.new.self)
+          formed.segment.some fits.pages free.same_places c.requires.unmapped (c.in-Failed.ensures.effect t) (λ e. absurd (true≢false e)) c.set_free-in-Failed.ensures.erased (c.requires.stands.segment t));
+      free = free;
+      blank = λ t done. absurd (page_failed_done done);
+      others = λ t p ne. erased_outside c.args.block pages c.args.self.now.blocks.size fits.pages (c.in-Failed.ensures.effect t) p (beside_of p c.args.self.now.blocks.size c.args.block ne);
+    }

@@ -1,62 +1,64 @@
-use Rattle.std.proofs.Common.{◌≡◌, ◌<◌, length, refl, sym, ◌∙◌, ap, subst, arith}
+use Rattle.std.proofs.Common.{◌≡◌, ◌<◌, ◌≤◌, refl, sym, ◌∙◌, ap, subst, arith}
 use Rattle.nl_blocks.specs.Table.{free_count}
 use Rattle.nl_vseg.specs.Places.{IsUnmapped}
 use Rattle.nl_vseg.specs.Seen.{seen}
-use Rattle.nl_vseg.proofs.Operating.{operates_none}
-use Rattle.nl_vseg.proofs.Segments.{below_of, keeps_nothing}
-use Rattle.nl_vseg.proofs.Using.{closed_full, numbered, numbered_image, settled_full, settled_rising}
 use Rattle.nl_vseg.specs.Used.{used_of}
+use Rattle.nl_vseg.proofs.Cleaning.{settled_used, stands_settled, values_from, values_still, with_table}
+use Rattle.nl_vseg.proofs.Segments.{below_of}
+use Rattle.nl_vseg.proofs.Small.{given_free, le_least, page_done_failed}
+use Rattle.nl_vseg.proofs.Using.{closed_full}
 use Rattle.nl_vseg.proofs.state.State.free_one.Goals as goal
 
-pub returns-then-free-gt0-clause-map : goal.returns-then-free-gt0-clause-map
-returns-then-free-gt0-clause-map g c t =
-    let seg = seen c.args.self.now in
-    let spare = c.requires.spare in
-    keeps_nothing c.args.media.now spare.block seg.table.size (length seg.table.blocks) seg.places spare.within (c.requires.segment t).holds (below_of seg c.requires.formed.segment) spare.unmapped
-
-pub choose-block-requires-clause-below : goal.choose-block-requires-clause-below
-choose-block-requires-clause-below g c = below_of (seen c.args.self.now) c.requires.formed.segment
-
-pub erase-requires-clause-unmapped : goal.erase-requires-clause-unmapped
-erase-requires-clause-unmapped g c =
-    let seg = seen c.args.self.now in
-    let spare = c.requires.spare in
-    let none : free_count seg.table ≡ 0 = omega arith in
-    subst (λ n. IsUnmapped n seg.places c.choose-block.result) (sym c.choose-block.ensures.states.numbers.same_size)
-    (c.choose-block.ensures.unmapped none spare.block spare.within spare.unmapped)
-
-pub returns-then-free-gt0-clause-operates : goal.returns-then-free-gt0-clause-operates
-returns-then-free-gt0-clause-operates g c = operates_none refl
-
-pub erase-requires-clause-formed : goal.erase-requires-clause-formed
-erase-requires-clause-formed g c =
-    let seg = seen c.args.self.now in
-    let is = c.requires.formed.segment in
-    let t = c.choose-block.new.blocks in
-    let e = c.choose-block.ensures in
-    let first = e.states.numbers.same_first ∙ is.first in
-    let full = settled_full seg.places t first e.settled seg.active (subst (λ n. seg.active < n) (sym e.states.numbers.same_count) is.active_is) in
+pub returns-then-free-gt0 : goal.returns-then-free-gt0
+returns-then-free-gt0 g c =
+    let s = c.args.self.now in
     record {
-      segment = numbered seg t e.states (full ∙ (e.states.numbers.same_size ∙ sym c.requires.closed)) is;
-      rising = settled_rising seg.places t first e.settled;
-      copies = c.requires.formed.copies;
-      targets = c.requires.formed.targets ∙ sym e.states.numbers.same_size;
+      keeps = values_still g.M.Nand s s c.requires.spare c.requires.stands c.requires.stands refl (record { same_first = refl; same_size = refl; same_count = refl }) refl page_done_failed;
+      places = refl;
+      closed = c.requires.closed;
+      free = subst (λ n. 1 ≤ n) c.free.ensures (le_least c.if-free-gt0.true);
+      same = λ some. refl;
+      still = λ some. refl;
     }
 
-pub erase-requires-clause-segment : goal.erase-requires-clause-segment
-erase-requires-clause-segment g c t =
-    let seg = seen c.args.self.now in
-    let is = c.requires.formed.segment in
-    let e = c.choose-block.ensures in
-    let full = settled_full seg.places c.choose-block.new.blocks (e.states.numbers.same_first ∙ is.first) e.settled seg.active (subst (λ n. seg.active < n) (sym e.states.numbers.same_count) is.active_is) in
-    numbered_image seg c.choose-block.new.blocks e.states (full ∙ (e.states.numbers.same_size ∙ sym c.requires.closed)) (g.M.Nand.contents c.args.media.now) (c.requires.segment t)
+pub choose-block-requires : goal.choose-block-requires
+choose-block-requires g c =
+    let is = c.requires.stands.formed.segment in
+    let free = c.free.ensures in
+    let none = c.if-free-gt0.false in
+    record { some = is.some; first = is.first; below = below_of (seen c.args.self.now) is; few = is.few; free = omega (arith, free, none) }
 
-pub returns-clause-closed : goal.returns-clause-closed
-returns-clause-closed g c =
-    let seg = seen c.args.self.now in
-    let is = c.requires.formed.segment in
+pub erase-requires : goal.erase-requires
+erase-requires g c =
+    let s = c.args.self.now in
+    let spare = c.requires.spare in
+    let e = c.choose-block.ensures in
+    let free = c.free.ensures in
+    let left = c.if-free-gt0.false in
+    let none : free_count s.blocks ≡ 0 = omega (arith, free, left) in
+    record {
+      stands = stands_settled g.M.Nand c.choose-block.new.blocks c.requires.closed e.states e.settled c.requires.stands;
+      within = subst (λ n. c.choose-block.result < n) (sym e.states.numbers.same_count) e.within;
+      unmapped = subst (λ n. IsUnmapped n s.places.items c.choose-block.result) (sym e.states.numbers.same_size) (e.unmapped none spare.block spare.within spare.unmapped);
+    }
+
+pub returns : goal.returns
+returns g c =
+    let s = c.args.self.now in
     let t = c.choose-block.new.blocks in
     let e = c.choose-block.ensures in
-    let within = subst (λ n. seg.active < n) (sym e.states.numbers.same_count) is.active_is in
-    let full = settled_full seg.places t (e.states.numbers.same_first ∙ is.first) e.settled seg.active within in
-    ap (used_of c.erase.new.self.blocks) c.erase.ensures.active ∙ closed_full seg.active within full c.erase.ensures.states.numbers.same_size c.erase.ensures.used
+    let er = c.erase.ensures in
+    let free = c.free.ensures in
+    let left = c.if-free-gt0.false in
+    let none : 1 ≤ free_count s.blocks → ⊥ = λ some. omega (arith, free, left, some) in
+    record {
+      keeps = values_from g.M.Nand s (with_table s t) refl e.states.numbers e.wears er.keeps;
+      places = er.free.same_places;
+      closed =
+          let within = subst (λ n. s.active < n) (sym e.states.numbers.same_count) c.requires.stands.formed.segment.active_is in
+          ap (used_of c.erase.new.self.blocks) er.free.same_active
+          ∙ closed_full s.active within (settled_used s t c.requires.stands.formed e.states e.settled) er.free.states.numbers.same_size er.free.used;
+      free = given_free (e.states.free c.choose-block.result ∙ e.in_use) er.free.states;
+      same = λ some. absurd (none some);
+      still = λ some. absurd (none some);
+    }

@@ -1,120 +1,150 @@
-use Rattle.std.proofs.Common.{◌+◌, ◌*◌, ◌≤◌, Bool, cond, length, refl, sym, ◌∙◌, ap, subst, arith}
+use Rattle.std.proofs.Common.{◌≡◌, ◌+◌, ◌<◌, ◌≤◌, inl, Bool, cond, refl, sym, ◌∙◌, ap, subst, arith}
 use Rattle.nl_blocks.specs.Table.{free_count}
 use Rattle.nl_field.specs.Page.{Image}
-use Rattle.nl_vseg.specs.Seen.{seen}
+use Rattle.nl_nand.specs.declared.answers.WriteAnswer.TheVariants.{Failed}
 use Rattle.nl_vseg.specs.Copying.{StaysOrErased}
-use Rattle.nl_vseg.proofs.Copies.{closed_segment, free_spare, room_free}
-use Rattle.nl_vseg.proofs.Counts.{keeps_then}
-use Rattle.nl_vseg.proofs.Operating.{operates_as, operates_both, operates_none, operates_still}
-use Rattle.nl_vseg.proofs.Segments.{below_of, keeps_as, keeps_nothing}
-use Rattle.nl_vseg.proofs.Using.{closed_image, numbered, numbered_image, spare_used}
-use Rattle.nl_vseg.specs.Layout.{closed}
+use Rattle.nl_vseg.specs.Layout.{Layout, block_is_free, room}
+use Rattle.nl_vseg.specs.Seen.{seen}
 use Rattle.nl_vseg.specs.Used.{used_of}
+use Rattle.nl_vseg.proofs.Cleaning.{loses_as, stands_closed, stands_spare, values_as, values_from, values_still, values_then, with_table}
+use Rattle.nl_vseg.proofs.Copies.{full_room, opened_room, room_free}
+use Rattle.nl_vseg.proofs.Small.{done_fault, fault_done, le_least, one_left, page_done_failed}
+use Rattle.nl_vseg.proofs.Using.{numbered_room, spare_used}
+use Rattle.nl_vseg.proofs.state.State.make_room.Goals.{else-has_room-via-then-has_room+else-free-gt0, else-has_room-via-else-has_room}
 use Rattle.nl_vseg.proofs.state.State.make_room.Goals as goal
 
-pub returns-then-free-gt0-clause-map : goal.returns-then-free-gt0-clause-map
-returns-then-free-gt0-clause-map g c t =
-    let seg = seen c.args.self.now in
-    let spare = c.requires.spare in
-    keeps_nothing c.args.media.now spare.block seg.table.size (length seg.table.blocks) seg.places spare.within (c.requires.segment t).holds (below_of seg c.requires.formed.segment) spare.unmapped
-
-pub free_one-requires-clause-formed : goal.free_one-requires-clause-formed
-free_one-requires-clause-formed g c =
-    let seg = seen c.args.self.now in
-    let e = c.seal_used.ensures in
+pub returns-then-free-gt0 : goal.returns-then-free-gt0
+returns-then-free-gt0 g c =
+    let s = c.args.self.now in
     record {
-      segment = numbered (closed seg) c.seal_used.new.blocks e.states (e.used.full ∙ e.states.numbers.same_size) (closed_segment seg seg.table.size c.requires.formed.segment refl);
-      rising = e.used.rising c.requires.formed.rising;
-      copies = c.requires.formed.copies;
-      targets = c.requires.formed.targets ∙ sym e.states.numbers.same_size;
+      keeps = values_still g.M.Nand s s c.requires.spare c.requires.stands c.requires.stands refl (record { same_first = refl; same_size = refl; same_count = refl }) refl done_fault;
+      spare = c.requires.spare;
+      room = λ done. (c.has_room.ensures.room c.if-has_room.true, subst (λ n. 1 ≤ n) c.free.ensures (le_least c.if-free-gt0.true));
+      direct = λ some done. (refl, refl);
+      others = λ t some done p. inl refl;
+      lost = record { lost = tt; kept = λ t is. is };
     }
 
-pub free_one-requires-clause-closed : goal.free_one-requires-clause-closed
-free_one-requires-clause-closed g c = c.seal_used.ensures.used.full
+pub seal_used-requires : goal.seal_used-requires
+seal_used-requires g c = record { first = c.requires.stands.formed.segment.first; within = c.requires.stands.formed.segment.active_is }
 
-pub free_one-requires-clause-spare : goal.free_one-requires-clause-spare
-free_one-requires-clause-spare g c = spare_used (seen c.args.self.now) c.seal_used.new.blocks (used_of c.seal_used.new.blocks c.args.self.now.active) c.seal_used.ensures.states c.requires.spare
+pub free_one-requires : goal.free_one-requires
+free_one-requires g c =
+    let s = c.args.self.now in
+    let u = c.seal_used.ensures in
+    record {
+      stands = stands_closed g.M.Nand c.seal_used.new.blocks u.states u.used c.requires.stands;
+      closed = u.used.full;
+      spare = spare_used (seen s) c.seal_used.new.blocks (used_of c.seal_used.new.blocks s.active) u.states c.requires.spare;
+    }
 
-pub free_one-requires-clause-segment : goal.free_one-requires-clause-segment
-free_one-requires-clause-segment g c t =
-    let seg = seen c.args.self.now in
-    let e = c.seal_used.ensures in
-    numbered_image (closed seg) c.seal_used.new.blocks e.states (e.used.full ∙ e.states.numbers.same_size) (g.M.Nand.contents c.args.media.now) (closed_image seg (g.M.Nand.contents c.args.media.now) (c.requires.segment t))
+pub returns-in-Failed : goal.returns-in-Failed
+returns-in-Failed g c =
+    let s = c.args.self.now in
+    let u = c.seal_used.ensures in
+    let f = c.free_one.ensures in
+    let freed = values_from g.M.Nand s (with_table s c.seal_used.new.blocks) refl u.states.numbers u.wears f.keeps in
+    record {
+      keeps = values_as g.M.Nand (λ failed. refl) (λ failed. c.in-Failed.is) freed;
+      spare = stands_spare g.M.Nand f.keeps.stands f.free;
+      room = λ done. absurd (fault_done done);
+      direct = λ some done. absurd (fault_done done);
+      others = λ t some done. absurd (fault_done done);
+      lost = record { lost = tt; kept = λ t is. is };
+    }
 
-pub returns-then-free-lt2-clause-spare : goal.returns-then-free-lt2-clause-spare
-returns-then-free-lt2-clause-spare g c = free_spare (seen c.clean.new.self) c.clean.ensures.formed.segment c.clean.ensures.spare
+pub clean-requires : goal.clean-requires
+clean-requires g c =
+    let f = c.free_one.ensures in
+    record { stands = f.keeps.stands; closed = f.closed; free = one_left c.free-2.ensures c.if-free-lt2.true f.free }
 
-pub returns-then-free-lt2-clause-map : goal.returns-then-free-lt2-clause-map
-returns-then-free-lt2-clause-map g c t =
-    let n = c.free_one.ensures.numbers in
-    let s = c.seal_used.ensures.states.numbers in
-    let size = n.pages ∙ s.same_size in
-    let count = n.blocks ∙ s.same_count in
-    keeps_then (keeps_as s.same_size (λ i. s.same_count i * s.same_size i) (c.free_one.ensures.map t)) (keeps_as size (λ i. count i * size i) (c.clean.ensures.map t))
+pub returns-then-free-lt2 : goal.returns-then-free-lt2
+returns-then-free-lt2 g c =
+    let s = c.args.self.now in
+    let u = c.seal_used.ensures in
+    let f = c.free_one.ensures in
+    let freed = values_from g.M.Nand s (with_table s c.seal_used.new.blocks) refl u.states.numbers u.wears f.keeps in
+    let one : c.free_one.result ≡ Failed → ⊥ = λ failed. page_done_failed (sym c.in-Done.is ∙ failed) in
+    let full : 0 < room (seen s) → used_of s.blocks s.active ≡ s.blocks.size = elim c.else-has_room.branch [
+      | else-has_room-via-then-has_room+else-free-gt0 w ↦ λ some. let free = w.free.ensures in let none = w.if-free-gt0.false in let least = room_free (seen s) some in absurd (omega (arith, free, none, least))
+      | else-has_room-via-else-has_room w ↦ λ some. c.has_room.ensures.full w.if-has_room.false
+    ] in
+    let two : 0 < room (seen s) → 2 ≤ free_count c.free_one.new.self.blocks = λ some.
+    let both = full_room (seen s) (full some) some in
+    let sealed = u.states.total in
+    let same : free_count c.free_one.new.self.blocks ≡ free_count c.seal_used.new.blocks = ap (λ (l : Layout). free_count l.table) (f.same (omega (arith, both, sealed))) in
+    omega (arith, both, sealed, same) in
+    let few : 0 < room (seen s) → ⊥ = λ some. let least = two some in let is = c.free-2.ensures in let below = c.if-free-lt2.true in omega (arith, least, is, below) in
+    let k = c.clean.ensures in
+    record {
+      keeps = values_then g.M.Nand one freed k.keeps;
+      spare = stands_spare g.M.Nand k.keeps.stands k.spare;
+      room = λ done. (k.room done, k.spare);
+      direct = λ some. absurd (few some);
+      others = λ t some. absurd (few some);
+      lost = loses_as f.places k.lost;
+    }
 
-pub returns-in-Done-start-clause-spare : goal.returns-in-Done-start-clause-spare
-returns-in-Done-start-clause-spare g c =
-    let total = (c.start.ensures.taken c.in-Done-start.is).total in
-    let one = ap (λ (b : Bool). free_count c.start.new.self.blocks + cond b 1 0) (c.start.ensures.was_free c.in-Done-start.is) in
-    free_spare (seen c.start.new.self) c.start.ensures.formed.segment (omega (arith, total, one))
+pub start-requires : goal.start-requires
+start-requires g c =
+    let f = c.free_one.ensures in
+    record { stands = f.keeps.stands; closed = f.closed; free = f.free }
 
-pub returns-in-Done-start-clause-others : goal.returns-in-Done-start-clause-others
-returns-in-Done-start-clause-others g c t room done =
-    let seg = seen c.args.self.now in
-    let n = c.free_one.ensures.numbers in
-    let s = c.seal_used.ensures.states in
-    let still = c.free_one.ensures.still (subst (λ k. 1 ≤ k) (sym s.total) (room_free seg room)) in
-    subst (λ (img : Image). StaysOrErased seg.table.size c.start.new.self.active img (g.M.Nand.contents c.start.new.media)) still
-    (subst (λ k. StaysOrErased k c.start.new.self.active (g.M.Nand.contents c.free_one.new.media) (g.M.Nand.contents c.start.new.media)) (n.pages ∙ s.numbers.same_size) (c.start.ensures.others t c.in-Done-start.is))
+pub returns-in-Done-start : goal.returns-in-Done-start
+returns-in-Done-start g c =
+    let s = c.args.self.now in
+    let u = c.seal_used.ensures in
+    let f = c.free_one.ensures in
+    let freed = values_from g.M.Nand s (with_table s c.seal_used.new.blocks) refl u.states.numbers u.wears f.keeps in
+    let one : c.free_one.result ≡ Failed → ⊥ = λ failed. page_done_failed (sym c.in-Done.is ∙ failed) in
+    let e = c.start.ensures in
+    let opened = e.opened c.in-Done-start.is in
+    let total = opened.taken.total in
+    let was : free_count c.start.new.self.blocks + cond (block_is_free c.free_one.new.self.blocks c.start.new.self.active) 1 0 ≡ free_count c.start.new.self.blocks + 1 = ap (λ (b : Bool). free_count c.start.new.self.blocks + cond b 1 0) opened.was_free in
+    let is = c.free-2.ensures in
+    let below = c.if-free-lt2.false in
+    let least : 1 ≤ free_count c.start.new.self.blocks = omega (arith, total, was, is, below) in
+    let full : 0 < room (seen s) → used_of s.blocks s.active ≡ s.blocks.size = elim c.else-has_room.branch [
+      | else-has_room-via-then-has_room+else-free-gt0 w ↦ λ some. let free = w.free.ensures in let none = w.if-free-gt0.false in let least = room_free (seen s) some in absurd (omega (arith, free, none, least))
+      | else-has_room-via-else-has_room w ↦ λ some. c.has_room.ensures.full w.if-has_room.false
+    ] in
+    let two : 0 < room (seen s) → 2 ≤ free_count c.free_one.new.self.blocks = λ some.
+    let both = full_room (seen s) (full some) some in
+    let sealed = u.states.total in
+    let same : free_count c.free_one.new.self.blocks ≡ free_count c.seal_used.new.blocks = ap (λ (l : Layout). free_count l.table) (f.same (omega (arith, both, sealed))) in
+    omega (arith, both, sealed, same) in
+    record {
+      keeps = values_as g.M.Nand (λ failed. absurd (page_done_failed (sym c.in-Done-start.is ∙ failed))) (λ failed. absurd (done_fault failed)) (values_then g.M.Nand one freed e.keeps);
+      spare = stands_spare g.M.Nand e.keeps.stands least;
+      room = λ done. let begins = opened.begins in let some = e.keeps.stands.formed.segment.some in (omega (arith, begins, some), least);
+      direct = λ some done. (
+        opened_room (seen c.free_one.new.self) (seen c.start.new.self) f.closed (two some) opened.begins opened.taken.numbers.same_size (omega (arith, total, was))
+            ∙ (let sealed = u.states.total in
+            let both = full_room (seen s) (full some) some in
+            ap room (f.same (omega (arith, both, sealed))) ∙ (numbered_room (seen s) c.seal_used.new.blocks u.states (u.used.full ∙ (u.states.numbers.same_size ∙ sym (full some))))),
+        e.places ∙ f.places,
+      );
+      others = λ t some done.
+          let shape = f.keeps.shape in
+          let still = f.still (subst (λ n. 1 ≤ n) (sym u.states.total) (room_free (seen s) some)) in
+          subst (λ (img : Image). StaysOrErased s.blocks.size c.start.new.self.active img (g.M.Nand.contents c.start.new.media)) still
+          (subst (λ n. StaysOrErased n c.start.new.self.active (g.M.Nand.contents c.free_one.new.media) (g.M.Nand.contents c.start.new.media)) (shape.pages ∙ u.states.numbers.same_size) (e.others t c.in-Done-start.is));
+      lost = record { lost = tt; kept = λ t is. is };
+    }
 
-pub returns-in-Done-start-clause-map : goal.returns-in-Done-start-clause-map
-returns-in-Done-start-clause-map g c t =
-    let n = c.free_one.ensures.numbers in
-    let s = c.seal_used.ensures.states.numbers in
-    let size = n.pages ∙ s.same_size in
-    let count = n.blocks ∙ s.same_count in
-    keeps_then (keeps_as s.same_size (λ i. s.same_count i * s.same_size i) (c.free_one.ensures.map t)) (keeps_as size (λ i. count i * size i) (c.start.ensures.map t))
-
-pub returns-in-Failed-start-clause-spare : goal.returns-in-Failed-start-clause-spare
-returns-in-Failed-start-clause-spare g c =
-    free_spare (seen c.start.new.self) c.start.ensures.formed.segment (subst (λ n. 1 ≤ n) (sym (c.start.ensures.same c.in-Failed-start.is).total) c.free_one.ensures.free)
-
-pub returns-in-Failed-start-clause-map : goal.returns-in-Failed-start-clause-map
-returns-in-Failed-start-clause-map g c t =
-    let n = c.free_one.ensures.numbers in
-    let s = c.seal_used.ensures.states.numbers in
-    let size = n.pages ∙ s.same_size in
-    let count = n.blocks ∙ s.same_count in
-    keeps_then (keeps_as s.same_size (λ i. s.same_count i * s.same_size i) (c.free_one.ensures.map t)) (keeps_as size (λ i. count i * size i) (c.start.ensures.map t))
-
-pub returns-in-Failed-clause-spare : goal.returns-in-Failed-clause-spare
-returns-in-Failed-clause-spare g c = free_spare (seen c.free_one.new.self) c.free_one.ensures.formed.segment c.free_one.ensures.free
-
-pub returns-then-free-gt0-clause-operates : goal.returns-then-free-gt0-clause-operates
-returns-then-free-gt0-clause-operates g c = operates_none refl
-
-pub returns-then-free-lt2-clause-operates : goal.returns-then-free-lt2-clause-operates
-returns-then-free-lt2-clause-operates g c =
-    let s = c.seal_used.ensures in
-    let size = s.states.numbers.same_size in
-    operates_both (operates_still _ _ _ _ _ _ s.wears refl refl) (operates_both (operates_as size c.free_one.ensures.operates) (operates_as (c.free_one.ensures.numbers.pages ∙ size) c.clean.ensures.operates))
-
-pub returns-in-Done-start-clause-operates : goal.returns-in-Done-start-clause-operates
-returns-in-Done-start-clause-operates g c =
-    let s = c.seal_used.ensures in
-    let size = s.states.numbers.same_size in
-    operates_both (operates_still _ _ _ _ _ _ s.wears refl refl) (operates_both (operates_as size c.free_one.ensures.operates) (operates_as (c.free_one.ensures.numbers.pages ∙ size) c.start.ensures.operates))
-
-pub returns-in-Failed-start-clause-operates : goal.returns-in-Failed-start-clause-operates
-returns-in-Failed-start-clause-operates g c =
-    let s = c.seal_used.ensures in
-    let size = s.states.numbers.same_size in
-    operates_both (operates_still _ _ _ _ _ _ s.wears refl refl) (operates_both (operates_as size c.free_one.ensures.operates) (operates_as (c.free_one.ensures.numbers.pages ∙ size) c.start.ensures.operates))
-
-pub returns-in-Failed-clause-operates : goal.returns-in-Failed-clause-operates
-returns-in-Failed-clause-operates g c = operates_both (operates_still _ _ _ _ _ _ c.seal_used.ensures.wears refl refl) (operates_as c.seal_used.ensures.states.numbers.same_size c.free_one.ensures.operates)
-
-pub returns-in-Failed-clause-map : goal.returns-in-Failed-clause-map
-returns-in-Failed-clause-map g c t =
-    let s = c.seal_used.ensures.states.numbers in
-    keeps_as s.same_size (λ i. s.same_count i * s.same_size i) (c.free_one.ensures.map t)
+pub returns-in-Failed-start : goal.returns-in-Failed-start
+returns-in-Failed-start g c =
+    let s = c.args.self.now in
+    let u = c.seal_used.ensures in
+    let f = c.free_one.ensures in
+    let freed = values_from g.M.Nand s (with_table s c.seal_used.new.blocks) refl u.states.numbers u.wears f.keeps in
+    let one : c.free_one.result ≡ Failed → ⊥ = λ failed. page_done_failed (sym c.in-Done.is ∙ failed) in
+    let e = c.start.ensures in
+    record {
+      keeps = values_as g.M.Nand (λ failed. refl) (λ failed. c.in-Failed-start.is) (values_then g.M.Nand one freed e.keeps);
+      spare = stands_spare g.M.Nand e.keeps.stands (subst (λ n. 1 ≤ n) (sym (e.same c.in-Failed-start.is).total) f.free);
+      room = λ done. absurd (fault_done done);
+      direct = λ some done. absurd (fault_done done);
+      others = λ t some done. absurd (fault_done done);
+      lost = record { lost = tt; kept = λ t is. is };
+    }

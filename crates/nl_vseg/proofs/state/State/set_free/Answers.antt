@@ -32,3 +32,6 @@ returns-clause-formed c =
       copies = c.requires.formed.copies;
       targets = c.requires.formed.targets ∙ sym step.states.numbers.same_size;
     }
+
+pub returns-clause-free : goal.returns-clause-free
+returns-clause-free c = record { same_places = refl; same_active = refl; used = c.free_block.ensures.used; states = c.free_block.ensures.states }

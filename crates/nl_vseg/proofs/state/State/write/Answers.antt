@@ -1,126 +1,77 @@
-use Rattle.std.proofs.Common.{◌≡◌, ◌⊎◌, inl, inr, ⊎_elim, ◌∙◌, sym, subst}
-use Rattle.nl_field.specs.CrashStates.{LeavesOnly, Turns}
-use Rattle.nl_field.specs.Page.{page_at, written}
-use Rattle.nl_blocks.specs.Table.{block_at}
-use Rattle.nl_nand.specs.declared.answers.WriteAnswer.TheVariants.{Done}
-use Rattle.nl_vseg.specs.Places.{map_of}
-use Rattle.nl_vseg.specs.Seen.{seen}
-use Rattle.nl_vseg.specs.Pages.{page_with}
-use Rattle.nl_vseg.specs.Effects.{Keeps, Takes, Programmed}
-use Rattle.nl_vseg.proofs.Copies.{resized}
-use Rattle.nl_vseg.proofs.Counts.{counted_as, counted_then, keeps_from, takes_from, keeps_turns, keeps_no_turn, turns_as}
-use Rattle.nl_vseg.proofs.Operating.{operates_as, operates_both}
-use Rattle.nl_vseg.proofs.Views.{layout_of, segment_from, spare_from, wear_at}
+use Rattle.std.proofs.Common.{◌≡◌, ◌<◌, refl, sym, ◌∙◌, subst}
+use Rattle.nl_field.specs.declared.answers.VirtualWrite.TheVariants.{Fault}
+use Rattle.nl_vseg.specs.Cleaning.{LosesUntold}
+use Rattle.nl_vseg.proofs.Cleaning.{values_as}
+use Rattle.nl_vseg.proofs.Small.{done_fault, fault_done, lost_done, page_done_failed, page_failed_done, shape_then}
+use Rattle.nl_vseg.proofs.Views.{fits_of, layout_of, spare_of}
+use Rattle.nl_vseg.proofs.Written.{programmed_then, still_serves, writes_as, writes_none, writes_then}
 use Rattle.nl_vseg.proofs.state.State.write.Goals as goal
 
-pub returns-in-Done-put-clause-takes : goal.returns-in-Done-put-clause-takes
-returns-in-Done-put-clause-takes g c t done =
-    let seg = seen c.args.self.now in
-    let mid = seen c.make_room.new.self in
-    let m = c.make_room.ensures.map t in
-    let was = g.M.Nand.contents c.make_room.new.media in
-    takes_from m.same m.keeps
-    (resized (λ n b. Takes n b (map_of mid.places was) c.args.vaddr c.args.stamp c.args.from.now.main was (g.M.Nand.contents c.put.new.media)) seg mid c.make_room.ensures.numbers (c.put.ensures.takes t c.in-Done-put.is))
+pub make_room-requires : goal.make_room-requires
+make_room-requires g c =
+    let some = c.requires.formed.segment.some in
+    record {
+      stands = record { formed = c.requires.formed; fits = fits_of some c.requires.fits; segment = λ t. layout_of (c.requires.segment t) };
+      spare = spare_of some c.requires.spare;
+    }
 
-pub returns-in-Done-put-clause-either : goal.returns-in-Done-put-clause-either
-returns-in-Done-put-clause-either g c t =
-    let seg = seen c.args.self.now in
-    let mid = seen c.make_room.new.self in
-    let m = c.make_room.ensures.map t in
-    let was = g.M.Nand.contents c.make_room.new.media in
-    ⊎_elim (λ k. inl (keeps_from m.same m.keeps k)) (λ k. inr (takes_from m.same m.keeps k))
-    (resized (λ n b. Keeps n b (map_of mid.places was) was (g.M.Nand.contents c.put.new.media) ⊎ Takes n b (map_of mid.places was) c.args.vaddr c.args.stamp c.args.from.now.main was (g.M.Nand.contents c.put.new.media))
-    seg mid c.make_room.ensures.numbers (c.put.ensures.either t))
+pub put-requires : goal.put-requires
+put-requires g c =
+    let m = c.make_room.ensures in
+    let room = m.room c.in-Done.is in
+    record { stands = m.keeps.stands; vaddr = subst (λ n. c.args.vaddr < n) (sym m.keeps.shape.addresses) c.requires.vaddr; stamp = c.requires.stamp; room = room.0; free = room.1 }
 
-pub returns-in-Done-put-clause-programmed : goal.returns-in-Done-put-clause-programmed
-returns-in-Done-put-clause-programmed g c t room done =
-    let seg = seen c.args.self.now in
-    let mid = seen c.make_room.new.self in
-    let old = g.M.Nand.contents c.args.media.now in
-    let was = g.M.Nand.contents c.make_room.new.media in
-    let new = g.M.Nand.contents c.put.new.media in
-    let wear = (block_at c.put.new.self.blocks mid.active).wear in
-    let p = resized (λ n b. Programmed n b mid.active c.args.vaddr c.args.stamp wear c.args.from.now.main was new) seg mid c.make_room.ensures.numbers (c.put.ensures.programmed t c.in-Done-put.is) in
-    let stays = c.make_room.ensures.others t room c.in-Done.is in (
-      mid.active,
-      record {
-        page = p.page;
-        below = p.below;
-        in_block = p.in_block;
-        has = subst (λ n. page_at new p.page ≡ written (page_with c.args.from.now.main c.args.vaddr c.args.stamp n)) (sym (wear_at c.put.new.self.blocks mid.active c.put.ensures.formed.segment.first)) p.has;
-        others = λ q ne. ⊎_elim
-            (λ same. ⊎_elim
-            (λ still. inl (same ∙ still))
-            (λ blank. inr (blank.0, same ∙ blank.1))
-            (stays q))
-            (λ blank. inr blank)
-            (p.others q ne);
-      },
-    )
+pub returns-in-Lost : goal.returns-in-Lost
+returns-in-Lost g c =
+    let m = c.make_room.ensures in
+    record {
+      formed = m.keeps.stands.formed;
+      serves = still_serves g.M.Nand c.args.self.now m.keeps.stands m.spare m.keeps.shape;
+      writes = writes_none g.M.Nand (λ done. lost_done _ _ done) (values_as g.M.Nand (λ failed. sym c.in-Lost.is ∙ failed) (λ failed. c.in-Lost.is ∙ failed) m.keeps);
+      direct = λ some done. absurd (lost_done _ _ done);
+      lost = subst (LosesUntold g.M.Nand.tells c.args.self.now.places.items) c.in-Lost.is m.lost;
+    }
 
-pub returns-in-Done-put-clause-crash : goal.returns-in-Done-put-clause-crash
-returns-in-Done-put-clause-crash g c t =
-    let seg = seen c.args.self.now in
-    let mid = seen c.make_room.new.self in
-    let was = g.M.Nand.contents c.make_room.new.media in
-    turns_as (c.put.result ≡ Done) _ (λ f. c.in-Done-put.is) (keeps_turns (c.put.result ≡ Done) (c.make_room.ensures.map t)
-    (resized (λ n b. LeavesOnly g.M.Nand.clock g.M.Nand.left c.make_room.new.media c.put.new.media (Turns (c.put.result ≡ Done) (g.M.Nand.clock c.put.new.media)
-    (λ img. Keeps n b (map_of mid.places was) was img) (λ img. Takes n b (map_of mid.places was) c.args.vaddr c.args.stamp c.args.from.now.main was img)))
-    seg mid c.make_room.ensures.numbers (c.put.ensures.crash t)) c.put.ensures.ticks)
+pub returns-in-Fault : goal.returns-in-Fault
+returns-in-Fault g c =
+    let m = c.make_room.ensures in
+    record {
+      formed = m.keeps.stands.formed;
+      serves = still_serves g.M.Nand c.args.self.now m.keeps.stands m.spare m.keeps.shape;
+      writes = writes_none g.M.Nand fault_done (values_as g.M.Nand (λ failed. sym c.in-Fault.is ∙ failed) (λ failed. c.in-Fault.is ∙ failed) m.keeps);
+      direct = λ some done. absurd (fault_done done);
+      lost = record { lost = tt; kept = λ t is. is };
+    }
 
-pub returns-in-Done-put-clause-counts : goal.returns-in-Done-put-clause-counts
-returns-in-Done-put-clause-counts g c =
-    counted_as (λ f. absurd (cc (f, c.in-Done-put.is))) (λ f. absurd (cc f)) (counted_then (λ f. absurd (cc (f, c.in-Done.is))) c.make_room.ensures.counts c.put.ensures.counts)
+pub returns-in-Done-put : goal.returns-in-Done-put
+returns-in-Done-put g c =
+    let m = c.make_room.ensures in
+    let p = c.put.ensures.puts in
+    let made : c.make_room.result ≡ Fault → ⊥ = λ failed. done_fault (sym c.in-Done.is ∙ failed) in
+    let writes = writes_then g.M.Nand c.put.new.self made m.keeps p.writes in
+    record {
+      formed = p.stands.formed;
+      serves = still_serves g.M.Nand c.args.self.now p.stands p.spare (shape_then m.keeps.shape p.rest.shape);
+      writes = writes_as g.M.Nand (λ done. refl) (λ done. c.in-Done-put.is) (λ failed. absurd (page_done_failed (sym c.in-Done-put.is ∙ failed))) (λ failed. absurd (done_fault failed)) writes;
+      direct = λ some done.
+          let direct = m.direct some c.in-Done.is in
+          record {
+            less = p.less ∙ direct.0;
+            programmed = λ t. programmed_then g.M.Nand c.args.self.now c.make_room.new.self c.put.new.self m.keeps.shape p.stands.formed.segment.first (m.others t some c.in-Done.is) (p.programmed t c.in-Done-put.is);
+          };
+      lost = record { lost = tt; kept = λ t is. is };
+    }
 
-pub returns-in-Failed-clause-either : goal.returns-in-Failed-clause-either
-returns-in-Failed-clause-either g c t =
-    let seg = seen c.args.self.now in
-    let mid = seen c.make_room.new.self in
-    let m = c.make_room.ensures.map t in
-    let was = g.M.Nand.contents c.make_room.new.media in
-    ⊎_elim (λ k. inl (keeps_from m.same m.keeps k)) (λ k. inr (takes_from m.same m.keeps k))
-    (resized (λ n b. Keeps n b (map_of mid.places was) was (g.M.Nand.contents c.put.new.media) ⊎ Takes n b (map_of mid.places was) c.args.vaddr c.args.stamp c.args.from.now.main was (g.M.Nand.contents c.put.new.media))
-    seg mid c.make_room.ensures.numbers (c.put.ensures.either t))
-
-pub returns-in-Failed-clause-crash : goal.returns-in-Failed-clause-crash
-returns-in-Failed-clause-crash g c t =
-    let seg = seen c.args.self.now in
-    let mid = seen c.make_room.new.self in
-    let was = g.M.Nand.contents c.make_room.new.media in
-    turns_as (c.put.result ≡ Done) _ (λ f. absurd (cc f)) (keeps_turns (c.put.result ≡ Done) (c.make_room.ensures.map t)
-    (resized (λ n b. LeavesOnly g.M.Nand.clock g.M.Nand.left c.make_room.new.media c.put.new.media (Turns (c.put.result ≡ Done) (g.M.Nand.clock c.put.new.media)
-    (λ img. Keeps n b (map_of mid.places was) was img) (λ img. Takes n b (map_of mid.places was) c.args.vaddr c.args.stamp c.args.from.now.main was img)))
-    seg mid c.make_room.ensures.numbers (c.put.ensures.crash t)) c.put.ensures.ticks)
-
-pub make_room-requires-clause-segment : goal.make_room-requires-clause-segment
-make_room-requires-clause-segment g c t = layout_of (c.requires.segment t)
-
-pub returns-in-Lost-clause-spare : goal.returns-in-Lost-clause-spare
-returns-in-Lost-clause-spare g c = spare_from c.make_room.ensures.spare
-
-pub returns-in-Fault-clause-spare : goal.returns-in-Fault-clause-spare
-returns-in-Fault-clause-spare g c = spare_from c.make_room.ensures.spare
-
-pub returns-in-Fault-clause-segment : goal.returns-in-Fault-clause-segment
-returns-in-Fault-clause-segment g c t = segment_from (c.make_room.ensures.segment t)
-
-pub returns-in-Fault-clause-crash : goal.returns-in-Fault-clause-crash
-returns-in-Fault-clause-crash g c t = keeps_no_turn _ (λ f. absurd (cc f)) (c.make_room.ensures.map t)
-
-pub returns-in-Done-put-clause-spare : goal.returns-in-Done-put-clause-spare
-returns-in-Done-put-clause-spare g c = spare_from c.put.ensures.spare
-
-pub returns-in-Done-put-clause-segment : goal.returns-in-Done-put-clause-segment
-returns-in-Done-put-clause-segment g c t = segment_from (c.put.ensures.segment t)
-
-pub returns-in-Failed-clause-spare : goal.returns-in-Failed-clause-spare
-returns-in-Failed-clause-spare g c = spare_from c.put.ensures.spare
-
-pub returns-in-Failed-clause-segment : goal.returns-in-Failed-clause-segment
-returns-in-Failed-clause-segment g c t = segment_from (c.put.ensures.segment t)
-
-pub returns-in-Done-put-clause-operates : goal.returns-in-Done-put-clause-operates
-returns-in-Done-put-clause-operates g c = operates_both c.make_room.ensures.operates (operates_as c.make_room.ensures.numbers.pages c.put.ensures.operates)
-
-pub returns-in-Failed-clause-operates : goal.returns-in-Failed-clause-operates
-returns-in-Failed-clause-operates g c = operates_both c.make_room.ensures.operates (operates_as c.make_room.ensures.numbers.pages c.put.ensures.operates)
+pub returns-in-Failed : goal.returns-in-Failed
+returns-in-Failed g c =
+    let m = c.make_room.ensures in
+    let p = c.put.ensures.puts in
+    let made : c.make_room.result ≡ Fault → ⊥ = λ failed. done_fault (sym c.in-Done.is ∙ failed) in
+    let writes = writes_then g.M.Nand c.put.new.self made m.keeps p.writes in
+    record {
+      formed = p.stands.formed;
+      serves = still_serves g.M.Nand c.args.self.now p.stands p.spare (shape_then m.keeps.shape p.rest.shape);
+      writes = writes_as g.M.Nand (λ done. absurd (page_failed_done (sym c.in-Failed.is ∙ done))) (λ done. absurd (fault_done done)) (λ failed. refl) (λ failed. c.in-Failed.is) writes;
+      direct = λ some done. absurd (fault_done done);
+      lost = record { lost = tt; kept = λ t is. is };
+    }

@@ -1,19 +1,20 @@
-use Rattle.std.proofs.Common.{◌≡◌, subst}
-use Rattle.nl_field.specs.declared.answers.VirtualWrite.TheVariants.{Done}
+use Rattle.std.proofs.Common.{◌≡◌, ◌<◌, subst}
+use Rattle.nl_field.specs.declared.answers.VirtualWrite.TheVariants.{Done, Fault}
+use Rattle.nl_vseg.specs.Cleaning.{LosesUntold}
 use Rattle.nl_vseg.specs.Segment.{Segment}
-use Rattle.nl_vseg.specs.Seen.{seen, segment_of}
-use Rattle.nl_vseg.specs.Writes.{WritesValue}
-use Rattle.nl_vseg.proofs.Views.{blank_taken}
+use Rattle.nl_vseg.specs.Seen.{segment_of}
+use Rattle.nl_vseg.specs.Writes.{StillServes, Writes, WritesDirectly}
 use Rattle.nl_vseg.proofs.vseg.VSeg.virtual_write.Goals as goal
 
-pub returns-clause-below : goal.returns-clause-below
-returns-clause-below g c v place named = (c.write.ensures.formed.segment.places_are.each v place named).within
-
-pub returns-clause-within : goal.returns-clause-within
-returns-clause-within g c p is = (blank_taken (seen c.write.new.self) p is).0
-
-pub returns-clause-value : goal.returns-clause-value
-returns-clause-value g c t =
+pub returns : goal.returns
+returns g c =
     let e = c.write.ensures in
-    subst (λ (s : Segment). WritesValue g.M.Nand.clock g.M.Nand.write_faults g.M.Nand.contents g.M.Nand.left c.args.vaddr c.args.stamp c.args.from.now.main (c.write.result ≡ Done) s (segment_of c.write.new.self) c.args.media.now c.write.new.media) c.self.view_is
-    (record { map = e.map t; same = e.same t; takes = e.takes t; either = e.either t; unused = e.unused t; crash = e.crash t })
+    let new = segment_of c.write.new.self in
+    let old = c.args.media.now in
+    let media = c.write.new.media in
+    record {
+      serves = subst (λ (s : Segment). StillServes g.M.Nand s new media) c.self.view_is e.serves;
+      writes = subst (λ (s : Segment). Writes g.M.Nand c.args.vaddr c.args.stamp c.args.from.now.main (c.write.result ≡ Done) (c.write.result ≡ Fault) s new old media) c.self.view_is e.writes;
+      direct = subst (λ (s : Segment). 0 < s.room → c.write.result ≡ Done → WritesDirectly g.M.Nand c.args.vaddr c.args.stamp c.args.from.now.main s new old media) c.self.view_is e.direct;
+      lost = subst (λ (s : Segment). LosesUntold g.M.Nand.tells s.places c.write.result) c.self.view_is e.lost;
+    }
