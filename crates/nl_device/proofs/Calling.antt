@@ -15,7 +15,6 @@ use Rattle.nl_pseg.specs.declared.held.Held.{Held}
 use Rattle.nl_device.specs.Callbacks.{AreCalled, callbacks_of, handled_in, is_led}
 use Rattle.nl_device.specs.Device.{HasLive}
 use Rattle.nl_device.specs.State.{has_at, led_by, old_or}
-use Rattle.nl_callbacks.proofs.Filters.{filter_all}
 use Rattle.nl_device.proofs.Lists.{filter_same, has_kept, kept_handled, kept_has, kept_list}
 
 -- the pairs that lead to another page

@@ -1,14 +1,14 @@
 -- Lists of pending callbacks, filtered.
-use Rattle.std.proofs.Common.{◌≡◌, ◌≢◌, ◌⊎◌, inl, inr, ⊎_elim, ℕ, zero, suc, ◌<◌, ◌≤◌, ◌==◌, ◌&&◌, ◌||◌, Bool, true, false, not, nat_lt, cond, List, [], ◌∷◌, length, remove, refl, sym, ◌∙◌, ap, arith, eq-eqb, ne_eqb}
+use Rattle.std.proofs.Common.{◌≡◌, ◌≢◌, inl, inr, ℕ, zero, suc, ◌<◌, ◌==◌, Bool, true, false, cond, List, [], ◌∷◌, length, remove, refl, sym, ◌∙◌, ap, arith, eq-eqb, ne_eqb}
 use Rattle.std.specs.Prelude.{filter}
-use Rattle.std.proofs.lemmas.Bool.{cases_eq, cases_lt, cond-true, cond-false, lt-ltb, le-ltb, true≢false}
+use Rattle.std.proofs.lemmas.Bool.{cond-true, cond-false, true≢false}
 use Rattle.nl_callbacks.proofs.Filters.{filter_all}
 use Rattle.nl_callbacks.specs.Pending.{entry_at, number_of}
 use Rattle.nl_callbacks.specs.declared.entry.Entry.{Entry}
 use Rattle.nl_iface.specs.Names.{Has}
 use Rattle.nl_iface.specs.declared.Callback.{Callback}
 use Rattle.nl_device.specs.Callbacks.{callbacks_of, handled_in}
-use Rattle.nl_device.specs.State.{at_has, at_once, has_at}
+use Rattle.nl_device.specs.State.{at_has}
 
 -- tests that agree keep the same
 pub filter_same : (p q : Entry → Bool) (es : List Entry) → ((i : ℕ) → i < length es → p (entry_at es i) ≡ q (entry_at es i)) → filter p es ≡ filter q es

@@ -1,7 +1,7 @@
 -- Beside a spare block each stamp that is needed has a place, so that the list of a scan tells which pointers can be retained.
-use Rattle.std.proofs.Common.{◌≡◌, ℕ, ◌+◌, ◌*◌, ◌/◌, ◌<◌, ◌≤◌, ◌==◌, ◌&&◌, ◌||◌, not, cond, Bool, true, false, List, [], ◌∷◌, length, get_or, map, Option, Some, None, is_some, option_map, refl, sym, ◌∙◌, ap, subst, arith, ⊎_elim}
-use Rattle.std.specs.Prelude.{IsSome, filter, find}
-use Rattle.std.specs.List.{list_all, list_any, range_with_len}
+use Rattle.std.proofs.Common.{◌≡◌, ℕ, ◌*◌, ◌/◌, ◌<◌, ◌≤◌, ◌==◌, ◌&&◌, ◌||◌, not, Bool, true, List, length, get_or, map, Option, Some, None, is_some, option_map, refl, sym, ◌∙◌, ap, subst, arith, ⊎_elim}
+use Rattle.std.specs.Prelude.{IsSome, find}
+use Rattle.std.specs.List.{list_any, range_with_len}
 use Rattle.std.proofs.lemmas.Bool.{cases_Bool, cond-false, cond-true, true≢false}
 use Rattle.std.proofs.lemmas.List.{get_or-map, length-map}
 use Rattle.std.proofs.lemmas.List.Elements.{filter_agree}
@@ -13,7 +13,7 @@ use Rattle.nl_field.specs.declared.shape.Shape.{Shape}
 use Rattle.nl_field.specs.ScanList.{is_lost_seen}
 use Rattle.nl_device.specs.Kept.{KeptPages, is_at_name, kept_of_scan, place_among, spare_among}
 use Rattle.nl_device.specs.Reopened.{CanBeRetained}
-use Rattle.nl_device.specs.Retain.{CanRetain, is_lost, place_for, spare_for}
+use Rattle.nl_device.specs.Retain.{CanRetain, is_lost}
 use Rattle.nl_device.specs.declared.kept.page.KeptPage.{KeptPage}
 use Rattle.nl_device.proofs.Alone.{Passes, both, can_erase, finds_one, found_passes, has_copy, is_copy}
 use Rattle.nl_device.proofs.Found.{lost_is, owns_is, spare_is, stamp_is}

@@ -1,8 +1,6 @@
 -- Marks of the blocks that hold a stamp alone.
-use Rattle.std.specs.Prelude.{ℕ, ◌-◌, ◌/◌, ◌==◌, ◌&&◌, not, if◌then◌else◌, Bool, true, false, List, slice_set, Option, Some, None, is_some}
-use Rattle.nl_device.specs.Kept.{copies_of}
+use Rattle.std.specs.Prelude.{ℕ, ◌-◌, ◌/◌, if◌then◌else◌, Bool, true, List, slice_set, Option, Some, None, is_some}
 use Rattle.nl_device.specs.declared.kept.copies.Copies.{Copies}
-use Rattle.nl_device.specs.declared.kept.page.KeptPage.{KeptPage}
 
 -- the marks, from a first block on, with the block of a stamp that has pages there only
 abbrev pub marked : ℕ → ℕ → Option Copies → List Bool → List Bool

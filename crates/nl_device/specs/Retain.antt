@@ -6,7 +6,7 @@ use Rattle.nl_field.specs.declared.pointer.Pointer.{Pointer}
 use Rattle.nl_field.specs.declared.pointer.Tag.{Tag}
 use Rattle.nl_field.specs.declared.shape.Shape.{Shape}
 use Rattle.nl_callbacks.specs.Pending.{IsTable, PendingTable, new_entry}
-use Rattle.nl_pseg.specs.Segment.{CanLead, InSegment, IsNewStamp, IsOldName, KeepsBlock, KeptAreDead, IsNextCopy, Physical, TakenAsErased, held_at, soiled, is_kept}
+use Rattle.nl_pseg.specs.Segment.{CanLead, IsNewStamp, IsOldName, KeepsBlock, KeptAreDead, IsNextCopy, Physical, TakenAsErased, held_at, soiled, is_kept}
 use Rattle.nl_pseg.specs.Space.{IsWhole, waiting}
 use Rattle.nl_pseg.specs.declared.held.Held.{Held}
 use Rattle.nl_iface.specs.declared.Callback.{Callback}

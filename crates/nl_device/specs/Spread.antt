@@ -1,9 +1,6 @@
 -- Pages in groups, and the blocks that hold no group alone.
-use Rattle.std.specs.Prelude.{◌≡◌, ◌⊎◌, ℕ, ◌/◌, ◌<◌, ◌==◌, Bool, true, false, not, if◌then◌else◌, List, [], ◌∷◌, length, find, fold, slice_index_or, Option, Some}
+use Rattle.std.specs.Prelude.{ℕ, ◌==◌, Bool, false, not, if◌then◌else◌, List, find, fold, Option}
 use Rattle.std.specs.List.{list_any, range_with_len}
-use Rattle.nl_field.specs.Page.{Image}
-use Rattle.nl_field.specs.Medium.{Readable}
-use Rattle.nl_field.specs.Space.{spare_block}
 use Rattle.nl_device.specs.declared.opening.spare.Spread.{Spread}
 use Rattle.nl_device.specs.declared.opening.spare.Spread.TheVariants.{Nowhere, In, Several}
 

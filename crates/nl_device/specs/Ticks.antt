@@ -1,5 +1,5 @@
 -- How many programs and erases a copy finishes.
-use Rattle.std.specs.Prelude.{◌≡◌, ℕ, ◌+◌, ◌≤◌}
+use Rattle.std.specs.Prelude.{◌≡◌, ◌+◌, ◌≤◌}
 use Rattle.nl_field.specs.CrashStates.{Earlier, saturated}
 use Rattle.nl_iface.specs.Moves.{MovesPage}
 use Rattle.nl_iface.specs.declared.counts.Counts.{Ghosts}

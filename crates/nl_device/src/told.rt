@@ -14,14 +14,18 @@ impl<M: Nand> Device<M> {
     {
         let Device {
             media,
-            shape: _,
-            vseg: _,
-            pseg: _,
-            pending: _,
-            next: _,
-            kept: _,
-            buf: _,
+            vseg,
+            pseg,
+            pending,
+            kept,
+            buf,
+            ..
         } = self;
+        drop(vseg);
+        drop(pseg);
+        drop(pending);
+        drop(kept);
+        drop(buf);
         media
     }
 

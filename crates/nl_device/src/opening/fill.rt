@@ -47,11 +47,7 @@ fn fill(picks: &mut Vec<Option<Own>>, needed: &Vec<Own>, pages: u32, spare: Opti
 fn no_picks(alloc: Global, count: u32) -> Result<Vec<Option<Own>>, Memory>
     ensures { IfOk result (λ v. v.items ≡ replicate count None) }
 {
-    let mut picks = Vec::with_capacity(alloc, count as usize)?;
-    for _ in 0..count {
-        picks.push(None)?;
-    }
-    Ok(picks)
+    Ok(vec![in alloc; None; count as usize]?)
 }
 
 /// Each address takes the first of these pages outside the spare block, else the first.

@@ -1,5 +1,5 @@
 // The readable pages of the virtual segment, and those that hold the newest write of an address.
-ghost use Rattle.std.specs.Prelude.{◌≡◌, ◌*◌, ◌<◌, ◌++◌, [], filter, length, max, slice_index_or, slice_set, All, IfOk, OnOk};
+ghost use Rattle.std.specs.Prelude.{◌≡◌, ◌*◌, ◌<◌, ◌++◌, ◌∷◌, [], filter, length, max, slice_index_or, slice_set, All, IfOk, OnOk};
 ghost use Rattle.std.specs.List.{cons_option};
 ghost use Rattle.nl_device.specs.Opening.{Tabulates, greatest_of, is_newest, own_in, own_of, owns_of, spread_in};
 ghost use Rattle.nl_device.specs.declared.opening.own.Own.{Own as OwnOf};
@@ -83,6 +83,17 @@ pub fn greatest(alloc: Global, owns: &Vec<Own>, count: u32) -> Result<Vec<u64>, 
     Ok(greatest)
 }
 
+// The page is needed too, where its write sequence number is the greatest of its address.
+fn add_newest(needed: &mut Vec<Own>, own: &Own, greatest: &Vec<u64>) -> Result<(), Memory>
+    requires { own.now.vaddr < length greatest.now.items }
+    ensures { OnOk result (needed.new.items ≡ needed.old.items ++ filter (is_newest greatest.now.items) (own.now ∷ [])) }
+{
+    if own.stamp == greatest[own.vaddr as usize] {
+        needed.push(*own)?;
+    }
+    Ok(())
+}
+
 /// The pages with the greatest write sequence number of their address.
 pub fn needed(alloc: Global, owns: &Vec<Own>, greatest: &Vec<u64>) -> Result<Vec<Own>, Memory>
     requires { All (λ (o : OwnOf). o.vaddr < length greatest.now.items) owns.now.items }
@@ -91,9 +102,7 @@ pub fn needed(alloc: Global, owns: &Vec<Own>, greatest: &Vec<u64>) -> Result<Vec
 {
     let mut needed = Vec::new(alloc);
     for own in owns {
-        if own.stamp == greatest[own.vaddr as usize] {
-            needed.push(*own)?;
-        }
+        add_newest(&mut needed, own, greatest)?;
     }
     Ok(needed)
 }

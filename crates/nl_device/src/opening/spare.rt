@@ -30,11 +30,7 @@ fn more(spread: Spread, block: u32) -> Spread
 pub fn no_spreads(alloc: Global, count: u32) -> Result<Vec<Spread>, Memory>
     ensures { IfOk result (λ v. v.items ≡ replicate count Spread.Nowhere) }
 {
-    let mut spreads = Vec::with_capacity(alloc, count as usize)?;
-    for _ in 0..count {
-        spreads.push(Spread::Nowhere)?;
-    }
-    Ok(spreads)
+    Ok(vec![in alloc; Spread::Nowhere; count as usize]?)
 }
 
 /// A page of the group lies in the block.

@@ -1,4 +1,4 @@
-use Rattle.std.proofs.Common.{◌≡◌, ◌+◌, ◌≤◌, ◌<◌, ◌==◌, ◌∙◌, ℕ, not, List, ap, arith, eq-eqb, length, refl, subst, sym}
+use Rattle.std.proofs.Common.{◌≡◌, ◌==◌, ◌∙◌, not, List, ap, arith, eq-eqb, length, refl, subst, sym}
 use Rattle.std.proofs.lemmas.Bool.{OnTrue_at, cond-true}
 use Rattle.std.proofs.lemmas.List.Edits.{length-remove}
 use Rattle.nl_callbacks.proofs.Filters.{filter_remove}

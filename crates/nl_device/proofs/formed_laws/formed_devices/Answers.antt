@@ -1,4 +1,4 @@
-use Rattle.std.proofs.Common.{◌≡◌, ℕ, List, ap, length, subst, ◌∙◌}
+use Rattle.std.proofs.Common.{ℕ, List, ap, length, subst, ◌∙◌}
 use Rattle.nl_field.specs.declared.shape.Shape.{Shape}
 use Rattle.nl_device.specs.Device.{HasFound}
 use Rattle.nl_device.proofs.FormedLaws.{no_pairs, same_kept}

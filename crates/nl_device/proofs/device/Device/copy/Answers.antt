@@ -40,7 +40,7 @@ post-requires g c =
     let d = c.args.self.now in
     let b = c.begin-began.ensures in
     let mid = taken_device c.requires.formed (λ t. g.met.M.Nand.contents_fit d.media t) c.begin-began.new.self false c.begin-began.result b.begun b.none b.whole b.kept b.segment b.spare in
-    post_room mid c.in-Moved.ensures.moved
+    post_room mid c.in-Moved.ensures.copies.moved
 
 pub returns-in-Moved-clause-formed : goal.returns-in-Moved-clause-formed
 returns-in-Moved-clause-formed g c =
@@ -50,11 +50,11 @@ returns-in-Moved-clause-formed g c =
     let fits = λ (t : g.M.Nand.tells). g.met.M.Nand.contents_fit d.media t in
     let mid = taken_device c.requires.formed fits c.begin-began.new.self false c.begin-began.result b.begun b.none b.whole b.kept b.segment b.spare in
     let p = c.post.ensures in
-    let room = post_room mid c.in-Moved.ensures.moved in
+    let room = post_room mid c.in-Moved.ensures.copies.moved in
     subst (λ k. IsDevice (g.M.Nand.geometry c.copy_one-answer.new.media) g.M.Nand.tells (g.M.Nand.contents c.copy_one-answer.new.media) d.shape d.vseg c.copy_one-answer.new.self c.post.new.self k d.next) (sym c.forget_after.ensures)
-    (moved_device mid e.geometry fits (λ t. g.met.M.Nand.contents_fit c.copy_one-answer.new.media t) c.copy_one-answer.new.self e.whole e.kept_block e.segment e.spare
-    (λ t. may_copy (c.copy_one-answer.ensures.crash t (λ none. apart c.in-Moved.before c.in-Moved.after c.in-Moved.tag c.in-Moved.stamp (sym c.in-Moved.is ∙ none))))
-    c.in-Moved.before c.in-Moved.after (record { tag = c.in-Moved.tag; stamp = c.in-Moved.stamp }) c.in-Moved.ensures.moved c.post.new.self c.post.result p.table
+    (moved_device mid e.geometry fits (λ t. g.met.M.Nand.contents_fit c.copy_one-answer.new.media t) c.copy_one-answer.new.self e.whole e.copies.kept_block (λ t. (e.medium t).segment) (λ t. (e.medium t).spare)
+    (λ t. may_copy ((c.copy_one-answer.ensures.medium t).crash (λ none. apart c.in-Moved.before c.in-Moved.after c.in-Moved.tag c.in-Moved.stamp (sym c.in-Moved.is ∙ none))))
+    c.in-Moved.before c.in-Moved.after (record { tag = c.in-Moved.tag; stamp = c.in-Moved.stamp }) c.in-Moved.ensures.copies.moved c.post.new.self c.post.result p.table
     (ap (λ (x : PendingTable). x.callbacks) p.posted)
     (let l = ap (λ (x : PendingTable). length x.callbacks) p.posted in let r = ap (λ (x : PendingTable). x.room) p.posted in let i = insert_length d.pending.callbacks (place_of d.pending.callbacks c.post.result) (new_entry (callback_of c.post.result c.in-Moved.before c.in-Moved.after c.in-Moved.tag c.in-Moved.stamp)) in omega (arith, l, r, i, room)))
   where
@@ -69,8 +69,8 @@ returns-in-Fault-clause-formed g c =
     let fits = λ (t : g.M.Nand.tells). g.met.M.Nand.contents_fit d.media t in
     let mid = taken_device c.requires.formed fits c.begin-began.new.self false c.begin-began.result b.begun b.none b.whole b.kept b.segment b.spare in
     subst (λ k. IsDevice (g.M.Nand.geometry c.copy_one-answer.new.media) g.M.Nand.tells (g.M.Nand.contents c.copy_one-answer.new.media) d.shape d.vseg c.copy_one-answer.new.self d.pending k d.next) (sym c.forget_after-in-Fault.ensures)
-    (unmoved_device mid e.geometry fits (λ t. g.met.M.Nand.contents_fit c.copy_one-answer.new.media t) c.copy_one-answer.new.self e.whole e.kept_block e.segment e.spare
-    (λ t. may_copy (c.copy_one-answer.ensures.crash t (λ none. apart (sym c.in-Fault.is ∙ none)))) (c.in-Fault.ensures.kept (λ moved. moved)))
+    (unmoved_device mid e.geometry fits (λ t. g.met.M.Nand.contents_fit c.copy_one-answer.new.media t) c.copy_one-answer.new.self e.whole e.copies.kept_block (λ t. (e.medium t).segment) (λ t. (e.medium t).spare)
+    (λ t. may_copy ((c.copy_one-answer.ensures.medium t).crash (λ none. apart (sym c.in-Fault.is ∙ none)))) (c.in-Fault.ensures.copies.kept (λ moved. moved)))
   where
     apart : copy.Fault ≡ copy.Nothing → ⊥
     apart e = cc
@@ -85,7 +85,7 @@ returns-in-Moved-clause-kept g c =
     let new = g.M.Nand.contents c.copy_one-answer.new.media in
     let bound = d.shape.vblocks * d.shape.pages in
     let mid = taken_device f (λ t. g.met.M.Nand.contents_fit d.media t) c.begin-began.new.self false c.begin-began.result b.begun b.none b.whole b.kept b.segment b.spare in
-    let either = λ (t : g.M.Nand.tells). to_takes (may_copy (e.crash t (λ none. apart c.in-Moved.before c.in-Moved.after c.in-Moved.tag c.in-Moved.stamp (sym c.in-Moved.is ∙ none)))).either in
+    let either = λ (t : g.M.Nand.tells). to_takes (may_copy ((e.medium t).crash (λ none. apart c.in-Moved.before c.in-Moved.after c.in-Moved.tag c.in-Moved.stamp (sym c.in-Moved.is ∙ none)))).either in
     let low = λ (t : g.M.Nand.tells) (p : ℕ) (lt : p < bound). either_low (either t) p (subst (λ n. p < n) (sym (begins mid.segments)) lt) in
     let same = λ (t : g.M.Nand.tells). map_same old new d.vseg f.mapped (λ p lt. low t p (subst (λ n. p < n) f.segments.virtual_bound lt)) in
     record {
@@ -99,7 +99,7 @@ returns-in-Moved-clause-kept g c =
       bytes = λ t q page is.
           let h = held_of (held_at d.pseg q) page is in
           live_bytes bound old new q (either_live (either t) q h.0 (mid_held d.pseg c.begin-began.new.self c.begin-began.result b.begun b.none q h.0 h.1));
-      clean = λ clean. e.clean (b.clean clean);
+      clean = λ clean. e.copies.clean (b.clean clean);
       next_stamp = refl;
       clock = e.counts.later;
     }
@@ -124,7 +124,7 @@ returns-in-Lost-clause-kept g c =
     let new = g.M.Nand.contents c.copy_one-answer.new.media in
     let bound = d.shape.vblocks * d.shape.pages in
     let mid = taken_device f (λ t. g.met.M.Nand.contents_fit d.media t) c.begin-began.new.self false c.begin-began.result b.begun b.none b.whole b.kept b.segment b.spare in
-    let either = λ (t : g.M.Nand.tells). to_takes (may_copy (e.crash t (λ none. apart c.in-Lost.wanted c.in-Lost.found (sym c.in-Lost.is ∙ none)))).either in
+    let either = λ (t : g.M.Nand.tells). to_takes (may_copy ((e.medium t).crash (λ none. apart c.in-Lost.wanted c.in-Lost.found (sym c.in-Lost.is ∙ none)))).either in
     let low = λ (t : g.M.Nand.tells) (p : ℕ) (lt : p < bound). either_low (either t) p (subst (λ n. p < n) (sym (begins mid.segments)) lt) in
     let same = λ (t : g.M.Nand.tells). map_same old new d.vseg f.mapped (λ p lt. low t p (subst (λ n. p < n) f.segments.virtual_bound lt)) in
     record {
@@ -138,7 +138,7 @@ returns-in-Lost-clause-kept g c =
       bytes = λ t q page is.
           let h = held_of (held_at d.pseg q) page is in
           live_bytes bound old new q (either_live (either t) q h.0 (mid_held d.pseg c.begin-began.new.self c.begin-began.result b.begun b.none q h.0 h.1));
-      clean = λ clean. e.clean (b.clean clean);
+      clean = λ clean. e.copies.clean (b.clean clean);
       next_stamp = refl;
       clock = e.counts.later;
     }
@@ -163,7 +163,7 @@ returns-in-Fault-clause-kept g c =
     let new = g.M.Nand.contents c.copy_one-answer.new.media in
     let bound = d.shape.vblocks * d.shape.pages in
     let mid = taken_device f (λ t. g.met.M.Nand.contents_fit d.media t) c.begin-began.new.self false c.begin-began.result b.begun b.none b.whole b.kept b.segment b.spare in
-    let either = λ (t : g.M.Nand.tells). to_takes (may_copy (e.crash t (λ none. apart (sym c.in-Fault.is ∙ none)))).either in
+    let either = λ (t : g.M.Nand.tells). to_takes (may_copy ((e.medium t).crash (λ none. apart (sym c.in-Fault.is ∙ none)))).either in
     let low = λ (t : g.M.Nand.tells) (p : ℕ) (lt : p < bound). either_low (either t) p (subst (λ n. p < n) (sym (begins mid.segments)) lt) in
     let same = λ (t : g.M.Nand.tells). map_same old new d.vseg f.mapped (λ p lt. low t p (subst (λ n. p < n) f.segments.virtual_bound lt)) in
     record {
@@ -177,7 +177,7 @@ returns-in-Fault-clause-kept g c =
       bytes = λ t q page is.
           let h = held_of (held_at d.pseg q) page is in
           live_bytes bound old new q (either_live (either t) q h.0 (mid_held d.pseg c.begin-began.new.self c.begin-began.result b.begun b.none q h.0 h.1));
-      clean = λ clean. e.clean (b.clean clean);
+      clean = λ clean. e.copies.clean (b.clean clean);
       next_stamp = refl;
       clock = e.counts.later;
     }
@@ -200,8 +200,8 @@ returns-in-Lost-clause-formed g c =
     let fits = λ (t : g.M.Nand.tells). g.met.M.Nand.contents_fit d.media t in
     let mid = taken_device c.requires.formed fits c.begin-began.new.self false c.begin-began.result b.begun b.none b.whole b.kept b.segment b.spare in
     subst (λ k. IsDevice (g.M.Nand.geometry c.copy_one-answer.new.media) g.M.Nand.tells (g.M.Nand.contents c.copy_one-answer.new.media) d.shape d.vseg c.copy_one-answer.new.self d.pending k d.next) (sym c.forget_after-in-Lost.ensures)
-    (unmoved_device mid e.geometry fits (λ t. g.met.M.Nand.contents_fit c.copy_one-answer.new.media t) c.copy_one-answer.new.self e.whole e.kept_block e.segment e.spare
-    (λ t. may_copy (e.crash t (λ none. apart c.in-Lost.wanted c.in-Lost.found (sym c.in-Lost.is ∙ none)))) (c.in-Lost.ensures.kept (λ moved. moved)))
+    (unmoved_device mid e.geometry fits (λ t. g.met.M.Nand.contents_fit c.copy_one-answer.new.media t) c.copy_one-answer.new.self e.whole e.copies.kept_block (λ t. (e.medium t).segment) (λ t. (e.medium t).spare)
+    (λ t. may_copy ((e.medium t).crash (λ none. apart c.in-Lost.wanted c.in-Lost.found (sym c.in-Lost.is ∙ none)))) (c.in-Lost.ensures.copies.kept (λ moved. moved)))
   where
     apart : (wanted found : ℕ) → copy.Lost wanted found ≡ copy.Nothing → ⊥
     apart wanted found e = cc
@@ -263,7 +263,7 @@ returns-then-began-clause-did g c is =
           bytes = λ t p. ap (λ m. bytes_at (d.shape.vblocks * d.shape.pages) (g.M.Nand.contents m) p) r.1;
           found = refl;
           next_stamp = refl;
-          clean = λ clean. e.clean (c.begin-began.ensures.clean clean);
+          clean = λ clean. e.copies.clean (c.begin-began.ensures.clean clean);
           clock = ap g.M.Nand.clock r.1;
           write_faults = ap g.M.Nand.write_faults r.1;
         };
@@ -289,7 +289,7 @@ returns-else-began-clause-none g c is =
         bytes = λ t p. ap (λ m. bytes_at (d.shape.vblocks * d.shape.pages) (g.M.Nand.contents m) p) r.1;
         found = refl;
         next_stamp = refl;
-        clean = λ clean. c.copy_one-answer.ensures.clean (c.begin-began.ensures.clean clean);
+        clean = λ clean. c.copy_one-answer.ensures.copies.clean (c.begin-began.ensures.clean clean);
         clock = ap g.M.Nand.clock r.1;
         write_faults = ap g.M.Nand.write_faults r.1;
       };
@@ -318,7 +318,7 @@ returns-in-Moved-clause-did g c is =
     let before = c.in-Moved.before in
     let after = c.in-Moved.after in
     let h : Held = record { tag = c.in-Moved.tag; stamp = c.in-Moved.stamp } in
-    let m : Moves before after h seg new = c.in-Moved.ensures.moved in
+    let m : Moves before after h seg new = c.in-Moved.ensures.copies.moved in
     let fits = λ (t : g.M.Nand.tells). g.met.M.Nand.contents_fit d.media t in
     let mid = taken_device f fits seg false c.begin-began.result b.begun b.none b.whole b.kept b.segment b.spare in
     let tables = mid_tables d.pseg seg c.begin-began.result b.begun b.none in
@@ -328,7 +328,7 @@ returns-in-Moved-clause-did g c is =
     let one = one_for_one seg.held after before h h below within apart m.dead.dead m.was in
     let bound = d.shape.vblocks * d.shape.pages in
     let bytes = λ (t : g.M.Nand.tells).
-    let k : Programmed seg after (written (page_with (main_of (page_at (g.M.Nand.contents d.media) before)) h.tag h.stamp (wear_of seg (after / seg.size)))) (g.M.Nand.contents d.media) (g.M.Nand.contents c.copy_one-answer.new.media) = c.in-Moved.ensures.programmed t in
+    let k : Programmed seg after (written (page_with (main_of (page_at (g.M.Nand.contents d.media) before)) h.tag h.stamp (wear_of seg (after / seg.size)))) (g.M.Nand.contents d.media) (g.M.Nand.contents c.copy_one-answer.new.media) = (c.in-Moved.ensures.medium t).programmed in
     bytes_from bound (g.M.Nand.contents c.copy_one-answer.new.media) after (subst (λ n. n ≤ after) (begins mid.segments) m.dead.within.0) ∙ (ap main_of k.has
     ∙ sym (bytes_from bound (g.M.Nand.contents d.media) before (subst (λ n. n ≤ before) (begins mid.segments) (mid.live.in_segment before h m.was).0))) in
     inl (record {
@@ -410,7 +410,7 @@ returns-in-Moved-clause-left g c t =
     let before = c.in-Moved.before in
     let after = c.in-Moved.after in
     let h : Held = record { tag = c.in-Moved.tag; stamp = c.in-Moved.stamp } in
-    let m : Moves before after h seg new = c.in-Moved.ensures.moved in
+    let m : Moves before after h seg new = c.in-Moved.ensures.copies.moved in
     let fits = λ (t : g.M.Nand.tells). g.met.M.Nand.contents_fit d.media t in
     let mid = taken_device f fits seg false c.begin-began.result b.begun b.none b.whole b.kept b.segment b.spare in
     let tables = mid_tables d.pseg seg c.begin-began.result b.begun b.none in
@@ -422,14 +422,14 @@ returns-in-Moved-clause-left g c t =
     let call = callback_of c.post.result before after h.tag h.stamp in
     let names : Copies call (names_with d.pseg d.pending) (names_with new c.post.new.self) = copies_from call d.pseg seg d.pending (names_with new c.post.new.self) tables.0 tables.1
     (copies before after c.post.result h.tag h.stamp seg new d.pending c.post.new.self m within below p.fresh p.next (subst (λ n. n < 2 ^ 64) c.posted.ensures c.posted.type_inv) (ap (λ (x : PendingTable). x.callbacks) p.posted) (ap (λ (x : PendingTable). x.posted) p.posted)) in
-    let k : CrashesMove g.M.Nand.clock g.M.Nand.contents g.M.Nand.left seg d.media c.copy_one-answer.new.media (copy.Moved before after h.tag h.stamp) = c.in-Moved.ensures.crash t (apart before after h.tag h.stamp) in
+    let k : CrashesMove g.M.Nand.clock g.M.Nand.contents g.M.Nand.left seg d.media c.copy_one-answer.new.media (copy.Moved before after h.tag h.stamp) = (c.in-Moved.ensures.medium t).crash (apart before after h.tag h.stamp) in
     let is_before : before ≡ k.before = k.moved.0 in
     let is_h : h ≡ k.h = k.moved.1 in
     let is_page : after ≡ k.crash.page = ap (λ (at : Pointer). at.name) k.crash.named in
     let fit = subst (λ n. ImageOf n image_now) e.geometry (g.met.M.Nand.contents_fit c.copy_one-answer.new.media t) in
     let there = λ (image : Image) (here : ImageOf (g.M.Nand.geometry d.media) image) (places : Places seg k.crash.page k.h.tag k.h.stamp (main_of (page_at image_was k.before)) image_was image).
     ap (stored_in image).named is_page ∙ (copy_there mid t (fits t) k.before k.crash.page k.h k.was image here places ∙ (λ i. Some (record { tag = (sym is_h i).tag; stamp = (sym is_h i).stamp; bytes = bytes_at bound image_was (sym is_before i) }))) in
-    let x : Programmed seg after (written (page_with (main_of (page_at image_was before)) h.tag h.stamp (wear_of seg (after / seg.size)))) image_was image_now = c.in-Moved.ensures.programmed t in
+    let x : Programmed seg after (written (page_with (main_of (page_at image_was before)) h.tag h.stamp (wear_of seg (after / seg.size)))) image_was image_now = (c.in-Moved.ensures.medium t).programmed in
     let bytes : bytes_at bound image_now after ≡ bytes_at bound image_was before = bytes_from bound image_now after (subst (λ n. n ≤ after) (begins mid.segments) m.dead.within.0) ∙ (ap main_of x.has
     ∙ sym (bytes_from bound image_was before (subst (λ n. n ≤ before) (begins mid.segments) (mid.live.in_segment before h m.was).0))) in
     inl (record {
@@ -458,7 +458,7 @@ returns-in-Lost-clause-failed g c un_did un_nothing =
     let d = c.args.self.now in
     let b = c.begin-began.ensures in
     let e = c.copy_one-answer.ensures in
-    let m = c.in-Lost.ensures.kept (λ moved. moved) in
+    let m = c.in-Lost.ensures.copies.kept (λ moved. moved) in
     let space = failed_space d.pseg c.begin-began.new.self c.copy_one-answer.new.self c.begin-began.result b.begun b.none m b.whole e.whole (λ none. apart c.in-Lost.wanted c.in-Lost.found (sym c.in-Lost.is ∙ e.nothing.1 none)) in
     record {
       tables = failed_tables d.pseg c.begin-began.new.self c.copy_one-answer.new.self c.begin-began.result d.pending b.begun b.none m;
@@ -480,8 +480,8 @@ returns-in-Lost-clause-left g c t =
     let fits = λ (t : g.M.Nand.tells). g.met.M.Nand.contents_fit d.media t in
     let mid = taken_device c.requires.formed fits seg false c.begin-began.result b.begun b.none b.whole b.kept b.segment b.spare in
     let tables = mid_tables d.pseg seg c.begin-began.result b.begun b.none in
-    let kept : MovesNone seg new = c.in-Lost.ensures.kept (λ moved. moved) in
-    let k : CrashesMove g.M.Nand.clock g.M.Nand.contents g.M.Nand.left seg d.media c.copy_one-answer.new.media (copy.Lost c.in-Lost.wanted c.in-Lost.found) = c.in-Lost.ensures.crash t (apart c.in-Lost.wanted c.in-Lost.found) in
+    let kept : MovesNone seg new = c.in-Lost.ensures.copies.kept (λ moved. moved) in
+    let k : CrashesMove g.M.Nand.clock g.M.Nand.contents g.M.Nand.left seg d.media c.copy_one-answer.new.media (copy.Lost c.in-Lost.wanted c.in-Lost.found) = (c.in-Lost.ensures.medium t).crash (apart c.in-Lost.wanted c.in-Lost.found) in
     let fit = subst (λ n. ImageOf n (g.M.Nand.contents c.copy_one-answer.new.media)) e.geometry (g.met.M.Nand.contents_fit c.copy_one-answer.new.media t) in
     inl (record {
       stops = lift (λ d. d.media) _ _ k.crash.crash (λ m image l turned.
@@ -507,7 +507,7 @@ returns-in-Lost-clause-clock g c =
     let d = c.args.self.now in
     let b = c.begin-began.ensures in
     let tables = mid_tables d.pseg c.begin-began.new.self c.begin-began.result b.begun b.none in
-    let kept : MovesNone c.begin-began.new.self c.copy_one-answer.new.self = c.in-Lost.ensures.kept (λ moved. moved) in
+    let kept : MovesNone c.begin-began.new.self c.copy_one-answer.new.self = c.in-Lost.ensures.copies.kept (λ moved. moved) in
     copy_ticks _ c.in-Lost.ensures.counts refl refl b.clean (λ m. absurd (not_copied d.pseg c.copy_one-answer.new.self m.taken (kept.tables.same_pairs ∙ tables.1) m.takes m.space)) (λ un. inl (λ moved. moved))
 
 pub returns-in-Lost-clause-later : goal.returns-in-Lost-clause-later
@@ -517,14 +517,14 @@ pub returns-in-Lost-clause-faults : goal.returns-in-Lost-clause-faults
 returns-in-Lost-clause-faults g c = copy_counted c.copy_one-answer.ensures.counts (λ fault. absurd (cc fault)) (λ fault. absurd (cc (fault, c.in-Lost.is)))
 
 pub returns-in-Lost-clause-told : goal.returns-in-Lost-clause-told
-returns-in-Lost-clause-told g c t w found is = c.copy_one-answer.ensures.told t c.in-Lost.wanted c.in-Lost.found c.in-Lost.is
+returns-in-Lost-clause-told g c t w found is = (c.copy_one-answer.ensures.medium t).told c.in-Lost.wanted c.in-Lost.found c.in-Lost.is
 
 pub returns-in-Lost-clause-lost : goal.returns-in-Lost-clause-lost
 returns-in-Lost-clause-lost g c w found is =
     let d = c.args.self.now in
     let b = c.begin-began.ensures in
     let tables = mid_tables d.pseg c.begin-began.new.self c.begin-began.result b.begun b.none in
-    let lost = c.in-Lost.ensures.lost w found (λ i. copy.Lost (ap lost_wanted is i) (ap lost_found is i)) in
+    let lost = c.in-Lost.ensures.copies.lost w found (λ i. copy.Lost (ap lost_wanted is i) (ap lost_found is i)) in
     let page = lost.1 in
     (lost.0, (page.0, record { tag = page.1.tag; stamp = page.1.stamp }, ap (λ (l : List (Option Held)). live_page (get_or l page.0 None)) (sym tables.0) ∙ ap live_page page.3, page.4))
 
@@ -533,7 +533,7 @@ returns-in-Fault-clause-failed g c un_did un_nothing =
     let d = c.args.self.now in
     let b = c.begin-began.ensures in
     let e = c.copy_one-answer.ensures in
-    let m = c.in-Fault.ensures.kept (λ moved. moved) in
+    let m = c.in-Fault.ensures.copies.kept (λ moved. moved) in
     let space = failed_space d.pseg c.begin-began.new.self c.copy_one-answer.new.self c.begin-began.result b.begun b.none m b.whole e.whole (λ none. apart (sym c.in-Fault.is ∙ e.nothing.1 none)) in
     record {
       tables = failed_tables d.pseg c.begin-began.new.self c.copy_one-answer.new.self c.begin-began.result d.pending b.begun b.none m;
@@ -555,8 +555,8 @@ returns-in-Fault-clause-left g c t =
     let fits = λ (t : g.M.Nand.tells). g.met.M.Nand.contents_fit d.media t in
     let mid = taken_device c.requires.formed fits seg false c.begin-began.result b.begun b.none b.whole b.kept b.segment b.spare in
     let tables = mid_tables d.pseg seg c.begin-began.result b.begun b.none in
-    let kept : MovesNone seg new = c.in-Fault.ensures.kept (λ moved. moved) in
-    let k : CrashesMove g.M.Nand.clock g.M.Nand.contents g.M.Nand.left seg d.media c.copy_one-answer.new.media copy.Fault = c.in-Fault.ensures.crash t (apart) in
+    let kept : MovesNone seg new = c.in-Fault.ensures.copies.kept (λ moved. moved) in
+    let k : CrashesMove g.M.Nand.clock g.M.Nand.contents g.M.Nand.left seg d.media c.copy_one-answer.new.media copy.Fault = (c.in-Fault.ensures.medium t).crash (apart) in
     let fit = subst (λ n. ImageOf n (g.M.Nand.contents c.copy_one-answer.new.media)) e.geometry (g.met.M.Nand.contents_fit c.copy_one-answer.new.media t) in
     inl (record {
       stops = lift (λ d. d.media) _ _ k.crash.crash (λ m image l turned.
@@ -582,7 +582,7 @@ returns-in-Fault-clause-clock g c =
     let d = c.args.self.now in
     let b = c.begin-began.ensures in
     let tables = mid_tables d.pseg c.begin-began.new.self c.begin-began.result b.begun b.none in
-    let kept : MovesNone c.begin-began.new.self c.copy_one-answer.new.self = c.in-Fault.ensures.kept (λ moved. moved) in
+    let kept : MovesNone c.begin-began.new.self c.copy_one-answer.new.self = c.in-Fault.ensures.copies.kept (λ moved. moved) in
     copy_ticks _ c.in-Fault.ensures.counts refl refl b.clean (λ m. absurd (not_copied d.pseg c.copy_one-answer.new.self m.taken (kept.tables.same_pairs ∙ tables.1) m.takes m.space)) (λ un. inl (λ moved. moved))
 
 pub returns-in-Fault-clause-later : goal.returns-in-Fault-clause-later

@@ -27,13 +27,13 @@ returns-in-Done-clause-formed g c =
     let f = c.requires.formed in
     let e = c.erase_victim-erased.ensures in
     let new = c.erase_victim-erased.new.self in
-    let x : (block : ℕ) × Erases block d.pseg new = e.erased c.in-Done.is in
+    let x : (block : ℕ) × Erases block d.pseg new = e.erases.erased c.in-Done.is in
     let block = x.0 in
     let named = x.1.was in
     let none = x.1.none_left in
     subst (λ k. IsDevice (g.M.Nand.geometry c.erase_victim-erased.new.media) g.M.Nand.tells (g.M.Nand.contents c.erase_victim-erased.new.media) d.shape d.vseg new d.pending k d.next) (sym c.forget_after.ensures)
-    (wiped_device f e.geometry (λ t. g.met.M.Nand.contents_fit d.media t) (λ t. g.met.M.Nand.contents_fit c.erase_victim-erased.new.media t) block named none (λ t. e.pages t block named) new
-    x.1.tables.same_first x.1.tables.same_blocks x.1.tables.same_size x.1.tables.same_held x.1.tables.same_pairs e.whole (e.kept_block f.spare.block) (λ victim is. absurd (none-some victim (sym x.1.victim ∙ is))) e.segment (λ t. e.spare t (λ nothing. apart (sym c.in-Done.is ∙ nothing))))
+    (wiped_device f e.geometry (λ t. g.met.M.Nand.contents_fit d.media t) (λ t. g.met.M.Nand.contents_fit c.erase_victim-erased.new.media t) block named none (λ t. (e.medium t).pages block named) new
+    x.1.tables.same_first x.1.tables.same_blocks x.1.tables.same_size x.1.tables.same_held x.1.tables.same_pairs e.whole (e.erases.kept_block f.spare.block) (λ victim is. absurd (none-some victim (sym x.1.victim ∙ is))) (λ t. (e.medium t).segment) (λ t. (e.medium t).spare (λ nothing. apart (sym c.in-Done.is ∙ nothing))))
   where
     apart : the.Done ≡ the.Nothing → ⊥
     apart e = cc
@@ -47,14 +47,14 @@ returns-in-Done-clause-left g c t =
     let f = c.requires.formed in
     let e = c.erase_victim-erased.ensures in
     let new = c.erase_victim-erased.new.self in
-    let x : (block : ℕ) × Erases block d.pseg new = e.erased c.in-Done.is in
+    let x : (block : ℕ) × Erases block d.pseg new = e.erases.erased c.in-Done.is in
     let block = x.0 in
     let named = x.1.was in
     let none = x.1.none_left in
     let image_was = g.M.Nand.contents d.media in
     let image_now = g.M.Nand.contents c.erase_victim-erased.new.media in
     let fits = λ (t : g.M.Nand.tells). g.met.M.Nand.contents_fit d.media t in
-    lift (λ d. d.media) _ _ (e.crash t block named) (λ m image l keeps.
+    lift (λ d. d.media) _ _ ((e.medium t).crash block named) (λ m image l keeps.
     let here = subst (λ n. ImageOf n image) e.geometry (g.met.M.Nand.left_fits c.erase_victim-erased.new.media m image t l) in
     (wiped_left f t (fits t) block named none image here keeps, wiped_pages f t (fits t) block named none image here keeps))
 
@@ -64,7 +64,7 @@ returns-in-Done-clause-kept g c =
     let f = c.requires.formed in
     let e = c.erase_victim-erased.ensures in
     let new = c.erase_victim-erased.new.self in
-    let x : (block : ℕ) × Erases block d.pseg new = e.erased c.in-Done.is in
+    let x : (block : ℕ) × Erases block d.pseg new = e.erases.erased c.in-Done.is in
     let block = x.0 in
     let named = x.1.was in
     let none = x.1.none_left in
@@ -73,7 +73,7 @@ returns-in-Done-clause-kept g c =
     let fits = λ (t : g.M.Nand.tells). g.met.M.Nand.contents_fit d.media t in
     let bound = d.shape.vblocks * d.shape.pages in
     let fit = λ (t : g.M.Nand.tells). subst (λ n. ImageOf n image_now) e.geometry (g.met.M.Nand.contents_fit c.erase_victim-erased.new.media t) in
-    let low = λ (t : g.M.Nand.tells) (p : ℕ) (lt : p < bound). low_same f t (fits t) block named none image_now (fit t) (e.pages t block named) p (subst (λ n. p < n) (sym (begins f.segments)) lt) in
+    let low = λ (t : g.M.Nand.tells) (p : ℕ) (lt : p < bound). low_same f t (fits t) block named none image_now (fit t) ((e.medium t).pages block named) p (subst (λ n. p < n) (sym (begins f.segments)) lt) in
     let same = λ (t : g.M.Nand.tells). map_same image_was image_now d.vseg f.mapped (λ p lt. low t p (subst (λ n. p < n) f.segments.virtual_bound lt)) in
     record {
       virtual = record {
@@ -85,8 +85,8 @@ returns-in-Done-clause-kept g c =
       };
       bytes = λ t q page is.
           let h = held_of (held_at d.pseg q) page is in
-          live_bytes bound image_was image_now q (live_same f t (fits t) block named none image_now (fit t) (e.pages t block named) q h.0 h.1);
-      clean = e.clean;
+          live_bytes bound image_was image_now q (live_same f t (fits t) block named none image_now (fit t) ((e.medium t).pages block named) q h.0 h.1);
+      clean = e.erases.clean;
       next_stamp = refl;
       clock = let now = e.clock.0 c.in-Done.is in let was = subst (λ n. n < 2 ^ 64) c.clock.ensures c.clock.type_inv in omega (arith, now, was);
     }
@@ -101,10 +101,10 @@ returns-in-Fault-clause-formed g c =
     let block = x.0 in
     let named = x.1 in
     let none = x.2 in
-    let same : new ≡ d.pseg = e.kept (λ done. other (sym c.in-Fault.is ∙ done)) in
+    let same : new ≡ d.pseg = e.erases.kept (λ done. other (sym c.in-Fault.is ∙ done)) in
     subst (λ k. IsDevice (g.M.Nand.geometry c.erase_victim-erased.new.media) g.M.Nand.tells (g.M.Nand.contents c.erase_victim-erased.new.media) d.shape d.vseg new d.pending k d.next) (sym c.forget_after-in-Fault.ensures)
-    (wiped_device f e.geometry (λ t. g.met.M.Nand.contents_fit d.media t) (λ t. g.met.M.Nand.contents_fit c.erase_victim-erased.new.media t) block named none (λ t. e.pages t block named) new
-    (ap (λ (s : Physical). s.first) same) (ap (λ (s : Physical). s.blocks) same) (ap (λ (s : Physical). s.size) same) (ap (λ (s : Physical). s.held) same) (ap (λ (s : Physical). s.pairs) same) e.whole (e.kept_block f.spare.block) (subst (λ (s : Physical). (victim : ℕ) → s.victim ≡ Some victim → (s.first ≤ victim) × (victim < s.blocks)) (sym same) f.spare.in_hand) e.segment (λ t. e.spare t (λ nothing. apart (sym c.in-Fault.is ∙ nothing))))
+    (wiped_device f e.geometry (λ t. g.met.M.Nand.contents_fit d.media t) (λ t. g.met.M.Nand.contents_fit c.erase_victim-erased.new.media t) block named none (λ t. (e.medium t).pages block named) new
+    (ap (λ (s : Physical). s.first) same) (ap (λ (s : Physical). s.blocks) same) (ap (λ (s : Physical). s.size) same) (ap (λ (s : Physical). s.held) same) (ap (λ (s : Physical). s.pairs) same) e.whole (e.erases.kept_block f.spare.block) (subst (λ (s : Physical). (victim : ℕ) → s.victim ≡ Some victim → (s.first ≤ victim) × (victim < s.blocks)) (sym same) f.spare.in_hand) (λ t. (e.medium t).segment) (λ t. (e.medium t).spare (λ nothing. apart (sym c.in-Fault.is ∙ nothing))))
   where
     apart : the.Fault ≡ the.Nothing → ⊥
     apart e = cc
@@ -128,7 +128,7 @@ returns-in-Fault-clause-left g c t =
     let image_was = g.M.Nand.contents d.media in
     let image_now = g.M.Nand.contents c.erase_victim-erased.new.media in
     let fits = λ (t : g.M.Nand.tells). g.met.M.Nand.contents_fit d.media t in
-    lift (λ d. d.media) _ _ (e.crash t block named) (λ m image l keeps.
+    lift (λ d. d.media) _ _ ((e.medium t).crash block named) (λ m image l keeps.
     let here = subst (λ n. ImageOf n image) e.geometry (g.met.M.Nand.left_fits c.erase_victim-erased.new.media m image t l) in
     (wiped_left f t (fits t) block named none image here keeps, wiped_pages f t (fits t) block named none image here keeps))
   where
@@ -150,7 +150,7 @@ returns-in-Fault-clause-kept g c =
     let fits = λ (t : g.M.Nand.tells). g.met.M.Nand.contents_fit d.media t in
     let bound = d.shape.vblocks * d.shape.pages in
     let fit = λ (t : g.M.Nand.tells). subst (λ n. ImageOf n image_now) e.geometry (g.met.M.Nand.contents_fit c.erase_victim-erased.new.media t) in
-    let low = λ (t : g.M.Nand.tells) (p : ℕ) (lt : p < bound). low_same f t (fits t) block named none image_now (fit t) (e.pages t block named) p (subst (λ n. p < n) (sym (begins f.segments)) lt) in
+    let low = λ (t : g.M.Nand.tells) (p : ℕ) (lt : p < bound). low_same f t (fits t) block named none image_now (fit t) ((e.medium t).pages block named) p (subst (λ n. p < n) (sym (begins f.segments)) lt) in
     let same = λ (t : g.M.Nand.tells). map_same image_was image_now d.vseg f.mapped (λ p lt. low t p (subst (λ n. p < n) f.segments.virtual_bound lt)) in
     record {
       virtual = record {
@@ -162,8 +162,8 @@ returns-in-Fault-clause-kept g c =
       };
       bytes = λ t q page is.
           let h = held_of (held_at d.pseg q) page is in
-          live_bytes bound image_was image_now q (live_same f t (fits t) block named none image_now (fit t) (e.pages t block named) q h.0 h.1);
-      clean = e.clean;
+          live_bytes bound image_was image_now q (live_same f t (fits t) block named none image_now (fit t) ((e.medium t).pages block named) q h.0 h.1);
+      clean = e.erases.clean;
       next_stamp = refl;
       clock = let now = e.clock.1 (λ done. other (sym c.in-Fault.is ∙ done)) in omega (arith, now);
     }
@@ -180,7 +180,7 @@ returns-in-Done-clause-done g c is =
     let f = c.requires.formed in
     let e = c.erase_victim-erased.ensures in
     let new = c.erase_victim-erased.new.self in
-    let x : (block : ℕ) × Erases block d.pseg new = e.erased c.in-Done.is in
+    let x : (block : ℕ) × Erases block d.pseg new = e.erases.erased c.in-Done.is in
     record {
       tables = record {
         live = λ q. ap (λ (l : List (Option Held)). live_page (get_or l q None)) x.1.tables.same_held;
@@ -191,7 +191,7 @@ returns-in-Done-clause-done g c is =
       };
       space = erased x.0 d.pseg new x.1 x.1.blocks;
       now = λ t. wiped_left f t (g.met.M.Nand.contents_fit d.media t) x.0 x.1.was x.1.none_left (g.M.Nand.contents c.erase_victim-erased.new.media)
-          (subst (λ n. ImageOf n (g.M.Nand.contents c.erase_victim-erased.new.media)) e.geometry (g.met.M.Nand.contents_fit c.erase_victim-erased.new.media t)) (e.pages t x.0 x.1.was);
+          (subst (λ n. ImageOf n (g.M.Nand.contents c.erase_victim-erased.new.media)) e.geometry (g.met.M.Nand.contents_fit c.erase_victim-erased.new.media t)) ((e.medium t).pages x.0 x.1.was);
     }
 
 pub returns-in-Fault-clause-failed : goal.returns-in-Fault-clause-failed
@@ -200,7 +200,7 @@ returns-in-Fault-clause-failed g c is =
     let e = c.erase_victim-erased.ensures in
     let new = c.erase_victim-erased.new.self in
     let x = erasable d.pseg (λ idle. apart (sym c.in-Fault.is ∙ e.nothing.1 idle)) in
-    let same : new ≡ d.pseg = e.kept (λ done. other (sym c.in-Fault.is ∙ done)) in
+    let same : new ≡ d.pseg = e.erases.kept (λ done. other (sym c.in-Fault.is ∙ done)) in
     let space : space_of new ≡ space_of d.pseg = ap space_of same in
     record {
       same = same_segment d.pseg new (ap (λ (s : Physical). s.first) same) (ap (λ (s : Physical). s.blocks) same) (ap (λ (s : Physical). s.size) same);
@@ -223,7 +223,7 @@ returns-in-Fault-clause-now g c t is =
     let e = c.erase_victim-erased.ensures in
     let x = erasable d.pseg (λ idle. apart (sym c.in-Fault.is ∙ e.nothing.1 idle)) in
     let image = g.M.Nand.contents c.erase_victim-erased.new.media in
-    wiped_left f t (g.met.M.Nand.contents_fit d.media t) x.0 x.1 x.2 image (subst (λ n. ImageOf n image) e.geometry (g.met.M.Nand.contents_fit c.erase_victim-erased.new.media t)) (e.pages t x.0 x.1)
+    wiped_left f t (g.met.M.Nand.contents_fit d.media t) x.0 x.1 x.2 image (subst (λ n. ImageOf n image) e.geometry (g.met.M.Nand.contents_fit c.erase_victim-erased.new.media t)) ((e.medium t).pages x.0 x.1)
   where
     apart : the.Fault ≡ the.Nothing → ⊥
     apart e = cc
@@ -231,7 +231,7 @@ returns-in-Fault-clause-now g c t is =
 pub returns-in-Fault-clause-same : goal.returns-in-Fault-clause-same
 returns-in-Fault-clause-same g c un =
     let e = c.erase_victim-erased.ensures in
-    ap (λ (s : Physical). names_with s c.args.self.now.pending) (e.kept (λ done. other (sym c.in-Fault.is ∙ done)))
+    ap (λ (s : Physical). names_with s c.args.self.now.pending) (e.erases.kept (λ done. other (sym c.in-Fault.is ∙ done)))
   where
     other : the.Fault ≡ the.Done → ⊥
     other e = cc
@@ -258,11 +258,11 @@ returns-in-Nothing-clause-none g c is =
         bytes = λ t p. ap (λ m. bytes_at (d.shape.vblocks * d.shape.pages) (g.M.Nand.contents m) p) r;
         found = refl;
         next_stamp = refl;
-        clean = e.clean;
+        clean = e.erases.clean;
         clock = ap g.M.Nand.clock r;
         write_faults = ap g.M.Nand.write_faults r;
       };
-      names = ap (λ (s : Physical). names_with s d.pending) (e.kept (λ done. other (sym c.in-Nothing.is ∙ done)));
+      names = ap (λ (s : Physical). names_with s d.pending) (e.erases.kept (λ done. other (sym c.in-Nothing.is ∙ done)));
     }
   where
     other : the.Nothing ≡ the.Done → ⊥
@@ -271,7 +271,7 @@ returns-in-Nothing-clause-none g c is =
 pub returns-in-Nothing-clause-same : goal.returns-in-Nothing-clause-same
 returns-in-Nothing-clause-same g c un =
     let e = c.erase_victim-erased.ensures in
-    ap (λ (s : Physical). names_with s c.args.self.now.pending) (e.kept (λ done. other (sym c.in-Nothing.is ∙ done)))
+    ap (λ (s : Physical). names_with s c.args.self.now.pending) (e.erases.kept (λ done. other (sym c.in-Nothing.is ∙ done)))
   where
     other : the.Nothing ≡ the.Done → ⊥
     other e = cc

@@ -1,4 +1,4 @@
-use Rattle.std.proofs.Common.{◌≡◌, ◌*◌, ◌<◌, ◌≤◌, inl, inr, ⊎_elim, ◌∙◌, true, false, List, Option, None, ap, arith, get_or, refl, subst, sym}
+use Rattle.std.proofs.Common.{◌≡◌, inl, inr, ⊎_elim, ◌∙◌, true, false, List, Option, None, ap, arith, get_or, refl, subst, sym}
 use Rattle.std.proofs.lemmas.Bool.{OnFalse_at, OnTrue_at, cases_Bool}
 use Rattle.nl_pseg.specs.Segment.{Physical}
 use Rattle.nl_pseg.specs.declared.held.Held.{Held}

@@ -34,11 +34,6 @@ load-requires-clause-dead c =
       apart = λ v. none-some (c.in-Some.page / c.args.pseg.now.size) (sym c.requires.can.none_in_hand ∙ v);
     }
 
-pub load-requires-clause-fresh : goal.load-requires-clause-fresh
-load-requires-clause-fresh c =
-    let place : place_among c.args.self.now c.args.spare c.args.at.now ≡ Some c.in-Some.page = sym c.place.ensures ∙ c.in-Some.is in
-    subst (λ n. IsOldName c.args.pseg.now n → ⊥) (same_Some c.requires.can.page c.in-Some.page (sym c.requires.can.place ∙ place)) c.requires.can.own
-
 pub load-requires-clause-stamp : goal.load-requires-clause-stamp
 load-requires-clause-stamp c =
     let is = subst (λ k. IsKept k c.self.inside.copies) c.self.view_is c.self.invariant in
@@ -62,30 +57,30 @@ returns-clause-loaded c =
     let found : Some c.in-Some-page.kept ≡ find (λ (k : KeptPage). k.page == c.in-Some.page) c.args.self.now.pages = sym c.in-Some-page.is ∙ c.page.ensures in
     let l = c.load.ensures in
     subst (λ n. Loads c.args.self.now n c.args.at.now c.args.pseg.now c.load.new.self) (sym e) (record {
-      live = l.live ∙ ap (λ o. set c.args.pseg.now.held c.in-Some.page (option_map (λ (k : KeptPage). record { tag = k.tag; stamp = c.args.at.now.stamp }) o)) found;
-      leads = l.leads;
-      names = l.names;
+      live = l.loads.held ∙ ap (λ o. set c.args.pseg.now.held c.in-Some.page (option_map (λ (k : KeptPage). record { tag = k.tag; stamp = c.args.at.now.stamp }) o)) found;
+      leads = l.loads.leads;
+      names = l.loads.ways;
       olds = λ name old_name. ⊎_elim
           (λ same. ⊎_elim
-          (λ here. inr (subst (λ ps. (target : ℕ) × Contains ps (name, target)) (l.pairs here) old_name))
+          (λ here. inr (subst (λ ps. (target : ℕ) × Contains ps (name, target)) (l.loads.pairs here) old_name))
           (λ away. inl (same, away))
           (cases_eq c.args.at.now.name c.in-Some.page))
           (λ was. inr was)
-          (l.olds name old_name);
-      own = l.pairs;
-      more = λ away. (l.more away).0;
-      same_first = l.first;
-      same_blocks = l.blocks;
-      same_size = l.pages;
-      others_kept = λ block other. (l.others block other).0;
-      same_soiled = l.soiled;
-      left = l.left;
-      erased = λ q taken. (l.erased q taken).0;
-      copies = l.copies;
+          (l.loads.olds name old_name);
+      own = l.loads.pairs;
+      more = λ away. (l.loads.more away).0;
+      same_first = l.loads.range.range_first;
+      same_blocks = l.loads.range.range_blocks;
+      same_size = l.loads.range.range_size;
+      others_kept = λ block other. (l.loads.others block other).0;
+      same_soiled = l.loads.same_soiled;
+      left = l.loads.left;
+      erased = λ q taken. (l.loads.erased q taken).0;
+      copies = l.loads.copies;
       whole = l.whole;
       none_in_hand = l.victim;
       kept_block = l.kept;
-      kept_dead = l.kept_dead;
+      kept_dead = l.whole.pages.in_use;
     })
 
 pub returns-clause-called : goal.returns-clause-called

@@ -1,9 +1,8 @@
-use Rattle.std.proofs.Common.{◌≡◌, inl, ◌+◌, ◌*◌, ◌≤◌, ⊎_elim, ℕ, true, false, refl, sym, ap, ◌∙◌, subst, arith, length, get_or, set, is_some, List, Option, Some, None}
-use Rattle.std.specs.Prelude.{Contains, IfNone}
-use Rattle.std.proofs.lemmas.Bool.{OnFalse_at, OnTrue_at, cases_Bool, true≢false}
+use Rattle.std.proofs.Common.{◌≡◌, inl, ◌+◌, ◌*◌, ◌≤◌, ⊎_elim, ℕ, true, false, refl, sym, ap, ◌∙◌, subst, arith, length, get_or, set, List, Option, None}
+use Rattle.std.proofs.lemmas.Bool.{OnFalse_at, OnTrue_at, cases_Bool}
 use Rattle.std.proofs.lemmas.List.{length-set}
 use Rattle.nl_field.specs.Live.{resolve}
-use Rattle.nl_pseg.specs.Segment.{Physical, held_at}
+use Rattle.nl_pseg.specs.Segment.{held_at}
 use Rattle.nl_pseg.specs.declared.held.Held.{Held}
 use Rattle.nl_device.specs.Callbacks.{AreCalled, callbacks_of, names_with}
 use Rattle.nl_device.specs.Device.{HasSpareBlock, IsDevice}

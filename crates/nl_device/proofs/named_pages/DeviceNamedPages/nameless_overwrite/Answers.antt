@@ -1,5 +1,5 @@
 use Rattle.std.proofs.Common.{◌≡◌, ◌⊎◌, inl, inr, ⊎_elim, refl, sym, ap, ◌∙◌, subst, ℕ, ◌+◌, ◌*◌, ◌/◌, ◌≤◌, ◌<◌, length, get_or, set, cond, false, List, Option, Some, None}
-use Rattle.std.specs.Prelude.{◌↔◌, Contains, IfNone, is_some}
+use Rattle.std.specs.Prelude.{◌↔◌, Contains}
 use Rattle.std.proofs.lemmas.Bool.{cases_Bool, false≢true}
 use Rattle.std.proofs.lemmas.List.{get_or-set_other, get_or-set_same, length-set}
 use Rattle.std.proofs.lemmas.Option.{none-some}
@@ -88,28 +88,28 @@ returns-clause-placed g c =
     let seg = c.nameless_overwrite-answer.new.self in
     let new = g.M.Nand.contents c.nameless_overwrite-answer.new.media in
     let place = resolve d.pseg.pairs c.args.old.name in
-    placed_both c.nameless_overwrite-answer.result _ _ _ e.placed e.held (λ at is dead held.
+    placed_both c.nameless_overwrite-answer.result _ _ _ e.replaces.writes.placed e.replaces.held (λ at is dead held.
     let below = in_within f.segments at.name dead.0.within in
     let h = old_held d.pseg c.args.old c.nameless_overwrite-answer.result at is e.live.1 in
     let within = in_within f.segments place (f.live.in_segment place h.0 h.1) in
     let yes_placed = placed_yes c.nameless_overwrite-answer.result at is in
-    let led = gone_led d.pseg seg place d.pending f.called f.spare.whole e.whole (e.pairs yes_placed) f.live h.0 h.1 c.args.old.stamp h.2 c.is_placed-gone.result (c.is_placed-gone.ensures ∙ ap is_placed is) c.cancel_gone.new.pending.callbacks c.cancel_gone.ensures.callbacks in
+    let led = gone_led d.pseg seg place d.pending f.called f.spare.whole e.whole (e.replaces.pairs yes_placed) f.live h.0 h.1 c.args.old.stamp h.2 c.is_placed-gone.result (c.is_placed-gone.ensures ∙ ap is_placed is) c.cancel_gone.new.pending.callbacks c.cancel_gone.ensures.callbacks in
     let swapped = one_for_one d.pseg.held at.name place (record { tag = c.args.tag; stamp = d.next }) h.0 below within (λ same. differ d.pseg at.name place h.0 dead.0.dead h.1 (sym same)) dead.0.dead h.1 in
     record {
       stamp = dead.1;
       is_new = new_as d.pseg d.pending (new_name f.segments at.name dead.0);
       names = record {
         live = λ q. ap (λ (l : List (Option Held)). live_page (get_or l q None)) held ∙ swap_live d.pseg.held at.name place c.args.tag d.next below within (differ d.pseg at.name place h.0 dead.0.dead h.1) q;
-        pairs = e.pairs yes_placed;
-        pending = pending_less d.pseg seg place d.pending f.called f.spare.whole e.whole (e.pairs yes_placed) c.cancel_gone.new.pending led;
-        handled = handled_less d.pseg seg place d.pending f.called f.spare.whole e.whole (e.pairs yes_placed) c.cancel_gone.new.pending led;
+        pairs = e.replaces.pairs yes_placed;
+        pending = pending_less d.pseg seg place d.pending f.called f.spare.whole e.whole (e.replaces.pairs yes_placed) c.cancel_gone.new.pending led;
+        handled = handled_less d.pseg seg place d.pending f.called f.spare.whole e.whole (e.replaces.pairs yes_placed) c.cancel_gone.new.pending led;
         posted = c.cancel_gone.ensures.posted;
       };
-      space = wrote_over d.pseg seg e.pages (subst (λ a. Lessens (cond (is_placed a) 1 0) d.pseg seg) is e.space) (e.room yes_placed) (e.spent yes_placed) (ap (λ (l : List (Option Held)). live_in l + 1) held ∙ swapped)
-          (subst (λ (l : List (ℕ × ℕ)). length l ≤ length d.pseg.pairs) (sym (e.pairs yes_placed)) (beside_length d.pseg.pairs place));
-      bytes = λ t. let p = placed_at c.nameless_overwrite-answer.result _ at is (e.programmed t) in
+      space = wrote_over d.pseg seg e.replaces.writes.pages (subst (λ a. Lessens (cond (is_placed a) 1 0) d.pseg seg) is e.replaces.space) (e.replaces.room yes_placed) (e.replaces.spent yes_placed) (ap (λ (l : List (Option Held)). live_in l + 1) held ∙ swapped)
+          (subst (λ (l : List (ℕ × ℕ)). length l ≤ length d.pseg.pairs) (sym (e.replaces.pairs yes_placed)) (beside_length d.pseg.pairs place));
+      bytes = λ t. let p = placed_at c.nameless_overwrite-answer.result _ at is (e.medium t).programmed in
           bytes_from (d.shape.vblocks * d.shape.pages) new at.name (subst (λ n. n ≤ at.name) (begins f.segments) p.dead.within.0) ∙ ap main_of p.has;
-      block = λ t none. let p = placed_at c.nameless_overwrite-answer.result _ at is (e.programmed t) in
+      block = λ t none. let p = placed_at c.nameless_overwrite-answer.result _ at is (e.medium t).programmed in
           in_block _ d.shape d.vseg d.pseg (g.M.Nand.contents d.media) new f.segments (g.met.M.Nand.contents_fit d.media t) (subst (λ n. ImageOf n new) e.geometry (g.met.M.Nand.contents_fit c.nameless_overwrite-answer.new.media t)) f.live (f.medium t).physical_is at.name _ p;
     })
 
@@ -120,8 +120,8 @@ returns-clause-none g c un =
     let d = c.args.self.now in
     let callbacks_stay = none_cancelled c.args.old.stamp d.pending c.is_placed-gone.result (c.is_placed-gone.ensures ∙ not_placed c.nameless_overwrite-answer.result un_placed) c.cancel_gone.new.pending.callbacks c.cancel_gone.ensures.callbacks in
     record {
-      tables = record { live = λ q. ap (λ (l : List (Option Held)). live_page (get_or l q None)) (e.same un_placed); pairs = e.same_pairs un_placed; pending = ap callbacks_of callbacks_stay; handled = λ n. ap (λ l. handled_in l n) callbacks_stay; posted = c.cancel_gone.ensures.posted };
-      fault = fault_space c.nameless_overwrite-answer.result c.args.self.now.pseg c.nameless_overwrite-answer.new.self e.pages e.cleaning (λ un. e.space.lands) e.failed e.same e.same_pairs;
+      tables = record { live = λ q. ap (λ (l : List (Option Held)). live_page (get_or l q None)) (e.replaces.writes.same un_placed); pairs = e.replaces.writes.same_pairs un_placed; pending = ap callbacks_of callbacks_stay; handled = λ n. ap (λ l. handled_in l n) callbacks_stay; posted = c.cancel_gone.ensures.posted };
+      fault = fault_space c.nameless_overwrite-answer.result c.args.self.now.pseg c.nameless_overwrite-answer.new.self e.replaces.writes.pages e.replaces.writes.same_cleaning (λ un. e.replaces.space.lands) e.replaces.writes.failed e.replaces.writes.same e.replaces.writes.same_pairs;
     }
 
 pub returns-clause-refused : goal.returns-clause-refused
@@ -162,7 +162,7 @@ returns-clause-left g c t =
     let d = c.args.self.now in
     let f = c.requires.formed in
     let e = c.nameless_overwrite-answer.ensures in
-    let k = e.crash t in
+    let k = (e.medium t).crash in
     let answer = c.nameless_overwrite-answer.result in
     let seg = c.nameless_overwrite-answer.new.self in
     let old = g.M.Nand.contents d.media in
@@ -178,9 +178,9 @@ returns-clause-left g c t =
     let fits = subst (λ n. ImageOf n new) e.geometry (g.met.M.Nand.contents_fit c.nameless_overwrite-answer.new.media t) in
     let place = resolve d.pseg.pairs c.args.old.name in
     let now_held : (at : Pointer) → answer ≡ named.Placed at → held_at seg at.name ≡ Some (record { tag = c.args.tag; stamp = d.next }) = λ at is.
-    let dead = placed_at answer _ at is e.placed in
+    let dead = placed_at answer _ at is e.replaces.writes.placed in
     let h = old_held d.pseg c.args.old answer at is e.live.1 in
-    ap (λ (l : List (Option Held)). get_or l at.name None) (placed_at answer _ at is e.held)
+    ap (λ (l : List (Option Held)). get_or l at.name None) (placed_at answer _ at is e.replaces.held)
     ∙ (get_or-set_other (set d.pseg.held at.name _) place at.name None None (differ d.pseg at.name place h.0 dead.0.dead h.1) ∙ get_or-set_same d.pseg.held at.name _ None (in_within f.segments at.name dead.0.within)) in
     record {
       stops = lift (λ d. d.media) _ _ k.crash (λ m image l turned.
@@ -192,11 +192,11 @@ returns-clause-left g c t =
       now = ⊎_elim
           (λ at.
           let e_name : at.0.name ≡ k.page = ap (λ (p : Pointer). p.name) (placed_at answer _ at.0 at.1 k.named) in
-          let programmed = subst (λ n. Programmed d.pseg n (value n) old new) e_name (placed_at answer _ at.0 at.1 (e.programmed t)) in
+          let programmed = subst (λ n. Programmed d.pseg n (value n) old new) e_name (placed_at answer _ at.0 at.1 (e.medium t).programmed) in
           let live = ap (λ n. held_at seg n) (sym e_name) ∙ now_held at.0 at.1 in
           let places : Places d.pseg k.page c.args.tag d.next main old new = record {
             takes = placed_takes (to_takes k.either) refl programmed;
-            shows = shown_from c.args.tag d.next _ main (page_at new k.page) programmed.has ((e.segment t).holds k.page (record { tag = c.args.tag; stamp = d.next }) live);
+            shows = shown_from c.args.tag d.next _ main (page_at new k.page) programmed.has ((e.medium t).segment.holds k.page (record { tag = c.args.tag; stamp = d.next }) live);
           } in
           inr (leaves new fits (inr places), there new fits places))
           (λ un. ⊎_elim
@@ -213,7 +213,7 @@ returns-clause-kept g c =
     let e = c.nameless_overwrite-answer.ensures in
     let old = g.M.Nand.contents d.media in
     let new = g.M.Nand.contents c.nameless_overwrite-answer.new.media in
-    let low = λ (t : g.M.Nand.tells) (p : ℕ) (lt : p < d.shape.vblocks * d.shape.pages). either_low (to_takes (e.crash t).either) p (subst (λ n. p < n) (sym (begins f.segments)) lt) in
+    let low = λ (t : g.M.Nand.tells) (p : ℕ) (lt : p < d.shape.vblocks * d.shape.pages). either_low (to_takes (e.medium t).crash.either) p (subst (λ n. p < n) (sym (begins f.segments)) lt) in
     let same = λ (t : g.M.Nand.tells). map_same old new d.vseg f.mapped (λ p lt. low t p (subst (λ n. p < n) f.segments.virtual_bound lt)) in
     record {
       virtual = record {
@@ -225,8 +225,8 @@ returns-clause-kept g c =
       };
       bytes = λ t q page is.
           let h = held_of (held_at d.pseg q) page is in
-          live_bytes (d.shape.vblocks * d.shape.pages) old new q (either_live (to_takes (e.crash t).either) q h.0 h.1);
-      clean = e.clean;
+          live_bytes (d.shape.vblocks * d.shape.pages) old new q (either_live (to_takes (e.medium t).crash.either) q h.0 h.1);
+      clean = e.replaces.writes.clean;
       read_faults = e.counts.reads;
     }
 
@@ -246,7 +246,7 @@ returns-clause-counts g c =
       ticks = record { clock = e.later; later = λ is. e.placed (to_placed answer is) };
       clean_ticks = λ clean is. e.one (inr clean) (to_placed answer is);
       clean_stays = λ clean un. e.none (inr clean) (λ is. un (from_placed answer is));
-      clean_fault = λ clean. fault_room answer c.args.self.now.pseg c.nameless_overwrite-answer.new.self clean c.nameless_overwrite-answer.ensures.failed;
+      clean_fault = λ clean. fault_room answer c.args.self.now.pseg c.nameless_overwrite-answer.new.self clean c.nameless_overwrite-answer.ensures.replaces.writes.failed;
       clean_kept = λ clean. none_retired c.args.self.now.pseg c.nameless_overwrite-answer.new.self;
     }
 
@@ -259,33 +259,33 @@ returns-clause-formed g c =
     let answer = c.nameless_overwrite-answer.result in
     let next = c.stamp_after-self.result in
     let rises : d.next ≤ next = after_rises c.is_tried-taken.result d.next next c.stamp_after-self.ensures in
-    let spare : HasSpareBlock seg = record { whole = e.whole; block = e.kept f.spare.block; in_hand = hand_kept d.pseg seg e.pages.same_first e.pages.same_blocks e.space.victim f.spare } in
+    let spare : HasSpareBlock seg = record { whole = e.whole; block = e.replaces.writes.kept f.spare.block; in_hand = hand_kept d.pseg seg e.replaces.writes.pages.same_first e.replaces.writes.pages.same_blocks e.replaces.space.victim f.spare } in
     let k = c.cancel_gone.ensures in
     let pend = c.cancel_gone.new.pending in
-    let device = tried_device answer c.is_tried-taken.result c.args.tag c.args.from.now.main f e.geometry (g.met.M.Nand.contents_fit d.media) (g.met.M.Nand.contents_fit c.nameless_overwrite-answer.new.media) (λ t. ((e.crash t).page, (e.crash t).either))
+    let device = tried_device answer c.is_tried-taken.result c.args.tag c.args.from.now.main f e.geometry (g.met.M.Nand.contents_fit d.media) (g.met.M.Nand.contents_fit c.nameless_overwrite-answer.new.media) (λ t. ((e.medium t).crash.page, (e.medium t).crash.either))
     (λ un. not_touched answer un (λ r. ap g.M.Nand.contents (e.refused r).1)) c.forget_after.ensures c.stamp_after-self.ensures c.is_tried-taken.ensures in
     let place = resolve d.pseg.pairs c.args.old.name in
     ⊎_elim
     (λ at.
-    let dead = placed_at answer _ at.0 at.1 e.placed in
-    let held = placed_at answer _ at.0 at.1 e.held in
+    let dead = placed_at answer _ at.0 at.1 e.replaces.writes.placed in
+    let held = placed_at answer _ at.0 at.1 e.replaces.held in
     let below = in_within f.segments at.0.name dead.0.within in
     let h = old_held d.pseg c.args.old answer at.0 at.1 e.live.1 in
     let within = in_within f.segments place (f.live.in_segment place h.0 h.1) in
     let one = after_tried answer c.is_tried-taken.result d.next next c.stamp_after-self.ensures c.is_tried-taken.ensures (tried_placed answer (placed_yes answer at.0 at.1)) in
     let x : Held = record { tag = c.args.tag; stamp = d.next } in
-    let pairs = e.pairs (placed_yes answer at.0 at.1) in
+    let pairs = e.replaces.pairs (placed_yes answer at.0 at.1) in
     let led = gone_led d.pseg seg place d.pending f.called f.spare.whole e.whole pairs f.live h.0 h.1 c.args.old.stamp h.2 c.is_placed-gone.result (c.is_placed-gone.ensures ∙ ap is_placed at.1) pend.callbacks k.callbacks in
-    device seg pend e.pages (ap (λ (l : List (Option Held)). length l) held ∙ (length-set (set d.pseg.held at.0.name _) place None ∙ length-set d.pseg.held at.0.name _))
-    (live_swap d.pseg seg at.0.name place d.next c.args.tag f.live e.pages e.within dead.0.within below within f.stamp.live held) spare
-    (called_less d.pseg seg place d.pending f.called f.spare.whole e.whole pairs pend led k.numbers k.room e.pages.same_size (swap_keeps d.pseg seg at.0.name place x dead.0.dead held))
-    (swap_below d.pseg seg at.0.name place d.next next c.args.tag below within held f.stamp.live one) e.segment e.spare
+    device seg pend e.replaces.writes.pages (ap (λ (l : List (Option Held)). length l) held ∙ (length-set (set d.pseg.held at.0.name _) place None ∙ length-set d.pseg.held at.0.name _))
+    (live_swap d.pseg seg at.0.name place d.next c.args.tag f.live e.replaces.writes.pages e.whole.pages.erased_within dead.0.within below within f.stamp.live held) spare
+    (called_less d.pseg seg place d.pending f.called f.spare.whole e.whole pairs pend led k.numbers k.room e.replaces.writes.pages.same_size (swap_keeps d.pseg seg at.0.name place x dead.0.dead held))
+    (swap_below d.pseg seg at.0.name place d.next next c.args.tag below within held f.stamp.live one) (λ t. (e.medium t).segment) e.spare
     (pair_before d.pseg seg place d.pending f.called f.spare.whole e.whole pairs) (λ p. p ≡ at.0.name) (λ p here. ap (held_at d.pseg) here ∙ dead.0.dead) (swap_less d.pseg seg at.0.name place x below within held))
     (λ un.
-    let held = e.same un in
-    let pairs = e.same_pairs un in
+    let held = e.replaces.writes.same un in
+    let pairs = e.replaces.writes.same_pairs un in
     let callbacks = none_cancelled c.args.old.stamp d.pending c.is_placed-gone.result (c.is_placed-gone.ensures ∙ not_placed answer un) pend.callbacks k.callbacks in
-    device seg pend e.pages (ap (λ (l : List (Option Held)). length l) held) (live_kept d.pseg seg f.live e.pages e.within held) spare
-    (called_same d.pseg seg d.pending pend f.called (ap callbacks_of callbacks) k.numbers k.room pairs e.pages.same_size (same_keeps d.pseg seg held))
-    (same_below_still d.pseg seg d.next next held f.stamp.live rises) e.segment e.spare (λ n x h. subst (λ (l : List (ℕ × ℕ)). Contains l (n, x)) pairs h) (λ p. ⊥) (λ p off. absurd off) (λ p h has. inl (same_before d.pseg seg held p h has)))
+    device seg pend e.replaces.writes.pages (ap (λ (l : List (Option Held)). length l) held) (live_kept d.pseg seg f.live e.replaces.writes.pages e.whole.pages.erased_within held) spare
+    (called_same d.pseg seg d.pending pend f.called (ap callbacks_of callbacks) k.numbers k.room pairs e.replaces.writes.pages.same_size (same_keeps d.pseg seg held))
+    (same_below_still d.pseg seg d.next next held f.stamp.live rises) (λ t. (e.medium t).segment) e.spare (λ n x h. subst (λ (l : List (ℕ × ℕ)). Contains l (n, x)) pairs h) (λ p. ⊥) (λ p off. absurd off) (λ p h has. inl (same_before d.pseg seg held p h has)))
     (placed_or answer)

@@ -45,22 +45,22 @@ returns-clause-placed g c =
     let e = c.nameless_write-answer.ensures in
     let seg = c.nameless_write-answer.new.self in
     let new = g.M.Nand.contents c.nameless_write-answer.new.media in
-    placed_both c.nameless_write-answer.result _ _ _ e.placed e.held (λ at is dead held.
+    placed_both c.nameless_write-answer.result _ _ _ e.adds.writes.placed e.adds.held (λ at is dead held.
     let below = in_within f.segments at.name dead.0.within in
     record {
       stamp = dead.1;
       is_new = new_as d.pseg d.pending (new_name f.segments at.name dead.0);
       names = record {
         live = λ q. ap (λ (l : List (Option Held)). live_page (get_or l q None)) held ∙ set_live d.pseg.held at.name c.args.tag d.next below q;
-        pairs = e.pairs;
+        pairs = e.adds.pairs;
         pending = refl;
         handled = λ x has. refl;
         posted = refl;
       };
-      space = wrote_one d.pseg seg at.name (record { tag = c.args.tag; stamp = d.next }) e.pages e.cleaning e.lands (e.spent (placed_yes c.nameless_write-answer.result at is)) below dead.0.dead held e.pairs;
-      bytes = λ t. let p = placed_at c.nameless_write-answer.result _ at is (e.programmed t) in
+      space = wrote_one d.pseg seg at.name (record { tag = c.args.tag; stamp = d.next }) e.adds.writes.pages e.adds.cleaning e.adds.lands (e.adds.spent (placed_yes c.nameless_write-answer.result at is)) below dead.0.dead held e.adds.pairs;
+      bytes = λ t. let p = placed_at c.nameless_write-answer.result _ at is (e.medium t).programmed in
           bytes_from (d.shape.vblocks * d.shape.pages) new at.name (subst (λ n. n ≤ at.name) (begins f.segments) p.dead.within.0) ∙ ap main_of p.has;
-      block = λ t none. let p = placed_at c.nameless_write-answer.result _ at is (e.programmed t) in
+      block = λ t none. let p = placed_at c.nameless_write-answer.result _ at is (e.medium t).programmed in
           in_block _ d.shape d.vseg d.pseg (g.M.Nand.contents d.media) new f.segments (g.met.M.Nand.contents_fit d.media t) (subst (λ n. ImageOf n new) e.geometry (g.met.M.Nand.contents_fit c.nameless_write-answer.new.media t)) f.live (f.medium t).physical_is at.name _ p;
     })
 
@@ -74,8 +74,8 @@ returns-clause-none g c un =
     let e = c.nameless_write-answer.ensures in
     let un_placed : IsPlaced c.nameless_write-answer.result → ⊥ = λ is. un (from_placed c.nameless_write-answer.result is) in
     record {
-      tables = record { live = λ q. ap (λ (l : List (Option Held)). live_page (get_or l q None)) (e.same un_placed); pairs = e.pairs; pending = refl; handled = λ n. refl; posted = refl };
-      fault = fault_space c.nameless_write-answer.result c.args.self.now.pseg c.nameless_write-answer.new.self e.pages (λ un. e.cleaning) (λ un. e.lands) e.failed e.same (λ un. e.pairs);
+      tables = record { live = λ q. ap (λ (l : List (Option Held)). live_page (get_or l q None)) (e.adds.writes.same un_placed); pairs = e.adds.pairs; pending = refl; handled = λ n. refl; posted = refl };
+      fault = fault_space c.nameless_write-answer.result c.args.self.now.pseg c.nameless_write-answer.new.self e.adds.writes.pages (λ un. e.adds.cleaning) (λ un. e.adds.lands) e.adds.writes.failed e.adds.writes.same (λ un. e.adds.pairs);
     }
 
 pub returns-clause-refused : goal.returns-clause-refused
@@ -115,7 +115,7 @@ returns-clause-left g c t =
     let d = c.args.self.now in
     let f = c.requires.formed in
     let e = c.nameless_write-answer.ensures in
-    let k = e.crash t in
+    let k = (e.medium t).crash in
     let answer = c.nameless_write-answer.result in
     let seg = c.nameless_write-answer.new.self in
     let old = g.M.Nand.contents d.media in
@@ -130,8 +130,8 @@ returns-clause-left g c t =
     (programmed_named (g.M.Nand.geometry d.media) d.shape d.vseg d.pseg old image f.segments old_fits fits f.live (f.medium t).physical_is k.page c.args.tag d.next (wear_of d.pseg (k.page / d.pseg.size)) main x.shows x.takes) in
     let fits = subst (λ n. ImageOf n new) e.geometry (g.met.M.Nand.contents_fit c.nameless_write-answer.new.media t) in
     let now_held : (at : Pointer) → answer ≡ named.Placed at → held_at seg at.name ≡ Some (record { tag = c.args.tag; stamp = d.next }) = λ at is.
-    let dead = placed_at answer _ at is e.placed in
-    ap (λ (l : List (Option Held)). get_or l at.name None) (placed_at answer _ at is e.held) ∙ get_or-set_same d.pseg.held at.name _ None (in_within f.segments at.name dead.0.within) in
+    let dead = placed_at answer _ at is e.adds.writes.placed in
+    ap (λ (l : List (Option Held)). get_or l at.name None) (placed_at answer _ at is e.adds.held) ∙ get_or-set_same d.pseg.held at.name _ None (in_within f.segments at.name dead.0.within) in
     record {
       stops = lift (λ d. d.media) _ _ k.crash (λ m image l turned.
           let here = subst (λ n. ImageOf n image) e.geometry (g.met.M.Nand.left_fits c.nameless_write-answer.new.media m image t l) in
@@ -142,11 +142,11 @@ returns-clause-left g c t =
       now = ⊎_elim
           (λ at.
           let e_name : at.0.name ≡ k.page = ap (λ (p : Pointer). p.name) (placed_at answer _ at.0 at.1 k.named) in
-          let programmed = subst (λ n. Programmed d.pseg n (value n) old new) e_name (placed_at answer _ at.0 at.1 (e.programmed t)) in
+          let programmed = subst (λ n. Programmed d.pseg n (value n) old new) e_name (placed_at answer _ at.0 at.1 (e.medium t).programmed) in
           let live = ap (λ n. held_at seg n) (sym e_name) ∙ now_held at.0 at.1 in
           let places : Places d.pseg k.page c.args.tag d.next main old new = record {
             takes = placed_takes (to_takes k.either) refl programmed;
-            shows = shown_from c.args.tag d.next _ main (page_at new k.page) programmed.has ((e.segment t).holds k.page (record { tag = c.args.tag; stamp = d.next }) live);
+            shows = shown_from c.args.tag d.next _ main (page_at new k.page) programmed.has ((e.medium t).segment.holds k.page (record { tag = c.args.tag; stamp = d.next }) live);
           } in
           inr (leaves new fits (inr places), there new fits places))
           (λ un. ⊎_elim
@@ -163,7 +163,7 @@ returns-clause-kept g c =
     let e = c.nameless_write-answer.ensures in
     let old = g.M.Nand.contents d.media in
     let new = g.M.Nand.contents c.nameless_write-answer.new.media in
-    let low = λ (t : g.M.Nand.tells) (p : ℕ) (lt : p < d.shape.vblocks * d.shape.pages). either_low (to_takes (e.crash t).either) p (subst (λ n. p < n) (sym (begins f.segments)) lt) in
+    let low = λ (t : g.M.Nand.tells) (p : ℕ) (lt : p < d.shape.vblocks * d.shape.pages). either_low (to_takes (e.medium t).crash.either) p (subst (λ n. p < n) (sym (begins f.segments)) lt) in
     let same = λ (t : g.M.Nand.tells). map_same old new d.vseg f.mapped (λ p lt. low t p (subst (λ n. p < n) f.segments.virtual_bound lt)) in
     record {
       virtual = record {
@@ -175,8 +175,8 @@ returns-clause-kept g c =
       };
       bytes = λ t q page is.
           let h = held_of (held_at d.pseg q) page is in
-          live_bytes (d.shape.vblocks * d.shape.pages) old new q (either_live (to_takes (e.crash t).either) q h.0 h.1);
-      clean = e.clean;
+          live_bytes (d.shape.vblocks * d.shape.pages) old new q (either_live (to_takes (e.medium t).crash.either) q h.0 h.1);
+      clean = e.adds.writes.clean;
       read_faults = e.counts.reads;
     }
 
@@ -196,7 +196,7 @@ returns-clause-counts g c =
       ticks = record { clock = e.later; later = λ is. e.placed (to_placed answer is) };
       clean_ticks = λ clean is. e.one (inr clean) (to_placed answer is);
       clean_stays = λ clean un. e.none (inr clean) (λ is. un (from_placed answer is));
-      clean_fault = λ clean. fault_room answer c.args.self.now.pseg c.nameless_write-answer.new.self clean c.nameless_write-answer.ensures.failed;
+      clean_fault = λ clean. fault_room answer c.args.self.now.pseg c.nameless_write-answer.new.self clean c.nameless_write-answer.ensures.adds.writes.failed;
       clean_kept = λ clean. none_retired c.args.self.now.pseg c.nameless_write-answer.new.self;
     }
 
@@ -209,23 +209,23 @@ returns-clause-formed g c =
     let answer = c.nameless_write-answer.result in
     let next = c.stamp_after-self.result in
     let rises : d.next ≤ next = after_rises c.is_tried-tried.result d.next next c.stamp_after-self.ensures in
-    let spare : HasSpareBlock seg = record { whole = e.whole; block = e.kept f.spare.block; in_hand = hand_kept d.pseg seg e.pages.same_first e.pages.same_blocks e.cleaning.victim f.spare } in
-    let fewer = λ (n x : ℕ) (h : Contains seg.pairs (n, x)). subst (λ (l : List (ℕ × ℕ)). Contains l (n, x)) e.pairs h in
-    let device = tried_device answer c.is_tried-tried.result c.args.tag c.args.from.now.main f e.geometry (g.met.M.Nand.contents_fit d.media) (g.met.M.Nand.contents_fit c.nameless_write-answer.new.media) (λ t. ((e.crash t).page, (e.crash t).either))
+    let spare : HasSpareBlock seg = record { whole = e.whole; block = e.adds.writes.kept f.spare.block; in_hand = hand_kept d.pseg seg e.adds.writes.pages.same_first e.adds.writes.pages.same_blocks e.adds.cleaning.victim f.spare } in
+    let fewer = λ (n x : ℕ) (h : Contains seg.pairs (n, x)). subst (λ (l : List (ℕ × ℕ)). Contains l (n, x)) e.adds.pairs h in
+    let device = tried_device answer c.is_tried-tried.result c.args.tag c.args.from.now.main f e.geometry (g.met.M.Nand.contents_fit d.media) (g.met.M.Nand.contents_fit c.nameless_write-answer.new.media) (λ t. ((e.medium t).crash.page, (e.medium t).crash.either))
     (λ un. not_touched answer un (λ r. ap g.M.Nand.contents (e.refused (no_page_of c.nameless_write-answer.result e.live r)).1)) c.forget_after.ensures c.stamp_after-self.ensures c.is_tried-tried.ensures in
     ⊎_elim
     (λ at.
-    let dead = placed_at answer _ at.0 at.1 e.placed in
-    let held = placed_at answer _ at.0 at.1 e.held in
+    let dead = placed_at answer _ at.0 at.1 e.adds.writes.placed in
+    let held = placed_at answer _ at.0 at.1 e.adds.held in
     let below = in_within f.segments at.0.name dead.0.within in
     let one = after_tried answer c.is_tried-tried.result d.next next c.stamp_after-self.ensures c.is_tried-tried.ensures (tried_placed answer (placed_yes answer at.0 at.1)) in
     let x : Held = record { tag = c.args.tag; stamp = d.next } in
-    device seg d.pending e.pages (ap (λ (l : List (Option Held)). length l) held ∙ length-set d.pseg.held at.0.name _) (live_more d.pseg seg at.0.name d.next c.args.tag f.live e.pages e.within dead.0.within below f.stamp.live held) spare
-    (called_same d.pseg seg d.pending d.pending f.called refl f.called.numbers refl e.pairs e.pages.same_size (more_keeps d.pseg seg at.0.name x dead.0.dead held))
-    (more_below d.pseg seg at.0.name d.next next c.args.tag below held f.stamp.live one) e.segment e.spare fewer (λ p. p ≡ at.0.name) (λ p here. ap (held_at d.pseg) here ∙ dead.0.dead) (more_less d.pseg seg at.0.name x below held))
+    device seg d.pending e.adds.writes.pages (ap (λ (l : List (Option Held)). length l) held ∙ length-set d.pseg.held at.0.name _) (live_more d.pseg seg at.0.name d.next c.args.tag f.live e.adds.writes.pages e.whole.pages.erased_within dead.0.within below f.stamp.live held) spare
+    (called_same d.pseg seg d.pending d.pending f.called refl f.called.numbers refl e.adds.pairs e.adds.writes.pages.same_size (more_keeps d.pseg seg at.0.name x dead.0.dead held))
+    (more_below d.pseg seg at.0.name d.next next c.args.tag below held f.stamp.live one) (λ t. (e.medium t).segment) e.spare fewer (λ p. p ≡ at.0.name) (λ p here. ap (held_at d.pseg) here ∙ dead.0.dead) (more_less d.pseg seg at.0.name x below held))
     (λ un.
-    let held = e.same un in
-    device seg d.pending e.pages (ap (λ (l : List (Option Held)). length l) held) (live_kept d.pseg seg f.live e.pages e.within held) spare
-    (called_same d.pseg seg d.pending d.pending f.called refl f.called.numbers refl e.pairs e.pages.same_size (same_keeps d.pseg seg held))
-    (same_below_still d.pseg seg d.next next held f.stamp.live rises) e.segment e.spare fewer (λ p. ⊥) (λ p off. absurd off) (λ p h has. inl (same_before d.pseg seg held p h has)))
+    let held = e.adds.writes.same un in
+    device seg d.pending e.adds.writes.pages (ap (λ (l : List (Option Held)). length l) held) (live_kept d.pseg seg f.live e.adds.writes.pages e.whole.pages.erased_within held) spare
+    (called_same d.pseg seg d.pending d.pending f.called refl f.called.numbers refl e.adds.pairs e.adds.writes.pages.same_size (same_keeps d.pseg seg held))
+    (same_below_still d.pseg seg d.next next held f.stamp.live rises) (λ t. (e.medium t).segment) e.spare fewer (λ p. ⊥) (λ p off. absurd off) (λ p h has. inl (same_before d.pseg seg held p h has)))
     (placed_or answer)

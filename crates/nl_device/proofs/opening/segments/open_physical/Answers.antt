@@ -38,11 +38,11 @@ returns c =
       free_is = s.same.same_free ∙ n.free;
       left_is = omega (arith, left, none);
       within = λ p taken.
-          let h = n.within p (s.erased p taken).0 in
+          let h = n.whole.pages.erased_within p (s.erased p taken).0 in
           (subst (λ k. k ≤ p) (sym (λ i. s.same.same_first i * s.same.same_size i)) h.0, subst (λ k. p < k) (sym (λ i. s.same.same_blocks i * s.same.same_size i)) h.1);
       erased = λ p taken.
           let e = s.erased p taken in
-          let h = n.within p e.0 in
+          let h = n.whole.pages.erased_within p e.0 in
           let from = from_block p old.size old.first some h.0 in
           let below = div_below p old.size old.blocks some h.1 in
           subst (λ k. SaysErased c.args.tables.now (p / k)) n.pages (e.1 (subst (λ k. k ≤ p / old.size) n.first from) (subst (λ k. p / old.size < k) n.blocks below));
