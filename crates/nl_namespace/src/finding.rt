@@ -3,12 +3,12 @@ ghost use Rattle.nl_namespace.specs.Finding.{IfFound, IsFound};
 ghost use Rattle.nl_running.specs.Reading.{Reads, stop_of};
 ghost use Rattle.nl_running.specs.Running.{Runs, RunsOn};
 
-use crate::place::{Place, Spot, locate, record};
+use crate::place::{Place, Spot, locate};
 use nl_field::{EntryRec, InodeRec};
 use nl_iface::VirtualPages;
 use nl_inode::Nodes;
 use nl_meta::Meta;
-use nl_running::Stop;
+use nl_running::{Stop, node};
 use nl_tree::{Path, Refusal};
 
 /// A name that stands in a directory: the directory and its record, the entry, and the record of the node that it names.
@@ -49,7 +49,7 @@ pub(crate) fn find_node<D: VirtualPages>(
         Ok(Spot::At(place)) => {
             let Place { dir, rec, entry } = place;
             match entry {
-                Some(entry) => match record(device, meta, nodes, entry.ino) {
+                Some(entry) => match node(device, meta, nodes, entry.ino) {
                     Ok(node) => Ok(Found::At(There {
                         dir,
                         rec,

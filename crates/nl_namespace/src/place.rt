@@ -1,9 +1,7 @@
-ghost use Rattle.std.specs.Prelude.{◌≡◌, ◌≢◌, [], IfOk, IsSome};
-ghost use Rattle.nl_inode.specs.Nodes.{page_of_node};
-ghost use Rattle.nl_meta.specs.Pages.{page_of};
+ghost use Rattle.std.specs.Prelude.{◌≡◌, ◌≢◌, [], IfOk};
 ghost use Rattle.nl_namespace.specs.Placing.{Enters, IfEntered, IfHeld, IsParent, IsSpot};
 ghost use Rattle.nl_running.specs.Reading.{Reads, stop_of};
-ghost use Rattle.nl_running.specs.Running.{IsNodeOf, IsUsed, Runs, RunsOn};
+ghost use Rattle.nl_running.specs.Running.{IsUsed, Runs, RunsOn};
 
 use crate::hold::hold_entries;
 use crate::walk::{Step, follow};
@@ -12,7 +10,7 @@ use nl_field::{EntryRec, InodeRec, Kind};
 use nl_iface::VirtualPages;
 use nl_inode::Nodes;
 use nl_meta::Meta;
-use nl_running::{Stop, hold};
+use nl_running::{Stop, node};
 use nl_tree::{Path, Refusal};
 
 /// Where a name stands, or would stand: the directory and its record, and the entry of the name.
@@ -111,7 +109,7 @@ fn enter<D: VirtualPages>(
     ensures kept { RunsOn D.Counts device.old meta.old device.new meta.new }
     ensures reads { Reads D.Counts device.old device.new (stop_of result) }
 {
-    let rec = match record(device, meta, nodes, dir) {
+    let rec = match node(device, meta, nodes, dir) {
         Ok(rec) => rec,
         Err(stop) => return Err(stop),
     };
@@ -124,28 +122,6 @@ fn enter<D: VirtualPages>(
             let entry = find(&rec, meta, name);
             Ok(Some(Place { dir, rec, entry }))
         }
-        Err(stop) => Err(stop),
-    }
-}
-
-/// The record of a used node, whose page is resident.
-pub(crate) fn record<D: VirtualPages>(
-    device: &mut D,
-    meta: &mut Meta,
-    nodes: &Nodes,
-    ino: u32,
-) -> Result<InodeRec, Stop>
-    requires formed { D.formed device.old }
-    requires runs { Runs D.Counts device.old meta.old }
-    requires used { IsUsed D.Counts device.old meta.old ino }
-    ensures formed { D.formed device.new }
-    ensures node { IfOk result (IsNodeOf D.Counts device.old meta.old ino) }
-    ensures there { IfOk result (λ rec. IsSome (page_of meta.new (page_of_node ino))) }
-    ensures kept { RunsOn D.Counts device.old meta.old device.new meta.new }
-    ensures reads { Reads D.Counts device.old device.new (stop_of result) }
-{
-    match hold(device, meta, 67 + ino / 16) {
-        Ok(()) => Ok(nodes.get(meta, ino)),
         Err(stop) => Err(stop),
     }
 }

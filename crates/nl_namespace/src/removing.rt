@@ -11,12 +11,12 @@ ghost use Rattle.nl_running.specs.Running.{Runs, running_on};
 
 use crate::answer::Change;
 use crate::entering::take_out;
-use crate::place::{Place, Spot, locate, record};
+use crate::place::{Place, Spot, locate};
 use nl_field::{EntryRec, InodeRec, Kind};
 use nl_iface::VirtualPages;
 use nl_inode::Nodes;
 use nl_meta::Meta;
-use nl_running::Stop;
+use nl_running::{Stop, node};
 use nl_tree::{Path, Refusal, is_long};
 
 /// Takes its name from a file, or from an empty directory: the node at a path that is of that kind. Its record and its pages stay as they
@@ -79,7 +79,7 @@ fn remove_at<D: VirtualPages>(
     ensures left { Leaves D.Counts device.old meta.old nodes.old device.new meta.new nodes.new result }
     ensures reads { Reads D.Counts device.old device.new (change_stop result) }
 {
-    match record(device, meta, nodes, entry.ino) {
+    match node(device, meta, nodes, entry.ino) {
         Ok(target) => match refused_target(kind, &target) {
             Some(refusal) => Change::No(refusal),
             None => {

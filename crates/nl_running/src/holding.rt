@@ -1,4 +1,6 @@
-ghost use Rattle.std.specs.Prelude.{◌≡◌, IfOk};
+ghost use Rattle.std.specs.Prelude.{◌≡◌, IfOk, IsSome};
+ghost use Rattle.nl_inode.specs.Nodes.{page_of_node};
+ghost use Rattle.nl_meta.specs.Pages.{page_of};
 ghost use Rattle.nl_running.specs.Holding.{HoldsPage};
 ghost use Rattle.nl_running.specs.Reading.{Reads, stop_of};
 ghost use Rattle.nl_running.specs.Running.{IsNeeded, IsNodeOf, IsUsed, Runs, RunsOn, running_on};
@@ -40,6 +42,7 @@ pub fn node<D: VirtualPages>(
     ensures kept { RunsOn D.Counts device.old meta.old device.new meta.new }
     ensures reads { Reads D.Counts device.old device.new (stop_of result) }
     ensures node { IfOk result (IsNodeOf D.Counts device.old meta.old ino) }
+    ensures there { IfOk result (λ rec. IsSome (page_of meta.new (page_of_node ino))) }
 {
     match hold(device, meta, 67 + ino / 16) {
         Ok(()) => Ok(nodes.get(meta, ino)),

@@ -7,12 +7,12 @@ use Rattle.nl_namespace.proofs.place.enter.Goals as goal
 
 pub hold_entries-requires-clause-runs : goal.hold_entries-requires-clause-runs
 hold_entries-requires-clause-runs g c =
-    then-runs g.D.Counts c.args.device.now c.args.meta.now c.record.new.device c.record.new.meta (g.met.D.VirtualPages.numbers c.args.device.now c.requires.formed) c.in-Ok.ensures.kept c.requires.runs
+    then-runs g.D.Counts c.args.device.now c.args.meta.now c.node.new.device c.node.new.meta (g.met.D.VirtualPages.numbers c.args.device.now c.requires.formed) c.in-Ok.ensures.kept c.requires.runs
 
 pub hold_entries-requires-clause-directory : goal.hold_entries-requires-clause-directory
 hold_entries-requires-clause-directory g c = (
   c.args.dir,
-  then-node g.D.Counts c.args.device.now c.args.meta.now c.record.new.device c.record.new.meta (g.met.D.VirtualPages.numbers c.args.device.now c.requires.formed) c.in-Ok.ensures.kept c.args.dir c.in-Ok.rec c.in-Ok.ensures.node,
+  then-node g.D.Counts c.args.device.now c.args.meta.now c.node.new.device c.node.new.meta (g.met.D.VirtualPages.numbers c.args.device.now c.requires.formed) c.in-Ok.ensures.kept c.args.dir c.in-Ok.rec c.in-Ok.ensures.node,
   c.in-Dir.is,
 )
 
@@ -23,7 +23,7 @@ returns-in-Ok-hold_entries-clause-entered g c =
       dir = refl;
       is_node = c.in-Ok.ensures.node;
       is_dir = c.in-Dir.is;
-      entry = sym (named-held g.D.Counts c.args.device.now c.args.meta.now c.record.new.device c.record.new.meta b c.in-Ok.ensures.kept c.args.dir c.in-Ok.rec c.in-Ok.ensures.node c.in-Dir.is c.hold_entries.new.meta c.args.name.now c.in-Ok-hold_entries.ensures.there)
+      entry = sym (named-held g.D.Counts c.args.device.now c.args.meta.now c.node.new.device c.node.new.meta b c.in-Ok.ensures.kept c.args.dir c.in-Ok.rec c.in-Ok.ensures.node c.in-Dir.is c.hold_entries.new.meta c.args.name.now c.in-Ok-hold_entries.ensures.there)
           ∙ sym c.find-entry.ensures;
     }
 
@@ -32,17 +32,17 @@ returns-in-Ok-hold_entries-clause-held g c =
     let b = bounds-of (g.D.Counts.shape c.args.device.now) (g.met.D.VirtualPages.numbers c.args.device.now c.requires.formed) in
     record {
       node = ap is_some (c.in-Ok-hold_entries.ensures.kept.stays (page_of_node c.args.dir) c.in-Ok.ensures.there) ∙ c.in-Ok.ensures.there;
-      entries = has-before g.D.Counts c.args.device.now c.args.meta.now c.record.new.device c.record.new.meta b c.in-Ok.ensures.kept c.args.dir c.in-Ok.rec c.in-Ok.ensures.node c.in-Dir.is c.hold_entries.new.meta c.in-Ok-hold_entries.ensures.there;
+      entries = has-before g.D.Counts c.args.device.now c.args.meta.now c.node.new.device c.node.new.meta b c.in-Ok.ensures.kept c.args.dir c.in-Ok.rec c.in-Ok.ensures.node c.in-Dir.is c.hold_entries.new.meta c.in-Ok-hold_entries.ensures.there;
     }
 
 pub returns-in-Ok-hold_entries-clause-kept : goal.returns-in-Ok-hold_entries-clause-kept
 returns-in-Ok-hold_entries-clause-kept g c =
-    then-on g.D.Counts c.args.device.now c.args.meta.now c.record.new.device c.record.new.meta (g.met.D.VirtualPages.numbers c.args.device.now c.requires.formed) c.in-Ok.ensures.kept c.hold_entries.new.device c.hold_entries.new.meta c.in-Ok-hold_entries.ensures.kept
+    then-on g.D.Counts c.args.device.now c.args.meta.now c.node.new.device c.node.new.meta (g.met.D.VirtualPages.numbers c.args.device.now c.requires.formed) c.in-Ok.ensures.kept c.hold_entries.new.device c.hold_entries.new.meta c.in-Ok-hold_entries.ensures.kept
 
 pub returns-in-Err-hold_entries-clause-kept : goal.returns-in-Err-hold_entries-clause-kept
 returns-in-Err-hold_entries-clause-kept g c =
-    then-on g.D.Counts c.args.device.now c.args.meta.now c.record.new.device c.record.new.meta (g.met.D.VirtualPages.numbers c.args.device.now c.requires.formed) c.in-Ok.ensures.kept c.hold_entries.new.device c.hold_entries.new.meta c.in-Err-hold_entries.ensures.kept
+    then-on g.D.Counts c.args.device.now c.args.meta.now c.node.new.device c.node.new.meta (g.met.D.VirtualPages.numbers c.args.device.now c.requires.formed) c.in-Ok.ensures.kept c.hold_entries.new.device c.hold_entries.new.meta c.in-Err-hold_entries.ensures.kept
 
 pub returns-in-Err-hold_entries-clause-reads : goal.returns-in-Err-hold_entries-clause-reads
 returns-in-Err-hold_entries-clause-reads g c =
-    then-reads g.D.Counts c.args.device.now c.args.meta.now c.record.new.device c.record.new.meta (g.met.D.VirtualPages.numbers c.args.device.now c.requires.formed) c.in-Ok.ensures.kept c.hold_entries.new.device (Some c.in-Err-hold_entries.stop) c.in-Ok.ensures.reads c.in-Err-hold_entries.ensures.reads
+    then-reads g.D.Counts c.args.device.now c.args.meta.now c.node.new.device c.node.new.meta (g.met.D.VirtualPages.numbers c.args.device.now c.requires.formed) c.in-Ok.ensures.kept c.hold_entries.new.device (Some c.in-Err-hold_entries.stop) c.in-Ok.ensures.reads c.in-Err-hold_entries.ensures.reads
