@@ -1,13 +1,10 @@
-ghost use Rattle.std.specs.Prelude.{◌≡◌, ◌+◌, ◌^◌, ◌<◌, ◌≤◌, [], ℕ, length};
+ghost use Rattle.std.specs.Prelude.{◌≡◌, ◌^◌, ◌<◌, []};
 ghost use Rattle.nl_core.specs.Core.{IsCore};
 ghost use Rattle.nl_core.specs.Goes.{Goes};
-ghost use Rattle.nl_core.specs.Programming.{HasLine};
-ghost use Rattle.nl_effect.specs.Lines.{worker_pages};
-ghost use Rattle.nl_flight.specs.Flight.{of_worker};
 ghost use Rattle.nl_tree.specs.Calls.{IsBounded};
 ghost use Rattle.nl_tree.specs.Causes.{fault_sum};
 ghost use Rattle.nl_tree.specs.declared.call.Call.TheVariants.{Truncate};
-ghost use Rattle.nl_writing.specs.Calls.{AreStaged, RunsAsSome};
+ghost use Rattle.nl_writing.specs.Calls.{CanWriteLine, RunsAsSome};
 ghost use Rattle.nl_writing.specs.Ranges.{IsWriting};
 ghost use Rattle.nl_answering.specs.Answering.{AnswersCall, EndsLine, counts_of, pages_of_files};
 
@@ -34,17 +31,10 @@ pub(crate) fn write<M: Nand>(
 ) -> Answer
     requires formed { ⟦<Device<M> as Counts>⟧.formed core.old.device }
     requires core { IsCore ⟦<Device<M> as Counts>⟧ core.old }
-    requires writes { core.old.stopped ≡ 0 }
     requires stamp { ⟦<Device<M> as Counts>⟧.next_stamp core.old.device < 2 ^ 62 }
-    requires runs { RunsAsSome ⟦<Device<M> as Counts>⟧ core.old }
-    requires known { worker < 8 }
-    requires some { 0 < line }
-    requires line { HasLine core.old.flight worker line }
+    requires can { CanWriteLine ⟦<Device<M> as Counts>⟧ core.old worker line call.now files }
     requires writing { IsWriting call.now }
     requires bounded { IsBounded call.now }
-    requires files { files ≡ pages_of_files ⟦<Device<M> as Counts>⟧ core.old }
-    requires staged { AreStaged ⟦<Device<M> as Counts>⟧ core.old call.now (worker_pages core.old worker) }
-    requires others { (w : ℕ) → length (of_worker core.old.flight w).pages ≤ 16 }
     ensures formed { ⟦<Device<M> as Counts>⟧.formed core.new.device }
     ensures core { IsCore ⟦<Device<M> as Counts>⟧ core.new }
     ensures answers { AnswersCall ⟦<Device<M> as Counts>⟧ worker call.now core.old core.new result.reply [] result.files }

@@ -37,7 +37,7 @@ use Rattle.nl_effect.proofs.Stepping.{read_alike, steps_then}
 use Rattle.nl_writing.specs.Calls.{RunsAsSome}
 use Rattle.nl_writing.specs.Finding.{nodes_of}
 use Rattle.nl_writing.specs.Lines.{OthersStay}
-use Rattle.nl_truncating.specs.Truncating.{CanCut, IsCut, IsUncut}
+use Rattle.nl_truncating.specs.Truncating.{CanCut, CanTruncate, IsCut, IsUncut}
 use Rattle.nl_truncating.proofs.CutNodes.{file_goes}
 use Rattle.nl_truncating.proofs.CutPages.{partial_on}
 use Rattle.nl_writing.proofs.Flying.{same_line}
@@ -62,6 +62,16 @@ module _ {M : Type 0} (g : Ghosts (Device M)) (u v w : Core M) (core : IsCore g 
 
   pub others_read : (worker : ℕ) → OthersStay worker v.flight w.flight → OthersStay worker u.flight w.flight
   others_read worker stay = others_then worker u.flight v.flight w.flight (others_same worker u.flight v.flight (flight_on g u v on)) stay
+
+-- a truncate that could be made can be made after reads
+pub can_on : {M : Type 0} (g : Ghosts (Device M)) (u v : Core M) (worker line : ℕ) → Goes g 0 u v → ReadsOn g u v → CanTruncate g u worker line → CanTruncate g v worker line
+can_on {M} g u v worker line goes on can = record {
+  writes = ap (λ (x : Core M). x.stopped) on.others ∙ can.writes;
+  runs = some_on g u v 0 goes can.runs;
+  known = can.known;
+  some = can.some;
+  none = ap (λ (f : List InFlight). of_worker f worker) (flight_on g u v on) ∙ can.none;
+}
 
 pub others_kept : (worker : ℕ) (old new : List InFlight) → map nameless_line new ≡ map nameless_line old → OthersStay worker old new
 others_kept worker old new same w far = same_line new old same w

@@ -1,5 +1,5 @@
 -- What a truncate does to a core, and what it answers.
-use Rattle.std.specs.Prelude.{◌≡◌, ℕ, ◌/◌, ◌^◌, ⊤, [], List, IsSome, Option, Some}
+use Rattle.std.specs.Prelude.{◌≡◌, ℕ, ◌<◌, ◌/◌, ◌^◌, ⊤, [], List, IsSome, Option, Some}
 use Rattle.nl_field.specs.ContentLaws.{cut_page}
 use Rattle.nl_field.specs.FileContent.{cut_to, page_bytes}
 use Rattle.nl_field.specs.declared.inode.InodeRec.{InodeRec}
@@ -9,7 +9,7 @@ use Rattle.nl_tree.specs.Tree.{Tree, content_of, node_at, with_content}
 use Rattle.nl_tree.specs.declared.call.Call.TheVariants.{Truncate}
 use Rattle.nl_tree.specs.declared.reply.Reply.TheVariants.{Done, No}
 use Rattle.nl_device.specs.declared.device.Device.{Device}
-use Rattle.nl_flight.specs.Flight.{begun, with_line}
+use Rattle.nl_flight.specs.Flight.{begun, of_worker, with_line}
 use Rattle.nl_iface.specs.declared.counts.Counts.{Ghosts}
 use Rattle.nl_inode.specs.Nodes.{page_of_node}
 use Rattle.nl_meta.specs.Consistent.{PageOfStamp}
@@ -24,11 +24,19 @@ use Rattle.nl_effect.specs.Lines.{worker_pages}
 use Rattle.nl_effect.specs.Steps.{Steps}
 use Rattle.nl_effect.specs.Truncating.{AreCut, HasPartial}
 use Rattle.nl_writing.specs.Answers.{EndsEarly}
-use Rattle.nl_writing.specs.Calls.{HasPagesOfFiles, IfDone, IfUndone, TakesCall, stop_in}
+use Rattle.nl_writing.specs.Calls.{HasPagesOfFiles, IfDone, IfUndone, RunsAsSome, TakesCall, stop_in}
 use Rattle.nl_writing.specs.Finding.{nodes_of}
 use Rattle.nl_writing.specs.Lines.{OthersStay}
 use Rattle.nl_writing.specs.declared.answer.Written.{Written}
 use Rattle.nl_writing.specs.declared.answer.Written.TheVariants as written
+
+-- What holds before a truncate of a worker without a line: the volume runs and can be written.
+pub record CanTruncate {M : Type 0} (g : Ghosts (Device M)) (v : Core M) (worker line : ℕ) : Type 0 where
+  pub writes : v.stopped ≡ 0
+  pub runs : RunsAsSome g v
+  pub known : worker < 8
+  pub some : 0 < line
+  pub none : of_worker v.flight worker ≡ begun 0
 
 -- the node is a file with this record, before and after, and its page is resident
 pub record IsOpenFile {M : Type 0} (g : Ghosts (Device M)) (old new : Core M) (n : ℕ) (rec : InodeRec) : Type 0 where

@@ -1,6 +1,5 @@
 ghost use Rattle.std.specs.Prelude.{◌≡◌, ◌≢◌, ◌≤◌, ◌<◌, ◌/◌, ◌%◌, ◌^◌, ℕ, false, IfOk, OnOk};
 ghost use Rattle.nl_field.specs.Pointers.{is_none_pointer};
-ghost use Rattle.nl_flight.specs.Flight.{begun, of_worker};
 ghost use Rattle.nl_iface.specs.Calls.{StoresPages};
 ghost use Rattle.nl_iface.specs.Device.{IsVolumeShape};
 ghost use Rattle.nl_indirect.specs.Ranges.{HasRange};
@@ -13,10 +12,9 @@ ghost use Rattle.nl_core.specs.Programming.{last_stamp};
 ghost use Rattle.nl_effect.specs.Fits.{IsFileOf};
 ghost use Rattle.nl_effect.specs.Steps.{ReadsOn};
 ghost use Rattle.nl_writing.specs.Answers.{EndsEarly};
-ghost use Rattle.nl_writing.specs.Calls.{RunsAsSome};
 ghost use Rattle.nl_writing.specs.Finding.{IsSomeFile};
 ghost use Rattle.nl_writing.specs.Lines.{OthersStay};
-ghost use Rattle.nl_truncating.specs.Truncating.{CanCut, HasCutPage, IsOpenFile};
+ghost use Rattle.nl_truncating.specs.Truncating.{CanCut, CanTruncate, HasCutPage, IsOpenFile};
 
 use nl_core::{Core, Programmed};
 use nl_device::Device;
@@ -46,12 +44,8 @@ pub(crate) fn put_cut<M: Nand>(
 ) -> Result<(), Stop>
     requires formed { ⟦<Device<M> as Counts>⟧.formed core.old.device }
     requires core { IsCore ⟦<Device<M> as Counts>⟧ core.old }
-    requires writes { core.old.stopped ≡ 0 }
     requires stamp { ⟦<Device<M> as Counts>⟧.next_stamp core.old.device < last_stamp }
-    requires runs { RunsAsSome ⟦<Device<M> as Counts>⟧ core.old }
-    requires known { worker < 8 }
-    requires some { 0 < line }
-    requires none { of_worker core.old.flight worker ≡ begun 0 }
+    requires can { CanTruncate ⟦<Device<M> as Counts>⟧ core.old worker line }
     requires file { IsSomeFile ⟦<Device<M> as Counts>⟧ core.old ino }
     requires size { size ≤ 16809984 }
     ensures formed { ⟦<Device<M> as Counts>⟧.formed core.new.device }
@@ -146,12 +140,8 @@ fn program_cut<M: Nand>(
 ) -> Result<(), Stop>
     requires formed { ⟦<Device<M> as Counts>⟧.formed core.old.device }
     requires core { IsCore ⟦<Device<M> as Counts>⟧ core.old }
-    requires writes { core.old.stopped ≡ 0 }
     requires stamp { ⟦<Device<M> as Counts>⟧.next_stamp core.old.device < last_stamp }
-    requires runs { RunsAsSome ⟦<Device<M> as Counts>⟧ core.old }
-    requires known { worker < 8 }
-    requires some { 0 < line }
-    requires none { of_worker core.old.flight worker ≡ begun 0 }
+    requires can { CanTruncate ⟦<Device<M> as Counts>⟧ core.old worker line }
     requires file { IsFileOf ⟦<Device<M> as Counts>⟧ core.old.device core.old.meta ino rec.now }
     requires shorter { size < rec.now.size }
     requires within { size % 4096 ≢ 0 }

@@ -1,5 +1,5 @@
 ghost use Rattle.std.specs.Prelude.{◌≡◌, ◌≤◌, ◌<◌, ◌+◌, ◌-◌, ◌/◌, ◌^◌, false, IfOk, OnErr, Some, length};
-ghost use Rattle.nl_flight.specs.Flight.{begun, of_worker};
+ghost use Rattle.nl_flight.specs.Flight.{of_worker};
 ghost use Rattle.nl_tree.specs.Represents.{node_reached};
 ghost use Rattle.nl_tree.specs.Step.{is_too_long};
 ghost use Rattle.nl_tree.specs.declared.call.Call.TheVariants.{Truncate};
@@ -17,7 +17,7 @@ ghost use Rattle.nl_writing.specs.Answers.{EndsEarly};
 ghost use Rattle.nl_writing.specs.Calls.{HasPagesOfFiles, IfDone, IfUndone, RunsAsSome, TakesCall, stop_in};
 ghost use Rattle.nl_writing.specs.Finding.{IsFound, IsSomeFile, nodes_of};
 ghost use Rattle.nl_writing.specs.Lines.{OthersStay};
-ghost use Rattle.nl_truncating.specs.Truncating.{AnswersTruncate, CanCut, CutsFile, IsCut, IsUncut, Truncates};
+ghost use Rattle.nl_truncating.specs.Truncating.{AnswersTruncate, CanCut, CanTruncate, CutsFile, IsCut, IsUncut, Truncates};
 
 use crate::cutting::{hold_end, open_file, put_cut};
 use nl_core::Core;
@@ -82,12 +82,8 @@ fn truncate_alone<M: Nand>(
 ) -> Written
     requires formed { ⟦<Device<M> as Counts>⟧.formed core.old.device }
     requires core { IsCore ⟦<Device<M> as Counts>⟧ core.old }
-    requires writes { core.old.stopped ≡ 0 }
     requires stamp { ⟦<Device<M> as Counts>⟧.next_stamp core.old.device < 2 ^ 62 }
-    requires runs { RunsAsSome ⟦<Device<M> as Counts>⟧ core.old }
-    requires known { worker < 8 }
-    requires some { 0 < line }
-    requires none { of_worker core.old.flight worker ≡ begun 0 }
+    requires can { CanTruncate ⟦<Device<M> as Counts>⟧ core.old worker line }
     requires files { HasPagesOfFiles ⟦<Device<M> as Counts>⟧ core.old files }
     ensures formed { ⟦<Device<M> as Counts>⟧.formed core.new.device }
     ensures ends { Truncates ⟦<Device<M> as Counts>⟧ worker path.now size core.old core.new result }
@@ -131,12 +127,8 @@ fn truncate_found<M: Nand>(
 ) -> Written
     requires formed { ⟦<Device<M> as Counts>⟧.formed core.old.device }
     requires core { IsCore ⟦<Device<M> as Counts>⟧ core.old }
-    requires writes { core.old.stopped ≡ 0 }
     requires stamp { ⟦<Device<M> as Counts>⟧.next_stamp core.old.device < 2 ^ 62 }
-    requires runs { RunsAsSome ⟦<Device<M> as Counts>⟧ core.old }
-    requires known { worker < 8 }
-    requires some { 0 < line }
-    requires none { of_worker core.old.flight worker ≡ begun 0 }
+    requires can { CanTruncate ⟦<Device<M> as Counts>⟧ core.old worker line }
     requires short { is_too_long path.now ≡ false }
     requires leads { node_reached (nodes_of ⟦<Device<M> as Counts>⟧ core.old) 0 path.now ≡ Some ino }
     requires file { IsSomeFile ⟦<Device<M> as Counts>⟧ core.old ino }
@@ -167,12 +159,8 @@ fn truncate_file<M: Nand>(
 ) -> Result<u32, Stop>
     requires formed { ⟦<Device<M> as Counts>⟧.formed core.old.device }
     requires core { IsCore ⟦<Device<M> as Counts>⟧ core.old }
-    requires writes { core.old.stopped ≡ 0 }
     requires stamp { ⟦<Device<M> as Counts>⟧.next_stamp core.old.device < 2 ^ 62 }
-    requires runs { RunsAsSome ⟦<Device<M> as Counts>⟧ core.old }
-    requires known { worker < 8 }
-    requires some { 0 < line }
-    requires none { of_worker core.old.flight worker ≡ begun 0 }
+    requires can { CanTruncate ⟦<Device<M> as Counts>⟧ core.old worker line }
     requires file { IsSomeFile ⟦<Device<M> as Counts>⟧ core.old ino }
     requires size { size ≤ 16809984 }
     requires files { HasPagesOfFiles ⟦<Device<M> as Counts>⟧ core.old files }

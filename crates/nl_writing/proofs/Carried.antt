@@ -16,10 +16,10 @@ use Rattle.nl_core.specs.declared.state.Core.{Core}
 use Rattle.nl_effect.specs.Fits.{IsFileOf}
 use Rattle.nl_effect.specs.Lines.{worker_pages}
 use Rattle.nl_effect.specs.Steps.{ReadsOn}
-use Rattle.nl_writing.specs.Calls.{AreStaged, RunsAsSome}
+use Rattle.nl_writing.specs.Calls.{AreStaged, CanWriteLine, RunsAsSome}
 use Rattle.nl_writing.specs.Lines.{AreOfCall, AreWritten, HasAll, IsLineOfCall, IsOfGeneration, OthersStay, PutsOn, RunsWritten}
 use Rattle.nl_writing.specs.Making.{content_at}
-use Rattle.nl_writing.proofs.Going.{generation_on, others_same}
+use Rattle.nl_writing.proofs.Going.{files_on, generation_on, others_same}
 use Rattle.nl_writing.proofs.OnePage.{flight_same, reads_first}
 
 -- ---- pages were read
@@ -63,6 +63,18 @@ module _ {M : Type 0} (g : Ghosts (Device M)) (u v : Core M) (core : IsCore g u)
             ∙ ap (λ (names : Names). Some (g.bytes u.device (place_of names page.at))) (sym only.names)
             ∙ ap (λ (bytes : List ℕ). Some bytes) (sym (only.medium.bytes tells (place_of (g.names v.device) page.at)));
       })
+
+  pub can_on : (worker line : ℕ) (call : Call) (files : ℕ) → CanWriteLine g u worker line call files → CanWriteLine g v worker line call files
+  can_on worker line call files can = record {
+    writes = stopped_on can.writes;
+    runs = runs_on can.runs;
+    known = can.known;
+    some = can.some;
+    has_line = line_on worker line can.has_line;
+    files_are = files_on g 0 u v (reads_first g u v core volume stores reads) files can.files_are;
+    staged = staged_on worker call can.staged;
+    few = few_on can.few;
+  }
 
 -- ---- the lines are as before
 

@@ -96,11 +96,11 @@ pub ends_more : {M : Type 0} (g : Ghosts (Device M)) (n k worker : ℕ) (call : 
 ends_more g n k worker call u w a core few e = ends_after g 0 worker call u u (goes_none g u core) (others_none worker u.flight) w n k (omega (arith, few)) a e
 
 -- but for a call that is done, files have as many pages as before
-pub undone_files : {M : Type 0} (g : Ghosts (Device M)) (k files : ℕ) (u v : Core M) (a : Written) → HasPagesOfFiles g u files → IfUndone a (Goes g k u v) → IfUndone a (Goes g k u v × HasPagesOfFiles g v files)
+pub undone_files : {M : Type 0} (g : Ghosts (Device M)) (k files : ℕ) (u v : Core M) (a : Written) → HasPagesOfFiles g u files → IfUndone a (Goes g k u v) → IfUndone a (HasPagesOfFiles g v files)
 undone_files g k files u v (answer.Done now) count goes = tt
-undone_files g k files u v (answer.No refusal) count goes = (goes, files_on g k u v goes files count)
-undone_files g k files u v (answer.Lost w f) count goes = (goes, files_on g k u v goes files count)
-undone_files g k files u v answer.Fault count goes = (goes, files_on g k u v goes files count)
+undone_files g k files u v (answer.No refusal) count goes = files_on g k u v goes files count
+undone_files g k files u v (answer.Lost w f) count goes = files_on g k u v goes files count
+undone_files g k files u v answer.Fault count goes = files_on g k u v goes files count
 
 -- the range of a call, by other names
 pub fitting_of : {M : Type 0} (g : Ghosts (Device M)) (v : Core M) (n files from len start count : ℕ) (a : Fits) → from ≡ start → len ≡ count → IsFitting g v n from len files a → IsFitting g v n start count files a

@@ -1,5 +1,5 @@
 -- What a call that writes does to a core, and what it answers.
-use Rattle.std.specs.Prelude.{◌≡◌, ℕ, ◌+◌, ◌^◌, ⊤, IsSome, [], List, length, slice_get, Option, Some, None, Result, Ok, Err}
+use Rattle.std.specs.Prelude.{◌≡◌, ℕ, ◌+◌, ◌^◌, ◌<◌, ◌≤◌, ⊤, IsSome, [], List, length, slice_get, Option, Some, None, Result, Ok, Err}
 use Rattle.std.specs.Int.{div_ceil}
 use Rattle.nl_tree.specs.Event.{page_given}
 use Rattle.nl_tree.specs.Step.{step}
@@ -17,8 +17,10 @@ use Rattle.nl_running.specs.declared.answer.Stop.TheVariants as stop
 use Rattle.nl_commit.specs.Holding.{running_holders}
 use Rattle.nl_core.specs.Core.{IsCore}
 use Rattle.nl_core.specs.Goes.{Goes}
+use Rattle.nl_core.specs.Programming.{HasLine}
 use Rattle.nl_core.specs.Trees.{CoreRuns}
 use Rattle.nl_core.specs.declared.state.Core.{Core}
+use Rattle.nl_effect.specs.Lines.{worker_pages}
 use Rattle.nl_effect.specs.Steps.{Steps}
 use Rattle.nl_stops.specs.Effects.{MakesTree}
 use Rattle.nl_writing.specs.Answers.{EndsEarly}
@@ -45,6 +47,18 @@ RunsAsSome g v = g.tells → (page_of_stamp : ℕ → Option PageOfStamp) × (tr
 -- so many pages files have
 abbrev pub HasPagesOfFiles : {M : Type 0} → Ghosts (Device M) → Core M → ℕ → Type 0
 HasPagesOfFiles g v files = files ≡ length (running_holders g v.device v.meta)
+
+-- What holds before a worker's line is done that writes: the volume runs and can be written, and its files have so many pages. No worker has more pages
+-- in flight than a line may, and those of this one are of this line, whole pages of the call from the first one on.
+pub record CanWriteLine {M : Type 0} (g : Ghosts (Device M)) (v : Core M) (worker line : ℕ) (call : Call) (files : ℕ) : Type 0 where
+  pub writes : v.stopped ≡ 0
+  pub runs : RunsAsSome g v
+  pub known : worker < 8
+  pub some : 0 < line
+  pub has_line : HasLine v.flight worker line
+  pub files_are : HasPagesOfFiles g v files
+  pub staged : AreStaged g v call (worker_pages v worker)
+  pub few : (w : ℕ) → length (of_worker v.flight w).pages ≤ 16
 
 -- ---- done
 

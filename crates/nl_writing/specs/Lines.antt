@@ -1,11 +1,12 @@
 -- A worker's pages in flight for a call that writes.
-use Rattle.std.specs.Prelude.{◌≡◌, ◌≢◌, ℕ, ◌≤◌, ◌==◌, true, Bool, List, length, map, slice_get, Option, Some}
+use Rattle.std.specs.Prelude.{◌≡◌, ◌≢◌, ℕ, ◌<◌, ◌≤◌, ◌==◌, true, Bool, List, length, map, slice_get, Option, Some}
 use Rattle.std.specs.List.{list_any}
 use Rattle.nl_field.specs.FileContent.{FileContent}
 use Rattle.nl_field.specs.declared.inode.InodeRec.{InodeRec}
 use Rattle.nl_field.specs.declared.pointer.Pointer.{Pointer}
 use Rattle.nl_field.specs.declared.pointer.Tag.{Tag}
 use Rattle.nl_tree.specs.CountLaws.{Differ}
+use Rattle.nl_tree.specs.Represents.{node_reached}
 use Rattle.nl_tree.specs.Tree.{Tree}
 use Rattle.nl_tree.specs.declared.call.Call.{Call}
 use Rattle.nl_device.specs.declared.device.Device.{Device}
@@ -21,8 +22,9 @@ use Rattle.nl_core.specs.Trees.{CoreRuns}
 use Rattle.nl_core.specs.declared.state.Core.{Core}
 use Rattle.nl_effect.specs.Fits.{IsFileOf}
 use Rattle.nl_effect.specs.Lines.{indexes_of, worker_pages}
+use Rattle.nl_writing.specs.Finding.{IsSomeFile, nodes_of}
 use Rattle.nl_writing.specs.Making.{content_at}
-use Rattle.nl_writing.specs.Ranges.{is_written, page_after}
+use Rattle.nl_writing.specs.Ranges.{IsWriting, is_written, page_after, path_of}
 
 -- Each page is one of the file in which bytes of the call lie, at an index of its own.
 pub record AreOfCall (n generation : ℕ) (call : Call) (pages : List FlightPage) : Type 0 where
@@ -74,6 +76,16 @@ pub record KeepsLine {M : Type 0} (g : Ghosts (Device M)) (n generation worker l
   pub has_line : HasLine new.flight worker line
   pub few : (w : ℕ) → length (of_worker new.flight w).pages ≤ 16
   pub others : OthersStay worker old.flight new.flight
+
+-- What holds before pages of a call are put in flight for a worker's line: the volume can be written, and the path of the call leads to the file.
+pub record CanPut {M : Type 0} (g : Ghosts (Device M)) (v : Core M) (worker line : ℕ) (call : Call) (n : ℕ) : Type 0 where
+  pub writes : v.stopped ≡ 0
+  pub known : worker < 8
+  pub some : 0 < line
+  pub has_line : HasLine v.flight worker line
+  pub writing : IsWriting call
+  pub leads : node_reached (nodes_of g v) 0 (path_of call) ≡ Some n
+  pub file : IsSomeFile g v n
 
 -- The core went on, and at most pages of the call were put in flight for the worker.
 pub record PutsOn {M : Type 0} (g : Ghosts (Device M)) (most worker : ℕ) (call : Call) (old new : Core M) : Type 0 where

@@ -1,16 +1,14 @@
-ghost use Rattle.std.specs.Prelude.{◌≡◌, ◌≢◌, ◌+◌, ◌≤◌, ◌<◌, ◌*◌, ◌^◌, ℕ, true, OnErr, OnOk, length, Some};
+ghost use Rattle.std.specs.Prelude.{◌≡◌, ◌≢◌, ◌+◌, ◌≤◌, ◌<◌, ◌*◌, ◌^◌, ℕ, true, OnErr, OnOk, length};
 ghost use Rattle.nl_field.specs.Numbers.{max_bytes};
 ghost use Rattle.nl_flight.specs.Flight.{HasPlace, of_worker};
 ghost use Rattle.nl_running.specs.Reading.{stop_of};
-ghost use Rattle.nl_tree.specs.Represents.{node_reached};
 ghost use Rattle.nl_core.specs.Calls.{KeepsLines};
 ghost use Rattle.nl_core.specs.Core.{IsCore};
-ghost use Rattle.nl_core.specs.Programming.{HasLine, last_stamp};
+ghost use Rattle.nl_core.specs.Programming.{last_stamp};
 ghost use Rattle.nl_effect.specs.Lines.{worker_pages};
 ghost use Rattle.nl_writing.specs.Answers.{EndsEarly};
-ghost use Rattle.nl_writing.specs.Finding.{IsSomeFile, nodes_of};
-ghost use Rattle.nl_writing.specs.Lines.{AddsPage, AreOfCall, HasAll, HasIndex, PutsOn};
-ghost use Rattle.nl_writing.specs.Ranges.{IsWriting, is_written, from_of, len_of, path_of};
+ghost use Rattle.nl_writing.specs.Lines.{AddsPage, AreOfCall, CanPut, HasAll, HasIndex, PutsOn};
+ghost use Rattle.nl_writing.specs.Ranges.{is_written, from_of, len_of};
 
 use crate::laying::{length_of, offset_of};
 use crate::lining::has_index;
@@ -38,16 +36,10 @@ pub(crate) fn put_pages<M: Nand>(
 ) -> Result<(), Stop>
     requires formed { ⟦<Device<M> as Counts>⟧.formed core.old.device }
     requires core { IsCore ⟦<Device<M> as Counts>⟧ core.old }
-    requires writes { core.old.stopped ≡ 0 }
     requires stamp { ⟦<Device<M> as Counts>⟧.next_stamp core.old.device < 2 ^ 62 + 2 ^ 36 }
-    requires known { worker < 8 }
-    requires some { 0 < line }
-    requires line { HasLine core.old.flight worker line }
-    requires writing { IsWriting call.now }
+    requires can { CanPut ⟦<Device<M> as Counts>⟧ core.old worker line call.now ino }
     requires few { (0 < len_of call.now) × (len_of call.now ≤ max_bytes) }
     requires within { from_of call.now + len_of call.now ≤ 16809984 }
-    requires leads { node_reached (nodes_of ⟦<Device<M> as Counts>⟧ core.old) 0 (path_of call.now) ≡ Some ino }
-    requires file { IsSomeFile ⟦<Device<M> as Counts>⟧ core.old ino }
     requires pages { AreOfCall ino generation call.now (worker_pages core.old worker) }
     requires others { (w : ℕ) → length (of_worker core.old.flight w).pages ≤ 16 }
     ensures formed { ⟦<Device<M> as Counts>⟧.formed core.new.device }
@@ -86,17 +78,11 @@ fn put_index<M: Nand>(
 ) -> Result<(), Stop>
     requires formed { ⟦<Device<M> as Counts>⟧.formed core.old.device }
     requires core { IsCore ⟦<Device<M> as Counts>⟧ core.old }
-    requires writes { core.old.stopped ≡ 0 }
     requires stamp { ⟦<Device<M> as Counts>⟧.next_stamp core.old.device < last_stamp }
-    requires known { worker < 8 }
-    requires some { 0 < line }
-    requires line { HasLine core.old.flight worker line }
-    requires writing { IsWriting call.now }
+    requires can { CanPut ⟦<Device<M> as Counts>⟧ core.old worker line call.now tag.ino }
     requires few { len_of call.now ≤ max_bytes }
     requires written { is_written call.now tag.index ≡ true }
     requires within { tag.index < 4104 }
-    requires leads { node_reached (nodes_of ⟦<Device<M> as Counts>⟧ core.old) 0 (path_of call.now) ≡ Some tag.ino }
-    requires file { IsSomeFile ⟦<Device<M> as Counts>⟧ core.old tag.ino }
     requires pages { AreOfCall tag.ino tag.generation call.now (worker_pages core.old worker) }
     requires others { (w : ℕ) → w ≢ worker → length (of_worker core.old.flight w).pages ≤ 16 }
     ensures formed { ⟦<Device<M> as Counts>⟧.formed core.new.device }
@@ -122,18 +108,12 @@ fn put_page<M: Nand>(
 ) -> Result<(), Stop>
     requires formed { ⟦<Device<M> as Counts>⟧.formed core.old.device }
     requires core { IsCore ⟦<Device<M> as Counts>⟧ core.old }
-    requires writes { core.old.stopped ≡ 0 }
     requires stamp { ⟦<Device<M> as Counts>⟧.next_stamp core.old.device < last_stamp }
-    requires known { worker < 8 }
-    requires some { 0 < line }
-    requires line { HasLine core.old.flight worker line }
+    requires can { CanPut ⟦<Device<M> as Counts>⟧ core.old worker line call.now tag.ino }
     requires place { HasPlace core.old.flight worker }
-    requires writing { IsWriting call.now }
     requires few { len_of call.now ≤ max_bytes }
     requires written { is_written call.now tag.index ≡ true }
     requires within { tag.index < 4104 }
-    requires leads { node_reached (nodes_of ⟦<Device<M> as Counts>⟧ core.old) 0 (path_of call.now) ≡ Some tag.ino }
-    requires file { IsSomeFile ⟦<Device<M> as Counts>⟧ core.old tag.ino }
     ensures formed { ⟦<Device<M> as Counts>⟧.formed core.new.device }
     ensures core { IsCore ⟦<Device<M> as Counts>⟧ core.new }
     ensures puts { PutsOn ⟦<Device<M> as Counts>⟧ (2 ^ 30) worker call.now core.old core.new }

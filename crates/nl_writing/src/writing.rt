@@ -8,15 +8,13 @@ ghost use Rattle.nl_tree.specs.Calls.{IsBounded};
 ghost use Rattle.nl_tree.specs.Represents.{node_reached};
 ghost use Rattle.nl_tree.specs.Step.{is_too_long};
 ghost use Rattle.nl_core.specs.Core.{IsCore};
-ghost use Rattle.nl_core.specs.Goes.{Goes};
 ghost use Rattle.nl_core.specs.Programming.{HasLine};
 ghost use Rattle.nl_effect.specs.Lines.{worker_pages};
-ghost use Rattle.nl_writing.specs.Answers.{EndsEarly};
-ghost use Rattle.nl_writing.specs.Calls.{AnswersWrite, AreStaged, EndsWrite, HasPagesOfFiles, IfDone, IfUndone, RunsAsSome, TakesCall, ended_as, stop_in};
+ghost use Rattle.nl_writing.specs.Calls.{AreStaged, CanWriteLine, EndsWrite, HasPagesOfFiles, IfUndone, RunsAsSome, ended_as};
 ghost use Rattle.nl_writing.specs.Finding.{IsSomeFile, nodes_of};
 ghost use Rattle.nl_writing.specs.Contents.{count_indexes};
 ghost use Rattle.nl_writing.specs.Fitting.{IsReady};
-ghost use Rattle.nl_writing.specs.Lines.{AreOfCall, HasAll, IsLineOfCall, IsOfGeneration, KeepsLine, OthersStay, RunsWritten};
+ghost use Rattle.nl_writing.specs.Lines.{AreOfCall, HasAll, IsLineOfCall, IsOfGeneration, KeepsLine, RunsWritten};
 ghost use Rattle.nl_writing.specs.Ranges.{IsSomeWrite, IsWriting, from_of, len_of, path_of};
 
 use crate::answer::{Fits, Found, Written};
@@ -57,24 +55,14 @@ pub fn write_call<M: Nand>(
 ) -> Written
     requires formed { ⟦<Device<M> as Counts>⟧.formed core.old.device }
     requires core { IsCore ⟦<Device<M> as Counts>⟧ core.old }
-    requires writes { core.old.stopped ≡ 0 }
     requires stamp { ⟦<Device<M> as Counts>⟧.next_stamp core.old.device < 2 ^ 62 }
-    requires runs { RunsAsSome ⟦<Device<M> as Counts>⟧ core.old }
-    requires known { worker < 8 }
-    requires some { 0 < line }
-    requires line { HasLine core.old.flight worker line }
+    requires can { CanWriteLine ⟦<Device<M> as Counts>⟧ core.old worker line call.now files }
     requires writing { IsWriting call.now }
     requires bounded { IsBounded call.now }
-    requires files { HasPagesOfFiles ⟦<Device<M> as Counts>⟧ core.old files }
-    requires staged { AreStaged ⟦<Device<M> as Counts>⟧ core.old call.now (worker_pages core.old worker) }
-    requires others { (w : ℕ) → length (of_worker core.old.flight w).pages ≤ 16 }
     ensures formed { ⟦<Device<M> as Counts>⟧.formed core.new.device }
     ensures core { IsCore ⟦<Device<M> as Counts>⟧ core.new }
-    ensures done { IfDone result (λ now. TakesCall ⟦<Device<M> as Counts>⟧ worker call.now core.old core.new × HasPagesOfFiles ⟦<Device<M> as Counts>⟧ core.new now) }
-    ensures undone { IfUndone result (Goes ⟦<Device<M> as Counts>⟧ (2 ^ 40) core.old core.new × HasPagesOfFiles ⟦<Device<M> as Counts>⟧ core.new files) }
-    ensures answer { AnswersWrite ⟦<Device<M> as Counts>⟧ call.now core.old result }
-    ensures others { OthersStay worker core.old.flight core.new.flight }
-    ensures early { EndsEarly ⟦<Device<M> as Counts>⟧ core.old core.new (stop_in result) }
+    ensures ends { EndsWrite ⟦<Device<M> as Counts>⟧ (2 ^ 40) worker call.now core.old core.new result }
+    ensures files { IfUndone result (HasPagesOfFiles ⟦<Device<M> as Counts>⟧ core.new files) }
 {
     match write_path(core, worker, line, call, files, page) {
         Ok(written) => written,
@@ -103,17 +91,10 @@ fn write_path<M: Nand>(
 ) -> Result<Written, Stop>
     requires formed { ⟦<Device<M> as Counts>⟧.formed core.old.device }
     requires core { IsCore ⟦<Device<M> as Counts>⟧ core.old }
-    requires writes { core.old.stopped ≡ 0 }
     requires stamp { ⟦<Device<M> as Counts>⟧.next_stamp core.old.device < 2 ^ 62 }
-    requires runs { RunsAsSome ⟦<Device<M> as Counts>⟧ core.old }
-    requires known { worker < 8 }
-    requires some { 0 < line }
-    requires line { HasLine core.old.flight worker line }
+    requires can { CanWriteLine ⟦<Device<M> as Counts>⟧ core.old worker line call.now files }
     requires writing { IsWriting call.now }
     requires few { len_of call.now ≤ max_bytes }
-    requires files { HasPagesOfFiles ⟦<Device<M> as Counts>⟧ core.old files }
-    requires staged { AreStaged ⟦<Device<M> as Counts>⟧ core.old call.now (worker_pages core.old worker) }
-    requires others { (w : ℕ) → length (of_worker core.old.flight w).pages ≤ 16 }
     ensures formed { ⟦<Device<M> as Counts>⟧.formed core.new.device }
     ensures core { IsCore ⟦<Device<M> as Counts>⟧ core.new }
     ensures ends { EndsWrite ⟦<Device<M> as Counts>⟧ (2 ^ 40) worker call.now core.old core.new (ended_as result) }
@@ -141,20 +122,13 @@ fn write_file<M: Nand>(
 ) -> Result<Written, Stop>
     requires formed { ⟦<Device<M> as Counts>⟧.formed core.old.device }
     requires core { IsCore ⟦<Device<M> as Counts>⟧ core.old }
-    requires writes { core.old.stopped ≡ 0 }
     requires stamp { ⟦<Device<M> as Counts>⟧.next_stamp core.old.device < 2 ^ 62 }
-    requires runs { RunsAsSome ⟦<Device<M> as Counts>⟧ core.old }
-    requires known { worker < 8 }
-    requires some { 0 < line }
-    requires line { HasLine core.old.flight worker line }
+    requires can { CanWriteLine ⟦<Device<M> as Counts>⟧ core.old worker line call.now files }
     requires writing { IsWriting call.now }
     requires few { len_of call.now ≤ max_bytes }
     requires short { is_too_long (path_of call.now) ≡ false }
     requires leads { node_reached (nodes_of ⟦<Device<M> as Counts>⟧ core.old) 0 (path_of call.now) ≡ Some ino }
     requires file { IsSomeFile ⟦<Device<M> as Counts>⟧ core.old ino }
-    requires files { HasPagesOfFiles ⟦<Device<M> as Counts>⟧ core.old files }
-    requires staged { AreStaged ⟦<Device<M> as Counts>⟧ core.old call.now (worker_pages core.old worker) }
-    requires others { (w : ℕ) → length (of_worker core.old.flight w).pages ≤ 16 }
     ensures formed { ⟦<Device<M> as Counts>⟧.formed core.new.device }
     ensures core { IsCore ⟦<Device<M> as Counts>⟧ core.new }
     ensures ends { EndsWrite ⟦<Device<M> as Counts>⟧ (2 ^ 36) worker call.now core.old core.new (ended_as result) }
@@ -211,18 +185,11 @@ fn write_some<M: Nand>(
 ) -> Result<Written, Stop>
     requires formed { ⟦<Device<M> as Counts>⟧.formed core.old.device }
     requires core { IsCore ⟦<Device<M> as Counts>⟧ core.old }
-    requires writes { core.old.stopped ≡ 0 }
     requires stamp { ⟦<Device<M> as Counts>⟧.next_stamp core.old.device < 2 ^ 62 }
-    requires runs { RunsAsSome ⟦<Device<M> as Counts>⟧ core.old }
-    requires known { worker < 8 }
-    requires some { 0 < line }
-    requires line { HasLine core.old.flight worker line }
+    requires can { CanWriteLine ⟦<Device<M> as Counts>⟧ core.old worker line call.now files }
     requires write { IsSomeWrite call.now }
     requires leads { node_reached (nodes_of ⟦<Device<M> as Counts>⟧ core.old) 0 (path_of call.now) ≡ Some ino }
     requires file { IsSomeFile ⟦<Device<M> as Counts>⟧ core.old ino }
-    requires files { HasPagesOfFiles ⟦<Device<M> as Counts>⟧ core.old files }
-    requires staged { AreStaged ⟦<Device<M> as Counts>⟧ core.old call.now (worker_pages core.old worker) }
-    requires others { (w : ℕ) → length (of_worker core.old.flight w).pages ≤ 16 }
     ensures formed { ⟦<Device<M> as Counts>⟧.formed core.new.device }
     ensures core { IsCore ⟦<Device<M> as Counts>⟧ core.new }
     ensures ends { EndsWrite ⟦<Device<M> as Counts>⟧ (2 ^ 36) worker call.now core.old core.new (ended_as result) }
@@ -261,18 +228,11 @@ fn write_pages<M: Nand>(
 ) -> Result<Written, Stop>
     requires formed { ⟦<Device<M> as Counts>⟧.formed core.old.device }
     requires core { IsCore ⟦<Device<M> as Counts>⟧ core.old }
-    requires writes { core.old.stopped ≡ 0 }
     requires stamp { ⟦<Device<M> as Counts>⟧.next_stamp core.old.device < 2 ^ 62 }
-    requires runs { RunsAsSome ⟦<Device<M> as Counts>⟧ core.old }
-    requires known { worker < 8 }
-    requires some { 0 < line }
-    requires line { HasLine core.old.flight worker line }
+    requires can { CanWriteLine ⟦<Device<M> as Counts>⟧ core.old worker line call.now files }
     requires write { IsSomeWrite call.now }
     requires leads { node_reached (nodes_of ⟦<Device<M> as Counts>⟧ core.old) 0 (path_of call.now) ≡ Some ino }
     requires file { IsOfGeneration ⟦<Device<M> as Counts>⟧ core.old ino generation }
-    requires files { HasPagesOfFiles ⟦<Device<M> as Counts>⟧ core.old files }
-    requires staged { AreStaged ⟦<Device<M> as Counts>⟧ core.old call.now (worker_pages core.old worker) }
-    requires others { (w : ℕ) → length (of_worker core.old.flight w).pages ≤ 16 }
     ensures formed { ⟦<Device<M> as Counts>⟧.formed core.new.device }
     ensures core { IsCore ⟦<Device<M> as Counts>⟧ core.new }
     ensures ends { EndsWrite ⟦<Device<M> as Counts>⟧ (2 ^ 36) worker call.now core.old core.new (ended_as result) }

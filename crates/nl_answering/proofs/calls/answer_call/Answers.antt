@@ -1,5 +1,7 @@
-use Rattle.std.proofs.Common.{◌∙◌, ◌<◌, ℕ, List, length, sym, ap, subst, arith}
+use Rattle.std.proofs.Common.{◌∙◌, ◌<◌, ⊎_elim, ℕ, List, length, sym, ap, subst, arith}
+use Rattle.std.specs.Prelude.{IsTrue}
 use Rattle.nl_device.specs.contracts.counts.DeviceCounts.TheImpl.{ghosts}
+use Rattle.nl_tree.specs.Causes.{is_changing}
 use Rattle.nl_core.specs.declared.state.Core.{Core}
 use Rattle.nl_core.proofs.Renamed.{as_many}
 use Rattle.nl_answering.specs.Answering.{AnswersCall}
@@ -57,3 +59,9 @@ pub returns-in-Write-clause-answers : goal.returns-in-Write-clause-answers
 returns-in-Write-clause-answers g c =
     let G = ghosts g.row.M g.M.Nand g.M.Nand-dict in
     subst (λ (o : List ℕ). AnswersCall G c.args.worker c.args.call.now c.args.core.now c.write.new.core c.write.result.reply o c.write.result.files) (sym c.requires.nothing) c.write.ensures.answers
+
+pub write-requires-clause-can : goal.write-requires-clause-can
+write-requires-clause-can g c =
+    let r = c.requires in
+    let changes : IsTrue (is_changing c.args.call.now) = ⊎_elim (λ w. ap is_changing w.3) (λ f. ap is_changing f.4) c.in-Write.is in
+    record { writes = r.may.writes changes; runs = r.runs; known = r.known; some = r.some; has_line = r.line; files_are = r.files; staged = r.staged; few = r.others }

@@ -17,12 +17,12 @@ returns-in-Done-clause-answers g c =
     let G = ghosts g.row.M g.M.Nand g.M.Nand-dict in
     let u = c.args.core.now in
     let v = c.write_call-written.new.core in
-    let e = c.in-Done.ensures in
+    let e = c.in-Done.ensures.ends in
     let is = writing_is c.args.call.now c.requires.writing in
     let t = e.done.0 in
     written_done G c.args.worker c.args.call.now u v c.in-Done.files is.0 is.1 e.done.1 (record { idle = t.ended; others = e.others }) (Count c.length_of.result) [] refl refl
     (takes_effect G _ c.args.worker c.args.call.now u v t)
-    (λ tells page_of_stamp tree runs. count_answers (step (G.shape u.device) tree c.args.call.now) c.length_of.result _ (e.answer tells page_of_stamp tree runs) c.length_of.ensures (write_bytes (G.shape u.device) tree c.args.call.now c.requires.writing))
+    (λ tells page_of_stamp tree runs. count_answers (step (G.shape u.device) tree c.args.call.now) c.length_of.result _ (e.answers tells page_of_stamp tree runs) c.length_of.ensures (write_bytes (G.shape u.device) tree c.args.call.now c.requires.writing))
 
 pub returns-in-No-clause-answers : goal.returns-in-No-clause-answers
 returns-in-No-clause-answers g c =
@@ -30,11 +30,11 @@ returns-in-No-clause-answers g c =
     let u = c.args.core.now in
     let v = c.write_call-written.new.core in
     let w = c.undone.new.core in
-    let e = c.in-No.ensures in
+    let e = c.in-No.ensures.ends in
     let d = c.undone.ensures in
     let is = writing_is c.args.call.now c.requires.writing in
-    let x = written_no G c.args.worker c.args.call.now u w c.args.files is.0 is.1 (e.undone.1 ∙ sym (goes_counted G 0 v w d.goes c.pages_stay_as_many.ensures)) (ends_then c.args.worker u.flight v.flight w.flight e.others d.line)
-    c.in-No.refusal _ d.formed d.core (goes_then G u v w _ 0 e.undone.0 d.goes) c.requires.runs e.answer in
+    let x = written_no G c.args.worker c.args.call.now u w c.args.files is.0 is.1 (c.in-No.ensures.files ∙ sym (goes_counted G 0 v w d.goes c.pages_stay_as_many.ensures)) (ends_then c.args.worker u.flight v.flight w.flight e.others d.line)
+    c.in-No.refusal _ d.formed d.core (goes_then G u v w _ 0 e.undone d.goes) c.requires.can.runs e.answers in
     subst (λ r. AnswersCall G c.args.worker c.args.call.now u w r [] c.undone.result.files) (sym d.answer.0) (subst (λ n. AnswersCall G c.args.worker c.args.call.now u w (No c.in-No.refusal) [] n) (sym d.answer.1) x)
 
 pub returns-in-Lost-clause-answers : goal.returns-in-Lost-clause-answers
@@ -43,10 +43,10 @@ returns-in-Lost-clause-answers g c =
     let u = c.args.core.now in
     let v = c.write_call-written.new.core in
     let w = c.undone-in-Lost.new.core in
-    let e = c.in-Lost.ensures in
+    let e = c.in-Lost.ensures.ends in
     let d = c.undone-in-Lost.ensures in
     let f = Edamaged c.in-Lost.wanted c.in-Lost.found in
-    let x = meets_fault G c.args.worker c.args.call.now _ u w c.args.files d.formed d.core (goes_then G u v w _ 0 e.undone.0 d.goes) c.pages_stay_as_many.ensures c.requires.files (ends_then c.args.worker u.flight v.flight w.flight e.others d.line) [] refl
+    let x = meets_fault G c.args.worker c.args.call.now _ u w c.args.files d.formed d.core (goes_then G u v w _ 0 e.undone d.goes) c.pages_stay_as_many.ensures c.requires.can.files_are (ends_then c.args.worker u.flight v.flight w.flight e.others d.line) [] refl
     f (e.early.1, λ same. e.early.0 (sym same)) in
     subst (λ r. AnswersCall G c.args.worker c.args.call.now u w r [] c.undone-in-Lost.result.files) (sym d.answer.0) (subst (λ n. AnswersCall G c.args.worker c.args.call.now u w (FaultAnswer f) [] n) (sym d.answer.1) x)
 
@@ -56,8 +56,8 @@ returns-in-Fault-clause-answers g c =
     let u = c.args.core.now in
     let v = c.write_call-written.new.core in
     let w = c.undone-in-Fault.new.core in
-    let e = c.in-Fault.ensures in
+    let e = c.in-Fault.ensures.ends in
     let d = c.undone-in-Fault.ensures in
-    let x = fails G c.args.worker c.args.call.now _ u w c.args.files d.formed d.core (goes_then G u v w _ 0 e.undone.0 d.goes) c.pages_stay_as_many.ensures c.requires.files (ends_then c.args.worker u.flight v.flight w.flight e.others d.line) [] refl
+    let x = fails G c.args.worker c.args.call.now _ u w c.args.files d.formed d.core (goes_then G u v w _ 0 e.undone d.goes) c.pages_stay_as_many.ensures c.requires.can.files_are (ends_then c.args.worker u.flight v.flight w.flight e.others d.line) [] refl
     c.undone-in-Fault.result.reply (d.answer.0 ∙ (c.failed-reply.ensures ∙ ap (λ n. FaultAnswer (Eio n)) (sym d.faults))) (rose_on G u v w d.goes e.early) in
     subst (λ n. AnswersCall G c.args.worker c.args.call.now u w c.undone-in-Fault.result.reply [] n) (sym d.answer.1) x

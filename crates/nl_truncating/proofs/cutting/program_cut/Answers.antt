@@ -42,7 +42,7 @@ unreachable-requires g c =
     let e = c.make_cut.ensures in
     let same = e.same.runs.reads.medium.next_stamp in
     let low = c.requires.stamp in
-    ⊎_elim (λ off. off (ap (λ (x : Core g.row.M.Denot). x.stopped) e.same.others ∙ c.requires.writes)) (λ high. omega (arith, same, low, high)) (c.program-answer.ensures.stopped.0 c.in-Stopped.is)
+    ⊎_elim (λ off. off (ap (λ (x : Core g.row.M.Denot). x.stopped) e.same.others ∙ c.requires.can.writes)) (λ high. omega (arith, same, low, high)) (c.program-answer.ensures.stopped.0 c.in-Stopped.is)
 
 pub returns-in-InFlight-clause-goes : goal.returns-in-InFlight-clause-goes
 returns-in-InFlight-clause-goes g c =
@@ -64,8 +64,8 @@ returns-in-InFlight-clause-ready g c =
     let shorter = c.requires.shorter in
     can_put G u v w c.requires.core e.core c.program-answer.ensures.core c.device_stands.ensures.names (2 ^ 30)
     (goes_read G u v w c.requires.core e.volume e.stores e.same (2 ^ 30) c.program-answer.ensures.goes)
-    worker c.args.line c.args.ino size rec _ c.make_cut.new.page.main c.requires.known (ap (λ (f : List InFlight). of_worker f worker) (flight_on G u v e.same) ∙ c.requires.none) c.requires.file
-    c.in-InFlight.ensures.programs c.in_ok-make_cut.ensures.made c.requires.runs refl (omega (arith, most, shorter)) c.requires.within c.requires.had
+    worker c.args.line c.args.ino size rec _ c.make_cut.new.page.main c.requires.can.known (ap (λ (f : List InFlight). of_worker f worker) (flight_on G u v e.same) ∙ c.requires.can.none) c.requires.file
+    c.in-InFlight.ensures.programs c.in_ok-make_cut.ensures.made c.requires.can.runs refl (omega (arith, most, shorter)) c.requires.within c.requires.had
 
 pub returns-in-InFlight-clause-others : goal.returns-in-InFlight-clause-others
 returns-in-InFlight-clause-others g c =
@@ -76,7 +76,7 @@ returns-in-InFlight-clause-others g c =
     let e = c.make_cut.ensures in
     let puts = c.in-InFlight.ensures.programs in
     others_read G u v w c.requires.core e.volume e.stores e.same c.args.worker
-    (others_page v.flight w.flight c.args.worker c.args.line _ puts.at e.core.flight c.requires.known puts.flight)
+    (others_page v.flight w.flight c.args.worker c.args.line _ puts.at e.core.flight c.requires.can.known puts.flight)
 
 pub returns-in-Lost-clause-goes : goal.returns-in-Lost-clause-goes
 returns-in-Lost-clause-goes g c =

@@ -5,7 +5,7 @@ use Rattle.nl_flight.specs.Flight.{InFlight, of_worker}
 use Rattle.nl_running.specs.Reading.{stop_of}
 use Rattle.nl_core.proofs.Onward.{goes_more}
 use Rattle.nl_truncating.proofs.CutPut.{can_without}
-use Rattle.nl_truncating.proofs.CutReads.{flight_on, goes_read, others_read, some_on}
+use Rattle.nl_truncating.proofs.CutReads.{can_on, flight_on, goes_read, others_read}
 use Rattle.nl_writing.proofs.Early.{early-then}
 use Rattle.nl_writing.proofs.LeavesTree.{reads_go}
 use Rattle.nl_writing.proofs.Reading.{file-on, reads-then}
@@ -33,7 +33,7 @@ returns-then-rec-size-clause-ready g c =
     let G = ghosts g.row.M g.M.Nand g.M.Nand-dict in
     let u = c.args.core.now in
     let v = c.open_file.new.core in
-    can_without G v c.args.worker c.args.ino c.args.size c.in_ok-rec.rec (ap (λ (f : List InFlight). of_worker f c.args.worker) (flight_on G u v c.open_file.ensures.same) ∙ c.requires.none) c.in_ok-rec.ensures.opened.after
+    can_without G v c.args.worker c.args.ino c.args.size c.in_ok-rec.rec (ap (λ (f : List InFlight). of_worker f c.args.worker) (flight_on G u v c.open_file.ensures.same) ∙ c.requires.can.none) c.in_ok-rec.ensures.opened.after
     (elim c.then-rec-size.branch [ then-rec-size-via-then-rec-size w ↦ inl w.if-rec-size.true | then-rec-size-via-else-rec-size+then-size-eq0 w ↦ inr (inl w.if-size-eq0.true) ])
 
 pub returns-in_err-has_hole-clause-goes : goal.returns-in_err-has_hole-clause-goes
@@ -71,18 +71,19 @@ returns-then-branch-clause-ready g c =
     let e = c.open_file.ensures in
     let rec = c.in_ok-rec.rec in
     let both = reads-then G u v e.volume e.same w c.has_hole.ensures.same in
-    can_without G w c.args.worker c.args.ino c.args.size rec (ap (λ (f : List InFlight). of_worker f c.args.worker) (flight_on G u w both) ∙ c.requires.none)
+    can_without G w c.args.worker c.args.ino c.args.size rec (ap (λ (f : List InFlight). of_worker f c.args.worker) (flight_on G u w both) ∙ c.requires.can.none)
     (file-on G u w e.volume both c.args.ino rec c.in_ok-rec.ensures.opened.before) (inr (inr (sym c.in_ok-has_hole.ensures.hole ∙ c.if-branch.true)))
 
-pub program_cut-requires-clause-runs : goal.program_cut-requires-clause-runs
-program_cut-requires-clause-runs g c =
+pub program_cut-requires-clause-can : goal.program_cut-requires-clause-can
+program_cut-requires-clause-can g c =
     let G = ghosts g.row.M g.M.Nand g.M.Nand-dict in
     let u = c.args.core.now in
     let v = c.open_file.new.core in
     let w = c.has_hole.new.core in
     let e = c.open_file.ensures in
     let h = c.has_hole.ensures in
-    some_on G u w 0 (reads_go G u w c.requires.core e.volume h.stores (reads-then G u v e.volume e.same w h.same)) c.requires.runs
+    let both = reads-then G u v e.volume e.same w h.same in
+    can_on G u w c.args.worker c.args.line (reads_go G u w c.requires.core e.volume h.stores both) both c.requires.can
 
 pub program_cut-requires-clause-file : goal.program_cut-requires-clause-file
 program_cut-requires-clause-file g c =

@@ -1,18 +1,13 @@
-use Rattle.std.proofs.Common.{◌∙◌, List, ap, arith}
+use Rattle.std.proofs.Common.{◌∙◌, ap, arith}
 use Rattle.nl_device.specs.contracts.counts.DeviceCounts.TheImpl.{ghosts}
 use Rattle.nl_field.specs.Graph.{Graph}
-use Rattle.nl_flight.specs.Flight.{InFlight, of_worker}
 use Rattle.nl_tree.specs.Represents.{node_reached}
-use Rattle.nl_core.specs.declared.state.Core.{Core}
 use Rattle.nl_truncating.proofs.CutEnds.{fault_ends, lost_ends, path_answers, refused_ends, truncates_before}
-use Rattle.nl_truncating.proofs.CutReads.{flight_on, some_on}
+use Rattle.nl_truncating.proofs.CutReads.{can_on, flight_on}
 use Rattle.nl_writing.proofs.Going.{files_on, others_same}
 use Rattle.nl_writing.proofs.LeavesTree.{reads_go}
 use Rattle.nl_writing.proofs.Reading.{file-on, same-nodes}
 use Rattle.nl_truncating.proofs.truncating.truncate_alone.Goals as goal
-
-pub truncate_found-requires-clause-writes : goal.truncate_found-requires-clause-writes
-truncate_found-requires-clause-writes g c = ap (λ (x : Core g.row.M.Denot). x.stopped) c.find_there.ensures.same.others ∙ c.requires.writes
 
 pub truncate_found-requires-clause-stamp : goal.truncate_found-requires-clause-stamp
 truncate_found-requires-clause-stamp g c =
@@ -20,17 +15,13 @@ truncate_found-requires-clause-stamp g c =
     let low = c.requires.stamp in
     omega (arith, same, low)
 
-pub truncate_found-requires-clause-runs : goal.truncate_found-requires-clause-runs
-truncate_found-requires-clause-runs g c =
+pub truncate_found-requires-clause-can : goal.truncate_found-requires-clause-can
+truncate_found-requires-clause-can g c =
     let G = ghosts g.row.M g.M.Nand g.M.Nand-dict in
     let u = c.args.core.now in
     let v = c.find_there.new.core in
-    some_on G u v 0 (reads_go G u v c.requires.core c.find_there.ensures.volume c.find_there.ensures.stores c.find_there.ensures.same) c.requires.runs
-
-pub truncate_found-requires-clause-none : goal.truncate_found-requires-clause-none
-truncate_found-requires-clause-none g c =
-    let G = ghosts g.row.M g.M.Nand g.M.Nand-dict in
-    ap (λ (f : List InFlight). of_worker f c.args.worker) (flight_on G c.args.core.now c.find_there.new.core c.find_there.ensures.same) ∙ c.requires.none
+    let e = c.find_there.ensures in
+    can_on G u v c.args.worker c.args.line (reads_go G u v c.requires.core e.volume e.stores e.same) e.same c.requires.can
 
 pub truncate_found-requires-clause-short : goal.truncate_found-requires-clause-short
 truncate_found-requires-clause-short g c =

@@ -24,21 +24,23 @@ module _ {M : Type 0} (g : Ghosts (Device M)) (u v : Core M) (worker : ℕ) (cor
   whole : (w : Core M) (path : List (List ℕ)) (size : ℕ) → Goes g 0 u v → (answer : Written) → Truncates g worker path size v w answer → Truncates g worker path size u w answer
   whole w path size goes answer ends = truncates_before g u v w worker path size goes others answer ends
 
-pub truncate_alone-requires-clause-writes : goal.truncate_alone-requires-clause-writes
-truncate_alone-requires-clause-writes g c = ap (λ (x : Core g.row.M.Denot). x.stopped) c.drop_line.ensures.dropped.others ∙ c.requires.writes
-
 pub truncate_alone-requires-clause-stamp : goal.truncate_alone-requires-clause-stamp
 truncate_alone-requires-clause-stamp g c =
     let same = c.drop_line.ensures.dropped.frees.kept.next_stamp in
     let low = c.requires.stamp in
     omega (arith, same, low)
 
-pub truncate_alone-requires-clause-runs : goal.truncate_alone-requires-clause-runs
-truncate_alone-requires-clause-runs g c = some_on (ghosts g.row.M g.M.Nand g.M.Nand-dict) c.args.core.now c.drop_line.new.self 0 c.drop_line.ensures.goes c.requires.runs
-
-pub truncate_alone-requires-clause-none : goal.truncate_alone-requires-clause-none
-truncate_alone-requires-clause-none g c =
-    ap (λ (f : List InFlight). of_worker f c.args.worker) c.drop_line.ensures.dropped.flight ∙ own_dropped c.args.core.now.flight c.args.worker c.requires.core.flight c.requires.known
+pub truncate_alone-requires-clause-can : goal.truncate_alone-requires-clause-can
+truncate_alone-requires-clause-can g c =
+    let d = c.drop_line.ensures in
+    let r = c.requires in
+    record {
+      writes = ap (λ (x : Core g.row.M.Denot). x.stopped) d.dropped.others ∙ r.writes;
+      runs = some_on (ghosts g.row.M g.M.Nand g.M.Nand-dict) c.args.core.now c.drop_line.new.self 0 d.goes r.runs;
+      known = r.known;
+      some = r.some;
+      none = ap (λ (f : List InFlight). of_worker f c.args.worker) d.dropped.flight ∙ own_dropped c.args.core.now.flight c.args.worker r.core.flight r.known;
+    }
 
 pub truncate_alone-requires-clause-files : goal.truncate_alone-requires-clause-files
 truncate_alone-requires-clause-files g c = files_on (ghosts g.row.M g.M.Nand g.M.Nand-dict) 0 c.args.core.now c.drop_line.new.self c.drop_line.ensures.goes c.args.files c.requires.files

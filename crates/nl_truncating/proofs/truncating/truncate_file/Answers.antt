@@ -22,7 +22,7 @@ returns-then-core-ne0-clause-uncut g c =
     goes_more (ghosts g.row.M g.M.Nand g.M.Nand-dict) (2 ^ 30) (2 ^ 31) c.args.core.now c.put_cut.new.core (omega arith) c.put_cut.ensures.goes
 
 pub returns-then-core-ne0-clause-early : goal.returns-then-core-ne0-clause-early
-returns-then-core-ne0-clause-early g c = inr (c.put_cut.ensures.goes.stops.some c.requires.writes c.if-core-ne0.true).0
+returns-then-core-ne0-clause-early g c = inr (c.put_cut.ensures.goes.stops.some c.requires.can.writes c.if-core-ne0.true).0
 
 pub make_room-requires-clause-stamp : goal.make_room-requires-clause-stamp
 make_room-requires-clause-stamp g c =
@@ -63,7 +63,7 @@ cut_now-requires-clause-ready g c =
     let v = c.put_cut.new.core in
     let w = c.make_room.new.core in
     let room = c.make_room.ensures in
-    can_cut_on G v w 512 room.goes c.put_cut.ensures.core room.core c.device_stands.ensures.names room.flight c.args.worker c.args.ino c.args.size c.requires.known (some_on G u v (2 ^ 30) c.put_cut.ensures.goes c.requires.runs)
+    can_cut_on G v w 512 room.goes c.put_cut.ensures.core room.core c.device_stands.ensures.names room.flight c.args.worker c.args.ino c.args.size c.requires.can.known (some_on G u v (2 ^ 30) c.put_cut.ensures.goes c.requires.can.runs)
     c.in_ok-put_cut.ensures.ready
 
 pub cut_now-requires-clause-files : goal.cut_now-requires-clause-files

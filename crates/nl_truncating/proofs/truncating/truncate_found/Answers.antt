@@ -19,7 +19,7 @@ returns-in-Ok-clause-ends g c =
     let G = ghosts g.row.M g.M.Nand g.M.Nand-dict in
     let r = c.requires in
     let t = c.truncate_file.ensures in
-    done_ends G c.args.core.now c.truncate_file.new.core c.looks_in_tree.ensures r.core t.core c.args.worker r.known c.args.path.now c.args.size c.if-size-gt-MOST.false r.short c.args.ino r.leads r.file (2 ^ 31) (omega arith)
+    done_ends G c.args.core.now c.truncate_file.new.core c.looks_in_tree.ensures r.core t.core c.args.worker r.can.known c.args.path.now c.args.size c.if-size-gt-MOST.false r.short c.args.ino r.leads r.file (2 ^ 31) (omega arith)
     c.in-Ok.ensures.cut c.in-Ok.now c.in-Ok.ensures.files t.others
 
 pub returns-in-Err-Fault-clause-ends : goal.returns-in-Err-Fault-clause-ends

@@ -11,7 +11,7 @@ returns-then-has_index-clause-puts g c =
 
 pub returns-then-has_index-clause-has : goal.returns-then-has_index-clause-has
 returns-then-has_index-clause-has g c =
-    index_here c.args.tag.ino c.args.tag.generation c.args.worker c.args.line c.args.call.now c.args.tag.index c.args.core.now c.requires.pages (sym c.has_index.ensures ∙ c.if-has_index.true) c.requires.line
+    index_here c.args.tag.ino c.args.tag.generation c.args.worker c.args.line c.args.call.now c.args.tag.index c.args.core.now c.requires.pages (sym c.has_index.ensures ∙ c.if-has_index.true) c.requires.can.has_line
 
 pub put_page-requires-clause-place : goal.put_page-requires-clause-place
 put_page-requires-clause-place g c =
@@ -22,5 +22,5 @@ pub returns-clause-has : goal.returns-clause-has
 returns-clause-has g c =
     let G = ghosts g.row.M g.M.Nand g.M.Nand-dict in
     on_ok c.put_page.result
-    (λ a. has_index G c.args.worker c.args.line c.args.tag c.args.call.now c.args.core.now c.put_page.new.core c.requires.core c.requires.known a c.requires.pages (sym c.has_index.ensures ∙ c.if-has_index.false) c.requires.written c.requires.line)
+    (λ a. has_index G c.args.worker c.args.line c.args.tag c.args.call.now c.args.core.now c.put_page.new.core c.requires.core c.requires.can.known a c.requires.pages (sym c.has_index.ensures ∙ c.if-has_index.false) c.requires.written c.requires.can.has_line)
     c.put_page.ensures.added

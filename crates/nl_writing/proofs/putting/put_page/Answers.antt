@@ -9,7 +9,7 @@ pub returns-in-InFlight-clause-puts : goal.returns-in-InFlight-clause-puts
 returns-in-InFlight-clause-puts g c =
     let G = ghosts g.row.M g.M.Nand g.M.Nand-dict in
     puts_page G c.args.core.now c.make_page-made.new.core c.requires.core c.device_stands.ensures.volume c.device_stands.ensures.pages c.make_page-made.ensures.same c.args.worker c.args.call.now c.program.new.self c.program.ensures.goes
-    c.args.line c.args.tag c.make_page-made.new.page.main c.requires.known c.in-InFlight.ensures.programs c.in-Ok.ensures.made c.requires.leads
+    c.args.line c.args.tag c.make_page-made.new.page.main c.requires.can.known c.in-InFlight.ensures.programs c.in-Ok.ensures.made c.requires.can.leads
 
 pub returns-in-Lost-clause-puts : goal.returns-in-Lost-clause-puts
 returns-in-Lost-clause-puts g c =
@@ -36,4 +36,4 @@ returns-in-Err-clause-puts g c =
 pub unreachable-requires : goal.unreachable-requires
 unreachable-requires g c =
     let G = ghosts g.row.M g.M.Nand g.M.Nand-dict in
-    not_stopped G c.args.core.now c.make_page-made.new.core c.make_page-made.ensures.same c.requires.writes c.requires.stamp (c.program.ensures.stopped.0 c.in-Stopped.is)
+    not_stopped G c.args.core.now c.make_page-made.new.core c.make_page-made.ensures.same c.requires.can.writes c.requires.stamp (c.program.ensures.stopped.0 c.in-Stopped.is)

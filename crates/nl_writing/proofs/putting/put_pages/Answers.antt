@@ -14,15 +14,23 @@ put_index-requires-clause-written g c =
     let len = c.length_of.ensures in
     in_range c.args.call.now c.indexes.index c.requires.few.0 c.indexes.invariant.from (omega (arith, from, test, offset, len))
 
-pub put_index-requires-clause-leads : goal.put_index-requires-clause-leads
-put_index-requires-clause-leads g c =
+pub put_index-requires-clause-can : goal.put_index-requires-clause-can
+put_index-requires-clause-can g c =
     let G = ghosts g.row.M g.M.Nand g.M.Nand-dict in
-    leads_on G (2 ^ 30 * (c.indexes.index - from_of c.args.call.now / 4096)) c.args.core.now c.indexes.core c.indexes.invariant.puts.goes (path_of c.args.call.now) c.args.ino c.requires.leads
-
-pub put_index-requires-clause-file : goal.put_index-requires-clause-file
-put_index-requires-clause-file g c =
-    let G = ghosts g.row.M g.M.Nand g.M.Nand-dict in
-    file_on G (2 ^ 30 * (c.indexes.index - from_of c.args.call.now / 4096)) c.args.core.now c.indexes.core c.indexes.invariant.puts.goes c.args.ino c.requires.file
+    let u = c.args.core.now in
+    let v = c.indexes.core in
+    let goes = c.indexes.invariant.puts.goes in
+    let most = 2 ^ 30 * (c.indexes.index - from_of c.args.call.now / 4096) in
+    let r = c.requires.can in
+    record {
+      writes = c.if-core-ne0.false;
+      known = r.known;
+      some = r.some;
+      has_line = c.indexes.invariant.line;
+      writing = r.writing;
+      leads = leads_on G most u v goes (path_of c.args.call.now) c.args.ino r.leads;
+      file = file_on G most u v goes c.args.ino r.file;
+    }
 
 pub put_index-requires-clause-others : goal.put_index-requires-clause-others
 put_index-requires-clause-others g c = others_few c.args.worker c.args.core.now.flight c.indexes.core.flight c.indexes.invariant.puts.others c.requires.others

@@ -5,25 +5,18 @@ use Rattle.nl_writing.specs.declared.answer.Written.{Written}
 use Rattle.nl_writing.proofs.Parts.{undone_files}
 use Rattle.nl_writing.proofs.writing.write_call.Goals as goal
 
-pub returns-in-Ok-clause-undone : goal.returns-in-Ok-clause-undone
-returns-in-Ok-clause-undone g c =
+pub returns-in-Ok-clause-files : goal.returns-in-Ok-clause-files
+returns-in-Ok-clause-files g c =
     let G = ghosts g.row.M g.M.Nand g.M.Nand-dict in
-    undone_files G (2 ^ 40) c.args.files c.args.core.now c.write_path.new.core c.in-Ok.written c.requires.files c.in-Ok.ensures.ends.undone
+    undone_files G (2 ^ 40) c.args.files c.args.core.now c.write_path.new.core c.in-Ok.written c.requires.can.files_are c.in-Ok.ensures.ends.undone
 
-pub returns-in-Err-clause-undone : goal.returns-in-Err-clause-undone
-returns-in-Err-clause-undone g c =
+pub returns-in-Err-clause-files : goal.returns-in-Err-clause-files
+returns-in-Err-clause-files g c =
     let G = ghosts g.row.M g.M.Nand g.M.Nand-dict in
     let ends = subst (λ (a : Written). EndsWrite G (2 ^ 40) c.args.worker c.args.call.now c.args.core.now c.write_path.new.core a) (sym c.ended_early.ensures) c.in-Err.ensures.ends in
-    undone_files G (2 ^ 40) c.args.files c.args.core.now c.write_path.new.core c.ended_early.result c.requires.files ends.undone
+    undone_files G (2 ^ 40) c.args.files c.args.core.now c.write_path.new.core c.ended_early.result c.requires.can.files_are ends.undone
 
-pub returns-in-Err-clause-answer : goal.returns-in-Err-clause-answer
-returns-in-Err-clause-answer g c =
+pub returns-in-Err-clause-ends : goal.returns-in-Err-clause-ends
+returns-in-Err-clause-ends g c =
     let G = ghosts g.row.M g.M.Nand g.M.Nand-dict in
-    let ends = subst (λ (a : Written). EndsWrite G (2 ^ 40) c.args.worker c.args.call.now c.args.core.now c.write_path.new.core a) (sym c.ended_early.ensures) c.in-Err.ensures.ends in
-    ends.answers
-
-pub returns-in-Err-clause-early : goal.returns-in-Err-clause-early
-returns-in-Err-clause-early g c =
-    let G = ghosts g.row.M g.M.Nand g.M.Nand-dict in
-    let ends = subst (λ (a : Written). EndsWrite G (2 ^ 40) c.args.worker c.args.call.now c.args.core.now c.write_path.new.core a) (sym c.ended_early.ensures) c.in-Err.ensures.ends in
-    ends.early
+    subst (λ (a : Written). EndsWrite G (2 ^ 40) c.args.worker c.args.call.now c.args.core.now c.write_path.new.core a) (sym c.ended_early.ensures) c.in-Err.ensures.ends

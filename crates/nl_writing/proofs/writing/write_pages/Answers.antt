@@ -23,16 +23,18 @@ put_pages-requires g c =
     record {
       formed = c.keep_line.ensures.formed;
       core = c.keep_line.ensures.core;
-      writes = k.stopped ∙ r.writes;
       stamp = omega (arith, most, low);
-      known = r.known;
-      some = r.some;
-      line = k.has_line;
-      writing = r.write.writing;
+      can = record {
+        writes = k.stopped ∙ r.can.writes;
+        known = r.can.known;
+        some = r.can.some;
+        has_line = k.has_line;
+        writing = r.write.writing;
+        leads = leads_on G 0 u v k.goes (path_of c.args.call.now) c.args.ino r.leads;
+        file = file_on G 0 u v k.goes c.args.ino (r.file.0, r.file.1);
+      };
       few = (r.write.some, r.write.few);
       within = r.write.within;
-      leads = leads_on G 0 u v k.goes (path_of c.args.call.now) c.args.ino r.leads;
-      file = file_on G 0 u v k.goes c.args.ino (r.file.0, r.file.1);
       pages = k.pages;
       others = k.few;
     }
@@ -46,7 +48,7 @@ returns-then-core-ne0-clause-ends g c =
     let k = c.keep_line.ensures.keeps in
     let p = c.put_pages.ensures.puts in
     part_stopped G (17 * 2 ^ 30) c.args.worker c.args.call.now u w (put_goes G (17 * 2 ^ 30) c.args.ino c.args.generation c.args.worker c.args.line c.args.call.now u v w k p)
-    (put_others G (17 * 2 ^ 30) c.args.ino c.args.generation c.args.worker c.args.line c.args.call.now u v w k p) (2 ^ 36) (omega arith) c.requires.writes c.if-core-ne0.true
+    (put_others G (17 * 2 ^ 30) c.args.ino c.args.generation c.args.worker c.args.line c.args.call.now u v w k p) (2 ^ 36) (omega arith) c.requires.can.writes c.if-core-ne0.true
 
 pub install_pages-requires : goal.install_pages-requires
 install_pages-requires g c =
@@ -65,11 +67,11 @@ install_pages-requires g c =
       core = c.put_pages.ensures.core;
       writes = c.if-core-ne0.false;
       stamp = omega (arith, most, low);
-      known = r.known;
+      known = r.can.known;
       write = r.write;
       leads = leads_on G (17 * 2 ^ 30) u w all (path_of c.args.call.now) c.args.ino r.leads;
       line = line_put G (17 * 2 ^ 30) c.args.worker c.args.call.now v w p c.args.ino c.args.generation (generation_on G 0 u v k.goes c.args.ino c.args.generation r.file) c.in-Ok.ensures.pages.0;
-      files = files_on G (17 * 2 ^ 30) u w all c.args.files r.files;
+      files = files_on G (17 * 2 ^ 30) u w all c.args.files r.can.files_are;
       all = c.in-Ok.ensures.pages.1;
       written = written_put G (17 * 2 ^ 30) c.args.worker c.args.call.now v w p k.written;
     }

@@ -5,8 +5,8 @@ use Rattle.nl_writing.specs.Finding.{IsFound}
 use Rattle.nl_writing.specs.Ranges.{path_of}
 use Rattle.nl_writing.specs.declared.answer.Found.{Found}
 use Rattle.nl_writing.specs.declared.answer.Found.TheVariants as found
-use Rattle.nl_writing.proofs.Carried.{few_on, line_on, runs_on, staged_on, stamp_on, stopped_on}
-use Rattle.nl_writing.proofs.Going.{file_on, files_on, leads_on}
+use Rattle.nl_writing.proofs.Carried.{can_on, stamp_on}
+use Rattle.nl_writing.proofs.Going.{file_on, leads_on}
 use Rattle.nl_writing.proofs.OnePage.{reads_first}
 use Rattle.nl_writing.proofs.Parts.{path_refused, read_early, read_then}
 use Rattle.nl_writing.proofs.writing.write_path.Goals as goal
@@ -25,20 +25,13 @@ write_file-requires g c =
     record {
       formed = e.formed;
       core = e.core;
-      writes = stopped_on G u v r.core d.volume d.pages e.same r.writes;
       stamp = stamp_on G u v r.core d.volume d.pages e.same (2 ^ 62) r.stamp;
-      runs = runs_on G u v r.core d.volume d.pages e.same r.runs;
-      known = r.known;
-      some = r.some;
-      line = line_on G u v r.core d.volume d.pages e.same c.args.worker c.args.line r.line;
+      can = can_on G u v r.core d.volume d.pages e.same c.args.worker c.args.line c.args.call.now c.args.files r.can;
       writing = r.writing;
       few = r.few;
       short = is.0;
       leads = leads_on G 0 u v first (path_of c.args.call.now) c.in-File.ino is.1;
       file = file_on G 0 u v first c.in-File.ino is.2;
-      files = files_on G 0 u v first c.args.files r.files;
-      staged = staged_on G u v r.core d.volume d.pages e.same c.args.worker c.args.call.now r.staged;
-      others = few_on G u v r.core d.volume d.pages e.same r.others;
     }
 
 pub returns-in-File-clause-ends : goal.returns-in-File-clause-ends

@@ -5,7 +5,7 @@ use Rattle.nl_writing.specs.Fitting.{IsFitting}
 use Rattle.nl_writing.specs.Ranges.{from_of, len_of, path_of}
 use Rattle.nl_writing.specs.declared.answer.Fits.{Fits}
 use Rattle.nl_writing.specs.declared.answer.Fits.TheVariants as fits
-use Rattle.nl_writing.proofs.Carried.{few_on, line_on, runs_on, staged_on, stamp_on, stopped_on}
+use Rattle.nl_writing.proofs.Carried.{can_on, stamp_on}
 use Rattle.nl_writing.proofs.Going.{files_on, leads_on}
 use Rattle.nl_writing.proofs.OnePage.{reads_first}
 use Rattle.nl_writing.proofs.Parts.{fitting_of, read_early, read_then, room_refused}
@@ -24,18 +24,11 @@ write_pages-requires g c =
     record {
       formed = e.formed;
       core = e.core;
-      writes = stopped_on G u v r.core d.volume d.pages e.same r.writes;
       stamp = stamp_on G u v r.core d.volume d.pages e.same (2 ^ 62) r.stamp;
-      runs = runs_on G u v r.core d.volume d.pages e.same r.runs;
-      known = r.known;
-      some = r.some;
-      line = line_on G u v r.core d.volume d.pages e.same c.args.worker c.args.line r.line;
+      can = can_on G u v r.core d.volume d.pages e.same c.args.worker c.args.line c.args.call.now c.args.files r.can;
       write = r.write;
       leads = leads_on G 0 u v first (path_of c.args.call.now) c.args.ino r.leads;
       file = (c.in-Fits.rec, at.file, refl);
-      files = files_on G 0 u v first c.args.files r.files;
-      staged = staged_on G u v r.core d.volume d.pages e.same c.args.worker c.args.call.now r.staged;
-      others = few_on G u v r.core d.volume d.pages e.same r.others;
     }
 
 pub returns-in-Fits-clause-ends : goal.returns-in-Fits-clause-ends
@@ -55,7 +48,7 @@ returns-in-No-clause-ends g c =
     let at = subst (λ (f : Fits). IsFitting G v c.args.ino c.offset_of.result c.length_of.result c.args.files f) c.in-No.is c.in-Ok.ensures.fits in
     let first = reads_first G u v r.core d.volume d.pages e.same in
     room_refused G c.args.worker c.args.call.now u v r.core d.volume d.pages e.same (2 ^ 36) e.core c.args.ino c.args.files r.write.writing r.write.short (leads_on G 0 u v first (path_of c.args.call.now) c.args.ino r.leads) c.looks_refuse.ensures
-    r.write.some r.write.within (files_on G 0 u v first c.args.files r.files) c.in-No.refusal
+    r.write.some r.write.within (files_on G 0 u v first c.args.files r.can.files_are) c.in-No.refusal
     (fitting_of G v c.args.ino c.args.files c.offset_of.result c.length_of.result (from_of c.args.call.now) (len_of c.args.call.now) (fits.No c.in-No.refusal) c.offset_of.ensures c.length_of.ensures at)
 
 pub returns-in-Err-clause-ends : goal.returns-in-Err-clause-ends
