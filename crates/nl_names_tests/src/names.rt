@@ -62,18 +62,34 @@ fn answered<D: Stamps>(
 {
     match step {
         Step::List(path) => match path_of(alloc, path) {
-            Some(path) => list_names(alloc, device, shape, volume, &path),
-            None => Err(Memory),
+            Some(path) => {
+                let after = list_names(alloc, device, shape, volume, &path);
+                drop(path);
+                after
+            }
+            None => {
+                drop(volume);
+                Err(Memory)
+            }
         },
         Step::MakeAll(series) => make_all(alloc, device, shape, scan, volume, series, 0, 10),
         Step::Reopen => {
-            let volume = reopened(alloc, device, shape, scan, &volume.meta, None)?;
+            let again = reopened(alloc, device, shape, scan, &volume.meta, None);
+            drop(volume);
+            let volume = again?;
             let seen = Seen::Done;
             Ok(After { volume, seen })
         }
         step => match call_of(alloc, step) {
-            Some(call) => change_names(alloc, device, shape, scan, volume, &call),
-            None => Err(Memory),
+            Some(call) => {
+                let after = change_names(alloc, device, shape, scan, volume, &call);
+                drop(call);
+                after
+            }
+            None => {
+                drop(volume);
+                Err(Memory)
+            }
         },
     }
 }
@@ -92,11 +108,13 @@ fn first_other<D: Stamps>(
     requires volume { IsOpen D.Counts device.old volume.meta volume.nodes }
 {
     if row >= rows.len() {
+        drop(volume);
         return Ok(None);
     }
     let (step, want) = rows[row];
     let After { volume, seen } = answered(alloc, device, shape, scan, volume, step)?;
     if seen != want {
+        drop(volume);
         return Ok(Some(row));
     }
     first_other(alloc, device, shape, scan, volume, rows, row + 1)
@@ -113,7 +131,9 @@ fn other<D: Stamps>(
     requires write { CanWrite D.Counts device.old shape.now }
 {
     let mut buf = PageBuf::new(alloc)?;
-    if !format(device, shape, &mut buf) {
+    let formatted = format(device, shape, &mut buf);
+    drop(buf);
+    if !formatted {
         return Err(Memory);
     }
     let volume = opened(alloc, device, shape, scan)?;
@@ -130,7 +150,10 @@ fn differs(
     match shape_of(blocks, pages) {
         Some(shape) => {
             let Fresh { mut device, scan } = begun(alloc, shape)?;
-            other(alloc, &mut device, &shape, &scan, rows)
+            let row = other(alloc, &mut device, &shape, &scan, rows);
+            drop(device);
+            drop(scan);
+            row
         }
         None => Err(Memory),
     }

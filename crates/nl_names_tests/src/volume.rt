@@ -46,7 +46,10 @@ pub fn opened<D: Stamps>(
             let Walked { meta, nodes, .. } = walked;
             Ok(Volume { meta, nodes })
         }
-        _ => Err(Memory),
+        other => {
+            drop(other);
+            Err(Memory)
+        }
     }
 }
 
@@ -64,7 +67,9 @@ pub fn reopened<D: Stamps>(
     ensures volume { IfOk result (λ v. IsOpen D.Counts device.new v.meta v.nodes) }
 {
     let mut buf = PageBuf::new(alloc)?;
-    if save(device, shape, meta, gone, &mut buf, 0) {
+    let saved = save(device, shape, meta, gone, &mut buf, 0);
+    drop(buf);
+    if saved {
         opened(alloc, device, shape, scan)
     } else {
         Err(Memory)
@@ -85,7 +90,9 @@ fn settled<D: Stamps>(
     ensures volume { IfOk result (λ v. IsOpen D.Counts device.new v.meta v.nodes) }
 {
     if volume.meta.dirty() > 40 {
-        reopened(alloc, device, shape, scan, &volume.meta, None)
+        let again = reopened(alloc, device, shape, scan, &volume.meta, None);
+        drop(volume);
+        again
     } else {
         Ok(volume)
     }
@@ -114,7 +121,9 @@ pub fn change_names<D: Stamps>(
     let Outcome { seen, gone } = changed(device, &mut meta, &mut nodes, call);
     match gone {
         Some(_) => {
-            let volume = reopened(alloc, device, shape, scan, &meta, gone)?;
+            let again = reopened(alloc, device, shape, scan, &meta, gone);
+            drop(Volume { meta, nodes });
+            let volume = again?;
             Ok(After { volume, seen })
         }
         None => {
@@ -151,6 +160,7 @@ pub fn make_all<D: Stamps>(
         return Ok(After { volume, seen });
     }
     if parts == 0 {
+        drop(volume);
         return Err(Memory);
     }
     make_all(

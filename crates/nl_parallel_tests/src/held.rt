@@ -4,7 +4,7 @@ use nl_field::Memory;
 use nl_nand::MemNand;
 use nl_top::Gate;
 use nl_top_tests::built::{Built, full};
-use nl_top_tests::play::{FORMAT, Step, play};
+use nl_top_tests::play::{FORMAT, Step, play, told_wrong};
 use nl_top_tests::program::{Given, blank, tell_with};
 use std::alloc::Global;
 use std::sync::Wait;
@@ -24,7 +24,8 @@ fn held_wrong<Rt: Threads + Wait + Sync, G: Gate + Sync>(
     if !wrong.is_empty() {
         return Ok(wrong);
     }
-    let (words, script, status, text) = held;
+    drop(wrong);
+    let (words, script, _, _) = held;
     let given = Given {
         words,
         script,
@@ -32,9 +33,13 @@ fn held_wrong<Rt: Threads + Wait + Sync, G: Gate + Sync>(
         write: 0,
     };
     let told = tell_with(rt, alloc, &given, media, gate)?;
-    if !told.is(status, text) {
-        return String::from_utf8_lossy(alloc, told.text());
+    let wrong = told_wrong(alloc, &told, &held);
+    drop(told);
+    let wrong = wrong?;
+    if !wrong.is_empty() {
+        return Ok(wrong);
     }
+    drop(wrong);
     play(rt, alloc, media, &[behind])
 }
 

@@ -3,7 +3,7 @@ use nl_field::Memory;
 use nl_nand::{Cut, MemNand, Stop};
 use nl_top::OrderList;
 use nl_top_tests::play::{FORMAT, answered, counted, play};
-use nl_top_tests::program::{blank, restart, tell};
+use nl_top_tests::program::{Told, blank, restart, tell};
 use std::alloc::Global;
 use std::sync::Wait;
 use std::test::Fail;
@@ -60,8 +60,29 @@ fn files_wrong<Rt: Threads + Wait + Sync>(
     play(rt, alloc, media, &[("run", script, 0, text.as_str())])
 }
 
-// What is wrong with a run of the three workers that was stopped there: its volume is to open after a prefix of the answered lines that has each synced
-// one. With it comes whether the run met its stop.
+// What is wrong with what such a run left: its volume is to open after a prefix of the answered lines that has each synced one.
+fn left_wrong<Rt: Threads + Wait + Sync>(
+    rt: &Rt,
+    alloc: Global,
+    media: &mut MemNand,
+    told: &Told,
+) -> Result<String, Memory> {
+    let Some(count) = counted(rt, alloc, media)? else {
+        return String::from_str(alloc, "not sound");
+    };
+    let met = told.status == 5;
+    if count < told.synced() || 12 < count || told.order.len() != 12 || !met && count != 12 {
+        return String::from_str(alloc, "another count");
+    }
+    let changes = [
+        changes(&told.order, count, [1, 4, 10]),
+        changes(&told.order, count, [2, 5, 8]),
+        changes(&told.order, count, [3, 6, 12]),
+    ];
+    files_wrong(rt, alloc, media, count, changes)
+}
+
+// What is wrong with a run of the three workers that was stopped there. With it comes whether the run met its stop.
 fn prefix_wrong<Rt: Threads + Wait + Sync>(
     rt: &Rt,
     alloc: Global,
@@ -73,19 +94,9 @@ fn prefix_wrong<Rt: Threads + Wait + Sync>(
     let told = tell(rt, alloc, "run", BESIDE, media)?;
     restart(alloc, media, None);
     let met = told.status == 5;
-    let Some(count) = counted(rt, alloc, media)? else {
-        return Ok((String::from_str(alloc, "not sound")?, met));
-    };
-    if count < told.synced() || 12 < count || told.order.len() != 12 || !met && count != 12 {
-        return Ok((String::from_str(alloc, "another count")?, met));
-    }
-    let changes = [
-        changes(&told.order, count, [1, 4, 10]),
-        changes(&told.order, count, [2, 5, 8]),
-        changes(&told.order, count, [3, 6, 12]),
-    ];
-    let wrong = files_wrong(rt, alloc, media, count, changes)?;
-    Ok((wrong, met))
+    let wrong = left_wrong(rt, alloc, media, &told);
+    drop(told);
+    Ok((wrong?, met))
 }
 
 /// More programs than the run of the three workers makes.

@@ -158,8 +158,9 @@ fn makings_wrong<Rt: Threads + Wait + Sync>(
     rt: &Rt,
     alloc: Global,
     media: &mut MemNand,
+    lefts: &[Left],
 ) -> Result<String, Memory> {
-    for left in LEFT.iter() {
+    for left in lefts {
         let wrong = making_wrong(rt, alloc, media, left)?;
         if !wrong.is_empty() {
             return Ok(wrong);
@@ -170,7 +171,7 @@ fn makings_wrong<Rt: Threads + Wait + Sync>(
 
 fn makings<Rt: Threads + Wait + Sync>(rt: &Rt, alloc: Global) -> Result<String, Memory> {
     let mut media = blank(alloc);
-    makings_wrong(rt, alloc, &mut media)
+    makings_wrong(rt, alloc, &mut media, &LEFT)
 }
 
 #[test]

@@ -80,10 +80,13 @@ fn stop_wrong<Rt: Threads + Wait + Sync>(
     if !wrong.is_empty() {
         return Ok(wrong);
     }
+    drop(wrong);
     restart(alloc, media, Some(second));
     let told = tell(rt, alloc, "run", "0 read /a 0 2\n", media)?;
     restart(alloc, media, None);
-    if told.text() != b"opened 5\n1 @6 ok 6161\n".as_slice() {
+    let is_read = told.text() == b"opened 5\n1 @6 ok 6161\n".as_slice();
+    drop(told);
+    if !is_read {
         return String::from_str(alloc, "another text");
     }
     let count = if counted(rt, alloc, media)? == Some(6) {

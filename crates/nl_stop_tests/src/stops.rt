@@ -25,15 +25,17 @@ pub fn run_until<Rt: Threads + Wait + Sync>(
     opened: u64,
     stop: Stop,
 ) -> Result<Stopped, Memory> {
+    let text = format!(in alloc; "opened {opened}\n")?;
     restart(alloc, media, Some(stop));
     let told = tell(rt, alloc, "run", script, media)?;
     restart(alloc, media, None);
-    let text = format!(in alloc; "opened {opened}\n")?;
-    Ok(Stopped {
+    let stopped = Stopped {
         status: told.status,
         synced: told.synced(),
         opened: told.text().starts_with(text.as_bytes()),
-    })
+    };
+    drop(told);
+    Ok(stopped)
 }
 
 // A saving on a new volume that is stopped there.

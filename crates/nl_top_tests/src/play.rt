@@ -36,8 +36,8 @@ pub fn answered(
     Ok(text)
 }
 
-// What is told otherwise than wanted, and the empty text where nothing is.
-fn wrong(alloc: Global, told: &Told, step: &Step<'_>) -> Result<String, Memory> {
+/// What is told otherwise than this step wants, and the empty text where nothing is.
+pub fn told_wrong(alloc: Global, told: &Told, step: &Step<'_>) -> Result<String, Memory> {
     let (words, _, status, text) = *step;
     if told.is(status, text) {
         return Ok(String::new(alloc));
@@ -55,7 +55,9 @@ fn step_wrong<Rt: Threads + Wait + Sync>(
 ) -> Result<String, Memory> {
     let (words, script, _, _) = *step;
     let told = tell(rt, alloc, words, script, media)?;
-    wrong(alloc, &told, step)
+    let wrong = told_wrong(alloc, &told, step);
+    drop(told);
+    wrong
 }
 
 /// What is told otherwise than wanted by the first of the steps of which that is so, and the empty text where there is none.

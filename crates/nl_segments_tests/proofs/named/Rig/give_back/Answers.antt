@@ -6,16 +6,16 @@ use Rattle.nl_segments_tests.proofs.named.Rig.give_back.Goals as goal
 pub invariant_of-self : goal.invariant_of-self
 invariant_of-self c =
     let is = c.args.self.now.is in
-    let e = c.give_back.ensures in
+    let e = c.give_back.ensures.given in
     let empty = e.copies in
     record {
       is = record {
         numbers = is.numbers;
-        first = e.first ∙ is.first;
-        blocks = e.blocks ∙ is.blocks;
-        size = e.pages ∙ is.size;
+        first = e.range.range_first ∙ is.first;
+        blocks = e.range.range_blocks ∙ is.blocks;
+        size = e.range.range_size ∙ is.size;
         segment = record {
-          holds = λ p h named. absurd (none-some h (sym (c.requires.none p) ∙ (ap (λ (l : List (Option Held)). get_or l p None) (sym e.live) ∙ named)));
+          holds = λ p h named. absurd (none-some h (sym (c.requires.none p) ∙ (ap (λ (l : List (Option Held)). get_or l p None) (sym e.held) ∙ named)));
           blank = λ p taken. is.segment.blank p (e.erased p taken);
           blank_copy = λ p next. absurd (omega (arith, empty, next.0, next.1));
         };
