@@ -1,13 +1,14 @@
--- What a move does, by its answer.
+-- What a move and its steps do, by their answer.
 use Rattle.std.proofs.Common.{◌≡◌, ⊎_elim, inr, ℕ, ◌/◌, List, None, Some, refl, sym, ◌∙◌, ap, subst}
 use Rattle.nl_field.specs.Page.{Image, page_at, written}
 use Rattle.nl_nand.specs.declared.answers.WriteAnswer.TheVariants as wrote
 use Rattle.nl_owned.specs.Pages.{main_of, page_with}
 use Rattle.nl_pseg.specs.Answers.{IfPlaced}
-use Rattle.nl_pseg.specs.Cleaning.{CrashesMove, IfMoved, IsMoved, Moves, programmed_by}
-use Rattle.nl_pseg.specs.Copies.{CopiesOn, CopiesPage, LandsPage}
-use Rattle.nl_pseg.specs.Effects.{Programmed}
+use Rattle.nl_pseg.specs.Cleaning.{IfMoved, IsMoved, Moves, programmed_by}
+use Rattle.nl_pseg.specs.Copies.{CopiesOn, CopiesPage}
+use Rattle.nl_pseg.specs.Effects.{Crashes, Programmed}
 use Rattle.nl_pseg.specs.Kept.{Kept}
+use Rattle.nl_pseg.specs.Moving.{LandsPage, MovesOn, MovesPage}
 use Rattle.nl_pseg.specs.Seen.{IsTied, seen}
 use Rattle.nl_pseg.specs.Segment.{HasSpare, InVictim, IsDead, IsPhysicalOf, KeepsBlock, Physical, held_at, wear_of}
 use Rattle.nl_pseg.specs.Space.{HasFewPairs}
@@ -34,32 +35,34 @@ victim_kept s tied block named = let has = (tied.phases.victim_in block named).0
 pub nothing_copied : (seg : Physical) → CopiesPage copy.Nothing seg seg
 nothing_copied seg = record { moved = tt; kept = λ not. still_none seg; lost = λ w f e. absurd (nothing_lost e); clean = λ clean. clean; kept_block = λ k. k }
 
-pub fault_copied : (seg : Physical) → CopiesPage copy.Fault seg seg
-fault_copied seg = record { moved = tt; kept = λ not. still_none seg; lost = λ w f e. absurd (fault_lost e); clean = λ clean. clean; kept_block = λ k. k }
+-- the page that was read is lost, or could not be read
+pub lost_moves : (seg : Physical) (page : ℕ) (h : Held) (w f : ℕ) → ((v g : ℕ) → copy.Lost w f ≡ copy.Lost v g → (g ≡ v → ⊥) × (h.stamp ≡ v)) → MovesPage page h (copy.Lost w f) seg seg
+lost_moves seg page h w f lost = record { moved = tt; kept = λ not. still_none seg; lost = lost; clean = λ clean. clean }
 
--- the page that was read is lost
-pub lost_copied : (seg : Physical) (w f : ℕ) → ((v g : ℕ) → copy.Lost w f ≡ copy.Lost v g → (g ≡ v → ⊥) × ((p : ℕ) × (h : Held) × InVictim seg p × (held_at seg p ≡ Some h) × (h.stamp ≡ v))) → CopiesPage (copy.Lost w f) seg seg
-lost_copied seg w f lost = record { moved = tt; kept = λ not. still_none seg; lost = lost; clean = λ clean. clean; kept_block = λ k. k }
+pub fault_moves : (seg : Physical) (page : ℕ) (h : Held) → MovesPage page h copy.Fault seg seg
+fault_moves seg page h = record { moved = tt; kept = λ not. still_none seg; lost = λ w f e. absurd (fault_lost e); clean = λ clean. clean }
 
 -- no page could be had for the copy
-pub readied_copied : {seg : Physical} (n : Kept) (page : ℕ) → IsTied n → InVictim seg page → IsReadied seg (seen n) → CopiesPage copy.Fault seg (seen n)
-readied_copied {seg} n page tied victim r = record {
-  moved = tt;
-  kept = λ not. readied_none r;
-  lost = λ w f e. absurd (fault_lost e);
-  clean = r.clean;
-  kept_block = λ k. victim_kept n tied (page / seg.size) (r.victim ∙ victim);
-}
+pub readied_moves : {seg mid : Physical} (page : ℕ) (h : Held) → IsReadied seg mid → MovesPage page h copy.Fault seg mid
+readied_moves page h r = record { moved = tt; kept = λ not. readied_none r; lost = λ w f e. absurd (fault_lost e); clean = r.clean }
 
 -- the copy landed, or its program failed
-pub landed_copied : {seg mid : Physical} (n : Kept) {page : ℕ} {h : Held} {answer : Copied} → IsTied n → InVictim seg page → IsReadied seg mid → LandsPage page h answer mid (seen n) → CopiesPage answer seg (seen n)
-landed_copied {seg} {mid} n {page} {h} {answer} tied victim r l = record {
-  moved = if_moved answer (λ b a held m. moves_then r l.same_room m.3) l.moved;
+pub landed_moves : {seg mid new : Physical} {page : ℕ} {h : Held} (answer : Copied) → IsReadied seg mid → LandsPage page h answer mid new → MovesPage page h answer seg new
+landed_moves answer r l = record {
+  moved = if_moved answer (λ b a held m. (m.0, m.2, moves_then r l.same_room m.3)) l.moved;
   kept = λ not. none_then r l.same_room (l.kept not).1;
   lost = λ w f e. absurd (fault_lost (sym (l.kept (λ m. subst IsMoved e m)).0 ∙ e));
   clean = λ clean. l.clean (r.clean clean);
-  kept_block = λ k. victim_kept n tied (page / seg.size)
-      (⊎_elim (λ moved. moved_if answer moved (λ b a held m. m.3.victim) l.moved) (λ not. (l.kept not).1.victim) (moved_or_not answer) ∙ (r.victim ∙ victim));
+}
+
+-- some live page of the victim was moved, or none was
+pub moves_copied : {seg : Physical} (n : Kept) (page : ℕ) (h : Held) (answer : Copied) → IsTied n → InVictim seg page → held_at seg page ≡ Some h → MovesPage page h answer seg (seen n) → CopiesPage answer seg (seen n)
+moves_copied {seg} n page h answer tied victim live m = record {
+  moved = if_moved answer (λ b a held x. x.2) m.moved;
+  kept = m.kept;
+  lost = λ w f e. let lost = m.lost w f e in (lost.0, (page, h, victim, live, lost.1));
+  clean = m.clean;
+  kept_block = λ k. victim_kept n tied (page / seg.size) (⊎_elim (λ moved. moved_if answer moved (λ b a held x. x.2.victim) m.moved) (λ not. (m.kept not).victim) (moved_or_not answer) ∙ victim);
 }
 
 -- the program of the copy failed
@@ -92,14 +95,24 @@ nothing_copied_on a is = record {
 }
 
 -- it has the same pages after a read
-pub read_copied_on : {M : Type 0} {clock : M → ℕ} {contents : M → Image} {left : M → ℕ → Image → Type 0} {seg : Physical} {a r : M} (answer : Copied) → (IsMoved answer → ⊥) → ((w f : ℕ) → answer ≡ copy.Lost w f → ⊥) → contents r ≡ contents a
-    → IsPhysicalOf (contents a) seg → CrashesMove clock contents left seg a r answer → CopiesOn clock contents left answer seg seg a r
-read_copied_on {seg = seg} answer not told same is crash = record {
+pub read_moves_on : {M : Type 0} {clock : M → ℕ} {contents : M → Image} {left : M → ℕ → Image → Type 0} {seg : Physical} {a r : M} (page : ℕ) (h : Held) (answer : Copied) → (IsMoved answer → ⊥) → ((w f : ℕ) → answer ≡ copy.Lost w f → ⊥) → contents r ≡ contents a
+    → IsPhysicalOf (contents a) seg → Crashes clock contents left seg h.tag h.stamp (main_of (page_at (contents a) page)) a r (programmed_by answer) → MovesOn clock contents left page h answer seg seg a r
+read_moves_on {seg = seg} page h answer not told same is crash = record {
   told = told;
   segment = subst (λ i. IsPhysicalOf i seg) (sym same) is;
   spare = λ spare. subst (λ i. HasSpare i seg) (sym same) spare;
   programmed = if_none answer _ not;
-  crash = λ some. crash;
+  crash = crash;
+}
+
+pub moves_copied_on : {M : Type 0} {clock : M → ℕ} {contents : M → Image} {left : M → ℕ → Image → Type 0} {seg new : Physical} {a d : M} (page : ℕ) (h : Held) (answer : Copied) → InVictim seg page → held_at seg page ≡ Some h → MovesPage page h answer seg new
+    → MovesOn clock contents left page h answer seg new a d → CopiesOn clock contents left answer seg new a d
+moves_copied_on page h answer victim live moves m = record {
+  told = m.told;
+  segment = m.segment;
+  spare = m.spare;
+  programmed = m.programmed;
+  crash = λ some. record { before = page; h = h; in_victim = victim; was = live; moved = if_moved answer (λ b a held x. (x.0, x.1)) moves.moved; crash = m.crash };
 }
 
 -- the page that was moved is programmed as it was

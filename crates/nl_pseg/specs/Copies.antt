@@ -5,21 +5,12 @@ use Rattle.nl_field.specs.Page.{Image, page_at, written}
 use Rattle.nl_owned.specs.Pages.{main_of, page_with}
 use Rattle.nl_pseg.specs.Cleaning.{CrashesMove, Erases, IfMoved, IsMoved, KeepsBeside, Moves, MovesNone}
 use Rattle.nl_pseg.specs.Effects.{Programmed}
-use Rattle.nl_pseg.specs.Kept.{Kept}
-use Rattle.nl_pseg.specs.Seen.{IsFormed, IsTied, seen}
-use Rattle.nl_pseg.specs.Segment.{HasSpare, InVictim, IsClean, IsPhysicalOf, KeepsBlock, Physical, held_at, room, wear_of}
-use Rattle.nl_pseg.specs.Space.{HasFewPairs}
+use Rattle.nl_pseg.specs.Segment.{HasSpare, InVictim, IsClean, IsPhysicalOf, KeepsBlock, Physical, held_at, wear_of}
 use Rattle.nl_pseg.specs.declared.cleaned.Copied.{Copied}
 use Rattle.nl_pseg.specs.declared.cleaned.Copied.TheVariants as copy
 use Rattle.nl_pseg.specs.declared.cleaned.Erasure.{Erasure}
 use Rattle.nl_pseg.specs.declared.cleaned.Erasure.TheVariants as erasure
 use Rattle.nl_pseg.specs.declared.held.Held.{Held}
-
--- what holds of a state between two calls that clean
-pub record IsConsistent (s : Kept) : Type 0 where
-  pub formed : IsFormed s
-  pub tied : IsTied s
-  pub few : HasFewPairs (seen s)
 
 -- What a move does to the segment: it moved one page or none. `Lost` comes with the number of a live page of the victim, and another
 -- one, which was found.
@@ -38,13 +29,6 @@ pub record CopiesOn {M : Type 0} (clock : M → ℕ) (contents : M → Image) (l
   pub spare : HasSpare (contents old) seg → HasSpare (contents new) seg_new
   pub programmed : IfMoved answer (λ before after h. Programmed seg after (written (page_with (main_of (page_at (contents old) before)) h.tag h.stamp (wear_of seg (after / seg.size)))) (contents old) (contents new))
   pub crash : (answer ≡ copy.Nothing → ⊥) → CrashesMove clock contents left seg old new answer
-
--- The copy of this live page landed where the next copy is programmed, or the medium failed.
-pub record LandsPage (page : ℕ) (h : Held) (answer : Copied) (old new : Physical) : Type 0 where
-  pub moved : IfMoved answer (λ before after held. (before ≡ page) × (after ≡ old.copy_next) × (held ≡ h) × Moves before after held old new)
-  pub kept : (IsMoved answer → ⊥) → (answer ≡ copy.Fault) × MovesNone old new
-  pub same_room : room new ≡ room old
-  pub clean : IsClean old → IsClean new
 
 -- What an erase of the victim does to the segment: only where it is done, the victim was erased.
 pub record ErasesIfDone (answer : Erasure) (old new : Physical) : Type 0 where

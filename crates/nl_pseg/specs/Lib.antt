@@ -9,4 +9,5 @@ pub mod Seen
 pub mod Steps
 pub mod Opened
 pub mod Writes
+pub mod Moving
 pub mod Kept

@@ -8,8 +8,9 @@ ghost use Rattle.nl_blocks.specs.Table.{HasBlock, IsTable, block_at};
 ghost use Rattle.nl_blocks.specs.Used.{is_target_state, used_in};
 ghost use Rattle.nl_owned.specs.Pages.{shown_by};
 ghost use Rattle.nl_pseg.specs.Cleaning.{CountedMove, IsMoved, programmed_by};
-ghost use Rattle.nl_pseg.specs.Copies.{CopiesOn, CopiesPage, IsConsistent, LandsPage};
+ghost use Rattle.nl_pseg.specs.Copies.{CopiesOn, CopiesPage};
 ghost use Rattle.nl_pseg.specs.Kept.{all_filled, kept};
+ghost use Rattle.nl_pseg.specs.Moving.{IsConsistent, LandsPage, MovesOn, MovesPage};
 ghost use Rattle.nl_pseg.specs.Seen.{seen, Fits, IsFormed, IsTied};
 ghost use Rattle.nl_pseg.specs.Segment.{HasSpare, InVictim, IsClean, IsPhysicalOf, held_at};
 ghost use Rattle.nl_pseg.specs.Space.{HasRoomForVictim, landing, left_of};
@@ -216,9 +217,9 @@ impl State {
         requires segment { M.tells → IsPhysicalOf (M.contents media.old) (seen (kept self.old)) }
         ensures consistent { IsConsistent (kept self.new) }
         ensures nothing { result ≡ Copied.Nothing → ⊥ }
-        ensures copies { CopiesPage result (seen (kept self.old)) (seen (kept self.new)) }
+        ensures moves { MovesPage before held result (seen (kept self.old)) (seen (kept self.new)) }
         ensures lands { HasRoomForVictim (seen (kept self.old)) → Rose (M.write_faults media.old) (M.write_faults media.new) ⊎ HasRoomForVictim (seen (kept self.new)) }
-        ensures medium { M.tells → CopiesOn M.clock M.contents M.left result (seen (kept self.old)) (seen (kept self.new)) media.old media.new }
+        ensures medium { M.tells → MovesOn M.clock M.contents M.left before held result (seen (kept self.old)) (seen (kept self.new)) media.old media.new }
         ensures geometry { M.geometry media.new ≡ M.geometry media.old }
         ensures counts { CountedMove M.clock M.read_faults M.write_faults (IsClean (seen (kept self.old))) media.old media.new result }
     {

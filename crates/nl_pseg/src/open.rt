@@ -92,6 +92,7 @@ impl State {
         requires within { HasBlock self.old.blocks block }
         ensures formed { IsFormed (kept self.new) }
         ensures tied { IsTied (kept self.new) }
+        ensures names { self.new.names ≡ self.old.names }
         ensures soils { Soils block wear (seen (kept self.old)) (seen (kept self.new)) }
     {
         tell(&mut self.blocks, block, wear);

@@ -1,8 +1,8 @@
 use Rattle.nl_blocks.specs.Table.{block_at, dead_count}
 use Rattle.nl_pseg.proofs.Small.{left_some, left_zero, lands_some}
-use Rattle.nl_pseg.proofs.MoveAnswers.{nothing_copied, nothing_copied_on}
+use Rattle.nl_pseg.proofs.MoveAnswers.{moves_copied, moves_copied_on, nothing_copied, nothing_copied_on}
 use Rattle.std.proofs.Common.{◌≡◌, inr, Some, refl, sym, ◌∙◌, ap}
-use Rattle.nl_pseg.specs.Segment.{held_at}
+use Rattle.nl_pseg.specs.Segment.{InVictim, held_at}
 use Rattle.nl_pseg.specs.Seen.{seen}
 use Rattle.nl_pseg.proofs.Left.{left_is, none_live, some_live}
 use Rattle.nl_pseg.proofs.Looked.{formed_looked, tied_looked}
@@ -154,8 +154,16 @@ returns-clause-consistent g c =
 
 pub returns-clause-copies : goal.returns-clause-copies
 returns-clause-copies g c =
-    c.move_page.ensures.copies
+    let at = c.in-Some-first_live.ensures.some.0 in
+    let victim : InVictim (seen (kept c.args.self.now)) c.in-Some-first_live.before = c.in-Some.is ∙ ap (λ b. Some b) (sym at) in
+    let live = sym c.live_on.ensures ∙ c.in-Some-live_on.is in
+    let m = c.move_page.ensures in
+    moves_copied (kept c.move_page.new.self) c.in-Some-first_live.before c.in-Some-live_on.held c.move_page.result m.consistent.tied victim live m.moves
 
 pub returns-clause-medium : goal.returns-clause-medium
 returns-clause-medium g c t =
-    c.move_page.ensures.medium t
+    let at = c.in-Some-first_live.ensures.some.0 in
+    let victim : InVictim (seen (kept c.args.self.now)) c.in-Some-first_live.before = c.in-Some.is ∙ ap (λ b. Some b) (sym at) in
+    let live = sym c.live_on.ensures ∙ c.in-Some-live_on.is in
+    let m = c.move_page.ensures in
+    moves_copied_on c.in-Some-first_live.before c.in-Some-live_on.held c.move_page.result victim live m.moves (m.medium t)

@@ -15,10 +15,10 @@ use Rattle.nl_pseg.specs.Steps.{ReadiedOn}
 use Rattle.nl_pseg.specs.declared.held.Held.{Held}
 use Rattle.nl_pseg.proofs.CopyImages.{keeps_spare, readied_spare}
 use Rattle.nl_pseg.proofs.Moved.{readied_few, readied_lands}
-use Rattle.nl_pseg.proofs.MoveSteps.{if_moved, landed_counts, landed_crashes, read_crashes, readied_crashes, readied_read, ready_fault_counts, moved_gives, moved_or_not, lost_counts, read_fault_counts}
+use Rattle.nl_pseg.proofs.MoveSteps.{landed_counts, landed_crashes, read_crashes, readied_crashes, readied_read, ready_fault_counts, moved_gives, moved_or_not, lost_counts, read_fault_counts}
 use Rattle.nl_pseg.specs.Kept.{kept}
 use Rattle.nl_pseg.specs.declared.cleaned.Copied.TheVariants.{Fault, Lost}
-use Rattle.nl_pseg.proofs.MoveAnswers.{copied_programmed, fault_copied, landed_copied, lost_copied, read_copied_on, readied_copied}
+use Rattle.nl_pseg.proofs.MoveAnswers.{copied_programmed, fault_moves, landed_moves, lost_moves, read_moves_on, readied_moves}
 use Rattle.nl_pseg.proofs.state.State.move_page.Goals as goal
 
 pub read_page-requires-clause-spelled : goal.read_page-requires-clause-spelled
@@ -141,31 +141,29 @@ pub returns-in-Done-ready-clause-consistent : goal.returns-in-Done-ready-clause-
 returns-in-Done-ready-clause-consistent g c =
     c.land.ensures.consistent
 
-pub returns-in-Lost-clause-copies : goal.returns-in-Lost-clause-copies
-returns-in-Lost-clause-copies g c =
-    lost_copied (seen (kept c.args.self.now)) c.in-Lost.wanted c.in-Lost.found (λ w f e.
-    let l = lost_as e (c.read_page.ensures.lost c.in-Lost.wanted c.in-Lost.found c.in-Lost.is) in
-    (l.0, (c.args.before, c.args.held, c.requires.victim, c.requires.live, l.1)))
+pub returns-in-Lost-clause-moves : goal.returns-in-Lost-clause-moves
+returns-in-Lost-clause-moves g c =
+    lost_moves (seen (kept c.args.self.now)) c.args.before c.args.held c.in-Lost.wanted c.in-Lost.found (λ w f e. lost_as e (c.read_page.ensures.lost c.in-Lost.wanted c.in-Lost.found c.in-Lost.is))
 
 pub returns-in-Lost-clause-medium : goal.returns-in-Lost-clause-medium
 returns-in-Lost-clause-medium g c t =
-    read_copied_on (Lost c.in-Lost.wanted c.in-Lost.found) (λ m. m)
+    read_moves_on c.args.before c.args.held (Lost c.in-Lost.wanted c.in-Lost.found) (λ m. m)
     (λ w f e. ⊎_elim (λ done. read_lost_done (sym c.in-Lost.is ∙ done)) (λ fault. read_lost_fault (sym c.in-Lost.is ∙ fault)) (c.read_page.ensures.kept t ((c.requires.segment t).holds c.args.before c.args.held c.requires.live)))
     c.read_page.ensures.contents (c.requires.segment t)
-    (record { before = c.args.before; h = c.args.held; in_victim = c.requires.victim; was = c.requires.live; moved = tt; crash = read_crashes c.args.held.tag c.args.held.stamp (main_of (page_at (g.M.Nand.contents c.args.media.now) c.args.before)) c.read_page.ensures.contents c.read_page.ensures.clock c.read_page.ensures.left })
+    (read_crashes c.args.held.tag c.args.held.stamp (main_of (page_at (g.M.Nand.contents c.args.media.now) c.args.before)) c.read_page.ensures.contents c.read_page.ensures.clock c.read_page.ensures.left)
 
-pub returns-in-Fault-clause-copies : goal.returns-in-Fault-clause-copies
-returns-in-Fault-clause-copies g c =
-    fault_copied (seen (kept c.args.self.now))
+pub returns-in-Fault-clause-moves : goal.returns-in-Fault-clause-moves
+returns-in-Fault-clause-moves g c =
+    fault_moves (seen (kept c.args.self.now)) c.args.before c.args.held
 
 pub returns-in-Fault-clause-medium : goal.returns-in-Fault-clause-medium
 returns-in-Fault-clause-medium g c t =
-    read_copied_on Fault (λ m. m) (λ w f e. fault_lost e) c.read_page.ensures.contents (c.requires.segment t)
-    (record { before = c.args.before; h = c.args.held; in_victim = c.requires.victim; was = c.requires.live; moved = tt; crash = read_crashes c.args.held.tag c.args.held.stamp (main_of (page_at (g.M.Nand.contents c.args.media.now) c.args.before)) c.read_page.ensures.contents c.read_page.ensures.clock c.read_page.ensures.left })
+    read_moves_on c.args.before c.args.held Fault (λ m. m) (λ w f e. fault_lost e) c.read_page.ensures.contents (c.requires.segment t)
+    (read_crashes c.args.held.tag c.args.held.stamp (main_of (page_at (g.M.Nand.contents c.args.media.now) c.args.before)) c.read_page.ensures.contents c.read_page.ensures.clock c.read_page.ensures.left)
 
-pub returns-in-Failed-clause-copies : goal.returns-in-Failed-clause-copies
-returns-in-Failed-clause-copies g c =
-    readied_copied (kept c.ready.new.self) c.args.before c.ready.ensures.tied c.requires.victim c.ready.ensures.readied
+pub returns-in-Failed-clause-moves : goal.returns-in-Failed-clause-moves
+returns-in-Failed-clause-moves g c =
+    readied_moves c.args.before c.args.held c.ready.ensures.readied
 
 pub returns-in-Failed-clause-medium : goal.returns-in-Failed-clause-medium
 returns-in-Failed-clause-medium g c t =
@@ -179,19 +177,12 @@ returns-in-Failed-clause-medium g c t =
       segment = on.segment;
       spare = λ spare. readied_spare r (keeps_spare on.keeps spare);
       programmed = tt;
-      crash = λ some. record {
-        before = c.args.before;
-        h = held;
-        in_victim = c.requires.victim;
-        was = c.requires.live;
-        moved = tt;
-        crash = readied_crashes held.tag held.stamp (main_of (page_at (g.M.Nand.contents c.args.media.now) c.args.before)) on;
-      };
+      crash = readied_crashes held.tag held.stamp (main_of (page_at (g.M.Nand.contents c.args.media.now) c.args.before)) on;
     }
 
-pub returns-in-Done-ready-clause-copies : goal.returns-in-Done-ready-clause-copies
-returns-in-Done-ready-clause-copies g c =
-    landed_copied (kept c.land.new.self) c.land.ensures.consistent.tied c.requires.victim c.ready.ensures.readied c.land.ensures.lands
+pub returns-in-Done-ready-clause-moves : goal.returns-in-Done-ready-clause-moves
+returns-in-Done-ready-clause-moves g c =
+    landed_moves c.land.result c.ready.ensures.readied c.land.ensures.lands
 
 pub returns-in-Done-ready-clause-medium : goal.returns-in-Done-ready-clause-medium
 returns-in-Done-ready-clause-medium g c t =
@@ -211,13 +202,6 @@ returns-in-Done-ready-clause-medium g c t =
       segment = m.segment;
       spare = λ spare. l.spare t (on.segment.holds c.args.before held live ∙ ap (λ (m : List ℕ). Some (held.tag, held.stamp, m)) (ap main_of stays ∙ main)) (readied_spare r (keeps_spare on.keeps spare));
       programmed = copied_programmed c.land.new.media c.land.result r held c.read_page.new.buf.main c.args.before on main l.lands m.alone;
-      crash = λ some. record {
-        before = c.args.before;
-        h = held;
-        in_victim = c.requires.victim;
-        was = c.requires.live;
-        moved = if_moved c.land.result (λ b a h m. (m.0, m.2)) l.lands.moved;
-        crash = subst (λ (m : List ℕ). Crashes g.M.Nand.clock g.M.Nand.contents g.M.Nand.left (seen s) held.tag held.stamp m c.args.media.now c.land.new.media (programmed_by c.land.result)) (sym main)
-            (landed_crashes r held.tag held.stamp c.read_page.new.buf.main c.land.result on (λ moved. earlier (g.M.Nand.clock c.ready.new.media) (l.clock.0 moved)) m.crash);
-      };
+      crash = subst (λ (m : List ℕ). Crashes g.M.Nand.clock g.M.Nand.contents g.M.Nand.left (seen s) held.tag held.stamp m c.args.media.now c.land.new.media (programmed_by c.land.result)) (sym main)
+          (landed_crashes r held.tag held.stamp c.read_page.new.buf.main c.land.result on (λ moved. earlier (g.M.Nand.clock c.ready.new.media) (l.clock.0 moved)) m.crash);
     }

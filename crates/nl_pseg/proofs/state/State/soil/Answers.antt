@@ -86,3 +86,6 @@ returns-clause-soils c =
       erased = λ p taken. let out = apart_taken apart p taken in (e.erased p out.0, out.1);
       still = λ p taken ne. apart_still apart p (e.still p taken ne) ne;
     }
+
+pub returns-clause-names : goal.returns-clause-names
+returns-clause-names c = refl
