@@ -1,13 +1,11 @@
 -- The calls that make room, one after the other.
-use Rattle.std.proofs.Common.{◌≡◌, inl, inr, ℕ, ◌+◌, ◌*◌, ◌^◌, ◌<◌, ◌≤◌, nat_le, ◌&&◌, true, false, List, Option, length, refl, sym, ◌∙◌, ap, subst, arith, mul-le-mul_right}
-use Rattle.std.proofs.lemmas.Bool.{and_parts, leb-true}
+use Rattle.std.proofs.Common.{◌≡◌, ℕ, ◌+◌, ◌*◌, ◌^◌, ◌<◌, ◌≤◌, true, false, List, Option, length, refl, sym, ◌∙◌, ap, subst, arith, mul-le-mul_right}
 use Rattle.nl_field.specs.Page.{erased}
 use Rattle.nl_field.specs.declared.answers.VirtualWrite.{VirtualWrite}
 use Rattle.nl_blocks.specs.Table.{Table, free_count}
 use Rattle.nl_nand.specs.Nand.{CrashLeaves, IsLegal, Leaves, OperationCounted, block_start, block_end}
 use Rattle.nl_nand.specs.declared.answers.WriteAnswer.{WriteAnswer}
 use Rattle.nl_nand.specs.declared.answers.WriteAnswer.TheVariants as write
-use Rattle.nl_nand.specs.declared.geometry.Geometry.{Geometry}
 use Rattle.nl_nand.specs.declared.nand.Nand.{Ghosts}
 use Rattle.nl_vseg.specs.Answers.{LosesStamp}
 use Rattle.nl_vseg.specs.Cleaning.{KeepsValues, LosesUntold, StandsOn}
@@ -25,6 +23,7 @@ use Rattle.nl_vseg.proofs.Copies.{closed_segment, free_spare, next_blank, widen}
 use Rattle.nl_vseg.proofs.Counts.{counted_as, counted_start, counted_then, counted_write, keeps_then}
 use Rattle.nl_vseg.proofs.Operating.{operates_as, operates_block, operates_both, operates_still}
 use Rattle.nl_vseg.proofs.Segments.{below_of, erase_keeps, keeps_as, keeps_nothing}
+use Rattle.nl_vseg.proofs.Shapes.{medium_fits}
 use Rattle.nl_vseg.proofs.Small.{few_places, fits_then, lt_le, shape_after, shape_of, shape_then}
 use Rattle.nl_vseg.proofs.Using.{closed_image, numbered, numbered_image, opened, settled_full, settled_rising}
 
@@ -60,13 +59,6 @@ pub settled_used : (s : State) (table : Table) → IsFormed s → SameUse s.bloc
 settled_used s table formed same settled =
     settled_full s.places.items table (same.numbers.same_first ∙ formed.segment.first) settled s.active (subst (λ n. s.active < n) (sym same.numbers.same_count) formed.segment.active_is)
 
--- a medium has few pages
-pub few_pages : (geometry : Geometry) → IsLegal geometry → geometry.blocks * geometry.pages < 2 ^ 32
-few_pages geometry (inl legal) =
-    let below = leb-true (geometry.blocks * geometry.pages) 262144 (and_parts (nat_le 32 geometry.blocks && nat_le geometry.blocks 4096 && nat_le 32 geometry.pages && nat_le geometry.pages 256) (nat_le (geometry.blocks * geometry.pages) 262144) legal).1 in
-    omega (arith, below)
-few_pages geometry (inr none) = let is : geometry.blocks * geometry.pages ≡ 0 = ap (λ (n : Geometry). n.blocks * n.pages) none in omega (arith, is)
-
 module _ {M : Type 0} (g : Ghosts M) where
   -- what has to hold before a copy to the active block, of which no page is used
   pub can_copy : {s : State} {m : M} (victim : ℕ) → IsLegal (g.geometry m) → (seen s).used ≡ 0 → (s.active ≡ victim → ⊥) → StandsOn g s m → CanCopy g s.blocks.size victim s.active s.places.items s.blocks m
@@ -76,7 +68,7 @@ module _ {M : Type 0} (g : Ghosts M) where
         same_pages = stands.fits.pages;
         some = is.some;
         in_medium = lt_le is.active_is stands.fits.blocks;
-        numbers = subst (λ n. (g.geometry m).blocks * n < 2 ^ 32) stands.fits.pages (few_pages (g.geometry m) legal);
+        numbers = subst (λ n. (g.geometry m).blocks * n < 2 ^ 32) stands.fits.pages (medium_fits (g.geometry m) legal);
         first = is.first;
         within = is.active_is;
         width = refl;

@@ -36,9 +36,6 @@ page_failed_done e = cc
 pub le_same : (n : ℕ) → n ≤ n
 le_same n = omega arith
 
-pub le_more : (n m : ℕ) → m ≡ n + 1 → n ≤ m
-le_more n m is = omega (arith, is)
-
 pub le_one : (n : ℕ) → n ≡ 1 → 1 ≤ n
 le_one n is = omega (arith, is)
 
@@ -90,9 +87,3 @@ shape_then first second = record { addresses = second.addresses ∙ first.addres
 
 pub shape_after : {a b c : Layout} → length b.places ≡ length a.places → SameNumbers a.table b.table → SameShape b c → SameShape a c
 shape_after count n second = record { addresses = second.addresses ∙ count; blocks = second.blocks ∙ n.same_count; pages = second.pages ∙ n.same_size }
-
-pub fits_shape : (geometry geometry' : Geometry) (old new : Layout) → geometry' ≡ geometry → SameShape old new → FitsLayout geometry old → FitsLayout geometry' new
-fits_shape geometry geometry' old new same is fits = subst (λ (x : Geometry). FitsLayout x new) (sym same) (record {
-  pages = fits.pages ∙ sym is.pages;
-  blocks = subst (λ k. k ≤ geometry.blocks) (sym is.blocks) fits.blocks;
-})
