@@ -1,5 +1,5 @@
 ghost use Rattle.std.specs.Prelude.{◌≡◌, ◌<◌, ◌≤◌, ◌+◌, ◌^◌, length, IfSome};
-ghost use Rattle.nl_iface.specs.Answers.{IsLost, LosesStamp};
+ghost use Rattle.nl_iface.specs.Answers.{LosesStamp};
 ghost use Rattle.nl_iface.specs.Calls.{CallCounted};
 ghost use Rattle.nl_journal.specs.Left.{CommitWrites};
 ghost use Rattle.nl_journal.specs.Passes.{Passes};
@@ -49,8 +49,7 @@ pub fn commit<D: VirtualPages>(
     ensures decided { IfSome result.decided (ChangesAt D.Counts device.old device.new journal.old journal.new (with_count shape.now count meta.old) meta.new) }
     ensures writes { D.tells → HasNumber journal.new (length meta.new.frozen.addresses) → CommitWrites D.Counts (result.answer ≡ VirtualWrite.Done) journal.old journal.new (with_count shape.now count meta.old) meta.new device.old device.new }
     ensures passes { Passes D.Counts (result.answer ≡ VirtualWrite.Done) 512 device.old device.new }
-    ensures lost { LosesStamp (D.stamps device.new) result.answer }
-    ensures told { D.tells → IsLost result.answer → ⊥ }
+    ensures lost { LosesStamp D.tells (D.stamps device.new) result.answer }
     ensures clock { D.clock device.old ≤ D.clock device.new }
     ensures faults { CallCounted D.Counts (result.answer ≡ VirtualWrite.Fault) device.old device.new }
 {

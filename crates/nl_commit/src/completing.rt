@@ -1,5 +1,5 @@
 ghost use Rattle.std.specs.Prelude.{◌≡◌, ◌≤◌, ◌+◌, ◌^◌, length, MatchOption};
-ghost use Rattle.nl_iface.specs.Answers.{IsLost, LosesStamp};
+ghost use Rattle.nl_iface.specs.Answers.{LosesStamp};
 ghost use Rattle.nl_iface.specs.Calls.{CallCounted};
 ghost use Rattle.nl_journal.specs.Left.{FinishWrites};
 ghost use Rattle.nl_journal.specs.Passes.{Passes};
@@ -39,8 +39,7 @@ pub fn complete<D: VirtualPages>(
     ensures decided { MatchOption result.decided (StaysOpen journal.old journal.new meta.old.frozen meta.new.frozen) (DecidesAt D.Counts device.old device.new journal.old journal.new meta.old) }
     ensures writes { D.tells → HasNumber journal.old (length meta.old.frozen.addresses) → FinishWrites D.Counts (result.answer ≡ VirtualWrite.Done) journal.old journal.new meta.old meta.new device.old device.new }
     ensures passes { Passes D.Counts (result.answer ≡ VirtualWrite.Done) 256 device.old device.new }
-    ensures lost { LosesStamp (D.stamps device.new) result.answer }
-    ensures told { D.tells → IsLost result.answer → ⊥ }
+    ensures lost { LosesStamp D.tells (D.stamps device.new) result.answer }
     ensures clock { D.clock device.old ≤ D.clock device.new }
     ensures faults { CallCounted D.Counts (result.answer ≡ VirtualWrite.Fault) device.old device.new }
 {

@@ -334,7 +334,7 @@ module _ {M : Type 0} (g : Ghosts (Device M)) (v w : Core M) (tag : Tag) (main :
     none_cause = subst (λ (x : Core M). HasCause g (answer ≡ named.Fault) v x) (sym is) (programmed_cause g v w.device v.flight tag main answer b core volume writes)
 
     pub puts_none : PutsNone g answer v w
-    puts_none = subst (λ (x : Core M). PutsNone g answer v x) (sym is) (record { none = b.none off; others = refl; refused = b.refused })
+    puts_none = subst (λ (x : Core M). PutsNone g answer v x) (sym is) (record { none = b.none off; not_live = b.not_live; others = refl; refused = b.refused })
 
   -- one was, and it is in flight
   module _ (p : Pointer) (placed : answer ≡ named.Placed p) (worker line : ℕ) (known : worker < 8) (some : 0 < line) (place : HasPlace v.flight worker)

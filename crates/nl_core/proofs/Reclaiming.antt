@@ -96,7 +96,7 @@ pub record Tries {M : Type 0} (g : Ghosts (Device M)) (worker line : ℕ) (tag :
 
 module _ {M : Type 0} (g : Ghosts (Device M)) (worker line : ℕ) (tag : Tag) (main : List ℕ) (start u w : Core M) (answer : Named) (n : ℕ) (a : Goes g n start u) (lines : KeepsLines start u)
     (core_u : IsCore g u) (runs : u.stopped ≡ 0) (known : worker < 8)
-    (core_w : IsCore g w) (b : Goes g 1 u w) (not_live : answer ≡ named.NotLive → ⊥) (no_page : answer ≡ named.NoPage → (names_of g u).space.room ≡ 0)
+    (core_w : IsCore g w) (b : Goes g 1 u w) (no_page : answer ≡ named.NoPage → (names_of g u).space.room ≡ 0)
     (placed : IfPlaced answer (PutsPage g worker line tag main u w)) (none : (IsPlaced answer → ⊥) → PutsNone g answer u w) (cause : HasCause g (answer ≡ named.Fault) u w) where
   is_put : (at : Pointer) → PutsPage g worker line tag main u w at → PutsInFlight g worker line tag main start w
   is_put at p = record {
@@ -146,7 +146,7 @@ module _ {M : Type 0} (g : Ghosts (Device M)) (worker line : ℕ) (tag : Tag) (m
     goes = goes_then g start u w n 1 a b;
     paid = paid;
     no_room = λ is. (still_runs is, ap (λ (x : Names). x.space.room) (same_names is) ∙ no_page is);
-    not_live = not_live;
+    not_live = λ is. (none (λ p. subst IsPlaced is p)).not_live is;
     placed = puts answer placed;
     lines = same_lines;
     cause = cause_then g (answer ≡ named.Fault) (answer ≡ named.Fault) start u w n a cause (λ f. f);

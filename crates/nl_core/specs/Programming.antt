@@ -52,9 +52,10 @@ pub record PutsPage {M : Type 0} (g : Ghosts (Device M)) (worker line : ℕ) (ta
   pub flight : new.flight ≡ with_page old.flight worker line tag at
   pub others : new ≡ record old { device = new.device; flight = new.flight; stopped = new.stopped }
 
--- No page is placed, and those in flight are the same. Where it was refused, nothing was written.
+-- No page is placed, for want of room or by a fault, and those in flight are the same. Where it was refused, nothing was written.
 pub record PutsNone {M : Type 0} (g : Ghosts (Device M)) (answer : Named) (old new : Core M) : Type 0 where
   pub none : PlacesNone g answer old.device new.device
+  pub not_live : answer ≡ named.NotLive → ⊥
   pub others : new ≡ record old { device = new.device; stopped = new.stopped }
   pub refused : IfRefused answer (OnlyReads g old.device new.device)
 

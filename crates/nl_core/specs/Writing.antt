@@ -6,7 +6,7 @@ use Rattle.nl_field.specs.declared.answers.VirtualWrite.{VirtualWrite}
 use Rattle.nl_field.specs.declared.answers.VirtualWrite.TheVariants as write
 use Rattle.nl_field.specs.declared.super_page.SuperRec.{SuperRec}
 use Rattle.nl_device.specs.declared.device.Device.{Device}
-use Rattle.nl_iface.specs.Answers.{IsLost, LosesStamp}
+use Rattle.nl_iface.specs.Answers.{LosesStamp}
 use Rattle.nl_iface.specs.Calls.{CallCounted, KeepsMedium}
 use Rattle.nl_iface.specs.Moves.{Acknowledges}
 use Rattle.nl_holders.specs.Laws.{OldNamesDiffer}
@@ -78,8 +78,7 @@ pub record WritesAll {M : Type 0} (g : Ghosts (Device M)) (old new : Core M) (an
   pub writes : g.tells → HasNumber new.journal (length new.meta.frozen.addresses)
       → CommitWrites g (answer ≡ write.Done) old.journal new.journal (counted_pages old) new.meta old.device new.device
   pub passes : Passes g (answer ≡ write.Done) 512 old.device new.device
-  pub lost : LosesStamp (g.stamps new.device) answer
-  pub told : g.tells → IsLost answer → ⊥
+  pub lost : LosesStamp g.tells (g.stamps new.device) answer
   pub clock : g.clock old.device ≤ g.clock new.device
   pub faults : CallCounted g (answer ≡ write.Fault) old.device new.device
 

@@ -112,7 +112,6 @@ impl<M: Nand> Core<M> {
         ensures formed { ⟦<Device<M> as Counts>⟧.formed self.new.device }
         ensures core { IsCore ⟦<Device<M> as Counts>⟧ self.new }
         ensures goes { Goes ⟦<Device<M> as Counts>⟧ 1 self.old self.new }
-        ensures not_live { result ≡ Named.NotLive → ⊥ }
         ensures no_page { result ≡ Named.NoPage ↔ (names_of ⟦<Device<M> as Counts>⟧ self.old).space.room ≡ 0 }
         ensures placed { IfPlaced result (PutsPage ⟦<Device<M> as Counts>⟧ worker line tag from.now.main self.old self.new) }
         ensures none { (IsPlaced result → ⊥) → PutsNone ⟦<Device<M> as Counts>⟧ result self.old self.new }

@@ -9,12 +9,16 @@ use Rattle.nl_field.specs.CrashStates.{Earlier, Rose, saturated, top}
 use Rattle.nl_field.specs.declared.answers.VirtualWrite.{VirtualWrite}
 use Rattle.nl_field.specs.declared.answers.VirtualWrite.TheVariants as write
 use Rattle.nl_field.specs.declared.shape.Shape.{Shape}
+use Rattle.nl_iface.specs.Answers.{LosesStamp}
 use Rattle.nl_iface.specs.Counting.{StampRises}
 use Rattle.nl_iface.specs.Left.{LeavesMap}
 use Rattle.nl_iface.specs.Stored.{NoneFailed, Value, failed_beside, is_firm, stored_in, with_value}
+use Rattle.nl_vseg.specs.Cleaning.{LosesUntold}
 use Rattle.nl_vseg.specs.Effects.{Keeps, Takes}
 use Rattle.nl_vseg.specs.Maps.{Dominated}
 use Rattle.nl_vseg.specs.Pages.{Shows}
+use Rattle.nl_vseg.specs.Places.{stamp_for}
+use Rattle.nl_vseg.specs.declared.place.Place.{Place}
 use Rattle.nl_pseg.specs.Segment.{IsPhysicalOf, Physical}
 use Rattle.nl_pseg.specs.Pages.{main_of, shown_by}
 use Rattle.nl_pseg.specs.Space.{IsWhole}
@@ -203,3 +207,9 @@ takes_below next now k below more u t n shows = ⊎_elim
     (λ was. let lt = below u t n was in omega (arith, lt, more))
     (λ new. let e = new.1 in omega (arith, e, more))
     (k.no_more u t n shows)
+
+-- the stamp that the segment tells as lost is one of an address
+pub stamp_lost : (tells : Type 0) (places : List (Option Place)) (answer : VirtualWrite) → LosesUntold tells places answer → LosesStamp tells (stamp_for places) answer
+stamp_lost tells places write.Done lost = tt
+stamp_lost tells places (write.Lost w f) lost = (lost.lost.0, lost.lost.1, λ told. lost.kept told tt)
+stamp_lost tells places write.Fault lost = tt

@@ -1,6 +1,10 @@
 -- What a start answers.
-use Rattle.std.specs.Prelude.{◌≡◌, ℕ, ◌+◌, [], None, ⊤}
+use Rattle.std.specs.Prelude.{◌≡◌, ◌⊎◌, ℕ, ◌+◌, List, [], None, Some, ⊤}
 use Rattle.nl_field.specs.Numbers.{shape_for}
+use Rattle.nl_field.specs.Page.{Image}
+use Rattle.nl_field.specs.ScanList.{virtual_spare_seen}
+use Rattle.nl_field.specs.Space.{virtual_spare}
+use Rattle.nl_field.specs.declared.seen.Seen.{Seen}
 use Rattle.nl_field.specs.declared.shape.Shape.{Shape}
 use Rattle.nl_iface.specs.Names.{Names}
 use Rattle.nl_nand.specs.declared.geometry.Geometry.{Geometry}
@@ -24,6 +28,10 @@ abbrev pub IfMemory : {M : Type 0} → Started M → (M → Type 0) → Type 0
 IfMemory (Ready d t) P = ⊤
 IfMemory (Fault m) P = ⊤
 IfMemory (Memory m) P = P m
+
+-- A block of the virtual segment can be done without, by what was seen or on a medium that tells its contents.
+abbrev pub HasVirtualSpare : Type 0 → Image → Shape → List Seen → Type 0
+HasVirtualSpare tells image shape seen = (block : ℕ) × ((virtual_spare_seen shape seen ≡ Some block) ⊎ (tells × (virtual_spare image ≡ Some block)))
 
 -- What a device has after a start: the numbers of its medium; no page under a name, nothing that leads to one, and no callback posted; no block in hand; each block of the
 -- segment Free, and room in all but one; and the stamp after the greatest that was seen.

@@ -2,8 +2,6 @@ ghost use Rattle.std.specs.Prelude.{◌*◌, ◌≡◌, ◌+◌, ◌<◌, ◌≤
 ghost use Rattle.std.specs.List.{list_all};
 ghost use Rattle.nl_field.specs.CrashStates.{Rose};
 ghost use Rattle.nl_field.specs.Numbers.{is_legal, shape_for};
-ghost use Rattle.nl_field.specs.ScanList.{virtual_spare_seen};
-ghost use Rattle.nl_field.specs.Space.{virtual_spare};
 ghost use Rattle.nl_field.specs.Virtual.{newest};
 ghost use Rattle.nl_iface.specs.Stored.{Value, value_on};
 ghost use Rattle.nl_nand.specs.Nand.{OnlyReads};
@@ -12,7 +10,7 @@ ghost use Rattle.nl_device.specs.Kept.{kept_of_scan};
 ghost use Rattle.nl_device.specs.Medium.{medium_of};
 ghost use Rattle.nl_device.specs.Opening.{FitsShape, IsOpenedPhysical, IsOpenedVirtual, SaysErased};
 ghost use Rattle.nl_device.specs.Retain.{CanRetain, kept_of};
-ghost use Rattle.nl_device.specs.Started.{IfFault, IfMemory, IfReady, IsStarted};
+ghost use Rattle.nl_device.specs.Started.{HasVirtualSpare, IfFault, IfMemory, IfReady, IsStarted};
 
 use crate::device::Device;
 use crate::kept::Kept;
@@ -98,8 +96,7 @@ impl<M: Nand> Device<M> {
         ensures clean { IfReady result (λ d t. let shape = ⟦<Device<M> as Counts>⟧.shape d in ((block : ℕ) → shape.vblocks ≤ block → block < shape.blocks → SaysErased t block) → ⟦<Device<M> as Counts>⟧.clean d) }
         ensures map { M.tells → IfReady result (λ d t. (v : ℕ) → v < (⟦<Device<M> as Counts>⟧.shape d).vaddrs → ⟦<Device<M> as Counts>⟧.map d v ≡ option_map value_on (newest (M.contents media) v)) }
         ensures agreed { M.tells → IfReady result (λ d t. list_all (λ s. s.agrees) t.seen ≡ true → (v : ℕ) (x : Value) → v < (⟦<Device<M> as Counts>⟧.shape d).vaddrs → ⟦<Device<M> as Counts>⟧.failed d v x → ⊥) }
-        ensures spare { IfReady result (λ d t. (block : ℕ) → virtual_spare_seen (⟦<Device<M> as Counts>⟧.shape d) t.seen ≡ Some block → ⟦<Device<M> as Counts>⟧.keeps_spare d) }
-        ensures spare_told { M.tells → IfReady result (λ d t. (block : ℕ) → virtual_spare (M.contents media) ≡ Some block → ⟦<Device<M> as Counts>⟧.keeps_spare d) }
+        ensures spare { IfReady result (λ d t. HasVirtualSpare M.tells (M.contents media) (⟦<Device<M> as Counts>⟧.shape d) t.seen → ⟦<Device<M> as Counts>⟧.keeps_spare d) }
         ensures tables { M.tells → IfReady result (λ d t. IsTableOf (M.contents media) t) }
         ensures fits { IfReady result (λ d t. FitsMedium (M.geometry media) t) }
         ensures counts { IfReady result (λ d t. (⟦<Device<M> as Counts>⟧.clock d ≡ M.clock media) × (⟦<Device<M> as Counts>⟧.read_faults d ≡ M.read_faults media) × (⟦<Device<M> as Counts>⟧.write_faults d ≡ M.write_faults media)) }

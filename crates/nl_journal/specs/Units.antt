@@ -1,5 +1,5 @@
 -- What a unit writes and answers.
-use Rattle.std.specs.Prelude.{◌≡◌, ◌⊎◌, ⊤, ℕ, ◌+◌, ◌≤◌, nat_lt, if◌then◌else◌, [], List, length, Option, Some, slice_index}
+use Rattle.std.specs.Prelude.{◌≡◌, ◌⊎◌, ⊤, ℕ, ◌+◌, ◌≤◌, nat_lt, if◌then◌else◌, [], List, length, Some, slice_index}
 use Rattle.nl_field.specs.Journal.{header_of, commit_of}
 use Rattle.nl_meta.specs.Pages.{Frozen, Pages, dirty_pages, none_frozen}
 use Rattle.nl_journal.specs.Progress.{Progress, begun, next, next_after, raised, units_left}
@@ -49,17 +49,13 @@ pub record Advances (result : Answer) (old new : Progress) (old_pages new_pages 
       × (new_pages ≡ record old_pages { frozen = frozen_after old.phase old_pages.frozen })
   pub waits : (IsDone result → ⊥) → (new ≡ old) × (new_pages ≡ old_pages)
 
--- it was lost, with the stamp that is wanted and another one that was found
+-- the stamp that is wanted and the one that was found, where a unit was lost
 abbrev pub IfLostUnit : Answer → (ℕ → ℕ → Type 0) → Type 0
 IfLostUnit unit.Programmed P = ⊤
 IfLostUnit (unit.Decided number) P = ⊤
 IfLostUnit unit.AllHome P = ⊤
 IfLostUnit (unit.Lost w f) P = P w f
 IfLostUnit unit.Fault P = ⊤
-
--- an address has the stamp that is wanted, and another one was found
-abbrev pub OtherFound : (ℕ → Option ℕ) → ℕ → ℕ → Type 0
-OtherFound stamps wanted found = ((v : ℕ) × (stamps v ≡ Some wanted)) × (found ≡ wanted → ⊥)
 
 abbrev pub IsCommitted : Commits → Type 0
 IsCommitted (commits.Done n) = ⊤
@@ -88,6 +84,13 @@ pub record Ends (number : ℕ) (old new : Progress) (old_pages new_pages : Pages
 -- The pages in memory after a commit that was not done: as before, or the dirty ones are frozen, since all that was frozen before is home.
 abbrev pub Waits : Pages → Pages → Type 0
 Waits old new = (new ≡ old) ⊎ (new ≡ record old { dirty = []; frozen = dirty_pages old })
+
+-- Where nothing was frozen, the dirty pages are: they began the next transaction, and all of it is done, or it waits.
+pub record CommitsDirty (result : Commits) (old new : Progress) (old_pages new_pages : Pages) : Type 0 where
+  pub begun_next : begun new (length new_pages.frozen.addresses) ≡ raised old.number
+  pub done : IfCommitted result (λ n. Ends n old new old_pages new_pages)
+  pub waits : (IsCommitted result → ⊥) → new_pages ≡ record old_pages { dirty = []; frozen = dirty_pages old_pages }
+  pub running : new_pages.running ≡ old_pages.running
 
 -- Units were done until at most so many are left. Of the metadata only the frozen pages change: all of them are home, or they stay. The
 -- number of the last transaction that was begun stays.

@@ -1,6 +1,6 @@
 ghost use Rattle.std.specs.Prelude.{◌≡◌, ◌⊎◌, ◌<◌, ◌≤◌, ◌+◌, ◌-◌, ◌^◌, ℕ, [], length, max, IfOk, IfSome, None, Some};
 ghost use Rattle.nl_field.specs.CrashStates.{Earlier};
-ghost use Rattle.nl_iface.specs.Answers.{IsLost, LosesStamp};
+ghost use Rattle.nl_iface.specs.Answers.{IsLostStamp, LosesStamp};
 ghost use Rattle.nl_iface.specs.Calls.{CallCounted, DoneOrFailed, LeavesAt, OnlyReads, ReadsCounted, TakesStamp, Ticks};
 ghost use Rattle.nl_journal.specs.Committing.{ahead_on, committed_on, finished_on};
 ghost use Rattle.nl_journal.specs.Homes.{BringsHome, WritesHome};
@@ -12,7 +12,7 @@ ghost use Rattle.nl_journal.specs.Progress.{HasNumber, IsPhase, Progress, begun,
 ghost use Rattle.nl_journal.specs.Restoring.{BringsBack, IsListing, Restores};
 ghost use Rattle.nl_journal.specs.Standing.{InOrder};
 ghost use Rattle.nl_journal.specs.Transaction.{IsTransaction, head};
-ghost use Rattle.nl_journal.specs.Units.{Advances, Ends, Finishes, IfCommitted, IfLost, IfLostUnit, IsCommitted, IsDone, OtherFound, Waits, answer};
+ghost use Rattle.nl_journal.specs.Units.{Advances, CommitsDirty, Ends, Finishes, IfCommitted, IfLost, IfLostUnit, IsCommitted, IsDone, Waits, answer};
 ghost use Rattle.nl_meta.specs.Committed.{counting, next_number as number_of_next};
 ghost use Rattle.nl_meta.specs.Pages.{dirty_pages, no_pages};
 
@@ -114,8 +114,7 @@ impl Journal {
         ensures writes { D.tells → HasNumber self.old (length meta.old.frozen.addresses) → UnitWrites D.Counts (IsDone result) self.old self.new meta.old meta.new device.old device.new }
         ensures home { D.tells → WritesHome self.old.phase meta.old.frozen (IsDone result) (D.shape device.old).vaddrs (bytes_of (D.map device.old)) (bytes_of (D.map device.new)) }
         ensures passes { Passes D.Counts (IsDone result) 1 device.old device.new }
-        ensures lost { IfLostUnit result (OtherFound (D.stamps device.new)) }
-        ensures told { D.tells → IfLostUnit result (λ w f. ⊥) }
+        ensures lost { IfLostUnit result (IsLostStamp D.tells (D.stamps device.new)) }
         ensures next_stamp { TakesStamp D.Counts (DoneOrFailed D.Counts (IsDone result) device.old device.new) device.old device.new }
         ensures clock { Ticks D.Counts (IsDone result) device.old device.new }
         ensures faults { CallCounted D.Counts (result ≡ Unit.Fault) device.old device.new }
@@ -145,8 +144,7 @@ impl Journal {
         ensures waits { (IsCommitted result → ⊥) → Waits meta.old meta.new }
         ensures writes { D.tells → HasNumber self.new (length meta.new.frozen.addresses) → CommitWrites D.Counts (IsCommitted result) self.old self.new meta.old meta.new device.old device.new }
         ensures passes { Passes D.Counts (IsCommitted result) 1024 device.old device.new }
-        ensures lost { IfLost result (OtherFound (D.stamps device.new)) }
-        ensures told { D.tells → IfLost result (λ w f. ⊥) }
+        ensures lost { IfLost result (IsLostStamp D.tells (D.stamps device.new)) }
         ensures clock { Ticks D.Counts (IsCommitted result) device.old device.new }
         ensures faults { CallCounted D.Counts (result ≡ Committing.Fault) device.old device.new }
     {
@@ -333,8 +331,7 @@ impl Journal {
         ensures writes { D.tells → HasNumber self.old (length meta.old.frozen.addresses) → FinishWrites D.Counts (result ≡ VirtualWrite.Done) self.old self.new meta.old meta.new device.old device.new }
         ensures home { D.tells → BringsHome (D.shape device.old).vaddrs self.old self.new meta.old.frozen meta.new.frozen (bytes_of (D.map device.old)) (bytes_of (D.map device.new)) }
         ensures passes { Passes D.Counts (result ≡ VirtualWrite.Done) (units_left self.old.phase (length meta.old.frozen.addresses)) device.old device.new }
-        ensures lost { LosesStamp (D.stamps device.new) result }
-        ensures told { D.tells → IsLost result → ⊥ }
+        ensures lost { LosesStamp D.tells (D.stamps device.new) result }
         ensures clock { Ticks D.Counts ((result ≡ VirtualWrite.Done) × (until < units_left self.old.phase (length meta.old.frozen.addresses))) device.old device.new }
         ensures faults { CallCounted D.Counts (result ≡ VirtualWrite.Fault) device.old device.new }
     {
@@ -359,14 +356,10 @@ impl Journal {
         requires order { InOrder D.Counts device.old self.old meta.old.frozen }
         ensures formed { D.formed device.new }
         ensures order { InOrder D.Counts device.new self.new meta.new.frozen }
-        ensures running { meta.new.running ≡ meta.old.running }
-        ensures done { IfCommitted result (λ n. Ends n self.old self.new meta.old meta.new) }
-        ensures waits { (IsCommitted result → ⊥) → meta.new ≡ record meta.old { dirty = []; frozen = dirty_pages meta.old } }
-        ensures begun { begun self.new (length meta.new.frozen.addresses) ≡ raised_from self.old.number }
+        ensures commits { CommitsDirty result self.old self.new meta.old meta.new }
         ensures writes { D.tells → HasNumber self.new (length meta.new.frozen.addresses) → DirtyWrites D.Counts (IsCommitted result) self.old self.new meta.old meta.new device.old device.new }
         ensures passes { Passes D.Counts (IsCommitted result) 512 device.old device.new }
-        ensures lost { IfLost result (OtherFound (D.stamps device.new)) }
-        ensures told { D.tells → IfLost result (λ w f. ⊥) }
+        ensures lost { IfLost result (IsLostStamp D.tells (D.stamps device.new)) }
         ensures clock { Ticks D.Counts (IsCommitted result) device.old device.new }
         ensures faults { CallCounted D.Counts (result ≡ Committing.Fault) device.old device.new }
     {

@@ -1,6 +1,6 @@
 ghost use Rattle.std.specs.Prelude.{◌≡◌, ◌⊎◌, ◌<◌, ◌≤◌, ◌+◌, ◌^◌, ℕ};
 ghost use Rattle.nl_journal.specs.Homes.{with_bytes};
-ghost use Rattle.nl_iface.specs.Answers.{IsLost, LosesStamp};
+ghost use Rattle.nl_iface.specs.Answers.{LosesStamp};
 ghost use Rattle.nl_iface.specs.Calls.{CallCounted, DoneOrFailed, LeavesAt, TakesStamp, Ticks, stored};
 ghost use Rattle.nl_iface.specs.Stored.{Stored};
 ghost use Rattle.nl_journal.specs.Left.{LeavesRest};
@@ -28,8 +28,7 @@ pub(crate) fn put<D: VirtualPages>(device: &mut D, vaddr: u32, from: &PageBuf) -
         × LeavesRest (D.shape device.old).vaddrs (D.failed device.old) (stored D.Counts device.old) c)
         device.old device.new }
     ensures passes { Passes D.Counts (result ≡ VirtualWrite.Done) 1 device.old device.new }
-    ensures lost { LosesStamp (D.stamps device.new) result }
-    ensures told { D.tells → IsLost result → ⊥ }
+    ensures lost { LosesStamp D.tells (D.stamps device.new) result }
     ensures next_stamp { TakesStamp D.Counts (DoneOrFailed D.Counts (result ≡ VirtualWrite.Done) device.old device.new) device.old device.new }
     ensures clock { Ticks D.Counts (result ≡ VirtualWrite.Done) device.old device.new }
     ensures faults { CallCounted D.Counts (result ≡ VirtualWrite.Fault) device.old device.new }

@@ -146,7 +146,6 @@ returns-in_default g c =
       writes = e.writes;
       passes = passes_most G (c.finish.result ≡ write.Done) (units_left p.phase (length pages.frozen.addresses)) 256 s t (omega (arith, units)) e.passes;
       lost = e.lost;
-      told = e.told;
       clock = e.clock.clock;
       faults = e.faults;
     }

@@ -1,4 +1,4 @@
-use Rattle.std.proofs.Common.{◌∙◌, ap}
+use Rattle.std.proofs.Common.{inr, ◌∙◌, ap}
 use Rattle.nl_field.specs.Numbers.{shape_for}
 use Rattle.nl_nand.specs.Memory.{contents_of}
 use Rattle.nl_nand.specs.declared.geometry.Geometry.{Geometry}
@@ -12,5 +12,5 @@ returns-in-Ready c = record {
   addresses = (least c.retain-in-Ready.new.self.shape (c.retain-in-Ready.ensures.medium.virtual.same_shape ∙ (c.in-Ready.ensures.started.numbers ∙ ap (λ (n : Geometry). shape_for n.blocks n.pages) c.requires.numbers))).addresses;
   spare =
       c.retain-in-Ready.ensures.medium.virtual.spare
-      (c.in-Ready.ensures.spare_told tt 0 (blank_spare (contents_of c.args.media) (ap (λ (n : Geometry). n.blocks) c.requires.numbers) (ap (λ (n : Geometry). n.pages) c.requires.numbers) c.requires.erased));
+      (c.in-Ready.ensures.spare (0, inr (tt, blank_spare (contents_of c.args.media) (ap (λ (n : Geometry). n.blocks) c.requires.numbers) (ap (λ (n : Geometry). n.pages) c.requires.numbers) c.requires.erased)));
 }

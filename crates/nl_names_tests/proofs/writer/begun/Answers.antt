@@ -1,4 +1,4 @@
-use Rattle.std.proofs.Common.{◌≡◌, ◌∙◌, sym, ap, arith}
+use Rattle.std.proofs.Common.{◌≡◌, inr, ◌∙◌, sym, ap, arith}
 use Rattle.nl_field.specs.Medium.{shape_of_image}
 use Rattle.nl_field.specs.Numbers.{shape_for}
 use Rattle.nl_field.specs.declared.shape.Shape.{Shape}
@@ -14,5 +14,5 @@ returns-in-Ready c =
       formed = c.in-Ready.ensures.formed;
       numbers = c.in-Ready.ensures.started.numbers ∙ same;
       bounds = c.requires.bounds;
-      spare = c.in-Ready.ensures.spare_told tt 0 (blank-spare (contents_of c.in_ok-media.media) (let e = ap (λ (z : Shape). z.vblocks) same in let b = c.requires.bounds.some_blocks in omega (arith, e, b)) c.in_ok-media.ensures.erased);
+      spare = c.in-Ready.ensures.spare (0, inr (tt, blank-spare (contents_of c.in_ok-media.media) (let e = ap (λ (z : Shape). z.vblocks) same in let b = c.requires.bounds.some_blocks in omega (arith, e, b)) c.in_ok-media.ensures.erased));
     }

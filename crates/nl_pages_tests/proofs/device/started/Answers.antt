@@ -1,4 +1,4 @@
-use Rattle.std.proofs.Common.{ap, sym, ◌∙◌, arith}
+use Rattle.std.proofs.Common.{inr, ap, sym, ◌∙◌, arith}
 use Rattle.nl_field.specs.Numbers.{shape_for}
 use Rattle.nl_nand.specs.Memory.{contents_of}
 use Rattle.nl_nand.specs.declared.geometry.Geometry.{Geometry}
@@ -11,7 +11,7 @@ returns-then-len-eq0-clause-numbers c = c.in-Ready.ensures.started.numbers ∙ a
 
 pub returns-then-len-eq0-clause-spare : goal.returns-then-len-eq0-clause-spare
 returns-then-len-eq0-clause-spare c =
-    c.in-Ready.ensures.spare_told tt 0 (blank_spare (contents_of c.args.media) (ap (λ (n : Geometry). n.blocks) c.requires.numbers) (ap (λ (n : Geometry). n.pages) c.requires.numbers) c.requires.erased)
+    c.in-Ready.ensures.spare (0, inr (tt, blank_spare (contents_of c.args.media) (ap (λ (n : Geometry). n.blocks) c.requires.numbers) (ap (λ (n : Geometry). n.pages) c.requires.numbers) c.requires.erased))
 
 pub returns-then-len-eq0-clause-none_failed : goal.returns-then-len-eq0-clause-none_failed
 returns-then-len-eq0-clause-none_failed c = λ v x below.

@@ -1,7 +1,7 @@
-use Rattle.std.proofs.Common.{◌+◌, ◌∙◌, ap, sym, subst}
+use Rattle.std.proofs.Common.{◌+◌, ◌∙◌, ap, subst}
 use Rattle.std.specs.Prelude.{min}
 use Rattle.nl_field.specs.declared.answers.VirtualWrite.{VirtualWrite}
-use Rattle.nl_iface.specs.Answers.{IsLost, LosesStamp}
+use Rattle.nl_iface.specs.Answers.{LosesStamp}
 use Rattle.nl_device.specs.contracts.counts.DeviceCounts.TheImpl.{ghosts}
 use Rattle.nl_core.specs.Core.{begun_of}
 use Rattle.nl_core.specs.Writing.{Settles}
@@ -56,11 +56,9 @@ returns-in-Lost-clause-goes g c =
 pub returns-in-Lost-clause-commits : goal.returns-in-Lost-clause-commits
 returns-in-Lost-clause-commits g c =
     let G = ghosts g.row.M g.M.Nand g.M.Nand-dict in
-    let b = c.write_all.ensures.written in (
-      record { same_flight = b.rest.flight; same_nodes = b.rest.nodes; same_freeing = b.rest.freeing },
-      (subst (λ (a : VirtualWrite). LosesStamp (G.stamps c.write_all.new.self.device) a) c.in-Lost.is b.lost).1,
-      λ tells. b.told tells (subst (λ (a : VirtualWrite). IsLost a) (sym c.in-Lost.is) tt),
-    )
+    let b = c.write_all.ensures.written in
+    let lost = subst (λ (a : VirtualWrite). LosesStamp G.tells (G.stamps c.write_all.new.self.device) a) c.in-Lost.is b.lost in
+    (record { same_flight = b.rest.flight; same_nodes = b.rest.nodes; same_freeing = b.rest.freeing }, lost.1, lost.2)
 
 pub returns-in-Fault-clause-core : goal.returns-in-Fault-clause-core
 returns-in-Fault-clause-core g c =

@@ -57,7 +57,6 @@ returns-in_default g c =
       formed = e.formed;
       core = none_core G v w c.args.tag c.args.from.now.main c.place.result e.programs e.others c.requires.core e.volume c.requires.writes e.map e.stores none;
       goes = none_goes G v w c.args.tag c.args.from.now.main c.place.result e.programs e.others c.requires.core e.volume c.requires.writes e.map e.stores none;
-      not_live = e.programs.not_live;
       no_page = e.programs.no_page;
       placed = if_off c.place.result _ none;
       none = λ off. puts_none G v w c.args.tag c.args.from.now.main c.place.result e.programs e.others c.requires.core e.volume c.requires.writes e.map e.stores none;

@@ -28,7 +28,7 @@ rounds-init g c =
     record {
       formed = e.formed;
       tries = tried G c.args.worker c.args.line c.args.tag c.args.from.now.main v v w answer 0 (goes_none G v c.requires.core) refl c.requires.core c.requires.writes c.requires.known
-          e.core e.goes e.not_live e.no_page.0 e.placed e.none e.faults (omega (arith, few));
+          e.core e.goes e.no_page.0 e.placed e.none e.faults (omega (arith, few));
     }
 
 pub returns-in-Placed-clause-formed : goal.returns-in-Placed-clause-formed
@@ -174,6 +174,6 @@ rounds-preserved g c =
       tries = tried G c.args.worker c.args.line c.args.tag main v u w answer (t.taken + 2 ^ 20)
           (goes_round G c.args.worker c.args.line c.args.tag main v s u t c.round.ensures.goes c.round.ensures.lines)
           (lines_round G c.args.worker c.args.line c.args.tag main v s u t c.round.ensures.goes c.round.ensures.lines)
-          c.round.ensures.core c.if-self-ne0.false c.requires.known e.core e.goes e.not_live e.no_page.0 e.placed e.none e.faults
+          c.round.ensures.core c.if-self-ne0.false c.requires.known e.core e.goes e.no_page.0 e.placed e.none e.faults
           (paid_then G c.args.worker c.args.line c.args.tag main v s u t c.round.ensures.goes c.round.ensures.lines w answer less);
     }

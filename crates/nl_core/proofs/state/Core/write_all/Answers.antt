@@ -56,7 +56,6 @@ returns-clause-written g c =
       writes = subst (λ n. G.tells → HasNumber r (length now.frozen.addresses) → CommitWrites G (done.answer ≡ write.Done) v.journal r (with_count v.shape n v.meta) now v.device t) count e.writes;
       passes = e.passes;
       lost = e.lost;
-      told = e.told;
       clock = e.clock;
       faults = e.faults;
     })

@@ -1,4 +1,4 @@
-use Rattle.std.proofs.Common.{◌≡◌, ◌<◌, ◌∙◌, sym, ap, subst, IsTrue, arith}
+use Rattle.std.proofs.Common.{◌≡◌, ⊎_elim, ◌<◌, ◌∙◌, sym, ap, subst, IsTrue, arith}
 use Rattle.nl_field.specs.Numbers.{ShapeBounds, is_legal, shape_for}
 use Rattle.nl_field.proofs.Bounds.{bounds}
 use Rattle.nl_field.specs.Page.{Image}
@@ -122,15 +122,17 @@ returns-in-Ok-clause-map g c tell v below =
     ∙ opened_map before t c.in-Ok.field-0.vseg (c.in-Tables.ensures.tables tell) (subst (λ s. IsOpenedVirtual s t c.in-Ok.field-0.vseg) (sym e) c.in-Ok.ensures.virtuals) v (subst (λ (s : Shape). v < s.vaddrs) (sym e) below)
 
 pub returns-in-Ok-clause-spare : goal.returns-in-Ok-clause-spare
-returns-in-Ok-clause-spare g c block spare = seen_keeps c.legal_shape-shape.result c.in-Tables.tables c.in-Ok.field-0.vseg block c.in-Ok.ensures.virtuals spare
-
-pub returns-in-Ok-clause-spare_told : goal.returns-in-Ok-clause-spare_told
-returns-in-Ok-clause-spare_told g c tell block spare =
+returns-in-Ok-clause-spare g c has =
     let shape = c.legal_shape-shape.result in
     let t = c.in-Tables.tables in
+    let vseg = c.in-Ok.field-0.vseg in
     let before = g.M.Nand.contents c.args.media in
-    let e = image_shape shape c.geometry.result (g.M.Nand.geometry c.args.media) before c.legal_shape-shape.ensures c.geometry.ensures (g.met.M.Nand.contents_fit c.args.media tell) in
-    opened_keeps before t c.in-Ok.field-0.vseg block (c.in-Tables.ensures.tables tell) (subst (λ s. IsOpenedVirtual s t c.in-Ok.field-0.vseg) (sym e) c.in-Ok.ensures.virtuals) spare
+    ⊎_elim
+    (λ seen. seen_keeps shape t vseg has.0 c.in-Ok.ensures.virtuals seen)
+    (λ told.
+    let e = image_shape shape c.geometry.result (g.M.Nand.geometry c.args.media) before c.legal_shape-shape.ensures c.geometry.ensures (g.met.M.Nand.contents_fit c.args.media told.0) in
+    opened_keeps before t vseg has.0 (c.in-Tables.ensures.tables told.0) (subst (λ s. IsOpenedVirtual s t vseg) (sym e) c.in-Ok.ensures.virtuals) told.1)
+    has.1
 
 pub returns-in-Ok-clause-agreed : goal.returns-in-Ok-clause-agreed
 returns-in-Ok-clause-agreed g c tell agree v x below stray =

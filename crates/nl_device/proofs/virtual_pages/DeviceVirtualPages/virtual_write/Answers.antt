@@ -10,7 +10,7 @@ use Rattle.nl_device.proofs.Calls.{found_beyond, found_still}
 use Rattle.nl_device.proofs.Laws.{names_are, no_stamp_beyond}
 use Rattle.nl_device.proofs.Made.{made_medium}
 use Rattle.nl_device.proofs.Forms.{begins, kept_segments, lift, same_from, shape_is}
-use Rattle.nl_device.proofs.Writes.{beyond_of, bytes_same, done_or, keeps_below, keeps_leaves, keeps_there, next_rises, next_taken, none_stray, physical_kept, rose_or, stamps_done, stray_done, stray_failed, stray_kept, takes_below, takes_leaves, takes_there, with_there, write_rises}
+use Rattle.nl_device.proofs.Writes.{beyond_of, bytes_same, done_or, keeps_below, keeps_leaves, keeps_there, next_rises, next_taken, none_stray, physical_kept, rose_or, stamp_lost, stamps_done, stray_done, stray_failed, stray_kept, takes_below, takes_leaves, takes_there, with_there, write_rises}
 use Rattle.nl_device.proofs.Leaving.{names_in, names_still, spare_kept, victim_from}
 use Rattle.nl_device.proofs.virtual_pages.DeviceVirtualPages.virtual_write.Goals as goal
 
@@ -198,7 +198,4 @@ returns-clause-formed g c =
     }
 
 pub returns-clause-lost : goal.returns-clause-lost
-returns-clause-lost g c = c.virtual_write-answer.ensures.lost.lost
-
-pub returns-clause-told : goal.returns-clause-told
-returns-clause-told g c = c.virtual_write-answer.ensures.lost.kept
+returns-clause-lost g c = stamp_lost g.M.Nand.tells c.args.self.now.vseg.places c.virtual_write-answer.result c.virtual_write-answer.ensures.lost

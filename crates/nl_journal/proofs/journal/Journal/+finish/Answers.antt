@@ -94,7 +94,6 @@ returns-in_default g m c =
       passes = subst (λ n. Passes G (c.finish.result ≡ write.Done) n old new) (let one : 1 + units_left q.phase (length mid_pages.frozen.addresses) ≡ units_left p.phase (length pages.frozen.addresses) = omega (arith, units_same) in one)
           (passes_then G old mid new e.faults.writes_never_fall f.faults.writes_never_fall (IsDone c.unit.result) (c.finish.result ≡ write.Done) 1 (units_left q.phase (length mid_pages.frozen.addresses)) done f.clock.clock e.passes f.passes);
       lost = f.lost;
-      told = f.told;
       clock = record { clock = (let a = e.clock.clock in let b = f.clock.clock in omega (arith, a, b)); later = λ o below. let less = e.clock.later done below in let b = f.clock.clock in omega (arith, less, b) };
       faults = counted_then G old mid new e.faults.writes_never_fall f.faults.writes_never_fall (c.unit.result ≡ unit.Fault) (c.finish.result ≡ write.Fault) c.in_default.not-Fault e.passes.named.clean e.faults f.faults;
     }

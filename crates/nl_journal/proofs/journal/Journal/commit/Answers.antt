@@ -21,13 +21,13 @@ returns-in-Done-clause-writes g c t numbers =
     let units = units_left p.phase (length c.args.meta.now.frozen.addresses) in
     let ends = all_finished q.phase c.finish.new.meta.frozen e.order.phase (e.finishes.left c.in-Done.is) in
     let number : q.number ≡ begun p (length c.args.meta.now.frozen.addresses) = sym (begun_none q.phase q.number (length c.finish.new.meta.frozen.addresses) ends.0 (ap length ends.1)) ∙ e.finishes.begun_stays in
-    let below : HasNumber p (length c.args.meta.now.frozen.addresses) = subst (λ n. n < 9223372036854775808) number (unraised q.number (subst (λ n. n < 9223372036854775808) f.begun numbers)) in
+    let below : HasNumber p (length c.args.meta.now.frozen.addresses) = subst (λ n. n < 9223372036854775808) number (unraised q.number (subst (λ n. n < 9223372036854775808) f.commits.begun_next numbers)) in
     commit_then G (c.finish.result ≡ write.Done) (IsCommitted c.commit_dirty.result) old mid c.commit_dirty.new.device p q c.commit_dirty.new.self c.args.meta.now c.finish.new.meta c.commit_dirty.new.meta c.in-Done.is
     e.passes.named.same_shape (none_failed G (c.finish.result ≡ write.Done) units old mid t c.in-Done.is e.passes) ends.0 ends.1 number (ap (λ (n : Pages). n.running) e.finishes.kept) (ap (λ (n : Pages). n.dirty) e.finishes.kept) (e.writes t below) (f.writes t numbers) f.clock.later
 
 pub returns-in-Done-clause-waits : goal.returns-in-Done-clause-waits
 returns-in-Done-clause-waits g c off =
-    inr (c.commit_dirty.ensures.waits off ∙ ap (λ (n : Pages). record n { dirty = []; frozen = dirty_pages n }) c.finish.ensures.finishes.kept)
+    inr (c.commit_dirty.ensures.commits.waits off ∙ ap (λ (n : Pages). record n { dirty = []; frozen = dirty_pages n }) c.finish.ensures.finishes.kept)
 
 pub returns-in-Done-clause-passes : goal.returns-in-Done-clause-passes
 returns-in-Done-clause-passes g c =
