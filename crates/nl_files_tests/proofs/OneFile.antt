@@ -1,5 +1,5 @@
 -- One file whose pages of pointers are in memory, through each call.
-use Rattle.std.proofs.Common.{zero, get_or, ◌≡◌, ◌≢◌, ◌⊎◌, inl, inr, ℕ, ◌-◌, ◌/◌, ◌≤◌, ◌<◌, Bool, true, false, ◌==◌, ◌&&◌, ◌||◌, nat_le, suc, ◌∷◌, List, [], length, is_some, Option, Some, None, IsSome, refl, sym, ap, ◌∙◌, subst, arith}
+use Rattle.std.proofs.Common.{◌≡◌, ◌≢◌, ◌⊎◌, inl, inr, ℕ, ◌-◌, ◌/◌, ◌≤◌, ◌<◌, Bool, true, false, ◌==◌, ◌&&◌, ◌||◌, nat_le, List, [], length, is_some, Option, Some, None, IsSome, refl, sym, ap, ◌∙◌, subst, arith}
 use Rattle.std.specs.Prelude.{IfSome, MatchOption, unwrap_or}
 use Rattle.std.specs.Int.{div_ceil}
 use Rattle.std.proofs.lemmas.Bool.{and_parts, cases_eq, cases_lt, cond-false, cond-true, eq-eqb, leb-true, lt-ltb, ne_eqb}
@@ -18,7 +18,7 @@ use Rattle.nl_meta.specs.Nodes.{pointer_at, slots_of}
 use Rattle.nl_meta.specs.Pages.{Pages, besides_0, has_room, is_dirty, is_frozen, page_of}
 use Rattle.nl_meta.specs.Running.{CleanIsStored, running_over}
 use Rattle.nl_meta.proofs.Lists.{none_some, true_false}
-use Rattle.nl_inode.specs.Free.{Becomes, NoneFree, is_free}
+use Rattle.nl_inode.specs.Free.{NoneFree, is_free}
 use Rattle.nl_inode.specs.Nodes.{AddressBecomes, IsLeastAddress, Spaces, is_free_address}
 use Rattle.nl_inode.proofs.MarkTree.{set-below}
 use Rattle.nl_indirect.specs.Ranges.{HasPointers, HasRange, address_of, range_of, slot_of}
@@ -214,37 +214,6 @@ module _ {D : Type 0} (g : Ghosts D) (s : D) (p : Pages) (free : Spaces) (rec : 
 
   pub of-pool : AreOfPool free (slots_of rec)
   of-pool r far = let t = h.taken r far in let l = t.low in let u = t.high in let e = h.first in let c = h.pool in (omega (arith, l, e), omega (arith, u, e, c))
-
--- ---- an address that was taken and given back leaves what is free
-
-same-list : (xs ys : List Bool) → length ys ≡ length xs → ((k : ℕ) → get_or ys k false ≡ get_or xs k false) → ys ≡ xs
-same-list [] [] e same = refl
-same-list [] (y ∷ ys) e same = absurd (none e)
-  where
-    none : suc (length ys) ≡ 0 → ⊥
-    none e = cc
-same-list (x ∷ xs) [] e same = absurd (none e)
-  where
-    none : 0 ≡ suc (length xs) → ⊥
-    none e = cc
-same-list (x ∷ xs) (y ∷ ys) e same = λ i. same zero i ∷ same-list xs ys (omega (arith, e)) (λ k. same (suc k)) i
-
-twice : (k : ℕ) (a b c : List Bool) → is_free a k ≡ true → Becomes k false a b → Becomes k true b c → c ≡ a
-twice k a b c was first second = same-list a c (second.count ∙ first.count) (λ i. by i (cases_eq i k))
-  where
-    by : (i : ℕ) → (i ≡ k) ⊎ (i ≡ k → ⊥) → is_free c i ≡ is_free a i
-    by i (inl e) = ap (is_free c) e ∙ second.at ∙ sym was ∙ ap (is_free a) (sym e)
-    by i (inr far) = second.others i far ∙ first.others i far
-
-spaces : List Bool → ℕ → List Bool → Spaces
-spaces nodes first pool = record { nodes = nodes; first = first; pool = pool }
-
-pub address-back : (a : ℕ) (s t u : Spaces) → is_free_address s a ≡ true → AddressBecomes a false s t → AddressBecomes a true t u → u ≡ s
-unfolding spaces
-address-back a s t u was first second = λ i. spaces ((second.nodes ∙ first.nodes) i) ((second.first ∙ first.first) i) (twice (a - s.first) s.pool t.pool u.pool (and_parts (nat_le s.first a) _ was).1 first.pool again i)
-  where
-    again : Becomes (a - s.first) true t.pool u.pool
-    again = subst (λ (f : ℕ). Becomes (a - f) true t.pool u.pool) first.first second.pool
 
 -- ---- after an install
 

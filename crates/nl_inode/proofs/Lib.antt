@@ -1,4 +1,5 @@
 pub mod FetchFacts
+pub mod FreeLists
 pub mod FreeProofs
 pub mod MarkTree
 pub mod NodeSlots

@@ -1,6 +1,6 @@
 -- The entries of a directory of a tree, by entries of its node.
-use Rattle.std.proofs.Common.{◌≡◌, ◌≢◌, ◌⊎◌, ℕ, suc, ◌+◌, ◌-◌, ◌==◌, ◌&&◌, Bool, true, false, cond, List, [], ◌∷◌, ◌++◌, length, drop, map, unwrap_or, get_or, sum_by, refl, sym, ap, ◌∙◌, Option, Some, None, inl, inr, arith}
-use Rattle.std.proofs.lemmas.Bool.{both_ways, eqb-true}
+use Rattle.std.proofs.Common.{◌≡◌, ◌≢◌, ◌⊎◌, ℕ, ◌+◌, ◌-◌, ◌&&◌, Bool, true, false, cond, List, [], ◌∷◌, ◌++◌, length, drop, map, unwrap_or, get_or, sum_by, refl, sym, ap, ◌∙◌, Option, Some, None, inl, inr, arith}
+use Rattle.std.proofs.lemmas.Bool.{both_ways}
 use Rattle.std.proofs.lemmas.List.{length-append}
 use Rattle.std.proofs.lemmas.List.Sums.{sum_by-cons}
 use Rattle.std.proofs.Math.Seq.{drop-append_seam, get_or-append_seam}
@@ -19,47 +19,20 @@ use Rattle.nl_meta.proofs.Lists.{none_some, some_in}
 use Rattle.nl_sound.proofs.Sums.{length_mapped}
 use Rattle.nl_tree.specs.Represents.{node_of}
 use Rattle.nl_tree.specs.Step.{listing}
-use Rattle.nl_tree.specs.Tree.{Node, Tree, entries_of, file, is_at_or_under, is_directory, last_name, node_at, path_cmp, paths_eq, with_all}
+use Rattle.nl_tree.specs.Tree.{Node, Tree, entries_of, file, is_directory, last_name, node_at, path_cmp, paths_eq, with_all}
 use Rattle.nl_tree.specs.TreeLaws.{IsInOrder, or_else}
 use Rattle.nl_tree.proofs.ChargeProofs.{is_child, is_child_of}
 use Rattle.nl_tree.proofs.CountProofs.{count_laws}
 use Rattle.nl_tree.proofs.EntriesProofs.{entries_laws}
 use Rattle.nl_tree.proofs.GraphProofs.{head_eq}
-use Rattle.nl_tree.proofs.TreeProofs.{eq_path, find_all, from_T, path_eq, sorted_all, tree_laws, under_parts}
+use Rattle.nl_tree.proofs.TreeProofs.{eq_path, find_all, from_T, path_eq, sorted_all, tree_laws}
+use Rattle.nl_namespace.proofs.TreeSums.{child-is}
 use Rattle.nl_namespace.specs.Listing.{Rising, is_before, mark_of, text_of}
 
 abbrev pub Path : Type 0
 Path = List (List ℕ)
 
 -- ---- paths
-
-both-true : (a b : Bool) → (a && b) ≡ true → (a ≡ true) × (b ≡ true)
-both-true true b h = (refl, h)
-both-true false b h = absurd (both_ways false refl h)
-
--- the path of an entry is that of its directory and a name
-child-name : (p q : Path) → is_child p q ≡ true → (x : List ℕ) × (q ≡ p ++ x ∷ [])
-child-name p q h = by (drop (length p) q) (sym (under_parts p q parts.1))
-  where
-    parts : ((length q == length p + 1) ≡ true) × (is_at_or_under p q ≡ true)
-    parts = both-true _ _ h
-
-    long : (r : Path) → q ≡ p ++ r → length r ≡ 1
-    long r e = lengths _ _ _ (sym (length-append p r) ∙ ap (λ (z : Path). length z) (sym e)) (eqb-true _ _ parts.0)
-      where
-        lengths : (a b c : ℕ) → a + b ≡ c → c ≡ a + 1 → b ≡ 1
-        lengths a b c e f = omega arith
-
-    by : (r : Path) → q ≡ p ++ r → (x : List ℕ) × (q ≡ p ++ x ∷ [])
-    by [] e = absurd (none (long [] e))
-      where
-        none : length {A = List ℕ} [] ≡ 1 → ⊥
-        none e = cc
-    by (x ∷ []) e = (x, e)
-    by (x ∷ y ∷ r) e = absurd (two (length r) (long (x ∷ y ∷ r) e))
-      where
-        two : (k : ℕ) → suc (suc k) ≡ 1 → ⊥
-        two k e = omega arith
 
 same-name : (p : Path) (a b : List ℕ) → p ++ a ∷ [] ≡ p ++ b ∷ [] → a ≡ b
 same-name p a b e = head_eq a b [] [] (sym (drop-append_seam p (a ∷ [])) ∙ ap (drop (length p)) e ∙ drop-append_seam p (b ∷ []))
@@ -130,7 +103,7 @@ module _ (bytes_of : ℕ → List ℕ) (graph : Graph) (path : Path) where
         none-there : find path_cmp q (map named es) ≡ None → (o : Option Node) → node_at tree q ≡ o → is_child path q ≡ true → o ≡ None
         none-there none None at child = refl
         none-there none (Some node) at child =
-            let c = child-name path q child in
+            let c = child-is path q child in
             let r = under.all c.0 node (ap (node_at tree) (sym c.1) ∙ at) in
             absurd (in-find es r.0 r.1 (ap (λ (z : Path). find path_cmp z (map named es)) (ap (λ (n : List ℕ). path ++ n ∷ []) r.2 ∙ sym c.1) ∙ none))
 

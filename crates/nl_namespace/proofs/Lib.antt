@@ -3,7 +3,6 @@ mod DirectoryChanges
 mod DirectorySteps
 mod Entries
 mod Graphs
-mod FreeLists
 mod NodeChanges
 mod Parents
 mod Placed
@@ -40,7 +39,7 @@ mod MoveRefusals
 mod TreeRenames
 mod TreeCalls
 mod Crowded
-mod TreeSums
+pub mod TreeSums
 mod TreeRooms
 mod EntryCounts
 mod Charged

@@ -1,4 +1,4 @@
-use Rattle.nl_files_tests.proofs.OneFile.{address-back}
+use Rattle.nl_inode.proofs.FreeLists.{address-back}
 use Rattle.nl_files_tests.proofs.files.has_place.Goals as goal
 
 pub returns-in-Some-clause-same : goal.returns-in-Some-clause-same

@@ -1,4 +1,4 @@
-use Rattle.nl_namespace.proofs.FreeLists.{address-back}
+use Rattle.nl_inode.proofs.FreeLists.{address-back}
 use Rattle.nl_namespace.proofs.free.has_address.Goals as goal
 
 pub returns-in-Some-clause-same : goal.returns-in-Some-clause-same

@@ -1,4 +1,4 @@
-use Rattle.nl_namespace.proofs.FreeLists.{node-back}
+use Rattle.nl_inode.proofs.FreeLists.{node-back}
 use Rattle.nl_namespace.proofs.free.least_node.Goals as goal
 
 pub returns-in-Some-clause-same : goal.returns-in-Some-clause-same
