@@ -1,21 +1,26 @@
 -- A medium that was only read, by one call after the other.
-use Rattle.std.proofs.Common.{ℕ, ◌∙◌, refl}
+use Rattle.std.proofs.Common.{◌≡◌, ℕ, ◌∙◌}
 use Rattle.nl_field.specs.Page.{Image}
 use Rattle.nl_nand.specs.Nand.{OnlyReads}
-use Rattle.nl_nand.specs.declared.geometry.Geometry.{Geometry}
+use Rattle.nl_nand.specs.declared.nand.Nand.{Ghosts}
 use Rattle.nl_opening.specs.Opening.{OnlyReadsMedium}
 
-module _ {M : Type 0} (tells : Type 0) (contents : M → Image) (clock write_faults : M → ℕ) (left : M → ℕ → Image → Type 0) where
-  pub not_touched : (m : M) → OnlyReadsMedium tells contents clock write_faults left m m
-  not_touched m = record { same_contents = λ t. refl; no_more_left = λ t k c l. l; same_clock = refl; same_write_faults = refl }
+module _ {M : Type 0} (g : Ghosts M) where
+  abbrev pub Reads : M → M → Type 0
+  Reads m n = OnlyReadsMedium g.tells g.contents g.clock g.write_faults g.left m n
 
-  pub was_read : (geometry : M → Geometry) (m n : M) → OnlyReads geometry contents clock write_faults left m n → OnlyReadsMedium tells contents clock write_faults left m n
-  was_read geometry m n r = record { same_contents = λ t. r.same_contents; no_more_left = λ t k c l. r.same_left.no_more k c l; same_clock = r.same_clock; same_write_faults = r.same_write_faults }
+  pub was_read : (m n : M) → OnlyReads g.geometry g.contents g.clock g.write_faults g.left m n → Reads m n
+  was_read m n r = record { same_contents = λ t. r.same_contents; no_more_left = λ t k c l. r.same_left.no_more k c l; same_clock = r.same_clock; same_write_faults = r.same_write_faults }
 
-  pub then_read : (m n o : M) → OnlyReadsMedium tells contents clock write_faults left m n → OnlyReadsMedium tells contents clock write_faults left n o → OnlyReadsMedium tells contents clock write_faults left m o
+  pub then_read : (m n o : M) → Reads m n → Reads n o → Reads m o
   then_read m n o a b = record {
     same_contents = λ t. b.same_contents t ∙ a.same_contents t;
     no_more_left = λ t k c l. a.no_more_left t k c (b.no_more_left t k c l);
     same_clock = b.same_clock ∙ a.same_clock;
     same_write_faults = b.same_write_faults ∙ a.same_write_faults;
   }
+
+  -- it was read for the tables of a device, and then by the device
+  pub device_read : (m s d : M) → OnlyReads g.geometry g.contents g.clock g.write_faults g.left m s
+      → (g.tells → g.contents d ≡ g.contents s) → (g.tells → (k : ℕ) (c : Image) → g.left d k c → g.left s k c) → g.clock d ≡ g.clock s → g.write_faults d ≡ g.write_faults s → Reads m d
+  device_read m s d r contents left clock faults = then_read m s d (was_read m s r) (record { same_contents = contents; no_more_left = left; same_clock = clock; same_write_faults = faults })

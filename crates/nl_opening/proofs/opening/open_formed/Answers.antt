@@ -1,4 +1,4 @@
-use Rattle.std.proofs.Common.{◌≡◌, ◌∙◌, ℕ, List, [], ◌∷◌, None, Some, length, ap, arith, refl, subst, sym}
+use Rattle.std.proofs.Common.{◌≡◌, inl, ◌∙◌, ℕ, List, [], ◌∷◌, None, Some, length, ap, arith, refl, subst, sym}
 use Rattle.nl_field.specs.Medium.{shape_of_image}
 use Rattle.nl_field.specs.Numbers.{ShapeBounds, shape_for}
 use Rattle.nl_field.specs.Page.{Image}
@@ -17,11 +17,10 @@ use Rattle.nl_sound.specs.Stands.{SoundAs}
 use Rattle.nl_recover.proofs.Imaged.{lists_readable}
 use Rattle.nl_opening.specs.Beginning.{all_at}
 use Rattle.nl_opening.specs.Figures.{greatest_seen, least_seen}
-use Rattle.nl_opening.specs.Opening.{OnlyReadsMedium}
 use Rattle.nl_opening.proofs.CanOpen.{can_begin}
 use Rattle.nl_opening.proofs.Imaged.{consistent, counted, none_failed, over, pairs, sound, walk_is}
 use Rattle.nl_opening.proofs.NextNumber.{next_number_is}
-use Rattle.nl_opening.proofs.OnlyRead.{then_read, was_read}
+use Rattle.nl_opening.proofs.OnlyRead.{Reads, device_read, then_read, was_read}
 use Rattle.nl_opening.proofs.SeenWear.{greatest_is, least_is}
 use Rattle.nl_opening.proofs.opening.open_formed.Goals as goal
 
@@ -39,15 +38,7 @@ returns-then-len-eq0-clause-told g c = λ t.
     none (x ∷ xs) e = cc
 
 pub returns-then-len-eq0-clause-medium : goal.returns-then-len-eq0-clause-medium
-returns-then-len-eq0-clause-medium g c =
-    let tells = g.M.Nand.tells in
-    let contents = g.M.Nand.contents in
-    let clock = g.M.Nand.clock in
-    let faults = g.M.Nand.write_faults in
-    let left = g.M.Nand.left in
-    let s = c.in-Ready.device in
-    let started = was_read tells contents clock faults left g.M.Nand.geometry c.args.media (medium_of s) c.in-Ready.ensures.kept in
-    subst (λ m. OnlyReadsMedium tells contents clock faults left c.args.media m) (sym c.into_media.ensures) started
+returns-then-len-eq0-clause-medium g c = subst (Reads g.M.Nand c.args.media) (sym c.into_media.ensures) (was_read g.M.Nand c.args.media (medium_of c.in-Ready.device) c.in-Ready.ensures.kept)
 
 pub room_for-requires : goal.room_for-requires
 room_for-requires g c = subst ShapeBounds (sym (c.requires.shape ∙ sym c.in-Ready.ensures.started.numbers)) (bounds-of c.in-Ready.device.shape c.in-Ready.ensures.formed.legal)
@@ -70,7 +61,7 @@ begin-requires-clause-can g c =
     ∙ subst (λ (h : Shape). walk_over h (committed h (stored_on G s)) t.seen ≡ None) same (c.in-Ready-recover.ensures.told tells) in
     let good = λ (tells : g.M.Nand.tells). consistent G s d image t tells (is tells) (e.map tells) (listed tells) (none tells) in
     can_begin G s d (g.M.Nand.geometry c.args.media) t r.device e.started e.fits e.scanned
-    (c.formed_devices.ensures.kept s d e.formed r.formed r.device.medium.virtual.same_shape r.device.medium.found) e.spare
+    (c.formed_devices.ensures.kept s d e.formed r.formed r.device.medium.virtual.same_shape r.device.medium.found) (λ block seen. e.spare (block, inl seen))
     (λ tells. none_failed G s d image t tells (is tells) (e.map tells) (listed tells) (e.agreed tells) (good tells))
     (λ tells. (image, ap stored_in (r.device.medium.contents tells ∙ e.kept.same_contents), good tells))
 
@@ -176,20 +167,12 @@ returns-in-Ok-clause-wear g c = λ tells.
 
 pub returns-in-Ok-clause-medium : goal.returns-in-Ok-clause-medium
 returns-in-Ok-clause-medium g c =
-    let tells = g.M.Nand.tells in
-    let contents = g.M.Nand.contents in
-    let clock = g.M.Nand.clock in
-    let faults = g.M.Nand.write_faults in
-    let left = g.M.Nand.left in
-    let s = c.in-Ready.device in
-    let v = c.begin.result in
-    let started = was_read tells contents clock faults left g.M.Nand.geometry c.args.media (medium_of s) c.in-Ready.ensures.kept in
-    let d = c.recover.new.device in
+    let N = g.M.Nand in
+    let d = medium_of c.recover.new.device in
     let k = c.recover.ensures.device.medium in
-    let read = then_read tells contents clock faults left c.args.media (medium_of s) (medium_of d) started
-    (record { same_contents = k.contents; no_more_left = k.left; same_clock = k.clock; same_write_faults = k.write_faults }) in
     let b = c.begin.ensures.begins.medium in
-    then_read tells contents clock faults left c.args.media (medium_of d) (medium_of v.device) read
+    then_read N c.args.media d (medium_of c.begin.result.device)
+    (device_read N c.args.media (medium_of c.in-Ready.device) d c.in-Ready.ensures.kept k.contents k.left k.clock k.write_faults)
     (record { same_contents = b.contents; no_more_left = b.left; same_clock = b.clock; same_write_faults = b.write_faults })
 
 pub returns-in-Ok-clause-no_fault : goal.returns-in-Ok-clause-no_fault
@@ -197,18 +180,9 @@ returns-in-Ok-clause-no_fault g c quiet = c.begin.ensures.begins.medium.read_fau
 
 pub returns-in-Ready-recover-clause-medium : goal.returns-in-Ready-recover-clause-medium
 returns-in-Ready-recover-clause-medium g c =
-    let tells = g.M.Nand.tells in
-    let contents = g.M.Nand.contents in
-    let clock = g.M.Nand.clock in
-    let faults = g.M.Nand.write_faults in
-    let left = g.M.Nand.left in
-    let s = c.in-Ready.device in
-    let started = was_read tells contents clock faults left g.M.Nand.geometry c.args.media (medium_of s) c.in-Ready.ensures.kept in
-    let d = c.recover.new.device in
     let k = c.recover.ensures.device.medium in
-    let read = then_read tells contents clock faults left c.args.media (medium_of s) (medium_of d) started
-    (record { same_contents = k.contents; no_more_left = k.left; same_clock = k.clock; same_write_faults = k.write_faults }) in
-    subst (λ m. OnlyReadsMedium tells contents clock faults left c.args.media m) (sym c.into_media-in-Err.ensures) read
+    subst (Reads g.M.Nand c.args.media) (sym c.into_media-in-Err.ensures)
+    (device_read g.M.Nand c.args.media (medium_of c.in-Ready.device) (medium_of c.recover.new.device) c.in-Ready.ensures.kept k.contents k.left k.clock k.write_faults)
 
 pub returns-in-Ready-recover-clause-no_fault : goal.returns-in-Ready-recover-clause-no_fault
 returns-in-Ready-recover-clause-no_fault g c quiet =
@@ -234,48 +208,21 @@ returns-in-Damaged-clause-told g c = λ tells.
 
 pub returns-in-Damaged-clause-medium : goal.returns-in-Damaged-clause-medium
 returns-in-Damaged-clause-medium g c =
-    let tells = g.M.Nand.tells in
-    let contents = g.M.Nand.contents in
-    let clock = g.M.Nand.clock in
-    let faults = g.M.Nand.write_faults in
-    let left = g.M.Nand.left in
-    let s = c.in-Ready.device in
-    let started = was_read tells contents clock faults left g.M.Nand.geometry c.args.media (medium_of s) c.in-Ready.ensures.kept in
-    let d = c.recover.new.device in
     let k = c.recover.ensures.device.medium in
-    let read = then_read tells contents clock faults left c.args.media (medium_of s) (medium_of d) started
-    (record { same_contents = k.contents; no_more_left = k.left; same_clock = k.clock; same_write_faults = k.write_faults }) in
-    subst (λ m. OnlyReadsMedium tells contents clock faults left c.args.media m) (sym c.into_media-in-Damaged.ensures) read
+    subst (Reads g.M.Nand c.args.media) (sym c.into_media-in-Damaged.ensures)
+    (device_read g.M.Nand c.args.media (medium_of c.in-Ready.device) (medium_of c.recover.new.device) c.in-Ready.ensures.kept k.contents k.left k.clock k.write_faults)
 
 pub returns-in-Fault-recover-clause-medium : goal.returns-in-Fault-recover-clause-medium
 returns-in-Fault-recover-clause-medium g c =
-    let tells = g.M.Nand.tells in
-    let contents = g.M.Nand.contents in
-    let clock = g.M.Nand.clock in
-    let faults = g.M.Nand.write_faults in
-    let left = g.M.Nand.left in
-    let s = c.in-Ready.device in
-    let started = was_read tells contents clock faults left g.M.Nand.geometry c.args.media (medium_of s) c.in-Ready.ensures.kept in
-    let d = c.recover.new.device in
     let k = c.recover.ensures.device.medium in
-    let read = then_read tells contents clock faults left c.args.media (medium_of s) (medium_of d) started
-    (record { same_contents = k.contents; no_more_left = k.left; same_clock = k.clock; same_write_faults = k.write_faults }) in
-    subst (λ m. OnlyReadsMedium tells contents clock faults left c.args.media m) (sym c.into_media-in-Fault-recover.ensures) read
+    subst (Reads g.M.Nand c.args.media) (sym c.into_media-in-Fault-recover.ensures)
+    (device_read g.M.Nand c.args.media (medium_of c.in-Ready.device) (medium_of c.recover.new.device) c.in-Ready.ensures.kept k.contents k.left k.clock k.write_faults)
 
 pub returns-in-Fault-recover-clause-no_fault : goal.returns-in-Fault-recover-clause-no_fault
 returns-in-Fault-recover-clause-no_fault g c quiet = absurd (quiet tt)
 
 pub returns-in-Ready-clause-medium : goal.returns-in-Ready-clause-medium
 returns-in-Ready-clause-medium g c =
-    let tells = g.M.Nand.tells in
-    let contents = g.M.Nand.contents in
-    let clock = g.M.Nand.clock in
-    let faults = g.M.Nand.write_faults in
-    let left = g.M.Nand.left in
-    let s = c.in-Ready.device in
-    let started = was_read tells contents clock faults left g.M.Nand.geometry c.args.media (medium_of s) c.in-Ready.ensures.kept in
-    let d = c.recover.new.device in
     let k = c.recover.ensures.device.medium in
-    let read = then_read tells contents clock faults left c.args.media (medium_of s) (medium_of d) started
-    (record { same_contents = k.contents; no_more_left = k.left; same_clock = k.clock; same_write_faults = k.write_faults }) in
-    subst (λ m. OnlyReadsMedium tells contents clock faults left c.args.media m) (sym c.into_media-in-Memory-recover.ensures) read
+    subst (Reads g.M.Nand c.args.media) (sym c.into_media-in-Memory-recover.ensures)
+    (device_read g.M.Nand c.args.media (medium_of c.in-Ready.device) (medium_of c.recover.new.device) c.in-Ready.ensures.kept k.contents k.left k.clock k.write_faults)
