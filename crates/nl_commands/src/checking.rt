@@ -3,7 +3,7 @@ ghost use Rattle.std.specs.Prelude.{◌≡◌, ◌≢◌, ◌⊎◌, ◌≤◌, 
 ghost use Rattle.nl_field.specs.CrashStates.{Rose};
 ghost use Rattle.nl_field.specs.FindingBits.{bits_of};
 ghost use Rattle.nl_headline.specs.Status.{DoneStatus};
-ghost use Rattle.nl_headline.specs.Streams.{Prints, medium, stream};
+ghost use Rattle.nl_headline.specs.Streams.{Prints, medium_seen, sink_seen};
 ghost use Rattle.nl_print.specs.Texts.{findings_text, sound_text};
 ghost use Rattle.nl_commands.specs.Ends.{CheckEnds};
 
@@ -19,9 +19,8 @@ use std::alloc::Global;
 /// Prints what a check finds on a medium: that it is sound after so many calls, with status 0, or what is at fault, with status 8. Of a medium
 /// that is blank it says so, with status 7. The medium is only read.
 pub fn check<K: Sink, M: Nand>(alloc: Global, sink: &mut K, media: M) -> Done<M>
-    ensures { CheckEnds M.tells (stream (K.taken sink.old) (K.faults sink.old)) (stream (K.taken sink.new) (K.faults sink.new))
-        (medium (M.geometry media) (M.contents media) (M.clock media) (M.read_faults media) (M.write_faults media))
-        (medium (M.geometry result.media) (M.contents result.media) (M.clock result.media) (M.read_faults result.media) (M.write_faults result.media))
+    ensures { CheckEnds M.tells (sink_seen K.Sink sink.old) (sink_seen K.Sink sink.new)
+        (medium_seen M.Nand media) (medium_seen M.Nand result.media)
         result.order.items result.syncs.items result.status }
 {
     walk_is_soundness();
@@ -46,10 +45,10 @@ fn print_found<K: Sink, M: Nand>(
 ) -> Done<M>
     requires reads { before.reads ≤ M.read_faults media }
     requires writes { before.writes ≤ M.write_faults media }
-    ensures sound { bits_of bits ≡ 0 → Prints (stream (K.taken sink.old) (K.faults sink.old)) (stream (K.taken sink.new) (K.faults sink.new)) (sound_text count)
+    ensures sound { bits_of bits ≡ 0 → Prints (sink_seen K.Sink sink.old) (sink_seen K.Sink sink.new) (sound_text count)
         × DoneStatus result.status (Rose before.reads (M.read_faults media) ⊎ Rose before.writes (M.write_faults media))
-        (stream (K.taken sink.old) (K.faults sink.old)) (stream (K.taken sink.new) (K.faults sink.new)) (sound_text count) }
-    ensures faults { bits_of bits ≢ 0 → (result.status ≡ 8) × Prints (stream (K.taken sink.old) (K.faults sink.old)) (stream (K.taken sink.new) (K.faults sink.new)) (findings_text bits) }
+        (sink_seen K.Sink sink.old) (sink_seen K.Sink sink.new) (sound_text count) }
+    ensures faults { bits_of bits ≢ 0 → (result.status ≡ 8) × Prints (sink_seen K.Sink sink.old) (sink_seen K.Sink sink.new) (findings_text bits) }
     ensures media { result.media ≡ media }
     ensures order { result.order.items ≡ [] }
     ensures syncs { result.syncs.items ≡ [] }

@@ -2,7 +2,7 @@
 ghost use Rattle.std.specs.Prelude.{◌⊎◌, ℕ, IsTrue};
 ghost use Rattle.nl_field.specs.Numbers.{is_legal};
 ghost use Rattle.nl_field.specs.Page.{Image};
-ghost use Rattle.nl_headline.specs.Streams.{medium, stream};
+ghost use Rattle.nl_headline.specs.Streams.{medium_seen, sink_seen};
 ghost use Rattle.nl_making.specs.Making.{OpensAsNew};
 ghost use Rattle.nl_commands.specs.Ends.{FormatEnds};
 
@@ -24,9 +24,8 @@ pub fn format<K: Sink, M: Nand>(
     media: M,
 ) -> Done<M>
     requires legal { IsTrue (is_legal blocks pages) }
-    ensures ended { FormatEnds M.tells blocks pages (stream (K.taken sink.old) (K.faults sink.old)) (stream (K.taken sink.new) (K.faults sink.new))
-        (medium (M.geometry media) (M.contents media) (M.clock media) (M.read_faults media) (M.write_faults media))
-        (medium (M.geometry result.media) (M.contents result.media) (M.clock result.media) (M.read_faults result.media) (M.write_faults result.media))
+    ensures ended { FormatEnds M.tells blocks pages (sink_seen K.Sink sink.old) (sink_seen K.Sink sink.new)
+        (medium_seen M.Nand media) (medium_seen M.Nand result.media)
         result.order.items result.syncs.items result.status }
     ensures stops { M.tells → (m : ℕ) (c : Image) → M.left result.media m c → M.left media m c ⊎ OpensAsNew c }
 {

@@ -1,7 +1,7 @@
 // The script of a source, and the one that is drawn from a seed.
 ghost use Rattle.std.specs.Prelude.{◌≡◌, ◌<◌, ◌≤◌, List, Ok, IfSome};
 ghost use Rattle.nl_gen.specs.Soak.{soak_text};
-ghost use Rattle.nl_headline.specs.Streams.{stream};
+ghost use Rattle.nl_headline.specs.Streams.{source_seen};
 ghost use Rattle.nl_script.specs.Script.{script};
 ghost use Rattle.nl_tree.specs.declared.call.Line.{Line};
 ghost use Rattle.nl_commands.specs.Input.{GivesScript, IsReadAs};
@@ -25,7 +25,7 @@ pub enum Script {
 
 /// The lines that a source has left, or the first refusal. Nothing is read after a read that failed.
 pub fn read_script<S: Source>(alloc: Global, src: &mut S) -> Script
-    ensures script { GivesScript (stream (S.left src.old) (S.faults src.old)) (stream (S.left src.new) (S.faults src.new)) result }
+    ensures script { GivesScript (source_seen S.Source src.old) (source_seen S.Source src.new) result }
     ensures never_falls { S.faults src.old ≤ S.faults src.new }
 {
     match read_all(alloc, src) {

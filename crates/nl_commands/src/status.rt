@@ -1,7 +1,7 @@
 // The status of a call, and the endings that print one line.
 ghost use Rattle.std.specs.Prelude.{◌≡◌, ◌⊎◌, ◌↔◌, [], ◌∷◌, ◌++◌, false, IsTrue};
 ghost use Rattle.nl_field.specs.CrashStates.{Rose};
-ghost use Rattle.nl_headline.specs.Streams.{Prints, stream};
+ghost use Rattle.nl_headline.specs.Streams.{Prints, sink_seen};
 ghost use Rattle.nl_commands.specs.Ends.{IsStatusOf};
 
 use nl_headline::{OrderList, SyncList};
@@ -40,7 +40,7 @@ pub fn ended<K: Sink, M>(alloc: Global, status: u8, text: &[u8], sink: &mut K, m
     ensures media { result.media ≡ media }
     ensures order { result.order.items ≡ [] }
     ensures syncs { result.syncs.items ≡ [] }
-    ensures prints { Prints (stream (K.taken sink.old) (K.faults sink.old)) (stream (K.taken sink.new) (K.faults sink.new)) (text.now ++ 10 ∷ []) }
+    ensures prints { Prints (sink_seen K.Sink sink.old) (sink_seen K.Sink sink.new) (text.now ++ 10 ∷ []) }
 {
     let _ = word_line(sink, text);
     without_lines(alloc, status, media)

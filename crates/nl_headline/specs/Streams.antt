@@ -5,8 +5,13 @@ use Rattle.nl_field.specs.CrashStates.{Rose}
 use Rattle.nl_field.specs.Page.{Image}
 use Rattle.nl_io.specs.Streams.{Writes}
 use Rattle.nl_io.specs.declared.sink.SinkAnswer.{SinkAnswer}
+use Rattle.nl_io.specs.declared.sink.Sink.{Ghosts as SinkGhosts}
 use Rattle.nl_io.specs.declared.sink.SinkAnswer.TheVariants as sink
+use Rattle.nl_io.specs.declared.source.Source.{Ghosts as SourceGhosts}
+use Rattle.nl_nand.specs.declared.nand.Nand.{Ghosts as NandGhosts}
 use Rattle.nl_nand.specs.declared.geometry.Geometry.{Geometry}
+use Rattle.nl_sound.specs.Crash.{Run, StopsSafely}
+use Rattle.nl_sound.specs.Stands.{SoundAs}
 use Rattle.nl_tree.specs.Causes.{Counts, FaultRose}
 
 -- the bytes that a source has left or a sink has taken, where told, and its count of faults
@@ -17,6 +22,14 @@ pub record Stream : Type 0 where
 abbrev pub stream : Option (List ℕ) → ℕ → Stream
 stream bytes faults = record { bytes = bytes; faults = faults }
 
+-- what is seen of a source
+abbrev pub source_seen : {S : Type 0} → SourceGhosts S → S → Stream
+source_seen g src = stream (g.left src) (g.faults src)
+
+-- what is seen of a sink
+abbrev pub sink_seen : {K : Type 0} → SinkGhosts K → K → Stream
+sink_seen g sink = stream (g.taken sink) (g.faults sink)
+
 pub record Medium : Type 0 where
   pub geometry : Geometry
   pub contents : Image
@@ -25,6 +38,14 @@ pub record Medium : Type 0 where
 abbrev pub medium : Geometry → Image → ℕ → ℕ → ℕ → Medium
 medium geometry contents clock read_faults write_faults =
     record { geometry = geometry; contents = contents; counts = record { clock = clock; read_faults = read_faults; write_faults = write_faults } }
+
+-- what is seen of a medium
+abbrev pub medium_seen : {M : Type 0} → NandGhosts M → M → Medium
+medium_seen g m = medium (g.geometry m) (g.contents m) (g.clock m) (g.read_faults m) (g.write_faults m)
+
+-- What a stop leaves of a run that took the medium from the first of these to the second.
+abbrev pub stops_within : {M : Type 0} → NandGhosts M → M → M → Run → Type 0
+stops_within g old new = StopsSafely SoundAs (λ m c. g.left old m c) (λ m c. g.left new m c) (g.clock old) (g.clock new)
 
 -- a count of faults of the medium rose
 abbrev pub MediumRose : Medium → Medium → Type 0

@@ -1,7 +1,6 @@
 ghost use Rattle.std.specs.Prelude.{◌≡◌, ◌+◌, [], true, length, IfErr, IfOk};
 ghost use Rattle.nl_device.specs.Medium.{medium_of};
 ghost use Rattle.nl_opening.specs.Opening.{OnlyReadsMedium};
-ghost use Rattle.nl_sound.specs.Crash.{StopsSafely};
 ghost use Rattle.nl_sound.specs.Stands.{SoundAs};
 ghost use Rattle.nl_tree.specs.Calls.{AreLines};
 ghost use Rattle.nl_tree.specs.Tree.{Tree};
@@ -9,7 +8,7 @@ ghost use Rattle.nl_volume.specs.Opening.{opening_of};
 ghost use Rattle.nl_workers.specs.Rounds.{IsFirstSeat};
 ghost use Rattle.nl_workers.specs.Table.{IsTableFor};
 ghost use Rattle.nl_headline.specs.Course.{Course};
-ghost use Rattle.nl_headline.specs.Streams.{medium};
+ghost use Rattle.nl_headline.specs.Streams.{medium_seen, stops_within};
 ghost use Rattle.nl_rounds.specs.Opened.{IsReason, OpensOn, medium_in};
 ghost use Rattle.nl_rounds.specs.Rounds.{LinesRan};
 
@@ -55,9 +54,7 @@ pub fn run_lines<Rt: Threads + Wait + Sync, M: Nand + Send, G: Gate + Sync>(
 ) -> Result<Ran<M>, NotOpened<M>>
     requires table { IsTableFor lines.now tables.old.answers }
     ensures ran { IfOk result (λ r. (course : Course) × (r.count ≡ course.count) × LinesRan M.tells lines.now
-        (StopsSafely SoundAs (λ m c. M.left media m c) (λ m c. M.left r.media m c) (M.clock media) (M.clock r.media))
-        (medium (M.geometry media) (M.contents media) (M.clock media) (M.read_faults media) (M.write_faults media))
-        (medium (M.geometry r.media) (M.contents r.media) (M.clock r.media) (M.read_faults r.media) (M.write_faults r.media))
+        (stops_within M.Nand media r.media) (medium_seen M.Nand media) (medium_seen M.Nand r.media)
         tables.new.answers.rows r.lost r.worn r.charges course) }
     ensures rows { IfOk result (λ r. length tables.new.answers.rows ≡ length lines.now) }
     ensures lost { IfOk result (λ r. tables.new.answers.lost ≡ true → r.lost ≡ true) }
@@ -89,9 +86,7 @@ fn run_opened<Rt: Threads + Wait + Sync, M: Nand + Send, G: Gate + Sync>(
     requires stands { (tree : Tree) → (M.tells → SoundAs (M.contents (medium_of volume.core.device)) volume.core.count tree) → ⟦<Volume<M> as Kept>⟧.stands volume (opening_of ⟦<Device<M> as Counts>⟧ volume.core tree lines.now) [] volume }
     requires table { IsTableFor lines.now tables.old.answers }
     ensures ran { IfOk result (λ r. (course : Course) × (r.count ≡ course.count) × LinesRan M.tells lines.now
-        (StopsSafely SoundAs (λ m c. M.left (medium_of volume.core.device) m c) (λ m c. M.left r.media m c) (M.clock (medium_of volume.core.device)) (M.clock r.media))
-        (medium (M.geometry (medium_of volume.core.device)) (M.contents (medium_of volume.core.device)) (M.clock (medium_of volume.core.device)) (M.read_faults (medium_of volume.core.device)) (M.write_faults (medium_of volume.core.device)))
-        (medium (M.geometry r.media) (M.contents r.media) (M.clock r.media) (M.read_faults r.media) (M.write_faults r.media))
+        (stops_within M.Nand (medium_of volume.core.device) r.media) (medium_seen M.Nand (medium_of volume.core.device)) (medium_seen M.Nand r.media)
         tables.new.answers.rows r.lost r.worn r.charges course) }
     ensures lost { IfOk result (λ r. tables.new.answers.lost ≡ true → r.lost ≡ true) }
     ensures lists { (tables.new.order ≡ tables.old.order) × (tables.new.syncs ≡ tables.old.syncs) }

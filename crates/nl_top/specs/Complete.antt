@@ -1,10 +1,15 @@
--- Completeness of a run: where nothing fails and memory is enough, all its lines are answered, and every answer is the plain tree's own.
-use Rattle.std.specs.Prelude.{◌≡◌, ◌⊎◌, ℕ, ◌+◌, ◌-◌, ◌<◌, ◌^◌, false, is_some, List}
+-- Completeness: where nothing fails and memory is enough, a command is carried out, and each answer of a run is the plain tree's own.
+use Rattle.std.specs.Prelude.{◌≡◌, ◌⊎◌, ⊤, ℕ, ◌+◌, ◌-◌, ◌<◌, ◌^◌, false, is_some, List, Option, None, Some, Ok}
 use Rattle.std.specs.List.{list_any}
 use Rattle.nl_field.specs.CrashStates.{top}
 use Rattle.nl_field.specs.Scan.{next_stamp_of}
-use Rattle.nl_headline.specs.Streams.{Medium}
+use Rattle.nl_commands.specs.Complete.{Completes, StartsSound}
+use Rattle.nl_commands.specs.declared.command.Command.{Command}
+use Rattle.nl_commands.specs.declared.command.Command.TheVariants.{Check, Format, Report, Run, Soak, Tree}
+use Rattle.nl_headline.specs.Streams.{Medium, Stream}
 use Rattle.nl_headline.specs.declared.lists.Ordered.{Ordered}
+use Rattle.nl_script.specs.Script.{script}
+use Rattle.nl_tree.specs.declared.call.Line.{Line}
 
 -- The clock, the write sequence numbers and the sum of both counts of faults do not come to their ends.
 pub record CountsLast (medium medium' : Medium) : Type 0 where
@@ -19,3 +24,15 @@ NoFaultAnswered order = list_any (λ o. is_some o.fault) order ≡ false
 -- It is carried out, and no answer is a fault reply; or memory was wanting.
 abbrev pub RunCompletes : ℕ → List Ordered → Type 0
 RunCompletes status order = ((status ≡ 0) × NoFaultAnswered order) ⊎ (status ≡ 6)
+
+-- Each command is carried out: a volume is made; a medium that starts sound is checked, and its paths and its report are printed; and while
+-- counts last, the script that the source has left is run on it, and a soak, and no answer is a fault reply.
+abbrev pub CarriesOut : Option Command → Type 0 → Stream → Medium → Medium → List Ordered → ℕ → Type 0
+CarriesOut None tells source medium medium' order status = ⊤
+CarriesOut (Some (Format blocks pages)) tells source medium medium' order status = Completes status
+CarriesOut (Some Run) tells source medium medium' order status =
+    (bytes : List ℕ) (lines : List Line) (count : ℕ) → source.bytes ≡ Some bytes → script bytes ≡ Ok lines → StartsSound tells medium count → CountsLast medium medium' → RunCompletes status order
+CarriesOut (Some Check) tells source medium medium' order status = (count : ℕ) → StartsSound tells medium count → Completes status
+CarriesOut (Some Tree) tells source medium medium' order status = (count : ℕ) → StartsSound tells medium count → Completes status
+CarriesOut (Some Report) tells source medium medium' order status = (count : ℕ) → StartsSound tells medium count → Completes status
+CarriesOut (Some (Soak seed lines workers)) tells source medium medium' order status = (count : ℕ) → StartsSound tells medium count → CountsLast medium medium' → RunCompletes status order

@@ -1,8 +1,6 @@
 // The command that runs the script of a source, and what it shares with a soak.
 ghost use Rattle.std.specs.Prelude.{◌≡◌};
-ghost use Rattle.nl_headline.specs.Streams.{medium, stream};
-ghost use Rattle.nl_sound.specs.Crash.{StopsSafely};
-ghost use Rattle.nl_sound.specs.Stands.{SoundAs};
+ghost use Rattle.nl_headline.specs.Streams.{medium_seen, sink_seen, source_seen, stops_within};
 ghost use Rattle.nl_top.specs.RunEnds.{RunEnds, ScriptEnds};
 ghost use Rattle.nl_top.specs.Telling.{Shows};
 
@@ -29,11 +27,10 @@ pub(crate) fn run<Rt: Threads + Wait + Sync, S: Source, K: Sink, M: Nand + Send,
     media: M,
     gate: &G,
 ) -> Done<M>
-    ensures { ScriptEnds M.tells (StopsSafely SoundAs (λ m c. M.left media m c) (λ m c. M.left result.media m c) (M.clock media) (M.clock result.media))
-        (stream (S.left src.old) (S.faults src.old)) (stream (S.left src.new) (S.faults src.new))
-        (stream (K.taken sink.old) (K.faults sink.old)) (stream (K.taken sink.new) (K.faults sink.new))
-        (medium (M.geometry media) (M.contents media) (M.clock media) (M.read_faults media) (M.write_faults media))
-        (medium (M.geometry result.media) (M.contents result.media) (M.clock result.media) (M.read_faults result.media) (M.write_faults result.media))
+    ensures { ScriptEnds M.tells (stops_within M.Nand media result.media)
+        (source_seen S.Source src.old) (source_seen S.Source src.new)
+        (sink_seen K.Sink sink.old) (sink_seen K.Sink sink.new)
+        (medium_seen M.Nand media) (medium_seen M.Nand result.media)
         result.order.items result.syncs.items result.status }
 {
     match read_script(alloc, src) {
@@ -57,9 +54,7 @@ pub(crate) fn run_on<Rt: Threads + Wait + Sync, K: Sink, M: Nand + Send, G: Gate
     media: M,
     gate: &G,
 ) -> Done<M>
-    ensures { RunEnds M.tells lines.now (Shows told M.tells) (StopsSafely SoundAs (λ m c. M.left media m c) (λ m c. M.left result.media m c) (M.clock media) (M.clock result.media)) (stream (K.taken sink.old) (K.faults sink.old)) (stream (K.taken sink.new) (K.faults sink.new))
-        (medium (M.geometry media) (M.contents media) (M.clock media) (M.read_faults media) (M.write_faults media))
-        (medium (M.geometry result.media) (M.contents result.media) (M.clock result.media) (M.read_faults result.media) (M.write_faults result.media))
+    ensures { RunEnds M.tells lines.now (Shows told M.tells) (stops_within M.Nand media result.media) (sink_seen K.Sink sink.old) (sink_seen K.Sink sink.new) (medium_seen M.Nand media) (medium_seen M.Nand result.media)
         result.order.items result.syncs.items result.status }
 {
     let Ok(mut tables) = tables_for(alloc, lines) else {

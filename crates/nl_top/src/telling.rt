@@ -2,7 +2,7 @@
 ghost use Rattle.std.specs.Prelude.{◌≡◌, ◌≤◌, ◌||◌};
 ghost use Rattle.nl_field.specs.CrashStates.{Rose};
 ghost use Rattle.nl_headline.specs.Status.{DoneStatus, RunFailed};
-ghost use Rattle.nl_headline.specs.Streams.{Prints, stream};
+ghost use Rattle.nl_headline.specs.Streams.{Prints, sink_seen};
 ghost use Rattle.nl_io.specs.Streams.{Writes};
 ghost use Rattle.nl_rounds.specs.Rounds.{AreRoomyFor, order_of_rows, syncs_of_rows};
 ghost use Rattle.nl_top.specs.Telling.{told_text};
@@ -35,9 +35,9 @@ pub(crate) fn tell<K: Sink, M: Nand>(
     ensures media { result.media ≡ ran.media }
     ensures order { result.order.items ≡ order_of_rows tables.answers.rows }
     ensures syncs { result.syncs.items ≡ syncs_of_rows tables.answers.rows }
-    ensures prints { Prints (stream (K.taken sink.old) (K.faults sink.old)) (stream (K.taken sink.new) (K.faults sink.new)) (told_text told ran.count ran.charges tables.answers.rows) }
+    ensures prints { Prints (sink_seen K.Sink sink.old) (sink_seen K.Sink sink.new) (told_text told ran.count ran.charges tables.answers.rows) }
     ensures status { DoneStatus result.status (RunFailed result.order.items (record { clock = M.clock ran.media; read_faults = before.reads; write_faults = before.writes }) (record { clock = M.clock ran.media; read_faults = M.read_faults ran.media; write_faults = M.write_faults ran.media }) ran.lost ran.worn)
-        (stream (K.taken sink.old) (K.faults sink.old)) (stream (K.taken sink.new) (K.faults sink.new)) (told_text told ran.count ran.charges tables.answers.rows) }
+        (sink_seen K.Sink sink.old) (sink_seen K.Sink sink.new) (told_text told ran.count ran.charges tables.answers.rows) }
 {
     let Tables {
         answers,

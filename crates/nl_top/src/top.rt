@@ -1,18 +1,13 @@
 // The top call: answers the words of a command line on a flash medium.
-ghost use Rattle.std.specs.Prelude.{◌≡◌, ℕ, List, Ok, Some};
 ghost use Rattle.nl_commands.specs.Command.{command_of};
-ghost use Rattle.nl_commands.specs.Complete.{Completes, NothingRose, StartsSound};
-ghost use Rattle.nl_headline.specs.Streams.{medium, stream};
-ghost use Rattle.nl_script.specs.Script.{script};
-ghost use Rattle.nl_sound.specs.Crash.{StopsSafely};
-ghost use Rattle.nl_sound.specs.Stands.{SoundAs};
-ghost use Rattle.nl_tree.specs.declared.call.Line.{Line};
-ghost use Rattle.nl_top.specs.Complete.{CountsLast, RunCompletes};
+ghost use Rattle.nl_commands.specs.Complete.{NothingRose};
+ghost use Rattle.nl_headline.specs.Streams.{medium_seen, sink_seen, source_seen, stops_within};
+ghost use Rattle.nl_top.specs.Complete.{CarriesOut};
 ghost use Rattle.nl_top.specs.Ends.{Ends};
 
 use crate::running::run;
 use crate::soaking::soak;
-use nl_commands::laws::{check_completes, opening_completes};
+use nl_commands::laws::{check_completes, format_completes, opening_completes};
 use nl_commands::{Command, Done, check, command_of, ended, format};
 use nl_io::{Sink, Source, Words};
 use nl_nand::Nand;
@@ -47,49 +42,20 @@ pub fn nameless<Rt: Threads + Wait + Sync, S: Source, K: Sink, M: Nand + Send, G
     media: M,
     gate: &G,
 ) -> Done<M>
-    ensures ended { Ends M.tells words.now
-        (StopsSafely SoundAs (λ m c. M.left media m c) (λ m c. M.left result.media m c) (M.clock media) (M.clock result.media))
-        (stream (S.left src.old) (S.faults src.old)) (stream (S.left src.new) (S.faults src.new))
-        (stream (K.taken sink.old) (K.faults sink.old)) (stream (K.taken sink.new) (K.faults sink.new))
-        (medium (M.geometry media) (M.contents media) (M.clock media) (M.read_faults media) (M.write_faults media))
-        (medium (M.geometry result.media) (M.contents result.media) (M.clock result.media) (M.read_faults result.media) (M.write_faults result.media))
-        result.order.items result.syncs.items result.status }
+    ensures ended { Ends M.tells words.now (stops_within M.Nand media result.media)
+        (source_seen S.Source src.old) (source_seen S.Source src.new) (sink_seen K.Sink sink.old) (sink_seen K.Sink sink.new)
+        (medium_seen M.Nand media) (medium_seen M.Nand result.media) result.order.items result.syncs.items result.status }
 
-    // Where nothing fails, the medium starts sound and counts last, a script is run whole, and no answer is a fault reply; so is a soak.
-    ensures runs { (bytes : List ℕ) (lines : List Line) (count : ℕ) → command_of words.now ≡ Some Command.Run → S.left src.old ≡ Some bytes → script bytes ≡ Ok lines
-        → StartsSound M.tells (medium (M.geometry media) (M.contents media) (M.clock media) (M.read_faults media) (M.write_faults media)) count → NothingRose (stream (S.left src.old) (S.faults src.old)) (stream (S.left src.new) (S.faults src.new)) (stream (K.taken sink.old) (K.faults sink.old)) (stream (K.taken sink.new) (K.faults sink.new))
-        (medium (M.geometry media) (M.contents media) (M.clock media) (M.read_faults media) (M.write_faults media))
-        (medium (M.geometry result.media) (M.contents result.media) (M.clock result.media) (M.read_faults result.media) (M.write_faults result.media))
-        → CountsLast (medium (M.geometry media) (M.contents media) (M.clock media) (M.read_faults media) (M.write_faults media)) (medium (M.geometry result.media) (M.contents result.media) (M.clock result.media) (M.read_faults result.media) (M.write_faults result.media))
-        → RunCompletes result.status result.order.items }
-    ensures soaks { (seed lines workers count : ℕ) → command_of words.now ≡ Some (Command.Soak seed lines workers)
-        → StartsSound M.tells (medium (M.geometry media) (M.contents media) (M.clock media) (M.read_faults media) (M.write_faults media)) count → NothingRose (stream (S.left src.old) (S.faults src.old)) (stream (S.left src.new) (S.faults src.new)) (stream (K.taken sink.old) (K.faults sink.old)) (stream (K.taken sink.new) (K.faults sink.new))
-        (medium (M.geometry media) (M.contents media) (M.clock media) (M.read_faults media) (M.write_faults media))
-        (medium (M.geometry result.media) (M.contents result.media) (M.clock result.media) (M.read_faults result.media) (M.write_faults result.media))
-        → CountsLast (medium (M.geometry media) (M.contents media) (M.clock media) (M.read_faults media) (M.write_faults media)) (medium (M.geometry result.media) (M.contents result.media) (M.clock result.media) (M.read_faults result.media) (M.write_faults result.media))
-        → RunCompletes result.status result.order.items }
-
-    // A sound image is checked, its paths and its report are printed, and a volume is made.
-    ensures checks { (count : ℕ) → command_of words.now ≡ Some Command.Check → StartsSound M.tells (medium (M.geometry media) (M.contents media) (M.clock media) (M.read_faults media) (M.write_faults media)) count → NothingRose (stream (S.left src.old) (S.faults src.old)) (stream (S.left src.new) (S.faults src.new)) (stream (K.taken sink.old) (K.faults sink.old)) (stream (K.taken sink.new) (K.faults sink.new))
-        (medium (M.geometry media) (M.contents media) (M.clock media) (M.read_faults media) (M.write_faults media))
-        (medium (M.geometry result.media) (M.contents result.media) (M.clock result.media) (M.read_faults result.media) (M.write_faults result.media))
-        → Completes result.status }
-    ensures trees { (count : ℕ) → command_of words.now ≡ Some Command.Tree → StartsSound M.tells (medium (M.geometry media) (M.contents media) (M.clock media) (M.read_faults media) (M.write_faults media)) count → NothingRose (stream (S.left src.old) (S.faults src.old)) (stream (S.left src.new) (S.faults src.new)) (stream (K.taken sink.old) (K.faults sink.old)) (stream (K.taken sink.new) (K.faults sink.new))
-        (medium (M.geometry media) (M.contents media) (M.clock media) (M.read_faults media) (M.write_faults media))
-        (medium (M.geometry result.media) (M.contents result.media) (M.clock result.media) (M.read_faults result.media) (M.write_faults result.media))
-        → Completes result.status }
-    ensures reports { (count : ℕ) → command_of words.now ≡ Some Command.Report → StartsSound M.tells (medium (M.geometry media) (M.contents media) (M.clock media) (M.read_faults media) (M.write_faults media)) count → NothingRose (stream (S.left src.old) (S.faults src.old)) (stream (S.left src.new) (S.faults src.new)) (stream (K.taken sink.old) (K.faults sink.old)) (stream (K.taken sink.new) (K.faults sink.new))
-        (medium (M.geometry media) (M.contents media) (M.clock media) (M.read_faults media) (M.write_faults media))
-        (medium (M.geometry result.media) (M.contents result.media) (M.clock result.media) (M.read_faults result.media) (M.write_faults result.media))
-        → Completes result.status }
-    ensures formats { (blocks pages : ℕ) → command_of words.now ≡ Some (Command.Format blocks pages) → NothingRose (stream (S.left src.old) (S.faults src.old)) (stream (S.left src.new) (S.faults src.new)) (stream (K.taken sink.old) (K.faults sink.old)) (stream (K.taken sink.new) (K.faults sink.new))
-        (medium (M.geometry media) (M.contents media) (M.clock media) (M.read_faults media) (M.write_faults media))
-        (medium (M.geometry result.media) (M.contents result.media) (M.clock result.media) (M.read_faults result.media) (M.write_faults result.media))
-        → Completes result.status }
+    // Where nothing fails, the command of these words is carried out, unless memory is wanting.
+    ensures completes { NothingRose (source_seen S.Source src.old) (source_seen S.Source src.new) (sink_seen K.Sink sink.old) (sink_seen K.Sink sink.new) (medium_seen M.Nand media) (medium_seen M.Nand result.media)
+        → CarriesOut (command_of words.now) M.tells (source_seen S.Source src.old) (medium_seen M.Nand media) (medium_seen M.Nand result.media) result.order.items result.status }
 {
     match command_of(words) {
         None => ended(alloc, 2, b"words", sink, media),
-        Some(Command::Format(blocks, pages)) => format(alloc, blocks, pages, sink, media),
+        Some(Command::Format(blocks, pages)) => {
+            format_completes::<M>();
+            format(alloc, blocks, pages, sink, media)
+        }
         Some(Command::Run) => {
             opening_completes::<M>();
             run(rt, alloc, src, sink, media, gate)

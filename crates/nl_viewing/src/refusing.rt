@@ -1,7 +1,7 @@
 // The ending of a command whose volume was not opened.
 ghost use Rattle.std.specs.Prelude.{◌≡◌, [], ℕ, List};
 ghost use Rattle.nl_commands.specs.Ends.{NotOpened as WasNotOpened};
-ghost use Rattle.nl_headline.specs.Streams.{Prints, medium, stream};
+ghost use Rattle.nl_headline.specs.Streams.{Prints, medium_seen, sink_seen};
 ghost use Rattle.nl_rounds.specs.Opened.{IsReason, medium_in};
 
 use nl_commands::{Done, ended, without_lines};
@@ -17,9 +17,8 @@ pub fn refused<K: Sink, M: Nand>(alloc: Global, why: NotOpened<M>, sink: &mut K)
     ensures order { result.order.items ≡ [] }
     ensures syncs { result.syncs.items ≡ [] }
     ensures ended { (before : M) → IsReason M.tells M.contents M.read_faults before why → (text : List ℕ)
-        × WasNotOpened M.tells (medium (M.geometry before) (M.contents before) (M.clock before) (M.read_faults before) (M.write_faults before))
-        (medium (M.geometry result.media) (M.contents result.media) (M.clock result.media) (M.read_faults result.media) (M.write_faults result.media)) result.status text
-        × Prints (stream (K.taken sink.old) (K.faults sink.old)) (stream (K.taken sink.new) (K.faults sink.new)) text }
+        × WasNotOpened M.tells (medium_seen M.Nand before) (medium_seen M.Nand result.media) result.status text
+        × Prints (sink_seen K.Sink sink.old) (sink_seen K.Sink sink.new) text }
 {
     match why {
         NotOpened::Blank(media) => ended(alloc, 7, b"blank", sink, media),

@@ -1,7 +1,7 @@
 // The report of a medium.
 ghost use Rattle.std.specs.Prelude.{◌≡◌, ℕ};
 ghost use Rattle.nl_field.specs.Page.{Image};
-ghost use Rattle.nl_headline.specs.Streams.{medium, stream};
+ghost use Rattle.nl_headline.specs.Streams.{medium_seen, sink_seen};
 ghost use Rattle.nl_viewing.specs.Looking.{LookEnds, Reports};
 
 use crate::refusing::refused;
@@ -15,9 +15,8 @@ use std::alloc::Global;
 /// Opens the volume of a medium, and prints its count of calls, the blocks of its segments, how much of it its tree takes, how many pairs it has,
 /// the least and the greatest wear, and its next write sequence number. The medium is only read.
 pub fn report<K: Sink, M: Nand>(alloc: Global, sink: &mut K, media: M) -> Done<M>
-    ensures ended { LookEnds M.tells Reports (stream (K.taken sink.old) (K.faults sink.old)) (stream (K.taken sink.new) (K.faults sink.new))
-        (medium (M.geometry media) (M.contents media) (M.clock media) (M.read_faults media) (M.write_faults media))
-        (medium (M.geometry result.media) (M.contents result.media) (M.clock result.media) (M.read_faults result.media) (M.write_faults result.media))
+    ensures ended { LookEnds M.tells Reports (sink_seen K.Sink sink.old) (sink_seen K.Sink sink.new)
+        (medium_seen M.Nand media) (medium_seen M.Nand result.media)
         result.order.items result.syncs.items result.status }
     ensures left { M.tells → (m : ℕ) (c : Image) → M.left result.media m c → M.left media m c }
 {

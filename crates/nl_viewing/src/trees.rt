@@ -3,7 +3,7 @@ ghost use Rattle.std.specs.Prelude.{◌≡◌, ◌⊎◌, ℕ, []};
 ghost use Rattle.nl_commands.specs.Ends.{IsStatusOf};
 ghost use Rattle.nl_field.specs.CrashStates.{Rose};
 ghost use Rattle.nl_field.specs.Page.{Image};
-ghost use Rattle.nl_headline.specs.Streams.{medium, stream};
+ghost use Rattle.nl_headline.specs.Streams.{medium_seen, sink_seen};
 ghost use Rattle.nl_viewing.specs.Looking.{LookEnds, ShowsTree};
 
 use crate::refusing::refused;
@@ -18,9 +18,8 @@ use std::alloc::Global;
 /// Opens the volume of a medium, and prints its count of calls and a line for each path of its tree. Where a read fails on the way, or a page is
 /// lost, the text ends there, with status 5. The medium is only read.
 pub fn tree<K: Sink, M: Nand>(alloc: Global, sink: &mut K, media: M) -> Done<M>
-    ensures ended { LookEnds M.tells ShowsTree (stream (K.taken sink.old) (K.faults sink.old)) (stream (K.taken sink.new) (K.faults sink.new))
-        (medium (M.geometry media) (M.contents media) (M.clock media) (M.read_faults media) (M.write_faults media))
-        (medium (M.geometry result.media) (M.contents result.media) (M.clock result.media) (M.read_faults result.media) (M.write_faults result.media))
+    ensures ended { LookEnds M.tells ShowsTree (sink_seen K.Sink sink.old) (sink_seen K.Sink sink.new)
+        (medium_seen M.Nand media) (medium_seen M.Nand result.media)
         result.order.items result.syncs.items result.status }
     ensures left { M.tells → (m : ℕ) (c : Image) → M.left result.media m c → M.left media m c }
 {
