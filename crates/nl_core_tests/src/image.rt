@@ -303,31 +303,40 @@ fn fill(content: Content, names: &[u32], buf: &mut PageBuf) {
 
 /// What each page holds.
 fn contents(alloc: Global, layout: &Layout) -> Result<Vec<Content>, Fail> {
-    let mut rows = Vec::new(alloc);
-    for at in 0..256 {
-        rows.push(if at < ADDRESSES.len() {
-            Content::Metadata(at)
-        } else {
-            Content::Erased
-        })?;
+    let mut rows = vec![in alloc; Content::Erased; 1024]?;
+    lay_metadata(&mut rows);
+    lay_data(&mut rows, layout);
+    Ok(rows)
+}
+
+fn lay_metadata(rows: &mut [Content]) {
+    for at in 0..ADDRESSES.len() {
+        if let Some(row) = rows.get_mut(at) {
+            *row = Content::Metadata(at);
+        }
     }
+}
+
+fn lay_data(rows: &mut [Content], layout: &Layout) {
     let mut number = 0u32;
     for block in 0..24 {
         let live = layout[block];
         for place in 0..32 {
-            rows.push(if live == 0 {
-                Content::Erased
-            } else if place < live {
-                Content::Data(number)
-            } else {
-                Content::Dead(256 + 32 * block as u32 + place)
-            })?;
+            let page = 256 + 32 * block as u32 + place;
+            if let Some(row) = rows.get_mut(page as usize) {
+                *row = if live == 0 {
+                    Content::Erased
+                } else if place < live {
+                    Content::Data(number)
+                } else {
+                    Content::Dead(page)
+                };
+            }
             if place < live {
                 number = number.saturating_add(1);
             }
         }
     }
-    Ok(rows)
 }
 
 /// The names of the pages of the files, by their numbers.
@@ -364,11 +373,30 @@ fn put_all(media: &mut MemNand, contents: &[Content], names: &[u32], buf: &mut P
 
 /// The medium of the volume. Its pages are programmed, and then its calls begin.
 pub fn image(alloc: Global, layout: &Layout, plan: Plan) -> Result<MemNand, Fail> {
-    let mut buf = PageBuf::new(alloc)?;
     let contents = contents(alloc, layout)?;
-    let names = names(alloc, &contents)?;
+    let found = with_contents(alloc, &contents, plan);
+    drop(contents);
+    found
+}
+
+fn with_contents(alloc: Global, contents: &[Content], plan: Plan) -> Result<MemNand, Fail> {
+    let names = names(alloc, contents)?;
+    let found = with_names(alloc, contents, &names, plan);
+    drop(names);
+    found
+}
+
+fn with_names(
+    alloc: Global,
+    contents: &[Content],
+    names: &[u32],
+    plan: Plan,
+) -> Result<MemNand, Fail> {
+    let mut buf = PageBuf::new(alloc)?;
     let mut media = formed(alloc, plan)?;
-    if put_all(&mut media, &contents, &names, &mut buf) {
+    let done = put_all(&mut media, contents, names, &mut buf);
+    drop(buf);
+    if done {
         Ok(media)
     } else {
         drop(media);

@@ -36,15 +36,11 @@ pub struct Work {
 
 impl Work {
     pub fn new(alloc: Global) -> Result<Work, Fail> {
-        let mut names = Vec::new(alloc);
-        for _ in 0..PAGES {
-            names.push(0u32)?;
-        }
         Ok(Work {
             page: PageBuf::new(alloc)?,
             buf: PageBuf::new(alloc)?,
             wanted: PageBuf::new(alloc)?,
-            names,
+            names: vec![in alloc; 0u32; PAGES as usize]?,
         })
     }
 }

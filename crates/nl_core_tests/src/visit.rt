@@ -166,11 +166,24 @@ pub fn differing(
     calls: Option<u64>,
 ) -> Result<Option<Differs>, Fail> {
     let mut work = Work::new(alloc)?;
+    let found = differing_in(alloc, layout, plan, visit, calls, &mut work);
+    drop(work);
+    found
+}
+
+fn differing_in(
+    alloc: Global,
+    layout: &Layout,
+    plan: Plan,
+    visit: Visit<'_>,
+    calls: Option<u64>,
+    work: &mut Work,
+) -> Result<Option<Differs>, Fail> {
     let media = image(alloc, layout, plan)?;
-    let (first, media) = visited(alloc, media, visit, &mut work)?;
+    let (first, media) = visited(alloc, media, visit, work)?;
     match calls {
         Some(calls) => {
-            let second = reopened(alloc, media.restart(None), calls, &mut work)?;
+            let second = reopened(alloc, media.restart(None), calls, work)?;
             Ok(either(first, second))
         }
         None => {

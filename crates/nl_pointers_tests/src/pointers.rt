@@ -1,10 +1,9 @@
-ghost use Rattle.std.specs.Prelude.{◌≡◌, ◌+◌, ◌<◌, IfSome, IsTrue};
+ghost use Rattle.std.specs.Prelude.{IsTrue};
 ghost use Rattle.nl_field.specs.SpareRecord.{is_spare};
-ghost use Rattle.nl_nand.specs.Memory.{contents_of, geometry_of};
-ghost use Rattle.nl_nand.specs.Nand.{ErasedWithin};
 
-use nl_field::{FailList, PageBuf, Pointer, Shape, SpareRec, Tag, shape_of, spare_into};
-use nl_nand::{FormAnswer, MemNand, Nand, WriteAnswer};
+use crate::medium::{formed, put};
+use nl_field::{PageBuf, Pointer, Shape, SpareRec, Tag, shape_of, spare_into};
+use nl_nand::{MemNand, WriteAnswer};
 use nl_pointers::{HeldList, HeldPointer, charge_fault, crowded_fault, name_fault, pointer_fault};
 use nl_scan::{ScanTables, Scanned, scan};
 use std::alloc::Global;
@@ -73,29 +72,6 @@ fn fill(row: &Row, buf: &mut PageBuf) {
     if 0 < row.bytes && row.bytes <= 4096 {
         buf.set_main(row.bytes - 1, &[7]);
     }
-}
-
-/// A medium of 32 blocks of 32 pages.
-fn formed(alloc: Global) -> Option<MemNand>
-    ensures geometry { IfSome result (λ m. geometry_of m ≡ record { blocks = 32; pages = 32 }) }
-    ensures erased { IfSome result (λ m. ErasedWithin (contents_of m) 0 1024) }
-{
-    let mut media = MemNand::new(alloc, FailList::new(alloc), FailList::new(alloc), None);
-    match media.form(32, 32) {
-        FormAnswer::Done => Some(media),
-        _ => None,
-    }
-}
-
-/// Programs a page behind all that were written.
-fn put(media: &mut MemNand, page: u32, buf: &PageBuf) -> WriteAnswer
-    requires within { page < 1024 }
-    requires geometry { geometry_of media.old ≡ record { blocks = 32; pages = 32 } }
-    requires erased { ErasedWithin (contents_of media.old) page 1024 }
-    ensures geometry { geometry_of media.new ≡ record { blocks = 32; pages = 32 } }
-    ensures erased { ErasedWithin (contents_of media.new) (page + 1) 1024 }
-{
-    media.program(page, buf)
 }
 
 fn tables_of(alloc: Global, media: &mut MemNand) -> Result<ScanTables, Fail> {
