@@ -2,21 +2,10 @@ ghost use Rattle.std.specs.Prelude.{◌≡◌, ◌+◌, ◌<◌, IfSome};
 ghost use Rattle.nl_nand.specs.Nand.{ErasedWithin};
 ghost use Rattle.nl_nand.specs.Memory.{geometry_of, contents_of};
 
+use crate::medium::{formed, program};
 use nl_field::{FailList, PageBuf};
 use nl_nand::{Cut, FormAnswer, MemNand, Nand, ReadAnswer, Stop, WriteAnswer};
 use std::alloc::Global;
-
-/// A medium of 32 blocks of 32 erased pages.
-fn formed(alloc: Global, reads: FailList, writes: FailList, stop: Option<Stop>) -> Option<MemNand>
-    ensures geometry { IfSome result (λ m. geometry_of m ≡ record { blocks = 32; pages = 32 }) }
-    ensures erased { IfSome result (λ m. ErasedWithin (contents_of m) 0 1024) }
-{
-    let mut media = MemNand::new(alloc, reads, writes, stop);
-    match media.form(32, 32) {
-        FormAnswer::Done => Some(media),
-        _ => None,
-    }
-}
 
 /// A medium that stops within an operation, and fails nowhere else.
 fn stopping(alloc: Global, operation: u64, cut: Cut) -> Option<MemNand>
@@ -42,7 +31,7 @@ fn put(media: &mut MemNand, page: u32, byte: u8, buf: &mut PageBuf) -> WriteAnsw
     buf.clear();
     buf.set_main(0, &[byte]);
     buf.set_spare(&[byte; 64]);
-    media.program(page, buf)
+    program(media, page, buf)
 }
 
 /// What a read of a page answers, as a letter, or the byte of a written page.

@@ -13,8 +13,6 @@ mod firsts;
 mod pass;
 mod super_seen;
 mod tables;
-#[cfg(test)]
-mod tests;
 mod zeros;
 
 use crate::firsts::Stopped;
