@@ -8,8 +8,6 @@ mod installing;
 pub mod laws;
 mod pages;
 mod reading;
-#[cfg(test)]
-mod tests;
 
 pub use answer::{CountPages, FileAnswer};
 pub use cutting::cut;
