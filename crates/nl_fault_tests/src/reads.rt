@@ -3,8 +3,8 @@ use crate::saved::failed_text;
 use nl_field::{FailList, Memory};
 use nl_nand::{MemNand, Nand};
 use nl_top_tests::note::NOTE;
-use nl_top_tests::play::{FORMAT, Step, play};
-use nl_top_tests::program::{only, tell};
+use nl_top_tests::play::{FORMAT, Step};
+use nl_top_tests::program::{Rig, Told, only};
 use std::alloc::Global;
 use std::sync::Wait;
 use std::test::Fail;
@@ -19,15 +19,15 @@ fn failing(alloc: Global, read: u64) -> Result<MemNand, Memory> {
 }
 
 // Whether a saving on a new volume does not open it, and leaves it.
-fn is_unopened<Rt: Threads + Wait + Sync>(
-    rt: &Rt,
-    alloc: Global,
-    media: &mut MemNand,
-) -> Result<bool, Memory> {
-    play(rt, alloc, media, &[FORMAT])?;
-    let clock = media.clock();
-    let told = tell(rt, alloc, "run", NOTE, media)?;
-    Ok(told.is(5, "medium fault\n") && media.clock() == clock && media.write_faults() == 0)
+fn is_unopened<Rt: Threads + Wait + Sync>(rig: &mut Rig<'_, Rt>) -> Result<bool, Memory> {
+    if !rig.play(&[FORMAT])? {
+        return Ok(false);
+    }
+    let clock = rig.media.clock();
+    let told = rig.tell("run", NOTE)?;
+    let is = told.is(5, "medium fault\n");
+    drop(told);
+    Ok(is && rig.media.clock() == clock && rig.media.write_faults() == 0)
 }
 
 fn is_unopened_at<Rt: Threads + Wait + Sync>(
@@ -35,8 +35,10 @@ fn is_unopened_at<Rt: Threads + Wait + Sync>(
     alloc: Global,
     read: u64,
 ) -> Result<bool, Memory> {
-    let mut media = failing(alloc, read)?;
-    is_unopened(rt, alloc, &mut media)
+    let mut rig = Rig::on(rt, alloc, failing(alloc, read)?);
+    let is = is_unopened(&mut rig);
+    drop(rig);
+    is
 }
 
 // How many reads come before the first that is not one of the opening's.
@@ -55,24 +57,23 @@ fn each_read_of_an_opening_fails(rt: HostRuntime) -> Result<(), Fail> {
     Ok(())
 }
 
-fn behind_opening<Rt: Threads + Wait + Sync>(
-    rt: &Rt,
-    alloc: Global,
-    steps: &[Step<'_>],
-) -> Result<String, Memory> {
-    let mut media = failing(alloc, OPENING + 1)?;
-    play(rt, alloc, &mut media, steps)
-}
-
 // The one read behind the opening is that of the note.
-fn file_wrong<Rt: Threads + Wait + Sync>(rt: &Rt, alloc: Global) -> Result<String, Memory> {
-    let text = failed_text(alloc, 11, ["EIO 1", "ok 1 note", "ok dir 1"])?;
+fn file_right<Rt: Threads + Wait + Sync>(rig: &mut Rig<'_, Rt>) -> Result<bool, Memory> {
+    let text = failed_text(rig.alloc, 11, ["EIO 1", "ok 1 note", "ok dir 1"])?;
     let steps: [Step<'_>; 3] = [
         FORMAT,
         ("run", NOTE, 5, text.as_str()),
         ("check", "", 0, "sound 13\n"),
     ];
-    behind_opening(rt, alloc, &steps)
+    let right = rig.play(&steps);
+    drop(text);
+    right
+}
+
+fn file_wrong<Rt: Threads + Wait + Sync>(rt: &Rt, alloc: Global) -> Result<String, Memory> {
+    let mut rig = Rig::on(rt, alloc, failing(alloc, OPENING + 1)?);
+    let right = file_right(&mut rig);
+    rig.ended(right)
 }
 
 #[test]
@@ -100,24 +101,26 @@ const ANSWERS: [(u8, &str); 4] = [
     (0, "opened 4\n1 @5 ok 68\n2 @6 ok 68\n"),
 ];
 
-// Which of these the run tells.
-fn told_at<Rt: Threads + Wait + Sync>(
-    rt: &Rt,
-    alloc: Global,
-    media: &mut MemNand,
-) -> Result<Option<usize>, Memory> {
-    let wrong = play(rt, alloc, media, &HELLO)?;
-    if !wrong.is_empty() {
-        return Ok(None);
-    }
-    let told = tell(rt, alloc, "run", "0 read /a 0 1\n0 read /a 0 1\n", media)?;
+// Which of these was told.
+fn answer_of(told: &Told) -> Option<usize> {
     for (at, answer) in ANSWERS.iter().enumerate() {
         let (status, text) = *answer;
         if told.is(status, text) {
-            return Ok(Some(at));
+            return Some(at);
         }
     }
-    Ok(None)
+    None
+}
+
+// Which of these the run tells.
+fn told_at<Rt: Threads + Wait + Sync>(rig: &mut Rig<'_, Rt>) -> Result<Option<usize>, Memory> {
+    if !rig.play(&HELLO)? {
+        return Ok(None);
+    }
+    let told = rig.tell("run", "0 read /a 0 1\n0 read /a 0 1\n")?;
+    let answer = answer_of(&told);
+    drop(told);
+    Ok(answer)
 }
 
 fn second_run<Rt: Threads + Wait + Sync>(
@@ -125,8 +128,10 @@ fn second_run<Rt: Threads + Wait + Sync>(
     alloc: Global,
     read: u64,
 ) -> Result<Option<usize>, Memory> {
-    let mut media = failing(alloc, read)?;
-    told_at(rt, alloc, &mut media)
+    let mut rig = Rig::on(rt, alloc, failing(alloc, read)?);
+    let answer = told_at(&mut rig);
+    drop(rig);
+    answer
 }
 
 /// The first run makes an opening and one read, and the second begins with a read of each page. More reads than the second makes then.

@@ -1,10 +1,9 @@
 // A read of the source or a write of the sink fails.
 use nl_field::Memory;
-use nl_nand::MemNand;
 use nl_top::NoGate;
 use nl_top_tests::note::{NOTE, SAVED, holds};
-use nl_top_tests::play::{FORMAT, play};
-use nl_top_tests::program::{Given, Told, blank, tell_with};
+use nl_top_tests::play::FORMAT;
+use nl_top_tests::program::{Given, Rig, Told};
 use std::alloc::Global;
 use std::sync::Wait;
 use std::test::Fail;
@@ -17,51 +16,47 @@ fn is_broken_off(told: &Told) -> bool {
     told.status == 4 && part && told.order.len() == 13 && told.synced() == 9
 }
 
-// The volume holds all of the saving.
-fn write_wrong<Rt: Threads + Wait + Sync>(
-    rt: &Rt,
-    alloc: Global,
-    media: &mut MemNand,
+// Whether such a text broke off at this write of the sink.
+fn breaks_off<Rt: Threads + Wait + Sync>(
+    rig: &mut Rig<'_, Rt>,
     write: u64,
-) -> Result<String, Memory> {
-    play(rt, alloc, media, &[FORMAT])?;
+) -> Result<bool, Memory> {
     let given = Given {
         words: "run",
         script: NOTE,
         read: 0,
         write,
     };
-    let told = tell_with(rt, alloc, &given, media, &NoGate)?;
-    if !is_broken_off(&told) {
-        return String::from_utf8_lossy(alloc, told.text());
-    }
-    holds(rt, alloc, media, 13, 13, false)
+    let told = rig.tell_with(&given, &NoGate)?;
+    let right = if is_broken_off(&told) {
+        Ok(true)
+    } else {
+        rig.note_told("run", &told)
+    };
+    drop(told);
+    right
 }
 
-// The text has 14 lines, and each is one write.
-fn writes_wrong<Rt: Threads + Wait + Sync>(
-    rt: &Rt,
-    alloc: Global,
-    media: &mut MemNand,
-) -> Result<(String, u64), Memory> {
+// The volume holds all of the saving. The text has 14 lines, and each is one write.
+fn writes_right<Rt: Threads + Wait + Sync>(rig: &mut Rig<'_, Rt>) -> Result<bool, Memory> {
     for write in 1..=14u64 {
-        let wrong = write_wrong(rt, alloc, media, write)?;
-        if !wrong.is_empty() {
-            return Ok((wrong, write));
+        if !rig.play(&[FORMAT])? || !breaks_off(rig, write)? || !holds(rig, 13, 13, false)? {
+            return rig.note_run(write);
         }
     }
-    Ok((String::new(alloc), 0))
+    Ok(true)
 }
 
-fn writes<Rt: Threads + Wait + Sync>(rt: &Rt, alloc: Global) -> Result<(String, u64), Memory> {
-    let mut media = blank(alloc);
-    writes_wrong(rt, alloc, &mut media)
+fn writes<Rt: Threads + Wait + Sync>(rt: &Rt, alloc: Global) -> Result<String, Memory> {
+    let mut rig = Rig::new(rt, alloc);
+    let right = writes_right(&mut rig);
+    rig.ended(right)
 }
 
 #[test]
 fn each_write_of_the_sink_fails(rt: HostRuntime) -> Result<(), Fail> {
-    let (wrong, write) = writes(&rt, rt.alloc())?;
-    assert_eq!(rt; wrong.as_str(), "", "{write}");
+    let wrong = writes(&rt, rt.alloc())?;
+    assert_eq!(rt; wrong.as_str(), "");
     Ok(())
 }
 
@@ -85,45 +80,49 @@ const ORDER: [Row; 13] = [
     ("run", "", 0, 1, 4, ""),
 ];
 
-fn row_wrong<Rt: Threads + Wait + Sync>(
-    rt: &Rt,
-    alloc: Global,
-    media: &mut MemNand,
-    row: &Row,
+// Whether what is given is told with this status and text.
+fn is_told<Rt: Threads + Wait + Sync>(
+    rig: &mut Rig<'_, Rt>,
+    given: &Given<'_>,
+    status: u8,
+    text: &str,
 ) -> Result<bool, Memory> {
-    let (words, script, read, write, status, text) = *row;
-    let given = Given {
-        words,
-        script,
-        read,
-        write,
+    let told = rig.tell_with(given, &NoGate)?;
+    let right = if told.is(status, text) {
+        Ok(true)
+    } else {
+        rig.note_told(given.words, &told)
     };
-    let told = tell_with(rt, alloc, &given, media, &NoGate)?;
-    Ok(!told.is(status, text))
+    drop(told);
+    right
 }
 
-// How many rows are told as wanted before the first that is not.
-fn order_kept<Rt: Threads + Wait + Sync>(
-    rt: &Rt,
-    alloc: Global,
-    media: &mut MemNand,
-) -> Result<usize, Memory> {
+fn order_right<Rt: Threads + Wait + Sync>(rig: &mut Rig<'_, Rt>) -> Result<bool, Memory> {
     for (at, row) in ORDER.iter().enumerate() {
-        if row_wrong(rt, alloc, media, row)? {
-            return Ok(at);
+        let (words, script, read, write, status, text) = *row;
+        let given = Given {
+            words,
+            script,
+            read,
+            write,
+        };
+        if !is_told(rig, &given, status, text)? {
+            return rig.note_run(at as u64);
         }
     }
-    Ok(ORDER.len())
+    Ok(true)
 }
 
-fn order<Rt: Threads + Wait + Sync>(rt: &Rt, alloc: Global) -> Result<usize, Memory> {
-    let mut media = blank(alloc);
-    order_kept(rt, alloc, &mut media)
+fn order<Rt: Threads + Wait + Sync>(rt: &Rt, alloc: Global) -> Result<String, Memory> {
+    let mut rig = Rig::new(rt, alloc);
+    let right = order_right(&mut rig);
+    rig.ended(right)
 }
 
 #[test]
 fn what_fails_first_gives_the_status(rt: HostRuntime) -> Result<(), Fail> {
-    assert_eq!(rt; order(&rt, rt.alloc())?, ORDER.len());
+    let wrong = order(&rt, rt.alloc())?;
+    assert_eq!(rt; wrong.as_str(), "");
     Ok(())
 }
 
@@ -136,48 +135,44 @@ fn script_of(alloc: Global) -> Result<String, Memory> {
     Ok(script)
 }
 
-fn read_wrong<Rt: Threads + Wait + Sync>(
-    rt: &Rt,
-    alloc: Global,
-    media: &mut MemNand,
+// Whether each of the three reads of a script is told that fails.
+fn script_right<Rt: Threads + Wait + Sync>(
+    rig: &mut Rig<'_, Rt>,
     script: &str,
-    read: u64,
 ) -> Result<bool, Memory> {
-    let given = Given {
-        words: "run",
-        script,
-        read,
-        write: 0,
-    };
-    let told = tell_with(rt, alloc, &given, media, &NoGate)?;
-    Ok(!told.is(3, "source fault\n"))
-}
-
-// What is told otherwise than wanted where a read of the source fails, and which one.
-fn reads_wrong<Rt: Threads + Wait + Sync>(
-    rt: &Rt,
-    alloc: Global,
-    media: &mut MemNand,
-) -> Result<(String, u64), Memory> {
-    let script = script_of(alloc)?;
-    play(rt, alloc, media, &[FORMAT])?;
     for read in 1..=3u64 {
-        if read_wrong(rt, alloc, media, script.as_str(), read)? {
-            return Ok((String::new(alloc), read));
+        let given = Given {
+            words: "run",
+            script,
+            read,
+            write: 0,
+        };
+        if !is_told(rig, &given, 3, "source fault\n")? {
+            return rig.note_run(read);
         }
     }
-    let wrong = play(rt, alloc, media, &[("check", "", 0, "sound 0\n")])?;
-    Ok((wrong, 0))
+    Ok(true)
 }
 
-fn reads<Rt: Threads + Wait + Sync>(rt: &Rt, alloc: Global) -> Result<(String, u64), Memory> {
-    let mut media = blank(alloc);
-    reads_wrong(rt, alloc, &mut media)
+fn reads_right<Rt: Threads + Wait + Sync>(rig: &mut Rig<'_, Rt>) -> Result<bool, Memory> {
+    if !rig.play(&[FORMAT])? {
+        return Ok(false);
+    }
+    let script = script_of(rig.alloc)?;
+    let right = script_right(rig, script.as_str());
+    drop(script);
+    Ok(right? && rig.is_sound(0)?)
+}
+
+fn reads<Rt: Threads + Wait + Sync>(rt: &Rt, alloc: Global) -> Result<String, Memory> {
+    let mut rig = Rig::new(rt, alloc);
+    let right = reads_right(&mut rig);
+    rig.ended(right)
 }
 
 #[test]
 fn each_read_of_the_source_fails(rt: HostRuntime) -> Result<(), Fail> {
-    let (wrong, read) = reads(&rt, rt.alloc())?;
-    assert_eq!(rt; (wrong.as_str(), read), ("", 0));
+    let wrong = reads(&rt, rt.alloc())?;
+    assert_eq!(rt; wrong.as_str(), "");
     Ok(())
 }

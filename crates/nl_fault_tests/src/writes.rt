@@ -3,8 +3,8 @@ use crate::saved::failed_text;
 use nl_field::{FailList, Memory};
 use nl_nand::MemNand;
 use nl_top_tests::note::{NOTE, PROGRAMS, holds};
-use nl_top_tests::play::{FORMAT, Step, play};
-use nl_top_tests::program::only;
+use nl_top_tests::play::{FORMAT, Step};
+use nl_top_tests::program::{Rig, only};
 use std::alloc::Global;
 use std::sync::Wait;
 use std::test::Fail;
@@ -57,60 +57,66 @@ fn failing(alloc: Global, program: u64) -> Result<MemNand, Memory> {
     Ok(MemNand::new(alloc, FailList::new(alloc), writes, None))
 }
 
-fn saving_wrong<Rt: Threads + Wait + Sync>(
-    rt: &Rt,
-    alloc: Global,
-    media: &mut MemNand,
-    failure: &Failure,
-) -> Result<String, Memory> {
-    let (_, _, place, last, count) = *failure;
-    let text = failed_text(alloc, place, last)?;
-    let wrong = play(rt, alloc, media, &[FORMAT, ("run", NOTE, 5, text.as_str())])?;
-    if !wrong.is_empty() {
-        return Ok(wrong);
-    }
-    holds(rt, alloc, media, count, count, false)
+fn text_right<Rt: Threads + Wait + Sync>(
+    rig: &mut Rig<'_, Rt>,
+    place: usize,
+    last: [&'static str; 3],
+) -> Result<bool, Memory> {
+    let text = failed_text(rig.alloc, place, last)?;
+    let right = rig.play(&[FORMAT, ("run", NOTE, 5, text.as_str())]);
+    drop(text);
+    right
 }
 
-fn saving<Rt: Threads + Wait + Sync>(
+fn saving_right<Rt: Threads + Wait + Sync>(
+    rig: &mut Rig<'_, Rt>,
+    failure: &Failure,
+) -> Result<bool, Memory> {
+    let (_, _, place, last, count) = *failure;
+    Ok(text_right(rig, place, last)? && holds(rig, count, count, false)?)
+}
+
+// Whether a saving is right of which the program of this number fails.
+fn is_saved<Rt: Threads + Wait + Sync>(
     rt: &Rt,
     alloc: Global,
     program: u64,
     failure: &Failure,
-) -> Result<String, Memory> {
-    let mut media = failing(alloc, program)?;
-    saving_wrong(rt, alloc, &mut media, failure)
+) -> Result<bool, Memory> {
+    let mut rig = Rig::on(rt, alloc, failing(alloc, program)?);
+    let right = saving_right(&mut rig, failure);
+    drop(rig);
+    right
 }
 
-fn savings<Rt: Threads + Wait + Sync>(
+// The first program of a row with which the saving is not right, and 0 where there is none.
+fn row_wrong<Rt: Threads + Wait + Sync>(
     rt: &Rt,
     alloc: Global,
     failure: &Failure,
-) -> Result<(String, u64), Memory> {
+) -> Result<u64, Memory> {
     let (first, last, _, _, _) = *failure;
     for program in first..=last {
-        let wrong = saving(rt, alloc, program, failure)?;
-        if !wrong.is_empty() {
-            return Ok((wrong, program));
+        if !is_saved(rt, alloc, program, failure)? {
+            return Ok(program);
         }
     }
-    Ok((String::new(alloc), 0))
+    Ok(0)
 }
 
-fn all_savings<Rt: Threads + Wait + Sync>(rt: &Rt, alloc: Global) -> Result<(String, u64), Memory> {
+fn rows_wrong<Rt: Threads + Wait + Sync>(rt: &Rt, alloc: Global) -> Result<u64, Memory> {
     for failure in FAILURES.iter() {
-        let (wrong, program) = savings(rt, alloc, failure)?;
-        if !wrong.is_empty() {
-            return Ok((wrong, program));
+        let wrong = row_wrong(rt, alloc, failure)?;
+        if wrong != 0 {
+            return Ok(wrong);
         }
     }
-    Ok((String::new(alloc), 0))
+    Ok(0)
 }
 
 #[test]
 fn each_program_fails(rt: HostRuntime) -> Result<(), Fail> {
-    let (wrong, program) = all_savings(&rt, rt.alloc())?;
-    assert_eq!(rt; wrong.as_str(), "", "{program}");
+    assert_eq!(rt; rows_wrong(&rt, rt.alloc())?, 0);
     Ok(())
 }
 
@@ -127,8 +133,9 @@ const SECOND: [Step<'static>; 4] = [
 ];
 
 fn second<Rt: Threads + Wait + Sync>(rt: &Rt, alloc: Global) -> Result<String, Memory> {
-    let mut media = failing(alloc, 2)?;
-    play(rt, alloc, &mut media, &SECOND)
+    let mut rig = Rig::on(rt, alloc, failing(alloc, 2)?);
+    let right = rig.play(&SECOND);
+    rig.ended(right)
 }
 
 #[test]

@@ -1,9 +1,8 @@
 // What a volume has room for: pages, nodes, metadata, and entries of a directory.
 use nl_field::Memory;
-use nl_nand::MemNand;
 use nl_top_tests::built::{Built, full};
-use nl_top_tests::play::{FORMAT, Step, play, played};
-use nl_top_tests::program::{blank, tell};
+use nl_top_tests::play::{FORMAT, Step};
+use nl_top_tests::program::Rig;
 use std::alloc::Global;
 use std::sync::Wait;
 use std::test::Fail;
@@ -18,29 +17,23 @@ fn overwritten(alloc: Global) -> Result<Built, Memory> {
     Ok(built)
 }
 
-// What is told otherwise than wanted by a run of these lines, and by the steps behind it.
-fn built_wrong<Rt: Threads + Wait + Sync>(
-    rt: &Rt,
-    alloc: Global,
-    media: &mut MemNand,
+// Whether a run of these lines and the steps behind it are told as wanted.
+fn built_right<Rt: Threads + Wait + Sync>(
+    rig: &mut Rig<'_, Rt>,
     built: &Built,
     steps: &[Step<'_>],
-) -> Result<String, Memory> {
-    let wrong = play(rt, alloc, media, &[built.step()])?;
-    if !wrong.is_empty() {
-        return Ok(wrong);
-    }
-    play(rt, alloc, media, steps)
+) -> Result<bool, Memory> {
+    Ok(rig.play(&[built.step()])? && rig.play(steps)?)
 }
 
-fn full_wrong<Rt: Threads + Wait + Sync>(
-    rt: &Rt,
-    alloc: Global,
-    media: &mut MemNand,
-) -> Result<String, Memory> {
-    play(rt, alloc, media, &[FORMAT])?;
-    let full = full(alloc)?;
-    built_wrong(rt, alloc, media, &full, &[])
+fn full_right<Rt: Threads + Wait + Sync>(rig: &mut Rig<'_, Rt>) -> Result<bool, Memory> {
+    if !rig.play(&[FORMAT])? {
+        return Ok(false);
+    }
+    let full = full(rig.alloc)?;
+    let right = built_right(rig, &full, &[]);
+    drop(full);
+    right
 }
 
 const OVERWRITTEN: [Step<'static>; 2] = [
@@ -59,30 +52,23 @@ fn wears(text: &[u8]) -> bool {
         && !line.ends_with(b" greatest 0"))
 }
 
-// What the report tells where no block was erased.
-fn wear_wrong<Rt: Threads + Wait + Sync>(
-    rt: &Rt,
-    alloc: Global,
-    media: &mut MemNand,
-) -> Result<String, Memory> {
-    let told = tell(rt, alloc, "report", "", media)?;
-    if told.status == 0 && wears(told.text()) {
-        return Ok(String::new(alloc));
-    }
-    String::from_utf8_lossy(alloc, told.text())
+// Whether the report tells that a block was erased.
+fn wear_right<Rt: Threads + Wait + Sync>(rig: &mut Rig<'_, Rt>) -> Result<bool, Memory> {
+    let told = rig.tell("report", "")?;
+    let right = if told.status == 0 && wears(told.text()) {
+        Ok(true)
+    } else {
+        rig.note_told("report", &told)
+    };
+    drop(told);
+    right
 }
 
-fn overwritten_wrong<Rt: Threads + Wait + Sync>(
-    rt: &Rt,
-    alloc: Global,
-    media: &mut MemNand,
-) -> Result<String, Memory> {
-    let overwritten = overwritten(alloc)?;
-    let wrong = built_wrong(rt, alloc, media, &overwritten, &OVERWRITTEN)?;
-    if !wrong.is_empty() {
-        return Ok(wrong);
-    }
-    wear_wrong(rt, alloc, media)
+fn overwritten_right<Rt: Threads + Wait + Sync>(rig: &mut Rig<'_, Rt>) -> Result<bool, Memory> {
+    let overwritten = overwritten(rig.alloc)?;
+    let right = built_right(rig, &overwritten, &OVERWRITTEN);
+    drop(overwritten);
+    Ok(right? && wear_right(rig)?)
 }
 
 fn written_anew(alloc: Global) -> Result<Built, Memory> {
@@ -103,30 +89,25 @@ const ANEW: [Step<'static>; 2] = [
     ),
 ];
 
-fn anew_wrong<Rt: Threads + Wait + Sync>(
-    rt: &Rt,
-    alloc: Global,
-    media: &mut MemNand,
-) -> Result<String, Memory> {
-    let written_anew = written_anew(alloc)?;
-    built_wrong(rt, alloc, media, &written_anew, &ANEW)
+fn anew_right<Rt: Threads + Wait + Sync>(rig: &mut Rig<'_, Rt>) -> Result<bool, Memory> {
+    let written_anew = written_anew(rig.alloc)?;
+    let right = built_right(rig, &written_anew, &ANEW);
+    drop(written_anew);
+    right
 }
 
-// What is told otherwise than wanted of a full volume that is written over, or written anew.
-fn full_then_wrong<Rt: Threads + Wait + Sync>(
-    rt: &Rt,
-    alloc: Global,
-    media: &mut MemNand,
+// Whether all is told as wanted of a full volume that is written over, or written anew.
+fn full_then_right<Rt: Threads + Wait + Sync>(
+    rig: &mut Rig<'_, Rt>,
     anew: bool,
-) -> Result<String, Memory> {
-    let wrong = full_wrong(rt, alloc, media)?;
-    if !wrong.is_empty() {
-        return Ok(wrong);
+) -> Result<bool, Memory> {
+    if !full_right(rig)? {
+        return Ok(false);
     }
     if anew {
-        anew_wrong(rt, alloc, media)
+        anew_right(rig)
     } else {
-        overwritten_wrong(rt, alloc, media)
+        overwritten_right(rig)
     }
 }
 
@@ -135,8 +116,9 @@ fn full_then<Rt: Threads + Wait + Sync>(
     alloc: Global,
     anew: bool,
 ) -> Result<String, Memory> {
-    let mut media = blank(alloc);
-    full_then_wrong(rt, alloc, &mut media, anew)
+    let mut rig = Rig::new(rt, alloc);
+    let right = full_then_right(&mut rig, anew);
+    rig.ended(right)
 }
 
 #[test]
@@ -208,41 +190,44 @@ fn of_metadata(alloc: Global) -> Result<Built, Memory> {
     Ok(built)
 }
 
-// What is told otherwise than wanted by a run of these lines on a new volume, and by a check behind it.
+// Whether a run of these lines on a new volume and a check behind it are told as wanted.
 fn most<Rt: Threads + Wait + Sync>(
-    rt: &Rt,
-    alloc: Global,
+    rig: &mut Rig<'_, Rt>,
     built: &Built,
     sound: &str,
-) -> Result<String, Memory> {
-    played(rt, alloc, &[built.step(), ("check", "", 0, sound)])
+) -> Result<bool, Memory> {
+    rig.play_new(&[built.step(), ("check", "", 0, sound)])
 }
 
-fn most_of_one_page<Rt: Threads + Wait + Sync>(rt: &Rt, alloc: Global) -> Result<String, Memory> {
-    let built = of_one_page(alloc)?;
-    most(rt, alloc, &built, "sound 738\n")
+fn most_of_one_page<Rt: Threads + Wait + Sync>(rig: &mut Rig<'_, Rt>) -> Result<bool, Memory> {
+    let built = of_one_page(rig.alloc)?;
+    let right = most(rig, &built, "sound 738\n");
+    drop(built);
+    right
 }
 
-fn most_nodes<Rt: Threads + Wait + Sync>(rt: &Rt, alloc: Global) -> Result<String, Memory> {
-    let built = of_nodes(alloc)?;
-    most(rt, alloc, &built, "sound 68\n")
+fn most_nodes<Rt: Threads + Wait + Sync>(rig: &mut Rig<'_, Rt>) -> Result<bool, Memory> {
+    let built = of_nodes(rig.alloc)?;
+    let right = most(rig, &built, "sound 68\n");
+    drop(built);
+    right
 }
 
-fn most_metadata<Rt: Threads + Wait + Sync>(rt: &Rt, alloc: Global) -> Result<String, Memory> {
-    let built = of_metadata(alloc)?;
-    most(rt, alloc, &built, "sound 40\n")
+fn most_metadata<Rt: Threads + Wait + Sync>(rig: &mut Rig<'_, Rt>) -> Result<bool, Memory> {
+    let built = of_metadata(rig.alloc)?;
+    let right = most(rig, &built, "sound 40\n");
+    drop(built);
+    right
+}
+
+fn most_right<Rt: Threads + Wait + Sync>(rig: &mut Rig<'_, Rt>) -> Result<bool, Memory> {
+    Ok(most_of_one_page(rig)? && most_nodes(rig)? && most_metadata(rig)?)
 }
 
 fn most_wrong<Rt: Threads + Wait + Sync>(rt: &Rt, alloc: Global) -> Result<String, Memory> {
-    let wrong = most_of_one_page(rt, alloc)?;
-    if !wrong.is_empty() {
-        return Ok(wrong);
-    }
-    let wrong = most_nodes(rt, alloc)?;
-    if !wrong.is_empty() {
-        return Ok(wrong);
-    }
-    most_metadata(rt, alloc)
+    let mut rig = Rig::new(rt, alloc);
+    let right = most_right(&mut rig);
+    rig.ended(right)
 }
 
 #[test]
@@ -292,19 +277,20 @@ const ENTRIES: [Step<'static>; 2] = [
     ),
 ];
 
-fn entries_wrong<Rt: Threads + Wait + Sync>(
-    rt: &Rt,
-    alloc: Global,
-    media: &mut MemNand,
-) -> Result<String, Memory> {
-    play(rt, alloc, media, &[LARGE])?;
-    let built = of_entries(alloc)?;
-    built_wrong(rt, alloc, media, &built, &ENTRIES)
+fn entries_right<Rt: Threads + Wait + Sync>(rig: &mut Rig<'_, Rt>) -> Result<bool, Memory> {
+    if !rig.play(&[LARGE])? {
+        return Ok(false);
+    }
+    let built = of_entries(rig.alloc)?;
+    let right = built_right(rig, &built, &ENTRIES);
+    drop(built);
+    right
 }
 
 fn most_entries<Rt: Threads + Wait + Sync>(rt: &Rt, alloc: Global) -> Result<String, Memory> {
-    let mut media = blank(alloc);
-    entries_wrong(rt, alloc, &mut media)
+    let mut rig = Rig::new(rt, alloc);
+    let right = entries_right(&mut rig);
+    rig.ended(right)
 }
 
 #[test]

@@ -1,8 +1,7 @@
 // Command lines and scripts that are refused.
 use nl_field::Memory;
-use nl_nand::MemNand;
-use nl_top_tests::play::{FORMAT, Step, play, played};
-use nl_top_tests::program::blank;
+use nl_top_tests::play::FORMAT;
+use nl_top_tests::program::Rig;
 use std::alloc::Global;
 use std::sync::Wait;
 use std::test::Fail;
@@ -63,53 +62,35 @@ const SCRIPTS: [(&str, &str); 16] = [
     ("0 create /a\n8 create /b\n", "script 2 1 worker\n"),
 ];
 
-// The first of the command lines that is not refused, and the empty text where each is.
-fn line_taken<Rt: Threads + Wait + Sync>(
-    rt: &Rt,
-    alloc: Global,
-    media: &mut MemNand,
-) -> Result<String, Memory> {
+// Whether each of the command lines is refused, and leaves the medium.
+fn lines_refused<Rt: Threads + Wait + Sync>(rig: &mut Rig<'_, Rt>) -> Result<bool, Memory> {
     for line in LINES.iter() {
-        let step: Step<'static> = (*line, "", 2, "words\n");
-        let wrong = play(rt, alloc, media, &[step])?;
-        if !wrong.is_empty() {
-            return Ok(wrong);
+        if !rig.play(&[(*line, "", 2, "words\n")])? {
+            return Ok(false);
         }
     }
-    play(rt, alloc, media, &[("check", "", 7, "blank\n"), FORMAT])
+    rig.play(&[("check", "", 7, "blank\n"), FORMAT])
 }
 
 // The same of the scripts.
-fn script_taken<Rt: Threads + Wait + Sync>(
-    rt: &Rt,
-    alloc: Global,
-    media: &mut MemNand,
-) -> Result<String, Memory> {
+fn scripts_refused<Rt: Threads + Wait + Sync>(rig: &mut Rig<'_, Rt>) -> Result<bool, Memory> {
     for row in SCRIPTS.iter() {
         let (script, text) = *row;
-        let wrong = play(rt, alloc, media, &[("run", script, 2, text)])?;
-        if !wrong.is_empty() {
-            return Ok(wrong);
+        if !rig.play(&[("run", script, 2, text)])? {
+            return Ok(false);
         }
     }
-    play(rt, alloc, media, &[("check", "", 0, "sound 0\n")])
+    rig.is_sound(0)
 }
 
-fn all_taken<Rt: Threads + Wait + Sync>(
-    rt: &Rt,
-    alloc: Global,
-    media: &mut MemNand,
-) -> Result<String, Memory> {
-    let wrong = line_taken(rt, alloc, media)?;
-    if !wrong.is_empty() {
-        return Ok(wrong);
-    }
-    script_taken(rt, alloc, media)
+fn all_refused<Rt: Threads + Wait + Sync>(rig: &mut Rig<'_, Rt>) -> Result<bool, Memory> {
+    Ok(lines_refused(rig)? && scripts_refused(rig)?)
 }
 
 fn taken<Rt: Threads + Wait + Sync>(rt: &Rt, alloc: Global) -> Result<String, Memory> {
-    let mut media = blank(alloc);
-    all_taken(rt, alloc, &mut media)
+    let mut rig = Rig::new(rt, alloc);
+    let right = all_refused(&mut rig);
+    rig.ended(right)
 }
 
 #[test]
@@ -127,12 +108,28 @@ fn copies(alloc: Global, text: &str, count: u32) -> Result<String, Memory> {
     Ok(all)
 }
 
-// The sum of the lengths that are read is at most 4096 times 65536, where a list counts as much as the longest read.
-fn reads_wrong<Rt: Threads + Wait + Sync>(rt: &Rt, alloc: Global) -> Result<String, Memory> {
+// Whether a run of this script on a new volume is told as wanted.
+fn is_run<Rt: Threads + Wait + Sync>(
+    rig: &mut Rig<'_, Rt>,
+    script: &str,
+    status: u8,
+    text: &str,
+) -> Result<bool, Memory> {
+    rig.play_new(&[("run", script, status, text)])
+}
+
+fn reads(alloc: Global) -> Result<String, Memory> {
     let mut script = copies(alloc, "0 read /a 0 65536\n", 4095)?;
     script.push_str("0 list /\n0 read /a 0 1\n")?;
-    let text = "script 4097 1 total\n";
-    played(rt, alloc, &[("run", script.as_str(), 2, text)])
+    Ok(script)
+}
+
+// The sum of the lengths that are read is at most 4096 times 65536, where a list counts as much as the longest read.
+fn reads_right<Rt: Threads + Wait + Sync>(rig: &mut Rig<'_, Rt>) -> Result<bool, Memory> {
+    let script = reads(rig.alloc)?;
+    let right = is_run(rig, script.as_str(), 2, "script 4097 1 total\n");
+    drop(script);
+    right
 }
 
 fn written(alloc: Global, more: &str) -> Result<String, Memory> {
@@ -141,40 +138,42 @@ fn written(alloc: Global, more: &str) -> Result<String, Memory> {
 }
 
 // A line of data with 131072 digits is the longest that is no comment.
-fn data_wrong<Rt: Threads + Wait + Sync>(rt: &Rt, alloc: Global) -> Result<String, Memory> {
-    let longest = written(alloc, "")?;
+fn data_right<Rt: Threads + Wait + Sync>(rig: &mut Rig<'_, Rt>) -> Result<bool, Memory> {
+    let longest = written(rig.alloc, "")?;
     let text = "opened 0\n1 @1 ok\n2 @2 ok 65536\n3 @3 ok 61\n";
-    played(rt, alloc, &[("run", longest.as_str(), 0, text)])
+    let right = is_run(rig, longest.as_str(), 0, text);
+    drop(longest);
+    right
 }
 
-fn more_data_wrong<Rt: Threads + Wait + Sync>(rt: &Rt, alloc: Global) -> Result<String, Memory> {
-    let longer = written(alloc, "61")?;
-    let text = "script 2 14 long\n";
-    played(rt, alloc, &[("run", longer.as_str(), 2, text)])
+fn more_data_right<Rt: Threads + Wait + Sync>(rig: &mut Rig<'_, Rt>) -> Result<bool, Memory> {
+    let longer = written(rig.alloc, "61")?;
+    let right = is_run(rig, longer.as_str(), 2, "script 2 14 long\n");
+    drop(longer);
+    right
+}
+
+fn comment(alloc: Global) -> Result<String, Memory> {
+    let line = copies(alloc, "#2345678", 17500)?;
+    format!(in alloc; "{line}\n0 create /a\n{line}9\n")
 }
 
 // A comment has at most 140000 bytes.
-fn comment_wrong<Rt: Threads + Wait + Sync>(rt: &Rt, alloc: Global) -> Result<String, Memory> {
-    let line = copies(alloc, "#2345678", 17500)?;
-    let script = format!(in alloc; "{line}\n0 create /a\n{line}9\n")?;
-    let text = "script 3 140001 long\n";
-    played(rt, alloc, &[("run", script.as_str(), 2, text)])
+fn comment_right<Rt: Threads + Wait + Sync>(rig: &mut Rig<'_, Rt>) -> Result<bool, Memory> {
+    let script = comment(rig.alloc)?;
+    let right = is_run(rig, script.as_str(), 2, "script 3 140001 long\n");
+    drop(script);
+    right
+}
+
+fn lengths_right<Rt: Threads + Wait + Sync>(rig: &mut Rig<'_, Rt>) -> Result<bool, Memory> {
+    Ok(data_right(rig)? && more_data_right(rig)? && comment_right(rig)? && reads_right(rig)?)
 }
 
 fn lengths_wrong<Rt: Threads + Wait + Sync>(rt: &Rt, alloc: Global) -> Result<String, Memory> {
-    let wrong = data_wrong(rt, alloc)?;
-    if !wrong.is_empty() {
-        return Ok(wrong);
-    }
-    let wrong = more_data_wrong(rt, alloc)?;
-    if !wrong.is_empty() {
-        return Ok(wrong);
-    }
-    let wrong = comment_wrong(rt, alloc)?;
-    if !wrong.is_empty() {
-        return Ok(wrong);
-    }
-    reads_wrong(rt, alloc)
+    let mut rig = Rig::new(rt, alloc);
+    let right = lengths_right(&mut rig);
+    rig.ended(right)
 }
 
 #[test]

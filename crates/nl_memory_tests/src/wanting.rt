@@ -1,8 +1,8 @@
 // Commands of which one may be for want of memory: it is not carried out then, or the medium failed for want of it. With ample memory all is as ever.
 use nl_field::Memory;
-use nl_nand::{MemNand, Nand};
-use nl_top_tests::play::{FORMAT, Step, answered, counted, play};
-use nl_top_tests::program::{blank, tell};
+use nl_nand::Nand;
+use nl_top_tests::play::{FORMAT, Step, answered};
+use nl_top_tests::program::Rig;
 use std::alloc::Global;
 use std::sync::Wait;
 use std::test::Fail;
@@ -59,93 +59,83 @@ enum Ending {
 }
 
 fn ended<Rt: Threads + Wait + Sync>(
-    rt: &Rt,
-    alloc: Global,
-    media: &mut MemNand,
+    rig: &mut Rig<'_, Rt>,
     step: &Step<'_>,
 ) -> Result<Ending, Memory> {
     let (words, script, status, text) = *step;
-    let clock = media.clock();
-    let faults = media.write_faults();
-    let told = tell(rt, alloc, words, script, media)?;
-    let failed = media.write_faults() != faults;
-    Ok(if told.is(status, text) && !failed {
+    let clock = rig.media.clock();
+    let faults = rig.media.write_faults();
+    let told = rig.tell(words, script)?;
+    let failed = rig.media.write_faults() != faults;
+    let ending = if told.is(status, text) && !failed {
         Ending::Whole
-    } else if told.is(6, "memory\n") && !failed && media.clock() == clock {
+    } else if told.is(6, "memory\n") && !failed && rig.media.clock() == clock {
         Ending::Wanting
     } else if told.status == 5 && failed {
         Ending::Failed(told.synced())
     } else {
         Ending::Wrong
-    })
+    };
+    drop(told);
+    Ok(ending)
 }
 
-// What is told otherwise than wanted of a volume on which a soak broke off after at least so many calls.
-fn soaked_wrong<Rt: Threads + Wait + Sync>(
-    rt: &Rt,
-    alloc: Global,
-    media: &mut MemNand,
+// Whether a volume is right on which a soak broke off after at least so many calls.
+fn soaked_right<Rt: Threads + Wait + Sync>(
+    rig: &mut Rig<'_, Rt>,
     least: u64,
-) -> Result<String, Memory> {
-    match counted(rt, alloc, media)? {
-        Some(count) if least <= count && count <= SOAKED => Ok(String::new(alloc)),
-        Some(_) => String::from_str(alloc, "another count"),
-        None => String::from_str(alloc, "not sound"),
+) -> Result<bool, Memory> {
+    match rig.counted()? {
+        Some(count) if least <= count && count <= SOAKED => Ok(true),
+        Some(_) => rig.note("another count"),
+        None => rig.note("not sound"),
     }
 }
 
-// What is told otherwise than wanted of a volume that opens after at least so many calls.
-fn left_wrong<Rt: Threads + Wait + Sync>(
-    rt: &Rt,
-    alloc: Global,
-    media: &mut MemNand,
+// Whether a volume is right that opens after at least so many calls.
+fn left_right<Rt: Threads + Wait + Sync>(
+    rig: &mut Rig<'_, Rt>,
     least: u64,
-) -> Result<String, Memory> {
-    let Some(count) = counted(rt, alloc, media)? else {
-        return String::from_str(alloc, "not sound");
+) -> Result<bool, Memory> {
+    let Some(count) = rig.counted()? else {
+        return rig.note("not sound");
     };
     if count < least || 4 < count {
-        return String::from_str(alloc, "another count");
+        return rig.note("another count");
     }
     let answer = match count {
         0 => "ENOENT",
         1 => "ok -",
         _ => "ok 68656c6c6f",
     };
-    let text = answered(alloc, count, 0, &[answer])?;
-    play(
-        rt,
-        alloc,
-        media,
-        &[("run", "0 read /a 0 9\n", 0, text.as_str())],
-    )
+    let text = answered(rig.alloc, count, 0, &[answer])?;
+    let right = rig.play(&[("run", "0 read /a 0 9\n", 0, text.as_str())]);
+    drop(text);
+    right
 }
 
-// What is told otherwise than wanted of these steps on this medium.
-fn steps_wrong<Rt: Threads + Wait + Sync>(
-    rt: &Rt,
-    alloc: Global,
-    media: &mut MemNand,
-) -> Result<String, Memory> {
+// Whether these steps are told as wanted on this medium.
+fn steps_right<Rt: Threads + Wait + Sync>(rig: &mut Rig<'_, Rt>) -> Result<bool, Memory> {
     for (at, step) in STEPS.iter().enumerate() {
-        let wrong = match ended(rt, alloc, media, step)? {
-            Ending::Whole => String::new(alloc),
-            Ending::Wanting => play(rt, alloc, media, &[*step])?,
-            Ending::Failed(_) if at == 0 || at == SOAK + 1 => play(rt, alloc, media, &[*step])?,
-            Ending::Failed(synced) if at == SOAK => return soaked_wrong(rt, alloc, media, synced),
-            Ending::Failed(synced) => return left_wrong(rt, alloc, media, synced),
-            Ending::Wrong => String::from_str(alloc, "another ending")?,
+        let right = match ended(rig, step)? {
+            Ending::Whole => true,
+            Ending::Wanting => rig.play(&[*step])?,
+            Ending::Failed(_) if at == 0 || at == SOAK + 1 => rig.play(&[*step])?,
+            Ending::Failed(synced) if at == SOAK => return soaked_right(rig, synced),
+            Ending::Failed(synced) => return left_right(rig, synced),
+            Ending::Wrong => rig.note("another ending")?,
         };
-        if !wrong.is_empty() {
-            return Ok(wrong);
+        if !right {
+            return Ok(false);
         }
     }
-    Ok(String::new(alloc))
+    Ok(true)
 }
 
 fn steps<Rt: Threads + Wait + Sync>(rt: &Rt, alloc: Global) -> Result<String, Memory> {
-    let mut media = blank(alloc);
-    steps_wrong(rt, alloc, &mut media)
+    let mut rig = Rig::new(rt, alloc);
+    let right = steps_right(&mut rig);
+    rig.ended(right)
 }
 
 // Where the allocation is one of the test's own, nothing is told.

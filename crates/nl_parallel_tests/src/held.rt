@@ -1,46 +1,41 @@
 // Workers that a gate holds.
 use crate::gates::{Chores, Holding};
 use nl_field::Memory;
-use nl_nand::MemNand;
 use nl_top::Gate;
 use nl_top_tests::built::{Built, full};
-use nl_top_tests::play::{FORMAT, Step, play, told_wrong};
-use nl_top_tests::program::{Given, blank, tell_with};
+use nl_top_tests::play::Step;
+use nl_top_tests::program::{Given, Rig};
 use std::alloc::Global;
 use std::sync::Wait;
 use std::test::Fail;
 use std::thread::Threads;
 
-// What is told otherwise than wanted by one run under a gate, on a new volume after the first steps and before the last.
-fn held_wrong<Rt: Threads + Wait + Sync, G: Gate + Sync>(
-    rt: &Rt,
-    alloc: Global,
-    media: &mut MemNand,
-    steps: &[Step<'_>; 3],
+// Whether a run under a gate is told as wanted.
+fn run_right<Rt: Threads + Wait + Sync, G: Gate + Sync>(
+    rig: &mut Rig<'_, Rt>,
+    step: &Step<'_>,
     gate: &G,
-) -> Result<String, Memory> {
-    let [before, held, behind] = *steps;
-    let wrong = play(rt, alloc, media, &[FORMAT, before])?;
-    if !wrong.is_empty() {
-        return Ok(wrong);
-    }
-    drop(wrong);
-    let (words, script, _, _) = held;
+) -> Result<bool, Memory> {
+    let (words, script, _, _) = *step;
     let given = Given {
         words,
         script,
         read: 0,
         write: 0,
     };
-    let told = tell_with(rt, alloc, &given, media, gate)?;
-    let wrong = told_wrong(alloc, &told, &held);
+    let told = rig.tell_with(&given, gate)?;
+    let right = rig.is_told(&told, step);
     drop(told);
-    let wrong = wrong?;
-    if !wrong.is_empty() {
-        return Ok(wrong);
-    }
-    drop(wrong);
-    play(rt, alloc, media, &[behind])
+    right
+}
+
+// Whether the second of these steps is told as wanted under a gate, on a new volume after the first and before the last.
+fn held_right<Rt: Threads + Wait + Sync, G: Gate + Sync>(
+    rig: &mut Rig<'_, Rt>,
+    steps: &[Step<'_>; 3],
+    gate: &G,
+) -> Result<bool, Memory> {
+    Ok(rig.play_new(&steps[..1])? && run_right(rig, &steps[1], gate)? && rig.play(&steps[2..])?)
 }
 
 fn held<Rt: Threads + Wait + Sync, G: Gate + Sync>(
@@ -49,8 +44,9 @@ fn held<Rt: Threads + Wait + Sync, G: Gate + Sync>(
     steps: &[Step<'_>; 3],
     gate: &G,
 ) -> Result<String, Memory> {
-    let mut media = blank(alloc);
-    held_wrong(rt, alloc, &mut media, steps, gate)
+    let mut rig = Rig::new(rt, alloc);
+    let right = held_right(&mut rig, steps, gate);
+    rig.ended(right)
 }
 
 // Worker 0 has staged its line 4 while the block of its pages is cleaned.
@@ -96,16 +92,22 @@ fn staged_pages_are_moved(rt: HostRuntime) -> Result<(), Fail> {
 }
 
 // Every second piece of the first 224 pages is written over.
-fn refilled(alloc: Global) -> Result<Built, Memory> {
-    let mut built = Built::new(alloc, 33)?;
+fn refill(alloc: Global, built: &mut Built) -> Result<(), Memory> {
     for piece in 0..7u64 {
         let from = piece.saturating_mul(131072);
         let call = format!(in alloc; "fill /a {from} 65536 62")?;
-        built.add(call.as_str(), "ok 65536")?;
+        let added = built.add(call.as_str(), "ok 65536");
+        drop(call);
+        added?;
     }
     built.add("sync", "ok 40")?;
     built.barrier()?;
-    built.add("read /a 0 1", "ok 62")?;
+    built.add("read /a 0 1", "ok 62")
+}
+
+fn refilled(alloc: Global) -> Result<Built, Memory> {
+    let mut built = Built::new(alloc, 33)?;
+    refill(alloc, &mut built)?;
     Ok(built)
 }
 

@@ -1,29 +1,35 @@
 // Workers that run beside each other as they come.
-use crate::workload::{Workload, course_wrong};
+use crate::workload::{Workload, is_course};
 use nl_field::Memory;
-use nl_nand::MemNand;
-use nl_top_tests::play::{FORMAT, Step, play};
-use nl_top_tests::program::{blank, tell};
+use nl_top_tests::play::{FORMAT, Step};
+use nl_top_tests::program::Rig;
 use std::alloc::Global;
+use std::fmt::Write;
 use std::sync::Wait;
 use std::test::Fail;
 use std::thread::Threads;
 
-// What is told otherwise than wanted of these lines on a new volume, and then of the steps behind them.
-fn work_wrong<Rt: Threads + Wait + Sync>(
-    rt: &Rt,
-    alloc: Global,
-    media: &mut MemNand,
+// Whether these lines are told as wanted on a new volume.
+fn course_right<Rt: Threads + Wait + Sync>(
+    rig: &mut Rig<'_, Rt>,
+    work: &Workload,
+) -> Result<bool, Memory> {
+    let told = rig.tell("run", work.script())?;
+    let right = match is_course(rig.alloc, work, &told, 0) {
+        Ok(false) => rig.note_told("run", &told),
+        right => right,
+    };
+    drop(told);
+    right
+}
+
+// The same, and then of the steps behind them.
+fn work_right<Rt: Threads + Wait + Sync>(
+    rig: &mut Rig<'_, Rt>,
     work: &Workload,
     steps: &[Step<'_>],
-) -> Result<String, Memory> {
-    play(rt, alloc, media, &[FORMAT])?;
-    let told = tell(rt, alloc, "run", work.script(), media)?;
-    let wrong = course_wrong(alloc, work, &told, 0)?;
-    if !wrong.is_empty() {
-        return Ok(wrong);
-    }
-    play(rt, alloc, media, steps)
+) -> Result<bool, Memory> {
+    Ok(rig.play(&[FORMAT])? && course_right(rig, work)? && rig.play(steps)?)
 }
 
 fn worked<Rt: Threads + Wait + Sync>(
@@ -32,18 +38,23 @@ fn worked<Rt: Threads + Wait + Sync>(
     work: &Workload,
     steps: &[Step<'_>],
 ) -> Result<String, Memory> {
-    let mut media = blank(alloc);
-    work_wrong(rt, alloc, &mut media, work, steps)
+    let mut rig = Rig::new(rt, alloc);
+    let right = work_right(&mut rig, work, steps);
+    rig.ended(right)
 }
 
-fn of_two(alloc: Global) -> Result<Workload, Memory> {
-    let mut work = Workload::new(alloc);
+fn add_two(alloc: Global, work: &mut Workload) -> Result<(), Memory> {
     work.add(alloc, 0, "create /a", "ok")?;
     work.add(alloc, 0, "write /a 0 61", "ok 1")?;
     work.add(alloc, 1, "create /b", "ok")?;
     work.barrier(alloc)?;
     work.add(alloc, 1, "read /a 0 1", "ok 61")?;
-    work.add(alloc, 0, "list /", "ok 2 a b")?;
+    work.add(alloc, 0, "list /", "ok 2 a b")
+}
+
+fn of_two(alloc: Global) -> Result<Workload, Memory> {
+    let mut work = Workload::new(alloc);
+    add_two(alloc, &mut work)?;
     Ok(work)
 }
 
@@ -59,54 +70,94 @@ fn two_rounds(rt: HostRuntime) -> Result<(), Fail> {
     Ok(())
 }
 
-// Fills the file, and reads and writes across the end of its first page.
-fn add_turn(alloc: Global, work: &mut Workload, worker: u8, byte: u64) -> Result<(), Memory> {
-    let fill = format!(in alloc; "fill /w{worker}/f 0 65536 {byte}")?;
-    work.add(alloc, worker, fill.as_str(), "ok 65536")?;
-    let read = format!(in alloc; "read /w{worker}/f 65535 2")?;
-    let answer = format!(in alloc; "ok {byte}")?;
-    work.add(alloc, worker, read.as_str(), answer.as_str())?;
-    let write = format!(in alloc; "write /w{worker}/f 4095 0{worker}0{worker}")?;
-    work.add(alloc, worker, write.as_str(), "ok 2")?;
-    let read = format!(in alloc; "read /w{worker}/f 4094 4")?;
-    let answer = format!(in alloc; "ok {byte}0{worker}0{worker}{byte}")?;
-    work.add(alloc, worker, read.as_str(), answer.as_str())?;
-    work.sync(alloc, worker)
+/// A call and its answer: `%` stands for a worker, and `#` for a byte that it fills its file with.
+type Pattern = (&'static str, &'static str);
+
+// A worker has a directory of its own.
+const FIRST: [Pattern; 2] = [("mkdir /w%", "ok"), ("create /w%/f", "ok")];
+
+// It fills the file, and reads and writes across the end of its first page.
+const TURN: [Pattern; 5] = [
+    ("fill /w%/f 0 65536 #", "ok 65536"),
+    ("read /w%/f 65535 2", "ok #"),
+    ("write /w%/f 4095 0%0%", "ok 2"),
+    ("read /w%/f 4094 4", "ok #0%0%#"),
+    ("sync", ""),
+];
+
+// Behind the fills the file gets another name, and is cut.
+const LAST: [Pattern; 5] = [
+    ("stat /w%/g", "ENOENT"),
+    ("rename /w%/f /w%/g", "ok"),
+    ("stat /w%/g", "ok file 65536 16"),
+    ("truncate /w%/g 4097", "ok"),
+    ("list /w%", "ok 1 g"),
+];
+
+fn push_all(text: &mut String, pattern: &str, worker: u8, byte: u64) -> Result<(), Memory> {
+    for c in pattern.chars() {
+        match c {
+            '%' => write!(text, "{worker}")?,
+            '#' => write!(text, "{byte}")?,
+            c => text.push(c)?,
+        }
+    }
+    Ok(())
 }
 
-// The lines behind the fills: the file gets another name, and is cut.
-fn add_end(alloc: Global, work: &mut Workload, worker: u8) -> Result<(), Memory> {
-    let stat = format!(in alloc; "stat /w{worker}/g")?;
-    work.add(alloc, worker, stat.as_str(), "ENOENT")?;
-    let rename = format!(in alloc; "rename /w{worker}/f /w{worker}/g")?;
-    work.add(alloc, worker, rename.as_str(), "ok")?;
-    work.add(alloc, worker, stat.as_str(), "ok file 65536 16")?;
-    let truncate = format!(in alloc; "truncate /w{worker}/g 4097")?;
-    work.add(alloc, worker, truncate.as_str(), "ok")?;
-    let list = format!(in alloc; "list /w{worker}")?;
-    work.add(alloc, worker, list.as_str(), "ok 1 g")
+fn text_of(alloc: Global, pattern: &str, worker: u8, byte: u64) -> Result<String, Memory> {
+    let mut text = String::new(alloc);
+    push_all(&mut text, pattern, worker, byte)?;
+    Ok(text)
+}
+
+fn add_line(
+    alloc: Global,
+    work: &mut Workload,
+    worker: u8,
+    byte: u64,
+    pattern: &Pattern,
+) -> Result<(), Memory> {
+    let (call, answer) = *pattern;
+    let call = text_of(alloc, call, worker, byte)?;
+    let answer = text_of(alloc, answer, worker, byte)?;
+    work.add(alloc, worker, call.as_str(), answer.as_str())
+}
+
+fn add_lines(
+    alloc: Global,
+    work: &mut Workload,
+    worker: u8,
+    byte: u64,
+    patterns: &[Pattern],
+) -> Result<(), Memory> {
+    for pattern in patterns {
+        add_line(alloc, work, worker, byte, pattern)?;
+    }
+    Ok(())
 }
 
 // A worker in a directory of its own, which fills a file over and over.
 fn add_worker(alloc: Global, work: &mut Workload, worker: u8) -> Result<(), Memory> {
-    let mkdir = format!(in alloc; "mkdir /w{worker}")?;
-    work.add(alloc, worker, mkdir.as_str(), "ok")?;
-    let create = format!(in alloc; "create /w{worker}/f")?;
-    work.add(alloc, worker, create.as_str(), "ok")?;
+    add_lines(alloc, work, worker, 0, &FIRST)?;
     for byte in 10..18u64 {
-        add_turn(alloc, work, worker, byte)?;
+        add_lines(alloc, work, worker, byte, &TURN)?;
     }
-    add_end(alloc, work, worker)
+    add_lines(alloc, work, worker, 0, &LAST)
+}
+
+fn add_eight(alloc: Global, work: &mut Workload) -> Result<(), Memory> {
+    for worker in 0..8u8 {
+        add_worker(alloc, work, worker)?;
+    }
+    work.barrier(alloc)?;
+    work.add(alloc, 3, "list /", "ok 8 w0/ w1/ w2/ w3/ w4/ w5/ w6/ w7/")?;
+    work.add(alloc, 5, "read /w2/g 4094 9", "ok 170202")
 }
 
 fn of_eight(alloc: Global) -> Result<Workload, Memory> {
     let mut work = Workload::new(alloc);
-    for worker in 0..8u8 {
-        add_worker(alloc, &mut work, worker)?;
-    }
-    work.barrier(alloc)?;
-    work.add(alloc, 3, "list /", "ok 8 w0/ w1/ w2/ w3/ w4/ w5/ w6/ w7/")?;
-    work.add(alloc, 5, "read /w2/g 4094 9", "ok 170202")?;
+    add_eight(alloc, &mut work)?;
     Ok(work)
 }
 

@@ -1,9 +1,9 @@
 // Workers that run beside each other on a medium that stops.
 use nl_field::Memory;
-use nl_nand::{Cut, MemNand, Stop};
+use nl_nand::{Cut, Stop};
 use nl_top::OrderList;
-use nl_top_tests::play::{FORMAT, answered, counted, play};
-use nl_top_tests::program::{Told, blank, restart, tell};
+use nl_top_tests::play::{FORMAT, answered};
+use nl_top_tests::program::{Rig, Told};
 use std::alloc::Global;
 use std::sync::Wait;
 use std::test::Fail;
@@ -45,101 +45,89 @@ fn read_after(changes: usize) -> &'static str {
     }
 }
 
-// What is told otherwise than wanted of the files on a volume after so many calls, where each has so many of its changes.
-fn files_wrong<Rt: Threads + Wait + Sync>(
-    rt: &Rt,
-    alloc: Global,
-    media: &mut MemNand,
+// Whether the files are told as wanted on a volume after so many calls, where each has so many of its changes.
+fn files_right<Rt: Threads + Wait + Sync>(
+    rig: &mut Rig<'_, Rt>,
     count: u64,
     changes: [usize; 3],
-) -> Result<String, Memory> {
+) -> Result<bool, Memory> {
     let [zero, one, two] = changes;
     let answers = [read_after(zero), read_after(one), read_after(two)];
-    let text = answered(alloc, count, 0, &answers)?;
+    let text = answered(rig.alloc, count, 0, &answers)?;
     let script = "0 read /f0 0 9\n0 read /f1 0 9\n0 read /f2 0 9\n";
-    play(rt, alloc, media, &[("run", script, 0, text.as_str())])
+    let right = rig.play(&[("run", script, 0, text.as_str())]);
+    drop(text);
+    right
 }
 
-// What is wrong with what such a run left: its volume is to open after a prefix of the answered lines that has each synced one.
-fn left_wrong<Rt: Threads + Wait + Sync>(
-    rt: &Rt,
-    alloc: Global,
-    media: &mut MemNand,
+// Whether what such a run left is right: its volume is to open after a prefix of the answered lines that has each synced one.
+fn left_right<Rt: Threads + Wait + Sync>(
+    rig: &mut Rig<'_, Rt>,
     told: &Told,
-) -> Result<String, Memory> {
-    let Some(count) = counted(rt, alloc, media)? else {
-        return String::from_str(alloc, "not sound");
+) -> Result<bool, Memory> {
+    let Some(count) = rig.counted()? else {
+        return rig.note("not sound");
     };
     let met = told.status == 5;
     if count < told.synced() || 12 < count || told.order.len() != 12 || !met && count != 12 {
-        return String::from_str(alloc, "another count");
+        return rig.note("another count");
     }
     let changes = [
         changes(&told.order, count, [1, 4, 10]),
         changes(&told.order, count, [2, 5, 8]),
         changes(&told.order, count, [3, 6, 12]),
     ];
-    files_wrong(rt, alloc, media, count, changes)
+    files_right(rig, count, changes)
 }
 
-// What is wrong with a run of the three workers that was stopped there. With it comes whether the run met its stop.
-fn prefix_wrong<Rt: Threads + Wait + Sync>(
-    rt: &Rt,
-    alloc: Global,
-    media: &mut MemNand,
+// Whether a run of the three workers is right that was stopped there. With it comes whether the run met its stop.
+fn prefix_right<Rt: Threads + Wait + Sync>(
+    rig: &mut Rig<'_, Rt>,
     stop: Stop,
-) -> Result<(String, bool), Memory> {
-    play(rt, alloc, media, &[FORMAT])?;
-    restart(alloc, media, Some(stop));
-    let told = tell(rt, alloc, "run", BESIDE, media)?;
-    restart(alloc, media, None);
+) -> Result<(bool, bool), Memory> {
+    let formatted = rig.play(&[FORMAT])?;
+    rig.restart(Some(stop));
+    let told = rig.tell("run", BESIDE)?;
+    rig.restart(None);
     let met = told.status == 5;
-    let wrong = left_wrong(rt, alloc, media, &told);
+    let right = left_right(rig, &told);
     drop(told);
-    Ok((wrong?, met))
+    Ok((formatted && right?, met))
 }
 
 /// More programs than the run of the three workers makes.
 const LONGEST: u64 = 60;
 
-// What is wrong with the first of these runs that are stopped with this cut of which something is, and within which program: the programs go on until one
-// that the run does not make.
-fn each_wrong<Rt: Threads + Wait + Sync>(
-    rt: &Rt,
-    alloc: Global,
-    media: &mut MemNand,
-    cut: Cut,
-) -> Result<(String, u64), Memory> {
+// Whether these runs are right that are stopped with this cut: the programs go on until one that the run does not make.
+fn each_right<Rt: Threads + Wait + Sync>(rig: &mut Rig<'_, Rt>, cut: Cut) -> Result<bool, Memory> {
     for operation in 1..LONGEST {
-        let (wrong, met) = prefix_wrong(rt, alloc, media, Stop { operation, cut })?;
-        if !wrong.is_empty() || !met {
-            return Ok((wrong, operation));
+        let (right, met) = prefix_right(rig, Stop { operation, cut })?;
+        if !right {
+            return rig.note_run(operation);
+        }
+        if !met {
+            return Ok(true);
         }
     }
-    Ok((String::new(alloc), LONGEST))
+    rig.note("more programs")
 }
 
-fn each<Rt: Threads + Wait + Sync>(
-    rt: &Rt,
-    alloc: Global,
-    cut: Cut,
-) -> Result<(String, u64), Memory> {
-    let mut media = blank(alloc);
-    each_wrong(rt, alloc, &mut media, cut)
+fn each<Rt: Threads + Wait + Sync>(rt: &Rt, alloc: Global, cut: Cut) -> Result<String, Memory> {
+    let mut rig = Rig::new(rt, alloc);
+    let right = each_right(&mut rig, cut);
+    rig.ended(right)
 }
 
 #[test]
 fn workers_are_stopped_before(rt: HostRuntime) -> Result<(), Fail> {
-    let (wrong, programs) = each(&rt, rt.alloc(), Cut::Before)?;
-    assert_eq!(rt; wrong.as_str(), "", "{programs}");
-    assert!(rt; programs < LONGEST);
+    let wrong = each(&rt, rt.alloc(), Cut::Before)?;
+    assert_eq!(rt; wrong.as_str(), "");
     Ok(())
 }
 
 #[test]
 fn workers_are_stopped_and_spoil_a_page(rt: HostRuntime) -> Result<(), Fail> {
-    let (wrong, programs) = each(&rt, rt.alloc(), Cut::Spoilt)?;
-    assert_eq!(rt; wrong.as_str(), "", "{programs}");
-    assert!(rt; programs < LONGEST);
+    let wrong = each(&rt, rt.alloc(), Cut::Spoilt)?;
+    assert_eq!(rt; wrong.as_str(), "");
     Ok(())
 }

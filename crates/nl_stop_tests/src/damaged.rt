@@ -1,8 +1,8 @@
 // Media that no volume opens on.
 use nl_field::Memory;
-use nl_nand::{Cut, MemNand, Nand, Stop};
-use nl_top_tests::play::{FORMAT, Step, play};
-use nl_top_tests::program::{blank, restart};
+use nl_nand::{Cut, Nand, Stop};
+use nl_top_tests::play::{FORMAT, Step};
+use nl_top_tests::program::Rig;
 use std::alloc::Global;
 use std::sync::Wait;
 use std::test::Fail;
@@ -16,32 +16,29 @@ const HELLO: Step<'static> = (
 );
 
 // An erase that is stopped leaves the block uncorrectable.
-fn spoil(alloc: Global, media: &mut MemNand, block: u32) {
+fn spoil<Rt: Threads + Wait + Sync>(rig: &mut Rig<'_, Rt>, block: u32) {
     let stop = Stop {
         operation: 1,
         cut: Cut::Spoilt,
     };
-    restart(alloc, media, Some(stop));
-    if block < media.geometry().blocks {
-        let _ = media.erase(block);
+    rig.restart(Some(stop));
+    if block < rig.media.geometry().blocks {
+        let _ = rig.media.erase(block);
     }
-    restart(alloc, media, None);
+    rig.restart(None);
 }
 
-// What is told otherwise than wanted of a new volume with a file of one page, of which a block is left uncorrectable.
-fn spoilt_wrong<Rt: Threads + Wait + Sync>(
-    rt: &Rt,
-    alloc: Global,
-    media: &mut MemNand,
+// Whether the steps are told as wanted on a new volume with a file of one page, of which a block is left uncorrectable.
+fn spoilt_right<Rt: Threads + Wait + Sync>(
+    rig: &mut Rig<'_, Rt>,
     block: u32,
     steps: &[Step<'_>],
-) -> Result<String, Memory> {
-    let wrong = play(rt, alloc, media, &[FORMAT, HELLO])?;
-    if !wrong.is_empty() {
-        return Ok(wrong);
+) -> Result<bool, Memory> {
+    if !rig.play(&[FORMAT, HELLO])? {
+        return Ok(false);
     }
-    spoil(alloc, media, block);
-    play(rt, alloc, media, steps)
+    spoil(rig, block);
+    rig.play(steps)
 }
 
 // The pages of files begin with block 8.
@@ -68,23 +65,19 @@ const SPARE: [Step<'static>; 2] = [
 ];
 
 // The first block has the addresses as they were made, which the run has written anew in the second.
-fn blocks_wrong<Rt: Threads + Wait + Sync>(
-    rt: &Rt,
-    alloc: Global,
-    media: &mut MemNand,
-) -> Result<String, Memory> {
+fn blocks_right<Rt: Threads + Wait + Sync>(rig: &mut Rig<'_, Rt>) -> Result<bool, Memory> {
     for block in [0u32, 7, 9, 31] {
-        let wrong = spoilt_wrong(rt, alloc, media, block, &SPARE)?;
-        if !wrong.is_empty() {
-            return format!(in alloc; "{block}: {wrong}");
+        if !spoilt_right(rig, block, &SPARE)? {
+            return rig.note_run(u64::from(block));
         }
     }
-    spoilt_wrong(rt, alloc, media, 8, &DAMAGED)
+    spoilt_right(rig, 8, &DAMAGED)
 }
 
 fn blocks<Rt: Threads + Wait + Sync>(rt: &Rt, alloc: Global) -> Result<String, Memory> {
-    let mut media = blank(alloc);
-    blocks_wrong(rt, alloc, &mut media)
+    let mut rig = Rig::new(rt, alloc);
+    let right = blocks_right(&mut rig);
+    rig.ended(right)
 }
 
 #[test]
@@ -94,84 +87,74 @@ fn blocks_are_spoilt(rt: HostRuntime) -> Result<(), Fail> {
     Ok(())
 }
 
-// A stop within the first or the second program of a making: what `run` and `check` tell then.
-type Left = (u64, Cut, Step<'static>, Step<'static>);
+// What a making leaves that is stopped.
+#[derive(Clone, Copy)]
+enum Left {
+    Blank,
+    Damaged,
+    New,
+}
 
-const LEFT: [Left; 6] = [
-    (
-        1,
-        Cut::Before,
-        ("run", "", 7, "blank\n"),
-        ("check", "", 7, "blank\n"),
-    ),
-    (
-        1,
-        Cut::Spoilt,
-        ("run", "", 7, "blank\n"),
-        ("check", "", 7, "blank\n"),
-    ),
-    (
-        1,
-        Cut::After,
-        ("run", "", 7, "damaged 0 super\n"),
-        ("check", "", 8, "super\n"),
-    ),
-    (
-        2,
-        Cut::Before,
-        ("run", "", 7, "damaged 0 super\n"),
-        ("check", "", 8, "super\n"),
-    ),
-    (
-        2,
-        Cut::Spoilt,
-        ("run", "", 7, "damaged 0 super\n"),
-        ("check", "", 8, "super\n"),
-    ),
-    (
-        2,
-        Cut::After,
-        ("run", "", 0, "opened 0\n"),
-        ("check", "", 0, "sound 0\n"),
-    ),
+// A stop within the first or the second program of a making, and what it leaves.
+const STOPS: [(u64, Cut, Left); 6] = [
+    (1, Cut::Before, Left::Blank),
+    (1, Cut::Spoilt, Left::Blank),
+    (1, Cut::After, Left::Damaged),
+    (2, Cut::Before, Left::Damaged),
+    (2, Cut::Spoilt, Left::Damaged),
+    (2, Cut::After, Left::New),
 ];
+
+const BLANK: [Step<'static>; 2] = [("check", "", 7, "blank\n"), ("run", "", 7, "blank\n")];
+
+const NO_SUPER_PAGE: [Step<'static>; 2] = [
+    ("check", "", 8, "super\n"),
+    ("run", "", 7, "damaged 0 super\n"),
+];
+
+const NEW: [Step<'static>; 2] = [("check", "", 0, "sound 0\n"), ("run", "", 0, "opened 0\n")];
 
 const FAULT: Step<'static> = ("format 32 32", "", 5, "medium fault\n");
 
-fn making_wrong<Rt: Threads + Wait + Sync>(
-    rt: &Rt,
-    alloc: Global,
-    media: &mut MemNand,
-    left: &Left,
-) -> Result<String, Memory> {
-    let (operation, cut, run, check) = *left;
-    restart(alloc, media, Some(Stop { operation, cut }));
-    let wrong = play(rt, alloc, media, &[FAULT])?;
-    if !wrong.is_empty() {
-        return Ok(wrong);
+// Whether `check` and `run` tell that this is left.
+fn left_right<Rt: Threads + Wait + Sync>(
+    rig: &mut Rig<'_, Rt>,
+    left: Left,
+) -> Result<bool, Memory> {
+    match left {
+        Left::Blank => rig.play(&BLANK),
+        Left::Damaged => rig.play(&NO_SUPER_PAGE),
+        Left::New => rig.play(&NEW),
     }
-    restart(alloc, media, None);
-    play(rt, alloc, media, &[check, run, FORMAT])
 }
 
-fn makings_wrong<Rt: Threads + Wait + Sync>(
-    rt: &Rt,
-    alloc: Global,
-    media: &mut MemNand,
-    lefts: &[Left],
-) -> Result<String, Memory> {
-    for left in lefts {
-        let wrong = making_wrong(rt, alloc, media, left)?;
-        if !wrong.is_empty() {
-            return Ok(wrong);
+fn making_right<Rt: Threads + Wait + Sync>(
+    rig: &mut Rig<'_, Rt>,
+    stop: Stop,
+    left: Left,
+) -> Result<bool, Memory> {
+    rig.restart(Some(stop));
+    if !rig.play(&[FAULT])? {
+        return Ok(false);
+    }
+    rig.restart(None);
+    Ok(left_right(rig, left)? && rig.play(&[FORMAT])?)
+}
+
+fn makings_right<Rt: Threads + Wait + Sync>(rig: &mut Rig<'_, Rt>) -> Result<bool, Memory> {
+    for (at, row) in STOPS.iter().enumerate() {
+        let (operation, cut, left) = *row;
+        if !making_right(rig, Stop { operation, cut }, left)? {
+            return rig.note_run(at as u64);
         }
     }
-    Ok(String::new(alloc))
+    Ok(true)
 }
 
 fn makings<Rt: Threads + Wait + Sync>(rt: &Rt, alloc: Global) -> Result<String, Memory> {
-    let mut media = blank(alloc);
-    makings_wrong(rt, alloc, &mut media, &LEFT)
+    let mut rig = Rig::new(rt, alloc);
+    let right = makings_right(&mut rig);
+    rig.ended(right)
 }
 
 #[test]
@@ -197,27 +180,23 @@ const STOPPED: [Step<'static>; 7] = [
     ("format 32 32", "", 5, "medium fault\n"),
 ];
 
-fn stopped_wrong<Rt: Threads + Wait + Sync>(
-    rt: &Rt,
-    alloc: Global,
-    media: &mut MemNand,
-) -> Result<String, Memory> {
+fn stopped_right<Rt: Threads + Wait + Sync>(rig: &mut Rig<'_, Rt>) -> Result<bool, Memory> {
     let stop = Stop {
         operation: 3,
         cut: Cut::Before,
     };
-    restart(alloc, media, Some(stop));
-    let wrong = play(rt, alloc, media, &STOPPED)?;
-    if !wrong.is_empty() {
-        return Ok(wrong);
+    rig.restart(Some(stop));
+    if !rig.play(&STOPPED)? {
+        return Ok(false);
     }
-    restart(alloc, media, None);
-    play(rt, alloc, media, &[("check", "", 0, "sound 0\n")])
+    rig.restart(None);
+    rig.play(&[("check", "", 0, "sound 0\n")])
 }
 
 fn stopped<Rt: Threads + Wait + Sync>(rt: &Rt, alloc: Global) -> Result<String, Memory> {
-    let mut media = blank(alloc);
-    stopped_wrong(rt, alloc, &mut media)
+    let mut rig = Rig::new(rt, alloc);
+    let right = stopped_right(&mut rig);
+    rig.ended(right)
 }
 
 #[test]

@@ -1,8 +1,8 @@
 // The erase of a block that is cleaned is stopped, or fails.
 use nl_field::{FailList, Memory};
 use nl_nand::{Cut, MemNand, Stop};
-use nl_top_tests::play::{FORMAT, Step, answered, counted, play, sound_wrong};
-use nl_top_tests::program::{blank, only, restart, tell};
+use nl_top_tests::play::{FORMAT, Step, answered};
+use nl_top_tests::program::{Rig, only};
 use std::alloc::Global;
 use std::sync::Wait;
 use std::test::Fail;
@@ -30,13 +30,11 @@ const STOPPED: Step<'static> = (
     "opened 0\n1 @1 ok\n2 @2 ok\n3 @3 ok 65536\n4 @4 ok 65536\n5 @5 ok 65536\n6 @6 ok 5\n7 @7 EIO 1\n",
 );
 
-// What is told otherwise than wanted of the two files, on a volume after so many calls.
-fn files_wrong<Rt: Threads + Wait + Sync>(
-    rt: &Rt,
-    alloc: Global,
-    media: &mut MemNand,
+// Whether the two files are told as wanted on a volume after so many calls.
+fn files_right<Rt: Threads + Wait + Sync>(
+    rig: &mut Rig<'_, Rt>,
     count: u64,
-) -> Result<String, Memory> {
+) -> Result<bool, Memory> {
     let answers = [
         "ok 2 a b",
         "ok file 65536 16",
@@ -44,57 +42,54 @@ fn files_wrong<Rt: Threads + Wait + Sync>(
         "ok 6161",
         "ok 6363",
     ];
-    let wrong = sound_wrong(rt, alloc, media, count)?;
-    if !wrong.is_empty() {
-        return Ok(wrong);
+    if !rig.is_sound(count)? {
+        return Ok(false);
     }
-    let tree = format!(in alloc; "opened {count}\nd / 2\nf /a 65536 16\nf /b 65536 16\n")?;
-    let text = answered(alloc, count, 0, &answers)?;
-    let steps: [Step<'_>; 2] = [
-        ("tree", "", 0, tree.as_str()),
-        (
-            "run",
-            "0 list /\n0 stat /a\n0 stat /b\n0 read /a 65534 9\n0 read /b 0 2\n",
-            0,
-            text.as_str(),
-        ),
-    ];
-    play(rt, alloc, media, &steps)
+    let text = answered(rig.alloc, count, 0, &answers)?;
+    let script = "0 list /\n0 stat /a\n0 stat /b\n0 read /a 65534 9\n0 read /b 0 2\n";
+    let right = rig.play(&[("run", script, 0, text.as_str())]);
+    drop(text);
+    right
 }
 
-// What is wrong where the erase is stopped, and a reading of the volume is stopped again.
-fn stop_wrong<Rt: Threads + Wait + Sync>(
-    rt: &Rt,
-    alloc: Global,
-    media: &mut MemNand,
+// Whether the paths of the two files are told as wanted on a volume after so many calls.
+fn paths_right<Rt: Threads + Wait + Sync>(
+    rig: &mut Rig<'_, Rt>,
+    count: u64,
+) -> Result<bool, Memory> {
+    let text = format!(in rig.alloc; "opened {count}\nd / 2\nf /a 65536 16\nf /b 65536 16\n")?;
+    let right = rig.play(&[("tree", "", 0, text.as_str())]);
+    drop(text);
+    right
+}
+
+// Whether all is right where the erase is stopped, and a reading of the volume is stopped again.
+fn stop_right<Rt: Threads + Wait + Sync>(
+    rig: &mut Rig<'_, Rt>,
     cut: Cut,
     second: Stop,
-) -> Result<String, Memory> {
+) -> Result<bool, Memory> {
     let stop = Stop {
         operation: ERASE,
         cut,
     };
-    play(rt, alloc, media, &[FORMAT])?;
-    restart(alloc, media, Some(stop));
-    let wrong = play(rt, alloc, media, &[STOPPED])?;
-    if !wrong.is_empty() {
-        return Ok(wrong);
+    if !rig.play(&[FORMAT])? {
+        return Ok(false);
     }
-    drop(wrong);
-    restart(alloc, media, Some(second));
-    let told = tell(rt, alloc, "run", "0 read /a 0 2\n", media)?;
-    restart(alloc, media, None);
+    rig.restart(Some(stop));
+    if !rig.play(&[STOPPED])? {
+        return Ok(false);
+    }
+    rig.restart(Some(second));
+    let told = rig.tell("run", "0 read /a 0 2\n")?;
+    rig.restart(None);
     let is_read = told.text() == b"opened 5\n1 @6 ok 6161\n".as_slice();
     drop(told);
     if !is_read {
-        return String::from_str(alloc, "another text");
+        return rig.note("another text");
     }
-    let count = if counted(rt, alloc, media)? == Some(6) {
-        6
-    } else {
-        5
-    };
-    files_wrong(rt, alloc, media, count)
+    let count = if rig.counted()? == Some(6) { 6 } else { 5 };
+    Ok(paths_right(rig, count)? && files_right(rig, count)?)
 }
 
 // Mixed cuts of an erase leave some pages, erase some, and spoil the others.
@@ -111,43 +106,36 @@ const CUTS: [Cut; 7] = [
 const NEXT: [Cut; 4] = [Cut::Before, Cut::After, Cut::Spoilt, Cut::Before];
 
 // A run that reads a file is stopped then within every other of its programs, with another cut each.
-fn cut_wrong<Rt: Threads + Wait + Sync>(
-    rt: &Rt,
-    alloc: Global,
-    media: &mut MemNand,
+fn cut_right<Rt: Threads + Wait + Sync>(
+    rig: &mut Rig<'_, Rt>,
     cut: Cut,
     first: u64,
-) -> Result<String, Memory> {
+) -> Result<bool, Memory> {
     for at in 0..4usize {
         let second = Stop {
             operation: first.saturating_add(2 * at as u64),
             cut: NEXT[at],
         };
-        let wrong = stop_wrong(rt, alloc, media, cut, second)?;
-        if !wrong.is_empty() {
-            return Ok(wrong);
+        if !stop_right(rig, cut, second)? {
+            return Ok(false);
         }
     }
-    Ok(String::new(alloc))
+    Ok(true)
 }
 
-fn cuts_wrong<Rt: Threads + Wait + Sync>(
-    rt: &Rt,
-    alloc: Global,
-    media: &mut MemNand,
-) -> Result<String, Memory> {
+fn cuts_right<Rt: Threads + Wait + Sync>(rig: &mut Rig<'_, Rt>) -> Result<bool, Memory> {
     for (at, cut) in CUTS.iter().enumerate() {
-        let wrong = cut_wrong(rt, alloc, media, *cut, 1 + at as u64 % 2)?;
-        if !wrong.is_empty() {
-            return format!(in alloc; "{cut:?}: {wrong}");
+        if !cut_right(rig, *cut, 1 + at as u64 % 2)? {
+            return rig.note_run(at as u64);
         }
     }
-    Ok(String::new(alloc))
+    Ok(true)
 }
 
 fn cuts<Rt: Threads + Wait + Sync>(rt: &Rt, alloc: Global) -> Result<String, Memory> {
-    let mut media = blank(alloc);
-    cuts_wrong(rt, alloc, &mut media)
+    let mut rig = Rig::new(rt, alloc);
+    let right = cuts_right(&mut rig);
+    rig.ended(right)
 }
 
 #[test]
@@ -160,20 +148,14 @@ fn the_erase_is_stopped(rt: HostRuntime) -> Result<(), Fail> {
 // The making has two programs.
 fn failure<Rt: Threads + Wait + Sync>(rt: &Rt, alloc: Global) -> Result<String, Memory> {
     let writes = only(alloc, ERASE + 2)?;
-    let mut media = MemNand::new(alloc, FailList::new(alloc), writes, None);
-    failure_wrong(rt, alloc, &mut media)
+    let media = MemNand::new(alloc, FailList::new(alloc), writes, None);
+    let mut rig = Rig::on(rt, alloc, media);
+    let right = failure_right(&mut rig);
+    rig.ended(right)
 }
 
-fn failure_wrong<Rt: Threads + Wait + Sync>(
-    rt: &Rt,
-    alloc: Global,
-    media: &mut MemNand,
-) -> Result<String, Memory> {
-    let wrong = play(rt, alloc, media, &[FORMAT, STOPPED])?;
-    if !wrong.is_empty() {
-        return Ok(wrong);
-    }
-    files_wrong(rt, alloc, media, 5)
+fn failure_right<Rt: Threads + Wait + Sync>(rig: &mut Rig<'_, Rt>) -> Result<bool, Memory> {
+    Ok(rig.play(&[FORMAT, STOPPED])? && paths_right(rig, 5)? && files_right(rig, 5)?)
 }
 
 #[test]

@@ -1,10 +1,9 @@
 // The run that saves a note is stopped, and what is left is opened, its run stopped again, and opened once more.
 use nl_field::Memory;
-use nl_nand::{Cut, MemNand, Stop};
+use nl_nand::Stop;
 use nl_top_tests::note::{NOTE, OTHER, committed_after, finished, holds};
-use nl_top_tests::play::{FORMAT, counted, play};
-use nl_top_tests::program::{restart, tell};
-use std::alloc::Global;
+use nl_top_tests::play::FORMAT;
+use nl_top_tests::program::Rig;
 use std::sync::Wait;
 use std::thread::Threads;
 
@@ -16,65 +15,74 @@ pub struct Stopped {
     pub opened: bool,
 }
 
+// Whether this begins with the text of a volume after so many calls.
+fn is_opened<Rt: Threads + Wait + Sync>(
+    rig: &mut Rig<'_, Rt>,
+    text: &[u8],
+    opened: u64,
+) -> Result<bool, Memory> {
+    let begun = format!(in rig.alloc; "opened {opened}\n")?;
+    let is = text.starts_with(begun.as_bytes());
+    drop(begun);
+    Ok(is)
+}
+
 /// Runs a script on a volume after so many calls until the stop.
 pub fn run_until<Rt: Threads + Wait + Sync>(
-    rt: &Rt,
-    alloc: Global,
-    media: &mut MemNand,
+    rig: &mut Rig<'_, Rt>,
     script: &str,
     opened: u64,
     stop: Stop,
 ) -> Result<Stopped, Memory> {
-    let text = format!(in alloc; "opened {opened}\n")?;
-    restart(alloc, media, Some(stop));
-    let told = tell(rt, alloc, "run", script, media)?;
-    restart(alloc, media, None);
-    let stopped = Stopped {
-        status: told.status,
-        synced: told.synced(),
-        opened: told.text().starts_with(text.as_bytes()),
-    };
+    rig.restart(Some(stop));
+    let told = rig.tell("run", script)?;
+    rig.restart(None);
+    let status = told.status;
+    let synced = told.synced();
+    let is = is_opened(rig, told.text(), opened);
     drop(told);
-    Ok(stopped)
+    Ok(Stopped {
+        status,
+        synced,
+        opened: is?,
+    })
 }
 
 // A saving on a new volume that is stopped there.
 fn save_until<Rt: Threads + Wait + Sync>(
-    rt: &Rt,
-    alloc: Global,
-    media: &mut MemNand,
+    rig: &mut Rig<'_, Rt>,
     stop: Stop,
 ) -> Result<Stopped, Memory> {
-    play(rt, alloc, media, &[FORMAT])?;
-    run_until(rt, alloc, media, NOTE, 0, stop)
+    let formatted = rig.play(&[FORMAT])?;
+    let stopped = run_until(rig, NOTE, 0, stop)?;
+    Ok(Stopped {
+        opened: formatted && stopped.opened,
+        ..stopped
+    })
 }
 
-/// What is wrong with a saving that is stopped there.
-pub fn stop_wrong<Rt: Threads + Wait + Sync>(
-    rt: &Rt,
-    alloc: Global,
-    media: &mut MemNand,
+/// Whether a saving is right that is stopped there.
+pub fn stop_right<Rt: Threads + Wait + Sync>(
+    rig: &mut Rig<'_, Rt>,
     stop: Stop,
-) -> Result<String, Memory> {
+) -> Result<bool, Memory> {
     let count = committed_after(finished(stop.operation, stop.cut));
-    let stopped = save_until(rt, alloc, media, stop)?;
+    let stopped = save_until(rig, stop)?;
     if stopped.status != 5 || !stopped.opened || count < stopped.synced {
-        return String::from_str(alloc, "a stopped run");
+        return rig.note("a stopped run");
     }
-    holds(rt, alloc, media, count, count, false)
+    holds(rig, count, count, false)
 }
 
 // How a run of the other file was ended that was begun after so many calls: what its volume holds now, where that is due.
 fn other_left<Rt: Threads + Wait + Sync>(
-    rt: &Rt,
-    alloc: Global,
-    media: &mut MemNand,
+    rig: &mut Rig<'_, Rt>,
     count: u64,
     stopped: Stopped,
 ) -> Result<Option<u64>, Memory> {
     let synced = count.saturating_add(2);
     let closed = count.saturating_add(4);
-    let Some(found) = counted(rt, alloc, media)? else {
+    let Some(found) = rig.counted()? else {
         return Ok(None);
     };
     let known = found == count || found == synced || found == closed;
@@ -86,22 +94,19 @@ fn other_left<Rt: Threads + Wait + Sync>(
     }
 }
 
-/// What is wrong with a volume that was left by one stop, and whose next run is stopped there: the other file is there with its sync or not at all.
-/// With it comes whether that run met its stop.
-pub fn again_wrong<Rt: Threads + Wait + Sync>(
-    rt: &Rt,
-    alloc: Global,
-    media: &mut MemNand,
+/// Whether a volume is right that was left by one stop, and whose next run is stopped there: the other file is there with its sync or not at all. With
+/// it comes whether that run met its stop.
+pub fn again_right<Rt: Threads + Wait + Sync>(
+    rig: &mut Rig<'_, Rt>,
     first: Stop,
     second: Stop,
-) -> Result<(String, bool), Memory> {
+) -> Result<(bool, bool), Memory> {
     let count = committed_after(finished(first.operation, first.cut));
-    save_until(rt, alloc, media, first)?;
-    let stopped = run_until(rt, alloc, media, OTHER, count, second)?;
-    let met = stopped.status == 5;
-    let wrong = match other_left(rt, alloc, media, count, stopped)? {
-        Some(found) => holds(rt, alloc, media, found, count, count < found)?,
-        None => String::from_str(alloc, "a stopped run")?,
+    save_until(rig, first)?;
+    let stopped = run_until(rig, OTHER, count, second)?;
+    let right = match other_left(rig, count, stopped)? {
+        Some(found) => holds(rig, found, count, count < found)?,
+        None => rig.note("a stopped run")?,
     };
-    Ok((wrong, met))
+    Ok((right, stopped.status == 5))
 }

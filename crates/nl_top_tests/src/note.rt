@@ -1,10 +1,10 @@
 // A note that is saved by a new file and a rename, and what a volume holds after each part of it.
 ghost use Rattle.std.specs.Prelude.{◌<◌};
 
-use crate::play::{answered, play, sound_wrong};
+use crate::play::answered;
+use crate::program::Rig;
 use nl_field::Memory;
-use nl_nand::{Cut, MemNand};
-use std::alloc::Global;
+use nl_nand::Cut;
 use std::sync::Wait;
 use std::thread::Threads;
 
@@ -147,20 +147,19 @@ fn row(saved: u64, other: bool) -> usize
     if other { stage + 1 } else { stage }
 }
 
-/// What is told otherwise than wanted of a volume that opens after so many calls: it is sound, and holds what the saving has after so many of its
-/// calls, and the other file or not. It has six more calls afterwards.
+/// Whether a volume opens after so many calls, is sound, and holds what the saving has after so many of its calls, and the other file or not. It has
+/// six more calls afterwards. What is told otherwise is noted.
 pub fn holds<Rt: Threads + Wait + Sync>(
-    rt: &Rt,
-    alloc: Global,
-    media: &mut MemNand,
+    rig: &mut Rig<'_, Rt>,
     opened: u64,
     saved: u64,
     other: bool,
-) -> Result<String, Memory> {
-    let text = answered(alloc, opened, 0, &ANSWERS[row(saved, other)])?;
-    let wrong = sound_wrong(rt, alloc, media, opened)?;
-    if !wrong.is_empty() {
-        return Ok(wrong);
+) -> Result<bool, Memory> {
+    if !rig.is_sound(opened)? {
+        return Ok(false);
     }
-    play(rt, alloc, media, &[("run", READS, 0, text.as_str())])
+    let text = answered(rig.alloc, opened, 0, &ANSWERS[row(saved, other)])?;
+    let right = rig.play(&[("run", READS, 0, text.as_str())]);
+    drop(text);
+    right
 }

@@ -1,7 +1,6 @@
 // Commands one after the other on one medium, and what they are to tell.
-use crate::program::{Told, blank, tell};
+use crate::program::{Rig, Told};
 use nl_field::Memory;
-use nl_nand::MemNand;
 use std::alloc::Global;
 use std::fmt::Write;
 use std::sync::Wait;
@@ -36,93 +35,75 @@ pub fn answered(
     Ok(text)
 }
 
-/// What is told otherwise than this step wants, and the empty text where nothing is.
-pub fn told_wrong(alloc: Global, told: &Told, step: &Step<'_>) -> Result<String, Memory> {
-    let (words, _, status, text) = *step;
-    if told.is(status, text) {
-        return Ok(String::new(alloc));
-    }
-    let status = told.status;
-    let text = String::from_utf8_lossy(alloc, told.text())?;
-    format!(in alloc; "{words}: status {status}\n{text}")
-}
-
-fn step_wrong<Rt: Threads + Wait + Sync>(
-    rt: &Rt,
-    alloc: Global,
-    media: &mut MemNand,
-    step: &Step<'_>,
-) -> Result<String, Memory> {
-    let (words, script, _, _) = *step;
-    let told = tell(rt, alloc, words, script, media)?;
-    let wrong = told_wrong(alloc, &told, step);
-    drop(told);
-    wrong
-}
-
-/// What is told otherwise than wanted by the first of the steps of which that is so, and the empty text where there is none.
-pub fn play<Rt: Threads + Wait + Sync>(
-    rt: &Rt,
-    alloc: Global,
-    media: &mut MemNand,
-    steps: &[Step<'_>],
-) -> Result<String, Memory> {
-    for step in steps {
-        let wrong = step_wrong(rt, alloc, media, step)?;
-        if !wrong.is_empty() {
-            return Ok(wrong);
+impl<'a, Rt: Threads + Wait + Sync> Rig<'a, Rt> {
+    /// Whether what was told is what this step wants. What is not is noted.
+    pub fn is_told(&mut self, told: &Told, step: &Step<'_>) -> Result<bool, Memory> {
+        let (words, _, status, text) = *step;
+        if told.is(status, text) {
+            return Ok(true);
         }
+        self.note_told(words, told)
     }
-    Ok(String::new(alloc))
+
+    fn step(&mut self, step: &Step<'_>) -> Result<bool, Memory> {
+        let (words, script, _, _) = *step;
+        let told = self.tell(words, script)?;
+        let right = self.is_told(&told, step);
+        drop(told);
+        right
+    }
+
+    /// Whether each of the steps tells what it wants, one after the other. What the first one tells that does not is noted.
+    pub fn play(&mut self, steps: &[Step<'_>]) -> Result<bool, Memory> {
+        for step in steps {
+            if !self.step(step)? {
+                return Ok(false);
+            }
+        }
+        Ok(true)
+    }
+
+    /// The same on a new volume of 32 blocks of 32 pages.
+    pub fn play_new(&mut self, steps: &[Step<'_>]) -> Result<bool, Memory> {
+        Ok(self.step(&FORMAT)? && self.play(steps)?)
+    }
+
+    fn rows(&mut self, rows: &[&[Step<'_>]]) -> Result<bool, Memory> {
+        for row in rows {
+            if !self.play_new(row)? {
+                return Ok(false);
+            }
+        }
+        Ok(true)
+    }
+
+    /// The count of calls as which a check tells the medium sound, and `None` where it does not.
+    pub fn counted(&mut self) -> Result<Option<u64>, Memory> {
+        let told = self.tell("check", "")?;
+        let count = sound_count(told.text());
+        drop(told);
+        Ok(count)
+    }
+
+    /// Whether a check tells the medium sound after so many calls. What it tells otherwise is noted.
+    pub fn is_sound(&mut self, count: u64) -> Result<bool, Memory> {
+        let text = format!(in self.alloc; "sound {count}\n")?;
+        let right = self.step(&("check", "", 0, text.as_str()));
+        drop(text);
+        right
+    }
 }
 
-/// The same on a medium that was never formed.
+/// What is told otherwise than wanted by the first of the steps of which that is so, on a medium that was never formed, and the empty text where there
+/// is none.
 pub fn play_blank<Rt: Threads + Wait + Sync>(
     rt: &Rt,
     alloc: Global,
     steps: &[Step<'_>],
 ) -> Result<String, Memory> {
-    let mut media = blank(alloc);
-    play(rt, alloc, &mut media, steps)
-}
-
-/// The same on a new volume of 32 blocks of 32 pages, which is made on this medium.
-pub fn play_new<Rt: Threads + Wait + Sync>(
-    rt: &Rt,
-    alloc: Global,
-    media: &mut MemNand,
-    steps: &[Step<'_>],
-) -> Result<String, Memory> {
-    let wrong = step_wrong(rt, alloc, media, &FORMAT)?;
-    if !wrong.is_empty() {
-        return Ok(wrong);
-    }
-    play(rt, alloc, media, steps)
-}
-
-/// The same for each row of steps, on a new volume each.
-pub fn play_rows<Rt: Threads + Wait + Sync>(
-    rt: &Rt,
-    alloc: Global,
-    rows: &[&[Step<'_>]],
-) -> Result<String, Memory> {
-    let mut media = blank(alloc);
-    new_rows_wrong(rt, alloc, &mut media, rows)
-}
-
-fn new_rows_wrong<Rt: Threads + Wait + Sync>(
-    rt: &Rt,
-    alloc: Global,
-    media: &mut MemNand,
-    rows: &[&[Step<'_>]],
-) -> Result<String, Memory> {
-    for row in rows {
-        let wrong = play_new(rt, alloc, media, row)?;
-        if !wrong.is_empty() {
-            return Ok(wrong);
-        }
-    }
-    Ok(String::new(alloc))
+    let mut rig = Rig::new(rt, alloc);
+    let right = rig.play(steps);
+    rig.ended(right)
 }
 
 /// The same on a new volume.
@@ -131,29 +112,20 @@ pub fn played<Rt: Threads + Wait + Sync>(
     alloc: Global,
     steps: &[Step<'_>],
 ) -> Result<String, Memory> {
-    let mut media = blank(alloc);
-    play_new(rt, alloc, &mut media, steps)
+    let mut rig = Rig::new(rt, alloc);
+    let right = rig.play_new(steps);
+    rig.ended(right)
 }
 
-/// The count of calls as which a check tells a medium sound, and `None` where it does not.
-pub fn counted<Rt: Threads + Wait + Sync>(
+/// The same for each row of steps, on a new volume each.
+pub fn play_rows<Rt: Threads + Wait + Sync>(
     rt: &Rt,
     alloc: Global,
-    media: &mut MemNand,
-) -> Result<Option<u64>, Memory> {
-    let told = tell(rt, alloc, "check", "", media)?;
-    Ok(sound_count(told.text()))
-}
-
-/// What is told otherwise than wanted by a check of a medium that is sound after so many calls, and the empty text where nothing is.
-pub fn sound_wrong<Rt: Threads + Wait + Sync>(
-    rt: &Rt,
-    alloc: Global,
-    media: &mut MemNand,
-    count: u64,
+    rows: &[&[Step<'_>]],
 ) -> Result<String, Memory> {
-    let text = format!(in alloc; "sound {count}\n")?;
-    step_wrong(rt, alloc, media, &("check", "", 0, text.as_str()))
+    let mut rig = Rig::new(rt, alloc);
+    let right = rig.rows(rows);
+    rig.ended(right)
 }
 
 fn sound_count(text: &[u8]) -> Option<u64> {

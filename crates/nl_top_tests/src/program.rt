@@ -64,12 +64,6 @@ pub fn blank(alloc: Global) -> MemNand {
     MemNand::new(alloc, FailList::new(alloc), FailList::new(alloc), None)
 }
 
-/// What a medium is after a crash, with its next stop.
-pub fn restart(alloc: Global, media: &mut MemNand, stop: Option<Stop>) {
-    let before = mem::replace(media, blank(alloc));
-    *media = before.restart(stop);
-}
-
 fn words_of(alloc: Global, line: &str) -> Result<Words, Memory> {
     let mut words = Words::new(alloc);
     for word in line.as_bytes().split(|byte| *byte == b' ') {
@@ -129,31 +123,94 @@ fn tell_words<Rt: Threads + Wait + Sync, G: Gate + Sync>(
     Ok(call(rt, alloc, words, &mut source, sink, media, gate))
 }
 
-/// What the program tells, under a gate.
-pub fn tell_with<Rt: Threads + Wait + Sync, G: Gate + Sync>(
-    rt: &Rt,
-    alloc: Global,
-    given: &Given<'_>,
-    media: &mut MemNand,
-    gate: &G,
-) -> Result<Told, Memory> {
-    let words = words_of(alloc, given.words)?;
-    tell_words(rt, alloc, &words, given, media, gate)
+/// The program, its medium, and what was told otherwise than wanted first.
+#[derive(Drop)]
+pub struct Rig<'a, Rt: Threads + Wait + Sync> {
+    rt: &'a Rt,
+    pub alloc: Global,
+    pub media: MemNand,
+    wrong: String,
 }
 
-/// What the program tells of these words and this script.
-pub fn tell<Rt: Threads + Wait + Sync>(
-    rt: &Rt,
-    alloc: Global,
-    words: &str,
-    script: &str,
-    media: &mut MemNand,
-) -> Result<Told, Memory> {
-    let given = Given {
-        words,
-        script,
-        read: 0,
-        write: 0,
-    };
-    tell_with(rt, alloc, &given, media, &NoGate)
+impl<'a, Rt: Threads + Wait + Sync> Rig<'a, Rt> {
+    pub fn on(rt: &'a Rt, alloc: Global, media: MemNand) -> Rig<'a, Rt> {
+        Rig {
+            rt,
+            alloc,
+            media,
+            wrong: String::new(alloc),
+        }
+    }
+
+    /// With a medium that was never formed.
+    pub fn new(rt: &'a Rt, alloc: Global) -> Rig<'a, Rt> {
+        Rig::on(rt, alloc, blank(alloc))
+    }
+
+    /// The medium is as after a crash, with its next stop.
+    pub fn restart(&mut self, stop: Option<Stop>) {
+        let before = mem::replace(&mut self.media, blank(self.alloc));
+        self.media = before.restart(stop);
+    }
+
+    /// What the program tells, under a gate.
+    pub fn tell_with<G: Gate + Sync>(
+        &mut self,
+        given: &Given<'_>,
+        gate: &G,
+    ) -> Result<Told, Memory> {
+        let words = words_of(self.alloc, given.words)?;
+        tell_words(self.rt, self.alloc, &words, given, &mut self.media, gate)
+    }
+
+    /// What the program tells of these words and this script.
+    pub fn tell(&mut self, words: &str, script: &str) -> Result<Told, Memory> {
+        let given = Given {
+            words,
+            script,
+            read: 0,
+            write: 0,
+        };
+        self.tell_with(&given, &NoGate)
+    }
+
+    /// Notes that this is otherwise than wanted. It gives false.
+    pub fn note(&mut self, text: &str) -> Result<bool, Memory> {
+        self.wrong = String::from_str(self.alloc, text)?;
+        Ok(false)
+    }
+
+    /// Notes what was told, in place of what was wanted. It gives false.
+    pub fn note_told(&mut self, words: &str, told: &Told) -> Result<bool, Memory> {
+        let status = told.status;
+        let text = String::from_utf8_lossy(self.alloc, told.text())?;
+        self.wrong = format!(in self.alloc; "{words}: status {status}\n{text}")?;
+        Ok(false)
+    }
+
+    /// Notes of what is noted which of several runs it is of. It gives false.
+    pub fn note_run(&mut self, number: u64) -> Result<bool, Memory> {
+        let wrong = self.wrong.as_str();
+        let noted = format!(in self.alloc; "{number}: {wrong}")?;
+        self.wrong = noted;
+        Ok(false)
+    }
+
+    /// What was noted, and the empty text where all was right.
+    pub fn ended(self, right: Result<bool, Memory>) -> Result<String, Memory> {
+        let Rig {
+            rt: _,
+            alloc,
+            media,
+            wrong,
+        } = self;
+        drop(media);
+        if right? {
+            return Ok(String::new(alloc));
+        }
+        if wrong.is_empty() {
+            return String::from_str(alloc, "otherwise than wanted");
+        }
+        Ok(wrong)
+    }
 }

@@ -1,6 +1,6 @@
 // A soak: its summary, the same one each time. The expected texts are those of a generator and a tree of files that were written apart from the
 // program.
-use crate::play::{FORMAT, Step, play_blank};
+use nl_top_tests::play::{FORMAT, Step, play_blank};
 use std::test::Fail;
 
 const LONG: &str =

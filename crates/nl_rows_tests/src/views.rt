@@ -1,10 +1,9 @@
 // The paths of a volume, and its report.
-use crate::note::{NOTE, SAVED};
-use crate::play::{FORMAT, Step, play, play_blank, played};
-use crate::program::{Given, blank, tell_with};
 use nl_field::Memory;
-use nl_nand::MemNand;
 use nl_top::NoGate;
+use nl_top_tests::note::{NOTE, SAVED};
+use nl_top_tests::play::{FORMAT, Step, play_blank, played};
+use nl_top_tests::program::{Given, Rig};
 use std::alloc::Global;
 use std::sync::Wait;
 use std::test::Fail;
@@ -91,59 +90,46 @@ fn the_order_of_paths(rt: HostRuntime) -> Result<(), Fail> {
     Ok(())
 }
 
-// What is told otherwise than wanted of a new volume where a write of the sink fails: each path is written by itself, and a report at once.
-fn sink_wrong<Rt: Threads + Wait + Sync>(
-    rt: &Rt,
-    alloc: Global,
-    media: &mut MemNand,
-) -> Result<&'static str, Memory> {
-    let rows: [(&'static str, u64, &str); 3] = [
-        ("tree", 1, ""),
-        ("tree", 2, "opened 0\n"),
-        ("report", 1, ""),
-    ];
-    for (words, write, text) in rows {
+// Words, which write of the sink fails, and the text: each path is written by itself, and a report at once.
+const SINK: [(&str, u64, &str); 3] = [
+    ("tree", 1, ""),
+    ("tree", 2, "opened 0\n"),
+    ("report", 1, ""),
+];
+
+// Whether each is told as wanted.
+fn sink_right<Rt: Threads + Wait + Sync>(rig: &mut Rig<'_, Rt>) -> Result<bool, Memory> {
+    for row in SINK.iter() {
+        let (words, write, text) = *row;
         let given = Given {
             words,
             script: "",
             read: 0,
             write,
         };
-        let told = tell_with(rt, alloc, &given, media, &NoGate)?;
-        if !told.is(4, text) {
-            return Ok(words);
+        let told = rig.tell_with(&given, &NoGate)?;
+        let right = told.is(4, text);
+        drop(told);
+        if !right {
+            return rig.note(words);
         }
     }
-    Ok("")
+    Ok(true)
 }
 
-fn sink_wrong_of_new<Rt: Threads + Wait + Sync>(
-    rt: &Rt,
-    alloc: Global,
-    media: &mut MemNand,
-) -> Result<String, Memory> {
-    let wrong = play(rt, alloc, media, &[FORMAT])?;
-    if !wrong.is_empty() {
-        return Ok(wrong);
-    }
-    let wrong = sink_wrong(rt, alloc, media)?;
-    if !wrong.is_empty() {
-        return String::from_str(alloc, wrong);
-    }
-    play(rt, alloc, media, &[("check", "", 0, "sound 0\n")])
+fn sink_right_of_new<Rt: Threads + Wait + Sync>(rig: &mut Rig<'_, Rt>) -> Result<bool, Memory> {
+    Ok(rig.play(&[FORMAT])? && sink_right(rig)? && rig.is_sound(0)?)
 }
 
-fn sink_wrong_of_blank<Rt: Threads + Wait + Sync>(
-    rt: &Rt,
-    alloc: Global,
-) -> Result<String, Memory> {
-    let mut media = blank(alloc);
-    sink_wrong_of_new(rt, alloc, &mut media)
+fn sink_wrong<Rt: Threads + Wait + Sync>(rt: &Rt, alloc: Global) -> Result<String, Memory> {
+    let mut rig = Rig::new(rt, alloc);
+    let right = sink_right_of_new(&mut rig);
+    rig.ended(right)
 }
 
 #[test]
 fn a_sink_that_fails(rt: HostRuntime) -> Result<(), Fail> {
-    let wrong = sink_wrong_of_blank(&rt, rt.alloc())?;
+    let wrong = sink_wrong(&rt, rt.alloc())?;
     assert_eq!(rt; wrong.as_str(), "");
     Ok(())
 }

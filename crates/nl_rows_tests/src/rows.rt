@@ -1,6 +1,6 @@
 // Scripts of one worker on a new volume of 32 blocks of 32 pages, and their texts.
-use crate::note::{NOTE, SAVED};
-use crate::play::{FORMAT, Step, play_blank, play_rows};
+use nl_top_tests::note::{NOTE, SAVED};
+use nl_top_tests::play::{FORMAT, Step, play_blank, play_rows};
 use std::test::Fail;
 
 const GEOMETRIES: [Step<'static>; 6] = [
