@@ -10,7 +10,22 @@ use std::sync::Wait;
 use std::test::Fail;
 use std::thread::Threads;
 
+/// Words, how they end, and what they print.
+type Row = (&'static str, Result<u8, Notice>, &'static [u8]);
+
 const SCRIPT: &[u8] = b"0 create /a\n0 write /a 0 68656c6c6f\n0 read /a 0 5\n";
+
+const FORMATTED: Row = (
+    "format 32 32",
+    Ok(0),
+    b"formatted blocks 32 pages 32 data 480 nodes 64 meta 32\n",
+);
+
+const RAN: Row = (
+    "run",
+    Ok(0),
+    b"opened 0\n1 @1 ok\n2 @2 ok 5\n3 @3 ok 68656c6c6f\n",
+);
 
 fn words_of(alloc: Global, text: &str) -> Result<Words, Memory> {
     let mut words = Words::new(alloc);
@@ -22,85 +37,127 @@ fn words_of(alloc: Global, text: &str) -> Result<Words, Memory> {
     Ok(words)
 }
 
-/// Whether the words are answered with this text and end so, where the source and the sink fail at the calls of these lists.
-fn answers_over<Rt: Files<File = File> + AllocGlobal + Threads + Wait + Sync>(
+/// The call of this number fails, where it is not 0.
+fn only(alloc: Global, number: u64) -> Result<FailList, Memory> {
+    let mut list = FailList::new(alloc);
+    if 0 < number {
+        list.push(number)?;
+    }
+    Ok(list)
+}
+
+fn source_of(alloc: Global, read: u64) -> Result<MemSource, Memory> {
+    let failing = only(alloc, read)?;
+    Ok(MemSource::new(Text::of(alloc, SCRIPT)?, failing))
+}
+
+fn sink_of(alloc: Global, write: u64) -> Result<MemSink, Memory> {
+    MemSink::new(alloc, 1000, only(alloc, write)?)
+}
+
+// It promises nothing, so that no caller carries what the call promises.
+fn ended<Rt: Files<File = File> + AllocGlobal + Threads + Wait + Sync>(
     rt: &Rt,
     path: &str,
-    words: &str,
-    reads: FailList,
-    writes: FailList,
-    want: Result<u8, Notice>,
-    text: &[u8],
+    words: &Words,
+    source: &mut MemSource,
+    sink: &mut MemSink,
+) -> Result<u8, Notice> {
+    answer(rt, path, words, source, sink)
+}
+
+/// Whether the words of a row end and print as it says, where this read of the source and this write of the sink fail.
+fn is_told_with<Rt: Files<File = File> + AllocGlobal + Threads + Wait + Sync>(
+    rt: &Rt,
+    path: &str,
+    row: &Row,
+    read: u64,
+    write: u64,
 ) -> Result<bool, Memory> {
-    let alloc = rt.alloc();
-    let words = words_of(alloc, words)?;
-    let mut source = MemSource::new(Text::of(alloc, SCRIPT)?, reads);
-    let mut sink = MemSink::new(alloc, 1000, writes)?;
-    let ended = answer(rt, path, &words, &mut source, &mut sink);
+    let (words, want, text) = *row;
+    let words = words_of(rt.alloc(), words)?;
+    let mut source = source_of(rt.alloc(), read)?;
+    let mut sink = sink_of(rt.alloc(), write)?;
+    let ended = ended(rt, path, &words, &mut source, &mut sink);
     Ok(ended == want && sink.bytes() == text)
 }
 
-/// Whether the words are answered with this text and end so.
-fn answers<Rt: Files<File = File> + AllocGlobal + Threads + Wait + Sync>(
+/// How many rows are told before the first that is not.
+fn told<Rt: Files<File = File> + AllocGlobal + Threads + Wait + Sync>(
     rt: &Rt,
     path: &str,
-    words: &str,
-    want: Result<u8, Notice>,
-    text: &[u8],
-) -> Result<bool, Memory> {
-    let none = FailList::new(rt.alloc());
-    let no_more = FailList::new(rt.alloc());
-    answers_over(rt, path, words, none, no_more, want, text)
+    rows: &[Row],
+) -> Result<usize, Memory> {
+    for (at, row) in rows.iter().enumerate() {
+        if !is_told_with(rt, path, row, 0, 0)? {
+            return Ok(at);
+        }
+    }
+    Ok(rows.len())
 }
 
-fn first_call(alloc: Global) -> Result<FailList, Memory> {
-    let mut list = FailList::new(alloc);
-    list.push(1)?;
-    Ok(list)
+/// The bytes of the file, and 0 where there is none.
+fn length<Rt: Files<File = File>>(rt: &Rt, path: &str) -> u64 {
+    match fs::metadata(rt, path) {
+        Ok(found) => found.len(),
+        Err(_) => 0,
+    }
 }
 
 #[test]
 fn a_script_runs_on_a_formatted_file(rt: HostRuntime) -> Result<(), Fail> {
     let path = "nl_app_first.img";
     let _ = fs::remove_file(&rt, path);
-    let formatted = b"formatted blocks 32 pages 32 data 480 nodes 64 meta 32\n";
-    assert!(rt; answers(&rt, path, "format 32 32", Ok(0), formatted)?);
-    assert_eq!(rt; fs::metadata(&rt, path)?.len(), 4_272_128);
-    let ran = b"opened 0\n1 @1 ok\n2 @2 ok 5\n3 @3 ok 68656c6c6f\n";
-    assert!(rt; answers(&rt, path, "run", Ok(0), ran)?);
-    assert_eq!(rt; fs::metadata(&rt, path)?.len(), 4_272_128);
+    let formatted = told(&rt, path, &[FORMATTED])?;
+    let before = length(&rt, path);
+    let ran = told(&rt, path, &[RAN])?;
+    assert!(rt; formatted == 1 && ran == 1);
+    assert!(rt; before == 4_272_128 && length(&rt, path) == 4_272_128);
     fs::remove_file(&rt, path)?;
     Ok(())
 }
+
+const MISSING: [Row; 6] = [
+    ("foo", Ok(2), b"words\n"),
+    ("format 31 32", Ok(2), b"words\n"),
+    ("format 32", Ok(2), b"words\n"),
+    ("format 32 +32", Ok(2), b"words\n"),
+    ("run run", Ok(2), b"words\n"),
+    ("run", Err(Notice::MediumFault), b""),
+];
 
 #[test]
 fn only_a_format_makes_a_file(rt: HostRuntime) -> Result<(), Fail> {
     let path = "nl_app_missing.img";
     let _ = fs::remove_file(&rt, path);
-    for words in [
-        "foo",
-        "format 31 32",
-        "format 32",
-        "format 32 +32",
-        "run run",
-    ] {
-        assert!(rt; answers(&rt, path, words, Ok(2), b"words\n")?);
-    }
-    assert!(rt; answers(&rt, path, "run", Err(Notice::MediumFault), b"")?);
+    assert_eq!(rt; told(&rt, path, &MISSING)?, 6);
     assert!(rt; fs::metadata(&rt, path).is_err());
     Ok(())
 }
+
+fn is_kept<Rt: Files<File = File> + AllocGlobal>(rt: &Rt, path: &str) -> bool {
+    match fs::read(rt, path) {
+        Ok(bytes) => bytes.as_slice() == b"kept".as_slice(),
+        Err(_) => false,
+    }
+}
+
+const KEPT: [Row; 2] = [
+    ("format 32 31", Ok(2), b"words\n"),
+    ("run", Ok(7), b"blank\n"),
+];
 
 #[test]
 fn faulty_words_leave_the_file(rt: HostRuntime) -> Result<(), Fail> {
     let path = "nl_app_kept.img";
     fs::write(&rt, path, b"kept".as_slice())?;
-    assert!(rt; answers(&rt, path, "format 32 31", Ok(2), b"words\n")?);
-    assert!(rt; answers(&rt, path, "run", Ok(7), b"blank\n")?);
-    assert!(rt; fs::read(&rt, path)?.as_slice() == b"kept".as_slice());
+    assert_eq!(rt; told(&rt, path, &KEPT)?, 2);
+    assert!(rt; is_kept(&rt, path));
     fs::remove_file(&rt, path)?;
     Ok(())
 }
+
+const IN_USE: Row = ("format 32 32", Err(Notice::MediumInUse), b"");
 
 #[test]
 fn a_file_that_is_in_use_is_left(rt: HostRuntime) -> Result<(), Fail> {
@@ -108,34 +165,35 @@ fn a_file_that_is_in_use_is_left(rt: HostRuntime) -> Result<(), Fail> {
     fs::write(&rt, path, b"kept".as_slice())?;
     let other = File::open(&rt, path)?;
     other.lock()?;
-    assert!(rt; answers(&rt, path, "format 32 32", Err(Notice::MediumInUse), b"")?);
+    let told = told(&rt, path, &[IN_USE]);
     drop(other);
-    assert!(rt; fs::read(&rt, path)?.as_slice() == b"kept".as_slice());
+    assert_eq!(rt; told?, 1);
+    assert!(rt; is_kept(&rt, path));
     fs::remove_file(&rt, path)?;
     Ok(())
+}
+
+const NOT_READ: Row = ("run", Ok(3), b"source fault\n");
+
+const NOT_PRINTED: Row = ("run", Ok(4), b"");
+
+// Whether a read of the source that fails and a write of the sink that fails are told.
+fn are_told<Rt: Files<File = File> + AllocGlobal + Threads + Wait + Sync>(
+    rt: &Rt,
+    path: &str,
+) -> Result<bool, Memory> {
+    Ok(
+        is_told_with(rt, path, &FORMATTED, 0, 0)?
+            && is_told_with(rt, path, &NOT_READ, 1, 0)?
+            && is_told_with(rt, path, &NOT_PRINTED, 0, 1)?,
+    )
 }
 
 #[test]
 fn failed_streams_end_with_a_status(rt: HostRuntime) -> Result<(), Fail> {
     let path = "nl_app_streams.img";
     let _ = fs::remove_file(&rt, path);
-    let alloc = rt.alloc();
-    let formatted = b"formatted blocks 32 pages 32 data 480 nodes 64 meta 32\n";
-    assert!(rt; answers(&rt, path, "format 32 32", Ok(0), formatted)?);
-    let reads = first_call(alloc)?;
-    assert!(rt;
-        answers_over(
-            &rt,
-            path,
-            "run",
-            reads,
-            FailList::new(alloc),
-            Ok(3),
-            b"source fault\n"
-        )?
-    );
-    let writes = first_call(alloc)?;
-    assert!(rt; answers_over(&rt, path, "run", FailList::new(alloc), writes, Ok(4), b"")?);
+    assert!(rt; are_told(&rt, path)?);
     fs::remove_file(&rt, path)?;
     Ok(())
 }

@@ -2,10 +2,10 @@
 ghost use Rattle.std.specs.Prelude.{◌<◌, ◌≤◌};
 
 use crate::tests::{
-    Bytes, ENTRY, ROOT, ROOT_ADDRESS, Row, SUPER, data, image, is_found, metadata, only,
+    Bytes, ENTRY, ROOT, ROOT_ADDRESS, Row, SUPER, checked_of, data, image, is_found, metadata, only,
 };
-use nl_check::{Checked, findings};
-use nl_field::{Findings, What};
+use nl_check::Checked;
+use nl_field::{Findings, Memory, What};
 use std::alloc::Global;
 use std::test::Fail;
 
@@ -106,7 +106,7 @@ fn addresses(count: u32) -> Bytes {
     }
 }
 
-fn file_bytes(alloc: Global, spread: Spread) -> Result<Vec<Bytes>, Fail> {
+fn file_bytes(alloc: Global, spread: Spread) -> Result<Vec<Bytes>, Memory> {
     let mut bytes = [SUPER, ROOT, ROOT_ADDRESS, ENTRY, LONG_FILE].to_vec(alloc)?;
     for number in 0..spread.count.min(500) {
         let name = name(spread, number);
@@ -116,7 +116,7 @@ fn file_bytes(alloc: Global, spread: Spread) -> Result<Vec<Bytes>, Fail> {
     Ok(bytes)
 }
 
-fn add_data(rows: &mut Vec<Row>, spread: Spread) -> Result<(), Fail> {
+fn add_data(rows: &mut Vec<Row>, spread: Spread) -> Result<(), Memory> {
     for number in 0..spread.count.min(500) {
         let page = page(spread, number);
         rows.push(data(page, slot_of(number).index, 100 + u64::from(number), 1))?;
@@ -125,13 +125,11 @@ fn add_data(rows: &mut Vec<Row>, spread: Spread) -> Result<(), Fail> {
 }
 
 /// What is found of a volume with these pages of addresses and such a file.
-fn found(alloc: Global, virtuals: &[Row], spread: Spread) -> Result<Checked, Fail> {
+fn found(alloc: Global, virtuals: &[Row], spread: Spread) -> Result<Checked, Memory> {
     let bytes = file_bytes(alloc, spread)?;
     let mut rows = virtuals.to_vec(alloc)?;
     add_data(&mut rows, spread)?;
-    let media = image(alloc, &rows, &bytes)?;
-    let (checked, _media) = findings(alloc, media);
-    Ok(checked)
+    Ok(checked_of(alloc, image(alloc, &rows, &bytes)?))
 }
 
 fn wanted(what: Option<What>) -> Findings {
@@ -219,12 +217,21 @@ const FILES: [(Spread, Option<What>); 6] = [
     ),
 ];
 
+// How many of the files are found as wanted before the first that is not.
+fn files_found(alloc: Global) -> Result<usize, Memory> {
+    for (at, file) in FILES.iter().enumerate() {
+        let (spread, what) = *file;
+        let checked = found(alloc, &in_one_block(), spread)?;
+        if !is_found(&checked, wanted(what), 0) {
+            return Ok(at);
+        }
+    }
+    Ok(FILES.len())
+}
+
 #[test]
 fn files_of_many_pages(rt: HostRuntime) -> Result<(), Fail> {
-    for (spread, what) in FILES.iter() {
-        let checked = found(rt.alloc(), &in_one_block(), *spread)?;
-        assert!(rt; is_found(&checked, wanted(*what), 0), "{spread:?}");
-    }
+    assert_eq!(rt; files_found(rt.alloc())?, FILES.len());
     Ok(())
 }
 
@@ -234,12 +241,16 @@ const ONE_PAGE: Spread = Spread {
     moved: false,
 };
 
+fn is_found_with(alloc: Global, last: u32, what: Option<What>) -> Result<bool, Memory> {
+    let checked = found(alloc, &in_each_block(last), ONE_PAGE)?;
+    Ok(is_found(&checked, wanted(what), 0))
+}
+
 // Each virtual block has the newest page of an address, or the eighth one an older page of one.
 #[test]
 fn addresses_in_each_block(rt: HostRuntime) -> Result<(), Fail> {
-    for (last, what) in [(76, Some(What::Crowded)), (75, None)] {
-        let checked = found(rt.alloc(), &in_each_block(last), ONE_PAGE)?;
-        assert!(rt; is_found(&checked, wanted(what), 0), "{last}");
-    }
+    let alloc = rt.alloc();
+    let right = is_found_with(alloc, 76, Some(What::Crowded))? && is_found_with(alloc, 75, None)?;
+    assert!(rt; right);
     Ok(())
 }

@@ -1,5 +1,9 @@
+ghost use Rattle.std.specs.Prelude.{◌≡◌};
+ghost use Rattle.nl_nand.specs.Memory.{geometry_of, contents_of};
+ghost use Rattle.nl_nand.specs.Nand.{ErasedWithin};
+
 use nl_check::{Checked, findings};
-use nl_field::{FailList, Findings, PageBuf, SpareRec, Tag, What, spare_into};
+use nl_field::{FailList, Findings, Memory, PageBuf, SpareRec, Tag, What, spare_into};
 use nl_nand::{MemNand, WriteAnswer};
 use nl_pointers_tests::medium::{formed, put};
 use std::alloc::Global;
@@ -237,22 +241,44 @@ fn fill(what: &Content, bytes: &[Bytes], buf: &mut PageBuf) {
     write(what, bytes, buf);
 }
 
-/// A medium with these pages, which rise, and these bytes of addresses.
-pub fn image(alloc: Global, rows: &[Row], bytes: &[Bytes]) -> Result<MemNand, Fail> {
-    let mut buf = PageBuf::new(alloc)?;
-    let mut media = formed(alloc).ok_or("form")?;
+// Writes pages, which rise, and these bytes of addresses. Whether each is written.
+fn write_rows(media: &mut MemNand, rows: &[Row], bytes: &[Bytes], buf: &mut PageBuf) -> bool
+    requires geometry { geometry_of media.old ≡ record { blocks = 32; pages = 32 } }
+    requires erased { ErasedWithin (contents_of media.old) 0 1024 }
+{
     let mut next = 0;
     'rows: for row in rows {
         if row.page < next || row.page >= 1024 {
-            return Err(Fail::from("rising"));
+            return false;
         }
-        fill(&row.what, bytes, &mut buf);
-        if put(&mut media, row.page, &buf) != WriteAnswer::Done {
-            return Err(Fail::from("program"));
+        fill(&row.what, bytes, buf);
+        if put(media, row.page, buf) != WriteAnswer::Done {
+            return false;
         }
         next = row.page + 1;
     }
-    Ok(media)
+    true
+}
+
+/// A medium with these pages, which rise, and these bytes of addresses.
+pub fn image(alloc: Global, rows: &[Row], bytes: &[Bytes]) -> Result<MemNand, Memory> {
+    let mut buf = PageBuf::new(alloc)?;
+    let Some(mut media) = formed(alloc) else {
+        return Err(Memory);
+    };
+    if write_rows(&mut media, rows, bytes, &mut buf) {
+        Ok(media)
+    } else {
+        drop(media);
+        Err(Memory)
+    }
+}
+
+/// What is found of a medium.
+pub fn checked_of(alloc: Global, media: MemNand) -> Checked {
+    let (checked, media) = findings(alloc, media);
+    drop(media);
+    checked
 }
 
 const BYTES: [Bytes; 11] = [
@@ -270,7 +296,7 @@ const BYTES: [Bytes; 11] = [
 ];
 
 // What is found of the volume with these changes, and with these pages besides; with the journal where it is asked for.
-fn found(alloc: Global, changes: &[Bytes], more: &[Row], journal: bool) -> Result<Checked, Fail> {
+fn found(alloc: Global, changes: &[Bytes], more: &[Row], journal: bool) -> Result<Checked, Memory> {
     let mut bytes = BYTES.to_vec(alloc)?;
     bytes.extend_from_slice(changes)?;
     let mut rows = [metadata(0, 67, 5), metadata(1, 0, 6), metadata(2, 71, 7)].to_vec(alloc)?;
@@ -279,9 +305,7 @@ fn found(alloc: Global, changes: &[Bytes], more: &[Row], journal: bool) -> Resul
     }
     rows.extend_from_slice(&[data(256, 0, 3, 1), data(257, 1, 4, 2)])?;
     rows.extend_from_slice(more)?;
-    let media = image(alloc, &rows, &bytes)?;
-    let (checked, _media) = findings(alloc, media);
-    Ok(checked)
+    Ok(checked_of(alloc, image(alloc, &rows, &bytes)?))
 }
 
 pub fn only(what: What) -> Findings {
@@ -297,49 +321,67 @@ pub fn is_found(checked: &Checked, wanted: Findings, calls: u64) -> bool {
     }
 }
 
+/// Whether just that is found.
+fn is_right(
+    alloc: Global,
+    changes: &[Bytes],
+    more: &[Row],
+    journal: bool,
+    wanted: Findings,
+    calls: u64,
+) -> Result<bool, Memory> {
+    let checked = found(alloc, changes, more, journal)?;
+    Ok(is_found(&checked, wanted, calls))
+}
+
+const FAULTS: [([Bytes; 2], What); 9] = [
+    ([OTHER_BLOCKS, OTHER_BLOCKS], What::Super),
+    ([KIND_3, KIND_3], What::Inode),
+    ([OTHER_ADDRESS, OTHER_ADDRESS], What::Pages),
+    ([OLD_ENTRY, OLD_ENTRY], What::Entry),
+    ([BEHIND, BEHIND], What::Entry),
+    ([EMPTY_ROOT, NO_ADDRESS], What::Entry),
+    ([SECOND_AS_FIRST, SECOND_AS_FIRST], What::Pointer),
+    ([KIND_3, OTHER_BLOCKS], What::Super),
+    ([SECOND_AS_FIRST, OLD_ENTRY], What::Entry),
+];
+
+// How many of them are found before the first that is not.
+fn faults_found(alloc: Global) -> Result<usize, Memory> {
+    for (at, fault) in FAULTS.iter().enumerate() {
+        let (changes, what) = *fault;
+        if !is_right(alloc, &changes, &[], false, only(what), 0)? {
+            return Ok(at);
+        }
+    }
+    Ok(FAULTS.len())
+}
+
 // One change for each phase, and two at once.
 #[test]
 fn first_faults(rt: HostRuntime) -> Result<(), Fail> {
-    let alloc = rt.alloc();
-    let rows = [
-        ([OTHER_BLOCKS, OTHER_BLOCKS], What::Super),
-        ([KIND_3, KIND_3], What::Inode),
-        ([OTHER_ADDRESS, OTHER_ADDRESS], What::Pages),
-        ([OLD_ENTRY, OLD_ENTRY], What::Entry),
-        ([BEHIND, BEHIND], What::Entry),
-        ([EMPTY_ROOT, NO_ADDRESS], What::Entry),
-        ([SECOND_AS_FIRST, SECOND_AS_FIRST], What::Pointer),
-        ([KIND_3, OTHER_BLOCKS], What::Super),
-        ([SECOND_AS_FIRST, OLD_ENTRY], What::Entry),
-    ];
-    let none: [Row; 0] = [];
-    for (changes, what) in rows {
-        let checked = found(alloc, &changes, &none, false)?;
-        assert!(rt; is_found(&checked, only(what), 0));
-    }
+    assert_eq!(rt; faults_found(rt.alloc())?, FAULTS.len());
     Ok(())
 }
 
 // A page that differs from a lower one, a name that another page took, and no fault.
+fn others_right(alloc: Global) -> Result<bool, Memory> {
+    let none = Findings::none();
+    let stamp = only(What::Stamp);
+    let names = only(What::Names);
+    let other = [SECOND_NAMES_259, SECOND];
+    Ok(
+        is_right(alloc, &[ROOT], &[], false, none, 0)?
+            && is_right(alloc, &[ROOT], &[data(258, 0, 3, 9)], false, stamp, 0)?
+            && is_right(alloc, &[ROOT], &[data(258, 0, 3, 1)], false, none, 0)?
+            && is_right(alloc, &other, &[data(259, 7, 9, 1)], false, names, 0)?
+            && is_right(alloc, &other, &[], false, none, 0)?,
+    )
+}
+
 #[test]
 fn beside_other_pages(rt: HostRuntime) -> Result<(), Fail> {
-    let alloc = rt.alloc();
-    let none: [Row; 0] = [];
-    let sound = found(alloc, &[ROOT], &none, false)?;
-    assert!(rt; is_found(&sound, Findings::none(), 0));
-    let other = found(alloc, &[ROOT], &[data(258, 0, 3, 9)], false)?;
-    assert!(rt; is_found(&other, only(What::Stamp), 0));
-    let copy = found(alloc, &[ROOT], &[data(258, 0, 3, 1)], false)?;
-    assert!(rt; is_found(&copy, Findings::none(), 0));
-    let taken = found(
-        alloc,
-        &[SECOND_NAMES_259, SECOND],
-        &[data(259, 7, 9, 1)],
-        false,
-    )?;
-    assert!(rt; is_found(&taken, only(What::Names), 0));
-    let lost = found(alloc, &[SECOND_NAMES_259, SECOND], &none, false)?;
-    assert!(rt; is_found(&lost, Findings::none(), 0));
+    assert!(rt; others_right(rt.alloc())?);
     Ok(())
 }
 
@@ -347,25 +389,24 @@ fn beside_other_pages(rt: HostRuntime) -> Result<(), Fail> {
 #[test]
 fn with_a_transaction(rt: HostRuntime) -> Result<(), Fail> {
     let alloc = rt.alloc();
-    let none: [Row; 0] = [];
-    let counts = found(alloc, &[ROOT], &none, true)?;
-    assert!(rt; is_found(&counts, Findings::none(), 2));
-    let other = found(alloc, &[COMMIT_2], &none, true)?;
-    assert!(rt; is_found(&other, Findings::none(), 0));
+    let none = Findings::none();
+    let right = is_right(alloc, &[ROOT], &[], true, none, 2)?
+        && is_right(alloc, &[COMMIT_2], &[], true, none, 0)?;
+    assert!(rt; right);
     Ok(())
 }
 
-// No page is readable, and none was formed.
+// No page is readable, or none was formed.
+fn are_blank(alloc: Global) -> Result<bool, Memory> {
+    let erased = checked_of(alloc, image(alloc, &[], &[ROOT])?);
+    let media = MemNand::new(alloc, FailList::new(alloc), FailList::new(alloc), None);
+    let unformed = checked_of(alloc, media);
+    Ok(is_blank(&erased) && is_blank(&unformed))
+}
+
 #[test]
 fn without_pages(rt: HostRuntime) -> Result<(), Fail> {
-    let alloc = rt.alloc();
-    let empty: [Row; 0] = [];
-    let media = image(alloc, &empty, &[ROOT])?;
-    let (checked, _media) = findings(alloc, media);
-    assert!(rt; is_blank(&checked));
-    let media = MemNand::new(alloc, FailList::new(alloc), FailList::new(alloc), None);
-    let (checked, _media) = findings(alloc, media);
-    assert!(rt; is_blank(&checked));
+    assert!(rt; are_blank(rt.alloc())?);
     Ok(())
 }
 

@@ -4,9 +4,9 @@ use crate::rig::{Seen, Step};
 use crate::rounds::{BUILT, DEAD};
 use crate::stops::committed_after;
 use crate::visit::{Differs, differing, failing, is_fault, tree};
+use nl_field::Memory;
 use nl_tree::Duty;
 use std::alloc::Global;
-use std::test::Fail;
 
 // The volume is read-only from then on.
 const WRITE_FAILS: [(Step, Seen); 6] = [
@@ -31,20 +31,26 @@ fn running_at(operation: u64) -> u64 {
     }
 }
 
-fn write_differs(alloc: Global, operation: u64) -> Result<Option<Differs>, Fail> {
+fn write_differs(alloc: Global, operation: u64) -> Result<Option<Differs>, Memory> {
     let plan = failing(alloc, 0, BUILT.saturating_add(operation))?;
     let calls = committed_after(operation.saturating_sub(1));
     let with = tree(&WRITE_FAILS, running_at(operation));
     differing(alloc, &DEAD, plan, with, Some(calls))
 }
 
-#[test]
-fn each_write_fails(rt: HostRuntime) -> Result<(), Fail> {
+// The first of the operations with whose failure something differs.
+fn writes_differ(alloc: Global) -> Result<Option<(u64, Differs)>, Memory> {
     for operation in 1..90u64 {
-        let found = write_differs(rt.alloc(), operation)?;
-        assert_eq!(rt; found, None, "{operation}");
+        if let Some(differs) = write_differs(alloc, operation)? {
+            return Ok(Some((operation, differs)));
+        }
     }
-    Ok(())
+    Ok(None)
+}
+
+#[test]
+fn each_write_fails(rt: HostRuntime) {
+    assert!(rt; writes_differ(rt.alloc()) == Ok(None));
 }
 
 /// An opening reads each page once, and then each of the seven addresses that it has.
@@ -60,31 +66,42 @@ const READ_FAILS: [(Step, Seen); 6] = [
     (Step::Clean, Seen::Nothing),
 ];
 
-fn read_differs(alloc: Global, copy: u64) -> Result<Option<Differs>, Fail> {
+fn read_differs(alloc: Global, copy: u64) -> Result<Option<Differs>, Memory> {
     let plan = failing(alloc, OPENED.saturating_add(copy), 0)?;
     differing(alloc, &DEAD, plan, tree(&READ_FAILS, 12), None)
 }
 
 // Each of the 64 copies reads its page.
-#[test]
-fn each_read_fails(rt: HostRuntime) -> Result<(), Fail> {
+fn reads_differ(alloc: Global) -> Result<Option<(u64, Differs)>, Memory> {
     for copy in 1..65u64 {
-        let found = read_differs(rt.alloc(), copy)?;
-        assert_eq!(rt; found, None, "{copy}");
+        if let Some(differs) = read_differs(alloc, copy)? {
+            return Ok(Some((copy, differs)));
+        }
     }
-    Ok(())
+    Ok(None)
 }
 
-fn opening_fails(alloc: Global, read: u64) -> Result<bool, Fail> {
+#[test]
+fn each_read_fails(rt: HostRuntime) {
+    assert!(rt; reads_differ(rt.alloc()) == Ok(None));
+}
+
+fn opening_fails(alloc: Global, read: u64) -> Result<bool, Memory> {
     let media = image(alloc, &DEAD, failing(alloc, read, 0)?)?;
     Ok(is_fault(alloc, media))
 }
 
-// Each read of an opening; those of the rounds come behind them.
-#[test]
-fn openings_fail(rt: HostRuntime) -> Result<(), Fail> {
+// How many reads come before the first with which no opening fails: each read of an opening, and then those of the rounds.
+fn opening_reads(alloc: Global) -> Result<u64, Memory> {
     for read in 1..1033u64 {
-        assert_eq!(rt; opening_fails(rt.alloc(), read)?, read <= OPENED, "{read}");
+        if !opening_fails(alloc, read)? {
+            return Ok(read - 1);
+        }
     }
-    Ok(())
+    Ok(1033)
+}
+
+#[test]
+fn openings_fail(rt: HostRuntime) {
+    assert!(rt; opening_reads(rt.alloc()) == Ok(OPENED));
 }

@@ -5,10 +5,9 @@ ghost use Rattle.std.specs.Prelude.{◌≡◌, ◌+◌, ◌<◌, ◌≤◌, IfOk
 ghost use Rattle.nl_nand.specs.Memory.{contents_of, geometry_of};
 ghost use Rattle.nl_nand.specs.Nand.{ErasedWithin};
 
-use nl_field::{FailList, PageBuf, SpareRec, Tag, spare_into};
+use nl_field::{FailList, Memory, PageBuf, SpareRec, Tag, spare_into};
 use nl_nand::{FormAnswer, MemNand, Nand, Stop, WriteAnswer};
 use std::alloc::Global;
-use std::test::Fail;
 
 /// How many pages the files have.
 pub const PAGES: u32 = 480;
@@ -204,7 +203,7 @@ pub struct Plan {
 }
 
 /// A medium of 32 blocks of 32 pages.
-fn formed(alloc: Global, plan: Plan) -> Result<MemNand, Fail>
+fn formed(alloc: Global, plan: Plan) -> Result<MemNand, Memory>
     ensures geometry { IfOk result (λ m. geometry_of m ≡ record { blocks = 32; pages = 32 }) }
     ensures erased { IfOk result (λ m. ErasedWithin (contents_of m) 0 1024) }
 {
@@ -216,7 +215,7 @@ fn formed(alloc: Global, plan: Plan) -> Result<MemNand, Fail>
     let mut media = MemNand::new(alloc, reads, writes, stop);
     match media.form(32, 32) {
         FormAnswer::Done => Ok(media),
-        _ => Err(Fail::from("not formed")),
+        _ => Err(Memory),
     }
 }
 
@@ -302,7 +301,7 @@ fn fill(content: Content, names: &[u32], buf: &mut PageBuf) {
 }
 
 /// What each page holds.
-fn contents(alloc: Global, layout: &Layout) -> Result<Vec<Content>, Fail> {
+fn contents(alloc: Global, layout: &Layout) -> Result<Vec<Content>, Memory> {
     let mut rows = vec![in alloc; Content::Erased; 1024]?;
     lay_metadata(&mut rows);
     lay_data(&mut rows, layout);
@@ -340,7 +339,7 @@ fn lay_data(rows: &mut [Content], layout: &Layout) {
 }
 
 /// The names of the pages of the files, by their numbers.
-fn names(alloc: Global, contents: &[Content]) -> Result<Vec<u32>, Fail> {
+fn names(alloc: Global, contents: &[Content]) -> Result<Vec<u32>, Memory> {
     let mut names = Vec::new(alloc);
     for (page, content) in contents.iter().enumerate() {
         if let Content::Data(_) = content
@@ -372,14 +371,14 @@ fn put_all(media: &mut MemNand, contents: &[Content], names: &[u32], buf: &mut P
 }
 
 /// The medium of the volume. Its pages are programmed, and then its calls begin.
-pub fn image(alloc: Global, layout: &Layout, plan: Plan) -> Result<MemNand, Fail> {
+pub fn image(alloc: Global, layout: &Layout, plan: Plan) -> Result<MemNand, Memory> {
     let contents = contents(alloc, layout)?;
     let found = with_contents(alloc, &contents, plan);
     drop(contents);
     found
 }
 
-fn with_contents(alloc: Global, contents: &[Content], plan: Plan) -> Result<MemNand, Fail> {
+fn with_contents(alloc: Global, contents: &[Content], plan: Plan) -> Result<MemNand, Memory> {
     let names = names(alloc, contents)?;
     let found = with_names(alloc, contents, &names, plan);
     drop(names);
@@ -391,7 +390,7 @@ fn with_names(
     contents: &[Content],
     names: &[u32],
     plan: Plan,
-) -> Result<MemNand, Fail> {
+) -> Result<MemNand, Memory> {
     let mut buf = PageBuf::new(alloc)?;
     let mut media = formed(alloc, plan)?;
     let done = put_all(&mut media, contents, names, &mut buf);
@@ -400,6 +399,6 @@ fn with_names(
         Ok(media)
     } else {
         drop(media);
-        Err(Fail::from("program"))
+        Err(Memory)
     }
 }

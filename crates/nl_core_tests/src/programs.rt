@@ -2,11 +2,11 @@
 use crate::failing::OPENED;
 use crate::image::Layout;
 use crate::rig::{Seen, Step};
-use crate::stops::finished;
+use crate::stops::{CUTS, finished};
 use crate::visit::{Differs, Holds, Visit, differing, failing, sound};
+use nl_field::Memory;
 use nl_nand::{Cut, Stop};
 use std::alloc::Global;
-use std::test::Fail;
 
 /// Twenty blocks of 24 live pages and 8 dead ones.
 const CROWDED: Layout = [
@@ -62,12 +62,11 @@ fn with_flight(rows: &[(Step, Seen)], calls: u64, in_flight: u32) -> Visit<'_> {
 }
 
 #[test]
-fn room_is_made(rt: HostRuntime) -> Result<(), Fail> {
+fn room_is_made(rt: HostRuntime) {
     let alloc = rt.alloc();
     let with = with_flight(&PROGRAMS, 7, 128);
-    let found = differing(alloc, &CROWDED, sound(alloc, None), with, Some(7))?;
-    assert_eq!(rt; found, None);
-    Ok(())
+    let found = differing(alloc, &CROWDED, sound(alloc, None), with, Some(7));
+    assert!(rt; found == Ok(None));
 }
 
 // The page that needs rounds, after a call, where an operation of theirs fails. The volume is read-only from then on.
@@ -109,7 +108,7 @@ fn running_at(operation: u64) -> u64 {
     if operation < 122 { 7 } else { 8 }
 }
 
-fn stop_differs(alloc: Global, operation: u64, cut: Cut) -> Result<Option<Differs>, Fail> {
+fn stop_differs(alloc: Global, operation: u64, cut: Cut) -> Result<Option<Differs>, Memory> {
     let stop = Stop {
         operation: BUILT.saturating_add(operation),
         cut,
@@ -123,44 +122,59 @@ fn stop_differs(alloc: Global, operation: u64, cut: Cut) -> Result<Option<Differ
 }
 
 // The operations 97 to 340 are those of the rounds, and the next one is the page.
-#[test]
-fn rounds_that_make_room_are_stopped(rt: HostRuntime) -> Result<(), Fail> {
+fn stops_differ(alloc: Global) -> Result<Option<(u64, usize, Differs)>, Memory> {
     for operation in 97..342u64 {
-        for cut in [Cut::Before, Cut::After, Cut::Spoilt] {
-            let found = stop_differs(rt.alloc(), operation, cut)?;
-            assert_eq!(rt; found, None, "{operation} {cut:?}");
+        for (at, cut) in CUTS.iter().enumerate() {
+            if let Some(differs) = stop_differs(alloc, operation, *cut)? {
+                return Ok(Some((operation, at, differs)));
+            }
         }
     }
-    Ok(())
+    Ok(None)
 }
 
-fn write_differs(alloc: Global, operation: u64) -> Result<Option<Differs>, Fail> {
+#[test]
+fn rounds_that_make_room_are_stopped(rt: HostRuntime) {
+    assert!(rt; stops_differ(rt.alloc()) == Ok(None));
+}
+
+fn write_differs(alloc: Global, operation: u64) -> Result<Option<Differs>, Memory> {
     let plan = failing(alloc, 0, BUILT.saturating_add(operation))?;
     let with = with_flight(&WRITE_FAILS, running_at(operation), 96);
     let calls = committed_after(operation.saturating_sub(1));
     differing(alloc, &CROWDED, plan, with, Some(calls))
 }
 
-#[test]
-fn writes_of_rounds_that_make_room_fail(rt: HostRuntime) -> Result<(), Fail> {
+fn writes_differ(alloc: Global) -> Result<Option<(u64, Differs)>, Memory> {
     for operation in 97..342u64 {
-        let found = write_differs(rt.alloc(), operation)?;
-        assert_eq!(rt; found, None, "{operation}");
+        if let Some(differs) = write_differs(alloc, operation)? {
+            return Ok(Some((operation, differs)));
+        }
     }
-    Ok(())
+    Ok(None)
 }
 
-fn read_differs(alloc: Global, copy: u64) -> Result<Option<Differs>, Fail> {
+#[test]
+fn writes_of_rounds_that_make_room_fail(rt: HostRuntime) {
+    assert!(rt; writes_differ(rt.alloc()) == Ok(None));
+}
+
+fn read_differs(alloc: Global, copy: u64) -> Result<Option<Differs>, Memory> {
     let plan = failing(alloc, OPENED.saturating_add(copy), 0)?;
     differing(alloc, &CROWDED, plan, with_flight(&READ_FAILS, 8, 97), None)
 }
 
 // Each of the copies of eight rounds reads its page.
-#[test]
-fn reads_of_rounds_that_make_room_fail(rt: HostRuntime) -> Result<(), Fail> {
+fn reads_differ(alloc: Global) -> Result<Option<(u64, Differs)>, Memory> {
     for copy in 1..193u64 {
-        let found = read_differs(rt.alloc(), copy)?;
-        assert_eq!(rt; found, None, "{copy}");
+        if let Some(differs) = read_differs(alloc, copy)? {
+            return Ok(Some((copy, differs)));
+        }
     }
-    Ok(())
+    Ok(None)
+}
+
+#[test]
+fn reads_of_rounds_that_make_room_fail(rt: HostRuntime) {
+    assert!(rt; reads_differ(rt.alloc()) == Ok(None));
 }

@@ -4,16 +4,15 @@ ghost use Rattle.std.specs.Prelude.{◌<◌};
 use crate::image::{ADDRESSES, PAGES, fill_data, fill_metadata, slot_of, stamp, tag};
 use nl_core::Core;
 use nl_device::Device;
-use nl_field::{NamedRead, PageBuf, Pointer, Tag};
+use nl_field::{Memory, NamedRead, PageBuf, Pointer, Tag};
 use nl_flight::Flight;
 use nl_iface::{Counts, NamedPages};
 use nl_meta::Meta;
 use nl_nand::MemNand;
 use std::alloc::Global;
-use std::test::Fail;
 
 /// What is not as it should be.
-#[derive(Clone, Copy, Debug, PartialEq)]
+#[derive(Clone, Copy, PartialEq)]
 pub enum Wrong {
     /// The bytes of an address.
     Address(u32),
@@ -35,7 +34,7 @@ pub struct Work {
 }
 
 impl Work {
-    pub fn new(alloc: Global) -> Result<Work, Fail> {
+    pub fn new(alloc: Global) -> Result<Work, Memory> {
         Ok(Work {
             page: PageBuf::new(alloc)?,
             buf: PageBuf::new(alloc)?,

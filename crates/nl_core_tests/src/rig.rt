@@ -43,7 +43,7 @@ pub enum Step {
 }
 
 /// What it answered.
-#[derive(Clone, Copy, Debug, PartialEq)]
+#[derive(Clone, Copy, PartialEq)]
 pub enum Seen {
     Number(u64),
     Did,

@@ -2,10 +2,10 @@
 use crate::rig::{Seen, Step};
 use crate::rounds::{BUILT, DEAD};
 use crate::visit::{Differs, Visit, differing, sound};
+use nl_field::Memory;
 use nl_nand::{Cut, Stop};
 use nl_tree::Duty;
 use std::alloc::Global;
-use std::test::Fail;
 
 /// After how many calls the metadata is committed once so many operations have finished: commit pages are the operations 25, 56 and 87.
 pub fn committed_after(operations: u64) -> u64 {
@@ -35,7 +35,7 @@ fn stop_differs(
     operation: u64,
     cut: Cut,
     calls: u64,
-) -> Result<Option<Differs>, Fail> {
+) -> Result<Option<Differs>, Memory> {
     let stop = Stop {
         operation: BUILT.saturating_add(operation),
         cut,
@@ -51,29 +51,44 @@ pub fn finished(operation: u64, cut: Cut) -> u64 {
     }
 }
 
-/// Of an erased block five pages stay, five are erased, five are uncorrectable, and so on.
-const BY_FIVES: Cut = Cut::Mixed(205465758716988);
+/// Of an erased block five pages stay, five are erased, five are uncorrectable, and so on; and two other mixtures.
+const MIXED: [Cut; 3] = [Cut::Mixed(205465758716988), Cut::Mixed(1), Cut::Mixed(6)];
 
-#[test]
-fn each_operation_is_stopped(rt: HostRuntime) -> Result<(), Fail> {
+/// The cuts of one page.
+pub const CUTS: [Cut; 3] = [Cut::Before, Cut::After, Cut::Spoilt];
+
+// The first operation, and which cut of it, with which something differs.
+fn stops_differ(alloc: Global) -> Result<Option<(u64, usize, Differs)>, Memory> {
     for operation in 1..90u64 {
-        for cut in [Cut::Before, Cut::After, Cut::Spoilt] {
-            let calls = committed_after(finished(operation, cut));
-            let found = stop_differs(rt.alloc(), operation, cut, calls)?;
-            assert_eq!(rt; found, None, "{operation} {cut:?}");
+        for (at, cut) in CUTS.iter().enumerate() {
+            let calls = committed_after(finished(operation, *cut));
+            if let Some(differs) = stop_differs(alloc, operation, *cut, calls)? {
+                return Ok(Some((operation, at, differs)));
+            }
         }
     }
-    Ok(())
+    Ok(None)
 }
 
-// The erases of the three blocks.
 #[test]
-fn erases_are_cut_over_their_pages(rt: HostRuntime) -> Result<(), Fail> {
+fn each_operation_is_stopped(rt: HostRuntime) {
+    assert!(rt; stops_differ(rt.alloc()) == Ok(None));
+}
+
+// The erases of the three blocks, over their pages.
+fn erases_differ(alloc: Global) -> Result<Option<(u64, usize, Differs)>, Memory> {
     for operation in [19u64, 52, 83] {
-        for cut in [BY_FIVES, Cut::Mixed(1), Cut::Mixed(6)] {
-            let found = stop_differs(rt.alloc(), operation, cut, committed_after(operation))?;
-            assert_eq!(rt; found, None, "{operation} {cut:?}");
+        for (at, cut) in MIXED.iter().enumerate() {
+            let calls = committed_after(operation);
+            if let Some(differs) = stop_differs(alloc, operation, *cut, calls)? {
+                return Ok(Some((operation, at, differs)));
+            }
         }
     }
-    Ok(())
+    Ok(None)
+}
+
+#[test]
+fn erases_are_cut_over_their_pages(rt: HostRuntime) {
+    assert!(rt; erases_differ(rt.alloc()) == Ok(None));
 }

@@ -4,15 +4,14 @@ use crate::reading::{Work, Wrong, first_wrong};
 use crate::rig::{Rig, Seen, Step};
 use nl_core::Core;
 use nl_device::Device;
-use nl_field::FailList;
+use nl_field::{FailList, Memory};
 use nl_iface::Counts;
 use nl_nand::{MemNand, Stop};
 use nl_opening::{Opened, open};
 use std::alloc::Global;
-use std::test::Fail;
 
 /// What differs from what is wanted: the answer of a row, or what is read back.
-#[derive(Clone, Copy, Debug, PartialEq)]
+#[derive(Clone, Copy, PartialEq)]
 pub enum Differs {
     Row(usize, Seen),
     Holds(Wrong),
@@ -54,7 +53,7 @@ pub fn sound(alloc: Global, stop: Option<Stop>) -> Plan {
 }
 
 /// The calls of these numbers fail, where they are not zero.
-pub fn failing(alloc: Global, read: u64, write: u64) -> Result<Plan, Fail> {
+pub fn failing(alloc: Global, read: u64, write: u64) -> Result<Plan, Memory> {
     Ok(Plan {
         reads: only(alloc, read)?,
         writes: only(alloc, write)?,
@@ -62,7 +61,7 @@ pub fn failing(alloc: Global, read: u64, write: u64) -> Result<Plan, Fail> {
     })
 }
 
-fn only(alloc: Global, number: u64) -> Result<FailList, Fail> {
+fn only(alloc: Global, number: u64) -> Result<FailList, Memory> {
     let mut list = FailList::new(alloc);
     if 0 < number {
         list.push(number)?;
@@ -70,12 +69,12 @@ fn only(alloc: Global, number: u64) -> Result<FailList, Fail> {
     Ok(list)
 }
 
-fn opened(alloc: Global, media: MemNand) -> Result<Rig, Fail> {
+fn opened(alloc: Global, media: MemNand) -> Result<Rig, Memory> {
     match open(alloc, media) {
         Opened::Ready(core, _) => Ok(Rig { core }),
         other => {
             drop(other);
-            Err(Fail::from("not opened"))
+            Err(Memory)
         }
     }
 }
@@ -115,7 +114,7 @@ fn visited(
     media: MemNand,
     visit: Visit<'_>,
     work: &mut Work,
-) -> Result<(Option<Differs>, MemNand), Fail> {
+) -> Result<(Option<Differs>, MemNand), Memory> {
     let mut rig = opened(alloc, media)?;
     let row = rig.differs(visit.rows, &mut work.page);
     let Rig { mut core } = rig;
@@ -149,7 +148,7 @@ fn reopened(
     media: MemNand,
     calls: u64,
     work: &mut Work,
-) -> Result<Option<Differs>, Fail> {
+) -> Result<Option<Differs>, Memory> {
     let counted = [(Step::Count, Seen::Number(calls))];
     let (first, media) = visited(alloc, media, tree(&counted, calls), work)?;
     let (second, media) = visited(alloc, media, tree(&CLEANED, calls), work)?;
@@ -164,7 +163,7 @@ pub fn differing(
     plan: Plan,
     visit: Visit<'_>,
     calls: Option<u64>,
-) -> Result<Option<Differs>, Fail> {
+) -> Result<Option<Differs>, Memory> {
     let mut work = Work::new(alloc)?;
     let found = differing_in(alloc, layout, plan, visit, calls, &mut work);
     drop(work);
@@ -178,7 +177,7 @@ fn differing_in(
     visit: Visit<'_>,
     calls: Option<u64>,
     work: &mut Work,
-) -> Result<Option<Differs>, Fail> {
+) -> Result<Option<Differs>, Memory> {
     let media = image(alloc, layout, plan)?;
     let (first, media) = visited(alloc, media, visit, work)?;
     match calls {

@@ -6,7 +6,8 @@ ghost use Rattle.nl_nand.specs.Nand.{IsBlank};
 
 use nl_device::{Copying, Device, Started};
 use nl_field::{
-    FailList, Named, NamedRead, PageBuf, Pointer, PointerList, Tag, VirtualRead, VirtualWrite,
+    FailList, Memory, Named, NamedRead, PageBuf, Pointer, PointerList, Tag, VirtualRead,
+    VirtualWrite,
 };
 use nl_iface::{Counts, NamedPages, VirtualPages};
 use nl_nand::{MemNand, Stop};
@@ -103,7 +104,7 @@ impl Model for Rig {
     ghost invariant = { λ r. IsFormed r.device };
 }
 
-fn started(alloc: Global, media: MemNand) -> Result<Device<MemNand>, Fail>
+fn started(alloc: Global, media: MemNand) -> Result<Device<MemNand>, Memory>
     requires numbers { geometry_of media ≡ record { blocks = 32; pages = 32 } }
     requires erased { IsBlank (contents_of media) }
     ensures { IfOk result HasAddressed }
@@ -115,7 +116,7 @@ fn started(alloc: Global, media: MemNand) -> Result<Device<MemNand>, Fail>
         }
         other => {
             drop(other);
-            Err(Fail::from("not started"))
+            Err(Memory)
         }
     }
 }
@@ -126,7 +127,7 @@ pub fn fresh(
     reads: FailList,
     writes: FailList,
     stop: Option<Stop>,
-) -> Result<Rig, Fail> {
+) -> Result<Rig, Memory> {
     let buf = PageBuf::new(alloc)?;
     let media = blank(alloc, reads, writes, stop)?;
     let device = started(alloc, media)?;
@@ -389,7 +390,7 @@ pub fn differs(
     read: u64,
     writes: (u64, u64),
     table: &[(Step, Seen)],
-) -> Result<Option<usize>, Fail> {
+) -> Result<Option<usize>, Memory> {
     let reads = failing(alloc, read, 0)?;
     let writes = failing(alloc, writes.0, writes.1)?;
     let mut rig = fresh(alloc, reads, writes, None)?;
@@ -536,7 +537,7 @@ const ADDRESSED: [(u32, AtAddress, Seen); 8] = [
 ];
 
 /// The first row that a device of a blank medium answers otherwise, and its next stamp.
-fn addressed(alloc: Global) -> Result<(Option<usize>, u64), Fail> {
+fn addressed(alloc: Global) -> Result<(Option<usize>, u64), Memory> {
     let mut buf = PageBuf::new(alloc)?;
     let media = blank(alloc, FailList::new(alloc), FailList::new(alloc), None)?;
     let mut device = started(alloc, media)?;

@@ -238,8 +238,8 @@ const PLACE: [Row<'static>; 9] = [
 #[test]
 fn a_page_reaches_its_place_in_the_file(rt: HostRuntime) {
     let path = "nl_imgfile_place.img";
-    assert_eq!(rt; on_new(&rt, path, &PLACE), Some(9));
-    assert!(rt; removes(&rt, path));
+    let all = on_new(&rt, path, &PLACE) == Some(9) && removes(&rt, path);
+    assert!(rt; all);
 }
 
 const FIRST: [Row<'static>; 8] = [
@@ -275,11 +275,12 @@ const ANEW: [Row<'static>; 3] = [
 #[test]
 fn pages_stay_in_the_file(rt: HostRuntime) {
     let path = "nl_imgfile_stay.img";
-    assert_eq!(rt; on_new(&rt, path, &FIRST), Some(8));
-    assert_eq!(rt; on_old(&rt, path, &SECOND), Some(5));
-    assert_eq!(rt; on_old(&rt, path, &AFTERWARDS), Some(2));
-    assert_eq!(rt; on_new(&rt, path, &ANEW), Some(3));
-    assert!(rt; removes(&rt, path));
+    let all = on_new(&rt, path, &FIRST) == Some(8)
+        && on_old(&rt, path, &SECOND) == Some(5)
+        && on_old(&rt, path, &AFTERWARDS) == Some(2)
+        && on_new(&rt, path, &ANEW) == Some(3)
+        && removes(&rt, path);
+    assert!(rt; all);
 }
 
 const LARGER: [Row<'static>; 3] = [
@@ -291,11 +292,12 @@ const LARGER: [Row<'static>; 3] = [
 #[test]
 fn forming_drops_what_was_there(rt: HostRuntime) {
     let path = "nl_imgfile_again.img";
-    assert_eq!(rt; on_new(&rt, path, &LARGER), Some(3));
-    assert_eq!(rt; numbers(&rt, path), Some((33, 64)));
-    assert_eq!(rt; length(&rt, path), Some(8_806_912));
-    assert_eq!(rt; on_old(&rt, path, &ANEW), Some(3));
-    assert!(rt; removes(&rt, path));
+    let all = on_new(&rt, path, &LARGER) == Some(3)
+        && numbers(&rt, path) == Some((33, 64))
+        && length(&rt, path) == Some(8_806_912)
+        && on_old(&rt, path, &ANEW) == Some(3)
+        && removes(&rt, path);
+    assert!(rt; all);
 }
 
 /// A place in a header, a byte that no header has there, and the one that stood there.
@@ -317,22 +319,37 @@ fn is_spoilt(rt: &HostRuntime, path: &str, at: u64, byte: u8, was: u8) -> bool {
         && writes(rt, path, at, &[was])
 }
 
+/// Whether a file has its numbers with a whole header alone.
+fn is_header(rt: &HostRuntime, path: &str) -> bool {
+    numbers(rt, path) == Some((0, 0))
+        && writes(rt, path, 0, HEAD)
+        && resizes(rt, path, 4095)
+        && numbers(rt, path) == Some((0, 0))
+        && resizes(rt, path, 4096)
+        && numbers(rt, path) == Some((32, 32))
+}
+
+/// How many bytes are spoilt before the first with which the file has numbers.
+fn spoilt(rt: &HostRuntime, path: &str) -> usize {
+    for (row, spoilt) in SPOILT.iter().enumerate() {
+        let (at, byte, was) = *spoilt;
+        if !is_spoilt(rt, path, at, byte, was) {
+            return row;
+        }
+    }
+    SPOILT.len()
+}
+
 #[test]
 fn a_file_with_another_header_was_never_formed(rt: HostRuntime) {
     let path = "nl_imgfile_header.img";
     let _ = fs::remove_file(&rt, path);
-    assert_eq!(rt; numbers(&rt, path), Some((0, 0)));
-    assert!(rt; writes(&rt, path, 0, HEAD));
-    assert!(rt; resizes(&rt, path, 4095));
-    assert_eq!(rt; numbers(&rt, path), Some((0, 0)));
-    assert!(rt; resizes(&rt, path, 4096));
-    assert_eq!(rt; numbers(&rt, path), Some((32, 32)));
-    for (at, byte, was) in SPOILT.iter() {
-        assert!(rt; is_spoilt(&rt, path, *at, *byte, *was), "{at}");
-    }
-    assert!(rt; writes(&rt, path, 16, b"\x40"));
-    assert_eq!(rt; numbers(&rt, path), Some((32, 64)));
-    assert!(rt; removes(&rt, path));
+    assert!(rt; is_header(&rt, path));
+    assert_eq!(rt; spoilt(&rt, path), 8);
+    let all = writes(&rt, path, 16, b"\x40")
+        && numbers(&rt, path) == Some((32, 64))
+        && removes(&rt, path);
+    assert!(rt; all);
 }
 
 const STATES: [Row<'static>; 10] = [
@@ -351,8 +368,8 @@ const STATES: [Row<'static>; 10] = [
 #[test]
 fn other_states_are_uncorrectable(rt: HostRuntime) {
     let path = "nl_imgfile_state.img";
-    assert_eq!(rt; on_new(&rt, path, &STATES), Some(10));
-    assert!(rt; removes(&rt, path));
+    let all = on_new(&rt, path, &STATES) == Some(10) && removes(&rt, path);
+    assert!(rt; all);
 }
 
 const CUT: [Row<'static>; 9] = [
@@ -372,10 +389,11 @@ const WHOLE: [Row<'static>; 1] = [(Step::Read(1023), Seen::Erased)];
 #[test]
 fn a_cut_record_is_a_failed_read(rt: HostRuntime) {
     let path = "nl_imgfile_cut.img";
-    assert_eq!(rt; on_new(&rt, path, &CUT), Some(9));
-    assert!(rt; writes(&rt, path, 4_272_128, b"behind"));
-    assert_eq!(rt; on_old(&rt, path, &WHOLE), Some(1));
-    assert!(rt; removes(&rt, path));
+    let all = on_new(&rt, path, &CUT) == Some(9)
+        && writes(&rt, path, 4_272_128, b"behind")
+        && on_old(&rt, path, &WHOLE) == Some(1)
+        && removes(&rt, path);
+    assert!(rt; all);
 }
 
 const FAILED: [Row<'static>; 7] = [
@@ -391,10 +409,11 @@ const FAILED: [Row<'static>; 7] = [
 #[test]
 fn a_failed_call_is_counted(rt: HostRuntime) {
     let path = "nl_imgfile_failed.img";
-    assert_eq!(rt; on_new(&rt, path, &NEW), Some(1));
-    assert_eq!(rt; on_unwritable(&rt, path, &FAILED), Some(7));
-    assert_eq!(rt; numbers(&rt, path), Some((32, 32)));
-    assert!(rt; removes(&rt, path));
+    let all = on_new(&rt, path, &NEW) == Some(1)
+        && on_unwritable(&rt, path, &FAILED) == Some(7)
+        && numbers(&rt, path) == Some((32, 32))
+        && removes(&rt, path);
+    assert!(rt; all);
 }
 
 /// Whether a file that is open for writing alone is given back.
@@ -407,8 +426,8 @@ fn is_given_back(rt: &HostRuntime, path: &str) -> Option<bool> {
 #[test]
 fn a_file_that_cannot_be_read_is_given_back(rt: HostRuntime) {
     let path = "nl_imgfile_unread.img";
-    assert_eq!(rt; is_given_back(&rt, path), Some(true));
-    assert!(rt; removes(&rt, path));
+    let all = is_given_back(&rt, path) == Some(true) && removes(&rt, path);
+    assert!(rt; all);
 }
 
 /// Whether a second medium on the file is refused.
@@ -421,8 +440,9 @@ fn is_in_use(rt: &HostRuntime, path: &str) -> Option<bool> {
 #[test]
 fn a_file_has_one_medium_at_a_time(rt: HostRuntime) {
     let path = "nl_imgfile_locked.img";
-    assert_eq!(rt; on_new(&rt, path, &NEW), Some(1));
-    assert_eq!(rt; is_in_use(&rt, path), Some(true));
-    assert_eq!(rt; numbers(&rt, path), Some((32, 32)));
-    assert!(rt; removes(&rt, path));
+    let all = on_new(&rt, path, &NEW) == Some(1)
+        && is_in_use(&rt, path) == Some(true)
+        && numbers(&rt, path) == Some((32, 32))
+        && removes(&rt, path);
+    assert!(rt; all);
 }

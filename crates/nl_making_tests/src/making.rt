@@ -3,7 +3,6 @@ use nl_field::{FailList, What};
 use nl_making::{Made, make};
 use nl_nand::{Cut, MemNand, Stop};
 use std::alloc::Global;
-use std::test::Fail;
 
 /// What a check finds, as a letter: no readable page, damage at the super page, a sound volume after no call, or anything else.
 fn letter(checked: &Checked) -> u8 {
@@ -43,20 +42,29 @@ fn stopped(alloc: Global, operation: u64, cut: Cut) -> u8 {
     found(alloc, FailList::new(alloc), Some(Stop { operation, cut }))
 }
 
-#[test]
-fn a_stop_leaves_a_blank_a_damaged_or_a_new_volume(rt: HostRuntime) -> Result<(), Fail> {
-    let alloc = rt.alloc();
-    let rows = [
-        (1u64, Cut::Before, b'B'),
-        (1, Cut::Spoilt, b'B'),
-        (1, Cut::After, b'S'),
-        (2, Cut::Before, b'S'),
-        (2, Cut::Spoilt, b'S'),
-        (2, Cut::After, b'0'),
-    ];
-    for (operation, cut, expected) in rows {
-        assert_eq!(rt; stopped(alloc, operation, cut), expected);
+const STOPS: [(u64, Cut, u8); 6] = [
+    (1, Cut::Before, b'B'),
+    (1, Cut::Spoilt, b'B'),
+    (1, Cut::After, b'S'),
+    (2, Cut::Before, b'S'),
+    (2, Cut::Spoilt, b'S'),
+    (2, Cut::After, b'0'),
+];
+
+// How many of the stops leave what they are to before the first that does not.
+fn left(alloc: Global) -> usize {
+    for (at, row) in STOPS.iter().enumerate() {
+        let (operation, cut, expected) = *row;
+        if stopped(alloc, operation, cut) != expected {
+            return at;
+        }
     }
-    assert_eq!(rt; found(alloc, FailList::new(alloc), None), b'0');
-    Ok(())
+    STOPS.len()
+}
+
+#[test]
+fn a_stop_leaves_a_blank_a_damaged_or_a_new_volume(rt: HostRuntime) {
+    let alloc = rt.alloc();
+    assert_eq!(rt; left(alloc), STOPS.len());
+    assert!(rt; found(alloc, FailList::new(alloc), None) == b'0');
 }

@@ -1,10 +1,10 @@
 // Streams in memory, read and written as their lists of failing calls say.
-use nl_field::{FailList, Text};
+use nl_field::{FailList, Memory, Text};
 use nl_io::{
     MemSink, MemSource, Sink, SinkAnswer, Source, SourceAnswer, StdSink, StdSource, Words,
 };
+use std::alloc::Global;
 use std::io;
-use std::test::Fail;
 
 // Whether a read of at most three bytes answers so and gives these.
 fn reads<S: Source>(source: &mut S, want: SourceAnswer, bytes: &[u8]) -> bool {
@@ -16,57 +16,90 @@ fn writes<K: Sink>(sink: &mut K, bytes: &[u8], want: SinkAnswer) -> bool {
     sink.write(bytes) == want
 }
 
-#[test]
-fn a_source_is_read_to_its_end(rt: HostRuntime) -> Result<(), Fail> {
-    let alloc = rt.alloc();
+/// The call of this number fails.
+fn only(alloc: Global, number: u64) -> Result<FailList, Memory> {
     let mut failing = FailList::new(alloc);
-    failing.push(2)?;
+    failing.push(number.max(1))?;
+    Ok(failing)
+}
+
+fn is_hello(source: &mut MemSource) -> bool {
+    reads(source, SourceAnswer::Got(3), b"hel")
+        && reads(source, SourceAnswer::Failed, b"")
+        && source.faults() == 1
+        && reads(source, SourceAnswer::Got(2), b"lo")
+        && reads(source, SourceAnswer::End, b"")
+}
+
+fn reads_hello(alloc: Global) -> Result<bool, Memory> {
+    let failing = only(alloc, 2)?;
     let mut source = MemSource::new(Text::of(alloc, b"hello")?, failing);
-    assert!(rt; reads(&mut source, SourceAnswer::Got(3), b"hel"));
-    assert!(rt; reads(&mut source, SourceAnswer::Failed, b""));
-    assert!(rt; source.faults() == 1);
-    assert!(rt; reads(&mut source, SourceAnswer::Got(2), b"lo"));
-    assert!(rt; reads(&mut source, SourceAnswer::End, b""));
-    Ok(())
+    let is = is_hello(&mut source);
+    drop(source);
+    Ok(is)
 }
 
 #[test]
-fn a_sink_takes_what_fits(rt: HostRuntime) -> Result<(), Fail> {
-    let alloc = rt.alloc();
-    let mut failing = FailList::new(alloc);
-    failing.push(1)?;
-    let mut sink = MemSink::new(alloc, 5, failing)?;
-    assert!(rt; writes(&mut sink, b"no", SinkAnswer::Failed));
-    assert!(rt; writes(&mut sink, b"abc", SinkAnswer::Took));
-    assert!(rt; writes(&mut sink, b"def", SinkAnswer::Failed));
-    assert!(rt; writes(&mut sink, b"de", SinkAnswer::Took));
-    assert!(rt; sink.bytes() == b"abcde".as_slice());
-    assert!(rt; sink.faults() == 2);
-    Ok(())
+fn a_source_is_read_to_its_end(rt: HostRuntime) {
+    assert!(rt; reads_hello(rt.alloc()) == Ok(true));
+}
+
+fn takes_five(sink: &mut MemSink) -> bool {
+    writes(sink, b"no", SinkAnswer::Failed)
+        && writes(sink, b"abc", SinkAnswer::Took)
+        && writes(sink, b"def", SinkAnswer::Failed)
+        && writes(sink, b"de", SinkAnswer::Took)
+        && sink.bytes() == b"abcde".as_slice()
+        && sink.faults() == 2
+}
+
+fn takes_what_fits(alloc: Global) -> Result<bool, Memory> {
+    let mut sink = MemSink::new(alloc, 5, only(alloc, 1)?)?;
+    let is = takes_five(&mut sink);
+    drop(sink);
+    Ok(is)
 }
 
 #[test]
-fn words_keep_their_order(rt: HostRuntime) -> Result<(), Fail> {
-    let alloc = rt.alloc();
+fn a_sink_takes_what_fits(rt: HostRuntime) {
+    assert!(rt; takes_what_fits(rt.alloc()) == Ok(true));
+}
+
+fn two(alloc: Global) -> Result<Words, Memory> {
     let mut words = Words::new(alloc);
     words.push(b"format")?;
     words.push(b"32")?;
-    assert_eq!(rt; words.len(), 2);
-    assert_eq!(rt; words.get(1).bytes(), b"32".as_slice());
-    Ok(())
+    Ok(words)
+}
+
+fn keeps_two(alloc: Global) -> Result<bool, Memory> {
+    let words = two(alloc)?;
+    let is = words.len() == 2 && words.get(1).bytes() == b"32".as_slice();
+    drop(words);
+    Ok(is)
 }
 
 #[test]
-fn a_reader_and_a_writer_serve_as_streams(rt: HostRuntime) -> Result<(), Fail> {
-    let alloc = rt.alloc();
+fn words_keep_their_order(rt: HostRuntime) {
+    assert!(rt; keeps_two(rt.alloc()) == Ok(true));
+}
+
+fn reads_two() -> bool {
     let mut source = StdSource::new(b"ab".as_slice());
     let mut out = [0u8; 8];
-    assert_eq!(rt; source.read(&mut out), SourceAnswer::Got(2));
-    assert_eq!(rt; source.read(&mut out), SourceAnswer::End);
+    source.read(&mut out) == SourceAnswer::Got(2) && source.read(&mut out) == SourceAnswer::End
+}
+
+fn takes_two(alloc: Global) -> bool {
     let mut sink = StdSink::new(Vec::<u8>::new(alloc));
-    assert_eq!(rt; sink.write(b"ab"), SinkAnswer::Took);
-    assert_eq!(rt; sink.faults(), 0);
-    Ok(())
+    let is = sink.write(b"ab") == SinkAnswer::Took && sink.faults() == 0;
+    drop(sink);
+    is
+}
+
+#[test]
+fn a_reader_and_a_writer_serve_as_streams(rt: HostRuntime) {
+    assert!(rt; reads_two() && takes_two(rt.alloc()));
 }
 
 /// Reads and writes a byte at a call, and fails at the second.
@@ -103,17 +136,24 @@ impl io::Write for SecondFails {
     }
 }
 
+// The second byte is not read.
+fn reads_on(source: &mut StdSource<SecondFails>) -> bool {
+    reads(source, SourceAnswer::Got(1), b"x")
+        && reads(source, SourceAnswer::Failed, b"")
+        && reads(source, SourceAnswer::Got(1), b"x")
+        && source.faults() == 1
+}
+
+// The second byte is not taken.
+fn takes_on(sink: &mut StdSink<SecondFails>) -> bool {
+    writes(sink, b"ab", SinkAnswer::Failed)
+        && writes(sink, b"ab", SinkAnswer::Took)
+        && sink.faults() == 1
+}
+
 #[test]
-fn a_call_that_fails_is_no_end(rt: HostRuntime) -> Result<(), Fail> {
+fn a_call_that_fails_is_no_end(rt: HostRuntime) {
     let mut source = StdSource::new(SecondFails { calls: 0 });
-    assert!(rt; reads(&mut source, SourceAnswer::Got(1), b"x"));
-    assert!(rt; reads(&mut source, SourceAnswer::Failed, b""));
-    assert!(rt; reads(&mut source, SourceAnswer::Got(1), b"x"));
-    assert!(rt; source.faults() == 1);
-    // The second byte is not taken.
     let mut sink = StdSink::new(SecondFails { calls: 0 });
-    assert!(rt; writes(&mut sink, b"ab", SinkAnswer::Failed));
-    assert!(rt; writes(&mut sink, b"ab", SinkAnswer::Took));
-    assert!(rt; sink.faults() == 1);
-    Ok(())
+    assert!(rt; reads_on(&mut source) && takes_on(&mut sink));
 }

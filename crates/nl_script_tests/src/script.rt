@@ -85,20 +85,20 @@ const REFUSED: [Refused; 61] = [
     ("0 sync\n# \t\u{7f}\n\n9 sync\n8", 4, 1, Why::Worker),
 ];
 
-// The first text with another refusal.
-fn differs(alloc: Global, rows: &[Refused]) -> Option<&'static str> {
-    for row in 0..rows.len() {
-        let (text, line, column, why) = rows[row];
+// How many texts have their refusal before the first that has another.
+fn named(alloc: Global, rows: &[Refused]) -> usize {
+    for (at, row) in rows.iter().enumerate() {
+        let (text, line, column, why) = *row;
         if refusal_of(alloc, text.as_bytes()) != refused(line, column, why) {
-            return Some(text);
+            return at;
         }
     }
-    None
+    rows.len()
 }
 
 #[test]
 fn the_first_fault_is_named(rt: HostRuntime) {
-    assert_eq!(rt; differs(rt.alloc(), &REFUSED), None);
+    assert_eq!(rt; named(rt.alloc(), &REFUSED), 61);
 }
 
 const ACCEPTED: [(&str, u32); 14] = [
@@ -118,15 +118,20 @@ const ACCEPTED: [(&str, u32); 14] = [
     ("0 write /a 0 -\n0 write /a 0 aB", 2),
 ];
 
+// How many of the rows are accepted with their count of calls before the first that is not.
+fn accepted(alloc: Global, rows: &[(&str, u32)]) -> usize {
+    for (at, row) in rows.iter().enumerate() {
+        let (text, calls) = *row;
+        if count_of(alloc, text.as_bytes()) != Some(calls) {
+            return at;
+        }
+    }
+    rows.len()
+}
+
 #[test]
 fn other_scripts_are_accepted(rt: HostRuntime) {
-    for (text, calls) in ACCEPTED.iter() {
-        assert_eq!(rt;
-            count_of(rt.alloc(), text.as_bytes()),
-            Some(*calls),
-            "{text}"
-        );
-    }
+    assert_eq!(rt; accepted(rt.alloc(), &ACCEPTED), 14);
 }
 
 // Worker 3 creates `/home/a` on line 2.
@@ -183,81 +188,114 @@ fn with_copies(
     Some(bytes)
 }
 
-fn count_with(alloc: Global, front: &[u8], text: &[u8], count: usize, back: &[u8]) -> Option<u32> {
-    count_of(alloc, &with_copies(alloc, front, text, count, back)?)
+/// What a script is read as: a count of calls, or the line, the column and the cause of its refusal.
+#[derive(Clone, Copy)]
+enum Read {
+    Calls(u32),
+    No(u32, u32, Why),
 }
 
-fn refusal_with(
-    alloc: Global,
-    front: &[u8],
-    text: &[u8],
-    count: usize,
-    back: &[u8],
-) -> Option<ScriptRefusal> {
-    refusal_of(alloc, &with_copies(alloc, front, text, count, back)?)
+/// A text between two others so many times, and what that is read as.
+type Long = (&'static [u8], &'static [u8], usize, &'static [u8], Read);
+
+fn is_read(alloc: Global, bytes: &[u8], read: Read) -> bool {
+    match read {
+        Read::Calls(count) => count_of(alloc, bytes) == Some(count),
+        Read::No(line, column, why) => refusal_of(alloc, bytes) == refused(line, column, why),
+    }
 }
+
+fn is_long(alloc: Global, row: &Long) -> Option<bool> {
+    let (front, text, count, back, read) = *row;
+    let bytes = with_copies(alloc, front, text, count, back)?;
+    Some(is_read(alloc, &bytes, read))
+}
+
+// How many rows are read as they say before the first that is not.
+fn long(alloc: Global, rows: &[Long]) -> usize {
+    for (at, row) in rows.iter().enumerate() {
+        if is_long(alloc, row) != Some(true) {
+            return at;
+        }
+    }
+    rows.len()
+}
+
+const LONG_LINES: [Long; 4] = [
+    (b"#", b"x", 139999, b"", Read::Calls(0)),
+    (b"#", b"x", 139999, b"\r", Read::Calls(0)),
+    (b"#", b"x", 139999, b"\r\n", Read::Calls(0)),
+    (
+        b"barrier\n#",
+        b"x",
+        140000,
+        b"",
+        Read::No(2, 140001, Why::Long),
+    ),
+];
 
 #[test]
 fn long_lines(rt: HostRuntime) {
-    let alloc = rt.alloc();
-    assert_eq!(rt; count_with(alloc, b"#", b"x", 139999, b""), Some(0));
-    assert_eq!(rt; count_with(alloc, b"#", b"x", 139999, b"\r"), Some(0));
-    assert_eq!(rt; count_with(alloc, b"#", b"x", 139999, b"\r\n"), Some(0));
-    assert_eq!(rt;
-        refusal_with(alloc, b"barrier\n#", b"x", 140000, b""),
-        refused(2, 140001, Why::Long)
-    );
+    assert_eq!(rt; long(rt.alloc(), &LONG_LINES), 4);
 }
+
+const LONG_DATA: [Long; 3] = [
+    (b"0 write /a 0 ", b"61", 65536, b"", Read::Calls(1)),
+    (
+        b"0 write /a 0 ",
+        b"61",
+        65536,
+        b"6",
+        Read::No(1, 14, Why::Hex),
+    ),
+    (
+        b"0 write /a 0 ",
+        b"61",
+        65536,
+        b"61",
+        Read::No(1, 14, Why::Long),
+    ),
+];
 
 #[test]
 fn long_data(rt: HostRuntime) {
-    let alloc = rt.alloc();
-    assert_eq!(rt;
-        count_with(alloc, b"0 write /a 0 ", b"61", 65536, b""),
-        Some(1)
-    );
-    assert_eq!(rt;
-        refusal_with(alloc, b"0 write /a 0 ", b"61", 65536, b"6"),
-        refused(1, 14, Why::Hex)
-    );
-    assert_eq!(rt;
-        refusal_with(alloc, b"0 write /a 0 ", b"61", 65536, b"61"),
-        refused(1, 14, Why::Long)
-    );
+    assert_eq!(rt; long(rt.alloc(), &LONG_DATA), 3);
 }
 
-#[test]
-fn the_sum_of_read_lengths(rt: HostRuntime) {
-    let alloc = rt.alloc();
-    let read = b"0 read /a 0 65536\n";
-    let back = b"0 list /\n0 read /a 0 0\n";
-    let over = b"0 list /\n0 read /a 0 0\n0 sync\n0 read /a 0 1";
-    assert_eq!(rt; count_with(alloc, b"", read, 4095, back), Some(4097));
-    assert_eq!(rt;
-        refusal_with(alloc, b"", read, 4095, over),
-        refused(4099, 1, Why::Total)
-    );
-}
-
-#[test]
-fn the_most_calls(rt: HostRuntime) {
-    let refusal = refusal_with(
-        rt.alloc(),
+// The sum of the lengths that are read, the most calls, and the most bytes.
+const LONG_SCRIPTS: [Long; 5] = [
+    (
+        b"",
+        b"0 read /a 0 65536\n",
+        4095,
+        b"0 list /\n0 read /a 0 0\n",
+        Read::Calls(4097),
+    ),
+    (
+        b"",
+        b"0 read /a 0 65536\n",
+        4095,
+        b"0 list /\n0 read /a 0 0\n0 sync\n0 read /a 0 1",
+        Read::No(4099, 1, Why::Total),
+    ),
+    (
         b"barrier\n",
         b"0 sync\n",
         1000000,
         b"barrier\n1 list /",
-    );
-    assert_eq!(rt; refusal, refused(1000003, 1, Why::Lines));
-}
+        Read::No(1000003, 1, Why::Lines),
+    ),
+    (b"", b"#2345678\n#2345\n\n", 1048576, b"", Read::Calls(0)),
+    (
+        b"",
+        b"#2345678\n#2345\n\n",
+        1048576,
+        b"\n",
+        Read::No(0, 0, Why::Size),
+    ),
+];
 
 #[test]
-fn the_most_bytes(rt: HostRuntime) {
-    let alloc = rt.alloc();
-    let text = b"#2345678\n#2345\n\n";
-    assert_eq!(rt; count_with(alloc, b"", text, 1048576, b""), Some(0));
-    assert_eq!(rt;
-        refusal_with(alloc, b"", text, 1048576, b"\n"),
-        refused(0, 0, Why::Size)
-    );
+fn long_scripts(rt: HostRuntime) {
+    assert_eq!(rt; long(rt.alloc(), &LONG_SCRIPTS), 5);
 }

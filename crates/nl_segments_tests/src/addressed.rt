@@ -3,12 +3,11 @@ ghost use Rattle.std.specs.Prelude.{◌≡◌};
 ghost use Rattle.nl_nand.specs.Memory.{geometry_of};
 
 use crate::medium::{blank, failing, least};
-use nl_field::{FailList, PageBuf, SpareRec, VirtualRead, VirtualWrite, spare_of};
+use nl_field::{FailList, Memory, PageBuf, SpareRec, VirtualRead, VirtualWrite, spare_of};
 use nl_nand::{Cut, MemNand, Nand, ReadAnswer, Stop};
 use nl_vseg::VSeg;
 use std::alloc::Global;
 use std::marker::Model;
-use std::test::Fail;
 
 /// A call: a write of an address and a byte under a number, or so many writes.
 #[derive(Clone, Copy)]
@@ -68,7 +67,7 @@ fn fresh(
     reads: FailList,
     writes: FailList,
     stop: Option<Stop>,
-) -> Result<Rig, Fail> {
+) -> Result<Rig, Memory> {
     let shape = least()?;
     let buf = PageBuf::new(alloc)?;
     let seg = VSeg::new(alloc, &shape)?;
@@ -260,24 +259,24 @@ fn differs(
     read: u64,
     write: u64,
     table: &[(Step, Seen)],
-) -> Result<Option<usize>, Fail> {
+) -> Result<Option<usize>, Memory> {
     let reads = failing(alloc, read, 0)?;
     let writes = failing(alloc, write, 0)?;
     let mut rig = fresh(alloc, reads, writes, None)?;
-    Ok(rig.differs(table))
+    let differs = rig.differs(table);
+    drop(rig);
+    Ok(differs)
 }
 
 #[test]
-fn pages_are_written_over_and_over(rt: HostRuntime) -> Result<(), Fail> {
-    assert_eq!(rt; differs(rt.alloc(), 0, 0, &OVER_AND_OVER)?, None);
-    Ok(())
+fn pages_are_written_over_and_over(rt: HostRuntime) {
+    assert!(rt; differs(rt.alloc(), 0, 0, &OVER_AND_OVER) == Ok(None));
 }
 
 // A read and a program of a cleaning fail.
 #[test]
-fn calls_fail(rt: HostRuntime) -> Result<(), Fail> {
-    assert_eq!(rt; differs(rt.alloc(), 2, 226, &FAILURES)?, None);
-    Ok(())
+fn calls_fail(rt: HostRuntime) {
+    assert!(rt; differs(rt.alloc(), 2, 226, &FAILURES) == Ok(None));
 }
 
 impl Left {
@@ -312,14 +311,15 @@ const STANDS: [(u32, u8); 6] = [
     (102, 199),
 ];
 
-/// What a write that copies a page, erases a block and programs a page leaves that is stopped within one of these.
-fn stopped(alloc: Global, operation: u64, cut: Cut) -> Result<Left, Fail> {
+/// What a write that copies a page, erases a block and programs a page leaves that is stopped within one of these. None where it is not stopped.
+fn stopped(alloc: Global, operation: u64, cut: Cut) -> Result<Option<Left>, Memory> {
     let stop = Some(Stop { operation, cut });
     let mut rig = fresh(alloc, FailList::new(alloc), FailList::new(alloc), stop)?;
     if rig.is_stopped() {
-        Ok(rig.restart())
+        Ok(Some(rig.restart()))
     } else {
-        Err(Fail::from("not stopped"))
+        drop(rig);
+        Ok(None)
     }
 }
 
@@ -337,12 +337,25 @@ const CUTS: [Cut; 5] = [
     Cut::Mixed(1235346792567894),
 ];
 
-/// The first cut after which an address does not have its page.
-fn differs_after(alloc: Global, operation: u64) -> Result<Option<usize>, Fail> {
-    for row in 0..CUTS.len() {
-        let mut left = stopped(alloc, operation, CUTS[row])?;
-        if !left.stands(operation) {
-            return Ok(Some(row));
+fn stands_after(alloc: Global, operation: u64, cut: Cut) -> Result<bool, Memory> {
+    match stopped(alloc, operation, cut)? {
+        Some(left) => {
+            let mut left = left;
+            let stands = left.stands(operation);
+            drop(left);
+            Ok(stands)
+        }
+        None => Ok(false),
+    }
+}
+
+/// The first operation and its cut after which an address does not have its page.
+fn differs_after(alloc: Global) -> Result<Option<(u64, usize)>, Memory> {
+    for operation in 225u64..228 {
+        for row in 0..CUTS.len() {
+            if !stands_after(alloc, operation, CUTS[row])? {
+                return Ok(Some((operation, row)));
+            }
         }
     }
     Ok(None)
@@ -350,9 +363,6 @@ fn differs_after(alloc: Global, operation: u64) -> Result<Option<usize>, Fail> {
 
 // Such a write is stopped within each of its operations.
 #[test]
-fn a_write_is_stopped(rt: HostRuntime) -> Result<(), Fail> {
-    for operation in 225u64..228 {
-        assert_eq!(rt; differs_after(rt.alloc(), operation)?, None, "{operation}");
-    }
-    Ok(())
+fn a_write_is_stopped(rt: HostRuntime) {
+    assert!(rt; differs_after(rt.alloc()) == Ok(None));
 }

@@ -5,11 +5,10 @@ ghost use Rattle.nl_nand.specs.Memory.{contents_of, geometry_of};
 ghost use Rattle.nl_pseg.specs.Segment.{held_at};
 
 use crate::medium::{blank, failing, least};
-use nl_field::{FailList, Named, PageBuf, Pointer, SpareRec, Tag, spare_of};
+use nl_field::{FailList, Memory, Named, PageBuf, Pointer, SpareRec, Tag, spare_of};
 use nl_nand::{MemNand, Nand, ReadAnswer};
 use nl_pseg::PSeg;
 use std::alloc::Global;
-use std::test::Fail;
 
 const TAG: Tag = Tag {
     ino: 1,
@@ -27,7 +26,7 @@ struct Rig {
 }
 
 /// A blank medium with a new segment.
-fn fresh(alloc: Global, writes: FailList) -> Result<Rig, Fail>
+fn fresh(alloc: Global, writes: FailList) -> Result<Rig, Memory>
     ensures none { IfOk result (λ rig. (page : ℕ) → held_at rig.seg page ≡ None) }
     ensures victim { IfOk result (λ rig. rig.seg.victim ≡ None) }
 {
@@ -119,57 +118,62 @@ impl Rig {
     }
 }
 
-/// A segment whose blocks are all soiled, and whose first erase fails.
-fn soiled(alloc: Global) -> Result<Rig, Fail> {
-    let mut rig = fresh(alloc, failing(alloc, 1, 0)?)?;
+/// The record of the second page that is written, where all blocks are soiled.
+fn second_of_soiled(rig: &mut Rig) -> Option<SpareRec>
+    requires { rig.old.seg.victim ≡ None }
+{
     rig.soil();
-    Ok(rig)
-}
-
-/// The record of the second page that is written to it.
-fn second_of_soiled(alloc: Global) -> Result<Option<SpareRec>, Fail> {
-    let mut rig = soiled(alloc)?;
     if rig.erases_soiled() {
-        Ok(rig.record(257))
+        rig.record(257)
     } else {
-        Err(Fail::from("not erased"))
+        None
     }
 }
 
+/// The same in a new segment whose first erase fails.
+fn second_of_new(alloc: Global) -> Result<Option<SpareRec>, Memory> {
+    let mut rig = fresh(alloc, failing(alloc, 1, 0)?)?;
+    let second = second_of_soiled(&mut rig);
+    drop(rig);
+    Ok(second)
+}
+
 #[test]
-fn soiled_blocks_are_erased(rt: HostRuntime) -> Result<(), Fail> {
+fn soiled_blocks_are_erased(rt: HostRuntime) {
     let want = SpareRec::Physical {
         tag: TAG,
         stamp: 2,
         wear: 1,
     };
-    assert_eq!(rt; second_of_soiled(rt.alloc())?, Some(want));
-    Ok(())
+    assert!(rt; second_of_new(rt.alloc()) == Ok(Some(want)));
 }
 
-/// A segment of which a block was given back after its first program failed, when no page was live.
-fn given_back(alloc: Global) -> Result<Rig, Fail> {
-    let mut rig = fresh(alloc, failing(alloc, 1, 0)?)?;
+/// A block is given back after its first program failed, when no page was live, and used again.
+fn is_given_back(rig: &mut Rig) -> bool
+    requires none { (page : ℕ) → held_at rig.old.seg page ≡ None }
+    requires no_victim { rig.old.seg.victim ≡ None }
+{
     if !rig.write_fails() {
-        return Err(Fail::from("placed"));
+        return false;
     }
     rig.give_back();
-    Ok(rig)
+    rig.uses_it_again()
 }
 
-fn uses_it_again(alloc: Global) -> Result<bool, Fail> {
-    let mut rig = given_back(alloc)?;
-    Ok(rig.uses_it_again())
+fn is_given_back_of_new(alloc: Global) -> Result<bool, Memory> {
+    let mut rig = fresh(alloc, failing(alloc, 1, 0)?)?;
+    let is = is_given_back(&mut rig);
+    drop(rig);
+    Ok(is)
 }
 
 #[test]
-fn blocks_are_given_back(rt: HostRuntime) -> Result<(), Fail> {
-    assert!(rt; uses_it_again(rt.alloc())?);
-    Ok(())
+fn blocks_are_given_back(rt: HostRuntime) {
+    assert!(rt; is_given_back_of_new(rt.alloc()) == Ok(true));
 }
 
 /// A segment in which page 300 is loaded, with number 9.
-fn loaded(alloc: Global) -> Result<PSeg, Fail> {
+fn loaded(alloc: Global) -> Result<PSeg, Memory> {
     let shape = least()?;
     let mut seg = PSeg::new(alloc, &shape)?;
     let at = Pointer {
@@ -199,15 +203,14 @@ fn is_loaded(seg: &mut PSeg) -> bool {
     is_live(seg, at) && frees(seg, at) && !is_live(seg, at) && !frees(seg, at)
 }
 
-fn loads(alloc: Global) -> Result<(u32, u32, bool), Fail> {
+fn is_loaded_and_freed(alloc: Global) -> Result<bool, Memory> {
     let mut seg = loaded(alloc)?;
-    let free = seg.free_blocks();
-    let leads = seg.resolve(300);
-    Ok((free, leads, is_loaded(&mut seg)))
+    let is = seg.free_blocks() == 23 && seg.resolve(300) == 300 && is_loaded(&mut seg);
+    drop(seg);
+    Ok(is)
 }
 
 #[test]
-fn a_page_is_loaded(rt: HostRuntime) -> Result<(), Fail> {
-    assert_eq!(rt; loads(rt.alloc())?, (23, 300, true));
-    Ok(())
+fn a_page_is_loaded(rt: HostRuntime) {
+    assert!(rt; is_loaded_and_freed(rt.alloc()) == Ok(true));
 }
