@@ -66,6 +66,35 @@ fn ended<Rt: Files<File = File> + AllocGlobal + Threads + Wait + Sync>(
     answer(rt, path, words, source, sink)
 }
 
+fn is_told_to<Rt: Files<File = File> + AllocGlobal + Threads + Wait + Sync>(
+    rt: &Rt,
+    path: &str,
+    words: &Words,
+    source: &mut MemSource,
+    row: &Row,
+    write: u64,
+) -> Result<bool, Memory> {
+    let (_, want, text) = *row;
+    let mut sink = sink_of(rt.alloc(), write)?;
+    let is = ended(rt, path, words, source, &mut sink) == want && sink.bytes() == text;
+    drop(sink);
+    Ok(is)
+}
+
+fn is_told_from<Rt: Files<File = File> + AllocGlobal + Threads + Wait + Sync>(
+    rt: &Rt,
+    path: &str,
+    words: &Words,
+    row: &Row,
+    read: u64,
+    write: u64,
+) -> Result<bool, Memory> {
+    let mut source = source_of(rt.alloc(), read)?;
+    let is = is_told_to(rt, path, words, &mut source, row, write);
+    drop(source);
+    is
+}
+
 /// Whether the words of a row end and print as it says, where this read of the source and this write of the sink fail.
 fn is_told_with<Rt: Files<File = File> + AllocGlobal + Threads + Wait + Sync>(
     rt: &Rt,
@@ -74,12 +103,10 @@ fn is_told_with<Rt: Files<File = File> + AllocGlobal + Threads + Wait + Sync>(
     read: u64,
     write: u64,
 ) -> Result<bool, Memory> {
-    let (words, want, text) = *row;
-    let words = words_of(rt.alloc(), words)?;
-    let mut source = source_of(rt.alloc(), read)?;
-    let mut sink = sink_of(rt.alloc(), write)?;
-    let ended = ended(rt, path, &words, &mut source, &mut sink);
-    Ok(ended == want && sink.bytes() == text)
+    let words = words_of(rt.alloc(), row.0)?;
+    let is = is_told_from(rt, path, &words, row, read, write);
+    drop(words);
+    is
 }
 
 /// How many rows are told before the first that is not.
@@ -159,16 +186,24 @@ fn faulty_words_leave_the_file(rt: HostRuntime) -> Result<(), Fail> {
 
 const IN_USE: Row = ("format 32 32", Err(Notice::MediumInUse), b"");
 
+// Whether that is told while another handle has the file locked.
+fn is_told_in_use<Rt: Files<File = File> + AllocGlobal + Threads + Wait + Sync>(
+    rt: &Rt,
+    path: &str,
+) -> bool {
+    let Ok(other) = File::open(rt, path) else {
+        return false;
+    };
+    let is = other.lock().is_ok() && told(rt, path, &[IN_USE]) == Ok(1);
+    drop(other);
+    is
+}
+
 #[test]
 fn a_file_that_is_in_use_is_left(rt: HostRuntime) -> Result<(), Fail> {
     let path = "nl_app_in_use.img";
     fs::write(&rt, path, b"kept".as_slice())?;
-    let other = File::open(&rt, path)?;
-    other.lock()?;
-    let told = told(&rt, path, &[IN_USE]);
-    drop(other);
-    assert_eq!(rt; told?, 1);
-    assert!(rt; is_kept(&rt, path));
+    assert!(rt; is_told_in_use(&rt, path) && is_kept(&rt, path));
     fs::remove_file(&rt, path)?;
     Ok(())
 }
