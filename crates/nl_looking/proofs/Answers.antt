@@ -10,10 +10,9 @@ use Rattle.nl_meta.specs.Committed.{VirtualMap}
 use Rattle.nl_meta.specs.Consistent.{IsNode, PageOfStamp}
 use Rattle.nl_meta.specs.Nodes.{entries_of_inode, graph_of}
 use Rattle.nl_sound.specs.Stands.{bytes_for}
-use Rattle.nl_tree.specs.PlainTree.{refusal_before}
+use Rattle.nl_tree.specs.Step.{refusal_before, Outcome, effect_of, first_of, listing, status_of, step, when}
 use Rattle.nl_tree.specs.Replay.{Answers}
 use Rattle.nl_tree.specs.Represents.{node_reached}
-use Rattle.nl_tree.specs.Step.{Outcome, effect_of, first_of, listing, status_of, step, when}
 use Rattle.nl_tree.specs.Tree.{Node, Tree, content_of, directory, entries_of, file, is_directory, is_file, node_at}
 use Rattle.nl_tree.specs.declared.call.Call.{Call}
 use Rattle.nl_tree.specs.declared.call.Call.TheVariants.{List as ListCall, Read, Stat}

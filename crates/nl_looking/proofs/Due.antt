@@ -15,7 +15,7 @@ use Rattle.nl_meta.specs.Consistent.{PageOfStamp}
 use Rattle.nl_meta.specs.Nodes.{entries_of_inode, graph_of, pointers_of_inode}
 use Rattle.nl_sound.specs.Stands.{bytes_for}
 use Rattle.nl_tree.specs.Replay.{Answers}
-use Rattle.nl_tree.specs.Step.{step}
+use Rattle.nl_tree.specs.Step.{step, is_too_long}
 use Rattle.nl_tree.specs.Tree.{Tree}
 use Rattle.nl_tree.specs.declared.call.Call.TheVariants.{List as ListCall, Read, Stat}
 use Rattle.nl_tree.specs.declared.reply.Reply.TheVariants.{File as FileReply}
@@ -31,7 +31,6 @@ use Rattle.nl_effect.specs.FileTrees.{held_content}
 use Rattle.nl_effect.specs.Fits.{IsFileOf}
 use Rattle.nl_effect.specs.Steps.{ReadsOn}
 use Rattle.nl_effect.proofs.Fits.{files_lead, stands}
-use Rattle.nl_tree.specs.Step.{is_too_long}
 use Rattle.nl_looking.specs.Looking.{IfContent, IfFile, IfNames, IfReplied}
 use Rattle.nl_looking.specs.Spots.{HasNode, IsOfNode, IsSpot}
 use Rattle.nl_looking.specs.declared.answer.Looked.{Looked}

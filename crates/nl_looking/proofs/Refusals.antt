@@ -1,7 +1,6 @@
 -- What refuses a call that only looks, by what the path comes to.
 use Rattle.std.proofs.Common.{◌≡◌, ℕ, Bool, true, false, ◌||◌, List, [], ◌∷◌, Option, Some, None, is_none, refl, sym, ap, ◌∙◌}
-use Rattle.nl_tree.specs.PlainTree.{refusal_before}
-use Rattle.nl_tree.specs.Step.{first_of, is_too_long, missing, own_refusal, prefix_refusal, prefix_refusal_from, refusal_of_file, when}
+use Rattle.nl_tree.specs.Step.{refusal_before, first_of, is_too_long, missing, own_refusal, prefix_refusal, prefix_refusal_from, refusal_of_file, when}
 use Rattle.nl_tree.specs.Tree.{Node, Tree, directory, is_directory, is_file, node_at}
 use Rattle.nl_tree.specs.declared.call.Call.TheVariants.{List as ListCall, Read, Stat}
 use Rattle.nl_tree.specs.declared.reply.Refusal.{Refusal}

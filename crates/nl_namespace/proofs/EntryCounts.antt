@@ -12,7 +12,7 @@ use Rattle.nl_field.specs.declared.inode.Kind.TheVariants.{Unused, File, Dir}
 use Rattle.nl_field.specs.declared.shape.Shape.{Shape}
 use Rattle.nl_tree.specs.CountLaws.{Differ}
 use Rattle.nl_tree.specs.NodeCharges.{NamesDiffer, ReachedNodes}
-use Rattle.nl_tree.specs.PlainTree.{is_entry_of}
+use Rattle.nl_tree.specs.KeptSums.{is_entry_of}
 use Rattle.nl_tree.specs.Represents.{Represents, entries_in, node_named, node_reached}
 use Rattle.nl_tree.specs.Tree.{Tree, entries_of}
 use Rattle.nl_tree.specs.TreeLaws.{IsInOrder}

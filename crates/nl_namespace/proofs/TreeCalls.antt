@@ -8,9 +8,8 @@ use Rattle.nl_field.specs.declared.inode.Kind.TheVariants.{Dir, File}
 use Rattle.nl_field.specs.declared.shape.Shape.{Shape}
 use Rattle.nl_tree.specs.Charges.{data_of_node, meta_charge, ranges_of_node}
 use Rattle.nl_tree.specs.GraphLaws.{entry_at, NamedOnce}
-use Rattle.nl_tree.specs.PlainTree.{refusal_before}
+use Rattle.nl_tree.specs.Step.{refusal_before, Outcome, effect_of, first_of, is_too_long, own_refusal, space_refusal, when}
 use Rattle.nl_tree.specs.Represents.{Represents, entries_in, node_of, node_reached}
-use Rattle.nl_tree.specs.Step.{Outcome, effect_of, first_of, is_too_long, own_refusal, space_refusal, when}
 use Rattle.nl_tree.specs.Tree.{Node, Tree, directory, file, entries_of, is_at_or_under, is_root, node_at, paths_eq, with_new, with_renamed, without}
 use Rattle.nl_tree.specs.TreeLaws.{IsInOrder, or_else}
 use Rattle.nl_tree.specs.declared.call.Call.{Call}

@@ -12,8 +12,7 @@ use Rattle.nl_field.specs.Members.{Has}
 use Rattle.nl_field.specs.Numbers.{max_entries}
 use Rattle.nl_field.specs.declared.shape.Shape.{Shape}
 use Rattle.nl_tree.specs.Charges.{data_charge, data_of_node, meta_charge, node_charge, ranges_of_node}
-use Rattle.nl_tree.specs.KeptSums.{has_overfull, overfull, pages_of_entries}
-use Rattle.nl_tree.specs.PlainTree.{is_entry_of}
+use Rattle.nl_tree.specs.KeptSums.{has_overfull, overfull, pages_of_entries, is_entry_of}
 use Rattle.nl_tree.specs.Step.{space_refusal}
 use Rattle.nl_tree.specs.Tree.{Node, Tree, path_cmp, paths_eq, node_at, entries_of, with_new, with_renamed, without}
 use Rattle.nl_tree.specs.TreeLaws.{IsInOrder}

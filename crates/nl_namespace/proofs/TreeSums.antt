@@ -14,7 +14,7 @@ use Rattle.std.specs.FinMap.Entries.{find, where_key, below_all, is_sorted, find
 use Rattle.nl_field.specs.Members.{Has}
 use Rattle.nl_tree.specs.Tree.{Node, Tree, path_cmp, paths_eq, is_at_or_under, node_at, entries_of, with_all, with_renamed}
 use Rattle.nl_tree.specs.TreeLaws.{IsInOrder, or_else}
-use Rattle.nl_tree.specs.PlainTree.{is_entry_of}
+use Rattle.nl_tree.specs.KeptSums.{is_entry_of}
 use Rattle.nl_tree.proofs.ChangeProofs.{Ends, ends}
 use Rattle.nl_tree.proofs.ChargeProofs.{is_child_of}
 use Rattle.nl_tree.proofs.CountProofs.{count_laws}

@@ -1,7 +1,8 @@
 use nl_field::{Memory, shape_of};
 use nl_gen::soak_script;
+use nl_plain::Plain;
 use nl_script::script_of;
-use nl_tree::{Lines, Plain, Refusal, Reply, ReplyBuf};
+use nl_tree::{Lines, Refusal, Reply, ReplyBuf};
 use std::alloc::Global;
 
 /// What another program gives for the number 7, 16 lines and 2 workers.

@@ -16,16 +16,14 @@ use Rattle.nl_field.specs.declared.shape.Shape.{Shape}
 use Rattle.nl_field.specs.FileContent.{FileContent, empty_file}
 use Rattle.nl_tree.specs.declared.call.Call.{Call}
 use Rattle.nl_tree.specs.declared.call.Call.TheVariants.{Mkdir, Rmdir, Create, Unlink, Rename, Write, Fill, Read, Truncate, Stat, List as ListCall, Sync, Clean}
-use Rattle.nl_tree.specs.Tree.{Node, directory, file, Tree, path_cmp, paths_eq, is_at_or_under, node_at, entries_of, all_nodes, all_paths, empty_tree, with_new, with_content, without}
+use Rattle.nl_tree.specs.Tree.{Node, directory, file, Tree, path_cmp, paths_eq, is_at_or_under, node_at, entries_of, with_new, with_content, without}
 use Rattle.nl_tree.specs.TreeLaws.{IsInOrder}
 use Rattle.nl_tree.specs.Step.{space_refusal, effect_of}
 use Rattle.nl_tree.specs.Charges.{data_of_node, ranges_of_node, data_charge, meta_charge}
-use Rattle.nl_tree.specs.PlainTree.{is_entry_of}
-use Rattle.nl_tree.specs.KeptSums.{AreCharges, IsChangeAt, has_overfull, parent_of, data_part, ranges_part, count_at, count_part, pages_of_entries, overfull, changed_path}
+use Rattle.nl_tree.specs.KeptSums.{is_entry_of, IsChangeAt, has_overfull, parent_of, data_part, ranges_part, count_at, count_part, pages_of_entries, overfull, changed_path}
 use Rattle.nl_tree.proofs.TreeProofs.{eq_path, path_eq, not_true, alike}
-use Rattle.nl_tree.proofs.SpaceProofs.{data-is, meta-is, of_both}
+use Rattle.nl_tree.proofs.SpaceProofs.{data-is, meta-is, of_both, few_entries}
 use Rattle.nl_tree.proofs.StepProofs.{order_after}
-use Rattle.nl_tree.proofs.RoomProofs.{few_entries, few_meta, few_pages}
 
 abbrev E : Type 0
 E = List (List ℕ) × Node
@@ -294,13 +292,6 @@ beyond limit sum h = grind (arith, nat_tests)
 pub within : (limit sum n : ℕ) → n ≡ sum → n ≤ limit → false ≡ nat_lt limit sum
 within limit sum n e h = grind (arith, nat_tests)
 
-pub small_sums : (shape : Shape) (t : Tree) (pages meta : ℕ) → None ≡ space_refusal shape t → AreCharges pages meta t → (pages ≤ shape.cap) × (meta ≤ shape.meta)
-small_sums shape t pages meta room kept =
-    (most _ _ _ kept.of_data (few_pages shape t (sym room)), most _ _ _ kept.of_meta (few_meta shape t (sym room)))
-  where
-    most : (n sum limit : ℕ) → n ≡ sum → nat_lt limit sum ≡ false → n ≤ limit
-    most n sum limit e h = grind (arith, nat_tests, e, h)
-
 -- ---- which call is a change at one path
 
 put_others : (p : List (List ℕ)) (x : Node) (t : Tree) → others p (put path_cmp p x t) ≡ others p t
@@ -359,7 +350,3 @@ change_at t n call p at is order = record {
   next_in_order = subst IsInOrder (sym is) (order_after t call order);
   others = others_stay t call p at ∙ ap (λ (x : Tree). without x p) (sym is);
 }
-
-pub new_charges : AreCharges 0 0 empty_tree
-unfolding entries_of meta_charge data_charge all_nodes all_paths
-new_charges = record { of_data = refl; of_meta = refl }

@@ -1,11 +1,8 @@
--- Steps of the loops that judge a tree's room.
-use Rattle.std.proofs.Common.{◌≡◌, ◌<◌, ◌+◌, ◌-◌, ℕ, Bool, true, false, ◌||◌, List, [], ◌∷◌, map, length, take, drop, get_or, sum_by, nat_lt, ap, sym, refl, arith, ◌∙◌}
+-- The charges of a tree, and the refusal from what the volume lacks first.
+use Rattle.std.proofs.Common.{◌≡◌, ◌+◌, ℕ, Bool, true, false, List, [], ◌∷◌, map, length, sum_by, nat_lt, ap, sym, refl, arith, ◌∙◌, Option, Some, None}
 use Rattle.std.specs.List.{list_any}
 use Rattle.std.specs.Int.{div_ceil}
-use Rattle.std.specs.Bool.{passes}
-use Rattle.std.proofs.lemmas.List.{drop_more, take_all, length-drop, get_or_default}
-use Rattle.std.proofs.lemmas.List.Sums.{sum_by-cons, sum_by-drop_more}
-use Rattle.std.proofs.Common.{Option, Some, None}
+use Rattle.std.proofs.lemmas.List.Sums.{sum_by-cons}
 use Rattle.std.proofs.lemmas.List.{length-map}
 use Rattle.nl_field.specs.Numbers.{max_entries}
 use Rattle.nl_field.specs.declared.shape.Shape.{Shape}
@@ -14,28 +11,8 @@ use Rattle.nl_tree.specs.declared.reply.Refusal.TheVariants.{Enospc}
 use Rattle.nl_tree.specs.declared.reply.Space.TheVariants.{Dir as DirSpace, Nodes, Meta, Pages}
 use Rattle.nl_tree.specs.Step.{when, first_of, space_refusal}
 use Rattle.nl_tree.specs.Tree.{Tree, Node, entries_of, all_paths, all_nodes}
-use Rattle.nl_tree.specs.TreeLaws.{IsInOrder}
 use Rattle.nl_tree.specs.Charges.{data_of_node, ranges_of_node, data_charge, node_charge, meta_charge}
-use Rattle.nl_tree.specs.PlainTree.{run_of, meta_of_entry, data_of_entry}
-use Rattle.nl_tree.proofs.RunProofs.{entries_at}
-
-pub entries_in_order : (tree : Tree) (i : ℕ) (d e : List (List ℕ) × Node) → i < length tree → IsInOrder tree
-    → run_of (get_or tree i d).0 (take (length tree - (i + 1)) (drop (i + 1) tree)) ≡ length (entries_of tree (get_or tree i e).0)
-entries_in_order tree i d e lt h =
-    let whole : take (length tree - (i + 1)) (drop (i + 1) tree) ≡ drop (i + 1) tree = take_all (length tree - (i + 1)) (drop (i + 1) tree) (omega (arith, length-drop (i + 1) tree)) in
-    ap (run_of (get_or tree i d).0) whole ∙ entries_at tree i d lt (passes _ h) ∙ ap (λ (x : List (List ℕ) × Node). length (entries_of tree x.0)) (get_or_default tree i d e lt)
-
-pub any_more : (P : List (List ℕ) × Node → Bool) (tree : Tree) (i : ℕ) (d : List (List ℕ) × Node) → i < length tree → list_any P (drop i tree) ≡ (P (get_or tree i d) || list_any P (drop (i + 1) tree))
-any_more P tree i d lt = ap (list_any P) (drop_more tree i d lt)
-
-pub any_step : (P : List (List ℕ) × Node → Bool) (tree : Tree) (i : ℕ) (d : List (List ℕ) × Node) (all : Bool) → i < length tree → false ≡ P (get_or tree i d) → list_any P (drop i tree) ≡ all → list_any P (drop (i + 1) tree) ≡ all
-any_step P tree i d all lt not before = ap (λ b. b || list_any P (drop (i + 1) tree)) not ∙ sym (any_more P tree i d lt) ∙ before
-
-pub any_found : (P : List (List ℕ) × Node → Bool) (tree : Tree) (i : ℕ) (d : List (List ℕ) × Node) (all : Bool) → i < length tree → true ≡ P (get_or tree i d) → list_any P (drop i tree) ≡ all → true ≡ all
-any_found P tree i d all lt is before = ap (λ b. b || list_any P (drop (i + 1) tree)) is ∙ sym (any_more P tree i d lt) ∙ before
-
-pub sum_more : (f : List (List ℕ) × Node → ℕ) (tree : Tree) (i : ℕ) (d : List (List ℕ) × Node) → i < length tree → sum_by f (drop i tree) ≡ f (get_or tree i d) + sum_by f (drop (i + 1) tree)
-sum_more f tree i d lt = sum_by-drop_more f tree i d lt
+use Rattle.nl_tree.specs.KeptSums.{meta_of_entry, data_of_entry}
 
 of_nodes : (f : Node → ℕ) (tree : Tree) → sum_by f (map (λ e. e.1) tree) ≡ sum_by (λ e. f e.1) tree
 of_nodes f [] = refl
@@ -88,3 +65,32 @@ lacks_nothing shape tree a b m d = λ i. lacks shape tree (a i) (b i) (m i) (d i
 pub nodes-are : (tree : Tree) → length tree ≡ node_charge tree
 unfolding node_charge all_nodes
 nodes-are tree = sym (length-map tree _)
+
+-- ---- what a tree keeps to that lacks nothing
+
+first_not : (b : Bool) (x : Refusal) (rest : List (Option Refusal)) → first_of (when b x ∷ rest) ≡ None → b ≡ false
+first_not true x rest h = cc
+first_not false x rest h = refl
+
+rest_not : (b : Bool) (x : Refusal) (rest : List (Option Refusal)) → first_of (when b x ∷ rest) ≡ None → first_of rest ≡ None
+rest_not true x rest h = cc
+rest_not false x rest h = h
+
+pub few_entries : (shape : Shape) (tree : Tree) → space_refusal shape tree ≡ None → list_any (λ e. nat_lt max_entries (length (entries_of tree e.0))) tree ≡ false
+unfolding space_refusal all_paths
+few_entries shape tree h = first_not (list_any (λ e. nat_lt max_entries (length (entries_of tree e.0))) tree) (Enospc DirSpace) _ h
+
+pub few_meta : (shape : Shape) (tree : Tree) → space_refusal shape tree ≡ None → nat_lt shape.meta (meta_charge tree) ≡ false
+unfolding space_refusal all_paths
+few_meta shape tree h =
+    let a = rest_not (list_any (λ e. nat_lt max_entries (length (entries_of tree e.0))) tree) (Enospc DirSpace) _ h in
+    let b = rest_not (nat_lt shape.nodes (node_charge tree)) (Enospc Nodes) _ a in
+    first_not (nat_lt shape.meta (meta_charge tree)) (Enospc Meta) _ b
+
+pub few_pages : (shape : Shape) (tree : Tree) → space_refusal shape tree ≡ None → nat_lt shape.cap (data_charge tree) ≡ false
+unfolding space_refusal all_paths
+few_pages shape tree h =
+    let a = rest_not (list_any (λ e. nat_lt max_entries (length (entries_of tree e.0))) tree) (Enospc DirSpace) _ h in
+    let b = rest_not (nat_lt shape.nodes (node_charge tree)) (Enospc Nodes) _ a in
+    let c = rest_not (nat_lt shape.meta (meta_charge tree)) (Enospc Meta) _ b in
+    first_not (nat_lt shape.cap (data_charge tree)) (Enospc Pages) _ c

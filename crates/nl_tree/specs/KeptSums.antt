@@ -1,19 +1,26 @@
 -- The sums that are kept beside a tree, and how a change at one path changes them.
-use Rattle.std.specs.Prelude.{◌≡◌, ℕ, ◌-◌, Bool, cond, List, length, take, nat_lt, Option, Some, None, option_map}
+use Rattle.std.specs.Prelude.{◌≡◌, ℕ, ◌+◌, ◌-◌, ◌==◌, ◌&&◌, Bool, cond, List, length, take, nat_lt, Option, Some, None, option_map}
 use Rattle.std.specs.Int.{div_ceil}
 use Rattle.std.specs.Option.{option_map_or}
 use Rattle.std.specs.List.{list_any}
 use Rattle.nl_field.specs.Numbers.{max_entries}
-use Rattle.nl_tree.specs.Tree.{Node, Tree, node_at, entries_of, without}
+use Rattle.nl_tree.specs.Tree.{Node, Tree, node_at, entries_of, without, is_at_or_under}
 use Rattle.nl_tree.specs.declared.call.Call.{Call}
 use Rattle.nl_tree.specs.declared.call.Call.TheVariants.{Mkdir, Rmdir, Create, Unlink, Write, Fill, Truncate}
 use Rattle.nl_tree.specs.TreeLaws.{IsInOrder}
-use Rattle.nl_tree.specs.Charges.{data_of_node, ranges_of_node, data_charge, meta_charge}
+use Rattle.nl_tree.specs.Charges.{data_of_node, ranges_of_node}
 
--- the data pages and the metadata pages of a tree
-pub record AreCharges (pages meta : ℕ) (tree : Tree) : Type 0 where
-  pub of_data : pages ≡ data_charge tree
-  pub of_meta : meta ≡ meta_charge tree
+-- the second path is that of an entry of the first
+abbrev pub is_entry_of : List (List ℕ) → List (List ℕ) → Bool
+is_entry_of path p = length p == length path + 1 && is_at_or_under path p
+
+-- the metadata pages that one path takes
+abbrev pub meta_of_entry : Tree → List (List ℕ) × Node → ℕ
+meta_of_entry tree e = div_ceil (length (entries_of tree e.0)) 64 + ranges_of_node e.1
+
+-- the data pages that one path takes
+abbrev pub data_of_entry : List (List ℕ) × Node → ℕ
+data_of_entry e = data_of_node e.1
 
 -- both trees are in order, and are the same but at the path
 pub record IsChangeAt (path : List (List ℕ)) (tree next : Tree) : Type 0 where

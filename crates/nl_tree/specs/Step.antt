@@ -118,6 +118,10 @@ space_refusal shape tree =
     ∷ when (nat_lt shape.nodes (node_charge tree)) (Enospc Nodes) ∷ when (nat_lt shape.meta (meta_charge tree)) (Enospc Meta)
     ∷ when (nat_lt shape.cap (data_charge tree)) (Enospc Pages) ∷ [])
 
+-- what refuses a call whatever the tree after it
+abbrev pub refusal_before : Tree → Call → Option Refusal
+refusal_before tree call = first_of (when (list_any is_too_long (paths_of call)) Enametoolong ∷ own_refusal tree call ∷ [])
+
 -- ---- what a call does that is not refused
 
 abbrev pub done_with : Tree → Outcome

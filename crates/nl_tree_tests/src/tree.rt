@@ -3,7 +3,8 @@ ghost use Rattle.std.specs.Prelude.{IsTrue};
 ghost use Rattle.nl_tree.specs.Calls.{HasFewBytes};
 
 use nl_field::{Memory, Text, shape_of};
-use nl_tree::{Call, Path, Plain, Refusal, Reply, ReplyBuf, Space};
+use nl_plain::Plain;
+use nl_tree::{Call, Path, Refusal, Reply, ReplyBuf, Space};
 use std::alloc::Global;
 
 /// A call, with its path first.

@@ -4,8 +4,7 @@ use Rattle.std.proofs.lemmas.Bool.{le-ltb, lt-ltb}
 use Rattle.nl_field.specs.FileContent.{cut_to}
 use Rattle.nl_field.specs.Numbers.{max_file_size}
 use Rattle.nl_field.specs.declared.shape.Shape.{Shape}
-use Rattle.nl_tree.specs.PlainTree.{refusal_before}
-use Rattle.nl_tree.specs.Step.{done_with, effect_of, first_of, is_too_long, own_refusal, refusal_of_file, space_refusal, step, when}
+use Rattle.nl_tree.specs.Step.{refusal_before, done_with, effect_of, first_of, is_too_long, own_refusal, refusal_of_file, space_refusal, step, when}
 use Rattle.nl_tree.specs.Tree.{Tree, content_of, node_at, with_content}
 use Rattle.nl_tree.specs.declared.call.Call.TheVariants.{Truncate}
 use Rattle.nl_tree.specs.declared.reply.Refusal.{Refusal}

@@ -6,8 +6,7 @@ use Rattle.nl_field.specs.FileContent.{written_over}
 use Rattle.nl_field.specs.Numbers.{max_file_size}
 use Rattle.nl_field.specs.declared.shape.Shape.{Shape}
 use Rattle.nl_tree.specs.KeptSums.{changed_path}
-use Rattle.nl_tree.specs.PlainTree.{refusal_before}
-use Rattle.nl_tree.specs.Step.{Outcome, effect_of, first_of, is_too_long, own_refusal, refusal_of_file, space_refusal, step, when, write_outcome}
+use Rattle.nl_tree.specs.Step.{refusal_before, Outcome, effect_of, first_of, is_too_long, own_refusal, refusal_of_file, space_refusal, step, when, write_outcome}
 use Rattle.nl_tree.specs.Tree.{Tree, content_of, node_at}
 use Rattle.nl_tree.specs.declared.call.Call.{Call}
 use Rattle.nl_tree.specs.declared.call.Call.TheVariants.{Fill, Write}
