@@ -1,25 +1,24 @@
 //! A flash store in an image file: answers the words of a command line, from standard input to standard output.
 #![tactic(auto)]
 
+ghost use Rattle.std.specs.Prelude.{◌≡◌, ◌⊎◌};
+ghost use Rattle.nl_onfile.specs.declared.notice.Notice.TheVariants.{Words, MediumFault, MediumInUse, Memory};
+
 mod arguments;
 mod help;
-mod image;
-mod notice;
-mod program;
-#[cfg(test)]
-mod tests;
 
 use arguments::{Request, request_of};
 use help::{HELP, VERSION};
 use nl_io::{StdSink, StdSource};
-use notice::Notice;
-use program::answer;
+use nl_onfile::{Notice, answer};
 use std::process::ExitCode;
 
 const NOT_PRINTED: u8 = 4;
 
 // Prints a text that was asked for. Where standard output does not take it, the status says so.
-fn print(rt: &HostRuntime, text: &str) -> u8 {
+fn print(rt: &HostRuntime, text: &str) -> u8
+    ensures { (result ≡ 0) ⊎ (result ≡ 4) }
+{
     match println!(rt; "{text}") {
         Ok(()) => 0,
         Err(_) => NOT_PRINTED,
@@ -27,7 +26,12 @@ fn print(rt: &HostRuntime, text: &str) -> u8 {
 }
 
 // What the program prints by itself, and its status.
-fn noticed(rt: &HostRuntime, notice: Notice) -> u8 {
+fn noticed(rt: &HostRuntime, notice: Notice) -> u8
+    ensures words { notice ≡ Words → result ≡ 2 }
+    ensures medium_fault { notice ≡ MediumFault → result ≡ 5 }
+    ensures medium_in_use { notice ≡ MediumInUse → result ≡ 5 }
+    ensures memory { notice ≡ Memory → result ≡ 6 }
+{
     let text = notice.text();
     let _ = eprintln!(rt; "{text}");
     notice.status()

@@ -8,7 +8,7 @@ use Rattle.nl_headline.specs.declared.lists.Ordered.{Ordered}
 use Rattle.nl_headline.specs.declared.lists.Synced.{Synced}
 use Rattle.nl_sound.specs.Crash.{Run}
 use Rattle.nl_tree.specs.declared.call.Line.{Line}
-use Rattle.nl_app.specs.Ended.{EndsOnFile}
+use Rattle.nl_onfile.specs.Ended.{EndsOnFile}
 use Rattle.nl_top.specs.Ends.{Ends, checks, faulty_words, formats, reports, runs, shows_tree, soaks}
 use Rattle.nl_top.specs.Soak.{Summarises}
 use Rattle.nl_top.specs.RunEnds.{Ran, RunEnds, ScriptEnds, TellsAnswers, not_run, ran, runs_script, script_refused, source_fault, source_no_memory}

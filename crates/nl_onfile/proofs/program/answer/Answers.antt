@@ -1,8 +1,8 @@
 use Rattle.std.proofs.Common.{◌≡◌, ℕ, subst, sym}
-use Rattle.nl_app.specs.Ended.{EndsOnFile}
+use Rattle.nl_onfile.specs.Ended.{EndsOnFile}
 use Rattle.nl_headline.specs.Streams.{stream}
-use Rattle.nl_app.proofs.OnFile.{on_file}
-use Rattle.nl_app.proofs.program.answer.Goals as goal
+use Rattle.nl_onfile.proofs.OnFile.{on_file}
+use Rattle.nl_onfile.proofs.program.answer.Goals as goal
 
 pub returns-in-Ok-attach-clause-ended : goal.returns-in-Ok-attach-clause-ended
 returns-in-Ok-attach-clause-ended g c = λ some.

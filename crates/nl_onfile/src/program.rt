@@ -1,5 +1,5 @@
 ghost use Rattle.std.specs.Prelude.{◌≡◌, Ok, None, IsSome, IfOk};
-ghost use Rattle.nl_app.specs.Ended.{EndsOnFile, makes_a_file};
+ghost use Rattle.nl_onfile.specs.Ended.{EndsOnFile, makes_a_file};
 ghost use Rattle.nl_commands.specs.Command.{command_of};
 ghost use Rattle.nl_headline.specs.Streams.{stream};
 

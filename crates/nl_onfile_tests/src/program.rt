@@ -1,8 +1,7 @@
-// The program on image files in the folder where the tests run.
-use crate::notice::Notice;
-use crate::program::answer;
+// On image files in the folder where the tests run.
 use nl_field::{FailList, Memory, Text};
 use nl_io::{MemSink, MemSource, Words};
+use nl_onfile::{Notice, answer};
 use std::alloc::Global;
 use std::fs::{self, File};
 use std::rt::Files;
@@ -133,7 +132,7 @@ fn length<Rt: Files<File = File>>(rt: &Rt, path: &str) -> u64 {
 
 #[test]
 fn a_script_runs_on_a_formatted_file(rt: HostRuntime) -> Result<(), Fail> {
-    let path = "nl_app_first.img";
+    let path = "nl_onfile_first.img";
     let _ = fs::remove_file(&rt, path);
     let formatted = told(&rt, path, &[FORMATTED])?;
     let before = length(&rt, path);
@@ -155,7 +154,7 @@ const MISSING: [Row; 6] = [
 
 #[test]
 fn only_a_format_makes_a_file(rt: HostRuntime) -> Result<(), Fail> {
-    let path = "nl_app_missing.img";
+    let path = "nl_onfile_missing.img";
     let _ = fs::remove_file(&rt, path);
     assert_eq!(rt; told(&rt, path, &MISSING)?, 6);
     assert!(rt; fs::metadata(&rt, path).is_err());
@@ -176,7 +175,7 @@ const KEPT: [Row; 2] = [
 
 #[test]
 fn faulty_words_leave_the_file(rt: HostRuntime) -> Result<(), Fail> {
-    let path = "nl_app_kept.img";
+    let path = "nl_onfile_kept.img";
     fs::write(&rt, path, b"kept".as_slice())?;
     assert_eq!(rt; told(&rt, path, &KEPT)?, 2);
     assert!(rt; is_kept(&rt, path));
@@ -201,7 +200,7 @@ fn is_told_in_use<Rt: Files<File = File> + AllocGlobal + Threads + Wait + Sync>(
 
 #[test]
 fn a_file_that_is_in_use_is_left(rt: HostRuntime) -> Result<(), Fail> {
-    let path = "nl_app_in_use.img";
+    let path = "nl_onfile_in_use.img";
     fs::write(&rt, path, b"kept".as_slice())?;
     assert!(rt; is_told_in_use(&rt, path) && is_kept(&rt, path));
     fs::remove_file(&rt, path)?;
@@ -226,7 +225,7 @@ fn are_told<Rt: Files<File = File> + AllocGlobal + Threads + Wait + Sync>(
 
 #[test]
 fn failed_streams_end_with_a_status(rt: HostRuntime) -> Result<(), Fail> {
-    let path = "nl_app_streams.img";
+    let path = "nl_onfile_streams.img";
     let _ = fs::remove_file(&rt, path);
     assert!(rt; are_told(&rt, path)?);
     fs::remove_file(&rt, path)?;
