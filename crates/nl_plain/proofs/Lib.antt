@@ -1,10 +1,5 @@
 pub mod CallProofs
-pub mod EntriesSteps
-pub mod ListingProofs
-pub mod MergeProofs
-pub mod PathProofs
 pub mod PrefixProofs
-pub mod RunProofs
 pub mod RoomProofs
 pub mod SpaceSteps
 pub mod PlainProofs

@@ -2,11 +2,12 @@
 use Rattle.nl_field.specs.FileContent.{FileContent, empty_file}
 use Rattle.nl_field.specs.Numbers.{max_name}
 use Rattle.nl_field.specs.declared.shape.Shape.{Shape}
-use Rattle.nl_plain.proofs.ListingProofs.{short-where}
+use Rattle.nl_entries.proofs.ListingProofs.{short-where}
 use Rattle.nl_tree.proofs.SpaceProofs.{few_meta, few_pages, lacks_nothing}
 use Rattle.nl_tree.proofs.StepProofs.{order_after}
 use Rattle.nl_tree.specs.Charges.{data_charge, node_charge, meta_charge}
-use Rattle.nl_plain.specs.PlainTree.{AreCharges, HasShortNames, IsPlain}
+use Rattle.nl_plain.specs.PlainTree.{AreCharges, IsPlain}
+use Rattle.nl_entries.specs.Entries.{HasShortNames}
 use Rattle.nl_tree.specs.Step.{refusal_before, space_refusal, effect_of, when, first_of, own_refusal, is_too_long, paths_of}
 use Rattle.nl_tree.specs.Tree.{Node, directory, file, Tree, path_cmp, paths_eq, is_at_or_under, entries_of, all_nodes, all_paths, empty_tree, with_new, with_content, without, last_name, with_all, with_renamed}
 use Rattle.nl_tree.specs.TreeLaws.{IsInOrder}

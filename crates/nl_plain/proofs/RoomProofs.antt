@@ -15,7 +15,7 @@ use Rattle.nl_plain.specs.PlainTree.{IsRoomy, IsPlain}
 use Rattle.nl_tree.specs.KeptSums.{data_of_entry}
 use Rattle.nl_tree.proofs.TreeProofs.{eq_path}
 use Rattle.nl_tree.proofs.SpaceProofs.{data-is, few_entries, few_pages}
-use Rattle.nl_plain.proofs.ListingProofs.{listing_short, short-where}
+use Rattle.nl_entries.proofs.ListingProofs.{listing_short, short-where}
 
 left_not : (a b : Bool) → (a || b) ≡ false → a ≡ false
 left_not true b h = h

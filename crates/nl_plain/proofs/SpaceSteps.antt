@@ -6,8 +6,8 @@ use Rattle.std.proofs.lemmas.List.{drop_more, take_all, length-drop, get_or_defa
 use Rattle.std.proofs.lemmas.List.Sums.{sum_by-drop_more}
 use Rattle.nl_tree.specs.Tree.{Tree, Node, entries_of}
 use Rattle.nl_tree.specs.TreeLaws.{IsInOrder}
-use Rattle.nl_plain.specs.PlainTree.{run_of}
-use Rattle.nl_plain.proofs.RunProofs.{entries_at}
+use Rattle.nl_entries.specs.Entries.{run_of}
+use Rattle.nl_entries.proofs.RunProofs.{entries_at}
 
 pub entries_in_order : (tree : Tree) (i : ℕ) (d e : List (List ℕ) × Node) → i < length tree → IsInOrder tree
     → run_of (get_or tree i d).0 (take (length tree - (i + 1)) (drop (i + 1) tree)) ≡ length (entries_of tree (get_or tree i e).0)

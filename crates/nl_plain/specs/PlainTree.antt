@@ -1,30 +1,15 @@
 -- What the plain tree as a program keeps beside the tree.
-use Rattle.std.specs.Prelude.{◌≡◌, ℕ, ◌+◌, drop, ◌==◌, ◌≤◌, ◌<◌, ◌^◌, is_none, Some, None, false, if◌then◌else◌, List, [], ◌∷◌, length}
-use Rattle.std.specs.declared.cmp.Ordering.{Ordering}
-use Rattle.std.specs.List.{AllByRecursion}
-use Rattle.nl_field.specs.Numbers.{max_name, max_entries}
+use Rattle.std.specs.Prelude.{◌≡◌, ℕ, ◌≤◌, ◌<◌, ◌^◌, is_none, Some, None, false, List, length}
+use Rattle.nl_field.specs.Numbers.{max_entries}
 use Rattle.nl_field.specs.FileContent.{FileContent}
-use Rattle.nl_content.specs.Places.{is_first}
-use Rattle.nl_tree.specs.Tree.{file, Tree, is_at_or_under, entries_of, last_name, node_at}
+use Rattle.nl_tree.specs.Tree.{file, Tree, entries_of, node_at}
 use Rattle.nl_field.specs.declared.shape.Shape.{Shape}
 use Rattle.nl_tree.specs.declared.reply.Reply.{Reply}
 use Rattle.nl_tree.specs.declared.reply.Reply.TheVariants.{Synced}
 use Rattle.nl_tree.specs.Step.{space_refusal}
 use Rattle.nl_tree.specs.TreeLaws.{IsInOrder}
 use Rattle.nl_tree.specs.Charges.{data_charge, meta_charge}
-
--- the entries behind the first one, where that is at the key
-abbrev pub behind_first : {K X : Type 0} → (K → K → Ordering) → K → List (K × X) → List (K × X)
-behind_first R key entries = if is_first R key entries then drop 1 entries else entries
-
--- how many entries of a directory stand in the leading run of what lies under it
-abbrev pub run_of : List (List ℕ) → Tree → ℕ
-run_of path [] = 0
-run_of path (e ∷ tree) = if is_at_or_under path e.0 then (if length e.0 == length path + 1 then 1 else 0) + run_of path tree else 0
-
--- each path ends in a name of at most 55 bytes
-abbrev pub HasShortNames : Tree → Type 0
-HasShortNames tree = AllByRecursion (λ e. length (last_name e.0) ≤ max_name) tree
+use Rattle.nl_entries.specs.Entries.{HasShortNames}
 
 -- what a tree that the volume has room for keeps within the bounds of a reply
 pub record IsRoomy (tree : Tree) : Type 0 where

@@ -9,22 +9,15 @@ ghost use Rattle.nl_plain.specs.PlainTree.{PlainState, IsPlain, numbered, AreCha
 ghost use Rattle.nl_tree.specs.KeptSums.{changed_path};
 
 mod after;
-mod entries;
-mod listing;
-mod merge;
-mod names;
 mod refusals;
-mod rename;
 mod reply;
-mod shared;
 mod space;
 mod sums;
 
-use entries::Entry;
 use nl_content::SharedPath;
+use nl_entries::{Entry, SharedNode};
 use nl_field::{Memory, Shape};
 use nl_tree::{Call, Path, Refusal, Reply, ReplyBuf};
-use shared::SharedNode;
 use std::alloc::Global;
 use std::marker::Model;
 use sums::Sums;

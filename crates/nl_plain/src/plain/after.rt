@@ -7,11 +7,8 @@ ghost use Rattle.nl_tree.specs.Tree.{directory, file, node_at, with_new, with_co
 ghost use Rattle.nl_tree.specs.Step.{effect_of, own_refusal};
 ghost use Rattle.nl_tree.specs.Calls.{HasFewBytes};
 
-use super::entries::{Entry, copy, find, put, without};
-use super::names::are_equal;
-use super::rename::renamed;
-use super::shared::SharedNode;
 use nl_content::{FileBuf, copied_path, cut, written};
+use nl_entries::{Entry, SharedNode, are_equal, copy, find, put, renamed, without};
 use nl_field::{Memory, Text};
 use nl_tree::{Call, Path};
 use std::alloc::Global;

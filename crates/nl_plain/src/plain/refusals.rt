@@ -8,8 +8,7 @@ ghost use Rattle.nl_tree.specs.Step.{refusal_before, when, is_too_long, paths_of
 ghost use Rattle.nl_tree.specs.declared.reply.Refusal.TheVariants.{Efbig, Enotdir};
 ghost use Rattle.nl_tree.specs.Step as step;
 
-use super::entries::{Entry, count_entries, find};
-use super::names::{are_equal, is_under};
+use nl_entries::{Entry, are_equal, count_entries, find, is_under};
 use nl_field::{MAX_FILE_SIZE, Text};
 use nl_tree::{Call, Path, Refusal, is_long};
 

@@ -9,9 +9,8 @@ ghost use Rattle.nl_plain.specs.PlainTree.{IsRoomy, numbered};
 ghost use Rattle.nl_tree.specs.declared.reply.Reply.TheVariants.{Names};
 
 use super::after::content_at;
-use super::entries::{Entry, count_entries, find};
-use super::listing::push_names;
 use nl_content::{FileBuf, read};
+use nl_entries::{Entry, count_entries, find, push_names};
 use nl_field::Text;
 use nl_tree::{Call, Path, Refusal, Reply, ReplyBuf};
 use std::alloc::Global;

@@ -7,8 +7,7 @@ ghost use Rattle.nl_tree.specs.TreeLaws.{IsInOrder};
 ghost use Rattle.nl_tree.specs.Charges.{ranges_of_node, data_charge, node_charge, meta_charge};
 ghost use Rattle.nl_tree.specs.KeptSums.{meta_of_entry, data_of_entry};
 
-use super::entries::{Entry, run};
-use super::shared::SharedNode;
+use nl_entries::{Entry, SharedNode, run};
 use nl_field::MAX_ENTRIES;
 
 /// How many entries the directory at a position has.

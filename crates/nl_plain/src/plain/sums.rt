@@ -7,10 +7,9 @@ ghost use Rattle.nl_tree.specs.Step.{space_refusal};
 ghost use Rattle.nl_plain.specs.PlainTree.{AreCharges};
 ghost use Rattle.nl_tree.specs.KeptSums.{IsChangeAt, has_overfull, parent_of, data_part, ranges_part, count_at, count_part, pages_of_entries, overfull};
 
-use super::entries::{Entry, count_entries, find};
 use super::refusals::is_missing;
-use super::shared::SharedNode;
 use super::space::{data_total, exceeds_nodes, has_full_directory, meta_total, ranges};
+use nl_entries::{Entry, SharedNode, count_entries, find};
 use nl_field::{MAX_ENTRIES, Shape, Text};
 use nl_tree::{Refusal, Space};
 

@@ -1,0 +1,5 @@
+pub mod EntriesSteps
+pub mod PathProofs
+pub mod RunProofs
+pub mod ListingProofs
+pub mod MergeProofs
