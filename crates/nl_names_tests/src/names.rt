@@ -229,11 +229,33 @@ const SAVES: [(Step, Seen); 9] = [
     (Step::List(&[b"home", b"ann", b"note"]), Seen::At(4)),
 ];
 
+fn renames(alloc: Global) -> Result<Option<usize>, Memory> {
+    differs(alloc, 32, 32, &RENAMES)
+}
+
+fn directories(alloc: Global) -> Result<Option<usize>, Memory> {
+    differs(alloc, 32, 32, &DIRECTORIES)
+}
+
+fn saves(alloc: Global) -> Result<Option<usize>, Memory> {
+    differs(alloc, 32, 32, &SAVES)
+}
+
 #[test]
 fn names_are_changed(rt: HostRuntime) -> Result<(), Fail> {
-    for rows in [RENAMES.as_slice(), DIRECTORIES.as_slice(), SAVES.as_slice()] {
-        assert_eq!(rt; differs(rt.alloc(), 32, 32, rows)?, None);
-    }
+    assert_eq!(rt; renames(rt.alloc())?, None);
+    Ok(())
+}
+
+#[test]
+fn directories_are_changed(rt: HostRuntime) -> Result<(), Fail> {
+    assert_eq!(rt; directories(rt.alloc())?, None);
+    Ok(())
+}
+
+#[test]
+fn a_note_is_saved(rt: HostRuntime) -> Result<(), Fail> {
+    assert_eq!(rt; saves(rt.alloc())?, None);
     Ok(())
 }
 
@@ -278,11 +300,23 @@ const POOL: [(Step, Seen); 7] = [
     ),
 ];
 
+fn nodes(alloc: Global) -> Result<Option<usize>, Memory> {
+    differs(alloc, 32, 32, &NODES)
+}
+
+fn pool(alloc: Global) -> Result<Option<usize>, Memory> {
+    differs(alloc, 32, 32, &POOL)
+}
+
 #[test]
-fn nodes_and_pages_are_used_up(rt: HostRuntime) -> Result<(), Fail> {
-    for rows in [NODES.as_slice(), POOL.as_slice()] {
-        assert_eq!(rt; differs(rt.alloc(), 32, 32, rows)?, None);
-    }
+fn nodes_are_used_up(rt: HostRuntime) -> Result<(), Fail> {
+    assert_eq!(rt; nodes(rt.alloc())?, None);
+    Ok(())
+}
+
+#[test]
+fn pages_are_used_up(rt: HostRuntime) -> Result<(), Fail> {
+    assert_eq!(rt; pool(rt.alloc())?, None);
     Ok(())
 }
 
@@ -320,8 +354,12 @@ const FULL: [(Step, Seen); 14] = [
     (Step::List(&[b"d"]), Seen::Listed(1024, *b" aab aad aae")),
 ];
 
+fn full(alloc: Global) -> Result<Option<usize>, Memory> {
+    differs(alloc, 65, 256, &FULL)
+}
+
 #[test]
 fn a_directory_is_filled(rt: HostRuntime) -> Result<(), Fail> {
-    assert_eq!(rt; differs(rt.alloc(), 65, 256, &FULL)?, None);
+    assert_eq!(rt; full(rt.alloc())?, None);
     Ok(())
 }
