@@ -11,7 +11,7 @@ use Rattle.nl_tree.specs.declared.call.Line.{Line}
 use Rattle.nl_onfile.specs.Ended.{EndsOnFile}
 use Rattle.nl_top.specs.Ends.{Ends, checks, faulty_words, formats, reports, runs, shows_tree, soaks}
 use Rattle.nl_top.specs.Soak.{Summarises}
-use Rattle.nl_top.specs.RunEnds.{Ran, RunEnds, ScriptEnds, TellsAnswers, not_run, ran, runs_script, script_refused, source_fault, source_no_memory}
+use Rattle.nl_top.specs.RunEnds.{RunEnds, ScriptEnds, TellsAnswers, not_run, ran, runs_script, script_refused, source_fault, source_no_memory}
 
 module _ (stops : Run → Type 0) (source source' sink sink' : Stream) (medium medium' : Medium) (order : List Ordered) (syncs : List Synced) (status : ℕ) where
   untold : (lines : List Line) (worn : Bool) (course : Course) → RunsLines ⊥ lines stops medium medium' order syncs worn course → RunsLines ⊥ lines (λ run. ⊤) medium medium' order syncs worn course

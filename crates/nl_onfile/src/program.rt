@@ -1,4 +1,4 @@
-ghost use Rattle.std.specs.Prelude.{◌≡◌, Ok, None, IsSome, IfOk};
+ghost use Rattle.std.specs.Prelude.{◌≡◌, Ok, None, IsSome, IfOk, IfErr, OnErr};
 ghost use Rattle.nl_onfile.specs.Ended.{EndsOnFile, makes_a_file};
 ghost use Rattle.nl_commands.specs.Command.{command_of};
 ghost use Rattle.nl_headline.specs.Streams.{stream};
@@ -35,7 +35,8 @@ fn status_of<M: Drop>(done: Done<M>) -> u8
 }
 
 /// Answers the words of a command line on the image file at a path, and gives the status, which is that of `nameless` on a
-/// medium that does not tell its contents. Faulty words leave the file alone, whether it is there or not.
+/// medium that does not tell its contents. Faulty words leave the file alone, whether it is there or not. Where the file cannot be opened or
+/// attached, nothing is read or printed.
 pub fn answer<Rt: Files<File = File> + AllocGlobal + Threads + Wait + Sync, S: Source, K: Sink>(
     rt: &Rt,
     path: &str,
@@ -46,6 +47,8 @@ pub fn answer<Rt: Files<File = File> + AllocGlobal + Threads + Wait + Sync, S: S
     ensures faulty { command_of words.now ≡ None → result ≡ Ok 2 }
     ensures ended { IsSome (command_of words.now) → IfOk result (EndsOnFile words.now (stream (S.left src.old) (S.faults src.old)) (stream (S.left src.new) (S.faults src.new))
         (stream (K.taken sink.old) (K.faults sink.old)) (stream (K.taken sink.new) (K.faults sink.new))) }
+    ensures untouched { OnErr result ((src.new ≡ src.old) × (sink.new ≡ sink.old)) }
+    ensures of_the_file { IfErr result (λ notice. notice ≡ Notice.Words → ⊥) }
 {
     let alloc = rt.alloc();
     let Some(command) = command_of(words) else {

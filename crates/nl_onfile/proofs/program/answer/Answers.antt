@@ -1,4 +1,4 @@
-use Rattle.std.proofs.Common.{◌≡◌, ℕ, subst, sym}
+use Rattle.std.proofs.Common.{ℕ, subst, sym}
 use Rattle.nl_onfile.specs.Ended.{EndsOnFile}
 use Rattle.nl_headline.specs.Streams.{stream}
 use Rattle.nl_onfile.proofs.OnFile.{on_file}
