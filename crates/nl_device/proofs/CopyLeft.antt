@@ -29,9 +29,9 @@ use Rattle.nl_device.specs.Device.{IsDevice}
 use Rattle.nl_device.specs.Kept.{KeptPages}
 use Rattle.nl_device.specs.Shown.{bytes_at, live_page}
 use Rattle.nl_device.specs.Space.{space_of}
-use Rattle.nl_device.specs.Ticks.{CopyTicks}
-use Rattle.nl_device.specs.declared.cleaning.Copying.{Copying}
-use Rattle.nl_device.specs.declared.cleaning.Copying.TheVariants as now
+use Rattle.nl_iface.specs.Victims.{CopyTicks}
+use Rattle.nl_iface.specs.declared.moving.Copying.{Copying}
+use Rattle.nl_iface.specs.declared.moving.Copying.TheVariants as now
 use Rattle.nl_device.proofs.Forms.{begins}
 use Rattle.nl_device.proofs.Idle.{in_hand}
 use Rattle.nl_device.proofs.Leaving.{names_in}

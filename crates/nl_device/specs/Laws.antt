@@ -1,5 +1,5 @@
 -- What holds of each device whose tables stand.
-use Rattle.std.proofs.Common.{arith, ◌≡◌, ℕ, ◌+◌, ◌*◌, ◌≤◌, List, Option, Some, None, option_map, refl, subst}
+use Rattle.std.proofs.Common.{arith, cond, is_some, ◌≡◌, ℕ, ◌+◌, ◌*◌, ◌≤◌, List, Option, Some, None, option_map, refl, subst}
 use Rattle.nl_field.specs.Page.{Image}
 use Rattle.nl_field.specs.declared.shape.Shape.{Shape}
 use Rattle.nl_nand.specs.declared.geometry.Geometry.{Geometry}
@@ -13,6 +13,7 @@ use Rattle.nl_vseg.specs.declared.place.Place.{Place}
 use Rattle.nl_device.specs.Device.{IsDevice, IsOnMedium}
 use Rattle.nl_device.specs.Kept.{KeptPages}
 use Rattle.nl_device.specs.Shown.{IsStray, names_of}
+use Rattle.nl_device.specs.Space.{space_of}
 use Rattle.nl_callbacks.specs.Pending.{IsTable, PendingTable}
 use Rattle.nl_device.specs.Callbacks.{names_with}
 use Rattle.nl_device.specs.State.{given_of, marked_of, state_called}
@@ -52,3 +53,13 @@ names_as pseg table numbers is = record {
 -- what is left of the live pages does not hang on the callbacks
 pub leaves_as : {shape : Shape} {bytes : ℕ → List ℕ} {c : Stored} (pseg : Physical) (table : PendingTable) → LeavesPages shape (names_of pseg) bytes c → LeavesPages shape (names_with pseg table) bytes c
 leaves_as pseg table l = record { spare = l.spare; from = l.from; below = l.below; held = l.held; own = l.own; stale = l.stale; few = l.few; at_names = l.at_names }
+
+-- the victim is one block
+pub in_hand : (pseg : Physical) → (space_of pseg).victim ≡ cond (is_some pseg.victim) 1 0
+unfolding space_of
+in_hand pseg = refl
+
+-- no block is bad
+pub none_bad : (pseg : Physical) → (space_of pseg).bad ≡ 0
+unfolding space_of
+none_bad pseg = refl

@@ -16,4 +16,3 @@ pub mod Spread
 pub mod Stamps
 pub mod Started
 pub mod State
-pub mod Ticks

@@ -2,12 +2,12 @@
 #![tactic(auto)]
 
 mod callbacks;
-mod cleaning;
 mod counts;
 mod device;
 pub mod formed_laws;
 mod kept;
 mod marks;
+mod moving_pages;
 mod named_pages;
 mod opening;
 mod retain;
@@ -17,6 +17,5 @@ mod start;
 mod told;
 mod virtual_pages;
 
-pub use cleaning::Copying;
 pub use device::Device;
 pub use start::Started;

@@ -4,14 +4,13 @@ ghost use Rattle.nl_device_tests.specs.Rigs.{HasAddressed};
 ghost use Rattle.nl_nand.specs.Memory.{contents_of, geometry_of};
 ghost use Rattle.nl_nand.specs.Nand.{IsBlank};
 
-use nl_device::{Copying, Device, Started};
+use nl_device::{Device, Started};
 use nl_field::{
     FailList, Memory, Named, NamedRead, PageBuf, Pointer, PointerList, Tag, VirtualRead,
     VirtualWrite,
 };
-use nl_iface::{Counts, NamedPages, VirtualPages};
+use nl_iface::{Copying, Counts, Erasing, MovingPages, NamedPages, VirtualPages};
 use nl_nand::{MemNand, Stop};
-use nl_pseg::Erasure;
 use nl_segments_tests::medium::{blank, failing};
 use std::alloc::Global;
 use std::marker::Model;
@@ -236,9 +235,9 @@ impl Rig {
 
     pub fn erase(&mut self) -> Seen {
         match self.device.erase() {
-            Erasure::Done => Seen::Did,
-            Erasure::Nothing => Seen::Nothing,
-            Erasure::Fault => Seen::Fault,
+            Erasing::Done => Seen::Did,
+            Erasing::Nothing => Seen::Nothing,
+            Erasing::Fault => Seen::Fault,
         }
     }
 

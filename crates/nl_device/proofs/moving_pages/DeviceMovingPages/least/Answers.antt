@@ -1,5 +1,5 @@
 use Rattle.nl_device.proofs.Called.{least_is, least_none, least_some}
-use Rattle.nl_device.proofs.device.Device.least.Goals as goal
+use Rattle.nl_device.proofs.moving_pages.DeviceMovingPages.least.Goals as goal
 
 pub returns-clause-some : goal.returns-clause-some
 returns-clause-some g c = least_some c.args.self.now.pending.callbacks c.args.self.now.pending.posted c.least.result c.room.ensures.table c.least.ensures.some

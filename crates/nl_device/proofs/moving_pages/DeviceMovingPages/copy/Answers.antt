@@ -1,9 +1,9 @@
-use Rattle.std.proofs.Common.{ℕ, ◌^◌, false, cond, is_some, get_or, inl, inr, ⊎_elim, ◌/◌, Option, Some, None, ◌*◌, ◌≡◌, ◌∙◌, ◌<◌, ◌≤◌, List, length, ap, arith, refl, subst, sym}
+use Rattle.std.proofs.Common.{ℕ, ◌^◌, true, false, Bool, cond, is_some, get_or, inl, inr, ⊎_elim, ◌/◌, Option, Some, None, ◌*◌, ◌≡◌, ◌∙◌, ◌<◌, ◌≤◌, List, length, ap, arith, refl, subst, sym}
 use Rattle.nl_callbacks.specs.Pending.{PendingTable, callback_of, new_entry, place_of}
 use Rattle.nl_pseg.specs.declared.cleaned.Copied.TheVariants as copy
 use Rattle.nl_field.specs.declared.pointer.Tag.{Tag}
 use Rattle.nl_device.specs.Device.{IsDevice}
-use Rattle.std.proofs.lemmas.Bool.{OnFalse_at, OnTrue_at, true≢false}
+use Rattle.std.proofs.lemmas.Bool.{OnFalse_at, OnTrue_at, cases_Bool, true≢false}
 use Rattle.std.proofs.lemmas.Option.{none-some}
 use Rattle.nl_field.specs.Page.{Image, page_at, written}
 use Rattle.nl_field.specs.declared.pointer.Pointer.{Pointer}
@@ -11,6 +11,8 @@ use Rattle.nl_nand.specs.Nand.{ImageOf}
 use Rattle.nl_iface.specs.Moves.{Copies}
 use Rattle.nl_iface.specs.Stored.{stored_in}
 use Rattle.nl_iface.specs.Space.{Begun}
+use Rattle.nl_iface.specs.Victims.{StaysOrTakes}
+use Rattle.std.specs.Bool.{OnFalse, OnTrue}
 use Rattle.nl_pseg.specs.Cleaning.{Begins, CrashesMove, IsChosen, Moves, MovesNone}
 use Rattle.nl_pseg.specs.Effects.{Places, Programmed}
 use Rattle.nl_pseg.specs.Pages.{main_of, page_with}
@@ -26,14 +28,14 @@ use Rattle.nl_device.proofs.Spacing.{one_for_one}
 use Rattle.nl_pseg.specs.Segment.{Physical, held_at, wear_of}
 use Rattle.nl_device.specs.Callbacks.{names_with}
 use Rattle.nl_device.specs.State.{held_of}
-use Rattle.nl_device.specs.declared.cleaning.Copying.TheVariants as now
+use Rattle.nl_iface.specs.declared.moving.Copying.TheVariants as now
 use Rattle.nl_device.proofs.Forms.{begins, lift}
 use Rattle.nl_device.proofs.CopyLeft.{begun_medium, copy_counted, copy_left, copy_there, copy_ticks, failed_space, failed_tables, lost_found, lost_wanted, not_copied, still_cleans}
 use Rattle.nl_device.proofs.Idle.{idle_mid, land_can, left_is, mid_idle, mid_lands}
 use Rattle.nl_device.proofs.Naming.{either_live, either_low, live_bytes, map_same, stray_same, to_takes}
 use Rattle.nl_device.proofs.Moving.{here_now, insert_length}
 use Rattle.nl_device.proofs.Moved.{copies_from, may_copy, mid_held, mid_tables, moved_device, post_room, taken_device, takes_victim, unmoved_device}
-use Rattle.nl_device.proofs.device.Device.copy.Goals as goal
+use Rattle.nl_device.proofs.moving_pages.DeviceMovingPages.copy.Goals as goal
 
 pub post-requires : goal.post-requires
 post-requires g c =
@@ -361,9 +363,6 @@ returns-then-began-clause-clock g c =
     let tables = mid_tables d.pseg c.begin-began.new.self c.begin-began.result b.begun b.none in
     copy_ticks _ c.in-Nothing.ensures.counts refl refl b.clean (λ m. absurd (not_copied d.pseg c.copy_one-answer.new.self m.taken (ap (λ (s : Physical). s.pairs) (c.copy_one-answer.ensures.refused c.in-Nothing.is).0 ∙ tables.1) m.takes m.space)) (λ un. inl (λ moved. moved))
 
-pub returns-then-began-clause-later : goal.returns-then-began-clause-later
-returns-then-began-clause-later g c m = (returns-then-began-clause-clock g c).moved m
-
 pub returns-then-began-clause-faults : goal.returns-then-began-clause-faults
 returns-then-began-clause-faults g c = copy_counted c.copy_one-answer.ensures.counts (λ fault. absurd (cc fault)) (λ fault. absurd (cc (fault, c.in-Nothing.is)))
 
@@ -380,17 +379,11 @@ returns-else-began-clause-clock g c =
     let tables = mid_tables d.pseg c.begin-began.new.self c.begin-began.result b.begun b.none in
     copy_ticks _ c.in-Nothing.ensures.counts refl refl b.clean (λ m. absurd (not_copied d.pseg c.copy_one-answer.new.self m.taken (ap (λ (s : Physical). s.pairs) (c.copy_one-answer.ensures.refused c.in-Nothing.is).0 ∙ tables.1) m.takes m.space)) (λ un. inl (λ moved. moved))
 
-pub returns-else-began-clause-later : goal.returns-else-began-clause-later
-returns-else-began-clause-later g c m = (returns-else-began-clause-clock g c).moved m
-
 pub returns-else-began-clause-faults : goal.returns-else-began-clause-faults
 returns-else-began-clause-faults g c = copy_counted c.copy_one-answer.ensures.counts (λ fault. absurd (cc fault)) (λ fault. absurd (cc (fault, c.in-Nothing.is)))
 
 pub returns-in-Moved-clause-lands : goal.returns-in-Moved-clause-lands
 returns-in-Moved-clause-lands g c = ⊎_elim (λ rose. inl rose) (λ room. inr (land_can c.copy_one-answer.new.self room)) c.copy_one-answer.ensures.lands
-
-pub returns-in-Moved-clause-later : goal.returns-in-Moved-clause-later
-returns-in-Moved-clause-later g c m = c.in-Moved.ensures.counts.moved tt
 
 pub returns-in-Moved-clause-clock : goal.returns-in-Moved-clause-clock
 returns-in-Moved-clause-clock g c = copy_ticks _ c.in-Moved.ensures.counts refl refl c.begin-began.ensures.clean (λ m. tt) (λ un. inr (⊎_elim (λ m. absurd (un m)) (λ begun. begun.0.medium.clock) (returns-in-Moved-clause-did g c refl)))
@@ -510,9 +503,6 @@ returns-in-Lost-clause-clock g c =
     let kept : MovesNone c.begin-began.new.self c.copy_one-answer.new.self = c.in-Lost.ensures.copies.kept (λ moved. moved) in
     copy_ticks _ c.in-Lost.ensures.counts refl refl b.clean (λ m. absurd (not_copied d.pseg c.copy_one-answer.new.self m.taken (kept.tables.same_pairs ∙ tables.1) m.takes m.space)) (λ un. inl (λ moved. moved))
 
-pub returns-in-Lost-clause-later : goal.returns-in-Lost-clause-later
-returns-in-Lost-clause-later g c m = (returns-in-Lost-clause-clock g c).moved m
-
 pub returns-in-Lost-clause-faults : goal.returns-in-Lost-clause-faults
 returns-in-Lost-clause-faults g c = copy_counted c.copy_one-answer.ensures.counts (λ fault. absurd (cc fault)) (λ fault. absurd (cc (fault, c.in-Lost.is)))
 
@@ -585,8 +575,27 @@ returns-in-Fault-clause-clock g c =
     let kept : MovesNone c.begin-began.new.self c.copy_one-answer.new.self = c.in-Fault.ensures.copies.kept (λ moved. moved) in
     copy_ticks _ c.in-Fault.ensures.counts refl refl b.clean (λ m. absurd (not_copied d.pseg c.copy_one-answer.new.self m.taken (kept.tables.same_pairs ∙ tables.1) m.takes m.space)) (λ un. inl (λ moved. moved))
 
-pub returns-in-Fault-clause-later : goal.returns-in-Fault-clause-later
-returns-in-Fault-clause-later g c m = (returns-in-Fault-clause-clock g c).moved m
-
 pub returns-in-Fault-clause-faults : goal.returns-in-Fault-clause-faults
 returns-in-Fault-clause-faults g c = copy_counted c.copy_one-answer.ensures.counts (λ fault. c.in-Fault.is) (λ fault. refl)
+
+-- the victim is that of before, or was chosen
+taken : (old mid new : Physical) (began : Bool) → OnTrue began ((block : ℕ) × IsChosen false old block × Begins block old mid) → OnFalse began (mid ≡ old) → new.victim ≡ mid.victim → StaysOrTakes (IsChosen false old) old.victim new.victim
+taken old mid new began begun none same = ⊎_elim
+    (λ (is : began ≡ true). let b : (block : ℕ) × IsChosen false old block × Begins block old mid = OnTrue_at is begun in inr (b.2.none, (b.0, b.1, same ∙ b.2.victim)))
+    (λ (is : began ≡ false). inl (same ∙ ap (λ (s : Physical). s.victim) (OnFalse_at is none)))
+    (cases_Bool began)
+
+pub returns-in-Moved-clause-chosen : goal.returns-in-Moved-clause-chosen
+returns-in-Moved-clause-chosen g c = let b = c.begin-began.ensures in taken c.args.self.now.pseg c.begin-began.new.self c.copy_one-answer.new.self c.begin-began.result b.begun b.none (c.in-Moved.ensures.copies.moved.victim)
+
+pub returns-then-began-clause-chosen : goal.returns-then-began-clause-chosen
+returns-then-began-clause-chosen g c = let b = c.begin-began.ensures in taken c.args.self.now.pseg c.begin-began.new.self c.copy_one-answer.new.self c.begin-began.result b.begun b.none (ap (λ (s : Physical). s.victim) (c.copy_one-answer.ensures.refused c.in-Nothing.is).0)
+
+pub returns-else-began-clause-chosen : goal.returns-else-began-clause-chosen
+returns-else-began-clause-chosen g c = let b = c.begin-began.ensures in taken c.args.self.now.pseg c.begin-began.new.self c.copy_one-answer.new.self c.begin-began.result b.begun b.none (ap (λ (s : Physical). s.victim) (c.copy_one-answer.ensures.refused c.in-Nothing.is).0)
+
+pub returns-in-Lost-clause-chosen : goal.returns-in-Lost-clause-chosen
+returns-in-Lost-clause-chosen g c = let b = c.begin-began.ensures in taken c.args.self.now.pseg c.begin-began.new.self c.copy_one-answer.new.self c.begin-began.result b.begun b.none ((c.in-Lost.ensures.copies.kept (λ moved. moved)).victim)
+
+pub returns-in-Fault-clause-chosen : goal.returns-in-Fault-clause-chosen
+returns-in-Fault-clause-chosen g c = let b = c.begin-began.ensures in taken c.args.self.now.pseg c.begin-began.new.self c.copy_one-answer.new.self c.begin-began.result b.begun b.none ((c.in-Fault.ensures.copies.kept (λ moved. moved)).victim)

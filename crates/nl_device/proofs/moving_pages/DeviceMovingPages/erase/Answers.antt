@@ -1,10 +1,12 @@
-use Rattle.std.proofs.Common.{◌≡◌, ◌∙◌, ◌*◌, ◌≤◌, ◌<◌, ◌^◌, ℕ, get_or, List, Option, Some, None, inl, refl, sym, ap, subst, arith}
+use Rattle.std.proofs.Common.{◌≡◌, ◌∙◌, ◌*◌, ◌/◌, is_some, inr, ◌≤◌, ◌<◌, ◌^◌, ℕ, get_or, List, Option, Some, None, inl, refl, sym, ap, subst, arith}
 use Rattle.std.proofs.lemmas.Option.{none-some}
 use Rattle.nl_nand.specs.Nand.{ImageOf}
 use Rattle.nl_pseg.specs.Cleaning.{Erases}
-use Rattle.nl_pseg.specs.Segment.{Physical, held_at}
+use Rattle.nl_pseg.specs.Segment.{Physical, held_at, is_kept, is_soiled}
 use Rattle.nl_iface.specs.Space.{Space}
 use Rattle.nl_pseg.specs.Space.{left_of}
+use Rattle.nl_iface.specs.declared.moving.Erasing.TheVariants as now
+use Rattle.std.specs.Prelude.{◌↔◌}
 use Rattle.nl_pseg.specs.declared.cleaned.Erasure.TheVariants as the
 use Rattle.nl_pseg.specs.declared.held.Held.{Held}
 use Rattle.nl_vseg.specs.Places.{map_of}
@@ -16,10 +18,32 @@ use Rattle.nl_device.specs.State.{held_of}
 use Rattle.nl_device.proofs.CopyLeft.{still_cleans}
 use Rattle.nl_device.proofs.Forms.{begins, lift}
 use Rattle.nl_device.proofs.Idle.{left_is}
-use Rattle.nl_device.proofs.Naming.{live_bytes, map_same, stray_same}
+use Rattle.nl_device.proofs.Naming.{live_bytes, map_same, named_none, stray_same}
 use Rattle.nl_device.proofs.SpaceSteps.{erased, same_segment}
 use Rattle.nl_device.proofs.Wiped.{erasable, erase_idle, live_same, low_same, wiped_device, wiped_left, wiped_pages}
-use Rattle.nl_device.proofs.device.Device.erase.Goals as goal
+use Rattle.nl_device.proofs.moving_pages.DeviceMovingPages.erase.Goals as goal
+
+-- the answer of the segment is that of the device
+renamed : {A B C : Type 0} → (A → B) → (B → A) → A ↔ C → B ↔ C
+renamed to from is = ((λ b. is.0 (from b)), (λ c. to (is.1 c)))
+
+done_to : the.Done ≡ the.Nothing → now.Done ≡ now.Nothing
+done_to e = cc
+
+done_from : now.Done ≡ now.Nothing → the.Done ≡ the.Nothing
+done_from e = cc
+
+fault_to : the.Fault ≡ the.Nothing → now.Fault ≡ now.Nothing
+fault_to e = cc
+
+fault_from : now.Fault ≡ now.Nothing → the.Fault ≡ the.Nothing
+fault_from e = cc
+
+nothing_to : the.Nothing ≡ the.Nothing → now.Nothing ≡ now.Nothing
+nothing_to e = refl
+
+nothing_from : now.Nothing ≡ now.Nothing → the.Nothing ≡ the.Nothing
+nothing_from e = refl
 
 pub returns-in-Done-clause-formed : goal.returns-in-Done-clause-formed
 returns-in-Done-clause-formed g c =
@@ -39,7 +63,7 @@ returns-in-Done-clause-formed g c =
     apart e = cc
 
 pub returns-in-Done-clause-nothing : goal.returns-in-Done-clause-nothing
-returns-in-Done-clause-nothing g c = erase_idle c.args.self.now.pseg c.in-Done.ensures.nothing
+returns-in-Done-clause-nothing g c = renamed done_to done_from (erase_idle c.args.self.now.pseg c.in-Done.ensures.nothing)
 
 pub returns-in-Done-clause-left : goal.returns-in-Done-clause-left
 returns-in-Done-clause-left g c t =
@@ -113,7 +137,7 @@ returns-in-Fault-clause-formed g c =
     other e = cc
 
 pub returns-in-Fault-clause-nothing : goal.returns-in-Fault-clause-nothing
-returns-in-Fault-clause-nothing g c = erase_idle c.args.self.now.pseg c.in-Fault.ensures.nothing
+returns-in-Fault-clause-nothing g c = renamed fault_to fault_from (erase_idle c.args.self.now.pseg c.in-Fault.ensures.nothing)
 
 pub returns-in-Fault-clause-left : goal.returns-in-Fault-clause-left
 returns-in-Fault-clause-left g c t =
@@ -231,13 +255,14 @@ returns-in-Fault-clause-now g c t is =
 pub returns-in-Fault-clause-same : goal.returns-in-Fault-clause-same
 returns-in-Fault-clause-same g c un =
     let e = c.erase_victim-erased.ensures in
-    ap (λ (s : Physical). names_with s c.args.self.now.pending) (e.erases.kept (λ done. other (sym c.in-Fault.is ∙ done)))
+    let same = e.erases.kept (λ done. other (sym c.in-Fault.is ∙ done)) in
+    (ap (λ (s : Physical). names_with s c.args.self.now.pending) same, ap (λ (s : Physical). s.victim) same)
   where
     other : the.Fault ≡ the.Done → ⊥
     other e = cc
 
 pub returns-in-Nothing-clause-nothing : goal.returns-in-Nothing-clause-nothing
-returns-in-Nothing-clause-nothing g c = erase_idle c.args.self.now.pseg c.in-Nothing.ensures.nothing
+returns-in-Nothing-clause-nothing g c = renamed nothing_to nothing_from (erase_idle c.args.self.now.pseg c.in-Nothing.ensures.nothing)
 
 pub returns-in-Nothing-clause-none : goal.returns-in-Nothing-clause-none
 returns-in-Nothing-clause-none g c is =
@@ -271,7 +296,8 @@ returns-in-Nothing-clause-none g c is =
 pub returns-in-Nothing-clause-same : goal.returns-in-Nothing-clause-same
 returns-in-Nothing-clause-same g c un =
     let e = c.erase_victim-erased.ensures in
-    ap (λ (s : Physical). names_with s c.args.self.now.pending) (e.erases.kept (λ done. other (sym c.in-Nothing.is ∙ done)))
+    let same = e.erases.kept (λ done. other (sym c.in-Nothing.is ∙ done)) in
+    (ap (λ (s : Physical). names_with s c.args.self.now.pending) same, ap (λ (s : Physical). s.victim) same)
   where
     other : the.Nothing ≡ the.Done → ⊥
     other e = cc
@@ -284,3 +310,23 @@ returns-in-Nothing-clause-left g c t =
 
 pub returns-in-Nothing-clause-kept : goal.returns-in-Nothing-clause-kept
 returns-in-Nothing-clause-kept g c = still_cleans _ (returns-in-Nothing-clause-none g c refl).medium
+
+pub returns-in-Done-clause-wiped : goal.returns-in-Done-clause-wiped
+returns-in-Done-clause-wiped g c is =
+    let d = c.args.self.now in
+    let f = c.requires.formed in
+    let e = c.erase_victim-erased.ensures in
+    let new = c.erase_victim-erased.new.self in
+    let x : (block : ℕ) × Erases block d.pseg new = e.erases.erased c.in-Done.is in
+    let image = g.M.Nand.contents d.media in
+    let now = g.M.Nand.contents c.erase_victim-erased.new.media in (
+      x.0,
+      x.1.was,
+      x.1.victim,
+      λ t p at.
+          let here : p / new.size ≡ x.0 = ap (λ n. p / n) (x.1.tables.same_size ∙ f.segments.physical_pages) ∙ at in
+          let blank = (e.medium t).segment.blank p (inr (ap (is_kept new) here ∙ x.1.kept, ap (is_soiled new) here ∙ ap is_some x.1.clean)) in (
+            blank,
+            named_none (g.M.Nand.geometry d.media) d.shape d.vseg d.pseg image now f.segments (g.met.M.Nand.contents_fit d.media t) (subst (λ n. ImageOf n now) e.geometry (g.met.M.Nand.contents_fit c.erase_victim-erased.new.media t)) f.live (f.medium t).physical_is p (inl blank),
+          ),
+    )

@@ -9,7 +9,7 @@ use Rattle.nl_device.specs.State.{at_has}
 use Rattle.nl_device.proofs.Calling.{called_same}
 use Rattle.nl_device.proofs.Calls.{device_called}
 use Rattle.nl_device.proofs.Handling.{marked_list, marks}
-use Rattle.nl_device.proofs.device.Device.handled.Goals as goal
+use Rattle.nl_device.proofs.moving_pages.DeviceMovingPages.handled.Goals as goal
 
 pub returns-clause-formed : goal.returns-clause-formed
 returns-clause-formed g c =

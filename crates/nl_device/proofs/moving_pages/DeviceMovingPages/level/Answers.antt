@@ -1,5 +1,5 @@
-use Rattle.std.proofs.Common.{◌≡◌, inl, inr, ⊎_elim, ◌∙◌, true, false, List, Option, None, ap, arith, get_or, refl, subst, sym}
-use Rattle.std.proofs.lemmas.Bool.{OnFalse_at, OnTrue_at, cases_Bool}
+use Rattle.std.proofs.Common.{◌≡◌, inl, inr, ⊎_elim, ◌∙◌, ◌<◌, ◌≤◌, ◌*◌, ℕ, true, false, cond, is_some, List, Option, None, ap, arith, get_or, refl, subst, sym}
+use Rattle.std.proofs.lemmas.Bool.{OnFalse_at, OnTrue_at, cases_Bool, cases_lt}
 use Rattle.nl_pseg.specs.Segment.{Physical}
 use Rattle.nl_pseg.specs.declared.held.Held.{Held}
 use Rattle.nl_device.specs.Callbacks.{names_with}
@@ -8,7 +8,7 @@ use Rattle.nl_device.specs.Shown.{live_page}
 use Rattle.nl_device.proofs.Begun.{begun_device, space_size, space_victim}
 use Rattle.nl_device.proofs.SpaceSteps.{begun}
 use Rattle.nl_device.proofs.Spacing.{free_is, pairs_is}
-use Rattle.nl_device.proofs.device.Device.level.Goals as goal
+use Rattle.nl_device.proofs.moving_pages.DeviceMovingPages.level.Goals as goal
 
 pub returns-clause-formed : goal.returns-clause-formed
 returns-clause-formed g c =
@@ -55,28 +55,29 @@ returns-clause-none g c is = record {
   names = ap (λ (s : Physical). names_with s c.args.self.now.pending) (OnFalse_at is c.begin.ensures.none);
 }
 
-pub returns-clause-cannot : goal.returns-clause-cannot
-returns-clause-cannot g c why =
-    let seg = c.args.self.now.pseg in
-    let victim = space_victim seg in
-    let size = space_size seg in
-    let pairs = pairs_is seg in
-    let free = free_is seg in
-    ⊎_elim
-    (λ (is : c.begin.result ≡ true). absurd (c.begin.ensures.cannot.0 is
-    (⊎_elim (λ hand. inl (sym victim ∙ hand)) (λ rest. ⊎_elim (λ many. inr (inl (omega (arith, many, size, pairs)))) (λ none. inr (inr (inl (sym free ∙ none)))) rest) why)))
-    (λ (is : c.begin.result ≡ false). is)
-    (cases_Bool c.begin.result)
+pub returns-clause-chosen : goal.returns-clause-chosen
+returns-clause-chosen g c is = let b = OnTrue_at is c.begin.ensures.begun in (b.0, b.1, b.2.victim)
 
-pub returns-clause-cold : goal.returns-clause-cold
-returns-clause-cold g c none few some =
+pub returns-clause-exactly : goal.returns-clause-exactly
+returns-clause-exactly g c =
     let seg = c.args.self.now.pseg in
     let victim = space_victim seg in
     let size = space_size seg in
     let pairs = pairs_is seg in
     let free = free_is seg in (
-      (λ is. let b = OnTrue_at is c.begin.ensures.begun in (b.0, b.1)),
-      (λ cold. c.begin.ensures.cannot.1 (λ why. ⊎_elim
+      (λ is.
+          let no = c.begin.ensures.cannot.0 is in
+          let b = OnTrue_at is c.begin.ensures.begun in
+          let few = b.2.few in (
+            (
+              victim ∙ ap (λ (o : Option ℕ). cond (is_some o) 1 0) b.2.none,
+              omega (arith, few, size, pairs),
+              ⊎_elim (λ some. omega (arith, some, free)) (λ none. absurd (no (inr (inr (inl (omega (arith, none))))))) (cases_lt 0 seg.free),
+            ),
+            (b.0, b.1),
+          )),
+      (λ can. let none = can.0.0 in let few = can.0.1 in let some = can.0.2 in let cold = can.1 in
+          c.begin.ensures.cannot.1 (λ why. ⊎_elim
           (λ hand. omega (arith, victim, none, hand))
           (λ rest. ⊎_elim
           (λ many. omega (arith, few, many, size, pairs))

@@ -8,7 +8,7 @@ use Rattle.nl_device.proofs.Leaving.{hand_kept, names_in}
 use Rattle.nl_device.proofs.Living.{live_kept, same_before}
 use Rattle.nl_device.proofs.Made.{live_held}
 use Rattle.nl_device.proofs.Naming.{names_after}
-use Rattle.nl_device.proofs.device.Device.acknowledge.Goals as goal
+use Rattle.nl_device.proofs.moving_pages.DeviceMovingPages.acknowledge.Goals as goal
 
 pub drop_over-requires : goal.drop_over-requires
 drop_over-requires g c = record { whole = c.requires.formed.spare.whole; called = c.requires.formed.called }
