@@ -10,8 +10,8 @@ use Rattle.std.specs.Ordering.{nat_cmp}
 use Rattle.std.specs.FinMap.Entries.{find, put, by_order}
 use Rattle.nl_field.specs.Bytes.{zeros}
 use Rattle.nl_field.specs.FileContent.{FileContent, byte_of, overlaid, page_bytes, touched, written_over}
-use Rattle.nl_field.proofs.ContentBytes.{length-cut_page}
-use Rattle.nl_field.proofs.ContentProofs.{byte_laws}
+use Rattle.nl_content.proofs.ContentBytes.{length-cut_page}
+use Rattle.nl_content.proofs.ContentProofs.{byte_laws}
 use Rattle.nl_content.specs.Pages.{AreWhole, cut_entry}
 
 pub take_most : (n : ℕ) (page : List ℕ) → length page ≡ 4096 → take (min 4096 n) page ≡ take n page

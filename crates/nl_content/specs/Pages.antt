@@ -2,7 +2,7 @@
 use Rattle.std.specs.Prelude.{◌≡◌, ℕ, ◌+◌, ◌*◌, ◌&&◌, ◌≤◌, nat_le, nat_lt, count_by, Bool, List, length}
 use Rattle.std.specs.List.{AllByRecursion, list_any, range_with_len}
 use Rattle.nl_field.specs.Numbers.{max_file_size}
-use Rattle.nl_field.specs.ContentLaws.{cut_page}
+use Rattle.nl_content.specs.ContentLaws.{cut_page}
 use Rattle.nl_field.specs.FileContent.{FileContent}
 
 -- each page has 4096 bytes

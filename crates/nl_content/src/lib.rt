@@ -1,6 +1,7 @@
 //! Paths, the bytes of a reply, and what a file holds: pages by index, which several contents share.
 #![tactic(auto)]
 
+pub mod content_laws;
 mod file_buf;
 mod file_ops;
 mod pages;

@@ -1,5 +1,4 @@
 pub mod Bytes
-pub mod ContentLaws
 pub mod CrashStates
 pub mod EntryRecord
 pub mod Examples

@@ -4,7 +4,6 @@
 mod address_list;
 mod answers;
 mod commit;
-pub mod content_laws;
 mod entry;
 mod fail_list;
 mod findings;
@@ -18,7 +17,6 @@ mod page_buf;
 mod place;
 mod pointer;
 mod pointer_list;
-pub mod rows;
 mod seen;
 mod shape;
 mod spare;

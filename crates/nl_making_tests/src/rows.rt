@@ -3,8 +3,8 @@ ghost use Rattle.std.specs.Prelude.{◌≡◌, ◌∷◌, [], false, true};
 ghost use Rattle.nl_field.specs.Examples.{fresh_image};
 ghost use Rattle.nl_field.specs.declared.spare.SpareRec.TheVariants.{Physical, Virtual};
 ghost use Rattle.nl_making.specs.Making.{OpensAsNew};
-ghost use Rattle.nl_meta.specs.Examples.{hello_page, image_of_a};
-ghost use Rattle.nl_meta.specs.Phases.{blank_image, consistent_image, copied, moved_page};
+ghost use Rattle.nl_image_rows.specs.Examples.{hello_page, image_of_a};
+ghost use Rattle.nl_image_rows.specs.Phases.{blank_image, consistent_image, copied, moved_page};
 ghost use Rattle.nl_opening.specs.Beginning.{stopped_by};
 ghost use Rattle.nl_opening.specs.Figures.{greatest_seen, is_moved, least_seen, pairs_of};
 

@@ -1,14 +1,11 @@
 pub mod Committed
 pub mod Consistent
-pub mod Examples
 pub mod FindingsLaw
 pub mod Inside
-pub mod LargeFiles
 pub mod Lending
 pub mod Nodes
 pub mod PageLaws
 pub mod Pages
-pub mod Phases
 pub mod PointerLists
 pub mod RightLaws
 pub mod Running

@@ -4,6 +4,5 @@
 mod addresses;
 pub mod laws;
 mod meta;
-pub mod rows;
 
 pub use meta::Meta;

@@ -1,6 +1,5 @@
 pub mod Crash
 pub mod CrashLaws
-pub mod Examples
 pub mod Formatted
 pub mod Fresh
 pub mod HolderLists

@@ -2,5 +2,4 @@
 #![tactic(auto)]
 
 pub mod laws;
-pub mod rows;
 pub mod stops;

@@ -1,5 +1,5 @@
 -- One turn, and the pages that a line has left to stage.
-use Rattle.std.specs.Prelude.{◌≡◌, ℕ, ◌+◌, ◌-◌, ◌*◌, ◌/◌, ◌==◌, nat_le, Bool, not, ◌&&◌, if◌then◌else◌, List, [], length, take, drop, replicate, filter, Option, Some, None, AllPairs}
+use Rattle.std.specs.Prelude.{◌≡◌, ℕ, ◌+◌, ◌-◌, ◌*◌, ◌/◌, ◌==◌, nat_le, Bool, not, ◌&&◌, if◌then◌else◌, List, [], length, take, drop, replicate, filter, Option, Some, None}
 use Rattle.std.specs.List.{list_any, range_with_len}
 use Rattle.std.specs.Int.{div_ceil}
 use Rattle.nl_field.specs.Numbers.{max_file_size}
@@ -38,19 +38,3 @@ abbrev pub left_to_stage : Tree → Call → List ℕ → List ℕ
 left_to_stage tree (Write path from bytes) in_flight = left_in_range tree path from (length bytes) in_flight
 left_to_stage tree (Fill path from len byte) in_flight = left_in_range tree path from len in_flight
 left_to_stage tree _ in_flight = []
-
--- In an interleaving two turns of one line are of one worker and one call.
-abbrev pub SameLine : ℕ → ℕ → Call → ℕ → ℕ → Call → Type 0
-SameLine worker line call worker' line' call' = line ≡ line' → (worker ≡ worker') × (call ≡ call')
-
-abbrev pub AgreeOnLine : Event → Event → Type 0
-AgreeOnLine (stage w l c) (stage w' l' c') = SameLine w l c w' l' c'
-AgreeOnLine (stage w l c) (effect w' l' c') = SameLine w l c w' l' c'
-AgreeOnLine (effect w l c) (stage w' l' c') = SameLine w l c w' l' c'
-AgreeOnLine (effect w l c) (effect w' l' c') = SameLine w l c w' l' c'
-AgreeOnLine (duty d) event = Unit {0}
-AgreeOnLine (stage w l c) (duty d) = Unit {0}
-AgreeOnLine (effect w l c) (duty d) = Unit {0}
-
-abbrev pub IsInterleaving : List Event → Type 0
-IsInterleaving events = AllPairs AgreeOnLine events

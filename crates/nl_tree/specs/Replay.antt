@@ -22,11 +22,6 @@ replay shape tree (one ∷ rest) = replay shape (step_marked shape tree one).tre
 abbrev pub answer_due : Shape → Tree → List (Call × Option FaultReply) → ℕ → Option Outcome
 answer_due shape tree calls i = option_map (step_marked shape (replay shape tree (take i calls))) (slice_get calls i)
 
--- what all of them answer, in order
-unfoldable pub answers_due : Shape → Tree → List (Call × Option FaultReply) → List Outcome
-answers_due shape tree [] = []
-answers_due shape tree (one ∷ rest) = step_marked shape tree one ∷ answers_due shape (step_marked shape tree one).tree rest
-
 -- A reply is as due; of a sync both numbers are open.
 abbrev pub Fits : Reply → Reply → Type 0
 Fits (Synced due_upto due_moment) reply = (upto : ℕ) × (moment : ℕ) × (reply ≡ Synced upto moment)

@@ -1,14 +1,14 @@
 //! The definitions of orders, syncs, turns and faults, on worked rows.
-ghost use Rattle.std.specs.Prelude.{⊤, ◌≡◌, ◌∷◌, [], Some, None, codes};
+ghost use Rattle.std.specs.Prelude.{⊤, ◌≡◌, true, false, ◌∷◌, [], Some, None, codes};
 ghost use Rattle.nl_field.specs.CrashStates.{top};
 ghost use Rattle.nl_tree.specs.Calls.{IsBounded, AreLines};
 ghost use Rattle.nl_tree.specs.Causes.{DifferBelowTop, AreOneNumber, FaultIsDue};
-ghost use Rattle.nl_tree.specs.Event.{IsInterleaving, left_to_stage};
-ghost use Rattle.nl_tree.specs.Order.{IsOrderOf, AreSyncs};
+ghost use Rattle.nl_tree.specs.Event.{left_to_stage};
+ghost use Rattle.nl_tree.specs.Order.{IsOrderOf, AreSyncs, has_to_precede};
 ghost use Rattle.nl_tree.specs.Replay.{answer_due};
 ghost use Rattle.nl_tree.specs.Tree.{empty_tree};
-ghost use Rattle.nl_tree.specs.Examples.{small, a, before_a_sync, the_sync};
-ghost use Rattle.nl_tree.specs.OrderExamples.{beside_it, three_lines, two_answers, sync_under, turns_of, one_file, two_calls, faults_so_far, no_state, read_only_state, worn_state};
+ghost use Rattle.nl_tree_tests.specs.Examples.{small, a, before_a_sync, the_sync};
+ghost use Rattle.nl_tree_tests.specs.OrderExamples.{IsInterleaving, beside_it, both_syncs, faults_so_far, line_before, lines_of_one, no_state, one_file, one_sync, read_only_state, sync_of, sync_under, three_lines, turns_of, two_answers, two_calls, two_syncs, worn_state};
 ghost use Rattle.nl_tree.specs.declared.call.Call.TheVariants.{Create, Fill, Stat, Mkdir};
 ghost use Rattle.nl_tree.specs.declared.reply.FaultReply.TheVariants.{Eio, Erofs, Eworn};
 ghost use Rattle.nl_tree.specs.declared.reply.Reply.TheVariants.{Done, Dir, Fault};
@@ -18,6 +18,18 @@ pub fn orders()
     ensures in_order { IsOrderOf three_lines (beside_it ∷ before_a_sync ∷ the_sync ∷ []) }
     ensures round { IsOrderOf three_lines (before_a_sync ∷ the_sync ∷ beside_it ∷ []) → ⊥ }
     ensures missing { IsOrderOf three_lines (before_a_sync ∷ the_sync ∷ []) → ⊥ }
+    ensures twice { IsOrderOf three_lines (before_a_sync ∷ before_a_sync ∷ the_sync ∷ []) → ⊥ }
+    ensures once_more { IsOrderOf three_lines (before_a_sync ∷ beside_it ∷ the_sync ∷ the_sync ∷ []) → ⊥ }
+{}
+
+// Lines of one round and one worker are answered in their order.
+pub fn orders_of_one_worker()
+    ensures in_order { IsOrderOf lines_of_one (line_before ∷ beside_it ∷ []) }
+    ensures turned { IsOrderOf lines_of_one (beside_it ∷ line_before ∷ []) → ⊥ }
+    ensures precedes { has_to_precede line_before beside_it ≡ true }
+    ensures not_behind { has_to_precede beside_it line_before ≡ false }
+    ensures not_itself { has_to_precede line_before line_before ≡ false }
+    ensures not_beside { has_to_precede before_a_sync beside_it ≡ false }
 {}
 
 // A sync is listed with the number of its line.
@@ -25,6 +37,17 @@ pub fn syncs()
     ensures listed { AreSyncs 5 2 9 two_answers (sync_under 3) }
     ensures other_line { AreSyncs 5 2 9 two_answers (sync_under 0) → ⊥ }
     ensures too_late { AreSyncs 5 2 3 two_answers (sync_under 3) → ⊥ }
+    ensures too_early { AreSyncs 5 5 9 two_answers (sync_under 3) → ⊥ }
+    ensures alone { AreSyncs 5 2 9 (one_sync 5 4) (sync_of 5 4) }
+    ensures below_opening { AreSyncs 5 2 9 (one_sync 4 4) (sync_of 4 4) → ⊥ }
+    ensures beyond_place { AreSyncs 5 2 9 (one_sync 6 4) (sync_of 6 4) → ⊥ }
+{}
+
+// The moments of syncs do not fall.
+pub fn moments_of_syncs()
+    ensures rise { AreSyncs 5 2 9 (two_syncs 3) (both_syncs 3) }
+    ensures stand { AreSyncs 5 2 9 (two_syncs 4) (both_syncs 4) }
+    ensures fall { AreSyncs 5 2 9 (two_syncs 5) (both_syncs 5) → ⊥ }
 {}
 
 // The turns of a line are of one worker.

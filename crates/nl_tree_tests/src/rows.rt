@@ -1,6 +1,6 @@
 ghost use Rattle.std.specs.Prelude.{◌≡◌, ℕ, ⊤, ◌<◌, ◌∷◌, [], ◌++◌, Some, None, replicate, codes};
 ghost use Rattle.std.specs.List.{range_with_len};
-ghost use Rattle.nl_tree.specs.Examples.{small, tiny, answers_to, write_and_read, over_a_page, far_write, cut_and_lengthen, largest_file, names_and_moves, of_no_length, full_tiny, calls_and_refusals, subtree_moves, order_of_names, paths_after, root, at, a, ax, pages_cut, save_a_note, long_names, few_nodes, nodes_run_out, few_meta, meta_runs_out, large, full_directory, sync_lines, the_sync};
+ghost use Rattle.nl_tree_tests.specs.Examples.{small, tiny, answers_to, write_and_read, over_a_page, far_write, cut_and_lengthen, largest_file, names_and_moves, of_no_length, full_tiny, calls_and_refusals, subtree_moves, order_of_names, paths_after, root, at, a, ax, pages_cut, save_a_note, long_names, few_nodes, nodes_run_out, few_meta, meta_runs_out, large, full_directory, sync_lines, the_sync};
 ghost use Rattle.nl_tree.specs.declared.reply.Reply.TheVariants.{Done, Count, Content, Names, File, Dir, Synced, No};
 ghost use Rattle.nl_tree.specs.declared.reply.Refusal.TheVariants.{Enoent, Eexist, Enotdir, Eisdir, Enotempty, Einval, Enametoolong, Efbig, Enospc};
 ghost use Rattle.nl_tree.specs.declared.reply.Space.TheVariants.{Dir as DirSpace, Nodes, Meta, Pages};

@@ -3,7 +3,7 @@ use Rattle.std.specs.List.{range_with_len}
 use Rattle.std.specs.Ordering.{nat_cmp}
 use Rattle.std.specs.FinMap.{put as with_entry}
 use Rattle.nl_field.specs.FileContent.{overlaid, page_bytes}
-use Rattle.nl_field.proofs.ContentProofs.{touched_some}
+use Rattle.nl_content.proofs.ContentProofs.{touched_some}
 use Rattle.nl_content.proofs.FileProofs.{touched_step}
 use Rattle.nl_content.proofs.file_ops.put_touched.Goals as goal
 

@@ -4,7 +4,7 @@ use Rattle.nl_io.specs.Streams.{Writes}
 use Rattle.nl_io.specs.declared.sink.SinkAnswer.TheVariants as sink
 use Rattle.nl_print.specs.Tail.{tail_text}
 use Rattle.nl_print.specs.Texts.{answer_line}
-use Rattle.nl_io.specs.StreamsLaws.{then_write, stopped}
+use Rattle.nl_io.proofs.StreamsLaws.{then_write, stopped}
 use Rattle.nl_print.proofs.answer.answer_line.Goals as goal
 
 pub returns-in-Took-write_tail-clause-text : goal.returns-in-Took-write_tail-clause-text

@@ -5,7 +5,7 @@ use Rattle.hex.specs.Hex.{encode_lower}
 use Rattle.nl_io.specs.Streams.{Writes}
 use Rattle.nl_io.specs.declared.sink.SinkAnswer.TheVariants as sink
 use Rattle.nl_print.proofs.Digits.{digits_split, digits_end}
-use Rattle.nl_io.specs.StreamsLaws.{then_write, stopped}
+use Rattle.nl_io.proofs.StreamsLaws.{then_write, stopped}
 use Rattle.nl_print.proofs.answer.write_hex.Goals as goal
 
 pub pieces-preserved : goal.pieces-preserved

@@ -1,5 +1,5 @@
 use Rattle.std.proofs.Common.{[], ◌∷◌}
-use Rattle.nl_io.specs.StreamsLaws.{then_write, stopped}
+use Rattle.nl_io.proofs.StreamsLaws.{then_write, stopped}
 use Rattle.nl_print.proofs.path.write_name.Goals as goal
 
 pub returns-in-Took-clause-text : goal.returns-in-Took-clause-text

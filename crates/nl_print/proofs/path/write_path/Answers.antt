@@ -3,7 +3,7 @@ use Rattle.nl_io.specs.Streams.{Writes}
 use Rattle.nl_io.specs.declared.sink.SinkAnswer.TheVariants as sink
 use Rattle.nl_print.specs.Texts.{slashed}
 use Rattle.nl_print.proofs.Names.{next_name, slashed_split, some_names}
-use Rattle.nl_io.specs.StreamsLaws.{then_write, stopped}
+use Rattle.nl_io.proofs.StreamsLaws.{then_write, stopped}
 use Rattle.nl_print.proofs.path.write_path.Goals as goal
 
 pub names-preserved : goal.names-preserved

@@ -1,7 +1,7 @@
 use Rattle.nl_io.specs.declared.sink.SinkAnswer.TheVariants as sink
 use Rattle.std.proofs.Common.{◌++◌}
 use Rattle.nl_print.specs.Texts.{path_text}
-use Rattle.nl_io.specs.StreamsLaws.{then_write, stopped}
+use Rattle.nl_io.proofs.StreamsLaws.{then_write, stopped}
 use Rattle.nl_print.proofs.path.write_path_line.Goals as goal
 
 pub returns-in-Took-write_path-clause-text : goal.returns-in-Took-write_path-clause-text

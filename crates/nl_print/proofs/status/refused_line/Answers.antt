@@ -4,7 +4,7 @@ use Rattle.std.proofs.lemmas.Grind.{common_steps}
 use Rattle.nl_io.specs.Streams.{Writes}
 use Rattle.nl_io.specs.declared.sink.SinkAnswer.TheVariants as sink
 use Rattle.nl_print.specs.Texts.{then_number, refused_text}
-use Rattle.nl_io.specs.StreamsLaws.{then_write, stopped}
+use Rattle.nl_io.proofs.StreamsLaws.{then_write, stopped}
 use Rattle.nl_print.proofs.status.refused_line.Goals as goal
 
 whole : (front why : List ℕ) (line column : ℕ) → front ≡ codes "script" ++ then_number line ++ then_number column ++ 32 ∷ [] → front ++ (why ++ 10 ∷ []) ≡ refused_text line column why

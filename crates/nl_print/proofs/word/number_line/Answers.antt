@@ -4,7 +4,7 @@ use Rattle.std.proofs.Common.{arith}
 use Rattle.std.proofs.lemmas.Grind.{common_steps}
 use Rattle.nl_io.specs.Streams.{Writes}
 use Rattle.nl_print.specs.Texts.{then_number}
-use Rattle.nl_io.specs.StreamsLaws.{then_write}
+use Rattle.nl_io.proofs.StreamsLaws.{then_write}
 use Rattle.nl_print.proofs.word.number_line.Goals as goal
 
 pub returns-in-Took-clause-text : goal.returns-in-Took-clause-text

@@ -1,4 +1,4 @@
-use Rattle.nl_io.specs.StreamsLaws.{then_write}
+use Rattle.nl_io.proofs.StreamsLaws.{then_write}
 use Rattle.nl_print.proofs.word.word_line.Goals as goal
 
 pub returns-in-Took-clause-text : goal.returns-in-Took-clause-text

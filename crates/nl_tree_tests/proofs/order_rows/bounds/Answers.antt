@@ -2,8 +2,8 @@ use Rattle.std.proofs.Common.{◌≡◌, ◌<◌, ◌≤◌, zero, suc, true, []
 use Rattle.std.specs.Prelude.{All, AllPairs, codes}
 use Rattle.nl_field.specs.Names.{is_name}
 use Rattle.nl_tree.specs.Calls.{AreNames, IsLine}
-use Rattle.nl_tree.specs.Examples.{a, d, the_sync}
-use Rattle.nl_tree.specs.OrderExamples.{three_lines}
+use Rattle.nl_tree_tests.specs.Examples.{a, d, the_sync}
+use Rattle.nl_tree_tests.specs.OrderExamples.{three_lines}
 use Rattle.nl_tree.specs.declared.call.Line.{Line}
 use Rattle.nl_tree_tests.proofs.order_rows.bounds.Goals as goal
 

@@ -2,9 +2,9 @@ use Rattle.std.proofs.Common.{◌≡◌, ℕ, zero, suc, true, false, [], ◌∷
 use Rattle.std.specs.Prelude.{IsFalse, AllPairs}
 use Rattle.std.proofs.lemmas.List.Sorted.{sum_by-IsPermutation}
 use Rattle.nl_tree.specs.declared.call.Line.{Line}
-use Rattle.nl_tree.specs.Examples.{before_a_sync, the_sync}
+use Rattle.nl_tree_tests.specs.Examples.{before_a_sync, the_sync}
 use Rattle.nl_tree.specs.Order.{has_to_precede}
-use Rattle.nl_tree.specs.OrderExamples.{beside_it, three_lines}
+use Rattle.nl_tree_tests.specs.OrderExamples.{beside_it, three_lines}
 use Rattle.nl_tree_tests.proofs.order_rows.orders.Goals as goal
 
 rising : AllPairs (λ (a : Line) b. IsFalse (has_to_precede b a)) (beside_it ∷ before_a_sync ∷ the_sync ∷ [])
@@ -32,3 +32,15 @@ returns-clause-round c h = not_so (h.in_order 1 2 the_sync (omega arith) (omega 
 
 pub returns-clause-missing : goal.returns-clause-missing
 returns-clause-missing c h = fewer 2 refl (sum_by-IsPermutation (λ (l : Line). 1) three_lines (before_a_sync ∷ the_sync ∷ []) h.each_once)
+
+same_sum : (x : ℕ) → x ≡ 5 → x ≡ 6 → ⊥
+same_sum x e f = omega arith
+
+more : (x : ℕ) → x ≡ 4 → x ≡ 3 → ⊥
+more x e f = omega arith
+
+pub returns-clause-twice : goal.returns-clause-twice
+returns-clause-twice c h = same_sum 5 refl (sum_by-IsPermutation (λ (l : Line). l.line) three_lines (before_a_sync ∷ before_a_sync ∷ the_sync ∷ []) h.each_once)
+
+pub returns-clause-once_more : goal.returns-clause-once_more
+returns-clause-once_more c h = more 4 refl (sum_by-IsPermutation (λ (l : Line). 1) three_lines (before_a_sync ∷ beside_it ∷ the_sync ∷ the_sync ∷ []) h.each_once)

@@ -1,7 +1,7 @@
 use Rattle.std.proofs.Common.{ℕ, zero, suc, refl, arith}
 use Rattle.std.specs.Prelude.{◌<◌, ◌≤◌, IsTrue, slice_get, IfSome, ◌+◌}
 use Rattle.nl_tree.specs.Order.{has_to_precede}
-use Rattle.nl_tree.specs.Examples.{sync_lines, the_sync}
+use Rattle.nl_tree_tests.specs.Examples.{sync_lines, the_sync}
 use Rattle.nl_tree_tests.proofs.rows.numbers_of_syncs.Goals as goal
 
 no_later : (j : ℕ) → suc j < 1 → ⊥
