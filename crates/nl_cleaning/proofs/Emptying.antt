@@ -1,7 +1,7 @@
 -- The moves out of one victim, one after the other.
 use Rattle.std.proofs.Common.{◌≡◌, ◌⊎◌, inl, inr, ⊎_elim, ℕ, ◌+◌, ◌-◌, ◌*◌, ◌<◌, ◌≤◌, refl, sym, ◌∙◌, ap, subst, arith}
-use Rattle.nl_device.specs.declared.cleaning.Copying.{Copying}
-use Rattle.nl_device.specs.declared.cleaning.Copying.TheVariants.{Did, Nothing, Lost, Fault}
+use Rattle.nl_iface.specs.declared.moving.Copying.{Copying}
+use Rattle.nl_iface.specs.declared.moving.Copying.TheVariants.{Did, Nothing, Lost, Fault}
 use Rattle.nl_field.proofs.Crashes.{then_rose}
 use Rattle.nl_field.specs.CrashStates.{Rose}
 use Rattle.nl_iface.proofs.RoundSteps.{moves_laws}
@@ -124,6 +124,10 @@ module _ {D : Type 0} (g : Ghosts D) where
   pub copied_less : (s t : D) → HasCopied g s t → pages_left (g.names t).space < pages_left (g.names s).space
   copied_less s t (inl m) = moves_less (g.names s).space m.taken (g.names t).space m.takes m.space
   copied_less s t (inr b) = begun_less (g.names s).space (g.names t).space b.0.space b.1
+
+  pub copied_in_hand : (s t : D) → HasCopied g s t → (g.names t).space.victim ≡ 1
+  copied_in_hand s t (inl m) = m.space.victim
+  copied_in_hand s t (inr b) = b.0.space.victim
 
   copied_lands : (s t : D) → HasCopied g s t → NoneRetired (g.names s).space (g.names t).space → CanLand (g.names s).space → CanLand (g.names t).space
   copied_lands s t (inl m) none lands = m.space.lands (none ∙ sym (taken_bad (g.names s).space m.taken m.takes)) (taken_lands (g.names s).space m.taken m.takes lands)

@@ -1,7 +1,8 @@
 -- The end of a cleaning: the victim is erased, or there was none.
 use Rattle.std.proofs.Common.{◌≡◌, ◌⊎◌, inl, inr, ℕ, ◌+◌, ◌≤◌, sym, ◌∙◌, ap, subst, arith}
-use Rattle.nl_device.specs.declared.cleaning.Copying.{Copying}
-use Rattle.nl_device.specs.declared.cleaning.Copying.TheVariants.{Did, Nothing, Fault}
+use Rattle.std.specs.Prelude.{⊤}
+use Rattle.nl_iface.specs.declared.moving.Copying.{Copying}
+use Rattle.nl_iface.specs.declared.moving.Copying.TheVariants.{Did, Nothing, Fault}
 use Rattle.nl_field.proofs.Crashes.{then_rose}
 use Rattle.nl_field.specs.CrashStates.{Earlier, Rose, saturated}
 use Rattle.nl_iface.specs.Calls.{CallCounted, OnlyReads, Ticks, stored}
@@ -9,7 +10,7 @@ use Rattle.nl_iface.specs.Moves.{ErasesAtStops, HasNothingToCopy, KeepsCleaning}
 use Rattle.nl_iface.specs.Names.{Names, SameTables}
 use Rattle.nl_iface.specs.Space.{NoneRetired, Space}
 use Rattle.nl_iface.specs.declared.counts.Counts.{Ghosts}
-use Rattle.nl_nand.specs.Nand.{FaultsCounted}
+use Rattle.nl_iface.specs.Counting.{FailuresCounted}
 use Rattle.nl_cleaning.specs.Carried.{KeepsHeld, KeepsStored}
 use Rattle.nl_cleaning.specs.Spaces.{HasEmptied, HasMoved, StaysInHand}
 use Rattle.nl_cleaning.proofs.Carrying.{same_itself}
@@ -45,8 +46,8 @@ in_hand t (inr why) un = absurd (un (λ hand. let one = hand.0 in let none = why
 pub stays : (s t : Space) → HasMoved s t → t.victim ≡ 1 → NoneRetired s t → StaysInHand s t
 stays s t moved one none = record { same = moved_same s t moved; bad = none; victim = one; live = moved_live s t moved }
 
-pub erased_rose : (before now : ℕ) (failed : Type 0) → FaultsCounted before now failed → failed → Rose before now
-erased_rose before now failed f is = let same = f.cause is in omega (arith, same)
+pub erased_rose : (before now : ℕ) (failed : Type 0) → FailuresCounted ⊤ before now failed → failed → Rose before now
+erased_rose before now failed f is = f.cause is
 
 ticked : (first before now : ℕ) → first ≤ before → now ≡ saturated (before + 1) → Earlier first now
 ticked first before now le same below = omega (arith, le, same, below)
@@ -59,12 +60,12 @@ module _ {D : Type 0} (g : Ghosts D) where
       let none = nothing.1 in
       omega (arith, same, one, none)
 
-  erase_counted : (failed : Type 0) (t u : D) → g.read_faults u ≡ g.read_faults t → FaultsCounted (g.write_faults t) (g.write_faults u) failed → CallCounted g failed t u
+  erase_counted : (failed : Type 0) (t u : D) → g.read_faults u ≡ g.read_faults t → FailuresCounted ⊤ (g.write_faults t) (g.write_faults u) failed → CallCounted g failed t u
   erase_counted failed t u reads f = record {
     reads_never_fall = omega (arith, reads);
     writes_never_fall = f.never_falls;
     cause = λ is. inr (erased_rose (g.write_faults t) (g.write_faults u) failed f is);
-    stays = λ exact off. (reads, f.stays off);
+    stays = λ exact off. (reads, f.stays tt off);
   }
 
   pub same_names : (t u : D) → g.names u ≡ g.names t → SameTables (g.names t) (g.names u)
@@ -76,9 +77,9 @@ module _ {D : Type 0} (g : Ghosts D) where
   pub end_ticks : (done : Type 0) (s t u : D) → g.clock s ≤ g.clock t → g.clock t ≤ g.clock u → (done → g.clock u ≡ saturated (g.clock t + 1)) → Ticks g done s u
   end_ticks done s t u first second ticks = record { clock = omega (arith, first, second); later = λ d. ticked (g.clock s) (g.clock t) (g.clock u) first (ticks d) }
 
-  pub end_counted : (failed erased fails : Type 0) (s t u : D) → (failed → ⊥) → (g.clean s → g.clean t) → CallCounted g failed s t → g.read_faults u ≡ g.read_faults t → FaultsCounted (g.write_faults t) (g.write_faults u) erased
+  pub end_counted : (failed erased fails : Type 0) (s t u : D) → (failed → ⊥) → (g.clean s → g.clean t) → CallCounted g failed s t → g.read_faults u ≡ g.read_faults t → FailuresCounted ⊤ (g.write_faults t) (g.write_faults u) erased
       → (fails → erased) → (erased → fails) → CallCounted g fails s u
   end_counted failed erased fails s t u fine clean k reads f to from = counted_then g failed fails s t u fine clean k (counted_as g erased fails t u to from (erase_counted erased t u reads f))
 
-  pub end_rose : (failed erased : Type 0) (s t u : D) → CallCounted g failed s t → FaultsCounted (g.write_faults t) (g.write_faults u) erased → erased → Rose (g.write_faults s) (g.write_faults u)
+  pub end_rose : (failed erased : Type 0) (s t u : D) → CallCounted g failed s t → FailuresCounted ⊤ (g.write_faults t) (g.write_faults u) erased → erased → Rose (g.write_faults s) (g.write_faults u)
   end_rose failed erased s t u k f is = then_rose (g.write_faults s) (g.write_faults t) (g.write_faults u) k.writes_never_fall (erased_rose (g.write_faults t) (g.write_faults u) erased f is)

@@ -1,7 +1,8 @@
 mod Carrying
+mod Chosen
 mod Counting
-mod Device
 mod Emptying
 mod Finishing
+mod Legal
 pub mod Once
 mod Steps

@@ -1,16 +1,17 @@
 -- One call of cleaning alone: a copy, an erase, or a victim that is begun.
 use Rattle.std.proofs.Common.{◌≡◌, ◌⊎◌, inl, inr, refl, sym, ◌∙◌, ap, subst, arith}
-use Rattle.nl_device.specs.declared.cleaning.Copying.{Copying}
-use Rattle.nl_device.specs.declared.cleaning.Copying.TheVariants as copying
+use Rattle.std.specs.Prelude.{⊤}
+use Rattle.nl_iface.specs.declared.moving.Copying.{Copying}
+use Rattle.nl_iface.specs.declared.moving.Copying.TheVariants as copying
 use Rattle.nl_field.specs.CrashStates.{Rose}
 use Rattle.nl_iface.specs.Calls.{KeepsMedium, NoWriteFailed, OnlyReads, StoresPages, stored}
 use Rattle.nl_iface.specs.Moves.{Begins, Copies, ErasesAtStops, ErasesVictim, FailsToCopy, HasCopied, KeepsCleaning, LeavesMove, MovesPage}
 use Rattle.nl_iface.specs.Names.{Names, SameTables}
 use Rattle.nl_iface.specs.Space.{CanLand, SameSegment, Space}
 use Rattle.nl_iface.specs.declared.counts.Counts.{Ghosts}
-use Rattle.nl_nand.specs.Nand.{FaultsCounted}
-use Rattle.nl_pseg.specs.declared.cleaned.Erasure.{Erasure}
-use Rattle.nl_pseg.specs.declared.cleaned.Erasure.TheVariants as erasure
+use Rattle.nl_iface.specs.Counting.{FailuresCounted}
+use Rattle.nl_iface.specs.declared.moving.Erasing.{Erasing}
+use Rattle.nl_iface.specs.declared.moving.Erasing.TheVariants as erasure
 use Rattle.nl_cleaning.specs.Carried.{CarriesPages, KeepsHeld, KeepsStored}
 use Rattle.nl_cleaning.proofs.Carrying.{same_carries}
 use Rattle.nl_cleaning.proofs.Emptying.{copied_pages, ended_tables, medium_itself, segment_then, taken_live, taken_same}
@@ -75,11 +76,11 @@ module _ {D : Type 0} (g : Ghosts D) where
   abbrev pub EraseEnds : D → D → Type 0
   EraseEnds s t = ErasesVictim g s t ⊎ (OnlyReads g s t ⊎ ((g.names t ≡ g.names s) × Rose (g.write_faults s) (g.write_faults t)))
 
-  pub erase_rose : (answer : Erasure) (s t : D) → FaultsCounted (g.write_faults s) (g.write_faults t) (answer ≡ erasure.Fault) → answer ≡ erasure.Fault → Rose (g.write_faults s) (g.write_faults t)
+  pub erase_rose : (answer : Erasing) (s t : D) → FailuresCounted ⊤ (g.write_faults s) (g.write_faults t) (answer ≡ erasure.Fault) → answer ≡ erasure.Fault → Rose (g.write_faults s) (g.write_faults t)
   erase_rose answer s t f is = erased_rose (g.write_faults s) (g.write_faults t) (answer ≡ erasure.Fault) f is
 
-  pub erase_ends : (answer : Erasure) (s t : D) → (answer ≡ erasure.Done → ErasesVictim g s t) → (answer ≡ erasure.Nothing → OnlyReads g s t)
-      → ((answer ≡ erasure.Done → ⊥) → g.names t ≡ g.names s) → FaultsCounted (g.write_faults s) (g.write_faults t) (answer ≡ erasure.Fault) → EraseEnds s t
+  pub erase_ends : (answer : Erasing) (s t : D) → (answer ≡ erasure.Done → ErasesVictim g s t) → (answer ≡ erasure.Nothing → OnlyReads g s t)
+      → ((answer ≡ erasure.Done → ⊥) → g.names t ≡ g.names s) → FailuresCounted ⊤ (g.write_faults s) (g.write_faults t) (answer ≡ erasure.Fault) → EraseEnds s t
   erase_ends erasure.Done s t done none same f = inl (done refl)
   erase_ends erasure.Nothing s t done none same f = inr (inl (none refl))
   erase_ends erasure.Fault s t done none same f = inr (inr (same (λ e. cc), erase_rose erasure.Fault s t f refl))

@@ -1,3 +1,4 @@
 pub mod Carried
 pub mod Laws
 pub mod Spaces
+pub mod Victim

@@ -2,8 +2,8 @@
 use Rattle.std.specs.Prelude.{◌≡◌, ◌⊎◌}
 use Rattle.nl_cleaning.specs.declared.cleaning.Cleaned.{Cleaned}
 use Rattle.nl_cleaning.specs.declared.cleaning.Cleaned.TheVariants as the
-use Rattle.nl_device.specs.declared.cleaning.Copying.{Copying}
-use Rattle.nl_device.specs.declared.cleaning.Copying.TheVariants as copy
+use Rattle.nl_iface.specs.declared.moving.Copying.{Copying}
+use Rattle.nl_iface.specs.declared.moving.Copying.TheVariants as copy
 use Rattle.nl_iface.specs.Moves.{HasNothingToCopy}
 use Rattle.nl_iface.specs.Rounds.{Moves}
 use Rattle.nl_iface.specs.Space.{Erased, NoneRetired, SameSegment, Space}

@@ -1,16 +1,15 @@
 ghost use Rattle.std.specs.Prelude.{◌≡◌, ◌↔◌, ◌⊎◌, ℕ, Some};
 ghost use Rattle.nl_cleaning.specs.Carried.{KeepsHeld, KeepsStored};
 ghost use Rattle.nl_cleaning.specs.Spaces.{CleansVictim, HasEmptied};
+ghost use Rattle.nl_cleaning.specs.Victim.{CleansBlock};
 ghost use Rattle.nl_field.specs.CrashStates.{Rose};
 ghost use Rattle.nl_iface.specs.Calls.{CallCounted, OnlyReads, Ticks, stored};
 ghost use Rattle.nl_iface.specs.Moves.{HasNothingToCopy};
 ghost use Rattle.nl_iface.specs.Names.{LivePage};
 ghost use Rattle.nl_iface.specs.Space.{CanLand};
+ghost use Rattle.nl_iface.specs.Victims.{StaysOrTakes};
 
-use nl_device::{Copying, Device};
-use nl_iface::Counts;
-use nl_nand::Nand;
-use nl_pseg::Erasure;
+use nl_iface::{Copying, Erasing, MovingPages};
 
 /// What the cleaning of one victim answers.
 #[derive(Clone, Copy, Debug, PartialEq, Eq)]
@@ -30,45 +29,47 @@ pub enum Cleaned {
 ///
 /// Each holder of a page holds it as before, also in what a stop within leaves. `Lost` and `Fault` leave the victim in hand, and
 /// the next call goes on with it.
-pub fn clean<M: Nand>(device: &mut Device<M>) -> Cleaned
-    requires formed { ⟦<Device<M> as Counts>⟧.formed device.old }
-    requires lands { CanLand (⟦<Device<M> as Counts>⟧.names device.old).space }
-    ensures formed { ⟦<Device<M> as Counts>⟧.formed device.new }
-    ensures nothing { let space = (⟦<Device<M> as Counts>⟧.names device.old).space in result ≡ Cleaned.Nothing ↔ (HasNothingToCopy space × (space.victim ≡ 0)) }
-    ensures none { result ≡ Cleaned.Nothing → OnlyReads ⟦<Device<M> as Counts>⟧ device.old device.new }
-    ensures space { CleansVictim result (⟦<Device<M> as Counts>⟧.names device.old).space (⟦<Device<M> as Counts>⟧.names device.new).space }
-    ensures held { KeepsHeld ⟦<Device<M> as Counts>⟧ device.old device.new }
-    ensures stored { M.tells → ((result ≡ Cleaned.Fault) × Rose (⟦<Device<M> as Counts>⟧.write_faults device.old) (⟦<Device<M> as Counts>⟧.write_faults device.new)) ⊎ KeepsStored (stored ⟦<Device<M> as Counts>⟧ device.old) (stored ⟦<Device<M> as Counts>⟧ device.new) }
-    ensures lands { ((result ≡ Cleaned.Done → ⊥) × Rose (⟦<Device<M> as Counts>⟧.write_faults device.old) (⟦<Device<M> as Counts>⟧.write_faults device.new)) ⊎ CanLand (⟦<Device<M> as Counts>⟧.names device.new).space }
-    ensures lost { (w found : ℕ) → result ≡ Cleaned.Lost w found → (found ≡ w → ⊥) × ((p : ℕ) × (page : LivePage) × ((⟦<Device<M> as Counts>⟧.names device.old).live p ≡ Some page) × (page.stamp ≡ w)) }
-    ensures told { M.tells → (w found : ℕ) → result ≡ Cleaned.Lost w found → ⊥ }
-    ensures ticks { Ticks ⟦<Device<M> as Counts>⟧ (result ≡ Cleaned.Done) device.old device.new }
-    ensures faults { CallCounted ⟦<Device<M> as Counts>⟧ (result ≡ Cleaned.Fault) device.old device.new }
+pub fn clean<D: MovingPages>(device: &mut D) -> Cleaned
+    requires formed { D.formed device.old }
+    requires lands { CanLand (D.names device.old).space }
+    ensures formed { D.formed device.new }
+    ensures nothing { let space = (D.names device.old).space in result ≡ Cleaned.Nothing ↔ (HasNothingToCopy space × (space.victim ≡ 0)) }
+    ensures none { result ≡ Cleaned.Nothing → OnlyReads D.Counts device.old device.new }
+    ensures block { CleansBlock D.Counts D.MovingPages.own result device.old device.new }
+    ensures space { CleansVictim result (D.names device.old).space (D.names device.new).space }
+    ensures held { KeepsHeld D.Counts device.old device.new }
+    ensures stored { D.tells → ((result ≡ Cleaned.Fault) × Rose (D.write_faults device.old) (D.write_faults device.new)) ⊎ KeepsStored (stored D.Counts device.old) (stored D.Counts device.new) }
+    ensures lands { ((result ≡ Cleaned.Done → ⊥) × Rose (D.write_faults device.old) (D.write_faults device.new)) ⊎ CanLand (D.names device.new).space }
+    ensures lost { (w found : ℕ) → result ≡ Cleaned.Lost w found → (found ≡ w → ⊥) × ((p : ℕ) × (page : LivePage) × ((D.names device.old).live p ≡ Some page) × (page.stamp ≡ w)) }
+    ensures told { D.tells → (w found : ℕ) → result ≡ Cleaned.Lost w found → ⊥ }
+    ensures ticks { Ticks D.Counts (result ≡ Cleaned.Done) device.old device.new }
+    ensures faults { CallCounted D.Counts (result ≡ Cleaned.Fault) device.old device.new }
 {
     match empty_victim(device) {
         Copying::Lost { wanted, found } => Cleaned::Lost { wanted, found },
         Copying::Fault => Cleaned::Fault,
         Copying::Did | Copying::Nothing => match device.erase() {
-            Erasure::Done => Cleaned::Done,
-            Erasure::Nothing => Cleaned::Nothing,
-            Erasure::Fault => Cleaned::Fault,
+            Erasing::Done => Cleaned::Done,
+            Erasing::Nothing => Cleaned::Nothing,
+            Erasing::Fault => Cleaned::Fault,
         },
     }
 }
 
 /// Moves live pages of the victim until it has none, or a move fails.
-fn empty_victim<M: Nand>(device: &mut Device<M>) -> Copying
-    requires formed { ⟦<Device<M> as Counts>⟧.formed device.old }
-    requires lands { CanLand (⟦<Device<M> as Counts>⟧.names device.old).space }
-    ensures formed { ⟦<Device<M> as Counts>⟧.formed device.new }
-    ensures emptied { HasEmptied result (⟦<Device<M> as Counts>⟧.names device.old).space (⟦<Device<M> as Counts>⟧.names device.new).space }
-    ensures none { HasNothingToCopy (⟦<Device<M> as Counts>⟧.names device.old).space → OnlyReads ⟦<Device<M> as Counts>⟧ device.old device.new }
-    ensures held { KeepsHeld ⟦<Device<M> as Counts>⟧ device.old device.new }
-    ensures stored { M.tells → KeepsStored (stored ⟦<Device<M> as Counts>⟧ device.old) (stored ⟦<Device<M> as Counts>⟧ device.new) }
-    ensures lands { Rose (⟦<Device<M> as Counts>⟧.write_faults device.old) (⟦<Device<M> as Counts>⟧.write_faults device.new) ⊎ CanLand (⟦<Device<M> as Counts>⟧.names device.new).space }
-    ensures lost { (w found : ℕ) → result ≡ Copying.Lost w found → (found ≡ w → ⊥) × ((p : ℕ) × (page : LivePage) × ((⟦<Device<M> as Counts>⟧.names device.old).live p ≡ Some page) × (page.stamp ≡ w)) }
-    ensures told { M.tells → (w found : ℕ) → result ≡ Copying.Lost w found → ⊥ }
-    ensures faults { CallCounted ⟦<Device<M> as Counts>⟧ (result ≡ Copying.Fault) device.old device.new }
+fn empty_victim<D: MovingPages>(device: &mut D) -> Copying
+    requires formed { D.formed device.old }
+    requires lands { CanLand (D.names device.old).space }
+    ensures formed { D.formed device.new }
+    ensures emptied { HasEmptied result (D.names device.old).space (D.names device.new).space }
+    ensures none { HasNothingToCopy (D.names device.old).space → OnlyReads D.Counts device.old device.new }
+    ensures chosen { StaysOrTakes (D.most_dead device.old) (D.victim device.old) (D.victim device.new) }
+    ensures held { KeepsHeld D.Counts device.old device.new }
+    ensures stored { D.tells → KeepsStored (stored D.Counts device.old) (stored D.Counts device.new) }
+    ensures lands { Rose (D.write_faults device.old) (D.write_faults device.new) ⊎ CanLand (D.names device.new).space }
+    ensures lost { (w found : ℕ) → result ≡ Copying.Lost w found → (found ≡ w → ⊥) × ((p : ℕ) × (page : LivePage) × ((D.names device.old).live p ≡ Some page) × (page.stamp ≡ w)) }
+    ensures told { D.tells → (w found : ℕ) → result ≡ Copying.Lost w found → ⊥ }
+    ensures faults { CallCounted D.Counts (result ≡ Copying.Fault) device.old device.new }
 {
     loop {
         match device.copy() {

@@ -6,7 +6,6 @@ use Rattle.nl_cleaning.specs.Carried.{KeepsHeld, KeepsStored, LeavesHeld}
 use Rattle.nl_cleaning.specs.Spaces.{CleansVictim, HasMoved}
 use Rattle.nl_cleaning.specs.declared.cleaning.Cleaned.{Cleaned}
 use Rattle.nl_cleaning.specs.declared.cleaning.Cleaned.TheVariants.{Done, Nothing, Lost, Fault}
-use Rattle.nl_device.specs.declared.device.Device.{Device}
 use Rattle.nl_drain.specs.Handled.{nameless_body}
 use Rattle.nl_flight.specs.Flight.{carried}
 use Rattle.nl_holders.specs.Holding.{MarkedTo}
@@ -66,12 +65,12 @@ cleans_segment Fault s t c = (c.same, c.live)
 
 -- ---- pages that are carried
 
-module _ {M : Type 0} (g : Ghosts (Device M)) (v w : Core M) (others : w ≡ record v { device = w.device; stopped = w.stopped }) (core : IsCore g v) (volume : IsVolumeShape (g.shape v.device)) (writes : v.stopped ≡ 0)
+module _ {D : Type 0} (g : Ghosts D) (v w : Core D) (others : w ≡ record v { device = w.device; stopped = w.stopped }) (core : IsCore g v) (volume : IsVolumeShape (g.shape v.device)) (writes : v.stopped ≡ 0)
     (stopped : w.stopped ≡ stopped_on g (g.write_faults v.device) v w) (reads : g.read_faults v.device ≤ g.read_faults w.device) (fails : g.write_faults v.device ≤ g.write_faults w.device)
     (k : KeepsHeld g v.device w.device) (segment : SameSegment (names_of g v).space (names_of g w).space) (live : (names_of g w).space.live ≡ (names_of g v).space.live)
     (map : g.tells → StoresMap g v.device) (stores : g.tells → StoresPages g w.device)
     (lands : NoWriteFailed g v.device w.device → CanLand (names_of g w).space) (agrees : g.tells → NoWriteFailed g v.device w.device → KeepsStored (stored g v.device) (stored g w.device)) where
-  abbrev pub now : Core M
+  abbrev pub now : Core D
   now = record v { device = w.device; stopped = w.stopped }
 
   stands : StandsOn g v.device v.meta w.device v.journal v.meta
@@ -106,8 +105,9 @@ module _ {M : Type 0} (g : Ghosts (Device M)) (v w : Core M) (others : w ≡ rec
         room = subst (λ (h : Shape). h.pblocks * h.pages ≤ length v.freeing.items + v.freeing.room) (sym k.virtual.same_shape) s.room;
       }
 
-  pub carried_core : IsCore g w
-  carried_core = subst (λ (x : Core M). IsCore g x) (sym others) (record {
+  pub carried_core : g.formed w.device → IsCore g w
+  carried_core formed = subst (λ (x : Core D). IsCore g x) (sym others) (record {
+    formed = formed;
     shape = core.shape ∙ sym k.virtual.same_shape;
     journaled = stands.journaled;
     free = has_free_on g v now k.virtual.same_shape volume stands.needed refl core.free;
@@ -144,10 +144,10 @@ module _ {M : Type 0} (g : Ghosts (Device M)) (v w : Core M) (others : w ≡ rec
       }
     where
       told_before : IsTold g w → IsHeldTold g v.journal v.meta
-      told_before told = (told.tells, subst (λ (x : Core M). HasNumber x.journal (length x.meta.frozen.addresses)) others told.numbers)
+      told_before told = (told.tells, subst (λ (x : Core D). HasNumber x.journal (length x.meta.frozen.addresses)) others told.numbers)
 
   told_held : IsTold g w → HasNumber v.journal (length v.meta.frozen.addresses)
-  told_held told = subst (λ (x : Core M). HasNumber x.journal (length x.meta.frozen.addresses)) others told.numbers
+  told_held told = subst (λ (x : Core D). HasNumber x.journal (length x.meta.frozen.addresses)) others told.numbers
 
   runs_now : g.tells → (page_of_stamp : ℕ → Option PageOfStamp) (tree : Tree) → CoreRuns g v page_of_stamp tree → CoreRuns g now page_of_stamp tree
   runs_now tells page_of_stamp tree at =
@@ -155,7 +155,7 @@ module _ {M : Type 0} (g : Ghosts (Device M)) (v w : Core M) (others : w ≡ rec
       (record { live = λ q page is. let old = k.pages.was_live q page is in (old.0, old.1, old.2 tells); stamps = let same = k.next_stamp in omega (arith, same) }))
 
   goes_to : IsTold g w → (page_of_stamp : ℕ → Option PageOfStamp) (t : Trees) → CoreStands g v page_of_stamp t → GoesTo g v w page_of_stamp t
-  goes_to told page_of_stamp t at = subst (λ (x : Core M). GoesTo g v x page_of_stamp t) (sym others)
+  goes_to told page_of_stamp t at = subst (λ (x : Core D). GoesTo g v x page_of_stamp t) (sym others)
       (goes_as g v now page_of_stamp t (with_none g now page_of_stamp t.running (runs_now told.tells page_of_stamp t.running at.runs))
       (addresses_go g v.device w.device v.journal v.meta v.count page_of_stamp t volume told.tells (told_held told) core.journaled k.virtual at.stands) at.committed)
 
@@ -173,7 +173,7 @@ module _ {M : Type 0} (g : Ghosts (Device M)) (v w : Core M) (others : w ≡ rec
                 inl refl,
                 holding_opens g v.device v.journal v.meta v.count page_of_stamp t (carried v.flight) v.freeing.items (g.stored_of c) volume told.tells (told_held told) core.held
                     ((core.writes writes).firm (told.tells, told_held told)) (map told.tells) at.stands (leaves_holding page_of_stamp t at told (g.stored_of c) x.2),
-                λ after. let same = at.committed in let kept = ap (λ (z : Core M). z.committed) others in omega (arith, is, kept, same),
+                λ after. let same = at.committed in let kept = ap (λ (z : Core D). z.committed) others in omega (arith, is, kept, same),
               ),
             ))
             (l.each m c left);
@@ -182,13 +182,13 @@ module _ {M : Type 0} (g : Ghosts (Device M)) (v w : Core M) (others : w ≡ rec
   pub carried_goes : Goes g 0 v w
   carried_goes = record {
     same_shape = k.virtual.same_shape;
-    count = ap (λ (z : Core M). z.count) others;
+    count = ap (λ (z : Core D). z.count) others;
     nodes = record { generation = λ n. ap (λ (x : Graph). (x n).generation) graph; body = λ n. ap (λ (x : Graph). nameless_body (x n).body) graph };
-    numbers = subst (λ (x : Core M). begun_of v ≤ begun_of x) (sym others) (omega arith);
-    paid = paid_same (g.clock v.device) v.journal.number (g.clock w.device) w.journal.number k.clock (ap (λ (z : Core M). z.journal.number) others);
+    numbers = subst (λ (x : Core D). begun_of v ≤ begun_of x) (sym others) (omega arith);
+    paid = paid_same (g.clock v.device) v.journal.number (g.clock w.device) w.journal.number k.clock (ap (λ (z : Core D). z.journal.number) others);
     reads = reads;
     writes = fails;
-    moment = inl (ap (λ (z : Core M). z.moment) others, ap (λ (z : Core M). z.committed) others);
+    moment = inl (ap (λ (z : Core D). z.moment) others, ap (λ (z : Core D). z.committed) others);
     clock = k.clock;
     stops = stops_on g v w stopped reads fails;
     stamps = record {
@@ -196,10 +196,10 @@ module _ {M : Type 0} (g : Ghosts (Device M)) (v w : Core M) (others : w ≡ rec
       at_most = let n = k.next_stamp in omega (arith, n);
       paid = λ low less. let n = k.next_stamp in let c = k.clock in let f = fails in omega (arith, n, c, f);
     };
-    runs = λ tells page_of_stamp tree at. subst (λ (x : Core M). RunsOnAs g x page_of_stamp tree) (sym others) (with_none g now page_of_stamp tree (runs_now tells page_of_stamp tree at));
+    runs = λ tells page_of_stamp tree at. subst (λ (x : Core D). RunsOnAs g x page_of_stamp tree) (sym others) (with_none g now page_of_stamp tree (runs_now tells page_of_stamp tree at));
     trees = goes_to;
     left = leaves_to;
   }
     where
       graph : graph_of (g.shape w.device) (running_of g w) ≡ graph_of (g.shape v.device) (running_of g v)
-      graph = ap (λ (x : Core M). graph_of (g.shape w.device) (running_on g w.device x.meta)) others ∙ stands.graph
+      graph = ap (λ (x : Core D). graph_of (g.shape w.device) (running_on g w.device x.meta)) others ∙ stands.graph

@@ -7,7 +7,6 @@ use Rattle.nl_field.specs.Graph.{Graph}
 use Rattle.nl_field.specs.declared.pointer.Pointer.{Pointer}
 use Rattle.nl_field.specs.declared.pointer.Tag.{Tag}
 use Rattle.nl_field.specs.declared.shape.Shape.{Shape}
-use Rattle.nl_device.specs.declared.device.Device.{Device}
 use Rattle.nl_drain.specs.Handled.{nameless_body}
 use Rattle.nl_flight.specs.Flight.{InFlight, begun, carried, of_worker, with_line}
 use Rattle.nl_flight.specs.declared.page.FlightPage.{FlightPage}
@@ -114,12 +113,12 @@ module _ (flight : List InFlight) (worker : ℕ) (known : worker < length flight
 
 -- ---- a core
 
-module _ {M : Type 0} (g : Ghosts (Device M)) (v : Core M) (d : Device M) (worker : ℕ) (worker_known : worker < 8) (b : FreesLine g (of_worker v.flight worker) v.device d) (core : IsCore g v)
+module _ {D : Type 0} (g : Ghosts D) (v : Core D) (d : D) (worker : ℕ) (worker_known : worker < 8) (b : FreesLine g (of_worker v.flight worker) v.device d) (core : IsCore g v)
     (volume : IsVolumeShape (g.shape v.device)) (differ : OldNamesDiffer (names_of g v)) (stores : g.tells → StoresPages g d) where
   abbrev pub later : List InFlight
   later = with_line v.flight worker (begun 0)
 
-  abbrev pub dropped : Core M
+  abbrev pub dropped : Core D
   dropped = record v { device = d; flight = later }
 
   known : worker < length v.flight
@@ -216,8 +215,9 @@ module _ {M : Type 0} (g : Ghosts (Device M)) (v : Core M) (d : Device M) (worke
         room = subst (λ (h : Shape). h.pblocks * h.pages ≤ length v.freeing.items + v.freeing.room) (sym same_shape) s.room;
       }
 
-  pub dropped_core : IsCore g dropped
-  dropped_core = record {
+  pub dropped_core : g.formed d → IsCore g dropped
+  dropped_core formed = record {
+    formed = formed;
     shape = core.shape ∙ sym same_shape;
     journaled = (addresses_stand g v.device d v.journal v.meta volume core.journaled b.kept.virtual).journaled;
     free = has_free_on g v dropped same_shape volume needed refl core.free;

@@ -4,7 +4,6 @@ use Rattle.std.specs.Prelude.{IfNone, IfSome}
 use Rattle.std.proofs.lemmas.Bool.{both_ways}
 use Rattle.nl_tree.specs.declared.turn.DutyAnswer.{DutyAnswer}
 use Rattle.nl_tree.specs.declared.turn.DutyAnswer.TheVariants as duty
-use Rattle.nl_device.specs.declared.device.Device.{Device}
 use Rattle.nl_drain.specs.Handled.{MarksSome}
 use Rattle.nl_drain.specs.declared.draining.Drained.{Drained}
 use Rattle.nl_drain.specs.declared.draining.Drained.TheVariants as drained
@@ -49,7 +48,7 @@ full_not a p none off = both_ways (has_room p a) off (ap (λ (xs : List ℕ). (a
 
 -- ---- one try
 
-module _ {M : Type 0} (g : Ghosts (Device M)) (v w : Core M) (mark number : ℕ) (answer : Option Drained) (b : TriesNumber g mark number v w answer) where
+module _ {D : Type 0} (g : Ghosts D) (v w : Core D) (mark number : ℕ) (answer : Option Drained) (b : TriesNumber g mark number v w answer) where
   pub handles_number : (IsUnhandled (names_of g w) number → ⊥) → HandlesNumber g number v w
   handles_number none = record {
     handled = none;
@@ -66,7 +65,7 @@ module _ {M : Type 0} (g : Ghosts (Device M)) (v w : Core M) (mark number : ℕ)
   pub handled_none : answer ≡ None → HandlesNumber g number v w
   handled_none is =
       let k = subst (λ (o : Option Drained). IfNone o ((IsPending (names_of g v) number → ⊥) × (w ≡ v))) is b.none in
-      handles_number (λ u. k.0 (u.0, subst (λ (x : Core M). Has (names_of g x).pending u.0) k.1 u.1, u.2))
+      handles_number (λ u. k.0 (u.0, subst (λ (x : Core D). Has (names_of g x).pending u.0) k.1 u.1, u.2))
 
   -- where no page is dirty, there is room
   pub has_room_clean : v.meta.dirty ≡ [] → answer ≡ Some drained.NoRoom → ⊥
@@ -88,7 +87,7 @@ module _ {M : Type 0} (g : Ghosts (Device M)) (v w : Core M) (mark number : ℕ)
 
 -- ---- after a commit
 
-acknowledged_then : {M : Type 0} (g : Ghosts (Device M)) (number n : ℕ) (v u w : Core M) → CommitsAll g v u n → (w.stopped ≡ 0 → u.stopped ≡ 0) → HandlesNumber g number u w → HandlesNumber g number v w
+acknowledged_then : {D : Type 0} (g : Ghosts D) (number n : ℕ) (v u w : Core D) → CommitsAll g v u n → (w.stopped ≡ 0 → u.stopped ≡ 0) → HandlesNumber g number u w → HandlesNumber g number v w
 acknowledged_then g number n v u w c ran h = record {
   handled = h.handled;
   others = λ d has none. let k = c.acknowledged.pending d (h.others d has none).0 in (k.0, k.1);
@@ -96,7 +95,7 @@ acknowledged_then g number n v u w c ran h = record {
   space = λ still. empties_laws.then (names_of g v).space (names_of g u).space (names_of g w).space (c.space (ran still)) (h.space still);
 }
 
-pub with_room : {M : Type 0} (g : Ghosts (Device M)) (mark number n : ℕ) (v u w : Core M) (answer : Option Drained) → TriesNumber g mark number u w answer → CommitsAll g v u n → (w.stopped ≡ 0 → u.stopped ≡ 0)
+pub with_room : {D : Type 0} (g : Ghosts D) (mark number n : ℕ) (v u w : Core D) (answer : Option Drained) → TriesNumber g mark number u w answer → CommitsAll g v u n → (w.stopped ≡ 0 → u.stopped ≡ 0)
     → HandlesWithRoom g number v w (duty_of answer)
 with_room g mark number n v u w None b c ran = acknowledged_then g number n v u w c ran (handled_none g u w mark number None b refl)
 with_room g mark number n v u w (Some drained.Done) b c ran = acknowledged_then g number n v u w c ran (handled_done g u w mark number (Some drained.Done) b refl)
@@ -113,7 +112,7 @@ fault_only (Some (drained.Lost w f)) is = absurd (let no : ⊥ = cc in no)
 
 -- ---- a try before room is made
 
-module _ {M : Type 0} (g : Ghosts (Device M)) (v u w : Core M) (mark number : ℕ) (answer : Option Drained) (b : TriesNumber g mark number v u answer) (pending : IsPending (names_of g v) number) where
+module _ {D : Type 0} (g : Ghosts D) (v u w : Core D) (mark number : ℕ) (answer : Option Drained) (b : TriesNumber g mark number v u answer) (pending : IsPending (names_of g v) number) where
   number_then : HandlesNumber g number u w → HandlesNumber g number v w
   number_then h = record {
     handled = h.handled;

@@ -3,9 +3,9 @@ pub mod Dropped
 pub mod First
 pub mod Freed
 pub mod HandledNumber
+pub mod LineFaults
 pub mod Lines
 pub mod Nearer
-pub mod NoneBad
 pub mod NonePending
 pub mod Onward
 pub mod Placed

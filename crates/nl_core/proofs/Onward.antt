@@ -5,7 +5,6 @@ use Rattle.nl_field.specs.CrashStates.{Earlier, Rose, saturated, top}
 use Rattle.nl_field.specs.Members.{Has}
 use Rattle.nl_field.specs.declared.shape.Shape.{Shape}
 use Rattle.nl_tree.specs.Tree.{Tree}
-use Rattle.nl_device.specs.declared.device.Device.{Device}
 use Rattle.nl_iface.specs.Calls.{Leaves}
 use Rattle.nl_iface.specs.declared.counts.Counts.{Ghosts}
 use Rattle.nl_meta.specs.Consistent.{PageOfStamp}
@@ -26,7 +25,7 @@ not_rose x y none = ⊎_elim (λ low. low) (λ high. absurd (none high)) (cases_
 none_rose : (x y z : ℕ) → y < saturated (x + 1) → z < saturated (y + 1) → Rose x z → ⊥
 none_rose x y z one two rose = omega (arith, one, two, rose)
 
-module _ {M : Type 0} (g : Ghosts (Device M)) (u v w : Core M) (m n : ℕ) (a : Goes g m u v) (b : Goes g n v w) where
+module _ {D : Type 0} (g : Ghosts D) (u v w : Core D) (m n : ℕ) (a : Goes g m u v) (b : Goes g n v w) where
   stops_then : Stops g u w
   stops_then = record {
     stands = λ off. let one = a.stops.stands off in b.stops.stands (λ z. off (sym one ∙ z)) ∙ one;
@@ -166,21 +165,21 @@ module _ {M : Type 0} (g : Ghosts (Device M)) (u v w : Core M) (m n : ℕ) (a : 
   }
 
 -- a failure of the second of two calls has its cause
-pub cause_then : {M : Type 0} (g : Ghosts (Device M)) (second failed : Type 0) (u v w : Core M) (m : ℕ) → Goes g m u v → HasCause g second v w → (failed → second) → HasCause g failed u w
+pub cause_then : {D : Type 0} (g : Ghosts D) (second failed : Type 0) (u v w : Core D) (m : ℕ) → Goes g m u v → HasCause g second v w → (failed → second) → HasCause g failed u w
 cause_then g second failed u v w m a b of f =
     let reads = a.reads in
     let writes = a.writes in
     ⊎_elim (λ rose. inl (omega (arith, rose, reads))) (λ rose. inr (omega (arith, rose, writes))) (b (of f))
 
 -- and one of the first
-pub cause_first : {M : Type 0} (g : Ghosts (Device M)) (first failed : Type 0) (u v w : Core M) (n : ℕ) → HasCause g first u v → Goes g n v w → (failed → first) → HasCause g failed u w
+pub cause_first : {D : Type 0} (g : Ghosts D) (first failed : Type 0) (u v w : Core D) (n : ℕ) → HasCause g first u v → Goes g n v w → (failed → first) → HasCause g failed u w
 cause_first g first failed u v w n a b of f =
     let reads = b.reads in
     let writes = b.writes in
     ⊎_elim (λ rose. inl (omega (arith, rose, reads))) (λ rose. inr (omega (arith, rose, writes))) (a (of f))
 
 -- more numbers may be taken
-pub goes_more : {M : Type 0} (g : Ghosts (Device M)) (m n : ℕ) (u v : Core M) → m ≤ n → Goes g m u v → Goes g n u v
+pub goes_more : {D : Type 0} (g : Ghosts D) (m n : ℕ) (u v : Core D) → m ≤ n → Goes g m u v → Goes g n u v
 goes_more g m n u v low a = record {
   same_shape = a.same_shape;
   count = a.count;
@@ -199,7 +198,7 @@ goes_more g m n u v low a = record {
 }
 
 -- no call
-pub goes_none : {M : Type 0} (g : Ghosts (Device M)) (v : Core M) → IsCore g v → Goes g 0 v v
+pub goes_none : {D : Type 0} (g : Ghosts D) (v : Core D) → IsCore g v → Goes g 0 v v
 goes_none g v core = record {
   same_shape = refl;
   count = refl;
@@ -231,15 +230,15 @@ goes_none g v core = record {
 }
 
 -- where the volume became read-only, a write failed
-pub cause_stopped : {M : Type 0} (g : Ghosts (Device M)) (failed : Type 0) (u v : Core M) (m : ℕ) → Goes g m u v → u.stopped ≡ 0 → (v.stopped ≡ 0 → ⊥) → HasCause g failed u v
+pub cause_stopped : {D : Type 0} (g : Ghosts D) (failed : Type 0) (u v : Core D) (m : ℕ) → Goes g m u v → u.stopped ≡ 0 → (v.stopped ≡ 0 → ⊥) → HasCause g failed u v
 cause_stopped g failed u v m a ran off of = inr (a.stops.some ran off).0
 
 -- the number rises on
-pub paid_on : {M : Type 0} (g : Ghosts (Device M)) (clock number : ℕ) (u v : Core M) (m : ℕ) → Goes g m u v → PaidSince g clock number u → PaidSince g clock number v
+pub paid_on : {D : Type 0} (g : Ghosts D) (clock number : ℕ) (u v : Core D) (m : ℕ) → Goes g m u v → PaidSince g clock number u → PaidSince g clock number v
 paid_on g clock number u v m a was = paid_then clock number (g.clock u.device) u.journal.number (g.clock v.device) v.journal.number a.clock was a.paid
 
 -- and has a spelling, as long as the clock leaves room
-pub number_lasts : {M : Type 0} (g : Ghosts (Device M)) (clock : ℕ) (origin v : Core M) → PaidSince g clock origin.journal.number v → g.clock v.device < top → begun_of origin + g.clock v.device + 1 < 2 ^ 63 + clock
+pub number_lasts : {D : Type 0} (g : Ghosts D) (clock : ℕ) (origin v : Core D) → PaidSince g clock origin.journal.number v → g.clock v.device < top → begun_of origin + g.clock v.device + 1 < 2 ^ 63 + clock
     → begun_of v < 2 ^ 63
 number_lasts g clock origin v paid low room =
     has_number origin.journal (length origin.meta.frozen.addresses) clock v.journal (length v.meta.frozen.addresses) (g.clock v.device) paid low room

@@ -9,7 +9,6 @@ use Rattle.nl_field.specs.declared.answers.Named.TheVariants as named
 use Rattle.nl_field.specs.declared.pointer.Pointer.{Pointer}
 use Rattle.nl_field.specs.declared.pointer.Tag.{Tag}
 use Rattle.nl_field.specs.declared.shape.Shape.{Shape}
-use Rattle.nl_device.specs.declared.device.Device.{Device}
 use Rattle.nl_drain.specs.Handled.{nameless_body}
 use Rattle.nl_flight.specs.Flight.{HasPlace, InFlight, IsFlight, carried}
 use Rattle.nl_holders.specs.Laws.{Keeps}
@@ -91,9 +90,9 @@ same_live g named.NotLive old new off none refused = ap (λ (n : Names). n.space
 same_live g named.NoPage old new off none refused = ap (λ (n : Names). n.space.live) refused.names
 same_live g named.Fault old new off none refused = none.fault.live
 
-module _ {M : Type 0} (g : Ghosts (Device M)) (v : Core M) (d : Device M) (flight : List InFlight) (tag : Tag) (main : List ℕ) (answer : Named) (b : Programs g tag main answer v.device d) (core : IsCore g v)
+module _ {D : Type 0} (g : Ghosts D) (v : Core D) (d : D) (flight : List InFlight) (tag : Tag) (main : List ℕ) (answer : Named) (b : Programs g tag main answer v.device d) (core : IsCore g v)
     (volume : IsVolumeShape (g.shape v.device)) (writes : v.stopped ≡ 0) where
-  abbrev pub programmed : Core M
+  abbrev pub programmed : Core D
   programmed = record v { device = d; flight = flight; stopped = stopped_by v.stopped (g.read_faults d) (g.write_faults v.device) (g.write_faults d) }
 
   both : Stays (names_of g v) (g.names d)
@@ -133,8 +132,9 @@ module _ {M : Type 0} (g : Ghosts (Device M)) (v : Core M) (d : Device M) (fligh
 
   pub programmed_core : (g.tells → StoresPages g d) → IsHeldVolume g d v.journal v.meta (carried flight) v.freeing.items → IsFlight flight → ((x : Tag × Pointer) → Has (carried flight) x → IsPhysical (g.shape v.device) x.1.name)
       → ((x : Tag × Pointer) → Has (carried flight) x → IsTrue (is_stamp x.1.stamp))
-      → (g.names d).space.live + length (carried v.flight) ≡ (names_of g v).space.live + length (carried flight) → IsCore g programmed
-  programmed_core stores held lines named stamped live = record {
+      → (g.names d).space.live + length (carried v.flight) ≡ (names_of g v).space.live + length (carried flight) → g.formed d → IsCore g programmed
+  programmed_core stores held lines named stamped live formed = record {
+    formed = formed;
     shape = core.shape ∙ sym same_shape;
     journaled = (addresses_stand g v.device d v.journal v.meta volume core.journaled b.kept.virtual).journaled;
     free = has_free_on g v programmed same_shape volume needed refl core.free;
@@ -314,7 +314,7 @@ if_off named.NotLive P none = tt
 if_off named.NoPage P none = tt
 if_off named.Fault P none = tt
 
-module _ {M : Type 0} (g : Ghosts (Device M)) (v w : Core M) (tag : Tag) (main : List ℕ) (answer : Named) (b : Programs g tag main answer v.device w.device)
+module _ {D : Type 0} (g : Ghosts D) (v w : Core D) (tag : Tag) (main : List ℕ) (answer : Named) (b : Programs g tag main answer v.device w.device)
     (is : w ≡ record v { device = w.device; stopped = stopped_on g (g.write_faults v.device) v w }) (core : IsCore g v) (volume : IsVolumeShape (g.shape v.device)) (writes : v.stopped ≡ 0)
     (map : g.tells → StoresMap g v.device) (stores : g.tells → StoresPages g w.device) where
   -- none was placed
@@ -322,19 +322,19 @@ module _ {M : Type 0} (g : Ghosts (Device M)) (v w : Core M) (tag : Tag) (main :
     off : IsPlaced answer → ⊥
     off = not_placed answer none
 
-    pub none_core : IsCore g w
-    none_core = subst (λ (x : Core M). IsCore g x) (sym is) (programmed_core g v w.device v.flight tag main answer b core volume writes stores
+    pub none_core : g.formed w.device → IsCore g w
+    none_core formed = subst (λ (x : Core D). IsCore g x) (sym is) (programmed_core g v w.device v.flight tag main answer b core volume writes stores
         (tables_keep_held g v.device w.device v.journal v.meta (carried v.flight) v.freeing.items volume core.journaled core.held b.kept.virtual (b.none off).tables) core.flight core.named core.stamped
-        (let same = same_live g answer v.device w.device off (b.none off) b.refused in omega (arith, same)))
+        (let same = same_live g answer v.device w.device off (b.none off) b.refused in omega (arith, same)) formed)
 
     pub none_goes : Goes g 1 v w
-    none_goes = subst (λ (x : Core M). Goes g 1 v x) (sym is) (programmed_goes g v w.device v.flight tag main answer b core volume writes map)
+    none_goes = subst (λ (x : Core D). Goes g 1 v x) (sym is) (programmed_goes g v w.device v.flight tag main answer b core volume writes map)
 
     pub none_cause : HasCause g (answer ≡ named.Fault) v w
-    none_cause = subst (λ (x : Core M). HasCause g (answer ≡ named.Fault) v x) (sym is) (programmed_cause g v w.device v.flight tag main answer b core volume writes)
+    none_cause = subst (λ (x : Core D). HasCause g (answer ≡ named.Fault) v x) (sym is) (programmed_cause g v w.device v.flight tag main answer b core volume writes)
 
     pub puts_none : PutsNone g answer v w
-    puts_none = subst (λ (x : Core M). PutsNone g answer v x) (sym is) (record { none = b.none off; not_live = b.not_live; others = refl; refused = b.refused })
+    puts_none = subst (λ (x : Core D). PutsNone g answer v x) (sym is) (record { none = b.none off; not_live = b.not_live; others = refl; refused = b.refused })
 
   -- one was, and it is in flight
   module _ (p : Pointer) (placed : answer ≡ named.Placed p) (worker line : ℕ) (known : worker < 8) (some : 0 < line) (place : HasPlace v.flight worker)
@@ -342,11 +342,11 @@ module _ {M : Type 0} (g : Ghosts (Device M)) (v w : Core M) (tag : Tag) (main :
     abbrev pub lines : List InFlight
     lines = with_page v.flight worker line tag p
 
-    abbrev pub put_in : Core M
+    abbrev pub put_in : Core D
     put_in = record w { flight = with_page v.flight worker line tag p }
 
     put_is : put_in ≡ programmed g v w.device lines tag main answer b core volume writes
-    put_is = ap (λ (x : Core M). record x { flight = lines }) is
+    put_is = ap (λ (x : Core D). record x { flight = lines }) is
 
     places : Places g tag main 0 (names_of g v) v.device w.device p
     places = subst (λ (a : Named). IfPlaced a (Places g tag main 0 (names_of g v) v.device w.device)) placed b.placed
@@ -354,19 +354,19 @@ module _ {M : Type 0} (g : Ghosts (Device M)) (v w : Core M) (tag : Tag) (main :
     gains : ListGains tagged (tag, p) (carried v.flight) (carried lines)
     gains = gains_put v.flight worker line tag p core.flight known
 
-    pub put_core : IsTrue (is_stamp (g.next_stamp v.device)) → IsCore g put_in
-    put_core spelled = subst (λ (x : Core M). IsCore g x) (sym put_is) (programmed_core g v w.device lines tag main answer b core volume writes stores
+    pub put_core : IsTrue (is_stamp (g.next_stamp v.device)) → g.formed w.device → IsCore g put_in
+    put_core spelled formed = subst (λ (x : Core D). IsCore g x) (sym put_is) (programmed_core g v w.device lines tag main answer b core volume writes stores
         (program_keeps_held g v.device w.device v.journal v.meta (carried v.flight) (carried lines) v.freeing.items tag main p volume core.journaled core.held b.kept.virtual numbers places gains)
         (page_is_flight v.flight worker core.flight known line tag p some place)
         (λ x has. ⊎_elim (λ is. subst (λ (y : Tag × Pointer). IsPhysical (g.shape v.device) y.1.name) (sym is) (places.is_new.low, places.is_new.high)) (core.named x) (gains.only x has))
         (λ x has. ⊎_elim (λ is. subst (λ (y : Tag × Pointer). IsTrue (is_stamp y.1.stamp)) (sym is) (subst (λ n. IsTrue (is_stamp n)) (sym places.stamp) spelled)) (core.stamped x) (gains.only x has))
-        (let more = places.space.live in let size = gains.size in omega (arith, more, size)))
+        (let more = places.space.live in let size = gains.size in omega (arith, more, size)) formed)
 
     pub put_goes : Goes g 1 v put_in
-    put_goes = subst (λ (x : Core M). Goes g 1 v x) (sym put_is) (programmed_goes g v w.device lines tag main answer b core volume writes map)
+    put_goes = subst (λ (x : Core D). Goes g 1 v x) (sym put_is) (programmed_goes g v w.device lines tag main answer b core volume writes map)
 
     pub put_page : PutsPage g worker line tag main v put_in p
-    put_page = subst (λ (x : Core M). PutsPage g worker line tag main v x p) (sym put_is) (record {
+    put_page = subst (λ (x : Core D). PutsPage g worker line tag main v x p) (sym put_is) (record {
       places = places;
       flight = refl;
       others = refl;

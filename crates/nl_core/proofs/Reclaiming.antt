@@ -8,7 +8,6 @@ use Rattle.nl_field.specs.declared.answers.Named.{Named}
 use Rattle.nl_field.specs.declared.answers.Named.TheVariants as named
 use Rattle.nl_field.specs.declared.pointer.Pointer.{Pointer}
 use Rattle.nl_field.specs.declared.pointer.Tag.{Tag}
-use Rattle.nl_device.specs.declared.device.Device.{Device}
 use Rattle.nl_drain.specs.Handled.{nameless, nameless_line}
 use Rattle.nl_flight.specs.Flight.{HasPlace, InFlight, begun, carried, extra, of_worker}
 use Rattle.nl_flight.specs.declared.page.FlightPage.{FlightPage}
@@ -19,6 +18,7 @@ use Rattle.nl_iface.specs.Names.{Has, IsNames, Names}
 use Rattle.nl_iface.specs.Space.{Space}
 use Rattle.nl_running.proofs.Holds.{bounds-of}
 use Rattle.nl_iface.specs.declared.counts.Counts.{Ghosts}
+use Rattle.nl_iface.specs.declared.moving_pages.MovingPages.{Ghosts as Moving}
 use Rattle.nl_core.specs.Calls.{HasCause, KeepsLines}
 use Rattle.nl_core.specs.Core.{IsCore, names_of}
 use Rattle.nl_core.specs.Goes.{Goes}
@@ -74,7 +74,7 @@ module _ (old new : List InFlight) (same : map nameless_line new ≡ map nameles
       ∙ sym (map-set nameless_line old worker (behind (line_of old worker line) tag at))
 
 -- where there was no room, nothing was written
-pub space_stays : {M : Type 0} (g : Ghosts (Device M)) (u w : Core M) (answer : Named) → ((IsPlaced answer → ⊥) → PutsNone g answer u w) → answer ≡ named.NoPage → (names_of g w).space ≡ (names_of g u).space
+pub space_stays : {D : Type 0} (g : Ghosts D) (u w : Core D) (answer : Named) → ((IsPlaced answer → ⊥) → PutsNone g answer u w) → answer ≡ named.NoPage → (names_of g w).space ≡ (names_of g u).space
 space_stays g u w answer none is = ap (λ (n : Names). n.space) (subst (λ (x : Named). IfRefused x (OnlyReads g u.device w.device)) is (none (λ p. subst IsPlaced is p)).refused).names
 
 -- ---- what is known between two tries
@@ -83,7 +83,7 @@ space_stays g u w answer none is = ap (λ (n : Names). n.space) (subst (λ (x : 
 abbrev pub round_cost : ℕ
 round_cost = 2 ^ 20 + 1
 
-pub record Tries {M : Type 0} (g : Ghosts (Device M)) (worker line : ℕ) (tag : Tag) (main : List ℕ) (start now : Core M) (answer : Named) : Type 0 where
+pub record Tries {D : Type 0} (g : Ghosts D) (worker line : ℕ) (tag : Tag) (main : List ℕ) (start now : Core D) (answer : Named) : Type 0 where
   pub core : IsCore g now
   pub taken : ℕ
   pub goes : Goes g taken start now
@@ -94,7 +94,7 @@ pub record Tries {M : Type 0} (g : Ghosts (Device M)) (worker line : ℕ) (tag :
   pub lines : (IsPlaced answer → ⊥) → KeepsLines start now
   pub cause : HasCause g (answer ≡ named.Fault) start now
 
-module _ {M : Type 0} (g : Ghosts (Device M)) (worker line : ℕ) (tag : Tag) (main : List ℕ) (start u w : Core M) (answer : Named) (n : ℕ) (a : Goes g n start u) (lines : KeepsLines start u)
+module _ {D : Type 0} (g : Ghosts D) (worker line : ℕ) (tag : Tag) (main : List ℕ) (start u w : Core D) (answer : Named) (n : ℕ) (a : Goes g n start u) (lines : KeepsLines start u)
     (core_u : IsCore g u) (runs : u.stopped ≡ 0) (known : worker < 8)
     (core_w : IsCore g w) (b : Goes g 1 u w) (no_page : answer ≡ named.NoPage → (names_of g u).space.room ≡ 0)
     (placed : IfPlaced answer (PutsPage g worker line tag main u w)) (none : (IsPlaced answer → ⊥) → PutsNone g answer u w) (cause : HasCause g (answer ≡ named.Fault) u w) where
@@ -117,7 +117,7 @@ module _ {M : Type 0} (g : Ghosts (Device M)) (worker line : ℕ) (tag : Tag) (m
   puts named.Fault p = tt
 
   same_lines : (IsPlaced answer → ⊥) → KeepsLines start w
-  same_lines off = ap (λ (x : Core M). map nameless_line x.flight) (none off).others ∙ lines
+  same_lines off = ap (λ (x : Core D). map nameless_line x.flight) (none off).others ∙ lines
 
   -- where there was no room, nothing was written
   module _ (is : answer ≡ named.NoPage) where
@@ -154,7 +154,7 @@ module _ {M : Type 0} (g : Ghosts (Device M)) (worker line : ℕ) (tag : Tag) (m
 
 -- ---- a round, and the next try
 
-module _ {M : Type 0} (g : Ghosts (Device M)) (worker line : ℕ) (tag : Tag) (main : List ℕ) (start s u : Core M) (t : Tries g worker line tag main start s named.NoPage)
+module _ {D : Type 0} (g : Ghosts D) (worker line : ℕ) (tag : Tag) (main : List ℕ) (start s u : Core D) (t : Tries g worker line tag main start s named.NoPage)
     (b : Goes g (2 ^ 20) s u) (lines : KeepsLines s u) where
   abbrev pub taken_then : ℕ
   taken_then = t.taken + 2 ^ 20
@@ -166,15 +166,15 @@ module _ {M : Type 0} (g : Ghosts (Device M)) (worker line : ℕ) (tag : Tag) (m
   lines_round = lines ∙ t.lines (λ p. p)
 
   -- where a further try takes fewer rounds, it is paid for
-  pub paid_then : (w : Core M) (answer : Named) → tries_left answer (names_of g w).space < tries_left named.NoPage (names_of g s).space
+  pub paid_then : (w : Core D) (answer : Named) → tries_left answer (names_of g w).space < tries_left named.NoPage (names_of g s).space
       → taken_then + 1 + round_cost * tries_left answer (names_of g w).space ≤ round_cost * 772
   paid_then w answer less = let paid = t.paid in omega (arith, paid, less)
 
 -- one that is nearer
-pub nearer_then : {M : Type 0} (g : Ghosts (Device M)) (s u w : Core M) (answer : Named) → IsVolumeShape (g.shape s.device) → IsNames (g.shape s.device) (g.next_stamp s.device) (names_of g s)
-    → IsNames (g.shape u.device) (g.next_stamp u.device) (names_of g u) → (names_of g s).space.room ≡ 0 → RoundIsDone g s u → (answer ≡ named.NoPage → (names_of g u).space.room ≡ 0)
+pub nearer_then : {D : Type 0} (g : Ghosts D) (m : Moving D) (s u w : Core D) (answer : Named) → IsVolumeShape (g.shape s.device) → IsNames (g.shape s.device) (g.next_stamp s.device) (names_of g s)
+    → IsNames (g.shape u.device) (g.next_stamp u.device) (names_of g u) → (names_of g s).space.room ≡ 0 → RoundIsDone g m s u → (answer ≡ named.NoPage → (names_of g u).space.room ≡ 0)
     → ((IsPlaced answer → ⊥) → PutsNone g answer u w) → tries_left answer (names_of g w).space < tries_left named.NoPage (names_of g s).space
-nearer_then g s u w answer volume names_s names_u full r no_page none =
+nearer_then g m s u w answer volume names_s names_u full r no_page none =
     less_left (names_of g s).space (names_of g w).space answer
     (λ is. subst (λ (x : Space). rounds_left x < rounds_left (names_of g s).space) (sym (space_stays g u w answer none is))
     (nearer (names_of g s).space (names_of g u).space names_s.space names_u.space (round_keeps (names_of g s).space (names_of g u).space r.round)

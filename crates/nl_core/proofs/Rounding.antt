@@ -3,14 +3,14 @@ use Rattle.std.proofs.Common.{◌≡◌, ◌⊎◌, inl, inr, ℕ, ◌+◌, ◌*
 use Rattle.nl_cleaning.specs.Laws.{IsOfARound}
 use Rattle.nl_cleaning.specs.declared.cleaning.Cleaned.{Cleaned}
 use Rattle.nl_cleaning.specs.declared.cleaning.Cleaned.TheVariants as cleaned
-use Rattle.nl_device.specs.declared.device.Device.{Device}
 use Rattle.nl_flight.proofs.Carried.{most}
 use Rattle.nl_iface.specs.Device.{IsVolumeShape}
-use Rattle.nl_iface.specs.Moves.{IsUnhandled}
+use Rattle.nl_iface.specs.Moves.{HasNothingToCopy, IsUnhandled}
 use Rattle.nl_iface.specs.Names.{IsNames, IsTable}
 use Rattle.nl_iface.specs.Rounds.{Empties, HasCapacity, IsRound}
-use Rattle.nl_iface.specs.Space.{IsSpace}
+use Rattle.nl_iface.specs.Space.{IsSpace, Space}
 use Rattle.nl_iface.specs.declared.counts.Counts.{Ghosts}
+use Rattle.nl_iface.specs.declared.moving_pages.MovingPages.{Ghosts as Moving}
 use Rattle.nl_iface.proofs.RoundSteps.{a_round_gains, empties_laws, rounds_end}
 use Rattle.nl_tree.specs.declared.turn.DutyAnswer.{DutyAnswer}
 use Rattle.nl_tree.specs.declared.turn.DutyAnswer.TheVariants as duty
@@ -19,7 +19,7 @@ use Rattle.nl_core.specs.Cleaning.{CleansDevice}
 use Rattle.nl_core.specs.Core.{IsCore, names_of}
 use Rattle.nl_core.specs.Goes.{Goes}
 use Rattle.nl_core.specs.Handling.{Handles, HandlesNumber, IsPending}
-use Rattle.nl_core.specs.Rounds.{EmptiesTable, IfRounded, RoundIsDone}
+use Rattle.nl_core.specs.Rounds.{CleansOne, EmptiesTable, IfRounded, RoundIsDone}
 use Rattle.nl_core.specs.declared.rounds.Rounded.{Rounded}
 use Rattle.nl_core.specs.declared.rounds.Rounded.TheVariants as rounded
 use Rattle.nl_core.specs.declared.state.Core.{Core}
@@ -27,7 +27,7 @@ use Rattle.nl_core.proofs.Onward.{goes_more, goes_none, goes_then}
 use Rattle.nl_core.proofs.Unhandled.{OpenBefore, left, left_falls, left_most, left_some, open_then}
 
 -- What holds before each callback. So many numbers were taken, and no more are taken for the callbacks that are left than for all.
-pub record HandlesOn {M : Type 0} (g : Ghosts (Device M)) (start now : Core M) : Type 0 where
+pub record HandlesOn {D : Type 0} (g : Ghosts D) (start now : Core D) : Type 0 where
   pub formed : g.formed now.device
   pub core : IsCore g now
   pub runs : now.stopped ≡ 0
@@ -38,8 +38,8 @@ pub record HandlesOn {M : Type 0} (g : Ghosts (Device M)) (start now : Core M) :
   pub goes : Goes g taken start now
   pub few : taken + 512 * left (names_of g start) (names_of g now) ≤ 512 * left (names_of g start) (names_of g start)
 
-module _ {M : Type 0} (g : Ghosts (Device M)) where
-  pub begins : (v : Core M) → g.formed v.device → IsCore g v → v.stopped ≡ 0 → HandlesOn g v v
+module _ {D : Type 0} (g : Ghosts D) where
+  pub begins : (v : Core D) → g.formed v.device → IsCore g v → v.stopped ≡ 0 → HandlesOn g v v
   begins v formed core runs = record {
     formed = formed;
     core = core;
@@ -52,7 +52,7 @@ module _ {M : Type 0} (g : Ghosts (Device M)) where
     few = omega arith;
   }
 
-  module _ (u v : Core M) (on : HandlesOn g u v) (volume : IsVolumeShape (g.shape u.device)) (names : IsNames (g.shape u.device) (g.next_stamp u.device) (names_of g u)) where
+  module _ (u v : Core D) (on : HandlesOn g u v) (volume : IsVolumeShape (g.shape u.device)) (names : IsNames (g.shape u.device) (g.next_stamp u.device) (names_of g u)) where
     few_left : left (names_of g u) (names_of g u) ≤ 1024
     few_left = left_most (g.shape u.device) (g.next_stamp u.device) (names_of g u) (names_of g u) volume names
 
@@ -66,7 +66,7 @@ module _ {M : Type 0} (g : Ghosts (Device M)) where
     pub goes_all : Goes g (2 ^ 19) u v
     goes_all = goes_more g on.taken (2 ^ 19) u v few_taken on.goes
 
-    module _ (table : IsTable (names_of g u)) (number : ℕ) (was : IsUnhandled (names_of g v) number) (w : Core M) (goes : Goes g 512 v w) where
+    module _ (table : IsTable (names_of g u)) (number : ℕ) (was : IsUnhandled (names_of g v) number) (w : Core D) (goes : Goes g 512 v w) where
       taken_then : Goes g (on.taken + 512) u w
       taken_then = goes_then g u v w on.taken 512 on.goes goes
 
@@ -97,7 +97,7 @@ module _ {M : Type 0} (g : Ghosts (Device M)) where
 
 -- ---- what a call answers for one number
 
-module _ {M : Type 0} (g : Ghosts (Device M)) (v w : Core M) (number : ℕ) (answer : DutyAnswer) (h : Handles g number v w answer) where
+module _ {D : Type 0} (g : Ghosts D) (v w : Core D) (number : ℕ) (answer : DutyAnswer) (h : Handles g number v w answer) where
   -- where the callback is pending
   pub handles_number : IsPending (names_of g v) number → (answer ≡ duty.Did) ⊎ (answer ≡ duty.Nothing) → HandlesNumber g number v w
   handles_number pending (inl is) = (subst (λ (a : DutyAnswer). Handles g number v w a) is h).1
@@ -112,8 +112,19 @@ rounded_to tells P Q rounded.Fault to h = h
 
 -- ---- the round
 
-module _ {M : Type 0} (g : Ghosts (Device M)) (u v w : Core M) (emptied : EmptiesTable g u v) (core : IsCore g v) (space : IsSpace (names_of g v).space) (law : IsOfARound)
-    (answer : Cleaned) (done : (answer ≡ cleaned.Done) ⊎ (answer ≡ cleaned.Nothing)) (cleans : CleansDevice g v w answer) where
+-- with an empty table, and no victim in hand, a block is Free
+pub none_dead : (s : Space) → IsSpace s → s.pairs ≡ 0 → HasNothingToCopy s → s.victim ≡ 0 → s.dead ≡ 0
+none_dead s is no_pairs (inl hand) none = let one = hand.0 in absurd (omega (arith, one, none))
+none_dead s is no_pairs (inr (zero_in_hand, inl dead)) none = dead
+none_dead s is no_pairs (inr (zero_in_hand, inr (inl many))) none = absurd (omega (arith, many, no_pairs))
+none_dead s is no_pairs (inr (zero_in_hand, inr (inr free))) none =
+    let waiting = is.waiting in
+    let keeps = is.keeps in
+    let kept = is.kept in
+    absurd (omega (arith, waiting, keeps, kept, no_pairs, none, free))
+
+module _ {D : Type 0} (g : Ghosts D) (m : Moving D) (u v w : Core D) (emptied : EmptiesTable g u v) (core : IsCore g v) (space : IsSpace (names_of g v).space) (law : IsOfARound)
+    (answer : Cleaned) (done : (answer ≡ cleaned.Done) ⊎ (answer ≡ cleaned.Nothing)) (cleans : CleansDevice g m v w answer) where
   has_capacity : HasCapacity (names_of g v).space
   has_capacity = record {
     cap = (g.shape v.device).cap;
@@ -134,14 +145,24 @@ module _ {M : Type 0} (g : Ghosts (Device M)) (u v w : Core M) (emptied : Emptie
     cleans = law answer (names_of g v).space (names_of g w).space done cleans.space;
   }
 
-  pub round_is_done : RoundIsDone g u w
+  -- where nothing was cleaned, the table is empty and a block is Free, so no block has a dead page
+  cleans_one : (a : Cleaned) → (a ≡ cleaned.Done) ⊎ (a ≡ cleaned.Nothing) → CleansDevice g m v w a → CleansOne g m v w
+  cleans_one a (inl is) k = inl (subst (λ x. CleansDevice g m v w x) is k)
+  cleans_one a (inr is) k =
+      let n = subst (λ x. CleansDevice g m v w x) is k in
+      inr (n, ap (λ (s : Space). s.dead) n.space.2 ∙ none_dead (names_of g v).space space emptied.no_pairs n.space.0 n.space.1)
+
+  pub round_is_done : RoundIsDone g m u w
   unfolding is_round
   round_is_done =
       let ends = rounds_end.none_in_hand (names_of g u).space (names_of g w).space is_round space in
       record {
+        between = v;
+        emptied = emptied;
+        cleans = cleans_one answer done cleans;
         round = is_round;
         gains = a_round_gains (names_of g u).space (names_of g w).space is_round space has_capacity;
         none_in_hand = ends.0;
         few_wait = ends.1;
-        freed = ap (λ (x : Core M). x.freeing.items) cleans.others ∙ emptied.freed;
+        freed = ap (λ (x : Core D). x.freeing.items) cleans.others ∙ emptied.freed;
       }

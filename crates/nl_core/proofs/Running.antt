@@ -2,7 +2,6 @@
 use Rattle.std.proofs.Common.{◌≡◌, inl, inr, ℕ, ◌≤◌, Option, Some, refl, sym, ap, subst, ◌∙◌, arith}
 use Rattle.nl_field.specs.declared.shape.Shape.{Shape}
 use Rattle.nl_tree.specs.Tree.{Tree}
-use Rattle.nl_device.specs.declared.device.Device.{Device}
 use Rattle.nl_iface.specs.Names.{LivePage}
 use Rattle.nl_iface.specs.declared.counts.Counts.{Ghosts}
 use Rattle.nl_meta.specs.Consistent.{PageOfStamp}
@@ -15,11 +14,11 @@ use Rattle.nl_core.specs.Trees.{CoreRuns}
 use Rattle.nl_core.specs.declared.state.Core.{Core}
 
 -- Each live page is one of before with its bytes, and no number is taken back.
-pub record KeepsLive {M : Type 0} (g : Ghosts (Device M)) (v w : Core M) : Type 0 where
+pub record KeepsLive {D : Type 0} (g : Ghosts D) (v w : Core D) : Type 0 where
   pub live : (q : ℕ) (page : LivePage) → (names_of g w).live q ≡ Some page → (p : ℕ) × ((names_of g v).live p ≡ Some page) × (g.bytes w.device q ≡ g.bytes v.device p)
   pub stamps : g.next_stamp v.device ≤ g.next_stamp w.device
 
-module _ {M : Type 0} (g : Ghosts (Device M)) (v w : Core M) (page_of_stamp : ℕ → Option PageOfStamp) (tree : Tree) (at : CoreRuns g v page_of_stamp tree) where
+module _ {D : Type 0} (g : Ghosts D) (v w : Core D) (page_of_stamp : ℕ → Option PageOfStamp) (tree : Tree) (at : CoreRuns g v page_of_stamp tree) where
   -- with whatever tree its pages stand for then
   pub runs_with : KeepsLive g v w → (now : Tree) → RunsAs (g.shape w.device) (running_of g w) page_of_stamp now → CoreRuns g w page_of_stamp now
   runs_with k now runs = record {
@@ -36,11 +35,11 @@ module _ {M : Type 0} (g : Ghosts (Device M)) (v w : Core M) (page_of_stamp : �
     runs_on k = runs_with k tree runs_as
 
 -- no page was programmed
-abbrev pub with_none : {M : Type 0} (g : Ghosts (Device M)) (w : Core M) (page_of_stamp : ℕ → Option PageOfStamp) (tree : Tree) → CoreRuns g w page_of_stamp tree → RunsOnAs g w page_of_stamp tree
+abbrev pub with_none : {D : Type 0} (g : Ghosts D) (w : Core D) (page_of_stamp : ℕ → Option PageOfStamp) (tree : Tree) → CoreRuns g w page_of_stamp tree → RunsOnAs g w page_of_stamp tree
 with_none g w page_of_stamp tree at = record { pages = page_of_stamp; extends = λ stamp page is. is; runs = at }
 
 -- the trees are those of before, with what pages hold then
-pub goes_as : {M : Type 0} (g : Ghosts (Device M)) (v w : Core M) (page_of_stamp : ℕ → Option PageOfStamp) (t : Trees) (k : RunsOnAs g w page_of_stamp t.running)
+pub goes_as : {D : Type 0} (g : Ghosts D) (v w : Core D) (page_of_stamp : ℕ → Option PageOfStamp) (t : Trees) (k : RunsOnAs g w page_of_stamp t.running)
     → StandsFor g w.device w.journal w.meta w.count k.pages t → t.committed.0 ≡ w.committed → GoesTo g v w page_of_stamp t
 goes_as g v w page_of_stamp t k stands committed = record {
   pages = k.pages;

@@ -8,7 +8,6 @@ use Rattle.nl_field.specs.declared.answers.VirtualWrite.{VirtualWrite}
 use Rattle.nl_field.specs.declared.answers.VirtualWrite.TheVariants as write
 use Rattle.nl_field.specs.declared.pointer.Pointer.{Pointer}
 use Rattle.nl_field.specs.declared.shape.Shape.{Shape}
-use Rattle.nl_device.specs.declared.device.Device.{Device}
 use Rattle.nl_drain.specs.Handled.{nameless_body}
 use Rattle.nl_flight.specs.Flight.{carried}
 use Rattle.nl_holders.specs.Holding.{Holding, MarkedTo}
@@ -125,11 +124,11 @@ acknowledged_fewer upto s t a = record { live = λ q page live. sym (a.live q) �
 
 -- ---- a core that settles
 
-module _ {M : Type 0} (g : Ghosts (Device M)) (v w u : Core M) (answer : VirtualWrite) (b : WritesAll g v w answer) (core : IsCore g v) (volume : IsVolumeShape (g.shape v.device)) (few : begun_of v ≤ 2 ^ 63)
-    (stores_w : g.tells → StoresPages g w.device) (writes : v.stopped ≡ 0) (held : IsPages v.meta) (done : answer ≡ write.Done) (s : Settles g (begun_of v + 1) w u) (tables : HasTable g w.device)
+module _ {D : Type 0} (g : Ghosts D) (v w u : Core D) (answer : VirtualWrite) (b : WritesAll g v w answer) (core : IsCore g v) (volume : IsVolumeShape (g.shape v.device)) (few : begun_of v ≤ 2 ^ 63)
+    (stores_w : g.tells → StoresPages g w.device) (formed_w : g.formed w.device) (writes : v.stopped ≡ 0) (held : IsPages v.meta) (done : answer ≡ write.Done) (s : Settles g (begun_of v + 1) w u) (tables : HasTable g w.device)
     (stores : g.tells → StoresPages g u.device) where
   mid : IsCore g w
-  mid = written_core g v w answer b core volume few stores_w writes
+  mid = written_core g v w answer b core volume few stores_w writes formed_w
 
   ends : Ends (next_after (begun v.journal (length v.meta.frozen.addresses))) v.journal w.journal (counted_pages v) w.meta
   ends = b.commits.in_memory.ends done
@@ -215,9 +214,9 @@ module _ {M : Type 0} (g : Ghosts (Device M)) (v w u : Core M) (answer : Virtual
       ∙ ap (λ (n : Names). n.space.live) names
 
   same_w : u.shape ≡ w.shape
-  same_w = ap (λ (x : Core M). x.shape) s.others
+  same_w = ap (λ (x : Core D). x.shape) s.others
 
-  abbrev settled_at : Core M
+  abbrev settled_at : Core D
   settled_at = record w { device = u.device; freeing = u.freeing }
 
   needed_u : (a : ℕ) → IsNeeded (g.shape w.device) (running_of g w) a → running_on g u.device w.meta a ≡ running_of g w a
@@ -246,8 +245,9 @@ module _ {M : Type 0} (g : Ghosts (Device M)) (v w u : Core M) (answer : Virtual
         room = subst (λ (h : Shape). h.pblocks * h.pages ≤ length u.freeing.items + u.freeing.room) (sym kept.virtual.same_shape) (let r = sp.room in let room = s.room in omega (arith, r, room, items));
       }
 
-  pub settled_core : IsCore g u
-  settled_core = subst (λ (x : Core M). IsCore g x) (sym s.others) (record {
+  pub settled_core : g.formed u.device → IsCore g u
+  settled_core formed = subst (λ (x : Core D). IsCore g x) (sym s.others) (record {
+    formed = formed;
     shape = mid.shape ∙ sym kept.virtual.same_shape;
     journaled = journaled_u;
     free = has_free_on g w (record w { device = u.device; freeing = u.freeing }) kept.virtual.same_shape volume_w needed_u refl mid.free;
@@ -273,12 +273,12 @@ module _ {M : Type 0} (g : Ghosts (Device M)) (v w u : Core M) (answer : Virtual
   first = written_goes g v w answer b core volume few stores_w writes held
 
   same_count : u.count ≡ w.count
-  same_count = ap (λ (x : Core M). x.count) s.others
+  same_count = ap (λ (x : Core D). x.count) s.others
 
   told_w : IsTold g u → IsTold g w
   told_w told = record {
     tells = told.tells;
-    numbers = subst (λ (x : Core M). HasNumber x.journal (length x.meta.frozen.addresses)) s.others told.numbers;
+    numbers = subst (λ (x : Core D). HasNumber x.journal (length x.meta.frozen.addresses)) s.others told.numbers;
     calls = subst (λ n. n < 9223372036854775808) same_count told.calls;
     moments = subst (λ n. n < 9223372036854775808) kept.clock told.moments;
   }
@@ -290,7 +290,7 @@ module _ {M : Type 0} (g : Ghosts (Device M)) (v w u : Core M) (answer : Virtual
   runs_to_u : g.tells → (page_of_stamp : ℕ → Option PageOfStamp) (tree : Tree) → CoreRuns g v page_of_stamp tree → RunsOnAs g u page_of_stamp tree
   runs_to_u tells page_of_stamp tree at =
       let k = first.runs tells page_of_stamp tree at in
-      record { pages = k.pages; extends = k.extends; runs = subst (λ (x : Core M). CoreRuns g x k.pages tree) (sym s.others) (runs_settled tells k.pages tree k.runs) }
+      record { pages = k.pages; extends = k.extends; runs = subst (λ (x : Core D). CoreRuns g x k.pages tree) (sym s.others) (runs_settled tells k.pages tree k.runs) }
 
   goes_to_u : IsTold g u → (page_of_stamp : ℕ → Option PageOfStamp) (t : Trees) → CoreStands g v page_of_stamp t → GoesTo g v u page_of_stamp t
   goes_to_u told page_of_stamp t at =
@@ -299,7 +299,7 @@ module _ {M : Type 0} (g : Ghosts (Device M)) (v w u : Core M) (answer : Virtual
       record {
         pages = k.pages;
         trees = k.trees;
-        stands = subst (λ (x : Core M). CoreStands g x k.pages k.trees) (sym s.others) (record {
+        stands = subst (λ (x : Core D). CoreStands g x k.pages k.trees) (sym s.others) (record {
           stands = addresses_go g w.device u.device w.journal w.meta w.count k.pages k.trees volume_w w_told.tells w_told.numbers mid.journaled kept.virtual k.stands.stands;
           runs = runs_settled w_told.tells k.pages k.trees.running k.stands.runs;
           committed = k.stands.committed;
@@ -319,19 +319,19 @@ module _ {M : Type 0} (g : Ghosts (Device M)) (v w u : Core M) (answer : Virtual
       generation = λ n. ap (λ (x : Graph). (x n).generation) graph_u ∙ first.nodes.generation n;
       body = λ n. ap (λ (x : Graph). nameless_body (x n).body) graph_u ∙ first.nodes.body n;
     };
-    numbers = subst (λ (x : Core M). begun_of v ≤ begun_of x) (sym s.others) first.numbers;
-    paid = subst (λ (x : Core M). NumberPaid (g.clock v.device) v.journal.number (g.clock u.device) x.journal.number) (sym s.others)
+    numbers = subst (λ (x : Core D). begun_of v ≤ begun_of x) (sym s.others) first.numbers;
+    paid = subst (λ (x : Core D). NumberPaid (g.clock v.device) v.journal.number (g.clock u.device) x.journal.number) (sym s.others)
         (subst (λ n. NumberPaid (g.clock v.device) v.journal.number n w.journal.number) (sym kept.clock) first.paid);
     reads = subst (λ n. g.read_faults v.device ≤ n) (sym s.read_faults) first.reads;
     writes = subst (λ n. g.write_faults v.device ≤ n) (sym kept.write_faults) first.writes;
-    moment = subst (λ (x : Core M). ((x.moment ≡ v.moment) × (x.committed ≡ v.committed)) ⊎ (Earlier (g.clock v.device) x.moment × (g.clock v.device ≤ x.moment))) (sym s.others) first.moment;
+    moment = subst (λ (x : Core D). ((x.moment ≡ v.moment) × (x.committed ≡ v.committed)) ⊎ (Earlier (g.clock v.device) x.moment × (g.clock v.device ≤ x.moment))) (sym s.others) first.moment;
     clock = subst (λ n. g.clock v.device ≤ n) (sym kept.clock) first.clock;
     stops = record {
-      stands = λ off. ap (λ (x : Core M). x.stopped) s.others ∙ first.stops.stands off;
-      none = λ none rose. first.stops.none (sym (ap (λ (x : Core M). x.stopped) s.others) ∙ none) (subst (λ n. Rose (g.write_faults v.device) n) kept.write_faults rose);
+      stands = λ off. ap (λ (x : Core D). x.stopped) s.others ∙ first.stops.stands off;
+      none = λ none rose. first.stops.none (sym (ap (λ (x : Core D). x.stopped) s.others) ∙ none) (subst (λ n. Rose (g.write_faults v.device) n) kept.write_faults rose);
       some = λ none later.
-          let k = first.stops.some none (λ z. later (ap (λ (x : Core M). x.stopped) s.others ∙ z)) in
-          let same = ap (λ (x : Core M). x.stopped) s.others in
+          let k = first.stops.some none (λ z. later (ap (λ (x : Core D). x.stopped) s.others ∙ z)) in
+          let same = ap (λ (x : Core D). x.stopped) s.others in
           let r = s.read_faults in
           let f = kept.write_faults in (
             subst (λ n. Rose (g.write_faults v.device) n) (sym kept.write_faults) k.0,
@@ -347,17 +347,17 @@ module _ {M : Type 0} (g : Ghosts (Device M)) (v w u : Core M) (answer : Virtual
     runs = runs_to_u;
     trees = goes_to_u;
     left = λ told page_of_stamp t y is at.
-        let l = first.left (told_w told) page_of_stamp t y (is ∙ ap (λ (x : Core M). x.committed) s.others) at in
+        let l = first.left (told_w told) page_of_stamp t y (is ∙ ap (λ (x : Core D). x.committed) s.others) at in
         record {
           later = subst (λ n. g.clock v.device ≤ n) (sym kept.clock) l.later;
           each = λ m c left. ⊎_elim inl
-              (λ k. inr (k.0, subst (λ n. m ≤ n) (sym kept.clock) k.1, (k.2.0, k.2.1, k.2.2, λ after. k.2.3 (subst (λ n. n ≤ m) (ap (λ (x : Core M). x.moment) s.others) after))))
+              (λ k. inr (k.0, subst (λ n. m ≤ n) (sym kept.clock) k.1, (k.2.0, k.2.1, k.2.2, λ after. k.2.3 (subst (λ n. n ≤ m) (ap (λ (x : Core D). x.moment) s.others) after))))
               (l.each m c (kept.left told.tells m c left));
         };
   }
     where
       graph_u : graph_of (g.shape u.device) (running_of g u) ≡ graph_of (g.shape w.device) (running_of g w)
-      graph_u = ap (λ (x : Core M). graph_of (g.shape u.device) (running_on g u.device x.meta)) s.others ∙ (addresses_stand g w.device u.device w.journal w.meta volume_w mid.journaled kept.virtual).graph
+      graph_u = ap (λ (x : Core D). graph_of (g.shape u.device) (running_on g u.device x.meta)) s.others ∙ (addresses_stand g w.device u.device w.journal w.meta volume_w mid.journaled kept.virtual).graph
 
   -- its commit page was finished
   decided_by : (o : Option ℕ) → b.decided ≡ o → (w.committed ≡ v.count) × Earlier (g.clock v.device) w.moment × (g.clock v.device ≤ w.moment)
@@ -374,14 +374,14 @@ module _ {M : Type 0} (g : Ghosts (Device M)) (v w u : Core M) (answer : Virtual
   pub commits_all : (number : ℕ) → number ≡ next_after (begun_of v) → CommitsAll g v u number
   commits_all number is = record {
     is_next = is;
-    clean = ap (λ (x : Core M). x.meta.dirty) s.others ∙ ends.clean;
-    thawed = ap (λ (x : Core M). x.meta.frozen.addresses) s.others ∙ ends.thawed;
+    clean = ap (λ (x : Core D). x.meta.dirty) s.others ∙ ends.clean;
+    thawed = ap (λ (x : Core D). x.meta.frozen.addresses) s.others ∙ ends.thawed;
     freed = s.items;
-    same_flight = ap (λ (x : Core M). x.flight) s.others ∙ b.rest.flight;
-    same_nodes = ap (λ (x : Core M). x.nodes) s.others ∙ b.rest.nodes;
-    committed = ap (λ (x : Core M). x.committed) s.others ∙ (decided_by b.decided refl).0;
-    decided = subst (λ n. Earlier (g.clock v.device) n) (sym (ap (λ (x : Core M). x.moment) s.others)) (decided_by b.decided refl).1;
-    from = subst (λ n. g.clock v.device ≤ n) (sym (ap (λ (x : Core M). x.moment) s.others)) (decided_by b.decided refl).2;
+    same_flight = ap (λ (x : Core D). x.flight) s.others ∙ b.rest.flight;
+    same_nodes = ap (λ (x : Core D). x.nodes) s.others ∙ b.rest.nodes;
+    committed = ap (λ (x : Core D). x.committed) s.others ∙ (decided_by b.decided refl).0;
+    decided = subst (λ n. Earlier (g.clock v.device) n) (sym (ap (λ (x : Core D). x.moment) s.others)) (decided_by b.decided refl).1;
+    from = subst (λ n. g.clock v.device ≤ n) (sym (ap (λ (x : Core D). x.moment) s.others)) (decided_by b.decided refl).2;
     acknowledged = record {
       pending = λ c has.
           let one = fewer.pending c has in
@@ -390,5 +390,5 @@ module _ {M : Type 0} (g : Ghosts (Device M)) (v w u : Core M) (answer : Virtual
       posted = fewer.posted ∙ b.passes.named.tables.posted;
     };
     space = λ none. subst (λ (n : Names). Empties n.space (names_of g u).space)
-        (b.passes.named.names (none_failed_on g v w b.stopped b.faults.reads_never_fall b.faults.writes_never_fall (sym (ap (λ (x : Core M). x.stopped) s.others) ∙ none))) empties;
+        (b.passes.named.names (none_failed_on g v w b.stopped b.faults.reads_never_fall b.faults.writes_never_fall (sym (ap (λ (x : Core D). x.stopped) s.others) ∙ none))) empties;
   }

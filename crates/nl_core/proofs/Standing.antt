@@ -5,7 +5,6 @@ use Rattle.nl_field.specs.Medium.{first_physical}
 use Rattle.nl_field.specs.Pointers.{is_none_pointer}
 use Rattle.nl_field.specs.declared.pointer.Pointer.{Pointer}
 use Rattle.nl_field.specs.declared.pointer.Tag.{Tag}
-use Rattle.nl_device.specs.declared.device.Device.{Device}
 use Rattle.nl_flight.specs.Flight.{carried}
 use Rattle.nl_iface.specs.Calls.{StoresMap, stored}
 use Rattle.nl_iface.specs.Device.{IsVolumeShape}
@@ -17,7 +16,7 @@ use Rattle.nl_core.specs.Core.{IsCore, names_of}
 use Rattle.nl_core.specs.Laws.{FlightLeads, StoredOpens}
 use Rattle.nl_core.specs.declared.state.Core.{Core}
 
-pub stored_opens : {M : Type 0} (g : Ghosts (Device M)) (v : Core M) → IsVolumeShape (g.shape v.device) → (g.tells → StoresMap g v.device) → IsCore g v → v.stopped ≡ 0 → StoredOpens g v
+pub stored_opens : {D : Type 0} (g : Ghosts D) (v : Core D) → IsVolumeShape (g.shape v.device) → (g.tells → StoresMap g v.device) → IsCore g v → v.stopped ≡ 0 → StoredOpens g v
 stored_opens g v volume map core runs told page_of_stamp t at =
     let firm = (core.writes runs).firm (told.tells, told.numbers) in
     holding_opens g v.device v.journal v.meta v.count page_of_stamp t (carried v.flight) v.freeing.items (stored g v.device) volume told.tells told.numbers core.held firm (map told.tells) at.stands
@@ -27,7 +26,7 @@ or_right : (b c : Bool) → c ≡ true → b || c ≡ true
 or_right true c is = refl
 or_right false c is = is
 
-pub flight_leads : {M : Type 0} (g : Ghosts (Device M)) (v : Core M) → IsNames (g.shape v.device) (g.next_stamp v.device) (names_of g v) → IsCore g v → FlightLeads g v
+pub flight_leads : {D : Type 0} (g : Ghosts D) (v : Core D) → IsNames (g.shape v.device) (g.next_stamp v.device) (names_of g v) → IsCore g v → FlightLeads g v
 flight_leads g v names core x has =
     let h = core.held in
     let ref : IsRef (names_of g v) always (wants_tagged x) x.1.name = subst (λ (n : Names). IsRef n always (wants_tagged x) x.1.name) h.is_of.runs.names

@@ -1,6 +1,6 @@
 -- The background tasks: what the device tells of a call is what its task does to a core.
 use Rattle.std.proofs.Common.{◌≡◌, ◌↔◌, ◌⊎◌, inl, inr, ⊎_elim, ℕ, ◌+◌, ◌*◌, ◌<◌, ◌^◌, Bool, true, false, length, refl, sym, ap, ◌∙◌, arith}
-use Rattle.std.specs.Prelude.{if◌then◌else◌}
+use Rattle.std.specs.Prelude.{if◌then◌else◌, ⊤}
 use Rattle.std.proofs.lemmas.Bool.{cases_eq, cases_lt}
 use Rattle.nl_field.specs.CrashStates.{Rose}
 use Rattle.nl_tree.specs.declared.turn.Duty.{Duty}
@@ -8,26 +8,23 @@ use Rattle.nl_tree.specs.declared.turn.Duty.TheVariants as task
 use Rattle.nl_tree.specs.declared.turn.DutyAnswer.{DutyAnswer}
 use Rattle.nl_tree.specs.declared.turn.DutyAnswer.TheVariants as duty
 use Rattle.nl_cleaning.proofs.Once.{BeginEnds, CopyEnds, CopyLeaves, EraseEnds, begin_held, begin_lands, begin_medium, begin_segment, begin_stored, copy_held, copy_segment, copy_stored, erase_held, erase_lands, erase_segment, erase_stored, reads_itself}
-use Rattle.nl_device.specs.Medium.{CannotLevel}
-use Rattle.nl_device.specs.declared.cleaning.Copying.{Copying}
-use Rattle.nl_device.specs.declared.cleaning.Copying.TheVariants as copying
-use Rattle.nl_device.specs.declared.device.Device.{Device}
+use Rattle.nl_iface.specs.declared.moving.Copying.{Copying}
+use Rattle.nl_iface.specs.declared.moving.Copying.TheVariants as copying
 use Rattle.nl_iface.specs.Calls.{CallCounted, NoWriteFailed, OnlyReads, StoresMap, StoresPages}
 use Rattle.nl_iface.specs.Device.{IsVolumeShape}
 use Rattle.nl_iface.specs.Moves.{Begins, ErasesAtStops, ErasesVictim, HasCopied, HasNothingToCopy, KeepsCleaning}
+use Rattle.nl_iface.specs.Counting.{FailuresCounted}
 use Rattle.nl_iface.specs.Space.{CanLand}
+use Rattle.nl_iface.specs.Victims.{CanBegin, StaysOrTakes, Takes}
 use Rattle.nl_iface.specs.declared.counts.Counts.{Ghosts}
+use Rattle.nl_iface.specs.declared.moving_pages.MovingPages.{Ghosts as Moving}
 use Rattle.nl_journal.specs.declared.answers.Committing.{Committing}
 use Rattle.nl_journal.specs.declared.answers.Committing.TheVariants as commits
-use Rattle.nl_nand.specs.Nand.{FaultsCounted}
-use Rattle.nl_pseg.specs.Cleaning.{CannotBegin}
-use Rattle.nl_pseg.specs.Segment.{Physical, erasures}
-use Rattle.nl_pseg.specs.Space.{victims}
-use Rattle.nl_pseg.specs.declared.cleaned.Erasure.{Erasure}
-use Rattle.nl_pseg.specs.declared.cleaned.Erasure.TheVariants as erasure
+use Rattle.nl_iface.specs.declared.moving.Erasing.{Erasing}
+use Rattle.nl_iface.specs.declared.moving.Erasing.TheVariants as erasure
 use Rattle.nl_core.specs.Calls.{Commits}
 use Rattle.nl_core.specs.Core.{IsCore, names_of}
-use Rattle.nl_core.specs.Duties.{DoesDuty, DoesTask, HasNothingToDo, IsAtRest, OnlyReadsDevice, Stays, duty_of_commit, duty_of_copy, duty_of_erase}
+use Rattle.nl_core.specs.Duties.{DoesDuty, DoesTask, HasNothingToDo, IsAtRest, OnlyReadsDevice, Stays, Wipes, duty_of_commit, duty_of_copy, duty_of_erase}
 use Rattle.nl_core.specs.Goes.{Goes}
 use Rattle.nl_core.specs.Handling.{Handles}
 use Rattle.nl_core.specs.Writing.{stopped_by}
@@ -61,22 +58,22 @@ copy_fault copying.Nothing e = absurd (let no : ⊥ = cc in no)
 copy_fault (copying.Lost w f) e = absurd (let no : ⊥ = cc in no)
 copy_fault copying.Fault e = refl
 
-erase_nothing : (a : Erasure) → (duty_of_erase a ≡ duty.Nothing) ↔ (a ≡ erasure.Nothing)
+erase_nothing : (a : Erasing) → (duty_of_erase a ≡ duty.Nothing) ↔ (a ≡ erasure.Nothing)
 erase_nothing erasure.Done = (λ e. absurd (let no : ⊥ = cc in no), λ e. absurd (let no : ⊥ = cc in no))
 erase_nothing erasure.Nothing = (λ e. refl, λ e. refl)
 erase_nothing erasure.Fault = (λ e. absurd (let no : ⊥ = cc in no), λ e. absurd (let no : ⊥ = cc in no))
 
-erase_done : (a : Erasure) → duty_of_erase a ≡ duty.Did → a ≡ erasure.Done
+erase_done : (a : Erasing) → duty_of_erase a ≡ duty.Did → a ≡ erasure.Done
 erase_done erasure.Done e = refl
 erase_done erasure.Nothing e = absurd (let no : ⊥ = cc in no)
 erase_done erasure.Fault e = absurd (let no : ⊥ = cc in no)
 
-erase_never_lost : (a : Erasure) (w f : ℕ) → duty_of_erase a ≡ duty.Lost w f → ⊥
+erase_never_lost : (a : Erasing) (w f : ℕ) → duty_of_erase a ≡ duty.Lost w f → ⊥
 erase_never_lost erasure.Done w f e = cc
 erase_never_lost erasure.Nothing w f e = cc
 erase_never_lost erasure.Fault w f e = cc
 
-pub erase_fault : (a : Erasure) → duty_of_erase a ≡ duty.Fault → a ≡ erasure.Fault
+pub erase_fault : (a : Erasing) → duty_of_erase a ≡ duty.Fault → a ≡ erasure.Fault
 erase_fault erasure.Done e = absurd (let no : ⊥ = cc in no)
 erase_fault erasure.Nothing e = absurd (let no : ⊥ = cc in no)
 erase_fault erasure.Fault e = refl
@@ -89,10 +86,10 @@ commit_fault commits.Fault e = refl
 -- ---- tasks of the device
 
 -- the core with the device after a call, and a first failure noted
-abbrev pub noted : {M : Type 0} → Ghosts (Device M) → Core M → Device M → Core M
+abbrev pub noted : {D : Type 0} → Ghosts D → Core D → D → Core D
 noted g v t = record v { device = t; stopped = stopped_by v.stopped (g.read_faults t) (g.write_faults v.device) (g.write_faults t) }
 
-module _ {M : Type 0} (g : Ghosts (Device M)) (v : Core M) (t : Device M) (core : IsCore g v) (writes : v.stopped ≡ 0) where
+module _ {D : Type 0} (g : Ghosts D) (v : Core D) (t : D) (core : IsCore g v) (writes : v.stopped ≡ 0) where
   quiet : g.write_faults t ≡ g.write_faults v.device → NoWriteFailed g v.device t
   quiet same = same_below_end (g.write_faults v.device) (g.write_faults t) (core.writes writes).counts same
 
@@ -113,10 +110,10 @@ module _ {M : Type 0} (g : Ghosts (Device M)) (v : Core M) (t : Device M) (core 
     -- a copy
     module _ (answer : Copying) (ends : CopyEnds g v.device t) (left : CopyLeaves g v.device t) (kept : KeepsCleaning g v.device t) (lands : Rose (g.write_faults v.device) (g.write_faults t) ⊎ CanLand (g.names t).space)
         (counts : CallCounted g (answer ≡ copying.Fault) v.device t) where
-      pub copied_core : IsCore g (noted g v t)
-      copied_core = let segment = copy_segment g v.device t ends in
+      pub copied_core : g.formed t → IsCore g (noted g v t)
+      copied_core formed = let segment = copy_segment g v.device t ends in
           carried_core g v (noted g v t) refl core volume writes refl counts.reads_never_fall counts.writes_never_fall (copy_held g v.device t ends was left kept) segment.0 segment.1 map stores
-          (λ none. ⊎_elim (λ rose. absurd (none rose)) (λ l. l) lands) (λ tells none. copy_stored g v.device t was left tells)
+          (λ none. ⊎_elim (λ rose. absurd (none rose)) (λ l. l) lands) (λ tells none. copy_stored g v.device t was left tells) formed
 
       pub copied_goes : Goes g 0 v (noted g v t)
       copied_goes = let segment = copy_segment g v.device t ends in
@@ -124,12 +121,12 @@ module _ {M : Type 0} (g : Ghosts (Device M)) (v : Core M) (t : Device M) (core 
           (λ none. ⊎_elim (λ rose. absurd (none rose)) (λ l. l) lands) (λ tells none. copy_stored g v.device t was left tells)
 
     -- an erase
-    module _ (answer : Erasure) (ends : EraseEnds g v.device t) (left : g.tells → ErasesAtStops g v.device t) (kept : KeepsCleaning g v.device t) (reads : g.read_faults t ≡ g.read_faults v.device)
-        (counts : FaultsCounted (g.write_faults v.device) (g.write_faults t) (answer ≡ erasure.Fault)) where
-      pub erased_core : IsCore g (noted g v t)
-      erased_core = let segment = erase_segment g v.device t ends in
+    module _ (answer : Erasing) (ends : EraseEnds g v.device t) (left : g.tells → ErasesAtStops g v.device t) (kept : KeepsCleaning g v.device t) (reads : g.read_faults t ≡ g.read_faults v.device)
+        (counts : FailuresCounted ⊤ (g.write_faults v.device) (g.write_faults t) (answer ≡ erasure.Fault)) where
+      pub erased_core : g.formed t → IsCore g (noted g v t)
+      erased_core formed = let segment = erase_segment g v.device t ends in
           carried_core g v (noted g v t) refl core volume writes refl (omega (arith, reads)) counts.never_falls (erase_held g v.device t ends left kept) segment.0 segment.1 map stores
-          (λ none. erase_lands g v.device t ends lands_before) (λ tells none. erase_stored g v.device t ends none tells)
+          (λ none. erase_lands g v.device t ends lands_before) (λ tells none. erase_stored g v.device t ends none tells) formed
 
       pub erased_goes : Goes g 0 v (noted g v t)
       erased_goes = let segment = erase_segment g v.device t ends in
@@ -141,63 +138,53 @@ module _ {M : Type 0} (g : Ghosts (Device M)) (v : Core M) (t : Device M) (core 
       same_writes : g.write_faults t ≡ g.write_faults v.device
       same_writes = (begin_medium g v.device t ends).write_faults
 
-      pub begun_core : IsCore g (record v { device = t })
-      begun_core = let segment = begin_segment g v.device t ends in let same = same_writes in
+      pub begun_core : g.formed t → IsCore g (record v { device = t })
+      begun_core formed = let segment = begin_segment g v.device t ends in let same = same_writes in
           carried_core g v (record v { device = t }) refl core volume writes (sym (runs_on (quiet same))) (omega (arith, reads)) (omega (arith, same)) (begin_held g v.device t ends) segment.0 segment.1 map stores
-          (λ none. begin_lands g v.device t ends lands_before) (λ tells none. begin_stored g v.device t ends tells)
+          (λ none. begin_lands g v.device t ends lands_before) (λ tells none. begin_stored g v.device t ends tells) formed
 
       pub begun_goes : Goes g 0 v (record v { device = t })
       begun_goes = let segment = begin_segment g v.device t ends in let same = same_writes in
           carried_goes g v (record v { device = t }) refl core volume writes (sym (runs_on (quiet same))) (omega (arith, reads)) (omega (arith, same)) (begin_held g v.device t ends) segment.0 segment.1 map stores
           (λ none. begin_lands g v.device t ends lands_before) (λ tells none. begin_stored g v.device t ends tells)
 
-  pub copy_does : (answer : Copying) → (answer ≡ copying.Did → HasCopied g v.device t) → (answer ≡ copying.Nothing ↔ HasNothingToCopy (names_of g v).space) → (answer ≡ copying.Nothing → OnlyReads g v.device t)
+  pub copy_does : (m : Moving D) (answer : Copying) → (answer ≡ copying.Did → HasCopied g v.device t) → StaysOrTakes (m.most_dead v.device) (m.victim v.device) (m.victim t) → (answer ≡ copying.Nothing ↔ HasNothingToCopy (names_of g v).space) → (answer ≡ copying.Nothing → OnlyReads g v.device t)
       → ((w f : ℕ) → answer ≡ copying.Lost w f → f ≡ w → ⊥) → (g.tells → (w f : ℕ) → answer ≡ copying.Lost w f → ⊥) → CallCounted g (answer ≡ copying.Fault) v.device t
-      → DoesTask g task.Copy v (noted g v t) (duty_of_copy answer)
-  copy_does answer did nothing none lost told counts = record {
+      → DoesTask g m task.Copy v (noted g v t) (duty_of_copy answer)
+  copy_does m answer did taken nothing none lost told counts = record {
     nothing = (λ e. nothing.0 ((copy_nothing answer).0 e), λ why. (copy_nothing answer).1 (nothing.1 why));
     same = λ e.
         let is = (copy_nothing answer).0 e in
         let reads = none is in
         only_reads reads (counts.stays (inr (quiet reads.medium.write_faults)) (λ fault. apart (sym is ∙ fault))).0;
-    done = λ e. (did (copy_did answer e), refl);
+    done = λ e. (did (copy_did answer e), taken, refl);
     lost = λ w f e. let is = copy_lost answer w f e in (lost w f is, λ tells. told tells w f is);
   }
     where
       apart : copying.Nothing ≡ copying.Fault → ⊥
       apart e = cc
 
-  pub erase_does : (answer : Erasure) → (answer ≡ erasure.Done → ErasesVictim g v.device t) → (answer ≡ erasure.Nothing ↔ HasNothingToDo g task.Erase v) → (answer ≡ erasure.Nothing → OnlyReads g v.device t)
-      → g.read_faults t ≡ g.read_faults v.device → DoesTask g task.Erase v (noted g v t) (duty_of_erase answer)
-  erase_does answer done nothing none reads = record {
+  pub erase_does : (m : Moving D) (answer : Erasing) → (answer ≡ erasure.Done → ErasesVictim g v.device t) → (answer ≡ erasure.Done → Wipes g m v.device t) → (answer ≡ erasure.Nothing ↔ HasNothingToDo g m task.Erase v) → (answer ≡ erasure.Nothing → OnlyReads g v.device t)
+      → g.read_faults t ≡ g.read_faults v.device → DoesTask g m task.Erase v (noted g v t) (duty_of_erase answer)
+  erase_does m answer done wiped nothing none reads = record {
     nothing = (λ e. nothing.0 ((erase_nothing answer).0 e), λ why. (erase_nothing answer).1 (nothing.1 why));
     same = λ e. only_reads (none ((erase_nothing answer).0 e)) reads;
-    done = λ e. (done (erase_done answer e), refl);
+    done = λ e. (done (erase_done answer e), wiped (erase_done answer e), refl);
     lost = λ w f e. absurd (erase_never_lost answer w f e);
   }
 
 -- ---- levelling
 
--- none of the reasons holds, or one
-stable : (s : Physical) → ((CannotBegin true s → ⊥) → ⊥) → CannotBegin true s
-stable s un = ⊎_elim inl
-    (λ none. ⊎_elim (λ many. inr (inl many))
-    (λ few. ⊎_elim (λ full. inr (inr (inl full)))
-    (λ free. inr (inr (inr (λ block from below sealed other low high. ⊎_elim (λ lt. lt)
-    (λ worn. absurd (un (⊎_elim none (λ rest. ⊎_elim (λ many. omega (arith, many, few)) (λ last. ⊎_elim free (λ all. let lt = all block from below sealed other low high in omega (arith, lt, worn)) last) rest))))
-    (cases_lt (erasures s other) (erasures s block + 16))))))
-    (cases_eq s.free 0)) (cases_lt (2 * s.size) (length s.pairs))) (cases_eq (victims s) 1)
-
-pub level_does : {M : Type 0} (g : Ghosts (Device M)) (v : Core M) (t : Device M) (begun : Bool) → (begun ≡ true → Begins g v.device t) → (begun ≡ false → OnlyReads g v.device t)
-    → (begun ≡ true ↔ (CannotLevel v.device → ⊥)) → g.read_faults t ≡ g.read_faults v.device → DoesTask g task.Level v (record v { device = t }) (if begun then duty.Did else duty.Nothing)
-level_does g v t true begins none exactly faults = record {
-  nothing = (λ e. absurd (let no : ⊥ = cc in no), λ why. absurd (exactly.0 refl why));
+pub level_does : {D : Type 0} (g : Ghosts D) (m : Moving D) (v : Core D) (t : D) (begun : Bool) → (begun ≡ true → Begins g v.device t) → (begun ≡ true → Takes (m.coldest v.device) (m.victim t)) → (begun ≡ false → OnlyReads g v.device t)
+    → (begun ≡ true ↔ (CanBegin (names_of g v).space × ((block : ℕ) × m.coldest v.device block))) → g.read_faults t ≡ g.read_faults v.device → DoesTask g m task.Level v (record v { device = t }) (if begun then duty.Did else duty.Nothing)
+level_does g m v t true begins taken none exactly faults = record {
+  nothing = (λ e. absurd (let no : ⊥ = cc in no), λ why. absurd (why (exactly.0 refl)));
   same = λ e. absurd (let no : ⊥ = cc in no);
-  done = λ e. (begins refl, refl);
+  done = λ e. (begins refl, taken refl, refl);
   lost = λ w f e. absurd (let no : ⊥ = cc in no);
 }
-level_does g v t false begins none exactly faults = record {
-  nothing = (λ e. stable v.device.pseg (λ can. apart (exactly.1 can)), λ why. refl);
+level_does g m v t false begins taken none exactly faults = record {
+  nothing = (λ e can. apart (exactly.1 can), λ why. refl);
   same = λ e. record { reads = none refl; read_faults = faults; others = refl };
   done = λ e. absurd (let no : ⊥ = cc in no);
   lost = λ w f e. absurd (let no : ⊥ = cc in no);
@@ -216,21 +203,21 @@ level_fault false e = cc
 
 -- ---- a commit, and a callback
 
-module _ {M : Type 0} (g : Ghosts (Device M)) (v w : Core M) where
-  pub commit_does : (answer : Committing) → (HasNothingToDo g task.Commit v → ⊥) → Commits g v w answer → DoesTask g task.Commit v w (duty_of_commit answer)
-  commit_does (commits.Done n) due c = record {
+module _ {D : Type 0} (g : Ghosts D) (v w : Core D) where
+  pub commit_does : (m : Moving D) (answer : Committing) → (HasNothingToDo g m task.Commit v → ⊥) → Commits g v w answer → DoesTask g m task.Commit v w (duty_of_commit answer)
+  commit_does m (commits.Done n) due c = record {
     nothing = (λ e. absurd (let no : ⊥ = cc in no), λ none. absurd (due none));
     same = λ e. absurd (let no : ⊥ = cc in no);
     done = λ e. (n, c);
     lost = λ x y e. absurd (let no : ⊥ = cc in no);
   }
-  commit_does (commits.Lost wanted found) due c = record {
+  commit_does m (commits.Lost wanted found) due c = record {
     nothing = (λ e. absurd (let no : ⊥ = cc in no), λ none. absurd (due none));
     same = λ e. absurd (let no : ⊥ = cc in no);
     done = λ e. absurd (let no : ⊥ = cc in no);
     lost = λ x y e. (λ same. c.1 (let one : found ≡ wanted = cc in one), c.2);
   }
-  commit_does commits.Fault due c = record {
+  commit_does m commits.Fault due c = record {
     nothing = (λ e. absurd (let no : ⊥ = cc in no), λ none. absurd (due none));
     same = λ e. absurd (let no : ⊥ = cc in no);
     done = λ e. absurd (let no : ⊥ = cc in no);
@@ -242,26 +229,26 @@ module _ {M : Type 0} (g : Ghosts (Device M)) (v w : Core M) where
   commit_keeps_lines (commits.Lost wanted found) c = c.0.same_flight
   commit_keeps_lines commits.Fault c = c.same_flight
 
-  pub handle_does : (number : ℕ) (answer : DutyAnswer) → Handles g number v w answer → DoesTask g (task.Handle number) v w answer
-  handle_does number duty.Did h = record {
+  pub handle_does : (m : Moving D) (number : ℕ) (answer : DutyAnswer) → Handles g number v w answer → DoesTask g m (task.Handle number) v w answer
+  handle_does m number duty.Did h = record {
     nothing = (λ e. absurd (let no : ⊥ = cc in no), λ none. absurd (none h.0));
     same = λ e. absurd (let no : ⊥ = cc in no);
     done = λ e. h.1;
     lost = λ x y e. absurd (let no : ⊥ = cc in no);
   }
-  handle_does number duty.Nothing h = record {
+  handle_does m number duty.Nothing h = record {
     nothing = (λ e. h.0, λ none. refl);
     same = λ e. h.1;
     done = λ e. absurd (let no : ⊥ = cc in no);
     lost = λ x y e. absurd (let no : ⊥ = cc in no);
   }
-  handle_does number duty.Fault h = record {
+  handle_does m number duty.Fault h = record {
     nothing = (λ e. absurd (let no : ⊥ = cc in no), λ none. absurd (none h));
     same = λ e. absurd (let no : ⊥ = cc in no);
     done = λ e. absurd (let no : ⊥ = cc in no);
     lost = λ x y e. absurd (let no : ⊥ = cc in no);
   }
-  handle_does number (duty.Lost wanted found) h = record {
+  handle_does m number (duty.Lost wanted found) h = record {
     nothing = (λ e. absurd (let no : ⊥ = cc in no), λ none. absurd (none h.0));
     same = λ e. absurd (let no : ⊥ = cc in no);
     done = λ e. absurd (let no : ⊥ = cc in no);
@@ -270,38 +257,38 @@ module _ {M : Type 0} (g : Ghosts (Device M)) (v w : Core M) where
 
 -- ---- any volume
 
-stays_itself : {M : Type 0} (g : Ghosts (Device M)) (v : Core M) (which : Duty) → Stays g which v v
+stays_itself : {D : Type 0} (g : Ghosts D) (v : Core D) (which : Duty) → Stays g which v v
 stays_itself g v task.Copy = record { reads = reads_itself g v.device; read_faults = refl; others = refl }
 stays_itself g v task.Erase = record { reads = reads_itself g v.device; read_faults = refl; others = refl }
 stays_itself g v (task.Handle number) = refl
 stays_itself g v task.Commit = refl
 stays_itself g v task.Level = record { reads = reads_itself g v.device; read_faults = refl; others = refl }
 
-pub nothing_does : {M : Type 0} (g : Ghosts (Device M)) (v : Core M) → HasNothingToDo g task.Commit v → DoesTask g task.Commit v v duty.Nothing
-nothing_does g v none = record {
+pub nothing_does : {D : Type 0} (g : Ghosts D) (m : Moving D) (v : Core D) → HasNothingToDo g m task.Commit v → DoesTask g m task.Commit v v duty.Nothing
+nothing_does g m v none = record {
   nothing = (λ e. none, λ why. refl);
   same = λ e. refl;
   done = λ e. absurd (let no : ⊥ = cc in no);
   lost = λ w f e. absurd (let no : ⊥ = cc in no);
 }
 
-pub rest_does : {M : Type 0} (g : Ghosts (Device M)) (v : Core M) (which : Duty) → IsAtRest g v → DoesDuty g which v v duty.Nothing
-rest_does g v which rest = record {
+pub rest_does : {D : Type 0} (g : Ghosts D) (m : Moving D) (v : Core D) (which : Duty) → IsAtRest g v → DoesDuty g m which v v duty.Nothing
+rest_does g m v which rest = record {
   nothing = (λ e. inl rest, λ why. refl);
   same = λ e. stays_itself g v which;
   done = λ e. absurd (let no : ⊥ = cc in no);
   lost = λ w f e. absurd (let no : ⊥ = cc in no);
 }
 
-pub task_does : {M : Type 0} (g : Ghosts (Device M)) (v w : Core M) (which : Duty) (answer : DutyAnswer) → (IsAtRest g v → ⊥) → DoesTask g which v w answer → DoesDuty g which v w answer
-task_does g v w which answer runs d = record {
+pub task_does : {D : Type 0} (g : Ghosts D) (m : Moving D) (v w : Core D) (which : Duty) (answer : DutyAnswer) → (IsAtRest g v → ⊥) → DoesTask g m which v w answer → DoesDuty g m which v w answer
+task_does g m v w which answer runs d = record {
   nothing = (λ e. inr (d.nothing.0 e), λ why. d.nothing.1 (⊎_elim (λ rest. absurd (runs rest)) (λ none. none) why));
   same = d.same;
   done = d.done;
   lost = d.lost;
 }
 
-pub runs_then : {M : Type 0} (g : Ghosts (Device M)) (v : Core M) → (IsAtRest g v → ⊥) → (v.stopped ≡ 0) × (g.next_stamp v.device < 2 ^ 62)
+pub runs_then : {D : Type 0} (g : Ghosts D) (v : Core D) → (IsAtRest g v → ⊥) → (v.stopped ≡ 0) × (g.next_stamp v.device < 2 ^ 62)
 runs_then g v runs = (
   ⊎_elim (λ none. none) (λ off. absurd (runs (inl off))) (cases_eq v.stopped 0),
   ⊎_elim (λ low. low) (λ high. absurd (runs (inr high))) (cases_lt (g.next_stamp v.device) (2 ^ 62)),

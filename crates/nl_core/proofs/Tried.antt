@@ -8,7 +8,6 @@ use Rattle.nl_field.specs.Spelling.{is_stamp}
 use Rattle.nl_field.specs.declared.pointer.Pointer.{Pointer}
 use Rattle.nl_field.specs.declared.pointer.Tag.{Tag}
 use Rattle.nl_field.specs.declared.shape.Shape.{Shape}
-use Rattle.nl_device.specs.declared.device.Device.{Device}
 use Rattle.nl_drain.specs.Blocked.{drained_stop}
 use Rattle.nl_drain.specs.Handled.{SameButNames, nameless, nameless_line}
 use Rattle.nl_drain.specs.Laws.{TreesStay}
@@ -145,7 +144,7 @@ reads_rise g s t (Some (stop.Lost w f)) r = let same = r.0 in omega (arith, same
 
 -- ---- a core of which one callback was tried
 
-module _ {M : Type 0} (g : Ghosts (Device M)) (v w : Core M) (mark number : ℕ) (answer : Option Drained) (b : TriesNumber g mark number v w answer) (core : IsCore g v) (volume : IsVolumeShape (g.shape v.device))
+module _ {D : Type 0} (g : Ghosts D) (v w : Core D) (mark number : ℕ) (answer : Option Drained) (b : TriesNumber g mark number v w answer) (core : IsCore g v) (volume : IsVolumeShape (g.shape v.device))
     (is : mark ≡ begun_of v + 1) (stores : g.tells → StoresPages g w.device) (trees_stay : TreesStay) (names : IsNames (g.shape v.device) (g.next_stamp v.device) (names_of g v)) (table : IsTable (names_of g v)) where
   kept : KeepsMedium g v.device w.device
   kept = b.handles.medium
@@ -160,7 +159,7 @@ module _ {M : Type 0} (g : Ghosts (Device M)) (v w : Core M) (mark number : ℕ)
   writes_most = let same = kept.write_faults in omega (arith, same)
 
   same_stopped : w.stopped ≡ v.stopped
-  same_stopped = ap (λ (x : Core M). x.stopped) b.others
+  same_stopped = ap (λ (x : Core D). x.stopped) b.others
 
   ran : w.stopped ≡ 0 → v.stopped ≡ 0
   ran none = sym same_stopped ∙ none
@@ -235,8 +234,9 @@ module _ {M : Type 0} (g : Ghosts (Device M)) (v w : Core M) (mark number : ℕ)
         room = subst (λ (h : Shape). h.pblocks * h.pages ≤ length w.freeing.items + w.freeing.room) (sym same_shape) (let r = s.room in omega (arith, r, freeing, rooms));
       }
 
-  pub tried_core : IsCore g w
-  tried_core = subst (λ (x : Core M). IsCore g x) (sym b.others) (record {
+  pub tried_core : g.formed w.device → IsCore g w
+  tried_core formed = subst (λ (x : Core D). IsCore g x) (sym b.others) (record {
+    formed = formed;
     shape = core.shape ∙ sym same_shape;
     journaled = steps_journaled g v.device w.device v.journal v.meta w.meta volume core.journaled kept.virtual b.handles.pages b.runs;
     free = free_on;
@@ -270,7 +270,7 @@ module _ {M : Type 0} (g : Ghosts (Device M)) (v w : Core M) (mark number : ℕ)
   renamed_as page_of_stamp tree at = runs_renamed (g.shape w.device) (running_of g v) (running_of g w) same_names page_of_stamp (names_of g w) leads_on trees_stay tree
       (subst (λ (h : Shape). RunsAs h (running_of g v) page_of_stamp tree) (sym same_shape) at)
 
-  abbrev now : Core M
+  abbrev now : Core D
   now = record v { device = w.device; meta = w.meta; flight = w.flight; freeing = w.freeing }
 
   runs_now : g.tells → (page_of_stamp : ℕ → Option PageOfStamp) (tree : Tree) → CoreRuns g v page_of_stamp tree → CoreRuns g now page_of_stamp tree
@@ -297,7 +297,7 @@ module _ {M : Type 0} (g : Ghosts (Device M)) (v w : Core M) (mark number : ℕ)
   told_before told = subst (λ (f : Frozen). HasNumber v.journal (length f.addresses)) b.handles.pages.same_frozen told.numbers
 
   pub tried_goes : Goes g 0 v w
-  tried_goes = subst (λ (x : Core M). Goes g 0 v x) (sym b.others) (record {
+  tried_goes = subst (λ (x : Core D). Goes g 0 v x) (sym b.others) (record {
     same_shape = same_shape;
     count = refl;
     nodes = b.handles.nodes;
@@ -307,7 +307,7 @@ module _ {M : Type 0} (g : Ghosts (Device M)) (v w : Core M) (mark number : ℕ)
     writes = writes_most;
     clock = let same = kept.clock in omega (arith, same);
     moment = inl (refl, refl);
-    stops = subst (λ (x : Core M). Stops g v x) b.others stops;
+    stops = subst (λ (x : Core D). Stops g v x) b.others stops;
     stamps = record {
       never_falls = let n = kept.next_stamp in omega (arith, n);
       at_most = let n = kept.next_stamp in omega (arith, n);

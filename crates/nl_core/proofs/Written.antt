@@ -7,7 +7,6 @@ use Rattle.nl_field.specs.declared.answers.VirtualWrite.{VirtualWrite}
 use Rattle.nl_field.specs.SuperPage.{super_bytes}
 use Rattle.nl_field.specs.PointerItems.{PointerItems}
 use Rattle.nl_field.specs.declared.shape.Shape.{Shape}
-use Rattle.nl_device.specs.declared.device.Device.{Device}
 use Rattle.nl_flight.specs.Flight.{InFlight, IsFlight, carried}
 use Rattle.nl_holders.specs.Holding.{MarkedTo}
 use Rattle.nl_iface.specs.Calls.{NoWriteFailed, StoresPages}
@@ -74,7 +73,7 @@ below_end before now none = ⊎_elim (λ low. omega (arith, low)) (λ high. absu
 pub same_below_end : (before now : ℕ) → before < top → now ≡ before → Rose before now → ⊥
 same_below_end before now low same rose = omega (arith, low, same, rose)
 
-module _ {M : Type 0} (g : Ghosts (Device M)) (v w : Core M) (is : w.stopped ≡ stopped_on g (g.write_faults v.device) v w) (reads : g.read_faults v.device ≤ g.read_faults w.device)
+module _ {D : Type 0} (g : Ghosts D) (v w : Core D) (is : w.stopped ≡ stopped_on g (g.write_faults v.device) v w) (reads : g.read_faults v.device ≤ g.read_faults w.device)
     (writes : g.write_faults v.device ≤ g.write_faults w.device) where
   pub none_failed_on : w.stopped ≡ 0 → NoWriteFailed g v.device w.device
   none_failed_on none = not_rose v.stopped (g.read_faults w.device) (g.write_faults v.device) (g.write_faults w.device) (sym is ∙ none)
@@ -114,7 +113,7 @@ module _ (shape : Shape) (old new : VirtualMap) (volume : IsVolumeShape shape) (
       uses_to : (a : ℕ) → Uses shape old a → Uses shape new a
       uses_to a u = (u.0, u.1, record { rec = u.2.rec; is_node = node-to shape (bounds-of shape volume) old new same u.0 u.2.rec u.2.is_node; in_slot = u.2.in_slot; not_zero = u.2.not_zero })
 
-module _ {M : Type 0} (g : Ghosts (Device M)) (v w : Core M) (same_shape : g.shape w.device ≡ g.shape v.device) (volume : IsVolumeShape (g.shape v.device))
+module _ {D : Type 0} (g : Ghosts D) (v w : Core D) (same_shape : g.shape w.device ≡ g.shape v.device) (volume : IsVolumeShape (g.shape v.device))
     (same : (u : ℕ) → IsNeeded (g.shape v.device) (running_of g v) u → running_of g w u ≡ running_of g v u) where
   pub has_free_on : w.nodes ≡ v.nodes → HasFree g v → HasFree g w
   has_free_on nodes f = record {
@@ -133,7 +132,7 @@ module _ {M : Type 0} (g : Ghosts (Device M)) (v w : Core M) (same_shape : g.sha
 
 -- ---- the transactions are written
 
-module _ {M : Type 0} (g : Ghosts (Device M)) (v w : Core M) (answer : VirtualWrite) (b : WritesAll g v w answer) (core : IsCore g v) (volume : IsVolumeShape (g.shape v.device)) (few : begun_of v ≤ 2 ^ 63)
+module _ {D : Type 0} (g : Ghosts D) (v w : Core D) (answer : VirtualWrite) (b : WritesAll g v w answer) (core : IsCore g v) (volume : IsVolumeShape (g.shape v.device)) (few : begun_of v ≤ 2 ^ 63)
     (stores : g.tells → StoresPages g w.device) (writes : v.stopped ≡ 0) where
   abbrev pub pages_counted : Pages
   pages_counted = counted_pages v
@@ -244,8 +243,9 @@ module _ {M : Type 0} (g : Ghosts (Device M)) (v w : Core M) (answer : VirtualWr
         room = subst (λ (h : Shape). h.pblocks * h.pages ≤ length w.freeing.items + w.freeing.room) (sym same_shape) (let r = s.room in omega (arith, r, freeing, rooms));
       }
 
-  pub written_core : IsCore g w
-  written_core = record {
+  pub written_core : g.formed w.device → IsCore g w
+  written_core formed = record {
+    formed = formed;
     shape = b.rest.shape ∙ core.shape ∙ sym same_shape;
     journaled = b.stands.journaled;
     free = has_free_on g v w same_shape volume b.stands.needed b.rest.nodes core.free;

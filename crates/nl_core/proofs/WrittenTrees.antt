@@ -11,7 +11,6 @@ use Rattle.nl_field.specs.declared.answers.VirtualWrite.{VirtualWrite}
 use Rattle.nl_field.specs.declared.answers.VirtualWrite.TheVariants as write
 use Rattle.nl_field.specs.declared.shape.Shape.{Shape}
 use Rattle.nl_field.specs.declared.super_page.SuperRec.{SuperRec}
-use Rattle.nl_device.specs.declared.device.Device.{Device}
 use Rattle.nl_flight.specs.Flight.{carried}
 use Rattle.nl_drain.specs.Handled.{nameless_body}
 use Rattle.nl_iface.specs.Calls.{Leaves, StoresPages}
@@ -59,7 +58,7 @@ super_at : (pages : VirtualMap) (bytes : Option (List ℕ)) → pages 0 ≡ byte
 unfolding super_of_pages
 super_at pages bytes is = ap (option_and_then super_of) is
 
-module _ {M : Type 0} (g : Ghosts (Device M)) (v : Core M) (page_of_stamp : ℕ → Option PageOfStamp) (t : Trees) (held : IsPages v.meta) (at : CoreStands g v page_of_stamp t) (more : IsOpen v.journal v.meta.frozen) where
+module _ {D : Type 0} (g : Ghosts D) (v : Core D) (page_of_stamp : ℕ → Option PageOfStamp) (t : Trees) (held : IsPages v.meta) (at : CoreStands g v page_of_stamp t) (more : IsOpen v.journal v.meta.frozen) where
   abbrev pub shape : Shape
   shape = g.shape v.device
 
@@ -96,7 +95,7 @@ module _ {M : Type 0} (g : Ghosts (Device M)) (v : Core M) (page_of_stamp : ℕ 
 
 -- ---- the trees
 
-module _ {M : Type 0} (g : Ghosts (Device M)) (v w : Core M) (answer : VirtualWrite) (b : WritesAll g v w answer) (core : IsCore g v) (volume : IsVolumeShape (g.shape v.device)) (few : begun_of v ≤ 2 ^ 63)
+module _ {D : Type 0} (g : Ghosts D) (v w : Core D) (answer : VirtualWrite) (b : WritesAll g v w answer) (core : IsCore g v) (volume : IsVolumeShape (g.shape v.device)) (few : begun_of v ≤ 2 ^ 63)
     (stores : g.tells → StoresPages g w.device) (writes : v.stopped ≡ 0) (held : IsPages v.meta) where
   small : IsTold g w → v.count < 2 ^ 63
   small told = subst (λ n. n < 9223372036854775808) b.rest.count told.calls

@@ -1,7 +1,6 @@
 -- What the calls of a core do beside what all of them keep.
 use Rattle.std.specs.Prelude.{◌≡◌, ◌≢◌, ◌⊎◌, ℕ, ◌≤◌, [], map, None}
 use Rattle.nl_field.specs.CrashStates.{Earlier, Rose}
-use Rattle.nl_device.specs.declared.device.Device.{Device}
 use Rattle.nl_drain.specs.Handled.{nameless_line}
 use Rattle.nl_iface.specs.Names.{Has, Names}
 use Rattle.nl_iface.specs.Rounds.{Empties}
@@ -14,11 +13,11 @@ use Rattle.nl_core.specs.Core.{begun_of, names_of}
 use Rattle.nl_core.specs.declared.state.Core.{Core}
 
 -- a count of failures rose where the call failed
-abbrev pub HasCause : {M : Type 0} → Ghosts (Device M) → Type 0 → Core M → Core M → Type 0
+abbrev pub HasCause : {D : Type 0} → Ghosts D → Type 0 → Core D → Core D → Type 0
 HasCause g failed old new = failed → Rose (g.read_faults old.device) (g.read_faults new.device) ⊎ Rose (g.write_faults old.device) (g.write_faults new.device)
 
 -- the lines in flight are those of before, but for the names of their pages
-abbrev pub KeepsLines : {M : Type 0} → Core M → Core M → Type 0
+abbrev pub KeepsLines : {D : Type 0} → Core D → Core D → Type 0
 KeepsLines old new = map nameless_line new.flight ≡ map nameless_line old.flight
 
 -- Callbacks that are pending then were pending before, and unhandled.
@@ -27,7 +26,7 @@ pub record Acknowledged (old new : Names) : Type 0 where
   pub posted : new.posted ≡ old.posted
 
 -- All calls so far are committed. Nothing is frozen or dirty, no page awaits its free, and each callback that was handled is acknowledged.
-pub record CommitsAll {M : Type 0} (g : Ghosts (Device M)) (old new : Core M) (number : ℕ) : Type 0 where
+pub record CommitsAll {D : Type 0} (g : Ghosts D) (old new : Core D) (number : ℕ) : Type 0 where
   pub is_next : number ≡ next_after (begun_of old)
   pub clean : new.meta.dirty ≡ []
   pub thawed : new.meta.frozen.addresses ≡ []
@@ -41,12 +40,12 @@ pub record CommitsAll {M : Type 0} (g : Ghosts (Device M)) (old new : Core M) (n
   pub space : new.stopped ≡ 0 → Empties (names_of g old).space (names_of g new).space
 
 -- Where it was not done, pages and callbacks are as before, and the metadata is as it runs.
-pub record CommitsNot {M : Type 0} (g : Ghosts (Device M)) (old new : Core M) : Type 0 where
+pub record CommitsNot {D : Type 0} (g : Ghosts D) (old new : Core D) : Type 0 where
   pub same_flight : new.flight ≡ old.flight
   pub same_nodes : new.nodes ≡ old.nodes
   pub same_freeing : new.freeing ≡ old.freeing
 
-abbrev pub Commits : {M : Type 0} → Ghosts (Device M) → Core M → Core M → Committing → Type 0
+abbrev pub Commits : {D : Type 0} → Ghosts D → Core D → Core D → Committing → Type 0
 Commits g old new (commits.Done number) = CommitsAll g old new number
 Commits g old new (commits.Lost w f) = CommitsNot g old new × (f ≢ w) × (g.tells → ⊥)
 Commits g old new commits.Fault = CommitsNot g old new

@@ -6,7 +6,6 @@ use Rattle.nl_field.specs.Spelling.{is_stamp}
 use Rattle.nl_field.specs.declared.pointer.Pointer.{Pointer}
 use Rattle.nl_field.specs.declared.pointer.Tag.{Tag}
 use Rattle.nl_field.specs.declared.shape.Shape.{Shape}
-use Rattle.nl_device.specs.declared.device.Device.{Device}
 use Rattle.nl_flight.specs.Flight.{IsFlight, carried}
 use Rattle.nl_holders.specs.Holding.{MarkedTo}
 use Rattle.nl_iface.specs.Holders.{Holders, IsCounted}
@@ -25,29 +24,29 @@ use Rattle.nl_held.specs.Standing.{IsFirm}
 use Rattle.nl_core.specs.declared.state.Core.{Core}
 
 -- what is seen of the device: its names, and the metadata as it runs
-abbrev pub names_of : {M : Type 0} → Ghosts (Device M) → Core M → Names
+abbrev pub names_of : {D : Type 0} → Ghosts D → Core D → Names
 names_of g v = g.names v.device
 
-abbrev pub running_of : {M : Type 0} → Ghosts (Device M) → Core M → VirtualMap
+abbrev pub running_of : {D : Type 0} → Ghosts D → Core D → VirtualMap
 running_of g v = running_on g v.device v.meta
 
 -- the number of the last transaction that was begun
-abbrev pub begun_of : {M : Type 0} → Core M → ℕ
+abbrev pub begun_of : {D : Type 0} → Core D → ℕ
 begun_of v = begun v.journal (length v.meta.frozen.addresses)
 
-abbrev pub holders_of : {M : Type 0} → Ghosts (Device M) → Core M → Holders
+abbrev pub holders_of : {D : Type 0} → Ghosts D → Core D → Holders
 holders_of g v = record { running = running_holders g v.device v.meta; flight = carried v.flight; freeing = v.freeing.items }
 
 -- What writes need: the virtual segment keeps a spare block, the live pages of a victim can land, and what is stored can be opened. One more write
 -- that fails can be counted.
-pub record CanWrite {M : Type 0} (g : Ghosts (Device M)) (v : Core M) : Type 0 where
+pub record CanWrite {D : Type 0} (g : Ghosts D) (v : Core D) : Type 0 where
   pub spare : g.keeps_spare v.device
   pub lands : CanLand (names_of g v).space
   pub firm : IsTold g v.journal v.meta → IsFirm g v.device
   pub counts : g.write_faults v.device < top
 
 -- The free numbers and addresses are those that no used node has.
-pub record HasFree {M : Type 0} (g : Ghosts (Device M)) (v : Core M) : Type 0 where
+pub record HasFree {D : Type 0} (g : Ghosts D) (v : Core D) : Type 0 where
   pub count_nodes : length v.nodes.nodes ≡ (g.shape v.device).nodes
   pub count_pool : length v.nodes.pool ≡ (g.shape v.device).meta
   pub nodes : NodesAreFree (g.shape v.device) (running_of g v) v.nodes
@@ -55,7 +54,7 @@ pub record HasFree {M : Type 0} (g : Ghosts (Device M)) (v : Core M) : Type 0 wh
 
 -- The live pages are those of the holders, and the files have no more than the volume may have. The other pages of the segment are enough
 -- for the cleaner and for what is in flight.
-pub record HasSpace {M : Type 0} (g : Ghosts (Device M)) (v : Core M) : Type 0 where
+pub record HasSpace {D : Type 0} (g : Ghosts D) (v : Core D) : Type 0 where
   pub counted : IsCounted (names_of g v) (holders_of g v)
   pub few : length (running_holders g v.device v.meta) ≤ (g.shape v.device).cap
   pub all : (names_of g v).space.all ≡ (g.shape v.device).cap + ((names_of g v).space.keep + (names_of g v).space.bad + 3) * (names_of g v).space.block + 160
@@ -65,7 +64,9 @@ pub record HasSpace {M : Type 0} (g : Ghosts (Device M)) (v : Core M) : Type 0 w
 abbrev pub IsPhysical : Shape → ℕ → Type 0
 IsPhysical shape name = (first_physical shape ≤ name) × (name < shape.blocks * shape.pages)
 
-pub record IsCore {M : Type 0} (g : Ghosts (Device M)) (v : Core M) : Type 0 where
+pub record IsCore {D : Type 0} (g : Ghosts D) (v : Core D) : Type 0 where
+  -- the device is formed,
+  pub formed : g.formed v.device
   pub shape : v.shape ≡ g.shape v.device
   -- the metadata runs, and its journal is in order,
   pub journaled : IsJournaled g v.device v.journal v.meta

@@ -2,7 +2,6 @@
 use Rattle.std.specs.Prelude.{◌≡◌, ◌⊎◌, ℕ, ◌≤◌, List, length, map, Some, slice_get}
 use Rattle.nl_field.specs.declared.pointer.Pointer.{Pointer}
 use Rattle.nl_commit.specs.Freeing.{FreesEach, FreesOne}
-use Rattle.nl_device.specs.declared.device.Device.{Device}
 use Rattle.nl_flight.specs.Flight.{InFlight, begun, of_worker, with_line}
 use Rattle.nl_flight.specs.declared.page.FlightPage.{FlightPage}
 use Rattle.nl_iface.specs.Calls.{KeepsMedium}
@@ -24,7 +23,7 @@ pub record FreesLine {D : Type 0} (g : Ghosts D) (now : InFlight) (old new : D) 
   pub read_faults : g.read_faults new ≡ g.read_faults old
 
 -- The worker has no line, and the pages of the one that it had are freed. Other lines and all else stay.
-pub record DropsLine {M : Type 0} (g : Ghosts (Device M)) (worker : ℕ) (old new : Core M) : Type 0 where
+pub record DropsLine {D : Type 0} (g : Ghosts D) (worker : ℕ) (old new : Core D) : Type 0 where
   pub frees : FreesLine g (of_worker old.flight worker) old.device new.device
   pub flight : new.flight ≡ with_line old.flight worker (begun 0)
   pub others : new ≡ record old { device = new.device; flight = new.flight }

@@ -3,7 +3,6 @@ use Rattle.std.specs.Prelude.{◌≡◌, ◌⊎◌, ℕ, ◌+◌, ◌≤◌, Opt
 use Rattle.nl_field.specs.CrashStates.{Earlier, Rose, saturated}
 use Rattle.nl_field.specs.Members.{Has}
 use Rattle.nl_tree.specs.Tree.{Tree}
-use Rattle.nl_device.specs.declared.device.Device.{Device}
 use Rattle.nl_drain.specs.Handled.{SameButNames}
 use Rattle.nl_iface.specs.Calls.{Leaves}
 use Rattle.nl_iface.specs.declared.counts.Counts.{Ghosts}
@@ -20,7 +19,7 @@ use Rattle.nl_core.specs.declared.state.Core.{Core}
 
 -- The core stands for the same tree of all calls. What is committed is what was committed before or frozen, or all calls; each page that was
 -- programmed before holds what it held.
-pub record GoesTo {M : Type 0} (g : Ghosts (Device M)) (old new : Core M) (page_of_stamp : ℕ → Option PageOfStamp) (t : Trees) : Type 0 where
+pub record GoesTo {D : Type 0} (g : Ghosts D) (old new : Core D) (page_of_stamp : ℕ → Option PageOfStamp) (t : Trees) : Type 0 where
   pub pages : ℕ → Option PageOfStamp
   pub trees : Trees
   pub stands : CoreStands g new pages trees
@@ -31,13 +30,13 @@ pub record GoesTo {M : Type 0} (g : Ghosts (Device M)) (old new : Core M) (page_
   pub later : t.committed.0 ≤ trees.committed.0
 
 -- It runs as the tree, and each page that was programmed before holds what it held.
-pub record RunsOnAs {M : Type 0} (g : Ghosts (Device M)) (new : Core M) (page_of_stamp : ℕ → Option PageOfStamp) (tree : Tree) : Type 0 where
+pub record RunsOnAs {D : Type 0} (g : Ghosts D) (new : Core D) (page_of_stamp : ℕ → Option PageOfStamp) (tree : Tree) : Type 0 where
   pub pages : ℕ → Option PageOfStamp
   pub extends : Extends page_of_stamp pages
   pub runs : CoreRuns g new pages tree
 
 -- The volume is read-only from the first write on that failed, under the sum of both fault counts.
-pub record Stops {M : Type 0} (g : Ghosts (Device M)) (old new : Core M) : Type 0 where
+pub record Stops {D : Type 0} (g : Ghosts D) (old new : Core D) : Type 0 where
   pub stands : (old.stopped ≡ 0 → ⊥) → new.stopped ≡ old.stopped
   pub none : new.stopped ≡ 0 → Rose (g.write_faults old.device) (g.write_faults new.device) → ⊥
   pub some : old.stopped ≡ 0 → (new.stopped ≡ 0 → ⊥)
@@ -45,7 +44,7 @@ pub record Stops {M : Type 0} (g : Ghosts (Device M)) (old new : Core M) : Type 
       × (Rose (g.read_faults old.device + g.write_faults old.device) new.stopped × (new.stopped ≤ saturated (g.read_faults new.device + g.write_faults new.device)))
 
 -- Since this clock, when the number of the last transaction was this one, it has risen by no more than the clock.
-abbrev pub PaidSince : {M : Type 0} → Ghosts (Device M) → ℕ → ℕ → Core M → Type 0
+abbrev pub PaidSince : {D : Type 0} → Ghosts D → ℕ → ℕ → Core D → Type 0
 PaidSince g clock number v = NumberPaid clock number (g.clock v.device) v.journal.number
 
 -- It is the volume that it was, but for what a call does beside: the same calls were answered, and nodes have other names of pages at most.
@@ -53,7 +52,7 @@ PaidSince g clock number v = NumberPaid clock number (g.clock v.device) v.journa
 -- commit page that was finished since. Where the medium tells its contents, it runs on as the tree as which it ran. Where counts have not ended
 -- either, it goes on to stand for the trees for which it stood, and what a stop leaves opens as one of them, from the moment of the last commit
 -- page on as none earlier than what that one committed.
-pub record Goes {M : Type 0} (g : Ghosts (Device M)) (most : ℕ) (old new : Core M) : Type 0 where
+pub record Goes {D : Type 0} (g : Ghosts D) (most : ℕ) (old new : Core D) : Type 0 where
   pub same_shape : g.shape new.device ≡ g.shape old.device
   pub count : new.count ≡ old.count
   pub nodes : SameButNames (graph_of (g.shape old.device) (running_of g old)) (graph_of (g.shape new.device) (running_of g new))

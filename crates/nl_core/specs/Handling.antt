@@ -2,7 +2,6 @@
 use Rattle.std.specs.Prelude.{◌≡◌, ℕ, ⊤, Option, Some, None, IfNone, IfSome, option_and_then}
 use Rattle.nl_tree.specs.declared.turn.DutyAnswer.{DutyAnswer}
 use Rattle.nl_tree.specs.declared.turn.DutyAnswer.TheVariants as duty
-use Rattle.nl_device.specs.declared.device.Device.{Device}
 use Rattle.nl_drain.specs.Blocked.{IsBlocked, drained_stop}
 use Rattle.nl_drain.specs.Handled.{HandlesSome, Volume, volume}
 use Rattle.nl_drain.specs.declared.draining.Drained.{Drained}
@@ -18,7 +17,7 @@ use Rattle.nl_core.specs.Core.{names_of}
 use Rattle.nl_core.specs.declared.state.Core.{Core}
 
 -- the volume as those see it that handle callbacks
-abbrev pub volume_of : {M : Type 0} → Core M → Volume (Device M)
+abbrev pub volume_of : {D : Type 0} → Core D → Volume D
 volume_of v = volume v.device v.meta v.flight v.freeing.items
 
 -- a callback of this number is pending
@@ -29,13 +28,13 @@ IsPending names number = (c : Callback) × Has names.pending c × (c.number ≡ 
 
 -- Where it was done, the callback counts as handled by this transaction, or by the earlier one that it had. Else no name changed, and there
 -- is `NoRoom` only where the metadata has the pointer in a page that cannot be made dirty.
-pub record TriesCallback {M : Type 0} (g : Ghosts (Device M)) (mark : ℕ) (old new : Core M) (c : Callback) (answer : Drained) : Type 0 where
+pub record TriesCallback {D : Type 0} (g : Ghosts D) (mark : ℕ) (old new : Core D) (c : Callback) (answer : Drained) : Type 0 where
   pub done : answer ≡ drained.Done → Marks c mark (names_of g old) (names_of g new)
   pub same : (answer ≡ drained.Done → ⊥) → (names_of g new ≡ names_of g old) × (new.meta.dirty ≡ old.meta.dirty)
   pub no_room : answer ≡ drained.NoRoom → IsBlocked g (volume_of new) c
 
 -- The pending callback of the number was tried; or there is none, and all is as before.
-pub record TriesNumber {M : Type 0} (g : Ghosts (Device M)) (mark number : ℕ) (old new : Core M) (answer : Option Drained) : Type 0 where
+pub record TriesNumber {D : Type 0} (g : Ghosts D) (mark number : ℕ) (old new : Core D) (answer : Option Drained) : Type 0 where
   pub others : new ≡ record old { device = new.device; meta = new.meta; flight = new.flight; freeing = new.freeing }
   pub runs : Runs g new.device new.meta
   pub handles : HandlesSome g mark (volume_of old) (volume_of new)
@@ -48,14 +47,14 @@ pub record TriesNumber {M : Type 0} (g : Ghosts (Device M)) (mark number : ℕ) 
 
 -- The callback of the number is pending no longer, or counts as handled. Those that are unhandled then were, and none was posted, so that handling
 -- one after the other ends with all handled. Where no write has failed, the space is as after a commit at most.
-pub record HandlesNumber {M : Type 0} (g : Ghosts (Device M)) (number : ℕ) (old new : Core M) : Type 0 where
+pub record HandlesNumber {D : Type 0} (g : Ghosts D) (number : ℕ) (old new : Core D) : Type 0 where
   pub handled : IsUnhandled (names_of g new) number → ⊥
   pub others : (c : Callback) → Has (names_of g new).pending c → (names_of g new).handled c.number ≡ None → Has (names_of g old).pending c × ((names_of g old).handled c.number ≡ None)
   pub posted : (names_of g new).posted ≡ (names_of g old).posted
   pub space : new.stopped ≡ 0 → Empties (names_of g old).space (names_of g new).space
 
 -- What the call does once room was made. A page is lost only with another number found, and never where the medium tells what it stores.
-abbrev pub HandlesWithRoom : {M : Type 0} → Ghosts (Device M) → ℕ → Core M → Core M → DutyAnswer → Type 0
+abbrev pub HandlesWithRoom : {D : Type 0} → Ghosts D → ℕ → Core D → Core D → DutyAnswer → Type 0
 HandlesWithRoom g number old new duty.Did = HandlesNumber g number old new
 HandlesWithRoom g number old new duty.Nothing = ⊥
 HandlesWithRoom g number old new duty.Fault = ⊤
@@ -70,7 +69,7 @@ duty_of (Some drained.Fault) = duty.Fault
 duty_of (Some (drained.Lost w f)) = duty.Lost w f
 
 -- `Nothing` exactly where no callback of the number is pending; then all is as before.
-abbrev pub Handles : {M : Type 0} → Ghosts (Device M) → ℕ → Core M → Core M → DutyAnswer → Type 0
+abbrev pub Handles : {D : Type 0} → Ghosts D → ℕ → Core D → Core D → DutyAnswer → Type 0
 Handles g number old new duty.Did = IsPending (names_of g old) number × HandlesNumber g number old new
 Handles g number old new duty.Nothing = (IsPending (names_of g old) number → ⊥) × (new ≡ old)
 Handles g number old new duty.Fault = IsPending (names_of g old) number

@@ -4,7 +4,6 @@ use Rattle.nl_field.specs.Spelling.{is_stamp}
 use Rattle.nl_field.specs.declared.pointer.Pointer.{Pointer}
 use Rattle.nl_field.specs.declared.pointer.Tag.{Tag}
 use Rattle.nl_field.specs.declared.shape.Shape.{Shape}
-use Rattle.nl_device.specs.declared.device.Device.{Device}
 use Rattle.nl_drain.specs.Handled.{SameButNames}
 use Rattle.nl_flight.specs.Flight.{carried}
 use Rattle.nl_iface.specs.Calls.{stored}
@@ -20,18 +19,18 @@ use Rattle.nl_core.specs.Trees.{CoreStands, IsTold}
 use Rattle.nl_core.specs.declared.state.Core.{Core}
 
 -- What is stored now opens as the committed tree.
-abbrev pub StoredOpens : {M : Type 0} → Ghosts (Device M) → Core M → Type 0
+abbrev pub StoredOpens : {D : Type 0} → Ghosts D → Core D → Type 0
 StoredOpens g v = IsTold g v → (page_of_stamp : ℕ → Option PageOfStamp) (t : Trees) → CoreStands g v page_of_stamp t → OpensAs (g.shape v.device) (stored g v.device) t.committed
 
 -- A page in flight is live where its pointer leads, under its owner and its write sequence number, which was given. The pointer has a spelling: its
 -- number, and a name of the physical segment.
-pub record LeadsLive {M : Type 0} (g : Ghosts (Device M)) (v : Core M) (x : Tag × Pointer) : Type 0 where
+pub record LeadsLive {D : Type 0} (g : Ghosts D) (v : Core D) (x : Tag × Pointer) : Type 0 where
   pub live : (names_of g v).live (led (names_of g v) x.1.name) ≡ Some (record { tag = x.0; stamp = x.1.stamp })
   pub given : x.1.stamp < g.next_stamp v.device
   pub spelled : IsTrue (is_stamp x.1.stamp)
   pub physical : IsTrue (is_physical_name (g.shape v.device) x.1)
 
-abbrev pub FlightLeads : {M : Type 0} → Ghosts (Device M) → Core M → Type 0
+abbrev pub FlightLeads : {D : Type 0} → Ghosts D → Core D → Type 0
 FlightLeads g v = (x : Tag × Pointer) → Has (carried v.flight) x → LeadsLive g v x
 
 -- Where nodes are the same but for names of pages, files have as many pages.

@@ -6,6 +6,7 @@ pub mod Duties
 pub mod Goes
 pub mod Handling
 pub mod Laws
+pub mod Lines
 pub mod Programming
 pub mod Rounds
 pub mod Trees

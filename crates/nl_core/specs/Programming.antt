@@ -4,7 +4,6 @@ use Rattle.nl_field.specs.declared.answers.Named.{Named}
 use Rattle.nl_field.specs.declared.answers.Named.TheVariants as named
 use Rattle.nl_field.specs.declared.pointer.Pointer.{Pointer}
 use Rattle.nl_field.specs.declared.pointer.Tag.{Tag}
-use Rattle.nl_device.specs.declared.device.Device.{Device}
 use Rattle.nl_drain.specs.Handled.{nameless_line}
 use Rattle.nl_flight.specs.Flight.{InFlight, begun, carried, of_worker, with_line}
 use Rattle.nl_iface.specs.Answers.{IfPlaced, IfRefused, IsPlaced, IsTriedNamed}
@@ -47,13 +46,13 @@ pub record Programs {D : Type 0} (g : Ghosts D) (tag : Tag) (main : List ℕ) (a
   pub retired : NoneRetired (g.names old).space (g.names new).space
 
 -- The page is placed under the pointer, and in flight behind the others of the worker's line.
-pub record PutsPage {M : Type 0} (g : Ghosts (Device M)) (worker line : ℕ) (tag : Tag) (main : List ℕ) (old new : Core M) (at : Pointer) : Type 0 where
+pub record PutsPage {D : Type 0} (g : Ghosts D) (worker line : ℕ) (tag : Tag) (main : List ℕ) (old new : Core D) (at : Pointer) : Type 0 where
   pub places : Places g tag main 0 (names_of g old) old.device new.device at
   pub flight : new.flight ≡ with_page old.flight worker line tag at
   pub others : new ≡ record old { device = new.device; flight = new.flight; stopped = new.stopped }
 
 -- No page is placed, for want of room or by a fault, and those in flight are the same. Where it was refused, nothing was written.
-pub record PutsNone {M : Type 0} (g : Ghosts (Device M)) (answer : Named) (old new : Core M) : Type 0 where
+pub record PutsNone {D : Type 0} (g : Ghosts D) (answer : Named) (old new : Core D) : Type 0 where
   pub none : PlacesNone g answer old.device new.device
   pub not_live : answer ≡ named.NotLive → ⊥
   pub others : new ≡ record old { device = new.device; stopped = new.stopped }
@@ -67,7 +66,7 @@ last_stamp = 2 ^ 62 + 2 ^ 40
 
 -- A page with these bytes is live under the pointer, and in flight behind the others of the worker's line, which are those of before but for the
 -- names of their pages. Its write sequence number was not given before.
-pub record PutsInFlight {M : Type 0} (g : Ghosts (Device M)) (worker line : ℕ) (tag : Tag) (main : List ℕ) (old new : Core M) : Type 0 where
+pub record PutsInFlight {D : Type 0} (g : Ghosts D) (worker line : ℕ) (tag : Tag) (main : List ℕ) (old new : Core D) : Type 0 where
   pub at : Pointer
   pub flight : map nameless_line new.flight ≡ map nameless_line (with_page old.flight worker line tag at)
   pub is_in_flight : Has (carried new.flight) (tag, at)
@@ -77,7 +76,7 @@ pub record PutsInFlight {M : Type 0} (g : Ghosts (Device M)) (worker line : ℕ)
 
 -- What a program does by its answer. Where it did none, the lines in flight are those of before; where it was stopped, all is as before. A page is
 -- lost only with another number found, and never where the medium tells what it stores.
-abbrev pub ProgramsFor : {M : Type 0} → Ghosts (Device M) → ℕ → ℕ → Tag → List ℕ → Core M → Core M → Programmed → Type 0
+abbrev pub ProgramsFor : {D : Type 0} → Ghosts D → ℕ → ℕ → Tag → List ℕ → Core D → Core D → Programmed → Type 0
 ProgramsFor g worker line tag main old new programmed.InFlight = PutsInFlight g worker line tag main old new
 ProgramsFor g worker line tag main old new programmed.Stopped = new ≡ old
 ProgramsFor g worker line tag main old new (programmed.Lost w f) = KeepsLines old new × (f ≢ w) × (g.tells → ⊥)

@@ -1,30 +1,39 @@
 -- What a round of reclaiming does to a core.
-use Rattle.std.specs.Prelude.{◌≡◌, ◌≢◌, ◌≤◌, ⊤, []}
-use Rattle.nl_device.specs.declared.device.Device.{Device}
+use Rattle.std.specs.Prelude.{◌≡◌, ◌≢◌, ◌⊎◌, ◌≤◌, ⊤, []}
+use Rattle.nl_cleaning.specs.declared.cleaning.Cleaned.TheVariants as cleaned
 use Rattle.nl_drain.specs.Handled.{AllHandled}
 use Rattle.nl_iface.specs.Rounds.{Empties, Gains, IsRound}
 use Rattle.nl_iface.specs.declared.counts.Counts.{Ghosts}
+use Rattle.nl_iface.specs.declared.moving_pages.MovingPages.{Ghosts as Moving}
+use Rattle.nl_core.specs.Cleaning.{CleansDevice}
 use Rattle.nl_core.specs.Core.{names_of}
 use Rattle.nl_core.specs.declared.rounds.Rounded.{Rounded}
 use Rattle.nl_core.specs.declared.rounds.Rounded.TheVariants as rounded
 use Rattle.nl_core.specs.declared.state.Core.{Core}
 
 -- Each callback is handled.
-pub record HandlesAll {M : Type 0} (g : Ghosts (Device M)) (old new : Core M) : Type 0 where
+pub record HandlesAll {D : Type 0} (g : Ghosts D) (old new : Core D) : Type 0 where
   pub handled : AllHandled (names_of g new)
   pub space : Empties (names_of g old).space (names_of g new).space
   pub runs : new.stopped ≡ 0
 
 -- Each callback is handled and acknowledged, so that no old name is left, and no page awaits its free.
-pub record EmptiesTable {M : Type 0} (g : Ghosts (Device M)) (old new : Core M) : Type 0 where
+pub record EmptiesTable {D : Type 0} (g : Ghosts D) (old new : Core D) : Type 0 where
   pub no_pairs : (names_of g new).space.pairs ≡ 0
   pub freed : new.freeing.items ≡ []
   pub space : Empties (names_of g old).space (names_of g new).space
   pub runs : new.stopped ≡ 0
 
+-- A victim was cleaned: the one in hand, or else a block with the most dead pages. Or nothing was, and then no block has a dead page.
+abbrev pub CleansOne : {D : Type 0} → Ghosts D → Moving D → Core D → Core D → Type 0
+CleansOne g m old new = CleansDevice g m old new cleaned.Done ⊎ (CleansDevice g m old new cleaned.Nothing × ((names_of g new).space.dead ≡ 0))
+
 -- The table of old names was emptied, and one victim cleaned, where there was one. Such a round gives a Free block more than are kept for the
 -- cleaner, or finishes a victim that was in hand, or brings more pages within reach. No victim is in hand afterwards, and no page awaits its free.
-pub record RoundIsDone {M : Type 0} (g : Ghosts (Device M)) (old new : Core M) : Type 0 where
+pub record RoundIsDone {D : Type 0} (g : Ghosts D) (m : Moving D) (old new : Core D) : Type 0 where
+  pub between : Core D
+  pub emptied : EmptiesTable g old between
+  pub cleans : CleansOne g m between new
   pub round : IsRound (names_of g old).space (names_of g new).space
   pub gains : Gains (names_of g old).space (names_of g new).space
   pub none_in_hand : (names_of g new).space.victim ≡ 0

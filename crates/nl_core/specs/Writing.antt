@@ -5,7 +5,6 @@ use Rattle.nl_field.specs.SuperPage.{super_of}
 use Rattle.nl_field.specs.declared.answers.VirtualWrite.{VirtualWrite}
 use Rattle.nl_field.specs.declared.answers.VirtualWrite.TheVariants as write
 use Rattle.nl_field.specs.declared.super_page.SuperRec.{SuperRec}
-use Rattle.nl_device.specs.declared.device.Device.{Device}
 use Rattle.nl_iface.specs.Answers.{LosesStamp}
 use Rattle.nl_iface.specs.Calls.{CallCounted, KeepsMedium}
 use Rattle.nl_iface.specs.Moves.{Acknowledges}
@@ -28,15 +27,15 @@ use Rattle.nl_core.specs.declared.state.Core.{Core}
 abbrev pub last_count : ℕ
 last_count = 2 ^ 63 - 1
 
-abbrev pub stored_count : {M : Type 0} → Core M → ℕ
+abbrev pub stored_count : {D : Type 0} → Core D → ℕ
 stored_count v = min v.count last_count
 
 -- the pages in memory with this count in the super page
-abbrev pub counted_pages : {M : Type 0} → Core M → Pages
+abbrev pub counted_pages : {D : Type 0} → Core D → Pages
 counted_pages v = with_count v.shape (stored_count v) v.meta
 
 -- the count of calls in the frozen super page, where there is one
-abbrev pub frozen_count : {M : Type 0} → Core M → ℕ
+abbrev pub frozen_count : {D : Type 0} → Core D → ℕ
 frozen_count v = unwrap_or (option_map (λ (rec : SuperRec). rec.count) (option_and_then super_of (frozen_at v.meta 0))) v.committed
 
 -- what is committed once these commit pages were finished: that of the frozen transaction, and that of all calls
@@ -45,18 +44,18 @@ committed_by before frozen count earlier (Some moment) = count
 committed_by before frozen count (Some moment) None = frozen
 committed_by before frozen count None None = before
 
-abbrev pub committed_count : {M : Type 0} → Core M → Option ℕ → Option ℕ → ℕ
+abbrev pub committed_count : {D : Type 0} → Core D → Option ℕ → Option ℕ → ℕ
 committed_count v earlier decided = committed_by v.committed (frozen_count v) v.count earlier decided
 
 -- the sum of both fault counts once a write failed
 abbrev pub stopped_by : ℕ → ℕ → ℕ → ℕ → ℕ
 stopped_by stopped reads writes_before writes = if stopped == 0 && nat_le (saturated (writes_before + 1)) writes then saturated (reads + writes) else stopped
 
-abbrev pub stopped_on : {M : Type 0} → Ghosts (Device M) → ℕ → Core M → Core M → ℕ
+abbrev pub stopped_on : {D : Type 0} → Ghosts D → ℕ → Core D → Core D → ℕ
 stopped_on g writes_before old new = stopped_by old.stopped (g.read_faults new.device) writes_before (g.write_faults new.device)
 
 -- all but the device, the journal and the pages in memory, and what is known of the last commit and the first failure
-pub record KeepsRest {M : Type 0} (old new : Core M) : Type 0 where
+pub record KeepsRest {D : Type 0} (old new : Core D) : Type 0 where
   pub shape : new.shape ≡ old.shape
   pub nodes : new.nodes ≡ old.nodes
   pub flight : new.flight ≡ old.flight
@@ -64,7 +63,7 @@ pub record KeepsRest {M : Type 0} (old new : Core M) : Type 0 where
   pub count : new.count ≡ old.count
 
 -- The frozen transaction was completed, and that of the dirty pages written; or a write or a read ended that.
-pub record WritesAll {M : Type 0} (g : Ghosts (Device M)) (old new : Core M) (answer : VirtualWrite) : Type 0 where
+pub record WritesAll {D : Type 0} (g : Ghosts D) (old new : Core D) (answer : VirtualWrite) : Type 0 where
   pub earlier : Option ℕ
   pub decided : Option ℕ
   pub rest : KeepsRest old new
@@ -83,8 +82,8 @@ pub record WritesAll {M : Type 0} (g : Ghosts (Device M)) (old new : Core M) (an
   pub faults : CallCounted g (answer ≡ write.Fault) old.device new.device
 
 -- What awaited its free is freed, and callbacks are acknowledged that were handled under a mark up to this one.
-pub record Settles {M : Type 0} (g : Ghosts (Device M)) (mark : ℕ) (old new : Core M) : Type 0 where
-  pub between : Device M
+pub record Settles {D : Type 0} (g : Ghosts D) (mark : ℕ) (old new : Core D) : Type 0 where
+  pub between : D
   pub frees : FreesEach old.freeing.items (names_of g old) (g.names between)
   pub first_kept : KeepsMedium g old.device between
   pub acknowledges : Acknowledges mark (g.names between) (names_of g new)
@@ -95,6 +94,6 @@ pub record Settles {M : Type 0} (g : Ghosts (Device M)) (mark : ℕ) (old new : 
   pub others : new ≡ record old { device = new.device; freeing = new.freeing }
 
 -- The tables of a device before it: old names and callbacks are in order, and no old name stands twice.
-pub record HasTable {M : Type 0} (g : Ghosts (Device M)) (s : Device M) : Type 0 where
+pub record HasTable {D : Type 0} (g : Ghosts D) (s : D) : Type 0 where
   pub table : IsTable (g.names s)
   pub differ : OldNamesDiffer (g.names s)

@@ -11,30 +11,26 @@ ghost use Rattle.nl_held.specs.TreeLaws.{moment_of};
 
 use crate::state::Core;
 use nl_commit::{Committed, commit, free_first};
-use nl_device::Device;
 use nl_field::VirtualWrite;
 use nl_held::laws::device_stands;
-use nl_iface::Counts;
+use nl_iface::MovingPages;
 use nl_journal::Committing;
-use nl_nand::Nand;
 
 // The greatest count of calls and the greatest number of a transaction that are spelled.
 const LAST: u64 = (1 << 63) - 1;
 
-impl<M: Nand> Core<M> {
+impl<D: MovingPages> Core<D> {
     /// Makes all calls so far take effect at once. Once that is done, the pages are freed that awaited it, and the callbacks are
     /// acknowledged that were handled before. A stop within leaves what was committed before, or was frozen, or all calls; from the moment of
     /// the last commit page on nothing earlier than what that one committed. After `Lost` and `Fault` the next commit goes on from there.
     pub fn commit(&mut self) -> Committing
-        requires formed { ⟦<Device<M> as Counts>⟧.formed self.old.device }
-        requires core { IsCore ⟦<Device<M> as Counts>⟧ self.old }
+        requires core { IsCore D.Counts self.old }
         requires writes { self.old.stopped ≡ 0 }
-        requires stamp { ⟦<Device<M> as Counts>⟧.next_stamp self.old.device + 512 ≤ 2 ^ 63 }
-        ensures formed { ⟦<Device<M> as Counts>⟧.formed self.new.device }
-        ensures core { IsCore ⟦<Device<M> as Counts>⟧ self.new }
-        ensures goes { Goes ⟦<Device<M> as Counts>⟧ 512 self.old self.new }
-        ensures commits { Commits ⟦<Device<M> as Counts>⟧ self.old self.new result }
-        ensures faults { HasCause ⟦<Device<M> as Counts>⟧ (result ≡ Committing.Fault) self.old self.new }
+        requires stamp { D.next_stamp self.old.device + 512 ≤ 2 ^ 63 }
+        ensures core { IsCore D.Counts self.new }
+        ensures goes { Goes D.Counts 512 self.old self.new }
+        ensures commits { Commits D.Counts self.old self.new result }
+        ensures faults { HasCause D.Counts (result ≡ Committing.Fault) self.old self.new }
     {
         let mark = self.mark();
         match self.write_all() {
@@ -49,15 +45,14 @@ impl<M: Nand> Core<M> {
 
     // Writes what is frozen and then what is dirty, and notes the counts and moments of the commit pages that were finished.
     fn write_all(&mut self) -> VirtualWrite
-        requires formed { ⟦<Device<M> as Counts>⟧.formed self.old.device }
-        requires core { IsCore ⟦<Device<M> as Counts>⟧ self.old }
+        requires core { IsCore D.Counts self.old }
         requires writes { self.old.stopped ≡ 0 }
-        requires stamp { ⟦<Device<M> as Counts>⟧.next_stamp self.old.device + 512 ≤ 2 ^ 63 }
-        ensures formed { ⟦<Device<M> as Counts>⟧.formed self.new.device }
+        requires stamp { D.next_stamp self.old.device + 512 ≤ 2 ^ 63 }
+        ensures formed { D.formed self.new.device }
         ensures pages { IsPages self.old.meta }
-        ensures volume { IsVolumeShape (⟦<Device<M> as Counts>⟧.shape self.old.device) }
-        ensures stores { M.tells → StoresPages ⟦<Device<M> as Counts>⟧ self.new.device }
-        ensures written { WritesAll ⟦<Device<M> as Counts>⟧ self.old self.new result }
+        ensures volume { IsVolumeShape (D.shape self.old.device) }
+        ensures stores { D.tells → StoresPages D.Counts self.new.device }
+        ensures written { WritesAll D.Counts self.old self.new result }
     {
         self.meta.stands();
         device_stands(&self.device);
@@ -93,12 +88,12 @@ impl<M: Nand> Core<M> {
 
     // After a commit: what awaited it is freed, and what was handled before is acknowledged.
     fn settle(&mut self, mark: u64)
-        requires formed { ⟦<Device<M> as Counts>⟧.formed self.old.device }
-        ensures formed { ⟦<Device<M> as Counts>⟧.formed self.new.device }
-        ensures table { HasTable ⟦<Device<M> as Counts>⟧ self.old.device }
-        ensures stores { M.tells → StoresPages ⟦<Device<M> as Counts>⟧ self.new.device }
-        ensures numbers { IsNames (⟦<Device<M> as Counts>⟧.shape self.new.device) (⟦<Device<M> as Counts>⟧.next_stamp self.new.device) (⟦<Device<M> as Counts>⟧.names self.new.device) }
-        ensures settled { Settles ⟦<Device<M> as Counts>⟧ mark self.old self.new }
+        requires formed { D.formed self.old.device }
+        ensures formed { D.formed self.new.device }
+        ensures table { HasTable D.Counts self.old.device }
+        ensures stores { D.tells → StoresPages D.Counts self.new.device }
+        ensures numbers { IsNames (D.shape self.new.device) (D.next_stamp self.new.device) (D.names self.new.device) }
+        ensures settled { Settles D.Counts mark self.old self.new }
     {
         device_stands(&self.device);
         let due = self.freeing.len();

@@ -7,22 +7,18 @@ ghost use Rattle.nl_core.specs.Dropping.{DropsLine, FreesAt, pointers_of};
 ghost use Rattle.nl_core.specs.Goes.{Goes};
 
 use crate::state::Core;
-use nl_device::Device;
 use nl_flight::Flight;
 use nl_held::laws::device_stands;
-use nl_iface::{Counts, NamedPages};
-use nl_nand::Nand;
+use nl_iface::MovingPages;
 
-impl<M: Nand> Core<M> {
+impl<D: MovingPages> Core<D> {
     /// Frees the pages in flight of a worker's line, and the worker has no line from now on.
     pub fn drop_line(&mut self, worker: u8)
-        requires formed { ⟦<Device<M> as Counts>⟧.formed self.old.device }
-        requires core { IsCore ⟦<Device<M> as Counts>⟧ self.old }
+        requires core { IsCore D.Counts self.old }
         requires known { worker < 8 }
-        ensures formed { ⟦<Device<M> as Counts>⟧.formed self.new.device }
-        ensures core { IsCore ⟦<Device<M> as Counts>⟧ self.new }
-        ensures goes { Goes ⟦<Device<M> as Counts>⟧ 0 self.old self.new }
-        ensures dropped { DropsLine ⟦<Device<M> as Counts>⟧ worker self.old self.new }
+        ensures core { IsCore D.Counts self.new }
+        ensures goes { Goes D.Counts 0 self.old self.new }
+        ensures dropped { DropsLine D.Counts worker self.old self.new }
     {
         device_stands(&self.device);
         free_line(&mut self.device, &self.flight, worker);
@@ -32,14 +28,14 @@ impl<M: Nand> Core<M> {
 }
 
 // Frees the pages in flight of a worker's line, one after the other.
-fn free_line<M: Nand>(device: &mut Device<M>, flight: &Flight, worker: u8)
-    requires formed { ⟦<Device<M> as Counts>⟧.formed device.old }
+fn free_line<D: MovingPages>(device: &mut D, flight: &Flight, worker: u8)
+    requires formed { D.formed device.old }
     requires known { worker < 8 }
     requires flight { IsFlight flight.now }
-    ensures formed { ⟦<Device<M> as Counts>⟧.formed device.new }
-    ensures freed { FreesEach (pointers_of (of_worker flight.now worker)) (⟦<Device<M> as Counts>⟧.names device.old) (⟦<Device<M> as Counts>⟧.names device.new) }
-    ensures kept { KeepsMedium ⟦<Device<M> as Counts>⟧ device.old device.new }
-    ensures read_faults { ⟦<Device<M> as Counts>⟧.read_faults device.new ≡ ⟦<Device<M> as Counts>⟧.read_faults device.old }
+    ensures formed { D.formed device.new }
+    ensures freed { FreesEach (pointers_of (of_worker flight.now worker)) (D.names device.old) (D.names device.new) }
+    ensures kept { KeepsMedium D.Counts device.old device.new }
+    ensures read_faults { D.read_faults device.new ≡ D.read_faults device.old }
 {
     for i in 0..18 {
         free_at(device, flight, worker, i);
@@ -47,13 +43,13 @@ fn free_line<M: Nand>(device: &mut Device<M>, flight: &Flight, worker: u8)
 }
 
 // Frees the page of that place of a worker's line, where it has one.
-fn free_at<M: Nand>(device: &mut Device<M>, flight: &Flight, worker: u8, i: u32)
-    requires formed { ⟦<Device<M> as Counts>⟧.formed device.old }
+fn free_at<D: MovingPages>(device: &mut D, flight: &Flight, worker: u8, i: u32)
+    requires formed { D.formed device.old }
     requires known { worker < 8 }
-    ensures formed { ⟦<Device<M> as Counts>⟧.formed device.new }
-    ensures freed { FreesAt (pointers_of (of_worker flight.now worker)) i (⟦<Device<M> as Counts>⟧.names device.old) (⟦<Device<M> as Counts>⟧.names device.new) }
-    ensures kept { KeepsMedium ⟦<Device<M> as Counts>⟧ device.old device.new }
-    ensures read_faults { ⟦<Device<M> as Counts>⟧.read_faults device.new ≡ ⟦<Device<M> as Counts>⟧.read_faults device.old }
+    ensures formed { D.formed device.new }
+    ensures freed { FreesAt (pointers_of (of_worker flight.now worker)) i (D.names device.old) (D.names device.new) }
+    ensures kept { KeepsMedium D.Counts device.old device.new }
+    ensures read_faults { D.read_faults device.new ≡ D.read_faults device.old }
 {
     if let Some((_, at, _)) = flight.get(worker, i) {
         let _ = device.free(at);

@@ -5,30 +5,25 @@ ghost use Rattle.nl_core.specs.Duties.{DoesDuty, DoesTask, HasNothingToDo, IsAtR
 ghost use Rattle.nl_core.specs.Goes.{Goes};
 
 use crate::state::Core;
-use nl_device::{Copying, Device};
 use nl_held::laws::device_stands;
-use nl_iface::Counts;
+use nl_iface::{Copying, Erasing, MovingPages};
 use nl_journal::Committing;
-use nl_nand::Nand;
-use nl_pseg::Erasure;
 use nl_tree::{Duty, DutyAnswer};
 
 // The write sequence number from which on a volume is worn.
 const WORN: u64 = 1 << 62;
 
-impl<M: Nand> Core<M> {
+impl<D: MovingPages> Core<D> {
     /// Does one background task. `Nothing` comes exactly where the volume is read-only or its write sequence numbers are exhausted, or the
     /// task has nothing to do.
     pub fn duty(&mut self, which: Duty) -> DutyAnswer
-        requires formed { ⟦<Device<M> as Counts>⟧.formed self.old.device }
-        requires core { IsCore ⟦<Device<M> as Counts>⟧ self.old }
-        ensures formed { ⟦<Device<M> as Counts>⟧.formed self.new.device }
-        ensures core { IsCore ⟦<Device<M> as Counts>⟧ self.new }
-        ensures goes { Goes ⟦<Device<M> as Counts>⟧ 512 self.old self.new }
-        ensures does { DoesDuty ⟦<Device<M> as Counts>⟧ which self.old self.new result }
-        ensures rests { IsAtRest ⟦<Device<M> as Counts>⟧ self.old → self.new ≡ self.old }
+        requires core { IsCore D.Counts self.old }
+        ensures core { IsCore D.Counts self.new }
+        ensures goes { Goes D.Counts 512 self.old self.new }
+        ensures does { DoesDuty D.Counts D.MovingPages.own which self.old self.new result }
+        ensures rests { IsAtRest D.Counts self.old → self.new ≡ self.old }
         ensures lines { KeepsLines self.old self.new }
-        ensures faults { HasCause ⟦<Device<M> as Counts>⟧ (result ≡ DutyAnswer.Fault) self.old self.new }
+        ensures faults { HasCause D.Counts (result ≡ DutyAnswer.Fault) self.old self.new }
     {
         if self.is_at_rest() {
             return DutyAnswer::Nothing;
@@ -38,23 +33,21 @@ impl<M: Nand> Core<M> {
 
     // Whether the volume is read-only, or its write sequence numbers are exhausted.
     fn is_at_rest(&self) -> bool
-        ensures { IsTrue result ↔ IsAtRest ⟦<Device<M> as Counts>⟧ self.now }
+        ensures { IsTrue result ↔ IsAtRest D.Counts self.now }
     {
         self.stopped != 0 || self.device.next_stamp() >= WORN
     }
 
     // Does one task of a volume that can be written.
     fn do_task(&mut self, which: Duty) -> DutyAnswer
-        requires formed { ⟦<Device<M> as Counts>⟧.formed self.old.device }
-        requires core { IsCore ⟦<Device<M> as Counts>⟧ self.old }
+        requires core { IsCore D.Counts self.old }
         requires writes { self.old.stopped ≡ 0 }
-        requires stamp { ⟦<Device<M> as Counts>⟧.next_stamp self.old.device + 512 ≤ 2 ^ 63 }
-        ensures formed { ⟦<Device<M> as Counts>⟧.formed self.new.device }
-        ensures core { IsCore ⟦<Device<M> as Counts>⟧ self.new }
-        ensures goes { Goes ⟦<Device<M> as Counts>⟧ 512 self.old self.new }
-        ensures does { DoesTask ⟦<Device<M> as Counts>⟧ which self.old self.new result }
+        requires stamp { D.next_stamp self.old.device + 512 ≤ 2 ^ 63 }
+        ensures core { IsCore D.Counts self.new }
+        ensures goes { Goes D.Counts 512 self.old self.new }
+        ensures does { DoesTask D.Counts D.MovingPages.own which self.old self.new result }
         ensures lines { KeepsLines self.old self.new }
-        ensures faults { HasCause ⟦<Device<M> as Counts>⟧ (result ≡ DutyAnswer.Fault) self.old self.new }
+        ensures faults { HasCause D.Counts (result ≡ DutyAnswer.Fault) self.old self.new }
     {
         match which {
             Duty::Copy => self.copy(),
@@ -67,15 +60,13 @@ impl<M: Nand> Core<M> {
 
     // Moves one live page of the victim. Where none is in hand, the block with the most dead pages is one from now on.
     fn copy(&mut self) -> DutyAnswer
-        requires formed { ⟦<Device<M> as Counts>⟧.formed self.old.device }
-        requires core { IsCore ⟦<Device<M> as Counts>⟧ self.old }
+        requires core { IsCore D.Counts self.old }
         requires writes { self.old.stopped ≡ 0 }
-        ensures formed { ⟦<Device<M> as Counts>⟧.formed self.new.device }
-        ensures core { IsCore ⟦<Device<M> as Counts>⟧ self.new }
-        ensures goes { Goes ⟦<Device<M> as Counts>⟧ 0 self.old self.new }
-        ensures does { DoesTask ⟦<Device<M> as Counts>⟧ Duty.Copy self.old self.new result }
+        ensures core { IsCore D.Counts self.new }
+        ensures goes { Goes D.Counts 0 self.old self.new }
+        ensures does { DoesTask D.Counts D.MovingPages.own Duty.Copy self.old self.new result }
         ensures lines { KeepsLines self.old self.new }
-        ensures faults { HasCause ⟦<Device<M> as Counts>⟧ (result ≡ DutyAnswer.Fault) self.old self.new }
+        ensures faults { HasCause D.Counts (result ≡ DutyAnswer.Fault) self.old self.new }
     {
         let faults = self.device.write_faults();
         device_stands(&self.device);
@@ -87,15 +78,13 @@ impl<M: Nand> Core<M> {
 
     // Erases a victim that has no live page.
     fn erase(&mut self) -> DutyAnswer
-        requires formed { ⟦<Device<M> as Counts>⟧.formed self.old.device }
-        requires core { IsCore ⟦<Device<M> as Counts>⟧ self.old }
+        requires core { IsCore D.Counts self.old }
         requires writes { self.old.stopped ≡ 0 }
-        ensures formed { ⟦<Device<M> as Counts>⟧.formed self.new.device }
-        ensures core { IsCore ⟦<Device<M> as Counts>⟧ self.new }
-        ensures goes { Goes ⟦<Device<M> as Counts>⟧ 0 self.old self.new }
-        ensures does { DoesTask ⟦<Device<M> as Counts>⟧ Duty.Erase self.old self.new result }
+        ensures core { IsCore D.Counts self.new }
+        ensures goes { Goes D.Counts 0 self.old self.new }
+        ensures does { DoesTask D.Counts D.MovingPages.own Duty.Erase self.old self.new result }
         ensures lines { KeepsLines self.old self.new }
-        ensures faults { HasCause ⟦<Device<M> as Counts>⟧ (result ≡ DutyAnswer.Fault) self.old self.new }
+        ensures faults { HasCause D.Counts (result ≡ DutyAnswer.Fault) self.old self.new }
     {
         let faults = self.device.write_faults();
         device_stands(&self.device);
@@ -107,16 +96,14 @@ impl<M: Nand> Core<M> {
 
     // Commits where a call came since the last commit, or a page is dirty.
     fn commit_changes(&mut self) -> DutyAnswer
-        requires formed { ⟦<Device<M> as Counts>⟧.formed self.old.device }
-        requires core { IsCore ⟦<Device<M> as Counts>⟧ self.old }
+        requires core { IsCore D.Counts self.old }
         requires writes { self.old.stopped ≡ 0 }
-        requires stamp { ⟦<Device<M> as Counts>⟧.next_stamp self.old.device + 512 ≤ 2 ^ 63 }
-        ensures formed { ⟦<Device<M> as Counts>⟧.formed self.new.device }
-        ensures core { IsCore ⟦<Device<M> as Counts>⟧ self.new }
-        ensures goes { Goes ⟦<Device<M> as Counts>⟧ 512 self.old self.new }
-        ensures does { DoesTask ⟦<Device<M> as Counts>⟧ Duty.Commit self.old self.new result }
+        requires stamp { D.next_stamp self.old.device + 512 ≤ 2 ^ 63 }
+        ensures core { IsCore D.Counts self.new }
+        ensures goes { Goes D.Counts 512 self.old self.new }
+        ensures does { DoesTask D.Counts D.MovingPages.own Duty.Commit self.old self.new result }
         ensures lines { KeepsLines self.old self.new }
-        ensures faults { HasCause ⟦<Device<M> as Counts>⟧ (result ≡ DutyAnswer.Fault) self.old self.new }
+        ensures faults { HasCause D.Counts (result ≡ DutyAnswer.Fault) self.old self.new }
     {
         if self.is_committed() {
             return DutyAnswer::Nothing;
@@ -127,22 +114,20 @@ impl<M: Nand> Core<M> {
 
     // Whether no call came since the last commit, and no page is dirty.
     fn is_committed(&self) -> bool
-        ensures { IsTrue result ↔ HasNothingToDo ⟦<Device<M> as Counts>⟧ Duty.Commit self.now }
+        ensures { IsTrue result ↔ HasNothingToDo D.Counts D.MovingPages.own Duty.Commit self.now }
     {
         self.committed == self.count && self.meta.dirty() == 0
     }
 
     // Takes the least worn block as the victim, where wear has to be levelled.
     fn level(&mut self) -> DutyAnswer
-        requires formed { ⟦<Device<M> as Counts>⟧.formed self.old.device }
-        requires core { IsCore ⟦<Device<M> as Counts>⟧ self.old }
+        requires core { IsCore D.Counts self.old }
         requires writes { self.old.stopped ≡ 0 }
-        ensures formed { ⟦<Device<M> as Counts>⟧.formed self.new.device }
-        ensures core { IsCore ⟦<Device<M> as Counts>⟧ self.new }
-        ensures goes { Goes ⟦<Device<M> as Counts>⟧ 0 self.old self.new }
-        ensures does { DoesTask ⟦<Device<M> as Counts>⟧ Duty.Level self.old self.new result }
+        ensures core { IsCore D.Counts self.new }
+        ensures goes { Goes D.Counts 0 self.old self.new }
+        ensures does { DoesTask D.Counts D.MovingPages.own Duty.Level self.old self.new result }
         ensures lines { KeepsLines self.old self.new }
-        ensures faults { HasCause ⟦<Device<M> as Counts>⟧ (result ≡ DutyAnswer.Fault) self.old self.new }
+        ensures faults { HasCause D.Counts (result ≡ DutyAnswer.Fault) self.old self.new }
     {
         device_stands(&self.device);
         let begun = self.device.level();
@@ -162,13 +147,13 @@ fn of_copying(answer: Copying) -> DutyAnswer
     }
 }
 
-fn of_erasure(answer: Erasure) -> DutyAnswer
+fn of_erasure(answer: Erasing) -> DutyAnswer
     ensures { result ≡ duty_of_erase answer }
 {
     match answer {
-        Erasure::Done => DutyAnswer::Did,
-        Erasure::Nothing => DutyAnswer::Nothing,
-        Erasure::Fault => DutyAnswer::Fault,
+        Erasing::Done => DutyAnswer::Did,
+        Erasing::Nothing => DutyAnswer::Nothing,
+        Erasing::Fault => DutyAnswer::Fault,
     }
 }
 

@@ -6,29 +6,25 @@ ghost use Rattle.nl_core.specs.Handling.{Handles, HandlesWithRoom, TriesNumber, 
 ghost use Rattle.nl_running.specs.Running.{Runs};
 
 use crate::state::Core;
-use nl_device::Device;
 use nl_drain::laws::trees_stay;
 use nl_drain::{Drained, handle_one};
 use nl_held::laws::device_stands;
-use nl_iface::Counts;
+use nl_iface::MovingPages;
 use nl_journal::Committing;
-use nl_nand::Nand;
 use nl_tree::DutyAnswer;
 
-impl<M: Nand> Core<M> {
+impl<D: MovingPages> Core<D> {
     /// Handles the pending callback of a number: whoever holds its page has the name of its new place. Where the dirty pages lack room
     /// for that, a commit comes first. `Nothing` exactly where no callback of that number is pending.
     pub fn handle(&mut self, number: u64) -> DutyAnswer
-        requires formed { ⟦<Device<M> as Counts>⟧.formed self.old.device }
-        requires core { IsCore ⟦<Device<M> as Counts>⟧ self.old }
+        requires core { IsCore D.Counts self.old }
         requires writes { self.old.stopped ≡ 0 }
-        requires stamp { ⟦<Device<M> as Counts>⟧.next_stamp self.old.device + 512 ≤ 2 ^ 63 }
-        ensures formed { ⟦<Device<M> as Counts>⟧.formed self.new.device }
-        ensures core { IsCore ⟦<Device<M> as Counts>⟧ self.new }
-        ensures goes { Goes ⟦<Device<M> as Counts>⟧ 512 self.old self.new }
-        ensures handles { Handles ⟦<Device<M> as Counts>⟧ number self.old self.new result }
+        requires stamp { D.next_stamp self.old.device + 512 ≤ 2 ^ 63 }
+        ensures core { IsCore D.Counts self.new }
+        ensures goes { Goes D.Counts 512 self.old self.new }
+        ensures handles { Handles D.Counts number self.old self.new result }
         ensures lines { KeepsLines self.old self.new }
-        ensures faults { HasCause ⟦<Device<M> as Counts>⟧ (result ≡ DutyAnswer.Fault) self.old self.new }
+        ensures faults { HasCause D.Counts (result ≡ DutyAnswer.Fault) self.old self.new }
     {
         match self.handle_once(number) {
             None => DutyAnswer::Nothing,
@@ -41,16 +37,14 @@ impl<M: Nand> Core<M> {
 
     // Commits, and handles the callback of a number that is still pending then.
     fn handle_with_room(&mut self, number: u64) -> DutyAnswer
-        requires formed { ⟦<Device<M> as Counts>⟧.formed self.old.device }
-        requires core { IsCore ⟦<Device<M> as Counts>⟧ self.old }
+        requires core { IsCore D.Counts self.old }
         requires writes { self.old.stopped ≡ 0 }
-        requires stamp { ⟦<Device<M> as Counts>⟧.next_stamp self.old.device + 512 ≤ 2 ^ 63 }
-        ensures formed { ⟦<Device<M> as Counts>⟧.formed self.new.device }
-        ensures core { IsCore ⟦<Device<M> as Counts>⟧ self.new }
-        ensures goes { Goes ⟦<Device<M> as Counts>⟧ 512 self.old self.new }
-        ensures handles { HandlesWithRoom ⟦<Device<M> as Counts>⟧ number self.old self.new result }
+        requires stamp { D.next_stamp self.old.device + 512 ≤ 2 ^ 63 }
+        ensures core { IsCore D.Counts self.new }
+        ensures goes { Goes D.Counts 512 self.old self.new }
+        ensures handles { HandlesWithRoom D.Counts number self.old self.new result }
         ensures lines { KeepsLines self.old self.new }
-        ensures faults { HasCause ⟦<Device<M> as Counts>⟧ (result ≡ DutyAnswer.Fault) self.old self.new }
+        ensures faults { HasCause D.Counts (result ≡ DutyAnswer.Fault) self.old self.new }
     {
         match self.commit() {
             Committing::Done(_) => {
@@ -64,13 +58,11 @@ impl<M: Nand> Core<M> {
 
     // Handles the pending callback of a number, where there is one, if its pointer can be made dirty or stands elsewhere.
     fn handle_once(&mut self, number: u64) -> Option<Drained>
-        requires formed { ⟦<Device<M> as Counts>⟧.formed self.old.device }
-        requires core { IsCore ⟦<Device<M> as Counts>⟧ self.old }
-        ensures formed { ⟦<Device<M> as Counts>⟧.formed self.new.device }
-        ensures core { IsCore ⟦<Device<M> as Counts>⟧ self.new }
-        ensures goes { Goes ⟦<Device<M> as Counts>⟧ 0 self.old self.new }
-        ensures tries { TriesNumber ⟦<Device<M> as Counts>⟧ (begun_of self.old + 1) number self.old self.new result }
-        ensures faults { HasCause ⟦<Device<M> as Counts>⟧ (result ≡ Some Drained.Fault) self.old self.new }
+        requires core { IsCore D.Counts self.old }
+        ensures core { IsCore D.Counts self.new }
+        ensures goes { Goes D.Counts 0 self.old self.new }
+        ensures tries { TriesNumber D.Counts (begun_of self.old + 1) number self.old self.new result }
+        ensures faults { HasCause D.Counts (result ≡ Some Drained.Fault) self.old self.new }
     {
         trees_stay();
         device_stands(&self.device);
@@ -82,11 +74,11 @@ impl<M: Nand> Core<M> {
 
     // One try. It only reads, so no write can fail.
     fn try_callback(&mut self, number: u64, mark: u64) -> Option<Drained>
-        requires formed { ⟦<Device<M> as Counts>⟧.formed self.old.device }
-        requires runs { Runs ⟦<Device<M> as Counts>⟧ self.old.device self.old.meta }
-        requires shape { self.old.shape ≡ ⟦<Device<M> as Counts>⟧.shape self.old.device }
-        ensures formed { ⟦<Device<M> as Counts>⟧.formed self.new.device }
-        ensures tries { TriesNumber ⟦<Device<M> as Counts>⟧ mark number self.old self.new result }
+        requires formed { D.formed self.old.device }
+        requires runs { Runs D.Counts self.old.device self.old.meta }
+        requires shape { self.old.shape ≡ D.shape self.old.device }
+        ensures formed { D.formed self.new.device }
+        ensures tries { TriesNumber D.Counts mark number self.old self.new result }
     {
         match self.device.callback(number) {
             None => None,

@@ -4,27 +4,23 @@ ghost use Rattle.nl_core.specs.Core.{IsCore};
 ghost use Rattle.nl_core.specs.Laws.{FlightLeads, PagesStayAsMany, StoredOpens};
 
 use crate::state::Core;
-use nl_device::Device;
 use nl_held::laws::device_stands;
-use nl_iface::Counts;
-use nl_nand::Nand;
+use nl_iface::MovingPages;
 
 /// While no write has failed, what a core stores can be opened: it opens as the tree that is committed.
-pub fn stored_opens<M: Nand>(core: &Core<M>)
-    requires formed { ⟦<Device<M> as Counts>⟧.formed core.now.device }
-    requires core { IsCore ⟦<Device<M> as Counts>⟧ core.now }
+pub fn stored_opens<D: MovingPages>(core: &Core<D>)
+    requires core { IsCore D.Counts core.now }
     requires writes { core.now.stopped ≡ 0 }
-    ensures { StoredOpens ⟦<Device<M> as Counts>⟧ core.now }
+    ensures { StoredOpens D.Counts core.now }
 {
     device_stands(&core.device);
 }
 
 /// Each page in flight is live where its pointer leads, with its owner and its write sequence number. The pointer can be stored: its number
 /// is spelled, and its name is one of the physical segment.
-pub fn flight_leads<M: Nand>(core: &Core<M>)
-    requires formed { ⟦<Device<M> as Counts>⟧.formed core.now.device }
-    requires core { IsCore ⟦<Device<M> as Counts>⟧ core.now }
-    ensures { FlightLeads ⟦<Device<M> as Counts>⟧ core.now }
+pub fn flight_leads<D: MovingPages>(core: &Core<D>)
+    requires core { IsCore D.Counts core.now }
+    ensures { FlightLeads D.Counts core.now }
 {
     device_stands(&core.device);
 }

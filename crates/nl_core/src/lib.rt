@@ -2,6 +2,7 @@
 //! are programmed, lines of workers that are dropped, rounds of reclaiming, and background tasks.
 #![tactic(auto)]
 
+mod changes;
 mod cleaning;
 mod committing;
 mod dropping;

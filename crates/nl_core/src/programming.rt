@@ -12,12 +12,10 @@ ghost use Rattle.nl_core.specs.Writing.{stopped_on};
 
 use crate::rounds::Rounded;
 use crate::state::Core;
-use nl_device::Device;
 use nl_field::{Named, PageBuf, Pointer, Tag};
 use nl_flight::Flight;
 use nl_held::laws::device_stands;
-use nl_iface::{Counts, NamedPages};
-use nl_nand::Nand;
+use nl_iface::MovingPages;
 
 /// What the programming of a page answers.
 #[derive(Clone, Copy, Debug, PartialEq, Eq)]
@@ -35,23 +33,21 @@ pub enum Programmed {
 // The write sequence number from which on no page is programmed.
 const END: u64 = (1 << 62) + (1 << 40);
 
-impl<M: Nand> Core<M> {
+impl<D: MovingPages> Core<D> {
     /// Programs a page for a worker's line, which is this one or begins with it. The page is in flight from now on, behind the others of
     /// the line. Where the device has no room for it, rounds of reclaiming make some: they always do. `Stopped` exactly where the volume is
     /// read-only or the next write sequence number has reached 2^62 + 2^40.
     pub fn program(&mut self, worker: u8, line: u32, tag: Tag, from: &PageBuf) -> Programmed
-        requires formed { ⟦<Device<M> as Counts>⟧.formed self.old.device }
-        requires core { IsCore ⟦<Device<M> as Counts>⟧ self.old }
+        requires core { IsCore D.Counts self.old }
         requires known { worker < 8 }
         requires some { 0 < line }
         requires line { HasLine self.old.flight worker line }
         requires place { HasPlace self.old.flight worker }
-        ensures formed { ⟦<Device<M> as Counts>⟧.formed self.new.device }
-        ensures core { IsCore ⟦<Device<M> as Counts>⟧ self.new }
-        ensures goes { Goes ⟦<Device<M> as Counts>⟧ (2 ^ 30) self.old self.new }
-        ensures stopped { result ≡ Programmed.Stopped ↔ (self.old.stopped ≢ 0) ⊎ (last_stamp ≤ ⟦<Device<M> as Counts>⟧.next_stamp self.old.device) }
-        ensures programs { ProgramsFor ⟦<Device<M> as Counts>⟧ worker line tag from.now.main self.old self.new result }
-        ensures faults { HasCause ⟦<Device<M> as Counts>⟧ (result ≡ Programmed.Fault) self.old self.new }
+        ensures core { IsCore D.Counts self.new }
+        ensures goes { Goes D.Counts (2 ^ 30) self.old self.new }
+        ensures stopped { result ≡ Programmed.Stopped ↔ (self.old.stopped ≢ 0) ⊎ (last_stamp ≤ D.next_stamp self.old.device) }
+        ensures programs { ProgramsFor D.Counts worker line tag from.now.main self.old self.new result }
+        ensures faults { HasCause D.Counts (result ≡ Programmed.Fault) self.old self.new }
     {
         if self.stopped != 0 || self.device.next_stamp() >= END {
             return Programmed::Stopped;
@@ -61,20 +57,18 @@ impl<M: Nand> Core<M> {
 
     // Programs a page on a volume that takes one: it tries, and makes room with rounds of reclaiming until it is placed.
     fn program_now(&mut self, worker: u8, line: u32, tag: Tag, from: &PageBuf) -> Programmed
-        requires formed { ⟦<Device<M> as Counts>⟧.formed self.old.device }
-        requires core { IsCore ⟦<Device<M> as Counts>⟧ self.old }
+        requires core { IsCore D.Counts self.old }
         requires writes { self.old.stopped ≡ 0 }
-        requires stamp { ⟦<Device<M> as Counts>⟧.next_stamp self.old.device + 2 ^ 30 ≤ 2 ^ 63 }
+        requires stamp { D.next_stamp self.old.device + 2 ^ 30 ≤ 2 ^ 63 }
         requires known { worker < 8 }
         requires some { 0 < line }
         requires line { HasLine self.old.flight worker line }
         requires place { HasPlace self.old.flight worker }
-        ensures formed { ⟦<Device<M> as Counts>⟧.formed self.new.device }
-        ensures core { IsCore ⟦<Device<M> as Counts>⟧ self.new }
-        ensures goes { Goes ⟦<Device<M> as Counts>⟧ (2 ^ 30) self.old self.new }
+        ensures core { IsCore D.Counts self.new }
+        ensures goes { Goes D.Counts (2 ^ 30) self.old self.new }
         ensures runs { result ≢ Programmed.Stopped }
-        ensures programs { ProgramsFor ⟦<Device<M> as Counts>⟧ worker line tag from.now.main self.old self.new result }
-        ensures faults { HasCause ⟦<Device<M> as Counts>⟧ (result ≡ Programmed.Fault) self.old self.new }
+        ensures programs { ProgramsFor D.Counts worker line tag from.now.main self.old self.new result }
+        ensures faults { HasCause D.Counts (result ≡ Programmed.Fault) self.old self.new }
     {
         device_stands(&self.device);
         let mut answer = self.place_once(worker, line, tag, from);
@@ -101,21 +95,19 @@ impl<M: Nand> Core<M> {
     // One try. The page is in flight from now on, behind the others of the line. `NoPage` comes exactly where the device has no room for it,
     // and then nothing was written. A stop within leaves what was committed before.
     fn place_once(&mut self, worker: u8, line: u32, tag: Tag, from: &PageBuf) -> Named
-        requires formed { ⟦<Device<M> as Counts>⟧.formed self.old.device }
-        requires core { IsCore ⟦<Device<M> as Counts>⟧ self.old }
+        requires core { IsCore D.Counts self.old }
         requires writes { self.old.stopped ≡ 0 }
-        requires stamp { ⟦<Device<M> as Counts>⟧.next_stamp self.old.device < 2 ^ 63 }
+        requires stamp { D.next_stamp self.old.device < 2 ^ 63 }
         requires known { worker < 8 }
         requires some { 0 < line }
         requires line { HasLine self.old.flight worker line }
         requires place { HasPlace self.old.flight worker }
-        ensures formed { ⟦<Device<M> as Counts>⟧.formed self.new.device }
-        ensures core { IsCore ⟦<Device<M> as Counts>⟧ self.new }
-        ensures goes { Goes ⟦<Device<M> as Counts>⟧ 1 self.old self.new }
-        ensures no_page { result ≡ Named.NoPage ↔ (names_of ⟦<Device<M> as Counts>⟧ self.old).space.room ≡ 0 }
-        ensures placed { IfPlaced result (PutsPage ⟦<Device<M> as Counts>⟧ worker line tag from.now.main self.old self.new) }
-        ensures none { (IsPlaced result → ⊥) → PutsNone ⟦<Device<M> as Counts>⟧ result self.old self.new }
-        ensures faults { HasCause ⟦<Device<M> as Counts>⟧ (result ≡ Named.Fault) self.old self.new }
+        ensures core { IsCore D.Counts self.new }
+        ensures goes { Goes D.Counts 1 self.old self.new }
+        ensures no_page { result ≡ Named.NoPage ↔ (names_of D.Counts self.old).space.room ≡ 0 }
+        ensures placed { IfPlaced result (PutsPage D.Counts worker line tag from.now.main self.old self.new) }
+        ensures none { (IsPlaced result → ⊥) → PutsNone D.Counts result self.old self.new }
+        ensures faults { HasCause D.Counts (result ≡ Named.Fault) self.old self.new }
     {
         match self.place(tag, from) {
             Named::Placed(at) => {
@@ -128,15 +120,15 @@ impl<M: Nand> Core<M> {
 
     // Programs a page under a name that the device picks, and notes a write that failed.
     fn place(&mut self, tag: Tag, from: &PageBuf) -> Named
-        requires formed { ⟦<Device<M> as Counts>⟧.formed self.old.device }
-        requires stamp { ⟦<Device<M> as Counts>⟧.next_stamp self.old.device < 2 ^ 63 }
-        ensures formed { ⟦<Device<M> as Counts>⟧.formed self.new.device }
-        ensures volume { IsVolumeShape (⟦<Device<M> as Counts>⟧.shape self.old.device) }
-        ensures map { M.tells → StoresMap ⟦<Device<M> as Counts>⟧ self.old.device }
-        ensures numbers { IsNames (⟦<Device<M> as Counts>⟧.shape self.old.device) (⟦<Device<M> as Counts>⟧.next_stamp self.old.device) (⟦<Device<M> as Counts>⟧.names self.old.device) }
-        ensures stores { M.tells → StoresPages ⟦<Device<M> as Counts>⟧ self.new.device }
-        ensures programs { Programs ⟦<Device<M> as Counts>⟧ tag from.now.main result self.old.device self.new.device }
-        ensures others { self.new ≡ record self.old { device = self.new.device; stopped = stopped_on ⟦<Device<M> as Counts>⟧ (⟦<Device<M> as Counts>⟧.write_faults self.old.device) self.old self.new } }
+        requires formed { D.formed self.old.device }
+        requires stamp { D.next_stamp self.old.device < 2 ^ 63 }
+        ensures formed { D.formed self.new.device }
+        ensures volume { IsVolumeShape (D.shape self.old.device) }
+        ensures map { D.tells → StoresMap D.Counts self.old.device }
+        ensures numbers { IsNames (D.shape self.old.device) (D.next_stamp self.old.device) (D.names self.old.device) }
+        ensures stores { D.tells → StoresPages D.Counts self.new.device }
+        ensures programs { Programs D.Counts tag from.now.main result self.old.device self.new.device }
+        ensures others { self.new ≡ record self.old { device = self.new.device; stopped = stopped_on D.Counts (D.write_faults self.old.device) self.old self.new } }
     {
         device_stands(&self.device);
         let faults = self.device.write_faults();

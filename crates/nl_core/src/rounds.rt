@@ -8,12 +8,9 @@ ghost use Rattle.nl_core.specs.Rounds.{EmptiesTable, HandlesAll, IfRounded, Roun
 use crate::state::Core;
 use nl_cleaning::Cleaned;
 use nl_cleaning::laws::a_cleaning_is_of_a_round;
-use nl_device::Device;
-use nl_device::formed_laws::formed_devices;
 use nl_held::laws::device_stands;
-use nl_iface::Counts;
+use nl_iface::MovingPages;
 use nl_journal::Committing;
-use nl_nand::Nand;
 use nl_tree::DutyAnswer;
 
 /// What a round of reclaiming answers.
@@ -27,20 +24,18 @@ pub enum Rounded {
     Fault,
 }
 
-impl<M: Nand> Core<M> {
+impl<D: MovingPages> Core<D> {
     /// One round of reclaiming: each pending callback is handled, the metadata is committed where a page awaits its free or an old name
     /// stands, and one victim is cleaned, where there is one.
     pub fn round(&mut self) -> Rounded
-        requires formed { ⟦<Device<M> as Counts>⟧.formed self.old.device }
-        requires core { IsCore ⟦<Device<M> as Counts>⟧ self.old }
+        requires core { IsCore D.Counts self.old }
         requires writes { self.old.stopped ≡ 0 }
-        requires stamp { ⟦<Device<M> as Counts>⟧.next_stamp self.old.device + 2 ^ 20 ≤ 2 ^ 63 }
-        ensures formed { ⟦<Device<M> as Counts>⟧.formed self.new.device }
-        ensures core { IsCore ⟦<Device<M> as Counts>⟧ self.new }
-        ensures goes { Goes ⟦<Device<M> as Counts>⟧ (2 ^ 20) self.old self.new }
+        requires stamp { D.next_stamp self.old.device + 2 ^ 20 ≤ 2 ^ 63 }
+        ensures core { IsCore D.Counts self.new }
+        ensures goes { Goes D.Counts (2 ^ 20) self.old self.new }
         ensures lines { KeepsLines self.old self.new }
-        ensures rounds { IfRounded ⟦<Device<M> as Counts>⟧.tells (RoundIsDone ⟦<Device<M> as Counts>⟧ self.old self.new) result }
-        ensures faults { HasCause ⟦<Device<M> as Counts>⟧ (result ≡ Rounded.Fault) self.old self.new }
+        ensures rounds { IfRounded D.tells (RoundIsDone D.Counts D.MovingPages.own self.old self.new) result }
+        ensures faults { HasCause D.Counts (result ≡ Rounded.Fault) self.old self.new }
     {
         match self.empty_table() {
             Rounded::Done => {
@@ -58,16 +53,14 @@ impl<M: Nand> Core<M> {
 
     // Each pending callback is handled, and the metadata committed where a page awaits its free or an old name stands.
     fn empty_table(&mut self) -> Rounded
-        requires formed { ⟦<Device<M> as Counts>⟧.formed self.old.device }
-        requires core { IsCore ⟦<Device<M> as Counts>⟧ self.old }
+        requires core { IsCore D.Counts self.old }
         requires writes { self.old.stopped ≡ 0 }
-        requires stamp { ⟦<Device<M> as Counts>⟧.next_stamp self.old.device + 2 ^ 20 ≤ 2 ^ 63 }
-        ensures formed { ⟦<Device<M> as Counts>⟧.formed self.new.device }
-        ensures core { IsCore ⟦<Device<M> as Counts>⟧ self.new }
-        ensures goes { Goes ⟦<Device<M> as Counts>⟧ (2 ^ 20) self.old self.new }
+        requires stamp { D.next_stamp self.old.device + 2 ^ 20 ≤ 2 ^ 63 }
+        ensures core { IsCore D.Counts self.new }
+        ensures goes { Goes D.Counts (2 ^ 20) self.old self.new }
         ensures lines { KeepsLines self.old self.new }
-        ensures emptied { IfRounded ⟦<Device<M> as Counts>⟧.tells (EmptiesTable ⟦<Device<M> as Counts>⟧ self.old self.new) result }
-        ensures faults { HasCause ⟦<Device<M> as Counts>⟧ (result ≡ Rounded.Fault) self.old self.new }
+        ensures emptied { IfRounded D.tells (EmptiesTable D.Counts self.old self.new) result }
+        ensures faults { HasCause D.Counts (result ≡ Rounded.Fault) self.old self.new }
     {
         match self.handle_all() {
             Rounded::Done => self.commit_if_due(),
@@ -77,16 +70,14 @@ impl<M: Nand> Core<M> {
 
     // Handles the pending callbacks that no transaction has handled, in the order of their numbers.
     fn handle_all(&mut self) -> Rounded
-        requires formed { ⟦<Device<M> as Counts>⟧.formed self.old.device }
-        requires core { IsCore ⟦<Device<M> as Counts>⟧ self.old }
+        requires core { IsCore D.Counts self.old }
         requires writes { self.old.stopped ≡ 0 }
-        requires stamp { ⟦<Device<M> as Counts>⟧.next_stamp self.old.device + 2 ^ 20 ≤ 2 ^ 63 }
-        ensures formed { ⟦<Device<M> as Counts>⟧.formed self.new.device }
-        ensures core { IsCore ⟦<Device<M> as Counts>⟧ self.new }
-        ensures goes { Goes ⟦<Device<M> as Counts>⟧ (2 ^ 19) self.old self.new }
+        requires stamp { D.next_stamp self.old.device + 2 ^ 20 ≤ 2 ^ 63 }
+        ensures core { IsCore D.Counts self.new }
+        ensures goes { Goes D.Counts (2 ^ 19) self.old self.new }
         ensures lines { KeepsLines self.old self.new }
-        ensures handles { IfRounded ⟦<Device<M> as Counts>⟧.tells (HandlesAll ⟦<Device<M> as Counts>⟧ self.old self.new) result }
-        ensures faults { HasCause ⟦<Device<M> as Counts>⟧ (result ≡ Rounded.Fault) self.old self.new }
+        ensures handles { IfRounded D.tells (HandlesAll D.Counts self.old self.new) result }
+        ensures faults { HasCause D.Counts (result ≡ Rounded.Fault) self.old self.new }
     {
         device_stands(&self.device);
         'each: while let Some(number) = self.device.least() {
@@ -105,24 +96,22 @@ impl<M: Nand> Core<M> {
 
     // Commits where a page awaits its free, or an old name stands in the table. Each callback was handled.
     fn commit_if_due(&mut self) -> Rounded
-        requires formed { ⟦<Device<M> as Counts>⟧.formed self.old.device }
-        requires core { IsCore ⟦<Device<M> as Counts>⟧ self.old }
+        requires core { IsCore D.Counts self.old }
         requires writes { self.old.stopped ≡ 0 }
-        requires stamp { ⟦<Device<M> as Counts>⟧.next_stamp self.old.device + 512 ≤ 2 ^ 63 }
-        requires handled { AllHandled (names_of ⟦<Device<M> as Counts>⟧ self.old) }
-        ensures formed { ⟦<Device<M> as Counts>⟧.formed self.new.device }
-        ensures core { IsCore ⟦<Device<M> as Counts>⟧ self.new }
-        ensures goes { Goes ⟦<Device<M> as Counts>⟧ 512 self.old self.new }
+        requires stamp { D.next_stamp self.old.device + 512 ≤ 2 ^ 63 }
+        requires handled { AllHandled (names_of D.Counts self.old) }
+        ensures core { IsCore D.Counts self.new }
+        ensures goes { Goes D.Counts 512 self.old self.new }
         ensures lines { KeepsLines self.old self.new }
-        ensures emptied { IfRounded ⟦<Device<M> as Counts>⟧.tells (EmptiesTable ⟦<Device<M> as Counts>⟧ self.old self.new) result }
-        ensures faults { HasCause ⟦<Device<M> as Counts>⟧ (result ≡ Rounded.Fault) self.old self.new }
+        ensures emptied { IfRounded D.tells (EmptiesTable D.Counts self.old self.new) result }
+        ensures faults { HasCause D.Counts (result ≡ Rounded.Fault) self.old self.new }
     {
         if !self.is_due() {
             return Rounded::Done;
         }
         match self.commit() {
             Committing::Done(_) => {
-                formed_devices::<M>();
+                self.device.stands();
                 if self.stopped != 0 {
                     return Rounded::Fault;
                 }
@@ -135,7 +124,7 @@ impl<M: Nand> Core<M> {
 
     // A page awaits its free, or an old name stands in the table.
     fn is_due(&self) -> bool
-        ensures { result ≡ false ↔ ((names_of ⟦<Device<M> as Counts>⟧ self.now).space.pairs ≡ 0) × (self.now.freeing.items ≡ []) }
+        ensures { result ≡ false ↔ ((names_of D.Counts self.now).space.pairs ≡ 0) × (self.now.freeing.items ≡ []) }
     {
         self.device.pairs() != 0 || self.freeing.len() != 0
     }

@@ -4,19 +4,17 @@ ghost use Rattle.nl_meta.specs.Pages.{is_frozen};
 ghost use Rattle.nl_core.specs.Core.{begun_of};
 ghost use Rattle.nl_core.specs.Writing.{frozen_count, stopped_on};
 
-use nl_device::Device;
 use nl_field::{PointerList, Shape, SuperRec};
 use nl_flight::Flight;
-use nl_iface::Counts;
+use nl_iface::MovingPages;
 use nl_inode::Nodes;
 use nl_journal::Journal;
 use nl_meta::Meta;
-use nl_nand::Nand;
 
 /// A device with the metadata that runs over it, the pages in flight, and the pointers that await their free.
 #[derive(Drop)]
-pub struct Core<M: Nand> {
-    pub device: Device<M>,
+pub struct Core<D: MovingPages> {
+    pub device: D,
     pub shape: Shape,
     pub journal: Journal,
     pub meta: Meta,
@@ -34,10 +32,10 @@ pub struct Core<M: Nand> {
     pub stopped: u64,
 }
 
-impl<M: Nand> Core<M> {
+impl<D: MovingPages> Core<D> {
     // The volume is read-only from the first failed program or erase on.
     pub(crate) fn note_fault(&mut self, writes_before: u64)
-        ensures { self.new ≡ record self.old { stopped = stopped_on ⟦<Device<M> as Counts>⟧ writes_before self.old self.old } }
+        ensures { self.new ≡ record self.old { stopped = stopped_on D.Counts writes_before self.old self.old } }
     {
         if self.stopped == 0 && rose(writes_before, self.device.write_faults()) {
             self.stopped = self.faults();
@@ -46,7 +44,7 @@ impl<M: Nand> Core<M> {
 
     /// The sum of both fault counts.
     pub fn faults(&self) -> u64
-        ensures { result ≡ saturated (⟦<Device<M> as Counts>⟧.read_faults self.now.device + ⟦<Device<M> as Counts>⟧.write_faults self.now.device) }
+        ensures { result ≡ saturated (D.read_faults self.now.device + D.write_faults self.now.device) }
     {
         self.device
             .read_faults()

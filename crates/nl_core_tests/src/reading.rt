@@ -171,7 +171,7 @@ fn wrong_flight(
 
 /// What of a volume is not as it was built, after so many calls, with so many pages in flight.
 pub fn first_wrong(
-    core: &mut Core<MemNand>,
+    core: &mut Core<Device<MemNand>>,
     calls: u64,
     in_flight: u32,
     work: &mut Work,

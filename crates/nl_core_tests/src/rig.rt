@@ -7,7 +7,7 @@ use nl_cleaning::Cleaned;
 use nl_core::{Core, Programmed, Rounded};
 use nl_device::Device;
 use nl_field::{PageBuf, Tag};
-use nl_iface::Counts;
+use nl_iface::{Counts, MovingPages};
 use nl_journal::Committing;
 use nl_nand::MemNand;
 use nl_tree::{Duty, DutyAnswer};
@@ -57,11 +57,11 @@ pub enum Seen {
 /// A core that runs.
 #[derive(Drop)]
 pub struct Rig {
-    pub core: Core<MemNand>,
+    pub core: Core<Device<MemNand>>,
 }
 
 /// Whether no write may follow: one failed, or the write sequence numbers are beyond those of the tests.
-fn is_read_only(core: &Core<MemNand>) -> bool
+fn is_read_only(core: &Core<Device<MemNand>>) -> bool
     ensures stopped { result ≡ false → core.now.stopped ≡ 0 }
     ensures stamp { result ≡ false → ⟦<Device<MemNand> as Counts>⟧.next_stamp core.now.device ≤ 2 ^ 40 }
 {
@@ -84,7 +84,7 @@ impl Model for Rig {
 
     ghost view = { λ r. tt };
 
-    ghost invariant = { λ r. ⟦<Device<MemNand> as Counts>⟧.formed r.core.device × IsCore ⟦<Device<MemNand> as Counts>⟧ r.core };
+    ghost invariant = { λ r. IsCore ⟦<Device<MemNand> as Counts>⟧ r.core };
 }
 
 impl Rig {

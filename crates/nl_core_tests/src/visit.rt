@@ -79,7 +79,7 @@ fn opened(alloc: Global, media: MemNand) -> Result<Rig, Memory> {
     }
 }
 
-fn looks(core: &mut Core<MemNand>, holds: Option<Holds>, work: &mut Work) -> Option<Differs>
+fn looks(core: &mut Core<Device<MemNand>>, holds: Option<Holds>, work: &mut Work) -> Option<Differs>
     requires { ⟦<Device<MemNand> as Counts>⟧.formed core.old.device }
 {
     match holds {
@@ -91,7 +91,7 @@ fn looks(core: &mut Core<MemNand>, holds: Option<Holds>, work: &mut Work) -> Opt
     }
 }
 
-fn medium_of(core: Core<MemNand>) -> MemNand {
+fn medium_of(core: Core<Device<MemNand>>) -> MemNand {
     let Core {
         device,
         shape: _,

@@ -6,15 +6,13 @@ ghost use Rattle.nl_iface.specs.Names.{Has};
 ghost use Rattle.nl_running.specs.Reading.{Reads};
 ghost use Rattle.nl_running.specs.Running.{Runs};
 
-use nl_device::Device;
 use nl_field::{PointerList, Shape};
 use nl_flight::Flight;
 use nl_handler::laws::{handler_changes_pages, handler_keeps, holders_renamed};
 use nl_handler::{Handled, handle};
-use nl_iface::{Callback, Counts};
+use nl_iface::{Callback, MovingPages};
 use nl_inode::Nodes;
 use nl_meta::Meta;
-use nl_nand::Nand;
 
 /// What the handling of a callback answers.
 #[derive(Clone, Copy, Debug, PartialEq, Eq)]
@@ -37,35 +35,35 @@ pub enum Drained {
 /// `NoRoom` comes where the metadata has the pointer in a page that cannot be made dirty: a commit makes room. `NoRoom`, `Fault` and `Lost`
 /// leave the callback as it was. One whose page nobody holds is passed over, and counts as handled; there is none where each live page has
 /// its holder.
-pub fn handle_one<M: Nand>(
+pub fn handle_one<D: MovingPages>(
     callback: &Callback,
     shape: &Shape,
-    device: &mut Device<M>,
+    device: &mut D,
     meta: &mut Meta,
     nodes: &mut Nodes,
     flight: &mut Flight,
     freeing: &mut PointerList,
     transaction: u64,
 ) -> Drained
-    requires formed { ⟦<Device<M> as Counts>⟧.formed device.old }
-    requires runs { Runs ⟦<Device<M> as Counts>⟧ device.old meta.old }
-    requires pending { Has (⟦<Device<M> as Counts>⟧.names device.old).pending callback.now }
-    requires shape { shape.now ≡ ⟦<Device<M> as Counts>⟧.shape device.old }
-    ensures formed { ⟦<Device<M> as Counts>⟧.formed device.new }
-    ensures runs { Runs ⟦<Device<M> as Counts>⟧ device.new meta.new }
-    ensures done { result ≡ Drained.Done → Marks callback.now transaction (⟦<Device<M> as Counts>⟧.names device.old) (⟦<Device<M> as Counts>⟧.names device.new) }
+    requires formed { D.formed device.old }
+    requires runs { Runs D.Counts device.old meta.old }
+    requires pending { Has (D.names device.old).pending callback.now }
+    requires shape { shape.now ≡ D.shape device.old }
+    ensures formed { D.formed device.new }
+    ensures runs { Runs D.Counts device.new meta.new }
+    ensures done { result ≡ Drained.Done → Marks callback.now transaction (D.names device.old) (D.names device.new) }
     ensures few { length meta.new.dirty ≤ length meta.old.dirty + 1 }
-    ensures same { (result ≡ Drained.Done → ⊥) → (⟦<Device<M> as Counts>⟧.names device.new ≡ ⟦<Device<M> as Counts>⟧.names device.old) × (meta.new.dirty ≡ meta.old.dirty) }
-    ensures no_room { result ≡ Drained.NoRoom → IsBlocked ⟦<Device<M> as Counts>⟧ (volume device.new meta.new flight.new freeing.new.items) callback.now }
-    ensures room_made { result ≡ Drained.Done → IsBlocked ⟦<Device<M> as Counts>⟧ (volume device.old meta.old flight.old freeing.old.items) callback.now → ⊥ }
-    ensures handles { HandlesSome ⟦<Device<M> as Counts>⟧ transaction (volume device.old meta.old flight.old freeing.old.items) (volume device.new meta.new flight.new freeing.new.items) }
+    ensures same { (result ≡ Drained.Done → ⊥) → (D.names device.new ≡ D.names device.old) × (meta.new.dirty ≡ meta.old.dirty) }
+    ensures no_room { result ≡ Drained.NoRoom → IsBlocked D.Counts (volume device.new meta.new flight.new freeing.new.items) callback.now }
+    ensures room_made { result ≡ Drained.Done → IsBlocked D.Counts (volume device.old meta.old flight.old freeing.old.items) callback.now → ⊥ }
+    ensures handles { HandlesSome D.Counts transaction (volume device.old meta.old flight.old freeing.old.items) (volume device.new meta.new flight.new freeing.new.items) }
     ensures nodes { nodes.new ≡ nodes.old }
     ensures room { freeing.new.room ≡ freeing.old.room }
-    ensures reads { Reads ⟦<Device<M> as Counts>⟧ device.old device.new (drained_stop result) }
+    ensures reads { Reads D.Counts device.old device.new (drained_stop result) }
 {
     holders_renamed();
-    handler_keeps::<Device<M>>();
-    handler_changes_pages::<Device<M>>();
+    handler_keeps::<D>();
+    handler_changes_pages::<D>();
     match handle(callback, shape, device, meta, nodes, flight, freeing) {
         Handled::Renamed | Handled::Gone => {
             let _ = device.handled(callback.number, transaction);

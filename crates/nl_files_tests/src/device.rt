@@ -6,7 +6,7 @@ ghost use Rattle.nl_nand.specs.Nand.{IsBlank};
 
 use nl_device::Device;
 use nl_field::{FailList, Memory};
-use nl_iface::{Counts, NamedPages};
+use nl_iface::{Counts, MovingPages, NamedPages};
 use nl_nand::{FormAnswer, MemNand, Nand};
 use std::alloc::Global;
 

@@ -4,7 +4,7 @@ ghost use Rattle.nl_field.specs.Numbers.{shape_for};
 use crate::device::{blank, started};
 use nl_device::Device;
 use nl_field::{FailList, Memory, PageBuf, VirtualWrite, shape_of};
-use nl_iface::{Counts, VirtualPages};
+use nl_iface::{Counts, MovingPages, VirtualPages};
 use nl_inode::{Fetch, fetch};
 use nl_meta::Meta;
 use nl_nand::MemNand;

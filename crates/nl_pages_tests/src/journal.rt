@@ -9,7 +9,7 @@ ghost use Rattle.nl_pages_tests.specs.Standing.{Stands};
 use crate::device::{blank, started};
 use nl_device::{Device, Started};
 use nl_field::{FailList, Memory, PageBuf, VirtualRead, shape_of};
-use nl_iface::{Counts, VirtualPages};
+use nl_iface::{Counts, MovingPages, VirtualPages};
 use nl_journal::{Committing, Journal, ReadBack};
 use nl_meta::Meta;
 use nl_nand::{Cut, MemNand, Nand, Stop};

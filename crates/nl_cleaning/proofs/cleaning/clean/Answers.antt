@@ -1,20 +1,22 @@
 use Rattle.std.proofs.Common.{◌≡◌, inl, inr, ⊎_elim, refl, sym, ◌∙◌, ap, subst, arith}
-use Rattle.nl_device.specs.declared.cleaning.Copying.TheVariants as copy
-use Rattle.nl_device.specs.contracts.counts.DeviceCounts.TheImpl.{ghosts}
+use Rattle.nl_iface.specs.declared.moving.Copying.TheVariants as copy
 use Rattle.nl_iface.proofs.Stops.{reads_then}
 use Rattle.nl_iface.specs.Names.{Names}
-use Rattle.nl_iface.specs.Space.{CanLand}
-use Rattle.nl_pseg.specs.declared.cleaned.Erasure.TheVariants as erasure
+use Rattle.nl_iface.specs.Calls.{stored}
+use Rattle.nl_iface.specs.Space.{CanLand, Space}
+use Rattle.nl_iface.specs.Victims.{IsWiped, StaysOrTakes}
+use Rattle.nl_field.specs.declared.shape.Shape.{Shape}
+use Rattle.nl_iface.specs.declared.moving.Erasing.TheVariants as erasure
 use Rattle.nl_cleaning.specs.Spaces.{StaysInHand, HasEmptied}
+use Rattle.nl_cleaning.proofs.Chosen.{is_chosen, same_none}
 use Rattle.nl_cleaning.proofs.Counting.{counted_as}
-use Rattle.nl_cleaning.proofs.Device.{none_bad}
 use Rattle.nl_cleaning.proofs.Finishing.{busy, emptied_is, emptied_well, end_counted, end_held, end_rose, end_ticks, idle, in_hand, same_names, stays}
 use Rattle.nl_cleaning.proofs.Steps.{erased_stored, still_stored, stored_then}
 use Rattle.nl_cleaning.proofs.cleaning.clean.Goals as goal
 
 pub returns-in-Lost-clause-nothing : goal.returns-in-Lost-clause-nothing
 returns-in-Lost-clause-nothing g c =
-    let G = ghosts g.row.M g.M.Nand g.M.Nand-dict in
+    let G = g.D.Counts in
     let s = c.args.device.now in
     let t = c.empty_victim.new.device in
     let e = c.empty_victim.ensures in
@@ -22,7 +24,7 @@ returns-in-Lost-clause-nothing g c =
     (λ is. cc, λ nothing. absurd (busy G s t e.none stopped.victim nothing))
 
 pub returns-in-Lost-clause-faults : goal.returns-in-Lost-clause-faults
-returns-in-Lost-clause-faults g c = counted_as (ghosts g.row.M g.M.Nand g.M.Nand-dict) (c.empty_victim.result ≡ copy.Fault) _ c.args.device.now c.empty_victim.new.device (λ is. cc) (λ fault. absurd (apart (sym c.in-Lost.is ∙ fault))) c.empty_victim.ensures.faults
+returns-in-Lost-clause-faults g c = counted_as g.D.Counts (c.empty_victim.result ≡ copy.Fault) _ c.args.device.now c.empty_victim.new.device (λ is. cc) (λ fault. absurd (apart (sym c.in-Lost.is ∙ fault))) c.empty_victim.ensures.faults
   where
     apart : copy.Lost c.in-Lost.wanted c.in-Lost.found ≡ copy.Fault → ⊥
     apart e = cc
@@ -35,7 +37,7 @@ returns-in-Fault-clause-lands g c = ⊎_elim (λ rose. inl (λ is. cc, rose)) (�
 
 pub returns-in-Fault-clause-nothing : goal.returns-in-Fault-clause-nothing
 returns-in-Fault-clause-nothing g c =
-    let G = ghosts g.row.M g.M.Nand g.M.Nand-dict in
+    let G = g.D.Counts in
     let s = c.args.device.now in
     let t = c.empty_victim.new.device in
     let e = c.empty_victim.ensures in
@@ -43,11 +45,11 @@ returns-in-Fault-clause-nothing g c =
     (λ is. cc, λ nothing. absurd (busy G s t e.none stopped.victim nothing))
 
 pub returns-in-Fault-clause-faults : goal.returns-in-Fault-clause-faults
-returns-in-Fault-clause-faults g c = counted_as (ghosts g.row.M g.M.Nand g.M.Nand-dict) (c.empty_victim.result ≡ copy.Fault) _ c.args.device.now c.empty_victim.new.device (λ is. c.in-Fault.is) (λ fault. refl) c.empty_victim.ensures.faults
+returns-in-Fault-clause-faults g c = counted_as g.D.Counts (c.empty_victim.result ≡ copy.Fault) _ c.args.device.now c.empty_victim.new.device (λ is. c.in-Fault.is) (λ fault. refl) c.empty_victim.ensures.faults
 
 pub returns-in-Done : goal.returns-in-Done
 returns-in-Done g c =
-    let G = ghosts g.row.M g.M.Nand g.M.Nand-dict in
+    let G = g.D.Counts in
     let s = c.args.device.now in
     let t = c.empty_victim.new.device in
     let u = c.erase.new.self in
@@ -55,10 +57,12 @@ returns-in-Done g c =
     let f = c.erase.ensures in
     let empty = emptied_is c.empty_victim.result (G.names s).space (G.names t).space c.in-Did.is e.emptied in
     let erased = f.done c.in-Done.is in
+    let wiped = f.wiped c.in-Done.is in
     record {
       formed = f.formed;
       nothing = (λ is. cc, λ nothing. absurd (busy G s t e.none erased.space.in_hand nothing));
       none = λ is. cc;
+      block = record { block = wiped.0; chosen = is_chosen g.D.MovingPages s t wiped.0 e.chosen wiped.1; none = wiped.2; wiped = λ tells. subst (λ n. IsWiped (g.D.MovingPages.blank u) n wiped.0 (stored G u)) (ap (λ (h : Shape). h.pages) e.held.virtual.same_shape) (wiped.3 tells) };
       space = ((G.names t).space, empty.0, erased.space);
       held = end_held G s t u e.stored e.held erased.tables f.left f.kept;
       stored = λ tells. inr (stored_then (e.stored tells) (erased_stored G t u (erased.now tells)));
@@ -74,7 +78,7 @@ returns-in-Done g c =
 
 pub returns-in-Nothing : goal.returns-in-Nothing
 returns-in-Nothing g c =
-    let G = ghosts g.row.M g.M.Nand g.M.Nand-dict in
+    let G = g.D.Counts in
     let s = c.args.device.now in
     let t = c.empty_victim.new.device in
     let u = c.erase.new.self in
@@ -88,6 +92,7 @@ returns-in-Nothing g c =
       formed = f.formed;
       nothing = (λ is. (rests.0, rests.1), λ nothing. refl);
       none = λ is. all;
+      block = (f.same (λ done. other (sym c.in-Nothing.is ∙ done))).1 ∙ same_none g.D.MovingPages s t _ _ (g.met.D.MovingPages.in_hand s) (g.met.D.MovingPages.in_hand t) rests.1 (ap (λ (x : Space). x.victim) rests.2 ∙ rests.1);
       space = (rests.0, rests.1, ap (λ (n : Names). n.space) all.names);
       held = end_held G s t u e.stored e.held (same_names G t u reads.names) f.left f.kept;
       stored = λ tells. inr (stored_then (e.stored tells) (still_stored G t u tells reads.medium));
@@ -101,9 +106,12 @@ returns-in-Nothing g c =
     apart : erasure.Nothing ≡ erasure.Fault → ⊥
     apart e = cc
 
+    other : erasure.Nothing ≡ erasure.Done → ⊥
+    other e = cc
+
 pub returns-in-Fault-erase : goal.returns-in-Fault-erase
 returns-in-Fault-erase g c =
-    let G = ghosts g.row.M g.M.Nand g.M.Nand-dict in
+    let G = g.D.Counts in
     let s = c.args.device.now in
     let t = c.empty_victim.new.device in
     let u = c.erase.new.self in
@@ -111,13 +119,14 @@ returns-in-Fault-erase g c =
     let f = c.erase.ensures in
     let empty = emptied_is c.empty_victim.result (G.names s).space (G.names t).space c.in-Did.is e.emptied in
     let one = in_hand (G.names t).space empty.1 (λ off. apart (sym c.in-Fault-erase.is ∙ f.nothing.1 off)) in
-    let same = f.same (λ done. other (sym c.in-Fault-erase.is ∙ done)) in
+    let same = (f.same (λ done. other (sym c.in-Fault-erase.is ∙ done))).0 in
     let rose = end_rose G (c.empty_victim.result ≡ copy.Fault) (c.erase.result ≡ erasure.Fault) s t u e.faults f.write_faults c.in-Fault-erase.is in
     record {
       formed = f.formed;
       nothing = (λ is. cc, λ nothing. absurd (busy G s t e.none one nothing));
       none = λ is. cc;
-      space = subst (λ (n : Names). StaysInHand (G.names s).space n.space) (sym same) (stays (G.names s).space (G.names t).space empty.0 one (none_bad s.pseg t.pseg));
+      block = subst (StaysOrTakes (g.D.MovingPages.most_dead s) (g.D.MovingPages.victim s)) (sym (f.same (λ done. other (sym c.in-Fault-erase.is ∙ done))).1) e.chosen;
+      space = subst (λ (n : Names). StaysInHand (G.names s).space n.space) (sym same) (stays (G.names s).space (G.names t).space empty.0 one (g.met.D.MovingPages.none_bad t ∙ sym (g.met.D.MovingPages.none_bad s)));
       held = end_held G s t u e.stored e.held (same_names G t u same) f.left f.kept;
       stored = λ tells. inl (refl, rose);
       lands = inl (λ is. cc, rose);

@@ -1,14 +1,13 @@
 use Rattle.std.proofs.Common.{inr, ◌∙◌, ap, option_map}
 use Rattle.std.proofs.lemmas.Option.{slice_get-map}
 use Rattle.nl_commit.proofs.Frees.{frees_one}
-use Rattle.nl_device.specs.contracts.counts.DeviceCounts.TheImpl.{ghosts}
 use Rattle.nl_flight.specs.Flight.{of_worker}
 use Rattle.nl_flight.specs.declared.page.FlightPage.{FlightPage}
 use Rattle.nl_core.proofs.dropping.free_at.Goals as goal
 
 pub returns-in-Some-clause-freed : goal.returns-in-Some-clause-freed
 returns-in-Some-clause-freed g c =
-    let G = ghosts g.row.M g.M.Nand g.M.Nand-dict in
+    let G = g.D.Counts in
     let pages = (of_worker c.args.flight.now c.args.worker).pages in
     inr (
       c.in-Some.at,

@@ -1,5 +1,4 @@
 use Rattle.std.proofs.Common.{◌≡◌, ◌∙◌, subst, take, arith}
-use Rattle.nl_device.specs.contracts.counts.DeviceCounts.TheImpl.{ghosts}
 use Rattle.nl_commit.specs.Freeing.{FreesEach}
 use Rattle.nl_flight.specs.Flight.{of_worker}
 use Rattle.nl_iface.proofs.Stops.{keeps_medium_then}
@@ -9,7 +8,7 @@ use Rattle.nl_core.proofs.dropping.free_line.Goals as goal
 
 pub loop-i-preserved : goal.loop-i-preserved
 loop-i-preserved g c =
-    let G = ghosts g.row.M g.M.Nand g.M.Nand-dict in
+    let G = g.D.Counts in
     let old = c.args.device.now in
     let mid = c.loop-i.device in
     let new = c.free_at.new.device in
@@ -24,7 +23,7 @@ loop-i-preserved g c =
 
 pub returns-clause-freed : goal.returns-clause-freed
 returns-clause-freed g c =
-    let G = ghosts g.row.M g.M.Nand g.M.Nand-dict in
+    let G = g.D.Counts in
     let past = c.loop-i-test.false in
     let most = c.loop-i.auto.i-end in
     let end : c.loop-i.i ≡ 18 = omega (arith, past, most) in

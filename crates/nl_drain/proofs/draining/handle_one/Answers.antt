@@ -1,5 +1,4 @@
 use Rattle.std.proofs.Common.{ap}
-use Rattle.nl_device.specs.contracts.counts.DeviceCounts.TheImpl.{ghosts}
 use Rattle.nl_field.specs.PointerItems.{PointerItems}
 use Rattle.nl_handler.specs.declared.answer.Handled.TheVariants as handled
 use Rattle.nl_running.proofs.Holds.{bounds-of}
@@ -8,10 +7,10 @@ use Rattle.nl_drain.proofs.draining.handle_one.Goals as goal
 
 pub returns-in-NoRoom-clause-no_room : goal.returns-in-NoRoom-clause-no_room
 returns-in-NoRoom-clause-no_room g c is =
-    let G = ghosts g.row.M g.M.Nand g.M.Nand-dict in
+    let G = g.D.Counts in
     let e = c.handle.ensures in
     let call : Call G c.args.device.now c.args.meta.now c.handle.new.device c.handle.new.meta c.args.flight.now c.args.freeing.now.items c.args.callback.now c.handle.result = record {
-      bounds = bounds-of (G.shape c.args.device.now) c.requires.formed.legal;
+      bounds = bounds-of (G.shape c.args.device.now) (g.met.D.VirtualPages.numbers c.args.device.now c.requires.formed);
       runs = c.requires.runs;
       pending = c.requires.pending;
       does = record { elsewhere = e.elsewhere; stored = e.stored };
@@ -23,10 +22,10 @@ returns-in-NoRoom-clause-no_room g c is =
 
 pub returns-in-NoRoom-clause-handles : goal.returns-in-NoRoom-clause-handles
 returns-in-NoRoom-clause-handles g c =
-    let G = ghosts g.row.M g.M.Nand g.M.Nand-dict in
+    let G = g.D.Counts in
     let e = c.handle.ensures in
     let call : Call G c.args.device.now c.args.meta.now c.handle.new.device c.handle.new.meta c.args.flight.now c.args.freeing.now.items c.args.callback.now c.handle.result = record {
-      bounds = bounds-of (G.shape c.args.device.now) c.requires.formed.legal;
+      bounds = bounds-of (G.shape c.args.device.now) (g.met.D.VirtualPages.numbers c.args.device.now c.requires.formed);
       runs = c.requires.runs;
       pending = c.requires.pending;
       does = record { elsewhere = e.elsewhere; stored = e.stored };
@@ -38,10 +37,10 @@ returns-in-NoRoom-clause-handles g c =
 
 pub returns-in-NoRoom-clause-few : goal.returns-in-NoRoom-clause-few
 returns-in-NoRoom-clause-few g c =
-    let G = ghosts g.row.M g.M.Nand g.M.Nand-dict in
+    let G = g.D.Counts in
     let e = c.handle.ensures in
     let call : Call G c.args.device.now c.args.meta.now c.handle.new.device c.handle.new.meta c.args.flight.now c.args.freeing.now.items c.args.callback.now c.handle.result = record {
-      bounds = bounds-of (G.shape c.args.device.now) c.requires.formed.legal;
+      bounds = bounds-of (G.shape c.args.device.now) (g.met.D.VirtualPages.numbers c.args.device.now c.requires.formed);
       runs = c.requires.runs;
       pending = c.requires.pending;
       does = record { elsewhere = e.elsewhere; stored = e.stored };
@@ -51,10 +50,10 @@ returns-in-NoRoom-clause-few g c =
 
 pub returns-in-NoRoom-clause-same : goal.returns-in-NoRoom-clause-same
 returns-in-NoRoom-clause-same g c off =
-    let G = ghosts g.row.M g.M.Nand g.M.Nand-dict in
+    let G = g.D.Counts in
     let e = c.handle.ensures in
     let call : Call G c.args.device.now c.args.meta.now c.handle.new.device c.handle.new.meta c.args.flight.now c.args.freeing.now.items c.args.callback.now c.handle.result = record {
-      bounds = bounds-of (G.shape c.args.device.now) c.requires.formed.legal;
+      bounds = bounds-of (G.shape c.args.device.now) (g.met.D.VirtualPages.numbers c.args.device.now c.requires.formed);
       runs = c.requires.runs;
       pending = c.requires.pending;
       does = record { elsewhere = e.elsewhere; stored = e.stored };
@@ -65,10 +64,10 @@ returns-in-NoRoom-clause-same g c off =
 
 pub returns-in-Fault-clause-handles : goal.returns-in-Fault-clause-handles
 returns-in-Fault-clause-handles g c =
-    let G = ghosts g.row.M g.M.Nand g.M.Nand-dict in
+    let G = g.D.Counts in
     let e = c.handle.ensures in
     let call : Call G c.args.device.now c.args.meta.now c.handle.new.device c.handle.new.meta c.args.flight.now c.args.freeing.now.items c.args.callback.now c.handle.result = record {
-      bounds = bounds-of (G.shape c.args.device.now) c.requires.formed.legal;
+      bounds = bounds-of (G.shape c.args.device.now) (g.met.D.VirtualPages.numbers c.args.device.now c.requires.formed);
       runs = c.requires.runs;
       pending = c.requires.pending;
       does = record { elsewhere = e.elsewhere; stored = e.stored };
@@ -80,10 +79,10 @@ returns-in-Fault-clause-handles g c =
 
 pub returns-in-Fault-clause-few : goal.returns-in-Fault-clause-few
 returns-in-Fault-clause-few g c =
-    let G = ghosts g.row.M g.M.Nand g.M.Nand-dict in
+    let G = g.D.Counts in
     let e = c.handle.ensures in
     let call : Call G c.args.device.now c.args.meta.now c.handle.new.device c.handle.new.meta c.args.flight.now c.args.freeing.now.items c.args.callback.now c.handle.result = record {
-      bounds = bounds-of (G.shape c.args.device.now) c.requires.formed.legal;
+      bounds = bounds-of (G.shape c.args.device.now) (g.met.D.VirtualPages.numbers c.args.device.now c.requires.formed);
       runs = c.requires.runs;
       pending = c.requires.pending;
       does = record { elsewhere = e.elsewhere; stored = e.stored };
@@ -93,10 +92,10 @@ returns-in-Fault-clause-few g c =
 
 pub returns-in-Fault-clause-same : goal.returns-in-Fault-clause-same
 returns-in-Fault-clause-same g c off =
-    let G = ghosts g.row.M g.M.Nand g.M.Nand-dict in
+    let G = g.D.Counts in
     let e = c.handle.ensures in
     let call : Call G c.args.device.now c.args.meta.now c.handle.new.device c.handle.new.meta c.args.flight.now c.args.freeing.now.items c.args.callback.now c.handle.result = record {
-      bounds = bounds-of (G.shape c.args.device.now) c.requires.formed.legal;
+      bounds = bounds-of (G.shape c.args.device.now) (g.met.D.VirtualPages.numbers c.args.device.now c.requires.formed);
       runs = c.requires.runs;
       pending = c.requires.pending;
       does = record { elsewhere = e.elsewhere; stored = e.stored };
@@ -107,10 +106,10 @@ returns-in-Fault-clause-same g c off =
 
 pub returns-in-Lost-clause-handles : goal.returns-in-Lost-clause-handles
 returns-in-Lost-clause-handles g c =
-    let G = ghosts g.row.M g.M.Nand g.M.Nand-dict in
+    let G = g.D.Counts in
     let e = c.handle.ensures in
     let call : Call G c.args.device.now c.args.meta.now c.handle.new.device c.handle.new.meta c.args.flight.now c.args.freeing.now.items c.args.callback.now c.handle.result = record {
-      bounds = bounds-of (G.shape c.args.device.now) c.requires.formed.legal;
+      bounds = bounds-of (G.shape c.args.device.now) (g.met.D.VirtualPages.numbers c.args.device.now c.requires.formed);
       runs = c.requires.runs;
       pending = c.requires.pending;
       does = record { elsewhere = e.elsewhere; stored = e.stored };
@@ -122,10 +121,10 @@ returns-in-Lost-clause-handles g c =
 
 pub returns-in-Lost-clause-few : goal.returns-in-Lost-clause-few
 returns-in-Lost-clause-few g c =
-    let G = ghosts g.row.M g.M.Nand g.M.Nand-dict in
+    let G = g.D.Counts in
     let e = c.handle.ensures in
     let call : Call G c.args.device.now c.args.meta.now c.handle.new.device c.handle.new.meta c.args.flight.now c.args.freeing.now.items c.args.callback.now c.handle.result = record {
-      bounds = bounds-of (G.shape c.args.device.now) c.requires.formed.legal;
+      bounds = bounds-of (G.shape c.args.device.now) (g.met.D.VirtualPages.numbers c.args.device.now c.requires.formed);
       runs = c.requires.runs;
       pending = c.requires.pending;
       does = record { elsewhere = e.elsewhere; stored = e.stored };
@@ -135,10 +134,10 @@ returns-in-Lost-clause-few g c =
 
 pub returns-in-Lost-clause-same : goal.returns-in-Lost-clause-same
 returns-in-Lost-clause-same g c off =
-    let G = ghosts g.row.M g.M.Nand g.M.Nand-dict in
+    let G = g.D.Counts in
     let e = c.handle.ensures in
     let call : Call G c.args.device.now c.args.meta.now c.handle.new.device c.handle.new.meta c.args.flight.now c.args.freeing.now.items c.args.callback.now c.handle.result = record {
-      bounds = bounds-of (G.shape c.args.device.now) c.requires.formed.legal;
+      bounds = bounds-of (G.shape c.args.device.now) (g.met.D.VirtualPages.numbers c.args.device.now c.requires.formed);
       runs = c.requires.runs;
       pending = c.requires.pending;
       does = record { elsewhere = e.elsewhere; stored = e.stored };
@@ -149,10 +148,10 @@ returns-in-Lost-clause-same g c off =
 
 pub returns-in-Renamed-clause-runs : goal.returns-in-Renamed-clause-runs
 returns-in-Renamed-clause-runs g c =
-    let G = ghosts g.row.M g.M.Nand g.M.Nand-dict in
+    let G = g.D.Counts in
     let e = c.handle.ensures in
     let call : Call G c.args.device.now c.args.meta.now c.handle.new.device c.handle.new.meta c.args.flight.now c.args.freeing.now.items c.args.callback.now c.handle.result = record {
-      bounds = bounds-of (G.shape c.args.device.now) c.requires.formed.legal;
+      bounds = bounds-of (G.shape c.args.device.now) (g.met.D.VirtualPages.numbers c.args.device.now c.requires.formed);
       runs = c.requires.runs;
       pending = c.requires.pending;
       does = record { elsewhere = e.elsewhere; stored = e.stored };
@@ -169,10 +168,10 @@ returns-in-Renamed-clause-runs g c =
 
 pub returns-in-Renamed-clause-done : goal.returns-in-Renamed-clause-done
 returns-in-Renamed-clause-done g c is =
-    let G = ghosts g.row.M g.M.Nand g.M.Nand-dict in
+    let G = g.D.Counts in
     let e = c.handle.ensures in
     let call : Call G c.args.device.now c.args.meta.now c.handle.new.device c.handle.new.meta c.args.flight.now c.args.freeing.now.items c.args.callback.now c.handle.result = record {
-      bounds = bounds-of (G.shape c.args.device.now) c.requires.formed.legal;
+      bounds = bounds-of (G.shape c.args.device.now) (g.met.D.VirtualPages.numbers c.args.device.now c.requires.formed);
       runs = c.requires.runs;
       pending = c.requires.pending;
       does = record { elsewhere = e.elsewhere; stored = e.stored };
@@ -189,10 +188,10 @@ returns-in-Renamed-clause-done g c is =
 
 pub returns-in-Renamed-clause-room_made : goal.returns-in-Renamed-clause-room_made
 returns-in-Renamed-clause-room_made g c is blocked =
-    let G = ghosts g.row.M g.M.Nand g.M.Nand-dict in
+    let G = g.D.Counts in
     let e = c.handle.ensures in
     let call : Call G c.args.device.now c.args.meta.now c.handle.new.device c.handle.new.meta c.args.flight.now c.args.freeing.now.items c.args.callback.now c.handle.result = record {
-      bounds = bounds-of (G.shape c.args.device.now) c.requires.formed.legal;
+      bounds = bounds-of (G.shape c.args.device.now) (g.met.D.VirtualPages.numbers c.args.device.now c.requires.formed);
       runs = c.requires.runs;
       pending = c.requires.pending;
       does = record { elsewhere = e.elsewhere; stored = e.stored };
@@ -209,10 +208,10 @@ returns-in-Renamed-clause-room_made g c is blocked =
 
 pub returns-in-Renamed-clause-few : goal.returns-in-Renamed-clause-few
 returns-in-Renamed-clause-few g c =
-    let G = ghosts g.row.M g.M.Nand g.M.Nand-dict in
+    let G = g.D.Counts in
     let e = c.handle.ensures in
     let call : Call G c.args.device.now c.args.meta.now c.handle.new.device c.handle.new.meta c.args.flight.now c.args.freeing.now.items c.args.callback.now c.handle.result = record {
-      bounds = bounds-of (G.shape c.args.device.now) c.requires.formed.legal;
+      bounds = bounds-of (G.shape c.args.device.now) (g.met.D.VirtualPages.numbers c.args.device.now c.requires.formed);
       runs = c.requires.runs;
       pending = c.requires.pending;
       does = record { elsewhere = e.elsewhere; stored = e.stored };
@@ -222,10 +221,10 @@ returns-in-Renamed-clause-few g c =
 
 pub returns-in-Renamed-clause-handles : goal.returns-in-Renamed-clause-handles
 returns-in-Renamed-clause-handles g c =
-    let G = ghosts g.row.M g.M.Nand g.M.Nand-dict in
+    let G = g.D.Counts in
     let e = c.handle.ensures in
     let call : Call G c.args.device.now c.args.meta.now c.handle.new.device c.handle.new.meta c.args.flight.now c.args.freeing.now.items c.args.callback.now c.handle.result = record {
-      bounds = bounds-of (G.shape c.args.device.now) c.requires.formed.legal;
+      bounds = bounds-of (G.shape c.args.device.now) (g.met.D.VirtualPages.numbers c.args.device.now c.requires.formed);
       runs = c.requires.runs;
       pending = c.requires.pending;
       does = record { elsewhere = e.elsewhere; stored = e.stored };

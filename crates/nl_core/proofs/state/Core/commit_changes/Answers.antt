@@ -2,7 +2,6 @@ use Rattle.std.proofs.Common.{◌≡◌, ◌∙◌, List, map, ap, sym, subst, r
 use Rattle.nl_tree.specs.declared.turn.Duty.TheVariants as task
 use Rattle.nl_tree.specs.declared.turn.DutyAnswer.{DutyAnswer}
 use Rattle.nl_tree.specs.declared.turn.DutyAnswer.TheVariants as duty
-use Rattle.nl_device.specs.contracts.counts.DeviceCounts.TheImpl.{ghosts}
 use Rattle.nl_drain.specs.Handled.{nameless_line}
 use Rattle.nl_flight.specs.Flight.{InFlight}
 use Rattle.nl_core.specs.Duties.{DoesTask}
@@ -12,13 +11,12 @@ use Rattle.nl_core.proofs.state.Core.commit_changes.Goals as goal
 
 pub returns-then-is_committed : goal.returns-then-is_committed
 returns-then-is_committed g c =
-    let G = ghosts g.row.M g.M.Nand g.M.Nand-dict in
+    let G = g.D.Counts in
     let v = c.args.self.now in
     record {
-      formed = c.requires.formed;
       core = c.requires.core;
       goes = goes_more G 0 512 v v (omega arith) (goes_none G v c.requires.core);
-      does = nothing_does G v (c.is_committed.ensures.0 c.if-is_committed.true);
+      does = nothing_does G g.D.MovingPages v (c.is_committed.ensures.0 c.if-is_committed.true);
       lines = refl;
       faults = λ is. absurd (apart is);
     }
@@ -28,16 +26,15 @@ returns-then-is_committed g c =
 
 pub returns : goal.returns
 returns g c =
-    let G = ghosts g.row.M g.M.Nand g.M.Nand-dict in
+    let G = g.D.Counts in
     let v = c.args.self.now in
     let w = c.commit-answer.new.self in
     let answer = c.commit-answer.result in
     let e = c.commit-answer.ensures in
     record {
-      formed = e.formed;
       core = e.core;
       goes = e.goes;
-      does = subst (λ (a : DutyAnswer). DoesTask G task.Commit v w a) (sym c.of_committing.ensures) (commit_does G v w answer (λ none. apart (sym c.if-is_committed.false ∙ c.is_committed.ensures.1 none)) e.commits);
+      does = subst (λ (a : DutyAnswer). DoesTask G g.D.MovingPages task.Commit v w a) (sym c.of_committing.ensures) (commit_does G v w g.D.MovingPages answer (λ none. apart (sym c.if-is_committed.false ∙ c.is_committed.ensures.1 none)) e.commits);
       lines = ap (λ (f : List InFlight). map nameless_line f) (commit_keeps_lines G v w answer e.commits);
       faults = λ is. e.faults (commit_fault answer (sym c.of_committing.ensures ∙ is));
     }

@@ -1,5 +1,4 @@
 use Rattle.std.proofs.Common.{◌≡◌, ap, map, arith}
-use Rattle.nl_device.specs.contracts.counts.DeviceCounts.TheImpl.{ghosts}
 use Rattle.nl_drain.specs.Handled.{nameless_line}
 use Rattle.nl_iface.proofs.RoundSteps.{empties_laws}
 use Rattle.nl_core.specs.Core.{names_of}
@@ -10,13 +9,13 @@ use Rattle.nl_core.proofs.state.Core.commit_if_due.Goals as goal
 
 pub returns-then-not-is_due-clause-goes : goal.returns-then-not-is_due-clause-goes
 returns-then-not-is_due-clause-goes g c =
-    let G = ghosts g.row.M g.M.Nand g.M.Nand-dict in
+    let G = g.D.Counts in
     let v = c.args.self.now in
     goes_more G 0 512 v v (omega arith) (goes_none G v c.requires.core)
 
 pub returns-then-not-is_due-clause-emptied : goal.returns-then-not-is_due-clause-emptied
 returns-then-not-is_due-clause-emptied g c =
-    let G = ghosts g.row.M g.M.Nand g.M.Nand-dict in
+    let G = g.D.Counts in
     let v = c.args.self.now in
     let none = c.is_due.ensures.0 c.if-not-is_due.true in
     record {
@@ -34,7 +33,7 @@ returns-then-self-ne0-clause-lines g c = ap (λ xs. map nameless_line xs) c.in-D
 
 pub returns-then-self-ne0-clause-faults : goal.returns-then-self-ne0-clause-faults
 returns-then-self-ne0-clause-faults g c =
-    let G = ghosts g.row.M g.M.Nand g.M.Nand-dict in
+    let G = g.D.Counts in
     cause_stopped G (rounded.Fault ≡ rounded.Fault) c.args.self.now c.commit.new.self 512 c.commit.ensures.goes c.requires.writes c.if-self-ne0.true
 
 pub returns-else-self-ne0-clause-lines : goal.returns-else-self-ne0-clause-lines
@@ -42,12 +41,12 @@ returns-else-self-ne0-clause-lines g c = ap (λ xs. map nameless_line xs) c.in-D
 
 pub returns-else-self-ne0-clause-emptied : goal.returns-else-self-ne0-clause-emptied
 returns-else-self-ne0-clause-emptied g c =
-    let G = ghosts g.row.M g.M.Nand g.M.Nand-dict in
+    let G = g.D.Counts in
     let v = c.args.self.now in
     let w = c.commit.new.self in
     let all = c.in-Done.ensures.commits in
     record {
-      no_pairs = c.formed_devices.ensures.called w.device c.commit.ensures.formed (none_pending (names_of G v) (names_of G w) c.requires.handled all.acknowledged);
+      no_pairs = c.stands.ensures.called (none_pending (names_of G v) (names_of G w) c.requires.handled all.acknowledged);
       freed = all.freed;
       space = all.space c.if-self-ne0.false;
       runs = c.if-self-ne0.false;

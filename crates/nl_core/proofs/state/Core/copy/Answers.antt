@@ -3,7 +3,6 @@ use Rattle.nl_tree.specs.declared.turn.Duty.TheVariants as task
 use Rattle.nl_tree.specs.declared.turn.DutyAnswer.{DutyAnswer}
 use Rattle.nl_tree.specs.declared.turn.DutyAnswer.TheVariants as duty
 use Rattle.nl_cleaning.proofs.Once.{copy_ends}
-use Rattle.nl_device.specs.contracts.counts.DeviceCounts.TheImpl.{ghosts}
 use Rattle.nl_core.specs.Calls.{HasCause, KeepsLines}
 use Rattle.nl_core.specs.Core.{IsCore}
 use Rattle.nl_core.specs.Duties.{DoesTask, duty_of_copy}
@@ -15,7 +14,7 @@ use Rattle.nl_core.proofs.state.Core.copy.Goals as goal
 
 pub returns : goal.returns
 returns g c =
-    let G = ghosts g.row.M g.M.Nand g.M.Nand-dict in
+    let G = g.D.Counts in
     let v = c.args.self.now in
     let t = c.copy-answer.new.self in
     let answer = c.copy-answer.result in
@@ -25,12 +24,11 @@ returns g c =
     let same : c.note_fault.new.self ≡ noted G v t =
     c.note_fault.ensures ∙ ap (λ n. record v { device = t; stopped = stopped_by v.stopped (G.read_faults t) n (G.write_faults t) }) c.write_faults-faults.ensures in
     record {
-      formed = subst (λ (x : Core g.row.M.Denot). G.formed x.device) (sym same) e.formed;
-      core = subst (λ (x : Core g.row.M.Denot). IsCore G x) (sym same) (copied_core G v t c.requires.core c.requires.writes first.volume first.map first.pages c.device_stands-2.ensures.pages answer ends e.left e.kept e.lands e.faults);
-      goes = subst (λ (x : Core g.row.M.Denot). Goes G 0 v x) (sym same) (copied_goes G v t c.requires.core c.requires.writes first.volume first.map first.pages c.device_stands-2.ensures.pages answer ends e.left e.kept e.lands e.faults);
-      does = subst (λ (a : DutyAnswer). DoesTask G task.Copy v c.note_fault.new.self a) (sym c.of_copying.ensures)
-          (subst (λ (x : Core g.row.M.Denot). DoesTask G task.Copy v x (duty_of_copy answer)) (sym same)
-          (copy_does G v t c.requires.core c.requires.writes answer e.did e.nothing e.none (λ w f is. (e.lost w f is).0) e.told e.faults));
-      lines = subst (λ (x : Core g.row.M.Denot). KeepsLines v x) (sym same) refl;
-      faults = subst (λ (x : Core g.row.M.Denot). HasCause G (c.of_copying.result ≡ duty.Fault) v x) (sym same) (λ is. e.faults.cause (copy_fault answer (sym c.of_copying.ensures ∙ is)));
+      core = subst (λ (x : Core g.row.D.Denot). IsCore G x) (sym same) (copied_core G v t c.requires.core c.requires.writes first.volume first.map first.pages c.device_stands-2.ensures.pages answer ends e.left e.kept e.lands e.faults e.formed);
+      goes = subst (λ (x : Core g.row.D.Denot). Goes G 0 v x) (sym same) (copied_goes G v t c.requires.core c.requires.writes first.volume first.map first.pages c.device_stands-2.ensures.pages answer ends e.left e.kept e.lands e.faults);
+      does = subst (λ (a : DutyAnswer). DoesTask G g.D.MovingPages task.Copy v c.note_fault.new.self a) (sym c.of_copying.ensures)
+          (subst (λ (x : Core g.row.D.Denot). DoesTask G g.D.MovingPages task.Copy v x (duty_of_copy answer)) (sym same)
+          (copy_does G v t c.requires.core c.requires.writes g.D.MovingPages answer e.did e.chosen e.nothing e.none (λ w f is. (e.lost w f is).0) e.told e.faults));
+      lines = subst (λ (x : Core g.row.D.Denot). KeepsLines v x) (sym same) refl;
+      faults = subst (λ (x : Core g.row.D.Denot). HasCause G (c.of_copying.result ≡ duty.Fault) v x) (sym same) (λ is. e.faults.cause (copy_fault answer (sym c.of_copying.ensures ∙ is)));
     }

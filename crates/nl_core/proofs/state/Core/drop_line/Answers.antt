@@ -1,5 +1,4 @@
 use Rattle.std.proofs.Common.{sym, subst, refl, List}
-use Rattle.nl_device.specs.contracts.counts.DeviceCounts.TheImpl.{ghosts}
 use Rattle.nl_flight.specs.Flight.{InFlight, of_worker}
 use Rattle.nl_core.specs.Core.{IsCore}
 use Rattle.nl_core.specs.Goes.{Goes}
@@ -9,7 +8,7 @@ use Rattle.nl_core.proofs.state.Core.drop_line.Goals as goal
 
 pub returns : goal.returns
 returns g c =
-    let G = ghosts g.row.M g.M.Nand g.M.Nand-dict in
+    let G = g.D.Counts in
     let v = c.args.self.now in
     let worker = c.args.worker in
     let d = c.free_line.new.device in
@@ -18,8 +17,7 @@ returns g c =
     let pages = c.device_stands-2.ensures.pages in
     let frees : FreesLine G (of_worker v.flight worker) v.device d = record { freed = e.freed; kept = e.kept; read_faults = e.read_faults } in
     record {
-      formed = e.formed;
-      core = subst (λ (xs : List InFlight). IsCore G (record v { device = d; flight = xs })) (sym c.clear.ensures.cleared) (dropped_core G v d worker c.requires.known frees c.requires.core first.volume first.differ pages);
+      core = subst (λ (xs : List InFlight). IsCore G (record v { device = d; flight = xs })) (sym c.clear.ensures.cleared) (dropped_core G v d worker c.requires.known frees c.requires.core first.volume first.differ pages c.free_line.ensures.formed);
       goes = subst (λ (xs : List InFlight). Goes G 0 v (record v { device = d; flight = xs })) (sym c.clear.ensures.cleared) (dropped_goes G v d worker c.requires.known frees c.requires.core first.volume first.differ pages);
       dropped = subst (λ (xs : List InFlight). DropsLine G worker v (record v { device = d; flight = xs })) (sym c.clear.ensures.cleared) (record { frees = frees; flight = refl; others = refl });
     }

@@ -1,5 +1,4 @@
 use Rattle.std.proofs.Common.{◌≡◌, ◌∙◌, ◌+◌, ◌^◌, arith}
-use Rattle.nl_device.specs.contracts.counts.DeviceCounts.TheImpl.{ghosts}
 use Rattle.nl_iface.proofs.RoundSteps.{empties_laws}
 use Rattle.nl_core.specs.Core.{names_of}
 use Rattle.nl_core.specs.Rounds.{EmptiesTable, HandlesAll}
@@ -22,7 +21,7 @@ commit_if_due-requires-clause-handled g c = c.in-Done.ensures.handles.handled
 
 pub returns-in-Done-clause-goes : goal.returns-in-Done-clause-goes
 returns-in-Done-clause-goes g c =
-    let G = ghosts g.row.M g.M.Nand g.M.Nand-dict in
+    let G = g.D.Counts in
     let u = c.args.self.now in
     let w = c.commit_if_due.new.self in
     goes_more G (2 ^ 19 + 512) (2 ^ 20) u w (omega arith) (goes_then G u c.handle_all.new.self w (2 ^ 19) 512 c.handle_all.ensures.goes c.commit_if_due.ensures.goes)
@@ -32,7 +31,7 @@ returns-in-Done-clause-lines g c = c.commit_if_due.ensures.lines ∙ c.handle_al
 
 pub returns-in-Done-clause-emptied : goal.returns-in-Done-clause-emptied
 returns-in-Done-clause-emptied g c =
-    let G = ghosts g.row.M g.M.Nand g.M.Nand-dict in
+    let G = g.D.Counts in
     let u = c.args.self.now in
     let v = c.handle_all.new.self in
     let w = c.commit_if_due.new.self in
@@ -47,18 +46,17 @@ returns-in-Done-clause-emptied g c =
 
 pub returns-in-Done-clause-faults : goal.returns-in-Done-clause-faults
 returns-in-Done-clause-faults g c =
-    let G = ghosts g.row.M g.M.Nand g.M.Nand-dict in
+    let G = g.D.Counts in
     cause_then G (c.commit_if_due.result ≡ rounded.Fault) (c.commit_if_due.result ≡ rounded.Fault) c.args.self.now c.handle_all.new.self c.commit_if_due.new.self (2 ^ 19)
     c.handle_all.ensures.goes c.commit_if_due.ensures.faults (λ f. f)
 
 pub returns-in_default : goal.returns-in_default
 returns-in_default g c =
-    let G = ghosts g.row.M g.M.Nand g.M.Nand-dict in
+    let G = g.D.Counts in
     let u = c.args.self.now in
     let v = c.handle_all.new.self in
     let e = c.handle_all.ensures in
     record {
-      formed = e.formed;
       core = e.core;
       goes = goes_more G (2 ^ 19) (2 ^ 20) u v (omega arith) e.goes;
       lines = e.lines;

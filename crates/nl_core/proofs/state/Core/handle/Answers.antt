@@ -2,7 +2,6 @@ use Rattle.std.proofs.Common.{◌≡◌, ◌+◌, ◌∙◌, Some, ap}
 use Rattle.nl_tree.specs.declared.turn.DutyAnswer.TheVariants as duty
 use Rattle.nl_drain.specs.declared.draining.Drained.{Drained}
 use Rattle.nl_drain.specs.declared.draining.Drained.TheVariants as drained
-use Rattle.nl_device.specs.contracts.counts.DeviceCounts.TheImpl.{ghosts}
 use Rattle.nl_core.specs.Core.{begun_of}
 use Rattle.nl_core.proofs.HandledNumber.{handled_done, handles_then, pending_some}
 use Rattle.nl_core.proofs.Onward.{cause_then, goes_then}
@@ -13,7 +12,7 @@ returns-in-None-clause-faults g c is = absurd (let no : ⊥ = cc in no)
 
 pub returns-in-Some-Done-clause-handles : goal.returns-in-Some-Done-clause-handles
 returns-in-Some-Done-clause-handles g c =
-    let G = ghosts g.row.M g.M.Nand g.M.Nand-dict in
+    let G = g.D.Counts in
     let v = c.args.self.now in
     let u = c.handle_once.new.self in
     let is : c.handle_once.result ≡ Some drained.Done = c.in-Some-Done.is ∙ ap (λ (d : Drained). Some d) c.in-Some-Done.field-0-is in (
@@ -26,12 +25,12 @@ returns-in-Some-Done-clause-faults g c is = absurd (let no : ⊥ = cc in no)
 
 pub returns-in-Some-NoRoom-clause-goes : goal.returns-in-Some-NoRoom-clause-goes
 returns-in-Some-NoRoom-clause-goes g c =
-    let G = ghosts g.row.M g.M.Nand g.M.Nand-dict in
+    let G = g.D.Counts in
     goes_then G c.args.self.now c.handle_once.new.self c.handle_with_room.new.self 0 512 c.handle_once.ensures.goes c.handle_with_room.ensures.goes
 
 pub returns-in-Some-NoRoom-clause-handles : goal.returns-in-Some-NoRoom-clause-handles
 returns-in-Some-NoRoom-clause-handles g c =
-    let G = ghosts g.row.M g.M.Nand g.M.Nand-dict in
+    let G = g.D.Counts in
     let v = c.args.self.now in
     let u = c.handle_once.new.self in
     let w = c.handle_with_room.new.self in
@@ -42,7 +41,7 @@ returns-in-Some-NoRoom-clause-handles g c =
 
 pub returns-in-Some-NoRoom-clause-faults : goal.returns-in-Some-NoRoom-clause-faults
 returns-in-Some-NoRoom-clause-faults g c =
-    let G = ghosts g.row.M g.M.Nand g.M.Nand-dict in
+    let G = g.D.Counts in
     cause_then G (c.handle_with_room.result ≡ duty.Fault) (c.handle_with_room.result ≡ duty.Fault) c.args.self.now c.handle_once.new.self c.handle_with_room.new.self 0
     c.handle_once.ensures.goes c.handle_with_room.ensures.faults (λ f. f)
 

@@ -4,7 +4,6 @@ use Rattle.nl_tree.specs.declared.turn.DutyAnswer.{DutyAnswer}
 use Rattle.nl_tree.specs.declared.turn.DutyAnswer.TheVariants as duty
 use Rattle.nl_drain.specs.declared.draining.Drained.TheVariants as drained
 use Rattle.nl_journal.specs.declared.answers.Committing.{Committing}
-use Rattle.nl_device.specs.contracts.counts.DeviceCounts.TheImpl.{ghosts}
 use Rattle.nl_core.specs.Calls.{Commits, CommitsAll}
 use Rattle.nl_core.specs.Core.{begun_of}
 use Rattle.nl_core.specs.Handling.{HandlesWithRoom}
@@ -14,12 +13,12 @@ use Rattle.nl_core.proofs.state.Core.handle_with_room.Goals as goal
 
 pub returns-in-Done-clause-goes : goal.returns-in-Done-clause-goes
 returns-in-Done-clause-goes g c =
-    let G = ghosts g.row.M g.M.Nand g.M.Nand-dict in
+    let G = g.D.Counts in
     goes_then G c.args.self.now c.commit.new.self c.handle_once-tried.new.self 512 0 c.commit.ensures.goes c.handle_once-tried.ensures.goes
 
 pub returns-in-Done-clause-handles : goal.returns-in-Done-clause-handles
 returns-in-Done-clause-handles g c =
-    let G = ghosts g.row.M g.M.Nand g.M.Nand-dict in
+    let G = g.D.Counts in
     let v = c.args.self.now in
     let u = c.commit.new.self in
     let w = c.handle_once-tried.new.self in
@@ -31,7 +30,7 @@ returns-in-Done-clause-handles g c =
 
 pub returns-in-Done-clause-faults : goal.returns-in-Done-clause-faults
 returns-in-Done-clause-faults g c =
-    let G = ghosts g.row.M g.M.Nand g.M.Nand-dict in
+    let G = g.D.Counts in
     cause_then G (c.handle_once-tried.result ≡ Some drained.Fault) (c.answer_of.result ≡ duty.Fault) c.args.self.now c.commit.new.self c.handle_once-tried.new.self 512 c.commit.ensures.goes c.handle_once-tried.ensures.faults
     (λ is. fault_only c.handle_once-tried.result (sym c.answer_of.ensures ∙ is))
 

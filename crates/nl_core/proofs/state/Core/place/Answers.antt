@@ -1,24 +1,21 @@
-use Rattle.std.proofs.Common.{ap, subst, sym}
-use Rattle.nl_device.specs.contracts.counts.DeviceCounts.TheImpl.{ghosts}
-use Rattle.nl_device.specs.declared.device.Device.{Device}
+use Rattle.std.proofs.Common.{ap, subst, sym, ◌∙◌}
 use Rattle.nl_iface.specs.Calls.{StoresPages}
 use Rattle.nl_core.specs.Programming.{Programs}
 use Rattle.nl_core.specs.declared.state.Core.{Core}
-use Rattle.nl_core.proofs.NoneBad.{none_bad}
 use Rattle.nl_core.proofs.state.Core.place.Goals as goal
 
 pub returns-clause-stores : goal.returns-clause-stores
 returns-clause-stores g c tells =
-    let G = ghosts g.row.M g.M.Nand g.M.Nand-dict in
-    subst (λ (d : Device g.row.M.Denot). StoresPages G d) (sym (ap (λ (x : Core g.row.M.Denot). x.device) c.note_fault.ensures)) (c.device_stands-2.ensures.pages tells)
+    let G = g.D.Counts in
+    subst (λ (d : g.row.D.Denot). StoresPages G d) (sym (ap (λ (x : Core g.row.D.Denot). x.device) c.note_fault.ensures)) (c.device_stands-2.ensures.pages tells)
 
 pub returns-clause-programs : goal.returns-clause-programs
 returns-clause-programs g c =
-    let G = ghosts g.row.M g.M.Nand g.M.Nand-dict in
+    let G = g.D.Counts in
     let s = c.args.self.now.device in
     let t = c.nameless_write-answer.new.self in
     let e = c.nameless_write-answer.ensures in
-    subst (λ (d : Device g.row.M.Denot). Programs G c.args.tag c.args.from.now.main c.nameless_write-answer.result s d) (sym (ap (λ (x : Core g.row.M.Denot). x.device) c.note_fault.ensures))
+    subst (λ (d : g.row.D.Denot). Programs G c.args.tag c.args.from.now.main c.nameless_write-answer.result s d) (sym (ap (λ (x : Core g.row.D.Denot). x.device) c.note_fault.ensures))
     (record {
       not_live = e.not_live;
       no_page = e.no_page;
@@ -29,5 +26,5 @@ returns-clause-programs g c =
       kept = e.kept;
       next_stamp = e.next_stamp;
       counts = e.counts;
-      retired = none_bad s.pseg t.pseg;
+      retired = g.met.D.MovingPages.none_bad t ∙ sym (g.met.D.MovingPages.none_bad s);
     })

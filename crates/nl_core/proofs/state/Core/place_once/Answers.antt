@@ -1,5 +1,4 @@
 use Rattle.std.proofs.Common.{◌∙◌, ap, subst, sym, List}
-use Rattle.nl_device.specs.contracts.counts.DeviceCounts.TheImpl.{ghosts}
 use Rattle.nl_flight.specs.Flight.{HasPlace, InFlight}
 use Rattle.nl_core.specs.Core.{IsCore}
 use Rattle.nl_core.specs.Goes.{Goes}
@@ -10,36 +9,36 @@ use Rattle.nl_core.proofs.state.Core.place_once.Goals as goal
 
 pub put_page-requires-clause-place : goal.put_page-requires-clause-place
 put_page-requires-clause-place g c =
-    subst (λ (xs : List InFlight). HasPlace xs c.args.worker) (sym (ap (λ (x : Core g.row.M.Denot). x.flight) c.place.ensures.others)) c.requires.place
+    subst (λ (xs : List InFlight). HasPlace xs c.args.worker) (sym (ap (λ (x : Core g.row.D.Denot). x.flight) c.place.ensures.others)) c.requires.place
 
 pub returns-in-Placed-clause-core : goal.returns-in-Placed-clause-core
 returns-in-Placed-clause-core g c =
-    let G = ghosts g.row.M g.M.Nand g.M.Nand-dict in
+    let G = g.D.Counts in
     let v = c.args.self.now in
     let w = c.place.new.self in
     let e = c.place.ensures in
-    let lines = c.put_page.ensures.put ∙ ap (λ (xs : List InFlight). with_page xs c.args.worker c.args.line c.args.tag c.in-Placed.at) (ap (λ (x : Core g.row.M.Denot). x.flight) e.others) in
+    let lines = c.put_page.ensures.put ∙ ap (λ (xs : List InFlight). with_page xs c.args.worker c.args.line c.args.tag c.in-Placed.at) (ap (λ (x : Core g.row.D.Denot). x.flight) e.others) in
     subst (λ (xs : List InFlight). IsCore G (record w { flight = xs })) (sym lines)
     (put_core G v w c.args.tag c.args.from.now.main c.place.result e.programs e.others c.requires.core e.volume c.requires.writes e.map e.stores c.in-Placed.at c.in-Placed.is c.args.worker c.args.line c.requires.known c.requires.some c.requires.place e.numbers
-    (is_spelled (G.next_stamp v.device) c.requires.formed.stamp.some c.requires.stamp))
+    (is_spelled (G.next_stamp v.device) (g.met.D.VirtualPages.next v.device c.requires.core.formed) c.requires.stamp) e.formed)
 
 pub returns-in-Placed-clause-goes : goal.returns-in-Placed-clause-goes
 returns-in-Placed-clause-goes g c =
-    let G = ghosts g.row.M g.M.Nand g.M.Nand-dict in
+    let G = g.D.Counts in
     let v = c.args.self.now in
     let w = c.place.new.self in
     let e = c.place.ensures in
-    let lines = c.put_page.ensures.put ∙ ap (λ (xs : List InFlight). with_page xs c.args.worker c.args.line c.args.tag c.in-Placed.at) (ap (λ (x : Core g.row.M.Denot). x.flight) e.others) in
+    let lines = c.put_page.ensures.put ∙ ap (λ (xs : List InFlight). with_page xs c.args.worker c.args.line c.args.tag c.in-Placed.at) (ap (λ (x : Core g.row.D.Denot). x.flight) e.others) in
     subst (λ (xs : List InFlight). Goes G 1 v (record w { flight = xs })) (sym lines)
     (put_goes G v w c.args.tag c.args.from.now.main c.place.result e.programs e.others c.requires.core e.volume c.requires.writes e.map e.stores c.in-Placed.at c.in-Placed.is c.args.worker c.args.line c.requires.known c.requires.some c.requires.place e.numbers)
 
 pub returns-in-Placed-clause-placed : goal.returns-in-Placed-clause-placed
 returns-in-Placed-clause-placed g c =
-    let G = ghosts g.row.M g.M.Nand g.M.Nand-dict in
+    let G = g.D.Counts in
     let v = c.args.self.now in
     let w = c.place.new.self in
     let e = c.place.ensures in
-    let lines = c.put_page.ensures.put ∙ ap (λ (xs : List InFlight). with_page xs c.args.worker c.args.line c.args.tag c.in-Placed.at) (ap (λ (x : Core g.row.M.Denot). x.flight) e.others) in
+    let lines = c.put_page.ensures.put ∙ ap (λ (xs : List InFlight). with_page xs c.args.worker c.args.line c.args.tag c.in-Placed.at) (ap (λ (x : Core g.row.D.Denot). x.flight) e.others) in
     subst (λ (xs : List InFlight). PutsPage G c.args.worker c.args.line c.args.tag c.args.from.now.main v (record w { flight = xs }) c.in-Placed.at) (sym lines)
     (put_page G v w c.args.tag c.args.from.now.main c.place.result e.programs e.others c.requires.core e.volume c.requires.writes e.map e.stores c.in-Placed.at c.in-Placed.is c.args.worker c.args.line c.requires.known c.requires.some c.requires.place e.numbers)
 
@@ -48,14 +47,13 @@ returns-in-Placed-clause-faults g c is = absurd (let no : ⊥ = cc in no)
 
 pub returns-in_default : goal.returns-in_default
 returns-in_default g c =
-    let G = ghosts g.row.M g.M.Nand g.M.Nand-dict in
+    let G = g.D.Counts in
     let v = c.args.self.now in
     let w = c.place.new.self in
     let e = c.place.ensures in
     let none = c.in_default.not-Placed in
     record {
-      formed = e.formed;
-      core = none_core G v w c.args.tag c.args.from.now.main c.place.result e.programs e.others c.requires.core e.volume c.requires.writes e.map e.stores none;
+      core = none_core G v w c.args.tag c.args.from.now.main c.place.result e.programs e.others c.requires.core e.volume c.requires.writes e.map e.stores none e.formed;
       goes = none_goes G v w c.args.tag c.args.from.now.main c.place.result e.programs e.others c.requires.core e.volume c.requires.writes e.map e.stores none;
       no_page = e.programs.no_page;
       placed = if_off c.place.result _ none;

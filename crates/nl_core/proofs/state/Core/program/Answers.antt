@@ -1,11 +1,10 @@
 use Rattle.std.proofs.Common.{⊎_elim, ◌^◌, arith}
-use Rattle.nl_device.specs.contracts.counts.DeviceCounts.TheImpl.{ghosts}
 use Rattle.nl_core.proofs.Onward.{goes_more, goes_none}
 use Rattle.nl_core.proofs.state.Core.program.Goals as goal
 
 pub returns-then-self-ne0-clause-goes : goal.returns-then-self-ne0-clause-goes
 returns-then-self-ne0-clause-goes g c =
-    let G = ghosts g.row.M g.M.Nand g.M.Nand-dict in
+    let G = g.D.Counts in
     goes_more G 0 (2 ^ 30) c.args.self.now c.args.self.now (omega arith) (goes_none G c.args.self.now c.requires.core)
 
 pub returns-clause-stopped : goal.returns-clause-stopped

@@ -1,5 +1,4 @@
 use Rattle.std.proofs.Common.{◌≡◌, ⊎_elim, ◌+◌, ◌≤◌, ◌<◌, ◌^◌, arith, refl, subst, sym}
-use Rattle.nl_device.specs.contracts.counts.DeviceCounts.TheImpl.{ghosts}
 use Rattle.nl_field.specs.declared.answers.Named.{Named}
 use Rattle.nl_field.specs.declared.answers.Named.TheVariants as named
 use Rattle.nl_iface.specs.Answers.{IfPlaced, IsPlaced}
@@ -15,7 +14,7 @@ use Rattle.nl_core.proofs.state.Core.program_now.Goals as goal
 
 pub rounds-init : goal.rounds-init
 rounds-init g c =
-    let G = ghosts g.row.M g.M.Nand g.M.Nand-dict in
+    let G = g.D.Counts in
     let v = c.args.self.now in
     let w = c.place_once-answer.new.self in
     let answer = c.place_once-answer.result in
@@ -26,38 +25,32 @@ rounds-init g c =
     (one_kept (G.shape v.device) (G.next_stamp v.device) (names_of G v) bounds names c.requires.core.space.all)
     (let block = names.block in let pages = bounds.most_pages in omega (arith, block, pages)) in
     record {
-      formed = e.formed;
+      formed = e.core.formed;
       tries = tried G c.args.worker c.args.line c.args.tag c.args.from.now.main v v w answer 0 (goes_none G v c.requires.core) refl c.requires.core c.requires.writes c.requires.known
           e.core e.goes e.no_page.0 e.placed e.none e.faults (omega (arith, few));
     }
-
-pub returns-in-Placed-clause-formed : goal.returns-in-Placed-clause-formed
-returns-in-Placed-clause-formed g c = c.rounds.invariant.formed
 
 pub returns-in-Placed-clause-core : goal.returns-in-Placed-clause-core
 returns-in-Placed-clause-core g c = c.rounds.invariant.tries.core
 
 pub returns-in-Placed-clause-goes : goal.returns-in-Placed-clause-goes
 returns-in-Placed-clause-goes g c =
-    let G = ghosts g.row.M g.M.Nand g.M.Nand-dict in
+    let G = g.D.Counts in
     let t = c.rounds.invariant.tries in
     goes_more G t.taken (2 ^ 30) c.args.self.now c.rounds.self (let paid = t.paid in omega (arith, paid)) t.goes
-
-pub returns-in-Fault-clause-formed : goal.returns-in-Fault-clause-formed
-returns-in-Fault-clause-formed g c = c.rounds.invariant.formed
 
 pub returns-in-Fault-clause-core : goal.returns-in-Fault-clause-core
 returns-in-Fault-clause-core g c = c.rounds.invariant.tries.core
 
 pub returns-in-Fault-clause-goes : goal.returns-in-Fault-clause-goes
 returns-in-Fault-clause-goes g c =
-    let G = ghosts g.row.M g.M.Nand g.M.Nand-dict in
+    let G = g.D.Counts in
     let t = c.rounds.invariant.tries in
     goes_more G t.taken (2 ^ 30) c.args.self.now c.rounds.self (let paid = t.paid in omega (arith, paid)) t.goes
 
 pub returns-in-Placed-clause-programs : goal.returns-in-Placed-clause-programs
 returns-in-Placed-clause-programs g c =
-    let G = ghosts g.row.M g.M.Nand g.M.Nand-dict in
+    let G = g.D.Counts in
     subst (λ (x : Named). IfPlaced x (λ at. PutsInFlight G c.args.worker c.args.line c.args.tag c.args.from.now.main c.args.self.now c.rounds.self)) c.in-Placed.is c.rounds.invariant.tries.placed
 
 pub returns-in-Fault-clause-programs : goal.returns-in-Fault-clause-programs
@@ -71,7 +64,7 @@ round-requires-clause-writes g c = (c.rounds.invariant.tries.no_room c.in-NoPage
 
 pub returns-in-Lost-clause-goes : goal.returns-in-Lost-clause-goes
 returns-in-Lost-clause-goes g c =
-    let G = ghosts g.row.M g.M.Nand g.M.Nand-dict in
+    let G = g.D.Counts in
     let v = c.args.self.now in
     let s = c.rounds.self in
     let t : Tries G c.args.worker c.args.line c.args.tag c.args.from.now.main v s named.NoPage = subst (λ (a : Named). Tries G c.args.worker c.args.line c.args.tag c.args.from.now.main v s a) c.in-NoPage.is c.rounds.invariant.tries in
@@ -80,7 +73,7 @@ returns-in-Lost-clause-goes g c =
 
 pub returns-in-Lost-clause-programs : goal.returns-in-Lost-clause-programs
 returns-in-Lost-clause-programs g c =
-    let G = ghosts g.row.M g.M.Nand g.M.Nand-dict in
+    let G = g.D.Counts in
     let v = c.args.self.now in
     let s = c.rounds.self in
     let t : Tries G c.args.worker c.args.line c.args.tag c.args.from.now.main v s named.NoPage = subst (λ (a : Named). Tries G c.args.worker c.args.line c.args.tag c.args.from.now.main v s a) c.in-NoPage.is c.rounds.invariant.tries in
@@ -88,7 +81,7 @@ returns-in-Lost-clause-programs g c =
 
 pub returns-in-Fault-round-clause-goes : goal.returns-in-Fault-round-clause-goes
 returns-in-Fault-round-clause-goes g c =
-    let G = ghosts g.row.M g.M.Nand g.M.Nand-dict in
+    let G = g.D.Counts in
     let v = c.args.self.now in
     let s = c.rounds.self in
     let t : Tries G c.args.worker c.args.line c.args.tag c.args.from.now.main v s named.NoPage = subst (λ (a : Named). Tries G c.args.worker c.args.line c.args.tag c.args.from.now.main v s a) c.in-NoPage.is c.rounds.invariant.tries in
@@ -97,7 +90,7 @@ returns-in-Fault-round-clause-goes g c =
 
 pub returns-in-Fault-round-clause-programs : goal.returns-in-Fault-round-clause-programs
 returns-in-Fault-round-clause-programs g c =
-    let G = ghosts g.row.M g.M.Nand g.M.Nand-dict in
+    let G = g.D.Counts in
     let v = c.args.self.now in
     let s = c.rounds.self in
     let t : Tries G c.args.worker c.args.line c.args.tag c.args.from.now.main v s named.NoPage = subst (λ (a : Named). Tries G c.args.worker c.args.line c.args.tag c.args.from.now.main v s a) c.in-NoPage.is c.rounds.invariant.tries in
@@ -105,13 +98,13 @@ returns-in-Fault-round-clause-programs g c =
 
 pub returns-in-Fault-round-clause-faults : goal.returns-in-Fault-round-clause-faults
 returns-in-Fault-round-clause-faults g c is =
-    let G = ghosts g.row.M g.M.Nand g.M.Nand-dict in
+    let G = g.D.Counts in
     let t = c.rounds.invariant.tries in
     cause_then G (c.round.result ≡ rounded.Fault) (programmed.Fault ≡ programmed.Fault) c.args.self.now c.rounds.self c.round.new.self t.taken t.goes c.round.ensures.faults (λ f. c.in-Fault-round.is) refl
 
 pub returns-then-self-ne0-clause-goes : goal.returns-then-self-ne0-clause-goes
 returns-then-self-ne0-clause-goes g c =
-    let G = ghosts g.row.M g.M.Nand g.M.Nand-dict in
+    let G = g.D.Counts in
     let v = c.args.self.now in
     let s = c.rounds.self in
     let t : Tries G c.args.worker c.args.line c.args.tag c.args.from.now.main v s named.NoPage = subst (λ (a : Named). Tries G c.args.worker c.args.line c.args.tag c.args.from.now.main v s a) c.in-NoPage.is c.rounds.invariant.tries in
@@ -120,7 +113,7 @@ returns-then-self-ne0-clause-goes g c =
 
 pub returns-then-self-ne0-clause-programs : goal.returns-then-self-ne0-clause-programs
 returns-then-self-ne0-clause-programs g c =
-    let G = ghosts g.row.M g.M.Nand g.M.Nand-dict in
+    let G = g.D.Counts in
     let v = c.args.self.now in
     let s = c.rounds.self in
     let t : Tries G c.args.worker c.args.line c.args.tag c.args.from.now.main v s named.NoPage = subst (λ (a : Named). Tries G c.args.worker c.args.line c.args.tag c.args.from.now.main v s a) c.in-NoPage.is c.rounds.invariant.tries in
@@ -128,12 +121,12 @@ returns-then-self-ne0-clause-programs g c =
 
 pub returns-then-self-ne0-clause-faults : goal.returns-then-self-ne0-clause-faults
 returns-then-self-ne0-clause-faults g c =
-    let G = ghosts g.row.M g.M.Nand g.M.Nand-dict in
+    let G = g.D.Counts in
     cause_stopped G (programmed.Fault ≡ programmed.Fault) c.args.self.now c.round.new.self (2 ^ 30) (returns-then-self-ne0-clause-goes g c) c.requires.writes c.if-self-ne0.true
 
 pub place_once-answer-requires-in-rounds-clause-line : goal.place_once-answer-requires-in-rounds-clause-line
 place_once-answer-requires-in-rounds-clause-line g c =
-    let G = ghosts g.row.M g.M.Nand g.M.Nand-dict in
+    let G = g.D.Counts in
     let v = c.args.self.now in
     let s = c.rounds.self in
     let t : Tries G c.args.worker c.args.line c.args.tag c.args.from.now.main v s named.NoPage = subst (λ (a : Named). Tries G c.args.worker c.args.line c.args.tag c.args.from.now.main v s a) c.in-NoPage.is c.rounds.invariant.tries in
@@ -141,7 +134,7 @@ place_once-answer-requires-in-rounds-clause-line g c =
 
 pub place_once-answer-requires-in-rounds-clause-place : goal.place_once-answer-requires-in-rounds-clause-place
 place_once-answer-requires-in-rounds-clause-place g c =
-    let G = ghosts g.row.M g.M.Nand g.M.Nand-dict in
+    let G = g.D.Counts in
     let v = c.args.self.now in
     let s = c.rounds.self in
     let t : Tries G c.args.worker c.args.line c.args.tag c.args.from.now.main v s named.NoPage = subst (λ (a : Named). Tries G c.args.worker c.args.line c.args.tag c.args.from.now.main v s a) c.in-NoPage.is c.rounds.invariant.tries in
@@ -149,16 +142,16 @@ place_once-answer-requires-in-rounds-clause-place g c =
 
 pub rounds-smaller : goal.rounds-smaller
 rounds-smaller g c =
-    let G = ghosts g.row.M g.M.Nand g.M.Nand-dict in
+    let G = g.D.Counts in
     let s = c.rounds.self in
     let e = c.place_once-answer-in-rounds.ensures in
     subst (λ (a : Named). tries_left c.place_once-answer-in-rounds.result (names_of G c.place_once-answer-in-rounds.new.self).space < tries_left a (names_of G s).space) (sym c.in-NoPage.is)
-    (nearer_then G s c.round.new.self c.place_once-answer-in-rounds.new.self c.place_once-answer-in-rounds.result c.device_stands-in-rounds.ensures.volume c.device_stands-in-rounds.ensures.names
+    (nearer_then G g.D.MovingPages s c.round.new.self c.place_once-answer-in-rounds.new.self c.place_once-answer-in-rounds.result c.device_stands-in-rounds.ensures.volume c.device_stands-in-rounds.ensures.names
     c.device_stands-in-rounds-2.ensures.names (c.rounds.invariant.tries.no_room c.in-NoPage.is).1 c.in-Done.ensures.rounds e.no_page.0 e.none)
 
 pub rounds-preserved : goal.rounds-preserved
 rounds-preserved g c =
-    let G = ghosts g.row.M g.M.Nand g.M.Nand-dict in
+    let G = g.D.Counts in
     let v = c.args.self.now in
     let s = c.rounds.self in
     let u = c.round.new.self in
@@ -167,10 +160,10 @@ rounds-preserved g c =
     let e = c.place_once-answer-in-rounds.ensures in
     let main = c.args.from.now.main in
     let t : Tries G c.args.worker c.args.line c.args.tag main v s named.NoPage = subst (λ (a : Named). Tries G c.args.worker c.args.line c.args.tag main v s a) c.in-NoPage.is c.rounds.invariant.tries in
-    let less = nearer_then G s u w answer c.device_stands-in-rounds.ensures.volume c.device_stands-in-rounds.ensures.names c.device_stands-in-rounds-2.ensures.names
+    let less = nearer_then G g.D.MovingPages s u w answer c.device_stands-in-rounds.ensures.volume c.device_stands-in-rounds.ensures.names c.device_stands-in-rounds-2.ensures.names
     (c.rounds.invariant.tries.no_room c.in-NoPage.is).1 c.in-Done.ensures.rounds e.no_page.0 e.none in
     record {
-      formed = e.formed;
+      formed = e.core.formed;
       tries = tried G c.args.worker c.args.line c.args.tag main v u w answer (t.taken + 2 ^ 20)
           (goes_round G c.args.worker c.args.line c.args.tag main v s u t c.round.ensures.goes c.round.ensures.lines)
           (lines_round G c.args.worker c.args.line c.args.tag main v s u t c.round.ensures.goes c.round.ensures.lines)

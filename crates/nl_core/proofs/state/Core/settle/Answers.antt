@@ -2,12 +2,11 @@ use Rattle.std.proofs.Common.{◌≡◌, ◌+◌, take, drop, refl, ap, subst, �
 use Rattle.std.proofs.Math.Seq.{drop-length, take-length}
 use Rattle.nl_commit.specs.Freeing.{FreesEach}
 use Rattle.nl_field.specs.declared.pointer.Pointer.{Pointer}
-use Rattle.nl_device.specs.contracts.counts.DeviceCounts.TheImpl.{ghosts}
 use Rattle.nl_core.proofs.state.Core.settle.Goals as goal
 
 pub returns-clause-settled : goal.returns-clause-settled
 returns-clause-settled g c =
-    let G = ghosts g.row.M g.M.Nand g.M.Nand-dict in
+    let G = g.D.Counts in
     let s = c.args.self.now.device in
     let m = c.free_first.new.device in
     let t = c.acknowledge.new.self in

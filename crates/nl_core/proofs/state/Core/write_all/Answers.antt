@@ -5,8 +5,6 @@ use Rattle.nl_journal.specs.Left.{CommitWrites}
 use Rattle.nl_journal.specs.Progress.{HasNumber}
 use Rattle.nl_commit.specs.Committing.{ChangesAt, Commits, EarlierAt}
 use Rattle.nl_commit.specs.Counting.{with_count}
-use Rattle.nl_device.specs.contracts.counts.DeviceCounts.TheImpl.{ghosts}
-use Rattle.nl_device.specs.declared.device.Device.{Device}
 use Rattle.nl_field.specs.declared.answers.VirtualWrite.TheVariants as write
 use Rattle.nl_iface.specs.Calls.{StoresPages}
 use Rattle.nl_core.specs.Writing.{WritesAll, committed_by, stopped_by, stored_count}
@@ -15,13 +13,13 @@ use Rattle.nl_core.proofs.state.Core.write_all.Goals as goal
 
 pub returns-clause-stores : goal.returns-clause-stores
 returns-clause-stores g c tells =
-    let G = ghosts g.row.M g.M.Nand g.M.Nand-dict in
-    subst (λ (d : Device g.row.M.Denot). StoresPages G d) (sym (ap (λ (x : Core g.row.M.Denot). x.device) (c.note_moments.ensures) ∙ ap (λ (x : Core g.row.M.Denot). x.device) c.note_fault.ensures))
+    let G = g.D.Counts in
+    subst (λ (d : g.row.D.Denot). StoresPages G d) (sym (ap (λ (x : Core g.row.D.Denot). x.device) (c.note_moments.ensures) ∙ ap (λ (x : Core g.row.D.Denot). x.device) c.note_fault.ensures))
     (c.device_stands-2.ensures.pages tells)
 
 pub returns-clause-written : goal.returns-clause-written
 returns-clause-written g c =
-    let G = ghosts g.row.M g.M.Nand g.M.Nand-dict in
+    let G = g.D.Counts in
     let v = c.args.self.now in
     let done = c.commit-done.result in
     let t = c.commit-done.new.device in
@@ -30,7 +28,7 @@ returns-clause-written g c =
     let e = c.commit-done.ensures in
     let stopped = stopped_by v.stopped (G.read_faults t) (c.write_faults-faults.result) (G.write_faults t) in
     let count : c.min-count.result ≡ stored_count v = c.min-count.ensures in
-    let w : Core g.row.M.Denot = record v {
+    let w : Core g.row.D.Denot = record v {
       device = t;
       journal = r;
       meta = now;
@@ -40,8 +38,8 @@ returns-clause-written g c =
     } in
     let same : c.note_moments.new.self ≡ w =
     c.note_moments.ensures
-    ∙ ap (λ (x : Core g.row.M.Denot). record x { committed = committed_by x.committed c.frozen_count-frozen.result x.count done.earlier done.decided; moment = moment_of x.moment done.earlier done.decided }) c.note_fault.ensures in
-    subst (λ (x : Core g.row.M.Denot). WritesAll G v x done.answer) (sym same)
+    ∙ ap (λ (x : Core g.row.D.Denot). record x { committed = committed_by x.committed c.frozen_count-frozen.result x.count done.earlier done.decided; moment = moment_of x.moment done.earlier done.decided }) c.note_fault.ensures in
+    subst (λ (x : Core g.row.D.Denot). WritesAll G v x done.answer) (sym same)
     (record {
       earlier = done.earlier;
       decided = done.decided;
