@@ -11,12 +11,18 @@ use Rattle.nl_field.specs.declared.findings.Findings.{Findings}
 use Rattle.nl_field.specs.declared.place.Place.{Place}
 use Rattle.nl_field.specs.declared.place.What.{What}
 use Rattle.nl_field.specs.declared.place.What.TheVariants.{Super, Stamp, Inode, Pages as PagesPhase, Entry, Pointer as PointerPhase, Names, Charges, Crowded}
-use Rattle.nl_meta.specs.Committed.{committed_of}
+use Rattle.nl_meta.specs.Committed.{VirtualMap, committed_of}
 use Rattle.nl_meta.specs.Walk.{all_phases, ends_findings, first_fault, phase_fault, walk, walk_over}
 use Rattle.nl_meta.proofs.Lists.{none_some, true_false}
 use Rattle.nl_recover.specs.Walking.{place_in}
 use Rattle.nl_recover.proofs.WalkFacts.{first, or-later}
-use Rattle.nl_check.specs.Checking.{Checks, SetsFirst}
+use Rattle.nl_check.specs.Checking.{Checks, CountsCalls, SetsOne}
+
+-- Where a walk over these committed pages found no fault nothing is set, and the count is theirs; else its first fault is set and no
+-- other, and the count is 0.
+record SetsFirst (fault : Option Place) (pages : VirtualMap) (bits : Findings) (count : ℕ) : Type 0 where
+  pub sound : fault ≡ None → (bits_of bits ≡ 0) × CountsCalls pages count
+  pub damaged : (place : Place) → fault ≡ Some place → IsTrue (has_finding bits place.what) × ((what : What) → what ≢ place.what → has_finding bits what ≡ false) × (count ≡ 0)
 
 same-or-not : (a b : What) → (a ≡ b) ⊎ (a ≢ b)
 same-or-not Super Super = inl refl
@@ -112,7 +118,7 @@ module _ (image : Image) (bits : Findings) (count : ℕ) (s : SetsFirst (walk im
   empty-none z None e = e
   empty-none z (Some place) e = absurd (true_false (sym (s.damaged place e).0 ∙ none-has bits place.what z))
 
-  pub checks : Checks image bits count
+  checks : Checks image bits count
   checks = record {
     findings = record {
       only_faults = faulty;
@@ -132,3 +138,17 @@ module _ (image : Image) (bits : Findings) (count : ℕ) (s : SetsFirst (walk im
     sound = λ e. (s.sound e).1;
     damaged = λ place e. (s.damaged place e).2;
   }
+
+-- ---- what an opening finds
+
+-- it finds no fault
+pub checks-sound : (image : Image) (bits : Findings) (count : ℕ) → walk image ≡ None → bits_of bits ≡ 0 → CountsCalls (committed_of image) count → Checks image bits count
+checks-sound image bits count e z c = checks image bits count (record { sound = λ _. (z, c); damaged = λ place is. absurd (none_some place (sym e ∙ is)) })
+
+-- or this place
+pub checks-damaged : (image : Image) (bits : Findings) (place : Place) → walk image ≡ Some place → SetsOne place bits → Checks image bits 0
+checks-damaged image bits place e s = checks image bits 0 (record {
+  sound = λ none. absurd (none_some place (sym none ∙ e));
+  damaged = λ other is. let q : place ≡ other = same_Some place other (sym e ∙ is) in
+      (subst (λ (p : Place). IsTrue (has_finding bits p.what)) q s.set, subst (λ (p : Place). (what : What) → what ≢ p.what → has_finding bits what ≡ false) q s.others, refl);
+})

@@ -1,5 +1,5 @@
 -- What a check answers.
-use Rattle.std.specs.Prelude.{◌≡◌, ◌≢◌, ◌↔◌, ⊤, ℕ, false, Option, Some, None, IsTrue}
+use Rattle.std.specs.Prelude.{◌≡◌, ◌≢◌, ◌↔◌, ⊤, ℕ, false, Some, None, IsTrue}
 use Rattle.nl_field.specs.FindingBits.{bits_of, has_finding}
 use Rattle.nl_field.specs.Page.{Image}
 use Rattle.nl_field.specs.declared.findings.Findings.{Findings}
@@ -23,11 +23,10 @@ IfFound Memory P = ⊤
 abbrev pub CountsCalls : VirtualMap → ℕ → Type 0
 CountsCalls pages count = (rec : SuperRec) × (super_of_pages pages ≡ Some rec) × (rec.count ≡ count)
 
--- Where a walk over these committed pages found no fault nothing is set, and the count is theirs; else its first fault is set and no
--- other, and the count is 0.
-pub record SetsFirst (fault : Option Place) (pages : VirtualMap) (bits : Findings) (count : ℕ) : Type 0 where
-  pub sound : fault ≡ None → (bits_of bits ≡ 0) × CountsCalls pages count
-  pub damaged : (place : Place) → fault ≡ Some place → IsTrue (has_finding bits place.what) × ((what : What) → what ≢ place.what → has_finding bits what ≡ false) × (count ≡ 0)
+-- The finding of a place's phase is set, and no other.
+pub record SetsOne (place : Place) (bits : Findings) : Type 0 where
+  pub set : IsTrue (has_finding bits place.what)
+  pub others : (what : What) → what ≢ place.what → has_finding bits what ≡ false
 
 -- What a check finds of an image: a bit is set only where its phase has a fault, that of the first fault always, and none after `super`
 -- or `inode`; so none exactly where a walk finds no fault. Of a sound image it tells the count of calls, and else 0.

@@ -11,7 +11,7 @@ use Rattle.nl_field.specs.declared.pointer.Pointer.{Pointer}
 use Rattle.nl_field.specs.declared.pointer.Tag.{Tag}
 use Rattle.nl_field.specs.declared.seen.Seen.{Seen}
 use Rattle.nl_field.specs.declared.shape.Shape.{Shape}
-use Rattle.nl_device.specs.Reopened.{AreTagged, CanBeRetained}
+use Rattle.nl_device.specs.Reopened.{AreTagged}
 use Rattle.nl_device.specs.Retain.{SameMedium}
 use Rattle.nl_device.specs.declared.device.Device.{Device}
 use Rattle.nl_flight.specs.Flight.{InFlight, IsFlight, carried, nothing}
@@ -61,7 +61,7 @@ use Rattle.nl_journal.specs.Committing.{committed_on}
 use Rattle.nl_recover.specs.Recovering.{IsWalked}
 use Rattle.nl_recover.specs.Starting.{Starts}
 use Rattle.nl_recover.specs.declared.opening.Walked.{Walked}
-use Rattle.nl_recover.proofs.Retains.{kept_can_be_retained}
+use Rattle.nl_recover.proofs.Retains.{retained-differ}
 use Rattle.nl_recover.proofs.StartFacts.{walked_starts}
 use Rattle.nl_core.specs.Core.{HasFree, HasSpace, IsCore}
 use Rattle.nl_core.specs.declared.state.Core.{Core}
@@ -92,7 +92,7 @@ below_end n still = by (cases_Bool (nat_lt n top))
 
 module _ {M : Type 0} (g : Ghosts (Device M)) (s t : Device M) (seen : List Seen) (w : Walked) (freeing : PointerItems) where
   -- the core over either device
-  abbrev pub core_over : Device M → Core M
+  abbrev pub core_over : Device M → Core (Device M)
   core_over d = record {
     device = d;
     shape = g.shape s;
@@ -158,8 +158,8 @@ module _ {M : Type 0} (g : Ghosts (Device M)) (s t : Device M) (seen : List Seen
       };
     }
 
-    can_be : CanBeRetained (g.shape s) seen (map (λ (h : Held). h.pointer) (held_in (g.shape s) (running_on g s w.meta)))
-    can_be = kept_can_be_retained (g.shape s) (running_on g s w.meta) seen is.consistent
+    differ : AllPairs (λ (p q : Pointer). p.stamp ≢ q.stamp) (map (λ (h : Held). h.pointer) (held_in (g.shape s) (running_on g s w.meta)))
+    differ = retained-differ (g.shape s) (running_on g s w.meta) seen is.consistent
 
     pointers_are : map tagged (running_holders g s w.meta) ≡ w.kept.items
     pointers_are = tagged_pointers (held_in (g.shape s) (running_on g s w.meta)) ∙ sym is.kept
@@ -185,7 +185,7 @@ module _ {M : Type 0} (g : Ghosts (Device M)) (s t : Device M) (seen : List Seen
 
       opening : Opens w.kept.items (opened g t w.journal w.meta)
       opening = opens (opened g t w.journal w.meta) w.kept.items place (g.found s) (ap (λ (xs : List (Tag × Pointer)). map tagged xs) runs_alike ∙ pointers_are) retains
-          (subst (λ (ps : List Pointer). AllPairs (λ (p q : Pointer). p.stamp ≢ q.stamp) ps) (sym is.kept) can_be.differ)
+          (subst (λ (ps : List Pointer). AllPairs (λ (p q : Pointer). p.stamp ≢ q.stamp) ps) (sym is.kept) differ)
           (subst (λ (xs : List (Tag × Pointer)). AreTagged place (g.found s) xs) (sym runs_alike) owners) refl refl refl refl refl refl refl (omega arith)
 
       same_map : g.tells → g.map t ≡ g.map s
@@ -244,8 +244,9 @@ module _ {M : Type 0} (g : Ghosts (Device M)) (s t : Device M) (seen : List Seen
           by None e some = absurd (let no : ⊥ = cc in no)
           by (Some block) e some = can.spare block e
 
-      pub begun_core : IsCore g (core_over t)
-      begun_core = record {
+      pub begun_core : g.formed t → IsCore g (core_over t)
+      begun_core formed = record {
+        formed = formed;
         shape = sym same_shape;
         journaled = stands.journaled;
         free = has_free_on g (core_over s) (core_over t) same_shape volume stands.needed refl free;

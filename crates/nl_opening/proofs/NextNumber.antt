@@ -46,7 +46,7 @@ module _ {M : Type 0} (g : Ghosts (Device M)) (d : Device M) (seen : List Seen) 
   bytes_are : map_bytes (g.shape d) (g.map d) ≡ virtual_bytes image
   bytes_are = λ i v. stored-is image (g.shape d) (g.map d) over.shape over.map v i
 
-  pub next_number_is : (v : Core M) → v.journal ≡ w.journal → v.meta ≡ w.meta → begun_of v + 1 ≡ next_number (shape_of_image image) (virtual_bytes image)
+  pub next_number_is : (v : Core (Device M)) → v.journal ≡ w.journal → v.meta ≡ w.meta → begun_of v + 1 ≡ next_number (shape_of_image image) (virtual_bytes image)
   next_number_is v journal meta =
       (λ i. begun (journal i) (length (meta i).frozen.addresses) + 1)
       ∙ ap (λ n. n + 1) (restored_begun w.journal w.meta walked.restored)

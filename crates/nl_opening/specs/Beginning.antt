@@ -54,7 +54,7 @@ pub record IsOver {M : Type 0} (g : Ghosts (Device M)) (s : Device M) (w : Walke
   pub sound : SoundAs image w.count tree
 
 -- The medium is as it was. The core has what the walk handed out, nothing is in flight or awaits its free, and all calls are committed.
-pub record BeginsCore {M : Type 0} (g : Ghosts (Device M)) (s : Device M) (w : Walked) (v : Core M) : Type 0 where
+pub record BeginsCore {M : Type 0} (g : Ghosts (Device M)) (s : Device M) (w : Walked) (v : Core (Device M)) : Type 0 where
   pub medium : SameMedium g s v.device
   pub metadata : (v.journal ≡ w.journal) × (v.meta ≡ w.meta) × (v.nodes ≡ w.nodes)
   pub counts : (v.count ≡ w.count) × (v.committed ≡ w.count) × (v.moment ≡ g.clock s) × (v.stopped ≡ stopped_by (g.write_faults s))

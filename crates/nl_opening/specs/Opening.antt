@@ -17,7 +17,7 @@ use Rattle.nl_opening.specs.Beginning.{stopped_by}
 use Rattle.nl_opening.specs.declared.opening.Opened.{Opened}
 use Rattle.nl_opening.specs.declared.opening.Opened.TheVariants.{Ready, Blank, Damaged, Fault, Memory}
 
-abbrev pub IfReady : {M : Type 0} → Opened M → (Core M → Type 0) → Type 0
+abbrev pub IfReady : {M : Type 0} → Opened M → (Core (Device M) → Type 0) → Type 0
 IfReady (Ready v figures) P = P v
 IfReady (Blank m) P = ⊤
 IfReady (Damaged place m) P = ⊤
@@ -65,7 +65,7 @@ OpensImage image (Memory m) = ⊤
 
 -- Nothing is in flight or awaits its free, and all calls are committed, as of now. It can be written to, unless the count of failed writes
 -- stands at its end.
-pub record IsOpened {M : Type 0} (g : Ghosts (Device M)) (v : Core M) : Type 0 where
+pub record IsOpened {D : Type 0} (g : Ghosts D) (v : Core D) : Type 0 where
   pub flight : v.flight ≡ nothing
   pub freeing : v.freeing.items ≡ []
   pub committed : v.committed ≡ v.count

@@ -32,7 +32,7 @@ pub fn begin<M: Nand>(
     walked: Walked,
     flight: Flight,
     freeing: PointerList,
-) -> Core<M>
+) -> Core<Device<M>>
     requires formed { ⟦<Device<M> as Counts>⟧.formed device }
     requires shape { shape ≡ ⟦<Device<M> as Counts>⟧.shape device }
     requires can { CanBegin ⟦<Device<M> as Counts>⟧ device scan.now.seen }
@@ -40,7 +40,6 @@ pub fn begin<M: Nand>(
     requires flight { flight ≡ nothing }
     requires freeing { freeing.items ≡ [] }
     requires room { shape.pblocks * shape.pages ≤ freeing.room }
-    ensures formed { ⟦<Device<M> as Counts>⟧.formed result.device }
     ensures core { IsCore ⟦<Device<M> as Counts>⟧ result }
     ensures stands { M.tells → (image : Image) (tree : Tree) → IsOver ⟦<Device<M> as Counts>⟧ device walked image tree → CoreStands ⟦<Device<M> as Counts>⟧ result (page_on image) (all_at walked.count tree) }
     ensures pairs { (⟦<Device<M> as Counts>⟧.names result.device).space.pairs ≡ length (moved_among (kept_of device) walked.kept.items) }

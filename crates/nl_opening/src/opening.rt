@@ -41,7 +41,7 @@ pub struct Figures {
 #[derive(Drop)]
 pub enum Opened<M: Nand> {
     /// The volume that the medium holds.
-    Ready(Core<M>, Figures),
+    Ready(Core<Device<M>>, Figures),
     /// No page is readable.
     Blank(M),
     /// The first place at fault.
@@ -51,13 +51,30 @@ pub enum Opened<M: Nand> {
     Memory(M),
 }
 
+impl<M: Nand> Opened<M> {
+    /// Gives the medium back as it is.
+    pub fn into_media(self) -> M
+        ensures { result ≡ opened_medium self }
+    {
+        match self {
+            Opened::Ready(core, _) => {
+                let Core { device, .. } = core;
+                device.into_media()
+            }
+            Opened::Blank(media) => media,
+            Opened::Damaged(_, media) => media,
+            Opened::Fault(media) => media,
+            Opened::Memory(media) => media,
+        }
+    }
+}
+
 /// Opens the volume on a medium: one scan, the walk over its committed pages, and the pointers of its files made live, each at its place.
 /// The medium is only read. Over one that tells what it stores it is blank exactly where no page is readable, and else ready exactly where
 /// the image is consistent, or damaged at the walk's first fault; ready, it stands for the tree as which the image is sound, and its next write
 /// sequence number, the number of its next transaction, and how many pairs it has are what the image tells. Ready, it tells how many pages its
 /// files have, and the least and the greatest wear of the readable pages.
 pub fn open<M: Nand>(alloc: Global, media: M) -> Opened<M>
-    ensures formed { IfReady result (λ v. ⟦<Device<M> as Counts>⟧.formed v.device) }
     ensures core { IfReady result (λ v. IsCore ⟦<Device<M> as Counts>⟧ v) }
     ensures opened { IfReady result (λ v. IsOpened ⟦<Device<M> as Counts>⟧ v) }
     ensures files { IfCounted ⟦<Device<M> as Counts>⟧ result }
@@ -82,7 +99,6 @@ pub fn open<M: Nand>(alloc: Global, media: M) -> Opened<M>
 fn open_formed<M: Nand>(alloc: Global, media: M, shape: Shape) -> Opened<M>
     requires legal { IsTrue (is_legal (M.geometry media).blocks (M.geometry media).pages) }
     requires shape { shape ≡ shape_for (M.geometry media).blocks (M.geometry media).pages }
-    ensures formed { IfReady result (λ v. ⟦<Device<M> as Counts>⟧.formed v.device) }
     ensures core { IfReady result (λ v. IsCore ⟦<Device<M> as Counts>⟧ v) }
     ensures opened { IfReady result (λ v. IsOpened ⟦<Device<M> as Counts>⟧ v) }
     ensures files { IfCounted ⟦<Device<M> as Counts>⟧ result }

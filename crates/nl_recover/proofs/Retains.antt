@@ -15,7 +15,7 @@ use Rattle.nl_meta.specs.Nodes.{Held, held_in}
 use Rattle.nl_meta.proofs.Facts.{EachTwo}
 use Rattle.nl_meta.proofs.Lists.{member_any}
 use Rattle.nl_meta.proofs.PointerProofs.{keys_back}
-use Rattle.nl_recover.specs.Retaining.{KeptCanBeRetained}
+use Rattle.nl_recover.specs.Retaining.{OfConsistent}
 
 -- ---- lists that are mapped
 
@@ -50,12 +50,26 @@ listed-any physicals h is =
     member_any (λ s. stamp_of s.rec == h.pointer.stamp) physicals is.page is.listed
     (ap (λ (r : SpareRec). stamp_of r == h.pointer.stamp) is.is_page.record_on ∙ eq-eqb h.pointer.stamp h.pointer.stamp refl)
 
-pub kept_can_be_retained : KeptCanBeRetained
-kept_can_be_retained shape pages seen c = record {
-  spare = subst (λ (l : List ℕ). IsSome (physical_spare_seen shape seen l)) (sym (map-twice pointer-of (λ (p : Pointer). p.stamp) (held_in shape pages))) c.room.physical_room;
-  found = all-mapped pointer-of (λ (p : Pointer). list_any (λ s. stamp_of s.rec == p.stamp) (physical_seen shape seen) ≡ true) (held_in shape pages) (λ h m. listed-any (physical_seen shape seen) h (c.metadata.tree.pointers.there h m));
-  differ = pairs-mapped pointer-of (λ (p q : Pointer). p.stamp ≢ q.stamp) (held_in shape pages) (keys_back shape pages (λ h. h.pointer.stamp) c.metadata.tree.pointers.stamps_differ);
-  names_differ = pairs-mapped pointer-of (λ (p q : Pointer). p.name ≢ q.name) (held_in shape pages) (keys_back shape pages (λ h. h.pointer.name) c.metadata.tree.pointers.names_differ);
-  own = all-mapped pointer-of (λ (p : Pointer). owns_seen shape seen p ≡ true) (held_in shape pages) (λ h m. c.own_names h m);
-  few_lost = subst (λ (n : ℕ). n ≤ 3 * shape.pages) (sym (counts-mapped pointer-of (is_lost_seen shape seen) (held_in shape pages) ∙ length-filter (λ (h : Held). is_lost_seen shape seen h.pointer) (held_in shape pages))) c.room.few_lost;
-}
+pub retained-spare : OfConsistent (λ shape seen pointers. IsSome (physical_spare_seen shape seen (map (λ p. p.stamp) pointers)))
+retained-spare shape pages seen c = subst (λ (l : List ℕ). IsSome (physical_spare_seen shape seen l)) (sym (map-twice pointer-of (λ (p : Pointer). p.stamp) (held_in shape pages))) c.room.physical_room
+
+pub retained-found : OfConsistent (λ shape seen pointers. All (λ p. list_any (λ s. stamp_of s.rec == p.stamp) (physical_seen shape seen) ≡ true) pointers)
+retained-found shape pages seen c =
+    all-mapped pointer-of (λ (p : Pointer). list_any (λ s. stamp_of s.rec == p.stamp) (physical_seen shape seen) ≡ true) (held_in shape pages)
+    (λ h m. listed-any (physical_seen shape seen) h (c.metadata.tree.pointers.there h m))
+
+pub retained-differ : OfConsistent (λ shape seen pointers. AllPairs (λ p q. p.stamp ≢ q.stamp) pointers)
+retained-differ shape pages seen c =
+    pairs-mapped pointer-of (λ (p q : Pointer). p.stamp ≢ q.stamp) (held_in shape pages) (keys_back shape pages (λ h. h.pointer.stamp) c.metadata.tree.pointers.stamps_differ)
+
+pub retained-names-differ : OfConsistent (λ shape seen pointers. AllPairs (λ p q. p.name ≢ q.name) pointers)
+retained-names-differ shape pages seen c =
+    pairs-mapped pointer-of (λ (p q : Pointer). p.name ≢ q.name) (held_in shape pages) (keys_back shape pages (λ h. h.pointer.name) c.metadata.tree.pointers.names_differ)
+
+pub retained-own : OfConsistent (λ shape seen pointers. All (λ p. owns_seen shape seen p ≡ true) pointers)
+retained-own shape pages seen c = all-mapped pointer-of (λ (p : Pointer). owns_seen shape seen p ≡ true) (held_in shape pages) (λ h m. c.own_names h m)
+
+pub retained-few-lost : OfConsistent (λ shape seen pointers. length (filter (is_lost_seen shape seen) pointers) ≤ 3 * shape.pages)
+retained-few-lost shape pages seen c =
+    subst (λ (n : ℕ). n ≤ 3 * shape.pages)
+    (sym (counts-mapped pointer-of (is_lost_seen shape seen) (held_in shape pages) ∙ length-filter (λ (h : Held). is_lost_seen shape seen h.pointer) (held_in shape pages))) c.room.few_lost

@@ -1,7 +1,11 @@
 //! Laws of the definitions. Each function stands for the law that its contract names.
+ghost use Rattle.std.specs.Prelude.{◌≡◌, ◌≢◌, ◌≤◌, ◌*◌, ◌==◌, true, All, IsSome, filter, length, map};
+ghost use Rattle.std.specs.List.{AllPairs, list_any};
+ghost use Rattle.nl_field.specs.ScanList.{is_lost_seen, owns_seen, physical_seen, physical_spare_seen};
+ghost use Rattle.nl_field.specs.SpareRecord.{stamp_of};
 ghost use Rattle.nl_recover.specs.Imaged.{IsBlankUnformed, ListsReadable, WalksTheImage};
 ghost use Rattle.nl_recover.specs.Looking.{WalksAlike};
-ghost use Rattle.nl_recover.specs.Retaining.{KeptCanBeRetained};
+ghost use Rattle.nl_recover.specs.Retaining.{OfConsistent};
 ghost use Rattle.nl_recover.specs.Starting.{WalkedStarts};
 
 use nl_iface::VirtualPages;
@@ -11,9 +15,15 @@ pub fn walks_alike()
     ensures { WalksAlike }
 {}
 
-/// The pointers of a volume in which a walk found no fault are those that its device can retain.
+/// The pointers of a volume in which a walk found no fault can be retained by its device: the pages that a scan saw have a spare block for
+/// their stamps, and a page of each of them; no two share a stamp or a name; they own their names, and few are lost.
 pub fn kept_can_be_retained()
-    ensures { KeptCanBeRetained }
+    ensures spare { OfConsistent (λ shape seen pointers. IsSome (physical_spare_seen shape seen (map (λ p. p.stamp) pointers))) }
+    ensures found { OfConsistent (λ shape seen pointers. All (λ p. list_any (λ s. stamp_of s.rec == p.stamp) (physical_seen shape seen) ≡ true) pointers) }
+    ensures differ { OfConsistent (λ shape seen pointers. AllPairs (λ p q. p.stamp ≢ q.stamp) pointers) }
+    ensures names_differ { OfConsistent (λ shape seen pointers. AllPairs (λ p q. p.name ≢ q.name) pointers) }
+    ensures own { OfConsistent (λ shape seen pointers. All (λ p. owns_seen shape seen p ≡ true) pointers) }
+    ensures few_lost { OfConsistent (λ shape seen pointers. length (filter (is_lost_seen shape seen) pointers) ≤ 3 * shape.pages) }
 {}
 
 /// What an opening hands out can run where no write of an address failed before.

@@ -9,6 +9,7 @@ use Rattle.nl_field.specs.declared.shape.Shape.{Shape}
 use Rattle.nl_flight.specs.Flight.{IsFlight}
 use Rattle.nl_iface.specs.Names.{Has}
 use Rattle.nl_running.specs.Running.{running_on}
+use Rattle.nl_recover.specs.Retaining.{pointers_in}
 use Rattle.nl_core.specs.Core.{IsCore}
 use Rattle.nl_core.specs.declared.state.Core.{Core}
 use Rattle.nl_meta.specs.Consistent.{page_on}
@@ -17,6 +18,7 @@ use Rattle.nl_opening.specs.Beginning.{all_at, stopped_by}
 use Rattle.nl_opening.proofs.Begun.{as_many_pages, begun_core, begun_stands, made}
 use Rattle.nl_opening.proofs.OneKept.{one_kept}
 use Rattle.nl_opening.proofs.Owners.{found_is_seen}
+use Rattle.nl_device.specs.declared.device.Device.{Device}
 use Rattle.nl_opening.proofs.beginning.begin.Goals as goal
 
 pub retain-requires-clause-can : goal.retain-requires-clause-can
@@ -25,8 +27,18 @@ retain-requires-clause-can g c =
     let s = c.args.device in
     let w = c.args.walked in
     let seen = c.args.scan.now.seen in
-    let listed : CanBeRetained s.shape seen w.kept.items = subst (λ (ps : List Pointer). CanBeRetained s.shape seen ps) (sym c.requires.walked.kept)
-    (c.kept_can_be_retained.ensures s.shape (running_on G s w.meta) seen c.requires.walked.consistent) in
+    let told = c.kept_can_be_retained.ensures in
+    let pages = running_on G s w.meta in
+    let consistent = c.requires.walked.consistent in
+    let held : CanBeRetained s.shape seen (pointers_in s.shape pages) = record {
+      spare = told.spare s.shape pages seen consistent;
+      found = told.found s.shape pages seen consistent;
+      differ = told.differ s.shape pages seen consistent;
+      names_differ = told.names_differ s.shape pages seen consistent;
+      own = told.own s.shape pages seen consistent;
+      few_lost = told.few_lost s.shape pages seen consistent;
+    } in
+    let listed : CanBeRetained s.shape seen w.kept.items = subst (λ (ps : List Pointer). CanBeRetained s.shape seen ps) (sym c.requires.walked.kept) held in
     subst (λ (k : KeptPages). CanRetain k w.kept.items) (sym c.requires.can.kept) (c.a_list_tells_what_can_be_retained.ensures s.shape seen w.kept.items listed)
 
 pub returns-clause-core : goal.returns-clause-core
@@ -39,13 +51,13 @@ returns-clause-core g c =
     let e = c.retain.ensures in
     let clock : G.clock s ≡ c.clock-moment.result = sym (c.clock-moment.ensures ∙ e.medium.clock) in
     let stopped : stopped_by (G.write_faults s) ≡ c.stopped_by-stopped.result = sym (c.stopped_by-stopped.ensures ∙ ap stopped_by (c.write_faults.ensures ∙ e.medium.write_faults)) in
-    subst (λ (x : Core g.row.M.Denot). IsCore G x)
+    subst (λ (x : Core (Device g.row.M.Denot)). IsCore G x)
     (made G s t seen w c.args.freeing t c.args.shape c.args.flight c.clock-moment.result c.stopped_by-stopped.result c.requires.shape c.requires.flight clock stopped)
     (begun_core G s t seen w c.args.freeing c.requires.can c.requires.walked c.device_stands.ensures.volume
     (λ p page has. found_is_seen s.shape seen p page (subst (λ (k : KeptPages). Has (found_by_number k) (p, page)) c.requires.can.kept has))
     e.medium (retained_at (kept_of s) w.kept.items) e.retained c.device_stands-2.ensures.table c.device_stands-2.ensures.names e.space.lands (one_kept t.pseg) c.device_stands-2.ensures.pages
     (subst IsFlight c.requires.flight c.lines_stand.ensures) c.requires.freeing
-    (subst (λ (h : Shape). h.pblocks * h.pages ≤ c.args.freeing.room) c.requires.shape c.requires.room))
+    (subst (λ (h : Shape). h.pblocks * h.pages ≤ c.args.freeing.room) c.requires.shape c.requires.room) c.retain.ensures.formed)
 
 pub returns-clause-stands : goal.returns-clause-stands
 returns-clause-stands g c tells image tree over =
@@ -57,7 +69,7 @@ returns-clause-stands g c tells image tree over =
     let e = c.retain.ensures in
     let clock : G.clock s ≡ c.clock-moment.result = sym (c.clock-moment.ensures ∙ e.medium.clock) in
     let stopped : stopped_by (G.write_faults s) ≡ c.stopped_by-stopped.result = sym (c.stopped_by-stopped.ensures ∙ ap stopped_by (c.write_faults.ensures ∙ e.medium.write_faults)) in
-    subst (λ (x : Core g.row.M.Denot). CoreStands G x (page_on image) (all_at w.count tree))
+    subst (λ (x : Core (Device g.row.M.Denot)). CoreStands G x (page_on image) (all_at w.count tree))
     (made G s t seen w c.args.freeing t c.args.shape c.args.flight c.clock-moment.result c.stopped_by-stopped.result c.requires.shape c.requires.flight clock stopped)
     (begun_stands G s t seen w c.args.freeing c.requires.can c.requires.walked c.device_stands.ensures.volume
     (λ p page has. found_is_seen s.shape seen p page (subst (λ (k : KeptPages). Has (found_by_number k) (p, page)) c.requires.can.kept has))
