@@ -10,8 +10,8 @@ use Rattle.nl_tree.specs.declared.reply.FaultReply.{FaultReply}
 use Rattle.nl_tree.specs.declared.reply.FaultReply.TheVariants.{Eio, Erofs, Eworn, Edamaged}
 use Rattle.nl_tree.specs.declared.reply.Reply.{Reply}
 use Rattle.nl_tree.specs.declared.reply.Reply.TheVariants.{Done, Count, Content, Names, File, Dir, Synced, No, Fault}
-use Rattle.nl_device.specs.declared.device.Device.{Device}
 use Rattle.nl_iface.specs.declared.counts.Counts.{Ghosts}
+use Rattle.nl_iface.specs.declared.moving_pages.MovingPages.{Ghosts as Moving}
 use Rattle.nl_meta.proofs.PageProofs.{none as changes_none}
 use Rattle.nl_running.proofs.Holds.{reads-none}
 use Rattle.nl_held.specs.Trees.{RunsAs}
@@ -20,14 +20,14 @@ use Rattle.nl_core.specs.Goes.{Goes}
 use Rattle.nl_core.specs.declared.state.Core.{Core}
 use Rattle.nl_core.proofs.Onward.{goes_then}
 use Rattle.nl_effect.specs.Steps.{Steps}
-use Rattle.nl_writing.specs.Lines.{OthersStay}
-use Rattle.nl_answering.specs.Answering.{AnswersCall, AnswersOn, HasEffect, HasEffectOf, Syncs, counts_of, is_synced}
+use Rattle.nl_effect.specs.Calls.{OthersStay}
+use Rattle.nl_answering.specs.Answering.{AnswersCall, AnswersOn, Cleans, HasEffect, HasEffectOf, Syncs, counts_of, is_synced}
 use Rattle.nl_answering.proofs.Ended.{ends_then}
 
 -- ---- what a call does
 
 -- no step
-pub steps_none : {M : Type 0} (g : Ghosts (Device M)) (v : Core M) → Steps g v v
+pub steps_none : {D : Type 0} (g : Ghosts D) (v : Core D) → Steps g v v
 steps_none g v = record {
   reads = reads-none g v.device;
   read_faults = omega arith;
@@ -36,12 +36,11 @@ steps_none g v = record {
   others = refl;
 }
 
-module _ {M : Type 0} (g : Ghosts (Device M)) (call : Call) (u v : Core M) where
+module _ {D : Type 0} (g : Ghosts D) (call : Call) (u v : Core D) where
   -- a call that leaves the tree
-  pub leaves_effect : (fault : Option FaultReply) → ((shape : Shape) (tree : Tree) → (step_marked shape tree (call, fault)).tree ≡ tree) → (n : ℕ) → g.formed v.device → IsCore g v → Goes g n u v → HasEffect g call fault u v
-  leaves_effect fault same n formed core goes = record {
+  pub leaves_effect : (fault : Option FaultReply) → ((shape : Shape) (tree : Tree) → (step_marked shape tree (call, fault)).tree ≡ tree) → (n : ℕ) → IsCore g v → Goes g n u v → HasEffect g call fault u v
+  leaves_effect fault same n core goes = record {
     between = v;
-    formed = formed;
     core = core;
     most = n;
     goes = goes;
@@ -50,7 +49,7 @@ module _ {M : Type 0} (g : Ghosts (Device M)) (call : Call) (u v : Core M) where
   }
 
   -- one that met a fault
-  pub fault_effect : (fault : FaultReply) (n : ℕ) → g.formed v.device → IsCore g v → Goes g n u v → HasEffect g call (Some fault) u v
+  pub fault_effect : (fault : FaultReply) (n : ℕ) → IsCore g v → Goes g n u v → HasEffect g call (Some fault) u v
   fault_effect fault = leaves_effect (Some fault) (λ shape tree. refl)
 
   -- that of a reply which is no sync's
@@ -71,7 +70,7 @@ and_false false = refl
 
 -- ---- a fault
 
-module _ {M : Type 0} (g : Ghosts (Device M)) (u v : Core M) where
+module _ {D : Type 0} (g : Ghosts D) (u v : Core D) where
   pub failed_cause : FaultRose (counts_of g u.device) (counts_of g v.device) → FaultWithin g.tells (counts_of g u.device) (counts_of g v.device) (Eio (fault_sum (counts_of g v.device)))
   failed_cause rose = (rose, refl)
 
@@ -80,11 +79,10 @@ module _ {M : Type 0} (g : Ghosts (Device M)) (u v : Core M) where
 
 -- ---- after the core went on
 
-module _ {M : Type 0} (g : Ghosts (Device M)) (call : Call) (n : ℕ) (u v w : Core M) (goes : Goes g n u v) where
+module _ {D : Type 0} (g : Ghosts D) (call : Call) (n : ℕ) (u v w : Core D) (goes : Goes g n u v) where
   effect_after : (fault : Option FaultReply) → HasEffect g call fault v w → HasEffect g call fault u w
   effect_after fault x = record {
     between = x.between;
-    formed = x.formed;
     core = x.core;
     most = n + x.most;
     goes = goes_then g u v x.between n x.most goes x.goes;
@@ -95,7 +93,6 @@ module _ {M : Type 0} (g : Ghosts (Device M)) (call : Call) (n : ℕ) (u v w : C
   syncs_after : (upto moment : ℕ) → Syncs g upto moment v w → Syncs g upto moment u w
   syncs_after upto moment x = record {
     between = x.between;
-    formed = x.formed;
     core = x.core;
     before = n + x.before;
     goes = goes_then g u v x.between n x.before goes x.goes;
@@ -137,20 +134,20 @@ module _ {M : Type 0} (g : Ghosts (Device M)) (call : Call) (n : ℕ) (u v w : C
       let on = goes.runs tells page_of_stamp tree runs in
       subst (λ (h : Shape). Answers (step_marked h tree (call, fault_in reply)) reply out) goes.same_shape (is tells on.pages tree on.runs)
 
+  pub cleans_after : (m : Moving D) → Cleans g m v w → Cleans g m u w
+  cleans_after m c = record { between = c.between; most = n + c.most; goes = goes_then g u v c.between n c.most goes c.goes; round = c.round }
+
   pub answer_after : (worker : ℕ) (reply : Reply) (out : List ℕ) (files : ℕ) → OthersStay worker u.flight v.flight → AnswersCall g worker call v w reply out files → AnswersCall g worker call u w reply out files
   answer_after worker reply out files stay x = record {
     effect = effect_of_after reply x.effect;
     answers = answers_after reply out x.answers;
     cause = cause_after (fault_in reply) x.cause;
     synced = x.synced;
-    cleaned = λ is done.
-        let c = x.cleaned is done in
-        record { between = c.between; most = n + c.most; goes = goes_then g u v c.between n c.most goes c.goes; round = c.round };
     line = ends_then worker u.flight v.flight w.flight stay x.line;
     files_are = x.files_are;
   }
 
 -- what failed before the core went on
-pub rose_on : {M : Type 0} (g : Ghosts (Device M)) (u v w : Core M) {n : ℕ} → Goes g n v w → FaultRose (counts_of g u.device) (counts_of g v.device) → FaultRose (counts_of g u.device) (counts_of g w.device)
+pub rose_on : {D : Type 0} (g : Ghosts D) (u v w : Core D) {n : ℕ} → Goes g n v w → FaultRose (counts_of g u.device) (counts_of g v.device) → FaultRose (counts_of g u.device) (counts_of g w.device)
 rose_on g u v w goes (inl rose) = inl (let up = goes.reads in omega (arith, rose, up))
 rose_on g u v w goes (inr rose) = inr (let up = goes.writes in omega (arith, rose, up))

@@ -2,7 +2,6 @@
 use Rattle.std.proofs.Common.{◌≡◌, ℕ, ◌+◌, ◌*◌, ◌≤◌, List, length, ap, subst, ◌∙◌, arith}
 use Rattle.std.proofs.Math.Nat.{mul-le-mul_left}
 use Rattle.nl_field.specs.declared.shape.Shape.{Shape}
-use Rattle.nl_device.specs.declared.device.Device.{Device}
 use Rattle.nl_flight.specs.Flight.{InFlight, carried}
 use Rattle.nl_iface.specs.Device.{IsVolumeShape}
 use Rattle.nl_iface.specs.Names.{Names}
@@ -18,7 +17,7 @@ use Rattle.nl_meta.specs.PointerLists.{tagged_in}
 use Rattle.nl_effect.specs.Steps.{Steps}
 use Rattle.nl_answering.specs.Answering.{pages_of_files}
 
-module _ {M : Type 0} (g : Ghosts (Device M)) (u v : Core M) (before : IsCore g u) (after : IsCore g v) (step : Steps g u v) (fly : v.flight ≡ u.flight) where
+module _ {D : Type 0} (g : Ghosts D) (u v : Core D) (before : IsCore g u) (after : IsCore g v) (step : Steps g u v) (fly : v.flight ≡ u.flight) where
   -- what awaits its free came from files
   pub counted_after : pages_of_files g v + length v.freeing.items ≡ pages_of_files g u + length u.freeing.items
   counted_after =
@@ -41,7 +40,7 @@ module _ {M : Type 0} (g : Ghosts (Device M)) (u v : Core M) (before : IsCore g 
       omega (arith, few, same, within, all, held)
 
 -- where a core goes on, files have as many
-module _ {M : Type 0} (g : Ghosts (Device M)) (n : ℕ) (u v : Core M) (goes : Goes g n u v) (law : PagesStayAsMany) where
+module _ {D : Type 0} (g : Ghosts D) (n : ℕ) (u v : Core D) (goes : Goes g n u v) (law : PagesStayAsMany) where
   pub goes_counted : pages_of_files g v ≡ pages_of_files g u
   goes_counted =
       ap (λ (h : Shape). length (tagged_in h (running_of g v))) goes.same_shape

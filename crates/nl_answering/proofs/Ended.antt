@@ -4,7 +4,7 @@ use Rattle.std.proofs.Math.ListN.{get_or, get_or-map}
 use Rattle.std.proofs.lemmas.List.{get_or-set_other, get_or-set_same}
 use Rattle.nl_drain.specs.Handled.{nameless_line}
 use Rattle.nl_flight.specs.Flight.{InFlight, begun, of_worker, with_line}
-use Rattle.nl_writing.specs.Lines.{OthersStay}
+use Rattle.nl_effect.specs.Calls.{OthersStay}
 use Rattle.nl_answering.specs.Answering.{EndsLine}
 
 nil_of : {X Y : Type 0} (f : X → Y) (xs : List X) → map f xs ≡ [] → xs ≡ []

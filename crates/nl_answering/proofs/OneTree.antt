@@ -3,7 +3,6 @@ use Rattle.std.proofs.Common.{◌≡◌, inl, inr, ℕ, List, [], ◌∷◌, map
 use Rattle.std.specs.Prelude.{option_map, unwrap_or}
 use Rattle.nl_field.specs.Members as members
 use Rattle.nl_tree.specs.Tree.{Tree}
-use Rattle.nl_device.specs.declared.device.Device.{Device}
 use Rattle.nl_flight.specs.Flight.{carried}
 use Rattle.nl_iface.specs.Names.{Has, led}
 use Rattle.nl_iface.specs.declared.counts.Counts.{Ghosts}
@@ -16,14 +15,14 @@ use Rattle.nl_sound.proofs.SoundProofs.{represented_is_one}
 use Rattle.nl_core.specs.Core.{IsCore, names_of, running_of}
 use Rattle.nl_core.specs.Trees.{CoreRuns}
 use Rattle.nl_core.specs.declared.state.Core.{Core}
-use Rattle.nl_effect.proofs.FileRunning.{held_lead_once}
+use Rattle.nl_filing.proofs.FileRunning.{held_lead_once}
 
 tagged : (hs : List Held) (h : Held) → members.Has hs h → Has (map with_tag hs) (h.tag, h.pointer)
 tagged [] h has = absurd has
 tagged (x ∷ hs) h (inl e) = inl (ap with_tag e)
 tagged (x ∷ hs) h (inr has) = inr (tagged hs h has)
 
-module _ {M : Type 0} (g : Ghosts (Device M)) (v : Core M) (core : IsCore g v) (first second : ℕ → Option PageOfStamp) (tree other : Tree) (a : CoreRuns g v first tree) (b : CoreRuns g v second other) where
+module _ {D : Type 0} (g : Ghosts D) (v : Core D) (core : IsCore g v) (first second : ℕ → Option PageOfStamp) (tree other : Tree) (a : CoreRuns g v first tree) (b : CoreRuns g v second other) where
   -- each page of a file is live, and shown
   shown : (h : Held) → members.Has (held_in (g.shape v.device) (running_of g v)) h → bytes_for first h.pointer.stamp ≡ bytes_for second h.pointer.stamp
   shown h has =

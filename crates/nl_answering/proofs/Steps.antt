@@ -11,7 +11,7 @@ use Rattle.nl_tree.specs.declared.reply.Refusal.{Refusal}
 use Rattle.nl_tree.specs.declared.reply.Refusal.TheVariants.{Enametoolong}
 use Rattle.nl_tree.specs.declared.reply.Reply.TheVariants.{Count, Done, No, Synced}
 use Rattle.nl_namespace.specs.Calls.{IsOfNames}
-use Rattle.nl_writing.specs.Ranges.{IsWriting}
+use Rattle.nl_written.specs.Ranges.{IsWriting}
 
 pub clean_step : (shape : Shape) (tree : Tree) → None ≡ space_refusal shape tree → step shape tree Clean ≡ record { reply = Done; bytes = []; tree = tree }
 unfolding step effect_of own_refusal

@@ -13,7 +13,6 @@ use Rattle.nl_tree.specs.declared.reply.FaultReply.TheVariants.{Eio}
 use Rattle.nl_tree.specs.declared.reply.Refusal.{Refusal}
 use Rattle.nl_tree.specs.declared.reply.Reply.{Reply}
 use Rattle.nl_tree.specs.declared.reply.Reply.TheVariants.{Done, No, Fault, Synced}
-use Rattle.nl_device.specs.declared.device.Device.{Device}
 use Rattle.nl_iface.specs.declared.counts.Counts.{Ghosts}
 use Rattle.nl_meta.specs.Consistent.{PageOfStamp}
 use Rattle.nl_namespace.specs.Calls.{IsOfNames}
@@ -26,14 +25,13 @@ use Rattle.nl_core.specs.Trees.{CoreRuns}
 use Rattle.nl_core.specs.declared.state.Core.{Core}
 use Rattle.nl_core.proofs.Onward.{goes_none}
 use Rattle.nl_effect.specs.Steps.{Steps}
-use Rattle.nl_looking.proofs.Directories.{room}
+use Rattle.nl_filing.proofs.Directories.{room}
+use Rattle.nl_effect.specs.Calls.{MakesTree, RunsAsSome, TakesWithin}
 use Rattle.nl_looking.specs.Looking.{IsPlain, OnlyLooks}
 use Rattle.nl_naming.specs.Naming.{AnswersAs}
 use Rattle.nl_naming.specs.declared.answer.Naming.TheVariants as naming
-use Rattle.nl_stops.specs.Effects.{MakesTree}
-use Rattle.nl_writing.specs.Calls.{RunsAsSome, TakesWithin}
-use Rattle.nl_writing.specs.Ranges.{IsWriting}
-use Rattle.nl_answering.specs.Answering.{AnswersCall, AnswersOn, Cleans, EndsLine, HasEffect, counts_of, is_sync_call, is_synced, pages_of_files}
+use Rattle.nl_written.specs.Ranges.{IsWriting}
+use Rattle.nl_answering.specs.Answering.{AnswersCall, AnswersOn, EndsLine, HasEffect, counts_of, is_sync_call, is_synced, pages_of_files}
 use Rattle.nl_answering.proofs.Answered.{and_false, failed_cause, fault_effect, leaves_effect, plain_effect, steps_none}
 use Rattle.nl_answering.proofs.Counted.{goes_counted}
 use Rattle.nl_answering.proofs.OneTree.{one_tree}
@@ -42,15 +40,14 @@ use Rattle.nl_answering.proofs.Steps.{clean_step, done_answers, names_bytes, ref
 
 -- ---- a fault
 
-module _ {M : Type 0} (g : Ghosts (Device M)) (worker : ℕ) (call : Call) (n : ℕ) (u v : Core M) (files : ℕ) (formed : g.formed v.device) (core : IsCore g v) (goes : Goes g n u v) (law : PagesStayAsMany) (are : files ≡ pages_of_files g u) (line : EndsLine worker u.flight v.flight)
+module _ {D : Type 0} (g : Ghosts D) (worker : ℕ) (call : Call) (n : ℕ) (u v : Core D) (files : ℕ) (core : IsCore g v) (goes : Goes g n u v) (law : PagesStayAsMany) (are : files ≡ pages_of_files g u) (line : EndsLine worker u.flight v.flight)
     (out : List ℕ) (none : out ≡ []) where
   pub meets_fault : (f : FaultReply) → FaultWithin g.tells (counts_of g u.device) (counts_of g v.device) f → AnswersCall g worker call u v (Fault f) out files
   meets_fault f within = record {
-    effect = fault_effect g call u v f n formed core goes;
+    effect = fault_effect g call u v f n core goes;
     answers = λ tells page_of_stamp tree runs. (refl, none);
     cause = within;
     synced = sym (and_false (is_sync_call call));
-    cleaned = λ is done. absurd (cc done);
     line = line;
     files_are = are ∙ sym (goes_counted g n u v goes law);
   }
@@ -75,29 +72,27 @@ only_looks (ListCall path) is = (refl, refl, λ e. cc e)
 only_looks Sync is = absurd is
 only_looks Clean is = absurd is
 
-module _ {M : Type 0} (g : Ghosts (Device M)) (worker : ℕ) (call : Call) (n : ℕ) (u v : Core M) (files : ℕ) (formed : g.formed v.device) (core : IsCore g v) (goes : Goes g n u v) (law : PagesStayAsMany) (are : files ≡ pages_of_files g u) (line : EndsLine worker u.flight v.flight) where
+module _ {D : Type 0} (g : Ghosts D) (worker : ℕ) (call : Call) (n : ℕ) (u v : Core D) (files : ℕ) (core : IsCore g v) (goes : Goes g n u v) (law : PagesStayAsMany) (are : files ≡ pages_of_files g u) (line : EndsLine worker u.flight v.flight) where
   pub looked : OnlyLooks call → (reply : Reply) (out : List ℕ) → IsPlain reply → (g.tells → (page_of_stamp : ℕ → Option PageOfStamp) (tree : Tree) → CoreRuns g u page_of_stamp tree → Answers (step (g.shape u.device) tree call) reply out)
       → AnswersCall g worker call u v reply out files
   looked looks reply out plain answers =
       let k = only_looks call looks in
       record {
-        effect = plain_effect g call u v reply plain.1 (leaves_effect g call u v (fault_in reply) (λ shape tree. looking_leaves shape tree call (fault_in reply) k.0) n formed core goes);
+        effect = plain_effect g call u v reply plain.1 (leaves_effect g call u v (fault_in reply) (λ shape tree. looking_leaves shape tree call (fault_in reply) k.0) n core goes);
         answers = λ tells page_of_stamp tree runs. subst (λ (f : Option FaultReply). Answers (step_marked (g.shape u.device) tree (call, f)) reply out) (sym plain.0) (answers tells page_of_stamp tree runs);
         cause = subst (λ (f : Option FaultReply). IfSome f (FaultWithin g.tells (counts_of g u.device) (counts_of g v.device))) (sym plain.0) tt;
         synced = plain.1 ∙ sym (ap (λ b. b && is_none (fault_in reply)) k.1);
-        cleaned = λ is done. absurd (k.2 is);
         line = line;
         files_are = are ∙ sym (goes_counted g n u v goes law);
       }
 
   -- a round of reclaiming
-  pub cleaned : Cleans g u v → AnswersCall g worker Clean u v Done [] files
-  cleaned c = record {
-    effect = leaves_effect g Clean u v None (λ shape tree. looking_leaves shape tree Clean None refl) n formed core goes;
+  pub cleaned : AnswersCall g worker Clean u v Done [] files
+  cleaned = record {
+    effect = leaves_effect g Clean u v None (λ shape tree. looking_leaves shape tree Clean None refl) n core goes;
     answers = λ tells page_of_stamp tree runs. done_answers (step (g.shape u.device) tree Clean) (ap (λ (x : Outcome). x.reply) (is_clean page_of_stamp tree runs)) (ap (λ (x : Outcome). x.bytes) (is_clean page_of_stamp tree runs));
     cause = tt;
     synced = refl;
-    cleaned = λ is done. c;
     line = line;
     files_are = are ∙ sym (goes_counted g n u v goes law);
   }
@@ -122,12 +117,11 @@ of_names (ListCall path) is = absurd is
 of_names Sync is = absurd is
 of_names Clean is = absurd is
 
-module _ {M : Type 0} (g : Ghosts (Device M)) (worker : ℕ) (call : Call) (u v : Core M) (files : ℕ) (is : IsOfNames call) (formed : g.formed u.device) (before : IsCore g u) (changes : Steps g u v) (are : files ≡ pages_of_files g v) (line : EndsLine worker u.flight v.flight) where
+module _ {D : Type 0} (g : Ghosts D) (worker : ℕ) (call : Call) (u v : Core D) (files : ℕ) (is : IsOfNames call) (before : IsCore g u) (changes : Steps g u v) (are : files ≡ pages_of_files g v) (line : EndsLine worker u.flight v.flight) where
   names_effect : (fault : Option FaultReply) → ((page_of_stamp : ℕ → Option PageOfStamp) (tree : Tree) → RunsAs (g.shape u.device) (running_of g u) page_of_stamp tree
       → RunsAs (g.shape v.device) (running_of g v) page_of_stamp (step_marked (g.shape u.device) tree (call, fault)).tree) → HasEffect g call fault u v
   names_effect fault makes = record {
     between = u;
-    formed = formed;
     core = before;
     most = 0;
     goes = goes_none g u before;
@@ -142,7 +136,6 @@ module _ {M : Type 0} (g : Ghosts (Device M)) (worker : ℕ) (call : Call) (u v 
         done_answers (step (g.shape u.device) tree call) (subst (λ (h : Shape). (step h tree call).reply ≡ Done) same (ends page_of_stamp tree runs.runs).0) (names_bytes (g.shape u.device) tree call is);
     cause = tt;
     synced = sym (ap (λ b. b && true) (of_names call is).0);
-    cleaned = λ at done. absurd ((of_names call is).1 at);
     line = line;
     files_are = are;
   }
@@ -156,7 +149,6 @@ module _ {M : Type 0} (g : Ghosts (Device M)) (worker : ℕ) (call : Call) (u v 
         refused_answers (step (g.shape u.device) tree call) tree refusal (subst (λ (h : Shape). step h tree call ≡ record { reply = No refusal; bytes = []; tree = tree }) same (ends page_of_stamp tree runs.runs).0);
     cause = tt;
     synced = sym (ap (λ b. b && true) (of_names call is).0);
-    cleaned = λ at done. absurd ((of_names call is).1 at);
     line = line;
     files_are = are;
   }
@@ -169,7 +161,6 @@ module _ {M : Type 0} (g : Ghosts (Device M)) (worker : ℕ) (call : Call) (u v 
     answers = λ tells page_of_stamp tree runs. (refl, refl);
     cause = within;
     synced = sym (and_false (is_sync_call call));
-    cleaned = λ at done. absurd (cc done);
     line = line;
     files_are = are;
   }
@@ -180,40 +171,38 @@ module _ {M : Type 0} (g : Ghosts (Device M)) (worker : ℕ) (call : Call) (u v 
 
 -- ---- a sync
 
-module _ {M : Type 0} (g : Ghosts (Device M)) (worker : ℕ) (n number : ℕ) (u v : Core M) (files : ℕ) (formed : g.formed u.device) (before : IsCore g u) (goes : Goes g n u v) (commits : CommitsAll g u v number) (law : PagesStayAsMany) (are : files ≡ pages_of_files g u)
+module _ {D : Type 0} (g : Ghosts D) (worker : ℕ) (n number : ℕ) (u v : Core D) (files : ℕ) (before : IsCore g u) (goes : Goes g n u v) (commits : CommitsAll g u v number) (law : PagesStayAsMany) (are : files ≡ pages_of_files g u)
     (line : EndsLine worker u.flight v.flight) where
   pub synced : AnswersCall g worker Sync u v (Synced v.committed v.moment) [] files
   synced = record {
-    effect = record { between = u; formed = formed; core = before; before = 0; goes = goes_none g u before; most = n; committing = goes; number = number; commits = commits; upto_is = refl; moment_is = refl };
+    effect = record { between = u; core = before; before = 0; goes = goes_none g u before; most = n; committing = goes; number = number; commits = commits; upto_is = refl; moment_is = refl };
     answers = λ tells page_of_stamp tree runs.
         subst (λ (x : Outcome). Answers x (Synced v.committed v.moment) []) (sym (sync_step (g.shape u.device) tree (room (g.shape u.device) (running_of g u) page_of_stamp tree runs.runs)))
         ((v.committed, v.moment, refl), refl);
     cause = tt;
     synced = refl;
-    cleaned = λ at done. absurd (cc at);
     line = line;
     files_are = are ∙ sym (goes_counted g n u v goes law);
   }
 
 -- ---- a call that writes pages
 
-module _ {M : Type 0} (g : Ghosts (Device M)) (worker : ℕ) (call : Call) (u v : Core M) (files : ℕ) (unsynced : is_sync_call call ≡ false) (uncleaned : call ≡ Clean → ⊥) (are : files ≡ pages_of_files g v) (line : EndsLine worker u.flight v.flight) where
+module _ {D : Type 0} (g : Ghosts D) (worker : ℕ) (call : Call) (u v : Core D) (files : ℕ) (unsynced : is_sync_call call ≡ false) (uncleaned : call ≡ Clean → ⊥) (are : files ≡ pages_of_files g v) (line : EndsLine worker u.flight v.flight) where
   pub written_done : (reply : Reply) (out : List ℕ) → fault_in reply ≡ None → is_synced reply ≡ false → HasEffect g call None u v → AnswersOn g call u reply out → AnswersCall g worker call u v reply out files
   written_done reply out none plain x answers = record {
     effect = plain_effect g call u v reply plain (subst (λ (f : Option FaultReply). HasEffect g call f u v) (sym none) x);
     answers = answers;
     cause = subst (λ (f : Option FaultReply). IfSome f (FaultWithin g.tells (counts_of g u.device) (counts_of g v.device))) (sym none) tt;
     synced = plain ∙ sym (ap (λ b. b && is_none (fault_in reply)) unsynced);
-    cleaned = λ at done. absurd (uncleaned at);
     line = line;
     files_are = are;
   }
 
   -- a refusal leaves the one tree as which the core runs
-  pub written_no : (refusal : Refusal) (n : ℕ) → g.formed v.device → IsCore g v → Goes g n u v → RunsAsSome g u
+  pub written_no : (refusal : Refusal) (n : ℕ) → IsCore g v → Goes g n u v → RunsAsSome g u
       → (g.tells → (page_of_stamp : ℕ → Option PageOfStamp) (tree : Tree) → CoreRuns g u page_of_stamp tree → step (g.shape u.device) tree call ≡ record { reply = No refusal; bytes = []; tree = tree }) → AnswersCall g worker call u v (No refusal) [] files
-  written_no refusal n formed core goes some is = written_done (No refusal) [] refl refl
-      (record { between = v; formed = formed; core = core; most = n; goes = goes; steps = steps_none g v; makes = stays })
+  written_no refusal n core goes some is = written_done (No refusal) [] refl refl
+      (record { between = v; core = core; most = n; goes = goes; steps = steps_none g v; makes = stays })
       (λ tells page_of_stamp tree runs. refused_answers (step (g.shape u.device) tree call) tree refusal (is tells page_of_stamp tree runs))
     where
       stays : MakesTree g v v (call, None)
@@ -241,8 +230,8 @@ writing_is Sync is = absurd is
 writing_is Clean is = absurd is
 
 -- done, as the call that writes tells it
-pub takes_effect : {M : Type 0} (g : Ghosts (Device M)) (most worker : ℕ) (call : Call) (u v : Core M) → TakesWithin g most worker call u v → HasEffect g call None u v
-takes_effect g most worker call u v x = record { between = x.between; formed = x.formed; core = x.core; most = most; goes = x.goes; steps = x.steps; makes = x.makes }
+pub takes_effect : {D : Type 0} (g : Ghosts D) (most worker : ℕ) (call : Call) (u v : Core D) → TakesWithin g most worker call u v → HasEffect g call None u v
+takes_effect g most worker call u v x = record { between = x.between; core = x.core; most = most; goes = x.goes; steps = x.steps; makes = x.makes }
 
 -- a call that is neither a write nor a fill
 pub not_writing : (call : Call) → ((path : List (List ℕ)) (from : ℕ) (bytes : List ℕ) → call ≡ Write path from bytes → ⊥) → ((path : List (List ℕ)) (from len byte : ℕ) → call ≡ Fill path from len byte → ⊥) → IsWriting call → ⊥

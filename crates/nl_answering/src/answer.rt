@@ -5,9 +5,7 @@ ghost use Rattle.nl_tree.specs.declared.reply.Reply.TheVariants.{Fault as FaultA
 ghost use Rattle.nl_tree.specs.declared.reply.FaultReply.TheVariants.{Eio};
 
 use nl_core::Core;
-use nl_device::Device;
-use nl_iface::Counts;
-use nl_nand::Nand;
+use nl_iface::MovingPages;
 use nl_tree::{FaultReply, Reply};
 
 /// What a file call answers, and how many pages files have then.
@@ -18,8 +16,8 @@ pub struct Answer {
 }
 
 // An operation of the medium failed: the number is the sum of both fault counts.
-pub(crate) fn failed<M: Nand>(core: &Core<M>) -> Reply
-    ensures { result ≡ FaultAnswer (Eio (fault_sum (counts_of ⟦<Device<M> as Counts>⟧ core.now.device))) }
+pub(crate) fn failed<D: MovingPages>(core: &Core<D>) -> Reply
+    ensures { result ≡ FaultAnswer (Eio (fault_sum (counts_of D.Counts core.now.device))) }
 {
     Reply::Fault(FaultReply::Eio(core.faults()))
 }

@@ -2,11 +2,13 @@ ghost use Rattle.std.specs.Prelude.{◌≡◌, ◌<◌, ◌≤◌, [], ℕ, leng
 ghost use Rattle.nl_core.specs.Core.{IsCore};
 ghost use Rattle.nl_core.specs.Programming.{HasLine};
 ghost use Rattle.nl_effect.specs.Lines.{worker_pages};
+ghost use Rattle.nl_effect.specs.Calls.{RunsAsSome};
 ghost use Rattle.nl_flight.specs.Flight.{begun, of_worker};
 ghost use Rattle.nl_tree.specs.Calls.{IsBounded};
-ghost use Rattle.nl_writing.specs.Calls.{AreStaged, RunsAsSome};
-ghost use Rattle.nl_writing.specs.Ranges.{IsWriting};
-ghost use Rattle.nl_answering.specs.Answering.{AnswersCall, MayTry, pages_of_files};
+ghost use Rattle.nl_tree.specs.declared.call.Call.TheVariants.{Clean};
+ghost use Rattle.nl_writing.specs.Calls.{AreStaged};
+ghost use Rattle.nl_written.specs.Ranges.{IsWriting};
+ghost use Rattle.nl_answering.specs.Answering.{AnswersCall, Cleans, MayTry, pages_of_files};
 
 use crate::answer::Answer;
 use crate::cleaning::clean;
@@ -16,19 +18,17 @@ use crate::syncing::sync;
 use crate::writing::{truncate, write};
 use nl_core::Core;
 use nl_core::laws::pages_stay_as_many;
-use nl_device::Device;
 use nl_field::PageBuf;
 use nl_held::laws::device_stands;
-use nl_iface::Counts;
-use nl_nand::Nand;
-use nl_tree::{Call, ReplyBuf};
+use nl_iface::MovingPages;
+use nl_tree::{Call, Reply, ReplyBuf};
 
 /// Does a file call, and tells its reply, with the bytes that belong to it in the buffer, and how many pages files have then. A call that changes
 /// something comes only where the volume can be written to. Pages that were staged for a call that writes are those of its range that are whole.
 /// While the medium tells its contents, the reply is that of the step of the tree as which the core runs, or a fault with its cause, which leaves
-/// the tree. The worker has no line afterwards.
-pub fn answer_call<M: Nand>(
-    core: &mut Core<M>,
+/// the tree. A call for cleaning that is done did a round of reclaiming. The worker has no line afterwards.
+pub fn answer_call<D: MovingPages>(
+    core: &mut Core<D>,
     worker: u8,
     line: u32,
     call: &Call,
@@ -36,21 +36,20 @@ pub fn answer_call<M: Nand>(
     out: &mut ReplyBuf,
     page: &mut PageBuf,
 ) -> Answer
-    requires formed { ⟦<Device<M> as Counts>⟧.formed core.old.device }
-    requires core { IsCore ⟦<Device<M> as Counts>⟧ core.old }
+    requires core { IsCore D.Counts core.old }
     requires known { worker < 8 }
     requires some { 0 < line }
     requires line { HasLine core.old.flight worker line }
-    requires may { MayTry ⟦<Device<M> as Counts>⟧ call.now core.old }
-    requires runs { RunsAsSome ⟦<Device<M> as Counts>⟧ core.old }
+    requires may { MayTry D.Counts call.now core.old }
+    requires runs { RunsAsSome D.Counts core.old }
     requires bounded { IsBounded call.now }
-    requires files { files ≡ pages_of_files ⟦<Device<M> as Counts>⟧ core.old }
-    requires staged { AreStaged ⟦<Device<M> as Counts>⟧ core.old call.now (worker_pages core.old worker) }
+    requires files { files ≡ pages_of_files D.Counts core.old }
+    requires staged { AreStaged D.Counts core.old call.now (worker_pages core.old worker) }
     requires others { (w : ℕ) → length (of_worker core.old.flight w).pages ≤ 16 }
     requires nothing { out.old ≡ [] }
-    ensures formed { ⟦<Device<M> as Counts>⟧.formed core.new.device }
-    ensures core { IsCore ⟦<Device<M> as Counts>⟧ core.new }
-    ensures answers { AnswersCall ⟦<Device<M> as Counts>⟧ worker call.now core.old core.new result.reply out.new result.files }
+    ensures core { IsCore D.Counts core.new }
+    ensures answers { AnswersCall D.Counts worker call.now core.old core.new result.reply out.new result.files }
+    ensures cleaned { call.now ≡ Clean → result.reply ≡ Reply.Done → Cleans D.Counts D.MovingPages.own core.old core.new }
 {
     match call {
         Call::Write(..) | Call::Fill(..) => write(core, worker, line, call, files, page),
@@ -63,8 +62,8 @@ pub fn answer_call<M: Nand>(
 }
 
 // The same of a call that writes no bytes, whose worker has no line.
-fn answer_other<M: Nand>(
-    core: &mut Core<M>,
+fn answer_other<D: MovingPages>(
+    core: &mut Core<D>,
     worker: u8,
     line: u32,
     call: &Call,
@@ -72,20 +71,19 @@ fn answer_other<M: Nand>(
     out: &mut ReplyBuf,
     page: &mut PageBuf,
 ) -> Answer
-    requires formed { ⟦<Device<M> as Counts>⟧.formed core.old.device }
-    requires core { IsCore ⟦<Device<M> as Counts>⟧ core.old }
+    requires core { IsCore D.Counts core.old }
     requires known { worker < 8 }
     requires some { 0 < line }
     requires idle { of_worker core.old.flight worker ≡ begun 0 }
-    requires may { MayTry ⟦<Device<M> as Counts>⟧ call.now core.old }
-    requires runs { RunsAsSome ⟦<Device<M> as Counts>⟧ core.old }
+    requires may { MayTry D.Counts call.now core.old }
+    requires runs { RunsAsSome D.Counts core.old }
     requires bounded { IsBounded call.now }
-    requires files { files ≡ pages_of_files ⟦<Device<M> as Counts>⟧ core.old }
+    requires files { files ≡ pages_of_files D.Counts core.old }
     requires nothing { out.old ≡ [] }
     requires other { IsWriting call.now → ⊥ }
-    ensures formed { ⟦<Device<M> as Counts>⟧.formed core.new.device }
-    ensures core { IsCore ⟦<Device<M> as Counts>⟧ core.new }
-    ensures answers { AnswersCall ⟦<Device<M> as Counts>⟧ worker call.now core.old core.new result.reply out.new result.files }
+    ensures core { IsCore D.Counts core.new }
+    ensures answers { AnswersCall D.Counts worker call.now core.old core.new result.reply out.new result.files }
+    ensures cleaned { call.now ≡ Clean → result.reply ≡ Reply.Done → Cleans D.Counts D.MovingPages.own core.old core.new }
 {
     match call {
         Call::Read(..) | Call::Stat(_) | Call::List(_) => look(

@@ -8,33 +8,29 @@ ghost use Rattle.nl_answering.specs.Answering.{AnswersCall, pages_of_files};
 use crate::answer::{Answer, failed};
 use nl_core::Core;
 use nl_core::laws::pages_stay_as_many;
-use nl_device::Device;
 use nl_field::PageBuf;
 use nl_held::laws::device_stands;
-use nl_iface::Counts;
+use nl_iface::MovingPages;
 use nl_looking::{Looked, look_call};
-use nl_nand::Nand;
 use nl_tree::{Call, FaultReply, Reply, ReplyBuf};
 
 // A call that only looks.
-pub(crate) fn look<M: Nand>(
-    core: &mut Core<M>,
+pub(crate) fn look<D: MovingPages>(
+    core: &mut Core<D>,
     worker: u8,
     call: &Call,
     files: u32,
     out: &mut ReplyBuf,
     page: &mut PageBuf,
 ) -> Answer
-    requires formed { ⟦<Device<M> as Counts>⟧.formed core.old.device }
-    requires core { IsCore ⟦<Device<M> as Counts>⟧ core.old }
+    requires core { IsCore D.Counts core.old }
     requires idle { of_worker core.old.flight worker ≡ begun 0 }
     requires looks { OnlyLooks call.now }
     requires bounded { IsBounded call.now }
-    requires files { files ≡ pages_of_files ⟦<Device<M> as Counts>⟧ core.old }
+    requires files { files ≡ pages_of_files D.Counts core.old }
     requires nothing { out.old ≡ [] }
-    ensures formed { ⟦<Device<M> as Counts>⟧.formed core.new.device }
-    ensures core { IsCore ⟦<Device<M> as Counts>⟧ core.new }
-    ensures answers { AnswersCall ⟦<Device<M> as Counts>⟧ worker call.now core.old core.new result.reply out.new result.files }
+    ensures core { IsCore D.Counts core.new }
+    ensures answers { AnswersCall D.Counts worker call.now core.old core.new result.reply out.new result.files }
 {
     pages_stay_as_many();
     device_stands(&core.device);

@@ -8,30 +8,31 @@ ghost use Rattle.nl_answering.specs.Answering.{AnswersCall, pages_of_files};
 use crate::answer::{Answer, failed};
 use nl_core::Core;
 use nl_core::laws::pages_stay_as_many;
-use nl_device::Device;
 use nl_held::laws::device_stands;
-use nl_iface::Counts;
+use nl_iface::MovingPages;
 use nl_journal::Committing;
 use nl_naming::{Naming, change_names};
-use nl_nand::Nand;
 use nl_tree::{Call, FaultReply, Reply};
 
 // How many pages may be dirty before a call makes up to nine more so.
 const FEW: u32 = 54;
 
 // A call that changes names, where nine more pages may become dirty, or else after a commit.
-pub(crate) fn name<M: Nand>(core: &mut Core<M>, worker: u8, call: &Call, files: u32) -> Answer
-    requires formed { ⟦<Device<M> as Counts>⟧.formed core.old.device }
-    requires core { IsCore ⟦<Device<M> as Counts>⟧ core.old }
+pub(crate) fn name<D: MovingPages>(
+    core: &mut Core<D>,
+    worker: u8,
+    call: &Call,
+    files: u32,
+) -> Answer
+    requires core { IsCore D.Counts core.old }
     requires writes { core.old.stopped ≡ 0 }
-    requires stamp { ⟦<Device<M> as Counts>⟧.next_stamp core.old.device + 512 ≤ 2 ^ 63 }
+    requires stamp { D.next_stamp core.old.device + 512 ≤ 2 ^ 63 }
     requires idle { of_worker core.old.flight worker ≡ begun 0 }
     requires names { HasNames call.now }
     requires of_names { IsOfNames call.now }
-    requires files { files ≡ pages_of_files ⟦<Device<M> as Counts>⟧ core.old }
-    ensures formed { ⟦<Device<M> as Counts>⟧.formed core.new.device }
-    ensures core { IsCore ⟦<Device<M> as Counts>⟧ core.new }
-    ensures answers { AnswersCall ⟦<Device<M> as Counts>⟧ worker call.now core.old core.new result.reply [] result.files }
+    requires files { files ≡ pages_of_files D.Counts core.old }
+    ensures core { IsCore D.Counts core.new }
+    ensures answers { AnswersCall D.Counts worker call.now core.old core.new result.reply [] result.files }
 {
     if core.meta.dirty() <= FEW {
         return name_now(core, worker, call, files);
@@ -54,17 +55,15 @@ pub(crate) fn name<M: Nand>(core: &mut Core<M>, worker: u8, call: &Call, files: 
 }
 
 // The same, where nine more pages may become dirty. Pages of a file that is gone await their free then.
-fn name_now<M: Nand>(core: &mut Core<M>, worker: u8, call: &Call, files: u32) -> Answer
-    requires formed { ⟦<Device<M> as Counts>⟧.formed core.old.device }
-    requires core { IsCore ⟦<Device<M> as Counts>⟧ core.old }
+fn name_now<D: MovingPages>(core: &mut Core<D>, worker: u8, call: &Call, files: u32) -> Answer
+    requires core { IsCore D.Counts core.old }
     requires room { HasRoomFor 9 core.old.meta }
     requires idle { of_worker core.old.flight worker ≡ begun 0 }
     requires names { HasNames call.now }
     requires of_names { IsOfNames call.now }
-    requires files { files ≡ pages_of_files ⟦<Device<M> as Counts>⟧ core.old }
-    ensures formed { ⟦<Device<M> as Counts>⟧.formed core.new.device }
-    ensures core { IsCore ⟦<Device<M> as Counts>⟧ core.new }
-    ensures answers { AnswersCall ⟦<Device<M> as Counts>⟧ worker call.now core.old core.new result.reply [] result.files }
+    requires files { files ≡ pages_of_files D.Counts core.old }
+    ensures core { IsCore D.Counts core.new }
+    ensures answers { AnswersCall D.Counts worker call.now core.old core.new result.reply [] result.files }
 {
     device_stands(&core.device);
     let before = core.freeing.len();

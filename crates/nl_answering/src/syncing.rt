@@ -7,24 +7,20 @@ ghost use Rattle.nl_answering.specs.Answering.{AnswersCall, pages_of_files};
 use crate::answer::{Answer, failed};
 use nl_core::Core;
 use nl_core::laws::pages_stay_as_many;
-use nl_device::Device;
 use nl_held::laws::device_stands;
-use nl_iface::Counts;
+use nl_iface::MovingPages;
 use nl_journal::Committing;
-use nl_nand::Nand;
 use nl_tree::{FaultReply, Reply};
 
 // A sync.
-pub(crate) fn sync<M: Nand>(core: &mut Core<M>, worker: u8, files: u32) -> Answer
-    requires formed { ⟦<Device<M> as Counts>⟧.formed core.old.device }
-    requires core { IsCore ⟦<Device<M> as Counts>⟧ core.old }
+pub(crate) fn sync<D: MovingPages>(core: &mut Core<D>, worker: u8, files: u32) -> Answer
+    requires core { IsCore D.Counts core.old }
     requires writes { core.old.stopped ≡ 0 }
-    requires stamp { ⟦<Device<M> as Counts>⟧.next_stamp core.old.device + 512 ≤ 2 ^ 63 }
+    requires stamp { D.next_stamp core.old.device + 512 ≤ 2 ^ 63 }
     requires idle { of_worker core.old.flight worker ≡ begun 0 }
-    requires files { files ≡ pages_of_files ⟦<Device<M> as Counts>⟧ core.old }
-    ensures formed { ⟦<Device<M> as Counts>⟧.formed core.new.device }
-    ensures core { IsCore ⟦<Device<M> as Counts>⟧ core.new }
-    ensures answers { AnswersCall ⟦<Device<M> as Counts>⟧ worker Sync core.old core.new result.reply [] result.files }
+    requires files { files ≡ pages_of_files D.Counts core.old }
+    ensures core { IsCore D.Counts core.new }
+    ensures answers { AnswersCall D.Counts worker Sync core.old core.new result.reply [] result.files }
 {
     pages_stay_as_many();
     device_stands(&core.device);

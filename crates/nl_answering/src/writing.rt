@@ -4,40 +4,39 @@ ghost use Rattle.nl_core.specs.Goes.{Goes};
 ghost use Rattle.nl_tree.specs.Calls.{IsBounded};
 ghost use Rattle.nl_tree.specs.Causes.{fault_sum};
 ghost use Rattle.nl_tree.specs.declared.call.Call.TheVariants.{Truncate};
-ghost use Rattle.nl_writing.specs.Calls.{CanWriteLine, RunsAsSome};
-ghost use Rattle.nl_writing.specs.Ranges.{IsWriting};
+ghost use Rattle.nl_effect.specs.Calls.{RunsAsSome};
+ghost use Rattle.nl_writing.specs.Calls.{CanWriteLine};
+ghost use Rattle.nl_written.specs.Ranges.{IsWriting};
 ghost use Rattle.nl_answering.specs.Answering.{AnswersCall, EndsLine, counts_of, pages_of_files};
 
 use crate::answer::{Answer, failed};
 use nl_core::Core;
 use nl_core::laws::pages_stay_as_many;
-use nl_device::Device;
+use nl_effect::Written;
 use nl_field::PageBuf;
 use nl_held::laws::device_stands;
-use nl_iface::Counts;
-use nl_nand::Nand;
+use nl_iface::MovingPages;
 use nl_tree::{Call, FaultReply, Path, Reply};
 use nl_truncating::truncate_call;
-use nl_writing::{Written, length_of, write_call};
+use nl_writing::write_call;
+use nl_written::length_of;
 
 // A write or a fill.
-pub(crate) fn write<M: Nand>(
-    core: &mut Core<M>,
+pub(crate) fn write<D: MovingPages>(
+    core: &mut Core<D>,
     worker: u8,
     line: u32,
     call: &Call,
     files: u32,
     page: &mut PageBuf,
 ) -> Answer
-    requires formed { ⟦<Device<M> as Counts>⟧.formed core.old.device }
-    requires core { IsCore ⟦<Device<M> as Counts>⟧ core.old }
-    requires stamp { ⟦<Device<M> as Counts>⟧.next_stamp core.old.device < 2 ^ 62 }
-    requires can { CanWriteLine ⟦<Device<M> as Counts>⟧ core.old worker line call.now files }
+    requires core { IsCore D.Counts core.old }
+    requires stamp { D.next_stamp core.old.device < 2 ^ 62 }
+    requires can { CanWriteLine D.Counts core.old worker line call.now files }
     requires writing { IsWriting call.now }
     requires bounded { IsBounded call.now }
-    ensures formed { ⟦<Device<M> as Counts>⟧.formed core.new.device }
-    ensures core { IsCore ⟦<Device<M> as Counts>⟧ core.new }
-    ensures answers { AnswersCall ⟦<Device<M> as Counts>⟧ worker call.now core.old core.new result.reply [] result.files }
+    ensures core { IsCore D.Counts core.new }
+    ensures answers { AnswersCall D.Counts worker call.now core.old core.new result.reply [] result.files }
 {
     pages_stay_as_many();
     let written = write_call(core, worker, line, call, files, page);
@@ -60,8 +59,8 @@ pub(crate) fn write<M: Nand>(
 }
 
 // A truncate.
-pub(crate) fn truncate<M: Nand>(
-    core: &mut Core<M>,
+pub(crate) fn truncate<D: MovingPages>(
+    core: &mut Core<D>,
     worker: u8,
     line: u32,
     path: &Path,
@@ -69,17 +68,15 @@ pub(crate) fn truncate<M: Nand>(
     files: u32,
     page: &mut PageBuf,
 ) -> Answer
-    requires formed { ⟦<Device<M> as Counts>⟧.formed core.old.device }
-    requires core { IsCore ⟦<Device<M> as Counts>⟧ core.old }
+    requires core { IsCore D.Counts core.old }
     requires writes { core.old.stopped ≡ 0 }
-    requires stamp { ⟦<Device<M> as Counts>⟧.next_stamp core.old.device < 2 ^ 62 }
-    requires runs { RunsAsSome ⟦<Device<M> as Counts>⟧ core.old }
+    requires stamp { D.next_stamp core.old.device < 2 ^ 62 }
+    requires runs { RunsAsSome D.Counts core.old }
     requires known { worker < 8 }
     requires some { 0 < line }
-    requires files { files ≡ pages_of_files ⟦<Device<M> as Counts>⟧ core.old }
-    ensures formed { ⟦<Device<M> as Counts>⟧.formed core.new.device }
-    ensures core { IsCore ⟦<Device<M> as Counts>⟧ core.new }
-    ensures answers { AnswersCall ⟦<Device<M> as Counts>⟧ worker (Truncate path.now size) core.old core.new result.reply [] result.files }
+    requires files { files ≡ pages_of_files D.Counts core.old }
+    ensures core { IsCore D.Counts core.new }
+    ensures answers { AnswersCall D.Counts worker (Truncate path.now size) core.old core.new result.reply [] result.files }
 {
     pages_stay_as_many();
     let written = truncate_call(core, worker, line, path, size, files, page);
@@ -102,15 +99,13 @@ pub(crate) fn truncate<M: Nand>(
 }
 
 // A call that was not done: pages in flight of the worker are freed.
-fn undone<M: Nand>(core: &mut Core<M>, worker: u8, reply: Reply, files: u32) -> Answer
-    requires formed { ⟦<Device<M> as Counts>⟧.formed core.old.device }
-    requires core { IsCore ⟦<Device<M> as Counts>⟧ core.old }
+fn undone<D: MovingPages>(core: &mut Core<D>, worker: u8, reply: Reply, files: u32) -> Answer
+    requires core { IsCore D.Counts core.old }
     requires known { worker < 8 }
-    ensures formed { ⟦<Device<M> as Counts>⟧.formed core.new.device }
-    ensures core { IsCore ⟦<Device<M> as Counts>⟧ core.new }
-    ensures goes { Goes ⟦<Device<M> as Counts>⟧ 0 core.old core.new }
+    ensures core { IsCore D.Counts core.new }
+    ensures goes { Goes D.Counts 0 core.old core.new }
     ensures line { EndsLine worker core.old.flight core.new.flight }
-    ensures faults { fault_sum (counts_of ⟦<Device<M> as Counts>⟧ core.new.device) ≡ fault_sum (counts_of ⟦<Device<M> as Counts>⟧ core.old.device) }
+    ensures faults { fault_sum (counts_of D.Counts core.new.device) ≡ fault_sum (counts_of D.Counts core.old.device) }
     ensures answer { (result.reply ≡ reply) × (result.files ≡ files) }
 {
     core.drop_line(worker);

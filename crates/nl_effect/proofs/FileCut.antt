@@ -6,7 +6,7 @@ use Rattle.std.specs.Int.{div_ceil}
 use Rattle.std.specs.List.{range_with_len}
 use Rattle.std.specs.Prelude.{IfSome, IsTrue, if◌then◌else◌, slice_get}
 use Rattle.nl_field.specs.Bytes.{all_zero, zeros}
-use Rattle.nl_field.specs.ContentLaws.{cut_page}
+use Rattle.nl_content.specs.ContentLaws.{cut_page}
 use Rattle.nl_field.specs.FileContent.{FileContent, cut_to, page_bytes}
 use Rattle.nl_field.specs.Graph.{Graph}
 use Rattle.nl_field.specs.PointerItems.{PointerItems}
@@ -16,10 +16,9 @@ use Rattle.nl_field.specs.declared.inode.InodeRec.{InodeRec}
 use Rattle.nl_field.specs.declared.pointer.Pointer.{Pointer}
 use Rattle.nl_field.specs.declared.pointer.Tag.{Tag}
 use Rattle.nl_field.specs.declared.shape.Shape.{Shape}
-use Rattle.nl_field.proofs.ContentBytes.{length-cut_page}
+use Rattle.nl_content.proofs.ContentBytes.{length-cut_page}
 use Rattle.nl_tree.specs.Represents.{node_reached}
 use Rattle.nl_tree.specs.Tree.{Tree, content_of, node_at, with_content}
-use Rattle.nl_device.specs.declared.device.Device.{Device}
 use Rattle.nl_flight.specs.Flight.{IsFlight, begun, carried, with_line}
 use Rattle.nl_flight.specs.declared.page.FlightPage.{FlightPage}
 use Rattle.nl_iface.specs.Calls.{OnlyReads, StoresPages}
@@ -57,22 +56,22 @@ use Rattle.nl_held.specs.Trees.{RunsAs}
 use Rattle.nl_held.proofs.FileLists.{all_of, behind_is, file_there, node_changes, plain_there, split, there}
 use Rattle.nl_core.specs.Core.{IsCore, running_of}
 use Rattle.nl_core.specs.declared.state.Core.{Core}
-use Rattle.nl_effect.specs.Cutting.{CutsTo}
-use Rattle.nl_effect.specs.FileRuns.{EndsClean, EndsWith, IsPageAt}
-use Rattle.nl_effect.specs.FileTrees.{HasPages, held_content}
-use Rattle.nl_effect.specs.Fits.{IsFileOf}
-use Rattle.nl_effect.specs.Holders.{HoldsOn, LosesGiven, cut_off}
+use Rattle.nl_filing.specs.Cutting.{CutsTo}
+use Rattle.nl_filing.specs.FileRuns.{EndsClean, EndsWith, IsPageAt}
+use Rattle.nl_filing.specs.FileTrees.{HasPages, held_content}
+use Rattle.nl_filing.specs.Fits.{IsFileOf}
+use Rattle.nl_filing.specs.Holders.{HoldsOn, LosesGiven, cut_off}
+use Rattle.nl_filing.specs.Landing.{landed}
+use Rattle.nl_filing.proofs.CutContents.{Replaces, content_cut, cut_behind}
+use Rattle.nl_filing.proofs.FileRunning.{cut_has_pages, file_has_pages, file_runs_on, held_lead_once}
+use Rattle.nl_filing.proofs.FileTrees.{file_at}
+use Rattle.nl_filing.proofs.Fits.{is_file_at, reads_run, stands}
+use Rattle.nl_filing.proofs.Holders.{cutting_holds, stamp_some}
+use Rattle.nl_filing.proofs.Landing.{pages_land}
 use Rattle.nl_effect.specs.Installing.{IsAtHand, with_landed}
-use Rattle.nl_effect.specs.Landing.{landed}
 use Rattle.nl_effect.specs.Lines.{worker_pages}
 use Rattle.nl_effect.specs.Steps.{IsHeldAfter, Steps}
 use Rattle.nl_effect.specs.Truncating.{AreCut, CutsFileTo, HasPartial, IsPartialPage}
-use Rattle.nl_effect.proofs.CutContents.{Replaces, content_cut, cut_behind}
-use Rattle.nl_effect.proofs.FileRunning.{cut_has_pages, file_has_pages, file_runs_on, held_lead_once}
-use Rattle.nl_effect.proofs.FileTrees.{file_at}
-use Rattle.nl_effect.proofs.Fits.{is_file_at, reads_run, stands}
-use Rattle.nl_effect.proofs.Holders.{cutting_holds, stamp_some}
-use Rattle.nl_effect.proofs.Landing.{pages_land}
 use Rattle.nl_effect.proofs.LineEnds.{flight_step, other_lines}
 use Rattle.nl_effect.proofs.Stepping.{core_read, read_alike, read_on, stepped_core, steps_then}
 
@@ -92,11 +91,11 @@ begins_none pages rec index to some b =
     both_ways (is_none_pointer (pointer_at pages rec index)) some (ap is_none_pointer none)
 
 -- the pointer of the page that a worker has in flight for a cut, none where it has none
-abbrev pub PartialIs : {M : Type 0} → Ghosts (Device M) → Core M → ℕ → ℕ → ℕ → InodeRec → Option Pointer → Type 0
+abbrev pub PartialIs : {D : Type 0} → Ghosts D → Core D → ℕ → ℕ → ℕ → InodeRec → Option Pointer → Type 0
 PartialIs g v worker n size was None = (worker_pages v worker ≡ []) × EndsClean (running_of g v) was size
 PartialIs g v worker n size was (Some to) = (page : FlightPage) × (worker_pages v worker ≡ page ∷ []) × IsPartialPage g v n size was page × (page.at ≡ to)
 
-pub partial_is : {M : Type 0} (g : Ghosts (Device M)) (v : Core M) (worker n size : ℕ) (was : InodeRec) (partial : Option Pointer) → HasPartial g v worker n size was → partial ≡ option_map (λ page. page.at) (slice_get (worker_pages v worker) 0)
+pub partial_is : {D : Type 0} (g : Ghosts D) (v : Core D) (worker n size : ℕ) (was : InodeRec) (partial : Option Pointer) → HasPartial g v worker n size was → partial ≡ option_map (λ page. page.at) (slice_get (worker_pages v worker) 0)
     → PartialIs g v worker n size was partial
 partial_is g v worker n size was partial (inl clean) is =
     subst (λ (o : Option Pointer). PartialIs g v worker n size was o) (sym (is ∙ ap (λ (pages : List FlightPage). option_map (λ page. page.at) (slice_get pages 0)) clean.0)) clean
@@ -109,7 +108,7 @@ fewer_given : (tag : Tag) (partial : Option Pointer) (flight later : List (Tag �
 fewer_given tag None flight later same x has = subst (λ (xs : List (Tag × Pointer)). Has xs x) same has
 fewer_given tag (Some to) flight later lost x has = lost.only x has
 
-module _ {M : Type 0} (g : Ghosts (Device M)) (v : Core M) (worker n size : ℕ) (was : InodeRec) (lines : IsFlight v.flight) (known : worker < 8) where
+module _ {D : Type 0} (g : Ghosts D) (v : Core D) (worker n size : ℕ) (was : InodeRec) (lines : IsFlight v.flight) (known : worker < 8) where
   pub partial_right : (o : Option Pointer) → PartialIs g v worker n size was o → IfSome o (λ to. (size % 4096 ≢ 0) × (is_none_pointer to ≡ false))
   partial_right None p = tt
   partial_right (Some to) p = (p.2.within, subst (λ (q : Pointer). is_none_pointer q ≡ false) p.3 (stamp_some p.0.at p.2.of_file.spelled))
@@ -149,18 +148,18 @@ module _ {M : Type 0} (g : Ghosts (Device M)) (v : Core M) (worker n size : ℕ)
       let all = ap length (pages_land v.flight worker lines known).first in
       omega (arith, lost, all)
 
-module _ {M : Type 0} (g : Ghosts (Device M)) (v : Core M) (d : Device M) (half : Pages) (n size : ℕ) (was : InodeRec) (core : IsCore g v) (hand : IsAtHand g v n (size / 4096) was)
-    (volume : IsVolumeShape (g.shape v.device)) (volume_d : IsVolumeShape (g.shape d)) (stores : g.tells → StoresPages g d) (reads : OnlyReads g v.device d) (keeps : KeepsRunning g v.device v.meta half) (own : LoadsOwn was v.meta half)
+module _ {D : Type 0} (g : Ghosts D) (v : Core D) (d : D) (half : Pages) (n size : ℕ) (was : InodeRec) (core : IsCore g v) (hand : IsAtHand g v n (size / 4096) was)
+    (volume : IsVolumeShape (g.shape v.device)) (volume_d : IsVolumeShape (g.shape d)) (formed : g.formed d) (stores : g.tells → StoresPages g d) (reads : OnlyReads g v.device d) (keeps : KeepsRunning g v.device v.meta half) (own : LoadsOwn was v.meta half)
     (faults : g.read_faults v.device ≤ g.read_faults d) where
   -- the core of which pages were read
-  abbrev pub read : Core M
+  abbrev pub read : Core D
   read = record v { device = d; meta = half }
 
   pub runs : RunsOn g v.device v.meta d half
   runs = reads_run g v.device d v.meta half n was core.journaled.runs hand.file reads keeps own
 
   pub read_core : IsCore g read
-  read_core = core_read g v d half volume stores core runs faults
+  read_core = core_read g v d half volume formed stores core runs faults
 
   -- the file as it was read
   pub file_read : IsFileOf g d half n was
@@ -195,7 +194,7 @@ module _ {M : Type 0} (g : Ghosts (Device M)) (v : Core M) (d : Device M) (half 
         few = read_core.space.few;
         flight = read_core.flight;
         fewer = λ x has. has;
-      }) stores
+      }) formed stores
 
   -- ---- it is cut
 
@@ -243,7 +242,7 @@ module _ {M : Type 0} (g : Ghosts (Device M)) (v : Core M) (d : Device M) (half 
     module _ (is : InodeRec) (m : Pages) (s : Spaces) (f : PointerItems) (cuts : CutsTo n size partial was is half m v.nodes s)
         (freed : f.items ≡ (v.freeing.items ++ pointers_from (running_of g v) was (div_ceil size 4096)) ++ (if is_some partial then as_list (pointer_at (running_on g d half) was (size / 4096)) else []))
         (left : length v.freeing.items + v.freeing.room ≤ length f.items + f.room) where
-      abbrev pub w : Core M
+      abbrev pub w : Core D
       w = record v { device = d; meta = m; nodes = s; freeing = f }
 
       on : CutsOn g d n size partial was is half cuts.between m v.nodes s
@@ -298,7 +297,7 @@ module _ {M : Type 0} (g : Ghosts (Device M)) (v : Core M) (d : Device M) (half 
       }
 
       pub cut_core : IsCore g (with_landed w worker (length (worker_pages v worker)))
-      cut_core = stepped_core g (with_landed read worker 0) (with_landed w worker (length (worker_pages v worker))) begun_read volume_d step held stores
+      cut_core = stepped_core g (with_landed read worker 0) (with_landed w worker (length (worker_pages v worker))) begun_read volume_d step held formed stores
 
       pub file_cut : IsFileOf g d m n is
       file_cut = record {
@@ -332,7 +331,7 @@ module _ {M : Type 0} (g : Ghosts (Device M)) (v : Core M) (d : Device M) (half 
       module _ (page_of_stamp : ℕ → Option PageOfStamp) (tree : Tree) (path : List (List ℕ)) (stood : RunsAs (g.shape v.device) (running_of g v) page_of_stamp tree)
           (leads : node_reached (graph_of (g.shape v.device) (running_of g v)) 0 path ≡ Some n) (shows : AreCut page_of_stamp (content_of (node_at tree path)) size (worker_pages v worker)) where
         stood_read : RunsAs (g.shape d) before page_of_stamp tree
-        stood_read = (read_alike g v read volume stores (read_on g v d half runs faults)).trees page_of_stamp tree stood
+        stood_read = (read_alike g v read volume formed stores (read_on g v d half runs faults)).trees page_of_stamp tree stood
 
         leads_read : node_reached (graph_of (g.shape d) before) 0 path ≡ Some n
         leads_read = ap (λ (x : Graph). node_reached x 0 path) same_graph ∙ leads
@@ -418,8 +417,8 @@ module _ {M : Type 0} (g : Ghosts (Device M)) (v : Core M) (d : Device M) (half 
             runs_cut
 
       -- the worker has no line by now
-      pub file_is_cut : (end : Core M) → end ≡ record w { flight = with_line v.flight worker (begun 0) } → CutsFileTo g worker n size was is v end
-      file_is_cut end is_end = subst (λ (x : Core M). CutsFileTo g worker n size was is v x) (sym is_end) (record {
+      pub file_is_cut : (end : Core D) → end ≡ record w { flight = with_line v.flight worker (begun 0) } → CutsFileTo g worker n size was is v end
+      file_is_cut end is_end = subst (λ (x : Core D). CutsFileTo g worker n size was is v x) (sym is_end) (record {
         others = refl;
         steps = steps_then g v w (record w { flight = with_line v.flight worker (begun 0) }) whole_step (flight_step g w (with_line v.flight worker (begun 0)));
         sized = cuts.cuts.sized;

@@ -13,7 +13,6 @@ use Rattle.nl_field.specs.Pointers.{is_none_pointer}
 use Rattle.nl_field.specs.declared.inode.InodeRec.{InodeRec}
 use Rattle.nl_field.specs.declared.pointer.Pointer.{Pointer}
 use Rattle.nl_field.specs.declared.pointer.Tag.{Tag}
-use Rattle.nl_device.specs.declared.device.Device.{Device}
 use Rattle.nl_flight.specs.Flight.{IsFlight, carried, of_worker}
 use Rattle.nl_flight.specs.declared.page.FlightPage.{FlightPage}
 use Rattle.nl_holders.specs.Lists.{ListLoses}
@@ -43,15 +42,15 @@ use Rattle.nl_commit.specs.Holding.{running_holders}
 use Rattle.nl_held.specs.Held.{IsHeldVolume}
 use Rattle.nl_core.specs.Core.{IsCore, names_of, running_of}
 use Rattle.nl_core.specs.declared.state.Core.{Core}
-use Rattle.nl_effect.specs.Fits.{IsFileOf}
-use Rattle.nl_effect.specs.Holders.{HoldsOn}
+use Rattle.nl_filing.specs.Fits.{IsFileOf}
+use Rattle.nl_filing.specs.Holders.{HoldsOn}
+use Rattle.nl_filing.specs.Landing.{landed}
+use Rattle.nl_filing.specs.Taking.{TakesPage}
+use Rattle.nl_filing.proofs.Fits.{free_file_pages, stands}
+use Rattle.nl_filing.proofs.Holders.{installing_holds}
+use Rattle.nl_filing.proofs.Landing.{pages_land}
 use Rattle.nl_effect.specs.Installing.{HasRoom, InstallsPage, IsAtHand, IsPageOfFile, with_landed}
-use Rattle.nl_effect.specs.Landing.{landed}
 use Rattle.nl_effect.specs.Steps.{IsHeldAfter, Steps}
-use Rattle.nl_effect.specs.Taking.{TakesPage}
-use Rattle.nl_effect.proofs.Fits.{free_file_pages, stands}
-use Rattle.nl_effect.proofs.Holders.{installing_holds}
-use Rattle.nl_effect.proofs.Landing.{pages_land}
 use Rattle.nl_effect.proofs.Stepping.{stepped_core}
 
 -- what a pointer in the place of another leaves of the free addresses
@@ -61,7 +60,7 @@ same_counts (Some a) s t taken = (ap length taken.1.nodes, taken.1.pool.count)
 
 -- ---- how many live pages there are
 
-module _ {M : Type 0} (g : Ghosts (Device M)) (v : Core M) (core : IsCore g v) (volume : IsVolumeShape (g.shape v.device)) (names : IsNames (g.shape v.device) (g.next_stamp v.device) (names_of g v)) where
+module _ {D : Type 0} (g : Ghosts D) (v : Core D) (core : IsCore g v) (volume : IsVolumeShape (g.shape v.device)) (names : IsNames (g.shape v.device) (g.next_stamp v.device) (names_of g v)) where
   live_most : (names_of g v).space.live ≤ (g.shape v.device).pblocks * (g.shape v.device).pages
   live_most =
       let counted = names.counted in
@@ -94,7 +93,7 @@ module _ {M : Type 0} (g : Ghosts (Device M)) (v : Core M) (core : IsCore g v) (
 
 -- ---- a page in flight is installed
 
-module _ {M : Type 0} (g : Ghosts (Device M)) (v : Core M) (worker k n size : ℕ) (page : FlightPage) (was is : InodeRec) (m : Pages) (s : Spaces) (f : PointerItems) (core : IsCore g (with_landed v worker k)) (lines : IsFlight v.flight)
+module _ {D : Type 0} (g : Ghosts D) (v : Core D) (worker k n size : ℕ) (page : FlightPage) (was is : InodeRec) (m : Pages) (s : Spaces) (f : PointerItems) (core : IsCore g (with_landed v worker k)) (lines : IsFlight v.flight)
     (known : worker < 8) (at : slice_get (of_worker v.flight worker).pages k ≡ Some page) (hand : IsAtHand g v n page.index was) (of : IsPageOfFile g v n was page) (room : HasRoom g v n was page) (volume : IsVolumeShape (g.shape v.device)) where
   -- what is in flight before, and after
   abbrev flight : List (Tag × Pointer)
@@ -125,7 +124,7 @@ module _ {M : Type 0} (g : Ghosts (Device M)) (v : Core M) (worker k n size : �
 
   module _ (taken : TakesPage n page.index page.at size was is v.meta m v.nodes s) (freed : f.items ≡ v.freeing.items ++ as_list (pointer_at (running_of g v) was page.index))
       (left : length v.freeing.items + v.freeing.room ≤ length f.items + f.room) (stores : g.tells → StoresPages g v.device) where
-    abbrev w : Core M
+    abbrev w : Core D
     w = record v { meta = m; nodes = s; freeing = f }
 
     abbrev put : InodeRec
@@ -206,7 +205,7 @@ module _ {M : Type 0} (g : Ghosts (Device M)) (v : Core M) (worker k n size : �
     }
 
     pub core_after : IsCore g (with_landed w worker (k + 1))
-    core_after = stepped_core g (with_landed v worker k) (with_landed w worker (k + 1)) core volume step_landed held stores
+    core_after = stepped_core g (with_landed v worker k) (with_landed w worker (k + 1)) core volume step_landed held core.formed stores
 
     -- ---- the file afterwards
 

@@ -2,7 +2,6 @@
 use Rattle.std.proofs.Common.{◌≡◌, ℕ, ◌<◌, List, length, refl, sym, ap, subst, arith}
 use Rattle.nl_field.specs.declared.pointer.Pointer.{Pointer}
 use Rattle.nl_field.specs.declared.pointer.Tag.{Tag}
-use Rattle.nl_device.specs.declared.device.Device.{Device}
 use Rattle.nl_flight.specs.Flight.{InFlight, IsFlight, begun, carried, of_worker, with_line}
 use Rattle.nl_iface.specs.Calls.{StoresPages}
 use Rattle.nl_iface.specs.Device.{IsVolumeShape}
@@ -16,14 +15,14 @@ use Rattle.nl_core.specs.declared.state.Core.{Core}
 use Rattle.nl_core.proofs.Lines.{none_is_flight}
 use Rattle.nl_effect.specs.Installing.{with_landed}
 use Rattle.nl_effect.specs.Steps.{IsHeldAfter, Steps}
-use Rattle.nl_effect.proofs.Landing.{pages_land}
+use Rattle.nl_filing.proofs.Landing.{pages_land}
 use Rattle.nl_effect.proofs.Stepping.{stepped_core}
 
 -- other lines with the same pages
-pub flight_step : {M : Type 0} (g : Ghosts (Device M)) (v : Core M) (flight : List InFlight) → Steps g v (record v { flight = flight })
+pub flight_step : {D : Type 0} (g : Ghosts D) (v : Core D) (flight : List InFlight) → Steps g v (record v { flight = flight })
 flight_step g v flight = record { reads = reads-none g v.device; read_faults = omega arith; pages = none v.meta; room = omega arith; others = refl }
 
-module _ {M : Type 0} (g : Ghosts (Device M)) (v : Core M) (flight : List InFlight) (core : IsCore g v) (volume : IsVolumeShape (g.shape v.device)) (stores : g.tells → StoresPages g v.device) (lines : IsFlight flight)
+module _ {D : Type 0} (g : Ghosts D) (v : Core D) (flight : List InFlight) (core : IsCore g v) (volume : IsVolumeShape (g.shape v.device)) (stores : g.tells → StoresPages g v.device) (lines : IsFlight flight)
     (same : carried flight ≡ carried v.flight) where
   held : IsHeldAfter g v (record v { flight = flight })
   held = record {
@@ -37,9 +36,9 @@ module _ {M : Type 0} (g : Ghosts (Device M)) (v : Core M) (flight : List InFlig
   }
 
   pub other_lines : IsCore g (record v { flight = flight })
-  other_lines = stepped_core g v (record v { flight = flight }) core volume (flight_step g v flight) held stores
+  other_lines = stepped_core g v (record v { flight = flight }) core volume (flight_step g v flight) held core.formed stores
 
-pub line_ended : {M : Type 0} (g : Ghosts (Device M)) (v : Core M) (worker : ℕ) → IsCore g (with_landed v worker (length (of_worker v.flight worker).pages)) → IsVolumeShape (g.shape v.device) → (g.tells → StoresPages g v.device)
+pub line_ended : {D : Type 0} (g : Ghosts D) (v : Core D) (worker : ℕ) → IsCore g (with_landed v worker (length (of_worker v.flight worker).pages)) → IsVolumeShape (g.shape v.device) → (g.tells → StoresPages g v.device)
     → IsFlight v.flight → worker < 8 → IsCore g (record v { flight = with_line v.flight worker (begun 0) })
 line_ended g v worker core volume stores lines known =
     other_lines g (with_landed v worker (length (of_worker v.flight worker).pages)) (with_line v.flight worker (begun 0)) core volume stores (none_is_flight v.flight worker lines known) (sym (pages_land v.flight worker lines known).last)

@@ -2,7 +2,7 @@
 use Rattle.std.proofs.Common.{◌≡◌, ◌≢◌, ◌⊎◌, inl, inr, ℕ, suc, ◌+◌, ◌<◌, ◌≤◌, Bool, true, false, List, [], ◌∷◌, length, fold, take, drop, get_or, Option, Some, IsSome, refl, sym, ap, subst, ◌∙◌, arith}
 use Rattle.std.proofs.Math.Seq.{drop-cons}
 use Rattle.std.proofs.lemmas.Bool.{both_ways, cases_eq, cond-false, cond-true}
-use Rattle.std.proofs.lemmas.List.Sums.{fold_more, get_or-le-sum_by, sum_by-cons}
+use Rattle.std.proofs.lemmas.List.Sums.{fold_more, sum_by-cons}
 use Rattle.std.proofs.lemmas.Option.{get_or_from_slice_get, slice_get-get_or, slice_get_within}
 use Rattle.std.specs.FinMap.{put}
 use Rattle.std.specs.Ordering.{nat_cmp}
@@ -13,8 +13,7 @@ use Rattle.nl_field.specs.declared.inode.InodeRec.{InodeRec}
 use Rattle.nl_field.specs.declared.pointer.Pointer.{Pointer}
 use Rattle.nl_field.specs.declared.pointer.Tag.{Tag}
 use Rattle.nl_field.specs.declared.shape.Shape.{Shape}
-use Rattle.nl_device.specs.declared.device.Device.{Device}
-use Rattle.nl_flight.specs.Flight.{InFlight, IsFlight, begun, carried, extra, of_worker}
+use Rattle.nl_flight.specs.Flight.{IsFlight, carried}
 use Rattle.nl_flight.specs.declared.page.FlightPage.{FlightPage}
 use Rattle.nl_iface.specs.Calls.{StoresPages}
 use Rattle.nl_iface.specs.Device.{IsVolumeShape}
@@ -36,27 +35,28 @@ use Rattle.nl_files.specs.Standing.{tag_of}
 use Rattle.nl_commit.specs.Holding.{running_holders}
 use Rattle.nl_core.specs.Core.{IsCore, running_of}
 use Rattle.nl_core.specs.declared.state.Core.{Core}
-use Rattle.nl_effect.specs.FileRuns.{IsPageAt}
-use Rattle.nl_effect.specs.FileTrees.{HasPages}
-use Rattle.nl_effect.specs.Fits.{IsFileOf}
+use Rattle.nl_filing.specs.FileRuns.{IsPageAt}
+use Rattle.nl_filing.specs.FileTrees.{HasPages}
+use Rattle.nl_filing.specs.Fits.{IsFileOf}
+use Rattle.nl_filing.specs.Landing.{landed}
+use Rattle.nl_filing.specs.LineNeeds.{free_addresses, new_pointers, new_ranges}
+use Rattle.nl_filing.specs.LinePages.{AreThere, indexes_of}
+use Rattle.nl_filing.proofs.Counts.{bit, no_more}
+use Rattle.nl_filing.proofs.FileRunning.{file_has_pages, held_lead_once, installed_has_pages}
+use Rattle.nl_filing.proofs.FilesRight.{stays_right}
+use Rattle.nl_filing.proofs.Fits.{is_file_at, stands}
+use Rattle.nl_filing.proofs.Holders.{changed_size, stamp_some}
+use Rattle.nl_filing.proofs.Landing.{pages_land}
+use Rattle.nl_filing.proofs.LineContents.{page_put}
+use Rattle.nl_filing.proofs.LineRoom.{Lies, few_reserved, has_free, lies, pool_on, reserved, reserved_falls, room_to_take}
 use Rattle.nl_effect.specs.Installing.{HasRoom, InstallsPage, IsAtHand, IsPageOfFile, page_in, with_landed}
-use Rattle.nl_effect.specs.Landing.{landed}
-use Rattle.nl_effect.specs.LineNeeds.{free_addresses, new_pointers, new_ranges}
-use Rattle.nl_effect.specs.Lines.{AreThere, HasRoomForLine, IsLineOfFile, IsPageOfLine, indexes_of, worker_pages}
+use Rattle.nl_effect.specs.Lines.{HasRoomForLine, IsLineOfFile, IsPageOfLine, worker_pages}
 use Rattle.nl_effect.specs.Steps.{Steps}
-use Rattle.nl_effect.proofs.Counts.{bit, no_more}
-use Rattle.nl_effect.proofs.FileRunning.{file_has_pages, held_lead_once, installed_has_pages}
-use Rattle.nl_effect.proofs.FilesRight.{stays_right}
-use Rattle.nl_effect.proofs.Fits.{is_file_at, stands}
-use Rattle.nl_effect.proofs.Holders.{changed_size, stamp_some}
-use Rattle.nl_effect.proofs.Landing.{pages_land}
-use Rattle.nl_effect.proofs.LineContents.{page_put}
 use Rattle.nl_effect.proofs.LineEnds.{other_lines}
-use Rattle.nl_effect.proofs.LineRoom.{Lies, few_reserved, has_free, lies, pool_on, reserved, reserved_falls, room_to_take}
 use Rattle.nl_effect.proofs.Stepping.{steps_then}
 
 -- the core with other metadata, and what awaits its free
-abbrev pub now : {M : Type 0} → Core M → Pages → Spaces → PointerItems → Core M
+abbrev pub now : {D : Type 0} → Core D → Pages → Spaces → PointerItems → Core D
 now v m s f = record v { meta = m; nodes = s; freeing = f }
 
 -- the page at an index, among those of a content
@@ -64,7 +64,7 @@ abbrev pub with_page : (ℕ → List ℕ) → List (ℕ × List ℕ) → FlightP
 with_page bytes_of entries page = put nat_cmp page.index (bytes_of page.at.stamp) entries
 
 -- The file has the first pages of the line and the size, the others are in flight, and there is room for them.
-pub record LineAt {M : Type 0} (g : Ghosts (Device M)) (v : Core M) (worker n size first : ℕ) (was : InodeRec) (m : Pages) (s : Spaces) (f : PointerItems) (is : InodeRec) (k : ℕ) : Type 0 where
+pub record LineAt {D : Type 0} (g : Ghosts D) (v : Core D) (worker n size first : ℕ) (was : InodeRec) (m : Pages) (s : Spaces) (f : PointerItems) (is : InodeRec) (k : ℕ) : Type 0 where
   pub within : k ≤ length (worker_pages v worker)
   pub core : IsCore g (with_landed (now v m s f) worker k)
   pub steps : Steps g v (now v m s f)
@@ -84,7 +84,7 @@ pub record LineAt {M : Type 0} (g : Ghosts (Device M)) (v : Core M) (worker n si
 
 -- ---- none is taken yet
 
-module _ {M : Type 0} (g : Ghosts (Device M)) (v : Core M) (worker n size : ℕ) (was : InodeRec) (core : IsCore g v) (volume : IsVolumeShape (g.shape v.device)) (stores : g.tells → StoresPages g v.device) (known : worker < 8)
+module _ {D : Type 0} (g : Ghosts D) (v : Core D) (worker n size : ℕ) (was : InodeRec) (core : IsCore g v) (volume : IsVolumeShape (g.shape v.device)) (stores : g.tells → StoresPages g v.device) (known : worker < 8)
     (line : IsLineOfFile g v worker n size was) (room : HasRoomForLine g v was (worker_pages v worker)) (longer : was.size ≤ size) where
   pub line_begins : LineAt g v worker n size line.first was v.meta v.nodes v.freeing was 0
   line_begins = record {
@@ -140,7 +140,7 @@ module _ (shape : Shape) (n index : ℕ) (to : Pointer) (was is : InodeRec) (bef
 
 -- ---- one more is taken
 
-module _ {M : Type 0} (g : Ghosts (Device M)) (v : Core M) (worker n size first : ℕ) (was : InodeRec) (m : Pages) (s : Spaces) (f : PointerItems) (is : InodeRec) (k : ℕ) (page : FlightPage)
+module _ {D : Type 0} (g : Ghosts D) (v : Core D) (worker n size first : ℕ) (was : InodeRec) (m : Pages) (s : Spaces) (f : PointerItems) (is : InodeRec) (k : ℕ) (page : FlightPage)
     (at : LineAt g v worker n size first was m s f is k) (here : slice_get (worker_pages v worker) k ≡ Some page) (of : IsPageOfLine g v n size first was page) where
   abbrev rest : List ℕ
   rest = indexes_of (drop (k + 1) (worker_pages v worker))
@@ -270,23 +270,23 @@ module _ {M : Type 0} (g : Ghosts (Device M)) (v : Core M) (worker n size first 
 
 -- ---- as a core that has gone so far
 
-pub record LineGoes {M : Type 0} (g : Ghosts (Device M)) (v : Core M) (worker n size : ℕ) (was : InodeRec) (w : Core M) (is : InodeRec) (k : ℕ) : Type 0 where
+pub record LineGoes {D : Type 0} (g : Ghosts D) (v : Core D) (worker n size : ℕ) (was : InodeRec) (w : Core D) (is : InodeRec) (k : ℕ) : Type 0 where
   pub others : w ≡ now v w.meta w.nodes w.freeing
   pub line : IsLineOfFile g v worker n size was
   pub at : LineAt g v worker n size line.first was w.meta w.nodes w.freeing is k
 
-module _ {M : Type 0} (g : Ghosts (Device M)) (v : Core M) (worker n size : ℕ) (was : InodeRec) (w : Core M) (is : InodeRec) (k : ℕ) (goes : LineGoes g v worker n size was w is k) where
+module _ {D : Type 0} (g : Ghosts D) (v : Core D) (worker n size : ℕ) (was : InodeRec) (w : Core D) (is : InodeRec) (k : ℕ) (goes : LineGoes g v worker n size was w is k) where
   back : now v w.meta w.nodes w.freeing ≡ w
   back = sym goes.others
 
   pub same_line : worker_pages w worker ≡ worker_pages v worker
-  same_line = ap (λ (x : Core M). worker_pages x worker) goes.others
+  same_line = ap (λ (x : Core D). worker_pages x worker) goes.others
 
   pub core_at : IsCore g (with_landed w worker k)
-  core_at = subst (λ (x : Core M). IsCore g (with_landed x worker k)) back goes.at.core
+  core_at = subst (λ (x : Core D). IsCore g (with_landed x worker k)) back goes.at.core
 
   pub lines_at : IsFlight v.flight → IsFlight w.flight
-  lines_at lines = subst (λ (x : Core M). IsFlight x.flight) back lines
+  lines_at lines = subst (λ (x : Core D). IsFlight x.flight) back lines
 
   module _ (below : k < length (worker_pages w worker)) where
     abbrev page : FlightPage
@@ -299,31 +299,23 @@ module _ {M : Type 0} (g : Ghosts (Device M)) (v : Core M) (worker n size : ℕ)
     of = goes.line.each k page here
 
     pub hand_at : IsAtHand g w n (page_in w worker k).index is
-    hand_at = subst (λ (x : Core M). IsAtHand g x n (page_in x worker k).index is) back (hand g v worker n size goes.line.first was w.meta w.nodes w.freeing is k page goes.at here of)
+    hand_at = subst (λ (x : Core D). IsAtHand g x n (page_in x worker k).index is) back (hand g v worker n size goes.line.first was w.meta w.nodes w.freeing is k page goes.at here of)
 
     pub page_at : IsPageOfFile g w n is (page_in w worker k)
-    page_at = subst (λ (x : Core M). IsPageOfFile g x n is (page_in x worker k)) back (page_of_file g v worker n size goes.line.first was w.meta w.nodes w.freeing is k page goes.at here of)
+    page_at = subst (λ (x : Core D). IsPageOfFile g x n is (page_in x worker k)) back (page_of_file g v worker n size goes.line.first was w.meta w.nodes w.freeing is k page goes.at here of)
 
     pub room_at : HasRoom g w n is (page_in w worker k)
-    room_at = subst (λ (x : Core M). HasRoom g x n is (page_in x worker k)) back (room_for g v worker n size goes.line.first was w.meta w.nodes w.freeing is k page goes.at here of)
+    room_at = subst (λ (x : Core D). HasRoom g x n is (page_in x worker k)) back (room_for g v worker n size goes.line.first was w.meta w.nodes w.freeing is k page goes.at here of)
 
-    pub goes_on : (w' : Core M) (is' : InodeRec) → InstallsPage g n size (page_in w worker k) is is' w w' → IsCore g (with_landed w' worker (k + 1)) → LineGoes g v worker n size was w' is' (k + 1)
+    pub goes_on : (w' : Core D) (is' : InodeRec) → InstallsPage g n size (page_in w worker k) is is' w w' → IsCore g (with_landed w' worker (k + 1)) → LineGoes g v worker n size was w' is' (k + 1)
     goes_on w' is' took core =
-        let others : w' ≡ now v w'.meta w'.nodes w'.freeing = took.others ∙ ap (λ (x : Core M). now x w'.meta w'.nodes w'.freeing) goes.others in
-        let once : InstallsPage g n size (page_in w worker k) is is' w (now v w'.meta w'.nodes w'.freeing) = subst (λ (x : Core M). InstallsPage g n size (page_in w worker k) is is' w x) others took in
+        let others : w' ≡ now v w'.meta w'.nodes w'.freeing = took.others ∙ ap (λ (x : Core D). now x w'.meta w'.nodes w'.freeing) goes.others in
+        let once : InstallsPage g n size (page_in w worker k) is is' w (now v w'.meta w'.nodes w'.freeing) = subst (λ (x : Core D). InstallsPage g n size (page_in w worker k) is is' w x) others took in
         let twice : InstallsPage g n size page is is' (now v w.meta w.nodes w.freeing) (now v w'.meta w'.nodes w'.freeing) =
-        subst (λ (x : Core M). InstallsPage g n size (page_in x worker k) is is' x (now v w'.meta w'.nodes w'.freeing)) goes.others once in
+        subst (λ (x : Core D). InstallsPage g n size (page_in x worker k) is is' x (now v w'.meta w'.nodes w'.freeing)) goes.others once in
         record {
           others = others;
           line = goes.line;
           at = line_goes g v worker n size goes.line.first was w.meta w.nodes w.freeing is k page goes.at here of w'.meta w'.nodes w'.freeing is' twice
-              (subst (λ (x : Core M). IsCore g (with_landed x worker (k + 1))) others core);
+              (subst (λ (x : Core D). IsCore g (with_landed x worker (k + 1))) others core);
         }
-
--- a line has at most 18 pages
-pub few_pages : (flight : List InFlight) (worker : ℕ) → IsFlight flight → worker < 8 → length (of_worker flight worker).pages ≤ 18
-few_pages flight worker is known =
-    let eight = is.eight in
-    let most_ = is.places in
-    let own = get_or-le-sum_by extra flight worker (begun 0) (omega (arith, eight, known)) in
-    omega (arith, most_, own)

@@ -9,7 +9,6 @@ use Rattle.nl_field.specs.PointerItems.{PointerItems}
 use Rattle.nl_field.specs.declared.inode.InodeRec.{InodeRec}
 use Rattle.nl_tree.specs.Represents.{node_reached}
 use Rattle.nl_tree.specs.Tree.{Tree, content_of, node_at, with_content}
-use Rattle.nl_device.specs.declared.device.Device.{Device}
 use Rattle.nl_flight.specs.Flight.{begun, carried, with_line}
 use Rattle.nl_iface.specs.declared.counts.Counts.{Ghosts}
 use Rattle.nl_inode.specs.Nodes.{Spaces}
@@ -23,19 +22,20 @@ use Rattle.nl_sound.specs.Stands.{bytes_for}
 use Rattle.nl_held.specs.Trees.{RunsAs}
 use Rattle.nl_core.specs.Core.{IsCore, running_of}
 use Rattle.nl_core.specs.declared.state.Core.{Core}
-use Rattle.nl_effect.specs.FileTrees.{held_content}
-use Rattle.nl_effect.specs.Fits.{IsFileOf}
-use Rattle.nl_effect.specs.Landing.{landed}
-use Rattle.nl_effect.specs.LineNeeds.{with_pages}
-use Rattle.nl_effect.specs.Lines.{AreThere, InstallsLine, worker_pages, shown_pages}
-use Rattle.nl_effect.proofs.FileRunning.{file_runs_on, held_lead_once}
-use Rattle.nl_effect.proofs.FileTrees.{file_at}
-use Rattle.nl_effect.proofs.Fits.{is_file_at}
+use Rattle.nl_filing.specs.FileTrees.{held_content}
+use Rattle.nl_filing.specs.Fits.{IsFileOf}
+use Rattle.nl_filing.specs.Landing.{landed}
+use Rattle.nl_filing.specs.LineNeeds.{with_pages}
+use Rattle.nl_filing.specs.LinePages.{AreThere, shown_pages}
+use Rattle.nl_filing.proofs.FileRunning.{file_runs_on, held_lead_once}
+use Rattle.nl_filing.proofs.FileTrees.{file_at}
+use Rattle.nl_filing.proofs.Fits.{is_file_at}
+use Rattle.nl_effect.specs.Lines.{InstallsLine, worker_pages}
 use Rattle.nl_effect.proofs.LineEnds.{flight_step}
 use Rattle.nl_effect.proofs.LineGoes.{LineAt, LineGoes, now, same_line, with_page}
 use Rattle.nl_effect.proofs.Stepping.{steps_then}
 
-module _ {M : Type 0} (g : Ghosts (Device M)) (v : Core M) (worker n size first : ℕ) (was : InodeRec) (m : Pages) (s : Spaces) (f : PointerItems) (is : InodeRec) (core : IsCore g v) (file : IsFileOf g v.device v.meta n was)
+module _ {D : Type 0} (g : Ghosts D) (v : Core D) (worker n size first : ℕ) (was : InodeRec) (m : Pages) (s : Spaces) (f : PointerItems) (is : InodeRec) (core : IsCore g v) (file : IsFileOf g v.device v.meta n was)
     (some : 0 < length (worker_pages v worker)) (at : LineAt g v worker n size first was m s f is (length (worker_pages v worker))) where
   abbrev after : VirtualMap
   after = running_on g v.device m
@@ -82,7 +82,7 @@ module _ {M : Type 0} (g : Ghosts (Device M)) (v : Core M) (worker n size first 
     stands = subst (λ (c : FileContent). RunsAs (g.shape v.device) after page_of_stamp (with_content tree path c)) content_after runs_on
 
   -- the worker has no line by now
-  abbrev ended : Core M
+  abbrev ended : Core D
   ended = record v { meta = m; nodes = s; flight = with_line v.flight worker (begun 0); freeing = f }
 
   pub line_installed : InstallsLine g worker n size was is v ended
@@ -98,12 +98,12 @@ module _ {M : Type 0} (g : Ghosts (Device M)) (v : Core M) (worker n size first 
   }
 
 -- as a core that has gone so far, and then ended the line
-pub line_done : {M : Type 0} (g : Ghosts (Device M)) (v : Core M) (worker n size : ℕ) (was is : InodeRec) (w end : Core M) (k : ℕ) → IsCore g v → 0 < length (worker_pages v worker) → length (worker_pages w worker) ≤ k
+pub line_done : {D : Type 0} (g : Ghosts D) (v : Core D) (worker n size : ℕ) (was is : InodeRec) (w end : Core D) (k : ℕ) → IsCore g v → 0 < length (worker_pages v worker) → length (worker_pages w worker) ≤ k
     → LineGoes g v worker n size was w is k → end ≡ record w { flight = with_line w.flight worker (begun 0) } → InstallsLine g worker n size was is v end
-line_done {M} g v worker n size was is w end k core some all goes is_end =
+line_done {D} g v worker n size was is w end k core some all goes is_end =
     let now_end : end ≡ ended g v worker n size goes.line.first was w.meta w.nodes w.freeing is core goes.line.file some whole =
-    is_end ∙ ap (λ (x : Core M). record x { flight = with_line x.flight worker (begun 0) }) goes.others in
-    subst (λ (x : Core M). InstallsLine g worker n size was is v x) (sym now_end) (line_installed g v worker n size goes.line.first was w.meta w.nodes w.freeing is core goes.line.file some whole)
+    is_end ∙ ap (λ (x : Core D). record x { flight = with_line x.flight worker (begun 0) }) goes.others in
+    subst (λ (x : Core D). InstallsLine g worker n size was is v x) (sym now_end) (line_installed g v worker n size goes.line.first was w.meta w.nodes w.freeing is core goes.line.file some whole)
   where
     whole : LineAt g v worker n size goes.line.first was w.meta w.nodes w.freeing is (length (worker_pages v worker))
     whole =

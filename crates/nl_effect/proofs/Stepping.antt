@@ -2,7 +2,6 @@
 use Rattle.std.proofs.Common.{◌≡◌, ℕ, ◌+◌, ◌*◌, ◌<◌, ◌≤◌, List, length, Option, Some, None, refl, sym, ap, subst, ◌∙◌, arith}
 use Rattle.nl_field.specs.CrashStates.{top}
 use Rattle.nl_field.specs.declared.shape.Shape.{Shape}
-use Rattle.nl_device.specs.declared.device.Device.{Device}
 use Rattle.nl_field.specs.PointerItems.{PointerItems}
 use Rattle.nl_flight.specs.Flight.{InFlight, IsFlight, carried}
 use Rattle.nl_holders.specs.Holding.{MarkedTo}
@@ -40,7 +39,7 @@ use Rattle.nl_core.proofs.Running.{runs_with}
 use Rattle.nl_core.proofs.Written.{has_free_on, same_running}
 use Rattle.nl_effect.specs.Steps.{IsHeldAfter, ReadAlike, ReadsAreAlike, ReadsOn, Steps, StepsAreCores, StepsGo, StepsLeave, StepsRun, StepsThen}
 
-pub steps_run : {M : Type 0} (g : Ghosts (Device M)) → StepsRun g
+pub steps_run : {D : Type 0} (g : Ghosts D) → StepsRun g
 steps_run g old new page_of_stamp was tree tells step at runs = runs_with g old new page_of_stamp was at
     (record {
       live = λ q page is. (q, sym (ap (λ (m : Names). m.live q) step.reads.names) ∙ is, step.reads.medium.bytes tells q);
@@ -48,7 +47,7 @@ steps_run g old new page_of_stamp was tree tells step at runs = runs_with g old 
     })
     tree runs
 
-module _ {M : Type 0} (g : Ghosts (Device M)) (v w : Core M) (core : IsCore g v) (volume : IsVolumeShape (g.shape v.device)) (step : Steps g v w) where
+module _ {D : Type 0} (g : Ghosts D) (v w : Core D) (core : IsCore g v) (volume : IsVolumeShape (g.shape v.device)) (step : Steps g v w) where
   kept : KeepsMedium g v.device w.device
   kept = step.reads.medium
 
@@ -56,7 +55,7 @@ module _ {M : Type 0} (g : Ghosts (Device M)) (v w : Core M) (core : IsCore g v)
   same_shape = kept.virtual.same_shape
 
   -- the core with what changed
-  abbrev stepped : Core M
+  abbrev stepped : Core D
   stepped = record v { device = w.device; meta = w.meta; nodes = w.nodes; flight = w.flight; freeing = w.freeing }
 
   begun_stays : begun v.journal (length w.meta.frozen.addresses) ≡ begun_of v
@@ -70,7 +69,7 @@ module _ {M : Type 0} (g : Ghosts (Device M)) (v w : Core M) (core : IsCore g v)
 
   -- ---- it is a core
 
-  module _ (h : IsHeldAfter g v w) (stores : g.tells → StoresPages g w.device) where
+  module _ (h : IsHeldAfter g v w) (formed : g.formed w.device) (stores : g.tells → StoresPages g w.device) where
     space_on : HasSpace g stepped
     space_on =
         let s = core.space in
@@ -88,7 +87,8 @@ module _ {M : Type 0} (g : Ghosts (Device M)) (v w : Core M) (core : IsCore g v)
         }
 
     pub stepped_core : IsCore g w
-    stepped_core = subst (λ (x : Core M). IsCore g x) (sym step.others) (record {
+    stepped_core = subst (λ (x : Core D). IsCore g x) (sym step.others) (record {
+      formed = formed;
       shape = core.shape ∙ sym same_shape;
       journaled = steps_journaled g v.device w.device v.journal v.meta w.meta volume core.journaled kept.virtual step.pages h.runs;
       free = record { count_nodes = h.free.count_nodes; count_pool = h.free.count_pool; nodes = h.free.nodes; pool = h.free.pool };
@@ -125,36 +125,36 @@ module _ {M : Type 0} (g : Ghosts (Device M)) (v w : Core M) (core : IsCore g v)
         }
 
     pub stands_after : IsTold g w → CoreStands g v page_of_stamp t → CoreStands g w page_of_stamp (record { committed = t.committed; frozen = t.frozen; running = tree })
-    stands_after told at = subst (λ (x : Core M). CoreStands g x page_of_stamp (record { committed = t.committed; frozen = t.frozen; running = tree })) (sym step.others) (record {
-      stands = stands_on told.tells (numbers_before (ap (λ (x : Core M). x.journal) step.others)) at.stands;
-      runs = subst (λ (x : Core M). CoreRuns g x page_of_stamp tree) step.others (steps_run g v w page_of_stamp t.running tree told.tells step at.runs runs);
+    stands_after told at = subst (λ (x : Core D). CoreStands g x page_of_stamp (record { committed = t.committed; frozen = t.frozen; running = tree })) (sym step.others) (record {
+      stands = stands_on told.tells (numbers_before (ap (λ (x : Core D). x.journal) step.others)) at.stands;
+      runs = subst (λ (x : Core D). CoreRuns g x page_of_stamp tree) step.others (steps_run g v w page_of_stamp t.running tree told.tells step at.runs runs);
       committed = at.committed;
     })
       where
         numbers_before : w.journal ≡ v.journal → HasNumber v.journal (length v.meta.frozen.addresses)
         numbers_before same = subst (λ (f : Frozen). HasNumber v.journal (length f.addresses)) step.pages.same_frozen (subst (λ (q : Progress). HasNumber q (length w.meta.frozen.addresses)) same told.numbers)
 
-pub steps_are_cores : {M : Type 0} (g : Ghosts (Device M)) → StepsAreCores g
-steps_are_cores g old new volume stores core step h = stepped_core g old new core volume step h stores
+pub steps_are_cores : {D : Type 0} (g : Ghosts D) → StepsAreCores g
+steps_are_cores g old new volume formed stores core step h = stepped_core g old new core volume step h formed stores
 
-pub steps_go : {M : Type 0} (g : Ghosts (Device M)) → StepsGo g
+pub steps_go : {D : Type 0} (g : Ghosts D) → StepsGo g
 steps_go g old new page_of_stamp t tree volume core step told at runs = stands_after g old new core volume step page_of_stamp t tree runs told at
 
-pub steps_leave : {M : Type 0} (g : Ghosts (Device M)) → StepsLeave g
+pub steps_leave : {D : Type 0} (g : Ghosts D) → StepsLeave g
 steps_leave g old new t y tells step = keeps_leave g (OpensFrom (g.shape old.device) old.count new.moment t y) old.device new.device tells step.reads.medium
 
-pub steps_then : {M : Type 0} (g : Ghosts (Device M)) → StepsThen g
-steps_then {M} g a b c k l = record {
+pub steps_then : {D : Type 0} (g : Ghosts D) → StepsThen g
+steps_then {D} g a b c k l = record {
   reads = reads_then g a.device b.device c.device k.reads l.reads;
   read_faults = let m = k.read_faults in let n = l.read_faults in omega (arith, m, n);
   pages = both a.meta b.meta c.meta k.pages l.pages;
   room = let m = k.room in let n = l.room in omega (arith, m, n);
-  others = l.others ∙ ap (λ (x : Core M). record x { device = c.device; meta = c.meta; nodes = c.nodes; flight = c.flight; freeing = c.freeing }) k.others;
+  others = l.others ∙ ap (λ (x : Core D). record x { device = c.device; meta = c.meta; nodes = c.nodes; flight = c.flight; freeing = c.freeing }) k.others;
 }
 
 -- ---- pages are only read
 
-module _ {M : Type 0} (g : Ghosts (Device M)) (v w : Core M) (volume : IsVolumeShape (g.shape v.device)) (stores : g.tells → StoresPages g w.device) (r : ReadsOn g v w) where
+module _ {D : Type 0} (g : Ghosts D) (v w : Core D) (volume : IsVolumeShape (g.shape v.device)) (formed : g.formed w.device) (stores : g.tells → StoresPages g w.device) (r : ReadsOn g v w) where
   read_shape : g.shape w.device ≡ g.shape v.device
   read_shape = r.runs.reads.medium.virtual.same_shape
 
@@ -163,8 +163,8 @@ module _ {M : Type 0} (g : Ghosts (Device M)) (v w : Core M) (volume : IsVolumeS
     reads = r.runs.reads;
     read_faults = r.read_faults;
     pages = loaded v.meta w.meta (loads-on g v.device v.meta w.device w.meta r.runs);
-    room = let same = ap (λ (x : Core M). length x.freeing.items + x.freeing.room) r.others in omega (arith, same);
-    others = r.others ∙ again (ap (λ (x : Core M). x.nodes) r.others) (ap (λ (x : Core M). x.flight) r.others) (ap (λ (x : Core M). x.freeing) r.others);
+    room = let same = ap (λ (x : Core D). length x.freeing.items + x.freeing.room) r.others in omega (arith, same);
+    others = r.others ∙ again (ap (λ (x : Core D). x.nodes) r.others) (ap (λ (x : Core D). x.flight) r.others) (ap (λ (x : Core D). x.freeing) r.others);
   }
     where
       again : w.nodes ≡ v.nodes → w.flight ≡ v.flight → w.freeing ≡ v.freeing
@@ -174,14 +174,14 @@ module _ {M : Type 0} (g : Ghosts (Device M)) (v w : Core M) (volume : IsVolumeS
   module _ (core : IsCore g v) where
     read_held : IsHeldAfter g v w
     read_held =
-        let flight = ap (λ (x : Core M). x.flight) r.others in
-        let freeing = ap (λ (x : Core M). x.freeing) r.others in
+        let flight = ap (λ (x : Core D). x.flight) r.others in
+        let freeing = ap (λ (x : Core D). x.freeing) r.others in
         let running = ap length (same_running g v w read_shape volume r.runs.needed) in
         let fly = ap (λ (f : List InFlight). length (carried f)) flight in
         let free_ = ap (λ (f : PointerItems). length f.items) freeing in
         record {
           runs = runs-then g v.device v.meta w.device w.meta (bounds-of (g.shape v.device) volume) r.runs core.journaled.runs;
-          free = has_free_on g v w read_shape volume r.runs.needed (ap (λ (x : Core M). x.nodes) r.others) core.free;
+          free = has_free_on g v w read_shape volume r.runs.needed (ap (λ (x : Core D). x.nodes) r.others) core.free;
           held = subst (λ (f : List InFlight). IsHeldVolume g w.device v.journal w.meta (carried f) w.freeing.items) (sym flight)
               (subst (λ (f : PointerItems). IsHeldVolume g w.device v.journal w.meta (carried v.flight) f.items) (sym freeing)
               (reading_keeps_held g v.device w.device v.journal v.meta w.meta (carried v.flight) v.freeing.items volume core.journaled core.held r.runs));
@@ -192,7 +192,7 @@ module _ {M : Type 0} (g : Ghosts (Device M)) (v w : Core M) (volume : IsVolumeS
         }
 
     read_core : IsCore g w
-    read_core = stepped_core g v w core volume read_step read_held stores
+    read_core = stepped_core g v w core volume read_step read_held formed stores
 
   pub read_alike : ReadAlike g v w
   read_alike = record {
@@ -202,8 +202,8 @@ module _ {M : Type 0} (g : Ghosts (Device M)) (v w : Core M) (volume : IsVolumeS
         (runs_alike (g.shape v.device) (running_of g v) (running_of g w) page_of_stamp tree r.runs.needed runs);
   }
 
-pub reads_are_alike : {M : Type 0} (g : Ghosts (Device M)) → ReadsAreAlike g
-reads_are_alike g old new volume stores r = read_alike g old new volume stores r
+pub reads_are_alike : {D : Type 0} (g : Ghosts D) → ReadsAreAlike g
+reads_are_alike g old new volume formed stores r = read_alike g old new volume formed stores r
 
 -- reads that failed, or none
 pub reads_rise : {D : Type 0} (g : Ghosts D) (s t : D) (o : Option Stop) → Reads g s t o → g.read_faults s ≤ g.read_faults t
@@ -212,9 +212,9 @@ reads_rise g s t (Some stop.Fault) r = r.never_falls
 reads_rise g s t (Some (stop.Lost w f)) r = let same = r.0 in omega (arith, same)
 
 -- a core of which pages were read
-pub read_on : {M : Type 0} (g : Ghosts (Device M)) (v : Core M) (d : Device M) (pages : Pages) → RunsOn g v.device v.meta d pages → g.read_faults v.device ≤ g.read_faults d → ReadsOn g v (record v { device = d; meta = pages })
+pub read_on : {D : Type 0} (g : Ghosts D) (v : Core D) (d : D) (pages : Pages) → RunsOn g v.device v.meta d pages → g.read_faults v.device ≤ g.read_faults d → ReadsOn g v (record v { device = d; meta = pages })
 read_on g v d pages runs faults = record { runs = runs; read_faults = faults; others = refl }
 
-pub core_read : {M : Type 0} (g : Ghosts (Device M)) (v : Core M) (d : Device M) (pages : Pages) → IsVolumeShape (g.shape v.device) → (g.tells → StoresPages g d) → IsCore g v → RunsOn g v.device v.meta d pages
+pub core_read : {D : Type 0} (g : Ghosts D) (v : Core D) (d : D) (pages : Pages) → IsVolumeShape (g.shape v.device) → g.formed d → (g.tells → StoresPages g d) → IsCore g v → RunsOn g v.device v.meta d pages
     → g.read_faults v.device ≤ g.read_faults d → IsCore g (record v { device = d; meta = pages })
-core_read g v d pages volume stores core runs faults = (read_alike g v (record v { device = d; meta = pages }) volume stores (read_on g v d pages runs faults)).core core
+core_read g v d pages volume formed stores core runs faults = (read_alike g v (record v { device = d; meta = pages }) volume formed stores (read_on g v d pages runs faults)).core core

@@ -1,13 +1,9 @@
-pub mod Cutting
-pub mod FileRuns
-pub mod FileTrees
-pub mod Fits
-pub mod Holders
+pub mod Answers
+pub mod Calls
+pub mod Finding
 pub mod Installing
-pub mod Landing
-pub mod LineNeeds
 pub mod Lines
+pub mod Paging
 pub mod Reading
 pub mod Steps
-pub mod Taking
 pub mod Truncating

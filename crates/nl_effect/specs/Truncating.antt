@@ -1,12 +1,11 @@
 -- A file of a core is cut or lengthened to a size.
 use Rattle.std.specs.Prelude.{◌≡◌, ◌≢◌, ◌⊎◌, ℕ, ◌/◌, ◌%◌, false, List, [], ◌∷◌, slice_get, IsSome, Option, Some}
-use Rattle.nl_field.specs.ContentLaws.{cut_page}
+use Rattle.nl_content.specs.ContentLaws.{cut_page}
 use Rattle.nl_field.specs.FileContent.{FileContent, cut_to, page_bytes}
 use Rattle.nl_field.specs.Pointers.{is_none_pointer}
 use Rattle.nl_field.specs.declared.inode.InodeRec.{InodeRec}
 use Rattle.nl_tree.specs.Represents.{node_reached}
 use Rattle.nl_tree.specs.Tree.{Tree, content_of, node_at, with_content}
-use Rattle.nl_device.specs.declared.device.Device.{Device}
 use Rattle.nl_flight.specs.Flight.{begun, with_line}
 use Rattle.nl_flight.specs.declared.page.FlightPage.{FlightPage}
 use Rattle.nl_iface.specs.declared.counts.Counts.{Ghosts}
@@ -18,21 +17,21 @@ use Rattle.nl_running.specs.Running.{RunsOn}
 use Rattle.nl_held.specs.Trees.{RunsAs}
 use Rattle.nl_core.specs.Core.{running_of}
 use Rattle.nl_core.specs.declared.state.Core.{Core}
-use Rattle.nl_effect.specs.FileRuns.{EndsClean}
-use Rattle.nl_effect.specs.Fits.{IsFileOf}
+use Rattle.nl_filing.specs.FileRuns.{EndsClean}
+use Rattle.nl_filing.specs.Fits.{IsFileOf}
 use Rattle.nl_effect.specs.Installing.{IsPageOfFile}
 use Rattle.nl_effect.specs.Lines.{worker_pages}
 use Rattle.nl_effect.specs.Steps.{Steps}
 
 -- The page in flight is one of the file, for the index within whose page a file of this size ends, and the file has a page there.
-pub record IsPartialPage {M : Type 0} (g : Ghosts (Device M)) (v : Core M) (n size : ℕ) (rec : InodeRec) (page : FlightPage) : Type 0 where
+pub record IsPartialPage {D : Type 0} (g : Ghosts D) (v : Core D) (n size : ℕ) (rec : InodeRec) (page : FlightPage) : Type 0 where
   pub within : size % 4096 ≢ 0
   pub last : page.index ≡ size / 4096
   pub of_file : IsPageOfFile g v n rec page
   pub had : is_none_pointer (pointer_at (running_of g v) rec (size / 4096)) ≡ false
 
 -- The worker has that page in flight alone. Or it has none, and the page in which the file ends holds nothing behind the size.
-abbrev pub HasPartial : {M : Type 0} → Ghosts (Device M) → Core M → ℕ → ℕ → ℕ → InodeRec → Type 0
+abbrev pub HasPartial : {D : Type 0} → Ghosts D → Core D → ℕ → ℕ → ℕ → InodeRec → Type 0
 HasPartial g v worker n size rec =
     ((worker_pages v worker ≡ []) × EndsClean (running_of g v) rec size) ⊎ ((page : FlightPage) × (worker_pages v worker ≡ page ∷ []) × IsPartialPage g v n size rec page)
 
@@ -42,14 +41,14 @@ AreCut page_of_stamp content size pages =
     (k : ℕ) (page : FlightPage) → slice_get pages k ≡ Some page → page_of_stamp page.at.stamp ≡ Some (record { tag = page.tag; bytes = cut_page size page.index (page_bytes content page.index) })
 
 -- Of whatever tree the pages of the volume stood for, they stand for it with the file under its path cut to the size.
-abbrev pub TreeIsCut : {M : Type 0} → Ghosts (Device M) → ℕ → ℕ → List FlightPage → Core M → Core M → Type 0
+abbrev pub TreeIsCut : {D : Type 0} → Ghosts D → ℕ → ℕ → List FlightPage → Core D → Core D → Type 0
 TreeIsCut g n size pages old new =
     (page_of_stamp : ℕ → Option PageOfStamp) (tree : Tree) (path : List (List ℕ)) → RunsAs (g.shape old.device) (running_of g old) page_of_stamp tree
     → node_reached (graph_of (g.shape old.device) (running_of g old)) 0 path ≡ Some n → AreCut page_of_stamp (content_of (node_at tree path)) size pages
     → RunsAs (g.shape new.device) (running_of g new) page_of_stamp (with_content tree path (cut_to (content_of (node_at tree path)) size))
 
 -- The file has the size and what it holds below it, every other node has what it had, and the worker has no line.
-pub record CutsFileTo {M : Type 0} (g : Ghosts (Device M)) (worker n size : ℕ) (was is : InodeRec) (old new : Core M) : Type 0 where
+pub record CutsFileTo {D : Type 0} (g : Ghosts D) (worker n size : ℕ) (was is : InodeRec) (old new : Core D) : Type 0 where
   pub others : new ≡ record old { device = new.device; meta = new.meta; nodes = new.nodes; flight = with_line old.flight worker (begun 0); freeing = new.freeing }
   pub steps : Steps g old new
   pub sized : is.size ≡ size
@@ -60,7 +59,7 @@ pub record CutsFileTo {M : Type 0} (g : Ghosts (Device M)) (worker n size : ℕ)
   pub cut : TreeIsCut g n size (worker_pages old worker) old new
 
 -- Pages were read, and all else is as it was.
-pub record RefusesCut {M : Type 0} (g : Ghosts (Device M)) (was is : InodeRec) (old new : Core M) : Type 0 where
+pub record RefusesCut {D : Type 0} (g : Ghosts D) (was is : InodeRec) (old new : Core D) : Type 0 where
   pub same : is ≡ was
   pub others : new ≡ record old { device = new.device; meta = new.meta; freeing = new.freeing }
   pub awaits : new.freeing.items ≡ old.freeing.items

@@ -5,22 +5,18 @@ ghost use Rattle.nl_effect.specs.Installing.{with_landed};
 ghost use Rattle.nl_effect.specs.Steps.{Steps};
 
 use nl_core::Core;
-use nl_device::Device;
 use nl_held::laws::device_stands;
-use nl_iface::Counts;
-use nl_nand::Nand;
+use nl_iface::MovingPages;
 
 /// Ends a worker's line whose pages a file has by now: the worker has no line and nothing in flight.
-pub fn end_line<M: Nand>(core: &mut Core<M>, worker: u8)
-    requires formed { ⟦<Device<M> as Counts>⟧.formed core.old.device }
-    requires core { IsCore ⟦<Device<M> as Counts>⟧ (with_landed core.old worker (length (of_worker core.old.flight worker).pages)) }
+pub fn end_line<D: MovingPages>(core: &mut Core<D>, worker: u8)
+    requires core { IsCore D.Counts (with_landed core.old worker (length (of_worker core.old.flight worker).pages)) }
     requires lines { IsFlight core.old.flight }
     requires known { worker < 8 }
-    ensures formed { ⟦<Device<M> as Counts>⟧.formed core.new.device }
-    ensures core { IsCore ⟦<Device<M> as Counts>⟧ core.new }
-    ensures steps { Steps ⟦<Device<M> as Counts>⟧ core.old core.new }
+    ensures core { IsCore D.Counts core.new }
+    ensures steps { Steps D.Counts core.old core.new }
     ensures ended { core.new ≡ record core.old { flight = with_line core.old.flight worker (begun 0) } }
 {
     device_stands(&core.device);
-    core.flight.clear(worker);
+    core.end_line(worker);
 }

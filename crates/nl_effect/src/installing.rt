@@ -4,36 +4,32 @@ ghost use Rattle.nl_iface.specs.Calls.{StoresPages};
 ghost use Rattle.nl_core.specs.Core.{IsCore};
 ghost use Rattle.nl_effect.specs.Installing.{HasRoom, InstallsPage, IsAtHand, IsPageOfFile, page_in, with_landed};
 
-use crate::taking::take_page;
 use nl_core::Core;
-use nl_device::Device;
 use nl_field::InodeRec;
+use nl_filing::take_page;
 use nl_held::laws::device_stands;
-use nl_iface::Counts;
-use nl_nand::Nand;
+use nl_iface::MovingPages;
 
 /// Gives a file the page in flight at a place of a worker's line, and a size. The pages of the line before that place are the file's by now:
 /// without them in flight, and afterwards without this one too, each live page is held once. What the file had at the index awaits its free.
-pub fn install_page<M: Nand>(
-    core: &mut Core<M>,
+pub fn install_page<D: MovingPages>(
+    core: &mut Core<D>,
     worker: u8,
     place: u32,
     ino: u32,
     rec: &mut InodeRec,
     size: u64,
 )
-    requires formed { ⟦<Device<M> as Counts>⟧.formed core.old.device }
-    requires core { IsCore ⟦<Device<M> as Counts>⟧ (with_landed core.old worker place) }
+    requires core { IsCore D.Counts (with_landed core.old worker place) }
     requires lines { IsFlight core.old.flight }
     requires known { worker < 8 }
     requires some { place < length (of_worker core.old.flight worker).pages }
-    requires hand { IsAtHand ⟦<Device<M> as Counts>⟧ core.old ino (page_in core.old worker place).index rec.old }
-    requires page { IsPageOfFile ⟦<Device<M> as Counts>⟧ core.old ino rec.old (page_in core.old worker place) }
-    requires room { HasRoom ⟦<Device<M> as Counts>⟧ core.old ino rec.old (page_in core.old worker place) }
+    requires hand { IsAtHand D.Counts core.old ino (page_in core.old worker place).index rec.old }
+    requires page { IsPageOfFile D.Counts core.old ino rec.old (page_in core.old worker place) }
+    requires room { HasRoom D.Counts core.old ino rec.old (page_in core.old worker place) }
     requires size { size ≤ 16809984 }
-    ensures formed { ⟦<Device<M> as Counts>⟧.formed core.new.device }
-    ensures core { IsCore ⟦<Device<M> as Counts>⟧ (with_landed core.new worker (place + 1)) }
-    ensures installs { InstallsPage ⟦<Device<M> as Counts>⟧ ino size (page_in core.old worker place) rec.old rec.new core.old core.new }
+    ensures core { IsCore D.Counts (with_landed core.new worker (place + 1)) }
+    ensures installs { InstallsPage D.Counts ino size (page_in core.old worker place) rec.old rec.new core.old core.new }
 {
     device_stands(&core.device);
     let Some((index, at, _)) = core.flight.get(worker, place) else {

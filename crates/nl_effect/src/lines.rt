@@ -5,32 +5,28 @@ ghost use Rattle.nl_effect.specs.Lines.{HasRoomForLine, InstallsLine, IsLineOfFi
 use crate::ending::end_line;
 use crate::installing::install_page;
 use nl_core::Core;
-use nl_device::Device;
 use nl_field::InodeRec;
 use nl_held::laws::device_stands;
-use nl_iface::Counts;
-use nl_nand::Nand;
+use nl_iface::MovingPages;
 
 /// Gives a file all pages in flight of a worker's line, one after the other, and a size of at most 16,809,984 bytes that is none below the
 /// one that it had. Then the worker has no line. What the file had at those indexes awaits its free.
-pub fn install_line<M: Nand>(
-    core: &mut Core<M>,
+pub fn install_line<D: MovingPages>(
+    core: &mut Core<D>,
     worker: u8,
     ino: u32,
     rec: &mut InodeRec,
     size: u64,
 )
-    requires formed { ⟦<Device<M> as Counts>⟧.formed core.old.device }
-    requires core { IsCore ⟦<Device<M> as Counts>⟧ core.old }
+    requires core { IsCore D.Counts core.old }
     requires known { worker < 8 }
     requires some { 0 < length (worker_pages core.old worker) }
-    requires line { IsLineOfFile ⟦<Device<M> as Counts>⟧ core.old worker ino size rec.old }
-    requires room { HasRoomForLine ⟦<Device<M> as Counts>⟧ core.old rec.old (worker_pages core.old worker) }
+    requires line { IsLineOfFile D.Counts core.old worker ino size rec.old }
+    requires room { HasRoomForLine D.Counts core.old rec.old (worker_pages core.old worker) }
     requires longer { rec.old.size ≤ size }
     requires size { size ≤ 16809984 }
-    ensures formed { ⟦<Device<M> as Counts>⟧.formed core.new.device }
-    ensures core { IsCore ⟦<Device<M> as Counts>⟧ core.new }
-    ensures installs { InstallsLine ⟦<Device<M> as Counts>⟧ worker ino size rec.old rec.new core.old core.new }
+    ensures core { IsCore D.Counts core.new }
+    ensures installs { InstallsLine D.Counts worker ino size rec.old rec.new core.old core.new }
 {
     device_stands(&core.device);
     let mut place = 0;

@@ -4,19 +4,17 @@ ghost use Rattle.nl_iface.specs.Calls.{ReadsCounted};
 ghost use Rattle.nl_files.specs.Answers.{IsLostFile, IsPageStamp, LosesFile};
 ghost use Rattle.nl_core.specs.Core.{IsCore};
 ghost use Rattle.nl_effect.specs.Installing.{IsAtHand};
-ghost use Rattle.nl_effect.specs.Taking.{HasRoomToTake};
+ghost use Rattle.nl_filing.specs.Taking.{HasRoomToTake};
 ghost use Rattle.nl_effect.specs.Truncating.{CutsFileTo, HasPartial, RefusesCut};
 
-use crate::cutting::cut_back;
 use crate::ending::end_line;
 use nl_core::Core;
-use nl_device::Device;
 use nl_field::{InodeRec, Pointer};
 use nl_files::{FileAnswer, gather};
+use nl_filing::cut_back;
 use nl_flight::Flight;
 use nl_held::laws::device_stands;
-use nl_iface::Counts;
-use nl_nand::Nand;
+use nl_iface::MovingPages;
 
 const PAGE: u64 = 4096;
 
@@ -24,27 +22,25 @@ const PAGE: u64 = 4096;
 /// worker has that page in flight without them, and it becomes the file's. Then the worker has no line, and what the file had wholly
 /// behind the size awaits its free. Pages of pointers are read first; where that fails, the answer is `Fault` or `Lost`, and all else is as
 /// it was.
-pub fn cut_file<M: Nand>(
-    core: &mut Core<M>,
+pub fn cut_file<D: MovingPages>(
+    core: &mut Core<D>,
     worker: u8,
     ino: u32,
     rec: &mut InodeRec,
     size: u64,
 ) -> FileAnswer
-    requires formed { ⟦<Device<M> as Counts>⟧.formed core.old.device }
-    requires core { IsCore ⟦<Device<M> as Counts>⟧ core.old }
+    requires core { IsCore D.Counts core.old }
     requires known { worker < 8 }
-    requires hand { IsAtHand ⟦<Device<M> as Counts>⟧ core.old ino (size / 4096) rec.old }
-    requires partial { HasPartial ⟦<Device<M> as Counts>⟧ core.old worker ino size rec.old }
+    requires hand { IsAtHand D.Counts core.old ino (size / 4096) rec.old }
+    requires partial { HasPartial D.Counts core.old worker ino size rec.old }
     requires room { HasRoomToTake core.old.meta rec.old ino (size / 4096) }
     requires size { size ≤ 16809984 }
-    ensures formed { ⟦<Device<M> as Counts>⟧.formed core.new.device }
-    ensures core { IsCore ⟦<Device<M> as Counts>⟧ core.new }
-    ensures cut { result ≡ FileAnswer.Done → CutsFileTo ⟦<Device<M> as Counts>⟧ worker ino size rec.old rec.new core.old core.new }
-    ensures refused { (result ≡ FileAnswer.Done → ⊥) → RefusesCut ⟦<Device<M> as Counts>⟧ rec.old rec.new core.old core.new }
-    ensures faults { ReadsCounted ⟦<Device<M> as Counts>⟧ (result ≡ FileAnswer.Fault) core.old.device core.new.device }
-    ensures lost { LosesFile (IsPageStamp (⟦<Device<M> as Counts>⟧.stamps core.old.device) rec.old) result }
-    ensures told { M.tells → IsLostFile result → ⊥ }
+    ensures core { IsCore D.Counts core.new }
+    ensures cut { result ≡ FileAnswer.Done → CutsFileTo D.Counts worker ino size rec.old rec.new core.old core.new }
+    ensures refused { (result ≡ FileAnswer.Done → ⊥) → RefusesCut D.Counts rec.old rec.new core.old core.new }
+    ensures faults { ReadsCounted D.Counts (result ≡ FileAnswer.Fault) core.old.device core.new.device }
+    ensures lost { LosesFile (IsPageStamp (D.stamps core.old.device) rec.old) result }
+    ensures told { D.tells → IsLostFile result → ⊥ }
 {
     device_stands(&core.device);
     match gather(

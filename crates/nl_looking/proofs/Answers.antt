@@ -24,8 +24,8 @@ use Rattle.nl_tree.proofs.StepProofs.{performed, refused_before}
 use Rattle.nl_namespace.specs.Listing.{IsListing}
 use Rattle.nl_held.specs.Trees.{RunsAs}
 use Rattle.nl_looking.specs.Spots.{refusal_of_path}
-use Rattle.nl_looking.proofs.Directories.{directory-count, order, room, under-directory}
-use Rattle.nl_looking.proofs.Entries.{IsUnder, entries-are, length-named, named, text-same}
+use Rattle.nl_filing.proofs.Directories.{directory-count, order, room, under-directory}
+use Rattle.nl_filing.proofs.Entries.{IsUnder, entries-are, length-named, named, text-same}
 use Rattle.nl_looking.proofs.Refusals.{list-refusal, read-refusal, stat-refusal}
 
 -- a list of so many numbers, each of them given

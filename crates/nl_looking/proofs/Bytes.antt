@@ -7,7 +7,7 @@ use Rattle.nl_field.specs.Bytes.{zeros}
 use Rattle.nl_field.specs.FileContent.{byte_of}
 use Rattle.nl_field.specs.Pointers.{is_none_pointer}
 use Rattle.nl_field.specs.declared.inode.InodeRec.{InodeRec}
-use Rattle.nl_field.proofs.ContentBytes.{zeros-at}
+use Rattle.nl_content.proofs.ContentBytes.{zeros-at}
 use Rattle.nl_iface.specs.Names.{place_of}
 use Rattle.nl_iface.specs.declared.counts.Counts.{Ghosts}
 use Rattle.nl_indirect.specs.Ranges.{IsFileRecord}
@@ -20,7 +20,7 @@ use Rattle.nl_files.specs.Standing.{PointersLead}
 use Rattle.nl_files.proofs.ContentFacts.{pages_by_pointers}
 use Rattle.nl_files.proofs.Filling.{file-size}
 use Rattle.nl_held.specs.Standing.{ShowsPages}
-use Rattle.nl_effect.specs.FileTrees.{held_content}
+use Rattle.nl_filing.specs.FileTrees.{held_content}
 use Rattle.nl_looking.specs.Pieces.{AddsBytes}
 
 module _ {D : Type 0} (g : Ghosts D) (s : D) (page_of_stamp : ℕ → Option PageOfStamp) (pages : VirtualMap) (n : ℕ) (rec : InodeRec) (file : IsFileRecord rec)

@@ -1,12 +1,10 @@
 -- What a core answers of which pages were read.
-use Rattle.std.proofs.Common.{◌≡◌, ℕ, ◌+◌, ◌-◌, false, min, List, [], length, Option, refl, sym, ap, subst, ◌∙◌, arith}
+use Rattle.std.proofs.Common.{◌≡◌, ℕ, ◌+◌, ◌-◌, false, min, List, [], length, Option, sym, ap, subst, ◌∙◌, arith}
 use Rattle.std.proofs.lemmas.List.{length-map}
 use Rattle.nl_field.specs.declared.inode.InodeRec.{InodeRec}
-use Rattle.nl_field.specs.declared.inode.Kind.{Kind}
-use Rattle.nl_field.specs.declared.inode.Kind.TheVariants.{Dir, File, Unused}
+use Rattle.nl_field.specs.declared.inode.Kind.TheVariants.{Dir, File}
 use Rattle.nl_field.specs.declared.pointer.Pointer.{Pointer}
 use Rattle.nl_field.specs.declared.shape.Shape.{Shape}
-use Rattle.nl_device.specs.declared.device.Device.{Device}
 use Rattle.nl_flight.specs.Flight.{carried}
 use Rattle.nl_iface.specs.Device.{IsVolumeShape}
 use Rattle.nl_iface.specs.declared.counts.Counts.{Ghosts}
@@ -27,10 +25,10 @@ use Rattle.nl_files.specs.Reading.{AreBytesFrom, byte_at, file_page}
 use Rattle.nl_core.specs.Core.{IsCore, running_of}
 use Rattle.nl_core.specs.Trees.{CoreRuns}
 use Rattle.nl_core.specs.declared.state.Core.{Core}
-use Rattle.nl_effect.specs.FileTrees.{held_content}
-use Rattle.nl_effect.specs.Fits.{IsFileOf}
+use Rattle.nl_filing.specs.FileTrees.{held_content}
+use Rattle.nl_filing.specs.Fits.{IsFileOf}
 use Rattle.nl_effect.specs.Steps.{ReadsOn}
-use Rattle.nl_effect.proofs.Fits.{files_lead, stands}
+use Rattle.nl_filing.proofs.Fits.{files_lead, stands}
 use Rattle.nl_looking.specs.Looking.{IfContent, IfFile, IfNames, IfReplied}
 use Rattle.nl_looking.specs.Spots.{HasNode, IsOfNode, IsSpot}
 use Rattle.nl_looking.specs.declared.answer.Looked.{Looked}
@@ -38,17 +36,11 @@ use Rattle.nl_looking.specs.declared.answer.Spot.{Spot}
 use Rattle.nl_looking.specs.declared.answer.Spot.TheVariants as spot
 use Rattle.nl_looking.proofs.Answers.{list-directory, read-file, stat-file}
 use Rattle.nl_looking.proofs.Bytes.{byte-same}
-use Rattle.nl_looking.proofs.Cores.{node-back, same-page, same-running, same-shape}
+use Rattle.nl_effect.proofs.ReadCores.{node-back, same-page, same-running, same-shape}
 use Rattle.nl_looking.proofs.Replies.{from-content, from-file, from-names}
 use Rattle.nl_looking.proofs.Spotting.{directory-there, file-there}
 
--- a used node that is no file is a directory
-pub dir-kind : (k : Kind) → (k ≡ File → ⊥) → (k ≡ Unused → ⊥) → k ≡ Dir
-dir-kind Unused a b = absurd (b refl)
-dir-kind File a b = absurd (a refl)
-dir-kind Dir a b = refl
-
-module _ {M : Type 0} (g : Ghosts (Device M)) (u v : Core M) (volume : IsVolumeShape (g.shape u.device)) (on : ReadsOn g u v) where
+module _ {D : Type 0} (g : Ghosts D) (u v : Core D) (volume : IsVolumeShape (g.shape u.device)) (on : ReadsOn g u v) where
   pub has-back : (at : Spot) → HasNode g v.device v.meta at → HasNode g u.device u.meta at
   has-back (spot.File n rec) h = (node-back g u v volume on n rec h.0, h.1)
   has-back (spot.Dir n rec) h = (node-back g u v volume on n rec h.0, h.1)
@@ -57,7 +49,7 @@ module _ {M : Type 0} (g : Ghosts (Device M)) (u v : Core M) (volume : IsVolumeS
   has-back spot.Fault h = tt
 
 -- the spot of the node at the end of a path
-pub at-node : {M : Type 0} (g : Ghosts (Device M)) (u : Core M) (law : LooksInTree) (page_of_stamp : ℕ → Option PageOfStamp) (tree : Tree) → CoreRuns g u page_of_stamp tree → (path : List (List ℕ)) → is_too_long path ≡ false
+pub at-node : {D : Type 0} (g : Ghosts D) (u : Core D) (law : LooksInTree) (page_of_stamp : ℕ → Option PageOfStamp) (tree : Tree) → CoreRuns g u page_of_stamp tree → (path : List (List ℕ)) → is_too_long path ≡ false
     → (n : ℕ) (at : Spot) → Looks (graph_of (g.shape u.device) (running_of g u)) path (look.At n) → IsOfNode n at → HasNode g u.device u.meta at → IsSpot (g.shape u.device) (running_of g u) page_of_stamp tree path at
 at-node g u law page_of_stamp tree runs path short n (spot.File m rec) looks of has =
     file-there (g.shape u.device) (running_of g u) page_of_stamp tree runs.runs path law short m rec (subst (λ (k : ℕ). Looks (graph_of (g.shape u.device) (running_of g u)) path (look.At k)) (sym of) looks) has.0 has.1
@@ -67,7 +59,7 @@ at-node g u law page_of_stamp tree runs path short n (spot.No r) looks of has = 
 at-node g u law page_of_stamp tree runs path short n (spot.Lost w f) looks of has = tt
 at-node g u law page_of_stamp tree runs path short n spot.Fault looks of has = tt
 
-module _ {M : Type 0} (g : Ghosts (Device M)) (u v : Core M) (volume : IsVolumeShape (g.shape u.device)) (on : ReadsOn g u v) (tells : g.tells) (page_of_stamp : ℕ → Option PageOfStamp) (tree : Tree)
+module _ {D : Type 0} (g : Ghosts D) (u v : Core D) (volume : IsVolumeShape (g.shape u.device)) (on : ReadsOn g u v) (tells : g.tells) (page_of_stamp : ℕ → Option PageOfStamp) (tree : Tree)
     (runs : CoreRuns g u page_of_stamp tree) (path : List (List ℕ)) (n : ℕ) (rec : InodeRec) (answer : Looked) where
   pub stat-due : IsSpot (g.shape u.device) (running_of g u) page_of_stamp tree path (spot.File n rec) → IfFile answer (λ size count. (size ≡ rec.size) × (count ≡ length (pointers_of_inode (running_of g v) rec)))
       → IfReplied answer (λ reply. Answers (step (g.shape u.device) tree (Stat path)) reply [])

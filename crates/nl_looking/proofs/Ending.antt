@@ -1,27 +1,18 @@
 -- How a call that only looks ends, from its parts.
-use Rattle.std.proofs.Common.{◌≡◌, ℕ, Bool, true, false, List, length, Option, Some, None, refl, sym, ap, subst, ◌∙◌, arith}
+use Rattle.std.proofs.Common.{◌≡◌, ℕ, Bool, true, false, Some, refl, sym, ap, subst, arith}
 use Rattle.std.proofs.lemmas.Bool.{both_ways}
-use Rattle.std.proofs.lemmas.List.{length-map}
 use Rattle.std.specs.Bool.{⊤}
-use Rattle.nl_iface.specs.Calls.{OnlyReads, ReadsCounted}
+use Rattle.nl_iface.specs.Calls.{ReadsCounted}
 use Rattle.nl_iface.specs.Counting.{FailuresCounted}
 use Rattle.nl_iface.specs.declared.counts.Counts.{Ghosts}
 use Rattle.nl_running.specs.Reading.{Reads}
-use Rattle.nl_running.specs.declared.answer.Stop.{Stop}
 use Rattle.nl_running.specs.declared.answer.Stop.TheVariants as stop
 use Rattle.nl_tree.specs.declared.reply.Reply.{Reply}
-use Rattle.nl_field.specs.declared.inode.InodeRec.{InodeRec}
-use Rattle.nl_field.specs.declared.pointer.Pointer.{Pointer}
-use Rattle.nl_indirect.specs.Ranges.{IsFileRecord}
-use Rattle.nl_meta.specs.Committed.{VirtualMap}
-use Rattle.nl_meta.specs.Nodes.{pointers_of_inode}
-use Rattle.nl_files.specs.Answers.{IfPages, LosesFile}
-use Rattle.nl_files.specs.Spans.{pointers_from}
+use Rattle.nl_files.specs.Answers.{LosesFile}
 use Rattle.nl_files.specs.declared.answer.CountPages.{CountPages}
 use Rattle.nl_files.specs.declared.answer.CountPages.TheVariants as counted
 use Rattle.nl_files.specs.declared.answer.FileAnswer.{FileAnswer}
 use Rattle.nl_files.specs.declared.answer.FileAnswer.TheVariants as file
-use Rattle.nl_files.proofs.LawProofs.{all_are_of_node}
 use Rattle.nl_looking.specs.Looking.{Ends}
 use Rattle.nl_looking.specs.declared.answer.Looked.{Looked}
 use Rattle.nl_looking.specs.declared.answer.Looked.TheVariants as looked
@@ -71,11 +62,6 @@ ends-after g s t u answer same e = record {
   lost = e.lost;
   told = e.told;
 }
-
-pub reads-after : {D : Type 0} (g : Ghosts D) (s t u : D) (o : Option Stop) → OnlyReads g s t → g.read_faults t ≡ g.read_faults s → Reads g t u o → Reads g s u o
-reads-after g s t u None on same r = r ∙ same
-reads-after g s t u (Some stop.Fault) on same r = subst (λ (n : ℕ). FailuresCounted ⊤ n (g.read_faults u) ⊤) same r
-reads-after g s t u (Some (stop.Lost w f)) on same r = (r.0 ∙ same, (r.1.0, sym (on.medium.virtual.same_stamps r.1.0) ∙ r.1.1), r.2, r.3)
 
 -- ---- what the calls on one file answer
 
@@ -136,10 +122,3 @@ pub loses-other : (P : ℕ → Type 0) (a : FileAnswer) → LosesFile P a → Lo
 loses-other P file.Done l = l
 loses-other P file.Fault l = l
 loses-other P (file.Lost w f) l = (tt, l.1)
-
--- as many pointers as the node has
-pub counts-node : (pages : VirtualMap) (rec : InodeRec) (a : CountPages) → IsFileRecord rec → IfPages a (λ n. n ≡ length (pointers_from pages rec 0)) → IfPages a (λ n. n ≡ length (pointers_of_inode pages rec))
-counts-node pages rec (counted.Pages n) file h =
-    h ∙ ap (λ (ps : List Pointer). length ps) (all_are_of_node pages rec file) ∙ length-map (pointers_of_inode pages rec) (λ (p : ℕ × Pointer). p.1)
-counts-node pages rec counted.Fault file h = h
-counts-node pages rec (counted.Lost w f) file h = h

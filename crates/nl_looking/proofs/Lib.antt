@@ -1,10 +1,7 @@
-pub mod Entries
-pub mod Directories
 pub mod Refusals
 pub mod Answers
 pub mod Ending
 pub mod Spotting
 pub mod Bytes
-pub mod Cores
 pub mod Replies
 pub mod Due

@@ -20,7 +20,7 @@ use Rattle.nl_namespace.specs.declared.answer.Look.TheVariants as look
 use Rattle.nl_held.specs.Trees.{RunsAs}
 use Rattle.nl_looking.specs.Spots.{IsSpot, refusal_of_path}
 use Rattle.nl_looking.specs.declared.answer.Spot.TheVariants as spot
-use Rattle.nl_looking.proofs.Directories.{body-is}
+use Rattle.nl_filing.proofs.Directories.{body-is}
 
 -- the refusal from its three tests
 refusal-is : (tree : Tree) (path : List (List ℕ)) (long : Bool) (prefix : Option Refusal) (there : Option Node) → is_too_long path ≡ long → prefix_refusal tree path ≡ prefix → node_at tree path ≡ there

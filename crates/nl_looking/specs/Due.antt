@@ -1,6 +1,5 @@
 -- What a call that only looks is to answer on a core.
 use Rattle.std.specs.Prelude.{ℕ, List, Option}
-use Rattle.nl_device.specs.declared.device.Device.{Device}
 use Rattle.nl_iface.specs.declared.counts.Counts.{Ghosts}
 use Rattle.nl_meta.specs.Consistent.{PageOfStamp}
 use Rattle.nl_tree.specs.Replay.{Answers}
@@ -16,10 +15,10 @@ use Rattle.nl_looking.specs.declared.answer.Looked.{Looked}
 use Rattle.nl_looking.specs.declared.answer.Spot.{Spot}
 
 -- Where the medium tells its contents, a reply and its bytes are those of the step of each tree as which the core runs.
-abbrev pub AnswersStep : {M : Type 0} → Ghosts (Device M) → Core M → Call → List ℕ → Looked → Type 0
+abbrev pub AnswersStep : {D : Type 0} → Ghosts D → Core D → Call → List ℕ → Looked → Type 0
 AnswersStep g v call bytes answer =
     g.tells → (page_of_stamp : ℕ → Option PageOfStamp) (tree : Tree) → CoreRuns g v page_of_stamp tree → IfReplied answer (λ reply. Answers (step (g.shape v.device) tree call) reply bytes)
 
 -- It is the spot of the path in each tree as which the core runs.
-abbrev pub FindsSpot : {M : Type 0} → Ghosts (Device M) → Core M → List (List ℕ) → Spot → Type 0
+abbrev pub FindsSpot : {D : Type 0} → Ghosts D → Core D → List (List ℕ) → Spot → Type 0
 FindsSpot g v path spot = (page_of_stamp : ℕ → Option PageOfStamp) (tree : Tree) → CoreRuns g v page_of_stamp tree → IsSpot (g.shape v.device) (running_of g v) page_of_stamp tree path spot

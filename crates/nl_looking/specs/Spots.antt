@@ -15,7 +15,7 @@ use Rattle.nl_tree.specs.Step.{first_of, is_too_long, missing, prefix_refusal, w
 use Rattle.nl_tree.specs.Tree.{Tree, directory, file, node_at}
 use Rattle.nl_tree.specs.declared.reply.Refusal.{Refusal}
 use Rattle.nl_tree.specs.declared.reply.Refusal.TheVariants.{Enametoolong}
-use Rattle.nl_effect.specs.FileTrees.{held_content}
+use Rattle.nl_filing.specs.FileTrees.{held_content}
 use Rattle.nl_looking.specs.declared.answer.Spot.{Spot}
 use Rattle.nl_looking.specs.declared.answer.Spot.TheVariants as spot
 

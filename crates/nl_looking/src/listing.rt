@@ -10,26 +10,26 @@ ghost use Rattle.nl_looking.specs.Looking.{Ends, IfNames, IfReplied, IsPlain, br
 use crate::answer::{Looked, Spot};
 use crate::spots::find_spot;
 use nl_core::Core;
-use nl_device::Device;
 use nl_effect::list_names;
 use nl_held::laws::device_stands;
-use nl_iface::Counts;
+use nl_iface::MovingPages;
 use nl_namespace::Listing;
-use nl_nand::Nand;
 use nl_tree::{Path, Refusal, Reply, ReplyBuf};
 
 /// The names of a directory, in order.
-pub(crate) fn list_path<M: Nand>(core: &mut Core<M>, path: &Path, out: &mut ReplyBuf) -> Looked
-    requires formed { ⟦<Device<M> as Counts>⟧.formed core.old.device }
-    requires core { IsCore ⟦<Device<M> as Counts>⟧ core.old }
+pub(crate) fn list_path<D: MovingPages>(
+    core: &mut Core<D>,
+    path: &Path,
+    out: &mut ReplyBuf,
+) -> Looked
+    requires core { IsCore D.Counts core.old }
     requires nothing { out.old ≡ [] }
-    ensures formed { ⟦<Device<M> as Counts>⟧.formed core.new.device }
-    ensures core { IsCore ⟦<Device<M> as Counts>⟧ core.new }
-    ensures same { ReadsOn ⟦<Device<M> as Counts>⟧ core.old core.new }
-    ensures answer { AnswersStep ⟦<Device<M> as Counts>⟧ core.old (List path.now) out.new result }
+    ensures core { IsCore D.Counts core.new }
+    ensures same { ReadsOn D.Counts core.old core.new }
+    ensures answer { AnswersStep D.Counts core.old (List path.now) out.new result }
     ensures plain { IfReplied result IsPlain }
     ensures out { brings_bytes result ≡ false → out.new ≡ [] }
-    ensures ends { Ends ⟦<Device<M> as Counts>⟧ core.old.device core.new.device result }
+    ensures ends { Ends D.Counts core.old.device core.new.device result }
 {
     device_stands(&core.device);
     match find_spot(core, path) {
@@ -41,16 +41,14 @@ pub(crate) fn list_path<M: Nand>(core: &mut Core<M>, path: &Path, out: &mut Repl
     }
 }
 
-fn list_directory<M: Nand>(core: &mut Core<M>, ino: u32, out: &mut ReplyBuf) -> Looked
-    requires formed { ⟦<Device<M> as Counts>⟧.formed core.old.device }
-    requires core { IsCore ⟦<Device<M> as Counts>⟧ core.old }
-    requires directory { IsDirectoryAt ⟦<Device<M> as Counts>⟧ core.old.device core.old.meta ino }
-    ensures formed { ⟦<Device<M> as Counts>⟧.formed core.new.device }
-    ensures core { IsCore ⟦<Device<M> as Counts>⟧ core.new }
-    ensures same { ReadsOn ⟦<Device<M> as Counts>⟧ core.old core.new }
-    ensures names { IfNames result (λ n. ListsNames ⟦<Device<M> as Counts>⟧ core.old.device core.old.meta ino n out.new) }
+fn list_directory<D: MovingPages>(core: &mut Core<D>, ino: u32, out: &mut ReplyBuf) -> Looked
+    requires core { IsCore D.Counts core.old }
+    requires directory { IsDirectoryAt D.Counts core.old.device core.old.meta ino }
+    ensures core { IsCore D.Counts core.new }
+    ensures same { ReadsOn D.Counts core.old core.new }
+    ensures names { IfNames result (λ n. ListsNames D.Counts core.old.device core.old.meta ino n out.new) }
     ensures out { brings_bytes result ≡ false → out.new ≡ [] }
-    ensures ends { Ends ⟦<Device<M> as Counts>⟧ core.old.device core.new.device result }
+    ensures ends { Ends D.Counts core.old.device core.new.device result }
 {
     match list_names(core, ino, out) {
         Listing::Listed(count) => Looked::Replied(Reply::Names(count)),

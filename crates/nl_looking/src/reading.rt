@@ -5,7 +5,7 @@ ghost use Rattle.nl_tree.specs.declared.call.Call.TheVariants.{Read};
 ghost use Rattle.nl_core.specs.Core.{IsCore, running_of};
 ghost use Rattle.nl_files.specs.Answers.{IsLostFile, LosesFile};
 ghost use Rattle.nl_files.specs.Reading.{AreBytesFrom, file_page};
-ghost use Rattle.nl_effect.specs.Fits.{IsFileOf};
+ghost use Rattle.nl_filing.specs.Fits.{IsFileOf};
 ghost use Rattle.nl_effect.specs.Steps.{ReadsOn};
 ghost use Rattle.nl_looking.specs.Due.{AnswersStep};
 ghost use Rattle.nl_looking.specs.Looking.{Ends, IfContent, IfReplied, IsPlain, brings_bytes};
@@ -14,37 +14,33 @@ ghost use Rattle.nl_looking.specs.Pieces.{AddsBytes};
 use crate::answer::{Looked, Spot};
 use crate::spots::find_spot;
 use nl_core::Core;
-use nl_device::Device;
 use nl_effect::read_file;
 use nl_field::{InodeRec, PageBuf};
 use nl_files::FileAnswer;
 use nl_held::laws::device_stands;
-use nl_iface::Counts;
-use nl_nand::Nand;
+use nl_iface::MovingPages;
 use nl_tree::{Path, Refusal, Reply, ReplyBuf};
 
 const PAGE: u64 = 4096;
 
 /// The bytes of a file from an offset on, at most so many, ending at its size. `page` is work space.
-pub(crate) fn read_path<M: Nand>(
-    core: &mut Core<M>,
+pub(crate) fn read_path<D: MovingPages>(
+    core: &mut Core<D>,
     path: &Path,
     from: u64,
     len: u32,
     out: &mut ReplyBuf,
     page: &mut PageBuf,
 ) -> Looked
-    requires formed { ⟦<Device<M> as Counts>⟧.formed core.old.device }
-    requires core { IsCore ⟦<Device<M> as Counts>⟧ core.old }
+    requires core { IsCore D.Counts core.old }
     requires few { len ≤ max_bytes }
     requires nothing { out.old ≡ [] }
-    ensures formed { ⟦<Device<M> as Counts>⟧.formed core.new.device }
-    ensures core { IsCore ⟦<Device<M> as Counts>⟧ core.new }
-    ensures same { ReadsOn ⟦<Device<M> as Counts>⟧ core.old core.new }
-    ensures answer { AnswersStep ⟦<Device<M> as Counts>⟧ core.old (Read path.now from len) out.new result }
+    ensures core { IsCore D.Counts core.new }
+    ensures same { ReadsOn D.Counts core.old core.new }
+    ensures answer { AnswersStep D.Counts core.old (Read path.now from len) out.new result }
     ensures plain { IfReplied result IsPlain }
     ensures out { brings_bytes result ≡ false → out.new ≡ [] }
-    ensures ends { Ends ⟦<Device<M> as Counts>⟧ core.old.device core.new.device result }
+    ensures ends { Ends D.Counts core.old.device core.new.device result }
 {
     device_stands(&core.device);
     match find_spot(core, path) {
@@ -67,8 +63,8 @@ fn bytes_there(size: u64, from: u64, len: u32) -> u32
 }
 
 /// Reads what a file has from an offset on, at most so many bytes.
-fn read_bytes<M: Nand>(
-    core: &mut Core<M>,
+fn read_bytes<D: MovingPages>(
+    core: &mut Core<D>,
     ino: u32,
     rec: &InodeRec,
     from: u64,
@@ -76,18 +72,17 @@ fn read_bytes<M: Nand>(
     out: &mut ReplyBuf,
     page: &mut PageBuf,
 ) -> Looked
-    requires formed { ⟦<Device<M> as Counts>⟧.formed core.old.device }
-    requires core { IsCore ⟦<Device<M> as Counts>⟧ core.old }
-    requires file { IsFileOf ⟦<Device<M> as Counts>⟧ core.old.device core.old.meta ino rec.now }
+    requires core { IsCore D.Counts core.old }
+    requires file { IsFileOf D.Counts core.old.device core.old.meta ino rec.now }
     requires few { len ≤ max_bytes }
     requires nothing { out.old ≡ [] }
-    ensures formed { ⟦<Device<M> as Counts>⟧.formed core.new.device }
-    ensures core { IsCore ⟦<Device<M> as Counts>⟧ core.new }
-    ensures same { ReadsOn ⟦<Device<M> as Counts>⟧ core.old core.new }
+    ensures core { IsCore D.Counts core.new }
+    ensures same { ReadsOn D.Counts core.old core.new }
     ensures content { IfContent result (length out.new ≡ min len (rec.now.size - from)) }
-    ensures bytes { M.tells → IfContent result (AreBytesFrom (file_page ⟦<Device<M> as Counts>⟧ core.old.device (running_of ⟦<Device<M> as Counts>⟧ core.old) rec.now) from out.new) }
+    ensures bytes { D.tells
+        → IfContent result (AreBytesFrom (file_page D.Counts core.old.device (running_of D.Counts core.old) rec.now) from out.new) }
     ensures out { brings_bytes result ≡ false → out.new ≡ [] }
-    ensures ends { Ends ⟦<Device<M> as Counts>⟧ core.old.device core.new.device result }
+    ensures ends { Ends D.Counts core.old.device core.new.device result }
 {
     let count = bytes_there(rec.size, from, len);
     match read_pieces(core, ino, rec, from, count, out, page) {
@@ -104,8 +99,8 @@ fn read_bytes<M: Nand>(
 }
 
 /// Reads so many bytes of a file from an offset on, page by page. After `Fault` and `Lost` the buffer has some of them.
-fn read_pieces<M: Nand>(
-    core: &mut Core<M>,
+fn read_pieces<D: MovingPages>(
+    core: &mut Core<D>,
     ino: u32,
     rec: &InodeRec,
     from: u64,
@@ -113,20 +108,19 @@ fn read_pieces<M: Nand>(
     out: &mut ReplyBuf,
     page: &mut PageBuf,
 ) -> FileAnswer
-    requires formed { ⟦<Device<M> as Counts>⟧.formed core.old.device }
-    requires core { IsCore ⟦<Device<M> as Counts>⟧ core.old }
-    requires file { IsFileOf ⟦<Device<M> as Counts>⟧ core.old.device core.old.meta ino rec.now }
+    requires core { IsCore D.Counts core.old }
+    requires file { IsFileOf D.Counts core.old.device core.old.meta ino rec.now }
     requires within { 0 < count → from + count ≤ rec.now.size }
     requires few { count ≤ max_bytes }
     requires nothing { out.old ≡ [] }
-    ensures formed { ⟦<Device<M> as Counts>⟧.formed core.new.device }
-    ensures core { IsCore ⟦<Device<M> as Counts>⟧ core.new }
-    ensures same { ReadsOn ⟦<Device<M> as Counts>⟧ core.old core.new }
+    ensures core { IsCore D.Counts core.new }
+    ensures same { ReadsOn D.Counts core.old core.new }
     ensures len { result ≡ FileAnswer.Done → length out.new ≡ count }
-    ensures bytes { M.tells → result ≡ FileAnswer.Done → AreBytesFrom (file_page ⟦<Device<M> as Counts>⟧ core.old.device (running_of ⟦<Device<M> as Counts>⟧ core.old) rec.now) from out.new }
-    ensures faults { ReadsCounted ⟦<Device<M> as Counts>⟧ (result ≡ FileAnswer.Fault) core.old.device core.new.device }
+    ensures bytes { D.tells → result ≡ FileAnswer.Done
+        → AreBytesFrom (file_page D.Counts core.old.device (running_of D.Counts core.old) rec.now) from out.new }
+    ensures faults { ReadsCounted D.Counts (result ≡ FileAnswer.Fault) core.old.device core.new.device }
     ensures lost { LosesFile (λ w. ⊤) result }
-    ensures told { M.tells → IsLostFile result → ⊥ }
+    ensures told { D.tells → IsLostFile result → ⊥ }
 {
     device_stands(&core.device);
     let mut done = 0;
@@ -152,8 +146,8 @@ fn piece_length(at: u64, left: u32) -> u32
 }
 
 /// Adds so many bytes of a file, at most those of a page, behind those of the buffer. After `Fault` and `Lost` that has what it had.
-fn read_piece<M: Nand>(
-    core: &mut Core<M>,
+fn read_piece<D: MovingPages>(
+    core: &mut Core<D>,
     ino: u32,
     rec: &InodeRec,
     at: u64,
@@ -161,28 +155,27 @@ fn read_piece<M: Nand>(
     out: &mut ReplyBuf,
     page: &mut PageBuf,
 ) -> FileAnswer
-    requires formed { ⟦<Device<M> as Counts>⟧.formed core.old.device }
-    requires core { IsCore ⟦<Device<M> as Counts>⟧ core.old }
-    requires file { IsFileOf ⟦<Device<M> as Counts>⟧ core.old.device core.old.meta ino rec.now }
+    requires core { IsCore D.Counts core.old }
+    requires file { IsFileOf D.Counts core.old.device core.old.meta ino rec.now }
     requires within { at + count ≤ rec.now.size }
     requires few { count ≤ 4096 }
     requires room { length out.old + count ≤ max_bytes }
-    ensures formed { ⟦<Device<M> as Counts>⟧.formed core.new.device }
-    ensures core { IsCore ⟦<Device<M> as Counts>⟧ core.new }
-    ensures same { ReadsOn ⟦<Device<M> as Counts>⟧ core.old core.new }
+    ensures core { IsCore D.Counts core.new }
+    ensures same { ReadsOn D.Counts core.old core.new }
     ensures len { result ≡ FileAnswer.Done → length out.new ≡ length out.old + count }
-    ensures bytes { M.tells → result ≡ FileAnswer.Done → AddsBytes (file_page ⟦<Device<M> as Counts>⟧ core.old.device (running_of ⟦<Device<M> as Counts>⟧ core.old) rec.now) at out.old out.new }
-    ensures faults { ReadsCounted ⟦<Device<M> as Counts>⟧ (result ≡ FileAnswer.Fault) core.old.device core.new.device }
+    ensures bytes { D.tells → result ≡ FileAnswer.Done
+        → AddsBytes (file_page D.Counts core.old.device (running_of D.Counts core.old) rec.now) at out.old out.new }
+    ensures faults { ReadsCounted D.Counts (result ≡ FileAnswer.Fault) core.old.device core.new.device }
     ensures lost { LosesFile (λ w. ⊤) result }
-    ensures told { M.tells → IsLostFile result → ⊥ }
+    ensures told { D.tells → IsLostFile result → ⊥ }
 {
     let mut piece = [0u8; 4096];
     read_into(core, ino, rec, at, &mut piece[..count as usize], out, page)
 }
 
 /// Reads bytes of a file into work space, and adds them to the buffer.
-fn read_into<M: Nand>(
-    core: &mut Core<M>,
+fn read_into<D: MovingPages>(
+    core: &mut Core<D>,
     ino: u32,
     rec: &InodeRec,
     at: u64,
@@ -190,19 +183,18 @@ fn read_into<M: Nand>(
     out: &mut ReplyBuf,
     page: &mut PageBuf,
 ) -> FileAnswer
-    requires formed { ⟦<Device<M> as Counts>⟧.formed core.old.device }
-    requires core { IsCore ⟦<Device<M> as Counts>⟧ core.old }
-    requires file { IsFileOf ⟦<Device<M> as Counts>⟧ core.old.device core.old.meta ino rec.now }
+    requires core { IsCore D.Counts core.old }
+    requires file { IsFileOf D.Counts core.old.device core.old.meta ino rec.now }
     requires within { at + length piece.old ≤ rec.now.size }
     requires room { length out.old + length piece.old ≤ max_bytes }
-    ensures formed { ⟦<Device<M> as Counts>⟧.formed core.new.device }
-    ensures core { IsCore ⟦<Device<M> as Counts>⟧ core.new }
-    ensures same { ReadsOn ⟦<Device<M> as Counts>⟧ core.old core.new }
+    ensures core { IsCore D.Counts core.new }
+    ensures same { ReadsOn D.Counts core.old core.new }
     ensures len { result ≡ FileAnswer.Done → length out.new ≡ length out.old + length piece.old }
-    ensures bytes { M.tells → result ≡ FileAnswer.Done → AddsBytes (file_page ⟦<Device<M> as Counts>⟧ core.old.device (running_of ⟦<Device<M> as Counts>⟧ core.old) rec.now) at out.old out.new }
-    ensures faults { ReadsCounted ⟦<Device<M> as Counts>⟧ (result ≡ FileAnswer.Fault) core.old.device core.new.device }
+    ensures bytes { D.tells → result ≡ FileAnswer.Done
+        → AddsBytes (file_page D.Counts core.old.device (running_of D.Counts core.old) rec.now) at out.old out.new }
+    ensures faults { ReadsCounted D.Counts (result ≡ FileAnswer.Fault) core.old.device core.new.device }
     ensures lost { LosesFile (λ w. ⊤) result }
-    ensures told { M.tells → IsLostFile result → ⊥ }
+    ensures told { D.tells → IsLostFile result → ⊥ }
 {
     match read_file(core, ino, rec, at, piece, page) {
         FileAnswer::Done => {

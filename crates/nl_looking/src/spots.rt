@@ -8,27 +8,23 @@ ghost use Rattle.nl_looking.specs.Spots.{HasNode, IsOfNode, spot_stop};
 
 use crate::answer::Spot;
 use nl_core::Core;
-use nl_device::Device;
 use nl_effect::{look_up, open_node};
 use nl_field::Kind;
 use nl_held::laws::device_stands;
-use nl_iface::Counts;
+use nl_iface::MovingPages;
 use nl_namespace::Look;
 use nl_namespace::laws::looks_in_tree;
-use nl_nand::Nand;
 use nl_running::Stop;
 use nl_tree::{Path, Refusal, is_long};
 
 /// What stands at a path.
-pub(crate) fn find_spot<M: Nand>(core: &mut Core<M>, path: &Path) -> Spot
-    requires formed { ⟦<Device<M> as Counts>⟧.formed core.old.device }
-    requires core { IsCore ⟦<Device<M> as Counts>⟧ core.old }
-    ensures formed { ⟦<Device<M> as Counts>⟧.formed core.new.device }
-    ensures core { IsCore ⟦<Device<M> as Counts>⟧ core.new }
-    ensures same { ReadsOn ⟦<Device<M> as Counts>⟧ core.old core.new }
-    ensures spot { FindsSpot ⟦<Device<M> as Counts>⟧ core.old path.now result }
-    ensures node { HasNode ⟦<Device<M> as Counts>⟧ core.new.device core.new.meta result }
-    ensures reads { Reads ⟦<Device<M> as Counts>⟧ core.old.device core.new.device (spot_stop result) }
+pub(crate) fn find_spot<D: MovingPages>(core: &mut Core<D>, path: &Path) -> Spot
+    requires core { IsCore D.Counts core.old }
+    ensures core { IsCore D.Counts core.new }
+    ensures same { ReadsOn D.Counts core.old core.new }
+    ensures spot { FindsSpot D.Counts core.old path.now result }
+    ensures node { HasNode D.Counts core.new.device core.new.meta result }
+    ensures reads { Reads D.Counts core.old.device core.new.device (spot_stop result) }
 {
     looks_in_tree();
     device_stands(&core.device);
@@ -45,17 +41,15 @@ pub(crate) fn find_spot<M: Nand>(core: &mut Core<M>, path: &Path) -> Spot
 }
 
 /// What a used node is.
-fn open_spot<M: Nand>(core: &mut Core<M>, ino: u32) -> Spot
-    requires formed { ⟦<Device<M> as Counts>⟧.formed core.old.device }
-    requires core { IsCore ⟦<Device<M> as Counts>⟧ core.old }
-    requires used { IsUsed ⟦<Device<M> as Counts>⟧ core.old.device core.old.meta ino }
-    ensures formed { ⟦<Device<M> as Counts>⟧.formed core.new.device }
-    ensures core { IsCore ⟦<Device<M> as Counts>⟧ core.new }
-    ensures same { ReadsOn ⟦<Device<M> as Counts>⟧ core.old core.new }
+fn open_spot<D: MovingPages>(core: &mut Core<D>, ino: u32) -> Spot
+    requires core { IsCore D.Counts core.old }
+    requires used { IsUsed D.Counts core.old.device core.old.meta ino }
+    ensures core { IsCore D.Counts core.new }
+    ensures same { ReadsOn D.Counts core.old core.new }
     ensures ino { IsOfNode ino result }
-    ensures was { HasNode ⟦<Device<M> as Counts>⟧ core.old.device core.old.meta result }
-    ensures node { HasNode ⟦<Device<M> as Counts>⟧ core.new.device core.new.meta result }
-    ensures reads { Reads ⟦<Device<M> as Counts>⟧ core.old.device core.new.device (spot_stop result) }
+    ensures was { HasNode D.Counts core.old.device core.old.meta result }
+    ensures node { HasNode D.Counts core.new.device core.new.meta result }
+    ensures reads { Reads D.Counts core.old.device core.new.device (spot_stop result) }
 {
     match open_node(core, ino) {
         Ok(rec) => match rec.kind {

@@ -2,7 +2,7 @@ ghost use Rattle.std.specs.Prelude.{◌≡◌, ◌≤◌, ℕ, [], length};
 ghost use Rattle.nl_meta.specs.Nodes.{pointers_of_inode};
 ghost use Rattle.nl_tree.specs.declared.call.Call.TheVariants.{Stat};
 ghost use Rattle.nl_core.specs.Core.{IsCore, running_of};
-ghost use Rattle.nl_effect.specs.Fits.{IsFileOf};
+ghost use Rattle.nl_filing.specs.Fits.{IsFileOf};
 ghost use Rattle.nl_effect.specs.Steps.{ReadsOn};
 ghost use Rattle.nl_looking.specs.Due.{AnswersStep};
 ghost use Rattle.nl_looking.specs.Looking.{Ends, IfFile, IfReplied, IsPlain};
@@ -10,25 +10,21 @@ ghost use Rattle.nl_looking.specs.Looking.{Ends, IfFile, IfReplied, IsPlain};
 use crate::answer::{Looked, Spot};
 use crate::spots::find_spot;
 use nl_core::Core;
-use nl_device::Device;
 use nl_effect::count_file;
 use nl_field::InodeRec;
 use nl_files::CountPages;
 use nl_held::laws::device_stands;
-use nl_iface::Counts;
-use nl_nand::Nand;
+use nl_iface::MovingPages;
 use nl_tree::{Path, Reply};
 
 /// What stands at a path: a file with its size and how many pages hold bytes, or a directory with how many entries it has.
-pub(crate) fn stat_path<M: Nand>(core: &mut Core<M>, path: &Path) -> Looked
-    requires formed { ⟦<Device<M> as Counts>⟧.formed core.old.device }
-    requires core { IsCore ⟦<Device<M> as Counts>⟧ core.old }
-    ensures formed { ⟦<Device<M> as Counts>⟧.formed core.new.device }
-    ensures core { IsCore ⟦<Device<M> as Counts>⟧ core.new }
-    ensures same { ReadsOn ⟦<Device<M> as Counts>⟧ core.old core.new }
-    ensures answer { AnswersStep ⟦<Device<M> as Counts>⟧ core.old (Stat path.now) [] result }
+pub(crate) fn stat_path<D: MovingPages>(core: &mut Core<D>, path: &Path) -> Looked
+    requires core { IsCore D.Counts core.old }
+    ensures core { IsCore D.Counts core.new }
+    ensures same { ReadsOn D.Counts core.old core.new }
+    ensures answer { AnswersStep D.Counts core.old (Stat path.now) [] result }
     ensures plain { IfReplied result IsPlain }
-    ensures ends { Ends ⟦<Device<M> as Counts>⟧ core.old.device core.new.device result }
+    ensures ends { Ends D.Counts core.old.device core.new.device result }
 {
     device_stands(&core.device);
     match find_spot(core, path) {
@@ -51,15 +47,14 @@ fn entries_in(rec: &InodeRec) -> u32
 }
 
 /// The size of a file, and how many of its page indexes have a pointer.
-fn stat_file<M: Nand>(core: &mut Core<M>, rec: &InodeRec) -> Looked
-    requires formed { ⟦<Device<M> as Counts>⟧.formed core.old.device }
-    requires core { IsCore ⟦<Device<M> as Counts>⟧ core.old }
-    requires file { (n : ℕ) × IsFileOf ⟦<Device<M> as Counts>⟧ core.old.device core.old.meta n rec.now }
-    ensures formed { ⟦<Device<M> as Counts>⟧.formed core.new.device }
-    ensures core { IsCore ⟦<Device<M> as Counts>⟧ core.new }
-    ensures same { ReadsOn ⟦<Device<M> as Counts>⟧ core.old core.new }
-    ensures file { IfFile result (λ size pages. (size ≡ rec.now.size) × (pages ≡ length (pointers_of_inode (running_of ⟦<Device<M> as Counts>⟧ core.old) rec.now))) }
-    ensures ends { Ends ⟦<Device<M> as Counts>⟧ core.old.device core.new.device result }
+fn stat_file<D: MovingPages>(core: &mut Core<D>, rec: &InodeRec) -> Looked
+    requires core { IsCore D.Counts core.old }
+    requires file { (n : ℕ) × IsFileOf D.Counts core.old.device core.old.meta n rec.now }
+    ensures core { IsCore D.Counts core.new }
+    ensures same { ReadsOn D.Counts core.old core.new }
+    ensures file { IfFile result (λ size pages.
+        (size ≡ rec.now.size) × (pages ≡ length (pointers_of_inode (running_of D.Counts core.old) rec.now))) }
+    ensures ends { Ends D.Counts core.old.device core.new.device result }
 {
     match count_file(core, rec) {
         CountPages::Pages(pages) => Looked::Replied(Reply::File {

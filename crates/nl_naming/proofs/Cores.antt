@@ -3,7 +3,6 @@ use Rattle.std.proofs.Common.{◌≡◌, ℕ, ◌+◌, ◌≤◌, List, ◌++◌
 use Rattle.std.proofs.lemmas.List.{length-append}
 use Rattle.nl_field.specs.PointerItems.{PointerItems}
 use Rattle.nl_field.specs.declared.pointer.Pointer.{Pointer}
-use Rattle.nl_device.specs.declared.device.Device.{Device}
 use Rattle.nl_flight.specs.Flight.{carried}
 use Rattle.nl_iface.specs.Calls.{StoresPages}
 use Rattle.nl_iface.specs.Device.{IsVolumeShape}
@@ -23,13 +22,13 @@ use Rattle.nl_namespace.specs.Changing.{FreeFits}
 use Rattle.nl_naming.specs.Gathering.{graph_on, pointers_of_node}
 use Rattle.nl_naming.proofs.Ended.{Ended, as_many, held_on}
 
-pub fits_of : {M : Type 0} (g : Ghosts (Device M)) (v : Core M) → IsCore g v → FreeFits g v.device v.meta v.nodes
+pub fits_of : {D : Type 0} (g : Ghosts D) (v : Core D) → IsCore g v → FreeFits g v.device v.meta v.nodes
 fits_of g v core = record { count_nodes = core.free.count_nodes; count_pool = core.free.count_pool; nodes = core.free.nodes; pool = core.free.pool }
 
 -- ---- the list of pointers has other room
 
-module _ {M : Type 0} (g : Ghosts (Device M)) (v : Core M) (f : PointerItems) (items : f.items ≡ v.freeing.items) (room : length v.freeing.items + v.freeing.room ≤ length f.items + f.room) where
-  abbrev roomy : Core M
+module _ {D : Type 0} (g : Ghosts D) (v : Core D) (f : PointerItems) (items : f.items ≡ v.freeing.items) (room : length v.freeing.items + v.freeing.room ≤ length f.items + f.room) where
+  abbrev roomy : Core D
   roomy = record v { freeing = f }
 
   pub roomy_step : Steps g v roomy
@@ -48,13 +47,13 @@ module _ {M : Type 0} (g : Ghosts (Device M)) (v : Core M) (f : PointerItems) (i
     }
 
     pub roomy_core : IsCore g roomy
-    roomy_core = stepped_core g v roomy core volume roomy_step held stores
+    roomy_core = stepped_core g v roomy core volume roomy_step held core.formed stores
 
 -- ---- names changed
 
-module _ {M : Type 0} (g : Ghosts (Device M)) (v : Core M) (d : Device M) (now : Pages) (after : Spaces) (f : PointerItems) (call : Call) (gone : Option ℕ) (e : Ended g v.device v.meta v.nodes d now after call gone)
+module _ {D : Type 0} (g : Ghosts D) (v : Core D) (d : D) (now : Pages) (after : Spaces) (f : PointerItems) (call : Call) (gone : Option ℕ) (e : Ended g v.device v.meta v.nodes d now after call gone)
     (faults : g.read_faults v.device ≤ g.read_faults d) (items : f.items ≡ v.freeing.items ++ pointers_of_node (graph_on g v) gone) (room : length v.freeing.items + v.freeing.room ≤ length f.items + f.room) where
-  abbrev renamed : Core M
+  abbrev renamed : Core D
   renamed = record v { device = d; meta = now; nodes = after; freeing = f }
 
   pub renamed_step : Steps g v renamed
@@ -82,5 +81,5 @@ module _ {M : Type 0} (g : Ghosts (Device M)) (v : Core M) (d : Device M) (now :
       fewer = λ x has. has;
     }
 
-    pub renamed_core : (g.tells → StoresPages g d) → IsCore g renamed
-    renamed_core stores = stepped_core g v renamed core volume renamed_step renamed_held stores
+    pub renamed_core : g.formed d → (g.tells → StoresPages g d) → IsCore g renamed
+    renamed_core formed stores = stepped_core g v renamed core volume renamed_step renamed_held formed stores

@@ -9,7 +9,6 @@ use Rattle.nl_field.specs.declared.inode.Kind.{Kind}
 use Rattle.nl_field.specs.declared.inode.Kind.TheVariants.{Dir, File, Unused}
 use Rattle.nl_field.specs.declared.pointer.Pointer.{Pointer}
 use Rattle.nl_field.specs.declared.shape.Shape.{Shape}
-use Rattle.nl_device.specs.declared.device.Device.{Device}
 use Rattle.nl_iface.specs.Calls.{OnlyReads}
 use Rattle.nl_iface.specs.Counting.{FailuresCounted}
 use Rattle.nl_iface.specs.Device.{IsVolumeShape}
@@ -34,10 +33,10 @@ use Rattle.nl_commit.specs.Holding.{running_holders}
 use Rattle.nl_held.proofs.FileLists.{node_changes}
 use Rattle.nl_core.specs.Core.{IsCore, names_of, running_of}
 use Rattle.nl_core.specs.declared.state.Core.{Core}
-use Rattle.nl_effect.specs.Fits.{IsFileOf}
+use Rattle.nl_filing.specs.Fits.{IsFileOf}
 use Rattle.nl_effect.specs.Steps.{ReadsOn}
 use Rattle.nl_effect.proofs.FileInstalled.{few_await, flight_has_room}
-use Rattle.nl_effect.proofs.Fits.{reads_run, stands}
+use Rattle.nl_filing.proofs.Fits.{reads_run, stands}
 use Rattle.nl_effect.proofs.Stepping.{read_on}
 use Rattle.nl_naming.specs.Gathering.{GathersOn, OpensNode, graph_on, pointers_of_node}
 use Rattle.nl_naming.proofs.Holders.{plain_by}
@@ -52,7 +51,7 @@ on_err (Err e) f h = f h
 
 -- ---- one call after another
 
-module _ {M : Type 0} (g : Ghosts (Device M)) (v w : Core M) (volume : IsVolumeShape (g.shape v.device)) (r : ReadsOn g v w) where
+module _ {D : Type 0} (g : Ghosts D) (v w : Core D) (volume : IsVolumeShape (g.shape v.device)) (r : ReadsOn g v w) where
   pub same_shape : g.shape w.device ≡ g.shape v.device
   same_shape = r.runs.reads.medium.virtual.same_shape
 
@@ -60,23 +59,23 @@ module _ {M : Type 0} (g : Ghosts (Device M)) (v w : Core M) (volume : IsVolumeS
   same_graph = ap (λ (h : Shape). graph_of h (running_of g w)) same_shape ∙ graph-same (g.shape v.device) (bounds-of (g.shape v.device) volume) (running_of g v) (running_of g w) r.runs.needed
 
   same_freeing : w.freeing ≡ v.freeing
-  same_freeing = ap (λ (x : Core M). x.freeing) r.others
+  same_freeing = ap (λ (x : Core D). x.freeing) r.others
 
-  pub then_on : (u : Core M) → ReadsOn g w u → ReadsOn g v u
+  pub then_on : (u : Core D) → ReadsOn g w u → ReadsOn g v u
   then_on u next = record {
     runs = kept-then g v.device v.meta w.device w.meta (bounds-of (g.shape v.device) volume) r.runs u.device u.meta next.runs;
     read_faults = let m = r.read_faults in let n = next.read_faults in omega (arith, m, n);
-    others = next.others ∙ ap (λ (x : Core M). record x { device = u.device; meta = u.meta }) r.others;
+    others = next.others ∙ ap (λ (x : Core D). record x { device = u.device; meta = u.meta }) r.others;
   }
 
-  pub then_gathers : (u : Core M) (xs : List Pointer) → GathersOn g w u xs → GathersOn g v u xs
+  pub then_gathers : (u : Core D) (xs : List Pointer) → GathersOn g w u xs → GathersOn g v u xs
   then_gathers u xs h = record {
     reads = then_on (record u { freeing = v.freeing }) (subst (λ (f : PointerItems). ReadsOn g w (record u { freeing = f })) same_freeing h.reads);
     items = h.items ∙ ap (λ (f : PointerItems). f.items ++ xs) same_freeing;
     room = let same = ap (λ (f : PointerItems). length f.items + f.room) same_freeing in let more = h.room in omega (arith, same, more);
   }
 
-  pub then_opens : (u : Core M) (n : ℕ) → IsUsed g v.device v.meta n → OpensNode g w u n → OpensNode g v u n
+  pub then_opens : (u : Core D) (n : ℕ) → IsUsed g v.device v.meta n → OpensNode g w u n → OpensNode g v u n
   then_opens u n used h = record { used = used; there = h.there }
 
   pub then_used : (n : ℕ) → IsUsed g v.device v.meta n → IsUsed g w.device w.meta n
@@ -101,7 +100,7 @@ fault_counted failed before now is f = record { never_falls = f.never_falls; cau
 
 -- ---- the pointers of a node
 
-module _ {M : Type 0} (g : Ghosts (Device M)) (v : Core M) (n : ℕ) (rec : InodeRec) (node : IsNodeOf g v.device v.meta n rec) where
+module _ {D : Type 0} (g : Ghosts D) (v : Core D) (n : ℕ) (rec : InodeRec) (node : IsNodeOf g v.device v.meta n rec) where
   at_node : pointers_of_node (graph_on g v) (Some n) ≡ map (λ (p : ℕ × Pointer). p.1) (pointers_in (body_of (running_of g v) rec rec.kind))
   at_node = ap (λ (x : GraphNode). map (λ (p : ℕ × Pointer). p.1) (pointers_in x.body)) (node_is (g.shape v.device) (running_of g v) n rec node)
 
@@ -131,7 +130,7 @@ module _ {M : Type 0} (g : Ghosts (Device M)) (v : Core M) (n : ℕ) (rec : Inod
 
 -- ---- a file
 
-module _ {M : Type 0} (g : Ghosts (Device M)) (v : Core M) (n : ℕ) (rec : InodeRec) (core : IsCore g v) (file : IsFileOf g v.device v.meta n rec) where
+module _ {D : Type 0} (g : Ghosts D) (v : Core D) (n : ℕ) (rec : InodeRec) (core : IsCore g v) (file : IsFileOf g v.device v.meta n rec) where
   pub own : length (pointers_from (running_of g v) rec 0) ≤ length (running_holders g v.device v.meta)
   own =
       let e = ap length (of_file g v n rec file.is_node core.journaled.runs file.is_file) in
@@ -145,7 +144,7 @@ module _ {M : Type 0} (g : Ghosts (Device M)) (v : Core M) (n : ℕ) (rec : Inod
     pub has_numbers : length v.freeing.items + length (pointers_from (running_of g v) rec 0) < 2 ^ 32
     has_numbers = let most = own in let few = few_await g v core volume names in omega (arith, most, few)
 
-  pub file_gathers : (d : Device M) (m : Pages) (f : PointerItems) (xs : List Pointer) → OnlyReads g v.device d → KeepsRunning g v.device v.meta m → LoadsOwn rec v.meta m → g.read_faults v.device ≤ g.read_faults d
+  pub file_gathers : (d : D) (m : Pages) (f : PointerItems) (xs : List Pointer) → OnlyReads g v.device d → KeepsRunning g v.device v.meta m → LoadsOwn rec v.meta m → g.read_faults v.device ≤ g.read_faults d
       → f.items ≡ v.freeing.items ++ xs → length v.freeing.items + v.freeing.room ≤ length f.items + f.room → GathersOn g v (record v { device = d; meta = m; freeing = f }) xs
   file_gathers d m f xs kept pages only faults items room = record {
     reads = read_on g v d m (reads_run g v.device d v.meta m n rec core.journaled.runs file kept pages only) faults;

@@ -5,7 +5,6 @@ use Rattle.std.specs.Prelude.{IfSome}
 use Rattle.nl_field.specs.Graph.{Graph}
 use Rattle.nl_field.specs.PointerItems.{PointerItems}
 use Rattle.nl_field.specs.declared.shape.Shape.{Shape}
-use Rattle.nl_device.specs.declared.device.Device.{Device}
 use Rattle.nl_dir.specs.Directory.{HasRoomFor}
 use Rattle.nl_iface.specs.Calls.{StoresPages}
 use Rattle.nl_iface.specs.Device.{IsVolumeShape}
@@ -27,7 +26,7 @@ use Rattle.nl_commit.specs.Holding.{running_holders}
 use Rattle.nl_core.specs.Core.{IsCore}
 use Rattle.nl_core.specs.declared.state.Core.{Core}
 use Rattle.nl_effect.specs.Steps.{ReadAlike, ReadsOn, Steps}
-use Rattle.nl_effect.proofs.DirtyRoom.{few_has_room}
+use Rattle.nl_filing.proofs.DirtyRoom.{few_has_room}
 use Rattle.nl_effect.proofs.Stepping.{read_alike, reads_rise, steps_then}
 use Rattle.nl_namespace.specs.Calls.{ChangesInTree, ChangesNames}
 use Rattle.nl_namespace.specs.Changing.{Changes, Leaves}
@@ -37,7 +36,8 @@ use Rattle.nl_namespace.specs.declared.answer.Change.TheVariants as change
 use Rattle.nl_naming.specs.Dropping.{DropsNode}
 use Rattle.nl_naming.specs.Gathering.{GathersOn, OpensNode, graph_on, node_lost, pointers_of_node}
 use Rattle.nl_naming.specs.Naming.{AnswersAs, EndsAs, StandsNow, answer_of, naming_stop, stopped_by}
-use Rattle.nl_naming.specs.Settling.{CanDrop, IfGone, Settles, Shortens}
+use Rattle.nl_core.specs.Lines.{Withdraws}
+use Rattle.nl_naming.specs.Settling.{CanDrop, IfGone, Settles}
 use Rattle.nl_naming.specs.declared.answer.Naming.{Naming}
 use Rattle.nl_naming.specs.declared.answer.Naming.TheVariants as naming
 use Rattle.nl_naming.proofs.Cores.{few_held, fits_of, renamed_core, renamed_step, roomy_core, roomy_step}
@@ -49,7 +49,7 @@ use Rattle.nl_naming.proofs.Settled.{short_items, short_room}
 use Rattle.nl_naming.proofs.Stepped.{holds_tree, is_done, runs_stepped}
 
 -- what a call leaves that ended so
-pub record Named {M : Type 0} (g : Ghosts (Device M)) (call : Call) (v x : Core M) (answer : Naming) : Type 0 where
+pub record Named {D : Type 0} (g : Ghosts D) (call : Call) (v x : Core D) (answer : Naming) : Type 0 where
   pub core : IsCore g x
   pub steps : Steps g v x
   pub flight : x.flight ≡ v.flight
@@ -65,13 +65,13 @@ stop_same (change.Lost w f) = refl
 -- ---- the tree stays
 
 -- Pages were read, and the list of pointers holds what it held.
-module _ {M : Type 0} (g : Ghosts (Device M)) (v : Core M) (core : IsCore g v) (volume : IsVolumeShape (g.shape v.device)) (x : Core M) (on : ReadsOn g v (record x { freeing = v.freeing })) (items : x.freeing.items ≡ v.freeing.items)
-    (room : length v.freeing.items + v.freeing.room ≤ length x.freeing.items + x.freeing.room) (stores : g.tells → StoresPages g x.device) where
-  abbrev read : Core M
+module _ {D : Type 0} (g : Ghosts D) (v : Core D) (core : IsCore g v) (volume : IsVolumeShape (g.shape v.device)) (x : Core D) (on : ReadsOn g v (record x { freeing = v.freeing })) (items : x.freeing.items ≡ v.freeing.items)
+    (room : length v.freeing.items + v.freeing.room ≤ length x.freeing.items + x.freeing.room) (formed : g.formed x.device) (stores : g.tells → StoresPages g x.device) where
+  abbrev read : Core D
   read = record x { freeing = v.freeing }
 
   alike : ReadAlike g v read
-  alike = read_alike g v read volume stores on
+  alike = read_alike g v read volume formed stores on
 
   pub volume_read : IsVolumeShape (g.shape x.device)
   volume_read = subst IsVolumeShape (sym on.runs.reads.medium.virtual.same_shape) volume
@@ -83,14 +83,14 @@ module _ {M : Type 0} (g : Ghosts (Device M)) (v : Core M) (core : IsCore g v) (
   steps_stay = steps_then g v read x alike.steps (roomy_step g read x.freeing items room)
 
   pub flight_stays : x.flight ≡ v.flight
-  flight_stays = ap (λ (y : Core M). y.flight) on.others
+  flight_stays = ap (λ (y : Core D). y.flight) on.others
 
   pub tree_stays : (page_of_stamp : ℕ → Option PageOfStamp) (tree : Tree) → StandsNow g v page_of_stamp tree → StandsNow g x page_of_stamp tree
   tree_stays = alike.trees
 
 -- ---- it was ended before the names were touched
 
-module _ {M : Type 0} (g : Ghosts (Device M)) (call : Call) (v : Core M) (core : IsCore g v) (volume : IsVolumeShape (g.shape v.device)) (w : Core M) (gathers : GathersOn g v w []) (stores : g.tells → StoresPages g w.device) where
+module _ {D : Type 0} (g : Ghosts D) (call : Call) (v : Core D) (core : IsCore g v) (volume : IsVolumeShape (g.shape v.device)) (w : Core D) (gathers : GathersOn g v w []) (formed : g.formed w.device) (stores : g.tells → StoresPages g w.device) where
   as_were : w.freeing.items ≡ v.freeing.items
   as_were = gathers.items ∙ append-nil v.freeing.items
 
@@ -104,23 +104,23 @@ module _ {M : Type 0} (g : Ghosts (Device M)) (call : Call) (v : Core M) (core :
 
   pub named_early : (stop : Stop) → Reads g v.device w.device (Some stop) → Named g call v w (stopped_by stop)
   named_early stop reads = record {
-    core = core_stays g v core volume w gathers.reads as_were gathers.room stores;
-    steps = steps_stay g v core volume w gathers.reads as_were gathers.room stores;
-    flight = flight_stays g v core volume w gathers.reads as_were gathers.room stores;
-    answers = λ page_of_stamp tree h. ends stop page_of_stamp tree (tree_stays g v core volume w gathers.reads as_were gathers.room stores page_of_stamp tree h);
+    core = core_stays g v core volume w gathers.reads as_were gathers.room formed stores;
+    steps = steps_stay g v core volume w gathers.reads as_were gathers.room formed stores;
+    flight = flight_stays g v core volume w gathers.reads as_were gathers.room formed stores;
+    answers = λ page_of_stamp tree h. ends stop page_of_stamp tree (tree_stays g v core volume w gathers.reads as_were gathers.room formed stores page_of_stamp tree h);
     reads = subst (λ (o : Option Stop). Reads g v.device w.device o) (sym (stops stop)) reads;
   }
 
 -- ---- the names were touched
 
-module _ {M : Type 0} (g : Ghosts (Device M)) (call : Call) (v : Core M) (core : IsCore g v) (volume : IsVolumeShape (g.shape v.device)) (few : HasRoomFor 9 v.meta) (w : Core M)
+module _ {D : Type 0} (g : Ghosts D) (call : Call) (v : Core D) (core : IsCore g v) (volume : IsVolumeShape (g.shape v.device)) (few : HasRoomFor 9 v.meta) (w : Core D)
     (gathers : GathersOn g v w (pointers_of_node (graph_on g v) (node_lost (graph_on g v) call))) (opens : IfSome (node_lost (graph_on g v) call) (OpensNode g v w)) (no_fault : g.read_faults w.device ≡ g.read_faults v.device)
-    (stores_then : g.tells → StoresPages g w.device) where
-  abbrev pub u : Core M
+    (formed_then : g.formed w.device) (stores_then : g.tells → StoresPages g w.device) where
+  abbrev pub u : Core D
   u = record w { freeing = v.freeing }
 
   read_first : ReadAlike g v u
-  read_first = read_alike g v u volume stores_then gathers.reads
+  read_first = read_alike g v u volume formed_then stores_then gathers.reads
 
   pub core_then : IsCore g u
   core_then = read_first.core core
@@ -134,9 +134,9 @@ module _ {M : Type 0} (g : Ghosts (Device M)) (call : Call) (v : Core M) (core :
   graphs : graph_on g u ≡ graph_on g v
   graphs = same_graph g v u volume gathers.reads
 
-  module _ (d : Device M) (q : Pages) (s : Spaces) (answer : Change) (names : ChangesNames w.nodes (graph_on g w) (graph_of (g.shape d) (running_on g d q)) call answer) (left : Leaves g w.device w.meta w.nodes d q s answer)
+  module _ (d : D) (q : Pages) (s : Spaces) (answer : Change) (names : ChangesNames w.nodes (graph_on g w) (graph_of (g.shape d) (running_on g d q)) call answer) (left : Leaves g w.device w.meta w.nodes d q s answer)
       (reads : Reads g w.device d (change_stop answer)) where
-    abbrev mid : Core M
+    abbrev mid : Core D
     mid = record w { device = d; meta = q; nodes = s }
 
     reads_all : Reads g v.device d (naming_stop (answer_of answer))
@@ -198,11 +198,11 @@ module _ {M : Type 0} (g : Ghosts (Device M)) (call : Call) (v : Core M) (core :
 
     -- ---- it was settled
 
-    module _ (law : ChangesInTree) (stores : g.tells → StoresPages g d) (first : ℕ) (is_first : first ≡ length v.freeing.items) (x : Core M) (settled : Settles first answer mid x) where
+    module _ (law : ChangesInTree) (formed : g.formed d) (stores : g.tells → StoresPages g d) (first : ℕ) (is_first : first ≡ length v.freeing.items) (x : Core D) (settled : Settles first answer mid x) where
       -- the call was done
       module _ (now : Pages) (after : Spaces) (f : PointerItems) (gone : Option ℕ) (done : answer_of answer ≡ naming.Done) (e : Ended g w.device w.meta w.nodes d now after call gone) (items : f.items ≡ u.freeing.items ++ pointers_of_node (graph_on g u) gone)
           (room : length u.freeing.items + u.freeing.room ≤ length f.items + f.room) where
-        abbrev renamed : Core M
+        abbrev renamed : Core D
         renamed = record u { device = d; meta = now; nodes = after; freeing = f }
 
         few_now : length (running_holders g d now) ≤ (g.shape u.device).cap
@@ -217,19 +217,19 @@ module _ {M : Type 0} (g : Ghosts (Device M)) (call : Call) (v : Core M) (core :
 
         named_done : Named g call v renamed (answer_of answer)
         named_done = record {
-          core = renamed_core g u d now after f call gone e faults items room core_then volume_u stores;
+          core = renamed_core g u d now after f call gone e faults items room core_then volume_u formed stores;
           steps = steps_then g v u renamed read_first.steps (renamed_step g u d now after f call gone e faults items room);
-          flight = ap (λ (y : Core M). y.flight) gathers.reads.others;
+          flight = ap (λ (y : Core D). y.flight) gathers.reads.others;
           answers = subst (λ (a : Naming). AnswersAs g call v renamed a) (sym done) answers;
           reads = reads_all;
         }
 
       -- the names stay
-      module _ (on : RunsOn g w.device w.meta d q × (s ≡ w.nodes)) (short : Shortens first mid x) where
+      module _ (on : RunsOn g w.device w.meta d q × (s ≡ w.nodes)) (short : Withdraws first mid x) where
         x_is : x ≡ record u { device = d; meta = q; freeing = x.freeing }
         x_is = short.others ∙ ap (λ (z : Spaces). record w { device = d; meta = q; nodes = z; freeing = x.freeing }) on.1
 
-        abbrev y : Core M
+        abbrev y : Core D
         y = record u { device = d; meta = q; freeing = x.freeing }
 
         on_u : ReadsOn g u (record y { freeing = u.freeing })
@@ -242,13 +242,13 @@ module _ {M : Type 0} (g : Ghosts (Device M)) (call : Call) (v : Core M) (core :
         room = short_room mid x v.freeing _ first is_first gathers.items gathers.room short
 
         stands_y : (page_of_stamp : ℕ → Option PageOfStamp) (tree : Tree) → StandsNow g v page_of_stamp tree → StandsNow g y page_of_stamp tree
-        stands_y page_of_stamp tree h = tree_stays g u core_then volume_u y on_u items room stores page_of_stamp tree (read_first.trees page_of_stamp tree h)
+        stands_y page_of_stamp tree h = tree_stays g u core_then volume_u y on_u items room formed stores page_of_stamp tree (read_first.trees page_of_stamp tree h)
 
         named_same : ((page_of_stamp : ℕ → Option PageOfStamp) (tree : Tree) → StandsNow g u page_of_stamp tree → StandsNow g y page_of_stamp tree → EndsAs g call y page_of_stamp tree (answer_of answer)) → Named g call v x (answer_of answer)
-        named_same ends = subst (λ (z : Core M). Named g call v z (answer_of answer)) (sym x_is) (record {
-          core = core_stays g u core_then volume_u y on_u items room stores;
-          steps = steps_then g v u y read_first.steps (steps_stay g u core_then volume_u y on_u items room stores);
-          flight = flight_stays g u core_then volume_u y on_u items room stores ∙ ap (λ (z : Core M). z.flight) gathers.reads.others;
+        named_same ends = subst (λ (z : Core D). Named g call v z (answer_of answer)) (sym x_is) (record {
+          core = core_stays g u core_then volume_u y on_u items room formed stores;
+          steps = steps_then g v u y read_first.steps (steps_stay g u core_then volume_u y on_u items room formed stores);
+          flight = flight_stays g u core_then volume_u y on_u items room formed stores ∙ ap (λ (z : Core D). z.flight) gathers.reads.others;
           answers = λ page_of_stamp tree h. ends page_of_stamp tree (read_first.trees page_of_stamp tree h) (stands_y page_of_stamp tree h);
           reads = reads_all;
         })
@@ -266,11 +266,11 @@ module _ {M : Type 0} (g : Ghosts (Device M)) (call : Call) (v : Core M) (core :
       named = by answer refl left settled
         where
           by : (a : Change) → answer ≡ a → Leaves g w.device w.meta w.nodes d q s a → Settles first a mid x → Named g call v x (answer_of answer)
-          by (change.Changed None) e l z = subst (λ (k : Core M). Named g call v k (answer_of answer)) (sym z.others)
+          by (change.Changed None) e l z = subst (λ (k : Core D). Named g call v k (answer_of answer)) (sym z.others)
               (named_done q s x.freeing None (ap answer_of e)
               (ended_all_named g w.device w.meta w.nodes d q s call l (subst (λ (a : Change). ChangesNames w.nodes (graph_on g w) (graph_of (g.shape d) (running_on g d q)) call a) e names))
               (short_items mid x v.freeing _ first is_first gathers.items gathers.room z ∙ sym (append-nil v.freeing.items)) (short_room mid x v.freeing _ first is_first gathers.items gathers.room z))
-          by (change.Changed (Some n)) e l z = subst (λ (k : Core M). Named g call v k (answer_of answer)) (sym z.others)
+          by (change.Changed (Some n)) e l z = subst (λ (k : Core D). Named g call v k (answer_of answer)) (sym z.others)
               (named_done x.meta x.nodes w.freeing (Some n) (ap answer_of e) (dropped n e x.meta x.nodes z.drops) (dropped_items n e x.meta x.nodes z.drops) gathers.room)
           by (change.No refusal) e l z = named_same l z (λ page_of_stamp tree before now. subst (λ (a : Naming). EndsAs g call (y l z) page_of_stamp tree a) (sym (ap answer_of e)) (refused l z refusal e page_of_stamp tree before, now))
           by change.Fault e l z = named_same l z (λ page_of_stamp tree before now. subst (λ (a : Naming). EndsAs g call (y l z) page_of_stamp tree a) (sym (ap answer_of e)) now)

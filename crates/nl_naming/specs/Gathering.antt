@@ -2,7 +2,6 @@
 use Rattle.std.specs.Prelude.{◌≡◌, ℕ, ◌+◌, ◌≤◌, List, [], ◌++◌, length, map, Option, Some, None, option_and_then, IsSome}
 use Rattle.nl_field.specs.Graph.{Graph}
 use Rattle.nl_field.specs.declared.pointer.Pointer.{Pointer}
-use Rattle.nl_device.specs.declared.device.Device.{Device}
 use Rattle.nl_iface.specs.declared.counts.Counts.{Ghosts}
 use Rattle.nl_inode.specs.Nodes.{page_of_node}
 use Rattle.nl_meta.specs.Nodes.{graph_of, pointers_in}
@@ -31,16 +30,16 @@ abbrev pub pointers_of_node : Graph → Option ℕ → List Pointer
 pointers_of_node graph None = []
 pointers_of_node graph (Some n) = map (λ p. p.1) (pointers_in (graph n).body)
 
-abbrev pub graph_on : {M : Type 0} → Ghosts (Device M) → Core M → Graph
+abbrev pub graph_on : {D : Type 0} → Ghosts D → Core D → Graph
 graph_on g v = graph_of (g.shape v.device) (running_of g v)
 
 -- Pages were read, and these pointers stand behind those that await their free.
-pub record GathersOn {M : Type 0} (g : Ghosts (Device M)) (old new : Core M) (gone : List Pointer) : Type 0 where
+pub record GathersOn {D : Type 0} (g : Ghosts D) (old new : Core D) (gone : List Pointer) : Type 0 where
   pub reads : ReadsOn g old (record new { freeing = old.freeing })
   pub items : new.freeing.items ≡ old.freeing.items ++ gone
   pub room : length old.freeing.items + old.freeing.room ≤ length new.freeing.items + new.freeing.room
 
 -- The node was used, and the page of its record is resident.
-pub record OpensNode {M : Type 0} (g : Ghosts (Device M)) (old new : Core M) (n : ℕ) : Type 0 where
+pub record OpensNode {D : Type 0} (g : Ghosts D) (old new : Core D) (n : ℕ) : Type 0 where
   pub used : IsUsed g old.device old.meta n
   pub there : IsSome (page_of new.meta (page_of_node n))

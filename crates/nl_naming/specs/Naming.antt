@@ -1,6 +1,5 @@
 -- How a call that changes names ends, in the tree for which a core stands.
 use Rattle.std.specs.Prelude.{◌≡◌, ℕ, [], Option, Some, None}
-use Rattle.nl_device.specs.declared.device.Device.{Device}
 use Rattle.nl_iface.specs.declared.counts.Counts.{Ghosts}
 use Rattle.nl_meta.specs.Consistent.{PageOfStamp}
 use Rattle.nl_running.specs.declared.answer.Stop.{Stop}
@@ -18,12 +17,12 @@ use Rattle.nl_naming.specs.declared.answer.Naming.{Naming}
 use Rattle.nl_naming.specs.declared.answer.Naming.TheVariants as naming
 
 -- the metadata of a core stands for the tree, with what the page of each write sequence number holds
-abbrev pub StandsNow : {M : Type 0} → Ghosts (Device M) → Core M → (ℕ → Option PageOfStamp) → Tree → Type 0
+abbrev pub StandsNow : {D : Type 0} → Ghosts D → Core D → (ℕ → Option PageOfStamp) → Tree → Type 0
 StandsNow g v page_of_stamp tree = RunsAs (g.shape v.device) (running_of g v) page_of_stamp tree
 
 -- Done, the call is what the step of the tree is, and the core stands for the tree after it. Refused, it is refused as the step is, also for
 -- want of room. Where a read failed, and where a page was lost, the tree stays too.
-abbrev pub EndsAs : {M : Type 0} → Ghosts (Device M) → Call → Core M → (ℕ → Option PageOfStamp) → Tree → Naming → Type 0
+abbrev pub EndsAs : {D : Type 0} → Ghosts D → Call → Core D → (ℕ → Option PageOfStamp) → Tree → Naming → Type 0
 EndsAs g call v page_of_stamp tree naming.Done =
     ((step (g.shape v.device) tree call).reply ≡ Done) × StandsNow g v page_of_stamp (step (g.shape v.device) tree call).tree
 EndsAs g call v page_of_stamp tree (naming.No refusal) =
@@ -32,7 +31,7 @@ EndsAs g call v page_of_stamp tree naming.Fault = StandsNow g v page_of_stamp tr
 EndsAs g call v page_of_stamp tree (naming.Lost w f) = StandsNow g v page_of_stamp tree
 
 -- So it is for any tree for which the core stood.
-abbrev pub AnswersAs : {M : Type 0} → Ghosts (Device M) → Call → Core M → Core M → Naming → Type 0
+abbrev pub AnswersAs : {D : Type 0} → Ghosts D → Call → Core D → Core D → Naming → Type 0
 AnswersAs g call old new answer = (page_of_stamp : ℕ → Option PageOfStamp) (tree : Tree) → StandsNow g old page_of_stamp tree → EndsAs g call new page_of_stamp tree answer
 
 -- what ended the call early

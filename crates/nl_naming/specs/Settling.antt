@@ -1,33 +1,28 @@
 -- What a core becomes once the names were changed, or were not.
-use Rattle.std.specs.Prelude.{◌≡◌, ℕ, ◌+◌, ◌-◌, ◌<◌, ⊤, true, length, take, None, Some, IsSome}
+use Rattle.std.specs.Prelude.{◌≡◌, ℕ, ◌<◌, ⊤, true, length, None, Some, IsSome}
 use Rattle.nl_inode.specs.Nodes.{page_of_node}
 use Rattle.nl_meta.specs.Nodes.{inode_at}
 use Rattle.nl_meta.specs.Pages.{has_room, page_of}
+use Rattle.nl_core.specs.Lines.{Withdraws}
 use Rattle.nl_core.specs.declared.state.Core.{Core}
 use Rattle.nl_namespace.specs.declared.answer.Change.{Change}
 use Rattle.nl_namespace.specs.declared.answer.Change.TheVariants as change
 use Rattle.nl_naming.specs.Dropping.{DropsNode, HasOfPool}
 
--- Only the first pointers go on to await their free.
-pub record Shortens {M : Type 0} (count : ℕ) (old new : Core M) : Type 0 where
-  pub items : new.freeing.items ≡ take count old.freeing.items
-  pub room : new.freeing.room ≡ old.freeing.room + (length old.freeing.items - count)
-  pub others : new ≡ record old { freeing = new.freeing }
-
 -- A node that lost its name is dropped, and its pointers await their free.
-pub record Drops {M : Type 0} (n : ℕ) (old new : Core M) : Type 0 where
+pub record Drops {D : Type 0} (n : ℕ) (old new : Core D) : Type 0 where
   pub drops : DropsNode n old.meta new.meta old.nodes new.nodes
   pub others : new ≡ record old { meta = new.meta; nodes = new.nodes }
 
-abbrev pub Settles : {M : Type 0} → ℕ → Change → Core M → Core M → Type 0
-Settles count (change.Changed None) old new = Shortens count old new
+abbrev pub Settles : {D : Type 0} → ℕ → Change → Core D → Core D → Type 0
+Settles count (change.Changed None) old new = Withdraws count old new
 Settles count (change.Changed (Some n)) old new = Drops n old new
-Settles count (change.No refusal) old new = Shortens count old new
-Settles count change.Fault old new = Shortens count old new
-Settles count (change.Lost w f) old new = Shortens count old new
+Settles count (change.No refusal) old new = Withdraws count old new
+Settles count change.Fault old new = Withdraws count old new
+Settles count (change.Lost w f) old new = Withdraws count old new
 
 -- The node can be dropped.
-pub record CanDrop {M : Type 0} (n : ℕ) (v : Core M) : Type 0 where
+pub record CanDrop {D : Type 0} (n : ℕ) (v : Core D) : Type 0 where
   pub there : IsSome (page_of v.meta (page_of_node n))
   pub spelled : IsSome (inode_at (page_of v.meta) n)
   pub room : has_room v.meta (page_of_node n) ≡ true

@@ -10,30 +10,26 @@ use crate::answer::{Naming, stopped};
 use crate::gathering::gather_lost;
 use crate::settling::settle;
 use nl_core::Core;
-use nl_device::Device;
 use nl_held::laws::device_stands;
-use nl_iface::Counts;
+use nl_iface::MovingPages;
 use nl_namespace::change;
 use nl_namespace::laws::changes_in_tree;
-use nl_nand::Nand;
 use nl_tree::Call;
 
 /// Does a call that changes names: mkdir, rmdir, create, unlink or rename. It asks room for nine more dirty pages. `Done` comes where the step of the tree
 /// is done, and the core stands for the tree after it: the pages of a file that lost its name await their free, and its addresses and its number
 /// are free. `No` comes with the refusal of the step, also where a name or a path is too long and where there is no room; `Fault` where a read
 /// failed; and `Lost` where a page does not hold the sequence number under which its address was written. All of them leave the tree as it was.
-pub fn change_names<M: Nand>(core: &mut Core<M>, call: &Call) -> Naming
-    requires formed { ⟦<Device<M> as Counts>⟧.formed core.old.device }
-    requires core { IsCore ⟦<Device<M> as Counts>⟧ core.old }
+pub fn change_names<D: MovingPages>(core: &mut Core<D>, call: &Call) -> Naming
+    requires core { IsCore D.Counts core.old }
     requires names { HasNames call.now }
     requires of_names { IsOfNames call.now }
     requires room { HasRoomFor 9 core.old.meta }
-    ensures formed { ⟦<Device<M> as Counts>⟧.formed core.new.device }
-    ensures core { IsCore ⟦<Device<M> as Counts>⟧ core.new }
-    ensures steps { Steps ⟦<Device<M> as Counts>⟧ core.old core.new }
+    ensures core { IsCore D.Counts core.new }
+    ensures steps { Steps D.Counts core.old core.new }
     ensures flight { core.new.flight ≡ core.old.flight }
-    ensures answer { AnswersAs ⟦<Device<M> as Counts>⟧ call.now core.old core.new result }
-    ensures reads { Reads ⟦<Device<M> as Counts>⟧ core.old.device core.new.device (naming_stop result) }
+    ensures answer { AnswersAs D.Counts call.now core.old core.new result }
+    ensures reads { Reads D.Counts core.old.device core.new.device (naming_stop result) }
 {
     device_stands(&core.device);
     changes_in_tree();

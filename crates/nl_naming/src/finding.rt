@@ -8,25 +8,24 @@ ghost use Rattle.nl_running.specs.Running.{IsUsed};
 ghost use Rattle.nl_tree.specs.Represents.{node_reached};
 
 use nl_core::Core;
-use nl_device::Device;
 use nl_effect::look_up;
-use nl_iface::Counts;
+use nl_iface::MovingPages;
 use nl_namespace::Look;
-use nl_nand::Nand;
 use nl_running::Stop;
 use nl_tree::{Call, Path};
 
 /// The node that loses its name where the call is done, if one does: the one at the path that is removed, or to which another is renamed.
-pub(crate) fn find_lost<M: Nand>(core: &mut Core<M>, call: &Call) -> Result<Option<u32>, Stop>
-    requires formed { ⟦<Device<M> as Counts>⟧.formed core.old.device }
-    requires core { IsCore ⟦<Device<M> as Counts>⟧ core.old }
+pub(crate) fn find_lost<D: MovingPages>(
+    core: &mut Core<D>,
+    call: &Call,
+) -> Result<Option<u32>, Stop>
+    requires core { IsCore D.Counts core.old }
     requires of_names { IsOfNames call.now }
-    ensures formed { ⟦<Device<M> as Counts>⟧.formed core.new.device }
-    ensures core { IsCore ⟦<Device<M> as Counts>⟧ core.new }
-    ensures same { ReadsOn ⟦<Device<M> as Counts>⟧ core.old core.new }
-    ensures node { IfOk result (λ o. o ≡ node_lost (graph_on ⟦<Device<M> as Counts>⟧ core.old) call.now) }
-    ensures used { IfOk result (λ o. IfSome o (IsUsed ⟦<Device<M> as Counts>⟧ core.old.device core.old.meta)) }
-    ensures reads { Reads ⟦<Device<M> as Counts>⟧ core.old.device core.new.device (stop_of result) }
+    ensures core { IsCore D.Counts core.new }
+    ensures same { ReadsOn D.Counts core.old core.new }
+    ensures node { IfOk result (λ o. o ≡ node_lost (graph_on D.Counts core.old) call.now) }
+    ensures used { IfOk result (λ o. IfSome o (IsUsed D.Counts core.old.device core.old.meta)) }
+    ensures reads { Reads D.Counts core.old.device core.new.device (stop_of result) }
 {
     match call {
         Call::Mkdir(_) => Ok(None),
@@ -39,15 +38,13 @@ pub(crate) fn find_lost<M: Nand>(core: &mut Core<M>, call: &Call) -> Result<Opti
 }
 
 /// The node at the end of a path, None where it leads to none.
-pub(crate) fn node_at<M: Nand>(core: &mut Core<M>, path: &Path) -> Result<Option<u32>, Stop>
-    requires formed { ⟦<Device<M> as Counts>⟧.formed core.old.device }
-    requires core { IsCore ⟦<Device<M> as Counts>⟧ core.old }
-    ensures formed { ⟦<Device<M> as Counts>⟧.formed core.new.device }
-    ensures core { IsCore ⟦<Device<M> as Counts>⟧ core.new }
-    ensures same { ReadsOn ⟦<Device<M> as Counts>⟧ core.old core.new }
-    ensures node { IfOk result (λ o. o ≡ node_reached (graph_on ⟦<Device<M> as Counts>⟧ core.old) 0 path.now) }
-    ensures used { IfOk result (λ o. IfSome o (IsUsed ⟦<Device<M> as Counts>⟧ core.old.device core.old.meta)) }
-    ensures reads { Reads ⟦<Device<M> as Counts>⟧ core.old.device core.new.device (stop_of result) }
+pub(crate) fn node_at<D: MovingPages>(core: &mut Core<D>, path: &Path) -> Result<Option<u32>, Stop>
+    requires core { IsCore D.Counts core.old }
+    ensures core { IsCore D.Counts core.new }
+    ensures same { ReadsOn D.Counts core.old core.new }
+    ensures node { IfOk result (λ o. o ≡ node_reached (graph_on D.Counts core.old) 0 path.now) }
+    ensures used { IfOk result (λ o. IfSome o (IsUsed D.Counts core.old.device core.old.meta)) }
+    ensures reads { Reads D.Counts core.old.device core.new.device (stop_of result) }
 {
     match look_up(core, path) {
         Look::At(ino) => Ok(Some(ino)),

@@ -5,12 +5,12 @@ ghost use Rattle.nl_naming.specs.Settling.{CanDrop, IfGone, Settles};
 use crate::answer::Naming;
 use crate::dropping::drop_node;
 use nl_core::Core;
+use nl_iface::MovingPages;
 use nl_namespace::Change;
-use nl_nand::Nand;
 
 /// Ends a call that changed names, or did not. A node that lost its name is dropped, and its pointers, which stand behind the first ones, await
 /// their free. Else only the first go on to do so.
-pub(crate) fn settle<M: Nand>(core: &mut Core<M>, first: u32, answer: Change) -> Naming
+pub(crate) fn settle<D: MovingPages>(core: &mut Core<D>, first: u32, answer: Change) -> Naming
     requires drop { IfGone answer (λ n. CanDrop n core.old) }
     requires first { first ≤ length core.old.freeing.items }
     ensures settles { Settles first answer core.old core.new }
@@ -22,19 +22,19 @@ pub(crate) fn settle<M: Nand>(core: &mut Core<M>, first: u32, answer: Change) ->
             Naming::Done
         }
         Change::Changed { gone: None } => {
-            core.freeing.shorten(first);
+            core.withdraw(first);
             Naming::Done
         }
         Change::No(refusal) => {
-            core.freeing.shorten(first);
+            core.withdraw(first);
             Naming::No(refusal)
         }
         Change::Fault => {
-            core.freeing.shorten(first);
+            core.withdraw(first);
             Naming::Fault
         }
         Change::Lost { wanted, found } => {
-            core.freeing.shorten(first);
+            core.withdraw(first);
             Naming::Lost { wanted, found }
         }
     }

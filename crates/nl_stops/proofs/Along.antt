@@ -10,7 +10,6 @@ use Rattle.nl_tree.specs.Replay.{replay, step_marked}
 use Rattle.nl_tree.specs.Tree.{Tree}
 use Rattle.nl_tree.specs.declared.call.Call.{Call}
 use Rattle.nl_tree.specs.declared.reply.FaultReply.{FaultReply}
-use Rattle.nl_device.specs.declared.device.Device.{Device}
 use Rattle.nl_iface.specs.Calls.{stored}
 use Rattle.nl_iface.specs.Stored.{Stored, stored_in}
 use Rattle.nl_iface.specs.declared.counts.Counts.{Ghosts}
@@ -82,8 +81,8 @@ of_longer run x z is =
       tree = is.tree ∙ ap (replay run.shape run.tree) (sym (take-append-le (z.0 - run.count) run.calls (x ∷ []) (omega (arith, to))));
     }
 
-module _ {M : Type 0} (g : Ghosts (Device M)) where
-  told_before : (n : ℕ) (u v : Core M) → Goes g n u v → IsTold g v → IsTold g u
+module _ {D : Type 0} (g : Ghosts D) where
+  told_before : (n : ℕ) (u v : Core D) → Goes g n u v → IsTold g v → IsTold g u
   told_before n u v a told = record {
     tells = told.tells;
     numbers = let one = a.numbers in let all = told.numbers in omega (arith, one, all);
@@ -92,13 +91,13 @@ module _ {M : Type 0} (g : Ghosts (Device M)) where
   }
 
   -- the last tree is of the run
-  at_end : (run : Run) (v : Core M) (page_of_stamp : ℕ → Option PageOfStamp) (t : Trees) → v.count ≡ saturated (run.count + length run.calls) → IsTold g v → IsAlong g run v page_of_stamp t → IsOfRun run (v.count, t.running)
+  at_end : (run : Run) (v : Core D) (page_of_stamp : ℕ → Option PageOfStamp) (t : Trees) → v.count ≡ saturated (run.count + length run.calls) → IsTold g v → IsAlong g run v page_of_stamp t → IsOfRun run (v.count, t.running)
   at_end run v page_of_stamp t count told al =
       let few = told.calls in
       record { from = omega (arith, count, few); to = omega (arith, count, few); tree = al.running }
 
   -- what a call may leave that was not left before
-  module _ (n : ℕ) (u v : Core M) (origin : Core M) (first : ℕ) (run : Run) (a : Goes g n u v) (w : GoesAlong g origin first run u) (told : IsTold g v) where
+  module _ (n : ℕ) (u v : Core D) (origin : Core D) (first : ℕ) (run : Run) (a : Goes g n u v) (w : GoesAlong g origin first run u) (told : IsTold g v) where
     told_u : IsTold g u
     told_u = told_before n u v a told
 
@@ -160,7 +159,7 @@ module _ {M : Type 0} (g : Ghosts (Device M)) where
         inr (omega (arith, from, start), x.1, inr (opens_so m c x.2.0 x.2.1 x.2.2, x.2.3, synced_by x.2.0 x.2.1, (of_run x.2.0 x.2.1).from)))
         (l.each m c left)
 
-  runs_after : (n : ℕ) (u v : Core M) (origin : Core M) (first : ℕ) (run : Run) → Goes g n u v → GoesAlong g origin first run u → g.tells
+  runs_after : (n : ℕ) (u v : Core D) (origin : Core D) (first : ℕ) (run : Run) → Goes g n u v → GoesAlong g origin first run u → g.tells
       → (page_of_stamp : ℕ → Option PageOfStamp) × CoreRuns g v page_of_stamp (replay run.shape run.tree run.calls)
   runs_after n u v origin first run a w tells =
       let k = w.runs tells in
@@ -294,7 +293,7 @@ module _ {M : Type 0} (g : Ghosts (Device M)) where
       first = record { from = omega arith; to = omega arith; tree = is }
 
   -- the tree after as many calls as are counted is that after all
-  after_all : (run : Run) (v : Core M) → v.count ≡ saturated (run.count + length run.calls) → v.count < 2 ^ 63 → tree_at run v.count ≡ replay run.shape run.tree run.calls
+  after_all : (run : Run) (v : Core D) → v.count ≡ saturated (run.count + length run.calls) → v.count < 2 ^ 63 → tree_at run v.count ≡ replay run.shape run.tree run.calls
   after_all run v count few = ap (replay run.shape run.tree) (take_all (v.count - run.count) run.calls (omega (arith, few, count)))
 
   pub ends_standing : EndsStanding g

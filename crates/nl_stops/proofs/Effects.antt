@@ -5,7 +5,6 @@ use Rattle.nl_tree.specs.Replay.{step_marked}
 use Rattle.nl_tree.specs.Tree.{Tree}
 use Rattle.nl_tree.specs.declared.call.Call.{Call}
 use Rattle.nl_tree.specs.declared.reply.FaultReply.{FaultReply}
-use Rattle.nl_device.specs.declared.device.Device.{Device}
 use Rattle.nl_iface.specs.declared.counts.Counts.{Ghosts}
 use Rattle.nl_iface.specs.Device.{IsVolumeShape}
 use Rattle.nl_journal.specs.Progress.{begun}
@@ -18,15 +17,15 @@ use Rattle.nl_effect.specs.Steps.{Steps}
 use Rattle.nl_effect.proofs.Stepping.{steps_go, steps_run}
 use Rattle.nl_stops.specs.Effects.{StepTakesEffect, counted}
 
-module _ {M : Type 0} (g : Ghosts (Device M)) (old new : Core M) (x : Call × Option FaultReply) (volume : IsVolumeShape (g.shape old.device)) (core : IsCore g old) (step : Steps g old new) where
+module _ {D : Type 0} (g : Ghosts D) (old new : Core D) (x : Call × Option FaultReply) (volume : IsVolumeShape (g.shape old.device)) (core : IsCore g old) (step : Steps g old new) where
   same_count : new.count ≡ old.count
-  same_count = ap (λ (v : Core M). v.count) step.others
+  same_count = ap (λ (v : Core D). v.count) step.others
 
   same_begun : begun new.journal (length new.meta.frozen.addresses) ≡ begun old.journal (length old.meta.frozen.addresses)
-  same_begun = λ i. begun (ap (λ (v : Core M). v.journal) step.others i) (length (step.pages.same_frozen i).addresses)
+  same_begun = λ i. begun (ap (λ (v : Core D). v.journal) step.others i) (length (step.pages.same_frozen i).addresses)
 
   number_stays : new.journal.number ≡ old.journal.number
-  number_stays = ap (λ (v : Core M). v.journal.number) step.others
+  number_stays = ap (λ (v : Core D). v.journal.number) step.others
 
   told_old : IsTold g (counted new) → IsTold g old
   told_old told = record {
@@ -57,7 +56,7 @@ module _ {M : Type 0} (g : Ghosts (Device M)) (old new : Core M) (x : Call × Op
     committed = at.committed;
   }
 
-pub step_takes_effect : {M : Type 0} (g : Ghosts (Device M)) → StepTakesEffect g
+pub step_takes_effect : {D : Type 0} (g : Ghosts D) → StepTakesEffect g
 step_takes_effect g old new x volume core step makes = record {
   same_shape = step.reads.medium.virtual.same_shape;
   same_clock = step.reads.medium.clock;

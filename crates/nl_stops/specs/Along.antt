@@ -6,7 +6,6 @@ use Rattle.nl_field.specs.declared.shape.Shape.{Shape}
 use Rattle.nl_tree.specs.Order.{SyncPoint}
 use Rattle.nl_tree.specs.Replay.{replay}
 use Rattle.nl_tree.specs.Tree.{Tree}
-use Rattle.nl_device.specs.declared.device.Device.{Device}
 use Rattle.nl_iface.specs.declared.counts.Counts.{Ghosts}
 use Rattle.nl_meta.specs.Consistent.{PageOfStamp}
 use Rattle.nl_sound.specs.Crash.{Run, StopsSafely}
@@ -30,7 +29,7 @@ pub record IsOfRun (run : Run) (x : Prefix) : Type 0 where
   pub tree : x.1 ≡ tree_at run x.0
 
 -- The core stands for the last tree of the run, and commits trees of it. Each sync made durable no more than is committed.
-pub record IsAlong {M : Type 0} (g : Ghosts (Device M)) (run : Run) (v : Core M) (page_of_stamp : ℕ → Option PageOfStamp) (t : Trees) : Type 0 where
+pub record IsAlong {D : Type 0} (g : Ghosts D) (run : Run) (v : Core D) (page_of_stamp : ℕ → Option PageOfStamp) (t : Trees) : Type 0 where
   pub stands : CoreStands g v page_of_stamp t
   pub running : t.running ≡ tree_at run v.count
   pub committed : IsOfRun run t.committed
@@ -40,7 +39,7 @@ pub record IsAlong {M : Type 0} (g : Ghosts (Device M)) (run : Run) (v : Core M)
 -- The volume has answered the calls of the run since its first moment, when it was this one, the origin: what a stop had left before is no part of
 -- the run. The number of its transactions has risen by no more than the clock since. While the medium tells its contents, it runs as the tree
 -- after all of the calls. While counts have not ended either, it goes along the run, and so does what a stop leaves.
-pub record GoesAlong {M : Type 0} (g : Ghosts (Device M)) (origin : Core M) (first : ℕ) (run : Run) (v : Core M) : Type 0 where
+pub record GoesAlong {D : Type 0} (g : Ghosts D) (origin : Core D) (first : ℕ) (run : Run) (v : Core D) : Type 0 where
   pub shape : g.shape v.device ≡ run.shape
   pub from : first ≤ g.clock v.device
   pub count : v.count ≡ saturated (run.count + length run.calls)

@@ -7,7 +7,6 @@ use Rattle.nl_tree.specs.Replay.{replay, step_marked}
 use Rattle.nl_tree.specs.Tree.{Tree}
 use Rattle.nl_tree.specs.declared.call.Call.{Call}
 use Rattle.nl_tree.specs.declared.reply.FaultReply.{FaultReply}
-use Rattle.nl_device.specs.declared.device.Device.{Device}
 use Rattle.nl_iface.specs.Calls.{stored}
 use Rattle.nl_iface.specs.Stored.{stored_in}
 use Rattle.nl_iface.specs.declared.counts.Counts.{Ghosts}
@@ -24,18 +23,18 @@ use Rattle.nl_opening.specs.Beginning.{all_at}
 use Rattle.nl_stops.specs.Along.{GoesAlong, opens_as}
 
 -- A volume as an opening leaves it goes along the run without calls from its count and its tree on.
-abbrev pub OpeningGoesAlong : {M : Type 0} → Ghosts (Device M) → Type 0
-OpeningGoesAlong {M} g =
-    (v : Core M) (tree : Tree) → (g.tells → (page_of_stamp : ℕ → Option PageOfStamp) × CoreStands g v page_of_stamp (all_at v.count tree)) → v.count ≤ top
+abbrev pub OpeningGoesAlong : {D : Type 0} → Ghosts D → Type 0
+OpeningGoesAlong {D} g =
+    (v : Core D) (tree : Tree) → (g.tells → (page_of_stamp : ℕ → Option PageOfStamp) × CoreStands g v page_of_stamp (all_at v.count tree)) → v.count ≤ top
     → GoesAlong g v (g.clock v.device) (record { shape = g.shape v.device; count = v.count; tree = tree; calls = []; syncs = [] }) v
 
 -- A call of the core answers no call of a file.
-abbrev pub CallGoesAlong : {M : Type 0} → Ghosts (Device M) → Type 0
-CallGoesAlong {M} g = (n : ℕ) (u v : Core M) (origin : Core M) (first : ℕ) (run : Run) → Goes g n u v → GoesAlong g origin first run u → GoesAlong g origin first run v
+abbrev pub CallGoesAlong : {D : Type 0} → Ghosts D → Type 0
+CallGoesAlong {D} g = (n : ℕ) (u v : Core D) (origin : Core D) (first : ℕ) (run : Run) → Goes g n u v → GoesAlong g origin first run u → GoesAlong g origin first run v
 
 -- A call of a file takes effect: nothing is written to the medium, what is committed stays, and as whatever tree the core ran, it runs as what
 -- the call makes of it.
-pub record TakesEffect {M : Type 0} (g : Ghosts (Device M)) (u v : Core M) (x : Call × Option FaultReply) : Type 0 where
+pub record TakesEffect {D : Type 0} (g : Ghosts D) (u v : Core D) (x : Call × Option FaultReply) : Type 0 where
   pub same_shape : g.shape v.device ≡ g.shape u.device
   pub same_clock : g.clock v.device ≡ g.clock u.device
   pub same_number : v.journal.number ≡ u.journal.number
@@ -47,21 +46,21 @@ pub record TakesEffect {M : Type 0} (g : Ghosts (Device M)) (u v : Core M) (x : 
   pub trees : IsTold g v → (page_of_stamp : ℕ → Option PageOfStamp) (t : Trees) → CoreStands g u page_of_stamp t
       → CoreStands g v page_of_stamp (record t { running = (step_marked (g.shape u.device) t.running x).tree })
 
-abbrev pub EffectGoesAlong : {M : Type 0} → Ghosts (Device M) → Type 0
-EffectGoesAlong {M} g =
-    (u v : Core M) (x : Call × Option FaultReply) (origin : Core M) (first : ℕ) (run : Run) → TakesEffect g u v x → GoesAlong g origin first run u
+abbrev pub EffectGoesAlong : {D : Type 0} → Ghosts D → Type 0
+EffectGoesAlong {D} g =
+    (u v : Core D) (x : Call × Option FaultReply) (origin : Core D) (first : ℕ) (run : Run) → TakesEffect g u v x → GoesAlong g origin first run u
     → GoesAlong g origin first (with_call run x) v
 
 -- A commit of all calls makes them durable from the moment of its commit page on.
-abbrev pub SyncGoesAlong : {M : Type 0} → Ghosts (Device M) → Type 0
-SyncGoesAlong {M} g =
-    (n number : ℕ) (u v : Core M) (origin : Core M) (first : ℕ) (run : Run) → Goes g n u v → CommitsAll g u v number → GoesAlong g origin first run u
+abbrev pub SyncGoesAlong : {D : Type 0} → Ghosts D → Type 0
+SyncGoesAlong {D} g =
+    (n number : ℕ) (u v : Core D) (origin : Core D) (first : ℕ) (run : Run) → Goes g n u v → CommitsAll g u v number → GoesAlong g origin first run u
     → GoesAlong g origin first (with_sync run (record { upto = v.committed; moment = v.moment })) v
 
 -- Where all calls are committed, and what is stored opens as the committed tree, it opens as the tree after all calls of the run.
-abbrev pub EndsStanding : {M : Type 0} → Ghosts (Device M) → Type 0
-EndsStanding {M} g =
-    (v : Core M) (origin : Core M) (first : ℕ) (run : Run) → StoredOpens g v → GoesAlong g origin first run v → v.committed ≡ v.count → IsTold g v
+abbrev pub EndsStanding : {D : Type 0} → Ghosts D → Type 0
+EndsStanding {D} g =
+    (v : Core D) (origin : Core D) (first : ℕ) (run : Run) → StoredOpens g v → GoesAlong g origin first run v → v.committed ≡ v.count → IsTold g v
     → OpensAs run.shape (stored g v.device) (v.count, replay run.shape run.tree run.calls)
 
 -- What opens as a tree of the run is an image that is sound as that tree.

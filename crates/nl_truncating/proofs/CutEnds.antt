@@ -12,12 +12,10 @@ use Rattle.nl_tree.specs.declared.call.Call.TheVariants.{Truncate}
 use Rattle.nl_tree.specs.declared.reply.Refusal.{Refusal}
 use Rattle.nl_tree.specs.declared.reply.Refusal.TheVariants.{Efbig}
 use Rattle.nl_tree.specs.declared.reply.Reply.TheVariants.{Done, No}
-use Rattle.nl_device.specs.declared.device.Device.{Device}
 use Rattle.nl_flight.specs.Flight.{InFlight, begun, of_worker}
 use Rattle.nl_iface.specs.declared.counts.Counts.{Ghosts}
 use Rattle.nl_meta.specs.Consistent.{PageOfStamp}
 use Rattle.nl_namespace.specs.PathLaws.{LooksInTree}
-use Rattle.nl_looking.proofs.Directories.{room}
 use Rattle.nl_running.specs.declared.answer.Stop.TheVariants as stop
 use Rattle.nl_held.specs.Trees.{RunsAs}
 use Rattle.nl_core.specs.Core.{IsCore, running_of}
@@ -26,24 +24,24 @@ use Rattle.nl_core.specs.Trees.{CoreRuns}
 use Rattle.nl_core.specs.declared.state.Core.{Core}
 use Rattle.nl_core.proofs.Lines.{in_flight}
 use Rattle.nl_core.proofs.Onward.{goes_more, goes_then}
-use Rattle.nl_effect.specs.Fits.{IsFileOf}
-use Rattle.nl_writing.specs.Answers.{EndsEarly}
-use Rattle.nl_writing.specs.Calls.{HasPagesOfFiles, IfDone, IfUndone, TakesCall, stop_in}
-use Rattle.nl_writing.specs.Finding.{IsSomeFile, nodes_of}
-use Rattle.nl_writing.specs.Lines.{OthersStay}
-use Rattle.nl_writing.specs.Refusals.{refusal_of_path}
+use Rattle.nl_filing.specs.Fits.{IsFileOf}
+use Rattle.nl_filing.proofs.Directories.{room}
+use Rattle.nl_filing.specs.Refusals.{refusal_of_path}
+use Rattle.nl_filing.proofs.FoundFiles.{looks-refuse}
 use Rattle.nl_truncating.specs.Truncating.{AnswersTruncate, CutsFile, Truncates}
-use Rattle.nl_writing.specs.declared.answer.Written.{Written}
-use Rattle.nl_writing.specs.declared.answer.Written.TheVariants as written
+use Rattle.nl_effect.specs.declared.answer.Written.TheVariants as written
+use Rattle.nl_effect.specs.Answers.{EndsEarly}
+use Rattle.nl_effect.specs.Calls.{HasPagesOfFiles, IfDone, IfUndone, OthersStay, TakesCall, stop_in}
+use Rattle.nl_effect.specs.Finding.{IsSomeFile, nodes_of}
+use Rattle.nl_effect.specs.declared.answer.Written.{Written}
+use Rattle.nl_effect.proofs.Early.{within-early}
+use Rattle.nl_effect.proofs.Going.{files_on, leads_on, others_then}
 use Rattle.nl_truncating.proofs.CutNodes.{file_goes}
 use Rattle.nl_truncating.proofs.CutStep.{far_refuses, is_done, path_refuses}
-use Rattle.nl_writing.proofs.Early.{within-early}
-use Rattle.nl_writing.proofs.FoundFiles.{looks-refuse}
-use Rattle.nl_writing.proofs.Going.{files_on, leads_on, others_then}
 
 -- ---- after a part that goes on
 
-module _ {M : Type 0} (g : Ghosts (Device M)) (u v w : Core M) (worker : ℕ) (path : List (List ℕ)) (size : ℕ) (goes : Goes g 0 u v) (others : OthersStay worker u.flight v.flight) where
+module _ {D : Type 0} (g : Ghosts D) (u v w : Core D) (worker : ℕ) (path : List (List ℕ)) (size : ℕ) (goes : Goes g 0 u v) (others : OthersStay worker u.flight v.flight) where
   answers_before : (answer : Written) → AnswersTruncate g path size v answer → AnswersTruncate g path size u answer
   answers_before (written.Done files) h = λ tells page_of_stamp tree at.
       let k = goes.runs tells page_of_stamp tree at in
@@ -55,7 +53,7 @@ module _ {M : Type 0} (g : Ghosts (Device M)) (u v w : Core M) (worker : ℕ) (p
   answers_before written.Fault h = tt
 
   takes_before : TakesCall g worker (Truncate path size) v w → TakesCall g worker (Truncate path size) u w
-  takes_before t = record { between = t.between; formed = t.formed; core = t.core; goes = goes_then g u v t.between 0 (2 ^ 40) goes t.goes; steps = t.steps; makes = t.makes; ended = t.ended }
+  takes_before t = record { between = t.between; core = t.core; goes = goes_then g u v t.between 0 (2 ^ 40) goes t.goes; steps = t.steps; makes = t.makes; ended = t.ended }
 
   done_before : (answer : Written) → IfDone answer (λ files. TakesCall g worker (Truncate path size) v w × HasPagesOfFiles g w files) → IfDone answer (λ files. TakesCall g worker (Truncate path size) u w × HasPagesOfFiles g w files)
   done_before (written.Done files) h = (takes_before h.0, h.1)
@@ -81,7 +79,7 @@ module _ {M : Type 0} (g : Ghosts (Device M)) (u v w : Core M) (worker : ℕ) (p
 
 -- ---- not done
 
-module _ {M : Type 0} (g : Ghosts (Device M)) (u v : Core M) (worker : ℕ) (path : List (List ℕ)) (size most : ℕ) (few : most ≤ 2 ^ 40) (core : IsCore g v) (goes : Goes g most u v) (others : OthersStay worker u.flight v.flight) where
+module _ {D : Type 0} (g : Ghosts D) (u v : Core D) (worker : ℕ) (path : List (List ℕ)) (size most : ℕ) (few : most ≤ 2 ^ 40) (core : IsCore g v) (goes : Goes g most u v) (others : OthersStay worker u.flight v.flight) where
   gone : Goes g (2 ^ 40) u v
   gone = goes_more g most (2 ^ 40) u v few goes
 
@@ -96,7 +94,7 @@ module _ {M : Type 0} (g : Ghosts (Device M)) (u v : Core M) (worker : ℕ) (pat
 
 -- ---- what refuses it
 
-module _ {M : Type 0} (g : Ghosts (Device M)) (v : Core M) (path : List (List ℕ)) (size : ℕ) where
+module _ {D : Type 0} (g : Ghosts D) (v : Core D) (path : List (List ℕ)) (size : ℕ) where
   pub path_answers : (r : Refusal) → ((page_of_stamp : ℕ → Option PageOfStamp) (tree : Tree) → RunsAs (g.shape v.device) (running_of g v) page_of_stamp tree → refusal_of_path tree path ≡ Some r) → AnswersTruncate g path size v (written.No r)
   path_answers r refused = λ tells page_of_stamp tree at. path_refuses (g.shape v.device) tree path size r (refused page_of_stamp tree at.runs)
 
@@ -109,9 +107,9 @@ module _ {M : Type 0} (g : Ghosts (Device M)) (v : Core M) (path : List (List �
 
 -- ---- done
 
-module _ {M : Type 0} (g : Ghosts (Device M)) (u w : Core M) (law : LooksInTree) (core : IsCore g u) (core_w : IsCore g w) (worker : ℕ) (known : worker < 8) (path : List (List ℕ)) (size : ℕ) (near : size ≤ max_file_size) (short : is_too_long path ≡ false)
+module _ {D : Type 0} (g : Ghosts D) (u w : Core D) (law : LooksInTree) (core : IsCore g u) (core_w : IsCore g w) (worker : ℕ) (known : worker < 8) (path : List (List ℕ)) (size : ℕ) (near : size ≤ max_file_size) (short : is_too_long path ≡ false)
     (n : ℕ) (leads : node_reached (nodes_of g u) 0 path ≡ Some n) (file : IsSomeFile g u n) (most : ℕ) (few : most ≤ 2 ^ 40) (cuts : CutsFile g most worker n size u w) where
-  abbrev between : Core M
+  abbrev between : Core D
   between = cuts.between
 
   module _ (tells : g.tells) (page_of_stamp : ℕ → Option PageOfStamp) (tree : Tree) (at : CoreRuns g between page_of_stamp tree) where
@@ -139,7 +137,6 @@ module _ {M : Type 0} (g : Ghosts (Device M)) (u w : Core M) (law : LooksInTree)
   takes : TakesCall g worker (Truncate path size) u w
   takes = record {
     between = between;
-    formed = cuts.formed;
     core = cuts.core;
     goes = goes_more g most (2 ^ 40) u between few cuts.goes;
     steps = cuts.is_cut.steps;
@@ -157,7 +154,7 @@ module _ {M : Type 0} (g : Ghosts (Device M)) (u w : Core M) (law : LooksInTree)
 
 -- ---- how many pages files have where it is not done
 
-pub undone_files : {M : Type 0} (g : Ghosts (Device M)) (u w : Core M) (most files : ℕ) (answer : Written) → HasPagesOfFiles g u files → IfUndone answer (Goes g most u w) → IfUndone answer (Goes g most u w × HasPagesOfFiles g w files)
+pub undone_files : {D : Type 0} (g : Ghosts D) (u w : Core D) (most files : ℕ) (answer : Written) → HasPagesOfFiles g u files → IfUndone answer (Goes g most u w) → IfUndone answer (Goes g most u w × HasPagesOfFiles g w files)
 undone_files g u w most files (written.Done now) has goes = tt
 undone_files g u w most files (written.No refusal) has goes = (goes, files_on g most u w goes files has)
 undone_files g u w most files (written.Lost wanted found) has goes = (goes, files_on g most u w goes files has)

@@ -9,8 +9,9 @@ use Rattle.nl_flight.specs.declared.page.FlightPage.{FlightPage}
 use Rattle.nl_iface.specs.Names.{Has}
 use Rattle.nl_core.specs.Programming.{with_page}
 use Rattle.nl_core.proofs.Lines.{after, before, carried_own, carried_with, held, of_line}
-use Rattle.nl_writing.specs.Lines.{OthersStay}
-use Rattle.nl_writing.proofs.Flying.{bare, others_put, pages_put, same_line, same_pages}
+use Rattle.nl_effect.specs.Calls.{OthersStay}
+use Rattle.nl_filing.proofs.LinePages.{bare}
+use Rattle.nl_effect.proofs.WorkerLines.{others_put, pages_put, same_line, same_pages}
 
 -- ---- the page that a worker without a line has in flight after one was put
 

@@ -1,7 +1,6 @@
 -- How many pages files have after a cut.
 use Rattle.std.proofs.Common.{◌≡◌, ℕ, ◌+◌, ◌<◌, ◌≤◌, List, length, ap, arith}
 use Rattle.nl_field.specs.declared.shape.Shape.{Shape}
-use Rattle.nl_device.specs.declared.device.Device.{Device}
 use Rattle.nl_flight.specs.Flight.{InFlight, begun, carried, with_line}
 use Rattle.nl_iface.specs.Names.{Names}
 use Rattle.nl_iface.specs.declared.counts.Counts.{Ghosts}
@@ -14,7 +13,7 @@ use Rattle.nl_effect.specs.Steps.{Steps}
 use Rattle.nl_truncating.proofs.CutFlight.{carried_less}
 
 -- what awaits its free more left the files, or came from the flight
-module _ {M : Type 0} (g : Ghosts (Device M)) (u v : Core M) (worker : ℕ) (core : IsCore g u) (core_v : IsCore g v) (known : worker < 8) (step : Steps g u v) (ended : v.flight ≡ with_line u.flight worker (begun 0)) where
+module _ {D : Type 0} (g : Ghosts D) (u v : Core D) (worker : ℕ) (core : IsCore g u) (core_v : IsCore g v) (known : worker < 8) (step : Steps g u v) (ended : v.flight ≡ with_line u.flight worker (begun 0)) where
   pub cut_as_many : length (running_holders g v.device v.meta) + length v.freeing.items ≡ length (running_holders g u.device u.meta) + length (worker_pages u worker) + length u.freeing.items
   cut_as_many =
       let live = ap (λ (m : Names). m.space.live) step.reads.names in

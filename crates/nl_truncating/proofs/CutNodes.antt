@@ -10,7 +10,6 @@ use Rattle.nl_field.specs.declared.inode.Kind.TheVariants.{Dir, File, Unused}
 use Rattle.nl_field.specs.declared.pointer.Pointer.{Pointer}
 use Rattle.nl_field.specs.declared.shape.Shape.{Shape}
 use Rattle.nl_tree.specs.Represents.{node_reached}
-use Rattle.nl_device.specs.declared.device.Device.{Device}
 use Rattle.nl_drain.specs.Handled.{SameButNames, nameless, nameless_body}
 use Rattle.nl_iface.specs.declared.counts.Counts.{Ghosts}
 use Rattle.nl_indirect.specs.Ranges.{IsFileRecord}
@@ -22,10 +21,10 @@ use Rattle.nl_sound.proofs.GraphOfPages.{NodeOf, node_is, node_or_none}
 use Rattle.nl_core.specs.Core.{IsCore, running_of}
 use Rattle.nl_core.specs.Goes.{Goes}
 use Rattle.nl_core.specs.declared.state.Core.{Core}
-use Rattle.nl_effect.specs.Fits.{IsFileOf}
-use Rattle.nl_effect.proofs.Fits.{stands}
-use Rattle.nl_writing.specs.Finding.{nodes_of}
-use Rattle.nl_writing.proofs.Going.{reached_stays}
+use Rattle.nl_filing.specs.Fits.{IsFileOf}
+use Rattle.nl_filing.proofs.Fits.{stands}
+use Rattle.nl_effect.specs.Finding.{nodes_of}
+use Rattle.nl_effect.proofs.Going.{reached_stays}
 
 -- ---- one file
 
@@ -98,14 +97,14 @@ module _ (shape shape_ : Shape) (old new : VirtualMap) (same : SameButNames (gra
 -- ---- of cores
 
 -- The node is a file then too, of the same generation and size, and has pages at the same indexes.
-pub record FileGoes {M : Type 0} (g : Ghosts (Device M)) (u v : Core M) (n : ℕ) (was : InodeRec) : Type 0 where
+pub record FileGoes {D : Type 0} (g : Ghosts D) (u v : Core D) (n : ℕ) (was : InodeRec) : Type 0 where
   pub rec : InodeRec
   pub file : IsFileOf g v.device v.meta n rec
   pub generation : rec.generation ≡ was.generation
   pub size : rec.size ≡ was.size
   pub holes : (i : ℕ) → is_none_pointer (pointer_at (running_of g v) rec i) ≡ is_none_pointer (pointer_at (running_of g u) was i)
 
-module _ {M : Type 0} (g : Ghosts (Device M)) (m : ℕ) (u v : Core M) (a : Goes g m u v) where
+module _ {D : Type 0} (g : Ghosts D) (m : ℕ) (u v : Core D) (a : Goes g m u v) where
   pub leads_back : (path : List (List ℕ)) (n : ℕ) → node_reached (nodes_of g v) 0 path ≡ Some n → node_reached (nodes_of g u) 0 path ≡ Some n
   leads_back path n e = sym (reached_stays (nodes_of g u) (nodes_of g v) a.nodes path 0) ∙ e
 

@@ -1,13 +1,12 @@
 -- The page that a worker has in flight for a cut holds the bytes of the file below the size, in whatever tree the core runs as.
 use Rattle.std.proofs.Common.{◌≡◌, ⊎_elim, inl, inr, ℕ, zero, suc, ◌/◌, ◌<◌, List, [], ◌∷◌, unwrap_or, sym, ap, subst, ◌∙◌, Option, Some, option_map, arith}
 use Rattle.std.specs.Prelude.{IsTrue, slice_get}
-use Rattle.nl_field.specs.ContentLaws.{cut_page}
+use Rattle.nl_content.specs.ContentLaws.{cut_page}
 use Rattle.nl_field.specs.FileContent.{FileContent, page_bytes}
 use Rattle.nl_field.specs.declared.inode.InodeRec.{InodeRec}
 use Rattle.nl_field.specs.declared.shape.Shape.{Shape}
 use Rattle.nl_tree.specs.Represents.{node_reached}
 use Rattle.nl_tree.specs.Tree.{Node, Tree, content_of, node_at}
-use Rattle.nl_device.specs.declared.device.Device.{Device}
 use Rattle.nl_flight.specs.Flight.{InFlight, of_worker}
 use Rattle.nl_flight.specs.declared.page.FlightPage.{FlightPage}
 use Rattle.nl_iface.specs.Names.{IsNames, led}
@@ -22,16 +21,16 @@ use Rattle.nl_core.specs.Trees.{CoreRuns}
 use Rattle.nl_core.specs.declared.state.Core.{Core}
 use Rattle.nl_core.proofs.Lines.{in_flight}
 use Rattle.nl_core.proofs.Standing.{flight_leads}
-use Rattle.nl_effect.specs.FileRuns.{EndsClean}
-use Rattle.nl_effect.specs.Fits.{IsFileOf}
+use Rattle.nl_filing.specs.FileRuns.{EndsClean}
+use Rattle.nl_filing.specs.Fits.{IsFileOf}
 use Rattle.nl_effect.specs.Lines.{worker_pages}
 use Rattle.nl_effect.specs.Truncating.{AreCut, HasPartial, IsPartialPage}
-use Rattle.nl_writing.specs.Calls.{RunsAsSome}
-use Rattle.nl_writing.specs.Finding.{nodes_of}
+use Rattle.nl_effect.specs.Calls.{RunsAsSome}
+use Rattle.nl_effect.specs.Finding.{nodes_of}
+use Rattle.nl_effect.proofs.FilePages.{at-path, page-shown}
 use Rattle.nl_truncating.specs.Truncating.{CanCut}
 use Rattle.nl_truncating.proofs.CutFlight.{page_carried}
 use Rattle.nl_truncating.proofs.CutNodes.{FileGoes, file_goes, leads_back}
-use Rattle.nl_writing.proofs.FilePages.{at-path, page-shown}
 
 -- the only page of a list
 only : (page : FlightPage) (k : ℕ) (p : FlightPage) → slice_get (page ∷ []) k ≡ Some p → page ≡ p
@@ -49,7 +48,7 @@ none_cut page_of_stamp content size k p at = absurd (cc at)
 
 -- ---- the page of a core
 
-module _ {M : Type 0} (g : Ghosts (Device M)) (v : Core M) (core : IsCore g v) (names : IsNames (g.shape v.device) (g.next_stamp v.device) (names_of g v)) (worker n size : ℕ) (rec : InodeRec) (known : worker < 8)
+module _ {D : Type 0} (g : Ghosts D) (v : Core D) (core : IsCore g v) (names : IsNames (g.shape v.device) (g.next_stamp v.device) (names_of g v)) (worker n size : ℕ) (rec : InodeRec) (known : worker < 8)
     (file : IsFileOf g v.device v.meta n rec) (page : FlightPage) (alone : worker_pages v worker ≡ page ∷ []) (within : page.index < 4104) where
   -- it is live
   live : LeadsLive g v (page.tag, page.at)
@@ -85,7 +84,7 @@ module _ {M : Type 0} (g : Ghosts (Device M)) (v : Core M) (core : IsCore g v) (
 
 -- ---- in any tree, where it is so in one
 
-module _ {M : Type 0} (g : Ghosts (Device M)) (v : Core M) (core : IsCore g v) (names : IsNames (g.shape v.device) (g.next_stamp v.device) (names_of g v)) (worker n size : ℕ) (rec : InodeRec) (known : worker < 8)
+module _ {D : Type 0} (g : Ghosts D) (v : Core D) (core : IsCore g v) (names : IsNames (g.shape v.device) (g.next_stamp v.device) (names_of g v)) (worker n size : ℕ) (rec : InodeRec) (known : worker < 8)
     (file : IsFileOf g v.device v.meta n rec) (partial : HasPartial g v worker n size rec) where
   pub in_all : (page_of_stamp : ℕ → Option PageOfStamp) (tree : Tree) (path : List (List ℕ)) → CoreRuns g v page_of_stamp tree → node_reached (nodes_of g v) 0 path ≡ Some n
       → AreCut page_of_stamp (content_of (node_at tree path)) size (worker_pages v worker) → (other : ℕ → Option PageOfStamp) (tree_ : Tree) (path_ : List (List ℕ)) → CoreRuns g v other tree_ → node_reached (nodes_of g v) 0 path_ ≡ Some n
@@ -101,7 +100,7 @@ module _ {M : Type 0} (g : Ghosts (Device M)) (v : Core M) (core : IsCore g v) (
 
 -- ---- it goes on
 
-module _ {M : Type 0} (g : Ghosts (Device M)) (u v : Core M) (same_shape : g.shape v.device ≡ g.shape u.device) (same_flight : v.flight ≡ u.flight) (worker n size : ℕ) (rec : InodeRec) (on : FileGoes g u v n rec) where
+module _ {D : Type 0} (g : Ghosts D) (u v : Core D) (same_shape : g.shape v.device ≡ g.shape u.device) (same_flight : v.flight ≡ u.flight) (worker n size : ℕ) (rec : InodeRec) (on : FileGoes g u v n rec) where
   same_pages : worker_pages v worker ≡ worker_pages u worker
   same_pages = ap (λ (flight : List InFlight). (of_worker flight worker).pages) same_flight
 
@@ -124,7 +123,7 @@ module _ {M : Type 0} (g : Ghosts (Device M)) (u v : Core M) (same_shape : g.sha
   pub partial_on : HasPartial g u worker n size rec → HasPartial g v worker n size on.rec
   partial_on partial = ⊎_elim (λ none. inl (same_pages ∙ none.0, ends_on none.1)) (λ one. inr (one.0, same_pages ∙ one.1, page_on one.0 one.2)) partial
 
-module _ {M : Type 0} (g : Ghosts (Device M)) (u v : Core M) (most : ℕ) (goes : Goes g most u v) (core : IsCore g u) (core_v : IsCore g v) (names_v : IsNames (g.shape v.device) (g.next_stamp v.device) (names_of g v)) (same_flight : v.flight ≡ u.flight)
+module _ {D : Type 0} (g : Ghosts D) (u v : Core D) (most : ℕ) (goes : Goes g most u v) (core : IsCore g u) (core_v : IsCore g v) (names_v : IsNames (g.shape v.device) (g.next_stamp v.device) (names_of g v)) (same_flight : v.flight ≡ u.flight)
     (worker n size : ℕ) (known : worker < 8) where
   pub can_cut_on : RunsAsSome g u → CanCut g u worker n size → CanCut g v worker n size
   can_cut_on runs can =

@@ -1,13 +1,12 @@
 -- A core that is ready to cut a file: the file ends without bytes behind the size, or the page in which it ends then was put in flight.
 use Rattle.std.proofs.Common.{◌≡◌, ◌≢◌, inl, inr, ℕ, ◌/◌, ◌%◌, ◌<◌, false, List, [], sym, ap, subst, ◌∙◌, Option, Some, arith}
-use Rattle.nl_field.specs.ContentLaws.{cut_page}
+use Rattle.nl_content.specs.ContentLaws.{cut_page}
 use Rattle.nl_field.specs.FileContent.{FileContent, page_bytes}
 use Rattle.nl_field.specs.Pointers.{is_none_pointer}
 use Rattle.nl_field.specs.declared.inode.InodeRec.{InodeRec}
 use Rattle.nl_field.specs.declared.pointer.Tag.{Tag}
 use Rattle.nl_tree.specs.Represents.{node_reached}
 use Rattle.nl_tree.specs.Tree.{Tree, content_of, node_at}
-use Rattle.nl_device.specs.declared.device.Device.{Device}
 use Rattle.nl_flight.specs.Flight.{InFlight, begun, of_worker}
 use Rattle.nl_flight.specs.declared.page.FlightPage.{FlightPage}
 use Rattle.nl_iface.specs.Names.{IsNames}
@@ -22,19 +21,19 @@ use Rattle.nl_core.specs.Trees.{CoreRuns}
 use Rattle.nl_core.specs.declared.state.Core.{Core}
 use Rattle.nl_core.proofs.Lines.{in_flight}
 use Rattle.nl_core.proofs.Standing.{flight_leads}
-use Rattle.nl_effect.specs.FileRuns.{EndsClean}
-use Rattle.nl_effect.specs.Fits.{IsFileOf}
+use Rattle.nl_filing.specs.FileRuns.{EndsClean}
+use Rattle.nl_filing.specs.Fits.{IsFileOf}
 use Rattle.nl_effect.specs.Lines.{worker_pages}
 use Rattle.nl_effect.specs.Truncating.{AreCut, HasPartial}
-use Rattle.nl_writing.specs.Calls.{RunsAsSome}
-use Rattle.nl_writing.specs.Finding.{nodes_of}
+use Rattle.nl_effect.specs.Calls.{RunsAsSome}
+use Rattle.nl_effect.specs.Finding.{nodes_of}
 use Rattle.nl_truncating.specs.Truncating.{CanCut, HasCutPage}
 use Rattle.nl_truncating.proofs.CutFlight.{IsOnePage, one_page, page_carried}
 use Rattle.nl_truncating.proofs.CutNodes.{FileGoes, file_goes, leads_back}
 use Rattle.nl_truncating.proofs.CutPages.{cut_one, in_all, none_cut}
 
 -- nothing is in flight, and nothing stands behind the size
-pub can_without : {M : Type 0} (g : Ghosts (Device M)) (v : Core M) (worker n size : ℕ) (rec : InodeRec) → of_worker v.flight worker ≡ begun 0 → IsFileOf g v.device v.meta n rec → EndsClean (running_of g v) rec size → CanCut g v worker n size
+pub can_without : {D : Type 0} (g : Ghosts D) (v : Core D) (worker n size : ℕ) (rec : InodeRec) → of_worker v.flight worker ≡ begun 0 → IsFileOf g v.device v.meta n rec → EndsClean (running_of g v) rec size → CanCut g v worker n size
 can_without g v worker n size rec none file clean =
     let empty : worker_pages v worker ≡ [] = ap (λ (x : InFlight). x.pages) none in
     record {
@@ -46,7 +45,7 @@ can_without g v worker n size rec none file clean =
     }
 
 -- the page in which the file ends then is in flight
-module _ {M : Type 0} (g : Ghosts (Device M)) (u v w : Core M) (core : IsCore g u) (core_v : IsCore g v) (core_w : IsCore g w) (names_w : IsNames (g.shape w.device) (g.next_stamp w.device) (names_of g w)) (most : ℕ) (goes : Goes g most u w)
+module _ {D : Type 0} (g : Ghosts D) (u v w : Core D) (core : IsCore g u) (core_v : IsCore g v) (core_w : IsCore g w) (names_w : IsNames (g.shape w.device) (g.next_stamp w.device) (names_of g w)) (most : ℕ) (goes : Goes g most u w)
     (worker line n size : ℕ) (rec : InodeRec) (tag : Tag) (main : List ℕ) (known : worker < 8) (none : of_worker v.flight worker ≡ begun 0) (file : IsFileOf g u.device u.meta n rec) (puts : PutsInFlight g worker line tag main v w)
     (made : HasCutPage g u n size main) (runs : RunsAsSome g u) (is_tag : tag ≡ record { ino = n; generation = rec.generation; index = size / 4096 }) (inside : size / 4096 < 4104) (within : size % 4096 ≢ 0)
     (had : is_none_pointer (pointer_at (running_of g u) rec (size / 4096)) ≡ false) where

@@ -11,7 +11,7 @@ use Rattle.nl_tree.specs.declared.reply.Refusal.{Refusal}
 use Rattle.nl_tree.specs.declared.reply.Refusal.TheVariants.{Efbig, Enametoolong}
 use Rattle.nl_tree.specs.declared.reply.Reply.TheVariants.{No}
 use Rattle.nl_tree.proofs.StepProofs.{performed, refused_before}
-use Rattle.nl_writing.specs.Refusals.{refusal_of_path}
+use Rattle.nl_filing.specs.Refusals.{refusal_of_path}
 
 only : (b : Bool) → (b || false) ≡ b
 only true = refl

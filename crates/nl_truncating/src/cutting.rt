@@ -9,24 +9,21 @@ ghost use Rattle.nl_running.specs.Reading.{stop_of};
 ghost use Rattle.nl_core.specs.Core.{IsCore, running_of};
 ghost use Rattle.nl_core.specs.Goes.{Goes};
 ghost use Rattle.nl_core.specs.Programming.{last_stamp};
-ghost use Rattle.nl_effect.specs.Fits.{IsFileOf};
+ghost use Rattle.nl_filing.specs.Fits.{IsFileOf};
 ghost use Rattle.nl_effect.specs.Steps.{ReadsOn};
-ghost use Rattle.nl_writing.specs.Answers.{EndsEarly};
-ghost use Rattle.nl_writing.specs.Finding.{IsSomeFile};
-ghost use Rattle.nl_writing.specs.Lines.{OthersStay};
+ghost use Rattle.nl_effect.specs.Answers.{EndsEarly};
+ghost use Rattle.nl_effect.specs.Finding.{IsSomeFile};
+ghost use Rattle.nl_effect.specs.Calls.{OthersStay};
 ghost use Rattle.nl_truncating.specs.Truncating.{CanCut, CanTruncate, HasCutPage, IsOpenFile};
 
 use nl_core::{Core, Programmed};
-use nl_device::Device;
-use nl_effect::{open_node, prepare_file};
+use nl_effect::{open_node, prepare_file, read_page};
 use nl_field::{InodeRec, PageBuf, Tag};
 use nl_files::FileAnswer;
 use nl_held::laws::device_stands;
-use nl_iface::Counts;
+use nl_iface::MovingPages;
 use nl_indirect::lookup;
-use nl_nand::Nand;
 use nl_running::Stop;
-use nl_writing::read_page;
 
 const PAGE: u64 = 4096;
 
@@ -34,26 +31,24 @@ const PAGE: u64 = 4096;
 const PAGES: u32 = 4104;
 
 /// Where a file has bytes from a size on in the page in which it ends then, puts that page without them in flight for a worker without a line.
-pub(crate) fn put_cut<M: Nand>(
-    core: &mut Core<M>,
+pub(crate) fn put_cut<D: MovingPages>(
+    core: &mut Core<D>,
     worker: u8,
     line: u32,
     ino: u32,
     size: u64,
     page: &mut PageBuf,
 ) -> Result<(), Stop>
-    requires formed { ⟦<Device<M> as Counts>⟧.formed core.old.device }
-    requires core { IsCore ⟦<Device<M> as Counts>⟧ core.old }
-    requires stamp { ⟦<Device<M> as Counts>⟧.next_stamp core.old.device < last_stamp }
-    requires can { CanTruncate ⟦<Device<M> as Counts>⟧ core.old worker line }
-    requires file { IsSomeFile ⟦<Device<M> as Counts>⟧ core.old ino }
+    requires core { IsCore D.Counts core.old }
+    requires stamp { D.next_stamp core.old.device < last_stamp }
+    requires can { CanTruncate D.Counts core.old worker line }
+    requires file { IsSomeFile D.Counts core.old ino }
     requires size { size ≤ 16809984 }
-    ensures formed { ⟦<Device<M> as Counts>⟧.formed core.new.device }
-    ensures core { IsCore ⟦<Device<M> as Counts>⟧ core.new }
-    ensures goes { Goes ⟦<Device<M> as Counts>⟧ (2 ^ 30) core.old core.new }
-    ensures ready { OnOk result (CanCut ⟦<Device<M> as Counts>⟧ core.new worker ino size) }
+    ensures core { IsCore D.Counts core.new }
+    ensures goes { Goes D.Counts (2 ^ 30) core.old core.new }
+    ensures ready { OnOk result (CanCut D.Counts core.new worker ino size) }
     ensures others { OthersStay worker core.old.flight core.new.flight }
-    ensures early { EndsEarly ⟦<Device<M> as Counts>⟧ core.old core.new (stop_of result) }
+    ensures early { EndsEarly D.Counts core.old core.new (stop_of result) }
 {
     let rec = open_file(core, ino)?;
     if rec.size <= size || size % PAGE == 0 {
@@ -66,17 +61,15 @@ pub(crate) fn put_cut<M: Nand>(
 }
 
 /// The record of a file, whose page becomes resident.
-pub(crate) fn open_file<M: Nand>(core: &mut Core<M>, ino: u32) -> Result<InodeRec, Stop>
-    requires formed { ⟦<Device<M> as Counts>⟧.formed core.old.device }
-    requires core { IsCore ⟦<Device<M> as Counts>⟧ core.old }
-    requires file { IsSomeFile ⟦<Device<M> as Counts>⟧ core.old ino }
-    ensures formed { ⟦<Device<M> as Counts>⟧.formed core.new.device }
-    ensures core { IsCore ⟦<Device<M> as Counts>⟧ core.new }
-    ensures volume { IsVolumeShape (⟦<Device<M> as Counts>⟧.shape core.old.device) }
-    ensures stores { M.tells → StoresPages ⟦<Device<M> as Counts>⟧ core.new.device }
-    ensures same { ReadsOn ⟦<Device<M> as Counts>⟧ core.old core.new }
-    ensures opened { IfOk result (IsOpenFile ⟦<Device<M> as Counts>⟧ core.old core.new ino) }
-    ensures early { EndsEarly ⟦<Device<M> as Counts>⟧ core.old core.new (stop_of result) }
+pub(crate) fn open_file<D: MovingPages>(core: &mut Core<D>, ino: u32) -> Result<InodeRec, Stop>
+    requires core { IsCore D.Counts core.old }
+    requires file { IsSomeFile D.Counts core.old ino }
+    ensures core { IsCore D.Counts core.new }
+    ensures volume { IsVolumeShape (D.shape core.old.device) }
+    ensures stores { D.tells → StoresPages D.Counts core.new.device }
+    ensures same { ReadsOn D.Counts core.old core.new }
+    ensures opened { IfOk result (IsOpenFile D.Counts core.old core.new ino) }
+    ensures early { EndsEarly D.Counts core.old core.new (stop_of result) }
 {
     device_stands(&core.device);
     let opened = open_node(core, ino);
@@ -85,17 +78,19 @@ pub(crate) fn open_file<M: Nand>(core: &mut Core<M>, ino: u32) -> Result<InodeRe
 }
 
 /// Makes the page resident that has the pointer of the index in which a file of this size ends, where there is such an index.
-pub(crate) fn hold_end<M: Nand>(core: &mut Core<M>, rec: &InodeRec, size: u64) -> Result<(), Stop>
-    requires formed { ⟦<Device<M> as Counts>⟧.formed core.old.device }
-    requires core { IsCore ⟦<Device<M> as Counts>⟧ core.old }
-    requires file { (n : ℕ) × IsFileOf ⟦<Device<M> as Counts>⟧ core.old.device core.old.meta n rec.now }
+pub(crate) fn hold_end<D: MovingPages>(
+    core: &mut Core<D>,
+    rec: &InodeRec,
+    size: u64,
+) -> Result<(), Stop>
+    requires core { IsCore D.Counts core.old }
+    requires file { (n : ℕ) × IsFileOf D.Counts core.old.device core.old.meta n rec.now }
     requires size { size ≤ 16809984 }
-    ensures formed { ⟦<Device<M> as Counts>⟧.formed core.new.device }
-    ensures core { IsCore ⟦<Device<M> as Counts>⟧ core.new }
-    ensures stores { M.tells → StoresPages ⟦<Device<M> as Counts>⟧ core.new.device }
-    ensures same { ReadsOn ⟦<Device<M> as Counts>⟧ core.old core.new }
+    ensures core { IsCore D.Counts core.new }
+    ensures stores { D.tells → StoresPages D.Counts core.new.device }
+    ensures same { ReadsOn D.Counts core.old core.new }
     ensures range { OnOk result (HasRange (page_of core.new.meta) rec.now (size / 4096)) }
-    ensures early { EndsEarly ⟦<Device<M> as Counts>⟧ core.old core.new (stop_of result) }
+    ensures early { EndsEarly D.Counts core.old core.new (stop_of result) }
 {
     let index = (size / PAGE) as u32;
     if index == PAGES {
@@ -112,25 +107,23 @@ pub(crate) fn hold_end<M: Nand>(core: &mut Core<M>, rec: &InodeRec, size: u64) -
 }
 
 // Whether a file has no page at the index in which it ends with this size.
-fn has_hole<M: Nand>(core: &mut Core<M>, rec: &InodeRec, size: u64) -> Result<bool, Stop>
-    requires formed { ⟦<Device<M> as Counts>⟧.formed core.old.device }
-    requires core { IsCore ⟦<Device<M> as Counts>⟧ core.old }
-    requires file { (n : ℕ) × IsFileOf ⟦<Device<M> as Counts>⟧ core.old.device core.old.meta n rec.now }
+fn has_hole<D: MovingPages>(core: &mut Core<D>, rec: &InodeRec, size: u64) -> Result<bool, Stop>
+    requires core { IsCore D.Counts core.old }
+    requires file { (n : ℕ) × IsFileOf D.Counts core.old.device core.old.meta n rec.now }
     requires size { size < 16809984 }
-    ensures formed { ⟦<Device<M> as Counts>⟧.formed core.new.device }
-    ensures core { IsCore ⟦<Device<M> as Counts>⟧ core.new }
-    ensures stores { M.tells → StoresPages ⟦<Device<M> as Counts>⟧ core.new.device }
-    ensures same { ReadsOn ⟦<Device<M> as Counts>⟧ core.old core.new }
-    ensures hole { IfOk result (λ b. b ≡ is_none_pointer (pointer_at (running_of ⟦<Device<M> as Counts>⟧ core.new) rec.now (size / 4096))) }
-    ensures early { EndsEarly ⟦<Device<M> as Counts>⟧ core.old core.new (stop_of result) }
+    ensures core { IsCore D.Counts core.new }
+    ensures stores { D.tells → StoresPages D.Counts core.new.device }
+    ensures same { ReadsOn D.Counts core.old core.new }
+    ensures hole { IfOk result (λ b. b ≡ is_none_pointer (pointer_at (running_of D.Counts core.new) rec.now (size / 4096))) }
+    ensures early { EndsEarly D.Counts core.old core.new (stop_of result) }
 {
     hold_end(core, rec, size)?;
     Ok(lookup(rec, &core.meta, (size / PAGE) as u32).is_none())
 }
 
 // Programs the page in which a file ends then, without its bytes from a size on.
-fn program_cut<M: Nand>(
-    core: &mut Core<M>,
+fn program_cut<D: MovingPages>(
+    core: &mut Core<D>,
     worker: u8,
     line: u32,
     ino: u32,
@@ -138,20 +131,18 @@ fn program_cut<M: Nand>(
     size: u64,
     page: &mut PageBuf,
 ) -> Result<(), Stop>
-    requires formed { ⟦<Device<M> as Counts>⟧.formed core.old.device }
-    requires core { IsCore ⟦<Device<M> as Counts>⟧ core.old }
-    requires stamp { ⟦<Device<M> as Counts>⟧.next_stamp core.old.device < last_stamp }
-    requires can { CanTruncate ⟦<Device<M> as Counts>⟧ core.old worker line }
-    requires file { IsFileOf ⟦<Device<M> as Counts>⟧ core.old.device core.old.meta ino rec.now }
+    requires core { IsCore D.Counts core.old }
+    requires stamp { D.next_stamp core.old.device < last_stamp }
+    requires can { CanTruncate D.Counts core.old worker line }
+    requires file { IsFileOf D.Counts core.old.device core.old.meta ino rec.now }
     requires shorter { size < rec.now.size }
     requires within { size % 4096 ≢ 0 }
-    requires had { is_none_pointer (pointer_at (running_of ⟦<Device<M> as Counts>⟧ core.old) rec.now (size / 4096)) ≡ false }
-    ensures formed { ⟦<Device<M> as Counts>⟧.formed core.new.device }
-    ensures core { IsCore ⟦<Device<M> as Counts>⟧ core.new }
-    ensures goes { Goes ⟦<Device<M> as Counts>⟧ (2 ^ 30) core.old core.new }
-    ensures ready { OnOk result (CanCut ⟦<Device<M> as Counts>⟧ core.new worker ino size) }
+    requires had { is_none_pointer (pointer_at (running_of D.Counts core.old) rec.now (size / 4096)) ≡ false }
+    ensures core { IsCore D.Counts core.new }
+    ensures goes { Goes D.Counts (2 ^ 30) core.old core.new }
+    ensures ready { OnOk result (CanCut D.Counts core.new worker ino size) }
     ensures others { OthersStay worker core.old.flight core.new.flight }
-    ensures early { EndsEarly ⟦<Device<M> as Counts>⟧ core.old core.new (stop_of result) }
+    ensures early { EndsEarly D.Counts core.old core.new (stop_of result) }
 {
     make_cut(core, ino, size, page)?;
     let tag = Tag {
@@ -170,23 +161,21 @@ fn program_cut<M: Nand>(
 }
 
 // Makes that page.
-fn make_cut<M: Nand>(
-    core: &mut Core<M>,
+fn make_cut<D: MovingPages>(
+    core: &mut Core<D>,
     ino: u32,
     size: u64,
     page: &mut PageBuf,
 ) -> Result<(), Stop>
-    requires formed { ⟦<Device<M> as Counts>⟧.formed core.old.device }
-    requires core { IsCore ⟦<Device<M> as Counts>⟧ core.old }
-    requires file { IsSomeFile ⟦<Device<M> as Counts>⟧ core.old ino }
+    requires core { IsCore D.Counts core.old }
+    requires file { IsSomeFile D.Counts core.old ino }
     requires size { size < 16809984 }
-    ensures formed { ⟦<Device<M> as Counts>⟧.formed core.new.device }
-    ensures core { IsCore ⟦<Device<M> as Counts>⟧ core.new }
-    ensures volume { IsVolumeShape (⟦<Device<M> as Counts>⟧.shape core.old.device) }
-    ensures stores { M.tells → StoresPages ⟦<Device<M> as Counts>⟧ core.new.device }
-    ensures same { ReadsOn ⟦<Device<M> as Counts>⟧ core.old core.new }
-    ensures made { OnOk result (HasCutPage ⟦<Device<M> as Counts>⟧ core.old ino size page.new.main) }
-    ensures early { EndsEarly ⟦<Device<M> as Counts>⟧ core.old core.new (stop_of result) }
+    ensures core { IsCore D.Counts core.new }
+    ensures volume { IsVolumeShape (D.shape core.old.device) }
+    ensures stores { D.tells → StoresPages D.Counts core.new.device }
+    ensures same { ReadsOn D.Counts core.old core.new }
+    ensures made { OnOk result (HasCutPage D.Counts core.old ino size page.new.main) }
+    ensures early { EndsEarly D.Counts core.old core.new (stop_of result) }
 {
     device_stands(&core.device);
     let mut bytes = [0u8; PAGE as usize];

@@ -11,28 +11,24 @@ ghost use Rattle.nl_core.specs.Core.{IsCore};
 ghost use Rattle.nl_core.specs.Goes.{Goes};
 ghost use Rattle.nl_effect.specs.Installing.{IsAtHand};
 ghost use Rattle.nl_effect.specs.Steps.{ReadsOn};
-ghost use Rattle.nl_effect.specs.Taking.{HasRoomToTake};
+ghost use Rattle.nl_filing.specs.Taking.{HasRoomToTake};
 ghost use Rattle.nl_effect.specs.Truncating.{CutsFileTo, HasPartial};
-ghost use Rattle.nl_writing.specs.Answers.{EndsEarly};
-ghost use Rattle.nl_writing.specs.Calls.{HasPagesOfFiles, IfDone, IfUndone, RunsAsSome, TakesCall, stop_in};
-ghost use Rattle.nl_writing.specs.Finding.{IsFound, IsSomeFile, nodes_of};
-ghost use Rattle.nl_writing.specs.Lines.{OthersStay};
+ghost use Rattle.nl_effect.specs.Answers.{EndsEarly};
+ghost use Rattle.nl_effect.specs.Calls.{HasPagesOfFiles, IfDone, IfUndone, OthersStay, RunsAsSome, TakesCall, stop_in};
+ghost use Rattle.nl_effect.specs.Finding.{IsFound, IsSomeFile, nodes_of};
 ghost use Rattle.nl_truncating.specs.Truncating.{AnswersTruncate, CanCut, CanTruncate, CutsFile, IsCut, IsUncut, Truncates};
 
 use crate::cutting::{hold_end, open_file, put_cut};
 use nl_core::Core;
-use nl_device::Device;
-use nl_effect::cut_file;
+use nl_effect::{Found, Written, cut_file, find_file, make_room};
 use nl_field::{InodeRec, PageBuf};
 use nl_files::FileAnswer;
 use nl_flight::Flight;
 use nl_held::laws::device_stands;
-use nl_iface::Counts;
+use nl_iface::MovingPages;
 use nl_namespace::laws::looks_in_tree;
-use nl_nand::Nand;
 use nl_running::Stop;
 use nl_tree::{Path, Refusal};
-use nl_writing::{Found, Written, find_file, make_room};
 
 /// The greatest size of a file.
 const MOST: u64 = 16_809_984;
@@ -41,8 +37,8 @@ const MOST: u64 = 16_809_984;
 /// are dropped. `Done` comes where the step of the tree is done, with how many pages files have then; `No` with its refusal, which is never for want of
 /// room; `Fault` where a program, a read or a commit failed; and `Lost` where a page does not hold the write sequence number under which it is looked
 /// for. But for `Done` the tree and the number of pages are as before, and a page may be in flight for the line.
-pub fn truncate_call<M: Nand>(
-    core: &mut Core<M>,
+pub fn truncate_call<D: MovingPages>(
+    core: &mut Core<D>,
     worker: u8,
     line: u32,
     path: &Path,
@@ -50,29 +46,27 @@ pub fn truncate_call<M: Nand>(
     files: u32,
     page: &mut PageBuf,
 ) -> Written
-    requires formed { ⟦<Device<M> as Counts>⟧.formed core.old.device }
-    requires core { IsCore ⟦<Device<M> as Counts>⟧ core.old }
+    requires core { IsCore D.Counts core.old }
     requires writes { core.old.stopped ≡ 0 }
-    requires stamp { ⟦<Device<M> as Counts>⟧.next_stamp core.old.device < 2 ^ 62 }
-    requires runs { RunsAsSome ⟦<Device<M> as Counts>⟧ core.old }
+    requires stamp { D.next_stamp core.old.device < 2 ^ 62 }
+    requires runs { RunsAsSome D.Counts core.old }
     requires known { worker < 8 }
     requires some { 0 < line }
-    requires files { HasPagesOfFiles ⟦<Device<M> as Counts>⟧ core.old files }
-    ensures formed { ⟦<Device<M> as Counts>⟧.formed core.new.device }
-    ensures core { IsCore ⟦<Device<M> as Counts>⟧ core.new }
-    ensures done { IfDone result (λ now. TakesCall ⟦<Device<M> as Counts>⟧ worker (Truncate path.now size) core.old core.new × HasPagesOfFiles ⟦<Device<M> as Counts>⟧ core.new now) }
-    ensures undone { IfUndone result (Goes ⟦<Device<M> as Counts>⟧ (2 ^ 40) core.old core.new × HasPagesOfFiles ⟦<Device<M> as Counts>⟧ core.new files) }
-    ensures answer { AnswersTruncate ⟦<Device<M> as Counts>⟧ path.now size core.old result }
+    requires files { HasPagesOfFiles D.Counts core.old files }
+    ensures core { IsCore D.Counts core.new }
+    ensures done { IfDone result (λ now. TakesCall D.Counts worker (Truncate path.now size) core.old core.new × HasPagesOfFiles D.Counts core.new now) }
+    ensures undone { IfUndone result (Goes D.Counts (2 ^ 40) core.old core.new × HasPagesOfFiles D.Counts core.new files) }
+    ensures answer { AnswersTruncate D.Counts path.now size core.old result }
     ensures others { OthersStay worker core.old.flight core.new.flight }
-    ensures early { EndsEarly ⟦<Device<M> as Counts>⟧ core.old core.new (stop_in result) }
+    ensures early { EndsEarly D.Counts core.old core.new (stop_in result) }
 {
     core.drop_line(worker);
     truncate_alone(core, worker, line, path, size, files, page)
 }
 
 // The same of a worker without a line.
-fn truncate_alone<M: Nand>(
-    core: &mut Core<M>,
+fn truncate_alone<D: MovingPages>(
+    core: &mut Core<D>,
     worker: u8,
     line: u32,
     path: &Path,
@@ -80,13 +74,11 @@ fn truncate_alone<M: Nand>(
     files: u32,
     page: &mut PageBuf,
 ) -> Written
-    requires formed { ⟦<Device<M> as Counts>⟧.formed core.old.device }
-    requires core { IsCore ⟦<Device<M> as Counts>⟧ core.old }
-    requires stamp { ⟦<Device<M> as Counts>⟧.next_stamp core.old.device < 2 ^ 62 }
-    requires can { CanTruncate ⟦<Device<M> as Counts>⟧ core.old worker line }
-    requires files { HasPagesOfFiles ⟦<Device<M> as Counts>⟧ core.old files }
-    ensures formed { ⟦<Device<M> as Counts>⟧.formed core.new.device }
-    ensures ends { Truncates ⟦<Device<M> as Counts>⟧ worker path.now size core.old core.new result }
+    requires core { IsCore D.Counts core.old }
+    requires stamp { D.next_stamp core.old.device < 2 ^ 62 }
+    requires can { CanTruncate D.Counts core.old worker line }
+    requires files { HasPagesOfFiles D.Counts core.old files }
+    ensures { Truncates D.Counts worker path.now size core.old core.new result }
 {
     match find_there(core, path) {
         Ok(Found::File(ino)) => truncate_found(core, worker, line, path, ino, size, files, page),
@@ -97,16 +89,14 @@ fn truncate_alone<M: Nand>(
 }
 
 // What the path leads to.
-fn find_there<M: Nand>(core: &mut Core<M>, path: &Path) -> Result<Found, Stop>
-    requires formed { ⟦<Device<M> as Counts>⟧.formed core.old.device }
-    requires core { IsCore ⟦<Device<M> as Counts>⟧ core.old }
-    ensures formed { ⟦<Device<M> as Counts>⟧.formed core.new.device }
-    ensures core { IsCore ⟦<Device<M> as Counts>⟧ core.new }
-    ensures volume { IsVolumeShape (⟦<Device<M> as Counts>⟧.shape core.old.device) }
-    ensures stores { M.tells → StoresPages ⟦<Device<M> as Counts>⟧ core.new.device }
-    ensures same { ReadsOn ⟦<Device<M> as Counts>⟧ core.old core.new }
-    ensures found { IfOk result (IsFound ⟦<Device<M> as Counts>⟧ core.old path.now) }
-    ensures early { EndsEarly ⟦<Device<M> as Counts>⟧ core.old core.new (stop_of result) }
+fn find_there<D: MovingPages>(core: &mut Core<D>, path: &Path) -> Result<Found, Stop>
+    requires core { IsCore D.Counts core.old }
+    ensures core { IsCore D.Counts core.new }
+    ensures volume { IsVolumeShape (D.shape core.old.device) }
+    ensures stores { D.tells → StoresPages D.Counts core.new.device }
+    ensures same { ReadsOn D.Counts core.old core.new }
+    ensures found { IfOk result (IsFound D.Counts core.old path.now) }
+    ensures early { EndsEarly D.Counts core.old core.new (stop_of result) }
 {
     device_stands(&core.device);
     let found = find_file(core, path);
@@ -115,8 +105,8 @@ fn find_there<M: Nand>(core: &mut Core<M>, path: &Path) -> Result<Found, Stop>
 }
 
 // The same of the file to which the path leads.
-fn truncate_found<M: Nand>(
-    core: &mut Core<M>,
+fn truncate_found<D: MovingPages>(
+    core: &mut Core<D>,
     worker: u8,
     line: u32,
     path: &Path,
@@ -125,16 +115,14 @@ fn truncate_found<M: Nand>(
     files: u32,
     page: &mut PageBuf,
 ) -> Written
-    requires formed { ⟦<Device<M> as Counts>⟧.formed core.old.device }
-    requires core { IsCore ⟦<Device<M> as Counts>⟧ core.old }
-    requires stamp { ⟦<Device<M> as Counts>⟧.next_stamp core.old.device < 2 ^ 62 }
-    requires can { CanTruncate ⟦<Device<M> as Counts>⟧ core.old worker line }
+    requires core { IsCore D.Counts core.old }
+    requires stamp { D.next_stamp core.old.device < 2 ^ 62 }
+    requires can { CanTruncate D.Counts core.old worker line }
     requires short { is_too_long path.now ≡ false }
-    requires leads { node_reached (nodes_of ⟦<Device<M> as Counts>⟧ core.old) 0 path.now ≡ Some ino }
-    requires file { IsSomeFile ⟦<Device<M> as Counts>⟧ core.old ino }
-    requires files { HasPagesOfFiles ⟦<Device<M> as Counts>⟧ core.old files }
-    ensures formed { ⟦<Device<M> as Counts>⟧.formed core.new.device }
-    ensures ends { Truncates ⟦<Device<M> as Counts>⟧ worker path.now size core.old core.new result }
+    requires leads { node_reached (nodes_of D.Counts core.old) 0 path.now ≡ Some ino }
+    requires file { IsSomeFile D.Counts core.old ino }
+    requires files { HasPagesOfFiles D.Counts core.old files }
+    ensures { Truncates D.Counts worker path.now size core.old core.new result }
 {
     looks_in_tree();
     if size > MOST {
@@ -148,8 +136,8 @@ fn truncate_found<M: Nand>(
 }
 
 // Cuts a file to a size that a file may have, and tells how many pages files have then.
-fn truncate_file<M: Nand>(
-    core: &mut Core<M>,
+fn truncate_file<D: MovingPages>(
+    core: &mut Core<D>,
     worker: u8,
     line: u32,
     ino: u32,
@@ -157,20 +145,18 @@ fn truncate_file<M: Nand>(
     files: u32,
     page: &mut PageBuf,
 ) -> Result<u32, Stop>
-    requires formed { ⟦<Device<M> as Counts>⟧.formed core.old.device }
-    requires core { IsCore ⟦<Device<M> as Counts>⟧ core.old }
-    requires stamp { ⟦<Device<M> as Counts>⟧.next_stamp core.old.device < 2 ^ 62 }
-    requires can { CanTruncate ⟦<Device<M> as Counts>⟧ core.old worker line }
-    requires file { IsSomeFile ⟦<Device<M> as Counts>⟧ core.old ino }
+    requires core { IsCore D.Counts core.old }
+    requires stamp { D.next_stamp core.old.device < 2 ^ 62 }
+    requires can { CanTruncate D.Counts core.old worker line }
+    requires file { IsSomeFile D.Counts core.old ino }
     requires size { size ≤ 16809984 }
-    requires files { HasPagesOfFiles ⟦<Device<M> as Counts>⟧ core.old files }
-    ensures formed { ⟦<Device<M> as Counts>⟧.formed core.new.device }
-    ensures core { IsCore ⟦<Device<M> as Counts>⟧ core.new }
-    ensures cut { IfOk result (λ n. CutsFile ⟦<Device<M> as Counts>⟧ (2 ^ 31) worker ino size core.old core.new) }
-    ensures files { IfOk result (HasPagesOfFiles ⟦<Device<M> as Counts>⟧ core.new) }
-    ensures uncut { OnErr result (Goes ⟦<Device<M> as Counts>⟧ (2 ^ 31) core.old core.new) }
+    requires files { HasPagesOfFiles D.Counts core.old files }
+    ensures core { IsCore D.Counts core.new }
+    ensures cut { IfOk result (λ n. CutsFile D.Counts (2 ^ 31) worker ino size core.old core.new) }
+    ensures files { IfOk result (HasPagesOfFiles D.Counts core.new) }
+    ensures uncut { OnErr result (Goes D.Counts (2 ^ 31) core.old core.new) }
     ensures others { OthersStay worker core.old.flight core.new.flight }
-    ensures early { EndsEarly ⟦<Device<M> as Counts>⟧ core.old core.new (stop_of result) }
+    ensures early { EndsEarly D.Counts core.old core.new (stop_of result) }
 {
     put_cut(core, worker, line, ino, size, page)?;
     if core.stopped != 0 {
@@ -182,26 +168,24 @@ fn truncate_file<M: Nand>(
 }
 
 // The same where the page in which the file ends then is in flight, if it needs one, and pages may become dirty.
-fn cut_now<M: Nand>(
-    core: &mut Core<M>,
+fn cut_now<D: MovingPages>(
+    core: &mut Core<D>,
     worker: u8,
     ino: u32,
     size: u64,
     files: u32,
 ) -> Result<u32, Stop>
-    requires formed { ⟦<Device<M> as Counts>⟧.formed core.old.device }
-    requires core { IsCore ⟦<Device<M> as Counts>⟧ core.old }
+    requires core { IsCore D.Counts core.old }
     requires known { worker < 8 }
     requires size { size ≤ 16809984 }
-    requires ready { CanCut ⟦<Device<M> as Counts>⟧ core.old worker ino size }
+    requires ready { CanCut D.Counts core.old worker ino size }
     requires room { length (besides_0 core.old.meta.dirty) + 4 ≤ most }
-    requires files { HasPagesOfFiles ⟦<Device<M> as Counts>⟧ core.old files }
-    ensures formed { ⟦<Device<M> as Counts>⟧.formed core.new.device }
-    ensures core { IsCore ⟦<Device<M> as Counts>⟧ core.new }
-    ensures cut { IfOk result (λ n. IsCut ⟦<Device<M> as Counts>⟧ worker ino size core.old core.new) }
-    ensures files { IfOk result (HasPagesOfFiles ⟦<Device<M> as Counts>⟧ core.new) }
-    ensures uncut { OnErr result (IsUncut ⟦<Device<M> as Counts>⟧ core.old core.new) }
-    ensures early { EndsEarly ⟦<Device<M> as Counts>⟧ core.old core.new (stop_of result) }
+    requires files { HasPagesOfFiles D.Counts core.old files }
+    ensures core { IsCore D.Counts core.new }
+    ensures cut { IfOk result (λ n. IsCut D.Counts worker ino size core.old core.new) }
+    ensures files { IfOk result (HasPagesOfFiles D.Counts core.new) }
+    ensures uncut { OnErr result (IsUncut D.Counts core.old core.new) }
+    ensures early { EndsEarly D.Counts core.old core.new (stop_of result) }
 {
     let mut rec = open_file(core, ino)?;
     hold_end(core, &rec, size)?;
@@ -209,28 +193,26 @@ fn cut_now<M: Nand>(
 }
 
 // The same of a file whose record is resident, and the page that has the pointer of the index in which it ends then.
-fn cut_held<M: Nand>(
-    core: &mut Core<M>,
+fn cut_held<D: MovingPages>(
+    core: &mut Core<D>,
     worker: u8,
     ino: u32,
     rec: &mut InodeRec,
     size: u64,
     files: u32,
 ) -> Result<u32, Stop>
-    requires formed { ⟦<Device<M> as Counts>⟧.formed core.old.device }
-    requires core { IsCore ⟦<Device<M> as Counts>⟧ core.old }
+    requires core { IsCore D.Counts core.old }
     requires known { worker < 8 }
-    requires hand { IsAtHand ⟦<Device<M> as Counts>⟧ core.old ino (size / 4096) rec.old }
-    requires partial { HasPartial ⟦<Device<M> as Counts>⟧ core.old worker ino size rec.old }
+    requires hand { IsAtHand D.Counts core.old ino (size / 4096) rec.old }
+    requires partial { HasPartial D.Counts core.old worker ino size rec.old }
     requires room { HasRoomToTake core.old.meta rec.old ino (size / 4096) }
     requires size { size ≤ 16809984 }
-    requires files { HasPagesOfFiles ⟦<Device<M> as Counts>⟧ core.old files }
-    ensures formed { ⟦<Device<M> as Counts>⟧.formed core.new.device }
-    ensures core { IsCore ⟦<Device<M> as Counts>⟧ core.new }
-    ensures cut { IfOk result (λ n. CutsFileTo ⟦<Device<M> as Counts>⟧ worker ino size rec.old rec.new core.old core.new) }
-    ensures files { IfOk result (HasPagesOfFiles ⟦<Device<M> as Counts>⟧ core.new) }
-    ensures uncut { OnErr result (IsUncut ⟦<Device<M> as Counts>⟧ core.old core.new) }
-    ensures early { EndsEarly ⟦<Device<M> as Counts>⟧ core.old core.new (stop_of result) }
+    requires files { HasPagesOfFiles D.Counts core.old files }
+    ensures core { IsCore D.Counts core.new }
+    ensures cut { IfOk result (λ n. CutsFileTo D.Counts worker ino size rec.old rec.new core.old core.new) }
+    ensures files { IfOk result (HasPagesOfFiles D.Counts core.new) }
+    ensures uncut { OnErr result (IsUncut D.Counts core.old core.new) }
+    ensures early { EndsEarly D.Counts core.old core.new (stop_of result) }
 {
     device_stands(&core.device);
     let landing = pages_of(&core.flight, worker);

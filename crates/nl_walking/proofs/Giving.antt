@@ -12,7 +12,7 @@ use Rattle.nl_field.specs.declared.pointer.Pointer.{Pointer}
 use Rattle.nl_field.specs.declared.shape.Shape.{Shape}
 use Rattle.nl_field.proofs.Bounds.{bounds}
 use Rattle.nl_held.specs.Trees.{RunsAs}
-use Rattle.nl_looking.proofs.Directories.{at-node, directory-count}
+use Rattle.nl_filing.proofs.Directories.{at-node, directory-count}
 use Rattle.nl_meta.specs.Committed.{VirtualMap}
 use Rattle.nl_meta.specs.Consistent.{IsNode, PageOfStamp}
 use Rattle.nl_meta.specs.Nodes.{body_of, entries_of_inode, graph_of}

@@ -5,7 +5,6 @@ pub mod Depth
 pub mod Directories
 pub mod Leading
 pub mod Least
-pub mod Printing
 pub mod Resident
 pub mod Sorted
 pub mod Turns

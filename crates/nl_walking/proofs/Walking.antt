@@ -2,7 +2,6 @@
 use Rattle.std.proofs.Common.{◌≡◌, ◌≢◌, ℕ, zero, suc, ◌+◌, ◌<◌, ◌≤◌, Bool, true, false, List, [], ◌∷◌, ◌++◌, length, map, take, refl, sym, ap, subst, ◌∙◌, Some, None, ◌⊎◌, inl, inr, arith}
 use Rattle.std.proofs.lemmas.List.{length-append, take_all}
 use Rattle.std.specs.Prelude.{slice_get}
-use Rattle.nl_device.specs.declared.device.Device.{Device}
 use Rattle.nl_field.specs.Graph.{Graph, NodeBody, file_node}
 use Rattle.nl_field.specs.declared.inode.InodeRec.{InodeRec}
 use Rattle.nl_files.specs.Answers.{IsPageStamp, LosesCount}
@@ -124,7 +123,7 @@ module _ (graph : Graph) (walk new : WalkState) (way : OnWay graph walk) (begun 
 
 -- ---- over a core of which pages were read
 
-module _ {M : Type 0} (g : Ghosts (Device M)) (u v : Core M) (volume : IsVolumeShape (g.shape u.device)) (on : ReadsOn g u v) where
+module _ {D : Type 0} (g : Ghosts D) (u v : Core D) (volume : IsVolumeShape (g.shape u.device)) (on : ReadsOn g u v) where
   pub nodes-stay : nodes_of g v ≡ nodes_of g u
   nodes-stay = graph-stays g u.device u.meta v.device v.meta (bounds-of (g.shape u.device) volume) on.runs
 

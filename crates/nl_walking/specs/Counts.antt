@@ -2,7 +2,6 @@
 use Rattle.std.specs.Prelude.{◌≡◌, ℕ, length, Option}
 use Rattle.nl_tree.specs.Charges.{data_charge, meta_charge, node_charge}
 use Rattle.nl_tree.specs.Tree.{Tree}
-use Rattle.nl_device.specs.declared.device.Device.{Device}
 use Rattle.nl_iface.specs.declared.counts.Counts.{Ghosts}
 use Rattle.nl_meta.specs.Consistent.{PageOfStamp}
 use Rattle.nl_commit.specs.Holding.{running_holders}
@@ -15,9 +14,9 @@ pub record IsCharged (taken : Taken) (tree : Tree) : Type 0 where
   pub nodes : taken.nodes ≡ node_charge tree
   pub meta : taken.meta ≡ meta_charge tree
 
-abbrev pub CountsCharges : {M : Type 0} → Ghosts (Device M) → Core M → Taken → Type 0
+abbrev pub CountsCharges : {D : Type 0} → Ghosts D → Core D → Taken → Type 0
 CountsCharges g v taken = (page_of_stamp : ℕ → Option PageOfStamp) (tree : Tree) → CoreRuns g v page_of_stamp tree → IsCharged taken tree
 
 -- The pages of its files are those that are held for them.
-abbrev pub FilesAreCharged : {M : Type 0} → Ghosts (Device M) → Type 0
-FilesAreCharged {M} g = (v : Core M) (page_of_stamp : ℕ → Option PageOfStamp) (tree : Tree) → CoreRuns g v page_of_stamp tree → data_charge tree ≡ length (running_holders g v.device v.meta)
+abbrev pub FilesAreCharged : {D : Type 0} → Ghosts D → Type 0
+FilesAreCharged {D} g = (v : Core D) (page_of_stamp : ℕ → Option PageOfStamp) (tree : Tree) → CoreRuns g v page_of_stamp tree → data_charge tree ≡ length (running_holders g v.device v.meta)

@@ -4,8 +4,8 @@ use Rattle.std.specs.declared.cmp.Ordering.TheVariants.{Less}
 use Rattle.std.specs.Ordering.{nat_cmp}
 use Rattle.std.specs.Cmp.Lexicographic.{slice_cmp}
 use Rattle.std.specs.FinMap.Entries.{is_sorted}
+use Rattle.nl_tree.specs.Charges.{node_charge}
 use Rattle.nl_tree.specs.Tree.{IsTree, Tree, path_cmp}
-use Rattle.nl_device.specs.declared.device.Device.{Device}
 use Rattle.nl_iface.specs.declared.counts.Counts.{Ghosts}
 use Rattle.nl_meta.specs.Consistent.{PageOfStamp}
 use Rattle.nl_core.specs.Trees.{CoreRuns}
@@ -22,10 +22,14 @@ pub record ItemsInTurn : Type 0 where
   -- So the paths rise, each of them once.
   pub rise : (tree : Tree) → IsTree tree → IsTrue (is_sorted path_cmp (items_of tree))
 
+-- There are as many as the tree has nodes.
+abbrev pub ItemsAreCounted : Type 0
+ItemsAreCounted = (tree : Tree) → length (items_of tree) ≡ node_charge tree
+
 -- A core has no more paths than its volume may have nodes.
-abbrev pub FewItems : {M : Type 0} → Ghosts (Device M) → Type 0
-FewItems {M} g = (v : Core M) (page_of_stamp : ℕ → Option PageOfStamp) (tree : Tree) → CoreRuns g v page_of_stamp tree → length (items_of tree) ≤ (g.shape v.device).nodes
+abbrev pub FewItems : {D : Type 0} → Ghosts D → Type 0
+FewItems {D} g = (v : Core D) (page_of_stamp : ℕ → Option PageOfStamp) (tree : Tree) → CoreRuns g v page_of_stamp tree → length (items_of tree) ≤ (g.shape v.device).nodes
 
 -- Where the medium tells its contents, a core of which pages were read runs as the same trees.
-abbrev pub ReadsRunOn : {M : Type 0} → Ghosts (Device M) → Type 0
-ReadsRunOn {M} g = (u v : Core M) (page_of_stamp : ℕ → Option PageOfStamp) (tree : Tree) → g.tells → ReadsOn g u v → CoreRuns g u page_of_stamp tree → CoreRuns g v page_of_stamp tree
+abbrev pub ReadsRunOn : {D : Type 0} → Ghosts D → Type 0
+ReadsRunOn {D} g = (u v : Core D) (page_of_stamp : ℕ → Option PageOfStamp) (tree : Tree) → g.tells → ReadsOn g u v → CoreRuns g u page_of_stamp tree → CoreRuns g v page_of_stamp tree

@@ -5,5 +5,4 @@ pub mod Items
 pub mod Laws
 pub mod Next
 pub mod Onward
-pub mod Printed
 pub mod Walks

@@ -3,7 +3,6 @@ use Rattle.std.specs.Prelude.{◌≡◌, ◌≢◌, ⊤, ℕ, List, [], length, 
 use Rattle.nl_field.specs.Graph.{Graph}
 use Rattle.nl_field.specs.declared.inode.InodeRec.{InodeRec}
 use Rattle.nl_tree.specs.Tree.{Tree}
-use Rattle.nl_device.specs.declared.device.Device.{Device}
 use Rattle.nl_iface.specs.declared.counts.Counts.{Ghosts}
 use Rattle.nl_meta.specs.Consistent.{PageOfStamp}
 use Rattle.nl_meta.specs.Committed.{VirtualMap}
@@ -16,23 +15,23 @@ use Rattle.nl_walking.specs.declared.item.TreeItem.{TreeItem}
 use Rattle.nl_walking.specs.declared.item.TreeItem.TheVariants as item
 
 -- the nodes as they run
-abbrev pub nodes_of : {M : Type 0} → Ghosts (Device M) → Core M → Graph
+abbrev pub nodes_of : {D : Type 0} → Ghosts D → Core D → Graph
 nodes_of g v = graph_of (g.shape v.device) (running_of g v)
 
 -- The walk is one over this core: its nodes are those to which its path leads, and it has room for the longest path.
-pub record IsOnWay {M : Type 0} (g : Ghosts (Device M)) (v : Core M) (walk : WalkState) : Type 0 where
+pub record IsOnWay {D : Type 0} (g : Ghosts D) (v : Core D) (walk : WalkState) : Type 0 where
   pub way : OnWay (nodes_of g v) walk
   pub room : walk.room ≡ (g.shape v.device).nodes
 
 -- It gives the next of each tree as which the core runs.
-abbrev pub GivesNext : {M : Type 0} → Ghosts (Device M) → Core M → WalkState → WalkState → TreeItem → Type 0
+abbrev pub GivesNext : {D : Type 0} → Ghosts D → Core D → WalkState → WalkState → TreeItem → Type 0
 GivesNext g v old new answer = (page_of_stamp : ℕ → Option PageOfStamp) (tree : Tree) → CoreRuns g v page_of_stamp tree → Gives tree old new answer
 
 -- ---- how it begins
 
 -- A walk that was made for a core is one over it,
-abbrev pub WalksBegin : {M : Type 0} → Ghosts (Device M) → Type 0
-WalksBegin {M} g = (v : Core M) (walk : WalkState) → walk ≡ record { path = []; nodes = []; room = (g.shape v.device).nodes } → IsOnWay g v walk
+abbrev pub WalksBegin : {D : Type 0} → Ghosts D → Type 0
+WalksBegin {D} g = (v : Core D) (walk : WalkState) → walk ≡ record { path = []; nodes = []; room = (g.shape v.device).nodes } → IsOnWay g v walk
 
 -- ---- its parts
 

@@ -1,6 +1,6 @@
 ghost use Rattle.std.specs.Prelude.{◌≡◌, ◌≢◌, ◌≤◌, ℕ, [], true, false, IfOk, Some};
 ghost use Rattle.nl_core.specs.Core.{IsCore, running_of};
-ghost use Rattle.nl_effect.specs.Fits.{IsFileOf};
+ghost use Rattle.nl_filing.specs.Fits.{IsFileOf};
 ghost use Rattle.nl_effect.specs.Steps.{ReadsOn};
 ghost use Rattle.nl_running.specs.Reading.{Reads, stop_of};
 ghost use Rattle.nl_running.specs.Running.{IsUsed};
@@ -12,28 +12,24 @@ use crate::item::TreeItem;
 use crate::places::next_place;
 use crate::walk::{Onward, TreeWalk};
 use nl_core::Core;
-use nl_device::Device;
 use nl_effect::{count_file, open_node};
 use nl_field::{InodeRec, Kind};
 use nl_files::CountPages;
 use nl_held::laws::device_stands;
-use nl_iface::Counts;
-use nl_nand::Nand;
+use nl_iface::MovingPages;
 use nl_running::Stop;
 
 /// The next path of the tree as which the core runs, and what stands there; the walk holds that path then. `End` comes exactly where no path is
 /// left. After `End`, `Fault` and `Lost` the walk stays. The core is the one over which the walk began, but for pages that were read.
-pub fn next_path<M: Nand>(core: &mut Core<M>, walk: &mut TreeWalk) -> TreeItem
-    requires formed { ⟦<Device<M> as Counts>⟧.formed core.old.device }
-    requires core { IsCore ⟦<Device<M> as Counts>⟧ core.old }
-    requires way { IsOnWay ⟦<Device<M> as Counts>⟧ core.old walk.old }
-    ensures formed { ⟦<Device<M> as Counts>⟧.formed core.new.device }
-    ensures core { IsCore ⟦<Device<M> as Counts>⟧ core.new }
-    ensures same { ReadsOn ⟦<Device<M> as Counts>⟧ core.old core.new }
-    ensures way { IsOnWay ⟦<Device<M> as Counts>⟧ core.new walk.new }
-    ensures gives { GivesNext ⟦<Device<M> as Counts>⟧ core.old walk.old walk.new result }
+pub fn next_path<D: MovingPages>(core: &mut Core<D>, walk: &mut TreeWalk) -> TreeItem
+    requires core { IsCore D.Counts core.old }
+    requires way { IsOnWay D.Counts core.old walk.old }
+    ensures core { IsCore D.Counts core.new }
+    ensures same { ReadsOn D.Counts core.old core.new }
+    ensures way { IsOnWay D.Counts core.new walk.new }
+    ensures gives { GivesNext D.Counts core.old walk.old walk.new result }
     ensures stays { is_path result ≡ false → walk.new ≡ walk.old }
-    ensures reads { Reads ⟦<Device<M> as Counts>⟧ core.old.device core.new.device (item_stop result) }
+    ensures reads { Reads D.Counts core.old.device core.new.device (item_stop result) }
 {
     device_stands(&core.device);
     if !walk.has_begun() {
@@ -47,16 +43,14 @@ pub fn next_path<M: Nand>(core: &mut Core<M>, walk: &mut TreeWalk) -> TreeItem
 }
 
 // Where a walk goes on that has begun.
-fn place_of<M: Nand>(core: &mut Core<M>, walk: &TreeWalk) -> Result<Option<Onward>, Stop>
-    requires formed { ⟦<Device<M> as Counts>⟧.formed core.old.device }
-    requires core { IsCore ⟦<Device<M> as Counts>⟧ core.old }
-    requires way { IsOnWay ⟦<Device<M> as Counts>⟧ core.old walk.now }
+fn place_of<D: MovingPages>(core: &mut Core<D>, walk: &TreeWalk) -> Result<Option<Onward>, Stop>
+    requires core { IsCore D.Counts core.old }
+    requires way { IsOnWay D.Counts core.old walk.now }
     requires begun { walk.now.nodes ≢ [] }
-    ensures formed { ⟦<Device<M> as Counts>⟧.formed core.new.device }
-    ensures core { IsCore ⟦<Device<M> as Counts>⟧ core.new }
-    ensures same { ReadsOn ⟦<Device<M> as Counts>⟧ core.old core.new }
-    ensures place { IfOk result (GoesOn (nodes_of ⟦<Device<M> as Counts>⟧ core.old) walk.now) }
-    ensures reads { Reads ⟦<Device<M> as Counts>⟧ core.old.device core.new.device (stop_of result) }
+    ensures core { IsCore D.Counts core.new }
+    ensures same { ReadsOn D.Counts core.old core.new }
+    ensures place { IfOk result (GoesOn (nodes_of D.Counts core.old) walk.now) }
+    ensures reads { Reads D.Counts core.old.device core.new.device (stop_of result) }
 {
     device_stands(&core.device);
     let answer = next_place(&mut core.device, &mut core.meta, &core.nodes, walk);
@@ -65,18 +59,16 @@ fn place_of<M: Nand>(core: &mut Core<M>, walk: &TreeWalk) -> Result<Option<Onwar
 }
 
 // The root.
-fn begin<M: Nand>(core: &mut Core<M>, walk: &mut TreeWalk) -> TreeItem
-    requires formed { ⟦<Device<M> as Counts>⟧.formed core.old.device }
-    requires core { IsCore ⟦<Device<M> as Counts>⟧ core.old }
-    requires way { IsOnWay ⟦<Device<M> as Counts>⟧ core.old walk.old }
+fn begin<D: MovingPages>(core: &mut Core<D>, walk: &mut TreeWalk) -> TreeItem
+    requires core { IsCore D.Counts core.old }
+    requires way { IsOnWay D.Counts core.old walk.old }
     requires before { walk.old.nodes ≡ [] }
-    ensures formed { ⟦<Device<M> as Counts>⟧.formed core.new.device }
-    ensures core { IsCore ⟦<Device<M> as Counts>⟧ core.new }
-    ensures same { ReadsOn ⟦<Device<M> as Counts>⟧ core.old core.new }
-    ensures told { TellsNode (nodes_of ⟦<Device<M> as Counts>⟧ core.old 0).body result }
-    ensures gave { is_path result ≡ true → GaveAt (nodes_of ⟦<Device<M> as Counts>⟧ core.old) walk.old walk.new [] }
+    ensures core { IsCore D.Counts core.new }
+    ensures same { ReadsOn D.Counts core.old core.new }
+    ensures told { TellsNode (nodes_of D.Counts core.old 0).body result }
+    ensures gave { is_path result ≡ true → GaveAt (nodes_of D.Counts core.old) walk.old walk.new [] }
     ensures stays { is_path result ≡ false → walk.new ≡ walk.old }
-    ensures reads { Reads ⟦<Device<M> as Counts>⟧ core.old.device core.new.device (item_stop result) }
+    ensures reads { Reads D.Counts core.old.device core.new.device (item_stop result) }
 {
     device_stands(&core.device);
     let item = item_at(core, 0);
@@ -88,19 +80,17 @@ fn begin<M: Nand>(core: &mut Core<M>, walk: &mut TreeWalk) -> TreeItem
 }
 
 // The path of an entry.
-fn go_to<M: Nand>(core: &mut Core<M>, walk: &mut TreeWalk, to: Onward) -> TreeItem
-    requires formed { ⟦<Device<M> as Counts>⟧.formed core.old.device }
-    requires core { IsCore ⟦<Device<M> as Counts>⟧ core.old }
-    requires way { IsOnWay ⟦<Device<M> as Counts>⟧ core.old walk.old }
+fn go_to<D: MovingPages>(core: &mut Core<D>, walk: &mut TreeWalk, to: Onward) -> TreeItem
+    requires core { IsCore D.Counts core.old }
+    requires way { IsOnWay D.Counts core.old walk.old }
     requires begun { walk.old.nodes ≢ [] }
-    requires leads { LeadsOn (nodes_of ⟦<Device<M> as Counts>⟧ core.old) walk.old to }
-    ensures formed { ⟦<Device<M> as Counts>⟧.formed core.new.device }
-    ensures core { IsCore ⟦<Device<M> as Counts>⟧ core.new }
-    ensures same { ReadsOn ⟦<Device<M> as Counts>⟧ core.old core.new }
-    ensures told { TellsNode (nodes_of ⟦<Device<M> as Counts>⟧ core.old to.entry.ino).body result }
-    ensures gave { is_path result ≡ true → GaveAt (nodes_of ⟦<Device<M> as Counts>⟧ core.old) walk.old walk.new (path_to walk.old to) }
+    requires leads { LeadsOn (nodes_of D.Counts core.old) walk.old to }
+    ensures core { IsCore D.Counts core.new }
+    ensures same { ReadsOn D.Counts core.old core.new }
+    ensures told { TellsNode (nodes_of D.Counts core.old to.entry.ino).body result }
+    ensures gave { is_path result ≡ true → GaveAt (nodes_of D.Counts core.old) walk.old walk.new (path_to walk.old to) }
     ensures stays { is_path result ≡ false → walk.new ≡ walk.old }
-    ensures reads { Reads ⟦<Device<M> as Counts>⟧ core.old.device core.new.device (item_stop result) }
+    ensures reads { Reads D.Counts core.old.device core.new.device (item_stop result) }
 {
     device_stands(&core.device);
     let item = item_at(core, to.entry.ino);
@@ -112,15 +102,13 @@ fn go_to<M: Nand>(core: &mut Core<M>, walk: &mut TreeWalk, to: Onward) -> TreeIt
 }
 
 // What stands at a node that is used.
-fn item_at<M: Nand>(core: &mut Core<M>, ino: u32) -> TreeItem
-    requires formed { ⟦<Device<M> as Counts>⟧.formed core.old.device }
-    requires core { IsCore ⟦<Device<M> as Counts>⟧ core.old }
-    requires used { IsUsed ⟦<Device<M> as Counts>⟧ core.old.device core.old.meta ino }
-    ensures formed { ⟦<Device<M> as Counts>⟧.formed core.new.device }
-    ensures core { IsCore ⟦<Device<M> as Counts>⟧ core.new }
-    ensures same { ReadsOn ⟦<Device<M> as Counts>⟧ core.old core.new }
-    ensures told { TellsNode (nodes_of ⟦<Device<M> as Counts>⟧ core.old ino).body result }
-    ensures reads { Reads ⟦<Device<M> as Counts>⟧ core.old.device core.new.device (item_stop result) }
+fn item_at<D: MovingPages>(core: &mut Core<D>, ino: u32) -> TreeItem
+    requires core { IsCore D.Counts core.old }
+    requires used { IsUsed D.Counts core.old.device core.old.meta ino }
+    ensures core { IsCore D.Counts core.new }
+    ensures same { ReadsOn D.Counts core.old core.new }
+    ensures told { TellsNode (nodes_of D.Counts core.old ino).body result }
+    ensures reads { Reads D.Counts core.old.device core.new.device (item_stop result) }
 {
     device_stands(&core.device);
     match open_node(core, ino) {
@@ -133,15 +121,13 @@ fn item_at<M: Nand>(core: &mut Core<M>, ino: u32) -> TreeItem
 }
 
 // The size of a file, and how many of its page indexes have a pointer.
-fn file_item<M: Nand>(core: &mut Core<M>, rec: &InodeRec) -> TreeItem
-    requires formed { ⟦<Device<M> as Counts>⟧.formed core.old.device }
-    requires core { IsCore ⟦<Device<M> as Counts>⟧ core.old }
-    requires file { (n : ℕ) × IsFileOf ⟦<Device<M> as Counts>⟧ core.old.device core.old.meta n rec.now }
-    ensures formed { ⟦<Device<M> as Counts>⟧.formed core.new.device }
-    ensures core { IsCore ⟦<Device<M> as Counts>⟧ core.new }
-    ensures same { ReadsOn ⟦<Device<M> as Counts>⟧ core.old core.new }
-    ensures file { TellsFile (running_of ⟦<Device<M> as Counts>⟧ core.old) rec.now result }
-    ensures reads { Reads ⟦<Device<M> as Counts>⟧ core.old.device core.new.device (item_stop result) }
+fn file_item<D: MovingPages>(core: &mut Core<D>, rec: &InodeRec) -> TreeItem
+    requires core { IsCore D.Counts core.old }
+    requires file { (n : ℕ) × IsFileOf D.Counts core.old.device core.old.meta n rec.now }
+    ensures core { IsCore D.Counts core.new }
+    ensures same { ReadsOn D.Counts core.old core.new }
+    ensures file { TellsFile (running_of D.Counts core.old) rec.now result }
+    ensures reads { Reads D.Counts core.old.device core.new.device (item_stop result) }
 {
     match count_file(core, rec) {
         CountPages::Pages(pages) => TreeItem::File {

@@ -15,7 +15,6 @@ use Rattle.nl_tree.specs.declared.reply.Refusal.TheVariants.{Efbig}
 use Rattle.nl_tree.specs.declared.reply.Reply.TheVariants.{Count, No}
 use Rattle.nl_tree.proofs.StepProofs.{order_after}
 use Rattle.nl_tree.proofs.TreeProofs.{eq_path, tree_laws}
-use Rattle.nl_device.specs.declared.device.Device.{Device}
 use Rattle.nl_iface.specs.declared.counts.Counts.{Ghosts}
 use Rattle.nl_meta.specs.Consistent.{PageOfStamp}
 use Rattle.nl_meta.specs.Nodes.{held_in}
@@ -23,28 +22,29 @@ use Rattle.nl_meta.specs.PointerLists.{with_tag}
 use Rattle.nl_core.specs.Core.{IsCore, running_of}
 use Rattle.nl_core.specs.Trees.{CoreRuns}
 use Rattle.nl_core.specs.declared.state.Core.{Core}
-use Rattle.nl_effect.specs.FileTrees.{held_content}
-use Rattle.nl_effect.specs.Fits.{IsFileOf}
-use Rattle.nl_effect.specs.LineNeeds.{free_addresses, new_pointers, new_ranges}
-use Rattle.nl_effect.proofs.Fits.{files_stand}
-use Rattle.nl_looking.proofs.Directories.{room as has_room}
-use Rattle.nl_writing.specs.Calls.{HasPagesOfFiles}
-use Rattle.nl_writing.specs.Contents.{indexes_written}
-use Rattle.nl_writing.specs.Finding.{nodes_of}
+use Rattle.nl_filing.specs.FileTrees.{held_content}
+use Rattle.nl_filing.specs.Fits.{IsFileOf}
+use Rattle.nl_filing.specs.LineNeeds.{free_addresses, new_pointers, new_ranges}
+use Rattle.nl_filing.specs.Refusals.{refusal_of_path}
+use Rattle.nl_filing.proofs.Fits.{files_stand}
+use Rattle.nl_filing.proofs.Directories.{room as has_room}
+use Rattle.nl_written.specs.Refusals.{is_too_far}
+use Rattle.nl_written.specs.Contents.{indexes_written}
+use Rattle.nl_written.specs.Laws.{LooksRefuseAll}
+use Rattle.nl_written.specs.Room.{room_refusal}
+use Rattle.nl_written.specs.Ranges.{IsWriting, data_of, from_of, len_of, path_of}
+use Rattle.nl_written.proofs.Refused.{writes-refused}
+use Rattle.nl_written.proofs.Stepped.{effect-is, far-refuses, is-done, length-data, room-refuses}
+use Rattle.nl_effect.specs.Calls.{HasPagesOfFiles}
+use Rattle.nl_effect.specs.Finding.{nodes_of}
+use Rattle.nl_effect.proofs.FilePages.{at-path}
 use Rattle.nl_writing.specs.Fitting.{refusal_for}
-use Rattle.nl_writing.specs.Laws.{LooksRefuseAll}
-use Rattle.nl_writing.specs.Refusals.{is_too_far, refusal_of_path}
-use Rattle.nl_writing.specs.Room.{room_refusal}
-use Rattle.nl_writing.specs.Ranges.{IsWriting, data_of, from_of, len_of, path_of}
-use Rattle.nl_writing.proofs.FilePages.{at-path}
-use Rattle.nl_writing.proofs.Refused.{writes-refused}
-use Rattle.nl_writing.proofs.Stepped.{effect-is, far-refuses, is-done, length-data, room-refuses}
 
 and_false : (b : Bool) → (b && false) ≡ false
 and_false true = refl
 and_false false = refl
 
-module _ {M : Type 0} (g : Ghosts (Device M)) (v : Core M) (core : IsCore g v) (n : ℕ) (rec : InodeRec) (is : IsFileOf g v.device v.meta n rec) (call : Call) (w : IsWriting call) (short : is_too_long (path_of call) ≡ false)
+module _ {D : Type 0} (g : Ghosts D) (v : Core D) (core : IsCore g v) (n : ℕ) (rec : InodeRec) (is : IsFileOf g v.device v.meta n rec) (call : Call) (w : IsWriting call) (short : is_too_long (path_of call) ≡ false)
     (leads : node_reached (nodes_of g v) 0 (path_of call) ≡ Some n) (looks : LooksRefuseAll) (page_of_stamp : ℕ → Option PageOfStamp) (tree : Tree) (at : CoreRuns g v page_of_stamp tree) where
   abbrev shape : Shape
   shape = g.shape v.device

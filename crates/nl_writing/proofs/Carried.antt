@@ -2,7 +2,6 @@
 use Rattle.std.proofs.Common.{◌≡◌, ℕ, ◌<◌, ◌≤◌, List, length, Some, refl, sym, ap, subst, ◌∙◌, arith}
 use Rattle.nl_field.specs.declared.inode.InodeRec.{InodeRec}
 use Rattle.nl_tree.specs.declared.call.Call.{Call}
-use Rattle.nl_device.specs.declared.device.Device.{Device}
 use Rattle.nl_flight.specs.Flight.{InFlight, of_worker}
 use Rattle.nl_iface.specs.Calls.{StoresPages}
 use Rattle.nl_iface.specs.Device.{IsVolumeShape}
@@ -13,23 +12,26 @@ use Rattle.nl_core.specs.Core.{IsCore}
 use Rattle.nl_core.specs.Goes.{Goes}
 use Rattle.nl_core.specs.Programming.{HasLine}
 use Rattle.nl_core.specs.declared.state.Core.{Core}
-use Rattle.nl_effect.specs.Fits.{IsFileOf}
+use Rattle.nl_filing.specs.Fits.{IsFileOf}
 use Rattle.nl_effect.specs.Lines.{worker_pages}
 use Rattle.nl_effect.specs.Steps.{ReadsOn}
-use Rattle.nl_writing.specs.Calls.{AreStaged, CanWriteLine, RunsAsSome}
-use Rattle.nl_writing.specs.Lines.{AreOfCall, AreWritten, HasAll, IsLineOfCall, IsOfGeneration, OthersStay, PutsOn, RunsWritten}
+use Rattle.nl_effect.specs.Calls.{OthersStay, RunsAsSome}
+use Rattle.nl_effect.specs.Finding.{IsOfGeneration}
+use Rattle.nl_effect.proofs.Going.{files_on, generation_on, others_same}
+use Rattle.nl_writing.specs.Calls.{AreStaged, CanWriteLine}
+use Rattle.nl_written.specs.InFlight.{AreOfCall, AreWritten, HasAll}
+use Rattle.nl_writing.specs.Lines.{IsLineOfCall, PutsOn, RunsWritten}
 use Rattle.nl_writing.specs.Making.{content_at}
-use Rattle.nl_writing.proofs.Going.{files_on, generation_on, others_same}
 use Rattle.nl_writing.proofs.OnePage.{flight_same, reads_first}
 
 -- ---- pages were read
 
-module _ {M : Type 0} (g : Ghosts (Device M)) (u v : Core M) (core : IsCore g u) (volume : IsVolumeShape (g.shape v.device)) (stores : g.tells → StoresPages g v.device) (reads : ReadsOn g u v) where
+module _ {D : Type 0} (g : Ghosts D) (u v : Core D) (core : IsCore g u) (volume : IsVolumeShape (g.shape v.device)) (formed : g.formed v.device) (stores : g.tells → StoresPages g v.device) (reads : ReadsOn g u v) where
   same_flight : v.flight ≡ u.flight
-  same_flight = flight_same g u v core volume stores reads
+  same_flight = flight_same g u v core volume formed stores reads
 
   pub stopped_on : u.stopped ≡ 0 → v.stopped ≡ 0
-  stopped_on e = ap (λ (x : Core M). x.stopped) reads.others ∙ e
+  stopped_on e = ap (λ (x : Core D). x.stopped) reads.others ∙ e
 
   pub stamp_on : (n : ℕ) → g.next_stamp u.device < n → g.next_stamp v.device < n
   stamp_on n low = let same = reads.runs.reads.medium.next_stamp in omega (arith, same, low)
@@ -37,7 +39,7 @@ module _ {M : Type 0} (g : Ghosts (Device M)) (u v : Core M) (core : IsCore g u)
   pub runs_on : RunsAsSome g u → RunsAsSome g v
   runs_on runs = λ tells.
       let r = runs tells in
-      let k = (reads_first g u v core volume stores reads).runs tells r.0 r.1 r.2 in
+      let k = (reads_first g u v core volume formed stores reads).runs tells r.0 r.1 r.2 in
       (k.pages, r.1, k.runs)
 
   pub few_on : ((w : ℕ) → length (of_worker u.flight w).pages ≤ 16) → (w : ℕ) → length (of_worker v.flight w).pages ≤ 16
@@ -71,14 +73,14 @@ module _ {M : Type 0} (g : Ghosts (Device M)) (u v : Core M) (core : IsCore g u)
     known = can.known;
     some = can.some;
     has_line = line_on worker line can.has_line;
-    files_are = files_on g 0 u v (reads_first g u v core volume stores reads) files can.files_are;
+    files_are = files_on g 0 u v (reads_first g u v core volume formed stores reads) files can.files_are;
     staged = staged_on worker call can.staged;
     few = few_on can.few;
   }
 
 -- ---- the lines are as before
 
-module _ {M : Type 0} (g : Ghosts (Device M)) (m : ℕ) (u v : Core M) (a : Goes g m u v) (same : v.flight ≡ u.flight) (worker : ℕ) (call : Call) where
+module _ {D : Type 0} (g : Ghosts D) (m : ℕ) (u v : Core D) (a : Goes g m u v) (same : v.flight ≡ u.flight) (worker : ℕ) (call : Call) where
   pub written_on : RunsWritten g worker call u → RunsWritten g worker call v
   written_on written = λ tells.
       let r = written tells in
@@ -105,12 +107,12 @@ module _ {M : Type 0} (g : Ghosts (Device M)) (m : ℕ) (u v : Core M) (a : Goes
       )
 
 -- a file has one record
-pub of_record : {M : Type 0} (g : Ghosts (Device M)) (v : Core M) (n worker : ℕ) (call : Call) (rec : InodeRec) → IsLineOfCall g v n worker call → IsFileOf g v.device v.meta n rec → AreOfCall n rec.generation call (worker_pages v worker)
+pub of_record : {D : Type 0} (g : Ghosts D) (v : Core D) (n worker : ℕ) (call : Call) (rec : InodeRec) → IsLineOfCall g v n worker call → IsFileOf g v.device v.meta n rec → AreOfCall n rec.generation call (worker_pages v worker)
 of_record g v n worker call rec l f = subst (λ (r : InodeRec). AreOfCall n r.generation call (worker_pages v worker)) (some_in l.0 rec (sym l.1.is_node.spelled ∙ f.is_node.spelled)) l.2
 
 -- ---- pages were put
 
-module _ {M : Type 0} (g : Ghosts (Device M)) (m worker : ℕ) (call : Call) (u v : Core M) (a : PutsOn g m worker call u v) where
+module _ {D : Type 0} (g : Ghosts D) (m worker : ℕ) (call : Call) (u v : Core D) (a : PutsOn g m worker call u v) where
   pub written_put : RunsWritten g worker call u → RunsWritten g worker call v
   written_put written = λ tells.
       let r = written tells in

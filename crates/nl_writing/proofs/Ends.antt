@@ -5,38 +5,37 @@ use Rattle.nl_tree.specs.Step.{step}
 use Rattle.nl_tree.specs.declared.call.Call.{Call}
 use Rattle.nl_tree.specs.declared.reply.Refusal.{Refusal}
 use Rattle.nl_tree.specs.declared.reply.Reply.TheVariants.{Count, No}
-use Rattle.nl_device.specs.declared.device.Device.{Device}
 use Rattle.nl_iface.specs.declared.counts.Counts.{Ghosts}
 use Rattle.nl_running.specs.declared.answer.Stop.{Stop}
 use Rattle.nl_running.specs.declared.answer.Stop.TheVariants as stop
 use Rattle.nl_core.specs.Goes.{Goes}
 use Rattle.nl_core.specs.declared.state.Core.{Core}
 use Rattle.nl_core.proofs.Onward.{goes_more, goes_then}
-use Rattle.nl_writing.specs.Answers.{EndsEarly}
-use Rattle.nl_writing.specs.Calls.{AnswersWrite, EndsWrite, HasPagesOfFiles, IfDone, IfUndone, TakesWithin, ended_as, stop_in}
-use Rattle.nl_writing.specs.Lines.{OthersStay}
-use Rattle.nl_writing.specs.Ranges.{len_of}
-use Rattle.nl_writing.specs.declared.answer.Written.{Written}
-use Rattle.nl_writing.specs.declared.answer.Written.TheVariants as written
-use Rattle.nl_writing.proofs.Early.{within-early}
-use Rattle.nl_writing.proofs.Going.{others_then}
+use Rattle.nl_writing.specs.Calls.{AnswersWrite, EndsWrite, ended_as}
+use Rattle.nl_written.specs.Ranges.{len_of}
+use Rattle.nl_effect.specs.declared.answer.Written.TheVariants as written
+use Rattle.nl_effect.specs.Answers.{EndsEarly}
+use Rattle.nl_effect.specs.Calls.{HasPagesOfFiles, IfDone, IfUndone, OthersStay, TakesWithin, stop_in}
+use Rattle.nl_effect.specs.declared.answer.Written.{Written}
+use Rattle.nl_effect.proofs.Early.{within-early}
+use Rattle.nl_effect.proofs.Going.{others_then}
 
 -- ---- it ended by now
 
 -- refused
-pub ends_refused : {M : Type 0} (g : Ghosts (Device M)) (m worker : ℕ) (call : Call) (u v : Core M) (refusal : Refusal) → Goes g m u v → OthersStay worker u.flight v.flight → AnswersWrite g call u (written.No refusal)
+pub ends_refused : {D : Type 0} (g : Ghosts D) (m worker : ℕ) (call : Call) (u v : Core D) (refusal : Refusal) → Goes g m u v → OthersStay worker u.flight v.flight → AnswersWrite g call u (written.No refusal)
     → EndsWrite g m worker call u v (written.No refusal)
 ends_refused g m worker call u v refusal a stay answers = record { done = tt; undone = a; answers = answers; others = stay; early = tt }
 
 -- and early
-pub ends_early : {M : Type 0} (g : Ghosts (Device M)) (m worker : ℕ) (call : Call) (u v : Core M) (s : Stop) → Goes g m u v → OthersStay worker u.flight v.flight → EndsEarly g u v (Some s)
+pub ends_early : {D : Type 0} (g : Ghosts D) (m worker : ℕ) (call : Call) (u v : Core D) (s : Stop) → Goes g m u v → OthersStay worker u.flight v.flight → EndsEarly g u v (Some s)
     → EndsWrite g m worker call u v (ended_as (Err s))
 ends_early g m worker call u v stop.Fault a stay e = record { done = tt; undone = a; answers = tt; others = stay; early = e }
 ends_early g m worker call u v (stop.Lost w f) a stay e = record { done = tt; undone = a; answers = tt; others = stay; early = e }
 
 -- ---- after a part before
 
-module _ {M : Type 0} (g : Ghosts (Device M)) (m worker : ℕ) (call : Call) (u v : Core M) (a : Goes g m u v) (stay : OthersStay worker u.flight v.flight) where
+module _ {D : Type 0} (g : Ghosts D) (m worker : ℕ) (call : Call) (u v : Core D) (a : Goes g m u v) (stay : OthersStay worker u.flight v.flight) where
   answers_before : (answer : Written) → AnswersWrite g call v answer → AnswersWrite g call u answer
   answers_before (written.Done files) h = λ tells page_of_stamp tree at.
       let k = a.runs tells page_of_stamp tree at in
@@ -47,12 +46,12 @@ module _ {M : Type 0} (g : Ghosts (Device M)) (m worker : ℕ) (call : Call) (u 
   answers_before (written.Lost w f) h = tt
   answers_before written.Fault h = tt
 
-  module _ (w : Core M) (n k : ℕ) (few : m + n ≤ k) where
-    more : (x : Core M) → Goes g n v x → Goes g k u x
+  module _ (w : Core D) (n k : ℕ) (few : m + n ≤ k) where
+    more : (x : Core D) → Goes g n v x → Goes g k u x
     more x b = goes_more g (m + n) k u x few (goes_then g u v x m n a b)
 
     taken : TakesWithin g n worker call v w → TakesWithin g k worker call u w
-    taken t = record { between = t.between; formed = t.formed; core = t.core; goes = more t.between t.goes; steps = t.steps; makes = t.makes; ended = t.ended }
+    taken t = record { between = t.between; core = t.core; goes = more t.between t.goes; steps = t.steps; makes = t.makes; ended = t.ended }
 
     done_after : (answer : Written) → IfDone answer (λ files. TakesWithin g n worker call v w × HasPagesOfFiles g w files) → IfDone answer (λ files. TakesWithin g k worker call u w × HasPagesOfFiles g w files)
     done_after (written.Done files) h = (taken h.0, h.1)

@@ -5,7 +5,7 @@ use Rattle.std.proofs.lemmas.List.{get_or_past, length-append, length-map}
 use Rattle.std.proofs.lemmas.List.FromFn.{length-range_with_len}
 use Rattle.std.specs.Prelude.{slice_get, slice_index}
 use Rattle.nl_field.specs.Bytes.{all_zero}
-use Rattle.nl_field.specs.ContentLaws.{is_touched}
+use Rattle.nl_content.specs.ContentLaws.{is_touched}
 use Rattle.nl_field.specs.FileContent.{FileContent, is_content, overlaid, page_bytes, written_over}
 use Rattle.nl_field.specs.Members.{Has}
 use Rattle.nl_field.specs.Numbers.{max_bytes, max_file_size}
@@ -14,16 +14,14 @@ use Rattle.nl_field.specs.declared.inode.InodeRec.{InodeRec}
 use Rattle.nl_field.specs.declared.pointer.Pointer.{Pointer}
 use Rattle.nl_field.specs.declared.pointer.Tag.{Tag}
 use Rattle.nl_field.specs.declared.shape.Shape.{Shape}
-use Rattle.nl_field.proofs.ContentBytes.{length-overlaid, overlaid-behind, zero_from}
-use Rattle.nl_field.proofs.ContentProofs.{byte_laws}
+use Rattle.nl_content.proofs.ContentBytes.{length-overlaid, overlaid-behind, zero_from}
+use Rattle.nl_content.proofs.ContentProofs.{byte_laws}
 use Rattle.nl_tree.specs.Represents.{node_reached}
 use Rattle.nl_tree.specs.Step.{effect_of, first_of, is_too_long, step, when}
 use Rattle.nl_tree.specs.Tree.{Tree, with_content}
 use Rattle.nl_tree.specs.declared.call.Call.{Call}
 use Rattle.nl_tree.specs.declared.reply.Refusal.{Refusal}
 use Rattle.nl_tree.specs.declared.reply.Reply.TheVariants.{Count}
-use Rattle.nl_device.proofs.Counted.{count_same}
-use Rattle.nl_device.specs.declared.device.Device.{Device}
 use Rattle.nl_drain.specs.Handled.{nameless_line}
 use Rattle.nl_flight.specs.Flight.{InFlight, begun, carried, of_worker, with_line}
 use Rattle.nl_flight.specs.declared.page.FlightPage.{FlightPage}
@@ -46,26 +44,31 @@ use Rattle.nl_core.specs.Trees.{CoreRuns}
 use Rattle.nl_core.specs.declared.state.Core.{Core}
 use Rattle.nl_core.proofs.Lines.{carried_own, carried_with, in_flight}
 use Rattle.nl_core.proofs.Onward.{goes_none}
-use Rattle.nl_effect.specs.LineNeeds.{free_addresses, gets_page, new_pointers, new_ranges, with_pages}
-use Rattle.nl_effect.specs.Lines.{AreThere, HasRoomForLine, InstallsLine, IsLineOfFile, indexes_of, shown_pages, worker_pages}
-use Rattle.nl_effect.proofs.Fits.{files_stand}
-use Rattle.nl_writing.specs.Calls.{EndsWrite, HasPagesOfFiles}
-use Rattle.nl_writing.specs.Contents.{IsWholeWrite, count_indexes, first_index, indexes_written}
-use Rattle.nl_writing.specs.Finding.{nodes_of}
+use Rattle.nl_filing.specs.LineNeeds.{free_addresses, gets_page, new_pointers, new_ranges, with_pages}
+use Rattle.nl_filing.specs.LinePages.{AreThere, indexes_of, shown_pages}
+use Rattle.nl_filing.proofs.Fits.{files_stand}
+use Rattle.nl_written.specs.InFlight.{AreOfCall, AreWritten, HasAll}
+use Rattle.nl_written.specs.Contents.{IsWholeWrite, count_indexes, first_index, indexes_written}
+use Rattle.nl_written.specs.Laws.{LooksRefuseAll}
+use Rattle.nl_written.specs.Ranges.{IsWriting, data_of, from_of, is_written, len_of, page_after, path_of}
+use Rattle.nl_written.proofs.Content.{is-written}
+use Rattle.nl_written.proofs.Flying.{flying_at, flying_has}
+use Rattle.nl_written.proofs.Members.{differ_range, same_any, same_count, same_length}
+use Rattle.nl_written.proofs.Places.{flying_written, index_in_range}
+use Rattle.nl_written.proofs.Stepped.{length-data}
+use Rattle.nl_written.proofs.Counted.{count_same}
+use Rattle.nl_effect.specs.Lines.{HasRoomForLine, InstallsLine, IsLineOfFile, worker_pages}
+use Rattle.nl_writing.specs.Calls.{EndsWrite}
 use Rattle.nl_writing.specs.Fitting.{IsReady}
-use Rattle.nl_writing.specs.Laws.{LooksRefuseAll}
-use Rattle.nl_writing.specs.Lines.{AreOfCall, AreWritten, HasAll, RunsWritten}
+use Rattle.nl_writing.specs.Lines.{RunsWritten}
 use Rattle.nl_writing.specs.Making.{content_at}
-use Rattle.nl_writing.specs.Ranges.{IsWriting, data_of, from_of, is_written, len_of, page_after, path_of}
-use Rattle.nl_writing.specs.declared.answer.Written.TheVariants as answer
+use Rattle.nl_effect.specs.declared.answer.Written.TheVariants as answer
+use Rattle.nl_effect.specs.Calls.{HasPagesOfFiles}
+use Rattle.nl_effect.specs.Finding.{nodes_of}
+use Rattle.nl_effect.proofs.WorkerLines.{others_dropped, own_dropped}
 use Rattle.nl_writing.proofs.Answered.{done_some, replies, tree_after}
-use Rattle.nl_writing.proofs.Content.{is-written}
-use Rattle.nl_writing.proofs.Flying.{flying_at, flying_has, others_dropped, own_dropped}
 use Rattle.nl_writing.proofs.Known.{held_is, written_as}
-use Rattle.nl_writing.proofs.Members.{differ_range, same_any, same_count, same_length}
-use Rattle.nl_writing.proofs.OnePage.{flying_written, index_in_range}
 use Rattle.nl_writing.proofs.Staged.{carried_at, content_right}
-use Rattle.nl_writing.proofs.Stepped.{length-data}
 
 -- the pages of files are few
 pub few_files : (shape : Shape) → IsVolumeShape shape → shape.cap < 2 ^ 32
@@ -97,7 +100,7 @@ place_has [] k x at = absurd (cc at)
 place_has (y ∷ xs) zero x at = inl (cc at)
 place_has (y ∷ xs) (suc k) x at = inr (place_has xs k x at)
 
-module _ {M : Type 0} (g : Ghosts (Device M)) (v : Core M) (worker n files : ℕ) (rec : InodeRec) (call : Call) (core : IsCore g v) (known : worker < 8) (lead : FlightLeads g v) (w : IsWriting call)
+module _ {D : Type 0} (g : Ghosts D) (v : Core D) (worker n files : ℕ) (rec : InodeRec) (call : Call) (core : IsCore g v) (known : worker < 8) (lead : FlightLeads g v) (w : IsWriting call)
     (some : 0 < len_of call) (few : len_of call ≤ max_bytes) (within : from_of call + len_of call ≤ 16809984) (short : is_too_long (path_of call) ≡ false) (leads : node_reached (nodes_of g v) 0 (path_of call) ≡ Some n)
     (ready : IsReady g v n (from_of call) (len_of call) files rec) (count : HasPagesOfFiles g v files) (are : AreOfCall n rec.generation call (worker_pages v worker)) (all : HasAll call (worker_pages v worker)) where
   abbrev pages : List FlightPage
@@ -249,16 +252,16 @@ module _ {M : Type 0} (g : Ghosts (Device M)) (v : Core M) (worker n files : ℕ
         pub replied : (step (g.shape v.device) tree call).reply ≡ Count (len_of call)
         replied = replies (g.shape v.device) tree call w done
 
-        pub made_tree : (new : Core M) (is : InodeRec) → InstallsLine g worker n size rec is v new → RunsAs (g.shape new.device) (running_of g new) page_of_stamp (step (g.shape v.device) tree call).tree
+        pub made_tree : (new : Core D) (is : InodeRec) → InstallsLine g worker n size rec is v new → RunsAs (g.shape new.device) (running_of g new) page_of_stamp (step (g.shape v.device) tree call).tree
         made_tree new is installs = subst (λ (t : Tree). RunsAs (g.shape new.device) (running_of g new) page_of_stamp t)
             (ap (with_content tree (path_of call)) made ∙ tree_after (g.shape v.device) tree call w done)
             (installs.written page_of_stamp tree (path_of call) at.runs leads are_there)
 
   -- ---- how many pages files have then
 
-  module _ (size : ℕ) (new : Core M) (is : InodeRec) (installs : InstallsLine g worker n size rec is v new) (after : IsCore g new) where
+  module _ (size : ℕ) (new : Core D) (is : InodeRec) (installs : InstallsLine g worker n size rec is v new) (after : IsCore g new) where
     flight_is : new.flight ≡ with_line v.flight worker (begun 0)
-    flight_is = ap (λ (x : Core M). x.flight) installs.others
+    flight_is = ap (λ (x : Core D). x.flight) installs.others
 
     fewer : length (carried new.flight) + length pages ≡ length (carried v.flight)
     fewer =
@@ -285,14 +288,13 @@ module _ {M : Type 0} (g : Ghosts (Device M)) (v : Core M) (worker n files : ℕ
 
   -- ---- all of it
 
-  module _ (written : RunsWritten g worker call v) (looks : LooksRefuseAll) (size : ℕ) (size_is : size ≡ max rec.size (from_of call + len_of call)) (new : Core M) (is : InodeRec) (installs : InstallsLine g worker n size rec is v new)
-      (formed : g.formed v.device) (now : ℕ) (has : HasPagesOfFiles g new now) where
+  module _ (written : RunsWritten g worker call v) (looks : LooksRefuseAll) (size : ℕ) (size_is : size ≡ max rec.size (from_of call + len_of call)) (new : Core D) (is : InodeRec) (installs : InstallsLine g worker n size rec is v new)
+      (now : ℕ) (has : HasPagesOfFiles g new now) where
     pub install_ends : EndsWrite g 0 worker call v new (answer.Done now)
     install_ends = record {
       done = (
         record {
           between = v;
-          formed = formed;
           core = core;
           goes = goes_none g v core;
           steps = installs.steps;
@@ -308,4 +310,4 @@ module _ {M : Type 0} (g : Ghosts (Device M)) (v : Core M) (worker n files : ℕ
     }
       where
         lines : new.flight ≡ with_line v.flight worker (begun 0)
-        lines = ap (λ (x : Core M). x.flight) installs.others
+        lines = ap (λ (x : Core D). x.flight) installs.others

@@ -6,7 +6,6 @@ use Rattle.nl_field.specs.declared.inode.InodeRec.{InodeRec}
 use Rattle.nl_tree.specs.Represents.{node_reached}
 use Rattle.nl_tree.specs.Tree.{Node, Tree, content_of}
 use Rattle.nl_tree.specs.declared.call.Call.{Call}
-use Rattle.nl_device.specs.declared.device.Device.{Device}
 use Rattle.nl_flight.specs.declared.page.FlightPage.{FlightPage}
 use Rattle.nl_iface.specs.Names.{place_of}
 use Rattle.nl_iface.specs.declared.counts.Counts.{Ghosts}
@@ -16,17 +15,18 @@ use Rattle.nl_core.specs.Core.{IsCore, names_of, running_of}
 use Rattle.nl_core.specs.Laws.{FlightLeads}
 use Rattle.nl_core.specs.Trees.{CoreRuns}
 use Rattle.nl_core.specs.declared.state.Core.{Core}
-use Rattle.nl_effect.specs.FileTrees.{held_content}
-use Rattle.nl_effect.specs.Fits.{IsFileOf}
+use Rattle.nl_filing.specs.FileTrees.{held_content}
+use Rattle.nl_filing.specs.Fits.{IsFileOf}
 use Rattle.nl_effect.specs.Lines.{worker_pages}
-use Rattle.nl_writing.specs.Finding.{nodes_of}
-use Rattle.nl_writing.specs.Lines.{AreWritten, RunsWritten}
+use Rattle.nl_effect.specs.Finding.{nodes_of}
+use Rattle.nl_effect.proofs.FilePages.{at-path, page-shown}
+use Rattle.nl_written.specs.InFlight.{AreWritten}
+use Rattle.nl_written.specs.Ranges.{data_of, from_of, path_of}
+use Rattle.nl_writing.specs.Lines.{RunsWritten}
 use Rattle.nl_writing.specs.Making.{content_at}
-use Rattle.nl_writing.specs.Ranges.{data_of, from_of, path_of}
-use Rattle.nl_writing.proofs.FilePages.{at-path, page-shown}
 use Rattle.nl_writing.proofs.Staged.{carried_at}
 
-module _ {M : Type 0} (g : Ghosts (Device M)) (v : Core M) (core : IsCore g v) (call : Call) (n : ℕ) (rec : InodeRec) (file : IsFileOf g v.device v.meta n rec) (leads : node_reached (nodes_of g v) 0 (path_of call) ≡ Some n) where
+module _ {D : Type 0} (g : Ghosts D) (v : Core D) (core : IsCore g v) (call : Call) (n : ℕ) (rec : InodeRec) (file : IsFileOf g v.device v.meta n rec) (leads : node_reached (nodes_of g v) 0 (path_of call) ≡ Some n) where
   -- what the tree has at the path of the call
   pub held_is : (page_of_stamp : ℕ → Option PageOfStamp) (tree : Tree) → CoreRuns g v page_of_stamp tree → content_at tree call ≡ held_content page_of_stamp (running_of g v) rec
   held_is page_of_stamp tree at = ap (λ (o : Option Node). content_of o) (at-path g v page_of_stamp tree n rec file at (path_of call) leads)

@@ -6,7 +6,6 @@ use Rattle.nl_tree.specs.Step.{Outcome, is_too_long, step}
 use Rattle.nl_tree.specs.Tree.{Tree}
 use Rattle.nl_tree.specs.declared.call.Call.{Call}
 use Rattle.nl_tree.specs.declared.reply.Reply.TheVariants.{Count}
-use Rattle.nl_device.specs.declared.device.Device.{Device}
 use Rattle.nl_drain.specs.Handled.{nameless_line}
 use Rattle.nl_flight.specs.Flight.{InFlight, of_worker}
 use Rattle.nl_iface.specs.declared.counts.Counts.{Ghosts}
@@ -20,19 +19,20 @@ use Rattle.nl_core.specs.Goes.{Goes}
 use Rattle.nl_core.specs.Trees.{CoreRuns}
 use Rattle.nl_core.specs.declared.state.Core.{Core}
 use Rattle.nl_effect.specs.Steps.{Steps}
-use Rattle.nl_writing.specs.Calls.{EndsWrite, HasPagesOfFiles}
-use Rattle.nl_writing.specs.Finding.{IsSomeFile, nodes_of}
-use Rattle.nl_writing.specs.Laws.{LooksRefuseAll}
-use Rattle.nl_writing.specs.Ranges.{IsWriting, len_of, path_of}
-use Rattle.nl_writing.specs.declared.answer.Written.TheVariants as answer
+use Rattle.nl_writing.specs.Calls.{EndsWrite}
+use Rattle.nl_written.specs.Laws.{LooksRefuseAll}
+use Rattle.nl_written.specs.Ranges.{IsWriting, len_of, path_of}
+use Rattle.nl_effect.specs.declared.answer.Written.TheVariants as answer
+use Rattle.nl_effect.specs.Calls.{HasPagesOfFiles}
+use Rattle.nl_effect.specs.Finding.{IsSomeFile, nodes_of}
+use Rattle.nl_effect.proofs.WorkerLines.{others_dropped, own_dropped}
+use Rattle.nl_effect.proofs.Going.{file_on, files_on, leads_on}
 use Rattle.nl_writing.proofs.Answered.{done_none, replies, tree_stays}
-use Rattle.nl_writing.proofs.Flying.{others_dropped, own_dropped}
-use Rattle.nl_writing.proofs.Going.{file_on, files_on, leads_on}
 
-no_step : {M : Type 0} (g : Ghosts (Device M)) (v : Core M) → Steps g v v
+no_step : {D : Type 0} (g : Ghosts D) (v : Core D) → Steps g v v
 no_step g v = record { reads = reads-none g v.device; read_faults = omega arith; pages = none v.meta; room = omega arith; others = refl }
 
-module _ {M : Type 0} (g : Ghosts (Device M)) (u v : Core M) (worker n files : ℕ) (call : Call) (core : IsCore g u) (after : IsCore g v) (formed : g.formed v.device) (known : worker < 8) (a : Goes g 0 u v) (d : DropsLine g worker u v)
+module _ {D : Type 0} (g : Ghosts D) (u v : Core D) (worker n files : ℕ) (call : Call) (core : IsCore g u) (after : IsCore g v) (known : worker < 8) (a : Goes g 0 u v) (d : DropsLine g worker u v)
     (w : IsWriting call) (none_written : len_of call ≡ 0) (short : is_too_long (path_of call) ≡ false) (leads : node_reached (nodes_of g u) 0 (path_of call) ≡ Some n) (f : IsSomeFile g u n) (count : HasPagesOfFiles g u files) (looks : LooksRefuseAll) where
   leads_still : node_reached (nodes_of g v) 0 (path_of call) ≡ Some n
   leads_still = leads_on g 0 u v a (path_of call) n leads
@@ -55,7 +55,6 @@ module _ {M : Type 0} (g : Ghosts (Device M)) (u v : Core M) (worker n files : �
     done = (
       record {
         between = v;
-        formed = formed;
         core = after;
         goes = a;
         steps = no_step g v;

@@ -6,7 +6,6 @@ use Rattle.nl_tree.specs.Step.{is_too_long}
 use Rattle.nl_tree.specs.declared.call.Call.{Call}
 use Rattle.nl_tree.specs.declared.reply.Refusal.{Refusal}
 use Rattle.nl_tree.specs.declared.reply.Refusal.TheVariants.{Efbig}
-use Rattle.nl_device.specs.declared.device.Device.{Device}
 use Rattle.nl_iface.specs.Calls.{StoresPages}
 use Rattle.nl_iface.specs.Device.{IsVolumeShape}
 use Rattle.nl_iface.specs.declared.counts.Counts.{Ghosts}
@@ -17,41 +16,42 @@ use Rattle.nl_core.specs.Goes.{Goes}
 use Rattle.nl_core.specs.declared.state.Core.{Core}
 use Rattle.nl_core.proofs.Onward.{goes_more, goes_none, goes_then}
 use Rattle.nl_effect.specs.Steps.{ReadsOn}
-use Rattle.nl_writing.specs.Answers.{EndsEarly}
-use Rattle.nl_writing.specs.Calls.{EndsWrite, HasPagesOfFiles, IfUndone, ended_as}
-use Rattle.nl_writing.specs.Finding.{IsFound, IsSomeFile, nodes_of}
+use Rattle.nl_writing.specs.Calls.{EndsWrite, ended_as}
 use Rattle.nl_writing.specs.Fitting.{IsFitting}
-use Rattle.nl_writing.specs.Laws.{LooksRefuseAll}
-use Rattle.nl_writing.specs.Lines.{KeepsLine, OthersStay, PutsOn}
-use Rattle.nl_writing.specs.Ranges.{IsWriting, from_of, len_of, path_of}
+use Rattle.nl_written.specs.Laws.{LooksRefuseAll}
+use Rattle.nl_written.specs.Ranges.{IsWriting, from_of, len_of, path_of}
+use Rattle.nl_written.proofs.Stepped.{path-refuses}
+use Rattle.nl_writing.specs.Lines.{KeepsLine, PutsOn}
 use Rattle.nl_writing.specs.declared.answer.Fits.{Fits}
 use Rattle.nl_writing.specs.declared.answer.Fits.TheVariants as fits
-use Rattle.nl_writing.specs.declared.answer.Found.TheVariants as found
-use Rattle.nl_writing.specs.declared.answer.Written.{Written}
-use Rattle.nl_writing.specs.declared.answer.Written.TheVariants as answer
+use Rattle.nl_effect.specs.declared.answer.Found.TheVariants as found
+use Rattle.nl_effect.specs.declared.answer.Written.TheVariants as answer
+use Rattle.nl_effect.specs.Answers.{EndsEarly}
+use Rattle.nl_effect.specs.Calls.{HasPagesOfFiles, IfUndone, OthersStay}
+use Rattle.nl_effect.specs.Finding.{IsFound, IsSomeFile, nodes_of}
+use Rattle.nl_effect.specs.declared.answer.Written.{Written}
+use Rattle.nl_effect.proofs.Early.{within-early}
+use Rattle.nl_effect.proofs.Going.{files_on, others_none, others_then}
 use Rattle.nl_writing.proofs.Answered.{refuses_far, refuses_room}
 use Rattle.nl_writing.proofs.Carried.{others_on}
-use Rattle.nl_writing.proofs.Early.{within-early}
 use Rattle.nl_writing.proofs.Ends.{ends_after, ends_early, ends_refused}
-use Rattle.nl_writing.proofs.Going.{files_on, others_none, others_then}
 use Rattle.nl_writing.proofs.OnePage.{reads_first}
-use Rattle.nl_writing.proofs.Stepped.{path-refuses}
 
 -- ---- pages were read
 
-module _ {M : Type 0} (g : Ghosts (Device M)) (worker : ℕ) (call : Call) (u v : Core M) (core : IsCore g u) (volume : IsVolumeShape (g.shape v.device)) (stores : g.tells → StoresPages g v.device) (reads : ReadsOn g u v) (k : ℕ) where
+module _ {D : Type 0} (g : Ghosts D) (worker : ℕ) (call : Call) (u v : Core D) (core : IsCore g u) (volume : IsVolumeShape (g.shape v.device)) (formed : g.formed v.device) (stores : g.tells → StoresPages g v.device) (reads : ReadsOn g u v) (k : ℕ) where
   read_goes : Goes g k u v
-  read_goes = goes_more g 0 k u v (omega arith) (reads_first g u v core volume stores reads)
+  read_goes = goes_more g 0 k u v (omega arith) (reads_first g u v core volume formed stores reads)
 
   pub read_early : (s : Stop) → EndsEarly g u v (Some s) → EndsWrite g k worker call u v (ended_as (Err s))
-  read_early s e = ends_early g k worker call u v s read_goes (others_on g u v core volume stores reads worker) e
+  read_early s e = ends_early g k worker call u v s read_goes (others_on g u v core volume formed stores reads worker) e
 
-  pub read_then : (n : ℕ) → n ≤ k → (w : Core M) (a : Written) → EndsWrite g n worker call v w a → EndsWrite g k worker call u w a
-  read_then n few w a e = ends_after g 0 worker call u v (reads_first g u v core volume stores reads) (others_on g u v core volume stores reads worker) w n k (omega (arith, few)) a e
+  pub read_then : (n : ℕ) → n ≤ k → (w : Core D) (a : Written) → EndsWrite g n worker call v w a → EndsWrite g k worker call u w a
+  read_then n few w a e = ends_after g 0 worker call u v (reads_first g u v core volume formed stores reads) (others_on g u v core volume formed stores reads worker) w n k (omega (arith, few)) a e
 
   -- there is no file at the path
   pub path_refused : IsWriting call → (refusal : Refusal) (path : List (List ℕ)) → path ≡ path_of call → IsFound g u path (found.No refusal) → EndsWrite g k worker call u v (answer.No refusal)
-  path_refused writing refusal path same at = ends_refused g k worker call u v refusal read_goes (others_on g u v core volume stores reads worker)
+  path_refused writing refusal path same at = ends_refused g k worker call u v refusal read_goes (others_on g u v core volume formed stores reads worker)
       (λ tells page_of_stamp tree runs.
       path-refuses (g.shape u.device) tree call writing refusal (subst (λ (p : List (List ℕ)). IsFound g u p (found.No refusal)) same at page_of_stamp tree runs.runs))
 
@@ -64,7 +64,7 @@ module _ {M : Type 0} (g : Ghosts (Device M)) (worker : ℕ) (call : Call) (u v 
         (λ tells page_of_stamp tree at. refuses_room g v after n f.0 f.1 call writing short leads looks page_of_stamp tree at some within files count refusal f.2))
 
 -- it ends too far
-pub far_refused : {M : Type 0} (g : Ghosts (Device M)) (k worker n : ℕ) (call : Call) (u : Core M) → IsCore g u → IsWriting call → is_too_long (path_of call) ≡ false → node_reached (nodes_of g u) 0 (path_of call) ≡ Some n
+pub far_refused : {D : Type 0} (g : Ghosts D) (k worker n : ℕ) (call : Call) (u : Core D) → IsCore g u → IsWriting call → is_too_long (path_of call) ≡ false → node_reached (nodes_of g u) 0 (path_of call) ≡ Some n
     → IsSomeFile g u n → LooksRefuseAll → 0 < len_of call → max_file_size < from_of call + len_of call → EndsWrite g k worker call u u (answer.No Efbig)
 far_refused g k worker n call u core writing short leads f looks some far =
     ends_refused g k worker call u u Efbig (goes_more g 0 k u u (omega arith) (goes_none g u core)) (others_none worker u.flight)
@@ -72,7 +72,7 @@ far_refused g k worker n call u core writing short leads f looks some far =
 
 -- ---- a part went on
 
-module _ {M : Type 0} (g : Ghosts (Device M)) (m worker : ℕ) (call : Call) (u v : Core M) (a : Goes g m u v) (stay : OthersStay worker u.flight v.flight) where
+module _ {D : Type 0} (g : Ghosts D) (m worker : ℕ) (call : Call) (u v : Core D) (a : Goes g m u v) (stay : OthersStay worker u.flight v.flight) where
   pub part_early : (k : ℕ) → m ≤ k → (s : Stop) → EndsEarly g u v (Some s) → EndsWrite g k worker call u v (ended_as (Err s))
   part_early k few s e = ends_early g k worker call u v s (goes_more g m k u v few a) stay e
 
@@ -81,7 +81,7 @@ module _ {M : Type 0} (g : Ghosts (Device M)) (m worker : ℕ) (call : Call) (u 
   part_stopped k few ran off = part_early k few stop.Fault (inr (a.stops.some ran off).0)
 
 -- the line was kept, and pages were put
-module _ {M : Type 0} (g : Ghosts (Device M)) (m n generation worker line : ℕ) (call : Call) (u v w : Core M) (keeps : KeepsLine g n generation worker line call u v) (puts : PutsOn g m worker call v w) where
+module _ {D : Type 0} (g : Ghosts D) (m n generation worker line : ℕ) (call : Call) (u v w : Core D) (keeps : KeepsLine g n generation worker line call u v) (puts : PutsOn g m worker call v w) where
   pub put_goes : Goes g m u w
   put_goes = goes_more g (0 + m) m u w (omega arith) (goes_then g u v w 0 m keeps.goes puts.goes)
 
@@ -92,16 +92,16 @@ module _ {M : Type 0} (g : Ghosts (Device M)) (m n generation worker line : ℕ)
   put_early s e = within-early g u v w w (Some s) keeps.goes.reads keeps.goes.writes (omega arith) (omega arith) e
 
 -- more write sequence numbers may be taken
-pub ends_more : {M : Type 0} (g : Ghosts (Device M)) (n k worker : ℕ) (call : Call) (u w : Core M) (a : Written) → IsCore g u → n ≤ k → EndsWrite g n worker call u w a → EndsWrite g k worker call u w a
+pub ends_more : {D : Type 0} (g : Ghosts D) (n k worker : ℕ) (call : Call) (u w : Core D) (a : Written) → IsCore g u → n ≤ k → EndsWrite g n worker call u w a → EndsWrite g k worker call u w a
 ends_more g n k worker call u w a core few e = ends_after g 0 worker call u u (goes_none g u core) (others_none worker u.flight) w n k (omega (arith, few)) a e
 
 -- but for a call that is done, files have as many pages as before
-pub undone_files : {M : Type 0} (g : Ghosts (Device M)) (k files : ℕ) (u v : Core M) (a : Written) → HasPagesOfFiles g u files → IfUndone a (Goes g k u v) → IfUndone a (HasPagesOfFiles g v files)
+pub undone_files : {D : Type 0} (g : Ghosts D) (k files : ℕ) (u v : Core D) (a : Written) → HasPagesOfFiles g u files → IfUndone a (Goes g k u v) → IfUndone a (HasPagesOfFiles g v files)
 undone_files g k files u v (answer.Done now) count goes = tt
 undone_files g k files u v (answer.No refusal) count goes = files_on g k u v goes files count
 undone_files g k files u v (answer.Lost w f) count goes = files_on g k u v goes files count
 undone_files g k files u v answer.Fault count goes = files_on g k u v goes files count
 
 -- the range of a call, by other names
-pub fitting_of : {M : Type 0} (g : Ghosts (Device M)) (v : Core M) (n files from len start count : ℕ) (a : Fits) → from ≡ start → len ≡ count → IsFitting g v n from len files a → IsFitting g v n start count files a
+pub fitting_of : {D : Type 0} (g : Ghosts D) (v : Core D) (n files from len start count : ℕ) (a : Fits) → from ≡ start → len ≡ count → IsFitting g v n from len files a → IsFitting g v n start count files a
 fitting_of g v n files from len start count a e f h = subst (λ (x : ℕ). IsFitting g v n x count files a) e (subst (λ (y : ℕ). IsFitting g v n from y files a) f h)

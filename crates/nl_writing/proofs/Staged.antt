@@ -8,14 +8,13 @@ use Rattle.nl_field.specs.FileContent.{is_content, overlaid, page_bytes}
 use Rattle.nl_field.specs.Members.{Has}
 use Rattle.nl_field.specs.declared.pointer.Pointer.{Pointer}
 use Rattle.nl_field.specs.declared.pointer.Tag.{Tag}
-use Rattle.nl_field.proofs.ContentProofs.{byte_laws}
+use Rattle.nl_content.proofs.ContentProofs.{byte_laws}
 use Rattle.nl_tree.specs.CountLaws.{Differ}
 use Rattle.nl_tree.specs.Event.{is_whole, page_given}
 use Rattle.nl_tree.specs.Represents.{node_reached}
 use Rattle.nl_tree.specs.Tree.{Node, Tree, content_of}
 use Rattle.nl_tree.specs.declared.call.Call.{Call}
 use Rattle.nl_tree.specs.declared.call.Call.TheVariants.{Fill, Write}
-use Rattle.nl_device.specs.declared.device.Device.{Device}
 use Rattle.nl_drain.specs.Handled.{nameless_line}
 use Rattle.nl_flight.specs.Flight.{InFlight, IsFlight, begun, carried, of_worker}
 use Rattle.nl_flight.specs.declared.page.FlightPage.{FlightPage}
@@ -33,17 +32,20 @@ use Rattle.nl_core.specs.Trees.{CoreRuns}
 use Rattle.nl_core.specs.declared.state.Core.{Core}
 use Rattle.nl_core.proofs.Lines.{carried_own, in_flight}
 use Rattle.nl_core.proofs.Onward.{goes_none}
-use Rattle.nl_effect.specs.FileTrees.{held_content}
-use Rattle.nl_effect.specs.Lines.{indexes_of, worker_pages}
-use Rattle.nl_writing.specs.Calls.{AreStaged, RunsAsSome}
-use Rattle.nl_writing.specs.Finding.{IsSomeFile, nodes_of}
-use Rattle.nl_writing.specs.Lines.{AreOfCall, AreWritten, KeepsLine}
+use Rattle.nl_filing.specs.FileTrees.{held_content}
+use Rattle.nl_filing.specs.LinePages.{indexes_of}
+use Rattle.nl_written.specs.InFlight.{AreOfCall, AreWritten}
+use Rattle.nl_written.specs.Ranges.{IsWriting, data_of, from_of, is_written, len_of, path_of}
+use Rattle.nl_written.specs.Staged.{AllOfFile}
+use Rattle.nl_effect.specs.Lines.{worker_pages}
+use Rattle.nl_effect.specs.Calls.{RunsAsSome}
+use Rattle.nl_effect.specs.Finding.{IsSomeFile, nodes_of}
+use Rattle.nl_effect.proofs.FilePages.{at-path}
+use Rattle.nl_effect.proofs.WorkerLines.{others_dropped, own_dropped}
+use Rattle.nl_effect.proofs.Going.{others_none}
+use Rattle.nl_writing.specs.Calls.{AreStaged}
+use Rattle.nl_writing.specs.Lines.{KeepsLine}
 use Rattle.nl_writing.specs.Making.{content_at}
-use Rattle.nl_writing.specs.Ranges.{IsWriting, data_of, from_of, is_written, len_of, path_of}
-use Rattle.nl_writing.specs.Staged.{AllOfFile}
-use Rattle.nl_writing.proofs.FilePages.{at-path}
-use Rattle.nl_writing.proofs.Flying.{others_dropped, own_dropped}
-use Rattle.nl_writing.proofs.Going.{others_none}
 
 -- ---- what a call gives a whole page
 
@@ -143,7 +145,7 @@ rising_differ (x ∷ ps) a rise = ((λ has. below has), rising_differ ps (a + 1)
         let here = rise 0 x refl in
         omega (arith, low, here)
 
-module _ {M : Type 0} (g : Ghosts (Device M)) (v : Core M) (worker : ℕ) (call : Call) (w : IsWriting call) (core : IsCore g v) (known : worker < 8) (staged : AreStaged g v call (worker_pages v worker)) where
+module _ {D : Type 0} (g : Ghosts D) (v : Core D) (worker : ℕ) (call : Call) (w : IsWriting call) (core : IsCore g v) (known : worker < 8) (staged : AreStaged g v call (worker_pages v worker)) where
   module _ (n generation : ℕ) (some : 0 < len_of call) (all : AllOfFile n generation (worker_pages v worker)) where
     pub staged_are : AreOfCall n generation call (worker_pages v worker)
     staged_are = record {
@@ -163,7 +165,7 @@ module _ {M : Type 0} (g : Ghosts (Device M)) (v : Core M) (worker : ℕ) (call 
         (given_is call w p.index (g.bytes v.device (place_of (names_of g v) p.at)) (page_bytes (content_at tree call) p.index) (byte_laws.whole_page (content_at tree call) p.index right) (given_whole call w p.index s.whole) (s.given tells))
 
 -- what the tree has at the path of the call is a content, where it leads to a file
-pub content_right : {M : Type 0} (g : Ghosts (Device M)) (v : Core M) (page_of_stamp : ℕ → Option PageOfStamp) (tree : Tree) (n : ℕ) (call : Call) → IsSomeFile g v n → CoreRuns g v page_of_stamp tree
+pub content_right : {D : Type 0} (g : Ghosts D) (v : Core D) (page_of_stamp : ℕ → Option PageOfStamp) (tree : Tree) (n : ℕ) (call : Call) → IsSomeFile g v n → CoreRuns g v page_of_stamp tree
     → node_reached (nodes_of g v) 0 (path_of call) ≡ Some n → IsTrue (is_content (content_at tree call))
 content_right g v page_of_stamp tree n call f at leads =
     let there = at-path g v page_of_stamp tree n f.0 f.1 at (path_of call) leads in
@@ -171,7 +173,7 @@ content_right g v page_of_stamp tree n call f at leads =
 
 -- ---- they are kept or dropped
 
-module _ {M : Type 0} (g : Ghosts (Device M)) (v : Core M) (n generation worker line : ℕ) (call : Call) (writing : IsWriting call) (core : IsCore g v) (known : worker < 8) (runs : RunsAsSome g v) (has : HasLine v.flight worker line)
+module _ {D : Type 0} (g : Ghosts D) (v : Core D) (n generation worker line : ℕ) (call : Call) (writing : IsWriting call) (core : IsCore g v) (known : worker < 8) (runs : RunsAsSome g v) (has : HasLine v.flight worker line)
     (few : (w : ℕ) → length (of_worker v.flight w).pages ≤ 16) where
   pub line_kept : AreStaged g v call (worker_pages v worker) → FlightLeads g v → 0 < len_of call → AllOfFile n generation (worker_pages v worker) → IsSomeFile g v n → node_reached (nodes_of g v) 0 (path_of call) ≡ Some n
       → KeepsLine g n generation worker line call v v
@@ -195,10 +197,10 @@ module _ {M : Type 0} (g : Ghosts (Device M)) (v : Core M) (n generation worker 
     others = others_none worker v.flight;
   }
 
-  pub line_dropped : (w : Core M) → Goes g 0 v w → DropsLine g worker v w → KeepsLine g n generation worker line call v w
+  pub line_dropped : (w : Core D) → Goes g 0 v w → DropsLine g worker v w → KeepsLine g n generation worker line call v w
   line_dropped w a d = record {
     goes = a;
-    stopped = ap (λ (x : Core M). x.stopped) d.others;
+    stopped = ap (λ (x : Core D). x.stopped) d.others;
     pages = subst (λ (ps : List FlightPage). AreOfCall n generation call ps) (sym none) (record { tag = λ k p at. absurd (none_some p at); written = λ k p at. absurd (none_some p at); stamp = λ k p at. absurd (none_some p at); differ = tt });
     written = λ tells.
         let r = runs tells in

@@ -1,33 +1,28 @@
 -- What a call that writes does to a core, and what it answers.
-use Rattle.std.specs.Prelude.{◌≡◌, ℕ, ◌+◌, ◌^◌, ◌<◌, ◌≤◌, ⊤, IsSome, [], List, length, slice_get, Option, Some, None, Result, Ok, Err}
+use Rattle.std.specs.Prelude.{◌≡◌, ℕ, ◌+◌, ◌<◌, ◌≤◌, ⊤, IsSome, [], List, length, slice_get, Option, Some, Result, Ok, Err}
 use Rattle.std.specs.Int.{div_ceil}
 use Rattle.nl_tree.specs.Event.{page_given}
 use Rattle.nl_tree.specs.Step.{step}
 use Rattle.nl_tree.specs.Tree.{Tree}
 use Rattle.nl_tree.specs.declared.call.Call.{Call}
 use Rattle.nl_tree.specs.declared.reply.Reply.TheVariants.{Count, No}
-use Rattle.nl_device.specs.declared.device.Device.{Device}
-use Rattle.nl_flight.specs.Flight.{begun, of_worker}
+use Rattle.nl_flight.specs.Flight.{of_worker}
 use Rattle.nl_flight.specs.declared.page.FlightPage.{FlightPage}
 use Rattle.nl_iface.specs.Names.{place_of}
 use Rattle.nl_iface.specs.declared.counts.Counts.{Ghosts}
 use Rattle.nl_meta.specs.Consistent.{PageOfStamp}
 use Rattle.nl_running.specs.declared.answer.Stop.{Stop}
 use Rattle.nl_running.specs.declared.answer.Stop.TheVariants as stop
-use Rattle.nl_commit.specs.Holding.{running_holders}
-use Rattle.nl_core.specs.Core.{IsCore}
 use Rattle.nl_core.specs.Goes.{Goes}
 use Rattle.nl_core.specs.Programming.{HasLine}
 use Rattle.nl_core.specs.Trees.{CoreRuns}
 use Rattle.nl_core.specs.declared.state.Core.{Core}
 use Rattle.nl_effect.specs.Lines.{worker_pages}
-use Rattle.nl_effect.specs.Steps.{Steps}
-use Rattle.nl_stops.specs.Effects.{MakesTree}
-use Rattle.nl_writing.specs.Answers.{EndsEarly}
-use Rattle.nl_writing.specs.Lines.{OthersStay}
-use Rattle.nl_writing.specs.Ranges.{from_of, len_of}
-use Rattle.nl_writing.specs.declared.answer.Written.{Written}
-use Rattle.nl_writing.specs.declared.answer.Written.TheVariants as written
+use Rattle.nl_written.specs.Ranges.{from_of, len_of}
+use Rattle.nl_effect.specs.declared.answer.Written.TheVariants as written
+use Rattle.nl_effect.specs.Calls.{HasPagesOfFiles, IfDone, IfUndone, OthersStay, RunsAsSome, TakesWithin, stop_in}
+use Rattle.nl_effect.specs.Answers.{EndsEarly}
+use Rattle.nl_effect.specs.declared.answer.Written.{Written}
 
 -- The page at a place of a line: that of the whole page at that place of the call's range. While the medium tells its contents, it holds what the
 -- call gives it.
@@ -37,20 +32,12 @@ pub record IsStagedPage {D : Type 0} (g : Ghosts D) (s : D) (call : Call) (place
   pub whole : IsSome (page_given call page.index)
   pub given : g.tells → page_given call page.index ≡ Some (g.bytes s (place_of (g.names s) page.at))
 
-abbrev pub AreStaged : {M : Type 0} → Ghosts (Device M) → Core M → Call → List FlightPage → Type 0
+abbrev pub AreStaged : {D : Type 0} → Ghosts D → Core D → Call → List FlightPage → Type 0
 AreStaged g v call pages = (place : ℕ) (page : FlightPage) → slice_get pages place ≡ Some page → IsStagedPage g v.device call place page
-
--- the core runs as some tree while the medium tells its contents
-abbrev pub RunsAsSome : {M : Type 0} → Ghosts (Device M) → Core M → Type 0
-RunsAsSome g v = g.tells → (page_of_stamp : ℕ → Option PageOfStamp) × (tree : Tree) × CoreRuns g v page_of_stamp tree
-
--- so many pages files have
-abbrev pub HasPagesOfFiles : {M : Type 0} → Ghosts (Device M) → Core M → ℕ → Type 0
-HasPagesOfFiles g v files = files ≡ length (running_holders g v.device v.meta)
 
 -- What holds before a worker's line is done that writes: the volume runs and can be written, and its files have so many pages. No worker has more pages
 -- in flight than a line may, and those of this one are of this line, whole pages of the call from the first one on.
-pub record CanWriteLine {M : Type 0} (g : Ghosts (Device M)) (v : Core M) (worker line : ℕ) (call : Call) (files : ℕ) : Type 0 where
+pub record CanWriteLine {D : Type 0} (g : Ghosts D) (v : Core D) (worker line : ℕ) (call : Call) (files : ℕ) : Type 0 where
   pub writes : v.stopped ≡ 0
   pub runs : RunsAsSome g v
   pub known : worker < 8
@@ -60,40 +47,10 @@ pub record CanWriteLine {M : Type 0} (g : Ghosts (Device M)) (v : Core M) (worke
   pub staged : AreStaged g v call (worker_pages v worker)
   pub few : (w : ℕ) → length (of_worker v.flight w).pages ≤ 16
 
--- ---- done
-
--- The core goes on, with at most so many write sequence numbers, and then makes of its tree what the call makes of it. The worker has no line
--- afterwards.
-pub record TakesWithin {M : Type 0} (g : Ghosts (Device M)) (most worker : ℕ) (call : Call) (old new : Core M) : Type 0 where
-  pub between : Core M
-  pub formed : g.formed between.device
-  pub core : IsCore g between
-  pub goes : Goes g most old between
-  pub steps : Steps g between new
-  pub makes : MakesTree g between new (call, None)
-  pub ended : of_worker new.flight worker ≡ begun 0
-
-abbrev pub TakesCall : {M : Type 0} → Ghosts (Device M) → ℕ → Call → Core M → Core M → Type 0
-TakesCall g worker call old new = TakesWithin g (2 ^ 40) worker call old new
-
--- the call is done, and P holds of how many pages files have then
-abbrev pub IfDone : Written → (ℕ → Type 0) → Type 0
-IfDone (written.Done files) P = P files
-IfDone (written.No refusal) P = ⊤
-IfDone (written.Lost w f) P = ⊤
-IfDone written.Fault P = ⊤
-
--- or it is not, and P holds
-abbrev pub IfUndone : Written → Type 0 → Type 0
-IfUndone (written.Done files) P = ⊤
-IfUndone (written.No refusal) P = P
-IfUndone (written.Lost w f) P = P
-IfUndone written.Fault P = P
-
 -- ---- answers
 
 -- As whatever tree the core ran, the step of the tree answers the same.
-abbrev pub AnswersWrite : {M : Type 0} → Ghosts (Device M) → Call → Core M → Written → Type 0
+abbrev pub AnswersWrite : {D : Type 0} → Ghosts D → Call → Core D → Written → Type 0
 AnswersWrite g call old (written.Done files) =
     g.tells → (page_of_stamp : ℕ → Option PageOfStamp) (tree : Tree) → CoreRuns g old page_of_stamp tree → (step (g.shape old.device) tree call).reply ≡ Count (len_of call)
 AnswersWrite g call old (written.No refusal) =
@@ -102,13 +59,6 @@ AnswersWrite g call old (written.No refusal) =
 AnswersWrite g call old (written.Lost w f) = ⊤
 AnswersWrite g call old written.Fault = ⊤
 
--- what ended the call early
-abbrev pub stop_in : Written → Option Stop
-stop_in (written.Done files) = None
-stop_in (written.No refusal) = None
-stop_in (written.Lost w f) = Some (stop.Lost w f)
-stop_in written.Fault = Some stop.Fault
-
 -- a part of the call ended, or ended it early
 abbrev pub ended_as : Result Written Stop → Written
 ended_as (Ok answer) = answer
@@ -116,7 +66,7 @@ ended_as (Err stop.Fault) = written.Fault
 ended_as (Err (stop.Lost w f)) = written.Lost w f
 
 -- All of it: what the call does, with at most so many write sequence numbers, what it answers, and why it ended early.
-pub record EndsWrite {M : Type 0} (g : Ghosts (Device M)) (most worker : ℕ) (call : Call) (old new : Core M) (answer : Written) : Type 0 where
+pub record EndsWrite {D : Type 0} (g : Ghosts D) (most worker : ℕ) (call : Call) (old new : Core D) (answer : Written) : Type 0 where
   pub done : IfDone answer (λ files. TakesWithin g most worker call old new × HasPagesOfFiles g new files)
   pub undone : IfUndone answer (Goes g most old new)
   pub answers : AnswersWrite g call old answer

@@ -1,12 +1,4 @@
-pub mod Answers
 pub mod Calls
-pub mod Contents
-pub mod Finding
 pub mod Fitting
-pub mod Laws
 pub mod Lines
 pub mod Making
-pub mod Ranges
-pub mod Refusals
-pub mod Room
-pub mod Staged

@@ -6,27 +6,25 @@ ghost use Rattle.nl_core.specs.Calls.{KeepsLines};
 ghost use Rattle.nl_core.specs.Core.{IsCore};
 ghost use Rattle.nl_core.specs.Programming.{last_stamp};
 ghost use Rattle.nl_effect.specs.Lines.{worker_pages};
-ghost use Rattle.nl_writing.specs.Answers.{EndsEarly};
-ghost use Rattle.nl_writing.specs.Lines.{AddsPage, AreOfCall, CanPut, HasAll, HasIndex, PutsOn};
-ghost use Rattle.nl_writing.specs.Ranges.{is_written, from_of, len_of};
+ghost use Rattle.nl_effect.specs.Answers.{EndsEarly};
+ghost use Rattle.nl_written.specs.InFlight.{AreOfCall, HasAll};
+ghost use Rattle.nl_written.specs.Ranges.{from_of, is_written, len_of};
+ghost use Rattle.nl_writing.specs.Lines.{AddsPage, CanPut, HasIndex, PutsOn};
 
-use crate::laying::{length_of, offset_of};
-use crate::lining::has_index;
 use crate::paging::make_page;
 use nl_core::{Core, Programmed};
-use nl_device::Device;
 use nl_field::{PageBuf, Tag};
 use nl_held::laws::device_stands;
-use nl_iface::Counts;
-use nl_nand::Nand;
+use nl_iface::MovingPages;
 use nl_running::Stop;
 use nl_tree::Call;
+use nl_written::{has_index, length_of, offset_of};
 
 const PAGE: u64 = 4096;
 
 /// Puts in flight for a worker's line each page of a file in which bytes of a call lie and which is not in flight yet, as the call leaves it.
-pub(crate) fn put_pages<M: Nand>(
-    core: &mut Core<M>,
+pub(crate) fn put_pages<D: MovingPages>(
+    core: &mut Core<D>,
     worker: u8,
     line: u32,
     call: &Call,
@@ -34,19 +32,17 @@ pub(crate) fn put_pages<M: Nand>(
     generation: u32,
     page: &mut PageBuf,
 ) -> Result<(), Stop>
-    requires formed { ⟦<Device<M> as Counts>⟧.formed core.old.device }
-    requires core { IsCore ⟦<Device<M> as Counts>⟧ core.old }
-    requires stamp { ⟦<Device<M> as Counts>⟧.next_stamp core.old.device < 2 ^ 62 + 2 ^ 36 }
-    requires can { CanPut ⟦<Device<M> as Counts>⟧ core.old worker line call.now ino }
+    requires core { IsCore D.Counts core.old }
+    requires stamp { D.next_stamp core.old.device < 2 ^ 62 + 2 ^ 36 }
+    requires can { CanPut D.Counts core.old worker line call.now ino }
     requires few { (0 < len_of call.now) × (len_of call.now ≤ max_bytes) }
     requires within { from_of call.now + len_of call.now ≤ 16809984 }
     requires pages { AreOfCall ino generation call.now (worker_pages core.old worker) }
     requires others { (w : ℕ) → length (of_worker core.old.flight w).pages ≤ 16 }
-    ensures formed { ⟦<Device<M> as Counts>⟧.formed core.new.device }
-    ensures core { IsCore ⟦<Device<M> as Counts>⟧ core.new }
-    ensures puts { PutsOn ⟦<Device<M> as Counts>⟧ (17 * 2 ^ 30) worker call.now core.old core.new }
+    ensures core { IsCore D.Counts core.new }
+    ensures puts { PutsOn D.Counts (17 * 2 ^ 30) worker call.now core.old core.new }
     ensures pages { OnOk result (AreOfCall ino generation call.now (worker_pages core.new worker) × HasAll call.now (worker_pages core.new worker)) }
-    ensures early { EndsEarly ⟦<Device<M> as Counts>⟧ core.old core.new (stop_of result) }
+    ensures early { EndsEarly D.Counts core.old core.new (stop_of result) }
 {
     let first = (offset_of(call) / PAGE) as u32;
     let last = ((offset_of(call) + length_of(call) - 1) / PAGE) as u32;
@@ -68,28 +64,26 @@ pub(crate) fn put_pages<M: Nand>(
 }
 
 // The same of the page of one index.
-fn put_index<M: Nand>(
-    core: &mut Core<M>,
+fn put_index<D: MovingPages>(
+    core: &mut Core<D>,
     worker: u8,
     line: u32,
     call: &Call,
     tag: Tag,
     page: &mut PageBuf,
 ) -> Result<(), Stop>
-    requires formed { ⟦<Device<M> as Counts>⟧.formed core.old.device }
-    requires core { IsCore ⟦<Device<M> as Counts>⟧ core.old }
-    requires stamp { ⟦<Device<M> as Counts>⟧.next_stamp core.old.device < last_stamp }
-    requires can { CanPut ⟦<Device<M> as Counts>⟧ core.old worker line call.now tag.ino }
+    requires core { IsCore D.Counts core.old }
+    requires stamp { D.next_stamp core.old.device < last_stamp }
+    requires can { CanPut D.Counts core.old worker line call.now tag.ino }
     requires few { len_of call.now ≤ max_bytes }
     requires written { is_written call.now tag.index ≡ true }
     requires within { tag.index < 4104 }
     requires pages { AreOfCall tag.ino tag.generation call.now (worker_pages core.old worker) }
     requires others { (w : ℕ) → w ≢ worker → length (of_worker core.old.flight w).pages ≤ 16 }
-    ensures formed { ⟦<Device<M> as Counts>⟧.formed core.new.device }
-    ensures core { IsCore ⟦<Device<M> as Counts>⟧ core.new }
-    ensures puts { PutsOn ⟦<Device<M> as Counts>⟧ (2 ^ 30) worker call.now core.old core.new }
+    ensures core { IsCore D.Counts core.new }
+    ensures puts { PutsOn D.Counts (2 ^ 30) worker call.now core.old core.new }
     ensures has { OnOk result (HasIndex tag.ino tag.generation worker line call.now tag.index core.old core.new) }
-    ensures early { EndsEarly ⟦<Device<M> as Counts>⟧ core.old core.new (stop_of result) }
+    ensures early { EndsEarly D.Counts core.old core.new (stop_of result) }
 {
     if has_index(&core.flight, worker, tag.index) {
         return Ok(());
@@ -98,28 +92,26 @@ fn put_index<M: Nand>(
 }
 
 // The same of a page that is not in flight.
-fn put_page<M: Nand>(
-    core: &mut Core<M>,
+fn put_page<D: MovingPages>(
+    core: &mut Core<D>,
     worker: u8,
     line: u32,
     call: &Call,
     tag: Tag,
     page: &mut PageBuf,
 ) -> Result<(), Stop>
-    requires formed { ⟦<Device<M> as Counts>⟧.formed core.old.device }
-    requires core { IsCore ⟦<Device<M> as Counts>⟧ core.old }
-    requires stamp { ⟦<Device<M> as Counts>⟧.next_stamp core.old.device < last_stamp }
-    requires can { CanPut ⟦<Device<M> as Counts>⟧ core.old worker line call.now tag.ino }
+    requires core { IsCore D.Counts core.old }
+    requires stamp { D.next_stamp core.old.device < last_stamp }
+    requires can { CanPut D.Counts core.old worker line call.now tag.ino }
     requires place { HasPlace core.old.flight worker }
     requires few { len_of call.now ≤ max_bytes }
     requires written { is_written call.now tag.index ≡ true }
     requires within { tag.index < 4104 }
-    ensures formed { ⟦<Device<M> as Counts>⟧.formed core.new.device }
-    ensures core { IsCore ⟦<Device<M> as Counts>⟧ core.new }
-    ensures puts { PutsOn ⟦<Device<M> as Counts>⟧ (2 ^ 30) worker call.now core.old core.new }
+    ensures core { IsCore D.Counts core.new }
+    ensures puts { PutsOn D.Counts (2 ^ 30) worker call.now core.old core.new }
     ensures added { OnOk result (AddsPage worker line tag core.old core.new) }
     ensures none { OnErr result (KeepsLines core.old core.new) }
-    ensures early { EndsEarly ⟦<Device<M> as Counts>⟧ core.old core.new (stop_of result) }
+    ensures early { EndsEarly D.Counts core.old core.new (stop_of result) }
 {
     let made = make_page(core, tag.ino, call, tag.index, page);
     device_stands(&core.device);

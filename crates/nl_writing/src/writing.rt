@@ -10,30 +10,28 @@ ghost use Rattle.nl_tree.specs.Step.{is_too_long};
 ghost use Rattle.nl_core.specs.Core.{IsCore};
 ghost use Rattle.nl_core.specs.Programming.{HasLine};
 ghost use Rattle.nl_effect.specs.Lines.{worker_pages};
-ghost use Rattle.nl_writing.specs.Calls.{AreStaged, CanWriteLine, EndsWrite, HasPagesOfFiles, IfUndone, RunsAsSome, ended_as};
-ghost use Rattle.nl_writing.specs.Finding.{IsSomeFile, nodes_of};
-ghost use Rattle.nl_writing.specs.Contents.{count_indexes};
+ghost use Rattle.nl_effect.specs.Calls.{HasPagesOfFiles, IfUndone, RunsAsSome};
+ghost use Rattle.nl_effect.specs.Finding.{IsOfGeneration, IsSomeFile, nodes_of};
+ghost use Rattle.nl_writing.specs.Calls.{AreStaged, CanWriteLine, EndsWrite, ended_as};
+ghost use Rattle.nl_written.specs.Contents.{count_indexes};
+ghost use Rattle.nl_written.specs.InFlight.{AreOfCall, HasAll};
+ghost use Rattle.nl_written.specs.Ranges.{IsSomeWrite, IsWriting, from_of, len_of, path_of};
 ghost use Rattle.nl_writing.specs.Fitting.{IsReady};
-ghost use Rattle.nl_writing.specs.Lines.{AreOfCall, HasAll, IsLineOfCall, IsOfGeneration, KeepsLine, RunsWritten};
-ghost use Rattle.nl_writing.specs.Ranges.{IsSomeWrite, IsWriting, from_of, len_of, path_of};
+ghost use Rattle.nl_writing.specs.Lines.{IsLineOfCall, KeepsLine, RunsWritten};
 
-use crate::answer::{Fits, Found, Written};
-use crate::finding::find_file;
-use crate::fitting::{fits, make_room};
-use crate::laws::looks_refuse;
-use crate::laying::{length_of, offset_of, path_written};
-use crate::lining::all_of_file;
+use crate::answer::Fits;
+use crate::fitting::fits;
 use crate::putting::put_pages;
 use nl_core::Core;
 use nl_core::laws::flight_leads;
-use nl_device::Device;
-use nl_effect::install_line;
+use nl_effect::{Found, Written, find_file, install_line, make_room};
 use nl_field::{InodeRec, PageBuf};
 use nl_held::laws::device_stands;
-use nl_iface::Counts;
-use nl_nand::Nand;
+use nl_iface::MovingPages;
 use nl_running::Stop;
 use nl_tree::{Call, Refusal};
+use nl_written::laws::looks_refuse;
+use nl_written::{all_of_file, length_of, offset_of, path_written};
 
 const PAGE: u64 = 4096;
 
@@ -45,24 +43,22 @@ const MOST: u64 = 16_809_984;
 /// where the step of the tree is done, with how many pages files have then; `No` with its refusal, also for want of room; `Fault` where a program or a
 /// read failed, and `Lost` where a page does not hold the write sequence number under which it is looked for. But for `Done` the tree and the number of
 /// pages are as before, and pages may be in flight for the line.
-pub fn write_call<M: Nand>(
-    core: &mut Core<M>,
+pub fn write_call<D: MovingPages>(
+    core: &mut Core<D>,
     worker: u8,
     line: u32,
     call: &Call,
     files: u32,
     page: &mut PageBuf,
 ) -> Written
-    requires formed { ⟦<Device<M> as Counts>⟧.formed core.old.device }
-    requires core { IsCore ⟦<Device<M> as Counts>⟧ core.old }
-    requires stamp { ⟦<Device<M> as Counts>⟧.next_stamp core.old.device < 2 ^ 62 }
-    requires can { CanWriteLine ⟦<Device<M> as Counts>⟧ core.old worker line call.now files }
+    requires core { IsCore D.Counts core.old }
+    requires stamp { D.next_stamp core.old.device < 2 ^ 62 }
+    requires can { CanWriteLine D.Counts core.old worker line call.now files }
     requires writing { IsWriting call.now }
     requires bounded { IsBounded call.now }
-    ensures formed { ⟦<Device<M> as Counts>⟧.formed core.new.device }
-    ensures core { IsCore ⟦<Device<M> as Counts>⟧ core.new }
-    ensures ends { EndsWrite ⟦<Device<M> as Counts>⟧ (2 ^ 40) worker call.now core.old core.new result }
-    ensures files { IfUndone result (HasPagesOfFiles ⟦<Device<M> as Counts>⟧ core.new files) }
+    ensures core { IsCore D.Counts core.new }
+    ensures ends { EndsWrite D.Counts (2 ^ 40) worker call.now core.old core.new result }
+    ensures files { IfUndone result (HasPagesOfFiles D.Counts core.new files) }
 {
     match write_path(core, worker, line, call, files, page) {
         Ok(written) => written,
@@ -81,23 +77,21 @@ fn ended_early(stop: Stop) -> Written
 }
 
 // The same, where reads and programs may end it early.
-fn write_path<M: Nand>(
-    core: &mut Core<M>,
+fn write_path<D: MovingPages>(
+    core: &mut Core<D>,
     worker: u8,
     line: u32,
     call: &Call,
     files: u32,
     page: &mut PageBuf,
 ) -> Result<Written, Stop>
-    requires formed { ⟦<Device<M> as Counts>⟧.formed core.old.device }
-    requires core { IsCore ⟦<Device<M> as Counts>⟧ core.old }
-    requires stamp { ⟦<Device<M> as Counts>⟧.next_stamp core.old.device < 2 ^ 62 }
-    requires can { CanWriteLine ⟦<Device<M> as Counts>⟧ core.old worker line call.now files }
+    requires core { IsCore D.Counts core.old }
+    requires stamp { D.next_stamp core.old.device < 2 ^ 62 }
+    requires can { CanWriteLine D.Counts core.old worker line call.now files }
     requires writing { IsWriting call.now }
     requires few { len_of call.now ≤ max_bytes }
-    ensures formed { ⟦<Device<M> as Counts>⟧.formed core.new.device }
-    ensures core { IsCore ⟦<Device<M> as Counts>⟧ core.new }
-    ensures ends { EndsWrite ⟦<Device<M> as Counts>⟧ (2 ^ 40) worker call.now core.old core.new (ended_as result) }
+    ensures core { IsCore D.Counts core.new }
+    ensures ends { EndsWrite D.Counts (2 ^ 40) worker call.now core.old core.new (ended_as result) }
 {
     let found = find_file(core, path_written(call));
     device_stands(&core.device);
@@ -111,8 +105,8 @@ fn write_path<M: Nand>(
 }
 
 // The same of a file.
-fn write_file<M: Nand>(
-    core: &mut Core<M>,
+fn write_file<D: MovingPages>(
+    core: &mut Core<D>,
     worker: u8,
     line: u32,
     call: &Call,
@@ -120,18 +114,16 @@ fn write_file<M: Nand>(
     files: u32,
     page: &mut PageBuf,
 ) -> Result<Written, Stop>
-    requires formed { ⟦<Device<M> as Counts>⟧.formed core.old.device }
-    requires core { IsCore ⟦<Device<M> as Counts>⟧ core.old }
-    requires stamp { ⟦<Device<M> as Counts>⟧.next_stamp core.old.device < 2 ^ 62 }
-    requires can { CanWriteLine ⟦<Device<M> as Counts>⟧ core.old worker line call.now files }
+    requires core { IsCore D.Counts core.old }
+    requires stamp { D.next_stamp core.old.device < 2 ^ 62 }
+    requires can { CanWriteLine D.Counts core.old worker line call.now files }
     requires writing { IsWriting call.now }
     requires few { len_of call.now ≤ max_bytes }
     requires short { is_too_long (path_of call.now) ≡ false }
-    requires leads { node_reached (nodes_of ⟦<Device<M> as Counts>⟧ core.old) 0 (path_of call.now) ≡ Some ino }
-    requires file { IsSomeFile ⟦<Device<M> as Counts>⟧ core.old ino }
-    ensures formed { ⟦<Device<M> as Counts>⟧.formed core.new.device }
-    ensures core { IsCore ⟦<Device<M> as Counts>⟧ core.new }
-    ensures ends { EndsWrite ⟦<Device<M> as Counts>⟧ (2 ^ 36) worker call.now core.old core.new (ended_as result) }
+    requires leads { node_reached (nodes_of D.Counts core.old) 0 (path_of call.now) ≡ Some ino }
+    requires file { IsSomeFile D.Counts core.old ino }
+    ensures core { IsCore D.Counts core.new }
+    ensures ends { EndsWrite D.Counts (2 ^ 36) worker call.now core.old core.new (ended_as result) }
 {
     looks_refuse();
     if length_of(call) == 0 {
@@ -153,19 +145,23 @@ fn ends_far(call: &Call) -> bool
 }
 
 // No bytes are written: the file stays as it is.
-fn write_none<M: Nand>(core: &mut Core<M>, worker: u8, call: &Call, ino: u32, files: u32) -> Written
-    requires formed { ⟦<Device<M> as Counts>⟧.formed core.old.device }
-    requires core { IsCore ⟦<Device<M> as Counts>⟧ core.old }
+fn write_none<D: MovingPages>(
+    core: &mut Core<D>,
+    worker: u8,
+    call: &Call,
+    ino: u32,
+    files: u32,
+) -> Written
+    requires core { IsCore D.Counts core.old }
     requires known { worker < 8 }
     requires writing { IsWriting call.now }
     requires none { len_of call.now ≡ 0 }
     requires short { is_too_long (path_of call.now) ≡ false }
-    requires leads { node_reached (nodes_of ⟦<Device<M> as Counts>⟧ core.old) 0 (path_of call.now) ≡ Some ino }
-    requires file { IsSomeFile ⟦<Device<M> as Counts>⟧ core.old ino }
-    requires files { HasPagesOfFiles ⟦<Device<M> as Counts>⟧ core.old files }
-    ensures formed { ⟦<Device<M> as Counts>⟧.formed core.new.device }
-    ensures core { IsCore ⟦<Device<M> as Counts>⟧ core.new }
-    ensures ends { EndsWrite ⟦<Device<M> as Counts>⟧ 0 worker call.now core.old core.new result }
+    requires leads { node_reached (nodes_of D.Counts core.old) 0 (path_of call.now) ≡ Some ino }
+    requires file { IsSomeFile D.Counts core.old ino }
+    requires files { HasPagesOfFiles D.Counts core.old files }
+    ensures core { IsCore D.Counts core.new }
+    ensures ends { EndsWrite D.Counts 0 worker call.now core.old core.new result }
 {
     looks_refuse();
     core.drop_line(worker);
@@ -174,8 +170,8 @@ fn write_none<M: Nand>(core: &mut Core<M>, worker: u8, call: &Call, ino: u32, fi
 }
 
 // Some bytes are written, which do not end behind the greatest size.
-fn write_some<M: Nand>(
-    core: &mut Core<M>,
+fn write_some<D: MovingPages>(
+    core: &mut Core<D>,
     worker: u8,
     line: u32,
     call: &Call,
@@ -183,16 +179,14 @@ fn write_some<M: Nand>(
     files: u32,
     page: &mut PageBuf,
 ) -> Result<Written, Stop>
-    requires formed { ⟦<Device<M> as Counts>⟧.formed core.old.device }
-    requires core { IsCore ⟦<Device<M> as Counts>⟧ core.old }
-    requires stamp { ⟦<Device<M> as Counts>⟧.next_stamp core.old.device < 2 ^ 62 }
-    requires can { CanWriteLine ⟦<Device<M> as Counts>⟧ core.old worker line call.now files }
+    requires core { IsCore D.Counts core.old }
+    requires stamp { D.next_stamp core.old.device < 2 ^ 62 }
+    requires can { CanWriteLine D.Counts core.old worker line call.now files }
     requires write { IsSomeWrite call.now }
-    requires leads { node_reached (nodes_of ⟦<Device<M> as Counts>⟧ core.old) 0 (path_of call.now) ≡ Some ino }
-    requires file { IsSomeFile ⟦<Device<M> as Counts>⟧ core.old ino }
-    ensures formed { ⟦<Device<M> as Counts>⟧.formed core.new.device }
-    ensures core { IsCore ⟦<Device<M> as Counts>⟧ core.new }
-    ensures ends { EndsWrite ⟦<Device<M> as Counts>⟧ (2 ^ 36) worker call.now core.old core.new (ended_as result) }
+    requires leads { node_reached (nodes_of D.Counts core.old) 0 (path_of call.now) ≡ Some ino }
+    requires file { IsSomeFile D.Counts core.old ino }
+    ensures core { IsCore D.Counts core.new }
+    ensures ends { EndsWrite D.Counts (2 ^ 36) worker call.now core.old core.new (ended_as result) }
 {
     looks_refuse();
     let room = fits(core, ino, offset_of(call), length_of(call), files);
@@ -216,8 +210,8 @@ fn write_some<M: Nand>(
 }
 
 // There is room, as far as is seen by now, in the file of this generation.
-fn write_pages<M: Nand>(
-    core: &mut Core<M>,
+fn write_pages<D: MovingPages>(
+    core: &mut Core<D>,
     worker: u8,
     line: u32,
     call: &Call,
@@ -226,16 +220,14 @@ fn write_pages<M: Nand>(
     files: u32,
     page: &mut PageBuf,
 ) -> Result<Written, Stop>
-    requires formed { ⟦<Device<M> as Counts>⟧.formed core.old.device }
-    requires core { IsCore ⟦<Device<M> as Counts>⟧ core.old }
-    requires stamp { ⟦<Device<M> as Counts>⟧.next_stamp core.old.device < 2 ^ 62 }
-    requires can { CanWriteLine ⟦<Device<M> as Counts>⟧ core.old worker line call.now files }
+    requires core { IsCore D.Counts core.old }
+    requires stamp { D.next_stamp core.old.device < 2 ^ 62 }
+    requires can { CanWriteLine D.Counts core.old worker line call.now files }
     requires write { IsSomeWrite call.now }
-    requires leads { node_reached (nodes_of ⟦<Device<M> as Counts>⟧ core.old) 0 (path_of call.now) ≡ Some ino }
-    requires file { IsOfGeneration ⟦<Device<M> as Counts>⟧ core.old ino generation }
-    ensures formed { ⟦<Device<M> as Counts>⟧.formed core.new.device }
-    ensures core { IsCore ⟦<Device<M> as Counts>⟧ core.new }
-    ensures ends { EndsWrite ⟦<Device<M> as Counts>⟧ (2 ^ 36) worker call.now core.old core.new (ended_as result) }
+    requires leads { node_reached (nodes_of D.Counts core.old) 0 (path_of call.now) ≡ Some ino }
+    requires file { IsOfGeneration D.Counts core.old ino generation }
+    ensures core { IsCore D.Counts core.new }
+    ensures ends { EndsWrite D.Counts (2 ^ 36) worker call.now core.old core.new (ended_as result) }
 {
     keep_line(core, worker, line, call, ino, generation);
     match put_pages(core, worker, line, call, ino, generation, page) {
@@ -250,28 +242,26 @@ fn write_pages<M: Nand>(
 }
 
 // The worker's pages in flight are dropped where they are none of this generation of the file.
-fn keep_line<M: Nand>(
-    core: &mut Core<M>,
+fn keep_line<D: MovingPages>(
+    core: &mut Core<D>,
     worker: u8,
     line: u32,
     call: &Call,
     ino: u32,
     generation: u32,
 )
-    requires formed { ⟦<Device<M> as Counts>⟧.formed core.old.device }
-    requires core { IsCore ⟦<Device<M> as Counts>⟧ core.old }
-    requires runs { RunsAsSome ⟦<Device<M> as Counts>⟧ core.old }
+    requires core { IsCore D.Counts core.old }
+    requires runs { RunsAsSome D.Counts core.old }
     requires known { worker < 8 }
     requires line { HasLine core.old.flight worker line }
     requires writing { IsWriting call.now }
     requires some { 0 < len_of call.now }
-    requires leads { node_reached (nodes_of ⟦<Device<M> as Counts>⟧ core.old) 0 (path_of call.now) ≡ Some ino }
-    requires file { IsSomeFile ⟦<Device<M> as Counts>⟧ core.old ino }
-    requires staged { AreStaged ⟦<Device<M> as Counts>⟧ core.old call.now (worker_pages core.old worker) }
+    requires leads { node_reached (nodes_of D.Counts core.old) 0 (path_of call.now) ≡ Some ino }
+    requires file { IsSomeFile D.Counts core.old ino }
+    requires staged { AreStaged D.Counts core.old call.now (worker_pages core.old worker) }
     requires others { (w : ℕ) → length (of_worker core.old.flight w).pages ≤ 16 }
-    ensures formed { ⟦<Device<M> as Counts>⟧.formed core.new.device }
-    ensures core { IsCore ⟦<Device<M> as Counts>⟧ core.new }
-    ensures keeps { KeepsLine ⟦<Device<M> as Counts>⟧ ino generation worker line call.now core.old core.new }
+    ensures core { IsCore D.Counts core.new }
+    ensures keeps { KeepsLine D.Counts ino generation worker line call.now core.old core.new }
 {
     flight_leads(core);
     device_stands(&core.device);
@@ -282,27 +272,25 @@ fn keep_line<M: Nand>(
 }
 
 // All pages of the call are in flight.
-fn install_pages<M: Nand>(
-    core: &mut Core<M>,
+fn install_pages<D: MovingPages>(
+    core: &mut Core<D>,
     worker: u8,
     call: &Call,
     ino: u32,
     files: u32,
 ) -> Result<Written, Stop>
-    requires formed { ⟦<Device<M> as Counts>⟧.formed core.old.device }
-    requires core { IsCore ⟦<Device<M> as Counts>⟧ core.old }
+    requires core { IsCore D.Counts core.old }
     requires writes { core.old.stopped ≡ 0 }
-    requires stamp { ⟦<Device<M> as Counts>⟧.next_stamp core.old.device + 512 ≤ 2 ^ 63 }
+    requires stamp { D.next_stamp core.old.device + 512 ≤ 2 ^ 63 }
     requires known { worker < 8 }
     requires write { IsSomeWrite call.now }
-    requires leads { node_reached (nodes_of ⟦<Device<M> as Counts>⟧ core.old) 0 (path_of call.now) ≡ Some ino }
-    requires line { IsLineOfCall ⟦<Device<M> as Counts>⟧ core.old ino worker call.now }
-    requires files { HasPagesOfFiles ⟦<Device<M> as Counts>⟧ core.old files }
+    requires leads { node_reached (nodes_of D.Counts core.old) 0 (path_of call.now) ≡ Some ino }
+    requires line { IsLineOfCall D.Counts core.old ino worker call.now }
+    requires files { HasPagesOfFiles D.Counts core.old files }
     requires all { HasAll call.now (worker_pages core.old worker) }
-    requires written { RunsWritten ⟦<Device<M> as Counts>⟧ worker call.now core.old }
-    ensures formed { ⟦<Device<M> as Counts>⟧.formed core.new.device }
-    ensures core { IsCore ⟦<Device<M> as Counts>⟧ core.new }
-    ensures ends { EndsWrite ⟦<Device<M> as Counts>⟧ 512 worker call.now core.old core.new (ended_as result) }
+    requires written { RunsWritten D.Counts worker call.now core.old }
+    ensures core { IsCore D.Counts core.new }
+    ensures ends { EndsWrite D.Counts 512 worker call.now core.old core.new (ended_as result) }
 {
     match make_room(core) {
         Ok(()) => install(core, worker, call, ino, files),
@@ -312,26 +300,24 @@ fn install_pages<M: Nand>(
 
 // The same where four more pages of metadata may become dirty. Reclaiming may have moved pages since there was room for those of the file, so that is
 // seen again.
-fn install<M: Nand>(
-    core: &mut Core<M>,
+fn install<D: MovingPages>(
+    core: &mut Core<D>,
     worker: u8,
     call: &Call,
     ino: u32,
     files: u32,
 ) -> Result<Written, Stop>
-    requires formed { ⟦<Device<M> as Counts>⟧.formed core.old.device }
-    requires core { IsCore ⟦<Device<M> as Counts>⟧ core.old }
+    requires core { IsCore D.Counts core.old }
     requires known { worker < 8 }
     requires write { IsSomeWrite call.now }
-    requires leads { node_reached (nodes_of ⟦<Device<M> as Counts>⟧ core.old) 0 (path_of call.now) ≡ Some ino }
-    requires line { IsLineOfCall ⟦<Device<M> as Counts>⟧ core.old ino worker call.now }
-    requires files { HasPagesOfFiles ⟦<Device<M> as Counts>⟧ core.old files }
+    requires leads { node_reached (nodes_of D.Counts core.old) 0 (path_of call.now) ≡ Some ino }
+    requires line { IsLineOfCall D.Counts core.old ino worker call.now }
+    requires files { HasPagesOfFiles D.Counts core.old files }
     requires all { HasAll call.now (worker_pages core.old worker) }
-    requires written { RunsWritten ⟦<Device<M> as Counts>⟧ worker call.now core.old }
+    requires written { RunsWritten D.Counts worker call.now core.old }
     requires room { length (besides_0 core.old.meta.dirty) + 4 ≤ most }
-    ensures formed { ⟦<Device<M> as Counts>⟧.formed core.new.device }
-    ensures core { IsCore ⟦<Device<M> as Counts>⟧ core.new }
-    ensures ends { EndsWrite ⟦<Device<M> as Counts>⟧ 0 worker call.now core.old core.new (ended_as result) }
+    ensures core { IsCore D.Counts core.new }
+    ensures ends { EndsWrite D.Counts 0 worker call.now core.old core.new (ended_as result) }
 {
     looks_refuse();
     let room = fits(core, ino, offset_of(call), length_of(call), files);
@@ -346,28 +332,26 @@ fn install<M: Nand>(
 }
 
 // The file takes the pages, for which it is ready.
-fn install_ready<M: Nand>(
-    core: &mut Core<M>,
+fn install_ready<D: MovingPages>(
+    core: &mut Core<D>,
     worker: u8,
     call: &Call,
     ino: u32,
     rec: InodeRec,
     files: u32,
 ) -> Written
-    requires formed { ⟦<Device<M> as Counts>⟧.formed core.old.device }
-    requires core { IsCore ⟦<Device<M> as Counts>⟧ core.old }
+    requires core { IsCore D.Counts core.old }
     requires known { worker < 8 }
     requires write { IsSomeWrite call.now }
-    requires leads { node_reached (nodes_of ⟦<Device<M> as Counts>⟧ core.old) 0 (path_of call.now) ≡ Some ino }
-    requires ready { IsReady ⟦<Device<M> as Counts>⟧ core.old ino (from_of call.now) (len_of call.now) files rec }
-    requires files { HasPagesOfFiles ⟦<Device<M> as Counts>⟧ core.old files }
+    requires leads { node_reached (nodes_of D.Counts core.old) 0 (path_of call.now) ≡ Some ino }
+    requires ready { IsReady D.Counts core.old ino (from_of call.now) (len_of call.now) files rec }
+    requires files { HasPagesOfFiles D.Counts core.old files }
     requires pages { AreOfCall ino rec.generation call.now (worker_pages core.old worker) }
     requires all { HasAll call.now (worker_pages core.old worker) }
-    requires written { RunsWritten ⟦<Device<M> as Counts>⟧ worker call.now core.old }
+    requires written { RunsWritten D.Counts worker call.now core.old }
     requires room { length (besides_0 core.old.meta.dirty) + 4 ≤ most }
-    ensures formed { ⟦<Device<M> as Counts>⟧.formed core.new.device }
-    ensures core { IsCore ⟦<Device<M> as Counts>⟧ core.new }
-    ensures ends { EndsWrite ⟦<Device<M> as Counts>⟧ 0 worker call.now core.old core.new result }
+    ensures core { IsCore D.Counts core.new }
+    ensures ends { EndsWrite D.Counts 0 worker call.now core.old core.new result }
 {
     looks_refuse();
     flight_leads(core);
@@ -381,14 +365,14 @@ fn install_ready<M: Nand>(
 }
 
 // How many pages files have, once a file took the pages of the call: before it they had so many, and so many pointers awaited their free.
-fn files_after<M: Nand>(core: &Core<M>, call: &Call, files: u32, waiting: u32) -> u32
-    requires core { IsCore ⟦<Device<M> as Counts>⟧ core.now }
-    requires volume { IsVolumeShape (⟦<Device<M> as Counts>⟧.shape core.now.device) }
+fn files_after<D: MovingPages>(core: &Core<D>, call: &Call, files: u32, waiting: u32) -> u32
+    requires core { IsCore D.Counts core.now }
+    requires volume { IsVolumeShape (D.shape core.now.device) }
     requires writing { IsWriting call.now }
     requires some { 0 < len_of call.now }
     requires within { from_of call.now + len_of call.now ≤ 16809984 }
-    requires taken { length (running_holders ⟦<Device<M> as Counts>⟧ core.now.device core.now.meta) + length core.now.freeing.items ≡ files + waiting + count_indexes (from_of call.now) (len_of call.now) }
-    ensures { HasPagesOfFiles ⟦<Device<M> as Counts>⟧ core.now result }
+    requires taken { length (running_holders D.Counts core.now.device core.now.meta) + length core.now.freeing.items ≡ files + waiting + count_indexes (from_of call.now) (len_of call.now) }
+    ensures { HasPagesOfFiles D.Counts core.now result }
 {
     let first = offset_of(call) / PAGE;
     let last = (offset_of(call) + length_of(call) - 1) / PAGE;

@@ -1,11 +1,10 @@
 use Rattle.std.proofs.Common.{◌∙◌, ◌<◌, ⊎_elim, ℕ, List, length, sym, ap, subst, arith}
 use Rattle.std.specs.Prelude.{IsTrue}
-use Rattle.nl_device.specs.contracts.counts.DeviceCounts.TheImpl.{ghosts}
 use Rattle.nl_tree.specs.Causes.{is_changing}
 use Rattle.nl_core.specs.declared.state.Core.{Core}
 use Rattle.nl_core.proofs.Renamed.{as_many}
 use Rattle.nl_answering.specs.Answering.{AnswersCall}
-use Rattle.nl_answering.proofs.Answered.{answer_after}
+use Rattle.nl_answering.proofs.Answered.{answer_after, cleans_after}
 use Rattle.nl_answering.proofs.Counted.{goes_counted}
 use Rattle.nl_answering.proofs.Ended.{ends_dropped}
 use Rattle.nl_answering.proofs.Tried.{not_writing}
@@ -13,7 +12,7 @@ use Rattle.nl_answering.proofs.calls.answer_call.Goals as goal
 
 pub answer_other-requires : goal.answer_other-requires
 answer_other-requires g c =
-    let G = ghosts g.row.M g.M.Nand g.M.Nand-dict in
+    let G = g.D.Counts in
     let u = c.args.core.now in
     let v = c.drop_line.new.self in
     let e = c.drop_line.ensures in
@@ -23,13 +22,12 @@ answer_other-requires g c =
     let known : c.args.worker < length u.flight = omega (arith, eight, low) in
     let stamp = e.dropped.frees.kept.next_stamp in
     record {
-      formed = e.formed;
       core = e.core;
       known = r.known;
       some = r.some;
       idle = (ends_dropped c.args.worker u.flight v.flight known e.dropped.flight).idle;
       may = record {
-        writes = λ changing. ap (λ (x : Core g.row.M.Denot). x.stopped) e.dropped.others ∙ r.may.writes changing;
+        writes = λ changing. ap (λ (x : Core g.row.D.Denot). x.stopped) e.dropped.others ∙ r.may.writes changing;
         stamp = λ changing. let was = r.may.stamp changing in omega (arith, was, stamp);
       };
       runs = λ tells. let k = r.runs tells in let on = e.goes.runs tells k.0 k.1 k.2 in (on.pages, k.1, on.runs);
@@ -41,7 +39,7 @@ answer_other-requires g c =
 
 pub returns-in_default : goal.returns-in_default
 returns-in_default g c =
-    let G = ghosts g.row.M g.M.Nand g.M.Nand-dict in
+    let G = g.D.Counts in
     let u = c.args.core.now in
     let v = c.drop_line.new.self in
     let e = c.drop_line.ensures in
@@ -50,14 +48,14 @@ returns-in_default g c =
     let known : c.args.worker < length u.flight = omega (arith, eight, low) in
     let a = c.answer_other in
     record {
-      formed = a.ensures.formed;
       core = a.ensures.core;
       answers = answer_after G c.args.call.now 0 u v a.new.core e.goes c.args.worker a.result.reply a.new.out a.result.files (ends_dropped c.args.worker u.flight v.flight known e.dropped.flight).others a.ensures.answers;
+      cleaned = λ is done. cleans_after G c.args.call.now 0 u v a.new.core e.goes g.D.MovingPages (a.ensures.cleaned is done);
     }
 
 pub returns-in-Write-clause-answers : goal.returns-in-Write-clause-answers
 returns-in-Write-clause-answers g c =
-    let G = ghosts g.row.M g.M.Nand g.M.Nand-dict in
+    let G = g.D.Counts in
     subst (λ (o : List ℕ). AnswersCall G c.args.worker c.args.call.now c.args.core.now c.write.new.core c.write.result.reply o c.write.result.files) (sym c.requires.nothing) c.write.ensures.answers
 
 pub write-requires-clause-can : goal.write-requires-clause-can

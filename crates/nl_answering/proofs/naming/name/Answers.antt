@@ -1,5 +1,4 @@
 use Rattle.std.proofs.Common.{◌∙◌, ℕ, ◌==◌, not, List, [], length, refl, sym, ap, arith}
-use Rattle.nl_device.specs.contracts.counts.DeviceCounts.TheImpl.{ghosts}
 use Rattle.nl_tree.specs.declared.reply.FaultReply.TheVariants.{Edamaged}
 use Rattle.nl_meta.proofs.Rising.{filtered_few}
 use Rattle.nl_meta.specs.Pages.{besides_0}
@@ -27,12 +26,12 @@ name_now-requires-in-Done-clause-idle g c =
 
 pub name_now-requires-in-Done-clause-files : goal.name_now-requires-in-Done-clause-files
 name_now-requires-in-Done-clause-files g c =
-    let G = ghosts g.row.M g.M.Nand g.M.Nand-dict in
+    let G = g.D.Counts in
     c.requires.files ∙ sym (goes_counted G _ c.args.core.now c.commit-committed.new.self c.in-Done.ensures.goes c.pages_stay_as_many.ensures)
 
 pub returns-in-Done-clause-answers : goal.returns-in-Done-clause-answers
 returns-in-Done-clause-answers g c =
-    let G = ghosts g.row.M g.M.Nand g.M.Nand-dict in
+    let G = g.D.Counts in
     let u = c.args.core.now in
     let v = c.commit-committed.new.self in
     let e = c.in-Done.ensures in
@@ -41,18 +40,18 @@ returns-in-Done-clause-answers g c =
 
 pub returns-in-Lost-clause-answers : goal.returns-in-Lost-clause-answers
 returns-in-Lost-clause-answers g c =
-    let G = ghosts g.row.M g.M.Nand g.M.Nand-dict in
+    let G = g.D.Counts in
     let u = c.args.core.now in
     let v = c.commit-committed.new.self in
     let e = c.in-Lost.ensures in
-    meets_fault G c.args.worker c.args.call.now _ u v c.args.files e.formed e.core e.goes c.pages_stay_as_many.ensures c.requires.files (ends_same c.args.worker u.flight v.flight e.commits.0.same_flight c.requires.idle) _ refl
+    meets_fault G c.args.worker c.args.call.now _ u v c.args.files e.core e.goes c.pages_stay_as_many.ensures c.requires.files (ends_same c.args.worker u.flight v.flight e.commits.0.same_flight c.requires.idle) _ refl
     (Edamaged c.in-Lost.wanted c.in-Lost.found) (e.commits.2, λ same. e.commits.1 (sym same))
 
 pub returns-in-Fault-clause-answers : goal.returns-in-Fault-clause-answers
 returns-in-Fault-clause-answers g c =
-    let G = ghosts g.row.M g.M.Nand g.M.Nand-dict in
+    let G = g.D.Counts in
     let u = c.args.core.now in
     let v = c.commit-committed.new.self in
     let e = c.in-Fault.ensures in
-    fails G c.args.worker c.args.call.now _ u v c.args.files e.formed e.core e.goes c.pages_stay_as_many.ensures c.requires.files (ends_same c.args.worker u.flight v.flight e.commits.same_flight c.requires.idle) _ refl
+    fails G c.args.worker c.args.call.now _ u v c.args.files e.core e.goes c.pages_stay_as_many.ensures c.requires.files (ends_same c.args.worker u.flight v.flight e.commits.same_flight c.requires.idle) _ refl
     c.failed.result c.failed.ensures (e.faults refl)

@@ -1,5 +1,4 @@
 use Rattle.std.proofs.Common.{◌∙◌, [], refl, sym, ap, subst}
-use Rattle.nl_device.specs.contracts.counts.DeviceCounts.TheImpl.{ghosts}
 use Rattle.nl_tree.specs.Step.{step}
 use Rattle.nl_tree.specs.declared.reply.FaultReply.TheVariants.{Edamaged, Eio}
 use Rattle.nl_tree.specs.declared.reply.Reply.TheVariants.{Count, Fault as FaultAnswer, No}
@@ -14,7 +13,7 @@ use Rattle.nl_answering.proofs.writing.write.Goals as goal
 
 pub returns-in-Done-clause-answers : goal.returns-in-Done-clause-answers
 returns-in-Done-clause-answers g c =
-    let G = ghosts g.row.M g.M.Nand g.M.Nand-dict in
+    let G = g.D.Counts in
     let u = c.args.core.now in
     let v = c.write_call-written.new.core in
     let e = c.in-Done.ensures.ends in
@@ -26,7 +25,7 @@ returns-in-Done-clause-answers g c =
 
 pub returns-in-No-clause-answers : goal.returns-in-No-clause-answers
 returns-in-No-clause-answers g c =
-    let G = ghosts g.row.M g.M.Nand g.M.Nand-dict in
+    let G = g.D.Counts in
     let u = c.args.core.now in
     let v = c.write_call-written.new.core in
     let w = c.undone.new.core in
@@ -34,30 +33,30 @@ returns-in-No-clause-answers g c =
     let d = c.undone.ensures in
     let is = writing_is c.args.call.now c.requires.writing in
     let x = written_no G c.args.worker c.args.call.now u w c.args.files is.0 is.1 (c.in-No.ensures.files ∙ sym (goes_counted G 0 v w d.goes c.pages_stay_as_many.ensures)) (ends_then c.args.worker u.flight v.flight w.flight e.others d.line)
-    c.in-No.refusal _ d.formed d.core (goes_then G u v w _ 0 e.undone d.goes) c.requires.can.runs e.answers in
+    c.in-No.refusal _ d.core (goes_then G u v w _ 0 e.undone d.goes) c.requires.can.runs e.answers in
     subst (λ r. AnswersCall G c.args.worker c.args.call.now u w r [] c.undone.result.files) (sym d.answer.0) (subst (λ n. AnswersCall G c.args.worker c.args.call.now u w (No c.in-No.refusal) [] n) (sym d.answer.1) x)
 
 pub returns-in-Lost-clause-answers : goal.returns-in-Lost-clause-answers
 returns-in-Lost-clause-answers g c =
-    let G = ghosts g.row.M g.M.Nand g.M.Nand-dict in
+    let G = g.D.Counts in
     let u = c.args.core.now in
     let v = c.write_call-written.new.core in
     let w = c.undone-in-Lost.new.core in
     let e = c.in-Lost.ensures.ends in
     let d = c.undone-in-Lost.ensures in
     let f = Edamaged c.in-Lost.wanted c.in-Lost.found in
-    let x = meets_fault G c.args.worker c.args.call.now _ u w c.args.files d.formed d.core (goes_then G u v w _ 0 e.undone d.goes) c.pages_stay_as_many.ensures c.requires.can.files_are (ends_then c.args.worker u.flight v.flight w.flight e.others d.line) [] refl
+    let x = meets_fault G c.args.worker c.args.call.now _ u w c.args.files d.core (goes_then G u v w _ 0 e.undone d.goes) c.pages_stay_as_many.ensures c.requires.can.files_are (ends_then c.args.worker u.flight v.flight w.flight e.others d.line) [] refl
     f (e.early.1, λ same. e.early.0 (sym same)) in
     subst (λ r. AnswersCall G c.args.worker c.args.call.now u w r [] c.undone-in-Lost.result.files) (sym d.answer.0) (subst (λ n. AnswersCall G c.args.worker c.args.call.now u w (FaultAnswer f) [] n) (sym d.answer.1) x)
 
 pub returns-in-Fault-clause-answers : goal.returns-in-Fault-clause-answers
 returns-in-Fault-clause-answers g c =
-    let G = ghosts g.row.M g.M.Nand g.M.Nand-dict in
+    let G = g.D.Counts in
     let u = c.args.core.now in
     let v = c.write_call-written.new.core in
     let w = c.undone-in-Fault.new.core in
     let e = c.in-Fault.ensures.ends in
     let d = c.undone-in-Fault.ensures in
-    let x = fails G c.args.worker c.args.call.now _ u w c.args.files d.formed d.core (goes_then G u v w _ 0 e.undone d.goes) c.pages_stay_as_many.ensures c.requires.can.files_are (ends_then c.args.worker u.flight v.flight w.flight e.others d.line) [] refl
+    let x = fails G c.args.worker c.args.call.now _ u w c.args.files d.core (goes_then G u v w _ 0 e.undone d.goes) c.pages_stay_as_many.ensures c.requires.can.files_are (ends_then c.args.worker u.flight v.flight w.flight e.others d.line) [] refl
     c.undone-in-Fault.result.reply (d.answer.0 ∙ (c.failed-reply.ensures ∙ ap (λ n. FaultAnswer (Eio n)) (sym d.faults))) (rose_on G u v w d.goes e.early) in
     subst (λ n. AnswersCall G c.args.worker c.args.call.now u w c.undone-in-Fault.result.reply [] n) (sym d.answer.1) x

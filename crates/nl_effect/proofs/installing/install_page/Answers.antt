@@ -1,6 +1,5 @@
 use Rattle.std.proofs.Common.{◌≡◌, sym, subst}
 use Rattle.std.proofs.lemmas.Option.{get_or_from_slice_get}
-use Rattle.nl_device.specs.contracts.counts.DeviceCounts.TheImpl.{ghosts}
 use Rattle.nl_flight.specs.Flight.{of_worker}
 use Rattle.nl_flight.specs.declared.page.FlightPage.{FlightPage}
 use Rattle.nl_running.specs.Running.{stored_on}
@@ -10,7 +9,7 @@ use Rattle.nl_effect.proofs.installing.install_page.Goals as goal
 
 pub take_page-requires : goal.take_page-requires
 take_page-requires g c =
-    let G = ghosts g.row.M g.M.Nand g.M.Nand-dict in
+    let G = g.D.Counts in
     let v = c.args.core.now in
     let page : FlightPage = record { index = c.in-Some.index; at = c.in-Some.at; tag = c.in-Some.field-0-2 } in
     let is : page_in v c.args.worker c.args.place ≡ page = get_or_from_slice_get (of_worker v.flight c.args.worker).pages c.args.place page _ c.in-Some.ensures.some in
@@ -36,7 +35,7 @@ take_page-requires g c =
 
 pub returns : goal.returns
 returns g c =
-    let G = ghosts g.row.M g.M.Nand g.M.Nand-dict in
+    let G = g.D.Counts in
     let v = c.args.core.now in
     let page : FlightPage = record { index = c.in-Some.index; at = c.in-Some.at; tag = c.in-Some.field-0-2 } in
     let is : page_in v c.args.worker c.args.place ≡ page = get_or_from_slice_get (of_worker v.flight c.args.worker).pages c.args.place page _ c.in-Some.ensures.some in
@@ -49,7 +48,6 @@ returns g c =
     let e = c.take_page.ensures in
     let freed = e.freeing (stored_on G v.device) in
     record {
-      formed = c.requires.formed;
       core = core_after G v c.args.worker c.args.place c.args.ino c.args.size page c.args.rec.now n.rec n.meta n.nodes n.freeing c.requires.core c.requires.lines c.requires.known at hand of room volume e.taken freed e.left c.device_stands.ensures.pages;
       installs = subst (λ (p : FlightPage). InstallsPage G c.args.ino c.args.size p c.args.rec.now n.rec v (record v { meta = n.meta; nodes = n.nodes; freeing = n.freeing })) (sym is)
           (installs_page G v c.args.worker c.args.place c.args.ino c.args.size page c.args.rec.now n.rec n.meta n.nodes n.freeing c.requires.core c.requires.lines c.requires.known at hand of room volume e.taken freed e.left c.device_stands.ensures.pages);

@@ -1,21 +1,20 @@
-use Rattle.nl_device.specs.contracts.counts.DeviceCounts.TheImpl.{ghosts}
 use Rattle.nl_effect.proofs.Stepping.{reads_are_alike, steps_are_cores, steps_go, steps_leave, steps_run, steps_then}
 use Rattle.nl_effect.proofs.laws.steps_go_on.Goals as goal
 
 pub returns-clause-cores : goal.returns-clause-cores
-returns-clause-cores g c = steps_are_cores (ghosts g.row.M g.M.Nand g.M.Nand-dict)
+returns-clause-cores g c = steps_are_cores g.D.Counts
 
 pub returns-clause-runs : goal.returns-clause-runs
-returns-clause-runs g c = steps_run (ghosts g.row.M g.M.Nand g.M.Nand-dict)
+returns-clause-runs g c = steps_run g.D.Counts
 
 pub returns-clause-trees : goal.returns-clause-trees
-returns-clause-trees g c = steps_go (ghosts g.row.M g.M.Nand g.M.Nand-dict)
+returns-clause-trees g c = steps_go g.D.Counts
 
 pub returns-clause-left : goal.returns-clause-left
-returns-clause-left g c = steps_leave (ghosts g.row.M g.M.Nand g.M.Nand-dict)
+returns-clause-left g c = steps_leave g.D.Counts
 
 pub returns-clause-after : goal.returns-clause-after
-returns-clause-after g c = steps_then (ghosts g.row.M g.M.Nand g.M.Nand-dict)
+returns-clause-after g c = steps_then g.D.Counts
 
 pub returns-clause-reads : goal.returns-clause-reads
-returns-clause-reads g c = reads_are_alike (ghosts g.row.M g.M.Nand g.M.Nand-dict)
+returns-clause-reads g c = reads_are_alike g.D.Counts

@@ -1,11 +1,11 @@
 use Rattle.std.proofs.Common.{◌≡◌, ℕ, Option, Some, None, length, ap, subst, refl, arith}
 use Rattle.std.proofs.lemmas.Option.{slice_get_within}
 use Rattle.std.specs.Prelude.{IsNone}
-use Rattle.nl_device.specs.contracts.counts.DeviceCounts.TheImpl.{ghosts}
 use Rattle.nl_core.specs.Core.{IsCore}
 use Rattle.nl_effect.specs.Installing.{with_landed}
 use Rattle.nl_effect.specs.Lines.{worker_pages}
-use Rattle.nl_effect.proofs.LineGoes.{core_at, few_pages, goes_on, hand_at, line_begins, lines_at, page_at, room_at, same_line}
+use Rattle.nl_filing.proofs.LinePages.{few_pages}
+use Rattle.nl_effect.proofs.LineGoes.{core_at, goes_on, hand_at, line_begins, lines_at, page_at, room_at, same_line}
 use Rattle.nl_effect.proofs.LineWritten.{line_done}
 use Rattle.nl_effect.proofs.lines.install_line.Goals as goal
 
@@ -16,10 +16,10 @@ no_page (Some x) none = absurd (none x refl)
 
 pub pages-init : goal.pages-init
 pages-init g c =
-    let G = ghosts g.row.M g.M.Nand g.M.Nand-dict in
+    let G = g.D.Counts in
     let v = c.args.core.now in
     record {
-      formed = c.requires.formed;
+      formed = c.requires.core.formed;
       goes = record {
         others = refl;
         line = c.requires.line;
@@ -29,13 +29,12 @@ pages-init g c =
 
 pub install_page-requires : goal.install_page-requires
 install_page-requires g c =
-    let G = ghosts g.row.M g.M.Nand g.M.Nand-dict in
+    let G = g.D.Counts in
     let v = c.args.core.now in
     let w = c.pages.core in
     let goes = c.pages.invariant.goes in
     let below = slice_get_within (worker_pages w c.args.worker) c.pages.place _ c.in-Some.ensures.some in
     record {
-      formed = c.pages.invariant.formed;
       core = core_at G v c.args.worker c.args.ino c.args.size c.args.rec.now w c.pages.rec c.pages.place goes;
       lines = lines_at G v c.args.worker c.args.ino c.args.size c.args.rec.now w c.pages.rec c.pages.place goes c.requires.core.flight;
       known = c.requires.known;
@@ -48,19 +47,19 @@ install_page-requires g c =
 
 pub pages-preserved : goal.pages-preserved
 pages-preserved g c =
-    let G = ghosts g.row.M g.M.Nand g.M.Nand-dict in
+    let G = g.D.Counts in
     let v = c.args.core.now in
     let w = c.pages.core in
     let goes = c.pages.invariant.goes in
     let below = slice_get_within (worker_pages w c.args.worker) c.pages.place _ c.in-Some.ensures.some in
     record {
-      formed = c.install_page.ensures.formed;
+      formed = c.install_page.ensures.core.formed;
       goes = goes_on G v c.args.worker c.args.ino c.args.size c.args.rec.now w c.pages.rec c.pages.place goes below c.install_page.new.core c.install_page.new.rec c.install_page.ensures.installs c.install_page.ensures.core;
     }
 
 pub pages-smaller : goal.pages-smaller
 pages-smaller g c =
-    let G = ghosts g.row.M g.M.Nand g.M.Nand-dict in
+    let G = g.D.Counts in
     let v = c.args.core.now in
     let w = c.pages.core in
     let below = slice_get_within (worker_pages w c.args.worker) c.pages.place _ c.in-Some.ensures.some in
@@ -69,7 +68,7 @@ pages-smaller g c =
 
 pub overflow_add-place : goal.overflow_add-place
 overflow_add-place g c =
-    let G = ghosts g.row.M g.M.Nand g.M.Nand-dict in
+    let G = g.D.Counts in
     let v = c.args.core.now in
     let w = c.pages.core in
     let below = slice_get_within (worker_pages w c.args.worker) c.pages.place _ c.in-Some.ensures.some in
@@ -78,7 +77,7 @@ overflow_add-place g c =
 
 pub end_line-requires : goal.end_line-requires
 end_line-requires g c =
-    let G = ghosts g.row.M g.M.Nand g.M.Nand-dict in
+    let G = g.D.Counts in
     let v = c.args.core.now in
     let w = c.pages.core in
     let goes = c.pages.invariant.goes in
@@ -86,7 +85,6 @@ end_line-requires g c =
     let same = ap length (same_line G v c.args.worker c.args.ino c.args.size c.args.rec.now w c.pages.rec c.pages.place goes) in
     let within = goes.at.within in
     record {
-      formed = c.pages.invariant.formed;
       core = subst (λ (k : ℕ). IsCore G (with_landed w c.args.worker k)) (omega (arith, all, same, within)) (core_at G v c.args.worker c.args.ino c.args.size c.args.rec.now w c.pages.rec c.pages.place goes);
       lines = lines_at G v c.args.worker c.args.ino c.args.size c.args.rec.now w c.pages.rec c.pages.place goes c.requires.core.flight;
       known = c.requires.known;
@@ -94,11 +92,10 @@ end_line-requires g c =
 
 pub returns : goal.returns
 returns g c =
-    let G = ghosts g.row.M g.M.Nand g.M.Nand-dict in
+    let G = g.D.Counts in
     let v = c.args.core.now in
     let w = c.pages.core in
     record {
-      formed = c.end_line.ensures.formed;
       core = c.end_line.ensures.core;
       installs = line_done G v c.args.worker c.args.ino c.args.size c.args.rec.now c.pages.rec w c.end_line.new.core c.pages.place c.requires.core c.requires.some (c.get.ensures.none.0 (no_page c.get.result c.in_default.not-Some)) c.pages.invariant.goes c.end_line.ensures.ended;
     }

@@ -1,12 +1,11 @@
 use Rattle.std.proofs.Common.{◌-◌, length}
-use Rattle.nl_device.specs.contracts.counts.DeviceCounts.TheImpl.{ghosts}
 use Rattle.nl_effect.specs.Lines.{worker_pages}
 use Rattle.nl_effect.proofs.LineGoes.{LineGoes}
 use Rattle.nl_effect.proofs.lines.install_line.Given as goal
 
 abbrev pub invariant-pages : goal.invariant-pages
 invariant-pages g l =
-    let G = ghosts g.row.M g.M.Nand g.M.Nand-dict in
+    let G = g.D.Counts in
     record { formed : G.formed l.core.device; goes : LineGoes G l.initial.core l.worker l.ino l.size l.initial.rec l.core l.rec l.place }
 
 abbrev pub decreases-pages : goal.decreases-pages

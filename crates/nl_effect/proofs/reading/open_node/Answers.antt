@@ -1,6 +1,5 @@
 use Rattle.std.proofs.Common.{◌≡◌, sym, ap, ◌∙◌, is_some, inl, subst, arith, Some}
 use Rattle.nl_field.specs.declared.inode.InodeRec.{InodeRec}
-use Rattle.nl_device.specs.contracts.counts.DeviceCounts.TheImpl.{ghosts}
 use Rattle.nl_meta.proofs.Lists.{some_in}
 use Rattle.nl_running.specs.Running.{IsNodeOf}
 use Rattle.nl_running.proofs.Holds.{bounds-of}
@@ -11,7 +10,7 @@ use Rattle.nl_effect.proofs.reading.open_node.Goals as goal
 
 pub hold-requires-clause-needed : goal.hold-requires-clause-needed
 hold-requires-clause-needed g c =
-    let G = ghosts g.row.M g.M.Nand g.M.Nand-dict in
+    let G = g.D.Counts in
     let shape = G.shape c.args.core.now.device in
     let b = bounds-of shape c.device_stands.ensures.volume in
     let f = b.places in
@@ -20,7 +19,7 @@ hold-requires-clause-needed g c =
 
 pub get-requires-clause-spelled : goal.get-requires-clause-spelled
 get-requires-clause-spelled g c =
-    let G = ghosts g.row.M g.M.Nand g.M.Nand-dict in
+    let G = g.D.Counts in
     let v = c.args.core.now in
     let b = bounds-of (G.shape v.device) c.device_stands.ensures.volume in
     let used = c.requires.used.1 in
@@ -28,21 +27,21 @@ get-requires-clause-spelled g c =
 
 pub returns-in-Ok-clause-core : goal.returns-in-Ok-clause-core
 returns-in-Ok-clause-core g c =
-    let G = ghosts g.row.M g.M.Nand g.M.Nand-dict in
+    let G = g.D.Counts in
     let v = c.args.core.now in
     let e = c.in-Ok.ensures in
-    core_read G v c.hold.new.device c.hold.new.meta c.device_stands.ensures.volume c.device_stands-in-Ok.ensures.pages c.requires.core e.kept (let same = e.reads in omega (arith, same))
+    core_read G v c.hold.new.device c.hold.new.meta c.device_stands.ensures.volume c.hold.ensures.formed c.device_stands-in-Ok.ensures.pages c.requires.core e.kept (let same = e.reads in omega (arith, same))
 
 pub returns-in-Err-clause-core : goal.returns-in-Err-clause-core
 returns-in-Err-clause-core g c =
-    let G = ghosts g.row.M g.M.Nand g.M.Nand-dict in
+    let G = g.D.Counts in
     let v = c.args.core.now in
     let e = c.in-Err.ensures in
-    core_read G v c.hold.new.device c.hold.new.meta c.device_stands.ensures.volume c.device_stands-in-Err.ensures.pages c.requires.core e.kept (reads_rise G v.device c.hold.new.device (Some c.in-Err.stop) e.reads)
+    core_read G v c.hold.new.device c.hold.new.meta c.device_stands.ensures.volume c.hold.ensures.formed c.device_stands-in-Err.ensures.pages c.requires.core e.kept (reads_rise G v.device c.hold.new.device (Some c.in-Err.stop) e.reads)
 
 pub returns-in-Ok-clause-node : goal.returns-in-Ok-clause-node
 returns-in-Ok-clause-node g c =
-    let G = ghosts g.row.M g.M.Nand g.M.Nand-dict in
+    let G = g.D.Counts in
     let v = c.args.core.now in
     let b = bounds-of (G.shape v.device) c.device_stands.ensures.volume in
     let on = c.in-Ok.ensures.kept in

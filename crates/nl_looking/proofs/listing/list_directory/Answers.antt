@@ -1,15 +1,14 @@
-use Rattle.nl_device.specs.contracts.counts.DeviceCounts.TheImpl.{ghosts}
 use Rattle.nl_tree.specs.declared.reply.Reply.TheVariants.{Names}
 use Rattle.nl_looking.proofs.Ending.{ends-replied, stop-fault, stop-lost}
 use Rattle.nl_looking.proofs.listing.list_directory.Goals as goal
 
 pub returns-in-Listed-clause-ends : goal.returns-in-Listed-clause-ends
 returns-in-Listed-clause-ends g c =
-    ends-replied (ghosts g.row.M g.M.Nand g.M.Nand-dict) c.args.core.now.device c.list_names.new.core.device (Names c.in-Listed.count) c.in-Listed.ensures.reads
+    ends-replied g.D.Counts c.args.core.now.device c.list_names.new.core.device (Names c.in-Listed.count) c.in-Listed.ensures.reads
 
 pub returns-in-Lost-clause-ends : goal.returns-in-Lost-clause-ends
 returns-in-Lost-clause-ends g c =
-    stop-lost (ghosts g.row.M g.M.Nand g.M.Nand-dict) c.args.core.now.device c.list_names.new.core.device c.in-Lost.wanted c.in-Lost.found c.in-Lost.ensures.reads
+    stop-lost g.D.Counts c.args.core.now.device c.list_names.new.core.device c.in-Lost.wanted c.in-Lost.found c.in-Lost.ensures.reads
 
 pub returns-in-Fault-clause-ends : goal.returns-in-Fault-clause-ends
-returns-in-Fault-clause-ends g c = stop-fault (ghosts g.row.M g.M.Nand g.M.Nand-dict) c.args.core.now.device c.list_names.new.core.device c.in-Fault.ensures.reads
+returns-in-Fault-clause-ends g c = stop-fault g.D.Counts c.args.core.now.device c.list_names.new.core.device c.in-Fault.ensures.reads

@@ -1,22 +1,20 @@
 use Rattle.std.proofs.Common.{ℕ, ◌+◌, ◌≤◌, List, length, refl, sym, ap, subst, ◌∙◌, arith}
-use Rattle.nl_device.specs.contracts.counts.DeviceCounts.TheImpl.{ghosts}
 use Rattle.nl_core.specs.Core.{running_of}
-use Rattle.nl_effect.proofs.Fits.{stands}
+use Rattle.nl_filing.proofs.Fits.{stands}
 use Rattle.nl_files.specs.Reading.{file_page}
 use Rattle.nl_files.proofs.Filling.{file-size}
 use Rattle.nl_looking.specs.Pieces.{AddsBytes}
 use Rattle.nl_looking.proofs.Bytes.{bytes-more, none-read}
-use Rattle.nl_looking.proofs.Cores.{node-on, reads-none, reads-then, same-page}
+use Rattle.nl_effect.proofs.ReadCores.{node-on, reads-none, reads-then, same-page}
 use Rattle.nl_looking.proofs.Ending.{counted-after, done-no-fault, file-none}
 use Rattle.nl_looking.proofs.reading.read_pieces.Goals as goal
 
 pub loop-done-init : goal.loop-done-init
 loop-done-init g c =
-    let G = ghosts g.row.M g.M.Nand g.M.Nand-dict in
+    let G = g.D.Counts in
     let v = c.args.core.now in
     let none = ap (λ (bytes : List ℕ). length bytes) c.requires.nothing in
     record {
-      formed = c.requires.formed;
       core = c.requires.core;
       same = reads-none G v c.requires.core;
       faults = refl;
@@ -27,7 +25,7 @@ loop-done-init g c =
 
 pub overflow_add-at : goal.overflow_add-at
 overflow_add-at g c =
-    let G = ghosts g.row.M g.M.Nand g.M.Nand-dict in
+    let G = g.D.Counts in
     let v = c.args.core.now in
     let size = file-size c.args.rec.now (stands G v.device v.meta c.args.ino c.args.rec.now c.requires.core.journaled.runs c.requires.file).file in
     let below = c.loop-done-test.true in
@@ -36,7 +34,7 @@ overflow_add-at g c =
 
 pub read_piece-requires-clause-file : goal.read_piece-requires-clause-file
 read_piece-requires-clause-file g c =
-    let G = ghosts g.row.M g.M.Nand g.M.Nand-dict in
+    let G = g.D.Counts in
     record {
       is_node = node-on G c.args.core.now c.loop-done.core c.device_stands.ensures.volume c.loop-done.invariant.same c.args.ino c.args.rec.now c.requires.file.is_node;
       is_file = c.requires.file.is_file;
@@ -59,7 +57,7 @@ read_piece-requires-clause-room g c =
 
 pub loop-done-preserved : goal.loop-done-preserved
 loop-done-preserved g c =
-    let G = ghosts g.row.M g.M.Nand g.M.Nand-dict in
+    let G = g.D.Counts in
     let v = c.args.core.now in
     let w = c.loop-done.core in
     let is = c.loop-done.invariant in
@@ -69,7 +67,6 @@ loop-done-preserved g c =
     let len = is.len in
     let longer = e.len refl in
     record {
-      formed = e.formed;
       core = e.core;
       same = reads-then G v w c.device_stands.ensures.volume is.same c.read_piece.new.core e.same;
       faults = e.faults.stays tt done-no-fault ∙ is.faults;
@@ -83,11 +80,11 @@ loop-done-preserved g c =
 
 pub returns-in_default-clause-same : goal.returns-in_default-clause-same
 returns-in_default-clause-same g c =
-    reads-then (ghosts g.row.M g.M.Nand g.M.Nand-dict) c.args.core.now c.loop-done.core c.device_stands.ensures.volume c.loop-done.invariant.same c.read_piece.new.core c.read_piece.ensures.same
+    reads-then g.D.Counts c.args.core.now c.loop-done.core c.device_stands.ensures.volume c.loop-done.invariant.same c.read_piece.new.core c.read_piece.ensures.same
 
 pub returns-in_default-clause-faults : goal.returns-in_default-clause-faults
 returns-in_default-clause-faults g c =
-    counted-after (ghosts g.row.M g.M.Nand g.M.Nand-dict) c.args.core.now.device c.loop-done.core.device c.read_piece.new.core.device _ c.loop-done.invariant.faults c.read_piece.ensures.faults
+    counted-after g.D.Counts c.args.core.now.device c.loop-done.core.device c.read_piece.new.core.device _ c.loop-done.invariant.faults c.read_piece.ensures.faults
 
 pub returns-clause-faults : goal.returns-clause-faults
-returns-clause-faults g c = file-none (ghosts g.row.M g.M.Nand g.M.Nand-dict) c.args.core.now.device c.loop-done.core.device c.loop-done.invariant.faults
+returns-clause-faults g c = file-none g.D.Counts c.args.core.now.device c.loop-done.core.device c.loop-done.invariant.faults

@@ -1,5 +1,4 @@
 use Rattle.std.proofs.Common.{◌≡◌, ◌-◌, ◌≤◌, length}
-use Rattle.nl_device.specs.contracts.counts.DeviceCounts.TheImpl.{ghosts}
 use Rattle.nl_core.specs.Core.{IsCore, running_of}
 use Rattle.nl_files.specs.Reading.{AreBytesFrom, file_page}
 use Rattle.nl_effect.specs.Steps.{ReadsOn}
@@ -10,12 +9,11 @@ decreases-loop-done g l = l.count - l.done
 
 abbrev pub invariant-loop-done : goal.invariant-loop-done
 invariant-loop-done g l = record {
-  formed : (ghosts g.row.M g.M.Nand g.M.Nand-dict).formed l.core.device;
-  core : IsCore (ghosts g.row.M g.M.Nand g.M.Nand-dict) l.core;
-  same : ReadsOn (ghosts g.row.M g.M.Nand g.M.Nand-dict) l.initial.core l.core;
-  faults : (ghosts g.row.M g.M.Nand g.M.Nand-dict).read_faults l.core.device ≡ (ghosts g.row.M g.M.Nand g.M.Nand-dict).read_faults l.initial.core.device;
+  core : IsCore g.D.Counts l.core;
+  same : ReadsOn g.D.Counts l.initial.core l.core;
+  faults : g.D.Counts.read_faults l.core.device ≡ g.D.Counts.read_faults l.initial.core.device;
   len : length l.out ≡ l.done;
   most : l.done ≤ l.count;
-  bytes : (ghosts g.row.M g.M.Nand g.M.Nand-dict).tells
-      → AreBytesFrom (file_page (ghosts g.row.M g.M.Nand g.M.Nand-dict) l.initial.core.device (running_of (ghosts g.row.M g.M.Nand g.M.Nand-dict) l.initial.core) l.rec) l.from l.out;
+  bytes : g.D.Counts.tells
+      → AreBytesFrom (file_page g.D.Counts l.initial.core.device (running_of g.D.Counts l.initial.core) l.rec) l.from l.out;
 }

@@ -1,4 +1,4 @@
-use Rattle.nl_looking.proofs.Due.{dir-kind}
+use Rattle.nl_filing.proofs.Directories.{dir-kind}
 use Rattle.nl_looking.proofs.spots.open_spot.Goals as goal
 
 pub returns-in-File-clause-was : goal.returns-in-File-clause-was

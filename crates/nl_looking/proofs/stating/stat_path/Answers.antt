@@ -1,5 +1,4 @@
 use Rattle.std.proofs.Common.{ℕ, [], sym, subst}
-use Rattle.nl_device.specs.contracts.counts.DeviceCounts.TheImpl.{ghosts}
 use Rattle.nl_dir.proofs.Records.{spelled-dir}
 use Rattle.nl_meta.proofs.AddressProofs.{inode_spelled}
 use Rattle.nl_tree.specs.Replay.{Answers}
@@ -8,7 +7,7 @@ use Rattle.nl_tree.specs.declared.call.Call.TheVariants.{Stat}
 use Rattle.nl_tree.specs.declared.reply.Reply.TheVariants.{Dir, No}
 use Rattle.nl_core.specs.Core.{running_of}
 use Rattle.nl_looking.proofs.Answers.{stat-directory, stat-refused}
-use Rattle.nl_looking.proofs.Cores.{node-back, reads-then}
+use Rattle.nl_effect.proofs.ReadCores.{node-back, reads-then}
 use Rattle.nl_looking.proofs.Due.{stat-due}
 use Rattle.nl_looking.proofs.Ending.{ends-after, ends-replied, stop-fault, stop-lost}
 use Rattle.nl_looking.proofs.Replies.{plain-file}
@@ -24,11 +23,11 @@ entries_in-requires g c =
 
 pub returns-in-File-clause-same : goal.returns-in-File-clause-same
 returns-in-File-clause-same g c =
-    reads-then (ghosts g.row.M g.M.Nand g.M.Nand-dict) c.args.core.now c.find_spot.new.core c.device_stands.ensures.volume c.in-File.ensures.same c.stat_file.new.core c.stat_file.ensures.same
+    reads-then g.D.Counts c.args.core.now c.find_spot.new.core c.device_stands.ensures.volume c.in-File.ensures.same c.stat_file.new.core c.stat_file.ensures.same
 
 pub returns-in-File-clause-answer : goal.returns-in-File-clause-answer
 returns-in-File-clause-answer g c =
-    let G = ghosts g.row.M g.M.Nand g.M.Nand-dict in
+    let G = g.D.Counts in
     let v = c.args.core.now in
     λ tells page_of_stamp tree runs. stat-due G v c.find_spot.new.core c.device_stands.ensures.volume c.in-File.ensures.same tells page_of_stamp tree runs c.args.path.now c.in-File.field-0 c.in-File.rec c.stat_file.result
     (c.in-File.ensures.spot page_of_stamp tree runs) c.stat_file.ensures.file
@@ -38,11 +37,11 @@ returns-in-File-clause-plain g c = plain-file c.stat_file.result _ c.stat_file.e
 
 pub returns-in-File-clause-ends : goal.returns-in-File-clause-ends
 returns-in-File-clause-ends g c =
-    ends-after (ghosts g.row.M g.M.Nand g.M.Nand-dict) c.args.core.now.device c.find_spot.new.core.device c.stat_file.new.core.device c.stat_file.result c.in-File.ensures.reads c.stat_file.ensures.ends
+    ends-after g.D.Counts c.args.core.now.device c.find_spot.new.core.device c.stat_file.new.core.device c.stat_file.result c.in-File.ensures.reads c.stat_file.ensures.ends
 
 pub returns-in-Dir-clause-answer : goal.returns-in-Dir-clause-answer
 returns-in-Dir-clause-answer g c =
-    let G = ghosts g.row.M g.M.Nand g.M.Nand-dict in
+    let G = g.D.Counts in
     let v = c.args.core.now in
     let d = c.in-Dir.ensures.node in
     λ tells page_of_stamp tree runs. (
@@ -54,21 +53,21 @@ returns-in-Dir-clause-answer g c =
 
 pub returns-in-Dir-clause-ends : goal.returns-in-Dir-clause-ends
 returns-in-Dir-clause-ends g c =
-    ends-replied (ghosts g.row.M g.M.Nand g.M.Nand-dict) c.args.core.now.device c.find_spot.new.core.device (Dir c.entries_in.result) c.in-Dir.ensures.reads
+    ends-replied g.D.Counts c.args.core.now.device c.find_spot.new.core.device (Dir c.entries_in.result) c.in-Dir.ensures.reads
 
 pub returns-in-No-clause-answer : goal.returns-in-No-clause-answer
 returns-in-No-clause-answer g c =
-    let G = ghosts g.row.M g.M.Nand g.M.Nand-dict in
+    let G = g.D.Counts in
     let v = c.args.core.now in
     λ tells page_of_stamp tree runs. stat-refused (G.shape v.device) (running_of G v) page_of_stamp tree runs.runs c.args.path.now c.in-No.refusal (c.in-No.ensures.spot page_of_stamp tree runs)
 
 pub returns-in-No-clause-ends : goal.returns-in-No-clause-ends
 returns-in-No-clause-ends g c =
-    ends-replied (ghosts g.row.M g.M.Nand g.M.Nand-dict) c.args.core.now.device c.find_spot.new.core.device (No c.in-No.refusal) c.in-No.ensures.reads
+    ends-replied g.D.Counts c.args.core.now.device c.find_spot.new.core.device (No c.in-No.refusal) c.in-No.ensures.reads
 
 pub returns-in-Lost-clause-ends : goal.returns-in-Lost-clause-ends
 returns-in-Lost-clause-ends g c =
-    stop-lost (ghosts g.row.M g.M.Nand g.M.Nand-dict) c.args.core.now.device c.find_spot.new.core.device c.in-Lost.wanted c.in-Lost.found c.in-Lost.ensures.reads
+    stop-lost g.D.Counts c.args.core.now.device c.find_spot.new.core.device c.in-Lost.wanted c.in-Lost.found c.in-Lost.ensures.reads
 
 pub returns-in-Fault-clause-ends : goal.returns-in-Fault-clause-ends
-returns-in-Fault-clause-ends g c = stop-fault (ghosts g.row.M g.M.Nand g.M.Nand-dict) c.args.core.now.device c.find_spot.new.core.device c.in-Fault.ensures.reads
+returns-in-Fault-clause-ends g c = stop-fault g.D.Counts c.args.core.now.device c.find_spot.new.core.device c.in-Fault.ensures.reads

@@ -1,6 +1,5 @@
 use Rattle.std.proofs.Common.{ℕ, List, [], Option, Some, sym, ap, subst, ◌∙◌}
 use Rattle.std.specs.Prelude.{IfSome}
-use Rattle.nl_device.specs.contracts.counts.DeviceCounts.TheImpl.{ghosts}
 use Rattle.nl_field.specs.Graph.{Graph}
 use Rattle.nl_field.specs.declared.pointer.Pointer.{Pointer}
 use Rattle.nl_running.specs.Reading.{stop_of}
@@ -11,14 +10,14 @@ use Rattle.nl_naming.proofs.gathering.gather_lost.Goals as goal
 
 pub gather_node-requires-clause-used : goal.gather_node-requires-clause-used
 gather_node-requires-clause-used g c =
-    let G = ghosts g.row.M g.M.Nand g.M.Nand-dict in
+    let G = g.D.Counts in
     let v = c.args.core.now in
     let e = c.in-Ok.ensures in
     then_used G v c.find_lost.new.core c.device_stands.ensures.volume e.same c.in-Some.ino (subst (λ (o : Option ℕ). IfSome o (IsUsed G v.device v.meta)) c.in-Some.is e.used)
 
 pub returns-in-Some-clause-done : goal.returns-in-Some-clause-done
 returns-in-Some-clause-done g c =
-    let G = ghosts g.row.M g.M.Nand g.M.Nand-dict in
+    let G = g.D.Counts in
     let v = c.args.core.now in
     let w = c.find_lost.new.core in
     let u = c.gather_node.new.core in
@@ -29,7 +28,7 @@ returns-in-Some-clause-done g c =
 
 pub returns-in-Some-clause-opened : goal.returns-in-Some-clause-opened
 returns-in-Some-clause-opened g c =
-    let G = ghosts g.row.M g.M.Nand g.M.Nand-dict in
+    let G = g.D.Counts in
     let v = c.args.core.now in
     let u = c.gather_node.new.core in
     let e = c.in-Ok.ensures in
@@ -38,18 +37,18 @@ returns-in-Some-clause-opened g c =
 
 pub returns-in-Some-clause-stopped : goal.returns-in-Some-clause-stopped
 returns-in-Some-clause-stopped g c =
-    let G = ghosts g.row.M g.M.Nand g.M.Nand-dict in
+    let G = g.D.Counts in
     on_err c.gather_node.result (λ h. then_gathers G c.args.core.now c.find_lost.new.core c.device_stands.ensures.volume c.in-Ok.ensures.same c.gather_node.new.core [] h) c.gather_node.ensures.stopped
 
 pub returns-in-Some-clause-reads : goal.returns-in-Some-clause-reads
 returns-in-Some-clause-reads g c =
-    let G = ghosts g.row.M g.M.Nand g.M.Nand-dict in
+    let G = g.D.Counts in
     let e = c.in-Ok.ensures in
     then_reads G c.args.core.now.device c.find_lost.new.core.device c.gather_node.new.core.device e.same.runs.reads.medium.virtual.same_stamps (stop_of c.gather_node.result) e.reads c.gather_node.ensures.reads
 
 pub returns-in-None-clause-done : goal.returns-in-None-clause-done
 returns-in-None-clause-done g c =
-    let G = ghosts g.row.M g.M.Nand g.M.Nand-dict in
+    let G = g.D.Counts in
     let v = c.args.core.now in
     let w = c.find_lost.new.core in
     let e = c.in-Ok.ensures in
@@ -57,10 +56,10 @@ returns-in-None-clause-done g c =
 
 pub returns-in-None-clause-opened : goal.returns-in-None-clause-opened
 returns-in-None-clause-opened g c =
-    let G = ghosts g.row.M g.M.Nand g.M.Nand-dict in
+    let G = g.D.Counts in
     subst (λ (o : Option ℕ). IfSome o (OpensNode G c.args.core.now c.find_lost.new.core)) (sym c.in-None.is ∙ c.in-Ok.ensures.node) tt
 
 pub returns-in-Err-clause-stopped : goal.returns-in-Err-clause-stopped
 returns-in-Err-clause-stopped g c =
-    let G = ghosts g.row.M g.M.Nand g.M.Nand-dict in
+    let G = g.D.Counts in
     gathers_none G c.args.core.now c.find_lost.new.core c.device_stands.ensures.volume c.in-Err.ensures.same

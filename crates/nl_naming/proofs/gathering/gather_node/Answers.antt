@@ -1,5 +1,4 @@
 use Rattle.std.proofs.Common.{List, [], Some, is_some, sym, ap, subst, ◌∙◌}
-use Rattle.nl_device.specs.contracts.counts.DeviceCounts.TheImpl.{ghosts}
 use Rattle.nl_field.specs.Graph.{Graph}
 use Rattle.nl_field.specs.declared.inode.Kind.TheVariants.{Dir, Unused}
 use Rattle.nl_field.specs.declared.pointer.Pointer.{Pointer}
@@ -11,7 +10,7 @@ use Rattle.nl_naming.proofs.gathering.gather_node.Goals as goal
 
 pub returns-in-File-clause-done : goal.returns-in-File-clause-done
 returns-in-File-clause-done g c =
-    let G = ghosts g.row.M g.M.Nand g.M.Nand-dict in
+    let G = g.D.Counts in
     let v = c.args.core.now in
     let w = c.open_node.new.core in
     let u = c.gather_file.new.core in
@@ -27,18 +26,18 @@ returns-in-File-clause-opened g c =
 
 pub returns-in-File-clause-stopped : goal.returns-in-File-clause-stopped
 returns-in-File-clause-stopped g c =
-    let G = ghosts g.row.M g.M.Nand g.M.Nand-dict in
+    let G = g.D.Counts in
     on_err c.gather_file.result (λ h. then_gathers G c.args.core.now c.open_node.new.core c.device_stands.ensures.volume c.in-Ok.ensures.same c.gather_file.new.core [] h) c.gather_file.ensures.stopped
 
 pub returns-in-File-clause-reads : goal.returns-in-File-clause-reads
 returns-in-File-clause-reads g c =
-    let G = ghosts g.row.M g.M.Nand g.M.Nand-dict in
+    let G = g.D.Counts in
     let e = c.in-Ok.ensures in
     then_reads G c.args.core.now.device c.open_node.new.core.device c.gather_file.new.core.device e.same.runs.reads.medium.virtual.same_stamps (stop_of c.gather_file.result) e.reads c.gather_file.ensures.reads
 
 pub returns-in-Dir-clause-done : goal.returns-in-Dir-clause-done
 returns-in-Dir-clause-done g c =
-    let G = ghosts g.row.M g.M.Nand g.M.Nand-dict in
+    let G = g.D.Counts in
     let v = c.args.core.now in
     let w = c.open_node.new.core in
     let e = c.in-Ok.ensures in
@@ -49,7 +48,7 @@ returns-in-Dir-clause-opened g c = record { used = c.requires.used; there = c.in
 
 pub returns-in-Unused-clause-done : goal.returns-in-Unused-clause-done
 returns-in-Unused-clause-done g c =
-    let G = ghosts g.row.M g.M.Nand g.M.Nand-dict in
+    let G = g.D.Counts in
     let v = c.args.core.now in
     let w = c.open_node.new.core in
     let e = c.in-Ok.ensures in
@@ -60,5 +59,5 @@ returns-in-Unused-clause-opened g c = record { used = c.requires.used; there = c
 
 pub returns-in-Err-clause-stopped : goal.returns-in-Err-clause-stopped
 returns-in-Err-clause-stopped g c =
-    let G = ghosts g.row.M g.M.Nand g.M.Nand-dict in
+    let G = g.D.Counts in
     gathers_none G c.args.core.now c.open_node.new.core c.device_stands.ensures.volume c.in-Err.ensures.same

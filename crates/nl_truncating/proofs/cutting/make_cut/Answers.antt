@@ -1,14 +1,13 @@
 use Rattle.std.proofs.Common.{◌≡◌, ◌/◌, ◌%◌, length, take, refl, rules}
 use Rattle.std.proofs.lemmas.Result.{IfOk-weaker}
-use Rattle.nl_device.specs.contracts.counts.DeviceCounts.TheImpl.{ghosts}
-use Rattle.nl_writing.specs.Making.{HasPage}
+use Rattle.nl_effect.specs.Paging.{HasPage}
 use Rattle.nl_truncating.specs.Truncating.{HasCutPage}
 use Rattle.nl_truncating.proofs.CutMade.{cut_made}
 use Rattle.nl_truncating.proofs.cutting.make_cut.Goals as goal
 
 pub returns-clause-made : goal.returns-clause-made
 returns-clause-made g c =
-    let G = ghosts g.row.M g.M.Nand g.M.Nand-dict in
+    let G = g.D.Counts in
     let v = c.args.core.now in
     let bytes = c.read_page-read.new.out in
     let size = c.args.size in

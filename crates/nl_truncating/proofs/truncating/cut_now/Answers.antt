@@ -1,16 +1,16 @@
 use Rattle.std.proofs.Common.{◌≤◌, ◌+◌, ◌/◌, ◌∙◌, ℕ, List, length, is_some, sym, ap, subst, Some}
 use Rattle.std.proofs.lemmas.Result.{IfOk-weaker, err_from_is_err_and}
-use Rattle.nl_device.specs.contracts.counts.DeviceCounts.TheImpl.{ghosts}
 use Rattle.nl_inode.specs.Nodes.{page_of_node}
 use Rattle.nl_meta.specs.Pages.{besides_0, most}
 use Rattle.nl_running.specs.Reading.{stop_of}
 use Rattle.nl_effect.specs.Truncating.{CutsFileTo}
+use Rattle.nl_effect.proofs.Early.{early-then}
+use Rattle.nl_effect.proofs.Going.{files_on}
+use Rattle.nl_effect.proofs.LeavesTree.{reads_go}
+use Rattle.nl_effect.proofs.OnlyReads.{file-on}
+use Rattle.nl_effect.proofs.ReadCores.{reads-then}
 use Rattle.nl_truncating.specs.Truncating.{IsCut, IsUncut}
 use Rattle.nl_truncating.proofs.CutReads.{cut_then, err_weaker, partial_read, room_for, uncut_read, uncut_then}
-use Rattle.nl_writing.proofs.Early.{early-then}
-use Rattle.nl_writing.proofs.Going.{files_on}
-use Rattle.nl_writing.proofs.LeavesTree.{reads_go}
-use Rattle.nl_writing.proofs.Reading.{file-on, reads-then}
 use Rattle.nl_truncating.proofs.truncating.cut_now.Goals as goal
 
 pub open_file-requires-clause-file : goal.open_file-requires-clause-file
@@ -18,7 +18,7 @@ open_file-requires-clause-file g c = (c.requires.ready.rec, c.requires.ready.fil
 
 pub returns-in_err-rec-clause-uncut : goal.returns-in_err-rec-clause-uncut
 returns-in_err-rec-clause-uncut g c =
-    let G = ghosts g.row.M g.M.Nand g.M.Nand-dict in
+    let G = g.D.Counts in
     let u = c.args.core.now in
     let v = c.open_file.new.core in
     let e = c.open_file.ensures in
@@ -27,7 +27,7 @@ returns-in_err-rec-clause-uncut g c =
 
 pub returns-in_err-hold_end-clause-uncut : goal.returns-in_err-hold_end-clause-uncut
 returns-in_err-hold_end-clause-uncut g c =
-    let G = ghosts g.row.M g.M.Nand g.M.Nand-dict in
+    let G = g.D.Counts in
     let u = c.args.core.now in
     let v = c.open_file.new.core in
     let w = c.hold_end.new.core in
@@ -38,13 +38,13 @@ returns-in_err-hold_end-clause-uncut g c =
 
 pub returns-in_err-hold_end-clause-early : goal.returns-in_err-hold_end-clause-early
 returns-in_err-hold_end-clause-early g c =
-    let G = ghosts g.row.M g.M.Nand g.M.Nand-dict in
+    let G = g.D.Counts in
     let p = err_from_is_err_and c.from_residual-in_err-hold_end.result c.from_residual-in_err-hold_end.ensures.1 in
     rw (p.1, p.2) (early-then G c.args.core.now c.open_file.new.core c.hold_end.new.core (Some c.in_err-hold_end.field-0.0) c.open_file.ensures.same c.in_err-hold_end.ensures.early)
 
 pub cut_held-requires-clause-hand : goal.cut_held-requires-clause-hand
 cut_held-requires-clause-hand g c =
-    let G = ghosts g.row.M g.M.Nand g.M.Nand-dict in
+    let G = g.D.Counts in
     let u = c.args.core.now in
     let v = c.open_file.new.core in
     let w = c.hold_end.new.core in
@@ -59,7 +59,7 @@ cut_held-requires-clause-hand g c =
 
 pub cut_held-requires-clause-partial : goal.cut_held-requires-clause-partial
 cut_held-requires-clause-partial g c =
-    let G = ghosts g.row.M g.M.Nand g.M.Nand-dict in
+    let G = g.D.Counts in
     let u = c.args.core.now in
     let v = c.open_file.new.core in
     let w = c.hold_end.new.core in
@@ -71,7 +71,7 @@ cut_held-requires-clause-partial g c =
 
 pub cut_held-requires-clause-room : goal.cut_held-requires-clause-room
 cut_held-requires-clause-room g c =
-    let G = ghosts g.row.M g.M.Nand g.M.Nand-dict in
+    let G = g.D.Counts in
     let u = c.args.core.now in
     let v = c.open_file.new.core in
     let w = c.hold_end.new.core in
@@ -81,17 +81,17 @@ cut_held-requires-clause-room g c =
 
 pub cut_held-requires-clause-files : goal.cut_held-requires-clause-files
 cut_held-requires-clause-files g c =
-    let G = ghosts g.row.M g.M.Nand g.M.Nand-dict in
+    let G = g.D.Counts in
     let u = c.args.core.now in
     let v = c.open_file.new.core in
     let w = c.hold_end.new.core in
     let e = c.open_file.ensures in
     let h = c.hold_end.ensures in
-    files_on G 0 u w (reads_go G u w c.requires.core e.volume h.stores (reads-then G u v e.volume e.same w h.same)) c.args.files c.requires.files
+    files_on G 0 u w (reads_go G u w c.requires.core e.volume h.core.formed h.stores (reads-then G u v e.volume e.same w h.same)) c.args.files c.requires.files
 
 pub returns-clause-cut : goal.returns-clause-cut
 returns-clause-cut g c =
-    let G = ghosts g.row.M g.M.Nand g.M.Nand-dict in
+    let G = g.D.Counts in
     let u = c.args.core.now in
     let v = c.open_file.new.core in
     let w = c.hold_end.new.core in
@@ -106,7 +106,7 @@ returns-clause-cut g c =
 
 pub returns-clause-uncut : goal.returns-clause-uncut
 returns-clause-uncut g c =
-    let G = ghosts g.row.M g.M.Nand g.M.Nand-dict in
+    let G = g.D.Counts in
     let u = c.args.core.now in
     let v = c.open_file.new.core in
     let w = c.hold_end.new.core in
@@ -118,7 +118,7 @@ returns-clause-uncut g c =
 
 pub returns-clause-early : goal.returns-clause-early
 returns-clause-early g c =
-    let G = ghosts g.row.M g.M.Nand g.M.Nand-dict in
+    let G = g.D.Counts in
     let u = c.args.core.now in
     let w = c.hold_end.new.core in
     let e = c.open_file.ensures in

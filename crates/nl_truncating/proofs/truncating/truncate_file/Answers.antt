@@ -1,25 +1,24 @@
 use Rattle.std.proofs.Common.{◌+◌, ◌^◌, inr, Some, arith}
 use Rattle.std.proofs.lemmas.Result.{IfOk-weaker, err_from_is_err_and}
-use Rattle.nl_device.specs.contracts.counts.DeviceCounts.TheImpl.{ghosts}
 use Rattle.nl_running.specs.Reading.{stop_of}
 use Rattle.nl_core.specs.Goes.{Goes}
 use Rattle.nl_core.proofs.Onward.{goes_more, goes_then}
 use Rattle.nl_truncating.specs.Truncating.{CutsFile, IsCut, IsUncut}
 use Rattle.nl_truncating.proofs.CutPages.{can_cut_on}
 use Rattle.nl_truncating.proofs.CutReads.{err_weaker, others_either, some_on}
-use Rattle.nl_writing.proofs.Early.{within-early}
-use Rattle.nl_writing.proofs.Going.{files_on, others_same, others_then}
+use Rattle.nl_effect.proofs.Early.{within-early}
+use Rattle.nl_effect.proofs.Going.{files_on, others_same, others_then}
 use Rattle.nl_truncating.proofs.truncating.truncate_file.Goals as goal
 
 pub returns-in_err-put_cut-clause-uncut : goal.returns-in_err-put_cut-clause-uncut
 returns-in_err-put_cut-clause-uncut g c =
-    let G = ghosts g.row.M g.M.Nand g.M.Nand-dict in
+    let G = g.D.Counts in
     let p = err_from_is_err_and c.from_residual.result c.from_residual.ensures.1 in
     rw p.1 (goes_more G (2 ^ 30) (2 ^ 31) c.args.core.now c.put_cut.new.core (omega arith) c.put_cut.ensures.goes)
 
 pub returns-then-core-ne0-clause-uncut : goal.returns-then-core-ne0-clause-uncut
 returns-then-core-ne0-clause-uncut g c =
-    goes_more (ghosts g.row.M g.M.Nand g.M.Nand-dict) (2 ^ 30) (2 ^ 31) c.args.core.now c.put_cut.new.core (omega arith) c.put_cut.ensures.goes
+    goes_more g.D.Counts (2 ^ 30) (2 ^ 31) c.args.core.now c.put_cut.new.core (omega arith) c.put_cut.ensures.goes
 
 pub returns-then-core-ne0-clause-early : goal.returns-then-core-ne0-clause-early
 returns-then-core-ne0-clause-early g c = inr (c.put_cut.ensures.goes.stops.some c.requires.can.writes c.if-core-ne0.true).0
@@ -32,7 +31,7 @@ make_room-requires-clause-stamp g c =
 
 pub returns-in_err-make_room-clause-uncut : goal.returns-in_err-make_room-clause-uncut
 returns-in_err-make_room-clause-uncut g c =
-    let G = ghosts g.row.M g.M.Nand g.M.Nand-dict in
+    let G = g.D.Counts in
     let u = c.args.core.now in
     let v = c.put_cut.new.core in
     let w = c.make_room.new.core in
@@ -48,7 +47,7 @@ returns-in_err-make_room-clause-others g c =
 
 pub returns-in_err-make_room-clause-early : goal.returns-in_err-make_room-clause-early
 returns-in_err-make_room-clause-early g c =
-    let G = ghosts g.row.M g.M.Nand g.M.Nand-dict in
+    let G = g.D.Counts in
     let u = c.args.core.now in
     let v = c.put_cut.new.core in
     let w = c.make_room.new.core in
@@ -58,7 +57,7 @@ returns-in_err-make_room-clause-early g c =
 
 pub cut_now-requires-clause-ready : goal.cut_now-requires-clause-ready
 cut_now-requires-clause-ready g c =
-    let G = ghosts g.row.M g.M.Nand g.M.Nand-dict in
+    let G = g.D.Counts in
     let u = c.args.core.now in
     let v = c.put_cut.new.core in
     let w = c.make_room.new.core in
@@ -68,7 +67,7 @@ cut_now-requires-clause-ready g c =
 
 pub cut_now-requires-clause-files : goal.cut_now-requires-clause-files
 cut_now-requires-clause-files g c =
-    let G = ghosts g.row.M g.M.Nand g.M.Nand-dict in
+    let G = g.D.Counts in
     let u = c.args.core.now in
     let v = c.put_cut.new.core in
     let w = c.make_room.new.core in
@@ -76,7 +75,7 @@ cut_now-requires-clause-files g c =
 
 pub returns-clause-cut : goal.returns-clause-cut
 returns-clause-cut g c =
-    let G = ghosts g.row.M g.M.Nand g.M.Nand-dict in
+    let G = g.D.Counts in
     let u = c.args.core.now in
     let v = c.put_cut.new.core in
     let w = c.make_room.new.core in
@@ -85,7 +84,6 @@ returns-clause-cut g c =
     IfOk-weaker c.cut_now.result (λ files. IsCut G c.args.worker c.args.ino c.args.size w x) (λ files. CutsFile G (2 ^ 31) c.args.worker c.args.ino c.args.size u x)
     (λ files cut. record {
       between = w;
-      formed = room.formed;
       core = room.core;
       goes = goes_more G (2 ^ 30 + 512) (2 ^ 31) u w (omega arith) (goes_then G u v w (2 ^ 30) 512 c.put_cut.ensures.goes room.goes);
       is_cut = cut;
@@ -94,7 +92,7 @@ returns-clause-cut g c =
 
 pub returns-clause-uncut : goal.returns-clause-uncut
 returns-clause-uncut g c =
-    let G = ghosts g.row.M g.M.Nand g.M.Nand-dict in
+    let G = g.D.Counts in
     let u = c.args.core.now in
     let v = c.put_cut.new.core in
     let w = c.make_room.new.core in
@@ -104,7 +102,7 @@ returns-clause-uncut g c =
 
 pub returns-clause-others : goal.returns-clause-others
 returns-clause-others g c =
-    let G = ghosts g.row.M g.M.Nand g.M.Nand-dict in
+    let G = g.D.Counts in
     let worker = c.args.worker in
     let u = c.args.core.now in
     let v = c.put_cut.new.core in
@@ -116,7 +114,7 @@ returns-clause-others g c =
 
 pub returns-clause-early : goal.returns-clause-early
 returns-clause-early g c =
-    let G = ghosts g.row.M g.M.Nand g.M.Nand-dict in
+    let G = g.D.Counts in
     let u = c.args.core.now in
     let v = c.put_cut.new.core in
     let w = c.make_room.new.core in

@@ -1,13 +1,12 @@
 use Rattle.std.proofs.Common.{ap, arith}
 use Rattle.nl_core.specs.Core.{running_of}
-use Rattle.nl_device.specs.contracts.counts.DeviceCounts.TheImpl.{ghosts}
 use Rattle.nl_field.specs.declared.shape.Shape.{Shape}
 use Rattle.nl_walking.proofs.Charging.{nodes-charged, pool-charged}
 use Rattle.nl_walking.proofs.counting.count_taken.Goals as goal
 
 pub returns : goal.returns
 returns g c =
-    let G = ghosts g.row.M g.M.Nand g.M.Nand-dict in
+    let G = g.D.Counts in
     let v = c.args.core.now in
     let free = c.requires.core.free in
     let a = c.free_nodes.ensures in

@@ -1,5 +1,4 @@
 use Rattle.std.proofs.Common.{sym, ◌∙◌}
-use Rattle.nl_device.specs.contracts.counts.DeviceCounts.TheImpl.{ghosts}
 use Rattle.nl_core.specs.Core.{running_of}
 use Rattle.nl_meta.specs.Nodes.{held_in}
 use Rattle.nl_meta.specs.PointerLists.{with_tag}
@@ -9,7 +8,7 @@ use Rattle.nl_walking.proofs.laws.files_are_charged.Goals as goal
 
 pub returns : goal.returns
 returns g c =
-    let G = ghosts g.row.M g.M.Nand g.M.Nand-dict in
+    let G = g.D.Counts in
     λ v page_of_stamp tree runs.
     (right_charges (G.shape v.device) (running_of G v) page_of_stamp tree runs.runs.right runs.runs.represents).data_pages
     ∙ sym (length_mapped with_tag (held_in (G.shape v.device) (running_of G v)))

@@ -1,14 +1,13 @@
 use Rattle.std.proofs.Common.{arith}
-use Rattle.nl_device.specs.contracts.counts.DeviceCounts.TheImpl.{ghosts}
 use Rattle.nl_core.specs.Core.{running_of}
-use Rattle.nl_looking.proofs.Cores.{runs-then}
+use Rattle.nl_effect.proofs.ReadCores.{runs-then}
 use Rattle.nl_sound.proofs.SoundProofs.{right_charges}
-use Rattle.nl_walking.proofs.Printing.{items_are_counted}
+use Rattle.nl_walking.proofs.Turns.{items_are_counted}
 use Rattle.nl_walking.proofs.laws.walks_begin.Goals as goal
 
 pub returns-clause-few : goal.returns-clause-few
 returns-clause-few g c =
-    let G = ghosts g.row.M g.M.Nand g.M.Nand-dict in
+    let G = g.D.Counts in
     λ v page_of_stamp tree runs. (
     let h = right_charges (G.shape v.device) (running_of G v) page_of_stamp tree runs.runs.right runs.runs.represents in
     let n = items_are_counted tree in
@@ -19,5 +18,5 @@ returns-clause-few g c =
 
 pub returns-clause-runs : goal.returns-clause-runs
 returns-clause-runs g c =
-    let G = ghosts g.row.M g.M.Nand g.M.Nand-dict in
+    let G = g.D.Counts in
     λ u v page_of_stamp tree tells on runs. runs-then G u v on tells page_of_stamp tree runs

@@ -1,5 +1,4 @@
 use Rattle.std.proofs.Common.{[], arith}
-use Rattle.nl_device.specs.contracts.counts.DeviceCounts.TheImpl.{ghosts}
 use Rattle.nl_running.proofs.Holds.{bounds-of}
 use Rattle.nl_tree.proofs.ChangeProofs.{root_reached}
 use Rattle.nl_walking.specs.Next.{nodes_of}
@@ -9,7 +8,7 @@ use Rattle.nl_walking.proofs.next.begin.Goals as goal
 
 pub item_at-item-requires-clause-used : goal.item_at-item-requires-clause-used
 item_at-item-requires-clause-used g c =
-    let G = ghosts g.row.M g.M.Nand g.M.Nand-dict in
+    let G = g.D.Counts in
     let v = c.args.core.now in
     let b = bounds-of (G.shape v.device) c.device_stands.ensures.volume in
     let runs = c.requires.core.journaled.runs in
@@ -17,7 +16,7 @@ item_at-item-requires-clause-used g c =
 
 pub begin-requires-clause-room : goal.begin-requires-clause-room
 begin-requires-clause-room g c =
-    let G = ghosts g.row.M g.M.Nand g.M.Nand-dict in
+    let G = g.D.Counts in
     let v = c.args.core.now in
     let b = bounds-of (G.shape v.device) c.device_stands.ensures.volume in
     let r = c.requires.way.room in
@@ -26,6 +25,6 @@ begin-requires-clause-room g c =
 
 pub returns-clause-gave : goal.returns-clause-gave
 returns-clause-gave g c =
-    let G = ghosts g.row.M g.M.Nand g.M.Nand-dict in
+    let G = g.D.Counts in
     let v = c.args.core.now in
     λ yes. begun-root (nodes_of G v) c.args.walk.now c.begin.new.self c.requires.way.way c.requires.before c.begin.ensures

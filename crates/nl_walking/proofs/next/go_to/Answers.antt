@@ -1,5 +1,4 @@
 use Rattle.std.proofs.Common.{arith}
-use Rattle.nl_device.specs.contracts.counts.DeviceCounts.TheImpl.{ghosts}
 use Rattle.nl_core.specs.Core.{running_of}
 use Rattle.nl_running.proofs.Holds.{bounds-of}
 use Rattle.nl_walking.specs.Next.{nodes_of}
@@ -11,7 +10,7 @@ use Rattle.nl_walking.proofs.next.go_to.Goals as goal
 
 pub item_at-item-requires-clause-used : goal.item_at-item-requires-clause-used
 item_at-item-requires-clause-used g c =
-    let G = ghosts g.row.M g.M.Nand g.M.Nand-dict in
+    let G = g.D.Counts in
     let v = c.args.core.now in
     let b = bounds-of (G.shape v.device) c.device_stands.ensures.volume in
     let runs = c.requires.core.journaled.runs in
@@ -19,7 +18,7 @@ item_at-item-requires-clause-used g c =
 
 pub move_to-requires-clause-room : goal.move_to-requires-clause-room
 move_to-requires-clause-room g c =
-    let G = ghosts g.row.M g.M.Nand g.M.Nand-dict in
+    let G = g.D.Counts in
     let v = c.args.core.now in
     let b = bounds-of (G.shape v.device) c.device_stands.ensures.volume in
     let runs = c.requires.core.journaled.runs in
@@ -31,7 +30,7 @@ move_to-requires-clause-room g c =
 
 pub returns-clause-gave : goal.returns-clause-gave
 returns-clause-gave g c =
-    let G = ghosts g.row.M g.M.Nand g.M.Nand-dict in
+    let G = g.D.Counts in
     let v = c.args.core.now in
     let e = c.move_to.ensures in
     λ yes. record {

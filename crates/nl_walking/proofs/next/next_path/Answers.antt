@@ -1,9 +1,7 @@
 use Rattle.std.proofs.Common.{◌≡◌, true, [], Option, Some, None, sym, subst}
-use Rattle.nl_device.specs.contracts.counts.DeviceCounts.TheImpl.{ghosts}
 use Rattle.nl_core.specs.Core.{running_of}
 use Rattle.nl_field.specs.Graph.{Graph}
-use Rattle.nl_looking.proofs.Cores.{reads-then}
-use Rattle.nl_looking.proofs.Ending.{reads-after}
+use Rattle.nl_effect.proofs.ReadCores.{reads-after, reads-then}
 use Rattle.nl_walking.specs.Next.{GaveAt, nodes_of}
 use Rattle.nl_walking.specs.Onward.{GoesOn, LeadsOn, path_to}
 use Rattle.nl_walking.specs.Walks.{TellsNode, is_path, item_stop}
@@ -14,27 +12,27 @@ use Rattle.nl_walking.proofs.next.next_path.Goals as goal
 
 pub returns-then-not-has_begun-clause-way : goal.returns-then-not-has_begun-clause-way
 returns-then-not-has_begun-clause-way g c =
-    let G = ghosts g.row.M g.M.Nand g.M.Nand-dict in
+    let G = g.D.Counts in
     let v = c.args.core.now in
     let e = c.begin.ensures in
     way-after G v c.begin.new.core c.device_stands.ensures.volume e.same c.args.walk.now c.begin.new.walk [] (is_path c.begin.result) c.requires.way e.gave e.stays
 
 pub returns-then-not-has_begun-clause-gives : goal.returns-then-not-has_begun-clause-gives
 returns-then-not-has_begun-clause-gives g c =
-    let G = ghosts g.row.M g.M.Nand g.M.Nand-dict in
+    let G = g.D.Counts in
     let v = c.args.core.now in
     let e = c.begin.ensures in
     λ page_of_stamp tree runs. gives-root (G.shape v.device) (running_of G v) page_of_stamp tree runs.runs c.args.walk.now c.begin.new.walk c.begin.result (c.has_begun.ensures.none c.if-not-has_begun.true) e.told e.gave
 
 pub go_to-requires-clause-way : goal.go_to-requires-clause-way
 go_to-requires-clause-way g c =
-    let G = ghosts g.row.M g.M.Nand g.M.Nand-dict in
+    let G = g.D.Counts in
     let v = c.args.core.now in
     way-stays G v c.place_of.new.core c.device_stands.ensures.volume c.in-Ok-Some.ensures.same c.args.walk.now c.requires.way
 
 pub go_to-requires-clause-leads : goal.go_to-requires-clause-leads
 go_to-requires-clause-leads g c =
-    let G = ghosts g.row.M g.M.Nand g.M.Nand-dict in
+    let G = g.D.Counts in
     let v = c.args.core.now in
     let w = c.place_of.new.core in
     let on = c.in-Ok-Some.ensures.same in
@@ -44,13 +42,13 @@ go_to-requires-clause-leads g c =
 
 pub returns-in-Ok-Some-clause-same : goal.returns-in-Ok-Some-clause-same
 returns-in-Ok-Some-clause-same g c =
-    let G = ghosts g.row.M g.M.Nand g.M.Nand-dict in
+    let G = g.D.Counts in
     let v = c.args.core.now in
     reads-then G v c.place_of.new.core c.device_stands.ensures.volume c.in-Ok-Some.ensures.same c.go_to.new.core c.go_to.ensures.same
 
 pub returns-in-Ok-Some-clause-way : goal.returns-in-Ok-Some-clause-way
 returns-in-Ok-Some-clause-way g c =
-    let G = ghosts g.row.M g.M.Nand g.M.Nand-dict in
+    let G = g.D.Counts in
     let v = c.args.core.now in
     let w = c.place_of.new.core in
     let on = c.in-Ok-Some.ensures.same in
@@ -61,7 +59,7 @@ returns-in-Ok-Some-clause-way g c =
 
 pub returns-in-Ok-Some-clause-gives : goal.returns-in-Ok-Some-clause-gives
 returns-in-Ok-Some-clause-gives g c =
-    let G = ghosts g.row.M g.M.Nand g.M.Nand-dict in
+    let G = g.D.Counts in
     let v = c.args.core.now in
     let w = c.place_of.new.core in
     let on = c.in-Ok-Some.ensures.same in
@@ -74,25 +72,25 @@ returns-in-Ok-Some-clause-gives g c =
 
 pub returns-in-Ok-Some-clause-reads : goal.returns-in-Ok-Some-clause-reads
 returns-in-Ok-Some-clause-reads g c =
-    let G = ghosts g.row.M g.M.Nand g.M.Nand-dict in
+    let G = g.D.Counts in
     let v = c.args.core.now in
     reads-after G v.device c.place_of.new.core.device c.go_to.new.core.device (item_stop c.go_to.result) c.in-Ok-Some.ensures.same.runs.reads c.in-Ok-Some.ensures.reads c.go_to.ensures.reads
 
 pub returns-in-Ok-None-clause-way : goal.returns-in-Ok-None-clause-way
 returns-in-Ok-None-clause-way g c =
-    let G = ghosts g.row.M g.M.Nand g.M.Nand-dict in
+    let G = g.D.Counts in
     let v = c.args.core.now in
     way-stays G v c.place_of.new.core c.device_stands.ensures.volume c.in-Ok-None.ensures.same c.args.walk.now c.requires.way
 
 pub returns-in-Ok-None-clause-gives : goal.returns-in-Ok-None-clause-gives
 returns-in-Ok-None-clause-gives g c =
-    let G = ghosts g.row.M g.M.Nand g.M.Nand-dict in
+    let G = g.D.Counts in
     let v = c.args.core.now in
     let last : GoesOn (nodes_of G v) c.args.walk.now None = subst (λ (o : Option Onward). GoesOn (nodes_of G v) c.args.walk.now o) c.in-Ok-None.field-0-is c.in-Ok-None.ensures.place in
     λ page_of_stamp tree runs. gives-last (G.shape v.device) (running_of G v) page_of_stamp tree runs.runs c.args.walk.now c.args.walk.now (c.has_begun.ensures.some c.if-not-has_begun.false) last
 
 pub returns-in-Err-clause-way : goal.returns-in-Err-clause-way
 returns-in-Err-clause-way g c =
-    let G = ghosts g.row.M g.M.Nand g.M.Nand-dict in
+    let G = g.D.Counts in
     let v = c.args.core.now in
     way-stays G v c.place_of.new.core c.device_stands.ensures.volume c.in-Err.ensures.same c.args.walk.now c.requires.way

@@ -1,36 +1,37 @@
 use Rattle.std.proofs.Common.{◌+◌, ◌<◌, ◌≤◌, is_some, inl, refl, sym, ap, ◌∙◌, Some, arith}
 use Rattle.std.proofs.lemmas.Result.{err_from_is_err_and}
 use Rattle.nl_field.specs.declared.shape.Shape.{Shape}
-use Rattle.nl_device.specs.contracts.counts.DeviceCounts.TheImpl.{ghosts}
 use Rattle.nl_inode.specs.Nodes.{page_of_node}
 use Rattle.nl_running.specs.Running.{stored_on}
 use Rattle.nl_running.specs.declared.answer.Stop.TheVariants as stop
-use Rattle.nl_writing.specs.Contents.{count_indexes, first_index}
-use Rattle.nl_writing.proofs.Early.{early-then, read-early}
-use Rattle.nl_writing.proofs.Fitted.{few-counted, is-room, looked-core, looked-on, no-address, no-page-left}
-use Rattle.nl_writing.proofs.Reading.{file-on, opened-file, reads-then}
+use Rattle.nl_written.specs.Contents.{count_indexes, first_index}
+use Rattle.nl_written.proofs.TwoRanges.{few-counted}
+use Rattle.nl_effect.proofs.Early.{early-then, read-early}
+use Rattle.nl_effect.proofs.OnlyReads.{file-on, opened-file}
+use Rattle.nl_effect.proofs.ReadCores.{reads-then}
+use Rattle.nl_writing.proofs.Fitted.{is-room, looked-core, looked-on, no-address, no-page-left}
 use Rattle.nl_writing.proofs.fitting.fits.Goals as goal
 
 pub returns-in_err-rec-clause-early : goal.returns-in_err-rec-clause-early
 returns-in_err-rec-clause-early g c =
     let p = err_from_is_err_and c.from_residual.result c.from_residual.ensures.1 in
-    rw (p.1, p.2) (read-early (ghosts g.row.M g.M.Nand g.M.Nand-dict) c.args.core.now c.open_node.new.core (Some c.in_err-rec.field-0.0) c.in_err-rec.ensures.reads)
+    rw (p.1, p.2) (read-early g.D.Counts c.args.core.now c.open_node.new.core (Some c.in_err-rec.field-0.0) c.in_err-rec.ensures.reads)
 
 pub prepare_file-requires-clause-file : goal.prepare_file-requires-clause-file
 prepare_file-requires-clause-file g c =
-    (c.args.ino, opened-file (ghosts g.row.M g.M.Nand g.M.Nand-dict) c.args.core.now c.open_node.new.core c.args.ino c.in_ok-rec.rec c.requires.file c.in_ok-rec.ensures.node)
+    (c.args.ino, opened-file g.D.Counts c.args.core.now c.open_node.new.core c.args.ino c.in_ok-rec.rec c.requires.file c.in_ok-rec.ensures.node)
 
 pub returns-in-Fault-clause-same : goal.returns-in-Fault-clause-same
 returns-in-Fault-clause-same g c =
-    reads-then (ghosts g.row.M g.M.Nand g.M.Nand-dict) c.args.core.now c.open_node.new.core c.device_stands.ensures.volume c.in_ok-rec.ensures.same c.prepare_file.new.core c.prepare_file.ensures.same
+    reads-then g.D.Counts c.args.core.now c.open_node.new.core c.device_stands.ensures.volume c.in_ok-rec.ensures.same c.prepare_file.new.core c.prepare_file.ensures.same
 
 pub returns-in-Fault-clause-early : goal.returns-in-Fault-clause-early
 returns-in-Fault-clause-early g c =
-    early-then (ghosts g.row.M g.M.Nand g.M.Nand-dict) c.args.core.now c.open_node.new.core c.prepare_file.new.core (Some stop.Fault) c.in_ok-rec.ensures.same (inl (c.in-Fault.ensures.faults.cause refl))
+    early-then g.D.Counts c.args.core.now c.open_node.new.core c.prepare_file.new.core (Some stop.Fault) c.in_ok-rec.ensures.same (inl (c.in-Fault.ensures.faults.cause refl))
 
 pub returns-in-Lost-clause-same : goal.returns-in-Lost-clause-same
 returns-in-Lost-clause-same g c =
-    reads-then (ghosts g.row.M g.M.Nand g.M.Nand-dict) c.args.core.now c.open_node.new.core c.device_stands.ensures.volume c.in_ok-rec.ensures.same c.prepare_file.new.core c.prepare_file.ensures.same
+    reads-then g.D.Counts c.args.core.now c.open_node.new.core c.device_stands.ensures.volume c.in_ok-rec.ensures.same c.prepare_file.new.core c.prepare_file.ensures.same
 
 pub returns-in-Lost-clause-early : goal.returns-in-Lost-clause-early
 returns-in-Lost-clause-early g c = (c.in-Lost.ensures.lost.1, λ tells. c.in-Lost.ensures.told tells tt)
@@ -45,18 +46,18 @@ has_free-requires g c =
     few-counted c.in_ok-rec.rec (first_index c.args.from) (count_indexes c.args.from c.args.len) c.count_ranges-ranges.result (omega (arith, some, few)) c.count_ranges-ranges.ensures
 
 pub returns-then-not-has_free-clause-core : goal.returns-then-not-has_free-clause-core
-returns-then-not-has_free-clause-core g c = looked-core (ghosts g.row.M g.M.Nand g.M.Nand-dict) c.prepare_file.new.core c.has_free.new.nodes c.has_free.ensures.same c.prepare_file.ensures.core
+returns-then-not-has_free-clause-core g c = looked-core g.D.Counts c.prepare_file.new.core c.has_free.new.nodes c.has_free.ensures.same c.prepare_file.ensures.core
 
 pub returns-then-not-has_free-clause-same : goal.returns-then-not-has_free-clause-same
 returns-then-not-has_free-clause-same g c =
-    let G = ghosts g.row.M g.M.Nand g.M.Nand-dict in
+    let G = g.D.Counts in
     let w = c.prepare_file.new.core in
     looked-on G w c.has_free.new.nodes c.has_free.ensures.same c.args.core.now
     (reads-then G c.args.core.now c.open_node.new.core c.device_stands.ensures.volume c.in_ok-rec.ensures.same w c.prepare_file.ensures.same)
 
 pub returns-then-not-has_free-clause-fits : goal.returns-then-not-has_free-clause-fits
 returns-then-not-has_free-clause-fits g c =
-    let G = ghosts g.row.M g.M.Nand g.M.Nand-dict in
+    let G = g.D.Counts in
     let v = c.args.core.now in
     let w = c.prepare_file.new.core in
     let rec = c.in_ok-rec.rec in
@@ -70,18 +71,18 @@ returns-then-not-has_free-clause-fits g c =
     )
 
 pub returns-then-from-clause-core : goal.returns-then-from-clause-core
-returns-then-from-clause-core g c = looked-core (ghosts g.row.M g.M.Nand g.M.Nand-dict) c.prepare_file.new.core c.has_free.new.nodes c.has_free.ensures.same c.prepare_file.ensures.core
+returns-then-from-clause-core g c = looked-core g.D.Counts c.prepare_file.new.core c.has_free.new.nodes c.has_free.ensures.same c.prepare_file.ensures.core
 
 pub returns-then-from-clause-same : goal.returns-then-from-clause-same
 returns-then-from-clause-same g c =
-    let G = ghosts g.row.M g.M.Nand g.M.Nand-dict in
+    let G = g.D.Counts in
     let w = c.prepare_file.new.core in
     looked-on G w c.has_free.new.nodes c.has_free.ensures.same c.args.core.now
     (reads-then G c.args.core.now c.open_node.new.core c.device_stands.ensures.volume c.in_ok-rec.ensures.same w c.prepare_file.ensures.same)
 
 pub returns-then-from-clause-fits : goal.returns-then-from-clause-fits
 returns-then-from-clause-fits g c =
-    let G = ghosts g.row.M g.M.Nand g.M.Nand-dict in
+    let G = g.D.Counts in
     let v = c.args.core.now in
     let w = c.prepare_file.new.core in
     let rec = c.in_ok-rec.rec in
@@ -97,18 +98,18 @@ returns-then-from-clause-fits g c =
     )
 
 pub returns-clause-core : goal.returns-clause-core
-returns-clause-core g c = looked-core (ghosts g.row.M g.M.Nand g.M.Nand-dict) c.prepare_file.new.core c.has_free.new.nodes c.has_free.ensures.same c.prepare_file.ensures.core
+returns-clause-core g c = looked-core g.D.Counts c.prepare_file.new.core c.has_free.new.nodes c.has_free.ensures.same c.prepare_file.ensures.core
 
 pub returns-clause-same : goal.returns-clause-same
 returns-clause-same g c =
-    let G = ghosts g.row.M g.M.Nand g.M.Nand-dict in
+    let G = g.D.Counts in
     let w = c.prepare_file.new.core in
     looked-on G w c.has_free.new.nodes c.has_free.ensures.same c.args.core.now
     (reads-then G c.args.core.now c.open_node.new.core c.device_stands.ensures.volume c.in_ok-rec.ensures.same w c.prepare_file.ensures.same)
 
 pub returns-clause-fits : goal.returns-clause-fits
 returns-clause-fits g c =
-    let G = ghosts g.row.M g.M.Nand g.M.Nand-dict in
+    let G = g.D.Counts in
     let v = c.args.core.now in
     let w = c.prepare_file.new.core in
     let rec = c.in_ok-rec.rec in

@@ -1,12 +1,12 @@
 use Rattle.std.proofs.Common.{refl, sym, ◌∙◌, ◌^◌}
-use Rattle.nl_device.specs.contracts.counts.DeviceCounts.TheImpl.{ghosts}
 use Rattle.nl_effect.specs.Lines.{worker_pages}
-use Rattle.nl_writing.proofs.OnePage.{has_index, has_place, index_here, on_ok, puts_none}
+use Rattle.nl_written.proofs.Places.{has_place}
+use Rattle.nl_writing.proofs.OnePage.{has_index, index_here, on_ok, puts_none}
 use Rattle.nl_writing.proofs.putting.put_index.Goals as goal
 
 pub returns-then-has_index-clause-puts : goal.returns-then-has_index-clause-puts
 returns-then-has_index-clause-puts g c =
-    let G = ghosts g.row.M g.M.Nand g.M.Nand-dict in
+    let G = g.D.Counts in
     puts_none G (2 ^ 30) c.args.worker c.args.call.now c.args.core.now c.requires.core
 
 pub returns-then-has_index-clause-has : goal.returns-then-has_index-clause-has
@@ -20,7 +20,7 @@ put_page-requires-clause-place g c =
 
 pub returns-clause-has : goal.returns-clause-has
 returns-clause-has g c =
-    let G = ghosts g.row.M g.M.Nand g.M.Nand-dict in
+    let G = g.D.Counts in
     on_ok c.put_page.result
     (λ a. has_index G c.args.worker c.args.line c.args.tag c.args.call.now c.args.core.now c.put_page.new.core c.requires.core c.requires.can.known a c.requires.pages (sym c.has_index.ensures ∙ c.if-has_index.false) c.requires.written c.requires.can.has_line)
     c.put_page.ensures.added

@@ -1,9 +1,9 @@
 use Rattle.std.proofs.Common.{◌+◌, ◌-◌, ◌*◌, ◌/◌, ◌^◌, Some, arith}
-use Rattle.nl_device.specs.contracts.counts.DeviceCounts.TheImpl.{ghosts}
-use Rattle.nl_writing.specs.Ranges.{from_of, len_of, path_of}
-use Rattle.nl_writing.proofs.Early.{within-early}
-use Rattle.nl_writing.proofs.Going.{file_on, leads_on}
-use Rattle.nl_writing.proofs.OnePage.{few_left, few_turns, flying_more, in_range, index_in_range, others_few, puts_more, puts_then}
+use Rattle.nl_written.specs.Ranges.{from_of, len_of, path_of}
+use Rattle.nl_written.proofs.Places.{few_left, few_turns, in_range, index_in_range}
+use Rattle.nl_effect.proofs.Early.{within-early}
+use Rattle.nl_effect.proofs.Going.{file_on, leads_on}
+use Rattle.nl_writing.proofs.OnePage.{flying_more, others_few, puts_more, puts_then}
 use Rattle.nl_writing.proofs.putting.put_pages.Goals as goal
 
 pub put_index-requires-clause-written : goal.put_index-requires-clause-written
@@ -16,7 +16,7 @@ put_index-requires-clause-written g c =
 
 pub put_index-requires-clause-can : goal.put_index-requires-clause-can
 put_index-requires-clause-can g c =
-    let G = ghosts g.row.M g.M.Nand g.M.Nand-dict in
+    let G = g.D.Counts in
     let u = c.args.core.now in
     let v = c.indexes.core in
     let goes = c.indexes.invariant.puts.goes in
@@ -37,24 +37,23 @@ put_index-requires-clause-others g c = others_few c.args.worker c.args.core.now.
 
 pub returns-in-Err-clause-puts : goal.returns-in-Err-clause-puts
 returns-in-Err-clause-puts g c =
-    let G = ghosts g.row.M g.M.Nand g.M.Nand-dict in
+    let G = g.D.Counts in
     let few = few_left (from_of c.args.call.now) (len_of c.args.call.now) c.indexes.index c.requires.few.0 c.requires.few.1 (omega arith) in
     puts_then G (2 ^ 30 * (c.indexes.index - from_of c.args.call.now / 4096)) (2 ^ 30) (17 * 2 ^ 30) c.args.worker c.args.call.now c.args.core.now c.indexes.core c.put_index.new.core (omega (arith, few)) c.indexes.invariant.puts c.put_index.ensures.puts
 
 pub returns-in-Err-clause-early : goal.returns-in-Err-clause-early
 returns-in-Err-clause-early g c =
-    let G = ghosts g.row.M g.M.Nand g.M.Nand-dict in
+    let G = g.D.Counts in
     let goes = c.indexes.invariant.puts.goes in
     within-early G c.args.core.now c.indexes.core c.put_index.new.core c.put_index.new.core (Some c.in-Err.stop) goes.reads goes.writes (omega arith) (omega arith) c.in-Err.ensures.early
 
 pub indexes-preserved : goal.indexes-preserved
 indexes-preserved g c =
-    let G = ghosts g.row.M g.M.Nand g.M.Nand-dict in
+    let G = g.D.Counts in
     let i = c.indexes.invariant in
     let h = c.in-Ok.ensures.has in
     let from = i.from in
     record {
-      formed = c.put_index.ensures.formed;
       core = c.put_index.ensures.core;
       from = omega (arith, from);
       puts = puts_then G (2 ^ 30 * (c.indexes.index - from_of c.args.call.now / 4096)) (2 ^ 30) (2 ^ 30 * (c.indexes.index + 1 - from_of c.args.call.now / 4096)) c.args.worker c.args.call.now c.args.core.now c.indexes.core c.put_index.new.core
@@ -66,7 +65,7 @@ indexes-preserved g c =
 
 pub returns-clause-puts : goal.returns-clause-puts
 returns-clause-puts g c =
-    let G = ghosts g.row.M g.M.Nand g.M.Nand-dict in
+    let G = g.D.Counts in
     let end = c.indexes.auto.index-end (omega arith) in
     let few = few_turns (from_of c.args.call.now) (len_of c.args.call.now) c.indexes.index c.requires.few.0 c.requires.few.1 (omega (arith, end)) in
     puts_more G (2 ^ 30 * (c.indexes.index - from_of c.args.call.now / 4096)) (17 * 2 ^ 30) c.args.worker c.args.call.now c.args.core.now c.indexes.core (omega (arith, few)) c.indexes.invariant.puts

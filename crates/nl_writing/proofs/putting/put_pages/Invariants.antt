@@ -1,17 +1,16 @@
 use Rattle.std.proofs.Common.{◌≡◌, ℕ, ◌-◌, ◌*◌, ◌/◌, ◌<◌, ◌≤◌, ◌^◌, true}
-use Rattle.nl_device.specs.contracts.counts.DeviceCounts.TheImpl.{ghosts}
 use Rattle.nl_core.specs.Core.{IsCore}
 use Rattle.nl_core.specs.Programming.{HasLine}
 use Rattle.nl_effect.specs.Lines.{worker_pages}
-use Rattle.nl_writing.specs.Lines.{AreOfCall, PutsOn, is_flying}
-use Rattle.nl_writing.specs.Ranges.{from_of}
+use Rattle.nl_written.specs.InFlight.{AreOfCall, is_flying}
+use Rattle.nl_written.specs.Ranges.{from_of}
+use Rattle.nl_writing.specs.Lines.{PutsOn}
 use Rattle.nl_writing.proofs.putting.put_pages.Given as goal
 
 abbrev pub invariant-indexes : goal.invariant-indexes
 invariant-indexes g l =
-    let G = ghosts g.row.M g.M.Nand g.M.Nand-dict in
+    let G = g.D.Counts in
     record {
-      formed : G.formed l.core.device;
       core : IsCore G l.core;
       from : from_of l.call / 4096 ≤ l.index;
       puts : PutsOn G (2 ^ 30 * (l.index - from_of l.call / 4096)) l.worker l.call l.initial.core l.core;

@@ -1,22 +1,20 @@
 use Rattle.std.proofs.Common.{arith}
-use Rattle.nl_device.specs.contracts.counts.DeviceCounts.TheImpl.{ghosts}
 use Rattle.nl_writing.specs.Calls.{ended_as}
-use Rattle.nl_writing.specs.Ranges.{path_of}
+use Rattle.nl_written.specs.Ranges.{path_of}
 use Rattle.nl_writing.proofs.Carried.{all_on, line_of_on, written_on}
 use Rattle.nl_writing.proofs.Ends.{ends_after}
-use Rattle.nl_writing.proofs.Going.{files_on, leads_on, others_same}
+use Rattle.nl_effect.proofs.Going.{files_on, leads_on, others_same}
 use Rattle.nl_writing.proofs.Parts.{part_early}
 use Rattle.nl_writing.proofs.writing.install_pages.Goals as goal
 
 pub install-requires : goal.install-requires
 install-requires g c =
-    let G = ghosts g.row.M g.M.Nand g.M.Nand-dict in
+    let G = g.D.Counts in
     let u = c.args.core.now in
     let v = c.make_room.new.core in
     let e = c.make_room.ensures in
     let r = c.requires in
     record {
-      formed = e.formed;
       core = e.core;
       known = r.known;
       write = r.write;
@@ -30,7 +28,7 @@ install-requires g c =
 
 pub returns-in-Ok-clause-ends : goal.returns-in-Ok-clause-ends
 returns-in-Ok-clause-ends g c =
-    let G = ghosts g.row.M g.M.Nand g.M.Nand-dict in
+    let G = g.D.Counts in
     let u = c.args.core.now in
     let v = c.make_room.new.core in
     let e = c.make_room.ensures in
@@ -38,7 +36,7 @@ returns-in-Ok-clause-ends g c =
 
 pub returns-in-Err-clause-ends : goal.returns-in-Err-clause-ends
 returns-in-Err-clause-ends g c =
-    let G = ghosts g.row.M g.M.Nand g.M.Nand-dict in
+    let G = g.D.Counts in
     let u = c.args.core.now in
     let v = c.make_room.new.core in
     let e = c.make_room.ensures in

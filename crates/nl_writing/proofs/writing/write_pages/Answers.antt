@@ -1,10 +1,9 @@
 use Rattle.std.proofs.Common.{◌*◌, ◌^◌, ◌∙◌, arith}
-use Rattle.nl_device.specs.contracts.counts.DeviceCounts.TheImpl.{ghosts}
 use Rattle.nl_writing.specs.Calls.{ended_as}
-use Rattle.nl_writing.specs.Ranges.{path_of}
+use Rattle.nl_written.specs.Ranges.{path_of}
 use Rattle.nl_writing.proofs.Carried.{line_put, written_put}
 use Rattle.nl_writing.proofs.Ends.{ends_after}
-use Rattle.nl_writing.proofs.Going.{file_on, files_on, generation_on, leads_on}
+use Rattle.nl_effect.proofs.Going.{file_on, files_on, generation_on, leads_on}
 use Rattle.nl_writing.proofs.Parts.{part_early, part_stopped, put_early, put_goes, put_others}
 use Rattle.nl_writing.proofs.writing.write_pages.Goals as goal
 
@@ -13,7 +12,7 @@ keep_line-requires-clause-file g c = (c.requires.file.0, c.requires.file.1)
 
 pub put_pages-requires : goal.put_pages-requires
 put_pages-requires g c =
-    let G = ghosts g.row.M g.M.Nand g.M.Nand-dict in
+    let G = g.D.Counts in
     let u = c.args.core.now in
     let v = c.keep_line.new.core in
     let k = c.keep_line.ensures.keeps in
@@ -21,7 +20,6 @@ put_pages-requires g c =
     let most = k.goes.stamps.at_most in
     let low = r.stamp in
     record {
-      formed = c.keep_line.ensures.formed;
       core = c.keep_line.ensures.core;
       stamp = omega (arith, most, low);
       can = record {
@@ -41,7 +39,7 @@ put_pages-requires g c =
 
 pub returns-then-core-ne0-clause-ends : goal.returns-then-core-ne0-clause-ends
 returns-then-core-ne0-clause-ends g c =
-    let G = ghosts g.row.M g.M.Nand g.M.Nand-dict in
+    let G = g.D.Counts in
     let u = c.args.core.now in
     let v = c.keep_line.new.core in
     let w = c.put_pages.new.core in
@@ -52,7 +50,7 @@ returns-then-core-ne0-clause-ends g c =
 
 pub install_pages-requires : goal.install_pages-requires
 install_pages-requires g c =
-    let G = ghosts g.row.M g.M.Nand g.M.Nand-dict in
+    let G = g.D.Counts in
     let u = c.args.core.now in
     let v = c.keep_line.new.core in
     let w = c.put_pages.new.core in
@@ -63,7 +61,6 @@ install_pages-requires g c =
     let most = all.stamps.at_most in
     let low = r.stamp in
     record {
-      formed = c.put_pages.ensures.formed;
       core = c.put_pages.ensures.core;
       writes = c.if-core-ne0.false;
       stamp = omega (arith, most, low);
@@ -78,7 +75,7 @@ install_pages-requires g c =
 
 pub returns-else-core-ne0-clause-ends : goal.returns-else-core-ne0-clause-ends
 returns-else-core-ne0-clause-ends g c =
-    let G = ghosts g.row.M g.M.Nand g.M.Nand-dict in
+    let G = g.D.Counts in
     let u = c.args.core.now in
     let v = c.keep_line.new.core in
     let w = c.put_pages.new.core in
@@ -89,7 +86,7 @@ returns-else-core-ne0-clause-ends g c =
 
 pub returns-in-Err-clause-ends : goal.returns-in-Err-clause-ends
 returns-in-Err-clause-ends g c =
-    let G = ghosts g.row.M g.M.Nand g.M.Nand-dict in
+    let G = g.D.Counts in
     let u = c.args.core.now in
     let v = c.keep_line.new.core in
     let w = c.put_pages.new.core in

@@ -1,19 +1,18 @@
 use Rattle.std.proofs.Common.{◌^◌, List, subst, arith, ℕ}
-use Rattle.nl_device.specs.contracts.counts.DeviceCounts.TheImpl.{ghosts}
 use Rattle.nl_writing.specs.Calls.{ended_as}
-use Rattle.nl_writing.specs.Finding.{IsFound}
-use Rattle.nl_writing.specs.Ranges.{path_of}
-use Rattle.nl_writing.specs.declared.answer.Found.{Found}
-use Rattle.nl_writing.specs.declared.answer.Found.TheVariants as found
+use Rattle.nl_written.specs.Ranges.{path_of}
+use Rattle.nl_effect.specs.declared.answer.Found.TheVariants as found
+use Rattle.nl_effect.specs.Finding.{IsFound}
+use Rattle.nl_effect.specs.declared.answer.Found.{Found}
+use Rattle.nl_effect.proofs.Going.{file_on, leads_on}
 use Rattle.nl_writing.proofs.Carried.{can_on, stamp_on}
-use Rattle.nl_writing.proofs.Going.{file_on, leads_on}
 use Rattle.nl_writing.proofs.OnePage.{reads_first}
 use Rattle.nl_writing.proofs.Parts.{path_refused, read_early, read_then}
 use Rattle.nl_writing.proofs.writing.write_path.Goals as goal
 
 pub write_file-requires : goal.write_file-requires
 write_file-requires g c =
-    let G = ghosts g.row.M g.M.Nand g.M.Nand-dict in
+    let G = g.D.Counts in
     let u = c.args.core.now in
     let v = c.find_file-found.new.core in
     let e = c.find_file-found.ensures in
@@ -21,12 +20,11 @@ write_file-requires g c =
     let r = c.requires in
     let at = subst (λ (f : Found). IsFound G u c.path_written.result.now f) c.in-File.is c.in-Ok.ensures.found in
     let is = subst (λ (p : List (List ℕ)). IsFound G u p (found.File c.in-File.ino)) c.path_written.ensures at in
-    let first = reads_first G u v r.core d.volume d.pages e.same in
+    let first = reads_first G u v r.core d.volume e.core.formed d.pages e.same in
     record {
-      formed = e.formed;
       core = e.core;
-      stamp = stamp_on G u v r.core d.volume d.pages e.same (2 ^ 62) r.stamp;
-      can = can_on G u v r.core d.volume d.pages e.same c.args.worker c.args.line c.args.call.now c.args.files r.can;
+      stamp = stamp_on G u v r.core d.volume e.core.formed d.pages e.same (2 ^ 62) r.stamp;
+      can = can_on G u v r.core d.volume e.core.formed d.pages e.same c.args.worker c.args.line c.args.call.now c.args.files r.can;
       writing = r.writing;
       few = r.few;
       short = is.0;
@@ -36,19 +34,19 @@ write_file-requires g c =
 
 pub returns-in-File-clause-ends : goal.returns-in-File-clause-ends
 returns-in-File-clause-ends g c =
-    let G = ghosts g.row.M g.M.Nand g.M.Nand-dict in
+    let G = g.D.Counts in
     let d = c.device_stands.ensures in
-    read_then G c.args.worker c.args.call.now c.args.core.now c.find_file-found.new.core c.requires.core d.volume d.pages c.find_file-found.ensures.same (2 ^ 40) (2 ^ 36) (omega arith) c.write_file.new.core (ended_as c.write_file.result) c.write_file.ensures.ends
+    read_then G c.args.worker c.args.call.now c.args.core.now c.find_file-found.new.core c.requires.core d.volume c.find_file-found.ensures.core.formed d.pages c.find_file-found.ensures.same (2 ^ 40) (2 ^ 36) (omega arith) c.write_file.new.core (ended_as c.write_file.result) c.write_file.ensures.ends
 
 pub returns-in-No-clause-ends : goal.returns-in-No-clause-ends
 returns-in-No-clause-ends g c =
-    let G = ghosts g.row.M g.M.Nand g.M.Nand-dict in
+    let G = g.D.Counts in
     let d = c.device_stands.ensures in
     let at = subst (λ (f : Found). IsFound G c.args.core.now c.path_written.result.now f) c.in-No.is c.in-Ok.ensures.found in
-    path_refused G c.args.worker c.args.call.now c.args.core.now c.find_file-found.new.core c.requires.core d.volume d.pages c.find_file-found.ensures.same (2 ^ 40) c.requires.writing c.in-No.refusal c.path_written.result.now c.path_written.ensures at
+    path_refused G c.args.worker c.args.call.now c.args.core.now c.find_file-found.new.core c.requires.core d.volume c.find_file-found.ensures.core.formed d.pages c.find_file-found.ensures.same (2 ^ 40) c.requires.writing c.in-No.refusal c.path_written.result.now c.path_written.ensures at
 
 pub returns-in-Err-clause-ends : goal.returns-in-Err-clause-ends
 returns-in-Err-clause-ends g c =
-    let G = ghosts g.row.M g.M.Nand g.M.Nand-dict in
+    let G = g.D.Counts in
     let d = c.device_stands.ensures in
-    read_early G c.args.worker c.args.call.now c.args.core.now c.find_file-found.new.core c.requires.core d.volume d.pages c.find_file-found.ensures.same (2 ^ 40) c.in-Err.stop c.in-Err.ensures.early
+    read_early G c.args.worker c.args.call.now c.args.core.now c.find_file-found.new.core c.requires.core d.volume c.find_file-found.ensures.core.formed d.pages c.find_file-found.ensures.same (2 ^ 40) c.in-Err.stop c.in-Err.ensures.early

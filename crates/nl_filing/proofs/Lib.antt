@@ -1,0 +1,17 @@
+pub mod Counts
+pub mod CutContents
+pub mod Directories
+pub mod DirtyRoom
+pub mod Entries
+pub mod FileRunning
+pub mod FileTrees
+pub mod FilesRight
+pub mod Fits
+pub mod FoundFiles
+pub mod Holders
+pub mod Joined
+pub mod Landing
+pub mod LineContents
+pub mod LinePages
+pub mod LineRoom
+pub mod LineWrites

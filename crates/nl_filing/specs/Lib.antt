@@ -1,0 +1,10 @@
+pub mod Cutting
+pub mod FileRuns
+pub mod FileTrees
+pub mod Fits
+pub mod Holders
+pub mod Landing
+pub mod LineNeeds
+pub mod LinePages
+pub mod Refusals
+pub mod Taking

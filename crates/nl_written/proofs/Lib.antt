@@ -1,0 +1,14 @@
+pub mod Content
+pub mod Counted
+pub mod Flying
+pub mod Free
+pub mod Laid
+pub mod Lists
+pub mod Members
+pub mod Places
+pub mod Pool
+pub mod Refused
+pub mod Room
+pub mod Spans
+pub mod Stepped
+pub mod TwoRanges
