@@ -1,5 +1,5 @@
 -- What is known as the lock is made, and the history of turns since: one entry for each turn.
-use Rattle.std.specs.Prelude.{◌≡◌, ℕ, ◌+◌, ◌<◌, ◌≤◌, ◌==◌, Bool, true, false, not, ◌&&◌, if◌then◌else◌, IsTrue, List, take, filter, filter_map, find, position, count_by, slice_get, unwrap_or, is_none, is_some, Option, Some, None, option_map, IfSome}
+use Rattle.std.specs.Prelude.{◌≡◌, ℕ, ◌+◌, ◌<◌, ◌≤◌, ◌==◌, Bool, true, false, not, ◌&&◌, nat_lt, if◌then◌else◌, IsTrue, List, take, filter, filter_map, find, position, count_by, slice_get, unwrap_or, is_none, is_some, Option, Some, None, option_map, IfSome}
 use Rattle.nl_field.specs.CrashStates.{saturated}
 use Rattle.nl_field.specs.declared.shape.Shape.{Shape}
 use Rattle.nl_tree.specs.Tree.{Tree}
@@ -41,6 +41,14 @@ is_effect entry = not (entry.line == 0)
 
 abbrev pub effects : List Entry → ℕ
 effects history = count_by is_effect history
+
+-- how many turns found a page without the wanted stamp, in a staging or a background task
+abbrev pub losses : List Entry → ℕ
+losses history = count_by (λ e. e.lost) history
+
+-- whether one of them did
+abbrev pub has_lost_page : List Entry → Bool
+has_lost_page history = nat_lt 0 (losses history)
 
 -- how many effects come before the entry at i, and the place that its own effect has
 unfoldable pub effects_before : List Entry → ℕ → ℕ

@@ -9,8 +9,10 @@ use Rattle.nl_tree.specs.declared.call.Call.{Call}
 use Rattle.nl_tree.specs.declared.call.Line.{Line}
 use Rattle.nl_tree.specs.declared.reply.Reply.{Reply}
 use Rattle.nl_tree.specs.declared.reply.Reply.TheVariants.{Synced, Fault as FaultAnswer}
+use Rattle.nl_tree.specs.declared.turn.DutyAnswer.{DutyAnswer}
+use Rattle.nl_tree.specs.declared.turn.DutyAnswer.TheVariants.{Lost as DutyLost}
 use Rattle.nl_tree.specs.declared.turn.Stage.{Stage}
-use Rattle.nl_tree.specs.declared.turn.Stage.TheVariants.{Staged, Fault as StageFault}
+use Rattle.nl_tree.specs.declared.turn.Stage.TheVariants.{Staged, Fault as StageFault, Lost as StageLost}
 use Rattle.nl_turns.specs.History.{Opening, effects, fault_of, line_at, tree_after, opening_counts}
 use Rattle.nl_turns.specs.declared.entry.Entry.{Entry}
 use Rattle.nl_turns.specs.declared.entry.FaultMark.{FaultMark}
@@ -28,6 +30,15 @@ abbrev pub is_staged : Stage → Bool
 is_staged Staged = true
 is_staged _ = false
 
+-- a page was found without the wanted stamp
+abbrev pub is_lost_stage : Stage → Bool
+is_lost_stage (StageLost wanted found) = true
+is_lost_stage _ = false
+
+abbrev pub is_lost_duty : DutyAnswer → Bool
+is_lost_duty (DutyLost wanted found) = true
+is_lost_duty _ = false
+
 abbrev pub fault_mark : Reply → FaultMark
 fault_mark (FaultAnswer fault) = Fault fault
 fault_mark _ = NoFault
@@ -37,13 +48,13 @@ sync_mark (Synced upto moment) = At upto moment
 sync_mark _ = NoSync
 
 abbrev pub stage_entry : ℕ → Stage → Entry
-stage_entry line answer = record { line = 0; staged = line; more = is_staged answer; fault = NoFault; synced = NoSync }
+stage_entry line answer = record { line = 0; staged = line; more = is_staged answer; lost = is_lost_stage answer; fault = NoFault; synced = NoSync }
 
 abbrev pub effect_entry : ℕ → Reply → Entry
-effect_entry line reply = record { line = line; staged = 0; more = false; fault = fault_mark reply; synced = sync_mark reply }
+effect_entry line reply = record { line = line; staged = 0; more = false; lost = false; fault = fault_mark reply; synced = sync_mark reply }
 
-abbrev pub duty_entry : Entry
-duty_entry = record { line = 0; staged = 0; more = false; fault = NoFault; synced = NoSync }
+abbrev pub duty_entry : DutyAnswer → Entry
+duty_entry answer = record { line = 0; staged = 0; more = false; lost = is_lost_duty answer; fault = NoFault; synced = NoSync }
 
 -- ---- what a call may be asked, and what it does
 

@@ -1,7 +1,7 @@
 ghost use Rattle.std.specs.Prelude.{◌≡◌};
 ghost use Rattle.nl_turns.specs.Served.{stage_entry, effect_entry, duty_entry};
 
-use nl_tree::{FaultReply, Reply, Stage};
+use nl_tree::{DutyAnswer, FaultReply, Reply, Stage};
 
 /// The fault reply of an effect, if it had one.
 #[derive(Clone, Copy, Debug, PartialEq, Eq)]
@@ -26,6 +26,9 @@ pub struct Entry {
     pub staged: u32,
     /// Whether that staging put a page in flight, so that more may be left.
     pub more: bool,
+    /// Whether the staging or the background task found a page without the wanted stamp. An effect that finds one tells it by its fault,
+    /// and is not counted here.
+    pub lost: bool,
     pub fault: FaultMark,
     pub synced: SyncMark,
 }
@@ -39,6 +42,7 @@ impl Entry {
             line: 0,
             staged: line,
             more: matches!(answer, Stage::Staged),
+            lost: matches!(answer, Stage::Lost { .. }),
             fault: FaultMark::NoFault,
             synced: SyncMark::NoSync,
         }
@@ -48,7 +52,7 @@ impl Entry {
     pub fn of_effect(line: u32, reply: Reply) -> Entry
         ensures { result ≡ effect_entry line reply }
     {
-        let mut entry = Entry::of_duty();
+        let mut entry = Entry::of_duty(DutyAnswer::Did);
         entry.line = line;
         match reply {
             Reply::Fault(fault) => entry.fault = FaultMark::Fault(fault),
@@ -59,13 +63,14 @@ impl Entry {
     }
 
     /// Of a turn with a background task.
-    pub fn of_duty() -> Entry
-        ensures { result ≡ duty_entry }
+    pub fn of_duty(answer: DutyAnswer) -> Entry
+        ensures { result ≡ duty_entry answer }
     {
         Entry {
             line: 0,
             staged: 0,
             more: false,
+            lost: matches!(answer, DutyAnswer::Lost { .. }),
             fault: FaultMark::NoFault,
             synced: SyncMark::NoSync,
         }

@@ -71,9 +71,10 @@ pub(crate) trait Says {
 }
 
 impl Says for Brand {
+    ghost use Rattle.nl_tree.specs.declared.turn.DutyAnswer.TheVariants.{Nothing};
     ghost use Rattle.nl_turns.specs.Served.{duty_entry};
 
-    ghost entry = { duty_entry };
+    ghost entry = { duty_entry Nothing };
 }
 
 pub(crate) struct Add<E> {

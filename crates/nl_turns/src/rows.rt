@@ -1,11 +1,13 @@
 //! The definitions of a history, on worked rows.
-ghost use Rattle.std.specs.Prelude.{◌≡◌, ◌∷◌, [], Some, None};
+ghost use Rattle.std.specs.Prelude.{◌≡◌, true, false, ◌∷◌, [], Some, None};
 ghost use Rattle.nl_tree.specs.Tree.{directory};
 ghost use Rattle.nl_tree.specs.declared.call.Call.TheVariants.{Mkdir, Stat, Sync};
-ghost use Rattle.nl_tree.specs.declared.reply.FaultReply.TheVariants.{Eio};
+ghost use Rattle.nl_tree.specs.declared.reply.FaultReply.TheVariants.{Eio, Edamaged};
 ghost use Rattle.nl_tree.specs.declared.reply.Reply.TheVariants.{Done, Dir, Synced, Fault};
-ghost use Rattle.nl_turns.specs.History.{effects, place_of, effects_before, begun_at, marked_calls, tree_after, syncs_of, IsKnown, SyncsInRange};
-ghost use Rattle.nl_turns.specs.Served.{effect_entry, place_due, outcome_due, IsLineOf};
+ghost use Rattle.nl_tree.specs.declared.turn.Stage.TheVariants.{Lost};
+ghost use Rattle.nl_tree.specs.declared.turn.DutyAnswer.TheVariants.{Lost as LostPage};
+ghost use Rattle.nl_turns.specs.History.{effects, has_lost_page, place_of, effects_before, begun_at, marked_calls, tree_after, syncs_of, IsKnown, SyncsInRange};
+ghost use Rattle.nl_turns.specs.Served.{stage_entry, effect_entry, duty_entry, place_due, outcome_due, IsLineOf};
 ghost use Rattle.nl_turns.specs.Examples.{dir_a, from_five, five_turns};
 
 // Three of the turns are effects. They have the places 6, 7 and 8.
@@ -48,4 +50,12 @@ pub fn due_next()
     ensures place { place_due from_five (five_turns 6) 3 (Dir 1) ≡ 9 }
     ensures reply { (outcome_due from_five (five_turns 6) (Stat []) (Dir 1)).reply ≡ Dir 1 }
     ensures fault { (outcome_due from_five (five_turns 6) (Stat []) (Fault (Eio 2))).reply ≡ Fault (Eio 2) }
+{}
+
+// A page is lost in the turn of a staging or a background task that answered so. An effect tells it by its fault.
+pub fn lost_pages()
+    ensures none { has_lost_page (five_turns 6) ≡ false }
+    ensures staging { has_lost_page (stage_entry 1 (Lost 4 0) ∷ []) ≡ true }
+    ensures task { has_lost_page (effect_entry 1 Done ∷ duty_entry (LostPage 4 0) ∷ []) ≡ true }
+    ensures effect { has_lost_page (effect_entry 1 (Fault (Edamaged 4 0)) ∷ []) ≡ false }
 {}

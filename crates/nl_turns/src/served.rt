@@ -65,7 +65,7 @@ pub trait Served: Kept {
     /// One background task.
     fn duty(&mut self, which: Duty) -> DutyAnswer
         requires { StandsForSome Self.stands self.old }
-        ensures stands { (v : Self) (o : Opening) (h : List TurnEntry) → Self.stands v o h self.old → Self.stands v o (h ++ duty_entry ∷ []) self.new }
+        ensures stands { (v : Self) (o : Opening) (h : List TurnEntry) → Self.stands v o h self.old → Self.stands v o (h ++ duty_entry result ∷ []) self.new }
         ensures counts { NeverFall (counts self.old) (counts self.new) }
         ensures less { NoMoreToStage (to_stage self.old) (to_stage self.new) }
         ensures read_only { StaysReadOnly (counts self.old) (counts self.new) (read_only self.old) (read_only self.new) }

@@ -2,10 +2,11 @@ ghost use Rattle.std.specs.Prelude.{◌≡◌, ℕ, List, ◌+◌, ◌++◌, ◌
 ghost use mathlib.Core.List.{IsPrefix};
 ghost use Rattle.nl_field.specs.CrashStates.{saturated};
 ghost use Rattle.nl_tree.specs.Replay.{Answers};
+ghost use Rattle.nl_tree.specs.declared.turn.Stage.{Stage as LastStage};
 ghost use Rattle.nl_tree.specs.declared.turn.Stage.TheVariants as stage;
 ghost use Rattle.nl_turns.specs.History.{effects};
 ghost use Rattle.nl_turns.specs.Seat.{entries, SeatState};
-ghost use Rattle.nl_turns.specs.Served.{stage_entry, effect_entry, outcome_due};
+ghost use Rattle.nl_turns.specs.Served.{stage_entry, effect_entry, is_staged, outcome_due};
 ghost use Rattle.nl_turns.specs.declared.entry.Entry.{Entry as TurnEntry};
 ghost use Rattle.nl_turns_tests.specs.Work.{entries_of, HasLine};
 
@@ -71,7 +72,8 @@ pub fn run_line<V: Served, R: Wait>(
     requires line { HasLine seat.opening line.now }
     ensures seat { result.0 ≡ record seat { seen = result.0.seen } }
     ensures grows { IsPrefix seat.seen result.0.seen }
-    ensures own { (k : ℕ) × (entries_of seat.number result.0.seen ≡ (entries_of seat.number seat.seen ++ replicate k (stage_entry line.now.line stage.Staged)) ++ stage_entry line.now.line stage.Whole ∷ effect_entry line.now.line result.1.reply ∷ []) }
+    ensures own { (k : ℕ) × (last : LastStage) × (is_staged last ≡ false) × (entries_of seat.number result.0.seen
+        ≡ (entries_of seat.number seat.seen ++ replicate k (stage_entry line.now.line stage.Staged)) ++ stage_entry line.now.line last ∷ effect_entry line.now.line result.1.reply ∷ []) }
     ensures place { result.1.place ≡ saturated (seat.opening.count + effects (entries result.0.seen)) }
 {
     for _ in rt.forever() {

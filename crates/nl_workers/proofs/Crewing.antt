@@ -1,17 +1,20 @@
 -- One worker more in an epoch.
-use Rattle.std.proofs.Common.{◌≡◌, ◌⊎◌, inl, inr, ◌==◌, ◌&&◌, ℕ, zero, suc, ◌+◌, ◌-◌, ◌<◌, Bool, true, false, cond, nat_lt, List, [], ◌∷◌, ◌++◌, length, Some, refl, sym, ap, ◌∙◌, subst, arith, length-append}
+use Rattle.std.proofs.Common.{◌≡◌, ◌⊎◌, inl, inr, ◌==◌, ◌&&◌, ◌||◌, ℕ, zero, suc, ◌+◌, ◌-◌, ◌<◌, Bool, true, false, cond, nat_lt, List, [], ◌∷◌, ◌++◌, length, Some, refl, sym, ap, ◌∙◌, subst, arith, length-append}
 use Rattle.std.proofs.lemmas.Bool.Decides.{nat_tests}
 use Rattle.std.proofs.lemmas.List.{append-nil}
 use Rattle.std.proofs.lemmas.List.Sums.{sum_by-cons}
-use Rattle.std.specs.Prelude.{slice_get, Contains}
+use Rattle.std.specs.Prelude.{slice_get, Contains, count_by}
 use mathlib.Core.List.{IsPrefix}
 use Rattle.nl_tree.specs.declared.call.Line.{Line}
+use Rattle.nl_turns.specs.History.{losses}
 use Rattle.nl_turns.specs.Seat.{Passed, SeatState, by_seat, entries, longer, NoneBeyond}
 use Rattle.nl_turns.proofs.Histories.{prefix_trans}
-use Rattle.nl_workers.specs.Placed.{EachPlaced, entries_of, effects_of}
+use Rattle.nl_workers.specs.Placed.{EachPlaced, KnowsLosses, entries_of, effects_of, losses_by}
 use Rattle.nl_workers.specs.Worked.{AreLinesOf, IsStation, MayWork, HasWorked, AreDone, lines_between, lines_of}
-use Rattle.nl_workers.specs.Crew.{MayStart, HasRun, effects_from, lines_below}
+use Rattle.nl_workers.specs.Crew.{MayStart, HasRun, any_lost, counted_from, effects_from, losses_from, lines_below}
+use Rattle.nl_turns.specs.declared.entry.Entry.{Entry}
 use Rattle.nl_workers.specs.declared.station.Station.{Station}
+use Rattle.nl_workers.proofs.Losing.{knows_self, knows_trans, knows_beside, first_knows, second_knows, stations_know, any_push}
 use Rattle.nl_workers.proofs.Splits.{has_own}
 use Rattle.nl_workers.proofs.Turned.{placed_grows, effect_grows}
 use Rattle.nl_workers.proofs.Working.{station_grows}
@@ -71,14 +74,20 @@ below_zero m (x ∷ xs) =
 pub effects_same : (m n : ℕ) (old all : List Passed) → by_seat n all ≡ by_seat n old → effects_of m (entries_of n all) ≡ effects_of m (entries_of n old)
 effects_same m n old all same = ap (λ (ps : List Passed). effects_of m (entries ps)) same
 
-pub effects_stay : (m first count : ℕ) (old all : List Passed) → ((i : ℕ) → i < count → by_seat (first + i) all ≡ by_seat (first + i) old) → effects_from m first count all ≡ effects_from m first count old
-effects_stay m first zero old all same = refl
-effects_stay m first (suc count) old all same =
+pub losses_same : (n : ℕ) (old all : List Passed) → by_seat n all ≡ by_seat n old → losses_by n all ≡ losses_by n old
+losses_same n old all same = ap (λ (ps : List Passed). losses (entries ps)) same
+
+pub counted_stay : (f : Entry → Bool) (first count : ℕ) (old all : List Passed) → ((i : ℕ) → i < count → by_seat (first + i) all ≡ by_seat (first + i) old) → counted_from f first count all ≡ counted_from f first count old
+counted_stay f first zero old all same = refl
+counted_stay f first (suc count) old all same =
     let n : first + 0 ≡ first = omega arith in
     let here : by_seat first all ≡ by_seat first old = subst (λ k. by_seat k all ≡ by_seat k old) n (same 0 (omega arith)) in
-    let a = effects_same m first old all here in
-    let b = effects_stay m (first + 1) count old all (λ i lt. let k : first + suc i ≡ first + 1 + i = omega arith in subst (λ j. by_seat j all ≡ by_seat j old) k (same (suc i) (omega arith))) in
+    let a : count_by f (entries_of first all) ≡ count_by f (entries_of first old) = ap (λ (ps : List Passed). count_by f (entries ps)) here in
+    let b = counted_stay f (first + 1) count old all (λ i lt. let k : first + suc i ≡ first + 1 + i = omega arith in subst (λ j. by_seat j all ≡ by_seat j old) k (same (suc i) (omega arith))) in
     omega arith
+
+pub effects_stay : (m first count : ℕ) (old all : List Passed) → ((i : ℕ) → i < count → by_seat (first + i) all ≡ by_seat (first + i) old) → effects_from m first count all ≡ effects_from m first count old
+effects_stay m first count old all same = counted_stay (λ (e : Entry). e.line == m) first count old all same
 
 -- ---- no worker
 
@@ -93,6 +102,7 @@ none_ran tells lines from to seat stations none may = record {
   each = λ i h. absurd (omega arith);
   placed = may.placed;
   done = λ m some. let a : lines_below m (length stations) (lines_between from to lines) ≡ 0 = ap (λ (s : List Station). lines_below m (length s) (lines_between from to lines)) none ∙ below_zero m (lines_between from to lines) in omega arith;
+  knows = knows_beside (any_lost stations) (any_lost stations) (losses_by 0 seat.seen) (losses_by 0 seat.seen) 0 (losses_by 0 seat.seen) (losses_by 0 seat.seen + 0) (omega arith) refl (knows_self (any_lost stations) (losses_by 0 seat.seen));
   size = refl;
   stations_are = λ w s e. let h : slice_get [] w ≡ Some s = subst (λ (xs : List Station). slice_get xs w ≡ Some s) none e in absurd (cc h);
 }
@@ -120,7 +130,7 @@ module _ (tells : Type 0) (lines : List Line) (from to worker : ℕ) (seat : Sea
     station_is = station_now;
   }
 
-  module _ (seat1 : SeatState) (station' : Station) (worked : HasWorked tells lines worker from to seat seat1 station') where
+  module _ (seat1 : SeatState) (station' : Station) (worked : HasWorked tells lines worker from to seat station seat1 station') where
     next1 : seat1.next ≡ seat.next
     next1 = ap (λ (z : SeatState). z.next) worked.goes.same
 
@@ -182,6 +192,9 @@ module _ (tells : Type 0) (lines : List Line) (from to worker : ℕ) (seat : Sea
             ap (λ k. lines_below m k (lines_between from to lines)) count_is ∙ below_more m (length more) (lines_between from to lines) in
             let e : effects_from m seat1.next ran.count seat2.seen ≡ effects_from m seat.next ran.count seat2.seen = ap (λ n. effects_from m n ran.count seat2.seen) next1 in
             omega arith;
+        knows = stations_know more more' station station' (losses_by 0 seat.seen) (losses_by 0 seat1.seen) (losses_by 0 seat2.seen + losses_from seat.next ran.count seat2.seen)
+            (subst (λ n. KnowsLosses station.lost station'.lost (losses_by n seat.seen) (losses_by n seat1.seen)) may.first worked.knows)
+            (subst (λ n. KnowsLosses (any_lost more) (any_lost more') (losses_by 0 seat1.seen) (losses_by 0 seat2.seen + losses_from n ran.count seat2.seen)) next1 ran.knows);
         size = length-append more' (station' ∷ []) ∙ (ap (λ n. n + 1) ran.size ∙ sym count_is);
         stations_are = stations_now;
       }
@@ -234,7 +247,7 @@ module _ (tells : Type 0) (lines : List Line) (from to worker : ℕ) (seat : Sea
         }
 
     module _ (own' s2 s3 : SeatState) (station' : Station) (more' : List Station) (places : 0 < seat.places)
-        (worked : HasWorked tells lines worker from to own own' station') (ran : HasRun tells lines from to left more s2 more')
+        (worked : HasWorked tells lines worker from to own station own' station') (ran : HasRun tells lines from to left more s2 more')
         (joined : s3 ≡ record s2 { seen = longer s2.seen own'.seen; places = s2.places + 1; joined = own'.number ∷ s2.joined })
         (grows : IsPrefix s2.seen s3.seen × IsPrefix own'.seen s3.seen)
         (kept : by_seat 0 s3.seen ≡ by_seat 0 s2.seen)
@@ -303,6 +316,29 @@ module _ (tells : Type 0) (lines : List Line) (from to worker : ℕ) (seat : Sea
           let c : effects_of m (entries_of seat.next own.seen) ≡ 0 = ap (λ (ps : List Passed). effects_of m (entries ps)) (unused seat.next (let e = own_number in omega arith)) in
           omega arith
 
+      -- those of the other workers, and then those of the new seat
+      knows_is : KnowsLosses (any_lost (more ++ station ∷ [])) (any_lost (more' ++ station' ∷ [])) (losses_by 0 seat.seen)
+          (losses_by 0 s3.seen + losses_from seat.next (suc ran.count) s3.seen)
+      knows_is =
+          let mine = losses_by seat.next s3.seen in
+          let others = losses_by 0 s3.seen + losses_from (seat.next + 1) ran.count s3.seen in
+          let none : losses_by seat.next own.seen ≡ 0 = ap (λ (ps : List Passed). losses (entries ps)) (unused seat.next (let e = own_number in omega arith)) in
+          let same : losses_by seat.next s3.seen ≡ losses_by seat.next own'.seen = losses_same seat.next own'.seen s3.seen (subst (λ n. by_seat n s3.seen ≡ by_seat n own'.seen) number_is theirs) in
+          let a : KnowsLosses station.lost station'.lost 0 mine = subst (λ (z : ℕ × ℕ). KnowsLosses station.lost station'.lost z.0 z.1) (λ i. (none i, sym same i))
+          (subst (λ n. KnowsLosses station.lost station'.lost (losses_by n own.seen) (losses_by n own'.seen)) own_number worked.knows) in
+          let b : losses_by 0 left.seen ≡ losses_by 0 seat.seen = ap (λ (ps : List Passed). losses_by 0 ps) left_seen in
+          let c : losses_by 0 s3.seen ≡ losses_by 0 s2.seen = losses_same 0 s2.seen s3.seen kept in
+          let d : losses_from (seat.next + 1) ran.count s3.seen ≡ losses_from left.next ran.count s2.seen =
+          ap (λ n. losses_from n ran.count s3.seen) (sym left_next) ∙ counted_stay (λ (e : Entry). e.lost) left.next ran.count s2.seen s3.seen (λ i lt. before (left.next + i) (ran.each i lt).0) in
+          let e : losses_by 0 s2.seen + losses_from left.next ran.count s2.seen ≡ others = omega arith in
+          let r : KnowsLosses (any_lost more) (any_lost more') (losses_by 0 seat.seen) others = subst (λ (z : ℕ × ℕ). KnowsLosses (any_lost more) (any_lost more') z.0 z.1) (λ i. (b i, e i)) ran.knows in
+          let all : losses_by 0 s3.seen + losses_from seat.next (suc ran.count) s3.seen ≡ mine + others = omega arith in
+          subst (λ (z : Bool × Bool). KnowsLosses z.0 z.1 (losses_by 0 seat.seen) (losses_by 0 s3.seen + losses_from seat.next (suc ran.count) s3.seen)) (λ n. (sym (any_push more station) n, sym (any_push more' station') n))
+          (knows_trans (any_lost more || station.lost) (any_lost more' || station.lost) (any_lost more' || station'.lost) (losses_by 0 seat.seen) others (losses_by 0 s3.seen + losses_from seat.next (suc ran.count) s3.seen)
+          (first_knows station.lost (any_lost more) (any_lost more') (losses_by 0 seat.seen) others r)
+          (knows_beside (any_lost more' || station.lost) (any_lost more' || station'.lost) 0 mine others others (losses_by 0 s3.seen + losses_from seat.next (suc ran.count) s3.seen) (omega arith) all
+          (second_knows (any_lost more') station.lost station'.lost 0 mine a)))
+
       stations_after : (w : ℕ) (s : Station) → slice_get (more' ++ station' ∷ []) w ≡ Some s → IsStation tells seat.opening lines w to s3.seen s
       stations_after w s e = go (get_either more' station' s w e)
         where
@@ -336,6 +372,7 @@ module _ (tells : Type 0) (lines : List Line) (from to worker : ℕ) (seat : Sea
             let f : effects_of m (entries_of 0 s3.seen) ≡ effects_of m (entries_of 0 s2.seen) = effects_same m 0 s2.seen s3.seen kept in
             let g : effects_of m (entries_of 0 left.seen) ≡ effects_of m (entries_of 0 seat.seen) = ap (λ (ps : List Passed). effects_of m (entries_of 0 ps)) left_seen in
             omega arith;
+        knows = knows_is;
         size = length-append more' (station' ∷ []) ∙ (ap (λ n. n + 1) ran.size ∙ sym count_is);
         stations_are = stations_after;
       }

@@ -1,24 +1,27 @@
 -- The first epoch and the last.
-use Rattle.std.proofs.Common.{◌≡◌, ◌⊎◌, inl, inr, ℕ, zero, suc, ◌+◌, ◌-◌, ◌<◌, ◌≤◌, false, List, [], length, Some, refl, sym, ap, ◌∙◌, subst, arith}
+use Rattle.std.proofs.Common.{◌≡◌, ◌⊎◌, inl, inr, ℕ, zero, suc, ◌+◌, ◌-◌, ◌<◌, ◌≤◌, Bool, false, nat_lt, ◌||◌, List, [], length, Some, refl, sym, ap, ◌∙◌, subst, arith}
 use Rattle.std.specs.Prelude.{slice_get, take}
 use Rattle.atomic_table.specs.Seated.{TableId}
 use Rattle.nl_callbacks.specs.declared.notices.Notices.{Notices}
 use Rattle.nl_tree.specs.Calls.{AreLines}
 use Rattle.nl_tree.specs.declared.call.Line.{Line}
 use Rattle.nl_turns.specs.Seat.{Passed, SeatState, by_seat, entries}
-use Rattle.nl_workers.specs.Placed.{EachPlaced, IsPlaced, entries_of, effects_of}
+use Rattle.nl_workers.specs.Placed.{EachPlaced, IsPlaced, KnowsLosses, entries_of, effects_of, losses_by}
 use Rattle.nl_workers.specs.Duties.{MayClean, MayHandle}
 use Rattle.nl_workers.specs.Fresh.{AreFresh}
 use Rattle.nl_workers.specs.Worked.{IsStation}
-use Rattle.nl_workers.specs.Crew.{effects_from}
+use Rattle.nl_workers.specs.Crew.{any_lost, effects_from, losses_from}
 use Rattle.nl_workers.specs.Rounds.{IsFirstSeat, AllPlaced}
 use Rattle.nl_workers.specs.Going.{IsDutySeat, IsGoing, MayGo, IsHome, HasRunAll, times_in}
 use Rattle.nl_workers.specs.declared.crew.Crew.{Crew}
 use Rattle.nl_workers.specs.declared.station.Station.{Station}
-use Rattle.nl_workers.proofs.Crewing.{effects_same, effects_stay}
+use Rattle.nl_turns.specs.History.{losses, has_lost_page}
+use Rattle.nl_turns.specs.declared.entry.Entry.{Entry}
+use Rattle.nl_workers.proofs.Crewing.{counted_stay, effects_same, effects_stay, losses_same}
 use Rattle.nl_workers.proofs.Epochs.{below_or}
+use Rattle.nl_workers.proofs.Losing.{knows_self, both_know, none_lost_yet}
 use Rattle.nl_workers.proofs.Splits.{has_own}
-use Rattle.nl_workers.proofs.Totals.{all_effects, from_append, take_whole}
+use Rattle.nl_workers.proofs.Totals.{all_counted, all_effects, counted_append, from_append, take_whole}
 use Rattle.nl_workers.proofs.Turned.{placed_grows}
 use Rattle.nl_workers.proofs.Working.{station_grows}
 
@@ -56,6 +59,9 @@ module _ (tells : Type 0) (lock : TableId) (notices : Notices) (lines : List Lin
     done = λ m some. ap (λ (ps : List Passed). effects_of m (entries_of n ps)) none;
   }
 
+  knows_none : (b : Bool) (n : ℕ) → b ≡ false → n ≡ 0 → KnowsLosses false b 0 n
+  knows_none b n is none = subst (λ (z : Bool × ℕ). KnowsLosses false z.0 0 z.1) (λ i. (sym is i, sym none i)) (knows_self false 0)
+
   module _ (crew : Crew) (seat_is : crew.seat ≡ s2) (stations_are : crew.stations.items ≡ stations) (first_is : crew.cleaner.seat ≡ first) (second_is : crew.handler.seat ≡ second)
       (cleaner : MayClean lock notices crew.cleaner) (handler : MayHandle lock notices crew.handler) (none_lost : crew.cleaner.lost ≡ false) (none_lost' : crew.handler.lost ≡ false) where
     seen_none : crew.seat.seen ≡ []
@@ -90,15 +96,25 @@ module _ (tells : Type 0) (lock : TableId) (notices : Notices) (lines : List Lin
           let c : effects_from m 3 (crew.seat.next - 3) crew.seat.seen ≡ 0 = ap (λ k. effects_from m 3 k crew.seat.seen) n in
           let d : times_in m (take 0 lines) ≡ 0 = refl in
           omega arith;
+      workers_know =
+          (let a : any_lost crew.stations.items ≡ false = ap any_lost stations_are ∙ none_lost_yet stations (λ k s e. (fresh.each k s e).not_lost) in
+          let b : losses_by 0 crew.seat.seen ≡ 0 = ap (losses_by 0) seen_none in
+          let n : crew.seat.next - 3 ≡ 0 = (let d = next3 in omega arith) in
+          let c : losses_from 3 (crew.seat.next - 3) crew.seat.seen ≡ 0 = ap (λ k. losses_from 3 k crew.seat.seen) n in
+          let all : losses_by 0 crew.seat.seen + losses_from 3 (crew.seat.next - 3) crew.seat.seen ≡ 0 = omega arith in
+          knows_none (any_lost crew.stations.items) (losses_by 0 crew.seat.seen + losses_from 3 (crew.seat.next - 3) crew.seat.seen) a all);
       size = ap length stations_are ∙ fresh.size;
       stations_are = λ w s e. station_now w s (ap (λ xs. slice_get xs w) (sym stations_are) ∙ e);
       cleaner = cleaner;
       cleaner_seat = duty_seat 1 crew.cleaner.seat (ap (λ (z : SeatState). z.number) (first_is ∙ new1) ∙ is_first.none_given) (ap (λ (z : SeatState). z.seen) (first_is ∙ new1) ∙ is_first.none_seen);
+      cleaner_knows = knows_none crew.cleaner.lost (losses_by 1 crew.cleaner.seat.seen) none_lost (ap (losses_by 1) (ap (λ (z : SeatState). z.seen) (first_is ∙ new1) ∙ is_first.none_seen));
       cleaner_lost = λ t. none_lost;
       handler = handler;
       handler_seat = duty_seat 2 crew.handler.seat
           (ap (λ (z : SeatState). z.number) (second_is ∙ new2) ∙ let a : s1.next ≡ seat.next + 1 = ap (λ (z : SeatState). z.next) left1 in let b = is_first.none_given in omega arith)
           (ap (λ (z : SeatState). z.seen) (second_is ∙ new2) ∙ (ap (λ (z : SeatState). z.seen) left1 ∙ is_first.none_seen));
+      handler_knows = knows_none crew.handler.lost (losses_by 2 crew.handler.seat.seen) none_lost'
+          (ap (losses_by 2) (ap (λ (z : SeatState). z.seen) (second_is ∙ new2) ∙ (ap (λ (z : SeatState). z.seen) left1 ∙ is_first.none_seen)));
       handler_lost = λ t. none_lost';
     }
 
@@ -153,6 +169,32 @@ module _ (tells : Type 0) (lock : TableId) (notices : Notices) (lines : List Lin
           let l = w.done m some in
           let n : times_in m (take (length lines) lines) ≡ times_in m lines = ap (times_in m) (take_whole lines) in
           omega arith
+
+      -- the entries of all seats are those of the cleaner, of the handler, and of the workers
+      all_losses : losses (entries after.seen) ≡ losses_by 1 end.cleaner.seat.seen + (losses_by 2 end.handler.seat.seen + (losses_by 0 end.seat.seen + losses_from 3 (end.seat.next - 3) end.seat.seen))
+      all_losses =
+          let a = all_counted (λ (e : Entry). e.lost) after.next after.seen home.numbers in
+          let t = w.some in
+          let e = next_is in
+          let split : after.next ≡ 3 + (end.seat.next - 3) = omega arith in
+          let b : losses_from 0 after.next after.seen ≡ losses_from 0 (3 + (end.seat.next - 3)) after.seen = ap (λ k. losses_from 0 k after.seen) split in
+          let c = counted_append (λ (e : Entry). e.lost) 0 3 (end.seat.next - 3) after.seen in
+          let d : losses_from 0 3 after.seen ≡ losses_by 0 after.seen + (losses_by 1 after.seen + (losses_by 2 after.seen + 0)) = refl in
+          let f = losses_same 0 end.seat.seen after.seen home.own in
+          let g = losses_same 1 end.cleaner.seat.seen after.seen first_same in
+          let h = losses_same 2 end.handler.seat.seen after.seen second_same in
+          let k : losses_from 3 (end.seat.next - 3) after.seen ≡ losses_from 3 (end.seat.next - 3) end.seat.seen =
+          counted_stay (λ (e : Entry). e.lost) 3 (end.seat.next - 3) end.seat.seen after.seen (λ i lt. home.joined (3 + i) (w.known (3 + i) (omega arith) (omega arith)).0) in
+          omega arith
+
+      pub finds : (lost : Bool) → lost ≡ (end.cleaner.lost || (end.handler.lost || any_lost end.stations.items)) → lost ≡ has_lost_page (entries after.seen)
+      finds lost is =
+          let l1 = losses_by 1 end.cleaner.seat.seen in
+          let l2 = losses_by 2 end.handler.seat.seen in
+          let l3 = losses_by 0 end.seat.seen + losses_from 3 (end.seat.next - 3) end.seat.seen in
+          let k = both_know end.cleaner.lost (end.handler.lost || any_lost end.stations.items) l1 (l2 + l3) w.cleaner_knows
+          (both_know end.handler.lost (any_lost end.stations.items) l2 l3 w.handler_knows w.workers_know) in
+          is ∙ (k.after_is ∙ ap (λ n. nat_lt 0 n) (sym all_losses))
 
       same_now : after ≡ record seat { seen = after.seen; next = after.next; joined = after.joined }
       same_now =

@@ -3,6 +3,7 @@ pub mod GoingOn
 pub mod Turned
 pub mod Telling
 pub mod Epochs
+pub mod Losing
 pub mod ReplyBytes
 pub mod Filings
 pub mod Working
@@ -17,4 +18,5 @@ pub mod Ordering
 pub mod Rooms
 pub mod Ending
 pub mod Serving
+pub mod LostStations
 pub mod Sending

@@ -10,33 +10,42 @@ use Rattle.nl_tree.specs.declared.turn.DutyAnswer.TheVariants.{Did, Nothing, Fau
 use Rattle.nl_turns.specs.Seat.{SeatState}
 use Rattle.nl_tree.specs.declared.turn.Stage.{Stage}
 use Rattle.nl_tree.specs.declared.turn.Stage.TheVariants as stage
-use Rattle.nl_turns.specs.Served.{duty_entry}
-use Rattle.nl_workers.specs.Placed.{HasPassed, EachPlaced, entries_of, is_lost_stage}
-use Rattle.nl_workers.specs.Duties.{HasServed, IsOutbox, MayClean, HasCleaned, MayHandle, HasHandled, is_lost}
+use Rattle.nl_turns.specs.Served.{duty_entry, is_lost_duty, is_lost_stage}
+use Rattle.nl_workers.specs.Placed.{HasPassed, EachPlaced, KnowsLosses, entries_of, losses_by}
+use Rattle.nl_workers.specs.Duties.{HasServed, IsOutbox, MayClean, HasCleaned, MayHandle, HasHandled}
 use Rattle.nl_workers.specs.declared.duty.Cleaner.{Cleaner}
 use Rattle.nl_workers.specs.declared.duty.Handler.{Handler}
 use Rattle.nl_workers.specs.declared.outbox.Outbox.{Outbox}
 use Rattle.nl_workers.proofs.Turned.{passed_placed, passed_effects, effects_none}
+use Rattle.nl_workers.proofs.Losing.{passed_losses, knows_self, knows_trans, knows_one}
 use Rattle.nl_workers.proofs.GoingOn.{goes_self, goes_trans, passed_goes}
 
 pub idles : (seat : SeatState) → HasServed seat seat
 idles seat = record { goes = goes_self seat; placed = λ lines h. h; done = λ m some. refl }
 
-pub serves : (seat s s' : SeatState) → HasServed seat s → HasPassed s duty_entry s' → HasServed seat s'
-serves seat s s' i p =
+pub serves : (seat s s' : SeatState) (answer : DutyAnswer) → HasServed seat s → HasPassed s (duty_entry answer) s' → HasServed seat s'
+serves seat s s' answer i p =
     let number : s.number ≡ seat.number = ap (λ (z : SeatState). z.number) i.goes.same in
     record {
-      goes = goes_trans seat s s' i.goes (passed_goes s s' duty_entry p);
+      goes = goes_trans seat s s' i.goes (passed_goes s s' (duty_entry answer) p);
       placed = λ lines h. subst (λ n. EachPlaced lines n s'.seen) number
-          (passed_placed lines s s' duty_entry p (subst (λ n. EachPlaced lines n s.seen) (sym number) (i.placed lines h))
+          (passed_placed lines s s' (duty_entry answer) p (subst (λ n. EachPlaced lines n s.seen) (sym number) (i.placed lines h))
           (record { staged = λ a. absurd (omega arith); effect = λ a. absurd (omega arith) }));
-      done = λ m some. passed_effects seat.number m s s' duty_entry number p
-          ∙ (effects_none m (entries_of seat.number s.seen) duty_entry some refl ∙ i.done m some);
+      done = λ m some. passed_effects seat.number m s s' (duty_entry answer) number p
+          ∙ (effects_none m (entries_of seat.number s.seen) (duty_entry answer) some refl ∙ i.done m some);
     }
+
+-- what one turn more tells of lost pages
+duty_knows : (seat s s' : SeatState) (before was now : Bool) (answer : DutyAnswer) → HasServed seat s → HasPassed s (duty_entry answer) s' → now ≡ (was || is_lost_duty answer)
+    → KnowsLosses before was (losses_by seat.number seat.seen) (losses_by seat.number s.seen) → KnowsLosses before now (losses_by seat.number seat.seen) (losses_by seat.number s'.seen)
+duty_knows seat s s' before was now answer i p is k =
+    knows_trans before was now (losses_by seat.number seat.seen) (losses_by seat.number s.seen) (losses_by seat.number s'.seen) k
+    (knows_one was now (is_lost_duty answer) (losses_by seat.number s.seen) (losses_by seat.number s'.seen) is
+    (passed_losses seat.number s s' (duty_entry answer) (ap (λ (z : SeatState). z.number) i.goes.same) p))
 
 -- ---- no page is lost over a medium that tells its contents
 
-pub not_lost : (tells : Type 0) (answer : DutyAnswer) → ((wanted found : ℕ) → answer ≡ Lost wanted found → LostHasCause tells wanted found) → tells → is_lost answer ≡ false
+pub not_lost : (tells : Type 0) (answer : DutyAnswer) → ((wanted found : ℕ) → answer ≡ Lost wanted found → LostHasCause tells wanted found) → tells → is_lost_duty answer ≡ false
 not_lost tells Did h t = refl
 not_lost tells Nothing h t = refl
 not_lost tells Fault h t = refl
@@ -49,31 +58,33 @@ no_lost_stage tells stage.Stopped h t = refl
 no_lost_stage tells stage.Fault h t = refl
 no_lost_stage tells (stage.Lost wanted found) h t = absurd ((h wanted found refl).0 t)
 
-still : (now was before : Bool) (answer : DutyAnswer) → now ≡ (was || is_lost answer) → is_lost answer ≡ false → was ≡ before → now ≡ before
+still : (now was before : Bool) (answer : DutyAnswer) → now ≡ (was || is_lost_duty answer) → is_lost_duty answer ≡ false → was ≡ before → now ≡ before
 still now true before answer is none e = is ∙ e
 still now false before answer is none e = is ∙ (none ∙ e)
 
 -- ---- the loops
 
 pub cleans_none : (tells : Type 0) (lock : TableId) (notices : Notices) (cleaner : Cleaner) → MayClean lock notices cleaner → HasCleaned tells notices cleaner cleaner
-cleans_none tells lock notices cleaner may = record { served = idles cleaner.seat; sends = may.sends; goes_on = omega arith; none_lost = λ t. refl }
+cleans_none tells lock notices cleaner may = record { served = idles cleaner.seat; sends = may.sends; goes_on = omega arith; knows = knows_self cleaner.lost (losses_by cleaner.seat.number cleaner.seat.seen); none_lost = λ t. refl }
 
-pub cleans : (tells : Type 0) (notices : Notices) (cleaner s s' : Cleaner) (answer : DutyAnswer) → HasCleaned tells notices cleaner s → HasPassed s.seat duty_entry s'.seat → IsOutbox notices s'.outbox
-    → s.outbox.last ≤ s'.outbox.last → s'.lost ≡ (s.lost || is_lost answer) → (tells → is_lost answer ≡ false) → HasCleaned tells notices cleaner s'
+pub cleans : (tells : Type 0) (notices : Notices) (cleaner s s' : Cleaner) (answer : DutyAnswer) → HasCleaned tells notices cleaner s → HasPassed s.seat (duty_entry answer) s'.seat → IsOutbox notices s'.outbox
+    → s.outbox.last ≤ s'.outbox.last → s'.lost ≡ (s.lost || is_lost_duty answer) → (tells → is_lost_duty answer ≡ false) → HasCleaned tells notices cleaner s'
 cleans tells notices cleaner s s' answer i p sends on is none = record {
-  served = serves cleaner.seat s.seat s'.seat i.served p;
+  served = serves cleaner.seat s.seat s'.seat answer i.served p;
+  knows = duty_knows cleaner.seat s.seat s'.seat cleaner.lost s.lost s'.lost answer i.served p is i.knows;
   sends = sends;
   goes_on = let a = i.goes_on in omega arith;
   none_lost = λ t. still s'.lost s.lost cleaner.lost answer is (none t) (i.none_lost t);
 }
 
 pub handles_none : (tells : Type 0) (lock : TableId) (notices : Notices) (handler : Handler) → MayHandle lock notices handler → HasHandled tells notices handler handler
-handles_none tells lock notices handler may = record { served = idles handler.seat; takes = may.takes; none_lost = λ t. refl }
+handles_none tells lock notices handler may = record { served = idles handler.seat; takes = may.takes; knows = knows_self handler.lost (losses_by handler.seat.number handler.seat.seen); none_lost = λ t. refl }
 
-pub handles : (tells : Type 0) (notices : Notices) (handler s s' : Handler) (answer : DutyAnswer) → HasHandled tells notices handler s → HasPassed s.seat duty_entry s'.seat → IsTaker notices s'.pass
-    → s'.lost ≡ (s.lost || is_lost answer) → (tells → is_lost answer ≡ false) → HasHandled tells notices handler s'
+pub handles : (tells : Type 0) (notices : Notices) (handler s s' : Handler) (answer : DutyAnswer) → HasHandled tells notices handler s → HasPassed s.seat (duty_entry answer) s'.seat → IsTaker notices s'.pass
+    → s'.lost ≡ (s.lost || is_lost_duty answer) → (tells → is_lost_duty answer ≡ false) → HasHandled tells notices handler s'
 handles tells notices handler s s' answer i p takes is none = record {
-  served = serves handler.seat s.seat s'.seat i.served p;
+  served = serves handler.seat s.seat s'.seat answer i.served p;
+  knows = duty_knows handler.seat s.seat s'.seat handler.lost s.lost s'.lost answer i.served p is i.knows;
   takes = takes;
   none_lost = λ t. still s'.lost s.lost handler.lost answer is (none t) (i.none_lost t);
 }
@@ -82,6 +93,7 @@ pub waits : (tells : Type 0) (notices : Notices) (handler s s' : Handler) → Ha
 waits tells notices handler s s' i seat lost takes = record {
   served = subst (HasServed handler.seat) (sym seat) i.served;
   takes = takes;
+  knows = subst (λ (z : Bool × SeatState). KnowsLosses handler.lost z.0 (losses_by handler.seat.number handler.seat.seen) (losses_by handler.seat.number z.1.seen)) (λ k. (sym lost k, sym seat k)) i.knows;
   none_lost = λ t. lost ∙ i.none_lost t;
 }
 

@@ -2,21 +2,21 @@
 use Rattle.std.proofs.Common.{◌≡◌, ◌==◌, ◌&&◌, ℕ, zero, suc, ◌+◌, ◌-◌, ◌<◌, ◌≤◌, Bool, true, false, cond, nat_lt, nat_le, List, [], ◌∷◌, ◌++◌, length, Some, refl, sym, ap, ◌∙◌, arith, eq-eqb, lt_of_not-le}
 use Rattle.std.proofs.lemmas.Bool.Decides.{nat_tests}
 use Rattle.std.proofs.lemmas.List.Sums.{sum_by-cons, sum_by-append}
-use Rattle.std.specs.Prelude.{slice_get, take, drop}
+use Rattle.std.specs.Prelude.{slice_get, take, drop, count_by}
 use Rattle.nl_tree.specs.declared.call.Line.{Line}
 use Rattle.nl_turns.specs.Seat.{Passed, by_seat, entries, NoneBeyond}
 use Rattle.nl_turns.specs.declared.entry.Entry.{Entry}
 use Rattle.nl_workers.specs.Placed.{entries_of, effects_of}
 use Rattle.nl_workers.specs.Worked.{lines_between}
-use Rattle.nl_workers.specs.Crew.{effects_from, lines_below}
+use Rattle.nl_workers.specs.Crew.{counted_from, effects_from, lines_below}
 use Rattle.nl_workers.specs.Going.{times_in}
 
-pub effects_cons : (m : ℕ) (e : Entry) (es : List Entry) → effects_of m (e ∷ es) ≡ cond {A = ℕ} (e.line == m) 1 0 + effects_of m es
-effects_cons m e es = sum_by-cons (λ (x : Entry). cond (x.line == m) 1 0) e es
+count_cons : (f : Entry → Bool) (e : Entry) (es : List Entry) → count_by f (e ∷ es) ≡ cond {A = ℕ} (f e) 1 0 + count_by f es
+count_cons f e es = sum_by-cons (λ (x : Entry). cond (f x) 1 0) e es
 
-one_if_own : (m : ℕ) (b : Bool) (p : Passed) (ys : List Passed) → effects_of m (entries (cond b (p ∷ ys) ys)) ≡ cond {A = ℕ} (b && p.entry.line == m) 1 0 + effects_of m (entries ys)
-one_if_own m true p ys = effects_cons m p.entry (entries ys)
-one_if_own m false p ys = omega arith
+one_if_own : (f : Entry → Bool) (b : Bool) (p : Passed) (ys : List Passed) → count_by f (entries (cond b (p ∷ ys) ys)) ≡ cond {A = ℕ} (b && f p.entry) 1 0 + count_by f (entries ys)
+one_if_own f true p ys = count_cons f p.entry (entries ys)
+one_if_own f false p ys = omega arith
 
 in_range : (s a c : ℕ) (hit : Bool) → cond {A = ℕ} ((nat_le a s && nat_lt s (a + suc c)) && hit) 1 0 ≡ cond {A = ℕ} (s == a && hit) 1 0 + cond {A = ℕ} ((nat_le (a + 1) s && nat_lt s (a + 1 + c)) && hit) 1 0
 in_range s a c true = grind (arith, nat_tests)
@@ -26,12 +26,12 @@ no_range : (s a : ℕ) (hit : Bool) → cond {A = ℕ} ((nat_le a s && nat_lt s 
 no_range s a true = grind (arith, nat_tests)
 no_range s a false = grind (arith, nat_tests)
 
-from_cons : (m a c : ℕ) (p : Passed) (xs : List Passed) → effects_from m a c (p ∷ xs) ≡ cond {A = ℕ} ((nat_le a p.seat && nat_lt p.seat (a + c)) && p.entry.line == m) 1 0 + effects_from m a c xs
-from_cons m a zero p xs = let n = no_range p.seat a (p.entry.line == m) in omega arith
-from_cons m a (suc c) p xs =
-    let here : effects_of m (entries_of a (p ∷ xs)) ≡ cond {A = ℕ} (p.seat == a && p.entry.line == m) 1 0 + effects_of m (entries_of a xs) = one_if_own m (p.seat == a) p (by_seat a xs) in
-    let rest = from_cons m (a + 1) c p xs in
-    let one = in_range p.seat a c (p.entry.line == m) in
+from_cons : (f : Entry → Bool) (a c : ℕ) (p : Passed) (xs : List Passed) → counted_from f a c (p ∷ xs) ≡ cond {A = ℕ} ((nat_le a p.seat && nat_lt p.seat (a + c)) && f p.entry) 1 0 + counted_from f a c xs
+from_cons f a zero p xs = let n = no_range p.seat a (f p.entry) in omega arith
+from_cons f a (suc c) p xs =
+    let here : count_by f (entries_of a (p ∷ xs)) ≡ cond {A = ℕ} (p.seat == a && f p.entry) 1 0 + count_by f (entries_of a xs) = one_if_own f (p.seat == a) p (by_seat a xs) in
+    let rest = from_cons f (a + 1) c p xs in
+    let one = in_range p.seat a c (f p.entry) in
     omega arith
 
 below_next : (n : ℕ) (p : Passed) (xs : List Passed) → NoneBeyond n (p ∷ xs) → p.seat < n
@@ -48,33 +48,44 @@ none_later n p xs none m le = go (p.seat == m) (none m le)
     go true e = absurd (cc e)
     go false e = e
 
-from_none : (m a c : ℕ) → effects_from m a c [] ≡ 0
-from_none m a zero = refl
-from_none m a (suc c) = let r = from_none m (a + 1) c in omega arith
+from_none : (f : Entry → Bool) (a c : ℕ) → counted_from f a c [] ≡ 0
+from_none f a zero = refl
+from_none f a (suc c) = let r = from_none f (a + 1) c in omega arith
 
 whole_range : (s n : ℕ) (hit : Bool) → s < n → cond {A = ℕ} ((nat_le 0 s && nat_lt s (0 + n)) && hit) 1 0 ≡ cond {A = ℕ} hit 1 0
 whole_range s n true h = grind (arith, nat_tests)
 whole_range s n false h = grind (arith, nat_tests)
 
--- where no number from n on stands in the history, all effects are those of the seats below n
+-- where no number from n on stands in the history, all entries of a kind are those of the seats below n
+pub all_counted : (f : Entry → Bool) (n : ℕ) (xs : List Passed) → NoneBeyond n xs → count_by f (entries xs) ≡ counted_from f 0 n xs
+all_counted f n [] none = sym (from_none f 0 n)
+all_counted f n (p ∷ xs) none =
+    let rest = all_counted f n xs (none_later n p xs none) in
+    let a = count_cons f p.entry (entries xs) in
+    let b = from_cons f 0 n p xs in
+    let c = whole_range p.seat n (f p.entry) (below_next n p xs none) in
+    omega arith
+
 pub all_effects : (m n : ℕ) (xs : List Passed) → NoneBeyond n xs → effects_of m (entries xs) ≡ effects_from m 0 n xs
-all_effects m n [] none = sym (from_none m 0 n)
-all_effects m n (p ∷ xs) none =
-    let rest = all_effects m n xs (none_later n p xs none) in
-    let a = effects_cons m p.entry (entries xs) in
-    let b = from_cons m 0 n p xs in
-    let c = whole_range p.seat n (p.entry.line == m) (below_next n p xs none) in
+all_effects m n xs none = all_counted (λ (e : Entry). e.line == m) n xs none
+
+pub counted_append : (f : Entry → Bool) (a c d : ℕ) (xs : List Passed) → counted_from f a (c + d) xs ≡ counted_from f a c xs + counted_from f (a + c) d xs
+counted_append f a zero d xs =
+    let n : a + 0 ≡ a = omega arith in
+    let e : counted_from f (a + 0) d xs ≡ counted_from f a d xs = ap (λ k. counted_from f k d xs) n in
+    let z : 0 + d ≡ d = omega arith in
+    let g : counted_from f a (0 + d) xs ≡ counted_from f a d xs = ap (λ k. counted_from f a k xs) z in
+    omega arith
+counted_append f a (suc c) d xs =
+    let n : suc c + d ≡ suc (c + d) = omega arith in
+    let e : counted_from f a (suc c + d) xs ≡ counted_from f a (suc (c + d)) xs = ap (λ k. counted_from f a k xs) n in
+    let r = counted_append f (a + 1) c d xs in
+    let k : a + 1 + c ≡ a + suc c = omega arith in
+    let g : counted_from f (a + 1 + c) d xs ≡ counted_from f (a + suc c) d xs = ap (λ j. counted_from f j d xs) k in
     omega arith
 
 pub from_append : (m a c d : ℕ) (xs : List Passed) → effects_from m a (c + d) xs ≡ effects_from m a c xs + effects_from m (a + c) d xs
-from_append m a zero d xs = let n : a + 0 ≡ a = omega arith in let e : effects_from m (a + 0) d xs ≡ effects_from m a d xs = ap (λ k. effects_from m k d xs) n in let z : 0 + d ≡ d = omega arith in let f : effects_from m a (0 + d) xs ≡ effects_from m a d xs = ap (λ k. effects_from m a k xs) z in omega arith
-from_append m a (suc c) d xs =
-    let n : suc c + d ≡ suc (c + d) = omega arith in
-    let e : effects_from m a (suc c + d) xs ≡ effects_from m a (suc (c + d)) xs = ap (λ k. effects_from m a k xs) n in
-    let r = from_append m (a + 1) c d xs in
-    let k : a + 1 + c ≡ a + suc c = omega arith in
-    let f : effects_from m (a + 1 + c) d xs ≡ effects_from m (a + suc c) d xs = ap (λ j. effects_from m j d xs) k in
-    omega arith
+from_append m a c d xs = counted_append (λ (e : Entry). e.line == m) a c d xs
 
 -- ---- lines
 

@@ -7,10 +7,8 @@ use Rattle.nl_callbacks.specs.declared.notices.Notices.{Notices}
 use Rattle.nl_tree.specs.declared.call.Line.{Line}
 use Rattle.nl_tree.specs.declared.turn.Duty.{Duty}
 use Rattle.nl_tree.specs.declared.turn.Duty.TheVariants.{Copy}
-use Rattle.nl_tree.specs.declared.turn.DutyAnswer.{DutyAnswer}
-use Rattle.nl_tree.specs.declared.turn.DutyAnswer.TheVariants.{Lost}
 use Rattle.nl_turns.specs.Seat.{SeatState}
-use Rattle.nl_workers.specs.Placed.{EachPlaced, GoesOn, entries_of, effects_of}
+use Rattle.nl_workers.specs.Placed.{EachPlaced, GoesOn, KnowsLosses, entries_of, effects_of, losses_by}
 use Rattle.nl_workers.specs.declared.duty.Cleaner.{Cleaner}
 use Rattle.nl_workers.specs.declared.duty.Handler.{Handler}
 use Rattle.nl_workers.specs.declared.outbox.Outbox.{Outbox}
@@ -18,10 +16,6 @@ use Rattle.nl_workers.specs.declared.outbox.Outbox.{Outbox}
 abbrev pub is_copy : Duty → Bool
 is_copy Copy = true
 is_copy _ = false
-
-abbrev pub is_lost : DutyAnswer → Bool
-is_lost (Lost wanted found) = true
-is_lost _ = false
 
 -- its entries have neither a line nor a staging
 pub record HasServed (seat after : SeatState) : Type 0 where
@@ -41,11 +35,12 @@ pub record MayClean (lock : TableId) (notices : Notices) (cleaner : Cleaner) : T
   pub at_rest : cleaner.seat.has_turn ≡ false
   pub sends : IsOutbox notices cleaner.outbox
 
--- over a medium that tells its contents no page is lost
+-- it knows whether one of its turns lost a page; over a medium that tells its contents none is lost
 pub record HasCleaned (tells : Type 0) (notices : Notices) (cleaner after : Cleaner) : Type 0 where
   pub served : HasServed cleaner.seat after.seat
   pub sends : IsOutbox notices after.outbox
   pub goes_on : cleaner.outbox.last ≤ after.outbox.last
+  pub knows : KnowsLosses cleaner.lost after.lost (losses_by cleaner.seat.number cleaner.seat.seen) (losses_by cleaner.seat.number after.seat.seen)
   pub none_lost : tells → after.lost ≡ cleaner.lost
 
 -- ---- the handler
@@ -58,4 +53,5 @@ pub record MayHandle (lock : TableId) (notices : Notices) (handler : Handler) : 
 pub record HasHandled (tells : Type 0) (notices : Notices) (handler after : Handler) : Type 0 where
   pub served : HasServed handler.seat after.seat
   pub takes : IsTaker notices after.pass
+  pub knows : KnowsLosses handler.lost after.lost (losses_by handler.seat.number handler.seat.seen) (losses_by handler.seat.number after.seat.seen)
   pub none_lost : tells → after.lost ≡ handler.lost

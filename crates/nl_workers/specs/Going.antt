@@ -6,10 +6,10 @@ use Rattle.nl_callbacks.specs.declared.notices.Notices.{Notices}
 use Rattle.nl_callbacks.specs.Notices.{IsTaker}
 use Rattle.nl_tree.specs.declared.call.Line.{Line}
 use Rattle.nl_turns.specs.Seat.{SeatState, by_seat, entries, NoneBeyond}
-use Rattle.nl_workers.specs.Placed.{EachPlaced, entries_of, effects_of}
+use Rattle.nl_workers.specs.Placed.{EachPlaced, KnowsLosses, entries_of, effects_of, losses_by}
 use Rattle.nl_workers.specs.Duties.{MayClean, MayHandle, IsOutbox}
 use Rattle.nl_workers.specs.Worked.{AreLinesOf, IsStation}
-use Rattle.nl_workers.specs.Crew.{effects_from}
+use Rattle.nl_workers.specs.Crew.{any_lost, effects_from, losses_from}
 use Rattle.nl_workers.specs.Rounds.{AllPlaced, IsFirstSeat}
 use Rattle.nl_workers.specs.Fresh.{AreFresh}
 use Rattle.nl_workers.specs.declared.crew.Crew.{Crew}
@@ -35,18 +35,17 @@ pub record IsGoing (tells : Type 0) (lock : TableId) (notices : Notices) (lines 
   pub known : (n : ℕ) → 3 ≤ n → n < crew.seat.next → Contains crew.seat.joined n × EachPlaced lines n crew.seat.seen
   pub placed : EachPlaced lines 0 crew.seat.seen
   pub done : (m : ℕ) → 0 < m → effects_of m (entries_of 0 crew.seat.seen) + effects_from m 3 (crew.seat.next - 3) crew.seat.seen ≡ times_in m (take count lines)
+  pub workers_know : KnowsLosses false (any_lost crew.stations.items) 0 (losses_by 0 crew.seat.seen + losses_from 3 (crew.seat.next - 3) crew.seat.seen)
   pub size : length crew.stations.items ≡ 8
   pub stations_are : (w : ℕ) (s : Station) → slice_get crew.stations.items w ≡ Some s → IsStation tells first.opening lines w count crew.seat.seen s
   pub cleaner : MayClean lock notices crew.cleaner
   pub cleaner_seat : IsDutySeat lines 1 crew.cleaner.seat
+  pub cleaner_knows : KnowsLosses false crew.cleaner.lost 0 (losses_by 1 crew.cleaner.seat.seen)
   pub cleaner_lost : tells → crew.cleaner.lost ≡ false
   pub handler : MayHandle lock notices crew.handler
   pub handler_seat : IsDutySeat lines 2 crew.handler.seat
+  pub handler_knows : KnowsLosses false crew.handler.lost 0 (losses_by 2 crew.handler.seat.seen)
   pub handler_lost : tells → crew.handler.lost ≡ false
-
--- no station has lost a page
-abbrev pub NoneLost : List Station → Type 0
-NoneLost stations = (w : ℕ) (s : Station) → slice_get stations w ≡ Some s → s.lost ≡ false
 
 -- the first seat took both duty seats back
 pub record IsHome (seat first second after : SeatState) : Type 0 where

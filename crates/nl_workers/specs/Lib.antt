@@ -11,3 +11,4 @@ pub mod Sending
 pub mod Kit
 pub mod Spots
 pub mod Fresh
+pub mod Examples

@@ -1,20 +1,14 @@
 -- Where the turns of a line stand in the history.
-use Rattle.std.specs.Prelude.{◌≡◌, ◌==◌, ℕ, ◌+◌, ◌<◌, List, [], ◌++◌, ◌∷◌, Bool, true, false, if◌then◌else◌, count_by, IfSome, IsTrue, Contains}
+use Rattle.std.specs.Prelude.{◌≡◌, ◌==◌, ℕ, ◌+◌, ◌<◌, ◌≤◌, List, [], ◌++◌, ◌∷◌, Bool, false, nat_lt, ◌||◌, if◌then◌else◌, count_by, IfSome, IsTrue, Contains}
 use mathlib.Core.List.{IsPrefix}
 use Rattle.nl_tree.specs.Order.{has_to_precede}
 use Rattle.nl_tree.specs.Replay.{Answers}
 use Rattle.nl_tree.specs.declared.call.Line.{Line}
 use Rattle.nl_tree.specs.declared.turn.Answered.{Answered}
-use Rattle.nl_tree.specs.declared.turn.Stage.{Stage}
-use Rattle.nl_tree.specs.declared.turn.Stage.TheVariants.{Lost}
-use Rattle.nl_turns.specs.History.{Opening, line_at}
+use Rattle.nl_turns.specs.History.{Opening, line_at, losses}
 use Rattle.nl_turns.specs.Seat.{Passed, SeatState, entries, by_seat, passed_by, NoneBeyond}
 use Rattle.nl_turns.specs.Served.{IsLineOf, effect_entry, place_due, ordinal_due, outcome_due}
 use Rattle.nl_turns.specs.declared.entry.Entry.{Entry}
-
-abbrev pub is_lost_stage : Stage → Bool
-is_lost_stage (Lost wanted found) = true
-is_lost_stage _ = false
 
 abbrev pub HasLine : Opening → Line → Type 0
 HasLine opening line = IsLineOf opening line.worker line.line line.call
@@ -29,6 +23,15 @@ one_if b = if b then 1 else 0
 -- how many of these are effects of the line of this number
 abbrev pub effects_of : ℕ → List Entry → ℕ
 effects_of line es = count_by (λ (e : Entry). e.line == line) es
+
+-- how many of the entries of one seat lost a page
+abbrev pub losses_by : ℕ → List Passed → ℕ
+losses_by number history = losses (entries_of number history)
+
+-- Whether a page was lost, of those whose entries in the history lost so many: it was so before, or there are more since.
+pub record KnowsLosses (before after : Bool) (old new : ℕ) : Type 0 where
+  pub none_gone : old ≤ new
+  pub after_is : after ≡ (before || nat_lt old new)
 
 -- One turn of a seat: it came to its turn by a history without entries of its own, and added this entry.
 pub record HasPassed (seat : SeatState) (entry : Entry) (after : SeatState) : Type 0 where

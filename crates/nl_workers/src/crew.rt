@@ -55,7 +55,7 @@ pub(crate) fn run_crew<V: Served + Send, R: Threads + Wait + Sync, G: Gate + Syn
         rt,
         move || -> (TurnSeat, Station)
             requires { (own.lock ≡ turns.now.name) × MayWork V.tells lines.now worker span.from span.to own station }
-            ensures { HasWorked V.tells lines.entry.now worker span.from span.to own result.0 result.1 }
+            ensures { HasWorked V.tells lines.entry.now worker span.from span.to own station result.0 result.1 }
         { work(rt, turns, own, lines, span, worker, station, gate) },
         move || -> (TurnSeat, Vec<Station>)
             requires { IsSync R.row × IsSync G.row × (seat.lock ≡ turns.now.name) × MayStart V.tells lines.now span.from span.to seat stations.items }

@@ -1,8 +1,8 @@
 ghost use Rattle.std.specs.Prelude.{◌≡◌, ◌<◌, ◌||◌, true, false};
-ghost use Rattle.nl_turns.specs.Served.{duty_entry};
+ghost use Rattle.nl_turns.specs.Served.{duty_entry, is_lost_duty};
 ghost use Rattle.nl_workers.specs.Placed.{HasPassed};
 ghost use Rattle.nl_workers.specs.Gates.{told_of_task};
-ghost use Rattle.nl_workers.specs.Duties.{MayClean, HasCleaned, MayHandle, HasHandled, is_lost, is_copy};
+ghost use Rattle.nl_workers.specs.Duties.{MayClean, HasCleaned, MayHandle, HasHandled, is_copy};
 
 use crate::gate::{Gate, GatePlace, Told, tell};
 use crate::outbox::Outbox;
@@ -51,7 +51,7 @@ struct Cleaned {
 }
 
 fn is_lost_now(lost: bool, answer: DutyAnswer) -> bool
-    ensures { result ≡ (lost || is_lost answer) }
+    ensures { result ≡ (lost || is_lost_duty answer) }
 {
     lost || matches!(answer, DutyAnswer::Lost { .. })
 }
@@ -93,14 +93,14 @@ fn clean_turn<V: Served, R: Wait>(
 ) -> Cleaned
     requires lock { seat.old.lock ≡ turns.now.name }
     requires idle { seat.old.has_turn ≡ false }
-    ensures passed { HasPassed seat.old duty_entry seat.new }
-    ensures lost { V.tells → is_lost result.answer ≡ false }
+    ensures passed { HasPassed seat.old (duty_entry result.answer) seat.new }
+    ensures lost { V.tells → is_lost_duty result.answer ≡ false }
 {
     let mut turn = turns.take(rt, seat);
     let task = fitting(wanted, turn.value.free_blocks());
     let answer = turn.value.duty(task);
     let posted = turn.value.posted();
-    turns.pass(seat, turn, Entry::of_duty());
+    turns.pass(seat, turn, Entry::of_duty(answer));
     Cleaned {
         task,
         answer,
@@ -118,12 +118,12 @@ fn handle_turn<V: Served, R: Wait>(
 ) -> DutyAnswer
     requires lock { seat.old.lock ≡ turns.now.name }
     requires idle { seat.old.has_turn ≡ false }
-    ensures passed { HasPassed seat.old duty_entry seat.new }
-    ensures lost { V.tells → is_lost result ≡ false }
+    ensures passed { HasPassed seat.old (duty_entry result) seat.new }
+    ensures lost { V.tells → is_lost_duty result ≡ false }
 {
     let mut turn = turns.take(rt, seat);
     let answer = turn.value.duty(Duty::Handle(number));
-    turns.pass(seat, turn, Entry::of_duty());
+    turns.pass(seat, turn, Entry::of_duty(answer));
     answer
 }
 

@@ -12,6 +12,7 @@ mod kit;
 mod outbox;
 mod placing;
 mod rounds;
+pub mod rows;
 mod station;
 mod stop;
 mod turn;

@@ -1,9 +1,12 @@
-ghost use Rattle.std.specs.Prelude.{◌≡◌, ◌+◌, ◌-◌, ◌<◌, ◌≤◌, ◌^◌, [], length, false, vec_len};
+ghost use Rattle.std.specs.Prelude.{◌≡◌, ◌||◌, ◌+◌, ◌-◌, ◌<◌, ◌≤◌, ◌^◌, [], length, false, vec_len};
 ghost use Rattle.std.specs.Thread.{IsSync};
 ghost use Rattle.nl_callbacks.specs.Notices.{IsTaker};
+ghost use Rattle.nl_turns.specs.History.{has_lost_page};
+ghost use Rattle.nl_turns.specs.Seat.{entries};
+ghost use Rattle.nl_workers.specs.Crew.{any_lost};
 ghost use Rattle.nl_workers.specs.Duties.{IsOutbox};
 ghost use Rattle.nl_workers.specs.Fresh.{AreFresh};
-ghost use Rattle.nl_workers.specs.Going.{IsGoing, MayGo, HasRunAll, IsHome, NoneLost, MayRunRounds};
+ghost use Rattle.nl_workers.specs.Going.{IsGoing, MayGo, HasRunAll, IsHome, MayRunRounds};
 ghost use Rattle.nl_workers.specs.Rounds.{IsFirstSeat, RoundsRan};
 ghost use Rattle.nl_workers.specs.Spots.{rows_at, AreSpots};
 ghost use Rattle.nl_workers.specs.Table.{IsTableFor};
@@ -66,7 +69,7 @@ fn run_epochs<V: Served + Send, R: Threads + Wait + Sync, G: Gate + Sync>(
 }
 
 fn is_any_lost(stations: &Vec<Station>) -> bool
-    ensures { NoneLost stations.now.items → result ≡ false }
+    ensures { result ≡ any_lost stations.now.items }
 {
     for station in stations {
         if station.lost {
@@ -109,6 +112,7 @@ fn run_all<V: Served + Send, R: Threads + Wait + Sync, G: Gate + Sync>(
     requires kit { IsOutbox notices.now passes.outbox × IsTaker notices.now passes.taker }
     ensures ran { HasRunAll V.tells lines.now seat result.0 result.1.stations.items }
     ensures kit { IsOutbox notices.now result.1.passes.outbox × IsTaker notices.now result.1.passes.taker }
+    ensures found { result.1.lost ≡ has_lost_page (entries result.0.seen) }
     ensures lost { V.tells → result.1.lost ≡ false }
 {
     let _ = lines.as_slice();
@@ -141,7 +145,7 @@ fn send_home<V: Served>(turns: &Turns<V>, crew: Crew) -> (TurnSeat, Home)
     ensures home { IsHome crew.seat crew.cleaner.seat crew.handler.seat result.0 }
     ensures stations { result.1.stations.items ≡ crew.stations.items }
     ensures passes { (result.1.passes.outbox ≡ crew.cleaner.outbox) × (result.1.passes.taker ≡ crew.handler.pass) }
-    ensures lost { crew.cleaner.lost ≡ false → crew.handler.lost ≡ false → NoneLost crew.stations.items → result.1.lost ≡ false }
+    ensures lost { result.1.lost ≡ (crew.cleaner.lost || (crew.handler.lost || any_lost crew.stations.items)) }
 {
     let Crew {
         mut seat,
@@ -190,6 +194,7 @@ fn run_placed<V: Served + Send, R: Threads + Wait + Sync, G: Gate + Sync>(
     ensures ran { RoundsRan V.tells seat lines.now (rows_at result.1.0.stations.items result.1.1.items) result.0 }
     ensures spots { AreSpots result.1.0.stations.items result.1.1.items × (length result.1.1.items < 2 ^ 32) }
     ensures kit { IsOutbox notices.now result.1.0.passes.outbox × IsTaker notices.now result.1.0.passes.taker }
+    ensures found { result.1.0.lost ≡ has_lost_page (entries result.0.seen) }
     ensures lost { V.tells → result.1.0.lost ≡ false }
 {
     let _ = lines.as_slice();
@@ -202,7 +207,8 @@ fn run_placed<V: Served + Send, R: Threads + Wait + Sync, G: Gate + Sync>(
 
 /// Runs the lines, epoch by epoch, by a thread for each worker that has lines, beside a cleaner and a handler. The least worker of an
 /// epoch is run by the caller, with the first seat of the lock. A worker takes turns that stage for its line, until one stages
-/// nothing, and then the turn of the line's effect. The table has the answers. It takes no memory.
+/// nothing, and then the turn of the line's effect. The table has the answers, and has lost a page exactly where a staging or a background
+/// task of the history has. It takes no memory.
 pub fn run_rounds<V: Served + Send, R: Threads + Wait + Sync, G: Gate + Sync>(
     rt: &R,
     turns: &Turns<V>,
@@ -216,6 +222,7 @@ pub fn run_rounds<V: Served + Send, R: Threads + Wait + Sync, G: Gate + Sync>(
     requires first { IsFirstSeat lines.now seat.old }
     requires table { IsTableFor lines.now answers.old }
     ensures ran { RoundsRan V.tells seat.old lines.now answers.new.rows seat.new }
+    ensures found { answers.new.lost ≡ has_lost_page (entries seat.new.seen) }
     ensures lost { V.tells → answers.new.lost ≡ false }
     ensures kit { kit.new.room ≡ kit.old.room }
 {
@@ -233,6 +240,7 @@ pub fn run_rounds<V: Served + Send, R: Threads + Wait + Sync, G: Gate + Sync>(
             ensures ran { RoundsRan V.tells own lines.entry.now (rows_at result.1.0.stations.items result.1.1.items) result.0 }
             ensures spots { AreSpots result.1.0.stations.items result.1.1.items × (length result.1.1.items < 2 ^ 32) }
             ensures kit { IsOutbox notices.entry.now result.1.0.passes.outbox × IsTaker notices.entry.now result.1.0.passes.taker }
+            ensures found { result.1.0.lost ≡ has_lost_page (entries result.0.seen) }
             ensures lost { V.tells → result.1.0.lost ≡ false }
         {
             run_placed(

@@ -23,7 +23,7 @@ fn run_at<V: Served, R: Wait, G: Gate>(
     requires lock { seat.old.lock ≡ turns.now.name }
     requires at { at < length lines.now }
     requires may { MayRunAt V.tells lines.now worker at seat.old station.old }
-    ensures { HasWorked V.tells lines.now worker at (at + 1) seat.old seat.new station.new }
+    ensures { HasWorked V.tells lines.now worker at (at + 1) seat.old station.old seat.new station.new }
 {
     let line = lines.get(at);
     if line.worker != worker {
@@ -49,7 +49,7 @@ pub(crate) fn work<V: Served, R: Wait, G: Gate>(
 ) -> (TurnSeat, Station)
     requires lock { seat.lock ≡ turns.now.name }
     requires may { MayWork V.tells lines.now worker span.from span.to seat station }
-    ensures { HasWorked V.tells lines.now worker span.from span.to seat result.0 result.1 }
+    ensures { HasWorked V.tells lines.now worker span.from span.to seat station result.0 result.1 }
 {
     for at in span.from..span.to {
         run_at(rt, turns, &mut seat, lines, at, worker, &mut station, gate);

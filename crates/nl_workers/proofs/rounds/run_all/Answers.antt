@@ -1,6 +1,8 @@
 use Rattle.std.proofs.Common.{false, refl, ap, ◌∙◌, arith}
 use Rattle.nl_turns.specs.Seat.{SeatState}
-use Rattle.nl_workers.proofs.Ending.{may_go, sets_out, arrives}
+use Rattle.nl_workers.proofs.Ending.{may_go, sets_out, arrives, finds}
+use Rattle.nl_workers.proofs.Losing.{none_lost_yet}
+use Rattle.nl_workers.proofs.Serving.{none_either}
 use Rattle.nl_workers.proofs.rounds.run_all.Goals as goal
 
 pub give_seat-second-requires-clause-places : goal.give_seat-second-requires-clause-places
@@ -45,7 +47,27 @@ returns-clause-ran g c =
     refl refl refl refl (record { of_lock = lock1; at_rest = rest1; sends = c.requires.kit.0 }) (record { of_lock = lock2; at_rest = rest2; takes = c.requires.kit.1 }) refl refl
     c.run_epochs-crew.result c.send_home.result.0 c.run_epochs-crew.ensures c.send_home.ensures.home c.send_home.result.1.stations.items c.send_home.ensures.stations
 
+pub returns-clause-found : goal.returns-clause-found
+returns-clause-found g c =
+    let one = c.give_seat-first.ensures in
+    let two = c.give_seat-second.ensures in
+    let lock1 = ap (λ (z : SeatState). z.lock) one.given ∙ c.requires.lock in
+    let rest1 = ap (λ (z : SeatState). z.has_turn) one.given ∙ c.requires.first.at_rest in
+    let lock2 = ap (λ (z : SeatState). z.lock) two.given ∙ (ap (λ (z : SeatState). z.lock) one.left ∙ c.requires.lock) in
+    let rest2 = ap (λ (z : SeatState). z.has_turn) two.given ∙ (ap (λ (z : SeatState). z.has_turn) one.left ∙ c.requires.first.at_rest) in
+    finds g.V.Served.tells c.args.turns.now.name c.args.notices.now c.args.lines.now c.args.seat c.give_seat-first.new.seat c.give_seat-second.new.seat c.give_seat-first.result c.give_seat-second.result c.args.stations.items
+    c.as_slice.ensures.each c.requires.lock c.requires.first c.requires.fresh one.left one.given two.left two.given
+    (record {
+      seat = c.give_seat-second.new.seat;
+      stations = c.args.stations;
+      cleaner = record { seat = c.give_seat-first.result; outbox = c.args.passes.outbox; lost = false };
+      handler = record { seat = c.give_seat-second.result; pass = c.args.passes.taker; lost = false };
+    })
+    refl refl refl refl (record { of_lock = lock1; at_rest = rest1; sends = c.requires.kit.0 }) (record { of_lock = lock2; at_rest = rest2; takes = c.requires.kit.1 }) refl refl
+    c.run_epochs-crew.result c.send_home.result.0 c.run_epochs-crew.ensures c.send_home.ensures.home c.send_home.result.1.lost c.send_home.ensures.lost
+
 pub returns-clause-lost : goal.returns-clause-lost
 returns-clause-lost g c =
     let w = c.run_epochs-crew.ensures in
-    λ t. c.send_home.ensures.lost (w.cleaner_lost t) (w.handler_lost t) (λ k s e. (w.stations_are k s e).none_lost t)
+    λ t. c.send_home.ensures.lost ∙ none_either c.run_epochs-crew.result.cleaner.lost _ (w.cleaner_lost t)
+    (none_either c.run_epochs-crew.result.handler.lost _ (w.handler_lost t) (none_lost_yet c.run_epochs-crew.result.stations.items (λ k s e. (w.stations_are k s e).none_lost t)))

@@ -1,4 +1,4 @@
-use Rattle.std.proofs.Common.{rules, ◌∙◌}
+use Rattle.std.proofs.Common.{rules, ◌∙◌, ◌||◌, ap}
 use Rattle.nl_workers.proofs.Working.{skips, room_here, works}
 use Rattle.nl_workers.proofs.Serving.{none_either}
 use Rattle.nl_workers.proofs.worker.run_at.Goals as goal
@@ -20,3 +20,4 @@ returns g c =
     works g.V.Served.tells c.args.lines.now c.args.worker c.args.at c.args.seat.now c.args.station.now c.get-line.result.now c.requires.may c.get-line.ensures.line
     c.run_line-ran.new.seat _ c.run_line-ran.result.answered c.run_line-ran.new.out (search rules) c.add.ensures.out c.run_line-ran.ensures.answered c.add.ensures.rows c.add.ensures.lines c.add.ensures.bytes
     (λ t. c.either-station.ensures ∙ none_either c.args.station.now.lost c.run_line-ran.result.lost (c.requires.may.station_is.none_lost t) (c.run_line-ran.ensures.lost t))
+    (record { none_gone = c.run_line-ran.ensures.knows.none_gone; after_is = c.either-station.ensures ∙ ap (λ b. c.args.station.now.lost || b) c.run_line-ran.ensures.knows.after_is })
