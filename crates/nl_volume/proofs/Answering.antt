@@ -13,7 +13,6 @@ use Rattle.nl_tree.specs.declared.reply.FaultReply.TheVariants.{Eio, Erofs, Ewor
 use Rattle.nl_tree.specs.declared.reply.Reply.{Reply}
 use Rattle.nl_tree.specs.declared.reply.Reply.TheVariants.{Done, Count, Content, Names, File, Dir, Synced, No, Fault}
 use Rattle.nl_tree.proofs.FaultProofs.{fault_laws}
-use Rattle.nl_device.specs.declared.device.Device.{Device}
 use Rattle.nl_flight.specs.Flight.{InFlight, begun, of_worker}
 use Rattle.nl_iface.specs.Device.{IsVolumeShape}
 use Rattle.nl_iface.specs.declared.counts.Counts.{Ghosts}
@@ -21,27 +20,28 @@ use Rattle.nl_core.specs.Goes.{Goes}
 use Rattle.nl_core.specs.declared.state.Core.{Core}
 use Rattle.nl_core.proofs.Onward.{goes_then}
 use Rattle.nl_effect.proofs.Stepping.{steps_run}
-use Rattle.nl_stops.specs.Effects.{MakesTree, counted}
+use Rattle.nl_effect.specs.Calls.{MakesTree}
+use Rattle.nl_stops.specs.Effects.{counted}
 use Rattle.nl_turns.specs.History.{Opening, call_at, fault_of, is_effect, is_sync, opening_counts}
 use Rattle.nl_turns.specs.Served.{IsLineOf, effect_entry, fault_mark, sync_mark}
 use Rattle.nl_turns.specs.declared.entry.Entry.{Entry}
 use Rattle.nl_turns.specs.declared.entry.SyncMark.TheVariants.{NoSync, At}
-use Rattle.nl_answering.specs.Answering.{HasEffect, HasEffectOf, Syncs, counts_of, is_sync_call, is_synced}
+use Rattle.nl_answering.specs.Answering.{HasEffect, HasEffectOf, Syncs, is_sync_call, is_synced}
 use Rattle.nl_volume.specs.Effects.{AnswersLine}
-use Rattle.nl_volume.specs.Serving.{refusing_of, some_number, staged_fault}
-use Rattle.nl_volume.specs.Standing.{FlightStands, IsInFlight, MarkHasCause, NumbersDiffer, Serves, StandsFor}
-use Rattle.nl_volume.specs.Turns.{AreCounts}
-use Rattle.nl_volume.proofs.Causes.{still_cause}
-use Rattle.nl_volume.proofs.Due.{IsRefused, due_cases, marked, within_since}
-use Rattle.nl_volume.proofs.Effects.{effect_serves, sync_serves}
-use Rattle.nl_volume.proofs.Flights.{KeepsPages, goes_keeps, one_on, same_fault}
-use Rattle.nl_volume.proofs.Histories.{has_or_last, pairs_more}
-use Rattle.nl_volume.proofs.Serving.{runs_of, some_is}
-use Rattle.nl_volume.proofs.Standing.{calls_serve}
+use Rattle.nl_staging.specs.Serving.{counts_of, refusing_of, some_number, staged_fault}
+use Rattle.nl_staging.specs.Standing.{FlightStands, IsInFlight, MarkHasCause, NumbersDiffer, Serves, StandsFor}
+use Rattle.nl_staging.specs.Turns.{AreCounts}
+use Rattle.nl_staging.proofs.Causes.{still_cause}
+use Rattle.nl_staging.proofs.Due.{IsRefused, due_cases, marked, within_since}
+use Rattle.nl_staging.proofs.Effects.{effect_serves, sync_serves}
+use Rattle.nl_staging.proofs.Flights.{KeepsPages, goes_keeps, one_on, same_fault}
+use Rattle.nl_staging.proofs.Histories.{has_or_last, pairs_more}
+use Rattle.nl_staging.proofs.Serving.{runs_of, some_is}
+use Rattle.nl_staging.proofs.Standing.{calls_serve}
 
 -- ---- what an effect keeps
 
-module _ {M : Type 0} (g : Ghosts (Device M)) (call : Call) (u w : Core M) where
+module _ {D : Type 0} (g : Ghosts D) (call : Call) (u w : Core D) where
   effect_keeps : (fault : Option FaultReply) → HasEffect g call fault u w → KeepsPages g u w
   effect_keeps fault x =
       let m = x.steps.reads.medium in
@@ -75,7 +75,7 @@ module _ {M : Type 0} (g : Ghosts (Device M)) (call : Call) (u w : Core M) where
 
   -- a volume that is read-only stays so
   effect_stopped : (fault : Option FaultReply) → HasEffect g call fault u w → (u.stopped ≡ 0 → ⊥) → w.stopped ≡ u.stopped
-  effect_stopped fault x off = ap (λ (c : Core M). c.stopped) x.steps.others ∙ x.goes.stops.stands off
+  effect_stopped fault x off = ap (λ (c : Core D). c.stopped) x.steps.others ∙ x.goes.stops.stands off
 
   pub stays_stopped : (reply : Reply) → HasEffectOf g call u w reply → (u.stopped ≡ 0 → ⊥) → w.stopped ≡ u.stopped
   stays_stopped Done x = effect_stopped None x
@@ -134,7 +134,7 @@ call_found o worker line call of = let f = of.found in ap (λ (x : Option Line).
 
 -- ---- the line
 
-module _ {M : Type 0} (g : Ghosts (Device M)) (origin : Core M) (o : Opening) (h : List Entry) (u w : Core M) (done worker line : ℕ) (call : Call) (reply : Reply) (out : List ℕ) (files : ℕ) (s : StandsFor g origin o h u done) (of : IsLineOf o worker line call)
+module _ {D : Type 0} (g : Ghosts D) (origin : Core D) (o : Opening) (h : List Entry) (u w : Core D) (done worker line : ℕ) (call : Call) (reply : Reply) (out : List ℕ) (files : ℕ) (s : StandsFor g origin o h u done) (of : IsLineOf o worker line call)
     (x : AnswersLine g worker line call u w reply out files) (most : AreCounts g w) (volume : IsVolumeShape (g.shape w.device)) where
   abbrev e : Entry
   e = effect_entry line reply
@@ -330,10 +330,10 @@ module _ {M : Type 0} (g : Ghosts (Device M)) (origin : Core M) (o : Opening) (h
       let writes = m.write_faults in
       let end = most in
       let between : AreCounts g y.between = record { clock = let c = end.clock in omega (arith, clock, c); write_faults = let n = end.write_faults in omega (arith, writes, n) } in
-      let t = calls_serve g origin o h u y.between done s.serves (record { formed = y.formed; core = y.core; counts = between; most = y.most; goes = y.goes }) in
+      let t = calls_serve g origin o h u y.between done s.serves (record { core = y.core; counts = between; most = y.most; goes = y.goes }) in
       let shape : IsVolumeShape (g.shape y.between.device) = subst IsVolumeShape m.virtual.same_shape volume in
       let marks = marked reply in
-      effect_serves g origin o h y.between w done e call t x.formed x.core y.steps has_line at_line cause_since (end.clock, end.write_faults) shape
+      effect_serves g origin o h y.between w done e call t x.core y.steps has_line at_line cause_since (end.clock, end.write_faults) shape
       (subst (λ (f : Option FaultReply). MakesTree g y.between w (call, f)) is y.makes) none
       ((λ i. sync_is call i && is_none (marks i)) ∙ (sym x.synced ∙ plain))
 
@@ -344,9 +344,9 @@ module _ {M : Type 0} (g : Ghosts (Device M)) (origin : Core M) (o : Opening) (h
       let writes = counts.writes in
       let end = most in
       let between : AreCounts g y.between = record { clock = let c = end.clock in omega (arith, clock, c); write_faults = let n = end.write_faults in omega (arith, writes, n) } in
-      let t = calls_serve g origin o h u y.between done s.serves (record { formed = y.formed; core = y.core; counts = between; most = y.before; goes = y.goes }) in
+      let t = calls_serve g origin o h u y.between done s.serves (record { core = y.core; counts = between; most = y.before; goes = y.goes }) in
       let call_is : call ≡ Sync = is_sync_of call (and_left (is_sync_call call) (is_none (fault_in reply)) (ap is_synced (sym is) ∙ x.synced)) in
-      sync_serves g origin o h y.between w done y.number e t (record { formed = x.formed; core = x.core; counts = most; most = y.most; goes = y.committing }) y.commits volume
+      sync_serves g origin o h y.between w done y.number e t (record { core = x.core; counts = most; most = y.most; goes = y.committing }) y.commits volume
       has_line (at_line ∙ ap Some call_is) (ap (λ r. fault_of (fault_mark r)) is) (ap sync_mark is ∙ (λ i. At (y.upto_is i) (y.moment_is i)))
 
   line_serves : (r : Reply) → reply ≡ r → HasEffectOf g call u w r → Serves g origin o (h ++ e ∷ []) (counted w) (saturated (done + 1))

@@ -5,7 +5,6 @@ use Rattle.nl_field.specs.CrashStates.{top}
 use Rattle.nl_field.specs.Members as members
 use Rattle.nl_tree.specs.Tree.{Tree}
 use Rattle.nl_tree.specs.declared.call.Line.{Line}
-use Rattle.nl_device.specs.declared.device.Device.{Device}
 use Rattle.nl_flight.specs.Flight.{InFlight, begun, nothing, of_worker}
 use Rattle.nl_iface.specs.declared.counts.Counts.{Ghosts}
 use Rattle.nl_meta.specs.Consistent.{PageOfStamp}
@@ -19,7 +18,7 @@ use Rattle.nl_stops.specs.Along.{GoesAlong}
 use Rattle.nl_stops.proofs.Along.{opening_goes_along}
 use Rattle.nl_turns.specs.History.{Opening, marked_calls, syncs_of}
 use Rattle.nl_volume.specs.Opening.{opening_of}
-use Rattle.nl_volume.specs.Standing.{EachIsLine, StandsFor, run_of}
+use Rattle.nl_staging.specs.Standing.{EachIsLine, StandsFor, run_of}
 
 no_calls : (o : Opening) → marked_calls o [] ≡ []
 unfolding marked_calls
@@ -37,7 +36,7 @@ all_begun (suc n) (suc worker) = all_begun n worker
 none_flies : (worker : ℕ) → of_worker nothing worker ≡ begun 0
 none_flies worker = all_begun 8 worker
 
-module _ {M : Type 0} (g : Ghosts (Device M)) (v : Core M) (tree : Tree) (lines : List Line) (formed : g.formed v.device) (core : IsCore g v) (opened : IsOpened g v) (few : v.count ≤ top) (are : EachIsLine lines) (writes : g.write_faults v.device ≤ top)
+module _ {D : Type 0} (g : Ghosts D) (v : Core D) (tree : Tree) (lines : List Line) (core : IsCore g v) (opened : IsOpened g v) (few : v.count ≤ top) (are : EachIsLine lines) (writes : g.write_faults v.device ≤ top)
     (stands : g.tells → (page_of_stamp : ℕ → Option PageOfStamp) × CoreStands g v page_of_stamp (all_at v.count tree)) where
   abbrev pub o : Opening
   o = opening_of g v tree lines
@@ -58,7 +57,6 @@ module _ {M : Type 0} (g : Ghosts (Device M)) (v : Core M) (tree : Tree) (lines 
     serves = record {
       few = few;
       lines = are;
-      formed = formed;
       core = core;
       known = λ e none. absurd none;
       along = subst (λ (r : Run). GoesAlong g v (g.clock v.device) r v) (sym same_run) (opening_goes_along g v tree stands few);

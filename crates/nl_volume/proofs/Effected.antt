@@ -10,7 +10,6 @@ use Rattle.nl_tree.specs.declared.reply.FaultReply.{FaultReply}
 use Rattle.nl_tree.specs.declared.reply.Reply.{Reply}
 use Rattle.nl_tree.specs.declared.reply.Reply.TheVariants.{Done, Count, Content, Names, File, Dir, Synced, No, Fault}
 use Rattle.nl_tree.proofs.FaultProofs.{fault_laws}
-use Rattle.nl_device.specs.declared.device.Device.{Device}
 use Rattle.nl_iface.specs.Device.{IsVolumeShape}
 use Rattle.nl_iface.specs.declared.counts.Counts.{Ghosts}
 use Rattle.nl_core.specs.Core.{IsCore}
@@ -20,24 +19,24 @@ use Rattle.nl_stops.specs.Effects.{counted}
 use Rattle.nl_turns.specs.History.{Opening, tree_after}
 use Rattle.nl_turns.specs.Served.{IsLineOf, StaysReadOnly, effect_entry, ordinal_due, outcome_due, place_due}
 use Rattle.nl_turns.specs.declared.entry.Entry.{Entry}
-use Rattle.nl_answering.specs.Answering.{HasEffect, HasEffectOf, counts_of}
+use Rattle.nl_answering.specs.Answering.{HasEffect, HasEffectOf}
 use Rattle.nl_volume.specs.Effects.{AnswersLine}
-use Rattle.nl_volume.specs.Serving.{refusing_of, some_number, to_stage_of}
-use Rattle.nl_volume.specs.Standing.{StandsFor}
-use Rattle.nl_volume.specs.Turns.{AreCounts}
+use Rattle.nl_staging.specs.Serving.{counts_of, refusing_of, some_number, to_stage_of}
+use Rattle.nl_staging.specs.Standing.{StandsFor}
+use Rattle.nl_staging.specs.Turns.{AreCounts}
 use Rattle.nl_volume.proofs.Answering.{line_stands}
-use Rattle.nl_volume.proofs.Due.{marked}
-use Rattle.nl_volume.proofs.Histories.{calls_length}
-use Rattle.nl_volume.proofs.Serving.{staged_same, stays_read_only, to_stage_same}
+use Rattle.nl_staging.proofs.Due.{marked}
+use Rattle.nl_staging.proofs.Histories.{calls_length}
+use Rattle.nl_staging.proofs.Serving.{staged_same, stays_read_only, to_stage_same}
 
 -- ---- a volume becomes read-only only where a write failed
 
-module _ {M : Type 0} (g : Ghosts (Device M)) (call : Call) (u w : Core M) (core : IsCore g u) where
+module _ {D : Type 0} (g : Ghosts D) (call : Call) (u w : Core D) (core : IsCore g u) where
   effect_read_only : (fault : Option FaultReply) → HasEffect g call fault u w → StaysReadOnly (counts_of g u.device) (counts_of g w.device) (some_number u.stopped) (some_number w.stopped)
   effect_read_only fault x =
       let m = x.steps.reads.medium in
       let k = stays_read_only g x.most u x.between core x.goes in
-      let same : some_number w.stopped ≡ some_number x.between.stopped = ap (λ (c : Core M). some_number c.stopped) x.steps.others in
+      let same : some_number w.stopped ≡ some_number x.between.stopped = ap (λ (c : Core D). some_number c.stopped) x.steps.others in
       let writes = m.write_faults in
       let later : NeverFall (counts_of g x.between.device) (counts_of g w.device) = record {
         clock = let c = m.clock in omega (arith, c);
@@ -61,14 +60,14 @@ module _ {M : Type 0} (g : Ghosts (Device M)) (call : Call) (u w : Core M) (core
   stays_read (No refusal) x = effect_read_only None x
   stays_read (Fault fault) x = effect_read_only (Some fault) x
 
-module _ {M : Type 0} (g : Ghosts (Device M)) (u w : Core M) (worker line : ℕ) (call : Call) (reply : Reply) (out : List ℕ) (files : ℕ) (x : AnswersLine g worker line call u w reply out files) where
+module _ {D : Type 0} (g : Ghosts D) (u w : Core D) (worker line : ℕ) (call : Call) (reply : Reply) (out : List ℕ) (files : ℕ) (x : AnswersLine g worker line call u w reply out files) where
   pub line_less : (k l : ℕ) → k ≢ worker → to_stage_of w.flight k l ≤ to_stage_of u.flight k l
   line_less k l far = let same = to_stage_same u.flight w.flight k l (x.ended.others k far) in omega (arith, same)
 
   pub line_staged : (k l : ℕ) → k ≢ worker → (refusing_of g w k l).staged ≡ (refusing_of g u k l).staged
   line_staged k l far = staged_same u.flight w.flight k l (x.ended.others k far)
 
-  module _ (origin : Core M) (o : Opening) (h : List Entry) (done : ℕ) (s : StandsFor g origin o h u done) (of : IsLineOf o worker line call) (most : AreCounts g w) (volume : IsVolumeShape (g.shape w.device)) where
+  module _ (origin : Core D) (o : Opening) (h : List Entry) (done : ℕ) (s : StandsFor g origin o h u done) (of : IsLineOf o worker line call) (most : AreCounts g w) (volume : IsVolumeShape (g.shape w.device)) where
     then_stands : StandsFor g origin o (h ++ effect_entry line reply ∷ []) (counted w) (saturated (done + 1))
     then_stands = line_stands g origin o h u w done worker line call reply out files s of x most volume
 

@@ -16,7 +16,7 @@ abbrev pub counts_on : {M : Type 0} → (clock read_faults write_faults : M → 
 counts_on clock read_faults write_faults m = record { clock = clock m; read_faults = read_faults m; write_faults = write_faults m }
 
 -- A call of the core led to this one, which had the medium last.
-pub record EndsAs {M : Type 0} (g : Ghosts (Device M)) (old last : Core M) (media : M) : Type 0 where
+pub record EndsAs {M : Type 0} (g : Ghosts (Device M)) (old last : Core (Device M)) (media : M) : Type 0 where
   pub goes : Goes g 512 old last
   pub medium : media ≡ medium_of last.device
 
@@ -29,12 +29,12 @@ pub record IsYoungAtEnd (tells : Type 0) (opening : Opening) (history : List Ent
   pub numbers : begun + clock + 1 < 2 ^ 63 + opening.clock
 
 -- The volume could be written to, and nothing is said to have failed or to be lost.
-pub record IsCommitted {M : Type 0} (old : Core M) (closed : Closed M) : Type 0 where
+pub record IsCommitted {M : Type 0} (old : Core (Device M)) (closed : Closed M) : Type 0 where
   pub writes : old.stopped ≡ 0
   pub unworn : closed.worn ≡ false
   pub no_fault : closed.fault ≡ false
   pub none_lost : closed.lost ≡ false
 
 -- A last commit made all calls durable.
-abbrev pub CommitsLast : {M : Type 0} → Ghosts (Device M) → Core M → M → Type 0
-CommitsLast {M} g old media = (last : Core M) × EndsAs g old last media × (number : ℕ) × CommitsAll g old last number
+abbrev pub CommitsLast : {M : Type 0} → Ghosts (Device M) → Core (Device M) → M → Type 0
+CommitsLast {M} g old media = (last : Core (Device M)) × EndsAs g old last media × (number : ℕ) × CommitsAll g old last number

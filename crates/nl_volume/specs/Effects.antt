@@ -3,17 +3,17 @@ use Rattle.std.specs.Prelude.{◌≡◌, ℕ, ◌&&◌, List, is_none}
 use Rattle.nl_tree.specs.Causes.{FaultIsDue, fault_in}
 use Rattle.nl_tree.specs.declared.call.Call.{Call}
 use Rattle.nl_tree.specs.declared.reply.Reply.{Reply}
-use Rattle.nl_device.specs.declared.device.Device.{Device}
 use Rattle.nl_iface.specs.declared.counts.Counts.{Ghosts}
+use Rattle.nl_iface.specs.declared.moving_pages.MovingPages.{Ghosts as Moving}
 use Rattle.nl_core.specs.Core.{IsCore}
 use Rattle.nl_core.specs.declared.state.Core.{Core}
-use Rattle.nl_answering.specs.Answering.{AnswersOn, EndsLine, HasEffectOf, counts_of, is_sync_call, is_synced, pages_of_files}
-use Rattle.nl_volume.specs.Serving.{refusing_of}
+use Rattle.nl_answering.specs.Answering.{AnswersOn, Cleans, EndsLine, HasEffectOf, is_sync_call, is_synced, pages_of_files}
+use Rattle.nl_staging.specs.Serving.{counts_of, refusing_of}
+use Rattle.nl_stops.specs.Effects.{counted}
 
 -- A line was refused before it was tried, or tried: its reply is the one that is due, it had its effect, and a fault has its cause. Exactly a sync
 -- without a fault has the numbers of one. The worker has no line afterwards, and files have so many pages.
-pub record AnswersLine {M : Type 0} (g : Ghosts (Device M)) (worker line : ℕ) (call : Call) (old new : Core M) (reply : Reply) (out : List ℕ) (files : ℕ) : Type 0 where
-  pub formed : g.formed new.device
+pub record AnswersLine {D : Type 0} (g : Ghosts D) (worker line : ℕ) (call : Call) (old new : Core D) (reply : Reply) (out : List ℕ) (files : ℕ) : Type 0 where
   pub core : IsCore g new
   pub effect : HasEffectOf g call old new reply
   pub answers : AnswersOn g call old reply out
@@ -21,3 +21,7 @@ pub record AnswersLine {M : Type 0} (g : Ghosts (Device M)) (worker line : ℕ) 
   pub synced : is_synced reply ≡ (is_sync_call call && is_none (fault_in reply))
   pub ended : EndsLine worker old.flight new.flight
   pub files_are : files ≡ pages_of_files g new
+
+-- A round of reclaiming was done, and then the call was counted.
+abbrev pub CleansAndCounts : {D : Type 0} → Ghosts D → Moving D → Core D → Core D → Type 0
+CleansAndCounts {D} g m old new = (between : Core D) × Cleans g m old between × (new ≡ counted between)

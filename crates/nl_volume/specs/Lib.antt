@@ -1,8 +1,7 @@
 pub mod Closing
 pub mod Effects
+pub mod Moving
+pub mod Opened
 pub mod Opening
 pub mod Reporting
-pub mod Serving
-pub mod Staging
 pub mod Standing
-pub mod Turns

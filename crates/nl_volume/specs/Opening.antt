@@ -5,7 +5,6 @@ use Rattle.nl_field.specs.Page.{Image}
 use Rattle.nl_tree.specs.Tree.{Tree}
 use Rattle.nl_tree.specs.declared.call.Line.{Line}
 use Rattle.nl_device.specs.Medium.{medium_of}
-use Rattle.nl_device.specs.declared.device.Device.{Device}
 use Rattle.nl_iface.specs.declared.counts.Counts.{Ghosts}
 use Rattle.nl_meta.specs.Consistent.{Consistent}
 use Rattle.nl_meta.specs.Walk.{walk}
@@ -16,7 +15,7 @@ use Rattle.nl_volume.specs.declared.opening.Opened.TheVariants.{Opened as Ready,
 use Rattle.nl_volume.specs.declared.volume.Volume.{Volume}
 
 -- the opening of a run by a core, with this tree and these lines to come
-abbrev pub opening_of : {M : Type 0} → Ghosts (Device M) → Core M → Tree → List Line → Opening
+abbrev pub opening_of : {D : Type 0} → Ghosts D → Core D → Tree → List Line → Opening
 opening_of g v tree lines =
     record {
       shape = g.shape v.device;

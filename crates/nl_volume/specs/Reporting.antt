@@ -2,7 +2,6 @@
 use Rattle.std.specs.Prelude.{◌≡◌, ℕ, Option}
 use Rattle.nl_tree.specs.Charges.{data_charge, meta_charge, node_charge}
 use Rattle.nl_tree.specs.Tree.{Tree}
-use Rattle.nl_device.specs.declared.device.Device.{Device}
 use Rattle.nl_iface.specs.declared.counts.Counts.{Ghosts}
 use Rattle.nl_meta.specs.Consistent.{PageOfStamp}
 use Rattle.nl_core.specs.Trees.{CoreRuns}
@@ -16,5 +15,5 @@ pub record HasCharges (report : VolumeReport) (tree : Tree) : Type 0 where
   pub meta : report.meta ≡ meta_charge tree
 
 -- They are the charges of each tree as which the core runs.
-abbrev pub TellsCharges : {M : Type 0} → Ghosts (Device M) → Core M → VolumeReport → Type 0
+abbrev pub TellsCharges : {D : Type 0} → Ghosts D → Core D → VolumeReport → Type 0
 TellsCharges g v report = (page_of_stamp : ℕ → Option PageOfStamp) (tree : Tree) → CoreRuns g v page_of_stamp tree → HasCharges report tree

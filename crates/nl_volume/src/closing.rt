@@ -1,7 +1,5 @@
-ghost use Rattle.std.specs.Prelude.{◌≡◌, ◌≢◌, ◌⊎◌, ◌↔◌, ◌+◌, ◌≤◌, ◌<◌, ◌^◌, ℕ, List, true, false, IsTrue};
-ghost use Rattle.nl_core.specs.Calls.{CommitsAll, HasCause};
-ghost use Rattle.nl_core.specs.Core.{IsCore, begun_of};
-ghost use Rattle.nl_core.specs.Goes.{Goes};
+ghost use Rattle.std.specs.Prelude.{◌≡◌, ◌≢◌, ◌⊎◌, ◌↔◌, ◌+◌, ◌≤◌, ◌^◌, List, true, false, IsTrue};
+ghost use Rattle.nl_core.specs.Core.{begun_of};
 ghost use Rattle.nl_device.specs.Medium.{medium_of};
 ghost use Rattle.nl_field.specs.CrashStates.{Rose};
 ghost use Rattle.nl_sound.specs.Crash.{StopsSafely};
@@ -10,17 +8,17 @@ ghost use Rattle.nl_tree.specs.Causes.{FaultRose, NeverFall};
 ghost use Rattle.nl_turns.specs.History.{Opening, effects, opening_counts, tree_after};
 ghost use Rattle.nl_turns.specs.Served.{StandsForSome};
 ghost use Rattle.nl_turns.specs.declared.entry.Entry.{Entry as TurnEntry};
-ghost use Rattle.nl_answering.specs.Answering.{counts_of};
+ghost use Rattle.nl_staging.specs.Serving.{counts_of};
 ghost use Rattle.nl_volume.specs.Closing.{CommitsLast, IsCommitted, IsYoungAtEnd, counts_on};
-ghost use Rattle.nl_volume.specs.Standing.{run_of};
+ghost use Rattle.nl_staging.specs.Standing.{run_of};
 ghost use Rattle.nl_volume.specs.declared.volume.Volume.{Volume as VolumeOf};
 
 use crate::volume::Volume;
 use nl_device::Device;
 use nl_held::laws::device_stands;
 use nl_iface::Counts;
-use nl_journal::Committing;
 use nl_nand::Nand;
+use nl_staging::{commit_last, is_fault, is_lost};
 use nl_turns::Kept;
 
 /// What closing a volume leaves: its medium; whether an operation of the medium failed in the last commit, or a page was lost; and whether
@@ -31,17 +29,6 @@ pub struct Closed<M: Nand> {
     pub fault: bool,
     pub lost: bool,
     pub worn: bool,
-}
-
-/// How the last commit ended.
-#[derive(Clone, Copy, Debug)]
-enum Last {
-    /// All calls are committed.
-    Done,
-    /// The volume cannot be written to.
-    Left,
-    Lost,
-    Fault,
 }
 
 impl<M: Nand> Volume<M> {
@@ -66,7 +53,7 @@ impl<M: Nand> Volume<M> {
     {
         let mut volume = self;
         let worn = volume.worn();
-        let last = volume.commit_last(worn);
+        let last = commit_last(&mut volume.core, worn);
         device_stands(&volume.core.device);
         Closed {
             media: volume.into_media(),
@@ -74,49 +61,5 @@ impl<M: Nand> Volume<M> {
             lost: is_lost(last),
             worn,
         }
-    }
-
-    // Commits once, unless the volume cannot be written to.
-    fn commit_last(&mut self, worn: bool) -> Last
-        requires formed { ⟦<Device<M> as Counts>⟧.formed self.old.core.device }
-        requires core { IsCore ⟦<Device<M> as Counts>⟧ self.old.core }
-        requires stamp { worn ≡ false → ⟦<Device<M> as Counts>⟧.next_stamp self.old.core.device < 2 ^ 62 }
-        ensures formed { ⟦<Device<M> as Counts>⟧.formed self.new.core.device }
-        ensures core { IsCore ⟦<Device<M> as Counts>⟧ self.new.core }
-        ensures goes { Goes ⟦<Device<M> as Counts>⟧ 512 self.old.core self.new.core }
-        ensures left { result ≡ Last.Left → self.new ≡ self.old }
-        ensures why { result ≡ Last.Left ↔ (worn ≡ true) ⊎ (self.old.core.stopped ≢ 0) }
-        ensures commits { result ≡ Last.Done → (number : ℕ) × CommitsAll ⟦<Device<M> as Counts>⟧ self.old.core self.new.core number }
-        ensures fault { HasCause ⟦<Device<M> as Counts>⟧ (result ≡ Last.Fault) self.old.core self.new.core }
-        ensures lost { M.tells → result ≢ Last.Lost }
-    {
-        if worn || self.core.stopped != 0 {
-            return Last::Left;
-        }
-        match self.core.commit() {
-            Committing::Done(_) => Last::Done,
-            Committing::Lost { .. } => Last::Lost,
-            Committing::Fault => Last::Fault,
-        }
-    }
-}
-
-// It ended with a failure.
-fn is_fault(last: Last) -> bool
-    ensures { IsTrue result ↔ last ≡ Last.Fault }
-{
-    match last {
-        Last::Fault => true,
-        _ => false,
-    }
-}
-
-// It ended with a page that was lost.
-fn is_lost(last: Last) -> bool
-    ensures { IsTrue result ↔ last ≡ Last.Lost }
-{
-    match last {
-        Last::Lost => true,
-        _ => false,
     }
 }

@@ -4,16 +4,17 @@ ghost use Rattle.nl_core.specs.Duties.{DoesDuty};
 ghost use Rattle.nl_turns.specs.History.{Opening};
 ghost use Rattle.nl_turns.specs.Served.{NoMoreToStage, StandsForSome, StaysReadOnly, duty_entry};
 ghost use Rattle.nl_turns.specs.declared.entry.Entry.{Entry as TurnEntry};
-ghost use Rattle.nl_volume.specs.Serving.{refusing_of, some_number, to_stage_of};
-ghost use Rattle.nl_answering.specs.Answering.{counts_of};
+ghost use Rattle.nl_staging.specs.Serving.{counts_of, refusing_of, some_number, to_stage_of};
+ghost use Rattle.nl_volume.specs.Moving.{moving};
 ghost use Rattle.nl_volume.specs.declared.volume.Volume.{Volume as VolumeOf};
 
 use crate::volume::Volume;
 use nl_core::laws::pages_stay_as_many;
 use nl_device::Device;
 use nl_held::laws::device_stands;
-use nl_iface::Counts;
+use nl_iface::{Counts, MovingPages};
 use nl_nand::Nand;
+use nl_staging::counts;
 use nl_tree::{Duty, DutyAnswer};
 use nl_turns::Kept;
 
@@ -22,8 +23,10 @@ impl<M: Nand> Volume<M> {
     /// the task has nothing to do.
     pub fn duty(&mut self, which: Duty) -> DutyAnswer
         requires { StandsForSome ⟦<Volume<M> as Kept>⟧.stands self.old }
-        ensures stands { (v : VolumeOf M) (o : Opening) (h : List TurnEntry) → ⟦<Volume<M> as Kept>⟧.stands v o h self.old → ⟦<Volume<M> as Kept>⟧.stands v o (h ++ duty_entry ∷ []) self.new }
-        ensures does { DoesDuty ⟦<Device<M> as Counts>⟧ which self.old.core self.new.core result }
+        ensures stands { (v : VolumeOf M) (o : Opening) (h : List TurnEntry) → ⟦<Volume<M> as Kept>⟧.stands v o h self.old → ⟦<Volume<M> as Kept>⟧.stands v o (h ++ duty_entry result ∷ []) self.new }
+        ensures does { DoesDuty ⟦<Device<M> as Counts>⟧
+            (moving ⟦<Device<M> as MovingPages>⟧.victim ⟦<Device<M> as MovingPages>⟧.most_dead ⟦<Device<M> as MovingPages>⟧.coldest ⟦<Device<M> as MovingPages>⟧.blank)
+            which self.old.core self.new.core result }
         ensures counts { NeverFall (counts_of ⟦<Device<M> as Counts>⟧ self.old.core.device) (counts_of ⟦<Device<M> as Counts>⟧ self.new.core.device) }
         ensures less { NoMoreToStage (to_stage_of self.old.core.flight) (to_stage_of self.new.core.flight) }
         ensures read_only { StaysReadOnly (counts_of ⟦<Device<M> as Counts>⟧ self.old.core.device) (counts_of ⟦<Device<M> as Counts>⟧ self.new.core.device) (some_number self.old.core.stopped) (some_number self.new.core.stopped) }
@@ -35,7 +38,7 @@ impl<M: Nand> Volume<M> {
         pages_stay_as_many();
         device_stands(&self.core.device);
         let answer = self.core.duty(which);
-        self.counts();
+        counts(&self.core);
         answer
     }
 }

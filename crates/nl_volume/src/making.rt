@@ -5,6 +5,7 @@ ghost use Rattle.nl_field.specs.Numbers.{is_legal};
 ghost use Rattle.nl_field.specs.Page.{Image};
 ghost use Rattle.nl_making.specs.Making.{IfDone, IfMemory, IsFault, OpensAsNew, made_medium};
 ghost use Rattle.nl_nand.specs.Nand.{Unchanged};
+ghost use Rattle.nl_sound.specs.Formatted.{IsFormatted};
 ghost use Rattle.nl_sound.specs.Stands.{SoundAs};
 ghost use Rattle.nl_tree.specs.Tree.{empty_tree};
 
@@ -19,6 +20,7 @@ impl<M: Nand> Volume<M> {
     pub fn make(alloc: Global, media: M, blocks: u32, pages: u32) -> Made<M>
         requires { IsTrue (is_legal blocks pages) }
         ensures done { IfDone result (λ m. M.geometry m ≡ record { blocks = blocks; pages = pages }) }
+        ensures formatted { M.tells → IfDone result (λ m. IsFormatted blocks pages (M.contents m)) }
         ensures stands { M.tells → IfDone result (λ m. SoundAs (M.contents m) 0 empty_tree) }
         ensures fault { IsFault result → Rose (M.write_faults media) (M.write_faults (made_medium result)) }
         ensures no_fault { (IsFault result → ⊥) → M.write_faults (made_medium result) ≡ M.write_faults media }

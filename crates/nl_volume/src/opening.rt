@@ -10,7 +10,7 @@ ghost use Rattle.nl_opening.specs.Opening.{OnlyReadsMedium};
 ghost use Rattle.nl_sound.specs.Stands.{SoundAs};
 ghost use Rattle.nl_tree.specs.Tree.{Tree};
 ghost use Rattle.nl_tree.specs.declared.call.Line.{Line as LineOf};
-ghost use Rattle.nl_volume.specs.Standing.{EachIsLine};
+ghost use Rattle.nl_staging.specs.Standing.{EachIsLine};
 ghost use Rattle.nl_volume.specs.Opening.{IfOpened, IsFault, OpensImage, opened_medium, opening_of};
 
 use crate::volume::Volume;
@@ -19,6 +19,7 @@ use nl_field::{PageBuf, Place};
 use nl_iface::Counts;
 use nl_nand::Nand;
 use nl_opening::{Opened as Begun, open};
+use nl_staging::counts;
 use nl_turns::Kept;
 use std::alloc::Global;
 
@@ -65,7 +66,7 @@ impl<M: Nand> Volume<M> {
                     least: figures.least,
                     greatest: figures.greatest,
                 };
-                volume.counts();
+                counts(&volume.core);
                 let _calls = volume.calls();
                 Opened::Opened(volume)
             }

@@ -4,7 +4,7 @@ ghost use Rattle.nl_volume.specs.Reporting.{TellsCharges};
 
 use crate::volume::Volume;
 use nl_device::Device;
-use nl_iface::Counts;
+use nl_iface::{Counts, MovingPages};
 use nl_nand::Nand;
 use nl_turns::Kept;
 use nl_walking::count_taken;
@@ -39,7 +39,7 @@ impl<M: Nand> Volume<M> {
         ensures wear { (result.least ≡ self.now.least) × (result.greatest ≡ self.now.greatest) }
         ensures stamp { result.stamp ≡ ⟦<Device<M> as Counts>⟧.next_stamp self.now.core.device }
     {
-        files_are_charged::<M>();
+        files_are_charged::<Device<M>>();
         let taken = count_taken(&self.core);
         VolumeReport {
             data_pages: u64::from(self.files),

@@ -1,22 +1,19 @@
 ghost use Rattle.std.specs.Prelude.{◌≡◌, ◌≤◌, ◌^◌, ◌↔◌, IsTrue};
 ghost use Rattle.nl_device.specs.Medium.{medium_of};
-ghost use Rattle.nl_volume.specs.Turns.{AreCounts};
 
 use nl_core::Core;
 use nl_device::Device;
 use nl_field::PageBuf;
-use nl_iface::Counts;
+use nl_iface::{Counts, MovingPages};
 use nl_nand::Nand;
+use nl_staging::is_worn;
 use nl_turns::Kept;
-
-/// The write sequence number from which on a volume is worn.
-pub(crate) const WORN: u64 = 1 << 62;
 
 /// A volume: its core, how many effects it has had since its opening, at most 2^64 - 1, how many pages its files have, a page that it works
 /// with, and the least and the greatest wear of the pages that were readable at its opening.
 #[derive(Drop)]
 pub struct Volume<M: Nand> {
-    pub core: Core<M>,
+    pub core: Core<Device<M>>,
     pub done: u64,
     pub files: u32,
     pub page: PageBuf,
@@ -49,7 +46,7 @@ impl<M: Nand> Volume<M> {
     pub fn worn(&self) -> bool
         ensures { IsTrue result ↔ 2 ^ 62 ≤ ⟦<Device<M> as Counts>⟧.next_stamp self.now.core.device }
     {
-        self.core.device.next_stamp() >= WORN
+        is_worn(&self.core)
     }
 
     /// The number of the last callback since its opening, or 0.
@@ -66,14 +63,6 @@ impl<M: Nand> Volume<M> {
         let Volume { core, .. } = self;
         let Core { device, .. } = core;
         device.into_media()
-    }
-
-    // Clock and count of failed writes are numbers of a `u64`.
-    pub(crate) fn counts(&self)
-        ensures { AreCounts ⟦<Device<M> as Counts>⟧ self.now.core }
-    {
-        let _clock = self.core.device.clock();
-        let _faults = self.core.device.write_faults();
     }
 }
 

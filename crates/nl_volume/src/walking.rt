@@ -14,6 +14,7 @@ use nl_device::Device;
 use nl_held::laws::device_stands;
 use nl_iface::Counts;
 use nl_nand::Nand;
+use nl_staging::counts;
 use nl_turns::Kept;
 use nl_walking::{TreeItem, TreeWalk};
 
@@ -34,7 +35,7 @@ impl<M: Nand> Volume<M> {
         device_stands(&self.core.device);
         let item = nl_walking::next_path(&mut self.core, walk);
         device_stands(&self.core.device);
-        self.counts();
+        counts(&self.core);
         item
     }
 }

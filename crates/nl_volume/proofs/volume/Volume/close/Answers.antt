@@ -1,4 +1,4 @@
-use Rattle.std.proofs.Common.{◌≡◌, ◌⊎◌, ◌+◌, ◌^◌, ◌∙◌, ⊎_elim, inl, inr, refl, sym, ap, subst}
+use Rattle.std.proofs.Common.{◌⊎◌, ◌+◌, ◌^◌, ◌∙◌, ⊎_elim, inl, inr, refl, sym, ap, subst}
 use Rattle.nl_device.specs.contracts.counts.DeviceCounts.TheImpl.{ghosts}
 use Rattle.std.proofs.lemmas.Bool.{cases_lt}
 use Rattle.nl_field.specs.CrashStates.{Rose}
@@ -8,17 +8,18 @@ use Rattle.nl_sound.specs.Crash.{StopsSafely}
 use Rattle.nl_sound.specs.Stands.{SoundAs}
 use Rattle.nl_turns.specs.History.{effects, opening_counts, tree_after}
 use Rattle.nl_volume.specs.Closing.{IsYoungAtEnd, counts_on}
-use Rattle.nl_volume.specs.declared.volume.Volume.{Volume as VolumeOf}
 use Rattle.nl_core.specs.Core.{begun_of}
-use Rattle.nl_volume.specs.Standing.{run_of}
-use Rattle.nl_volume.proofs.Closes.{closed_ends, closed_stops, could_write, false_of, is_done, none_failed, shape_at_end, sound_end, sound_stops, still_writes}
+use Rattle.nl_core.specs.declared.state.Core.{Core}
+use Rattle.nl_device.specs.declared.device.Device.{Device}
+use Rattle.nl_staging.specs.Standing.{run_of}
+use Rattle.nl_staging.proofs.Closes.{closed_ends, closed_stops, could_write, false_of, is_done, none_failed, shape_at_end, sound_end, sound_stops, still_writes}
 use Rattle.nl_volume.proofs.volume.Volume.close.Goals as goal
 
 pub returns-clause-stops : goal.returns-clause-stops
 returns-clause-stops g c v o h s young =
     let G = ghosts g.row.M g.M.Nand g.M.Nand-dict in
     let u = c.args.self.core in
-    let last = c.commit_last-last.new.self.core in
+    let last = c.commit_last-last.new.core in
     let e = c.commit_last-last.ensures in
     let is = c.into_media.ensures in
     let y = subst (λ m. IsYoungAtEnd g.M.Nand.tells o h (begun_of v.core) (g.M.Nand.clock m)) is young in
@@ -26,7 +27,7 @@ returns-clause-stops g c v o h s young =
     (sound_stops G (run_of o h) (λ m x. G.left v.core.device m x) (λ m x. G.left last.device m x) o.clock (G.clock last.device) (λ x. x) (λ x. refl)
     (λ m x left.
     let fit = g.met.M.Nand.left_fits last.device.media m x y.told left in
-    (fit.whole, sym (shape_is e.formed.segments fit ∙ shape_at_end G v.core o h u last c.args.self.done s.0 e.goes)))
+    (fit.whole, sym (shape_is e.core.formed.segments fit ∙ shape_at_end G v.core o h u last c.args.self.done s.0 e.goes)))
     (closed_stops G v.core o h u last c.args.self.done s.0 e.goes y.told y.moments y.calls y.numbers))
 
 pub commit_last-last-requires-clause-stamp : goal.commit_last-last-requires-clause-stamp
@@ -37,12 +38,12 @@ returns-clause-commits g c k =
     let e = c.commit_last-last.ensures in
     let done = is_done c.commit_last-last.result (λ is. ⊎_elim (λ w. cc (sym w ∙ k.unworn)) (λ off. off k.writes) (e.why.0 is)) (λ is. cc (sym (c.is_lost.ensures.1 is) ∙ k.none_lost)) (λ is. cc (sym (c.is_fault.ensures.1 is) ∙ k.no_fault)) in
     let p = e.commits done in
-    (c.commit_last-last.new.self.core, record { goes = e.goes; medium = c.into_media.ensures }, p.0, p.1)
+    (c.commit_last-last.new.core, record { goes = e.goes; medium = c.into_media.ensures }, p.0, p.1)
 
 pub returns-clause-left : goal.returns-clause-left
 returns-clause-left g c why =
     let e = c.commit_last-last.ensures in
-    c.into_media.ensures ∙ ap (λ (x : VolumeOf g.row.M.Denot). x.core.device.media) (e.left (e.why.1 (⊎_elim (λ off. inr off) (λ w. inl w) why)))
+    c.into_media.ensures ∙ ap (λ (x : Core (Device g.row.M.Denot)). x.device.media) (e.left (e.why.1 (⊎_elim (λ off. inr off) (λ w. inl w) why)))
 
 pub returns-clause-fault : goal.returns-clause-fault
 returns-clause-fault g c is =
@@ -57,7 +58,7 @@ pub returns-clause-ends : goal.returns-clause-ends
 returns-clause-ends g c v o h s young k none =
     let G = ghosts g.row.M g.M.Nand g.M.Nand-dict in
     let u = c.args.self.core in
-    let last = c.commit_last-last.new.self.core in
+    let last = c.commit_last-last.new.core in
     let e = c.commit_last-last.ensures in
     let is = c.into_media.ensures in
     let y = subst (λ m. IsYoungAtEnd g.M.Nand.tells o h (begun_of v.core) (g.M.Nand.clock m)) is young in
@@ -67,14 +68,14 @@ returns-clause-ends g c v o h s young k none =
     let fit = g.met.M.Nand.contents_fit last.device.media y.told in
     subst (λ m. SoundAs (g.M.Nand.contents m) (o.count + effects h) (tree_after o h)) (sym is)
     (sound_end G o.shape last.device (g.M.Nand.contents last.device.media) (o.count + effects h) (tree_after o h) refl fit.whole
-    (sym (shape_is e.formed.segments fit ∙ shape_at_end G v.core o h u last c.args.self.done s.0 e.goes))
+    (sym (shape_is e.core.formed.segments fit ∙ shape_at_end G v.core o h u last c.args.self.done s.0 e.goes))
     (closed_ends G v.core o h u last c.args.self.done s.0 e.goes y.told y.moments y.calls y.numbers e.core c.device_stands.ensures.volume c.device_stands.ensures.map writes p.0 p.1))
 
 pub returns-clause-ends_well : goal.returns-clause-ends_well
 returns-clause-ends_well g c v o h s young none unworn =
     let G = ghosts g.row.M g.M.Nand g.M.Nand-dict in
     let u = c.args.self.core in
-    let last = c.commit_last-last.new.self.core in
+    let last = c.commit_last-last.new.core in
     let e = c.commit_last-last.ensures in
     let is = c.into_media.ensures in
     let none_since = λ (r : FaultRose (opening_counts o) (counts_on g.M.Nand.clock g.M.Nand.read_faults g.M.Nand.write_faults last.device.media)).

@@ -1,15 +1,15 @@
 use Rattle.std.proofs.Common.{◌∙◌, sym}
 use Rattle.nl_device.specs.contracts.counts.DeviceCounts.TheImpl.{ghosts}
 use Rattle.nl_answering.proofs.Counted.{goes_counted}
-use Rattle.nl_answering.proofs.Ended.{line_alike}
-use Rattle.nl_volume.proofs.Serving.{duty_stands, never_fall, no_more, staged_same, stays_read_only}
+use Rattle.nl_staging.proofs.Alike.{line_alike}
+use Rattle.nl_staging.proofs.Serving.{duty_stands, never_fall, no_more, staged_same, stays_read_only}
 use Rattle.nl_volume.proofs.volume.Volume.duty.Goals as goal
 
 pub returns-clause-stands : goal.returns-clause-stands
 returns-clause-stands g c v o h s =
     let G = ghosts g.row.M g.M.Nand g.M.Nand-dict in
     let e = c.duty-answer.ensures in (
-      duty_stands G v.core o h c.args.self.now.core c.duty-answer.new.self c.args.self.now.done s.0 512 e.formed e.core e.goes e.lines c.counts.ensures,
+      duty_stands G v.core o h c.args.self.now.core c.duty-answer.new.self c.args.self.now.done s.0 512 e.core e.goes e.lines c.counts.ensures c.duty-answer.result,
       s.1 ∙ sym (goes_counted G 512 c.args.self.now.core c.duty-answer.new.self e.goes c.pages_stay_as_many.ensures),
     )
 

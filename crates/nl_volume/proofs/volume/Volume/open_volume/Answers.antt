@@ -17,7 +17,7 @@ returns-in-Ready-clause-stands g c tree lines are sound =
     let calls = c.calls-calls.type_inv in
     let same = c.calls-calls.ensures in
     let few : v.count ≤ top = omega (arith, calls, same) in (
-      opening_stands G v tree lines e.formed e.core e.opened few are c.counts.ensures.write_faults
+      opening_stands G v tree lines e.core e.opened few are c.counts.ensures.write_faults
           (λ tells.
           let k = e.stands tells in
           let one = (stands_for_one image v.count v.count k.0 tree k.1.stands (sound tells).stands).1 in

@@ -2,7 +2,7 @@ use Rattle.std.proofs.Common.{◌∙◌, sym}
 use Rattle.nl_volume.proofs.volume.Volume.report.Goals as goal
 
 pub count_taken-taken-requires : goal.count_taken-taken-requires
-count_taken-taken-requires g c = let s = c.requires.3.0.serves in record { formed = s.formed; core = s.core }
+count_taken-taken-requires g c = let s = c.requires.3.0.serves in record { core = s.core }
 
 pub returns-clause-charges : goal.returns-clause-charges
 returns-clause-charges g c = λ page_of_stamp tree runs.

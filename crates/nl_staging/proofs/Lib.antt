@@ -1,0 +1,17 @@
+pub mod Alike
+pub mod Causes
+pub mod Closes
+pub mod Due
+pub mod Effects
+pub mod Failing
+pub mod Few
+pub mod Flights
+pub mod Given
+pub mod Histories
+pub mod Left
+pub mod Lines
+pub mod Nexts
+pub mod Serving
+pub mod Staged
+pub mod Stages
+pub mod Standing

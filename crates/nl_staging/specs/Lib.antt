@@ -1,0 +1,4 @@
+pub mod Serving
+pub mod Staging
+pub mod Standing
+pub mod Turns

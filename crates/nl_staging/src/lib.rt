@@ -1,0 +1,14 @@
+//! A volume in its turns: for which opening and history a core stands, what refuses a line before it is tried, the staging of pages ahead of
+//! the effect of their line, and the last commit.
+#![tactic(auto)]
+
+mod closing;
+mod next;
+mod numbers;
+mod refusing;
+mod staging;
+
+pub use closing::{Last, commit_last, is_fault, is_lost};
+pub use numbers::{counts, is_worn};
+pub use refusing::refusal;
+pub use staging::{leave_other, stage_line};

@@ -1,0 +1,84 @@
+use Rattle.std.proofs.Common.{◌∙◌, sym, arith}
+use Rattle.nl_core.proofs.Renamed.{as_many}
+use Rattle.nl_answering.proofs.Answered.{answer_after, cleans_after}
+use Rattle.nl_answering.proofs.Counted.{goes_counted}
+use Rattle.nl_staging.specs.Serving.{counts_of, refusing_of}
+use Rattle.nl_staging.proofs.Due.{due_tried, tried_may}
+use Rattle.nl_staging.proofs.Few.{few_staged}
+use Rattle.nl_staging.proofs.Lines.{staged_for}
+use Rattle.nl_staging.proofs.Serving.{none_is, runs_of}
+use Rattle.nl_volume.proofs.effect.try_line.Goals as goal
+
+pub answer_call-requires-clause-core : goal.answer_call-requires-clause-core
+answer_call-requires-clause-core g c =
+    let G = g.D.Counts in
+    let s = c.requires.stands in
+    let v = c.leave_other.new.core in
+    let t = c.leave_other.ensures.passes.on s.0 s.1 s.2 s.3 s.4 in
+    t.serves.core
+
+pub answer_call-requires-clause-may : goal.answer_call-requires-clause-may
+answer_call-requires-clause-may g c =
+    let G = g.D.Counts in
+    let s = c.requires.stands in
+    let v = c.leave_other.new.core in
+    let t = c.leave_other.ensures.passes.on s.0 s.1 s.2 s.3 s.4 in
+    record {
+      writes = λ changing. c.leave_other.ensures.stopped ∙ none_is c.args.core.now.stopped (tried_may (refusing_of G c.args.core.now c.args.worker c.args.line) c.args.call.now c.requires.tried changing).0;
+      stamp = λ changing. let low = (tried_may (refusing_of G c.args.core.now c.args.worker c.args.line) c.args.call.now c.requires.tried changing).1 in let same = c.leave_other.ensures.stamp in omega (arith, low, same);
+    }
+
+pub answer_call-requires-clause-runs : goal.answer_call-requires-clause-runs
+answer_call-requires-clause-runs g c =
+    let G = g.D.Counts in
+    let s = c.requires.stands in
+    let v = c.leave_other.new.core in
+    let t = c.leave_other.ensures.passes.on s.0 s.1 s.2 s.3 s.4 in
+    runs_of G s.0 s.1 s.2 v v s.3 t
+
+pub answer_call-requires-clause-files : goal.answer_call-requires-clause-files
+answer_call-requires-clause-files g c =
+    let G = g.D.Counts in
+    let s = c.requires.stands in
+    let v = c.leave_other.new.core in
+    let t = c.leave_other.ensures.passes.on s.0 s.1 s.2 s.3 s.4 in
+    c.requires.files ∙ sym (goes_counted G _ c.args.core.now v c.leave_other.ensures.passes.goes as_many)
+
+pub answer_call-requires-clause-staged : goal.answer_call-requires-clause-staged
+answer_call-requires-clause-staged g c =
+    let G = g.D.Counts in
+    let s = c.requires.stands in
+    let v = c.leave_other.new.core in
+    let t = c.leave_other.ensures.passes.on s.0 s.1 s.2 s.3 s.4 in
+    staged_for G s.1 v c.args.worker c.args.line c.args.call.now t.serves.core t.flight c.leave_other.ensures.line s.5
+
+pub answer_call-requires-clause-others : goal.answer_call-requires-clause-others
+answer_call-requires-clause-others g c =
+    let G = g.D.Counts in
+    let s = c.requires.stands in
+    let v = c.leave_other.new.core in
+    let t = c.leave_other.ensures.passes.on s.0 s.1 s.2 s.3 s.4 in
+    few_staged G s.1 v t.serves.core t.flight
+
+pub returns-clause-answers : goal.returns-clause-answers
+returns-clause-answers g c =
+    let G = g.D.Counts in
+    let u = c.args.core.now in
+    let v = c.leave_other.new.core in
+    let r = c.answer_call in
+    let p = c.leave_other.ensures.passes in
+    let x = answer_after G c.args.call.now p.most u v r.new.core p.goes c.args.worker r.result.reply r.new.out r.result.files p.others r.ensures.answers in
+    record {
+      core = r.ensures.core;
+      effect = x.effect;
+      answers = x.answers;
+      due = due_tried g.D.Counts.tells (refusing_of G u c.args.worker c.args.line) (counts_of G u.device) (counts_of G r.new.core.device) c.args.call.now r.result.reply c.requires.tried x.cause;
+      synced = x.synced;
+      ended = x.line;
+      files_are = x.files_are;
+    }
+
+pub returns-clause-cleaned : goal.returns-clause-cleaned
+returns-clause-cleaned g c is done =
+    let p = c.leave_other.ensures.passes in
+    cleans_after g.D.Counts c.args.call.now p.most c.args.core.now c.leave_other.new.core c.answer_call.new.core p.goes g.D.MovingPages (c.answer_call.ensures.cleaned is done)
