@@ -9,14 +9,17 @@ use Rattle.nl_field.specs.declared.place.Place.{Place}
 use Rattle.nl_headline.specs.Streams.{Medium}
 use Rattle.nl_meta.specs.Walk.{AreFindings, walk}
 use Rattle.nl_print.specs.Texts.{findings_text, formatted_text, sound_text}
+use Rattle.nl_sound.specs.Formatted.{IsFormatted}
 use Rattle.nl_sound.specs.Stands.{Sound, SoundAs}
 use Rattle.nl_tree.specs.Tree.{Tree, empty_tree}
 
 -- ---- format
 
--- A volume of this geometry was made, whatever the medium held. It is sound as the tree with only the root, after no call.
+-- A volume of this geometry was made, whatever the medium held: its two pages are the only ones that are not erased. It is sound as the tree with
+-- only the root, after no call.
 pub record Formats (tells : Type 0) (blocks pages : ℕ) (medium' : Medium) (text : List ℕ) : Type 0 where
   pub geometry : medium'.geometry ≡ record { blocks = blocks; pages = pages }
+  pub two_pages : tells → IsFormatted blocks pages medium'.contents
   pub sound : tells → SoundAs medium'.contents 0 empty_tree
   pub text_is : text ≡ formatted_text (shape_for blocks pages)
 

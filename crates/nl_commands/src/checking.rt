@@ -1,7 +1,8 @@
 // Checks what a medium holds.
-ghost use Rattle.std.specs.Prelude.{◌≡◌, ◌≢◌, ◌⊎◌, ◌≤◌, []};
+ghost use Rattle.std.specs.Prelude.{◌≡◌, ◌≢◌, ◌⊎◌, ◌≤◌, ℕ, []};
 ghost use Rattle.nl_field.specs.CrashStates.{Rose};
 ghost use Rattle.nl_field.specs.FindingBits.{bits_of};
+ghost use Rattle.nl_field.specs.Page.{Image};
 ghost use Rattle.nl_headline.specs.Status.{DoneStatus};
 ghost use Rattle.nl_headline.specs.Streams.{Prints, medium_seen, sink_seen};
 ghost use Rattle.nl_print.specs.Texts.{findings_text, sound_text};
@@ -19,9 +20,10 @@ use std::alloc::Global;
 /// Prints what a check finds on a medium: that it is sound after so many calls, with status 0, or what is at fault, with status 8. Of a medium
 /// that is blank it says so, with status 7. The medium is only read.
 pub fn check<K: Sink, M: Nand>(alloc: Global, sink: &mut K, media: M) -> Done<M>
-    ensures { CheckEnds M.tells (sink_seen K.Sink sink.old) (sink_seen K.Sink sink.new)
+    ensures ended { CheckEnds M.tells (sink_seen K.Sink sink.old) (sink_seen K.Sink sink.new)
         (medium_seen M.Nand media) (medium_seen M.Nand result.media)
         result.order.items result.syncs.items result.status }
+    ensures left { M.tells → (m : ℕ) (c : Image) → M.left result.media m c → M.left media m c }
 {
     walk_is_soundness();
     let before = faults_of(&media);

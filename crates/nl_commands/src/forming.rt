@@ -9,9 +9,9 @@ ghost use Rattle.nl_commands.specs.Ends.{FormatEnds};
 use crate::status::{Done, carried_out, ended, faults_of};
 use nl_field::shape_of;
 use nl_io::Sink;
+use nl_making::{Made, make};
 use nl_nand::Nand;
 use nl_print::formatted_line;
-use nl_volume::{Made, Volume};
 use std::alloc::Global;
 
 /// Makes a volume of legal numbers, and prints them. Whatever the medium held is gone. A stop after the forming leaves a blank image, one
@@ -33,7 +33,7 @@ pub fn format<K: Sink, M: Nand>(
     let Some(shape) = shape_of(blocks, pages) else {
         unreachable!()
     };
-    match Volume::make(alloc, media, blocks, pages) {
+    match make(alloc, media, blocks, pages) {
         Made::Done(media) => {
             let answer = formatted_line(sink, &shape);
             carried_out(alloc, before, answer, media)

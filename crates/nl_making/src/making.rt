@@ -4,6 +4,7 @@ ghost use Rattle.nl_field.specs.Numbers.{is_legal};
 ghost use Rattle.nl_field.specs.Page.{Image, written};
 ghost use Rattle.nl_making.specs.Making.{IfDone, IfMemory, IsFault, OpensAsNew, made_medium};
 ghost use Rattle.nl_nand.specs.Nand.{CanProgram, CrashLeaves, FaultsCounted, Leaves, OperationCounted, Unchanged};
+ghost use Rattle.nl_sound.specs.Formatted.{IsFormatted};
 ghost use Rattle.nl_sound.specs.Stands.{SoundAs};
 ghost use Rattle.nl_tree.specs.Tree.{empty_tree};
 
@@ -23,11 +24,12 @@ pub enum Made<M: Nand> {
     Memory(M),
 }
 
-/// Makes an empty volume of these numbers on a medium: it is formed, and then the first page of nodes and the super page are written.
-/// Whatever it held is gone. A stop after the forming leaves a blank image, one damaged at its super page, or the empty volume.
+/// Makes an empty volume of these numbers on a medium: it is formed, and then the first page of nodes and the super page are written, which
+/// have the first two write sequence numbers and no wear. Whatever it held is gone. A stop after the forming leaves a blank image, one damaged at its super page, or the empty volume.
 pub fn make<M: Nand>(alloc: Global, media: M, blocks: u32, pages: u32) -> Made<M>
     requires { IsTrue (is_legal blocks pages) }
     ensures done { IfDone result (λ m. M.geometry m ≡ record { blocks = blocks; pages = pages }) }
+    ensures formatted { M.tells → IfDone result (λ m. IsFormatted blocks pages (M.contents m)) }
     ensures stands { M.tells → IfDone result (λ m. SoundAs (M.contents m) 0 empty_tree) }
     ensures fault { IsFault result → Rose (M.write_faults media) (M.write_faults (made_medium result)) }
     ensures no_fault { (IsFault result → ⊥) → M.write_faults (made_medium result) ≡ M.write_faults media }

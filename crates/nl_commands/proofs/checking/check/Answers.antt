@@ -5,8 +5,8 @@ use Rattle.nl_headline.specs.Streams.{medium, stream}
 use Rattle.nl_commands.proofs.Found.{check_found}
 use Rattle.nl_commands.proofs.checking.check.Goals as goal
 
-pub returns-in-Found : goal.returns-in-Found
-returns-in-Found g c =
+pub returns-in-Found-clause-ended : goal.returns-in-Found-clause-ended
+returns-in-Found-clause-ended g c =
     let media = c.args.media in
     let checked = c.findings-checked.result.1 in
     let end = c.print_found in
@@ -24,3 +24,19 @@ returns-in-Found g c =
     (λ t. subst (λ r. IfFound r (λ bits count. readable_pages image ≢ [])) c.in-Found.is (c.findings-checked.ensures.readable t))
     (record { same_contents = c.findings-checked.ensures.contents; same_clock = c.findings-checked.ensures.clock; same_write_faults = c.findings-checked.ensures.write_faults })
     end.ensures.order end.ensures.syncs end.ensures.sound end.ensures.faults
+
+pub returns-in-Found-clause-left : goal.returns-in-Found-clause-left
+returns-in-Found-clause-left g c told moment image was =
+    c.findings-checked.ensures.left told moment image (subst (λ (m : g.row.M.Denot). g.M.Nand.left m moment image) c.print_found.ensures.media was)
+
+pub returns-in-Blank-clause-left : goal.returns-in-Blank-clause-left
+returns-in-Blank-clause-left g c told moment image was =
+    c.findings-checked.ensures.left told moment image (subst (λ (m : g.row.M.Denot). g.M.Nand.left m moment image) c.ended.ensures.media was)
+
+pub returns-in-Fault-clause-left : goal.returns-in-Fault-clause-left
+returns-in-Fault-clause-left g c told moment image was =
+    c.findings-checked.ensures.left told moment image (subst (λ (m : g.row.M.Denot). g.M.Nand.left m moment image) c.ended-in-Fault.ensures.media was)
+
+pub returns-in-Memory-clause-left : goal.returns-in-Memory-clause-left
+returns-in-Memory-clause-left g c told moment image was =
+    c.findings-checked.ensures.left told moment image (subst (λ (m : g.row.M.Denot). g.M.Nand.left m moment image) c.ended-in-Memory.ensures.media was)

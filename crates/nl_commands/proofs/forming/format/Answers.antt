@@ -21,6 +21,6 @@ returns-in-Done-clause-ended g c =
     old new
     before middle after end.result.order.items end.result.syncs.items end.result.status (formatted_text c.in-Some.shape)
     c.faults_of-before.ensures.0 c.faults_of-before.ensures.1 same
-    (record { geometry = c.in-Done.ensures.done; sound = c.in-Done.ensures.stands; text_is = ap formatted_text {y = shape_for c.args.blocks c.args.pages} c.in-Some.ensures.numbers })
+    (record { geometry = c.in-Done.ensures.done; two_pages = c.in-Done.ensures.formatted; sound = c.in-Done.ensures.stands; text_is = ap formatted_text {y = shape_for c.args.blocks c.args.pages} c.in-Some.ensures.numbers })
     (record { answer = line.result; taken = line.ensures.text; never_falls = line.ensures.never_falls; cause = line.ensures.cause }) end.ensures.order end.ensures.syncs
     (end.ensures.status old new (formatted_text c.in-Some.shape) line.ensures.text line.ensures.cause)

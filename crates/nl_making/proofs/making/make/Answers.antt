@@ -21,6 +21,16 @@ program-requires-2-clause-erased g c = λ t.
     let same = (g.met.M.Nand.contents_fit c.program.new.self t).pages ∙ ap (λ (n : Geometry). n.pages) (c.in-Done-program.ensures.counted.same_geometry ∙ c.in-Done.ensures.done refl) in
     record { block = 0; from = omega arith; below = let least = wide.2 in omega (arith, least, same); rest_erased = λ p low high. has.behind p low }
 
+pub returns-in-Done-program-2-clause-formatted : goal.returns-in-Done-program-2-clause-formatted
+returns-in-Done-program-2-clause-formatted g c = λ t.
+    let i0 = g.M.Nand.contents c.form.new.self in
+    let i1 = g.M.Nand.contents c.program.new.self in
+    let i2 = g.M.Nand.contents c.program-2.new.self in
+    let blank : IsBlank i0 = c.in-Done.ensures.erased t refl in
+    let filled : Filled 0 1 (written formatted_root) i0 i1 = subst (λ (b : PageBytes). Filled 0 1 (written b) i0 i1) c.put_root.ensures (c.in-Done-program.ensures.effect t) in
+    super_filled c.args.blocks c.args.pages i1 i2 (root_filled i0 i1 blank filled)
+    (subst (λ (b : PageBytes). Filled 1 2 (written b) i1 i2) c.put_super.ensures (c.in-Done-program-2.ensures.effect t))
+
 pub returns-in-Done-program-2-clause-stands : goal.returns-in-Done-program-2-clause-stands
 returns-in-Done-program-2-clause-stands g c = λ t.
     let i0 = g.M.Nand.contents c.form.new.self in
