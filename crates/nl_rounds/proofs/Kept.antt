@@ -6,22 +6,21 @@ use Rattle.nl_field.specs.Medium.{shape_of_image}
 use Rattle.nl_field.specs.Page.{Image}
 use Rattle.nl_field.specs.Virtual.{virtual_bytes}
 use Rattle.nl_tree.specs.Causes.{Counts, MayBeWorn, NeverFall, max_stamp}
-use Rattle.nl_device.specs.declared.device.Device.{Device}
 use Rattle.nl_iface.specs.declared.counts.Counts.{Ghosts}
 use Rattle.nl_meta.specs.Committed.{next_number}
 use Rattle.nl_core.specs.Core.{begun_of}
 use Rattle.nl_core.specs.declared.state.Core.{Core}
 use Rattle.nl_turns.specs.History.{Opening, effects, opening_counts}
 use Rattle.nl_turns.specs.declared.entry.Entry.{Entry}
-use Rattle.nl_answering.specs.Answering.{counts_of}
+use Rattle.nl_staging.specs.Serving.{counts_of}
 use Rattle.nl_volume.specs.Closing.{IsYoungAtEnd}
-use Rattle.nl_volume.specs.Standing.{StandsFor}
-use Rattle.nl_volume.proofs.Causes.{still_cause}
+use Rattle.nl_staging.specs.Standing.{StandsFor}
+use Rattle.nl_staging.proofs.Causes.{still_cause}
 use Rattle.nl_headline.specs.Course.{Course, count_after}
 use Rattle.nl_headline.specs.Headline.{IsYoung}
-use Rattle.nl_rounds.proofs.Whole.{HasKept}
+use Rattle.nl_course.proofs.Whole.{HasKept}
 
-module _ {M : Type 0} (g : Ghosts (Device M)) (origin : Core M) (o : Opening) (h : List Entry) (v : Core M) (done : ℕ) (s : StandsFor g origin o h v done) (now : Counts) (later : NeverFall (counts_of g v.device) now)
+module _ {D : Type 0} (g : Ghosts D) (origin : Core D) (o : Opening) (h : List Entry) (v : Core D) (done : ℕ) (s : StandsFor g origin o h v done) (now : Counts) (later : NeverFall (counts_of g v.device) now)
     (clock : now.clock ≤ top) (writes : now.write_faults ≤ top) where
   pub has_kept : HasKept g.tells o h (opening_counts o) (counts_of g v.device) now
   has_kept = record {

@@ -1,12 +1,2 @@
-pub mod Answers
 pub mod Kept
-pub mod Listed
-pub mod Lists
-pub mod Opens
-pub mod Reading
-pub mod Replies
 pub mod Running
-pub mod Stopping
-pub mod Syncing
-pub mod Trees
-pub mod Whole

@@ -1,35 +1,36 @@
 -- Lines were run on a volume that opened on its medium, and it was closed: the sentences hold of their course.
-use Rattle.std.proofs.Common.{◌≡◌, ◌^◌, ℕ, ◌+◌, ◌≤◌, Bool, false, List, [], IsTrue, refl, sym, subst}
+use Rattle.std.proofs.Common.{◌≡◌, ◌^◌, ℕ, ◌+◌, ◌≤◌, Bool, false, List, [], Option, IsTrue, refl, sym, subst}
 use Rattle.nl_field.specs.CrashStates.{top}
 use Rattle.nl_tree.specs.Calls.{AreLines}
 use Rattle.nl_tree.specs.Causes.{Counts, FaultRose, NeverFall}
 use Rattle.nl_tree.specs.Tree.{Tree}
 use Rattle.nl_tree.specs.declared.call.Line.{Line}
-use Rattle.nl_device.specs.declared.device.Device.{Device}
 use Rattle.nl_iface.specs.declared.counts.Counts.{Ghosts}
 use Rattle.nl_core.specs.Core.{begun_of}
+use Rattle.nl_core.specs.Trees.{CoreRuns}
 use Rattle.nl_core.specs.declared.state.Core.{Core}
+use Rattle.nl_meta.specs.Consistent.{PageOfStamp}
 use Rattle.nl_sound.specs.Crash.{Run}
 use Rattle.nl_sound.specs.Stands.{SoundAs}
 use Rattle.nl_turns.specs.History.{Opening, effects, opening_counts, tree_after}
 use Rattle.nl_turns.specs.Seat.{SeatState, entries}
 use Rattle.nl_turns.specs.declared.entry.Entry.{Entry}
-use Rattle.nl_answering.specs.Answering.{counts_of}
+use Rattle.nl_staging.specs.Serving.{counts_of}
 use Rattle.nl_volume.specs.Closing.{IsYoungAtEnd}
 use Rattle.nl_volume.specs.Opening.{opening_of}
-use Rattle.nl_volume.specs.Standing.{StandsFor, run_of}
+use Rattle.nl_staging.specs.Standing.{StandsFor, run_of}
 use Rattle.nl_workers.specs.Rounds.{AreRows, RoundsRan}
 use Rattle.nl_workers.specs.Table.{Row}
 use Rattle.nl_headline.specs.Headline.{IsYoung, OpensAs}
 use Rattle.nl_headline.specs.Streams.{Medium}
-use Rattle.nl_rounds.specs.Charges.{AreCharges, TellsCharges}
-use Rattle.nl_rounds.specs.declared.charging.Charges.{Charges}
-use Rattle.nl_rounds.specs.Opened.{OpensOn}
-use Rattle.nl_rounds.specs.Rounds.{LinesRan, course_of}
+use Rattle.nl_course.specs.Charges.{AreCharges}
+use Rattle.nl_course.specs.declared.charges.Charges.{Charges}
+use Rattle.nl_volume.specs.Opened.{OpensOn}
+use Rattle.nl_course.specs.Rounds.{LinesRan, course_of}
 use Rattle.nl_rounds.proofs.Kept.{has_kept, worn_so, young_at_end}
-use Rattle.nl_rounds.proofs.Whole.{lines_ran, many}
+use Rattle.nl_course.proofs.Whole.{lines_ran, many}
 
-module _ {M : Type 0} (g : Ghosts (Device M)) (origin v : Core M) (done : ℕ) (tree : Tree) (lines : List Line) (seat after : SeatState) (rows : List Row)
+module _ {D : Type 0} (g : Ghosts D) (origin v : Core D) (done : ℕ) (tree : Tree) (lines : List Line) (seat after : SeatState) (rows : List Row)
     (opening_is : seat.opening ≡ opening_of g origin tree lines) (rise : AreLines lines) (ran : RoundsRan g.tells seat lines rows after)
     (stands : StandsFor g origin (opening_of g origin tree lines) (entries after.seen) v done) where
   abbrev o : Opening
@@ -46,7 +47,7 @@ module _ {M : Type 0} (g : Ghosts (Device M)) (origin v : Core M) (done : ℕ) (
       (opened : OpensOn g medium.contents origin) (sound : g.tells → SoundAs medium.contents origin.count tree)
       (leaves : IsYoungAtEnd g.tells o h (begun_of origin) medium'.counts.clock → stops (run_of o h))
       (ends : IsYoungAtEnd g.tells o h (begun_of origin) medium'.counts.clock → (FaultRose (opening_counts o) medium'.counts → ⊥) → worn ≡ false → SoundAs medium'.contents (o.count + effects h) (tree_after o h))
-      (none_lost : g.tells → lost ≡ false) (worn_is : IsTrue worn → 2 ^ 62 ≤ g.next_stamp v.device) (charged : TellsCharges g v charges) where
+      (none_lost : g.tells → lost ≡ false) (worn_is : IsTrue worn → 2 ^ 62 ≤ g.next_stamp v.device) (charged : (page_of_stamp : ℕ → Option PageOfStamp) (tree : Tree) → CoreRuns g v page_of_stamp tree → AreCharges charges tree) where
     opens_so : g.tells → OpensAs medium.contents (course_of o [])
     opens_so t = let k = opened.opens t in record { sound = sound t; shape = k.shape; next_stamp = k.next_stamp }
 

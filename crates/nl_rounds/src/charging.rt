@@ -1,26 +1,14 @@
-ghost use Rattle.nl_turns.specs.Served.{StandsForSome};
-ghost use Rattle.nl_rounds.specs.Charges.{TellsCharges};
+ghost use Rattle.std.specs.Prelude.{◌≡◌};
 
-use nl_device::Device;
-use nl_iface::Counts;
-use nl_nand::Nand;
-use nl_turns::Kept;
-use nl_volume::Volume;
+use nl_course::Charges;
+use nl_volume::VolumeReport;
 
-/// What a tree takes of its volume: pages of files, nodes, and pages of entries and of pointers.
-#[derive(Clone, Copy, Debug, PartialEq, Eq)]
-pub struct Charges {
-    pub pages: u64,
-    pub nodes: u32,
-    pub meta: u32,
-}
-
-// What the tree takes as which a volume runs.
-pub(crate) fn charges_of<M: Nand>(volume: &Volume<M>) -> Charges
-    requires { StandsForSome ⟦<Volume<M> as Kept>⟧.stands volume.now }
-    ensures { TellsCharges ⟦<Device<M> as Counts>⟧ volume.now.core result }
+// What the tree takes of a volume, as its report tells it.
+pub(crate) fn charges_of(report: &VolumeReport) -> Charges
+    ensures pages { result.pages ≡ report.now.data_pages }
+    ensures nodes { result.nodes ≡ report.now.nodes }
+    ensures meta { result.meta ≡ report.now.meta }
 {
-    let report = volume.report();
     Charges {
         pages: report.data_pages,
         nodes: report.nodes,

@@ -4,23 +4,19 @@ ghost use Rattle.nl_opening.specs.Opening.{OnlyReadsMedium};
 ghost use Rattle.nl_sound.specs.Stands.{SoundAs};
 ghost use Rattle.nl_tree.specs.Calls.{AreLines};
 ghost use Rattle.nl_tree.specs.Tree.{Tree};
-ghost use Rattle.nl_volume.specs.Opening.{opening_of};
 ghost use Rattle.nl_workers.specs.Rounds.{IsFirstSeat};
 ghost use Rattle.nl_workers.specs.Table.{IsTableFor};
 ghost use Rattle.nl_headline.specs.Course.{Course};
 ghost use Rattle.nl_headline.specs.Streams.{medium_seen, stops_within};
-ghost use Rattle.nl_rounds.specs.Opened.{IsReason, OpensOn, medium_in};
-ghost use Rattle.nl_rounds.specs.Rounds.{LinesRan};
+ghost use Rattle.nl_volume.specs.Opened.{IsReason, medium_in};
+ghost use Rattle.nl_course.specs.Rounds.{LinesRan};
 
-use crate::charging::{Charges, charges_of};
-use crate::opening::{NotOpened, open};
-use crate::tables::Tables;
-use nl_device::Device;
-use nl_iface::Counts;
+use crate::charging::charges_of;
+use nl_course::{Charges, Tables};
 use nl_nand::Nand;
 use nl_tree::Lines;
 use nl_turns::{Kept, TurnSeat, Turns};
-use nl_volume::Volume;
+use nl_volume::{NotOpened, Told, Volume, open};
 use nl_workers::{Gate, run_rounds};
 use std::alloc::Global;
 use std::marker::Brand;
@@ -82,8 +78,8 @@ fn run_opened<Rt: Threads + Wait + Sync, M: Nand + Send, G: Gate + Sync>(
     tables: &mut Tables,
     gate: &G,
 ) -> Result<Ran<M>, Volume<M>>
-    requires opened { OpensOn ⟦<Device<M> as Counts>⟧ (M.contents (medium_of volume.core.device)) volume.core }
-    requires stands { (tree : Tree) → (M.tells → SoundAs (M.contents (medium_of volume.core.device)) volume.core.count tree) → ⟦<Volume<M> as Kept>⟧.stands volume (opening_of ⟦<Device<M> as Counts>⟧ volume.core tree lines.now) [] volume }
+    requires opened { ⟦<Volume<M> as Told>⟧.opened_on (M.contents (medium_of volume.core.device)) volume }
+    requires stands { (tree : Tree) → (M.tells → SoundAs (M.contents (medium_of volume.core.device)) volume.core.count tree) → ⟦<Volume<M> as Kept>⟧.stands volume (⟦<Volume<M> as Told>⟧.opening volume tree lines.now) [] volume }
     requires table { IsTableFor lines.now tables.old.answers }
     ensures ran { IfOk result (λ r. (course : Course) × (r.count ≡ course.count) × LinesRan M.tells lines.now
         (stops_within M.Nand (medium_of volume.core.device) r.media) (medium_seen M.Nand (medium_of volume.core.device)) (medium_seen M.Nand r.media)
@@ -108,7 +104,7 @@ fn run_opened<Rt: Threads + Wait + Sync, M: Nand + Send, G: Gate + Sync>(
         gate,
     );
     let volume = turns.close(seat);
-    let charges = charges_of(&volume);
+    let charges = charges_of(&volume.report());
     let closed = volume.close();
     let _clock = closed.media.clock();
     let _faults = closed.media.write_faults();
@@ -127,9 +123,9 @@ fn open_lock<M: Nand>(
     volume: Volume<M>,
     lines: &Lines,
 ) -> Result<(Turns<Volume<M>>, TurnSeat), Volume<M>>
-    requires opened { OpensOn ⟦<Device<M> as Counts>⟧ (M.contents (medium_of volume.core.device)) volume.core }
-    requires stands { (tree : Tree) → (M.tells → SoundAs (M.contents (medium_of volume.core.device)) volume.core.count tree) → ⟦<Volume<M> as Kept>⟧.stands volume (opening_of ⟦<Device<M> as Counts>⟧ volume.core tree lines.now) [] volume }
-    ensures opening { IfOk result (λ r. (tree : Tree) × (M.tells → SoundAs (M.contents (medium_of volume.core.device)) volume.core.count tree) × (r.1.opening ≡ opening_of ⟦<Device<M> as Counts>⟧ volume.core tree lines.now)) }
+    requires opened { ⟦<Volume<M> as Told>⟧.opened_on (M.contents (medium_of volume.core.device)) volume }
+    requires stands { (tree : Tree) → (M.tells → SoundAs (M.contents (medium_of volume.core.device)) volume.core.count tree) → ⟦<Volume<M> as Kept>⟧.stands volume (⟦<Volume<M> as Told>⟧.opening volume tree lines.now) [] volume }
+    ensures opening { IfOk result (λ r. (tree : Tree) × (M.tells → SoundAs (M.contents (medium_of volume.core.device)) volume.core.count tree) × (r.1.opening ≡ ⟦<Volume<M> as Told>⟧.opening volume tree lines.now)) }
     ensures first { IfOk result (λ r. IsFirstSeat lines.now r.1) }
     ensures lock { IfOk result (λ r. (r.1.lock ≡ r.0.name) × (r.1.places + 1 ≡ r.0.seats) × (r.0.origin ≡ volume)) }
     ensures memory { IfErr result (λ v. v ≡ volume) }

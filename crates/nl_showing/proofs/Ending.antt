@@ -2,7 +2,6 @@
 use Rattle.std.proofs.Common.{◌≡◌, ℕ, List, ◌∷◌, ◌++◌, length, take, refl, sym, ap, subst, ◌∙◌, length-append}
 use Rattle.std.specs.Prelude.{⊤, Option, Some, None}
 use Rattle.std.proofs.Math.Seq.{take-append-add}
-use Rattle.nl_device.specs.declared.device.Device.{Device}
 use Rattle.nl_iface.specs.Counting.{FailuresCounted}
 use Rattle.nl_iface.specs.declared.counts.Counts.{Ghosts}
 use Rattle.nl_io.specs.Streams.{Writes}
@@ -14,7 +13,7 @@ use Rattle.nl_core.specs.Trees.{CoreRuns}
 use Rattle.nl_core.specs.declared.state.Core.{Core}
 use Rattle.nl_print.specs.Texts.{opened_line, tree_text}
 use Rattle.nl_walking.specs.Items.{Told}
-use Rattle.nl_walking.specs.Printed.{ItemsArePrinted, item_line}
+use Rattle.nl_showing.specs.Printed.{ItemsArePrinted, item_line}
 use Rattle.nl_walking.specs.Walks.{WalkState, left_of}
 use Rattle.nl_showing.specs.Showing.{Begins, IsShown, ReadsFor, ReadsUntil, ShowsNext, ended_by, paths_text}
 use Rattle.nl_showing.specs.declared.paths.Shown.{Shown}
@@ -23,7 +22,7 @@ use Rattle.nl_showing.proofs.Lines.{begins_with}
 
 -- ---- behind a line
 
-module _ {M : Type 0} (g : Ghosts (Device M)) (v : Core M) (was walk : WalkState) (old new : Option (List ℕ)) (one : Told)
+module _ {D : Type 0} (g : Ghosts D) (v : Core D) (was walk : WalkState) (old new : Option (List ℕ)) (one : Told)
     (left : (page_of_stamp : ℕ → Option PageOfStamp) (tree : Tree) → CoreRuns g v page_of_stamp tree → left_of tree was ≡ one ∷ left_of tree walk) where
   line_shown : (answer : SinkAnswer) → Writes old new answer (item_line one) → ShowsNext g v was walk old new (ended_by answer)
   line_shown sink.Took taken = record { line = item_line one; taken = taken; of_tree = λ page_of_stamp tree runs. record { one = one; left = left page_of_stamp tree runs; is_line = refl } }

@@ -1,2 +1,3 @@
 mod Ending
 pub mod Lines
+mod Printing

@@ -4,7 +4,6 @@ use Rattle.std.specs.Prelude.{Option, Some, None}
 use Rattle.std.proofs.Math.Seq.{take-append_seam}
 use Rattle.std.proofs.lemmas.List.{append-nil, take-append-drop}
 use Rattle.std.proofs.lemmas.Grind.{flat_map-append}
-use Rattle.nl_device.specs.declared.device.Device.{Device}
 use Rattle.nl_iface.specs.declared.counts.Counts.{Ghosts}
 use Rattle.nl_io.specs.Streams.{Writes}
 use Rattle.nl_io.specs.declared.sink.SinkAnswer.TheVariants as sink
@@ -13,7 +12,7 @@ use Rattle.nl_tree.specs.Tree.{Tree}
 use Rattle.nl_core.specs.Trees.{CoreRuns}
 use Rattle.nl_core.specs.declared.state.Core.{Core}
 use Rattle.nl_walking.specs.Items.{Told, items_of}
-use Rattle.nl_walking.specs.Printed.{item_line}
+use Rattle.nl_showing.specs.Printed.{item_line}
 use Rattle.nl_walking.specs.Walks.{WalkState, left_behind, left_of}
 use Rattle.nl_showing.specs.Showing.{Begins, IsLine, IsNextLine, IsShown, paths_text}
 use Rattle.nl_showing.specs.declared.paths.Shown.{Shown}
@@ -39,7 +38,7 @@ pub record SoFar (tree : Tree) (walk : WalkState) (count : ℕ) (text : List ℕ
   pub is_text : text ≡ flat_map item_line done
 
 -- Some lines were taken, where the medium tells its contents those of each tree as which the core runs.
-pub record LinesSoFar {M : Type 0} (g : Ghosts (Device M)) (v : Core M) (walk : WalkState) (count : ℕ) (old new : Option (List ℕ)) : Type 0 where
+pub record LinesSoFar {D : Type 0} (g : Ghosts D) (v : Core D) (walk : WalkState) (count : ℕ) (old new : Option (List ℕ)) : Type 0 where
   pub text : List ℕ
   pub taken : Writes old new sink.Took text
   pub of_tree : g.tells → (page_of_stamp : ℕ → Option PageOfStamp) (tree : Tree) → CoreRuns g v page_of_stamp tree → SoFar tree walk count text

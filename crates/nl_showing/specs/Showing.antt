@@ -6,14 +6,13 @@ use Rattle.nl_io.specs.declared.sink.SinkAnswer.TheVariants as sink
 use Rattle.nl_tree.specs.Charges.{data_charge, meta_charge, node_charge}
 use Rattle.nl_tree.specs.Tree.{Tree}
 use Rattle.nl_print.specs.Texts.{report_text}
-use Rattle.nl_device.specs.declared.device.Device.{Device}
 use Rattle.nl_iface.specs.Counting.{FailuresCounted}
 use Rattle.nl_iface.specs.declared.counts.Counts.{Ghosts}
 use Rattle.nl_meta.specs.Consistent.{PageOfStamp}
 use Rattle.nl_core.specs.Trees.{CoreRuns}
 use Rattle.nl_core.specs.declared.state.Core.{Core}
 use Rattle.nl_walking.specs.Items.{Told, items_of}
-use Rattle.nl_walking.specs.Printed.{item_line}
+use Rattle.nl_showing.specs.Printed.{item_line}
 use Rattle.nl_walking.specs.Walks.{WalkState, left_of}
 use Rattle.nl_showing.specs.declared.paths.Shown.{Shown}
 use Rattle.nl_showing.specs.declared.paths.Shown.TheVariants as shown
@@ -37,7 +36,7 @@ IsShown shown.Fault text whole = Begins text whole
 IsShown shown.Lost text whole = Begins text whole
 
 -- Some text was printed. Where the medium tells its contents, it is that of each tree as which the core runs.
-pub record Shows {M : Type 0} (g : Ghosts (Device M)) (v : Core M) (text_of : Tree → List ℕ) (old new : Option (List ℕ)) (answer : Shown) : Type 0 where
+pub record Shows {D : Type 0} (g : Ghosts D) (v : Core D) (text_of : Tree → List ℕ) (old new : Option (List ℕ)) (answer : Shown) : Type 0 where
   pub text : List ℕ
   pub taken : Writes old new (sink_answer answer) text
   pub of_tree : g.tells → (page_of_stamp : ℕ → Option PageOfStamp) (tree : Tree) → CoreRuns g v page_of_stamp tree → IsShown answer text (text_of tree)
@@ -84,7 +83,7 @@ IsLine tree was walk line (Some shown.Fault) = line ≡ []
 IsLine tree was walk line (Some shown.Lost) = line ≡ []
 
 -- It is that of each tree as which the core runs.
-pub record ShowsNext {M : Type 0} (g : Ghosts (Device M)) (v : Core M) (was walk : WalkState) (old new : Option (List ℕ)) (answer : Option Shown) : Type 0 where
+pub record ShowsNext {D : Type 0} (g : Ghosts D) (v : Core D) (was walk : WalkState) (old new : Option (List ℕ)) (answer : Option Shown) : Type 0 where
   pub line : List ℕ
   pub taken : Writes old new (line_answer answer) line
   pub of_tree : (page_of_stamp : ℕ → Option PageOfStamp) (tree : Tree) → CoreRuns g v page_of_stamp tree → IsLine tree was walk line answer
@@ -93,7 +92,7 @@ pub record ShowsNext {M : Type 0} (g : Ghosts (Device M)) (v : Core M) (was walk
 
 -- Some text was printed. It has the charges of each tree as which the core runs, as many pairs as its device has now, and the next write sequence
 -- number of the device.
-pub record Reports {M : Type 0} (g : Ghosts (Device M)) (v : Core M) (least greatest : ℕ) (old new : Option (List ℕ)) (answer : SinkAnswer) : Type 0 where
+pub record Reports {D : Type 0} (g : Ghosts D) (v : Core D) (least greatest : ℕ) (old new : Option (List ℕ)) (answer : SinkAnswer) : Type 0 where
   pub text : List ℕ
   pub taken : Writes old new answer text
   pub of_tree : (page_of_stamp : ℕ → Option PageOfStamp) (tree : Tree) → CoreRuns g v page_of_stamp tree

@@ -1,6 +1,7 @@
 //! Prints what a volume shows: every path of its tree, and the report of its counts.
 #![tactic(auto)]
 
+pub mod laws;
 mod paths;
 mod report;
 

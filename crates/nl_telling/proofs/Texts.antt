@@ -9,7 +9,7 @@ use Rattle.std.proofs.lemmas.Grind.{flat_map-append}
 use Rattle.std.proofs.lemmas.Option.{get_or_from_slice_get, slice_get_within}
 use Rattle.nl_io.specs.Streams.{Writes}
 use Rattle.nl_io.specs.declared.sink.SinkAnswer.TheVariants as sink
-use Rattle.nl_io.specs.StreamsLaws.{stopped, then_write}
+use Rattle.nl_io.proofs.StreamsLaws.{stopped, then_write}
 use Rattle.nl_print.specs.Texts.{Answered, answer_line, answer_lines}
 use Rattle.nl_telling.specs.Rows.{HavePlaces, is_ok, ok_in, read_by, read_in, row_line, said, written_by, written_in}
 use Rattle.nl_workers.specs.Table.{Row}

@@ -1,3 +1,4 @@
 pub mod Failed
+pub mod Left
 pub mod RunCompleting
 pub mod Told

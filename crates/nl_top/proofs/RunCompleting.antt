@@ -15,7 +15,6 @@ use Rattle.nl_script.specs.declared.refusal.ScriptRefusal.TheVariants.{Refused}
 use Rattle.std.proofs.lemmas.Bool.{lt-ltb}
 use Rattle.nl_script.specs.declared.why.Why.{Why}
 use Rattle.nl_script.specs.declared.why.Why.TheVariants.{Size}
-use Rattle.nl_sound.specs.Crash.{Run}
 use Rattle.nl_tree.specs.Causes.{Counts, FaultRose, HasCause, MayBeWorn, fault_in}
 use Rattle.nl_tree.specs.declared.call.Call.{Call}
 use Rattle.nl_tree.specs.declared.call.Line.{Line}
@@ -24,6 +23,7 @@ use Rattle.nl_tree.specs.declared.reply.FaultReply.TheVariants.{Eio, Erofs, Ewor
 use Rattle.nl_commands.specs.Complete.{NothingRose, OpeningCompletes, StartsSound}
 use Rattle.nl_commands.specs.Ends.{NotOpened, RefusesScript}
 use Rattle.nl_top.specs.Complete.{CountsLast, NoFaultAnswered, RunCompletes}
+use Rattle.nl_top.specs.Leaving.{Leaving}
 use Rattle.nl_top.specs.RunEnds.{Ran, RunEnds, ScriptEnds, TellsAnswers, not_run, ran, runs_script, script_refused, source_fault, source_no_memory}
 
 -- ---- no fault reply has a cause
@@ -86,8 +86,8 @@ module _ (tells : Type 0) (source source' sink sink' : Stream) (medium medium' :
   not_opened : (text : List ℕ) → NotOpened tells medium medium' status text → RunCompletes status order
   not_opened text why = inr (opening_completes source source' sink sink' medium medium' status count text why starts none)
 
-  was_run : (lines : List Line) (shows : Course → List ℕ → Type 0) (stops : Run → Type 0) → Ran tells lines shows stops sink sink' medium medium' order syncs status → RunCompletes status order
-  was_run lines shows stops r =
+  was_run : (lines : List Line) (shows : Course → List ℕ → Type 0) (leaves : Leaving → Type 0) → Ran tells lines shows leaves sink sink' medium medium' order syncs status → RunCompletes status order
+  was_run lines shows leaves r =
       let before = medium.counts in
       let now = medium'.counts in
       let stamp : r.course.next_stamp ≡ next_stamp_of medium.contents = (r.runs.opens starts.told).next_stamp in
@@ -112,9 +112,9 @@ module _ (tells : Type 0) (source source' sink sink' : Stream) (medium medium' :
       done bad text not clean (inr (inl four)) = absurd (none.sink_stays four.2)
       done bad text not clean (inr (inr zero_status)) = inl (zero_status.0, clean)
 
-  pub lines_complete : (lines : List Line) (shows : Course → List ℕ → Type 0) (stops : Run → Type 0) → RunEnds tells lines shows stops sink sink' medium medium' order syncs status → RunCompletes status order
-  lines_complete lines shows stops (not_run text why before) = not_opened text why
-  lines_complete lines shows stops (ran r) = was_run lines shows stops r
+  pub lines_complete : (lines : List Line) (shows : Course → List ℕ → Type 0) (leaves : Leaving → Type 0) → RunEnds tells lines shows leaves sink sink' medium medium' order syncs status → RunCompletes status order
+  lines_complete lines shows leaves (not_run text why kept before) = not_opened text why
+  lines_complete lines shows leaves (ran r) = was_run lines shows leaves r
 
   -- ---- the script of a source
 
@@ -135,8 +135,8 @@ module _ (tells : Type 0) (source source' sink sink' : Stream) (medium medium' :
         read_so (inl whole) = err_not_ok (sym r.refused ∙ ap script (sym (whole_is r.bytes source'.bytes whole.read whole.none_left)) ∙ is)
         read_so (inr (long, read)) = err_not_ok (sym (script_of_long bytes (too_long r.bytes source'.bytes read long)) ∙ is)
 
-    pub script_completes : (stops : Run → Type 0) → ScriptEnds tells stops source source' sink sink' medium medium' order syncs status → RunCompletes status order
-    script_completes stops (source_fault three rose before) = absurd (none.source_stays rose)
-    script_completes stops (source_no_memory six before) = inr six
-    script_completes stops (script_refused line column why two refuses before) = absurd (refuses_not line column why refuses)
-    script_completes stops (runs_script these reads ends) = lines_complete these TellsAnswers stops ends
+    pub script_completes : (leaves : Leaving → Type 0) → ScriptEnds tells leaves source source' sink sink' medium medium' order syncs status → RunCompletes status order
+    script_completes leaves (source_fault three rose kept before) = absurd (none.source_stays rose)
+    script_completes leaves (source_no_memory six kept before) = inr six
+    script_completes leaves (script_refused line column why two refuses kept before) = absurd (refuses_not line column why refuses)
+    script_completes leaves (runs_script these reads ends) = lines_complete these TellsAnswers leaves ends

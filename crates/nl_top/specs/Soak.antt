@@ -1,8 +1,8 @@
 -- The summary of a soak.
 use Rattle.std.specs.Prelude.{◌≡◌, ℕ, List, map}
 use Rattle.nl_headline.specs.Course.{Course, RepliedLine, tree_after}
-use Rattle.nl_rounds.specs.Charges.{AreCharges}
-use Rattle.nl_rounds.specs.declared.charging.Charges.{Charges}
+use Rattle.nl_course.specs.Charges.{AreCharges}
+use Rattle.nl_course.specs.declared.charges.Charges.{Charges}
 use Rattle.nl_telling.specs.Rows.{summary_text}
 
 -- How many calls of the course were answered, and how many of them ok; how many bytes were written and read, at most 2^64 - 1; and pages of files,

@@ -1,7 +1,7 @@
 -- What is told of lines that were run, and of their course.
 use Rattle.std.specs.Prelude.{ℕ, List, map}
 use Rattle.nl_headline.specs.Course.{Course}
-use Rattle.nl_rounds.specs.declared.charging.Charges.{Charges}
+use Rattle.nl_course.specs.declared.charges.Charges.{Charges}
 use Rattle.nl_telling.specs.Rows.{rows_text, said, summary_text}
 use Rattle.nl_workers.specs.Table.{Row}
 use Rattle.nl_top.specs.RunEnds.{TellsAnswers}

@@ -1,15 +1,17 @@
 // The command that runs the script of a source, and what it shares with a soak.
 ghost use Rattle.std.specs.Prelude.{◌≡◌};
-ghost use Rattle.nl_headline.specs.Streams.{medium_seen, sink_seen, source_seen, stops_within};
+ghost use Rattle.nl_headline.specs.Streams.{medium_seen, sink_seen, source_seen};
+ghost use Rattle.nl_top.specs.Leaving.{leaves_within};
 ghost use Rattle.nl_top.specs.RunEnds.{RunEnds, ScriptEnds};
 ghost use Rattle.nl_top.specs.Telling.{Shows};
 
 use crate::telling::{Told, tell};
 use nl_commands::{Done, Script, ended, faults_of, read_script, without_lines};
+use nl_course::tables_for;
 use nl_io::{Sink, Source};
 use nl_nand::Nand;
 use nl_print::refused_line;
-use nl_rounds::{run_lines, tables_for};
+use nl_rounds::run_lines;
 use nl_telling::laws::placed_rows_are_a_run;
 use nl_tree::Lines;
 use nl_viewing::refused;
@@ -27,7 +29,7 @@ pub(crate) fn run<Rt: Threads + Wait + Sync, S: Source, K: Sink, M: Nand + Send,
     media: M,
     gate: &G,
 ) -> Done<M>
-    ensures { ScriptEnds M.tells (stops_within M.Nand media result.media)
+    ensures { ScriptEnds M.tells (leaves_within M.Nand media result.media)
         (source_seen S.Source src.old) (source_seen S.Source src.new)
         (sink_seen K.Sink sink.old) (sink_seen K.Sink sink.new)
         (medium_seen M.Nand media) (medium_seen M.Nand result.media)
@@ -54,7 +56,7 @@ pub(crate) fn run_on<Rt: Threads + Wait + Sync, K: Sink, M: Nand + Send, G: Gate
     media: M,
     gate: &G,
 ) -> Done<M>
-    ensures { RunEnds M.tells lines.now (Shows told M.tells) (stops_within M.Nand media result.media) (sink_seen K.Sink sink.old) (sink_seen K.Sink sink.new) (medium_seen M.Nand media) (medium_seen M.Nand result.media)
+    ensures { RunEnds M.tells lines.now (Shows told M.tells) (leaves_within M.Nand media result.media) (sink_seen K.Sink sink.old) (sink_seen K.Sink sink.new) (medium_seen M.Nand media) (medium_seen M.Nand result.media)
         result.order.items result.syncs.items result.status }
 {
     let Ok(mut tables) = tables_for(alloc, lines) else {

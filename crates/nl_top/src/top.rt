@@ -1,9 +1,10 @@
 // The top call: answers the words of a command line on a flash medium.
 ghost use Rattle.nl_commands.specs.Command.{command_of};
 ghost use Rattle.nl_commands.specs.Complete.{NothingRose};
-ghost use Rattle.nl_headline.specs.Streams.{medium_seen, sink_seen, source_seen, stops_within};
+ghost use Rattle.nl_headline.specs.Streams.{medium_seen, sink_seen, source_seen};
 ghost use Rattle.nl_top.specs.Complete.{CarriesOut};
 ghost use Rattle.nl_top.specs.Ends.{Ends};
+ghost use Rattle.nl_top.specs.Leaving.{leaves_within};
 
 use crate::running::run;
 use crate::soaking::soak;
@@ -28,7 +29,8 @@ use std::thread::Threads;
 /// Of a run, and of a soak, one order of all its lines is told. Each answer is what a plain tree of files replies at its place in that
 /// order, or a fault reply that has its cause; a stop within any program or erase leaves a medium that opens as the tree after a prefix of
 /// that order holding every synced call; and the medium ends as the tree after all of it, where nothing failed. The gate decides nothing of
-/// it.
+/// it. A stop within a call that runs no line leaves nothing new, but for a format: after its forming a stop leaves a blank image, one damaged
+/// at its super page, or the empty volume.
 ///
 /// Statuses: 0; 2 for faulty words, and for a script that is refused; 3 where the source failed; 4 where the sink failed; 5 where the medium
 /// failed, a page was lost, the volume is worn or an answer is a fault reply; 6 for want of memory, before the first turn; 7 for a medium
@@ -42,7 +44,7 @@ pub fn nameless<Rt: Threads + Wait + Sync, S: Source, K: Sink, M: Nand + Send, G
     media: M,
     gate: &G,
 ) -> Done<M>
-    ensures ended { Ends M.tells words.now (stops_within M.Nand media result.media)
+    ensures ended { Ends M.tells words.now (leaves_within M.Nand media result.media)
         (source_seen S.Source src.old) (source_seen S.Source src.new) (sink_seen K.Sink sink.old) (sink_seen K.Sink sink.new)
         (medium_seen M.Nand media) (medium_seen M.Nand result.media) result.order.items result.syncs.items result.status }
 

@@ -14,11 +14,11 @@ use Rattle.nl_io.specs.declared.sink.SinkAnswer.{SinkAnswer}
 use Rattle.nl_io.specs.declared.sink.SinkAnswer.TheVariants as answers
 use Rattle.nl_nand.specs.declared.geometry.Geometry.{Geometry}
 use Rattle.nl_opening.specs.Opening.{OnlyReadsMedium}
-use Rattle.nl_io.specs.StreamsLaws.{stopped}
+use Rattle.nl_io.proofs.StreamsLaws.{stopped}
 use Rattle.nl_showing.specs.Showing.{Begins, IsShown, ReadsFor, sink_answer}
 use Rattle.nl_showing.specs.declared.paths.Shown.{Shown}
 use Rattle.nl_showing.specs.declared.paths.Shown.TheVariants as shown
-use Rattle.nl_viewing.specs.Looking.{LookEnds, cut_short, not_seen, seen}
+use Rattle.nl_viewing.specs.Looking.{LookEnds, ShowsTree, TreeEnds, cut_short, not_cut, not_seen, seen}
 
 -- ---- no volume
 
@@ -52,6 +52,13 @@ fault_rose g s t answer reads is = (subst (ReadsFor g s t) is reads).cause tt
 pub lost_untold : {D : Type 0} (g : Ghosts D) (s t : D) (answer : Shown) → ReadsFor g s t answer → answer ≡ shown.Lost → g.tells → ⊥
 lost_untold g s t answer reads is = (subst (ReadsFor g s t) is reads).1
 
+-- no read failed where the sink was given all, or failed itself
+pub all_still : {D : Type 0} (g : Ghosts D) (s t : D) (answer : Shown) → ReadsFor g s t answer → answer ≡ shown.All → g.read_faults t ≡ g.read_faults s
+all_still g s t answer reads is = subst (ReadsFor g s t) is reads
+
+pub not_taken_still : {D : Type 0} (g : Ghosts D) (s t : D) (answer : Shown) → ReadsFor g s t answer → answer ≡ shown.NotTaken → g.read_faults t ≡ g.read_faults s
+not_taken_still g s t answer reads is = subst (ReadsFor g s t) is reads
+
 -- the counts of faults before were these
 pub status_since : (reads writes status : ℕ) (answer : SinkAnswer) (start middle : Medium) → (reads ≡ start.counts.read_faults) × (writes ≡ start.counts.write_faults)
     → IsStatusOf status (Rose reads middle.counts.read_faults ⊎ Rose writes middle.counts.write_faults) answer → IsStatusOf status (MediumRose start middle) answer
@@ -74,36 +81,39 @@ pub record Looked (tells : Type 0) (sink sink' : Stream) (start middle : Medium)
 differ : answers.Took ≡ answers.Failed → ⊥
 differ e = cc
 
-module _ (tells : Type 0) (shows : Image → List ℕ → Type 0) (sink sink' : Stream) (start middle : Medium) (order : List Ordered) (syncs : List Synced) (status : ℕ) (looked : Looked tells sink sink' start middle order syncs) where
+module _ (tells : Type 0) (sink sink' : Stream) (start middle : Medium) (order : List Ordered) (syncs : List Synced) (status : ℕ) (looks : Looked tells sink sink' start middle order syncs) where
   ends_before : (answer : SinkAnswer) (text : List ℕ) → Writes sink.bytes sink'.bytes answer text → (answer ≡ answers.Failed → Rose sink.faults sink'.faults) → EndsBefore tells text sink sink' start middle order syncs
   ends_before answer text taken cause =
       record {
-        prints = record { answer = answer; taken = taken; never_falls = looked.later; cause = cause };
-        untouched = looked.untouched;
-        no_lines = looked.no_lines;
-        no_syncs = looked.no_syncs;
+        prints = record { answer = answer; taken = taken; never_falls = looks.later; cause = cause };
+        untouched = looks.untouched;
+        no_lines = looks.no_lines;
+        no_syncs = looks.no_syncs;
       }
 
-  -- the sink was given a text
-  pub was_seen : (answer : SinkAnswer) (text : List ℕ) → (tells → shows start.contents text) → Writes sink.bytes sink'.bytes answer text → (answer ≡ answers.Failed → Rose sink.faults sink'.faults)
-      → IsStatusOf status (MediumRose start middle) answer → LookEnds tells shows sink sink' start middle order syncs status
-  was_seen answer text shown taken cause done = seen text shown (ends_before answer text taken cause) (done sink sink' text taken cause)
+  -- the sink was given a text, and no read has failed
+  pub was_seen : (shows : Image → List ℕ → Type 0) (answer : SinkAnswer) (text : List ℕ) → (tells → shows start.contents text) → middle.counts.read_faults ≡ start.counts.read_faults
+      → Writes sink.bytes sink'.bytes answer text → (answer ≡ answers.Failed → Rose sink.faults sink'.faults) → IsStatusOf status (MediumRose start middle) answer
+      → LookEnds tells shows sink sink' start middle order syncs status
+  was_seen shows answer text shown still taken cause done = seen text shown still (ends_before answer text taken cause) (done sink sink' text taken cause)
 
-  -- it was given a text, or a beginning of it
-  module _ (whole text : List ℕ) (shown_whole : tells → shows start.contents whole) where
-    shown_rest : text ++ drop (length text) whole ≡ whole → tells → shows start.contents (text ++ drop (length text) whole)
-    shown_rest is t = subst (shows start.contents) (sym is) (shown_whole t)
+  -- it was given the paths of a tree, or a beginning of them
+  module _ (whole text : List ℕ) (shown_whole : tells → ShowsTree start.contents whole) where
+    shown_rest : text ++ drop (length text) whole ≡ whole → tells → ShowsTree start.contents (text ++ drop (length text) whole)
+    shown_rest is t = subst (ShowsTree start.contents) (sym is) (shown_whole t)
 
     pub was_shown : (answer : Shown) → (tells → IsShown answer text whole) → Writes sink.bytes sink'.bytes (sink_answer answer) text → (answer ≡ shown.NotTaken → Rose sink.faults sink'.faults)
+        → (answer ≡ shown.All → middle.counts.read_faults ≡ start.counts.read_faults) → (answer ≡ shown.NotTaken → middle.counts.read_faults ≡ start.counts.read_faults)
         → (answer ≡ shown.Fault → Rose start.counts.read_faults middle.counts.read_faults) → (answer ≡ shown.Lost → tells → ⊥)
         → (answer ≡ shown.Fault → status ≡ 5) → (answer ≡ shown.Lost → status ≡ 5) → (answer ≡ shown.All → IsStatusOf status (MediumRose start middle) answers.Took)
-        → (answer ≡ shown.NotTaken → IsStatusOf status (MediumRose start middle) answers.Failed) → LookEnds tells shows sink sink' start middle order syncs status
-    was_shown shown.All is taken cause rose untold fault lost all failed =
-        was_seen answers.Took text (λ t. subst (shows start.contents) (sym (is t)) (shown_whole t)) taken (λ f. absurd (differ f)) (all refl)
-    was_shown shown.NotTaken is taken cause rose untold fault lost all failed =
-        was_seen answers.Failed (text ++ drop (length text) whole) (λ t. shown_rest (with_rest text whole (is t)) t) (stopped sink.bytes sink'.bytes text (drop (length text) whole) taken) (λ f. cause refl)
-        (failed refl)
-    was_shown shown.Fault is taken cause rose untold fault lost all failed =
+        → (answer ≡ shown.NotTaken → IsStatusOf status (MediumRose start middle) answers.Failed) → TreeEnds tells sink sink' start middle order syncs status
+    was_shown shown.All is taken cause still still_not rose untold fault lost all failed =
+        not_cut (was_seen ShowsTree answers.Took text (λ t. subst (ShowsTree start.contents) (sym (is t)) (shown_whole t)) (still refl) taken (λ f. absurd (differ f)) (all refl))
+    was_shown shown.NotTaken is taken cause still still_not rose untold fault lost all failed =
+        not_cut
+        (was_seen ShowsTree answers.Failed (text ++ drop (length text) whole) (λ t. shown_rest (with_rest text whole (is t)) t) (still_not refl) (stopped sink.bytes sink'.bytes text (drop (length text) whole) taken)
+        (λ f. cause refl) (failed refl))
+    was_shown shown.Fault is taken cause still still_not rose untold fault lost all failed =
         cut_short text (drop (length text) whole) (fault refl) (inl (rose refl)) (λ t. shown_rest (with_rest text whole (is t)) t) (ends_before answers.Took text taken (λ f. absurd (differ f))) taken
-    was_shown shown.Lost is taken cause rose untold fault lost all failed =
+    was_shown shown.Lost is taken cause still still_not rose untold fault lost all failed =
         cut_short text (drop (length text) whole) (lost refl) (inr (untold refl)) (λ t. shown_rest (with_rest text whole (is t)) t) (ends_before answers.Took text taken (λ f. absurd (differ f))) taken

@@ -31,14 +31,18 @@ pub record Reports (image : Image) (text : List ℕ) : Type 0 where
   pub text_is : text
       ≡ report_text (shape_of_image image) count (data_charge tree) (node_charge tree) (meta_charge tree) (pairs_of image) (least_wear image) (greatest_wear image) (next_stamp_of image)
 
--- No volume was opened. Or a read failed while the text was printed, or a page was lost, which it is only where the medium does not tell its contents:
--- then the sink is given a beginning of the text. Or it is given the text. Which text that is is said where the medium tells its contents.
+-- No volume was opened. Or the sink is given the text, and no read has failed. Which text that is is said where the medium tells its contents.
 pub data LookEnds (tells : Type 0) (shows : Image → List ℕ → Type 0) (sink sink' : Stream) (medium medium' : Medium) (order : List Ordered) (syncs : List Synced) (status : ℕ) : Type 0 where
   not_seen : (text : List ℕ) → NotOpened tells medium medium' status text → EndsBefore tells text sink sink' medium medium' order syncs
       → LookEnds tells shows sink sink' medium medium' order syncs status
-  cut_short : (text rest : List ℕ) → status ≡ 5 → Rose medium.counts.read_faults medium'.counts.read_faults ⊎ (tells → ⊥) → (tells → shows medium.contents (text ++ rest))
+  seen : (text : List ℕ) → (tells → shows medium.contents text) → medium'.counts.read_faults ≡ medium.counts.read_faults
+      → EndsBefore tells text sink sink' medium medium' order syncs → DoneStatus status (MediumRose medium medium') sink sink' text
+      → LookEnds tells shows sink sink' medium medium' order syncs status
+
+-- Paths are looked at so. Or a read failed while they were printed, or a page was lost, which it is only where the medium does not tell its contents:
+-- then the sink is given a beginning of the text.
+pub data TreeEnds (tells : Type 0) (sink sink' : Stream) (medium medium' : Medium) (order : List Ordered) (syncs : List Synced) (status : ℕ) : Type 0 where
+  not_cut : LookEnds tells ShowsTree sink sink' medium medium' order syncs status → TreeEnds tells sink sink' medium medium' order syncs status
+  cut_short : (text rest : List ℕ) → status ≡ 5 → Rose medium.counts.read_faults medium'.counts.read_faults ⊎ (tells → ⊥) → (tells → ShowsTree medium.contents (text ++ rest))
       → EndsBefore tells text sink sink' medium medium' order syncs → PrintsWhole sink sink' text
-      → LookEnds tells shows sink sink' medium medium' order syncs status
-  seen : (text : List ℕ) → (tells → shows medium.contents text) → EndsBefore tells text sink sink' medium medium' order syncs
-      → DoneStatus status (MediumRose medium medium') sink sink' text
-      → LookEnds tells shows sink sink' medium medium' order syncs status
+      → TreeEnds tells sink sink' medium medium' order syncs status

@@ -1,13 +1,13 @@
 //! Laws of the definitions. Each function stands for the law that its contract names.
-ghost use Rattle.nl_viewing.specs.Complete.{LookCompletes};
-ghost use Rattle.nl_viewing.specs.Looking.{Reports, ShowsTree};
+ghost use Rattle.nl_viewing.specs.Complete.{LookCompletes, TreeCompletes};
+ghost use Rattle.nl_viewing.specs.Looking.{Reports};
 
 use nl_commands::laws::{done_completes, opening_completes};
 use nl_nand::Nand;
 
 /// Where nothing fails, the paths of a sound image are printed, and its report, unless memory is wanting.
 pub fn look_completes<M: Nand>()
-    ensures trees { LookCompletes M.tells ShowsTree }
+    ensures trees { TreeCompletes M.tells }
     ensures reports { LookCompletes M.tells Reports }
 {
     done_completes();

@@ -2,13 +2,13 @@
 ghost use Rattle.std.specs.Prelude.{◌≡◌, [], ℕ, List};
 ghost use Rattle.nl_commands.specs.Ends.{NotOpened as WasNotOpened};
 ghost use Rattle.nl_headline.specs.Streams.{Prints, medium_seen, sink_seen};
-ghost use Rattle.nl_rounds.specs.Opened.{IsReason, medium_in};
+ghost use Rattle.nl_volume.specs.Opened.{IsReason, medium_in};
 
 use nl_commands::{Done, ended, without_lines};
 use nl_io::Sink;
 use nl_nand::Nand;
 use nl_print::damaged_line;
-use nl_rounds::NotOpened;
+use nl_volume::NotOpened;
 use std::alloc::Global;
 
 /// Prints why no volume was opened.

@@ -8,12 +8,12 @@ use crate::refusing::refused;
 use nl_commands::{Done, carried_out, faults_of};
 use nl_io::Sink;
 use nl_nand::Nand;
-use nl_rounds::open;
 use nl_showing::print_report;
+use nl_volume::open;
 use std::alloc::Global;
 
 /// Opens the volume of a medium, and prints its count of calls, the blocks of its segments, how much of it its tree takes, how many pairs it has,
-/// the least and the greatest wear, and its next write sequence number. The medium is only read.
+/// the least and the greatest wear, and its next write sequence number. The medium is only read, and that before anything is printed.
 pub fn report<K: Sink, M: Nand>(alloc: Global, sink: &mut K, media: M) -> Done<M>
     ensures ended { LookEnds M.tells Reports (sink_seen K.Sink sink.old) (sink_seen K.Sink sink.new)
         (medium_seen M.Nand media) (medium_seen M.Nand result.media)
@@ -25,7 +25,13 @@ pub fn report<K: Sink, M: Nand>(alloc: Global, sink: &mut K, media: M) -> Done<M
         Ok(volume) => volume,
         Err(why) => return refused(alloc, why, sink),
     };
-    let answer = print_report(sink, &volume);
+    let answer = print_report(
+        sink,
+        &volume.core,
+        volume.files,
+        volume.least,
+        volume.greatest,
+    );
     let media = volume.into_media();
     carried_out(alloc, before, answer, media)
 }

@@ -4,21 +4,20 @@ ghost use Rattle.nl_commands.specs.Ends.{IsStatusOf};
 ghost use Rattle.nl_field.specs.CrashStates.{Rose};
 ghost use Rattle.nl_field.specs.Page.{Image};
 ghost use Rattle.nl_headline.specs.Streams.{medium_seen, sink_seen};
-ghost use Rattle.nl_viewing.specs.Looking.{LookEnds, ShowsTree};
+ghost use Rattle.nl_viewing.specs.Looking.{TreeEnds};
 
 use crate::refusing::refused;
 use nl_commands::{Done, Faults, carried_out, ended, faults_of, without_lines};
 use nl_io::{Sink, SinkAnswer};
 use nl_nand::Nand;
-use nl_rounds::open;
 use nl_showing::{Shown, print_tree};
-use nl_volume::TreeWalk;
+use nl_volume::{TreeWalk, open};
 use std::alloc::Global;
 
 /// Opens the volume of a medium, and prints its count of calls and a line for each path of its tree. Where a read fails on the way, or a page is
 /// lost, the text ends there, with status 5. The medium is only read.
 pub fn tree<K: Sink, M: Nand>(alloc: Global, sink: &mut K, media: M) -> Done<M>
-    ensures ended { LookEnds M.tells ShowsTree (sink_seen K.Sink sink.old) (sink_seen K.Sink sink.new)
+    ensures ended { TreeEnds M.tells (sink_seen K.Sink sink.old) (sink_seen K.Sink sink.new)
         (medium_seen M.Nand media) (medium_seen M.Nand result.media)
         result.order.items result.syncs.items result.status }
     ensures left { M.tells → (m : ℕ) (c : Image) → M.left result.media m c → M.left media m c }
@@ -32,7 +31,7 @@ pub fn tree<K: Sink, M: Nand>(alloc: Global, sink: &mut K, media: M) -> Done<M>
         return ended(alloc, 6, b"memory", sink, volume.into_media());
     };
     let count = volume.calls();
-    let shown = print_tree(sink, &mut volume, &mut walk, count);
+    let shown = print_tree(sink, &mut volume.core, &mut walk, count);
     let media = volume.into_media();
     ending_of(alloc, before, shown, media)
 }

@@ -2,8 +2,8 @@ use Rattle.std.proofs.Common.{ap, arith}
 use Rattle.std.proofs.lemmas.Result.{IfOk-weaker}
 use Rattle.nl_device.specs.Medium.{medium_of}
 use Rattle.nl_turns.specs.Seat.{SeatState}
-use Rattle.nl_rounds.proofs.Opens.{both_ok}
-use Rattle.nl_rounds.proofs.Trees.{sound_as_it, tree_of}
+use Rattle.nl_volume.proofs.Opens.{both_ok}
+use Rattle.nl_volume.proofs.Trees.{sound_as_it, tree_of}
 use Rattle.nl_rounds.proofs.rounds.open_lock.Goals as goal
 
 pub new-requires-clause-stands : goal.new-requires-clause-stands

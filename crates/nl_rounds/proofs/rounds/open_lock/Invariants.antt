@@ -1,7 +1,7 @@
 use Rattle.nl_device.specs.Medium.{medium_of}
 use Rattle.nl_device.specs.contracts.counts.DeviceCounts.TheImpl.{ghosts}
 use Rattle.nl_volume.specs.Opening.{opening_of}
-use Rattle.nl_rounds.proofs.Trees.{tree_of}
+use Rattle.nl_volume.proofs.Trees.{tree_of}
 use Rattle.nl_rounds.proofs.rounds.open_lock.Given as goal
 
 -- from the tree as which the image is sound

@@ -7,9 +7,9 @@ use Rattle.nl_sound.specs.Crash.{StopsSafely}
 use Rattle.nl_sound.specs.Stands.{SoundAs}
 use Rattle.nl_tree.specs.Calls.{IsLine}
 use Rattle.nl_volume.specs.declared.volume.Volume.{Volume}
-use Rattle.nl_rounds.proofs.Lists.{holds_of}
-use Rattle.nl_rounds.proofs.Opens.{opens_on_same}
-use Rattle.nl_rounds.proofs.Reading.{as_many_rows, ran_from, stops_from}
+use Rattle.nl_course.proofs.Lists.{holds_of}
+use Rattle.nl_volume.proofs.Opens.{opens_on_same}
+use Rattle.nl_course.proofs.Reading.{as_many_rows, ran_from, stops_from}
 use Rattle.nl_rounds.proofs.rounds.run_lines.Goals as goal
 
 pub run_opened-requires-clause-opened : goal.run_opened-requires-clause-opened

@@ -1,4 +1,4 @@
-use Rattle.std.proofs.Common.{◌≡◌, ◌∙◌, ◌≤◌, ap, refl, sym, subst, arith}
+use Rattle.std.proofs.Common.{◌≡◌, ◌∙◌, ◌≤◌, ap, refl, subst, arith}
 use Rattle.nl_answering.specs.Answering.{pages_of_files}
 use Rattle.nl_device.specs.Medium.{medium_of}
 use Rattle.nl_device.specs.contracts.counts.DeviceCounts.TheImpl.{ghosts}
@@ -9,9 +9,9 @@ use Rattle.nl_turns.specs.History.{Opening}
 use Rattle.nl_turns.specs.Seat.{SeatState, entries}
 use Rattle.nl_headline.specs.Streams.{medium}
 use Rattle.nl_volume.specs.Opening.{opening_of}
-use Rattle.nl_volume.specs.Standing.{StandsFor}
+use Rattle.nl_staging.specs.Standing.{StandsFor}
 use Rattle.nl_volume.specs.declared.volume.Volume.{Volume}
-use Rattle.nl_rounds.specs.Rounds.{course_of}
+use Rattle.nl_course.specs.Rounds.{course_of}
 use Rattle.nl_rounds.proofs.Running.{rounds_and_end}
 use Rattle.nl_rounds.proofs.rounds.run_opened.Goals.{else-closed, then-closed}
 use Rattle.nl_rounds.proofs.rounds.run_opened.Goals as goal
@@ -48,7 +48,7 @@ returns-clause-ran g c =
     let h = entries after.seen in
     let stands = subst (λ (x : Volume _ × Opening). StandsFor G x.0.core x.1 h last.core last.done × (last.files ≡ pages_of_files G last.core))
     (λ k. (c.in-Ok.ensures.lock.2 k, (ap (λ (z : SeatState). z.opening) ran.same ∙ opening.2) k)) c.close-volume.ensures in
-    let charged = c.charges_of-charges.ensures in
+    let told = c.charges_of-charges.ensures in
     let clock = c.clock-clock.ensures in
     let clock_fits = c.clock-clock.type_inv in
     let faults = c.write_faults-faults.ensures in
@@ -65,5 +65,5 @@ returns-clause-ran g c =
           (λ young none unworn. e.ends_well c.args.volume o h stands young none unworn)
           (λ t. elim c.if-closed.branch [ then-closed w ↦ w.result-is ∙ e.lost t | else-closed w ↦ w.result-is ∙ (w.lost.ensures ∙ c.run_rounds.ensures.lost t) ])
           e.worn.0
-          charged,
+          (λ page_of_stamp tree runs. let k = c.report.ensures.charges page_of_stamp tree runs in record { pages = told.pages ∙ k.pages; nodes = told.nodes ∙ k.nodes; meta = told.meta ∙ k.meta }),
     )

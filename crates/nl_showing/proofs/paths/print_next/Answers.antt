@@ -1,5 +1,4 @@
 use Rattle.std.proofs.Common.{[], List, refl, subst, ℕ}
-use Rattle.nl_device.specs.contracts.counts.DeviceCounts.TheImpl.{ghosts}
 use Rattle.nl_field.specs.CrashStates.{Rose}
 use Rattle.nl_io.specs.Streams.{Writes}
 use Rattle.nl_print.specs.Texts.{dir_text, file_text}
@@ -10,17 +9,17 @@ use Rattle.nl_showing.proofs.paths.print_next.Goals as goal
 
 pub returns-in-Dir-clause-shows : goal.returns-in-Dir-clause-shows
 returns-in-Dir-clause-shows g c =
-    let G = ghosts g.row.M g.M.Nand g.M.Nand-dict in
+    let G = g.D.Counts in
     let walk = c.next_path.new.walk in
     let old = g.K.Sink.taken c.args.sink.now in
     let new = g.K.Sink.taken c.dir_line.new.sink in
-    shows_line G c.args.volume.now.core c.args.walk.now walk old new (walk.path, item.Dir c.in-Dir.entries) c.in-Dir.ensures.gives c.dir_line.result c.ended_by.result c.ended_by.ensures
+    shows_line G c.args.core.now c.args.walk.now walk old new (walk.path, item.Dir c.in-Dir.entries) c.in-Dir.ensures.gives c.dir_line.result c.ended_by.result c.ended_by.ensures
     (subst (λ (p : List (List ℕ)). Writes old new c.dir_line.result (dir_text p c.in-Dir.entries)) c.path.ensures c.dir_line.ensures.text)
 
 pub returns-in-Dir-clause-reads : goal.returns-in-Dir-clause-reads
 returns-in-Dir-clause-reads g c =
-    let G = ghosts g.row.M g.M.Nand g.M.Nand-dict in
-    reads_line G c.args.volume.now.core.device c.next_path.new.self.core.device c.dir_line.result c.ended_by.result c.ended_by.ensures c.in-Dir.ensures.reads
+    let G = g.D.Counts in
+    reads_line G c.args.core.now.device c.next_path.new.core.device c.dir_line.result c.ended_by.result c.ended_by.ensures c.in-Dir.ensures.reads
 
 pub returns-in-Dir-clause-cause : goal.returns-in-Dir-clause-cause
 returns-in-Dir-clause-cause g c =
@@ -28,17 +27,17 @@ returns-in-Dir-clause-cause g c =
 
 pub returns-in-File-clause-shows : goal.returns-in-File-clause-shows
 returns-in-File-clause-shows g c =
-    let G = ghosts g.row.M g.M.Nand g.M.Nand-dict in
+    let G = g.D.Counts in
     let walk = c.next_path.new.walk in
     let old = g.K.Sink.taken c.args.sink.now in
     let new = g.K.Sink.taken c.file_line.new.sink in
-    shows_line G c.args.volume.now.core c.args.walk.now walk old new (walk.path, item.File c.in-File.size c.in-File.pages) c.in-File.ensures.gives c.file_line.result c.ended_by-in-File.result
+    shows_line G c.args.core.now c.args.walk.now walk old new (walk.path, item.File c.in-File.size c.in-File.pages) c.in-File.ensures.gives c.file_line.result c.ended_by-in-File.result
     c.ended_by-in-File.ensures (subst (λ (p : List (List ℕ)). Writes old new c.file_line.result (file_text p c.in-File.size c.in-File.pages)) c.path-in-File.ensures c.file_line.ensures.text)
 
 pub returns-in-File-clause-reads : goal.returns-in-File-clause-reads
 returns-in-File-clause-reads g c =
-    let G = ghosts g.row.M g.M.Nand g.M.Nand-dict in
-    reads_line G c.args.volume.now.core.device c.next_path.new.self.core.device c.file_line.result c.ended_by-in-File.result c.ended_by-in-File.ensures c.in-File.ensures.reads
+    let G = g.D.Counts in
+    reads_line G c.args.core.now.device c.next_path.new.core.device c.file_line.result c.ended_by-in-File.result c.ended_by-in-File.ensures c.in-File.ensures.reads
 
 pub returns-in-File-clause-cause : goal.returns-in-File-clause-cause
 returns-in-File-clause-cause g c =
@@ -64,18 +63,3 @@ returns-in-Lost-clause-shows g c = record {
   taken = took_nothing (g.K.Sink.taken c.args.sink.now);
   of_tree = λ page_of_stamp tree runs. refl;
 }
-
-pub returns-in-Dir-clause-stands : goal.returns-in-Dir-clause-stands
-returns-in-Dir-clause-stands g c = let s = c.requires.stands in (s.0, s.1, s.2, c.in-Dir.ensures.stands s.0 s.1 s.2 s.3)
-
-pub returns-in-File-clause-stands : goal.returns-in-File-clause-stands
-returns-in-File-clause-stands g c = let s = c.requires.stands in (s.0, s.1, s.2, c.in-File.ensures.stands s.0 s.1 s.2 s.3)
-
-pub returns-in-End-clause-stands : goal.returns-in-End-clause-stands
-returns-in-End-clause-stands g c = let s = c.requires.stands in (s.0, s.1, s.2, c.in-End.ensures.stands s.0 s.1 s.2 s.3)
-
-pub returns-in-Fault-clause-stands : goal.returns-in-Fault-clause-stands
-returns-in-Fault-clause-stands g c = let s = c.requires.stands in (s.0, s.1, s.2, c.in-Fault.ensures.stands s.0 s.1 s.2 s.3)
-
-pub returns-in-Lost-clause-stands : goal.returns-in-Lost-clause-stands
-returns-in-Lost-clause-stands g c = let s = c.requires.stands in (s.0, s.1, s.2, c.in-Lost.ensures.stands s.0 s.1 s.2 s.3)

@@ -1,20 +1,19 @@
 use Rattle.std.proofs.Common.{◌++◌, [], ◌∙◌, ap, arith, le_trans, refl}
-use Rattle.nl_device.specs.contracts.counts.DeviceCounts.TheImpl.{ghosts}
 use Rattle.nl_field.specs.declared.shape.Shape.{Shape}
-use Rattle.nl_looking.proofs.Cores.{reads-none, reads-then, runs-then}
+use Rattle.nl_effect.proofs.ReadCores.{reads-none, reads-then, runs-then}
 use Rattle.nl_showing.proofs.Ending.{reads_for_after}
 use Rattle.nl_showing.proofs.Lines.{ends_with, none_left, so_far_all, so_far_next, so_far_none, took_nothing}
 use Rattle.nl_showing.specs.Showing.{sink_answer}
-use Rattle.nl_io.specs.StreamsLaws.{then_write}
+use Rattle.nl_io.proofs.StreamsLaws.{then_write}
 use Rattle.nl_io.specs.declared.sink.SinkAnswer.TheVariants as sink
 use Rattle.nl_showing.proofs.paths.print_paths.Goals as goal
 
 pub paths-init : goal.paths-init
 paths-init g c =
-    let G = ghosts g.row.M g.M.Nand g.M.Nand-dict in
+    let G = g.D.Counts in
     record {
-      stands = c.requires.stands;
-      same = reads-none G c.args.volume.now.core c.requires.stands.3.0.serves.core;
+      core = c.requires.core;
+      same = reads-none G c.args.core.now c.requires.core;
       way = c.requires.way;
       faults = refl;
       later = omega arith;
@@ -23,15 +22,15 @@ paths-init g c =
 
 pub paths-preserved : goal.paths-preserved
 paths-preserved g c =
-    let G = ghosts g.row.M g.M.Nand g.M.Nand-dict in
+    let G = g.D.Counts in
     let old = g.K.Sink.taken c.args.sink.now in
     let mid = g.K.Sink.taken c.paths.sink in
     let new = g.K.Sink.taken c.print_next.new.sink in
     let i = c.paths.invariant in
     let e = c.in-None.ensures in
     record {
-      stands = e.stands;
-      same = reads-then G c.args.volume.now.core c.paths.volume.core c.device_stands.ensures.volume i.same c.print_next.new.volume.core e.same;
+      core = e.core;
+      same = reads-then G c.args.core.now c.paths.core c.device_stands.ensures.volume i.same c.print_next.new.core e.same;
       way = e.way;
       faults = e.reads ∙ i.faults;
       later = le_trans i.later e.never_falls;
@@ -39,18 +38,18 @@ paths-preserved g c =
         text = i.lines.text ++ e.shows.line;
         taken = then_write old mid new sink.Took i.lines.text e.shows.line i.lines.taken e.shows.taken;
         of_tree = λ tells page_of_stamp tree runs. so_far_next tree c.paths.walk c.paths.at i.lines.text (i.lines.of_tree tells page_of_stamp tree runs) c.print_next.new.walk e.shows.line
-            (e.shows.of_tree page_of_stamp tree (runs-then G c.args.volume.now.core c.paths.volume.core i.same tells page_of_stamp tree runs));
+            (e.shows.of_tree page_of_stamp tree (runs-then G c.args.core.now c.paths.core i.same tells page_of_stamp tree runs));
       };
     }
 
 pub returns-in-Some-clause-same : goal.returns-in-Some-clause-same
 returns-in-Some-clause-same g c =
-    let G = ghosts g.row.M g.M.Nand g.M.Nand-dict in
-    reads-then G c.args.volume.now.core c.paths.volume.core c.device_stands.ensures.volume c.paths.invariant.same c.print_next.new.volume.core c.in-Some.ensures.same
+    let G = g.D.Counts in
+    reads-then G c.args.core.now c.paths.core c.device_stands.ensures.volume c.paths.invariant.same c.print_next.new.core c.in-Some.ensures.same
 
 pub returns-in-Some-clause-shows : goal.returns-in-Some-clause-shows
 returns-in-Some-clause-shows g c =
-    let G = ghosts g.row.M g.M.Nand g.M.Nand-dict in
+    let G = g.D.Counts in
     let old = g.K.Sink.taken c.args.sink.now in
     let mid = g.K.Sink.taken c.paths.sink in
     let new = g.K.Sink.taken c.print_next.new.sink in
@@ -60,30 +59,24 @@ returns-in-Some-clause-shows g c =
       text = i.lines.text ++ e.shows.line;
       taken = then_write old mid new (sink_answer c.in-Some.shown) i.lines.text e.shows.line i.lines.taken e.shows.taken;
       of_tree = λ tells page_of_stamp tree runs. ends_with tree c.paths.walk c.paths.at i.lines.text (i.lines.of_tree tells page_of_stamp tree runs) c.print_next.new.walk e.shows.line c.in-Some.shown
-          (e.shows.of_tree page_of_stamp tree (runs-then G c.args.volume.now.core c.paths.volume.core i.same tells page_of_stamp tree runs));
+          (e.shows.of_tree page_of_stamp tree (runs-then G c.args.core.now c.paths.core i.same tells page_of_stamp tree runs));
     }
 
 pub returns-in-Some-clause-reads : goal.returns-in-Some-clause-reads
 returns-in-Some-clause-reads g c =
-    let G = ghosts g.row.M g.M.Nand g.M.Nand-dict in
-    reads_for_after G c.args.volume.now.core.device c.paths.volume.core.device c.print_next.new.volume.core.device c.in-Some.shown c.paths.invariant.faults c.in-Some.ensures.reads
+    let G = g.D.Counts in
+    reads_for_after G c.args.core.now.device c.paths.core.device c.print_next.new.core.device c.in-Some.shown c.paths.invariant.faults c.in-Some.ensures.reads
 
 pub returns-clause-shows : goal.returns-clause-shows
 returns-clause-shows g c =
     let i = c.paths.invariant in
-    let shape = ap (λ (s : Shape). s.nodes) c.requires.stands.3.0.serves.core.shape in
+    let shape = ap (λ (s : Shape). s.nodes) c.requires.core.shape in
     record {
       text = i.lines.text;
       taken = i.lines.taken;
       of_tree = λ tells page_of_stamp tree runs. (
-          let few = c.walks_begin.ensures.few c.args.volume.now.core page_of_stamp tree runs in
+          let few = c.walks_begin.ensures.few c.args.core.now page_of_stamp tree runs in
           let f = i.lines.of_tree tells page_of_stamp tree runs in
           so_far_all tree c.paths.walk c.paths.at i.lines.text f (none_left tree c.paths.walk c.paths.at i.lines.text f (omega (arith, few, shape, c.paths-test.false, c.paths.auto.at-end)))
           );
     }
-
-pub returns-in-Some-clause-stands : goal.returns-in-Some-clause-stands
-returns-in-Some-clause-stands g c = c.in-Some.ensures.stands
-
-pub returns-clause-stands : goal.returns-clause-stands
-returns-clause-stands g c = c.paths.invariant.stands

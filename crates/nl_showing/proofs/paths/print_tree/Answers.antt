@@ -1,8 +1,7 @@
 use Rattle.std.proofs.Common.{◌++◌, ◌∙◌, ℕ, [], ap, refl, arith}
-use Rattle.nl_device.specs.contracts.counts.DeviceCounts.TheImpl.{ghosts}
-use Rattle.nl_looking.proofs.Cores.{reads-none}
+use Rattle.nl_effect.proofs.ReadCores.{reads-none}
 use Rattle.nl_print.specs.Texts.{opened_line}
-use Rattle.nl_io.specs.StreamsLaws.{then_write}
+use Rattle.nl_io.proofs.StreamsLaws.{then_write}
 use Rattle.nl_showing.specs.Showing.{sink_answer}
 use Rattle.nl_showing.proofs.Ending.{tree_begins, tree_shown}
 use Rattle.nl_field.specs.declared.shape.Shape.{Shape}
@@ -15,7 +14,7 @@ made room = record { path = []; nodes = []; room = room }
 
 pub print_paths-requires-clause-way : goal.print_paths-requires-clause-way
 print_paths-requires-clause-way g c =
-    c.walks_begin.ensures.begin c.args.volume.now.core c.args.walk.now (c.requires.fresh ∙ ap made (ap (λ (s : Shape). s.nodes) c.requires.stands.3.0.serves.core.shape))
+    c.walks_begin.ensures.begin c.args.core.now c.args.walk.now (c.requires.fresh ∙ ap made (ap (λ (s : Shape). s.nodes) c.requires.core.shape))
 
 pub returns-in-Took-clause-shows : goal.returns-in-Took-clause-shows
 returns-in-Took-clause-shows g c =
@@ -27,17 +26,17 @@ returns-in-Took-clause-shows g c =
     record {
       text = opened_line c.args.count ++ rest.text;
       taken = then_write old mid new (sink_answer answer) (opened_line c.args.count) rest.text c.in-Took.ensures.text rest.taken;
-      of_tree = λ tells page_of_stamp tree runs. tree_shown c.args.count tree c.items_are_printed.ensures.text rest.text answer (rest.of_tree tells page_of_stamp tree runs);
+      of_tree = λ tells page_of_stamp tree runs. tree_shown c.args.count tree c.items_are_printed.ensures rest.text answer (rest.of_tree tells page_of_stamp tree runs);
     }
 
 pub returns-in-Failed-clause-same : goal.returns-in-Failed-clause-same
-returns-in-Failed-clause-same g c = reads-none (ghosts g.row.M g.M.Nand g.M.Nand-dict) c.args.volume.now.core c.requires.stands.3.0.serves.core
+returns-in-Failed-clause-same g c = reads-none g.D.Counts c.args.core.now c.requires.core
 
 pub returns-in-Failed-clause-shows : goal.returns-in-Failed-clause-shows
 returns-in-Failed-clause-shows g c = record {
   text = opened_line c.args.count;
   taken = c.in-Failed.ensures.text;
-  of_tree = λ tells page_of_stamp tree runs. tree_begins c.args.count tree c.items_are_printed.ensures.text;
+  of_tree = λ tells page_of_stamp tree runs. tree_begins c.args.count tree c.items_are_printed.ensures;
 }
 
 pub returns-in-Took-clause-cause : goal.returns-in-Took-clause-cause
@@ -48,9 +47,3 @@ returns-in-Took-clause-cause g c is =
 
 pub returns-in-Failed-clause-cause : goal.returns-in-Failed-clause-cause
 returns-in-Failed-clause-cause g c is = c.in-Failed.ensures.cause refl
-
-pub returns-in-Took-clause-stands : goal.returns-in-Took-clause-stands
-returns-in-Took-clause-stands g c = c.print_paths.ensures.stands
-
-pub returns-in-Failed-clause-stands : goal.returns-in-Failed-clause-stands
-returns-in-Failed-clause-stands g c = c.requires.stands

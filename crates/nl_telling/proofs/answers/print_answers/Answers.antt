@@ -1,6 +1,6 @@
 use Rattle.std.proofs.Common.{flat_map}
 use Rattle.nl_print.specs.Texts.{opened_line}
-use Rattle.nl_io.specs.StreamsLaws.{stopped, then_write}
+use Rattle.nl_io.proofs.StreamsLaws.{stopped, then_write}
 use Rattle.nl_telling.specs.Rows.{row_line}
 use Rattle.nl_telling.proofs.answers.print_answers.Goals as goal
 

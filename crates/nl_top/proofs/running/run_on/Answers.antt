@@ -2,10 +2,10 @@ use Rattle.std.proofs.Common.{◌∙◌, ℕ, ap, refl, sym, subst, codes}
 use Rattle.nl_commands.specs.Ends.{no_memory}
 use Rattle.nl_headline.specs.Status.{DoneStatus, RunFailed}
 use Rattle.nl_headline.specs.Streams.{medium, stream}
-use Rattle.nl_sound.specs.Crash.{StopsSafely}
-use Rattle.nl_sound.specs.Stands.{SoundAs}
+use Rattle.nl_top.specs.Leaving.{leaves_within}
 use Rattle.nl_top.specs.RunEnds.{RunEnds, not_run}
 use Rattle.nl_top.specs.Telling.{Shows, told_text}
+use Rattle.nl_top.proofs.Left.{same_leaves}
 use Rattle.nl_top.proofs.Told.{room_for, was_told}
 use Rattle.nl_top.proofs.running.run_on.Goals as goal
 
@@ -13,7 +13,7 @@ use Rattle.nl_top.proofs.running.run_on.Goals as goal
 pub returns-in_default : goal.returns-in_default
 returns-in_default g c =
     let m = g.M.Nand in
-    not_run (codes "memory\n") (no_memory c.ended.ensures.status refl)
+    not_run (codes "memory\n") (no_memory c.ended.ensures.status refl) (same_leaves m c.args.media c.ended.result.media c.ended.ensures.media)
     (record {
       prints = c.ended.ensures.prints;
       untouched = record {
@@ -31,7 +31,7 @@ returns-in-Err g c =
     let m = g.M.Nand in
     let why = c.refused.ensures.ended c.args.media c.in-Err.ensures.why in
     let left = c.in-Err.ensures.left in
-    not_run why.0 why.1
+    not_run why.0 why.1 (λ told moment image was. left.no_more_left told moment image (subst (λ (x : g.row.M.Denot). m.left x moment image) c.refused.ensures.media was))
     (record {
       prints = why.2;
       untouched = record {
@@ -71,8 +71,8 @@ returns-in-Ok-run_lines g c =
     let new = stream (k.taken c.tell.new.sink) (k.faults c.tell.new.sink) in
     let done = subst (λ (x : ℕ × ℕ). DoneStatus c.tell.result.status (RunFailed c.tell.result.order.items (record { clock = m.clock media; read_faults = x.0; write_faults = x.1 }) last.counts ran.lost ran.worn) old new (told_text what ran.count ran.charges rows))
     (λ i. (before.0 i, before.1 i)) c.tell.ensures.status in
-    let told = was_told m.tells lines (StopsSafely SoundAs (λ t i. m.left media t i) (λ t i. m.left end t i) (m.clock media) (m.clock end)) old new start last rows ran.lost ran.worn ran.charges r.0
+    let told = was_told m.tells lines (leaves_within m media end) old new start last rows ran.lost ran.worn ran.charges r.0
     ran.count c.tell.result.status r.2 r.1 what c.placed_rows_are_a_run.ensures c.tell.result.order.items c.tell.result.syncs.items c.tell.ensures.order c.tell.ensures.syncs c.tell.ensures.prints done in
-    subst (λ (x : g.row.M.Denot). RunEnds m.tells lines (Shows what m.tells) (StopsSafely SoundAs (λ t i. m.left media t i) (λ t i. m.left x t i) (m.clock media) (m.clock x)) old new start
+    subst (λ (x : g.row.M.Denot). RunEnds m.tells lines (Shows what m.tells) (leaves_within m media x) old new start
     (medium (m.geometry x) (m.contents x) (m.clock x) (m.read_faults x) (m.write_faults x)) c.tell.result.order.items c.tell.result.syncs.items c.tell.result.status)
     (sym c.tell.ensures.media) told

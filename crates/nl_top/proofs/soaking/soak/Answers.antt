@@ -3,6 +3,7 @@ use Rattle.std.specs.Prelude.{IfSome}
 use Rattle.nl_commands.specs.Ends.{no_memory}
 use Rattle.nl_tree.specs.declared.call.Line.{Line}
 use Rattle.nl_top.specs.RunEnds.{not_run}
+use Rattle.nl_top.proofs.Left.{same_leaves}
 use Rattle.nl_top.proofs.soaking.soak.Goals as goal
 
 pub returns-in-Some : goal.returns-in-Some
@@ -19,7 +20,7 @@ returns-in-None g c =
     let drawn = c.drawn_lines.ensures in (
       drawn.0,
       drawn.1,
-      not_run (codes "memory\n") (no_memory e.status refl)
+      not_run (codes "memory\n") (no_memory e.status refl) (same_leaves m c.args.media c.ended.result.media e.media)
           (record {
             prints = e.prints;
             untouched = record {

@@ -1,12 +1,29 @@
 use Rattle.std.proofs.Common.{◌∙◌, ap, refl, subst, sym, Option, None, Some}
 use Rattle.nl_commands.specs.declared.command.Command.{Command}
 use Rattle.nl_commands.specs.declared.command.Command.TheVariants.{Check, Format, Report, Run, Soak, Tree}
-use Rattle.nl_headline.specs.Streams.{medium_seen, sink_seen, source_seen, stops_within}
+use Rattle.nl_headline.specs.Streams.{medium_seen, sink_seen, source_seen}
 use Rattle.nl_top.specs.Complete.{CarriesOut}
-use Rattle.nl_top.specs.Ends.{checks, formats, reports, runs, shows_tree, soaks}
+use Rattle.nl_top.specs.Ends.{checks, faulty_words, formats, reports, runs, shows_tree, soaks}
+use Rattle.nl_top.specs.Leaving.{leaves_within}
 use Rattle.nl_top.specs.Soak.{Summarises}
+use Rattle.nl_top.proofs.Left.{same_leaves}
 use Rattle.nl_top.proofs.RunCompleting.{lines_complete, script_completes}
 use Rattle.nl_top.proofs.top.nameless.Goals as goal
+
+pub returns-in-None-clause-ended : goal.returns-in-None-clause-ended
+returns-in-None-clause-ended g c =
+    let m = g.M.Nand in
+    faulty_words (sym c.command_of.ensures.command ∙ c.in-None.is) c.ended.ensures.status refl (same_leaves m c.args.media c.ended.result.media c.ended.ensures.media)
+    (record {
+      prints = c.ended.ensures.prints;
+      untouched = record {
+        same_contents = λ told. ap m.contents c.ended.ensures.media;
+        same_clock = ap m.clock c.ended.ensures.media;
+        same_write_faults = ap m.write_faults c.ended.ensures.media;
+      };
+      no_lines = c.ended.ensures.order;
+      no_syncs = c.ended.ensures.syncs;
+    })
 
 pub returns-in-None-clause-completes : goal.returns-in-None-clause-completes
 returns-in-None-clause-completes g c = λ none.
@@ -19,7 +36,7 @@ returns-in-None-clause-completes g c = λ none.
 
 pub returns-in-Some-Format-clause-ended : goal.returns-in-Some-Format-clause-ended
 returns-in-Some-Format-clause-ended g c =
-    formats c.in-Some-Format.blocks c.in-Some-Format.pages (sym c.command_of.ensures.command ∙ c.in-Some-Format.is ∙ ap Some c.in-Some-Format.field-0-is) refl c.format.ensures.ended
+    formats c.in-Some-Format.blocks c.in-Some-Format.pages (sym c.command_of.ensures.command ∙ c.in-Some-Format.is ∙ ap Some c.in-Some-Format.field-0-is) refl c.format.ensures.stops c.format.ensures.ended
 
 pub returns-in-Some-Format-clause-completes : goal.returns-in-Some-Format-clause-completes
 returns-in-Some-Format-clause-completes g c = λ none.
@@ -42,11 +59,11 @@ returns-in-Some-Run-clause-completes g c = λ none.
     let new = medium_seen m c.run.result.media in
     let done : CarriesOut (Some Run) m.tells source old new c.run.result.order.items c.run.result.status = λ bytes lines count left script starts last.
     script_completes m.tells source (source_seen g.S.Source c.run.new.src) (sink_seen g.K.Sink c.args.sink.now) (sink_seen g.K.Sink c.run.new.sink) old new c.run.result.order.items c.run.result.syncs.items c.run.result.status count
-    c.opening_completes.ensures starts none last bytes lines left script (stops_within m c.args.media c.run.result.media) c.run.ensures in
+    c.opening_completes.ensures starts none last bytes lines left script (leaves_within m c.args.media c.run.result.media) c.run.ensures in
     subst (λ (o : Option Command). CarriesOut o m.tells source old new c.run.result.order.items c.run.result.status) (sym (sym c.command_of.ensures.command ∙ c.in-Some-Run.is ∙ ap Some c.in-Some-Run.field-0-is)) done
 
 pub returns-in-Some-Check-clause-ended : goal.returns-in-Some-Check-clause-ended
-returns-in-Some-Check-clause-ended g c = checks (sym c.command_of.ensures.command ∙ c.in-Some-Check.is ∙ ap Some c.in-Some-Check.field-0-is) refl c.check.ensures
+returns-in-Some-Check-clause-ended g c = checks (sym c.command_of.ensures.command ∙ c.in-Some-Check.is ∙ ap Some c.in-Some-Check.field-0-is) refl c.check.ensures.left c.check.ensures.ended
 
 pub returns-in-Some-Check-clause-completes : goal.returns-in-Some-Check-clause-completes
 returns-in-Some-Check-clause-completes g c = λ none.
@@ -55,11 +72,11 @@ returns-in-Some-Check-clause-completes g c = λ none.
     let old = medium_seen m c.args.media in
     let new = medium_seen m c.check.result.media in
     let done : CarriesOut (Some Check) m.tells source old new c.check.result.order.items c.check.result.status = λ count starts.
-    c.check_completes.ensures source source (sink_seen g.K.Sink c.args.sink.now) (sink_seen g.K.Sink c.check.new.sink) old new c.check.result.order.items c.check.result.syncs.items c.check.result.status count c.check.ensures starts none in
+    c.check_completes.ensures source source (sink_seen g.K.Sink c.args.sink.now) (sink_seen g.K.Sink c.check.new.sink) old new c.check.result.order.items c.check.result.syncs.items c.check.result.status count c.check.ensures.ended starts none in
     subst (λ (o : Option Command). CarriesOut o m.tells source old new c.check.result.order.items c.check.result.status) (sym (sym c.command_of.ensures.command ∙ c.in-Some-Check.is ∙ ap Some c.in-Some-Check.field-0-is)) done
 
 pub returns-in-Some-Tree-clause-ended : goal.returns-in-Some-Tree-clause-ended
-returns-in-Some-Tree-clause-ended g c = shows_tree (sym c.command_of.ensures.command ∙ c.in-Some-Tree.is ∙ ap Some c.in-Some-Tree.field-0-is) refl c.tree.ensures.ended
+returns-in-Some-Tree-clause-ended g c = shows_tree (sym c.command_of.ensures.command ∙ c.in-Some-Tree.is ∙ ap Some c.in-Some-Tree.field-0-is) refl c.tree.ensures.left c.tree.ensures.ended
 
 pub returns-in-Some-Tree-clause-completes : goal.returns-in-Some-Tree-clause-completes
 returns-in-Some-Tree-clause-completes g c = λ none.
@@ -72,7 +89,7 @@ returns-in-Some-Tree-clause-completes g c = λ none.
     subst (λ (o : Option Command). CarriesOut o m.tells source old new c.tree.result.order.items c.tree.result.status) (sym (sym c.command_of.ensures.command ∙ c.in-Some-Tree.is ∙ ap Some c.in-Some-Tree.field-0-is)) done
 
 pub returns-in-Some-Report-clause-ended : goal.returns-in-Some-Report-clause-ended
-returns-in-Some-Report-clause-ended g c = reports (sym c.command_of.ensures.command ∙ c.in-Some-Report.is ∙ ap Some c.in-Some-Report.field-0-is) refl c.report.ensures.ended
+returns-in-Some-Report-clause-ended g c = reports (sym c.command_of.ensures.command ∙ c.in-Some-Report.is ∙ ap Some c.in-Some-Report.field-0-is) refl c.report.ensures.left c.report.ensures.ended
 
 pub returns-in-Some-Report-clause-completes : goal.returns-in-Some-Report-clause-completes
 returns-in-Some-Report-clause-completes g c = λ none.
@@ -96,5 +113,5 @@ returns-in-Some-Soak-clause-completes g c = λ none.
     let new = medium_seen m c.soak.result.media in
     let done : CarriesOut (Some (Soak c.in-Some-Soak.seed c.in-Some-Soak.count c.in-Some-Soak.workers)) m.tells source old new c.soak.result.order.items c.soak.result.status = λ count starts last.
     lines_complete m.tells source source (sink_seen g.K.Sink c.args.sink.now) (sink_seen g.K.Sink c.soak.new.sink) old new c.soak.result.order.items c.soak.result.syncs.items c.soak.result.status count
-    c.opening_completes-in-Some-Soak.ensures starts none last c.soak.ensures.0 (Summarises m.tells) (stops_within m c.args.media c.soak.result.media) c.soak.ensures.2 in
+    c.opening_completes-in-Some-Soak.ensures starts none last c.soak.ensures.0 (Summarises m.tells) (leaves_within m c.args.media c.soak.result.media) c.soak.ensures.2 in
     subst (λ (o : Option Command). CarriesOut o m.tells source old new c.soak.result.order.items c.soak.result.status) (sym (sym c.command_of.ensures.command ∙ c.in-Some-Soak.is ∙ ap Some c.in-Some-Soak.field-0-is)) done

@@ -2,7 +2,7 @@ use Rattle.std.proofs.Common.{◌≡◌, refl, subst, ℕ}
 use Rattle.nl_commands.specs.Ends.{damaged}
 use Rattle.nl_commands.specs.Others.{IsDamaged}
 use Rattle.nl_print.specs.Texts.{damaged_text}
-use Rattle.nl_rounds.specs.Opened.{IsReason}
+use Rattle.nl_volume.specs.Opened.{IsReason}
 use Rattle.nl_viewing.proofs.refusing.refused.Goals as goal
 
 pub returns-in-Damaged-clause-ended : goal.returns-in-Damaged-clause-ended

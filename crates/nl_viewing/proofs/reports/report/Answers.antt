@@ -7,8 +7,7 @@ use Rattle.nl_opening.specs.Figures.{pairs_of}
 use Rattle.nl_headline.specs.Streams.{medium, stream}
 use Rattle.nl_print.specs.Texts.{report_text}
 use Rattle.nl_tree.specs.Charges.{data_charge, meta_charge, node_charge}
-use Rattle.nl_rounds.specs.Opened.{medium_in}
-use Rattle.nl_volume.specs.Opening.{opening_of}
+use Rattle.nl_volume.specs.Opened.{medium_in}
 use Rattle.nl_viewing.specs.Looking.{LookEnds, Reports}
 use Rattle.nl_viewing.proofs.Seen.{no_more_left, status_since, untouched_by, was_not_seen, was_seen}
 use Rattle.nl_viewing.proofs.Viewed.{runs_as}
@@ -32,10 +31,9 @@ returns-in-Err-clause-left g c =
 
 pub print_report-answer-requires : goal.print_report-answer-requires
 print_report-answer-requires g c =
-    let G = ghosts g.row.M g.M.Nand g.M.Nand-dict in
     let e = c.in-Ok.ensures in
     let stands = e.stands e.opened.tree [] (λ l none. absurd none) (λ t. (e.opened.opens t).sound) in
-    (c.in-Ok.volume, opening_of G c.in-Ok.volume.core e.opened.tree [], [], stands)
+    record { core = stands.0.serves.core; files = stands.1 }
 
 -- the report was printed
 pub returns-clause-ended : goal.returns-clause-ended
@@ -59,14 +57,14 @@ returns-clause-ended g c =
     let new = stream (k.taken print.new.sink) (k.faults print.new.sink) in
     let start = medium (m.geometry media) (m.contents media) (m.clock media) (m.read_faults media) (m.write_faults media) in
     let middle = medium (m.geometry given) (m.contents given) (m.clock given) (m.read_faults given) (m.write_faults given) in
-    let told_by = was_seen m.tells Reports old new start middle end.result.order.items end.result.syncs.items end.result.status
+    let told_by = was_seen m.tells old new start middle end.result.order.items end.result.syncs.items end.result.status
     (record {
       untouched = untouched_by m.tells m.geometry m.contents m.clock m.read_faults m.write_faults m.left media (medium_of v.device) given c.in-Ok.ensures.only_read same;
       no_lines = end.ensures.order;
       no_syncs = end.ensures.syncs;
       later = print.ensures.never_falls;
     })
-    print.result reports.text
+    Reports print.result reports.text
     (λ told.
     let w = runs_as G v opened.tree c.in-Ok.volume.done stands told in
     let is = opened.opens told in
@@ -81,7 +79,7 @@ returns-clause-ended g c =
       sound = is.sound;
       text_is = subst (λ (text : List ℕ). reports.text ≡ text) same_text (reports.of_tree w.0 opened.tree w.1);
     })
-    reports.taken print.ensures.cause (status_since before.result.reads before.result.writes end.result.status print.result start middle before.ensures end.ensures.status) in
+    (ap m.read_faults same ∙ e.no_fault) reports.taken print.ensures.cause (status_since before.result.reads before.result.writes end.result.status print.result start middle before.ensures end.ensures.status) in
     subst (λ (x : g.row.M.Denot). LookEnds m.tells Reports old new start (medium (m.geometry x) (m.contents x) (m.clock x) (m.read_faults x) (m.write_faults x)) end.result.order.items end.result.syncs.items end.result.status)
     (sym end.ensures.media) told_by
 

@@ -6,10 +6,9 @@ use Rattle.nl_field.specs.CrashStates.{Rose}
 use Rattle.nl_headline.specs.Streams.{medium, stream}
 use Rattle.nl_io.specs.declared.sink.SinkAnswer.TheVariants as answers
 use Rattle.nl_print.specs.Texts.{tree_text}
-use Rattle.nl_rounds.specs.Opened.{medium_in}
-use Rattle.nl_volume.specs.Opening.{opening_of}
-use Rattle.nl_viewing.specs.Looking.{LookEnds, ShowsTree}
-use Rattle.nl_viewing.proofs.Seen.{fault_rose, lost_untold, no_more_left, status_since, was_not_seen, was_shown}
+use Rattle.nl_volume.specs.Opened.{medium_in}
+use Rattle.nl_viewing.specs.Looking.{ShowsTree, TreeEnds, not_cut}
+use Rattle.nl_viewing.proofs.Seen.{all_still, fault_rose, lost_untold, no_more_left, not_taken_still, status_since, was_not_seen, was_shown}
 use Rattle.nl_viewing.proofs.Viewed.{runs_as}
 use Rattle.nl_viewing.proofs.trees.tree.Goals as goal
 
@@ -21,8 +20,9 @@ returns-in-Err-clause-ended g c =
     let end = c.refused in
     let old = stream (k.taken c.args.sink.now) (k.faults c.args.sink.now) in
     let new = stream (k.taken end.new.sink) (k.faults end.new.sink) in
-    was_not_seen m.tells m.geometry m.contents m.clock m.read_faults m.write_faults m.left c.args.media (medium_in c.in-Err.why) end.result.media c.in-Err.ensures.left end.ensures.media
-    ShowsTree old new end.result.order.items end.result.syncs.items end.result.status end.ensures.order end.ensures.syncs (end.ensures.ended c.args.media c.in-Err.ensures.why)
+    not_cut
+    (was_not_seen m.tells m.geometry m.contents m.clock m.read_faults m.write_faults m.left c.args.media (medium_in c.in-Err.why) end.result.media c.in-Err.ensures.left end.ensures.media
+    ShowsTree old new end.result.order.items end.result.syncs.items end.result.status end.ensures.order end.ensures.syncs (end.ensures.ended c.args.media c.in-Err.ensures.why))
 
 pub returns-in-Err-clause-left : goal.returns-in-Err-clause-left
 returns-in-Err-clause-left g c =
@@ -37,19 +37,19 @@ returns-in_default-clause-ended g c =
     let end = c.ended in
     let old = stream (k.taken c.args.sink.now) (k.faults c.args.sink.now) in
     let new = stream (k.taken end.new.sink) (k.faults end.new.sink) in
-    was_not_seen m.tells m.geometry m.contents m.clock m.read_faults m.write_faults m.left c.args.media (medium_of c.in-Ok.volume.core.device) end.result.media c.in-Ok.ensures.only_read (end.ensures.media ∙ c.into_media.ensures)
-    ShowsTree old new end.result.order.items end.result.syncs.items end.result.status end.ensures.order end.ensures.syncs (codes "memory\n", no_memory end.ensures.status refl, end.ensures.prints)
+    not_cut
+    (was_not_seen m.tells m.geometry m.contents m.clock m.read_faults m.write_faults m.left c.args.media (medium_of c.in-Ok.volume.core.device) end.result.media c.in-Ok.ensures.only_read (end.ensures.media ∙ c.into_media.ensures)
+    ShowsTree old new end.result.order.items end.result.syncs.items end.result.status end.ensures.order end.ensures.syncs (codes "memory\n", no_memory end.ensures.status refl, end.ensures.prints))
 
 pub returns-in_default-clause-left : goal.returns-in_default-clause-left
 returns-in_default-clause-left g c =
     let m = g.M.Nand in
     no_more_left m.tells m.geometry m.contents m.clock m.read_faults m.write_faults m.left c.args.media (medium_of c.in-Ok.volume.core.device) c.ended.result.media c.in-Ok.ensures.only_read (c.ended.ensures.media ∙ c.into_media.ensures)
 
-pub print_tree-shown-requires-clause-stands : goal.print_tree-shown-requires-clause-stands
-print_tree-shown-requires-clause-stands g c =
-    let G = ghosts g.row.M g.M.Nand g.M.Nand-dict in
+pub print_tree-shown-requires-clause-core : goal.print_tree-shown-requires-clause-core
+print_tree-shown-requires-clause-core g c =
     let e = c.in-Ok.ensures in
-    (c.in-Ok.volume, opening_of G c.in-Ok.volume.core e.opened.tree [], [], e.stands e.opened.tree [] (λ l none. absurd none) (λ t. (e.opened.opens t).sound))
+    (e.stands e.opened.tree [] (λ l none. absurd none) (λ t. (e.opened.opens t).sound)).0.serves.core
 
 -- paths were printed
 pub returns-clause-ended : goal.returns-clause-ended
@@ -65,14 +65,14 @@ returns-clause-ended g c =
     let shown = c.print_tree-shown in
     let reads = shown.ensures.same.runs.reads.medium in
     let given = c.into_media-media.result in
-    let same : given ≡ medium_of shown.new.volume.core.device = c.into_media-media.ensures in
+    let same : given ≡ medium_of shown.new.core.device = c.into_media-media.ensures in
     let before = c.faults_of-before in
     let end = c.ending_of in
     let old = stream (k.taken c.args.sink.now) (k.faults c.args.sink.now) in
     let new = stream (k.taken shown.new.sink) (k.faults shown.new.sink) in
     let start = medium (m.geometry media) (m.contents media) (m.clock media) (m.read_faults media) (m.write_faults media) in
     let middle = medium (m.geometry given) (m.contents given) (m.clock given) (m.read_faults given) (m.write_faults given) in
-    let reported = was_shown m.tells ShowsTree old new start middle end.result.order.items end.result.syncs.items end.result.status
+    let reported = was_shown m.tells old new start middle end.result.order.items end.result.syncs.items end.result.status
     (record {
       untouched = record {
         same_contents = λ told. ap m.contents same ∙ reads.contents told ∙ only.same_contents told;
@@ -88,12 +88,14 @@ returns-clause-ended g c =
     shown.result
     (λ told. let w = runs_as G v opened.tree c.in-Ok.volume.done stands told in shown.ensures.shows.of_tree told w.0 opened.tree w.1)
     shown.ensures.shows.taken shown.ensures.cause
-    (λ is. subst (λ (n : ℕ × ℕ). Rose n.0 n.1) (λ j. (c.in-Ok.ensures.no_fault j, m.read_faults (sym same j))) (fault_rose G v.device shown.new.volume.core.device shown.result shown.ensures.reads is))
-    (λ is. lost_untold G v.device shown.new.volume.core.device shown.result shown.ensures.reads is)
+    (λ is. ap m.read_faults same ∙ all_still G v.device shown.new.core.device shown.result shown.ensures.reads is ∙ c.in-Ok.ensures.no_fault)
+    (λ is. ap m.read_faults same ∙ not_taken_still G v.device shown.new.core.device shown.result shown.ensures.reads is ∙ c.in-Ok.ensures.no_fault)
+    (λ is. subst (λ (n : ℕ × ℕ). Rose n.0 n.1) (λ j. (c.in-Ok.ensures.no_fault j, m.read_faults (sym same j))) (fault_rose G v.device shown.new.core.device shown.result shown.ensures.reads is))
+    (λ is. lost_untold G v.device shown.new.core.device shown.result shown.ensures.reads is)
     end.ensures.fault end.ensures.lost
     (λ is. status_since before.result.reads before.result.writes end.result.status answers.Took start middle before.ensures (end.ensures.all is))
     (λ is. status_since before.result.reads before.result.writes end.result.status answers.Failed start middle before.ensures (end.ensures.not_taken is)) in
-    subst (λ (x : g.row.M.Denot). LookEnds m.tells ShowsTree old new start (medium (m.geometry x) (m.contents x) (m.clock x) (m.read_faults x) (m.write_faults x)) end.result.order.items end.result.syncs.items end.result.status)
+    subst (λ (x : g.row.M.Denot). TreeEnds m.tells old new start (medium (m.geometry x) (m.contents x) (m.clock x) (m.read_faults x) (m.write_faults x)) end.result.order.items end.result.syncs.items end.result.status)
     (sym end.ensures.media) reported
 
 pub returns-clause-left : goal.returns-clause-left

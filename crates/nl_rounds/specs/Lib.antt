@@ -1,3 +1,0 @@
-pub mod Charges
-pub mod Opened
-pub mod Rounds
