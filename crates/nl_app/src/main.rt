@@ -2,15 +2,11 @@
 #![tactic(auto)]
 
 ghost use Rattle.std.specs.Prelude.{◌≡◌, ◌⊎◌};
-ghost use Rattle.nl_onfile.specs.declared.notice.Notice.TheVariants.{Words, MediumFault, MediumInUse, Memory};
+ghost use Rattle.nl_process.specs.declared.notice.Notice.TheVariants.{Words, MediumFault, MediumInUse, Memory};
 
-mod arguments;
-mod help;
-
-use arguments::{Request, request_of};
-use help::{HELP, VERSION};
 use nl_io::{StdSink, StdSource};
-use nl_onfile::{Notice, answer};
+use nl_onfile::answer;
+use nl_process::{HELP, Notice, Request, VERSION, request_of};
 use std::process::ExitCode;
 
 const NOT_PRINTED: u8 = 4;

@@ -1,9 +1,7 @@
 //! The words of a command line, answered on an image file.
 #![tactic(auto)]
 
-mod image;
-mod notice;
 mod program;
 
-pub use notice::Notice;
+pub use nl_process::Notice;
 pub use program::answer;

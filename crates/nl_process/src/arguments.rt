@@ -1,6 +1,7 @@
 // The words of the process.
 use nl_field::Memory;
 use nl_io::Words;
+use std::rt::Env;
 use std::{env, io};
 
 /// The most words that are kept. No command has as many.
@@ -17,7 +18,8 @@ pub enum Request {
     Image { path: String, words: Words },
 }
 
-pub fn request_of(rt: &HostRuntime) -> Result<Request, Memory> {
+/// What the process was asked for, by its words.
+pub fn request_of<Rt: Env + AllocGlobal>(rt: &Rt) -> Result<Request, Memory> {
     let mut args = match env::args(rt) {
         Ok(args) => args.skip(1),
         Err(error) if error.kind() == io::ErrorKind::OutOfMemory => return Err(Memory),
