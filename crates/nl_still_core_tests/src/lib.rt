@@ -2,6 +2,8 @@
 #![tactic(auto)]
 
 mod opening;
+#[cfg(test)]
+mod rows;
 pub mod running;
 
 pub use opening::open;
