@@ -2,11 +2,11 @@
 #![tactic(auto)]
 
 ghost use Rattle.std.specs.Prelude.{◌≡◌, ◌⊎◌};
-ghost use Rattle.nl_process.specs.declared.notice.Notice.TheVariants.{Words, MediumFault, MediumInUse, Memory};
+ghost use Rattle.nl_app_process.specs.declared.notice.Notice.TheVariants.{Words, MediumFault, MediumInUse, Memory};
 
+use nl_app_file::answer;
+use nl_app_process::{HELP, Notice, Request, VERSION, request_of};
 use nl_io::{StdSink, StdSource};
-use nl_onfile::answer;
-use nl_process::{HELP, Notice, Request, VERSION, request_of};
 use std::process::ExitCode;
 
 const NOT_PRINTED: u8 = 4;

@@ -3,12 +3,12 @@ ghost use Rattle.nl_check.specs.Checking.{Checks, IfFound, SetsOne};
 ghost use Rattle.nl_field.specs.CrashStates.{Rose};
 ghost use Rattle.nl_field.specs.Medium.{readable_pages};
 ghost use Rattle.nl_field.specs.Page.{Image};
-ghost use Rattle.nl_opening.specs.Opening.{IsFault, OpensImage};
+ghost use Rattle.nl_core_open.specs.Opening.{IsFault, OpensImage};
 
+use nl_core_open::{Opened, open};
 use nl_field::{Findings, Place};
 use nl_meta::laws::walk_is_consistency;
 use nl_nand::Nand;
-use nl_opening::{Opened, open};
 use std::alloc::Global;
 
 /// What a check answers.

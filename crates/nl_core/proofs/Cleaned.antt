@@ -2,14 +2,14 @@
 use Rattle.std.proofs.Common.{◌≡◌, inl, inr, ⊎_elim, ℕ, ◌+◌, ◌*◌, ◌≤◌, length, Option, Some, refl, sym, ap, subst, ◌∙◌, arith}
 use Rattle.nl_field.specs.Graph.{Graph}
 use Rattle.nl_field.specs.declared.shape.Shape.{Shape}
-use Rattle.nl_cleaning.specs.Carried.{KeepsHeld, KeepsStored, LeavesHeld}
-use Rattle.nl_cleaning.specs.Spaces.{CleansVictim, HasMoved}
-use Rattle.nl_cleaning.specs.declared.cleaning.Cleaned.{Cleaned}
-use Rattle.nl_cleaning.specs.declared.cleaning.Cleaned.TheVariants.{Done, Nothing, Lost, Fault}
-use Rattle.nl_drain.specs.Handled.{nameless_body}
+use Rattle.nl_core_clean.specs.Carried.{KeepsHeld, KeepsStored, LeavesHeld}
+use Rattle.nl_core_clean.specs.Spaces.{CleansVictim, HasMoved}
+use Rattle.nl_core_clean.specs.declared.cleaning.Cleaned.{Cleaned}
+use Rattle.nl_core_clean.specs.declared.cleaning.Cleaned.TheVariants.{Done, Nothing, Lost, Fault}
+use Rattle.nl_core_callbacks.specs.Handled.{nameless_body}
 use Rattle.nl_flight.specs.Flight.{carried}
-use Rattle.nl_holders.specs.Holding.{MarkedTo}
-use Rattle.nl_holders.specs.Laws.{Keeps}
+use Rattle.nl_spec_holders.specs.Holding.{MarkedTo}
+use Rattle.nl_spec_holders.specs.Laws.{Keeps}
 use Rattle.nl_iface.specs.Calls.{Leaves, NoWriteFailed, StoresMap, StoresPages, stored}
 use Rattle.nl_iface.specs.Device.{IsVolumeShape}
 use Rattle.nl_iface.specs.Names.{Names}
@@ -20,18 +20,18 @@ use Rattle.nl_journal.specs.Progress.{HasNumber}
 use Rattle.nl_meta.specs.Consistent.{PageOfStamp}
 use Rattle.nl_meta.specs.Nodes.{graph_of}
 use Rattle.nl_meta.proofs.Lists.{none_some}
-use Rattle.nl_running.specs.Running.{running_on}
-use Rattle.nl_commit.specs.Standing.{StandsOn}
-use Rattle.nl_commit.proofs.Paid.{paid_same}
-use Rattle.nl_commit.proofs.Standing.{addresses_stand}
-use Rattle.nl_held.specs.DeviceLaws.{LeavesHolding}
-use Rattle.nl_held.specs.SettlingLaws.{IsTold as IsHeldTold}
-use Rattle.nl_held.specs.TreeLaws.{OpensFrom}
-use Rattle.nl_held.specs.Trees.{Prefix, Trees}
+use Rattle.nl_meta_running.specs.Running.{running_on}
+use Rattle.nl_journal_commit.specs.Standing.{StandsOn}
+use Rattle.nl_journal_commit.proofs.Paid.{paid_same}
+use Rattle.nl_journal_commit.proofs.Standing.{addresses_stand}
+use Rattle.nl_spec_commits.specs.DeviceLaws.{LeavesHolding}
+use Rattle.nl_spec_commits.specs.SettlingLaws.{IsTold as IsHeldTold}
+use Rattle.nl_spec_commits.specs.TreeLaws.{OpensFrom}
+use Rattle.nl_spec_commits.specs.Trees.{Prefix, Trees}
 use Rattle.nl_tree.specs.Tree.{Tree}
-use Rattle.nl_held.proofs.DeviceTrees.{addresses_go, holding_opens}
-use Rattle.nl_held.proofs.Firm.{stored_keeps_firm}
-use Rattle.nl_held.proofs.Steps.{cleaning_keeps_held}
+use Rattle.nl_spec_commits.proofs.DeviceTrees.{addresses_go, holding_opens}
+use Rattle.nl_spec_commits.proofs.Firm.{stored_keeps_firm}
+use Rattle.nl_spec_commits.proofs.Steps.{cleaning_keeps_held}
 use Rattle.nl_core.specs.Core.{HasSpace, IsCore, IsPhysical, begun_of, names_of, running_of}
 use Rattle.nl_core.specs.Goes.{Goes, GoesTo, RunsOnAs}
 use Rattle.nl_core.specs.Trees.{CoreRuns, CoreStands, IsTold}

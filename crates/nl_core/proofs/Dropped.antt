@@ -7,15 +7,15 @@ use Rattle.nl_field.specs.Graph.{Graph}
 use Rattle.nl_field.specs.declared.pointer.Pointer.{Pointer}
 use Rattle.nl_field.specs.declared.pointer.Tag.{Tag}
 use Rattle.nl_field.specs.declared.shape.Shape.{Shape}
-use Rattle.nl_drain.specs.Handled.{nameless_body}
+use Rattle.nl_core_callbacks.specs.Handled.{nameless_body}
 use Rattle.nl_flight.specs.Flight.{InFlight, begun, carried, of_worker, with_line}
 use Rattle.nl_flight.specs.declared.page.FlightPage.{FlightPage}
-use Rattle.nl_holders.proofs.FreeLists.{OldDiffer, frees-from_lists, kept_none, old_differ_from}
-use Rattle.nl_holders.proofs.HoldingSteps as steps
-use Rattle.nl_holders.proofs.Words.{Frees, Holds, from_words, to_words}
-use Rattle.nl_holders.specs.Holding.{Holding, KeepsCommitted}
-use Rattle.nl_holders.specs.Laws.{Keeps, OldNamesDiffer}
-use Rattle.nl_holders.specs.Lists.{ListLoses}
+use Rattle.nl_spec_holders.proofs.FreeLists.{OldDiffer, frees-from_lists, kept_none, old_differ_from}
+use Rattle.nl_spec_holders.proofs.HoldingSteps as steps
+use Rattle.nl_spec_holders.proofs.Words.{Frees, Holds, from_words, to_words}
+use Rattle.nl_spec_holders.specs.Holding.{Holding, KeepsCommitted}
+use Rattle.nl_spec_holders.specs.Laws.{Keeps, OldNamesDiffer}
+use Rattle.nl_spec_holders.specs.Lists.{ListLoses}
 use Rattle.nl_iface.proofs.Stops.{keeps_leave}
 use Rattle.nl_iface.specs.Calls.{StoresPages}
 use Rattle.nl_iface.specs.Device.{IsVolumeShape}
@@ -26,17 +26,17 @@ use Rattle.nl_iface.specs.Space.{CanLand}
 use Rattle.nl_iface.specs.declared.counts.Counts.{Ghosts}
 use Rattle.nl_meta.specs.Consistent.{PageOfStamp}
 use Rattle.nl_meta.specs.Nodes.{graph_of}
-use Rattle.nl_running.specs.Running.{IsNeeded, running_on}
-use Rattle.nl_commit.proofs.Standing.{addresses_stand}
-use Rattle.nl_commit.specs.Freeing.{FreesEach, FreesOne, FreesPage}
-use Rattle.nl_commit.specs.Holding.{running_holders}
-use Rattle.nl_held.proofs.DeviceTrees.{addresses_go}
-use Rattle.nl_held.proofs.Firm.{medium_keeps_firm}
-use Rattle.nl_held.proofs.Steps.{step_keeps_held}
-use Rattle.nl_held.specs.Held.{IsHeldVolume}
-use Rattle.nl_held.specs.Steps.{holding_with}
-use Rattle.nl_held.specs.TreeLaws.{OpensFrom}
-use Rattle.nl_held.specs.Trees.{Trees}
+use Rattle.nl_meta_running.specs.Running.{IsNeeded, running_on}
+use Rattle.nl_journal_commit.proofs.Standing.{addresses_stand}
+use Rattle.nl_journal_commit.specs.Freeing.{FreesEach, FreesOne, FreesPage}
+use Rattle.nl_journal_commit.specs.Holding.{running_holders}
+use Rattle.nl_spec_commits.proofs.DeviceTrees.{addresses_go}
+use Rattle.nl_spec_commits.proofs.Firm.{medium_keeps_firm}
+use Rattle.nl_spec_commits.proofs.Steps.{step_keeps_held}
+use Rattle.nl_spec_commits.specs.Held.{IsHeldVolume}
+use Rattle.nl_spec_commits.specs.Steps.{holding_with}
+use Rattle.nl_spec_commits.specs.TreeLaws.{OpensFrom}
+use Rattle.nl_spec_commits.specs.Trees.{Trees}
 use Rattle.nl_tree.specs.Tree.{Tree}
 use Rattle.nl_core.specs.Core.{HasSpace, IsCore, IsPhysical, names_of, running_of}
 use Rattle.nl_core.specs.Goes.{Goes, GoesTo, Stops}

@@ -7,8 +7,8 @@ use Rattle.nl_field.specs.declared.pointer.Pointer.{Pointer}
 use Rattle.nl_flight.specs.Flight.{InFlight, IsFlight, begun, extra, of_worker}
 use Rattle.nl_flight.specs.declared.page.FlightPage.{FlightPage}
 use Rattle.nl_iface.specs.Names.{Names}
-use Rattle.nl_commit.proofs.Frees.{frees_last}
-use Rattle.nl_commit.specs.Freeing.{FreesEach}
+use Rattle.nl_journal_commit.proofs.Frees.{frees_last}
+use Rattle.nl_journal_commit.specs.Freeing.{FreesEach}
 use Rattle.nl_core.specs.Dropping.{FreesAt, pointers_of}
 use Rattle.nl_core.proofs.Lines.{in_flight}
 

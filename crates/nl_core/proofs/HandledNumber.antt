@@ -4,9 +4,9 @@ use Rattle.std.specs.Prelude.{IfNone, IfSome}
 use Rattle.std.proofs.lemmas.Bool.{both_ways}
 use Rattle.nl_tree.specs.declared.turn.DutyAnswer.{DutyAnswer}
 use Rattle.nl_tree.specs.declared.turn.DutyAnswer.TheVariants as duty
-use Rattle.nl_drain.specs.Handled.{MarksSome}
-use Rattle.nl_drain.specs.declared.draining.Drained.{Drained}
-use Rattle.nl_drain.specs.declared.draining.Drained.TheVariants as drained
+use Rattle.nl_core_callbacks.specs.Handled.{MarksSome}
+use Rattle.nl_core_callbacks.specs.declared.draining.Drained.{Drained}
+use Rattle.nl_core_callbacks.specs.declared.draining.Drained.TheVariants as drained
 use Rattle.nl_iface.specs.Moves.{IsUnhandled, Marks, first_of}
 use Rattle.nl_iface.specs.Names.{Has, Names}
 use Rattle.nl_iface.specs.Rounds.{Empties}
@@ -15,8 +15,8 @@ use Rattle.nl_iface.specs.declared.Callback.{Callback}
 use Rattle.nl_iface.specs.declared.counts.Counts.{Ghosts}
 use Rattle.nl_iface.proofs.RoundSteps.{empties_laws}
 use Rattle.nl_meta.specs.Pages.{Pages, besides_0, has_room, is_dirty, most}
-use Rattle.nl_running.specs.Reading.{Reads}
-use Rattle.nl_drain.specs.Blocked.{drained_stop}
+use Rattle.nl_meta_running.specs.Reading.{Reads}
+use Rattle.nl_core_callbacks.specs.Blocked.{drained_stop}
 use Rattle.nl_meta.proofs.Lists.{none_some}
 use Rattle.nl_core.specs.Calls.{CommitsAll}
 use Rattle.nl_core.specs.Core.{names_of}

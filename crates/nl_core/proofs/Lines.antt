@@ -11,9 +11,9 @@ use Rattle.nl_flight.specs.Flight.{HasPlace, InFlight, IsFlight, begun, carried,
 use Rattle.nl_flight.specs.declared.page.FlightPage.{FlightPage}
 use Rattle.nl_iface.specs.Holders.{tagged}
 use Rattle.nl_iface.specs.Names.{Has}
-use Rattle.nl_holders.specs.Lists.{ListGains, ListLoses}
+use Rattle.nl_spec_holders.specs.Lists.{ListGains, ListLoses}
 use Rattle.nl_core.specs.Programming.{behind, line_of, with_page}
-use Rattle.nl_holders.proofs.Lists.{gains_within, has_push, loses_within, times_push}
+use Rattle.nl_spec_holders.proofs.Lists.{gains_within, has_push, loses_within, times_push}
 
 abbrev pub held : FlightPage → Tag × Pointer
 held page = (page.tag, page.at)

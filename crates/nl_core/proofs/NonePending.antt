@@ -1,6 +1,6 @@
 -- Once each callback is handled and acknowledged, none is pending.
 use Rattle.std.proofs.Common.{refl}
-use Rattle.nl_drain.specs.Handled.{AllHandled}
+use Rattle.nl_core_callbacks.specs.Handled.{AllHandled}
 use Rattle.nl_iface.specs.Names.{Has, Names}
 use Rattle.nl_iface.specs.declared.Callback.{Callback}
 use Rattle.nl_core.specs.Calls.{Acknowledged}

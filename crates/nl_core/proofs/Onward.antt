@@ -8,9 +8,9 @@ use Rattle.nl_tree.specs.Tree.{Tree}
 use Rattle.nl_iface.specs.Calls.{Leaves}
 use Rattle.nl_iface.specs.declared.counts.Counts.{Ghosts}
 use Rattle.nl_meta.specs.Consistent.{PageOfStamp}
-use Rattle.nl_commit.proofs.Paid.{has_number, paid_then}
-use Rattle.nl_held.specs.TreeLaws.{OpensFrom}
-use Rattle.nl_held.specs.Trees.{OpensAs, Prefix, Trees, prefixes}
+use Rattle.nl_journal_commit.proofs.Paid.{has_number, paid_then}
+use Rattle.nl_spec_commits.specs.TreeLaws.{OpensFrom}
+use Rattle.nl_spec_commits.specs.Trees.{OpensAs, Prefix, Trees, prefixes}
 use Rattle.nl_core.specs.Calls.{HasCause}
 use Rattle.nl_core.specs.Core.{IsCore, begun_of}
 use Rattle.nl_core.specs.Goes.{Goes, GoesTo, PaidSince, RunsOnAs, Stops}

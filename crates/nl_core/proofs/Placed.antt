@@ -9,10 +9,10 @@ use Rattle.nl_field.specs.declared.answers.Named.TheVariants as named
 use Rattle.nl_field.specs.declared.pointer.Pointer.{Pointer}
 use Rattle.nl_field.specs.declared.pointer.Tag.{Tag}
 use Rattle.nl_field.specs.declared.shape.Shape.{Shape}
-use Rattle.nl_drain.specs.Handled.{nameless_body}
+use Rattle.nl_core_callbacks.specs.Handled.{nameless_body}
 use Rattle.nl_flight.specs.Flight.{HasPlace, InFlight, IsFlight, carried}
-use Rattle.nl_holders.specs.Laws.{Keeps}
-use Rattle.nl_holders.specs.Lists.{ListGains}
+use Rattle.nl_spec_holders.specs.Laws.{Keeps}
+use Rattle.nl_spec_holders.specs.Lists.{ListGains}
 use Rattle.nl_iface.specs.Holders.{tagged}
 use Rattle.nl_iface.proofs.Stops.{tried_agree}
 use Rattle.nl_iface.specs.Answers.{IfPlaced, IfRefused, IsPlaced, IsTriedNamed}
@@ -27,16 +27,16 @@ use Rattle.nl_iface.specs.declared.counts.Counts.{Ghosts}
 use Rattle.nl_meta.proofs.Lists.{some_in}
 use Rattle.nl_meta.specs.Consistent.{PageOfStamp}
 use Rattle.nl_meta.specs.Nodes.{graph_of}
-use Rattle.nl_running.specs.Running.{IsNeeded, running_on}
-use Rattle.nl_commit.proofs.Standing.{addresses_stand}
-use Rattle.nl_held.proofs.DeviceTrees.{addresses_go, holding_opens, pages_go, runs_still}
-use Rattle.nl_held.proofs.Firm.{program_keeps_firm}
-use Rattle.nl_held.proofs.Steps.{program_keeps_held, tables_keep_held}
-use Rattle.nl_held.specs.DeviceLaws.{Extends, LeavesHolding}
-use Rattle.nl_held.specs.Held.{IsHeldVolume}
-use Rattle.nl_held.specs.Standing.{IsFirm, ShowsPages}
-use Rattle.nl_held.specs.TreeLaws.{OpensFrom}
-use Rattle.nl_held.specs.Trees.{Prefix, Trees}
+use Rattle.nl_meta_running.specs.Running.{IsNeeded, running_on}
+use Rattle.nl_journal_commit.proofs.Standing.{addresses_stand}
+use Rattle.nl_spec_commits.proofs.DeviceTrees.{addresses_go, holding_opens, pages_go, runs_still}
+use Rattle.nl_spec_commits.proofs.Firm.{program_keeps_firm}
+use Rattle.nl_spec_commits.proofs.Steps.{program_keeps_held, tables_keep_held}
+use Rattle.nl_spec_commits.specs.DeviceLaws.{Extends, LeavesHolding}
+use Rattle.nl_spec_commits.specs.Held.{IsHeldVolume}
+use Rattle.nl_spec_commits.specs.Standing.{IsFirm, ShowsPages}
+use Rattle.nl_spec_commits.specs.TreeLaws.{OpensFrom}
+use Rattle.nl_spec_commits.specs.Trees.{Prefix, Trees}
 use Rattle.nl_tree.specs.Tree.{Tree}
 use Rattle.nl_core.specs.Calls.{HasCause}
 use Rattle.nl_core.specs.Core.{HasSpace, IsCore, IsPhysical, names_of, running_of}

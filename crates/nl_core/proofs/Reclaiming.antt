@@ -8,7 +8,7 @@ use Rattle.nl_field.specs.declared.answers.Named.{Named}
 use Rattle.nl_field.specs.declared.answers.Named.TheVariants as named
 use Rattle.nl_field.specs.declared.pointer.Pointer.{Pointer}
 use Rattle.nl_field.specs.declared.pointer.Tag.{Tag}
-use Rattle.nl_drain.specs.Handled.{nameless, nameless_line}
+use Rattle.nl_core_callbacks.specs.Handled.{nameless, nameless_line}
 use Rattle.nl_flight.specs.Flight.{HasPlace, InFlight, begun, carried, extra, of_worker}
 use Rattle.nl_flight.specs.declared.page.FlightPage.{FlightPage}
 use Rattle.nl_iface.specs.Answers.{IfPlaced, IfRefused, IsPlaced}
@@ -16,7 +16,7 @@ use Rattle.nl_iface.specs.Calls.{OnlyReads}
 use Rattle.nl_iface.specs.Device.{IsVolumeShape}
 use Rattle.nl_iface.specs.Names.{Has, IsNames, Names}
 use Rattle.nl_iface.specs.Space.{Space}
-use Rattle.nl_running.proofs.Holds.{bounds-of}
+use Rattle.nl_meta_running.proofs.Holds.{bounds-of}
 use Rattle.nl_iface.specs.declared.counts.Counts.{Ghosts}
 use Rattle.nl_iface.specs.declared.moving_pages.MovingPages.{Ghosts as Moving}
 use Rattle.nl_core.specs.Calls.{HasCause, KeepsLines}

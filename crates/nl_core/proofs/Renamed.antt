@@ -9,8 +9,8 @@ use Rattle.nl_field.specs.declared.pointer.Pointer.{Pointer}
 use Rattle.nl_field.specs.declared.pointer.Tag.{Tag}
 use Rattle.nl_field.specs.declared.shape.Shape.{Shape}
 use Rattle.nl_tree.specs.Tree.{Tree}
-use Rattle.nl_drain.specs.Handled.{SameButNames, nameless, nameless_body}
-use Rattle.nl_drain.specs.Laws.{TreesStay}
+use Rattle.nl_core_callbacks.specs.Handled.{SameButNames, nameless, nameless_body}
+use Rattle.nl_core_callbacks.specs.Laws.{TreesStay}
 use Rattle.nl_iface.specs.Holders.{IsRef, always, wants_tagged}
 use Rattle.nl_iface.specs.Names.{Has, LivePage, Names, led}
 use Rattle.nl_meta.specs.Committed.{VirtualMap}
@@ -18,8 +18,8 @@ use Rattle.nl_meta.specs.Consistent.{IsThere, OnePointer, PageOfStamp, PointersR
 use Rattle.nl_meta.specs.Nodes.{Held, graph_of, held_by, held_in, pointers_of}
 use Rattle.nl_meta.specs.PointerLists.{tagged_in, with_tag}
 use Rattle.nl_meta.proofs.Lists.{some_in}
-use Rattle.nl_running.specs.FileLaws.{IsRight}
-use Rattle.nl_held.specs.Trees.{RunsAs}
+use Rattle.nl_meta_running.specs.FileLaws.{IsRight}
+use Rattle.nl_spec_commits.specs.Trees.{RunsAs}
 
 -- ---- lists
 

@@ -1,8 +1,8 @@
 -- Callbacks are handled one after the other until none is left, and one victim is cleaned then.
 use Rattle.std.proofs.Common.{◌≡◌, ◌⊎◌, inl, inr, ℕ, ◌+◌, ◌*◌, ◌<◌, ◌≤◌, ◌^◌, length, refl, ap, subst, ◌∙◌, arith}
-use Rattle.nl_cleaning.specs.Laws.{IsOfARound}
-use Rattle.nl_cleaning.specs.declared.cleaning.Cleaned.{Cleaned}
-use Rattle.nl_cleaning.specs.declared.cleaning.Cleaned.TheVariants as cleaned
+use Rattle.nl_core_clean.specs.Laws.{IsOfARound}
+use Rattle.nl_core_clean.specs.declared.cleaning.Cleaned.{Cleaned}
+use Rattle.nl_core_clean.specs.declared.cleaning.Cleaned.TheVariants as cleaned
 use Rattle.nl_flight.proofs.Carried.{most}
 use Rattle.nl_iface.specs.Device.{IsVolumeShape}
 use Rattle.nl_iface.specs.Moves.{HasNothingToCopy, IsUnhandled}

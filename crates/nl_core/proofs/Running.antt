@@ -5,9 +5,9 @@ use Rattle.nl_tree.specs.Tree.{Tree}
 use Rattle.nl_iface.specs.Names.{LivePage}
 use Rattle.nl_iface.specs.declared.counts.Counts.{Ghosts}
 use Rattle.nl_meta.specs.Consistent.{PageOfStamp}
-use Rattle.nl_running.specs.Running.{IsNeeded}
-use Rattle.nl_held.proofs.Trees.{runs_alike}
-use Rattle.nl_held.specs.Trees.{RunsAs, StandsFor, Trees}
+use Rattle.nl_meta_running.specs.Running.{IsNeeded}
+use Rattle.nl_spec_commits.proofs.Trees.{runs_alike}
+use Rattle.nl_spec_commits.specs.Trees.{RunsAs, StandsFor, Trees}
 use Rattle.nl_core.specs.Core.{names_of, running_of}
 use Rattle.nl_core.specs.Goes.{GoesTo, RunsOnAs}
 use Rattle.nl_core.specs.Trees.{CoreRuns}

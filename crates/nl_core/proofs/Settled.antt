@@ -8,11 +8,11 @@ use Rattle.nl_field.specs.declared.answers.VirtualWrite.{VirtualWrite}
 use Rattle.nl_field.specs.declared.answers.VirtualWrite.TheVariants as write
 use Rattle.nl_field.specs.declared.pointer.Pointer.{Pointer}
 use Rattle.nl_field.specs.declared.shape.Shape.{Shape}
-use Rattle.nl_drain.specs.Handled.{nameless_body}
+use Rattle.nl_core_callbacks.specs.Handled.{nameless_body}
 use Rattle.nl_flight.specs.Flight.{carried}
-use Rattle.nl_holders.specs.Holding.{Holding, MarkedTo}
-use Rattle.nl_holders.specs.Laws.{OldNamesDiffer}
-use Rattle.nl_holders.proofs.LawProofs.{none_handled}
+use Rattle.nl_spec_holders.specs.Holding.{Holding, MarkedTo}
+use Rattle.nl_spec_holders.specs.Laws.{OldNamesDiffer}
+use Rattle.nl_spec_holders.proofs.LawProofs.{none_handled}
 use Rattle.nl_iface.specs.Calls.{KeepsMedium, StoresPages}
 use Rattle.nl_iface.specs.Device.{IsVolumeShape}
 use Rattle.nl_iface.specs.Moves.{Acknowledges}
@@ -32,23 +32,23 @@ use Rattle.nl_journal.proofs.CommitSteps.{begun_none}
 use Rattle.nl_meta.specs.Consistent.{PageOfStamp}
 use Rattle.nl_meta.specs.Nodes.{graph_of}
 use Rattle.nl_meta.specs.Pages.{IsPages}
-use Rattle.nl_running.specs.Running.{IsNeeded, running_on}
-use Rattle.nl_commit.specs.Completing.{IsOpen}
-use Rattle.nl_commit.specs.Standing.{IsJournaled}
-use Rattle.nl_commit.proofs.Standing.{addresses_stand}
-use Rattle.nl_held.specs.Held.{IsHeldVolume}
-use Rattle.nl_held.specs.SettlingLaws.{IsTold as IsHeldTold}
-use Rattle.nl_held.specs.Trees.{Trees}
+use Rattle.nl_meta_running.specs.Running.{IsNeeded, running_on}
+use Rattle.nl_journal_commit.specs.Completing.{IsOpen}
+use Rattle.nl_journal_commit.specs.Standing.{IsJournaled}
+use Rattle.nl_journal_commit.proofs.Standing.{addresses_stand}
+use Rattle.nl_spec_commits.specs.Held.{IsHeldVolume}
+use Rattle.nl_spec_commits.specs.SettlingLaws.{IsTold as IsHeldTold}
+use Rattle.nl_spec_commits.specs.Trees.{Trees}
 use Rattle.nl_tree.specs.Tree.{Tree}
-use Rattle.nl_held.proofs.DeviceTrees.{addresses_go}
-use Rattle.nl_held.proofs.Firm.{medium_keeps_firm}
-use Rattle.nl_held.proofs.Holding.{acknowledged_keeps_held, freed_keeps_held}
+use Rattle.nl_spec_commits.proofs.DeviceTrees.{addresses_go}
+use Rattle.nl_spec_commits.proofs.Firm.{medium_keeps_firm}
+use Rattle.nl_spec_commits.proofs.Holding.{acknowledged_keeps_held, freed_keeps_held}
 use Rattle.std.specs.Prelude.{IfSome}
 use Rattle.nl_meta.specs.Pages.{dirty_pages}
-use Rattle.nl_commit.specs.Committing.{ChangesAt}
-use Rattle.nl_commit.specs.Completing.{IsDecided, NumberPaid}
-use Rattle.nl_held.specs.TreeLaws.{moment_of}
-use Rattle.nl_held.proofs.Freezing.{freeze_opens}
+use Rattle.nl_journal_commit.specs.Committing.{ChangesAt}
+use Rattle.nl_journal_commit.specs.Completing.{IsDecided, NumberPaid}
+use Rattle.nl_spec_commits.specs.TreeLaws.{moment_of}
+use Rattle.nl_spec_commits.proofs.Freezing.{freeze_opens}
 use Rattle.nl_core.specs.Calls.{CommitsAll}
 use Rattle.nl_core.specs.Core.{HasSpace, IsCore, IsPhysical, begun_of, names_of, running_of}
 use Rattle.nl_core.specs.Goes.{Goes, GoesTo, RunsOnAs}
@@ -60,8 +60,8 @@ use Rattle.nl_core.proofs.Written.{has_free_on, held_counted, journaled_counted,
 use Rattle.nl_core.proofs.WrittenTrees.{written_goes}
 use Rattle.nl_iface.proofs.RoundSteps.{empties_laws}
 use Rattle.nl_iface.proofs.Stops.{keeps_medium_then}
-use Rattle.nl_commit.specs.Freeing.{FreesEach, FreesOne, FreesPage}
-use Rattle.nl_commit.proofs.Frees.{frees_all}
+use Rattle.nl_journal_commit.specs.Freeing.{FreesEach, FreesOne, FreesPage}
+use Rattle.nl_journal_commit.proofs.Frees.{frees_all}
 
 -- ---- pages that are freed one after the other
 

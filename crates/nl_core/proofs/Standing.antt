@@ -11,7 +11,7 @@ use Rattle.nl_iface.specs.Device.{IsVolumeShape}
 use Rattle.nl_iface.specs.Holders.{IsRef, always, wants_tagged}
 use Rattle.nl_iface.specs.Names.{Has, IsNames, Names, led}
 use Rattle.nl_iface.specs.declared.counts.Counts.{Ghosts}
-use Rattle.nl_held.proofs.DeviceTrees.{holding_opens, now_holds}
+use Rattle.nl_spec_commits.proofs.DeviceTrees.{holding_opens, now_holds}
 use Rattle.nl_core.specs.Core.{IsCore, names_of}
 use Rattle.nl_core.specs.Laws.{FlightLeads, StoredOpens}
 use Rattle.nl_core.specs.declared.state.Core.{Core}

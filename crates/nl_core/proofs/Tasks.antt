@@ -7,7 +7,7 @@ use Rattle.nl_tree.specs.declared.turn.Duty.{Duty}
 use Rattle.nl_tree.specs.declared.turn.Duty.TheVariants as task
 use Rattle.nl_tree.specs.declared.turn.DutyAnswer.{DutyAnswer}
 use Rattle.nl_tree.specs.declared.turn.DutyAnswer.TheVariants as duty
-use Rattle.nl_cleaning.proofs.Once.{BeginEnds, CopyEnds, CopyLeaves, EraseEnds, begin_held, begin_lands, begin_medium, begin_segment, begin_stored, copy_held, copy_segment, copy_stored, erase_held, erase_lands, erase_segment, erase_stored, reads_itself}
+use Rattle.nl_core_clean.proofs.Once.{BeginEnds, CopyEnds, CopyLeaves, EraseEnds, begin_held, begin_lands, begin_medium, begin_segment, begin_stored, copy_held, copy_segment, copy_stored, erase_held, erase_lands, erase_segment, erase_stored, reads_itself}
 use Rattle.nl_iface.specs.declared.moving.Copying.{Copying}
 use Rattle.nl_iface.specs.declared.moving.Copying.TheVariants as copying
 use Rattle.nl_iface.specs.Calls.{CallCounted, NoWriteFailed, OnlyReads, StoresMap, StoresPages}

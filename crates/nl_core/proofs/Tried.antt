@@ -8,14 +8,14 @@ use Rattle.nl_field.specs.Spelling.{is_stamp}
 use Rattle.nl_field.specs.declared.pointer.Pointer.{Pointer}
 use Rattle.nl_field.specs.declared.pointer.Tag.{Tag}
 use Rattle.nl_field.specs.declared.shape.Shape.{Shape}
-use Rattle.nl_drain.specs.Blocked.{drained_stop}
-use Rattle.nl_drain.specs.Handled.{SameButNames, nameless, nameless_line}
-use Rattle.nl_drain.specs.Laws.{TreesStay}
-use Rattle.nl_drain.specs.declared.draining.Drained.{Drained}
-use Rattle.nl_drain.specs.declared.draining.Drained.TheVariants as drained
+use Rattle.nl_core_callbacks.specs.Blocked.{drained_stop}
+use Rattle.nl_core_callbacks.specs.Handled.{SameButNames, nameless, nameless_line}
+use Rattle.nl_core_callbacks.specs.Laws.{TreesStay}
+use Rattle.nl_core_callbacks.specs.declared.draining.Drained.{Drained}
+use Rattle.nl_core_callbacks.specs.declared.draining.Drained.TheVariants as drained
 use Rattle.nl_flight.specs.Flight.{InFlight, IsFlight, carried, extra, of_worker}
 use Rattle.nl_flight.specs.declared.page.FlightPage.{FlightPage}
-use Rattle.nl_holders.specs.Holding.{MarkedTo}
+use Rattle.nl_spec_holders.specs.Holding.{MarkedTo}
 use Rattle.nl_iface.specs.Calls.{KeepsMedium, StoresPages}
 use Rattle.nl_iface.specs.Device.{IsVolumeShape}
 use Rattle.nl_iface.specs.Holders.{IsRef, always, wants_tagged}
@@ -30,18 +30,18 @@ use Rattle.nl_meta.specs.Nodes.{graph_of}
 use Rattle.nl_meta.specs.Pages.{Frozen}
 use Rattle.nl_meta.specs.PointerLists.{tagged_in}
 use Rattle.nl_meta.proofs.Lists.{some_in}
-use Rattle.nl_running.specs.Reading.{Reads}
-use Rattle.nl_running.specs.declared.answer.Stop.{Stop}
-use Rattle.nl_running.specs.declared.answer.Stop.TheVariants as stop
-use Rattle.nl_commit.specs.Completing.{IsOpen}
-use Rattle.nl_commit.specs.Holding.{running_holders}
-use Rattle.nl_held.specs.Held.{IsHeldVolume}
-use Rattle.nl_held.specs.Trees.{RunsAs, StandsAs, StandsFor, Trees}
+use Rattle.nl_meta_running.specs.Reading.{Reads}
+use Rattle.nl_meta_running.specs.declared.answer.Stop.{Stop}
+use Rattle.nl_meta_running.specs.declared.answer.Stop.TheVariants as stop
+use Rattle.nl_journal_commit.specs.Completing.{IsOpen}
+use Rattle.nl_journal_commit.specs.Holding.{running_holders}
+use Rattle.nl_spec_commits.specs.Held.{IsHeldVolume}
+use Rattle.nl_spec_commits.specs.Trees.{RunsAs, StandsAs, StandsFor, Trees}
 use Rattle.nl_tree.specs.Tree.{Tree}
-use Rattle.nl_held.proofs.Changing.{steps_journaled}
-use Rattle.nl_held.proofs.DeviceTrees.{addresses_go}
-use Rattle.nl_held.proofs.Firm.{medium_keeps_firm}
-use Rattle.nl_held.proofs.Steps.{handling_keeps_held}
+use Rattle.nl_spec_commits.proofs.Changing.{steps_journaled}
+use Rattle.nl_spec_commits.proofs.DeviceTrees.{addresses_go}
+use Rattle.nl_spec_commits.proofs.Firm.{medium_keeps_firm}
+use Rattle.nl_spec_commits.proofs.Steps.{handling_keeps_held}
 use Rattle.nl_core.specs.Calls.{HasCause}
 use Rattle.nl_core.specs.Core.{HasFree, HasSpace, IsCore, IsPhysical, begun_of, names_of, running_of}
 use Rattle.nl_core.specs.Goes.{Goes, Stops}

@@ -8,7 +8,7 @@ use Rattle.nl_field.specs.SuperPage.{super_bytes}
 use Rattle.nl_field.specs.PointerItems.{PointerItems}
 use Rattle.nl_field.specs.declared.shape.Shape.{Shape}
 use Rattle.nl_flight.specs.Flight.{InFlight, IsFlight, carried}
-use Rattle.nl_holders.specs.Holding.{MarkedTo}
+use Rattle.nl_spec_holders.specs.Holding.{MarkedTo}
 use Rattle.nl_iface.specs.Calls.{NoWriteFailed, StoresPages}
 use Rattle.nl_iface.specs.Device.{IsVolumeShape}
 use Rattle.nl_iface.specs.Names.{Has, Names}
@@ -22,21 +22,21 @@ use Rattle.nl_meta.specs.Committed.{VirtualMap}
 use Rattle.nl_journal.proofs.CommitSteps.{begun_header, begun_none}
 use Rattle.nl_meta.specs.Pages.{Frozen, Pages}
 use Rattle.nl_meta.specs.PointerLists.{tagged_in}
-use Rattle.nl_running.specs.Running.{IsNeeded}
-use Rattle.nl_running.proofs.Holds.{bounds-of}
-use Rattle.nl_running.proofs.SameNeeded.{node-from, node-to}
-use Rattle.nl_commit.specs.Committing.{ChangesAt, EarlierAt}
-use Rattle.nl_commit.specs.Counting.{record_of}
-use Rattle.nl_commit.specs.Holding.{running_holders}
-use Rattle.nl_commit.specs.Standing.{IsJournaled}
-use Rattle.nl_commit.proofs.Standing.{super_page_stands}
-use Rattle.nl_held.specs.Held.{IsHeldVolume}
-use Rattle.nl_held.specs.SettlingLaws.{IsTold}
-use Rattle.nl_held.specs.Standing.{IsFirm}
-use Rattle.nl_held.proofs.Freezing.{super_pages_hold}
-use Rattle.nl_held.proofs.Holding.{commit_keeps_held}
-use Rattle.nl_held.proofs.Kept.{tagged_same}
-use Rattle.nl_held.specs.TreeLaws.{moment_of}
+use Rattle.nl_meta_running.specs.Running.{IsNeeded}
+use Rattle.nl_meta_running.proofs.Holds.{bounds-of}
+use Rattle.nl_meta_running.proofs.SameNeeded.{node-from, node-to}
+use Rattle.nl_journal_commit.specs.Committing.{ChangesAt, EarlierAt}
+use Rattle.nl_journal_commit.specs.Counting.{record_of}
+use Rattle.nl_journal_commit.specs.Holding.{running_holders}
+use Rattle.nl_journal_commit.specs.Standing.{IsJournaled}
+use Rattle.nl_journal_commit.proofs.Standing.{super_page_stands}
+use Rattle.nl_spec_commits.specs.Held.{IsHeldVolume}
+use Rattle.nl_spec_commits.specs.SettlingLaws.{IsTold}
+use Rattle.nl_spec_commits.specs.Standing.{IsFirm}
+use Rattle.nl_spec_commits.proofs.Freezing.{super_pages_hold}
+use Rattle.nl_spec_commits.proofs.Holding.{commit_keeps_held}
+use Rattle.nl_spec_commits.proofs.Kept.{tagged_same}
+use Rattle.nl_spec_commits.specs.TreeLaws.{moment_of}
 use Rattle.nl_core.specs.Core.{CanWrite, HasFree, HasSpace, IsCore, IsPhysical, begun_of, names_of, running_of}
 use Rattle.nl_core.specs.Goes.{Stops}
 use Rattle.nl_core.specs.Writing.{WritesAll, counted_pages, stopped_by, stopped_on, stored_count}

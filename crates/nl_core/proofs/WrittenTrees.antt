@@ -12,7 +12,7 @@ use Rattle.nl_field.specs.declared.answers.VirtualWrite.TheVariants as write
 use Rattle.nl_field.specs.declared.shape.Shape.{Shape}
 use Rattle.nl_field.specs.declared.super_page.SuperRec.{SuperRec}
 use Rattle.nl_flight.specs.Flight.{carried}
-use Rattle.nl_drain.specs.Handled.{nameless_body}
+use Rattle.nl_core_callbacks.specs.Handled.{nameless_body}
 use Rattle.nl_iface.specs.Calls.{Leaves, StoresPages}
 use Rattle.nl_iface.specs.Device.{IsVolumeShape}
 use Rattle.nl_iface.specs.declared.counts.Counts.{Ghosts}
@@ -28,16 +28,16 @@ use Rattle.nl_meta.specs.Consistent.{PageOfStamp}
 use Rattle.nl_meta.specs.Nodes.{super_of_pages}
 use Rattle.nl_meta.specs.Pages.{Frozen, IsPages, Pages, frozen_at}
 use Rattle.nl_meta.proofs.Lists.{some_in}
-use Rattle.nl_commit.specs.Committing.{ChangesAt, CommitsInParts, EarlierAt}
-use Rattle.nl_commit.specs.Completing.{IsDecided, IsOpen}
-use Rattle.nl_commit.specs.Counting.{with_count}
-use Rattle.nl_commit.proofs.Places.{at_place}
-use Rattle.nl_held.specs.Committed.{read_as}
-use Rattle.nl_held.specs.TreeLaws.{OpensFrom, committed_by as tree_by, moment_of}
-use Rattle.nl_held.specs.Trees.{Prefix, StandsFor, Trees, prefixes}
+use Rattle.nl_journal_commit.specs.Committing.{ChangesAt, CommitsInParts, EarlierAt}
+use Rattle.nl_journal_commit.specs.Completing.{IsDecided, IsOpen}
+use Rattle.nl_journal_commit.specs.Counting.{with_count}
+use Rattle.nl_journal_commit.proofs.Places.{at_place}
+use Rattle.nl_spec_commits.specs.Committed.{read_as}
+use Rattle.nl_spec_commits.specs.TreeLaws.{OpensFrom, committed_by as tree_by, moment_of}
+use Rattle.nl_spec_commits.specs.Trees.{Prefix, StandsFor, Trees, prefixes}
 use Rattle.nl_tree.specs.Tree.{Tree}
-use Rattle.nl_held.proofs.CommitTrees.{commit_goes, commit_leaves}
-use Rattle.nl_held.proofs.Reading.{reads_some}
+use Rattle.nl_spec_commits.proofs.CommitTrees.{commit_goes, commit_leaves}
+use Rattle.nl_spec_commits.proofs.Reading.{reads_some}
 use Rattle.nl_core.specs.Core.{IsCore, begun_of}
 use Rattle.nl_core.specs.Goes.{Goes, GoesTo}
 use Rattle.nl_core.specs.Trees.{CoreRuns, CoreStands, IsTold}

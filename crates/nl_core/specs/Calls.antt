@@ -1,7 +1,7 @@
 -- What the calls of a core do beside what all of them keep.
 use Rattle.std.specs.Prelude.{◌≡◌, ◌≢◌, ◌⊎◌, ℕ, ◌≤◌, [], map, None}
 use Rattle.nl_field.specs.CrashStates.{Earlier, Rose}
-use Rattle.nl_drain.specs.Handled.{nameless_line}
+use Rattle.nl_core_callbacks.specs.Handled.{nameless_line}
 use Rattle.nl_iface.specs.Names.{Has, Names}
 use Rattle.nl_iface.specs.Rounds.{Empties}
 use Rattle.nl_iface.specs.declared.Callback.{Callback}

@@ -1,9 +1,9 @@
 -- What the cleaning of one victim does to a core.
 use Rattle.std.specs.Prelude.{◌≡◌, ◌≢◌, ◌↔◌, ◌⊎◌, ℕ, None}
-use Rattle.nl_cleaning.specs.Spaces.{CleansVictim}
-use Rattle.nl_cleaning.specs.Victim.{CleansBlock}
-use Rattle.nl_cleaning.specs.declared.cleaning.Cleaned.{Cleaned}
-use Rattle.nl_cleaning.specs.declared.cleaning.Cleaned.TheVariants as cleaned
+use Rattle.nl_core_clean.specs.Spaces.{CleansVictim}
+use Rattle.nl_core_clean.specs.Victim.{CleansBlock}
+use Rattle.nl_core_clean.specs.declared.cleaning.Cleaned.{Cleaned}
+use Rattle.nl_core_clean.specs.declared.cleaning.Cleaned.TheVariants as cleaned
 use Rattle.nl_iface.specs.Moves.{HasNothingToCopy}
 use Rattle.nl_iface.specs.Names.{Has}
 use Rattle.nl_iface.specs.declared.Callback.{Callback}

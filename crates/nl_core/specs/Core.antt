@@ -7,7 +7,7 @@ use Rattle.nl_field.specs.declared.pointer.Pointer.{Pointer}
 use Rattle.nl_field.specs.declared.pointer.Tag.{Tag}
 use Rattle.nl_field.specs.declared.shape.Shape.{Shape}
 use Rattle.nl_flight.specs.Flight.{IsFlight, carried}
-use Rattle.nl_holders.specs.Holding.{MarkedTo}
+use Rattle.nl_spec_holders.specs.Holding.{MarkedTo}
 use Rattle.nl_iface.specs.Holders.{Holders, IsCounted}
 use Rattle.nl_iface.specs.Names.{Has, Names}
 use Rattle.nl_iface.specs.Space.{CanLand}
@@ -15,12 +15,12 @@ use Rattle.nl_iface.specs.declared.counts.Counts.{Ghosts}
 use Rattle.nl_inode.specs.FreeLaws.{NodesAreFree, PoolIsFree}
 use Rattle.nl_journal.specs.Progress.{begun}
 use Rattle.nl_meta.specs.Committed.{VirtualMap}
-use Rattle.nl_running.specs.Running.{running_on}
-use Rattle.nl_commit.specs.Holding.{running_holders}
-use Rattle.nl_commit.specs.Standing.{IsJournaled}
-use Rattle.nl_held.specs.Held.{IsHeldVolume}
-use Rattle.nl_held.specs.SettlingLaws.{IsTold}
-use Rattle.nl_held.specs.Standing.{IsFirm}
+use Rattle.nl_meta_running.specs.Running.{running_on}
+use Rattle.nl_journal_commit.specs.Holding.{running_holders}
+use Rattle.nl_journal_commit.specs.Standing.{IsJournaled}
+use Rattle.nl_spec_commits.specs.Held.{IsHeldVolume}
+use Rattle.nl_spec_commits.specs.SettlingLaws.{IsTold}
+use Rattle.nl_spec_commits.specs.Standing.{IsFirm}
 use Rattle.nl_core.specs.declared.state.Core.{Core}
 
 -- what is seen of the device: its names, and the metadata as it runs

@@ -1,7 +1,7 @@
 -- A worker's line that is dropped: its pages are freed.
 use Rattle.std.specs.Prelude.{◌≡◌, ◌⊎◌, ℕ, ◌≤◌, List, length, map, Some, slice_get}
 use Rattle.nl_field.specs.declared.pointer.Pointer.{Pointer}
-use Rattle.nl_commit.specs.Freeing.{FreesEach, FreesOne}
+use Rattle.nl_journal_commit.specs.Freeing.{FreesEach, FreesOne}
 use Rattle.nl_flight.specs.Flight.{InFlight, begun, of_worker, with_line}
 use Rattle.nl_flight.specs.declared.page.FlightPage.{FlightPage}
 use Rattle.nl_iface.specs.Calls.{KeepsMedium}

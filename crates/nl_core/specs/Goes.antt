@@ -3,16 +3,16 @@ use Rattle.std.specs.Prelude.{◌≡◌, ◌⊎◌, ℕ, ◌+◌, ◌≤◌, Opt
 use Rattle.nl_field.specs.CrashStates.{Earlier, Rose, saturated}
 use Rattle.nl_field.specs.Members.{Has}
 use Rattle.nl_tree.specs.Tree.{Tree}
-use Rattle.nl_drain.specs.Handled.{SameButNames}
+use Rattle.nl_core_callbacks.specs.Handled.{SameButNames}
 use Rattle.nl_iface.specs.Calls.{Leaves}
 use Rattle.nl_iface.specs.declared.counts.Counts.{Ghosts}
 use Rattle.nl_journal.specs.Passes.{StampsRise}
 use Rattle.nl_meta.specs.Consistent.{PageOfStamp}
 use Rattle.nl_meta.specs.Nodes.{graph_of}
-use Rattle.nl_commit.specs.Completing.{NumberPaid}
-use Rattle.nl_held.specs.DeviceLaws.{Extends}
-use Rattle.nl_held.specs.TreeLaws.{OpensFrom}
-use Rattle.nl_held.specs.Trees.{Prefix, Trees, prefixes}
+use Rattle.nl_journal_commit.specs.Completing.{NumberPaid}
+use Rattle.nl_spec_commits.specs.DeviceLaws.{Extends}
+use Rattle.nl_spec_commits.specs.TreeLaws.{OpensFrom}
+use Rattle.nl_spec_commits.specs.Trees.{Prefix, Trees, prefixes}
 use Rattle.nl_core.specs.Core.{begun_of, running_of}
 use Rattle.nl_core.specs.Trees.{CoreRuns, CoreStands, IsTold}
 use Rattle.nl_core.specs.declared.state.Core.{Core}

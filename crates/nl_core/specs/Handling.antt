@@ -2,17 +2,17 @@
 use Rattle.std.specs.Prelude.{◌≡◌, ℕ, ⊤, Option, Some, None, IfNone, IfSome, option_and_then}
 use Rattle.nl_tree.specs.declared.turn.DutyAnswer.{DutyAnswer}
 use Rattle.nl_tree.specs.declared.turn.DutyAnswer.TheVariants as duty
-use Rattle.nl_drain.specs.Blocked.{IsBlocked, drained_stop}
-use Rattle.nl_drain.specs.Handled.{HandlesSome, Volume, volume}
-use Rattle.nl_drain.specs.declared.draining.Drained.{Drained}
-use Rattle.nl_drain.specs.declared.draining.Drained.TheVariants as drained
+use Rattle.nl_core_callbacks.specs.Blocked.{IsBlocked, drained_stop}
+use Rattle.nl_core_callbacks.specs.Handled.{HandlesSome, Volume, volume}
+use Rattle.nl_core_callbacks.specs.declared.draining.Drained.{Drained}
+use Rattle.nl_core_callbacks.specs.declared.draining.Drained.TheVariants as drained
 use Rattle.nl_iface.specs.Moves.{IsUnhandled, Marks}
 use Rattle.nl_iface.specs.Names.{Has, Names}
 use Rattle.nl_iface.specs.Rounds.{Empties}
 use Rattle.nl_iface.specs.declared.Callback.{Callback}
 use Rattle.nl_iface.specs.declared.counts.Counts.{Ghosts}
-use Rattle.nl_running.specs.Reading.{Reads}
-use Rattle.nl_running.specs.Running.{Runs}
+use Rattle.nl_meta_running.specs.Reading.{Reads}
+use Rattle.nl_meta_running.specs.Running.{Runs}
 use Rattle.nl_core.specs.Core.{names_of}
 use Rattle.nl_core.specs.declared.state.Core.{Core}
 

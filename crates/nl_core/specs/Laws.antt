@@ -4,7 +4,7 @@ use Rattle.nl_field.specs.Spelling.{is_stamp}
 use Rattle.nl_field.specs.declared.pointer.Pointer.{Pointer}
 use Rattle.nl_field.specs.declared.pointer.Tag.{Tag}
 use Rattle.nl_field.specs.declared.shape.Shape.{Shape}
-use Rattle.nl_drain.specs.Handled.{SameButNames}
+use Rattle.nl_core_callbacks.specs.Handled.{SameButNames}
 use Rattle.nl_flight.specs.Flight.{carried}
 use Rattle.nl_iface.specs.Calls.{stored}
 use Rattle.nl_iface.specs.Names.{Has, led}
@@ -13,7 +13,7 @@ use Rattle.nl_meta.specs.Committed.{VirtualMap}
 use Rattle.nl_meta.specs.Consistent.{PageOfStamp}
 use Rattle.nl_meta.specs.Nodes.{graph_of, is_physical_name}
 use Rattle.nl_meta.specs.PointerLists.{tagged_in}
-use Rattle.nl_held.specs.Trees.{OpensAs, Trees}
+use Rattle.nl_spec_commits.specs.Trees.{OpensAs, Trees}
 use Rattle.nl_core.specs.Core.{names_of}
 use Rattle.nl_core.specs.Trees.{CoreStands, IsTold}
 use Rattle.nl_core.specs.declared.state.Core.{Core}

@@ -4,7 +4,7 @@ use Rattle.nl_field.specs.declared.answers.Named.{Named}
 use Rattle.nl_field.specs.declared.answers.Named.TheVariants as named
 use Rattle.nl_field.specs.declared.pointer.Pointer.{Pointer}
 use Rattle.nl_field.specs.declared.pointer.Tag.{Tag}
-use Rattle.nl_drain.specs.Handled.{nameless_line}
+use Rattle.nl_core_callbacks.specs.Handled.{nameless_line}
 use Rattle.nl_flight.specs.Flight.{InFlight, begun, carried, of_worker, with_line}
 use Rattle.nl_iface.specs.Answers.{IfPlaced, IfRefused, IsPlaced, IsTriedNamed}
 use Rattle.nl_iface.specs.Calls.{KeepsPages, LeavesNew, OnlyReads, Places, PlacesNone, TakesStamp, TriesCounted}

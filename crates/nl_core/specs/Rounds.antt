@@ -1,7 +1,7 @@
 -- What a round of reclaiming does to a core.
 use Rattle.std.specs.Prelude.{◌≡◌, ◌≢◌, ◌⊎◌, ◌≤◌, ⊤, []}
-use Rattle.nl_cleaning.specs.declared.cleaning.Cleaned.TheVariants as cleaned
-use Rattle.nl_drain.specs.Handled.{AllHandled}
+use Rattle.nl_core_clean.specs.declared.cleaning.Cleaned.TheVariants as cleaned
+use Rattle.nl_core_callbacks.specs.Handled.{AllHandled}
 use Rattle.nl_iface.specs.Rounds.{Empties, Gains, IsRound}
 use Rattle.nl_iface.specs.declared.counts.Counts.{Ghosts}
 use Rattle.nl_iface.specs.declared.moving_pages.MovingPages.{Ghosts as Moving}

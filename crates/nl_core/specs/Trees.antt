@@ -4,8 +4,8 @@ use Rattle.nl_tree.specs.Tree.{Tree}
 use Rattle.nl_iface.specs.declared.counts.Counts.{Ghosts}
 use Rattle.nl_journal.specs.Progress.{HasNumber}
 use Rattle.nl_meta.specs.Consistent.{PageOfStamp}
-use Rattle.nl_held.specs.Standing.{ShowsPages}
-use Rattle.nl_held.specs.Trees.{RunsAs, StandsFor, Trees}
+use Rattle.nl_spec_commits.specs.Standing.{ShowsPages}
+use Rattle.nl_spec_commits.specs.Trees.{RunsAs, StandsFor, Trees}
 use Rattle.nl_core.specs.Core.{names_of, running_of}
 use Rattle.nl_core.specs.declared.state.Core.{Core}
 

@@ -8,18 +8,18 @@ use Rattle.nl_field.specs.declared.super_page.SuperRec.{SuperRec}
 use Rattle.nl_iface.specs.Answers.{LosesStamp}
 use Rattle.nl_iface.specs.Calls.{CallCounted, KeepsMedium}
 use Rattle.nl_iface.specs.Moves.{Acknowledges}
-use Rattle.nl_holders.specs.Laws.{OldNamesDiffer}
+use Rattle.nl_spec_holders.specs.Laws.{OldNamesDiffer}
 use Rattle.nl_iface.specs.Names.{IsTable}
 use Rattle.nl_iface.specs.declared.counts.Counts.{Ghosts}
 use Rattle.nl_journal.specs.Left.{CommitWrites}
 use Rattle.nl_journal.specs.Passes.{Passes}
 use Rattle.nl_journal.specs.Progress.{HasNumber}
 use Rattle.nl_meta.specs.Pages.{Pages, frozen_at}
-use Rattle.nl_commit.specs.Committing.{ChangesAt, Commits, EarlierAt}
-use Rattle.nl_commit.specs.Counting.{with_count}
-use Rattle.nl_commit.specs.Freeing.{FreesEach}
-use Rattle.nl_commit.specs.Standing.{StandsOn}
-use Rattle.nl_held.specs.TreeLaws.{moment_of}
+use Rattle.nl_journal_commit.specs.Committing.{ChangesAt, Commits, EarlierAt}
+use Rattle.nl_journal_commit.specs.Counting.{with_count}
+use Rattle.nl_journal_commit.specs.Freeing.{FreesEach}
+use Rattle.nl_journal_commit.specs.Standing.{StandsOn}
+use Rattle.nl_spec_commits.specs.TreeLaws.{moment_of}
 use Rattle.nl_core.specs.Core.{names_of}
 use Rattle.nl_core.specs.declared.state.Core.{Core}
 

@@ -5,9 +5,9 @@ ghost use Rattle.nl_core.specs.Goes.{Goes};
 ghost use Rattle.nl_core.specs.Cleaning.{CleansDevice};
 
 use crate::state::Core;
-use nl_cleaning::{Cleaned, clean};
-use nl_held::laws::device_stands;
+use nl_core_clean::{Cleaned, clean};
 use nl_iface::MovingPages;
+use nl_spec_commits::laws::device_stands;
 
 impl<D: MovingPages> Core<D> {
     /// Cleans one victim of the device, the one in hand or else the block with the most dead pages: its live pages are moved, and it is

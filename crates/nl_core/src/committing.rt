@@ -7,14 +7,14 @@ ghost use Rattle.nl_core.specs.Core.{IsCore};
 ghost use Rattle.nl_core.specs.Goes.{Goes};
 ghost use Rattle.nl_meta.specs.Pages.{IsPages};
 ghost use Rattle.nl_core.specs.Writing.{HasTable, Settles, WritesAll, committed_by};
-ghost use Rattle.nl_held.specs.TreeLaws.{moment_of};
+ghost use Rattle.nl_spec_commits.specs.TreeLaws.{moment_of};
 
 use crate::state::Core;
-use nl_commit::{Committed, commit, free_first};
 use nl_field::VirtualWrite;
-use nl_held::laws::device_stands;
 use nl_iface::MovingPages;
 use nl_journal::Committing;
+use nl_journal_commit::{Committed, commit, free_first};
+use nl_spec_commits::laws::device_stands;
 
 // The greatest count of calls and the greatest number of a transaction that are spelled.
 const LAST: u64 = (1 << 63) - 1;

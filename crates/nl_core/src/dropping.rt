@@ -1,15 +1,15 @@
 ghost use Rattle.std.specs.Prelude.{◌≡◌, ◌<◌};
 ghost use Rattle.nl_flight.specs.Flight.{IsFlight, of_worker};
 ghost use Rattle.nl_iface.specs.Calls.{KeepsMedium};
-ghost use Rattle.nl_commit.specs.Freeing.{FreesEach};
+ghost use Rattle.nl_journal_commit.specs.Freeing.{FreesEach};
 ghost use Rattle.nl_core.specs.Core.{IsCore};
 ghost use Rattle.nl_core.specs.Dropping.{DropsLine, FreesAt, pointers_of};
 ghost use Rattle.nl_core.specs.Goes.{Goes};
 
 use crate::state::Core;
 use nl_flight::Flight;
-use nl_held::laws::device_stands;
 use nl_iface::MovingPages;
+use nl_spec_commits::laws::device_stands;
 
 impl<D: MovingPages> Core<D> {
     /// Frees the pages in flight of a worker's line, and the worker has no line from now on.

@@ -5,9 +5,9 @@ ghost use Rattle.nl_core.specs.Duties.{DoesDuty, DoesTask, HasNothingToDo, IsAtR
 ghost use Rattle.nl_core.specs.Goes.{Goes};
 
 use crate::state::Core;
-use nl_held::laws::device_stands;
 use nl_iface::{Copying, Erasing, MovingPages};
 use nl_journal::Committing;
+use nl_spec_commits::laws::device_stands;
 use nl_tree::{Duty, DutyAnswer};
 
 // The write sequence number from which on a volume is worn.

@@ -3,14 +3,14 @@ ghost use Rattle.nl_core.specs.Calls.{HasCause, KeepsLines};
 ghost use Rattle.nl_core.specs.Core.{IsCore, begun_of};
 ghost use Rattle.nl_core.specs.Goes.{Goes};
 ghost use Rattle.nl_core.specs.Handling.{Handles, HandlesWithRoom, TriesNumber, duty_of};
-ghost use Rattle.nl_running.specs.Running.{Runs};
+ghost use Rattle.nl_meta_running.specs.Running.{Runs};
 
 use crate::state::Core;
-use nl_drain::laws::trees_stay;
-use nl_drain::{Drained, handle_one};
-use nl_held::laws::device_stands;
+use nl_core_callbacks::laws::trees_stay;
+use nl_core_callbacks::{Drained, handle_one};
 use nl_iface::MovingPages;
 use nl_journal::Committing;
+use nl_spec_commits::laws::device_stands;
 use nl_tree::DutyAnswer;
 
 impl<D: MovingPages> Core<D> {

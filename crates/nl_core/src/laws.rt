@@ -4,8 +4,8 @@ ghost use Rattle.nl_core.specs.Core.{IsCore};
 ghost use Rattle.nl_core.specs.Laws.{FlightLeads, PagesStayAsMany, StoredOpens};
 
 use crate::state::Core;
-use nl_held::laws::device_stands;
 use nl_iface::MovingPages;
+use nl_spec_commits::laws::device_stands;
 
 /// While no write has failed, what a core stores can be opened: it opens as the tree that is committed.
 pub fn stored_opens<D: MovingPages>(core: &Core<D>)

@@ -14,8 +14,8 @@ use crate::rounds::Rounded;
 use crate::state::Core;
 use nl_field::{Named, PageBuf, Pointer, Tag};
 use nl_flight::Flight;
-use nl_held::laws::device_stands;
 use nl_iface::MovingPages;
+use nl_spec_commits::laws::device_stands;
 
 /// What the programming of a page answers.
 #[derive(Clone, Copy, Debug, PartialEq, Eq)]

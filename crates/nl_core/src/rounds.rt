@@ -1,16 +1,16 @@
 ghost use Rattle.std.specs.Prelude.{◌≡◌, ◌↔◌, ◌≤◌, ◌+◌, ◌^◌, [], false};
 ghost use Rattle.nl_core.specs.Calls.{HasCause, KeepsLines};
 ghost use Rattle.nl_core.specs.Core.{IsCore, names_of};
-ghost use Rattle.nl_drain.specs.Handled.{AllHandled};
+ghost use Rattle.nl_core_callbacks.specs.Handled.{AllHandled};
 ghost use Rattle.nl_core.specs.Goes.{Goes};
 ghost use Rattle.nl_core.specs.Rounds.{EmptiesTable, HandlesAll, IfRounded, RoundIsDone};
 
 use crate::state::Core;
-use nl_cleaning::Cleaned;
-use nl_cleaning::laws::a_cleaning_is_of_a_round;
-use nl_held::laws::device_stands;
+use nl_core_clean::Cleaned;
+use nl_core_clean::laws::a_cleaning_is_of_a_round;
 use nl_iface::MovingPages;
 use nl_journal::Committing;
+use nl_spec_commits::laws::device_stands;
 use nl_tree::DutyAnswer;
 
 /// What a round of reclaiming answers.

@@ -19,9 +19,9 @@ use Rattle.nl_meta.specs.SlotLaws.{with_slot}
 use Rattle.nl_meta.specs.Steps.{ChangesPages}
 use Rattle.nl_meta.proofs.PageProofs.{both}
 use Rattle.nl_meta.proofs.RunningProofs.{running_map}
-use Rattle.nl_running.specs.FileLaws.{IsRight}
-use Rattle.nl_running.specs.Running.{IsNeeded, Runs, running_on, stored_on}
-use Rattle.nl_running.proofs.Holds.{bounds-of}
+use Rattle.nl_meta_running.specs.FileLaws.{IsRight}
+use Rattle.nl_meta_running.specs.Running.{IsNeeded, Runs, running_on, stored_on}
+use Rattle.nl_meta_running.proofs.Holds.{bounds-of}
 use Rattle.nl_files.specs.CutRuns.{CutIsWritten, CutRuns, CutsOn, RunsCut, WritesCut}
 use Rattle.nl_files.specs.Cutting.{Rewrites}
 use Rattle.nl_files.proofs.CutWritten.{changed, cut-written, had-before, there-half}

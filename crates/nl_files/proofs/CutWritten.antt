@@ -24,8 +24,8 @@ use Rattle.nl_meta.specs.Pages.{Pages, page_of}
 use Rattle.nl_meta.specs.Running.{running_over}
 use Rattle.nl_meta.specs.Steps.{ChangesPages}
 use Rattle.nl_meta.proofs.Lists.{some_in}
-use Rattle.nl_running.specs.FileLaws.{StaysRight}
-use Rattle.nl_running.proofs.FileChanges.{one_file_changes}
+use Rattle.nl_meta_running.specs.FileLaws.{StaysRight}
+use Rattle.nl_meta_running.proofs.FileChanges.{one_file_changes}
 use Rattle.nl_files.specs.CutLaws.{CutsAt, FileIsCut}
 use Rattle.nl_files.specs.CutRuns.{CutIsWritten, OneCutIsWritten, WritesCut}
 use Rattle.nl_files.specs.Cutting.{CutsPointers}

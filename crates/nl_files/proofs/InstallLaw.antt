@@ -30,8 +30,8 @@ use Rattle.nl_meta.specs.Running.{or_stored, running_over}
 use Rattle.nl_meta.specs.SlotLaws.{ChangesSlot}
 use Rattle.nl_meta.specs.Steps.{ChangesPages}
 use Rattle.nl_meta.proofs.Lists.{some_in}
-use Rattle.nl_running.specs.FileLaws.{StaysRight}
-use Rattle.nl_running.proofs.FileChanges.{one_file_changes}
+use Rattle.nl_meta_running.specs.FileLaws.{StaysRight}
+use Rattle.nl_meta_running.proofs.FileChanges.{one_file_changes}
 use Rattle.nl_files.specs.InstallLaws.{FileIsInstalled, InstallsAt, OneFileIsInstalled}
 use Rattle.nl_files.specs.Installing.{Takes}
 use Rattle.nl_files.proofs.OneFile.{OneFile, file-changes, in-pool, is-used, its, its-on, its-was, other-is, other-was, same-at, same-node, same-of}

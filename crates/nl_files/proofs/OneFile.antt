@@ -19,7 +19,7 @@ use Rattle.nl_indirect.specs.Storing.{DiffersInPage}
 use Rattle.nl_indirect.proofs.LawProofs.{at-slot}
 use Rattle.nl_indirect.proofs.OtherNodes.{after-same, same-graph, same-record}
 use Rattle.nl_indirect.proofs.Pointing.{address-node, address-range}
-use Rattle.nl_running.specs.FileLaws.{ChangesFile, IsRight}
+use Rattle.nl_meta_running.specs.FileLaws.{ChangesFile, IsRight}
 
 in-slot : (xs : List ℕ) (r a : ℕ) → slice_get xs r ≡ Some a → slice_index xs r ≡ a
 in-slot [] r a e = absurd (none_some a e)

@@ -18,8 +18,8 @@ use Rattle.nl_meta.specs.Nodes.{graph_of, is_physical_name, pointer_at}
 use Rattle.nl_meta.specs.Pages.{Pages, page_of}
 use Rattle.nl_meta.specs.Running.{CleanIsStored, running_over}
 use Rattle.nl_meta.specs.Steps.{ChangesPages}
-use Rattle.nl_running.specs.FileLaws.{ChangesFile, IsRight}
-use Rattle.nl_running.specs.Running.{IsNodeOf, Runs, running_on}
+use Rattle.nl_meta_running.specs.FileLaws.{ChangesFile, IsRight}
+use Rattle.nl_meta_running.specs.Running.{IsNodeOf, Runs, running_on}
 use Rattle.nl_files.specs.Cutting.{Cuts}
 
 -- File n of a volume that is right is cut, over this device, and its record is written back. The pages that have the record and the pointer of

@@ -15,7 +15,7 @@ use Rattle.nl_meta.specs.Running.{CleanIsStored, running_over}
 use Rattle.nl_inode.specs.FreeLaws.{NodesAreFree, PoolIsFree}
 use Rattle.nl_inode.specs.Nodes.{PutsNode, Spaces, page_of_node}
 use Rattle.nl_indirect.specs.Ranges.{HasRange}
-use Rattle.nl_running.specs.FileLaws.{ChangesFile, IsRight}
+use Rattle.nl_meta_running.specs.FileLaws.{ChangesFile, IsRight}
 use Rattle.nl_files.specs.Installing.{Installs}
 
 -- A pointer to the physical segment is installed in file n of a volume that is right, over this device, and the record is written back with

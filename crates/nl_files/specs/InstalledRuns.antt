@@ -12,7 +12,7 @@ use Rattle.nl_indirect.specs.Ranges.{HasRange}
 use Rattle.nl_meta.specs.Nodes.{is_physical_name}
 use Rattle.nl_meta.specs.Pages.{Pages, page_of}
 use Rattle.nl_meta.specs.Steps.{ChangesPages}
-use Rattle.nl_running.specs.Running.{IsNodeOf, Runs, running_on}
+use Rattle.nl_meta_running.specs.Running.{IsNodeOf, Runs, running_on}
 use Rattle.nl_files.specs.InstallLaws.{FileIsInstalled}
 use Rattle.nl_files.specs.Installing.{Installs}
 

@@ -22,8 +22,8 @@ use Rattle.nl_meta.specs.Nodes.{pointer_at, slot_in, slots_of}
 use Rattle.nl_meta.specs.Pages.{Pages, page_of}
 use Rattle.nl_meta.specs.Running.{or_stored, running_over}
 use Rattle.nl_meta.proofs.Lists.{some_in}
-use Rattle.nl_running.specs.Running.{IsNeeded, Runs, RunsOn, running_on, stored_on}
-use Rattle.nl_running.proofs.Kept.{used-on}
+use Rattle.nl_meta_running.specs.Running.{IsNeeded, Runs, RunsOn, running_on, stored_on}
+use Rattle.nl_meta_running.proofs.Kept.{used-on}
 use Rattle.nl_handler.specs.Changing.{IsAtHand}
 use Rattle.nl_handler.specs.Handling.{HasTagged, HoldsTagged, TagsFile, is_of}
 

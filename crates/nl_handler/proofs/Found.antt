@@ -15,9 +15,9 @@ use Rattle.nl_meta.specs.Consistent.{AddressAt, GoodAddress}
 use Rattle.nl_meta.specs.Nodes.{inode_at, slots_of}
 use Rattle.nl_meta.specs.Pages.{Pages, page_of}
 use Rattle.nl_meta.proofs.Lists.{some_in}
-use Rattle.nl_running.specs.Running.{IsNeeded, Runs, RunsOn, running_on}
-use Rattle.nl_running.proofs.Kept.{inode-resident, resident-is}
-use Rattle.nl_running.proofs.SameNeeded.{inode-address}
+use Rattle.nl_meta_running.specs.Running.{IsNeeded, Runs, RunsOn, running_on}
+use Rattle.nl_meta_running.proofs.Kept.{inode-resident, resident-is}
+use Rattle.nl_meta_running.proofs.SameNeeded.{inode-address}
 use Rattle.nl_handler.specs.Handling.{IsTagged, TagsFile}
 
 pub if-ok : {T E : Type 0} {P Q : T → Type 0} (r : Result T E) → ((x : T) → P x → Q x) → IfOk r P → IfOk r Q

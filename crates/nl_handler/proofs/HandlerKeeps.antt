@@ -8,8 +8,8 @@ use Rattle.nl_field.specs.declared.pointer.Tag.{Tag}
 use Rattle.nl_field.specs.declared.shape.Shape.{Shape}
 use Rattle.nl_flight.specs.Flight.{InFlight, carried, has_stamp, line_has_stamp}
 use Rattle.nl_flight.specs.declared.page.FlightPage.{FlightPage}
-use Rattle.nl_holders.specs.Lists.{Renames}
-use Rattle.nl_holders.proofs.Lists.{one_no, one_yes, renames_none, times_append, times_has}
+use Rattle.nl_spec_holders.specs.Lists.{Renames}
+use Rattle.nl_spec_holders.proofs.Lists.{one_no, one_yes, renames_none, times_append, times_has}
 use Rattle.nl_iface.specs.Holders.{IsHeld, IsRef, always, one, plain, tagged, times, wants_tagged}
 use Rattle.nl_iface.specs.Names.{Has, IsTable, LivePage, led, told_page}
 use Rattle.nl_iface.specs.declared.Callback.{Callback}
@@ -18,7 +18,7 @@ use Rattle.nl_meta.specs.Nodes.{pointer_at}
 use Rattle.nl_meta.specs.Pages.{Pages}
 use Rattle.nl_meta.specs.PointerLists.{tagged_in}
 use Rattle.nl_meta.proofs.Lists.{some_in}
-use Rattle.nl_running.specs.Running.{Runs, running_on}
+use Rattle.nl_meta_running.specs.Running.{Runs, running_on}
 use Rattle.nl_handler.specs.Handling.{HandlesStored, HoldsTagged, IsElsewhere, RenamesOn, TagsFile, list_has}
 use Rattle.nl_handler.specs.Laws.{HandledHolders, HandlerKeeps, Handles, holders_on}
 use Rattle.nl_handler.specs.declared.answer.Handled.{Handled}

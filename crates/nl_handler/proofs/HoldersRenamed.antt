@@ -8,8 +8,8 @@ use Rattle.nl_field.specs.declared.pointer.Tag.{Tag}
 use Rattle.nl_field.specs.declared.shape.Shape.{Shape}
 use Rattle.nl_flight.specs.Flight.{carried, renamed_pointer}
 use Rattle.nl_flight.proofs.Carried.{renames as carried-renames}
-use Rattle.nl_holders.specs.Lists.{Renames}
-use Rattle.nl_holders.proofs.Lists.{behind_map, renames_at, renames_map}
+use Rattle.nl_spec_holders.specs.Lists.{Renames}
+use Rattle.nl_spec_holders.proofs.Lists.{behind_map, renames_at, renames_map}
 use Rattle.nl_iface.specs.Holders.{plain, tagged, times, wants, wants_tagged}
 use Rattle.nl_indirect.proofs.Cases.{to-some}
 use Rattle.nl_meta.specs.Committed.{VirtualMap}

@@ -1,7 +1,7 @@
 -- What a call does to the pages in memory.
 use Rattle.nl_iface.specs.declared.counts.Counts.{Ghosts}
 use Rattle.nl_meta.proofs.PageProofs.{loaded}
-use Rattle.nl_running.proofs.Kept.{loads-on}
+use Rattle.nl_meta_running.proofs.Kept.{loads-on}
 use Rattle.nl_handler.specs.Laws.{HandlerChangesPages}
 use Rattle.nl_handler.specs.declared.answer.Handled.TheVariants as handled
 

@@ -4,9 +4,9 @@ use Rattle.std.specs.Prelude.{⊤}
 use Rattle.nl_iface.specs.Calls.{OnlyReads}
 use Rattle.nl_iface.specs.Counting.{FailuresCounted}
 use Rattle.nl_iface.specs.declared.counts.Counts.{Ghosts}
-use Rattle.nl_running.specs.Reading.{Reads}
-use Rattle.nl_running.specs.declared.answer.Stop.{Stop}
-use Rattle.nl_running.specs.declared.answer.Stop.TheVariants as stop
+use Rattle.nl_meta_running.specs.Reading.{Reads}
+use Rattle.nl_meta_running.specs.declared.answer.Stop.{Stop}
+use Rattle.nl_meta_running.specs.declared.answer.Stop.TheVariants as stop
 
 pub reads-over : {D : Type 0} (g : Ghosts D) (s t u : D) → OnlyReads g s t → g.read_faults t ≡ g.read_faults s → (o : Option Stop) → Reads g t u o → Reads g s u o
 reads-over g s t u reads same None h = h ∙ same

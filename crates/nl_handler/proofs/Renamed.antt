@@ -33,7 +33,7 @@ use Rattle.nl_meta.specs.SlotLaws.{ChangesSlot, with_slot}
 use Rattle.nl_meta.specs.Steps.{with_dirty}
 use Rattle.nl_meta.proofs.Lists.{none_some, some_in}
 use Rattle.nl_meta.proofs.SlotProofs.{one_slot}
-use Rattle.nl_running.specs.FileLaws.{ChangesFile, IsRight}
+use Rattle.nl_meta_running.specs.FileLaws.{ChangesFile, IsRight}
 use Rattle.nl_handler.specs.Changing.{IsAtHand, RenamesIn}
 use Rattle.nl_handler.specs.Handling.{TagsFile, page_holding}
 use Rattle.nl_handler.proofs.Rewritten.{Rewritten, over-same, over-there, resident}

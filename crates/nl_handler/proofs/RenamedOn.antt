@@ -21,12 +21,12 @@ use Rattle.nl_meta.specs.PointerLists.{ChangesPointer, tagged_by}
 use Rattle.nl_meta.specs.Running.{CleanIsStored, running_over}
 use Rattle.nl_meta.specs.Steps.{ChangesPages}
 use Rattle.nl_meta.proofs.PageProofs.{both, changed, loaded}
-use Rattle.nl_running.specs.FileLaws.{ChangesFile, IsRight}
-use Rattle.nl_running.specs.Running.{IsNeeded, Runs, RunsOn, running_on, stored_on}
-use Rattle.nl_running.proofs.FileChanges.{one_file_changes}
-use Rattle.nl_running.proofs.GraphStays.{graph-same}
-use Rattle.nl_running.proofs.Kept.{loads-on, runs-then}
-use Rattle.nl_running.proofs.SameNeeded.{addresses-right, entries-right, inode-address, node-to, nodes-right}
+use Rattle.nl_meta_running.specs.FileLaws.{ChangesFile, IsRight}
+use Rattle.nl_meta_running.specs.Running.{IsNeeded, Runs, RunsOn, running_on, stored_on}
+use Rattle.nl_meta_running.proofs.FileChanges.{one_file_changes}
+use Rattle.nl_meta_running.proofs.GraphStays.{graph-same}
+use Rattle.nl_meta_running.proofs.Kept.{loads-on, runs-then}
+use Rattle.nl_meta_running.proofs.SameNeeded.{addresses-right, entries-right, inode-address, node-to, nodes-right}
 use Rattle.nl_handler.specs.Changing.{IsAtHand, RenamesIn}
 use Rattle.nl_handler.specs.Handling.{HasTagged, RenamesOn, RenamesPointer, TagsFile, page_holding}
 use Rattle.nl_handler.proofs.Finding.{pointers-same}

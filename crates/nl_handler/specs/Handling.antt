@@ -18,10 +18,10 @@ use Rattle.nl_meta.specs.Nodes.{pointer_at, slots_of}
 use Rattle.nl_meta.specs.Pages.{Pages, has_room, page_of, with_address}
 use Rattle.nl_meta.specs.PointerLists.{ChangesPointer}
 use Rattle.nl_meta.specs.Steps.{ChangesPages}
-use Rattle.nl_running.specs.FileLaws.{ChangesFile}
-use Rattle.nl_running.specs.Running.{RunsOn, running_on}
-use Rattle.nl_running.specs.declared.answer.Stop.{Stop}
-use Rattle.nl_running.specs.declared.answer.Stop.TheVariants as stop
+use Rattle.nl_meta_running.specs.FileLaws.{ChangesFile}
+use Rattle.nl_meta_running.specs.Running.{RunsOn, running_on}
+use Rattle.nl_meta_running.specs.declared.answer.Stop.{Stop}
+use Rattle.nl_meta_running.specs.declared.answer.Stop.TheVariants as stop
 use Rattle.nl_handler.specs.declared.answer.Handled.{Handled}
 use Rattle.nl_handler.specs.declared.answer.Handled.TheVariants as handled
 

@@ -4,7 +4,7 @@ use Rattle.nl_field.specs.declared.pointer.Pointer.{Pointer}
 use Rattle.nl_field.specs.declared.pointer.Tag.{Tag}
 use Rattle.nl_field.specs.declared.shape.Shape.{Shape}
 use Rattle.nl_flight.specs.Flight.{InFlight, carried, renamed, renamed_pointer}
-use Rattle.nl_holders.specs.Lists.{Renames, SameBehind}
+use Rattle.nl_spec_holders.specs.Lists.{Renames, SameBehind}
 use Rattle.nl_iface.specs.Holders.{Holders, IsHeld, plain, tagged, times, wants, wants_tagged}
 use Rattle.nl_iface.specs.Names.{Has, IsTable, led}
 use Rattle.nl_iface.specs.declared.Callback.{Callback}
@@ -13,7 +13,7 @@ use Rattle.nl_meta.specs.Committed.{VirtualMap}
 use Rattle.nl_meta.specs.Pages.{Pages}
 use Rattle.nl_meta.specs.PointerLists.{tagged_in}
 use Rattle.nl_meta.specs.Steps.{ChangesPages}
-use Rattle.nl_running.specs.Running.{Runs, running_on}
+use Rattle.nl_meta_running.specs.Running.{Runs, running_on}
 use Rattle.nl_handler.specs.Handling.{HandlesStored, IsElsewhere, RenamesPointer}
 use Rattle.nl_handler.specs.declared.answer.Handled.{Handled}
 use Rattle.nl_handler.specs.declared.answer.Handled.TheVariants as handled

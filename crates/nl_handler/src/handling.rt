@@ -2,8 +2,8 @@ ghost use Rattle.std.specs.Prelude.{◌≡◌, ◌<◌, ◌⊎◌, true, map};
 ghost use Rattle.nl_field.specs.Live.{resolve};
 ghost use Rattle.nl_flight.specs.Flight.{has_stamp, renamed, renamed_pointer};
 ghost use Rattle.nl_iface.specs.Names.{Has};
-ghost use Rattle.nl_running.specs.Reading.{Reads};
-ghost use Rattle.nl_running.specs.Running.{Runs};
+ghost use Rattle.nl_meta_running.specs.Reading.{Reads};
+ghost use Rattle.nl_meta_running.specs.Running.{Runs};
 ghost use Rattle.nl_handler.specs.Handling.{HandlesStored, IsElsewhere, handled_stop, list_has};
 
 use crate::answer::Handled;

@@ -9,8 +9,8 @@ ghost use Rattle.nl_meta.specs.Committed.{VirtualMap};
 ghost use Rattle.nl_meta.specs.Nodes.{pointer_at};
 ghost use Rattle.nl_meta.specs.Pages.{has_room, page_of};
 ghost use Rattle.nl_meta.specs.Running.{running_over};
-ghost use Rattle.nl_running.specs.Reading.{Reads, stop_of};
-ghost use Rattle.nl_running.specs.Running.{Runs, RunsOn, running_on};
+ghost use Rattle.nl_meta_running.specs.Reading.{Reads, stop_of};
+ghost use Rattle.nl_meta_running.specs.Running.{Runs, RunsOn, running_on};
 ghost use Rattle.nl_handler.specs.Changing.{IsAtHand, RenamesIn};
 ghost use Rattle.nl_handler.specs.Handling.{HandlesStored, HasTagged, HoldsTagged, IsTagged, TagsFile, handled_stop, is_of, page_holding};
 
@@ -20,7 +20,7 @@ use nl_iface::{Callback, NamedPages};
 use nl_indirect::{INDEXES, lookup, page_address, store};
 use nl_inode::Nodes;
 use nl_meta::Meta;
-use nl_running::{Stop, hold};
+use nl_meta_running::{Stop, hold};
 
 /// The pointer of a callback's sequence number in the metadata gets a name. `Gone` also where the volume has no node of the tag's number.
 pub(crate) fn rename_stored<D: NamedPages>(

@@ -8,13 +8,13 @@ use Rattle.nl_field.specs.declared.inode.InodeRec.{InodeRec}
 use Rattle.nl_field.specs.declared.shape.Shape.{Shape}
 use Rattle.nl_meta.specs.Nodes.{graph_of}
 use Rattle.nl_meta.specs.Pages.{Pages}
-use Rattle.nl_running.specs.Reading.{Reads}
-use Rattle.nl_running.specs.Running.{IsNodeOf, IsUsed, Runs, RunsOn, running_on}
-use Rattle.nl_running.specs.declared.answer.Stop.{Stop}
-use Rattle.nl_running.specs.declared.answer.Stop.TheVariants as stop
-use Rattle.nl_running.proofs.GraphStays.{graph-same}
-use Rattle.nl_running.proofs.Holds.{bounds-of}
-use Rattle.nl_running.proofs.Kept.{kept-then, runs-then, used-back, used-on}
+use Rattle.nl_meta_running.specs.Reading.{Reads}
+use Rattle.nl_meta_running.specs.Running.{IsNodeOf, IsUsed, Runs, RunsOn, running_on}
+use Rattle.nl_meta_running.specs.declared.answer.Stop.{Stop}
+use Rattle.nl_meta_running.specs.declared.answer.Stop.TheVariants as stop
+use Rattle.nl_meta_running.proofs.GraphStays.{graph-same}
+use Rattle.nl_meta_running.proofs.Holds.{bounds-of}
+use Rattle.nl_meta_running.proofs.Kept.{kept-then, runs-then, used-back, used-on}
 
 module _ {D : Type 0} (g : Ghosts D) (s : D) (p : Pages) (t : D) (q : Pages) (shape : IsVolumeShape (g.shape s)) (on : RunsOn g s p t q) where
   pub then-runs : Runs g s p → Runs g t q

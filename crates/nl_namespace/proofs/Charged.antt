@@ -26,12 +26,12 @@ use Rattle.nl_meta.proofs.Facts.{EachTwo}
 use Rattle.nl_meta.proofs.Lists.{map-member, member-map, member-range, range-member}
 use Rattle.nl_meta.proofs.NodeProofs.{is_used, used_is, used_rise}
 use Rattle.nl_meta.proofs.Pairs.{mapped_two, range_rises, two_map}
-use Rattle.nl_sound.specs.RightFor.{ChargesOfPages}
-use Rattle.nl_sound.specs.Stands.{bytes_for}
-use Rattle.nl_sound.proofs.Counts.{no_longer}
-use Rattle.nl_sound.proofs.GraphOfPages.{graph}
-use Rattle.nl_sound.proofs.SoundProofs.{right_charges}
-use Rattle.nl_sound.proofs.Sums.{length_mapped}
+use Rattle.nl_spec_image.specs.RightFor.{ChargesOfPages}
+use Rattle.nl_spec_image.specs.Stands.{bytes_for}
+use Rattle.nl_spec_image.proofs.Counts.{no_longer}
+use Rattle.nl_spec_image.proofs.GraphOfPages.{graph}
+use Rattle.nl_spec_image.proofs.SoundProofs.{right_charges}
+use Rattle.nl_spec_image.proofs.Sums.{length_mapped}
 use Rattle.nl_namespace.specs.Entering.{HasFreeAddress}
 use Rattle.nl_namespace.specs.Standing.{HoldsTree}
 use Rattle.nl_namespace.proofs.Crowded.{all, crowded, listed, used}

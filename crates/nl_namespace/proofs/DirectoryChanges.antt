@@ -27,7 +27,7 @@ use Rattle.nl_dir.proofs.EntryLists.{some-of}
 use Rattle.nl_dir.proofs.LawProofs.{only_own_pages}
 use Rattle.nl_dir.proofs.PlaceFacts.{below-length, page-at}
 use Rattle.nl_field.specs.Inode.{inode_of}
-use Rattle.nl_running.proofs.SameNeeded.{slot-filled}
+use Rattle.nl_meta_running.proofs.SameNeeded.{slot-filled}
 use Rattle.nl_namespace.proofs.NodeChanges.{ChangesNode, Formed}
 
 -- The pages of directory d changed, and then its record.

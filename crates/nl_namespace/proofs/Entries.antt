@@ -11,10 +11,10 @@ use Rattle.nl_meta.specs.Nodes.{entry_named}
 use Rattle.nl_meta.specs.Pages.{Pages, page_of}
 use Rattle.nl_dir.proofs.LawProofs.{resident_is_running, right_is_directory}
 use Rattle.nl_namespace.specs.Holding.{HasEntries}
-use Rattle.nl_running.specs.Running.{IsNodeOf, Runs, RunsOn, running_on, stored_on}
+use Rattle.nl_meta_running.specs.Running.{IsNodeOf, Runs, RunsOn, running_on, stored_on}
 use Rattle.nl_namespace.specs.Stepping.{InDirectory}
-use Rattle.nl_running.proofs.Kept.{used-back}
-use Rattle.nl_running.proofs.SameNeeded.{own}
+use Rattle.nl_meta_running.proofs.Kept.{used-back}
+use Rattle.nl_meta_running.proofs.SameNeeded.{own}
 
 module _ {D : Type 0} (g : Ghosts D) (s : D) (p : Pages) (t : D) (q : Pages) (bounds : ShapeBounds (g.shape s)) (on : RunsOn g s p t q) (n : ℕ) (rec : InodeRec) (is : IsNodeOf g s p n rec) (dir : rec.kind ≡ Dir) where
   pub entries-held : Runs g s p → ((k : ℕ) → k < div_ceil rec.size 64 → IsSome (page_of q (get_or rec.addresses k 0))) → HasEntries g s p q rec

@@ -26,10 +26,10 @@ use Rattle.nl_meta.specs.Nodes.{body_of, bytes_of_place, entries_of_inode}
 use Rattle.nl_meta.proofs.Facts.{EachTwo}
 use Rattle.nl_meta.proofs.Lists.{filter-member, member-filter, member-map, member-range, none_some}
 use Rattle.nl_meta.proofs.Pairs.{itself, range_rises, somes_two, two_within}
-use Rattle.nl_sound.specs.Stands.{bytes_for}
-use Rattle.nl_sound.proofs.GraphOfPages.{NodeOf, graph, named_member, node_is, node_or_none}
-use Rattle.nl_sound.proofs.Sums.{length_mapped}
-use Rattle.nl_sound.proofs.TreeOfPages.{located, node_here, numbers_used, once, reached_nodes}
+use Rattle.nl_spec_image.specs.Stands.{bytes_for}
+use Rattle.nl_spec_image.proofs.GraphOfPages.{NodeOf, graph, named_member, node_is, node_or_none}
+use Rattle.nl_spec_image.proofs.Sums.{length_mapped}
+use Rattle.nl_spec_image.proofs.TreeOfPages.{located, node_here, numbers_used, once, reached_nodes}
 use Rattle.nl_namespace.proofs.TreeSums.{Path, child-is, count-sum, one}
 
 -- ---- lists

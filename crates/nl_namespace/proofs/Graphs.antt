@@ -19,7 +19,7 @@ use Rattle.nl_tree.specs.declared.reply.Refusal.TheVariants.{Enotdir}
 use Rattle.nl_tree.proofs.GraphProofs.{eq_name, name_eq, names_eq}
 use Rattle.nl_dir.proofs.ListProofs.{entries_by_lists}
 use Rattle.nl_namespace.specs.Paths.{onward, walk_refusal, within}
-use Rattle.nl_running.specs.Running.{IsNodeOf, IsUsed, Runs, running_on}
+use Rattle.nl_meta_running.specs.Running.{IsNodeOf, IsUsed, Runs, running_on}
 use Rattle.nl_namespace.specs.Stepping.{InDirectory}
 
 -- both tests of names are one

@@ -3,8 +3,8 @@ use Rattle.nl_iface.specs.Device.{IsVolumeShape}
 use Rattle.nl_iface.specs.declared.counts.Counts.{Ghosts}
 use Rattle.nl_meta.specs.Pages.{Pages}
 use Rattle.nl_meta.proofs.PageProofs.{loaded}
-use Rattle.nl_running.specs.Running.{RunsOn}
-use Rattle.nl_running.proofs.Kept.{loads-on}
+use Rattle.nl_meta_running.specs.Running.{RunsOn}
+use Rattle.nl_meta_running.proofs.Kept.{loads-on}
 use Rattle.nl_namespace.specs.LeavingLaws.{KeepsAround, NamesKeepAround}
 use Rattle.nl_namespace.specs.declared.answer.Change.TheVariants as change
 use Rattle.nl_namespace.proofs.PointersStay.{tagged-read}

@@ -21,9 +21,9 @@ use Rattle.nl_dir.specs.Directory.{HasRoomFor}
 use Rattle.nl_tree.specs.Calls.{AreNames}
 use Rattle.nl_tree.specs.Step.{is_too_long}
 use Rattle.nl_tree.specs.Tree.{is_root}
-use Rattle.nl_running.specs.Running.{IsNodeOf, Runs, RunsOn, running_on}
-use Rattle.nl_running.proofs.Holds.{bounds-of}
-use Rattle.nl_running.proofs.SameNeeded.{own}
+use Rattle.nl_meta_running.specs.Running.{IsNodeOf, Runs, RunsOn, running_on}
+use Rattle.nl_meta_running.proofs.Holds.{bounds-of}
+use Rattle.nl_meta_running.proofs.SameNeeded.{own}
 use Rattle.nl_namespace.specs.Changing.{Changes, FreeFits}
 use Rattle.nl_namespace.specs.Making.{FitsNew, HasSpare, MakesIn, empty_node}
 use Rattle.nl_namespace.specs.Naming.{MakesName}

@@ -22,10 +22,10 @@ use Rattle.nl_tree.specs.declared.reply.Refusal.TheVariants.{Eexist, Enametoolon
 use Rattle.nl_tree.specs.declared.reply.Space.{Space}
 use Rattle.nl_tree.proofs.ChangeProofs.{at_end}
 use Rattle.nl_meta.proofs.PageProofs.{both, loaded}
-use Rattle.nl_running.proofs.Kept.{loads-on}
-use Rattle.nl_running.specs.Running.{IsNodeOf, Runs, RunsOn, running_on, stored_on}
-use Rattle.nl_running.proofs.Holds.{bounds-of}
-use Rattle.nl_running.proofs.SameNeeded.{own}
+use Rattle.nl_meta_running.proofs.Kept.{loads-on}
+use Rattle.nl_meta_running.specs.Running.{IsNodeOf, Runs, RunsOn, running_on, stored_on}
+use Rattle.nl_meta_running.proofs.Holds.{bounds-of}
+use Rattle.nl_meta_running.proofs.SameNeeded.{own}
 use Rattle.nl_namespace.specs.Changing.{Changes, FreeFits, Leaves}
 use Rattle.nl_namespace.specs.Entering.{FreeAreNew, HasDirectory}
 use Rattle.nl_namespace.specs.Making.{FitsNew, HasSpare}

@@ -27,8 +27,8 @@ use Rattle.nl_tree.specs.GraphLaws.{AddsEntry, NamedOnce, entry_at}
 use Rattle.nl_tree.specs.Represents.{node_of}
 use Rattle.nl_tree.proofs.ChangeProofs.{graph_changes}
 use Rattle.nl_tree.proofs.GraphProofs.{eq_name, name_eq, names_eq}
-use Rattle.nl_running.specs.Running.{IsNeeded, IsNodeOf, Runs, running_on, stored_on}
-use Rattle.nl_running.proofs.Holds.{bounds-of, reads-none}
+use Rattle.nl_meta_running.specs.Running.{IsNeeded, IsNodeOf, Runs, running_on, stored_on}
+use Rattle.nl_meta_running.proofs.Holds.{bounds-of, reads-none}
 use Rattle.nl_namespace.specs.Changing.{Changes, FileStays, FreeFits}
 use Rattle.nl_namespace.specs.Making.{MakesIn, empty_node}
 use Rattle.nl_namespace.specs.Naming.{MakesName}

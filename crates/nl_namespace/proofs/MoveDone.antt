@@ -29,8 +29,8 @@ use Rattle.nl_tree.specs.declared.reply.Refusal.TheVariants.{Enotempty}
 use Rattle.nl_tree.proofs.ChangeProofs.{Ends, ends}
 use Rattle.nl_tree.proofs.GraphProofs.{from_back, from_turned_all, reached-append, tail_eq, turned-append, turned_onto}
 use Rattle.nl_tree.proofs.TreeProofs.{path_eq, under_parts}
-use Rattle.nl_running.specs.Running.{Runs, RunsOn, running_on, stored_on}
-use Rattle.nl_running.proofs.Holds.{bounds-of}
+use Rattle.nl_meta_running.specs.Running.{Runs, RunsOn, running_on, stored_on}
+use Rattle.nl_meta_running.proofs.Holds.{bounds-of}
 use Rattle.nl_namespace.specs.Changing.{Changes, FreeFits}
 use Rattle.nl_namespace.specs.Entering.{HasNamed, PutsIn, TakesOut}
 use Rattle.nl_namespace.specs.Finding.{FitsAfter, IsThere, MovesIn, place_of, renamed}

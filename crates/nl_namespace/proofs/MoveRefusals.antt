@@ -22,8 +22,8 @@ use Rattle.nl_tree.specs.declared.reply.Refusal.TheVariants.{Einval, Enametoolon
 use Rattle.nl_tree.specs.declared.reply.Space.{Space}
 use Rattle.nl_meta.proofs.Lists.{none_some}
 use Rattle.nl_meta.proofs.PageProofs.{loaded}
-use Rattle.nl_running.proofs.Kept.{loads-on}
-use Rattle.nl_running.specs.Running.{Runs, RunsOn, running_on}
+use Rattle.nl_meta_running.proofs.Kept.{loads-on}
+use Rattle.nl_meta_running.specs.Running.{Runs, RunsOn, running_on}
 use Rattle.nl_namespace.specs.Changing.{Changes, FreeFits}
 use Rattle.nl_namespace.specs.Finding.{IsThere, place_of}
 use Rattle.nl_namespace.specs.Moving.{CanTake, CannotTake, HasPlaceTo, LacksPlace, LacksRoomIn, MovesName, MovesOrStays, is_directory_body, refusal_of_place, refusal_of_rename, refusal_over, refusal_over_record}

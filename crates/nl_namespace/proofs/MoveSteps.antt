@@ -23,8 +23,8 @@ use Rattle.nl_tree.specs.GraphLaws.{NamedOnce, entry_at}
 use Rattle.nl_tree.specs.Tree.{is_at_or_under}
 use Rattle.nl_tree.proofs.GraphProofs.{one_path_to}
 use Rattle.nl_tree.proofs.TreeProofs.{under_append}
-use Rattle.nl_running.specs.Running.{IsNeeded, IsNodeOf, Runs, stored_on}
-use Rattle.nl_running.proofs.Holds.{bounds-of, reads-none}
+use Rattle.nl_meta_running.specs.Running.{IsNeeded, IsNodeOf, Runs, stored_on}
+use Rattle.nl_meta_running.proofs.Holds.{bounds-of, reads-none}
 use Rattle.nl_namespace.specs.Changing.{Changes, EntriesBut, FileStays}
 use Rattle.nl_namespace.specs.Entering.{PutsIn, TakesOut}
 use Rattle.nl_namespace.specs.Finding.{renamed}

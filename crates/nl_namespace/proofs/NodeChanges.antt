@@ -25,7 +25,7 @@ use Rattle.nl_dir.specs.AfterLaws.{HasAddress}
 use Rattle.nl_dir.specs.Directory.{IsDirectory}
 use Rattle.nl_dir.specs.DirectoryLaws.{OwnPages}
 use Rattle.nl_dir.proofs.LawProofs.{only_own_pages}
-use Rattle.nl_running.proofs.SameNeeded.{slot-filled}
+use Rattle.nl_meta_running.proofs.SameNeeded.{slot-filled}
 
 -- Nodes and addresses are right, and each directory is one.
 pub record Formed (shape : Shape) (pages : VirtualMap) : Type 0 where

@@ -9,9 +9,9 @@ use Rattle.nl_iface.specs.declared.counts.Counts.{Ghosts}
 use Rattle.nl_meta.specs.Nodes.{entry_named}
 use Rattle.nl_meta.specs.Pages.{Pages}
 use Rattle.nl_tree.specs.declared.reply.Refusal.TheVariants.{Enotdir}
-use Rattle.nl_running.specs.Running.{IsNodeOf, RunsOn, running_on}
-use Rattle.nl_running.proofs.Holds.{bounds-of}
-use Rattle.nl_running.proofs.SameNeeded.{own}
+use Rattle.nl_meta_running.specs.Running.{IsNodeOf, RunsOn, running_on}
+use Rattle.nl_meta_running.proofs.Holds.{bounds-of}
+use Rattle.nl_meta_running.proofs.SameNeeded.{own}
 use Rattle.nl_namespace.specs.Naming.{NameIn}
 use Rattle.nl_namespace.specs.Paths.{onward, walk_refusal}
 use Rattle.nl_namespace.specs.Placing.{EntersAt, IsHeld, IsParentAt, IsPlace}

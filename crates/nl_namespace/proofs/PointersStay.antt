@@ -17,7 +17,7 @@ use Rattle.nl_meta.specs.Pages.{Pages}
 use Rattle.nl_meta.specs.PointerLists.{tagged_in, with_tag}
 use Rattle.nl_tree.specs.Represents.{node_of}
 use Rattle.nl_tree.specs.Tree.{Node, directory, file}
-use Rattle.nl_running.specs.Running.{RunsOn, running_on}
+use Rattle.nl_meta_running.specs.Running.{RunsOn, running_on}
 use Rattle.nl_namespace.specs.Making.{empty_node}
 use Rattle.nl_namespace.proofs.Chains.{then-graph}
 

@@ -32,7 +32,7 @@ use Rattle.nl_dir.proofs.LawProofs.{changed_pages_run}
 use Rattle.nl_dir.proofs.PageProofs.{inserting_changes_pages}
 use Rattle.nl_dir.proofs.PlaceFacts.{below-length, one-dirtier, one-page}
 use Rattle.nl_dir.proofs.Records.{SpelledDir, new-address, none-fits, spelled-dir}
-use Rattle.nl_running.proofs.SameNeeded.{slot-filled}
+use Rattle.nl_meta_running.proofs.SameNeeded.{slot-filled}
 use Rattle.nl_tree.specs.GraphLaws.{entry_at}
 use Rattle.nl_namespace.specs.Entering.{PutsIn, Takes}
 use Rattle.nl_namespace.proofs.DirectoryChanges.{DirStep, IsNew, has-or-not, over-there}

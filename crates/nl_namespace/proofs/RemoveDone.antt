@@ -22,8 +22,8 @@ use Rattle.nl_tree.specs.Step.{first_of, is_too_long, when}
 use Rattle.nl_tree.specs.Tree.{is_root}
 use Rattle.nl_tree.specs.declared.reply.Refusal.{Refusal}
 use Rattle.nl_tree.specs.declared.reply.Refusal.TheVariants.{Enametoolong, Enoent, Enotempty}
-use Rattle.nl_running.specs.Running.{IsNodeOf, IsUsed, Runs, RunsOn, running_on}
-use Rattle.nl_running.proofs.Holds.{bounds-of}
+use Rattle.nl_meta_running.specs.Running.{IsNodeOf, IsUsed, Runs, RunsOn, running_on}
+use Rattle.nl_meta_running.proofs.Holds.{bounds-of}
 use Rattle.nl_namespace.specs.Changing.{Changes, FreeFits}
 use Rattle.nl_namespace.specs.Entering.{HasNamed, TakesOut}
 use Rattle.nl_namespace.specs.Naming.{LosesName, body_at, refusal_of_kind, refusal_of_record, refusal_of_removal, root_refusal}

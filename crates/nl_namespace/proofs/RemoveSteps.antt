@@ -32,8 +32,8 @@ use Rattle.nl_tree.specs.GraphLaws.{NamedOnce, entry_at}
 use Rattle.nl_tree.specs.Represents.{entries_in, node_named, node_of}
 use Rattle.nl_tree.proofs.ChangeProofs.{graph_changes}
 use Rattle.nl_tree.proofs.GraphProofs.{eq_name, name_eq, names_eq}
-use Rattle.nl_running.specs.Running.{IsNeeded, IsNodeOf, Runs, stored_on}
-use Rattle.nl_running.proofs.Holds.{bounds-of, reads-none}
+use Rattle.nl_meta_running.specs.Running.{IsNeeded, IsNodeOf, Runs, stored_on}
+use Rattle.nl_meta_running.proofs.Holds.{bounds-of, reads-none}
 use Rattle.nl_namespace.specs.Changing.{Changes, FreeFits}
 use Rattle.nl_namespace.specs.Entering.{TakesOut}
 use Rattle.nl_namespace.specs.Naming.{LosesName}

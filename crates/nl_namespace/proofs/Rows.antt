@@ -2,7 +2,7 @@
 use Rattle.std.proofs.Common.{◌≡◌, ℕ, ◌+◌, ◌<◌, List, get_or, IsSome, sym, subst, ◌⊎◌, inl, inr, arith}
 use Rattle.std.proofs.lemmas.Bool.{cases_eq}
 use Rattle.nl_meta.specs.Pages.{Pages, page_of}
-use Rattle.nl_running.specs.Holding.{HoldsPage}
+use Rattle.nl_meta_running.specs.Holding.{HoldsPage}
 
 -- one more
 pub rows-more : (xs : List ℕ) (k : ℕ) (old new : Pages) → HoldsPage (get_or xs k 0) old new → ((i : ℕ) → i < k → IsSome (page_of old (get_or xs i 0)))

@@ -22,7 +22,7 @@ use Rattle.nl_dir.specs.Directory.{IsDirectory, entry_at as entry_in_place, give
 use Rattle.nl_dir.proofs.AfterProofs.{addresses_of_changed, lists_removed}
 use Rattle.nl_dir.proofs.EntryLists.{named-at, position-at, some-of}
 use Rattle.nl_dir.proofs.Records.{SpelledDir, spelled-dir}
-use Rattle.nl_running.proofs.SameNeeded.{slot-filled}
+use Rattle.nl_meta_running.proofs.SameNeeded.{slot-filled}
 use Rattle.nl_tree.specs.GraphLaws.{entry_at}
 use Rattle.nl_namespace.specs.Entering.{Gives, TakesOut}
 use Rattle.nl_namespace.proofs.DirectoryChanges.{DirStep, IsNew}

@@ -15,11 +15,11 @@ use Rattle.nl_meta.specs.Committed.{VirtualMap}
 use Rattle.nl_meta.proofs.Lists.{some_in}
 use Rattle.nl_dir.specs.Directory.{IsDirectory}
 use Rattle.nl_dir.proofs.LawProofs.{entries_in_order, right_is_directory}
-use Rattle.nl_running.proofs.GraphStays.{graph-same}
-use Rattle.nl_running.proofs.SameNeeded.{entries-same}
+use Rattle.nl_meta_running.proofs.GraphStays.{graph-same}
+use Rattle.nl_meta_running.proofs.SameNeeded.{entries-same}
 use Rattle.nl_dir.proofs.ListProofs.{entries_by_lists}
 use Rattle.nl_namespace.specs.Listing.{kind_mark, mark_of, text_of}
-use Rattle.nl_running.specs.Running.{IsNodeOf, IsUsed, Runs, RunsOn, running_on}
+use Rattle.nl_meta_running.specs.Running.{IsNodeOf, IsUsed, Runs, RunsOn, running_on}
 use Rattle.nl_namespace.proofs.Graphs.{body-is, graph}
 
 -- entries of one name are one

@@ -27,9 +27,9 @@ use Rattle.nl_meta.specs.Committed.{VirtualMap}
 use Rattle.nl_meta.specs.Consistent.{PageOfStamp}
 use Rattle.nl_meta.proofs.Lists.{none_some, some_in}
 use Rattle.nl_inode.specs.Nodes.{Spaces}
-use Rattle.nl_sound.specs.Stands.{bytes_for}
-use Rattle.nl_sound.proofs.GraphOfPages.{graph, reached_is_node}
-use Rattle.nl_sound.proofs.TreeOfPages.{node_here, once}
+use Rattle.nl_spec_image.specs.Stands.{bytes_for}
+use Rattle.nl_spec_image.proofs.GraphOfPages.{graph, reached_is_node}
+use Rattle.nl_spec_image.proofs.TreeOfPages.{node_here, once}
 use Rattle.nl_namespace.specs.Calls.{ChangesInTree, IsStep}
 use Rattle.nl_namespace.specs.ChangeLaws.{StandsFor}
 use Rattle.nl_namespace.specs.Entering.{HasFreeAddress}

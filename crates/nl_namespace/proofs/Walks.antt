@@ -9,7 +9,7 @@ use Rattle.nl_meta.specs.Pages.{Pages}
 use Rattle.nl_tree.specs.Represents.{node_reached}
 use Rattle.nl_tree.specs.declared.reply.Refusal.TheVariants.{Enoent, Enotdir}
 use Rattle.nl_namespace.specs.Paths.{onward, walk_refusal}
-use Rattle.nl_running.specs.Running.{IsNodeOf}
+use Rattle.nl_meta_running.specs.Running.{IsNodeOf}
 use Rattle.nl_namespace.specs.Stepping.{InDirectory}
 use Rattle.nl_namespace.proofs.Graphs.{drop-all, drop-step, graph, reached-by, refused-by, refused-file}
 

@@ -9,7 +9,7 @@ use Rattle.nl_inode.specs.Nodes.{Spaces}
 use Rattle.nl_meta.specs.Committed.{VirtualMap}
 use Rattle.nl_meta.specs.Consistent.{PageOfStamp}
 use Rattle.nl_meta.specs.Nodes.{graph_of}
-use Rattle.nl_sound.specs.Stands.{bytes_for}
+use Rattle.nl_spec_image.specs.Stands.{bytes_for}
 use Rattle.nl_tree.specs.Calls.{AreNames}
 use Rattle.nl_tree.specs.Represents.{Represents}
 use Rattle.nl_tree.specs.Step.{paths_of, step}

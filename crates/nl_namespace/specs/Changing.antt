@@ -14,7 +14,7 @@ use Rattle.nl_meta.specs.Pages.{Pages, besides_0, page_of}
 use Rattle.nl_meta.specs.PointerLists.{tagged_in}
 use Rattle.nl_meta.specs.Running.{CleanIsStored}
 use Rattle.nl_meta.specs.Steps.{ChangesPages}
-use Rattle.nl_running.specs.Running.{IsNeeded, IsNodeOf, RunsOn, running_on, stored_on}
+use Rattle.nl_meta_running.specs.Running.{IsNeeded, IsNodeOf, RunsOn, running_on, stored_on}
 use Rattle.nl_namespace.specs.declared.answer.Change.{Change}
 use Rattle.nl_namespace.specs.declared.answer.Change.TheVariants as change
 

@@ -5,7 +5,7 @@ use Rattle.nl_iface.specs.declared.counts.Counts.{Ghosts}
 use Rattle.nl_meta.specs.Nodes.{graph_of}
 use Rattle.nl_meta.specs.Pages.{Pages}
 use Rattle.nl_inode.specs.Nodes.{Spaces}
-use Rattle.nl_running.specs.Running.{IsNodeOf, running_on}
+use Rattle.nl_meta_running.specs.Running.{IsNodeOf, running_on}
 use Rattle.nl_namespace.specs.Entering.{FitsBehind, PutsIn, TakesOut}
 use Rattle.nl_namespace.specs.Paths.{walk_refusal}
 use Rattle.nl_namespace.specs.Placing.{IsHeld, IsPlace}

@@ -6,7 +6,7 @@ use Rattle.nl_inode.specs.Nodes.{Spaces}
 use Rattle.nl_meta.specs.Pages.{Pages}
 use Rattle.nl_meta.specs.PointerLists.{tagged_in}
 use Rattle.nl_meta.specs.Steps.{ChangesPages}
-use Rattle.nl_running.specs.Running.{running_on}
+use Rattle.nl_meta_running.specs.Running.{running_on}
 use Rattle.nl_namespace.specs.Changing.{Leaves}
 use Rattle.nl_namespace.specs.declared.answer.Change.{Change}
 

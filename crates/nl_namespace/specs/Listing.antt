@@ -12,7 +12,7 @@ use Rattle.nl_field.specs.declared.inode.Kind.TheVariants.{Dir, File, Unused}
 use Rattle.nl_iface.specs.declared.counts.Counts.{Ghosts}
 use Rattle.nl_meta.specs.Nodes.{entries_of_inode, graph_of}
 use Rattle.nl_meta.specs.Pages.{Pages}
-use Rattle.nl_running.specs.Running.{IsNodeOf, running_on}
+use Rattle.nl_meta_running.specs.Running.{IsNodeOf, running_on}
 use Rattle.nl_namespace.specs.declared.answer.Listing.{Listing}
 use Rattle.nl_namespace.specs.declared.answer.Listing.TheVariants as listing
 

@@ -9,7 +9,7 @@ use Rattle.nl_meta.specs.Pages.{Pages, page_of}
 use Rattle.nl_namespace.specs.Holding.{HasEntries}
 use Rattle.nl_namespace.specs.Naming.{NameIn}
 use Rattle.nl_namespace.specs.Paths.{walk_refusal}
-use Rattle.nl_running.specs.Running.{IsNodeOf, IsUsed, running_on}
+use Rattle.nl_meta_running.specs.Running.{IsNodeOf, IsUsed, running_on}
 use Rattle.nl_namespace.specs.declared.place.Parent.{Parent}
 use Rattle.nl_namespace.specs.declared.place.Parent.TheVariants as parent
 use Rattle.nl_namespace.specs.declared.place.Place.{Place}

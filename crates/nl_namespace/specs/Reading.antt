@@ -6,8 +6,8 @@ use Rattle.nl_namespace.specs.declared.answer.Listing.{Listing}
 use Rattle.nl_namespace.specs.declared.answer.Listing.TheVariants as listing
 use Rattle.nl_namespace.specs.declared.answer.Look.{Look}
 use Rattle.nl_namespace.specs.declared.answer.Look.TheVariants as look
-use Rattle.nl_running.specs.declared.answer.Stop.{Stop}
-use Rattle.nl_running.specs.declared.answer.Stop.TheVariants as stop
+use Rattle.nl_meta_running.specs.declared.answer.Stop.{Stop}
+use Rattle.nl_meta_running.specs.declared.answer.Stop.TheVariants as stop
 
 abbrev pub look_stop : Look → Option Stop
 look_stop (look.At n) = None

@@ -5,7 +5,7 @@ use Rattle.nl_inode.specs.FreeLaws.{NodesAreFree, PoolIsFree}
 use Rattle.nl_inode.specs.Nodes.{Spaces}
 use Rattle.nl_meta.specs.Committed.{VirtualMap}
 use Rattle.nl_meta.specs.Consistent.{PageOfStamp, RightFor}
-use Rattle.nl_sound.specs.RightFor.{PagesRepresent}
+use Rattle.nl_spec_image.specs.RightFor.{PagesRepresent}
 use Rattle.nl_tree.specs.Charges.{data_charge}
 use Rattle.nl_tree.specs.Tree.{Tree}
 

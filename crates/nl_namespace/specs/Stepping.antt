@@ -6,7 +6,7 @@ use Rattle.nl_field.specs.declared.inode.Kind.TheVariants.{File, Dir}
 use Rattle.nl_iface.specs.declared.counts.Counts.{Ghosts}
 use Rattle.nl_meta.specs.Nodes.{entry_named}
 use Rattle.nl_meta.specs.Pages.{Pages}
-use Rattle.nl_running.specs.Running.{IsNodeOf, running_on}
+use Rattle.nl_meta_running.specs.Running.{IsNodeOf, running_on}
 use Rattle.nl_namespace.specs.declared.walk.Step.{Step}
 use Rattle.nl_namespace.specs.declared.walk.Step.TheVariants as step
 

@@ -3,8 +3,8 @@ ghost use Rattle.nl_meta.specs.Nodes.{graph_of};
 ghost use Rattle.nl_namespace.specs.Calls.{ChangesNames, HasNames, IsOfNames};
 ghost use Rattle.nl_namespace.specs.Changing.{FreeFits, Leaves};
 ghost use Rattle.nl_namespace.specs.Reading.{change_stop};
-ghost use Rattle.nl_running.specs.Reading.{Reads};
-ghost use Rattle.nl_running.specs.Running.{Runs, running_on};
+ghost use Rattle.nl_meta_running.specs.Reading.{Reads};
+ghost use Rattle.nl_meta_running.specs.Running.{Runs, running_on};
 
 use crate::answer::Change;
 use crate::making::make;

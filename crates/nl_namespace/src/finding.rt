@@ -1,14 +1,14 @@
 ghost use Rattle.std.specs.Prelude.{◌≡◌, ◌≢◌, [], IfOk};
 ghost use Rattle.nl_namespace.specs.Finding.{IfFound, IsFound};
-ghost use Rattle.nl_running.specs.Reading.{Reads, stop_of};
-ghost use Rattle.nl_running.specs.Running.{Runs, RunsOn};
+ghost use Rattle.nl_meta_running.specs.Reading.{Reads, stop_of};
+ghost use Rattle.nl_meta_running.specs.Running.{Runs, RunsOn};
 
 use crate::place::{Place, Spot, locate};
 use nl_field::{EntryRec, InodeRec};
 use nl_iface::VirtualPages;
 use nl_inode::Nodes;
 use nl_meta::Meta;
-use nl_running::{Stop, node};
+use nl_meta_running::{Stop, node};
 use nl_tree::{Path, Refusal};
 
 /// A name that stands in a directory: the directory and its record, the entry, and the record of the node that it names.

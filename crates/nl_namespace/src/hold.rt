@@ -1,12 +1,12 @@
 ghost use Rattle.std.specs.Prelude.{IfOk};
 ghost use Rattle.nl_namespace.specs.Holding.{HasEntries};
-ghost use Rattle.nl_running.specs.Reading.{Reads, stop_of};
-ghost use Rattle.nl_running.specs.Running.{IsDirectoryOf, Runs, RunsOn};
+ghost use Rattle.nl_meta_running.specs.Reading.{Reads, stop_of};
+ghost use Rattle.nl_meta_running.specs.Running.{IsDirectoryOf, Runs, RunsOn};
 
 use nl_field::InodeRec;
 use nl_iface::VirtualPages;
 use nl_meta::Meta;
-use nl_running::{Stop, hold};
+use nl_meta_running::{Stop, hold};
 
 /// The pages of a directory are resident.
 pub fn hold_entries<D: VirtualPages>(

@@ -23,7 +23,7 @@ pub use changing::change;
 pub use hold::hold_entries;
 pub use making::make;
 pub use names::list;
-pub use nl_running::Stop;
+pub use nl_meta_running::Stop;
 pub use removing::remove;
 pub use renaming::rename;
 pub use walk::look;

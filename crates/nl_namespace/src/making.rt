@@ -9,8 +9,8 @@ ghost use Rattle.nl_field.specs.Numbers.{max_name};
 ghost use Rattle.nl_namespace.specs.Naming.{MakesNode, refusal_of_name};
 ghost use Rattle.nl_namespace.specs.Placing.{IsHeld, IsPlace};
 ghost use Rattle.nl_namespace.specs.Reading.{change_stop};
-ghost use Rattle.nl_running.specs.Reading.{Reads};
-ghost use Rattle.nl_running.specs.Running.{Runs, running_on};
+ghost use Rattle.nl_meta_running.specs.Reading.{Reads};
+ghost use Rattle.nl_meta_running.specs.Running.{Runs, running_on};
 
 use crate::answer::Change;
 use crate::free::room_for;
@@ -20,7 +20,7 @@ use nl_field::Kind;
 use nl_iface::VirtualPages;
 use nl_inode::Nodes;
 use nl_meta::Meta;
-use nl_running::{Stop, hold};
+use nl_meta_running::{Stop, hold};
 use nl_tree::{Path, Refusal, is_long};
 
 /// Makes an empty directory, or an empty file, under a path. A refusal, a read that failed and a page that is lost leave all as it was.

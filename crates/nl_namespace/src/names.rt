@@ -3,8 +3,8 @@ ghost use Rattle.nl_field.specs.Numbers.{max_bytes};
 ghost use Rattle.nl_meta.specs.Nodes.{entries_of_inode, graph_of};
 ghost use Rattle.nl_namespace.specs.Listing.{IfListed, IsListing, ListsNames, PrintsPlace, kind_mark};
 ghost use Rattle.nl_namespace.specs.Reading.{listing_stop};
-ghost use Rattle.nl_running.specs.Reading.{Reads, stop_of};
-ghost use Rattle.nl_running.specs.Running.{IsDirectoryOf, IsDirectoryAt, Runs, RunsOn, running_on};
+ghost use Rattle.nl_meta_running.specs.Reading.{Reads, stop_of};
+ghost use Rattle.nl_meta_running.specs.Running.{IsDirectoryOf, IsDirectoryAt, Runs, RunsOn, running_on};
 
 use crate::answer::Listing;
 use crate::hold::hold_entries;
@@ -14,7 +14,7 @@ use nl_field::{EntryRec, InodeRec, Kind};
 use nl_iface::VirtualPages;
 use nl_inode::Nodes;
 use nl_meta::Meta;
-use nl_running::{Stop, node};
+use nl_meta_running::{Stop, node};
 use nl_tree::ReplyBuf;
 
 /// The names of a directory in the order of their bytes, each behind a space and with `/` behind a directory's. It takes no memory, and

@@ -1,7 +1,7 @@
 ghost use Rattle.std.specs.Prelude.{◌≡◌, ◌≢◌, [], IfOk};
 ghost use Rattle.nl_namespace.specs.Placing.{Enters, IfEntered, IfHeld, IsParent, IsSpot};
-ghost use Rattle.nl_running.specs.Reading.{Reads, stop_of};
-ghost use Rattle.nl_running.specs.Running.{IsUsed, Runs, RunsOn};
+ghost use Rattle.nl_meta_running.specs.Reading.{Reads, stop_of};
+ghost use Rattle.nl_meta_running.specs.Running.{IsUsed, Runs, RunsOn};
 
 use crate::hold::hold_entries;
 use crate::walk::{Step, follow};
@@ -10,7 +10,7 @@ use nl_field::{EntryRec, InodeRec, Kind};
 use nl_iface::VirtualPages;
 use nl_inode::Nodes;
 use nl_meta::Meta;
-use nl_running::{Stop, node};
+use nl_meta_running::{Stop, node};
 use nl_tree::{Path, Refusal};
 
 /// Where a name stands, or would stand: the directory and its record, and the entry of the name.

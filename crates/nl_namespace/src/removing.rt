@@ -6,8 +6,8 @@ ghost use Rattle.nl_namespace.specs.Changing.{FreeFits, Leaves};
 ghost use Rattle.nl_namespace.specs.Naming.{RemovesName, refusal_of_record, root_refusal};
 ghost use Rattle.nl_namespace.specs.Placing.{IsHeld, IsPlace};
 ghost use Rattle.nl_namespace.specs.Reading.{change_stop};
-ghost use Rattle.nl_running.specs.Reading.{Reads};
-ghost use Rattle.nl_running.specs.Running.{Runs, running_on};
+ghost use Rattle.nl_meta_running.specs.Reading.{Reads};
+ghost use Rattle.nl_meta_running.specs.Running.{Runs, running_on};
 
 use crate::answer::Change;
 use crate::entering::take_out;
@@ -16,7 +16,7 @@ use nl_field::{EntryRec, InodeRec, Kind};
 use nl_iface::VirtualPages;
 use nl_inode::Nodes;
 use nl_meta::Meta;
-use nl_running::{Stop, node};
+use nl_meta_running::{Stop, node};
 use nl_tree::{Path, Refusal, is_long};
 
 /// Takes its name from a file, or from an empty directory: the node at a path that is of that kind. Its record and its pages stay as they

@@ -9,8 +9,8 @@ ghost use Rattle.nl_namespace.specs.Finding.{FitsAfter, IsThere, MovesIn};
 ghost use Rattle.nl_namespace.specs.Moving.{AreAllowed, CanTake, LacksRoomIn, RenamesName, refusal_over_record};
 ghost use Rattle.nl_namespace.specs.Placing.{IsHeld};
 ghost use Rattle.nl_namespace.specs.Reading.{change_stop};
-ghost use Rattle.nl_running.specs.Reading.{Reads};
-ghost use Rattle.nl_running.specs.Running.{Runs, running_on};
+ghost use Rattle.nl_meta_running.specs.Reading.{Reads};
+ghost use Rattle.nl_meta_running.specs.Running.{Runs, running_on};
 ghost use Rattle.nl_field.specs.declared.inode.Kind.TheVariants.{Dir};
 
 use crate::answer::Change;
@@ -23,7 +23,7 @@ use nl_field::{EntryRec, InodeRec, Kind, Name};
 use nl_iface::VirtualPages;
 use nl_inode::Nodes;
 use nl_meta::Meta;
-use nl_running::Stop;
+use nl_meta_running::Stop;
 use nl_tree::{Path, Refusal, Space, is_long};
 
 /// Gives a file or a directory, with all that is under it, another path. A file, or an empty directory, that stood there loses its name,

@@ -2,9 +2,9 @@ ghost use Rattle.std.specs.Prelude.{◌≡◌, IfOk};
 ghost use Rattle.nl_meta.specs.Nodes.{graph_of};
 ghost use Rattle.nl_namespace.specs.Paths.{IfAt, Looks};
 ghost use Rattle.nl_namespace.specs.Reading.{look_stop};
-ghost use Rattle.nl_running.specs.Running.{IsUsed, Runs, RunsOn, running_on};
+ghost use Rattle.nl_meta_running.specs.Running.{IsUsed, Runs, RunsOn, running_on};
 ghost use Rattle.nl_namespace.specs.Stepping.{Steps};
-ghost use Rattle.nl_running.specs.Reading.{Reads, stop_of};
+ghost use Rattle.nl_meta_running.specs.Reading.{Reads, stop_of};
 
 use crate::answer::Look;
 use crate::hold::hold_entries;
@@ -13,7 +13,7 @@ use nl_field::Kind;
 use nl_iface::VirtualPages;
 use nl_inode::Nodes;
 use nl_meta::Meta;
-use nl_running::{Stop, node};
+use nl_meta_running::{Stop, node};
 use nl_tree::{Path, Refusal};
 
 /// What a name leads to in a node.

@@ -13,12 +13,12 @@ use Rattle.nl_pseg.specs.Segment.{Physical, IsNext, IsNextCopy, held_at, soiled,
 use Rattle.nl_pseg.specs.Seen.{HasPhases, IsFormed, IsNamed, IsTied, seen}
 use Rattle.nl_pseg.specs.Space.{dead_in, gain_of, left_of}
 use Rattle.nl_pseg.specs.Steps.{IsReadied, IsTargeted, aimed_at}
-use Rattle.nl_uses.specs.Uses.{Use, use_in, Restated, SameMarks, SameNumbers, SameUse}
+use Rattle.nl_pseg_blocks.specs.Uses.{Use, use_in, Restated, SameMarks, SameNumbers, SameUse}
 use Rattle.nl_pseg.specs.declared.held.Held.{Held}
 use Rattle.nl_pseg.specs.Kept.{Kept}
 use Rattle.nl_pseg.proofs.Numbers.{block_of}
 use Rattle.nl_pseg.proofs.Rows.{dead_here, num, sum_same, waiting_same, waiting_used, waits}
-use Rattle.nl_uses.proofs.Tables.{has_same}
+use Rattle.nl_pseg_blocks.proofs.Tables.{has_same}
 use Rattle.nl_pseg.proofs.Taken.{free_other}
 use Rattle.nl_pseg.proofs.Tied.{back, named_on}
 use Rattle.std.proofs.lemmas.Nat.{mod-mul-add}

@@ -11,11 +11,11 @@ use Rattle.nl_pseg.specs.Cleaning.{Begins}
 use Rattle.nl_pseg.specs.Segment.{row_in, soiled, wear_with}
 use Rattle.nl_pseg.specs.Seen.{row_of, seen}
 use Rattle.nl_pseg.specs.Space.{HasFewPairs, gain_of}
-use Rattle.nl_uses.specs.Uses.{Use, use_of, SameUse}
+use Rattle.nl_pseg_blocks.specs.Uses.{Use, use_of, SameUse}
 use Rattle.nl_pseg.specs.Kept.{Kept}
 use Rattle.nl_pseg.proofs.Numbers.{block_from}
 use Rattle.nl_pseg.proofs.Rows.{dead_few, dead_here, sum_map, to_gain, waiting_used}
-use Rattle.nl_uses.proofs.Tables.{has_same}
+use Rattle.nl_pseg_blocks.proofs.Tables.{has_same}
 
 -- so many pairs are seen
 pub told_length : (pairs : List Link) → length (told pairs) ≡ length pairs

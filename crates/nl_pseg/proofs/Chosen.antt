@@ -7,9 +7,9 @@ use Rattle.nl_blocks.specs.declared.states.BlockState.TheVariants.{Active, Retir
 use Rattle.nl_blocks.specs.Table.{Table, HasBlock, block_at}
 use Rattle.nl_pseg.specs.Segment.{IsNext, IsNextCopy}
 use Rattle.nl_pseg.specs.Seen.{IsTied, seen}
-use Rattle.nl_uses.specs.Uses.{Use, use_in, SameUse}
+use Rattle.nl_pseg_blocks.specs.Uses.{Use, use_in, SameUse}
 use Rattle.nl_pseg.specs.Kept.{Kept}
-use Rattle.nl_uses.proofs.Tables.{has_same}
+use Rattle.nl_pseg_blocks.proofs.Tables.{has_same}
 use Rattle.nl_pseg.proofs.Tied.{back, named_on}
 
 module _ (s : Kept) (tied : IsTied s) (none : s.victim ≡ None) (t : Table) (same : SameUse s.blocks t) (block : ℕ) (has_block : HasBlock s.blocks block) (sealed : (block_at s.blocks block).state ≡ Sealed)

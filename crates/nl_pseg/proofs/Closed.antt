@@ -10,10 +10,10 @@ use Rattle.nl_pseg.specs.Kept.{Kept, kept}
 use Rattle.nl_pseg.specs.Segment.{IsNext, TakenAsErased}
 use Rattle.nl_pseg.specs.Seen.{IsFormed, IsTied, seen}
 use Rattle.nl_pseg.specs.Steps.{IsIdle}
-use Rattle.nl_uses.specs.Uses.{Restated, SameFill, SameFillBeside, SameNumbers, SameUse, Uses}
+use Rattle.nl_pseg_blocks.specs.Uses.{Restated, SameFill, SameFillBeside, SameNumbers, SameUse, Uses}
 use Rattle.nl_pseg.specs.declared.state.State.{State}
 use Rattle.nl_pseg.proofs.States.{next_block}
-use Rattle.nl_uses.proofs.Tables.{IsShut, has_same, numbers_then, shut_sealed}
+use Rattle.nl_pseg_blocks.proofs.Tables.{IsShut, has_same, numbers_then, shut_sealed}
 
 -- the same with numbers that are equal
 pub as_counted : (s : Kept) (u f : ℕ) → u ≡ s.used → f ≡ s.filled → s ≡ record s { used = u; filled = f }

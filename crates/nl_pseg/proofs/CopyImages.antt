@@ -5,9 +5,9 @@ use Rattle.std.proofs.lemmas.Option.{none-some}
 use Rattle.nl_field.specs.Page.{Image, Page, page_at}
 use Rattle.nl_nand.specs.Nand.{Cut}
 use Rattle.nl_pseg.specs.Effects.{Keeps}
-use Rattle.nl_owned.specs.Pages.{main_of, shown_by}
+use Rattle.nl_pseg_pages.specs.Pages.{main_of, shown_by}
 use Rattle.nl_pseg.specs.Segment.{HasSpare, InVictim, IsDead, IsNext, IsNextCopy, IsPhysicalOf, Physical, TakenAsErased, held_at, is_kept, is_soiled}
-use Rattle.nl_uses.specs.Uses.{Use}
+use Rattle.nl_pseg_blocks.specs.Uses.{Use}
 use Rattle.nl_pseg.specs.Seen.{IsFormed, IsTied, seen}
 use Rattle.nl_pseg.specs.Steps.{IsCopyUsed, IsLed, IsReadied}
 use Rattle.nl_pseg.specs.declared.held.Held.{Held}

@@ -11,7 +11,7 @@ use Rattle.nl_blocks.specs.Table.{page_at as page_in}
 use Rattle.nl_pseg.specs.Segment.{InSegment, IsNext, IsNextCopy, held_at, is_kept, soiled, wear_with}
 use Rattle.nl_pseg.specs.Seen.{AreMarked, ArePlaces, HasPhases, IsFormed, IsNamed, IsTied, seen}
 use Rattle.nl_pseg.specs.Steps.{IsCopyUsed}
-use Rattle.nl_uses.specs.Uses.{Use, use_at, is_kept_state, SameUse}
+use Rattle.nl_pseg_blocks.specs.Uses.{Use, use_at, is_kept_state, SameUse}
 use Rattle.nl_pseg.specs.declared.held.Held.{Held}
 use Rattle.nl_pseg.specs.Kept.{Kept}
 use Rattle.nl_pseg.proofs.Aimed.{dead_kept, left_over}
@@ -19,7 +19,7 @@ use Rattle.nl_pseg.proofs.Numbers.{block_of}
 use Rattle.nl_pseg.proofs.Rows.{waiting_used}
 use Rattle.nl_pseg.proofs.Segments.{place_same, set_held}
 use Rattle.nl_pseg.proofs.States.{block_segment, next_block, within_length}
-use Rattle.nl_uses.proofs.Tables.{has_same, use_here}
+use Rattle.nl_pseg_blocks.proofs.Tables.{has_same, use_here}
 use Rattle.nl_pseg.proofs.Tied.{back, named_on}
 
 -- the page that the next copy is programmed on

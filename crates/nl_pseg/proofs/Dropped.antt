@@ -10,15 +10,15 @@ use Rattle.nl_remap.specs.Table.{IsOld, IsRemap, place_of}
 use Rattle.nl_remap.specs.declared.links.Link.{Link}
 use Rattle.nl_remap.proofs.LinksProofs.{HasLink-remove_back}
 use Rattle.nl_remap.proofs.TableProofs.{IsOld-remove_back}
-use Rattle.nl_old_names.specs.OldNames.{NameTable, names_among}
+use Rattle.nl_pseg_names.specs.OldNames.{NameTable, names_among}
 use Rattle.nl_pseg.specs.Segment.{IsNext, IsNextCopy, held_at}
 use Rattle.nl_pseg.specs.Seen.{IsFormed, IsTied, seen}
-use Rattle.nl_uses.specs.Uses.{Use, use_in, SameMarks, SameNumbers}
+use Rattle.nl_pseg_blocks.specs.Uses.{Use, use_in, SameMarks, SameNumbers}
 use Rattle.nl_pseg.specs.declared.held.Held.{Held}
 use Rattle.nl_pseg.specs.Kept.{Kept}
 use Rattle.nl_pseg.proofs.Forms.{formed_table}
-use Rattle.nl_old_names.proofs.Named.{names_some, names_taken, old_within}
-use Rattle.nl_uses.proofs.Tables.{has_same, use_here}
+use Rattle.nl_pseg_names.proofs.Named.{names_some, names_taken, old_within}
+use Rattle.nl_pseg_blocks.proofs.Tables.{has_same, use_here}
 use Rattle.nl_pseg.proofs.Tied.{back}
 
 -- a block that waits is not Free

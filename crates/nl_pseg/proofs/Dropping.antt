@@ -10,7 +10,7 @@ use Rattle.nl_pseg.specs.Segment.{without_target}
 use Rattle.nl_pseg.specs.Seen.{IsFormed, IsTied, seen}
 use Rattle.nl_pseg.specs.Steps.{NamesGone}
 use Rattle.nl_pseg.specs.Kept.{Kept}
-use Rattle.nl_old_names.proofs.Named.{old_within}
+use Rattle.nl_pseg_names.proofs.Named.{old_within}
 
 pub record Dropping (target : ℕ) (first now : Kept) : Type 0 where
   pub formed : IsFormed now

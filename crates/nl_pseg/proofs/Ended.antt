@@ -4,7 +4,7 @@ use Rattle.std.proofs.lemmas.Bool.{cases_Bool, true≢false}
 use Rattle.std.proofs.lemmas.Option.{none-some}
 use Rattle.nl_field.specs.Page.{Image}
 use Rattle.nl_pseg.specs.Segment.{HasSpare, InSegment, IsClean, IsNext, IsPhysicalOf, IsUnspent, KeepsBlock, Physical, SameNames, SamePages, TakenAsErased, held_at, is_free, is_kept, is_soiled, is_waiting, room, soiled, without_target}
-use Rattle.nl_uses.specs.Uses.{use_at}
+use Rattle.nl_pseg_blocks.specs.Uses.{use_at}
 use Rattle.nl_pseg.specs.Space.{GivesBack, HasFewPairs, Lessens, gain_of, landing, left_of, reach, victims, waiting}
 use Rattle.nl_pseg.specs.Steps.{Ends, NamesGone}
 use Rattle.nl_pseg.specs.declared.held.Held.{Held}

@@ -12,7 +12,7 @@ use Rattle.nl_pseg.specs.Cleaning.{Erases, KeepsBeside}
 use Rattle.nl_pseg.specs.Copies.{ErasesIfDone, ErasesOn}
 use Rattle.nl_pseg.specs.Segment.{HasSpare, IsClean, IsNext, IsNextCopy, IsPhysicalOf, KeepsBlock, Physical, TakenAsErased, held_at, is_kept, is_soiled, soiled}
 use Rattle.nl_pseg.specs.Seen.{IsFormed, IsTied, seen}
-use Rattle.nl_uses.specs.Uses.{Use, is_kept_state}
+use Rattle.nl_pseg_blocks.specs.Uses.{Use, is_kept_state}
 use Rattle.nl_pseg.specs.declared.cleaned.Erasure.{Erasure}
 use Rattle.nl_pseg.specs.declared.cleaned.Erasure.TheVariants as the
 use Rattle.nl_pseg.specs.declared.held.Held.{Held}
@@ -20,7 +20,7 @@ use Rattle.nl_pseg.specs.Kept.{Kept}
 use Rattle.nl_pseg.proofs.Images.{shows_same}
 use Rattle.nl_pseg.proofs.Numbers.{block_of}
 use Rattle.nl_pseg.proofs.States.{kept_block, next_block}
-use Rattle.nl_uses.proofs.Tables.{use_here}
+use Rattle.nl_pseg_blocks.proofs.Tables.{use_here}
 use Rattle.nl_pseg.proofs.Tied.{not_copy}
 
 pub keeps_beside : (seg : Physical) (block g : ℕ) {old c : Image} → g ≡ seg.size → Cut (block * g) (block * g + g) erased old c → KeepsBeside seg block old c

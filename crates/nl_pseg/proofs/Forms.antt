@@ -8,11 +8,11 @@ use Rattle.nl_blocks.specs.Table.{Table, block_at, page_at}
 use Rattle.nl_pseg.specs.Segment.{IsNext, IsUnspent, SamePages, held_at, soiled, wear_with}
 use Rattle.nl_pseg.specs.Seen.{ArePlaces, IsFormed, seen, AreMarked, state_for}
 use Rattle.nl_pseg.specs.Steps.{SameRange}
-use Rattle.nl_uses.specs.Uses.{Use, use_in, SameNumbers, SameUse, Restated, IsMarked, SameMarks}
+use Rattle.nl_pseg_blocks.specs.Uses.{Use, use_in, SameNumbers, SameUse, Restated, IsMarked, SameMarks}
 use Rattle.nl_pseg.specs.declared.held.Held.{Held}
 use Rattle.nl_pseg.specs.Kept.{Kept}
 use Rattle.nl_pseg.proofs.Segments.{place_same}
-use Rattle.nl_uses.proofs.Tables.{has_same, page_back}
+use Rattle.nl_pseg_blocks.proofs.Tables.{has_same, page_back}
 
 -- the table has the same numbers
 module _ (s : Kept) (is : IsFormed s) (t : Table) (n : SameNumbers s.blocks t) where

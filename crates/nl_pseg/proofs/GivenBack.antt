@@ -6,12 +6,12 @@ use Rattle.nl_blocks.specs.declared.states.BlockState.{BlockState}
 use Rattle.nl_blocks.specs.Table.{BlockRow, HasBlock, is_free_state, row_at}
 use Rattle.nl_blocks.specs.Table.{is_free as is_free_row}
 use Rattle.nl_pseg.specs.Segment.{Physical, erasures, is_free, soiled}
-use Rattle.nl_uses.specs.Uses.{Use}
+use Rattle.nl_pseg_blocks.specs.Uses.{Use}
 use Rattle.nl_pseg.specs.Seen.{IsFormed, IsTied, seen}
 use Rattle.nl_pseg.specs.Opened.{GivesAllBack}
 use Rattle.nl_pseg.specs.Steps.{AllFree, AreGivenBack, IsGivenBack}
 use Rattle.nl_pseg.specs.Kept.{Kept}
-use Rattle.nl_uses.proofs.Tables.{free_kept, use_here}
+use Rattle.nl_pseg_blocks.proofs.Tables.{free_kept, use_here}
 
 pub given_none : (seg : Physical) → AreGivenBack seg.first seg seg
 given_none seg = record {

@@ -9,12 +9,12 @@ use Rattle.nl_blocks.specs.Table.{BlockRow, Table, is_free, is_free_state}
 use Rattle.nl_remap.specs.Links.{link_at, no_link}
 use Rattle.nl_remap.specs.Table.{IsOld, told}
 use Rattle.nl_remap.specs.declared.links.Link.{Link}
-use Rattle.nl_old_names.specs.OldNames.{NameTable}
+use Rattle.nl_pseg_names.specs.OldNames.{NameTable}
 use Rattle.nl_pseg.specs.Seen.{seen}
 use Rattle.nl_pseg.specs.Steps.{NamesGone}
-use Rattle.nl_uses.specs.Uses.{Use, no_use, is_kept_state, use_in, use_of, SameNumbers}
+use Rattle.nl_pseg_blocks.specs.Uses.{Use, no_use, is_kept_state, use_in, use_of, SameNumbers}
 use Rattle.nl_pseg.specs.Kept.{Kept}
-use Rattle.nl_uses.proofs.Tables.{free_kept, use_from}
+use Rattle.nl_pseg_blocks.proofs.Tables.{free_kept, use_from}
 
 abbrev num : Bool → ℕ
 num b = cond b 1 0

@@ -12,7 +12,7 @@ use Rattle.nl_remap.specs.Table.{pair}
 use Rattle.nl_remap.specs.declared.links.Link.{Link}
 use Rattle.nl_pseg.specs.Segment.{InVictim, KeepsBlock, held_at, is_kept}
 use Rattle.nl_pseg.specs.Seen.{IsFormed, IsTied, seen}
-use Rattle.nl_uses.specs.Uses.{Use, no_use, use_of}
+use Rattle.nl_pseg_blocks.specs.Uses.{Use, no_use, use_of}
 use Rattle.nl_pseg.specs.Space.{HasFewPairs, HasPages, IsWhole, dead_pages, gain_of, left_of, live_in, victims, waiting}
 use Rattle.nl_pseg.specs.declared.held.Held.{Held}
 use Rattle.nl_pseg.specs.Kept.{Kept}
@@ -24,7 +24,7 @@ use Rattle.nl_pseg.proofs.Runs.{dead_is, dead_seen, run, run_all, run_plus}
 use Rattle.nl_pseg.proofs.Segments.{kept_within}
 use Rattle.nl_pseg.proofs.States.{block_segment, taken_segment}
 use Rattle.nl_pseg.proofs.Sums.{active_is, all_covered, is_active, is_target, one_of, some_of, target_is, waits_few}
-use Rattle.nl_uses.proofs.Tables.{use_from}
+use Rattle.nl_pseg_blocks.proofs.Tables.{use_from}
 use Rattle.nl_pseg.proofs.Tied.{copy_target, old_is}
 
 abbrev num : Bool → ℕ

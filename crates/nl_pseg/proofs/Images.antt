@@ -13,9 +13,9 @@ use Rattle.nl_nand.proofs.Crashes.{leaves_cut, leaves_done, operation_turns}
 use Rattle.nl_nand.specs.ImageLaws.{filled_cut}
 use Rattle.nl_pseg.specs.Effects.{Crashes, Keeps, Places, Takes}
 use Rattle.nl_pseg.specs.Answers.{IsPlaced, Names}
-use Rattle.nl_owned.specs.Pages.{IsUnreadable, main_of, page_with, shown_by}
+use Rattle.nl_pseg_pages.specs.Pages.{IsUnreadable, main_of, page_with, shown_by}
 use Rattle.nl_pseg.specs.Segment.{Physical, IsDead, IsNextCopy, IsOldName, IsPhysicalOf, IsUnspent, SamePages, TakenAsErased, held_at, is_kept, is_soiled, soiled, wear_of}
-use Rattle.nl_uses.specs.Uses.{Use}
+use Rattle.nl_pseg_blocks.specs.Uses.{Use}
 use Rattle.nl_pseg.specs.Seen.{ArePlaces}
 use Rattle.nl_pseg.specs.Steps.{IsAlone, IsOpened, IsUsed}
 use Rattle.nl_pseg.specs.declared.held.Held.{Held}

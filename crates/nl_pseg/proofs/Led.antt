@@ -19,22 +19,22 @@ use Rattle.nl_remap.specs.Links.{HasLink, link_at, no_link}
 use Rattle.nl_remap.specs.Table.{IsOld, IsRemap, led, led_on, pair, place_of}
 use Rattle.nl_remap.proofs.LinksProofs.{HasLink-insert_back, HasLink-insert_new}
 use Rattle.nl_remap.proofs.TableProofs.{IsOld-insert_back}
-use Rattle.nl_old_names.specs.OldNames.{NameTable, names_among}
+use Rattle.nl_pseg_names.specs.OldNames.{NameTable, names_among}
 use Rattle.nl_pseg.specs.Segment.{IsNext, IsNextCopy, IsOldName, held_at, soiled, wear_with}
 use Rattle.nl_pseg.specs.Seen.{IsFormed, IsNamed, IsStanding, IsTied, seen, state_for}
 use Rattle.nl_pseg.specs.Space.{gain_of}
 use Rattle.nl_pseg.specs.Steps.{IsLed}
-use Rattle.nl_uses.specs.Uses.{Use, use_in, IsMarked, SameUse}
+use Rattle.nl_pseg_blocks.specs.Uses.{Use, use_in, IsMarked, SameUse}
 use Rattle.nl_pseg.specs.declared.held.Held.{Held}
 use Rattle.nl_pseg.specs.Kept.{Kept}
 use Rattle.nl_pseg.proofs.Begun.{told_length}
 use Rattle.nl_pseg.proofs.Forms.{formed_page, use_places}
 use Rattle.nl_pseg.proofs.Left.{left_is, there_is}
-use Rattle.nl_old_names.proofs.Named.{names_added}
+use Rattle.nl_pseg_names.proofs.Named.{names_added}
 use Rattle.nl_pseg.proofs.Rows.{dead_here, num, waiting_used}
 use Rattle.nl_pseg.proofs.Segments.{ended_places, set_held}
 use Rattle.nl_pseg.proofs.States.{within_length}
-use Rattle.nl_uses.proofs.Tables.{has_same, use_here}
+use Rattle.nl_pseg_blocks.proofs.Tables.{has_same, use_here}
 use Rattle.nl_pseg.proofs.Tied.{back, old_is, phases_same}
 
 -- a link of the pairs that were led on is one that was, or goes to the new page

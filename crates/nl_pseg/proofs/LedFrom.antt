@@ -14,21 +14,21 @@ use Rattle.nl_remap.specs.Table.{IsOld, IsRemap, led, led_on, pair, place_of}
 use Rattle.nl_remap.proofs.LinksProofs.{HasLink-insert_back, same_link}
 use Rattle.nl_remap.proofs.TableProofs.{IsOld-insert_back}
 use Rattle.nl_remap.proofs.Ways.{led_has, led_not}
-use Rattle.nl_old_names.specs.OldNames.{NameTable, names_among}
+use Rattle.nl_pseg_names.specs.OldNames.{NameTable, names_among}
 use Rattle.nl_pseg.specs.Segment.{IsNext, IsNextCopy, held_at}
 use Rattle.nl_pseg.specs.Seen.{HasPhases, IsFormed, IsNamed, IsStanding, IsTied, seen}
 use Rattle.nl_pseg.specs.Steps.{IsAside, IsIdle, LeadsFrom}
-use Rattle.nl_uses.specs.Uses.{Use, use_in, SameNumbers, aside_state}
+use Rattle.nl_pseg_blocks.specs.Uses.{Use, use_in, SameNumbers, aside_state}
 use Rattle.nl_pseg.specs.declared.held.Held.{Held}
 use Rattle.nl_pseg.specs.Kept.{Kept}
 use Rattle.nl_pseg.proofs.Dropped.{formed_names}
 use Rattle.nl_pseg.proofs.Gone.{old_told, told_old}
 use Rattle.nl_pseg.proofs.Led.{link_led, old_led}
-use Rattle.nl_old_names.proofs.Named.{names_added}
+use Rattle.nl_pseg_names.proofs.Named.{names_added}
 use Rattle.nl_pseg.proofs.Numbers.{block_of}
 use Rattle.nl_pseg.proofs.Served.{IsSet, idle_copy, idle_next, served_phases}
 use Rattle.nl_pseg.proofs.States.{kept_block}
-use Rattle.nl_uses.proofs.Tables.{free_kept, has_same, use_here}
+use Rattle.nl_pseg_blocks.proofs.Tables.{free_kept, has_same, use_here}
 use Rattle.nl_pseg.proofs.Tied.{back}
 
 abbrev num : Bool → ℕ

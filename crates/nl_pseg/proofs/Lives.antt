@@ -10,7 +10,7 @@ use Rattle.nl_blocks.proofs.UsedLaws.{used-kind}
 use Rattle.nl_pseg.specs.Kept.{kept}
 use Rattle.nl_pseg.specs.Segment.{held_at}
 use Rattle.nl_pseg.specs.Seen.{IsFormed, IsTied, seen}
-use Rattle.nl_uses.specs.Uses.{Uses}
+use Rattle.nl_pseg_blocks.specs.Uses.{Uses}
 use Rattle.nl_pseg.specs.declared.held.Held.{Held}
 use Rattle.nl_pseg.specs.declared.state.State.{State}
 use Rattle.nl_pseg.proofs.Closed.{as_counted, closed_by}

@@ -2,7 +2,7 @@
 use Rattle.std.proofs.Common.{◌≡◌, ⊎_elim, inr, ℕ, ◌/◌, List, None, Some, refl, sym, ◌∙◌, ap, subst}
 use Rattle.nl_field.specs.Page.{Image, page_at, written}
 use Rattle.nl_nand.specs.declared.answers.WriteAnswer.TheVariants as wrote
-use Rattle.nl_owned.specs.Pages.{main_of, page_with}
+use Rattle.nl_pseg_pages.specs.Pages.{main_of, page_with}
 use Rattle.nl_pseg.specs.Answers.{IfPlaced}
 use Rattle.nl_pseg.specs.Cleaning.{IfMoved, IsMoved, Moves, programmed_by}
 use Rattle.nl_pseg.specs.Copies.{CopiesOn, CopiesPage}

@@ -11,7 +11,7 @@ use Rattle.nl_nand.proofs.Crashes.{still, turns_later, weaken}
 use Rattle.nl_pseg.specs.Answers.{IsPlaced}
 use Rattle.nl_pseg.specs.Cleaning.{CountedMove, IfMoved, IsMoved, programmed_by}
 use Rattle.nl_pseg.specs.Effects.{Crashes, Keeps, Places, Programmed, Takes}
-use Rattle.nl_owned.specs.Pages.{page_with, shown_by}
+use Rattle.nl_pseg_pages.specs.Pages.{page_with, shown_by}
 use Rattle.nl_pseg.specs.Segment.{Physical, IsDead, is_free, is_soiled, wear_of}
 use Rattle.nl_pseg.specs.Steps.{IsAlone, IsReadied, ReadiedOn}
 use Rattle.nl_pseg.specs.declared.cleaned.Copied.{Copied}

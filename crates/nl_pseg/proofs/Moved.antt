@@ -4,7 +4,7 @@ use Rattle.std.proofs.lemmas.List.{set-get_or}
 use Rattle.nl_field.specs.Live.{resolve}
 use Rattle.nl_pseg.specs.Cleaning.{Moves, MovesNone}
 use Rattle.nl_pseg.specs.Segment.{InVictim, IsClean, IsDead, Physical, held_at, room}
-use Rattle.nl_uses.specs.Uses.{Use}
+use Rattle.nl_pseg_blocks.specs.Uses.{Use}
 use Rattle.nl_pseg.specs.Space.{HasFewPairs, HasRoomForVictim, landing, reach, victims, waiting}
 use Rattle.nl_pseg.specs.Steps.{IsCopyUsed, IsLed, IsReadied}
 use Rattle.nl_pseg.specs.declared.held.Held.{Held}

@@ -12,10 +12,10 @@ use Rattle.nl_blocks.specs.declared.states.BlockState.TheVariants as the
 use Rattle.nl_blocks.specs.Table.{BlockRow, HasBlock, Table, block_at, free_count, is_dead, is_free, new_row, new_table, new_page, no_row, page_at}
 use Rattle.nl_remap.specs.Links.{HasLink}
 use Rattle.nl_remap.specs.Table.{IsOld, IsRemap, told}
-use Rattle.nl_old_names.specs.OldNames.{NameTable}
+use Rattle.nl_pseg_names.specs.OldNames.{NameTable}
 use Rattle.nl_pseg.specs.Segment.{InSegment, KeepsBlock, TakenAsErased, room}
 use Rattle.nl_pseg.specs.Seen.{IsFormed, IsTied, new_segment, row_of, seen, state_for}
-use Rattle.nl_uses.specs.Uses.{Use, no_use, use_at, use_of, use_with}
+use Rattle.nl_pseg_blocks.specs.Uses.{Use, no_use, use_at, use_of, use_with}
 use Rattle.nl_pseg.specs.declared.held.Held.{Held}
 use Rattle.nl_pseg.specs.Kept.{Kept}
 use Rattle.nl_pseg.proofs.Numbers.{in_block, block_below}
@@ -23,7 +23,7 @@ use Rattle.nl_field.specs.Numbers.{ShapeBounds}
 use Rattle.nl_pseg.proofs.Shapes.{few_pages, some_pages, two_blocks}
 use Rattle.nl_blocks.specs.Used.{is_active_state, is_target_state, used_in}
 use Rattle.nl_blocks.proofs.UsedLaws.{used-full}
-use Rattle.nl_uses.proofs.Tables.{use_before, use_from}
+use Rattle.nl_pseg_blocks.proofs.Tables.{use_before, use_from}
 
 all_free : (count size : ℕ) → count_by is_free (replicate count (new_row size)) ≡ count
 all_free zero size = refl

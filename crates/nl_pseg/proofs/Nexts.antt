@@ -5,7 +5,7 @@ use Rattle.nl_blocks.specs.Table.{Table, block_at}
 use Rattle.nl_blocks.specs.Used.{is_active_state, is_target_state, used_in}
 use Rattle.nl_pseg.specs.Kept.{kept}
 use Rattle.nl_pseg.specs.Seen.{IsFormed, IsTied, seen}
-use Rattle.nl_uses.specs.Uses.{Uses}
+use Rattle.nl_pseg_blocks.specs.Uses.{Uses}
 use Rattle.nl_pseg.specs.declared.state.State.{State}
 use Rattle.nl_pseg.proofs.Closed.{shut_used}
 use Rattle.nl_pseg.proofs.Numbers.{block_of}

@@ -7,10 +7,10 @@ use Rattle.nl_blocks.specs.Table.{BlockRow, Table, HasBlock, row_at, is_free, fr
 use Rattle.nl_pseg.specs.Segment.{Physical, KeepsBlock, wear_of}
 use Rattle.nl_pseg.specs.Seen.{IsFormed, seen}
 use Rattle.nl_pseg.specs.Steps.{IsOpened, opened_at}
-use Rattle.nl_uses.specs.Uses.{Use, use_in, use_of, use_with, Restated}
+use Rattle.nl_pseg_blocks.specs.Uses.{Use, use_in, use_of, use_with, Restated}
 use Rattle.nl_pseg.specs.Kept.{Kept}
 use Rattle.nl_pseg.proofs.Numbers.{block_of}
-use Rattle.nl_uses.proofs.Tables.{free_kept, use_here}
+use Rattle.nl_pseg_blocks.proofs.Tables.{free_kept, use_here}
 use Rattle.nl_pseg.proofs.Wearing.{taken_wear, taken_counts}
 
 abbrev num : Bool → ℕ

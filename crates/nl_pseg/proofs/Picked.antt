@@ -8,11 +8,11 @@ use Rattle.nl_blocks.specs.Table.{BlockRow, HasBlock, block_at, dead_count, is_s
 use Rattle.nl_victim.specs.Victims.{IsColdest, IsLevel, IsMostDead, IsSealed}
 use Rattle.nl_pseg.specs.Cleaning.{IsChosen, NoneChosen}
 use Rattle.nl_pseg.specs.Segment.{Row, is_sealed, erasures}
-use Rattle.nl_uses.specs.Uses.{Use}
+use Rattle.nl_pseg_blocks.specs.Uses.{Use}
 use Rattle.nl_pseg.specs.Seen.{row_of, seen}
 use Rattle.nl_pseg.specs.Kept.{Kept}
 use Rattle.nl_pseg.proofs.Rows.{dead_here, known_here, sum_map, to_gain}
-use Rattle.nl_uses.proofs.Tables.{use_here}
+use Rattle.nl_pseg_blocks.proofs.Tables.{use_here}
 
 pub if_some : {A : Type 0} (o : Option A) {P Q : A → Type 0} → ((x : A) → P x → Q x) → IfSome o P → IfSome o Q
 if_some None by is = is

@@ -13,9 +13,9 @@ use Rattle.nl_nand.specs.declared.answers.WriteAnswer.TheVariants as wrote
 use Rattle.nl_nand.proofs.Crashes.{turns_later, weaken}
 use Rattle.nl_pseg.specs.Answers.{IfPlaced, IsPlaced}
 use Rattle.nl_pseg.specs.Effects.{Crashes, Keeps, Places, Programmed, Takes}
-use Rattle.nl_owned.specs.Pages.{page_with, shown_by}
+use Rattle.nl_pseg_pages.specs.Pages.{page_with, shown_by}
 use Rattle.nl_pseg.specs.Segment.{Physical, IsClean, IsDead, IsNext, IsSpent, is_waiting, IsPhysicalOf, KeepsBlock, SameNames, SamePages, held_at, is_free, is_kept, is_soiled, room, soiled, wear_of}
-use Rattle.nl_uses.specs.Uses.{Use}
+use Rattle.nl_pseg_blocks.specs.Uses.{Use}
 use Rattle.nl_pseg.specs.Steps.{IsAlone, IsOpened, IsUsed, Opening, OpeningOn, Placing}
 use Rattle.nl_pseg.specs.Writes.{ProgramsOn, WritesOn}
 use Rattle.nl_pseg.specs.declared.held.Held.{Held}

@@ -8,7 +8,7 @@ use Rattle.nl_blocks.specs.Table.{Table, HasBlock}
 use Rattle.nl_pseg.specs.Segment.{Physical, IsNext, IsPhysicalOf, TakenAsErased, held_at, is_kept, is_soiled}
 use Rattle.nl_pseg.specs.Seen.{IsFormed, seen}
 use Rattle.nl_pseg.specs.Steps.{IsReadied, aimed_at}
-use Rattle.nl_uses.specs.Uses.{Use, use_in, Restated, SameUse}
+use Rattle.nl_pseg_blocks.specs.Uses.{Use, use_in, Restated, SameUse}
 use Rattle.nl_pseg.specs.declared.held.Held.{Held}
 use Rattle.nl_pseg.specs.Kept.{Kept}
 use Rattle.nl_pseg.proofs.Forms.{formed_restated, same_pages, same_unspent}
@@ -16,7 +16,7 @@ use Rattle.nl_pseg.proofs.Images.{shows_same}
 use Rattle.nl_pseg.proofs.Numbers.{block_of}
 use Rattle.nl_pseg.proofs.Segments.{unspent_taken}
 use Rattle.nl_pseg.proofs.States.{next_block}
-use Rattle.nl_uses.proofs.Tables.{free_kept}
+use Rattle.nl_pseg_blocks.proofs.Tables.{free_kept}
 use Rattle.nl_pseg.proofs.Taken.{free_other}
 
 -- a block takes copies already

@@ -10,18 +10,18 @@ use Rattle.nl_blocks.specs.Table.{BlockRow, Table, HasBlock, IsTable, after_eras
 use Rattle.nl_blocks.proofs.TableLaws.{block_at-with_block_other, block_at-with_block_same, sum_by-with_block}
 use Rattle.nl_remap.specs.Table.{IsOld}
 use Rattle.nl_pseg.specs.Cleaning.{Erases}
-use Rattle.nl_old_names.specs.OldNames.{names_among}
+use Rattle.nl_pseg_names.specs.OldNames.{names_among}
 use Rattle.nl_pseg.specs.Segment.{held_at, row_in}
 use Rattle.nl_pseg.specs.Seen.{HasPhases, IsFormed, IsNamed, IsTied, row_of, seen}
 use Rattle.nl_pseg.specs.Space.{gain_of, left_of}
-use Rattle.nl_uses.specs.Uses.{Use, is_kept_state, use_in, use_of, SameFill, SameMarks, SameNumbers}
+use Rattle.nl_pseg_blocks.specs.Uses.{Use, is_kept_state, use_in, use_of, SameFill, SameMarks, SameNumbers}
 use Rattle.nl_pseg.specs.Kept.{Kept}
 use Rattle.nl_pseg.proofs.Forms.{formed_marks, formed_table}
 use Rattle.nl_pseg.proofs.Left.{none_live}
-use Rattle.nl_old_names.proofs.Named.{names_some}
+use Rattle.nl_pseg_names.proofs.Named.{names_some}
 use Rattle.nl_pseg.proofs.Numbers.{block_from}
 use Rattle.nl_pseg.proofs.Rows.{dead_here, num, sum_map, waits}
-use Rattle.nl_uses.proofs.Tables.{fill_shut, has_same, row_here, same_marks, shut_after, shut_risen, shut_victim, use_here, use_other, with_has}
+use Rattle.nl_pseg_blocks.proofs.Tables.{fill_shut, has_same, row_here, same_marks, shut_after, shut_risen, shut_victim, use_here, use_other, with_has}
 use Rattle.nl_pseg.proofs.Tied.{back, old_is}
 
 kept_after : (n : ℕ) → is_kept_state (after_erase n) ≡ true

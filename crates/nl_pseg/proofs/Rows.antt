@@ -8,8 +8,8 @@ use Rattle.nl_blocks.specs.Table.{no_row as no_block}
 use Rattle.nl_blocks.proofs.TableProofs.{row_size}
 use Rattle.nl_pseg.specs.Segment.{Row, no_row, row_in}
 use Rattle.nl_pseg.specs.Seen.{row_of}
-use Rattle.nl_uses.specs.Uses.{Use, no_use, use_in, use_of, SameNumbers, SameUse}
-use Rattle.nl_uses.proofs.Tables.{use_from}
+use Rattle.nl_pseg_blocks.specs.Uses.{Use, no_use, use_in, use_of, SameNumbers, SameUse}
+use Rattle.nl_pseg_blocks.proofs.Tables.{use_from}
 
 abbrev pub num : Bool → ℕ
 num b = cond b 1 0

@@ -5,12 +5,12 @@ use Rattle.std.proofs.lemmas.List.{get_or-set_same, get_or-set_other, get_or_pas
 use Rattle.std.proofs.lemmas.Option.{none-some, same_Some}
 use Rattle.nl_field.specs.Spelling.{is_stamp}
 use Rattle.nl_pseg.specs.Segment.{Physical, IsNext, IsNextCopy, InSegment, IsUnspent, SamePages, TakenAsErased, held_at, is_kept, is_soiled, stamp_in, soiled}
-use Rattle.nl_uses.specs.Uses.{Use, no_use, use_at}
+use Rattle.nl_pseg_blocks.specs.Uses.{Use, no_use, use_at}
 use Rattle.nl_pseg.specs.Seen.{ArePlaces, IsPlace}
 use Rattle.nl_pseg.specs.Steps.{IsUsed, IsOpened, SameRange}
 use Rattle.nl_pseg.specs.declared.held.Held.{Held}
 use Rattle.nl_pseg.proofs.Numbers.{block_of}
-use Rattle.nl_uses.proofs.Tables.{use_from, use_before}
+use Rattle.nl_pseg_blocks.proofs.Tables.{use_from, use_before}
 
 -- a kept block is one of the segment
 pub kept_within : (first : ℕ) (uses : List Use) (block : ℕ) → (use_at first uses block).is_kept ≡ true → (first ≤ block) × (block < first + length uses)

@@ -10,11 +10,11 @@ use Rattle.nl_remap.specs.Table.{IsOld}
 use Rattle.nl_pseg.specs.Segment.{IsNext, IsNextCopy, held_at}
 use Rattle.nl_pseg.specs.Seen.{HasPhases, IsTied, seen}
 use Rattle.nl_pseg.specs.Steps.{IsIdle}
-use Rattle.nl_uses.specs.Uses.{Use, use_in, IsTold, SameNumbers, told_state}
+use Rattle.nl_pseg_blocks.specs.Uses.{Use, use_in, IsTold, SameNumbers, told_state}
 use Rattle.nl_pseg.specs.declared.held.Held.{Held}
 use Rattle.nl_pseg.specs.Kept.{Kept}
 use Rattle.nl_pseg.proofs.Numbers.{block_of}
-use Rattle.nl_uses.proofs.Tables.{has_same}
+use Rattle.nl_pseg_blocks.proofs.Tables.{has_same}
 use Rattle.nl_pseg.proofs.Tied.{back, named_on}
 
 module _ (s x : Kept) (block : ℕ) (i : IsIdle block s x) (n : SameNumbers s.blocks x.blocks) where

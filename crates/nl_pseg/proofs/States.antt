@@ -7,10 +7,10 @@ use Rattle.nl_blocks.specs.declared.states.BlockState.{BlockState}
 use Rattle.nl_blocks.specs.Table.{HasBlock}
 use Rattle.nl_pseg.specs.Segment.{IsNext, InSegment, KeptAreDead, TakenAsErased, is_kept}
 use Rattle.nl_pseg.specs.Seen.{IsFormed, seen}
-use Rattle.nl_uses.specs.Uses.{Use, no_use, use_at, is_kept_state, use_of}
+use Rattle.nl_pseg_blocks.specs.Uses.{Use, no_use, use_at, is_kept_state, use_of}
 use Rattle.nl_pseg.specs.Kept.{Kept}
 use Rattle.nl_pseg.proofs.Numbers.{in_block, block_of, block_below, block_from}
-use Rattle.nl_uses.proofs.Tables.{use_before, use_from, use_here}
+use Rattle.nl_pseg_blocks.proofs.Tables.{use_before, use_from, use_here}
 
 -- the pages of a block of the table are pages of the segment
 pub block_segment : (s : Kept) (block p : ℕ) → HasBlock s.blocks block → block * s.blocks.size ≤ p → p < block * s.blocks.size + s.blocks.size → InSegment (seen s) p

@@ -6,9 +6,9 @@ use Rattle.nl_blocks.specs.declared.states.BlockState.{BlockState}
 use Rattle.nl_blocks.specs.declared.states.BlockState.TheVariants as the
 use Rattle.nl_blocks.specs.Table.{BlockRow, dead_count, is_free, is_free_state, is_retired_state, is_sealed_state, row_at}
 use Rattle.nl_remap.specs.declared.links.Link.{Link}
-use Rattle.nl_old_names.specs.OldNames.{names_among}
+use Rattle.nl_pseg_names.specs.OldNames.{names_among}
 use Rattle.nl_pseg.specs.Seen.{row_of}
-use Rattle.nl_uses.specs.Uses.{is_kept_state, use_of}
+use Rattle.nl_pseg_blocks.specs.Uses.{is_kept_state, use_of}
 use Rattle.nl_pseg.specs.declared.held.Held.{Held}
 use Rattle.nl_pseg.proofs.Gone.{waits}
 use Rattle.nl_pseg.proofs.Runs.{run, run_plus}

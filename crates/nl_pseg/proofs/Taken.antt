@@ -8,10 +8,10 @@ use Rattle.nl_blocks.specs.Table.{Table, HasBlock, block_at, is_free_state}
 use Rattle.nl_pseg.specs.Segment.{IsNext, IsNextCopy}
 use Rattle.nl_pseg.specs.Seen.{HasPhases, IsNamed, IsTied, seen}
 use Rattle.nl_pseg.specs.Steps.{IsTaking}
-use Rattle.nl_uses.specs.Uses.{Use, use_in, SameUse}
+use Rattle.nl_pseg_blocks.specs.Uses.{Use, use_in, SameUse}
 use Rattle.nl_pseg.specs.Kept.{Kept}
 use Rattle.nl_pseg.proofs.Numbers.{block_of}
-use Rattle.nl_uses.proofs.Tables.{has_same, use_here}
+use Rattle.nl_pseg_blocks.proofs.Tables.{has_same, use_here}
 use Rattle.nl_pseg.proofs.Tied.{back, named_on}
 
 -- the state of a Free block

@@ -6,10 +6,10 @@ use Rattle.nl_blocks.specs.Used.{SameUsed, is_active_state, is_target_state, use
 use Rattle.nl_blocks.proofs.UsedLaws.{used-full}
 use Rattle.nl_pseg.specs.Kept.{Kept, kept}
 use Rattle.nl_pseg.specs.Seen.{IsFormed, IsTied}
-use Rattle.nl_uses.specs.Uses.{Use, use_in, Restated, SameFill, SameNumbers}
+use Rattle.nl_pseg_blocks.specs.Uses.{Use, use_in, Restated, SameFill, SameNumbers}
 use Rattle.nl_pseg.specs.declared.state.State.{State}
 use Rattle.nl_pseg.proofs.Closed.{as_counted, closed_by, same_counted}
-use Rattle.nl_uses.proofs.Tables.{has_same, shut_free}
+use Rattle.nl_pseg_blocks.proofs.Tables.{has_same, shut_free}
 use Rattle.nl_pseg.proofs.Taken.{state_free}
 
 -- what holds of no page

@@ -10,16 +10,16 @@ use Rattle.nl_blocks.specs.Table.{Table, HasBlock, block_at, is_free_state}
 use Rattle.nl_remap.specs.Links.{HasLink, link_at, no_link}
 use Rattle.nl_remap.specs.Table.{IsOld, IsRemap, pair}
 use Rattle.nl_remap.specs.declared.links.Link.{Link}
-use Rattle.nl_old_names.specs.OldNames.{NameTable, names_among}
+use Rattle.nl_pseg_names.specs.OldNames.{NameTable, names_among}
 use Rattle.nl_pseg.specs.Segment.{IsNext, IsNextCopy, IsOldName, held_at, is_free}
 use Rattle.nl_pseg.specs.Seen.{HasPhases, IsFormed, IsNamed, IsStanding, IsTied, seen}
-use Rattle.nl_uses.specs.Uses.{Use, use_in, SameNumbers, SameUse}
+use Rattle.nl_pseg_blocks.specs.Uses.{Use, use_in, SameNumbers, SameUse}
 use Rattle.nl_pseg.specs.declared.held.Held.{Held}
 use Rattle.nl_pseg.specs.Kept.{Kept}
 use Rattle.nl_pseg.proofs.Numbers.{block_of}
 use Rattle.nl_pseg.proofs.Segments.{set_held}
 use Rattle.nl_pseg.proofs.States.{next_block}
-use Rattle.nl_uses.proofs.Tables.{has_same, use_here}
+use Rattle.nl_pseg_blocks.proofs.Tables.{has_same, use_here}
 
 pub back : {a b : Table} → SameNumbers a b → SameNumbers b a
 back n = record { same_first = sym n.same_first; same_size = sym n.same_size; same_count = sym n.same_count }

@@ -8,12 +8,12 @@ use Rattle.nl_blocks.specs.declared.states.BlockState.TheVariants.{Active, Seale
 use Rattle.nl_blocks.specs.Table.{Table, HasBlock, block_at}
 use Rattle.nl_pseg.specs.Segment.{IsNext, IsNextCopy, held_at}
 use Rattle.nl_pseg.specs.Seen.{HasPhases, IsFormed, IsNamed, IsTied, seen}
-use Rattle.nl_uses.specs.Uses.{Use, use_at, SameUse}
+use Rattle.nl_pseg_blocks.specs.Uses.{Use, use_at, SameUse}
 use Rattle.nl_pseg.specs.declared.held.Held.{Held}
 use Rattle.nl_pseg.specs.Kept.{Kept}
 use Rattle.nl_pseg.proofs.Segments.{dead_next, set_held}
 use Rattle.nl_pseg.proofs.States.{is_next}
-use Rattle.nl_uses.proofs.Tables.{has_same}
+use Rattle.nl_pseg_blocks.proofs.Tables.{has_same}
 use Rattle.nl_pseg.proofs.Tied.{back, named_on, next_copy}
 
 module _ (s : Kept) (is : IsFormed s) (tied : IsTied s) (room : s.used < s.blocks.size) (t : Table) (same : SameUse s.blocks t) (page : ℕ) (at : page ≡ s.active * s.blocks.size + s.used) (x : Option Held)

@@ -3,11 +3,11 @@ use Rattle.std.proofs.Common.{◌≡◌, ⊎_elim, ℕ, suc, ◌+◌, ◌-◌, �
 use Rattle.std.proofs.lemmas.Bool.{cases_Bool, true≢false}
 use Rattle.std.proofs.lemmas.List.Sums.{get_or-le-sum_by, sum_by-cons}
 use Rattle.nl_pseg.specs.Segment.{Physical, is_free, is_kept, is_waiting}
-use Rattle.nl_uses.specs.Uses.{Use, no_use, use_at}
+use Rattle.nl_pseg_blocks.specs.Uses.{Use, no_use, use_at}
 use Rattle.nl_pseg.specs.Space.{waiting}
 use Rattle.nl_pseg.proofs.Gone.{waits}
 use Rattle.nl_pseg.proofs.Segments.{kept_within}
-use Rattle.nl_uses.proofs.Tables.{use_from}
+use Rattle.nl_pseg_blocks.proofs.Tables.{use_from}
 
 abbrev num : Bool → ℕ
 num b = cond b 1 0

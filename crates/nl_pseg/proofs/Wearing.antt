@@ -5,9 +5,9 @@ use Rattle.std.proofs.lemmas.List.{get_or-set_other}
 use Rattle.nl_blocks.specs.Table.{Table, worn}
 use Rattle.nl_pseg.specs.Segment.{CountsErases, Physical, erasures, is_free, is_soiled, soiled, wear_of, wear_with}
 use Rattle.nl_pseg.specs.Seen.{seen}
-use Rattle.nl_uses.specs.Uses.{Use, use_at, use_in, Restated}
+use Rattle.nl_pseg_blocks.specs.Uses.{Use, use_at, use_in, Restated}
 use Rattle.nl_pseg.specs.Kept.{Kept}
-use Rattle.nl_uses.proofs.Tables.{free_kept, restated_again}
+use Rattle.nl_pseg_blocks.proofs.Tables.{free_kept, restated_again}
 
 -- a block in use
 pub wear_used : (u : Use) (told : Option ℕ) → u.is_kept ≡ false → wear_with u told ≡ u.wear

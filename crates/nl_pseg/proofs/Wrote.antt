@@ -10,9 +10,9 @@ use Rattle.nl_field.specs.declared.pointer.Tag.{Tag}
 use Rattle.nl_blocks.specs.Table.{IsTable}
 use Rattle.nl_pseg.specs.Answers.{IfPlaced}
 use Rattle.nl_pseg.specs.Effects.{Crashes}
-use Rattle.nl_owned.specs.Pages.{shown_by}
+use Rattle.nl_pseg_pages.specs.Pages.{shown_by}
 use Rattle.nl_pseg.specs.Segment.{HasSpare, IsDead, IsNext, Physical, held_at, is_kept}
-use Rattle.nl_uses.specs.Uses.{Use}
+use Rattle.nl_pseg_blocks.specs.Uses.{Use}
 use Rattle.nl_pseg.specs.Seen.{IsFormed, IsTied, seen}
 use Rattle.nl_pseg.specs.Space.{HasFewPairs, HasRoomForVictim, IsWhole, SameCleaning, left_of, victims, waiting}
 use Rattle.nl_pseg.specs.Steps.{Placing}
@@ -24,7 +24,7 @@ use Rattle.nl_pseg.proofs.Holds.{holds_whole, kept_some}
 use Rattle.nl_pseg.proofs.Lefts.{gain_by, left_same}
 use Rattle.nl_pseg.proofs.Numbers.{block_from, block_of}
 use Rattle.nl_pseg.proofs.States.{next_in_use}
-use Rattle.nl_uses.proofs.Tables.{use_from}
+use Rattle.nl_pseg_blocks.proofs.Tables.{use_from}
 use Rattle.nl_pseg.proofs.Waits.{waiting_same}
 
 -- pages of the victim are as live as they were

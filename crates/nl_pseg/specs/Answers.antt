@@ -7,7 +7,7 @@ use Rattle.nl_field.specs.declared.answers.NamedRead.{NamedRead}
 use Rattle.nl_field.specs.declared.answers.NamedRead.TheVariants as read
 use Rattle.nl_field.specs.declared.pointer.Pointer.{Pointer}
 use Rattle.nl_field.specs.declared.pointer.Tag.{Tag}
-use Rattle.nl_owned.specs.Pages.{shown_by}
+use Rattle.nl_pseg_pages.specs.Pages.{shown_by}
 use Rattle.nl_pseg.specs.declared.held.Held.{Held}
 
 abbrev pub IfPlaced : Named → (Pointer → Type 0) → Type 0

@@ -7,7 +7,7 @@ use Rattle.nl_field.specs.Page.{Image, page_at}
 use Rattle.nl_field.specs.declared.answers.Named.{Named}
 use Rattle.nl_field.specs.declared.answers.Named.TheVariants as named
 use Rattle.nl_pseg.specs.Effects.{Crashes}
-use Rattle.nl_owned.specs.Pages.{IsUnreadable, main_of}
+use Rattle.nl_pseg_pages.specs.Pages.{IsUnreadable, main_of}
 use Rattle.nl_pseg.specs.Segment.{InVictim, IsDead, IsOldName, Physical, erasures, held_at, is_free, is_kept, is_sealed, is_waiting, room, soiled, wear_of, CountsErases}
 use Rattle.nl_pseg.specs.Space.{HasRoomForVictim, dead_in, dead_pages, landing, left_of, reach, victims, waiting}
 use Rattle.nl_pseg.specs.declared.cleaned.Copied.{Copied}

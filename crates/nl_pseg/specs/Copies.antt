@@ -2,7 +2,7 @@
 use Rattle.std.specs.Prelude.{◌≡◌, ℕ, ◌/◌, Some}
 use Rattle.nl_field.specs.CrashStates.{LeavesOnly}
 use Rattle.nl_field.specs.Page.{Image, page_at, written}
-use Rattle.nl_owned.specs.Pages.{main_of, page_with}
+use Rattle.nl_pseg_pages.specs.Pages.{main_of, page_with}
 use Rattle.nl_pseg.specs.Cleaning.{CrashesMove, Erases, IfMoved, IsMoved, KeepsBeside, Moves, MovesNone}
 use Rattle.nl_pseg.specs.Effects.{Programmed}
 use Rattle.nl_pseg.specs.Segment.{HasSpare, InVictim, IsClean, IsPhysicalOf, KeepsBlock, Physical, held_at, wear_of}

@@ -5,7 +5,7 @@ use Rattle.nl_field.specs.Page.{Image, Page, erased, written, page_at}
 use Rattle.nl_field.specs.declared.answers.Named.{Named}
 use Rattle.nl_field.specs.declared.pointer.Tag.{Tag}
 use Rattle.nl_pseg.specs.Answers.{IsPlaced, IsFault, Names}
-use Rattle.nl_owned.specs.Pages.{IsUnreadable, page_with, shown_by}
+use Rattle.nl_pseg_pages.specs.Pages.{IsUnreadable, page_with, shown_by}
 use Rattle.nl_pseg.specs.Segment.{Physical, IsDead, is_free, is_soiled, wear_of}
 
 -- The image keeps the segment: each page is as it was, or it is not live, and nothing is read from it. So each live page, and

@@ -3,7 +3,7 @@ use Rattle.std.specs.Prelude.{ℕ, Option, Vec}
 use Rattle.std.specs.Global.{Global}
 use Rattle.nl_blocks.specs.Table.{Table}
 use Rattle.nl_blocks.specs.Used.{is_active_state, is_target_state, used_in}
-use Rattle.nl_old_names.specs.OldNames.{NameTable}
+use Rattle.nl_pseg_names.specs.OldNames.{NameTable}
 use Rattle.nl_pseg.specs.declared.held.Held.{Held}
 use Rattle.nl_pseg.specs.declared.state.State.{State}
 

@@ -1,6 +1,6 @@
 pub mod Answers
 pub mod Effects
-pub use Rattle.nl_owned.specs.Pages
+pub use Rattle.nl_pseg_pages.specs.Pages
 pub mod Segment
 pub mod Space
 pub mod Cleaning

@@ -1,7 +1,7 @@
 -- What the steps of a move do, by their answer.
 use Rattle.std.specs.Prelude.{◌≡◌, ℕ, ◌/◌}
 use Rattle.nl_field.specs.Page.{Image, page_at, written}
-use Rattle.nl_owned.specs.Pages.{main_of, page_with}
+use Rattle.nl_pseg_pages.specs.Pages.{main_of, page_with}
 use Rattle.nl_pseg.specs.Cleaning.{IfMoved, IsMoved, Moves, MovesNone, programmed_by}
 use Rattle.nl_pseg.specs.Effects.{Crashes, Programmed}
 use Rattle.nl_pseg.specs.Kept.{Kept}

@@ -10,9 +10,9 @@ use Rattle.nl_blocks.specs.Table.{BlockRow, Table, HasBlock, block_at, dead_coun
 use Rattle.nl_remap.specs.Links.{HasLink}
 use Rattle.nl_remap.specs.Table.{IsOld, IsRemap, told}
 use Rattle.nl_remap.specs.declared.links.Link.{Link}
-use Rattle.nl_old_names.specs.OldNames.{names_among}
+use Rattle.nl_pseg_names.specs.OldNames.{names_among}
 use Rattle.nl_pseg.specs.Segment.{Physical, Row, InSegment, IsNext, IsNextCopy, held_at}
-use Rattle.nl_uses.specs.Uses.{AreRising, use_at, use_of, use_with}
+use Rattle.nl_pseg_blocks.specs.Uses.{AreRising, use_at, use_of, use_with}
 use Rattle.nl_pseg.specs.declared.held.Held.{Held}
 use Rattle.nl_pseg.specs.Kept.{Kept}
 

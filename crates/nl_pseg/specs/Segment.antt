@@ -6,9 +6,9 @@ use Rattle.nl_blocks.specs.Table.{is_sealed_state, worn}
 use Rattle.nl_field.specs.Live.{resolve}
 use Rattle.nl_field.specs.Page.{Image, erased, page_at}
 use Rattle.nl_field.specs.declared.pointer.Pointer.{Pointer}
-use Rattle.nl_owned.specs.Pages.{shown_by, main_of}
+use Rattle.nl_pseg_pages.specs.Pages.{shown_by, main_of}
 use Rattle.nl_pseg.specs.declared.held.Held.{Held}
-use Rattle.nl_uses.specs.Uses.{Use, use_at}
+use Rattle.nl_pseg_blocks.specs.Uses.{Use, use_at}
 
 -- What cleaning knows of a block: what it is used for, and how many of its pages are not live.
 pub record Row : Type 0 where

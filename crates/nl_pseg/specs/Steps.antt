@@ -14,7 +14,7 @@ use Rattle.nl_pseg.specs.Effects.{Keeps}
 use Rattle.nl_pseg.specs.Segment.{InSegment, Physical, IsClean, IsDead, IsNext, IsNextCopy, IsPhysicalOf, IsReady, IsSpent, IsUnspent, KeepsBlock, SameNames, SamePages, TakenAsErased, erasures, is_free, is_kept, is_soiled, is_waiting, soiled, without_target, names_another_free, IsOldName, CountsErases}
 use Rattle.nl_pseg.specs.Space.{gain_of, landing, left_of, waiting}
 use Rattle.nl_pseg.specs.Seen.{IsTied}
-use Rattle.nl_uses.specs.Uses.{IsPut, Restated, aside_state, use_at, use_in}
+use Rattle.nl_pseg_blocks.specs.Uses.{IsPut, Restated, aside_state, use_at, use_in}
 use Rattle.nl_pseg.specs.declared.held.Held.{Held}
 use Rattle.nl_pseg.specs.Kept.{Kept}
 

@@ -3,7 +3,7 @@ use Rattle.std.specs.Prelude.{◌≡◌, ◌⊎◌, ℕ, ◌+◌, ◌/◌, ◌�
 use Rattle.nl_field.specs.Page.{Image, written}
 use Rattle.nl_field.specs.declared.answers.Named.{Named}
 use Rattle.nl_field.specs.declared.pointer.Tag.{Tag}
-use Rattle.nl_owned.specs.Pages.{page_with}
+use Rattle.nl_pseg_pages.specs.Pages.{page_with}
 use Rattle.nl_pseg.specs.Answers.{IfPlaced, IsFault, IsPlaced, is_placed}
 use Rattle.nl_pseg.specs.Effects.{Crashes, Programmed}
 use Rattle.nl_pseg.specs.Segment.{Physical, IsClean, IsDead, IsPhysicalOf, IsReady, IsSpent, IsUnspent, KeepsBlock, SamePages, CountsErases, room, wear_of, without_target}

@@ -9,7 +9,7 @@ ghost use Rattle.nl_pseg.specs.Space.{HasFewPairs, IsWhole};
 
 use crate::state::State;
 use nl_blocks::BlockState;
-use nl_uses::choose;
+use nl_pseg_blocks::choose;
 use nl_victim::{coldest, most_dead};
 
 impl State {

@@ -6,7 +6,7 @@ ghost use Rattle.nl_field.specs.Spelling.{is_stamp};
 ghost use Rattle.nl_nand.specs.Nand.{FaultsCounted};
 ghost use Rattle.nl_blocks.specs.Table.{HasBlock, IsTable, block_at};
 ghost use Rattle.nl_blocks.specs.Used.{is_target_state, used_in};
-ghost use Rattle.nl_owned.specs.Pages.{shown_by};
+ghost use Rattle.nl_pseg_pages.specs.Pages.{shown_by};
 ghost use Rattle.nl_pseg.specs.Cleaning.{CountedMove, IsMoved, programmed_by};
 ghost use Rattle.nl_pseg.specs.Copies.{CopiesOn, CopiesPage};
 ghost use Rattle.nl_pseg.specs.Kept.{all_filled, kept};
@@ -24,8 +24,8 @@ use crate::state::State;
 use nl_blocks::BlockState;
 use nl_field::{NamedRead, PageBuf};
 use nl_nand::{Nand, WriteAnswer};
-use nl_owned::{program_page, read_page};
-use nl_uses::{give_back, mark, next_copy, seal_filled, take_target, wear_out};
+use nl_pseg_blocks::{give_back, mark, next_copy, seal_filled, take_target, wear_out};
+use nl_pseg_pages::{program_page, read_page};
 
 impl State {
     /// A live page of a block: the first one from the place on where the last one was found, or else the first one.

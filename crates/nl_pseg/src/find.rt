@@ -13,7 +13,7 @@ ghost use Rattle.nl_pseg.specs.Steps.{Ends};
 use crate::held::Held;
 use crate::state::State;
 use nl_field::Pointer;
-use nl_uses::mark;
+use nl_pseg_blocks::mark;
 
 impl State {
     /// What holds of each table of blocks.

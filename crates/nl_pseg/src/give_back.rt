@@ -7,7 +7,7 @@ ghost use Rattle.nl_pseg.specs.Seen.{seen, IsFormed, IsTied};
 ghost use Rattle.nl_pseg.specs.Steps.{AreGivenBack, IsGivenBack};
 
 use crate::state::State;
-use nl_uses::{give_back, is_free};
+use nl_pseg_blocks::{give_back, is_free};
 
 impl State {
     /// The block is Free. Where it was in use, it is erased before use.

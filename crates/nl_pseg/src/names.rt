@@ -10,7 +10,7 @@ ghost use Rattle.nl_pseg.specs.Steps.{NamesGone};
 
 use crate::state::State;
 use nl_blocks::BlockState;
-use nl_uses::end_name;
+use nl_pseg_blocks::end_name;
 
 impl State {
     /// The page to which the name leads.

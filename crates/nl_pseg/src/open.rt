@@ -11,7 +11,7 @@ ghost use Rattle.nl_pseg.specs.Steps.{IsAside, LeadsFrom, Loads};
 use crate::held::Held;
 use crate::state::State;
 use nl_field::{Pointer, Tag};
-use nl_uses::{mark, set_aside, shut, tell};
+use nl_pseg_blocks::{mark, set_aside, shut, tell};
 
 impl State {
     /// The page holds what the pointer and the owner say.

@@ -10,7 +10,7 @@ ghost use Rattle.nl_pseg.specs.Seen.{seen, Fits, IsFormed};
 use crate::state::State;
 use nl_field::{NamedRead, PageBuf, Pointer, Tag};
 use nl_nand::Nand;
-use nl_owned::read_page;
+use nl_pseg_pages::read_page;
 
 impl State {
     pub fn read<M: Nand>(

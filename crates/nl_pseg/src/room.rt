@@ -12,7 +12,7 @@ ghost use Rattle.nl_pseg.specs.declared.held.Held.{Held as HeldOf};
 use crate::state::State;
 use nl_blocks::BlockState;
 use nl_nand::{Nand, WriteAnswer};
-use nl_uses::{give_back, next_page, take, wear_out};
+use nl_pseg_blocks::{give_back, next_page, take, wear_out};
 
 impl State {
     /// Whether a page can be programmed for a new name.

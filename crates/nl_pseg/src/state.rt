@@ -9,8 +9,8 @@ ghost use Rattle.nl_pseg.specs.Steps.{IsUsed};
 use crate::held::{Held, no_marks, no_pages};
 use nl_blocks::{BlockState, Blocks};
 use nl_field::{Memory, PageBuf, Shape};
-use nl_old_names::OldNames;
-use nl_uses::{mark, seal_full};
+use nl_pseg_blocks::{mark, seal_full};
+use nl_pseg_names::OldNames;
 use std::alloc::Global;
 
 /// What a segment keeps.

@@ -13,8 +13,8 @@ use crate::held::Held;
 use crate::state::State;
 use nl_field::{Named, PageBuf, Pointer, Tag};
 use nl_nand::{Nand, WriteAnswer};
-use nl_owned::program_page;
-use nl_uses::next_page;
+use nl_pseg_blocks::next_page;
+use nl_pseg_pages::program_page;
 
 impl State {
     /// Programs the next page of the block that is written to.

@@ -25,8 +25,8 @@ use Rattle.nl_meta.specs.Running.{CleanIsStored, or_stored, running_over}
 use Rattle.nl_meta.specs.Walk.{walk_over}
 use Rattle.nl_meta.proofs.Lists.{none_some}
 use Rattle.nl_meta.proofs.WalkProofs.{walk_over_is_consistency}
-use Rattle.nl_running.specs.Running.{IsNeeded, running_on, stored_on}
-use Rattle.nl_running.proofs.Holds.{bounds-of}
+use Rattle.nl_meta_running.specs.Running.{IsNeeded, running_on, stored_on}
+use Rattle.nl_meta_running.proofs.Holds.{bounds-of}
 use Rattle.nl_recover.specs.Loading.{Loads}
 use Rattle.nl_recover.specs.Looking.{LooksAlike}
 use Rattle.nl_recover.specs.Recovering.{Begins, Finds, IfDamaged, IfReady, IsFault, IsFirstFault, IsWalked, Walks, count_in}

@@ -16,7 +16,7 @@ use Rattle.nl_meta.specs.Consistent.{ConsistentOver}
 use Rattle.nl_meta.specs.Nodes.{held_in, super_of_pages}
 use Rattle.nl_meta.specs.Pages.{Pages, page_of}
 use Rattle.nl_meta.specs.Walk.{walk_over}
-use Rattle.nl_running.specs.Running.{IsNeeded, Runs, running_on, stored_on}
+use Rattle.nl_meta_running.specs.Running.{IsNeeded, Runs, running_on, stored_on}
 use Rattle.nl_recover.specs.Freeing.{SpacesOf}
 use Rattle.nl_recover.specs.Reading.{IsRead}
 use Rattle.nl_recover.specs.declared.metadata.Metadata.{Metadata}

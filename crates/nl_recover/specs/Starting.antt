@@ -9,7 +9,7 @@ use Rattle.nl_journal.specs.Progress.{units_left}
 use Rattle.nl_journal.specs.Standing.{InOrder}
 use Rattle.nl_journal.specs.Transaction.{main_at}
 use Rattle.nl_meta.specs.Pages.{page_of}
-use Rattle.nl_running.specs.Running.{Runs}
+use Rattle.nl_meta_running.specs.Running.{Runs}
 use Rattle.nl_recover.specs.Recovering.{IsWalked}
 use Rattle.nl_recover.specs.declared.opening.Walked.{Walked}
 

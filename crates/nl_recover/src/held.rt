@@ -10,7 +10,7 @@ use crate::look::inode;
 use nl_field::{InodeRec, Kind, Memory, Shape, Tag};
 use nl_indirect::lookup;
 use nl_meta::Meta;
-use nl_pointers::{HeldList, HeldPointer};
+use nl_recover_pointers::{HeldList, HeldPointer};
 use std::alloc::Global;
 
 /// The pointers of all files, in the order of nodes and indexes, where each address of a node is right.

@@ -6,7 +6,7 @@ ghost use Rattle.nl_meta.specs.Nodes.{super_of_pages};
 ghost use Rattle.nl_meta.specs.Pages.{page_of};
 ghost use Rattle.nl_meta.specs.Walk.{walk_over};
 ghost use Rattle.nl_recover.specs.Recovering.{Finds, IfDamaged, IfReady, IsFault, IsFirstFault, IsWalked, Walks, count_in};
-ghost use Rattle.nl_running.specs.Running.{stored_on};
+ghost use Rattle.nl_meta_running.specs.Running.{stored_on};
 
 use crate::free::free_lists;
 use crate::look::super_rec;

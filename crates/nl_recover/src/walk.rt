@@ -15,7 +15,7 @@ use crate::reach::reach_fault;
 use crate::stamps::stamp_fault;
 use nl_field::{Memory, Place, Shape, What};
 use nl_meta::Meta;
-use nl_pointers::{HeldList, charge_fault, crowded_fault, name_fault, pointer_fault};
+use nl_recover_pointers::{HeldList, charge_fault, crowded_fault, name_fault, pointer_fault};
 use nl_scan::ScanTables;
 use std::alloc::Global;
 

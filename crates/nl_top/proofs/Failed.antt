@@ -2,9 +2,9 @@
 use Rattle.std.proofs.Common.{◌≡◌, ◌||◌, ℕ, Bool, true, false, IsTrue, List, refl, sym, inl, inr}
 use Rattle.std.specs.Prelude.{is_some}
 use Rattle.std.specs.List.{list_any}
-use Rattle.nl_headline.specs.Status.{DoneStatus, RunFailed}
-use Rattle.nl_headline.specs.Streams.{Stream}
-use Rattle.nl_headline.specs.declared.lists.Ordered.{Ordered}
+use Rattle.nl_spec_headline.specs.Status.{DoneStatus, RunFailed}
+use Rattle.nl_spec_headline.specs.Streams.{Stream}
+use Rattle.nl_spec_headline.specs.declared.lists.Ordered.{Ordered}
 use Rattle.nl_tree.specs.Causes.{Counts, FaultRose}
 
 module _ (order : List Ordered) (before now : Counts) (lost worn : Bool) where

@@ -4,11 +4,11 @@ use Rattle.std.specs.Prelude.{◌^◌, if◌then◌else◌, Option, None, Some, 
 use Rattle.std.specs.List.{list_any}
 use Rattle.nl_field.specs.CrashStates.{Rose, top}
 use Rattle.nl_field.specs.Scan.{next_stamp_of}
-use Rattle.nl_headline.specs.Course.{Course, RepliedLine}
-use Rattle.nl_headline.specs.Status.{DoneStatus, RunFailed}
-use Rattle.nl_headline.specs.Streams.{Medium, ReadsWhole, Stream}
-use Rattle.nl_headline.specs.declared.lists.Ordered.{Ordered}
-use Rattle.nl_headline.specs.declared.lists.Synced.{Synced}
+use Rattle.nl_spec_headline.specs.Course.{Course, RepliedLine}
+use Rattle.nl_spec_headline.specs.Status.{DoneStatus, RunFailed}
+use Rattle.nl_spec_headline.specs.Streams.{Medium, ReadsWhole, Stream}
+use Rattle.nl_spec_headline.specs.declared.lists.Ordered.{Ordered}
+use Rattle.nl_spec_headline.specs.declared.lists.Synced.{Synced}
 use Rattle.nl_script.specs.Words.{lines_of}
 use Rattle.nl_script.specs.Script.{lines_from, max_script, script}
 use Rattle.nl_script.specs.declared.refusal.ScriptRefusal.TheVariants.{Refused}
@@ -20,8 +20,8 @@ use Rattle.nl_tree.specs.declared.call.Call.{Call}
 use Rattle.nl_tree.specs.declared.call.Line.{Line}
 use Rattle.nl_tree.specs.declared.reply.FaultReply.{FaultReply}
 use Rattle.nl_tree.specs.declared.reply.FaultReply.TheVariants.{Eio, Erofs, Eworn, Edamaged}
-use Rattle.nl_commands.specs.Complete.{NothingRose, OpeningCompletes, StartsSound}
-use Rattle.nl_commands.specs.Ends.{NotOpened, RefusesScript}
+use Rattle.nl_cmd_words.specs.Complete.{NothingRose, OpeningCompletes, StartsSound}
+use Rattle.nl_cmd_words.specs.Ends.{NotOpened, RefusesScript}
 use Rattle.nl_top.specs.Complete.{CountsLast, NoFaultAnswered, RunCompletes}
 use Rattle.nl_top.specs.Leaving.{Leaving}
 use Rattle.nl_top.specs.RunEnds.{Ran, RunEnds, ScriptEnds, TellsAnswers, not_run, ran, runs_script, script_refused, source_fault, source_no_memory}

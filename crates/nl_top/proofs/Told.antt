@@ -1,17 +1,17 @@
 -- Endings of a run of lines, from what its parts say.
 use Rattle.std.proofs.Common.{◌≡◌, ℕ, Bool, List, length, ap, sym, subst, ◌∙◌}
-use Rattle.nl_headline.specs.Course.{Course}
-use Rattle.nl_headline.specs.Status.{DoneStatus, RunFailed}
-use Rattle.nl_headline.specs.Streams.{Medium, Prints, Stream}
-use Rattle.nl_headline.specs.declared.lists.Ordered.{Ordered}
-use Rattle.nl_headline.specs.declared.lists.Synced.{Synced}
+use Rattle.nl_spec_headline.specs.Course.{Course}
+use Rattle.nl_spec_headline.specs.Status.{DoneStatus, RunFailed}
+use Rattle.nl_spec_headline.specs.Streams.{Medium, Prints, Stream}
+use Rattle.nl_spec_headline.specs.declared.lists.Ordered.{Ordered}
+use Rattle.nl_spec_headline.specs.declared.lists.Synced.{Synced}
 use Rattle.nl_print.specs.Texts.{Answered, run_text}
-use Rattle.nl_course.specs.Rounds.{AreRoomyFor, AreTablesFor, HasRoomFor, LinesRan, order_of_rows, syncs_of_rows}
-use Rattle.nl_course.specs.declared.charges.Charges.{Charges}
-use Rattle.nl_telling.specs.Rows.{PlacedRowsAreARun, rows_text, summary_text}
+use Rattle.nl_cmd_course.specs.Rounds.{AreRoomyFor, AreTablesFor, HasRoomFor, LinesRan, order_of_rows, syncs_of_rows}
+use Rattle.nl_cmd_course.specs.declared.charges.Charges.{Charges}
+use Rattle.nl_cmd_answers.specs.Rows.{PlacedRowsAreARun, rows_text, summary_text}
 use Rattle.nl_tree.specs.declared.call.Line.{Line}
 use Rattle.nl_workers.specs.Table.{Row, TableState}
-use Rattle.nl_headline.specs.Table.{Table}
+use Rattle.nl_spec_headline.specs.Table.{Table}
 use Rattle.nl_top.specs.Leaving.{Leaving, prefixes_of}
 use Rattle.nl_top.specs.RunEnds.{RunEnds, ran}
 use Rattle.nl_top.specs.Telling.{Shows, told_text}

@@ -3,11 +3,11 @@ use Rattle.std.specs.Prelude.{◌≡◌, ◌⊎◌, ⊤, ℕ, ◌+◌, ◌-◌, 
 use Rattle.std.specs.List.{list_any}
 use Rattle.nl_field.specs.CrashStates.{top}
 use Rattle.nl_field.specs.Scan.{next_stamp_of}
-use Rattle.nl_commands.specs.Complete.{Completes, StartsSound}
-use Rattle.nl_commands.specs.declared.command.Command.{Command}
-use Rattle.nl_commands.specs.declared.command.Command.TheVariants.{Check, Format, Report, Run, Soak, Tree}
-use Rattle.nl_headline.specs.Streams.{Medium, Stream}
-use Rattle.nl_headline.specs.declared.lists.Ordered.{Ordered}
+use Rattle.nl_cmd_words.specs.Complete.{Completes, StartsSound}
+use Rattle.nl_cmd_words.specs.declared.command.Command.{Command}
+use Rattle.nl_cmd_words.specs.declared.command.Command.TheVariants.{Check, Format, Report, Run, Soak, Tree}
+use Rattle.nl_spec_headline.specs.Streams.{Medium, Stream}
+use Rattle.nl_spec_headline.specs.declared.lists.Ordered.{Ordered}
 use Rattle.nl_script.specs.Script.{script}
 use Rattle.nl_tree.specs.declared.call.Line.{Line}
 

@@ -1,16 +1,16 @@
 -- How a call of the store ends: by which command, with which status, text and cause, and what it then says of source, sink and medium, and of what
 -- a stop leaves.
 use Rattle.std.specs.Prelude.{◌≡◌, ℕ, List, codes, None, Some, Ok}
-use Rattle.nl_commands.specs.Command.{command_of}
-use Rattle.nl_commands.specs.Ends.{CheckEnds, EndsBefore, FormatEnds}
-use Rattle.nl_commands.specs.declared.command.Command.TheVariants.{Check, Format, Report, Run as RunScript, Soak, Tree as TreeCommand}
+use Rattle.nl_cmd_words.specs.Command.{command_of}
+use Rattle.nl_cmd_words.specs.Ends.{CheckEnds, EndsBefore, FormatEnds}
+use Rattle.nl_cmd_words.specs.declared.command.Command.TheVariants.{Check, Format, Report, Run as RunScript, Soak, Tree as TreeCommand}
 use Rattle.nl_gen.specs.Soak.{soak_text}
-use Rattle.nl_headline.specs.Streams.{Medium, Stream}
-use Rattle.nl_headline.specs.declared.lists.Ordered.{Ordered}
-use Rattle.nl_headline.specs.declared.lists.Synced.{Synced}
+use Rattle.nl_spec_headline.specs.Streams.{Medium, Stream}
+use Rattle.nl_spec_headline.specs.declared.lists.Ordered.{Ordered}
+use Rattle.nl_spec_headline.specs.declared.lists.Synced.{Synced}
 use Rattle.nl_script.specs.Script.{script}
 use Rattle.nl_tree.specs.declared.call.Line.{Line}
-use Rattle.nl_viewing.specs.Looking.{LookEnds, Reports, TreeEnds}
+use Rattle.nl_cmd_view.specs.Looking.{LookEnds, Reports, TreeEnds}
 use Rattle.nl_top.specs.Leaving.{Leaving, new_volume, nothing_new}
 use Rattle.nl_top.specs.RunEnds.{RunEnds, ScriptEnds}
 use Rattle.nl_top.specs.Soak.{Summarises}

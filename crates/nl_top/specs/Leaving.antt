@@ -1,10 +1,10 @@
 -- What a stop leaves of a call of the store, by its ending.
 use Rattle.std.specs.Prelude.{◌⊎◌, ℕ}
 use Rattle.nl_field.specs.Page.{Image}
-use Rattle.nl_headline.specs.Streams.{stops_within}
-use Rattle.nl_making.specs.Making.{OpensAsNew}
+use Rattle.nl_spec_headline.specs.Streams.{stops_within}
+use Rattle.nl_volume_format.specs.Making.{OpensAsNew}
 use Rattle.nl_nand.specs.declared.nand.Nand.{Ghosts}
-use Rattle.nl_sound.specs.Crash.{Run}
+use Rattle.nl_spec_image.specs.Crash.{Run}
 
 -- Nothing that was not left before; or besides what opens as new; or besides what opens as the tree after a prefix of a run.
 pub data Leaving : Type 0 where

@@ -2,17 +2,17 @@
 -- leaves.
 use Rattle.std.specs.Prelude.{◌≡◌, ℕ, ◌<◌, ◌^◌, Bool, List, codes}
 use Rattle.nl_field.specs.CrashStates.{Rose}
-use Rattle.nl_headline.specs.Course.{Course, count_after, text_in}
-use Rattle.nl_headline.specs.Headline.{ReadsScript, RunsLines}
-use Rattle.nl_headline.specs.Status.{DoneStatus, HaveCauses, RunFailed}
-use Rattle.nl_headline.specs.Streams.{Medium, Prints, Stream}
-use Rattle.nl_headline.specs.declared.lists.Ordered.{Ordered}
-use Rattle.nl_headline.specs.declared.lists.Synced.{Synced}
+use Rattle.nl_spec_headline.specs.Course.{Course, count_after, text_in}
+use Rattle.nl_spec_headline.specs.Headline.{ReadsScript, RunsLines}
+use Rattle.nl_spec_headline.specs.Status.{DoneStatus, HaveCauses, RunFailed}
+use Rattle.nl_spec_headline.specs.Streams.{Medium, Prints, Stream}
+use Rattle.nl_spec_headline.specs.declared.lists.Ordered.{Ordered}
+use Rattle.nl_spec_headline.specs.declared.lists.Synced.{Synced}
 use Rattle.nl_print.specs.Texts.{refused_text}
 use Rattle.nl_script.specs.Causes.{cause_word}
 use Rattle.nl_script.specs.declared.why.Why.{Why}
 use Rattle.nl_tree.specs.declared.call.Line.{Line}
-use Rattle.nl_commands.specs.Ends.{EndsBefore, NotOpened, RefusesScript}
+use Rattle.nl_cmd_words.specs.Ends.{EndsBefore, NotOpened, RefusesScript}
 use Rattle.nl_top.specs.Leaving.{Leaving, nothing_new, prefixes_of}
 
 -- what is printed of a course by a run: its text, where places have not ended

@@ -1,9 +1,9 @@
 -- The summary of a soak.
 use Rattle.std.specs.Prelude.{◌≡◌, ℕ, List, map}
-use Rattle.nl_headline.specs.Course.{Course, RepliedLine, tree_after}
-use Rattle.nl_course.specs.Charges.{AreCharges}
-use Rattle.nl_course.specs.declared.charges.Charges.{Charges}
-use Rattle.nl_telling.specs.Rows.{summary_text}
+use Rattle.nl_spec_headline.specs.Course.{Course, RepliedLine, tree_after}
+use Rattle.nl_cmd_course.specs.Charges.{AreCharges}
+use Rattle.nl_cmd_course.specs.declared.charges.Charges.{Charges}
+use Rattle.nl_cmd_answers.specs.Rows.{summary_text}
 
 -- How many calls of the course were answered, and how many of them ok; how many bytes were written and read, at most 2^64 - 1; and pages of files,
 -- nodes and pages of metadata. Where the medium tells its contents, these are the charges of the tree after all calls.

@@ -1,8 +1,8 @@
 -- What is told of lines that were run, and of their course.
 use Rattle.std.specs.Prelude.{ℕ, List, map}
-use Rattle.nl_headline.specs.Course.{Course}
-use Rattle.nl_course.specs.declared.charges.Charges.{Charges}
-use Rattle.nl_telling.specs.Rows.{rows_text, said, summary_text}
+use Rattle.nl_spec_headline.specs.Course.{Course}
+use Rattle.nl_cmd_course.specs.declared.charges.Charges.{Charges}
+use Rattle.nl_cmd_answers.specs.Rows.{rows_text, said, summary_text}
 use Rattle.nl_workers.specs.Table.{Row}
 use Rattle.nl_top.specs.RunEnds.{TellsAnswers}
 use Rattle.nl_top.specs.Soak.{Summarises}

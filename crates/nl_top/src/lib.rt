@@ -6,7 +6,7 @@ mod soaking;
 mod telling;
 mod top;
 
-pub use nl_commands::{Command, Done, command_of};
-pub use nl_headline::{OrderList, Ordered, SyncList, Synced};
+pub use nl_cmd_words::{Command, Done, command_of};
+pub use nl_spec_headline::{OrderList, Ordered, SyncList, Synced};
 pub use nl_workers::{Gate, GatePlace, NoGate};
 pub use top::nameless;

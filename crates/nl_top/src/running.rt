@@ -1,20 +1,20 @@
 // The command that runs the script of a source, and what it shares with a soak.
 ghost use Rattle.std.specs.Prelude.{◌≡◌};
-ghost use Rattle.nl_headline.specs.Streams.{medium_seen, sink_seen, source_seen};
+ghost use Rattle.nl_spec_headline.specs.Streams.{medium_seen, sink_seen, source_seen};
 ghost use Rattle.nl_top.specs.Leaving.{leaves_within};
 ghost use Rattle.nl_top.specs.RunEnds.{RunEnds, ScriptEnds};
 ghost use Rattle.nl_top.specs.Telling.{Shows};
 
 use crate::telling::{Told, tell};
-use nl_commands::{Done, Script, ended, faults_of, read_script, without_lines};
-use nl_course::tables_for;
+use nl_cmd_answers::laws::placed_rows_are_a_run;
+use nl_cmd_course::tables_for;
+use nl_cmd_run::run_lines;
+use nl_cmd_view::refused;
+use nl_cmd_words::{Done, Script, ended, faults_of, read_script, without_lines};
 use nl_io::{Sink, Source};
 use nl_nand::Nand;
 use nl_print::refused_line;
-use nl_rounds::run_lines;
-use nl_telling::laws::placed_rows_are_a_run;
 use nl_tree::Lines;
-use nl_viewing::refused;
 use nl_workers::Gate;
 use std::alloc::Global;
 use std::sync::Wait;

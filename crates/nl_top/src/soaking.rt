@@ -1,7 +1,7 @@
 // The command that runs a script which is drawn from a seed, and prints a summary.
 ghost use Rattle.std.specs.Prelude.{◌≡◌, ◌<◌, ◌≤◌, List, Ok};
 ghost use Rattle.nl_gen.specs.Soak.{soak_text};
-ghost use Rattle.nl_headline.specs.Streams.{medium_seen, sink_seen};
+ghost use Rattle.nl_spec_headline.specs.Streams.{medium_seen, sink_seen};
 ghost use Rattle.nl_script.specs.Script.{script};
 ghost use Rattle.nl_tree.specs.declared.call.Line.{Line};
 ghost use Rattle.nl_top.specs.Leaving.{leaves_within};
@@ -10,7 +10,7 @@ ghost use Rattle.nl_top.specs.Soak.{Summarises};
 
 use crate::running::run_on;
 use crate::telling::Told;
-use nl_commands::{Done, drawn_lines, ended};
+use nl_cmd_words::{Done, drawn_lines, ended};
 use nl_io::Sink;
 use nl_nand::Nand;
 use nl_workers::Gate;

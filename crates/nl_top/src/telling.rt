@@ -1,18 +1,18 @@
 // What is told of lines that were run: the lists, the text and the status.
 ghost use Rattle.std.specs.Prelude.{◌≡◌, ◌≤◌, ◌||◌};
 ghost use Rattle.nl_field.specs.CrashStates.{Rose};
-ghost use Rattle.nl_headline.specs.Status.{DoneStatus, RunFailed};
-ghost use Rattle.nl_headline.specs.Streams.{Prints, sink_seen};
+ghost use Rattle.nl_spec_headline.specs.Status.{DoneStatus, RunFailed};
+ghost use Rattle.nl_spec_headline.specs.Streams.{Prints, sink_seen};
 ghost use Rattle.nl_io.specs.Streams.{Writes};
-ghost use Rattle.nl_course.specs.Rounds.{AreRoomyFor, order_of_rows, syncs_of_rows};
+ghost use Rattle.nl_cmd_course.specs.Rounds.{AreRoomyFor, order_of_rows, syncs_of_rows};
 ghost use Rattle.nl_top.specs.Telling.{told_text};
 
-use nl_commands::{Done, Faults, has_failed, status_of};
-use nl_course::{Charges, Tables, list_answers};
+use nl_cmd_answers::{print_answers, print_summary};
+use nl_cmd_course::{Charges, Tables, list_answers};
+use nl_cmd_run::Ran;
+use nl_cmd_words::{Done, Faults, has_failed, status_of};
 use nl_io::{Sink, SinkAnswer};
 use nl_nand::Nand;
-use nl_rounds::Ran;
-use nl_telling::{print_answers, print_summary};
 use nl_workers::AnswerTable;
 
 // What is printed of lines that were run.

@@ -1,19 +1,19 @@
 // The top call: answers the words of a command line on a flash medium.
-ghost use Rattle.nl_commands.specs.Command.{command_of};
-ghost use Rattle.nl_commands.specs.Complete.{NothingRose};
-ghost use Rattle.nl_headline.specs.Streams.{medium_seen, sink_seen, source_seen};
+ghost use Rattle.nl_cmd_words.specs.Command.{command_of};
+ghost use Rattle.nl_cmd_words.specs.Complete.{NothingRose};
+ghost use Rattle.nl_spec_headline.specs.Streams.{medium_seen, sink_seen, source_seen};
 ghost use Rattle.nl_top.specs.Complete.{CarriesOut};
 ghost use Rattle.nl_top.specs.Ends.{Ends};
 ghost use Rattle.nl_top.specs.Leaving.{leaves_within};
 
 use crate::running::run;
 use crate::soaking::soak;
-use nl_commands::laws::{check_completes, format_completes, opening_completes};
-use nl_commands::{Command, Done, check, command_of, ended, format};
+use nl_cmd_view::laws::look_completes;
+use nl_cmd_view::{report, tree};
+use nl_cmd_words::laws::{check_completes, format_completes, opening_completes};
+use nl_cmd_words::{Command, Done, check, command_of, ended, format};
 use nl_io::{Sink, Source, Words};
 use nl_nand::Nand;
-use nl_viewing::laws::look_completes;
-use nl_viewing::{report, tree};
 use nl_workers::Gate;
 use std::alloc::Global;
 use std::sync::Wait;

@@ -14,7 +14,7 @@ pub use call::{Call, Line};
 pub use lengths::is_long;
 pub use lines::Lines;
 pub use names::Names;
-pub use nl_content::{Path, ReplyBuf};
+pub use nl_tree_content::{Path, ReplyBuf};
 pub use reply::{FaultReply, Refusal, Reply, Space};
 pub use turn::{Answered, Duty, DutyAnswer, Stage};
 pub use walk_path::WalkPath;

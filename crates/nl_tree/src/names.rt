@@ -1,6 +1,6 @@
 ghost use Rattle.std.specs.Prelude.{◌≡◌, ◌<◌, length, slice_get, Some};
 
-use nl_content::Path;
+use nl_tree_content::Path;
 
 /// A path whose names can be read, from the root on.
 pub trait Names {

@@ -19,25 +19,25 @@ use Rattle.nl_iface.specs.declared.counts.Counts.{Ghosts}
 use Rattle.nl_core.specs.Goes.{Goes}
 use Rattle.nl_core.specs.declared.state.Core.{Core}
 use Rattle.nl_core.proofs.Onward.{goes_then}
-use Rattle.nl_effect.proofs.Stepping.{steps_run}
-use Rattle.nl_effect.specs.Calls.{MakesTree}
-use Rattle.nl_stops.specs.Effects.{counted}
+use Rattle.nl_calls_steps.proofs.Stepping.{steps_run}
+use Rattle.nl_calls_steps.specs.Calls.{MakesTree}
+use Rattle.nl_spec_crashes.specs.Effects.{counted}
 use Rattle.nl_turns.specs.History.{Opening, call_at, fault_of, is_effect, is_sync, opening_counts}
 use Rattle.nl_turns.specs.Served.{IsLineOf, effect_entry, fault_mark, sync_mark}
 use Rattle.nl_turns.specs.declared.entry.Entry.{Entry}
 use Rattle.nl_turns.specs.declared.entry.SyncMark.TheVariants.{NoSync, At}
-use Rattle.nl_answering.specs.Answering.{HasEffect, HasEffectOf, Syncs, is_sync_call, is_synced}
+use Rattle.nl_calls.specs.Answering.{HasEffect, HasEffectOf, Syncs, is_sync_call, is_synced}
 use Rattle.nl_volume.specs.Effects.{AnswersLine}
-use Rattle.nl_staging.specs.Serving.{counts_of, refusing_of, some_number, staged_fault}
-use Rattle.nl_staging.specs.Standing.{FlightStands, IsInFlight, MarkHasCause, NumbersDiffer, Serves, StandsFor}
-use Rattle.nl_staging.specs.Turns.{AreCounts}
-use Rattle.nl_staging.proofs.Causes.{still_cause}
-use Rattle.nl_staging.proofs.Due.{IsRefused, due_cases, marked, within_since}
-use Rattle.nl_staging.proofs.Effects.{effect_serves, sync_serves}
-use Rattle.nl_staging.proofs.Flights.{KeepsPages, goes_keeps, one_on, same_fault}
-use Rattle.nl_staging.proofs.Histories.{has_or_last, pairs_more}
-use Rattle.nl_staging.proofs.Serving.{runs_of, some_is}
-use Rattle.nl_staging.proofs.Standing.{calls_serve}
+use Rattle.nl_volume_stage.specs.Serving.{counts_of, refusing_of, some_number, staged_fault}
+use Rattle.nl_volume_stage.specs.Standing.{FlightStands, IsInFlight, MarkHasCause, NumbersDiffer, Serves, StandsFor}
+use Rattle.nl_volume_stage.specs.Turns.{AreCounts}
+use Rattle.nl_volume_stage.proofs.Causes.{still_cause}
+use Rattle.nl_volume_stage.proofs.Due.{IsRefused, due_cases, marked, within_since}
+use Rattle.nl_volume_stage.proofs.Effects.{effect_serves, sync_serves}
+use Rattle.nl_volume_stage.proofs.Flights.{KeepsPages, goes_keeps, one_on, same_fault}
+use Rattle.nl_volume_stage.proofs.Histories.{has_or_last, pairs_more}
+use Rattle.nl_volume_stage.proofs.Serving.{runs_of, some_is}
+use Rattle.nl_volume_stage.proofs.Standing.{calls_serve}
 
 -- ---- what an effect keeps
 

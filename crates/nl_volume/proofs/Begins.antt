@@ -8,17 +8,17 @@ use Rattle.nl_tree.specs.declared.call.Line.{Line}
 use Rattle.nl_flight.specs.Flight.{InFlight, begun, nothing, of_worker}
 use Rattle.nl_iface.specs.declared.counts.Counts.{Ghosts}
 use Rattle.nl_meta.specs.Consistent.{PageOfStamp}
-use Rattle.nl_sound.specs.Crash.{Run}
+use Rattle.nl_spec_image.specs.Crash.{Run}
 use Rattle.nl_core.specs.Core.{IsCore}
 use Rattle.nl_core.specs.Trees.{CoreStands}
 use Rattle.nl_core.specs.declared.state.Core.{Core}
-use Rattle.nl_opening.specs.Beginning.{all_at}
-use Rattle.nl_opening.specs.Opening.{IsOpened}
-use Rattle.nl_stops.specs.Along.{GoesAlong}
-use Rattle.nl_stops.proofs.Along.{opening_goes_along}
+use Rattle.nl_core_open.specs.Beginning.{all_at}
+use Rattle.nl_core_open.specs.Opening.{IsOpened}
+use Rattle.nl_spec_crashes.specs.Along.{GoesAlong}
+use Rattle.nl_spec_crashes.proofs.Along.{opening_goes_along}
 use Rattle.nl_turns.specs.History.{Opening, marked_calls, syncs_of}
 use Rattle.nl_volume.specs.Opening.{opening_of}
-use Rattle.nl_staging.specs.Standing.{EachIsLine, StandsFor, run_of}
+use Rattle.nl_volume_stage.specs.Standing.{EachIsLine, StandsFor, run_of}
 
 no_calls : (o : Opening) → marked_calls o [] ≡ []
 unfolding marked_calls

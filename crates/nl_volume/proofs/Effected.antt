@@ -15,19 +15,19 @@ use Rattle.nl_iface.specs.declared.counts.Counts.{Ghosts}
 use Rattle.nl_core.specs.Core.{IsCore}
 use Rattle.nl_core.specs.declared.state.Core.{Core}
 use Rattle.nl_core.proofs.Onward.{goes_then}
-use Rattle.nl_stops.specs.Effects.{counted}
+use Rattle.nl_spec_crashes.specs.Effects.{counted}
 use Rattle.nl_turns.specs.History.{Opening, tree_after}
 use Rattle.nl_turns.specs.Served.{IsLineOf, StaysReadOnly, effect_entry, ordinal_due, outcome_due, place_due}
 use Rattle.nl_turns.specs.declared.entry.Entry.{Entry}
-use Rattle.nl_answering.specs.Answering.{HasEffect, HasEffectOf}
+use Rattle.nl_calls.specs.Answering.{HasEffect, HasEffectOf}
 use Rattle.nl_volume.specs.Effects.{AnswersLine}
-use Rattle.nl_staging.specs.Serving.{counts_of, refusing_of, some_number, to_stage_of}
-use Rattle.nl_staging.specs.Standing.{StandsFor}
-use Rattle.nl_staging.specs.Turns.{AreCounts}
+use Rattle.nl_volume_stage.specs.Serving.{counts_of, refusing_of, some_number, to_stage_of}
+use Rattle.nl_volume_stage.specs.Standing.{StandsFor}
+use Rattle.nl_volume_stage.specs.Turns.{AreCounts}
 use Rattle.nl_volume.proofs.Answering.{line_stands}
-use Rattle.nl_staging.proofs.Due.{marked}
-use Rattle.nl_staging.proofs.Histories.{calls_length}
-use Rattle.nl_staging.proofs.Serving.{staged_same, stays_read_only, to_stage_same}
+use Rattle.nl_volume_stage.proofs.Due.{marked}
+use Rattle.nl_volume_stage.proofs.Histories.{calls_length}
+use Rattle.nl_volume_stage.proofs.Serving.{staged_same, stays_read_only, to_stage_same}
 
 -- ---- a volume becomes read-only only where a write failed
 

@@ -10,8 +10,8 @@ use Rattle.nl_meta.specs.Committed.{next_number}
 use Rattle.nl_meta.specs.Walk.{walk}
 use Rattle.nl_core.specs.Core.{begun_of}
 use Rattle.nl_core.specs.declared.state.Core.{Core}
-use Rattle.nl_sound.specs.Stands.{Sound}
-use Rattle.nl_sound.proofs.SoundProofs.{walk_is_soundness}
+use Rattle.nl_spec_image.specs.Stands.{Sound}
+use Rattle.nl_spec_image.proofs.SoundProofs.{walk_is_soundness}
 use Rattle.nl_volume.specs.Opened.{OpensAs, OpensOn}
 
 -- so it opened on each medium that has the same contents

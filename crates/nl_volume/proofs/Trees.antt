@@ -4,8 +4,8 @@ use Rattle.nl_field.specs.Page.{Image, is_image}
 use Rattle.nl_field.specs.declared.place.Place.{Place}
 use Rattle.nl_tree.specs.Tree.{Tree, empty_tree}
 use Rattle.nl_meta.specs.Walk.{walk}
-use Rattle.nl_sound.specs.Stands.{SoundAs}
-use Rattle.nl_sound.proofs.SoundProofs.{stands_for_one, walk_is_soundness}
+use Rattle.nl_spec_image.specs.Stands.{SoundAs}
+use Rattle.nl_spec_image.proofs.SoundProofs.{stands_for_one, walk_is_soundness}
 
 tree_from : (image : Image) (b : Bool) → is_image image ≡ b → (x : Option Place) → walk image ≡ x → Tree
 tree_from image true whole None none = ((walk_is_soundness image whole).0 none).1

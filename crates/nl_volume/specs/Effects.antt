@@ -7,9 +7,9 @@ use Rattle.nl_iface.specs.declared.counts.Counts.{Ghosts}
 use Rattle.nl_iface.specs.declared.moving_pages.MovingPages.{Ghosts as Moving}
 use Rattle.nl_core.specs.Core.{IsCore}
 use Rattle.nl_core.specs.declared.state.Core.{Core}
-use Rattle.nl_answering.specs.Answering.{AnswersOn, Cleans, EndsLine, HasEffectOf, is_sync_call, is_synced, pages_of_files}
-use Rattle.nl_staging.specs.Serving.{counts_of, refusing_of}
-use Rattle.nl_stops.specs.Effects.{counted}
+use Rattle.nl_calls.specs.Answering.{AnswersOn, Cleans, EndsLine, HasEffectOf, is_sync_call, is_synced, pages_of_files}
+use Rattle.nl_volume_stage.specs.Serving.{counts_of, refusing_of}
+use Rattle.nl_spec_crashes.specs.Effects.{counted}
 
 -- A line was refused before it was tried, or tried: its reply is the one that is due, it had its effect, and a fault has its cause. Exactly a sync
 -- without a fault has the numbers of one. The worker has no line afterwards, and files have so many pages.

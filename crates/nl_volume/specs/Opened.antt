@@ -11,7 +11,7 @@ use Rattle.nl_meta.specs.Committed.{next_number}
 use Rattle.nl_meta.specs.Walk.{walk}
 use Rattle.nl_core.specs.Core.{begun_of}
 use Rattle.nl_core.specs.declared.state.Core.{Core}
-use Rattle.nl_sound.specs.Stands.{Sound, SoundAs}
+use Rattle.nl_spec_image.specs.Stands.{Sound, SoundAs}
 use Rattle.nl_volume.specs.declared.opened.NotOpened.{NotOpened}
 use Rattle.nl_volume.specs.declared.opened.NotOpened.TheVariants.{Blank, Damaged, Fault, Memory}
 

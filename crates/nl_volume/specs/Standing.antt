@@ -2,10 +2,10 @@
 use Rattle.std.specs.Prelude.{◌≡◌, List}
 use Rattle.nl_device.specs.declared.device.Device.{Device}
 use Rattle.nl_iface.specs.declared.counts.Counts.{Ghosts}
-use Rattle.nl_answering.specs.Answering.{pages_of_files}
+use Rattle.nl_calls.specs.Answering.{pages_of_files}
 use Rattle.nl_turns.specs.History.{Opening}
 use Rattle.nl_turns.specs.declared.entry.Entry.{Entry}
-use Rattle.nl_staging.specs.Standing.{StandsFor}
+use Rattle.nl_volume_stage.specs.Standing.{StandsFor}
 use Rattle.nl_volume.specs.declared.volume.Volume.{Volume}
 
 -- The core of a volume stands for that, since it was the one of the origin, and the volume knows how many pages its files have.

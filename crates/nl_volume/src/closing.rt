@@ -2,24 +2,24 @@ ghost use Rattle.std.specs.Prelude.{◌≡◌, ◌≢◌, ◌⊎◌, ◌↔◌, 
 ghost use Rattle.nl_core.specs.Core.{begun_of};
 ghost use Rattle.nl_device.specs.Medium.{medium_of};
 ghost use Rattle.nl_field.specs.CrashStates.{Rose};
-ghost use Rattle.nl_sound.specs.Crash.{StopsSafely};
-ghost use Rattle.nl_sound.specs.Stands.{SoundAs};
+ghost use Rattle.nl_spec_image.specs.Crash.{StopsSafely};
+ghost use Rattle.nl_spec_image.specs.Stands.{SoundAs};
 ghost use Rattle.nl_tree.specs.Causes.{FaultRose, NeverFall};
 ghost use Rattle.nl_turns.specs.History.{Opening, effects, opening_counts, tree_after};
 ghost use Rattle.nl_turns.specs.Served.{StandsForSome};
 ghost use Rattle.nl_turns.specs.declared.entry.Entry.{Entry as TurnEntry};
-ghost use Rattle.nl_staging.specs.Serving.{counts_of};
+ghost use Rattle.nl_volume_stage.specs.Serving.{counts_of};
 ghost use Rattle.nl_volume.specs.Closing.{CommitsLast, IsCommitted, IsYoungAtEnd, counts_on};
-ghost use Rattle.nl_staging.specs.Standing.{run_of};
+ghost use Rattle.nl_volume_stage.specs.Standing.{run_of};
 ghost use Rattle.nl_volume.specs.declared.volume.Volume.{Volume as VolumeOf};
 
 use crate::volume::Volume;
 use nl_device::Device;
-use nl_held::laws::device_stands;
 use nl_iface::Counts;
 use nl_nand::Nand;
-use nl_staging::{commit_last, is_fault, is_lost};
+use nl_spec_commits::laws::device_stands;
 use nl_turns::Kept;
+use nl_volume_stage::{commit_last, is_fault, is_lost};
 
 /// What closing a volume leaves: its medium; whether an operation of the medium failed in the last commit, or a page was lost; and whether
 /// the write sequence numbers were used up.

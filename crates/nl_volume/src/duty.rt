@@ -4,19 +4,19 @@ ghost use Rattle.nl_core.specs.Duties.{DoesDuty};
 ghost use Rattle.nl_turns.specs.History.{Opening};
 ghost use Rattle.nl_turns.specs.Served.{NoMoreToStage, StandsForSome, StaysReadOnly, duty_entry};
 ghost use Rattle.nl_turns.specs.declared.entry.Entry.{Entry as TurnEntry};
-ghost use Rattle.nl_staging.specs.Serving.{counts_of, refusing_of, some_number, to_stage_of};
+ghost use Rattle.nl_volume_stage.specs.Serving.{counts_of, refusing_of, some_number, to_stage_of};
 ghost use Rattle.nl_volume.specs.Moving.{moving};
 ghost use Rattle.nl_volume.specs.declared.volume.Volume.{Volume as VolumeOf};
 
 use crate::volume::Volume;
 use nl_core::laws::pages_stay_as_many;
 use nl_device::Device;
-use nl_held::laws::device_stands;
 use nl_iface::{Counts, MovingPages};
 use nl_nand::Nand;
-use nl_staging::counts;
+use nl_spec_commits::laws::device_stands;
 use nl_tree::{Duty, DutyAnswer};
 use nl_turns::Kept;
+use nl_volume_stage::counts;
 
 impl<M: Nand> Volume<M> {
     /// Does one background task. The tree and the count of calls stay. `Nothing` comes exactly where the volume is read-only or worn, or

@@ -3,23 +3,23 @@ ghost use Rattle.nl_tree.specs.Causes.{FaultIsDue, NeverFall, fault_due};
 ghost use Rattle.nl_tree.specs.Replay.{Answers};
 ghost use Rattle.nl_tree.specs.declared.call.Call.TheVariants.{Clean};
 ghost use Rattle.nl_turns.specs.Served.{FaultHasCause, FromEachWithLine, StandsForSomeWithLine, StaysReadOnly, effect_entry, ordinal_due, outcome_due, place_due};
-ghost use Rattle.nl_answering.specs.Answering.{Cleans, pages_of_files};
+ghost use Rattle.nl_calls.specs.Answering.{Cleans, pages_of_files};
 ghost use Rattle.nl_volume.specs.Effects.{AnswersLine, CleansAndCounts};
-ghost use Rattle.nl_staging.specs.Serving.{counts_of, refusing_of, some_number, to_stage_of};
-ghost use Rattle.nl_staging.specs.Staging.{StandsWithLine};
+ghost use Rattle.nl_volume_stage.specs.Serving.{counts_of, refusing_of, some_number, to_stage_of};
+ghost use Rattle.nl_volume_stage.specs.Staging.{StandsWithLine};
 ghost use Rattle.nl_volume.specs.Moving.{moving};
 
 use crate::volume::Volume;
-use nl_answering::{Answer, answer_call};
+use nl_calls::{Answer, answer_call};
 use nl_core::Core;
 use nl_device::Device;
 use nl_field::PageBuf;
-use nl_held::laws::device_stands;
 use nl_iface::{Counts, MovingPages};
 use nl_nand::Nand;
-use nl_staging::{counts, leave_other, refusal};
+use nl_spec_commits::laws::device_stands;
 use nl_tree::{Answered, Call, Reply, ReplyBuf};
 use nl_turns::Kept;
+use nl_volume_stage::{counts, leave_other, refusal};
 
 impl<M: Nand> Volume<M> {
     /// The effect of a line: its place in the order of all calls, its number among the effects since the opening, and its reply, with the bytes

@@ -15,8 +15,8 @@ mod volume;
 mod walking;
 
 pub use closing::Closed;
-pub use nl_making::Made;
-pub use nl_walking::{TreeItem, TreeWalk};
+pub use nl_volume_format::Made;
+pub use nl_volume_list::{TreeItem, TreeWalk};
 pub use opened::{NotOpened, open};
 pub use opening::Opened;
 pub use report::VolumeReport;

@@ -3,15 +3,15 @@ ghost use Rattle.std.specs.Prelude.{◌≡◌, ◌⊎◌, ℕ, IsTrue};
 ghost use Rattle.nl_field.specs.CrashStates.{Rose};
 ghost use Rattle.nl_field.specs.Numbers.{is_legal};
 ghost use Rattle.nl_field.specs.Page.{Image};
-ghost use Rattle.nl_making.specs.Making.{IfDone, IfMemory, IsFault, OpensAsNew, made_medium};
+ghost use Rattle.nl_volume_format.specs.Making.{IfDone, IfMemory, IsFault, OpensAsNew, made_medium};
 ghost use Rattle.nl_nand.specs.Nand.{Unchanged};
-ghost use Rattle.nl_sound.specs.Formatted.{IsFormatted};
-ghost use Rattle.nl_sound.specs.Stands.{SoundAs};
+ghost use Rattle.nl_spec_image.specs.Formatted.{IsFormatted};
+ghost use Rattle.nl_spec_image.specs.Stands.{SoundAs};
 ghost use Rattle.nl_tree.specs.Tree.{empty_tree};
 
 use crate::volume::Volume;
-use nl_making::Made;
 use nl_nand::Nand;
+use nl_volume_format::Made;
 use std::alloc::Global;
 
 impl<M: Nand> Volume<M> {
@@ -29,6 +29,6 @@ impl<M: Nand> Volume<M> {
         ensures left { M.tells → (m : ℕ) (c : Image) → M.left (made_medium result) m c → M.left media m c ⊎ OpensAsNew c }
         ensures read_faults { M.read_faults (made_medium result) ≡ M.read_faults media }
     {
-        nl_making::make(alloc, media, blocks, pages)
+        nl_volume_format::make(alloc, media, blocks, pages)
     }
 }

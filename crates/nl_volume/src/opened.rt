@@ -1,13 +1,13 @@
 ghost use Rattle.std.specs.Prelude.{◌≡◌, [], List, IfErr, IfOk};
 ghost use Rattle.nl_device.specs.Medium.{medium_of};
 ghost use Rattle.nl_field.specs.Scan.{greatest_wear, least_wear};
-ghost use Rattle.nl_opening.specs.Figures.{pairs_of};
-ghost use Rattle.nl_opening.specs.Opening.{OnlyReadsMedium};
-ghost use Rattle.nl_sound.specs.Stands.{SoundAs};
+ghost use Rattle.nl_core_open.specs.Figures.{pairs_of};
+ghost use Rattle.nl_core_open.specs.Opening.{OnlyReadsMedium};
+ghost use Rattle.nl_spec_image.specs.Stands.{SoundAs};
 ghost use Rattle.nl_tree.specs.Tree.{Tree};
 ghost use Rattle.nl_tree.specs.declared.call.Line.{Line};
 ghost use Rattle.nl_volume.specs.Opening.{opening_of};
-ghost use Rattle.nl_staging.specs.Standing.{EachIsLine};
+ghost use Rattle.nl_volume_stage.specs.Standing.{EachIsLine};
 ghost use Rattle.nl_volume.specs.Opened.{IsReason, OpensOn, medium_in};
 
 use crate::opening::Opened;

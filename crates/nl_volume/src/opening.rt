@@ -5,22 +5,22 @@ ghost use Rattle.nl_field.specs.Medium.{shape_of_image};
 ghost use Rattle.nl_field.specs.Scan.{greatest_wear, least_wear, next_stamp_of};
 ghost use Rattle.nl_field.specs.Virtual.{virtual_bytes};
 ghost use Rattle.nl_meta.specs.Committed.{next_number};
-ghost use Rattle.nl_opening.specs.Figures.{pairs_of};
-ghost use Rattle.nl_opening.specs.Opening.{OnlyReadsMedium};
-ghost use Rattle.nl_sound.specs.Stands.{SoundAs};
+ghost use Rattle.nl_core_open.specs.Figures.{pairs_of};
+ghost use Rattle.nl_core_open.specs.Opening.{OnlyReadsMedium};
+ghost use Rattle.nl_spec_image.specs.Stands.{SoundAs};
 ghost use Rattle.nl_tree.specs.Tree.{Tree};
 ghost use Rattle.nl_tree.specs.declared.call.Line.{Line as LineOf};
-ghost use Rattle.nl_staging.specs.Standing.{EachIsLine};
+ghost use Rattle.nl_volume_stage.specs.Standing.{EachIsLine};
 ghost use Rattle.nl_volume.specs.Opening.{IfOpened, IsFault, OpensImage, opened_medium, opening_of};
 
 use crate::volume::Volume;
+use nl_core_open::{Opened as Begun, open};
 use nl_device::Device;
 use nl_field::{PageBuf, Place};
 use nl_iface::Counts;
 use nl_nand::Nand;
-use nl_opening::{Opened as Begun, open};
-use nl_staging::counts;
 use nl_turns::Kept;
+use nl_volume_stage::counts;
 use std::alloc::Global;
 
 /// What the opening of a volume answers.

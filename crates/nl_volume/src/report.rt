@@ -7,8 +7,8 @@ use nl_device::Device;
 use nl_iface::{Counts, MovingPages};
 use nl_nand::Nand;
 use nl_turns::Kept;
-use nl_walking::count_taken;
-use nl_walking::laws::files_are_charged;
+use nl_volume_list::count_taken;
+use nl_volume_list::laws::files_are_charged;
 
 /// What a volume tells of itself.
 #[derive(Clone, Copy, Debug, PartialEq, Eq)]

@@ -1,16 +1,16 @@
 ghost use Rattle.std.specs.Prelude.{◌≡◌, ◌≢◌, ◌⊎◌, ◌↔◌, ◌≤◌, ◌^◌, ℕ, ◌++◌, ◌∷◌, []};
 ghost use Rattle.nl_tree.specs.Causes.{FaultRose, LostHasCause, NeverFall, fault_sum};
 ghost use Rattle.nl_turns.specs.Served.{FromEachWithLine, KeepsStagedFaults, StagesLess, StandsForSomeWithLine, StaysReadOnly, is_fault, is_staged, stage_entry};
-ghost use Rattle.nl_staging.specs.Serving.{counts_of, refusing_of, some_number, to_stage_of};
-ghost use Rattle.nl_staging.specs.Staging.{TellsLeft};
+ghost use Rattle.nl_volume_stage.specs.Serving.{counts_of, refusing_of, some_number, to_stage_of};
+ghost use Rattle.nl_volume_stage.specs.Staging.{TellsLeft};
 
 use crate::volume::Volume;
 use nl_device::Device;
 use nl_iface::Counts;
 use nl_nand::Nand;
-use nl_staging::stage_line;
 use nl_tree::{Call, Stage};
 use nl_turns::Kept;
+use nl_volume_stage::stage_line;
 
 impl<M: Nand> Volume<M> {
     /// Stages one whole page of a line ahead of its effect: it is programmed, and in flight from now on. `Stopped` comes exactly where the

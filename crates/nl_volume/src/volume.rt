@@ -6,8 +6,8 @@ use nl_device::Device;
 use nl_field::PageBuf;
 use nl_iface::{Counts, MovingPages};
 use nl_nand::Nand;
-use nl_staging::is_worn;
 use nl_turns::Kept;
+use nl_volume_stage::is_worn;
 
 /// A volume: its core, how many effects it has had since its opening, at most 2^64 - 1, how many pages its files have, a page that it works
 /// with, and the least and the greatest wear of the pages that were readable at its opening.

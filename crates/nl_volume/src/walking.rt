@@ -1,22 +1,22 @@
 // The walk over the paths of a volume.
 ghost use Rattle.std.specs.Prelude.{◌≡◌, ℕ, List, false};
-ghost use Rattle.nl_effect.specs.Steps.{ReadsOn};
-ghost use Rattle.nl_running.specs.Reading.{Reads};
+ghost use Rattle.nl_calls_steps.specs.Steps.{ReadsOn};
+ghost use Rattle.nl_meta_running.specs.Reading.{Reads};
 ghost use Rattle.nl_turns.specs.History.{Opening};
 ghost use Rattle.nl_turns.specs.Served.{StandsForSome};
 ghost use Rattle.nl_turns.specs.declared.entry.Entry.{Entry as TurnEntry};
-ghost use Rattle.nl_walking.specs.Next.{GivesNext, IsOnWay};
-ghost use Rattle.nl_walking.specs.Walks.{is_path, item_stop};
+ghost use Rattle.nl_volume_list.specs.Next.{GivesNext, IsOnWay};
+ghost use Rattle.nl_volume_list.specs.Walks.{is_path, item_stop};
 ghost use Rattle.nl_volume.specs.declared.volume.Volume.{Volume as VolumeOf};
 
 use crate::volume::Volume;
 use nl_device::Device;
-use nl_held::laws::device_stands;
 use nl_iface::Counts;
 use nl_nand::Nand;
-use nl_staging::counts;
+use nl_spec_commits::laws::device_stands;
 use nl_turns::Kept;
-use nl_walking::{TreeItem, TreeWalk};
+use nl_volume_list::{TreeItem, TreeWalk};
+use nl_volume_stage::counts;
 
 impl<M: Nand> Volume<M> {
     /// The next path of its tree, and what stands there; the walk holds that path then. `End` comes exactly where no path is left. After `End`,
@@ -33,7 +33,7 @@ impl<M: Nand> Volume<M> {
         ensures reads { Reads ⟦<Device<M> as Counts>⟧ self.old.core.device self.new.core.device (item_stop result) }
     {
         device_stands(&self.core.device);
-        let item = nl_walking::next_path(&mut self.core, walk);
+        let item = nl_volume_list::next_path(&mut self.core, walk);
         device_stands(&self.core.device);
         counts(&self.core);
         item

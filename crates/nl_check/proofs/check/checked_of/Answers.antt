@@ -1,5 +1,5 @@
 use Rattle.std.proofs.Common.{subst}
-use Rattle.nl_opening.specs.Opening.{OpensImage}
+use Rattle.nl_core_open.specs.Opening.{OpensImage}
 use Rattle.nl_check.proofs.Sets.{checks-damaged, checks-sound}
 use Rattle.nl_check.proofs.check.checked_of.Goals as goal
 

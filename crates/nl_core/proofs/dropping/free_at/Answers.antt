@@ -1,6 +1,6 @@
 use Rattle.std.proofs.Common.{inr, ◌∙◌, ap, option_map}
 use Rattle.std.proofs.lemmas.Option.{slice_get-map}
-use Rattle.nl_commit.proofs.Frees.{frees_one}
+use Rattle.nl_journal_commit.proofs.Frees.{frees_one}
 use Rattle.nl_flight.specs.Flight.{of_worker}
 use Rattle.nl_flight.specs.declared.page.FlightPage.{FlightPage}
 use Rattle.nl_core.proofs.dropping.free_at.Goals as goal

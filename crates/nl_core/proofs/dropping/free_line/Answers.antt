@@ -1,5 +1,5 @@
 use Rattle.std.proofs.Common.{◌≡◌, ◌∙◌, subst, take, arith}
-use Rattle.nl_commit.specs.Freeing.{FreesEach}
+use Rattle.nl_journal_commit.specs.Freeing.{FreesEach}
 use Rattle.nl_flight.specs.Flight.{of_worker}
 use Rattle.nl_iface.proofs.Stops.{keeps_medium_then}
 use Rattle.nl_core.specs.Dropping.{pointers_of}

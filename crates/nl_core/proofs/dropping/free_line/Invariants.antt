@@ -1,5 +1,5 @@
 use Rattle.std.proofs.Common.{◌≡◌, take}
-use Rattle.nl_commit.specs.Freeing.{FreesEach}
+use Rattle.nl_journal_commit.specs.Freeing.{FreesEach}
 use Rattle.nl_flight.specs.Flight.{of_worker}
 use Rattle.nl_iface.specs.Calls.{KeepsMedium}
 use Rattle.nl_core.specs.Dropping.{pointers_of}

@@ -1,5 +1,5 @@
 use Rattle.std.proofs.lemmas.Bool.{both_ways}
-use Rattle.nl_running.proofs.Holds.{bounds-of}
+use Rattle.nl_meta_running.proofs.Holds.{bounds-of}
 use Rattle.nl_handler.proofs.Found.{get-spelled, is-file, is-no-file, node-needed}
 use Rattle.nl_handler.proofs.metadata.file_at.Goals as goal
 

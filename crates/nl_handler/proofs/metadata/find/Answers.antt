@@ -4,9 +4,9 @@ use Rattle.nl_field.specs.declared.pointer.Tag.{Tag}
 use Rattle.nl_iface.specs.declared.counts.Counts.{Ghosts}
 use Rattle.nl_inode.specs.Nodes.{page_of_node}
 use Rattle.nl_meta.specs.Pages.{Pages, page_of}
-use Rattle.nl_running.specs.Running.{RunsOn, running_on}
-use Rattle.nl_running.proofs.Holds.{bounds-of}
-use Rattle.nl_running.proofs.Kept.{kept-then, runs-then}
+use Rattle.nl_meta_running.specs.Running.{RunsOn, running_on}
+use Rattle.nl_meta_running.proofs.Holds.{bounds-of}
+use Rattle.nl_meta_running.proofs.Kept.{kept-then, runs-then}
 use Rattle.nl_handler.specs.Handling.{TagsFile}
 use Rattle.nl_handler.proofs.Finding.{at-hand, file-on, has-tagged, none-tagged, stamp-spelled}
 use Rattle.nl_handler.proofs.Found.{if-some}

@@ -1,9 +1,9 @@
 use Rattle.std.proofs.Common.{ℕ, ◌∙◌, sym, subst, IsSome}
 use Rattle.nl_indirect.specs.Ranges.{HasRange}
 use Rattle.nl_meta.specs.Pages.{page_of}
-use Rattle.nl_running.specs.Holding.{HoldsPage}
-use Rattle.nl_running.specs.Running.{IsNeeded, running_on}
-use Rattle.nl_running.proofs.Holds.{bounds-of}
+use Rattle.nl_meta_running.specs.Holding.{HoldsPage}
+use Rattle.nl_meta_running.specs.Running.{IsNeeded, running_on}
+use Rattle.nl_meta_running.proofs.Holds.{bounds-of}
 use Rattle.nl_handler.proofs.Found.{if-ok, range-needed, range-there}
 use Rattle.nl_handler.proofs.metadata.hold_range.Goals as goal
 

@@ -5,9 +5,9 @@ use Rattle.nl_field.specs.declared.inode.InodeRec.{InodeRec}
 use Rattle.nl_field.specs.declared.pointer.Tag.{Tag}
 use Rattle.nl_iface.specs.declared.counts.Counts.{Ghosts}
 use Rattle.nl_meta.specs.Pages.{Pages, has_room}
-use Rattle.nl_running.specs.Running.{Runs, running_on}
-use Rattle.nl_running.proofs.Holds.{bounds-of}
-use Rattle.nl_running.proofs.Kept.{runs-then}
+use Rattle.nl_meta_running.specs.Running.{Runs, running_on}
+use Rattle.nl_meta_running.proofs.Holds.{bounds-of}
+use Rattle.nl_meta_running.proofs.Kept.{runs-then}
 use Rattle.nl_handler.specs.Changing.{IsAtHand}
 use Rattle.nl_handler.specs.Handling.{HasTagged, HoldsTagged, page_holding}
 use Rattle.nl_handler.proofs.Found.{if-some}

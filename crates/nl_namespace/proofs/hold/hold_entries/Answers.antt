@@ -1,12 +1,12 @@
 use Rattle.std.proofs.Common.{◌∙◌, inr, arith}
 use Rattle.nl_meta.proofs.AddressProofs.{inode_spelled}
 use Rattle.nl_dir.proofs.Records.{spelled-dir}
-use Rattle.nl_running.specs.Running.{running_on}
+use Rattle.nl_meta_running.specs.Running.{running_on}
 use Rattle.nl_namespace.proofs.Entries.{entries-held}
-use Rattle.nl_running.proofs.Holds.{bounds-of}
-use Rattle.nl_running.proofs.Kept.{kept-then, need-on, runs-then}
+use Rattle.nl_meta_running.proofs.Holds.{bounds-of}
+use Rattle.nl_meta_running.proofs.Kept.{kept-then, need-on, runs-then}
 use Rattle.nl_namespace.proofs.Rows.{rows-more}
-use Rattle.nl_running.proofs.SameNeeded.{row-used}
+use Rattle.nl_meta_running.proofs.SameNeeded.{row-used}
 use Rattle.nl_namespace.proofs.hold.hold_entries.Goals as goal
 
 pub bounds-rec-row : goal.bounds-rec-row

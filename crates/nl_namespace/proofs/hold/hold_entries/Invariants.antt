@@ -1,6 +1,6 @@
 use Rattle.std.proofs.Common.{◌≡◌, ◌<◌, ℕ, get_or, IsSome}
 use Rattle.nl_meta.specs.Pages.{page_of}
-use Rattle.nl_running.specs.Running.{RunsOn}
+use Rattle.nl_meta_running.specs.Running.{RunsOn}
 use Rattle.nl_namespace.proofs.hold.hold_entries.Given as goal
 
 abbrev pub invariant-loop-row : goal.invariant-loop-row

@@ -1,8 +1,8 @@
 use Rattle.std.proofs.Common.{ℕ, List, refl, sym, subst, inl, inr, arith}
 use Rattle.nl_inode.specs.Nodes.{Spaces}
 use Rattle.nl_inode.proofs.MarkTree.{set-below}
-use Rattle.nl_running.proofs.Holds.{bounds-of}
-use Rattle.nl_running.proofs.SameNeeded.{inode-address}
+use Rattle.nl_meta_running.proofs.Holds.{bounds-of}
+use Rattle.nl_meta_running.proofs.SameNeeded.{inode-address}
 use Rattle.nl_namespace.specs.Making.{FitsNew, MakesIn}
 use Rattle.nl_namespace.proofs.MakeDone.{made-changes, made-fits, made-name}
 use Rattle.nl_namespace.proofs.MakeReady.{has-place, lacks, size-fits}

@@ -5,10 +5,10 @@ use Rattle.nl_field.specs.declared.inode.InodeRec.{InodeRec}
 use Rattle.nl_meta.specs.Nodes.{entries_of_inode}
 use Rattle.nl_meta.proofs.NodeProofs.{same_rec}
 use Rattle.nl_namespace.specs.Listing.{IsListing}
-use Rattle.nl_running.specs.Running.{running_on}
+use Rattle.nl_meta_running.specs.Running.{running_on}
 use Rattle.nl_namespace.proofs.Graphs.{graph}
-use Rattle.nl_running.proofs.Holds.{bounds-of}
-use Rattle.nl_running.proofs.Kept.{kept-then, runs-then, used-on}
+use Rattle.nl_meta_running.proofs.Holds.{bounds-of}
+use Rattle.nl_meta_running.proofs.Kept.{kept-then, runs-then, used-on}
 use Rattle.nl_namespace.proofs.Texts.{entries-on, graph-on}
 use Rattle.nl_namespace.proofs.names.list.Goals as goal
 

@@ -8,10 +8,10 @@ use Rattle.nl_dir.proofs.LawProofs.{entries_in_order}
 use Rattle.nl_dir.proofs.Records.{spelled-dir}
 use Rattle.nl_namespace.specs.Listing.{IsListing, text_of}
 use Rattle.nl_namespace.specs.Sorting.{IsOrder, entries_at}
-use Rattle.nl_running.specs.Running.{running_on}
+use Rattle.nl_meta_running.specs.Running.{running_on}
 use Rattle.nl_namespace.proofs.Graphs.{graph}
-use Rattle.nl_running.proofs.Holds.{bounds-of, none-runs}
-use Rattle.nl_running.proofs.Kept.{kept-then, runs-then, used-on}
+use Rattle.nl_meta_running.proofs.Holds.{bounds-of, none-runs}
+use Rattle.nl_meta_running.proofs.Kept.{kept-then, runs-then, used-on}
 use Rattle.nl_namespace.proofs.Placing.{all-listed, none-printed, place-at-position, place-has, printed-more}
 use Rattle.nl_namespace.proofs.Texts.{directory-of, entries-on, graph-on}
 use Rattle.nl_namespace.proofs.names.print_all.Goals as goal

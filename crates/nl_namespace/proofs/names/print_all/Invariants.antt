@@ -2,7 +2,7 @@ use Rattle.std.proofs.Common.{◌≡◌, ◌*◌, ◌≤◌, length, take}
 use Rattle.nl_meta.specs.Nodes.{entries_of_inode}
 use Rattle.nl_namespace.specs.Listing.{text_of}
 use Rattle.nl_namespace.specs.Sorting.{entries_at}
-use Rattle.nl_running.specs.Running.{RunsOn, running_on}
+use Rattle.nl_meta_running.specs.Running.{RunsOn, running_on}
 use Rattle.nl_namespace.proofs.Graphs.{graph}
 use Rattle.nl_namespace.proofs.names.print_all.Given as goal
 

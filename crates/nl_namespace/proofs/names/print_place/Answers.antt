@@ -5,8 +5,8 @@ use Rattle.nl_field.specs.Members.{Has}
 use Rattle.nl_field.specs.declared.entry.EntryRec.{EntryRec}
 use Rattle.nl_namespace.specs.Listing.{kind_mark, text_of}
 use Rattle.nl_namespace.proofs.Graphs.{graph}
-use Rattle.nl_running.proofs.Holds.{bounds-of}
-use Rattle.nl_running.proofs.Kept.{kept-then, runs-then, used-back, used-on}
+use Rattle.nl_meta_running.proofs.Holds.{bounds-of}
+use Rattle.nl_meta_running.proofs.Kept.{kept-then, runs-then, used-back, used-on}
 use Rattle.nl_namespace.proofs.Placing.{at-has}
 use Rattle.nl_namespace.proofs.Texts.{listed-used, one-text}
 use Rattle.nl_namespace.proofs.names.print_place.Goals as goal

@@ -1,6 +1,6 @@
 use Rattle.std.proofs.Common.{refl, sym, ap, ◌∙◌, is_some, Some}
 use Rattle.nl_inode.specs.Nodes.{page_of_node}
-use Rattle.nl_running.proofs.Holds.{bounds-of}
+use Rattle.nl_meta_running.proofs.Holds.{bounds-of}
 use Rattle.nl_namespace.proofs.Chains.{then-node, then-on, then-reads, then-runs}
 use Rattle.nl_namespace.proofs.Entries.{has-before, named-held}
 use Rattle.nl_namespace.proofs.place.enter.Goals as goal

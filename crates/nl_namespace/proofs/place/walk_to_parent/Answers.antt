@@ -3,8 +3,8 @@ use Rattle.std.specs.Prelude.{slice_get}
 use Rattle.nl_tree.specs.Represents.{node_reached}
 use Rattle.nl_namespace.specs.Paths.{walk_refusal}
 use Rattle.nl_namespace.specs.Stepping.{Steps}
-use Rattle.nl_running.specs.Running.{IsUsed}
-use Rattle.nl_running.proofs.Holds.{bounds-of, none-runs}
+use Rattle.nl_meta_running.specs.Running.{IsUsed}
+use Rattle.nl_meta_running.proofs.Holds.{bounds-of, none-runs}
 use Rattle.nl_namespace.proofs.Chains.{node-before, then-on, then-reads, then-runs, then-used}
 use Rattle.nl_namespace.proofs.Entries.{directory-back}
 use Rattle.nl_namespace.proofs.Graphs.{entry-is, entry-used, graph, root-used}

@@ -6,10 +6,10 @@ use Rattle.nl_tree.specs.Represents.{node_reached}
 use Rattle.nl_tree.specs.Step.{is_too_long}
 use Rattle.nl_tree.specs.Tree.{is_root}
 use Rattle.nl_tree.specs.declared.reply.Refusal.{Refusal}
-use Rattle.nl_running.specs.Reading.{Reads}
-use Rattle.nl_running.specs.Running.{running_on}
-use Rattle.nl_running.specs.declared.answer.Stop.{Stop}
-use Rattle.nl_running.proofs.Holds.{none-runs}
+use Rattle.nl_meta_running.specs.Reading.{Reads}
+use Rattle.nl_meta_running.specs.Running.{running_on}
+use Rattle.nl_meta_running.specs.declared.answer.Stop.{Stop}
+use Rattle.nl_meta_running.proofs.Holds.{none-runs}
 use Rattle.nl_namespace.specs.Naming.{RemovesName, body_at, refusal_of_kind}
 use Rattle.nl_namespace.specs.Paths.{walk_refusal}
 use Rattle.nl_namespace.specs.Placing.{IfHeld, IsSpot}

@@ -1,6 +1,6 @@
 use Rattle.std.proofs.Common.{ℕ, List, refl, sym, subst, ◌∙◌, Some, rules}
-use Rattle.nl_running.specs.Reading.{Reads}
-use Rattle.nl_running.specs.declared.answer.Stop.{Stop}
+use Rattle.nl_meta_running.specs.Reading.{Reads}
+use Rattle.nl_meta_running.specs.declared.answer.Stop.{Stop}
 use Rattle.nl_namespace.specs.Entering.{HasNamed, TakesOut}
 use Rattle.nl_namespace.specs.Naming.{refusal_of_record}
 use Rattle.nl_namespace.proofs.RemoveDone.{has-named, lost-changes, lost-name, one-of, target-used, with-target}

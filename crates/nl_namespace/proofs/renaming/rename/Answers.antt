@@ -5,7 +5,7 @@ use Rattle.nl_field.specs.declared.inode.Kind.TheVariants.{Dir}
 use Rattle.nl_meta.specs.Nodes.{graph_of}
 use Rattle.nl_tree.specs.Step.{is_too_long}
 use Rattle.nl_tree.specs.Tree.{is_at_or_under, paths_eq}
-use Rattle.nl_running.specs.Running.{running_on}
+use Rattle.nl_meta_running.specs.Running.{running_on}
 use Rattle.nl_namespace.specs.Finding.{IfFound, IsFound}
 use Rattle.nl_namespace.specs.Moving.{RenamesName}
 use Rattle.nl_namespace.proofs.Chains.{then-graph, then-runs}

@@ -2,7 +2,7 @@ use Rattle.std.proofs.Common.{ℕ, ◌-◌, List, refl, sym, ap, subst, ◌∙�
 use Rattle.std.specs.Prelude.{slice_get}
 use Rattle.nl_meta.specs.Nodes.{graph_of}
 use Rattle.nl_inode.specs.Nodes.{Spaces}
-use Rattle.nl_running.specs.Running.{running_on}
+use Rattle.nl_meta_running.specs.Running.{running_on}
 use Rattle.nl_namespace.specs.Entering.{HasNamed, TakesOut}
 use Rattle.nl_namespace.specs.Finding.{FitsAfter, IfFound, IsFound, MovesIn, place_of}
 use Rattle.nl_namespace.proofs.MakeDone.{last-is-name, not-empty-root}

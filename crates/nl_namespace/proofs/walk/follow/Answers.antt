@@ -1,7 +1,7 @@
 use Rattle.std.proofs.Common.{refl, sym, ◌∙◌}
 use Rattle.nl_namespace.proofs.Entries.{named-held}
-use Rattle.nl_running.proofs.Holds.{bounds-of}
-use Rattle.nl_running.proofs.Kept.{kept-then, runs-then, used-on}
+use Rattle.nl_meta_running.proofs.Holds.{bounds-of}
+use Rattle.nl_meta_running.proofs.Kept.{kept-then, runs-then, used-on}
 use Rattle.nl_namespace.proofs.walk.follow.Goals as goal
 
 pub hold_entries-requires-clause-runs : goal.hold_entries-requires-clause-runs

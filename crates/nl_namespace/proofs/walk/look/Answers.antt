@@ -1,12 +1,12 @@
 use Rattle.std.proofs.Common.{ℕ, ◌+◌, drop, refl, sym, ap, subst, ◌∙◌, Some, None, arith}
 use Rattle.nl_tree.specs.Represents.{node_reached}
 use Rattle.nl_namespace.specs.Paths.{walk_refusal}
-use Rattle.nl_running.specs.Running.{IsUsed}
+use Rattle.nl_meta_running.specs.Running.{IsUsed}
 use Rattle.nl_namespace.specs.Stepping.{Steps}
 use Rattle.nl_namespace.proofs.Entries.{directory-back}
 use Rattle.nl_namespace.proofs.Graphs.{drop-all, entry-used, graph, root-used}
-use Rattle.nl_running.proofs.Holds.{bounds-of, none-runs}
-use Rattle.nl_running.proofs.Kept.{kept-then, runs-then, used-back, used-on}
+use Rattle.nl_meta_running.proofs.Holds.{bounds-of, none-runs}
+use Rattle.nl_meta_running.proofs.Kept.{kept-then, runs-then, used-back, used-on}
 use Rattle.nl_namespace.proofs.Walks.{file-before, missing-before, missing-last, onwards}
 use Rattle.nl_namespace.proofs.walk.look.Goals as goal
 

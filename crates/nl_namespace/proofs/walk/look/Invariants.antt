@@ -1,7 +1,7 @@
 use Rattle.std.proofs.Common.{◌≡◌, drop}
 use Rattle.nl_tree.specs.Represents.{node_reached}
 use Rattle.nl_namespace.specs.Paths.{walk_refusal}
-use Rattle.nl_running.specs.Running.{IsUsed, RunsOn}
+use Rattle.nl_meta_running.specs.Running.{IsUsed, RunsOn}
 use Rattle.nl_namespace.proofs.Graphs.{graph}
 use Rattle.nl_namespace.proofs.walk.look.Given as goal
 

@@ -3,7 +3,7 @@ use Rattle.nl_field.specs.Numbers.{ShapeBounds}
 use Rattle.nl_field.specs.declared.shape.Shape.{Shape}
 use Rattle.nl_journal.specs.declared.answers.ReadBack.{ReadBack}
 use Rattle.nl_journal.specs.declared.answers.ReadBack.TheVariants.{Agreed, Nothing, Fault}
-use Rattle.nl_running.proofs.Holds.{bounds-of}
+use Rattle.nl_meta_running.proofs.Holds.{bounds-of}
 use Rattle.nl_journal.proofs.BackStands.{back-on}
 use Rattle.nl_recover.proofs.ReadStands.{alike-on, loads-on}
 use Rattle.nl_recover.proofs.metadata.fill.Goals as goal

@@ -1,6 +1,6 @@
 use Rattle.std.proofs.Common.{◌∙◌, sym, subst}
 use Rattle.nl_field.specs.Numbers.{ShapeBounds}
-use Rattle.nl_running.proofs.Holds.{bounds-of}
+use Rattle.nl_meta_running.proofs.Holds.{bounds-of}
 use Rattle.nl_recover.proofs.WalkedFacts.{counted-of, damaged-of, finds-of, walked-of}
 use Rattle.nl_recover.proofs.opening.recover.Goals as goal
 

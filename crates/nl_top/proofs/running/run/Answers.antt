@@ -1,5 +1,5 @@
 use Rattle.std.proofs.Common.{ap, subst, List, ℕ}
-use Rattle.nl_headline.specs.Streams.{Prints, stream}
+use Rattle.nl_spec_headline.specs.Streams.{Prints, stream}
 use Rattle.nl_print.specs.Texts.{refused_text}
 use Rattle.nl_top.specs.RunEnds.{runs_script, script_refused, source_fault, source_no_memory}
 use Rattle.nl_top.proofs.Left.{same_leaves}

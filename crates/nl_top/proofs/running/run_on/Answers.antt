@@ -1,7 +1,7 @@
 use Rattle.std.proofs.Common.{◌∙◌, ℕ, ap, refl, sym, subst, codes}
-use Rattle.nl_commands.specs.Ends.{no_memory}
-use Rattle.nl_headline.specs.Status.{DoneStatus, RunFailed}
-use Rattle.nl_headline.specs.Streams.{medium, stream}
+use Rattle.nl_cmd_words.specs.Ends.{no_memory}
+use Rattle.nl_spec_headline.specs.Status.{DoneStatus, RunFailed}
+use Rattle.nl_spec_headline.specs.Streams.{medium, stream}
 use Rattle.nl_top.specs.Leaving.{leaves_within}
 use Rattle.nl_top.specs.RunEnds.{RunEnds, not_run}
 use Rattle.nl_top.specs.Telling.{Shows, told_text}

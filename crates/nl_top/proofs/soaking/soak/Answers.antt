@@ -1,6 +1,6 @@
 use Rattle.std.proofs.Common.{◌≡◌, ◌∙◌, List, Option, Ok, ap, codes, refl, subst, sym}
 use Rattle.std.specs.Prelude.{IfSome}
-use Rattle.nl_commands.specs.Ends.{no_memory}
+use Rattle.nl_cmd_words.specs.Ends.{no_memory}
 use Rattle.nl_tree.specs.declared.call.Line.{Line}
 use Rattle.nl_top.specs.RunEnds.{not_run}
 use Rattle.nl_top.proofs.Left.{same_leaves}

@@ -1,6 +1,6 @@
 use Rattle.std.proofs.Common.{IsTrue, refl, subst, sym}
-use Rattle.nl_headline.specs.Status.{RunFailed}
-use Rattle.nl_headline.specs.Streams.{stream}
+use Rattle.nl_spec_headline.specs.Status.{RunFailed}
+use Rattle.nl_spec_headline.specs.Streams.{stream}
 use Rattle.nl_tree.specs.Causes.{Counts}
 use Rattle.nl_top.specs.Telling.{told_text}
 use Rattle.nl_top.proofs.Failed.{failed_by, failed_some, some_failed}

@@ -1,7 +1,7 @@
 use Rattle.std.proofs.Common.{◌∙◌, ap, refl, subst, sym, Option, None, Some}
-use Rattle.nl_commands.specs.declared.command.Command.{Command}
-use Rattle.nl_commands.specs.declared.command.Command.TheVariants.{Check, Format, Report, Run, Soak, Tree}
-use Rattle.nl_headline.specs.Streams.{medium_seen, sink_seen, source_seen}
+use Rattle.nl_cmd_words.specs.declared.command.Command.{Command}
+use Rattle.nl_cmd_words.specs.declared.command.Command.TheVariants.{Check, Format, Report, Run, Soak, Tree}
+use Rattle.nl_spec_headline.specs.Streams.{medium_seen, sink_seen, source_seen}
 use Rattle.nl_top.specs.Complete.{CarriesOut}
 use Rattle.nl_top.specs.Ends.{checks, faulty_words, formats, reports, runs, shows_tree, soaks}
 use Rattle.nl_top.specs.Leaving.{leaves_within}

@@ -1,11 +1,11 @@
 use Rattle.std.proofs.Common.{◌∙◌, ◌<◌, length, refl, sym, arith}
 use Rattle.nl_core.proofs.Renamed.{as_many}
-use Rattle.nl_answering.proofs.Answered.{and_false, fault_effect}
-use Rattle.nl_answering.proofs.Counted.{goes_counted}
-use Rattle.nl_answering.proofs.Ended.{ends_dropped}
-use Rattle.nl_answering.specs.Answering.{is_sync_call}
-use Rattle.nl_staging.specs.Serving.{counts_of, refusing_of}
-use Rattle.nl_staging.proofs.Due.{due_refused}
+use Rattle.nl_calls.proofs.Answered.{and_false, fault_effect}
+use Rattle.nl_calls.proofs.Counted.{goes_counted}
+use Rattle.nl_calls.proofs.Ended.{ends_dropped}
+use Rattle.nl_calls.specs.Answering.{is_sync_call}
+use Rattle.nl_volume_stage.specs.Serving.{counts_of, refusing_of}
+use Rattle.nl_volume_stage.proofs.Due.{due_refused}
 use Rattle.nl_volume.proofs.effect.answer.Goals as goal
 
 pub drop_line-requires-clause-core : goal.drop_line-requires-clause-core

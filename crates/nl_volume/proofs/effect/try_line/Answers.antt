@@ -1,12 +1,12 @@
 use Rattle.std.proofs.Common.{◌∙◌, sym, arith}
 use Rattle.nl_core.proofs.Renamed.{as_many}
-use Rattle.nl_answering.proofs.Answered.{answer_after, cleans_after}
-use Rattle.nl_answering.proofs.Counted.{goes_counted}
-use Rattle.nl_staging.specs.Serving.{counts_of, refusing_of}
-use Rattle.nl_staging.proofs.Due.{due_tried, tried_may}
-use Rattle.nl_staging.proofs.Few.{few_staged}
-use Rattle.nl_staging.proofs.Lines.{staged_for}
-use Rattle.nl_staging.proofs.Serving.{none_is, runs_of}
+use Rattle.nl_calls.proofs.Answered.{answer_after, cleans_after}
+use Rattle.nl_calls.proofs.Counted.{goes_counted}
+use Rattle.nl_volume_stage.specs.Serving.{counts_of, refusing_of}
+use Rattle.nl_volume_stage.proofs.Due.{due_tried, tried_may}
+use Rattle.nl_volume_stage.proofs.Few.{few_staged}
+use Rattle.nl_volume_stage.proofs.Lines.{staged_for}
+use Rattle.nl_volume_stage.proofs.Serving.{none_is, runs_of}
 use Rattle.nl_volume.proofs.effect.try_line.Goals as goal
 
 pub answer_call-requires-clause-core : goal.answer_call-requires-clause-core

@@ -2,7 +2,7 @@ use Rattle.std.proofs.Common.{◌≡◌, [], ap, sym, ◌∙◌}
 use Rattle.nl_device.specs.Medium.{medium_of}
 use Rattle.nl_field.specs.Medium.{shape_of_image}
 use Rattle.nl_field.specs.Numbers.{shape_for}
-use Rattle.nl_sound.specs.Stands.{SoundAs}
+use Rattle.nl_spec_image.specs.Stands.{SoundAs}
 use Rattle.nl_volume.proofs.Opens.{not_sound}
 use Rattle.nl_volume.proofs.Trees.{sound_as_it, tree_of}
 use Rattle.nl_volume.proofs.opened.open.Goals as goal

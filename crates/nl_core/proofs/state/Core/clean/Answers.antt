@@ -1,6 +1,6 @@
 use Rattle.std.proofs.Common.{◌≡◌, inl, inr, ⊎_elim, ap, sym, subst, refl}
-use Rattle.nl_cleaning.specs.Carried.{KeepsStored}
-use Rattle.nl_cleaning.specs.declared.cleaning.Cleaned.TheVariants as cleaned
+use Rattle.nl_core_clean.specs.Carried.{KeepsStored}
+use Rattle.nl_core_clean.specs.declared.cleaning.Cleaned.TheVariants as cleaned
 use Rattle.nl_iface.specs.Calls.{NoWriteFailed, stored}
 use Rattle.nl_iface.specs.Space.{CanLand}
 use Rattle.nl_core.specs.Calls.{HasCause}

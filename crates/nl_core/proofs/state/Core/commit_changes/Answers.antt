@@ -2,7 +2,7 @@ use Rattle.std.proofs.Common.{◌≡◌, ◌∙◌, List, map, ap, sym, subst, r
 use Rattle.nl_tree.specs.declared.turn.Duty.TheVariants as task
 use Rattle.nl_tree.specs.declared.turn.DutyAnswer.{DutyAnswer}
 use Rattle.nl_tree.specs.declared.turn.DutyAnswer.TheVariants as duty
-use Rattle.nl_drain.specs.Handled.{nameless_line}
+use Rattle.nl_core_callbacks.specs.Handled.{nameless_line}
 use Rattle.nl_flight.specs.Flight.{InFlight}
 use Rattle.nl_core.specs.Duties.{DoesTask}
 use Rattle.nl_core.proofs.Tasks.{commit_does, commit_fault, commit_keeps_lines, nothing_does}

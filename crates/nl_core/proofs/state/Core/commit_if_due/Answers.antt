@@ -1,5 +1,5 @@
 use Rattle.std.proofs.Common.{◌≡◌, ap, map, arith}
-use Rattle.nl_drain.specs.Handled.{nameless_line}
+use Rattle.nl_core_callbacks.specs.Handled.{nameless_line}
 use Rattle.nl_iface.proofs.RoundSteps.{empties_laws}
 use Rattle.nl_core.specs.Core.{names_of}
 use Rattle.nl_core.specs.declared.rounds.Rounded.TheVariants as rounded

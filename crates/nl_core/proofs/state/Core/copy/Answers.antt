@@ -2,7 +2,7 @@ use Rattle.std.proofs.Common.{◌≡◌, ◌∙◌, ap, sym, subst, refl}
 use Rattle.nl_tree.specs.declared.turn.Duty.TheVariants as task
 use Rattle.nl_tree.specs.declared.turn.DutyAnswer.{DutyAnswer}
 use Rattle.nl_tree.specs.declared.turn.DutyAnswer.TheVariants as duty
-use Rattle.nl_cleaning.proofs.Once.{copy_ends}
+use Rattle.nl_core_clean.proofs.Once.{copy_ends}
 use Rattle.nl_core.specs.Calls.{HasCause, KeepsLines}
 use Rattle.nl_core.specs.Core.{IsCore}
 use Rattle.nl_core.specs.Duties.{DoesTask, duty_of_copy}

@@ -2,7 +2,7 @@ use Rattle.std.proofs.Common.{ℕ, sym, ◌∙◌, ap, Option, option_and_then, 
 use Rattle.std.specs.Prelude.{slice_get}
 use Rattle.nl_field.specs.SuperPage.{super_of}
 use Rattle.nl_field.specs.declared.super_page.SuperRec.{SuperRec}
-use Rattle.nl_commit.proofs.Places.{no_place}
+use Rattle.nl_journal_commit.proofs.Places.{no_place}
 use Rattle.nl_core.proofs.First.{any_has}
 use Rattle.nl_core.proofs.state.Core.frozen_count.Goals as goal
 

@@ -1,7 +1,7 @@
 use Rattle.std.proofs.Common.{◌≡◌, ◌+◌, ◌∙◌, Some, ap}
 use Rattle.nl_tree.specs.declared.turn.DutyAnswer.TheVariants as duty
-use Rattle.nl_drain.specs.declared.draining.Drained.{Drained}
-use Rattle.nl_drain.specs.declared.draining.Drained.TheVariants as drained
+use Rattle.nl_core_callbacks.specs.declared.draining.Drained.{Drained}
+use Rattle.nl_core_callbacks.specs.declared.draining.Drained.TheVariants as drained
 use Rattle.nl_core.specs.Core.{begun_of}
 use Rattle.nl_core.proofs.HandledNumber.{handled_done, handles_then, pending_some}
 use Rattle.nl_core.proofs.Onward.{cause_then, goes_then}

@@ -2,7 +2,7 @@ use Rattle.std.proofs.Common.{◌≡◌, ⊎_elim, ◌+◌, ◌∙◌, Some, sym
 use Rattle.std.proofs.lemmas.Bool.{cases_eq}
 use Rattle.nl_tree.specs.declared.turn.DutyAnswer.{DutyAnswer}
 use Rattle.nl_tree.specs.declared.turn.DutyAnswer.TheVariants as duty
-use Rattle.nl_drain.specs.declared.draining.Drained.TheVariants as drained
+use Rattle.nl_core_callbacks.specs.declared.draining.Drained.TheVariants as drained
 use Rattle.nl_journal.specs.declared.answers.Committing.{Committing}
 use Rattle.nl_core.specs.Calls.{Commits, CommitsAll}
 use Rattle.nl_core.specs.Core.{begun_of}

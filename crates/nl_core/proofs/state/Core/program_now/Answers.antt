@@ -2,7 +2,7 @@ use Rattle.std.proofs.Common.{◌≡◌, ⊎_elim, ◌+◌, ◌≤◌, ◌<◌, 
 use Rattle.nl_field.specs.declared.answers.Named.{Named}
 use Rattle.nl_field.specs.declared.answers.Named.TheVariants as named
 use Rattle.nl_iface.specs.Answers.{IfPlaced, IsPlaced}
-use Rattle.nl_running.proofs.Holds.{bounds-of}
+use Rattle.nl_meta_running.proofs.Holds.{bounds-of}
 use Rattle.nl_core.specs.Core.{names_of}
 use Rattle.nl_core.specs.Programming.{PutsInFlight}
 use Rattle.nl_core.specs.declared.programming.Programmed.TheVariants as programmed

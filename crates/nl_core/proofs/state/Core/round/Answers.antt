@@ -1,6 +1,6 @@
 use Rattle.std.proofs.Common.{◌≡◌, ◌∙◌, ◌^◌, ap, map}
-use Rattle.nl_cleaning.specs.declared.cleaning.Cleaned.TheVariants as cleaned
-use Rattle.nl_drain.specs.Handled.{nameless_line}
+use Rattle.nl_core_clean.specs.declared.cleaning.Cleaned.TheVariants as cleaned
+use Rattle.nl_core_callbacks.specs.Handled.{nameless_line}
 use Rattle.nl_core.specs.Rounds.{EmptiesTable, RoundIsDone}
 use Rattle.nl_core.specs.declared.state.Core.{Core}
 use Rattle.nl_core.proofs.Onward.{cause_then, goes_then}

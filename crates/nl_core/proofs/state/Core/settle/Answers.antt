@@ -1,6 +1,6 @@
 use Rattle.std.proofs.Common.{◌≡◌, ◌+◌, take, drop, refl, ap, subst, ◌∙◌, List}
 use Rattle.std.proofs.Math.Seq.{drop-length, take-length}
-use Rattle.nl_commit.specs.Freeing.{FreesEach}
+use Rattle.nl_journal_commit.specs.Freeing.{FreesEach}
 use Rattle.nl_field.specs.declared.pointer.Pointer.{Pointer}
 use Rattle.nl_core.proofs.state.Core.settle.Goals as goal
 

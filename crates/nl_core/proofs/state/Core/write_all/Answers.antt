@@ -1,10 +1,10 @@
 use Rattle.std.proofs.Common.{◌≡◌, ◌∙◌, ap, sym, subst, refl, length}
 use Rattle.std.specs.Prelude.{IfSome}
-use Rattle.nl_held.specs.TreeLaws.{moment_of}
+use Rattle.nl_spec_commits.specs.TreeLaws.{moment_of}
 use Rattle.nl_journal.specs.Left.{CommitWrites}
 use Rattle.nl_journal.specs.Progress.{HasNumber}
-use Rattle.nl_commit.specs.Committing.{ChangesAt, Commits, EarlierAt}
-use Rattle.nl_commit.specs.Counting.{with_count}
+use Rattle.nl_journal_commit.specs.Committing.{ChangesAt, Commits, EarlierAt}
+use Rattle.nl_journal_commit.specs.Counting.{with_count}
 use Rattle.nl_field.specs.declared.answers.VirtualWrite.TheVariants as write
 use Rattle.nl_iface.specs.Calls.{StoresPages}
 use Rattle.nl_core.specs.Writing.{WritesAll, committed_by, stopped_by, stored_count}

@@ -2,10 +2,10 @@ use Rattle.std.proofs.Common.{inl, ◌∙◌, ap, subst, sym}
 use Rattle.nl_pseg.specs.Segment.{CanLead, IsDead, Physical}
 use Rattle.nl_pseg.specs.Seen.{seen}
 use Rattle.nl_pseg.specs.Steps.{Loads}
-use Rattle.nl_uses.specs.Uses.{Use}
+use Rattle.nl_pseg_blocks.specs.Uses.{Use}
 use Rattle.nl_pseg.proofs.Ended.{few_none}
 use Rattle.nl_pseg.proofs.Holds.{kept_some}
-use Rattle.nl_uses.proofs.Tables.{use_from}
+use Rattle.nl_pseg_blocks.proofs.Tables.{use_from}
 use Rattle.nl_pseg.proofs.Wrote.{free_spare}
 use Rattle.nl_pseg.specs.Kept.{kept}
 use Rattle.nl_pseg.proofs.pseg.PSeg.load.Goals as goal

@@ -1,6 +1,6 @@
 use Rattle.std.proofs.Common.{◌≡◌, ℕ, ◌+◌, ◌*◌, ◌<◌, ◌≤◌, true, sym, ap, subst, arith}
 use Rattle.nl_pseg.specs.Segment.{Physical, InSegment, IsClean, KeepsBlock, TakenAsErased, is_free, room, erasures}
-use Rattle.nl_uses.specs.Uses.{Use}
+use Rattle.nl_pseg_blocks.specs.Uses.{Use}
 use Rattle.nl_pseg.proofs.News.{new_clean, new_kept, new_room, new_taken, new_use, new_wear}
 use Rattle.nl_pseg.proofs.Shapes.{legal_bounds, two_blocks}
 use Rattle.nl_pseg.proofs.Wrote.{free_spare}

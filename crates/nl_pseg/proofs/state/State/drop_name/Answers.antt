@@ -4,15 +4,15 @@ use Rattle.std.proofs.Common.{rules, ◌≡◌, inl, inr, ⊎_elim, ◌+◌, ◌
 use Rattle.std.proofs.lemmas.Bool.{cases_eq, true≢false}
 use Rattle.nl_blocks.specs.Table.{HasBlock, after_erase, block_at, is_retired_state, names_of}
 use Rattle.nl_remap.specs.Table.{IsOld, place_of}
-use Rattle.nl_old_names.specs.OldNames.{NameTable}
+use Rattle.nl_pseg_names.specs.OldNames.{NameTable}
 use Rattle.nl_pseg.specs.Seen.{IsTied, IsFormed, seen}
 use Rattle.nl_remap.proofs.TableProofs.{IsOld-remove_back}
-use Rattle.nl_uses.specs.Uses.{use_in, Use}
+use Rattle.nl_pseg_blocks.specs.Uses.{use_in, Use}
 use Rattle.nl_pseg.proofs.Dropped.{dropped_tied, formed_names, not_free_state}
 use Rattle.nl_pseg.proofs.Dropping.{one_fewer}
 use Rattle.nl_pseg.proofs.Gone.{gone_names}
-use Rattle.nl_old_names.proofs.Named.{old_within}
-use Rattle.nl_uses.proofs.Tables.{use_here}
+use Rattle.nl_pseg_names.proofs.Named.{old_within}
+use Rattle.nl_pseg_blocks.proofs.Tables.{use_here}
 use Rattle.nl_pseg.specs.Kept.{kept, Kept}
 use Rattle.nl_pseg.proofs.state.State.drop_name.Goals as goal
 

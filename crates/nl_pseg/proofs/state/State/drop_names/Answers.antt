@@ -4,9 +4,9 @@ use Rattle.nl_remap.specs.Table.{IsOld, beside, led}
 use Rattle.nl_remap.specs.declared.links.Link.{Link}
 use Rattle.nl_remap.proofs.Ways.{led_has}
 use Rattle.nl_pseg.specs.Seen.{seen}
-use Rattle.nl_uses.specs.Uses.{use_in}
+use Rattle.nl_pseg_blocks.specs.Uses.{use_in}
 use Rattle.nl_pseg.proofs.Ended.{gone_none, gone_then}
-use Rattle.nl_uses.proofs.Tables.{free_kept}
+use Rattle.nl_pseg_blocks.proofs.Tables.{free_kept}
 use Rattle.nl_pseg.specs.Kept.{kept}
 use Rattle.nl_pseg.proofs.state.State.drop_names.Goals as goal
 

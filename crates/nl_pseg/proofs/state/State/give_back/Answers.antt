@@ -8,14 +8,14 @@ use Rattle.nl_blocks.specs.Table.{block_at}
 use Rattle.nl_remap.specs.Links.{link_at}
 use Rattle.nl_pseg.specs.Seen.{seen}
 use Rattle.nl_pseg.specs.Steps.{IsIdle}
-use Rattle.nl_uses.specs.Uses.{Use, SameNumbers}
+use Rattle.nl_pseg_blocks.specs.Uses.{Use, SameNumbers}
 use Rattle.nl_pseg.specs.Kept.{Kept, kept}
 use Rattle.nl_pseg.proofs.Closed.{closed_by, closing}
 use Rattle.nl_pseg.proofs.Forms.{next_is, left_is, formed_marks, formed_restated}
 use Rattle.nl_pseg.proofs.Segments.{IsApart, apart_taken}
 use Rattle.nl_pseg.proofs.Served.{free_set, served_tied}
 use Rattle.nl_pseg.proofs.States.{next_block}
-use Rattle.nl_uses.proofs.Tables.{free_state_is, has_same, shut_free, use_here}
+use Rattle.nl_pseg_blocks.proofs.Tables.{free_state_is, has_same, shut_free, use_here}
 use Rattle.nl_pseg.proofs.state.State.give_back.Goals as goal
 
 pub returns-clause-formed : goal.returns-clause-formed

@@ -10,10 +10,10 @@ use Rattle.nl_field.specs.declared.answers.Named.TheVariants as named
 use Rattle.nl_pseg.specs.declared.cleaned.Copied.TheVariants.{Fault, Moved}
 use Rattle.nl_nand.specs.ImageLaws.{filled_cut}
 use Rattle.nl_nand.specs.Nand.{Cut}
-use Rattle.nl_owned.specs.Pages.{page_with, shown_by}
+use Rattle.nl_pseg_pages.specs.Pages.{page_with, shown_by}
 use Rattle.nl_pseg.specs.Segment.{IsDead, Physical, held_at, wear_of, soiled}
 use Rattle.nl_pseg.specs.Seen.{seen}
-use Rattle.nl_uses.specs.Uses.{Use, use_in}
+use Rattle.nl_pseg_blocks.specs.Uses.{Use, use_in}
 use Rattle.nl_pseg.specs.Steps.{IsAlone, IsCopyUsed, IsLed}
 use Rattle.nl_pseg.specs.declared.held.Held.{Held}
 use Rattle.nl_pseg.proofs.CopyImages.{after_copy, after_led, copied_spare, copy_dead, copy_kept, failed_spare}
@@ -24,7 +24,7 @@ use Rattle.nl_pseg.proofs.Moved.{unmoved_held}
 use Rattle.nl_pseg.proofs.States.{within_length}
 use Rattle.nl_pseg.proofs.Medium.{within_medium, done_unfailed, failed_fault}
 use Rattle.nl_pseg.proofs.Begun.{told_length}
-use Rattle.nl_uses.proofs.Tables.{use_here}
+use Rattle.nl_pseg_blocks.proofs.Tables.{use_here}
 use Rattle.nl_pseg.proofs.Wearing.{wear_used}
 use Rattle.nl_pseg.specs.Kept.{kept}
 use Rattle.nl_pseg.proofs.state.State.land.Goals as goal

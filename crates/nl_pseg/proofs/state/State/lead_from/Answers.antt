@@ -1,11 +1,11 @@
 use Rattle.std.proofs.Common.{◌≡◌, ◌⊎◌, ℕ, ◌-◌, ◌/◌, ◌==◌, if◌then◌else◌, length, map, insert, ap, subst, arith}
 use Rattle.nl_blocks.specs.Table.{HasBlock, block_at}
 use Rattle.nl_remap.specs.Table.{led, led_on, pair, place_of}
-use Rattle.nl_old_names.specs.OldNames.{NameTable}
+use Rattle.nl_pseg_names.specs.OldNames.{NameTable}
 use Rattle.nl_pseg.specs.Steps.{IsAside}
 use Rattle.nl_pseg.specs.Kept.{Kept, kept}
 use Rattle.nl_pseg.proofs.LedFrom.{SetAside, from_formed, from_leads, from_tied, names_most, set_aside_is}
-use Rattle.nl_old_names.proofs.Named.{few_names}
+use Rattle.nl_pseg_names.proofs.Named.{few_names}
 use Rattle.nl_pseg.proofs.state.State.lead_from.Goals as goal
 
 pub set_aside-requires-clause-few : goal.set_aside-requires-clause-few

@@ -10,7 +10,7 @@ use Rattle.nl_remap.specs.Table.{IsOld}
 use Rattle.nl_pseg.specs.Segment.{InSegment, held_at, is_kept}
 use Rattle.nl_pseg.specs.Seen.{IsPlace, seen}
 use Rattle.nl_pseg.specs.Steps.{IsIdle}
-use Rattle.nl_uses.specs.Uses.{Use, use_in, SameNumbers}
+use Rattle.nl_pseg_blocks.specs.Uses.{Use, use_in, SameNumbers}
 use Rattle.nl_pseg.specs.declared.held.Held.{Held}
 use Rattle.nl_pseg.specs.Kept.{Kept, kept}
 use Rattle.nl_pseg.proofs.Forms.{formed_page, formed_restated, use_places, next_is, left_is}
@@ -20,7 +20,7 @@ use Rattle.nl_pseg.proofs.Gone.{old_told}
 use Rattle.nl_pseg.proofs.Segments.{IsApart, apart_still, apart_taken, held_places, set_held}
 use Rattle.nl_pseg.proofs.Served.{idle_copy, idle_next, sealed_set, served_tied}
 use Rattle.nl_pseg.proofs.States.{next_block}
-use Rattle.nl_uses.proofs.Tables.{numbers_then}
+use Rattle.nl_pseg_blocks.proofs.Tables.{numbers_then}
 use Rattle.nl_pseg.proofs.state.State.load.Goals as goal
 
 pub returns-clause-formed : goal.returns-clause-formed

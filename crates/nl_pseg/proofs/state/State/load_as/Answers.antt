@@ -4,7 +4,7 @@ use Rattle.std.proofs.lemmas.Bool.{cases_eq}
 use Rattle.std.proofs.lemmas.List.{get_or-set_other, get_or-set_same}
 use Rattle.nl_remap.specs.Table.{IsOld, told}
 use Rattle.nl_remap.proofs.Ways.{led_not}
-use Rattle.nl_old_names.specs.OldNames.{NameTable}
+use Rattle.nl_pseg_names.specs.OldNames.{NameTable}
 use Rattle.nl_pseg.specs.Segment.{IsOldName, TakenAsErased, is_free, is_kept, is_soiled, names_another_free}
 use Rattle.nl_pseg.specs.Seen.{seen}
 use Rattle.nl_pseg.specs.declared.held.Held.{Held}

@@ -8,7 +8,7 @@ use Rattle.std.proofs.lemmas.Option.{none-some}
 use Rattle.nl_field.specs.Page.{page_at}
 use Rattle.nl_pseg.specs.Cleaning.{IsMoved, programmed_by}
 use Rattle.nl_pseg.specs.Effects.{Crashes}
-use Rattle.nl_owned.specs.Pages.{main_of}
+use Rattle.nl_pseg_pages.specs.Pages.{main_of}
 use Rattle.nl_pseg.specs.Segment.{held_at, IsPhysicalOf}
 use Rattle.nl_pseg.specs.Seen.{seen, Fits}
 use Rattle.nl_pseg.specs.Steps.{ReadiedOn}

@@ -8,15 +8,15 @@ use Rattle.nl_nand.specs.ImageLaws.{filled_cut}
 use Rattle.nl_nand.specs.Nand.{Cut}
 use Rattle.nl_field.specs.declared.answers.Named.TheVariants.{Fault, Placed}
 use Rattle.nl_pseg.specs.Steps.{IsAlone}
-use Rattle.nl_owned.specs.Pages.{page_with}
+use Rattle.nl_pseg_pages.specs.Pages.{page_with}
 use Rattle.nl_pseg.specs.Segment.{IsDead, IsNext, wear_of, soiled}
 use Rattle.nl_pseg.specs.Seen.{seen}
-use Rattle.nl_uses.specs.Uses.{Use, use_in}
+use Rattle.nl_pseg_blocks.specs.Uses.{Use, use_in}
 use Rattle.nl_pseg.proofs.Images.{after_put, put_alone, put_crashes, shows_placed}
 use Rattle.nl_pseg.proofs.Placings.{used_failed, used_placed}
 use Rattle.nl_pseg.proofs.Segments.{dead_next}
 use Rattle.nl_pseg.proofs.States.{is_next, next_block, next_in_use, next_segment, within_length}
-use Rattle.nl_uses.proofs.Tables.{use_here}
+use Rattle.nl_pseg_blocks.proofs.Tables.{use_here}
 use Rattle.nl_pseg.proofs.Tied.{next_apart, next_copy, next_own}
 use Rattle.nl_pseg.proofs.Wearing.{wear_used}
 use Rattle.nl_pseg.specs.Kept.{kept}

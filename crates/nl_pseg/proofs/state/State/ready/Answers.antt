@@ -15,14 +15,14 @@ use Rattle.nl_pseg.specs.Effects.{Keeps}
 use Rattle.nl_pseg.specs.Segment.{Physical, IsPhysicalOf, is_free, is_kept, is_soiled}
 use Rattle.nl_pseg.specs.Seen.{seen, IsFormed, IsTied}
 use Rattle.nl_pseg.specs.Steps.{IsReadied, aimed_at}
-use Rattle.nl_uses.specs.Uses.{Use, use_in, Restated}
+use Rattle.nl_pseg_blocks.specs.Uses.{Use, use_in, Restated}
 use Rattle.nl_pseg.proofs.Aimed.{again_readied, aimed_readied}
 use Rattle.nl_pseg.proofs.Forms.{formed_same}
 use Rattle.nl_pseg.proofs.Images.{erase_keeps, erase_others, keeps_nothing}
 use Rattle.nl_pseg.proofs.Numbers.{block_of, in_block}
 use Rattle.nl_pseg.proofs.Openings.{free_use, last_block, one_free}
 use Rattle.nl_pseg.proofs.Readied.{again_segment, aimed_segment, free_dead, taken_formed, still_readied}
-use Rattle.nl_uses.proofs.Tables.{free_kept, has_same, restated_again, restated_same}
+use Rattle.nl_pseg_blocks.proofs.Tables.{free_kept, has_same, restated_again, restated_same}
 use Rattle.nl_pseg.proofs.Taken.{free_again, free_other}
 use Rattle.nl_pseg.proofs.Tied.{free_apart, free_own}
 use Rattle.nl_blocks.specs.declared.states.BlockState.TheVariants.{Active}

@@ -3,7 +3,7 @@ use Rattle.std.proofs.Common.{None, sym, ◌∙◌, ap, subst, arith}
 use Rattle.std.specs.Vec.{with_item}
 use Rattle.nl_blocks.specs.Table.{Table, block_at, erased_row, with_block}
 use Rattle.nl_pseg.specs.Cleaning.{Erases}
-use Rattle.nl_old_names.specs.OldNames.{names_among}
+use Rattle.nl_pseg_names.specs.OldNames.{names_among}
 use Rattle.nl_pseg.specs.Seen.{IsFormed, IsTied, seen}
 use Rattle.nl_pseg.proofs.Released.{released, released_formed, released_tied, released_fill}
 use Rattle.nl_pseg.specs.Kept.{kept, Kept}

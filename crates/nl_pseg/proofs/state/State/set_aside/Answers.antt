@@ -2,7 +2,7 @@ use Rattle.std.proofs.Common.{rules, inr, ◌/◌, refl, sym, ◌∙◌, subst}
 use Rattle.nl_blocks.specs.Table.{HasBlock, block_at}
 use Rattle.nl_pseg.proofs.Closed.{closed_by, closing}
 use Rattle.nl_pseg.proofs.Forms.{formed_table}
-use Rattle.nl_uses.proofs.Tables.{IsShut, shut_aside}
+use Rattle.nl_pseg_blocks.proofs.Tables.{IsShut, shut_aside}
 use Rattle.nl_pseg.proofs.state.State.set_aside.Goals as goal
 
 pub returns-clause-formed : goal.returns-clause-formed

@@ -4,12 +4,12 @@ use Rattle.std.proofs.lemmas.Bool.{true≢false}
 use Rattle.std.proofs.lemmas.List.{get_or-set_same, get_or-set_other}
 use Rattle.nl_blocks.specs.Table.{block_at}
 use Rattle.nl_pseg.specs.Seen.{seen}
-use Rattle.nl_uses.specs.Uses.{Use, SameNumbers, told_state}
+use Rattle.nl_pseg_blocks.specs.Uses.{Use, SameNumbers, told_state}
 use Rattle.nl_pseg.proofs.Forms.{formed_marks, formed_table, next_is, left_is}
 use Rattle.nl_pseg.proofs.Segments.{IsApart, apart_still, apart_taken}
 use Rattle.nl_pseg.proofs.Closed.{closed_by, closing}
 use Rattle.nl_pseg.proofs.States.{next_block}
-use Rattle.nl_uses.proofs.Tables.{IsShut, shut_told}
+use Rattle.nl_pseg_blocks.proofs.Tables.{IsShut, shut_told}
 use Rattle.nl_pseg.specs.Kept.{Kept, kept}
 use Rattle.nl_pseg.proofs.Served.{idle_copy, idle_next, served_tied, told_free, told_kept, told_set, told_waits}
 use Rattle.nl_pseg.specs.Steps.{IsIdle}

@@ -17,12 +17,12 @@ use Rattle.nl_pseg.specs.Effects.{Keeps}
 use Rattle.nl_pseg.specs.Segment.{is_free, is_kept, is_soiled, IsPhysicalOf}
 use Rattle.nl_pseg.specs.Seen.{seen, IsFormed, IsTied}
 use Rattle.nl_pseg.specs.Steps.{IsOpened, Opening, opened_at}
-use Rattle.nl_uses.specs.Uses.{Use, use_in, Restated}
+use Rattle.nl_pseg_blocks.specs.Uses.{Use, use_in, Restated}
 use Rattle.nl_pseg.proofs.Forms.{formed_restated, formed_same, same_pages, same_unspent}
 use Rattle.nl_pseg.proofs.Images.{erase_keeps, erase_others, failed_segment, keeps_nothing, opened_segment}
 use Rattle.nl_pseg.proofs.Numbers.{in_block}
 use Rattle.nl_pseg.proofs.Openings.{free_use, last_block, opened, opened_block, two_free}
-use Rattle.nl_uses.proofs.Tables.{free_kept, has_same, restated_again, restated_same}
+use Rattle.nl_pseg_blocks.proofs.Tables.{free_kept, has_same, restated_again, restated_same}
 use Rattle.nl_pseg.proofs.Taken.{free_again}
 use Rattle.nl_pseg.proofs.Tied.{free_apart, free_copy, free_own}
 use Rattle.nl_pseg.proofs.Wearing.{taken_clean, taken_soiled}

@@ -10,11 +10,11 @@ use Rattle.nl_blocks.specs.declared.states.PageState.TheVariants.{Dead, Live}
 use Rattle.nl_pseg.specs.Seen.{state_for, IsFormed, IsTied, seen}
 use Rattle.nl_blocks.specs.Table.{Table, HasBlock, HasPage, block_at}
 use Rattle.nl_pseg.specs.Steps.{IsCopyUsed}
-use Rattle.nl_uses.specs.Uses.{IsMarked, SameNumbers, SameFill, SameUse, Uses}
+use Rattle.nl_pseg_blocks.specs.Uses.{IsMarked, SameNumbers, SameFill, SameUse, Uses}
 use Rattle.nl_pseg.specs.declared.held.Held.{Held}
 use Rattle.nl_pseg.proofs.CopyUsed.{copied, copied_formed, copied_tied, copy_within, copy_block}
 use Rattle.nl_pseg.proofs.Forms.{marked_are}
-use Rattle.nl_uses.proofs.Tables.{has_same, page_back, same_then}
+use Rattle.nl_pseg_blocks.proofs.Tables.{has_same, page_back, same_then}
 use Rattle.nl_pseg.specs.Kept.{kept, Kept}
 use Rattle.nl_pseg.proofs.state.State.use_copy.Goals as goal
 

@@ -8,7 +8,7 @@ use Rattle.std.specs.Vec.{with_item}
 use Rattle.nl_pseg.specs.Segment.{soiled, wear_with}
 use Rattle.nl_pseg.specs.Seen.{seen, state_for, AreMarked, IsTied, IsFormed}
 use Rattle.nl_pseg.specs.Steps.{IsUsed}
-use Rattle.nl_uses.specs.Uses.{Use, IsMarked, SameFill, SameUse, Uses}
+use Rattle.nl_pseg_blocks.specs.Uses.{Use, IsMarked, SameFill, SameUse, Uses}
 use Rattle.nl_blocks.specs.declared.states.PageState.TheVariants.{Dead, Live}
 use Rattle.nl_pseg.specs.declared.held.Held.{Held}
 use Rattle.nl_pseg.proofs.Closed.{as_counted}
@@ -16,7 +16,7 @@ use Rattle.nl_pseg.proofs.Forms.{marked_are}
 use Rattle.nl_pseg.proofs.Nexts.{next_fill, next_filled, next_up, next_used}
 use Rattle.nl_pseg.proofs.Segments.{used_places}
 use Rattle.nl_pseg.proofs.States.{within_length, next_segment, is_next, next_in_use, next_block}
-use Rattle.nl_uses.proofs.Tables.{has_same, page_back, same_then}
+use Rattle.nl_pseg_blocks.proofs.Tables.{has_same, page_back, same_then}
 use Rattle.nl_pseg.proofs.Used.{used_tied}
 use Rattle.std.proofs.lemmas.Bool.{cases_eq}
 use Rattle.nl_pseg.specs.Kept.{kept, Kept}

@@ -4,15 +4,15 @@ use Rattle.std.proofs.lemmas.Bool.{cases_lt}
 use Rattle.nl_field.specs.CrashStates.{Rose}
 use Rattle.nl_tree.specs.Causes.{FaultRose}
 use Rattle.nl_device.proofs.Forms.{shape_is}
-use Rattle.nl_sound.specs.Crash.{StopsSafely}
-use Rattle.nl_sound.specs.Stands.{SoundAs}
+use Rattle.nl_spec_image.specs.Crash.{StopsSafely}
+use Rattle.nl_spec_image.specs.Stands.{SoundAs}
 use Rattle.nl_turns.specs.History.{effects, opening_counts, tree_after}
 use Rattle.nl_volume.specs.Closing.{IsYoungAtEnd, counts_on}
 use Rattle.nl_core.specs.Core.{begun_of}
 use Rattle.nl_core.specs.declared.state.Core.{Core}
 use Rattle.nl_device.specs.declared.device.Device.{Device}
-use Rattle.nl_staging.specs.Standing.{run_of}
-use Rattle.nl_staging.proofs.Closes.{closed_ends, closed_stops, could_write, false_of, is_done, none_failed, shape_at_end, sound_end, sound_stops, still_writes}
+use Rattle.nl_volume_stage.specs.Standing.{run_of}
+use Rattle.nl_volume_stage.proofs.Closes.{closed_ends, closed_stops, could_write, false_of, is_done, none_failed, shape_at_end, sound_end, sound_stops, still_writes}
 use Rattle.nl_volume.proofs.volume.Volume.close.Goals as goal
 
 pub returns-clause-stops : goal.returns-clause-stops

@@ -1,8 +1,8 @@
 use Rattle.std.proofs.Common.{◌∙◌, sym}
 use Rattle.nl_device.specs.contracts.counts.DeviceCounts.TheImpl.{ghosts}
-use Rattle.nl_answering.proofs.Counted.{goes_counted}
-use Rattle.nl_staging.proofs.Alike.{line_alike}
-use Rattle.nl_staging.proofs.Serving.{duty_stands, never_fall, no_more, staged_same, stays_read_only}
+use Rattle.nl_calls.proofs.Counted.{goes_counted}
+use Rattle.nl_volume_stage.proofs.Alike.{line_alike}
+use Rattle.nl_volume_stage.proofs.Serving.{duty_stands, never_fall, no_more, staged_same, stays_read_only}
 use Rattle.nl_volume.proofs.volume.Volume.duty.Goals as goal
 
 pub returns-clause-stands : goal.returns-clause-stands

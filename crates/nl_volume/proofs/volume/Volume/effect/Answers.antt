@@ -2,15 +2,15 @@ use Rattle.std.proofs.Common.{◌≡◌, ◌≢◌, ℕ, ◌∙◌, ◌≤◌, �
 use Rattle.nl_device.specs.contracts.counts.DeviceCounts.TheImpl.{ghosts}
 use Rattle.nl_device.specs.declared.device.Device.{Device}
 use Rattle.nl_tree.specs.Causes.{FaultIsDue, NeverFall}
-use Rattle.nl_answering.specs.Answering.{pages_of_files}
+use Rattle.nl_calls.specs.Answering.{pages_of_files}
 use Rattle.nl_core.specs.declared.state.Core.{Core}
-use Rattle.nl_stops.specs.Effects.{counted}
+use Rattle.nl_spec_crashes.specs.Effects.{counted}
 use Rattle.nl_turns.specs.Served.{FaultHasCause, StaysReadOnly, effect_entry}
-use Rattle.nl_staging.specs.Serving.{counts_of, refusing_of, some_number, to_stage_of}
-use Rattle.nl_staging.specs.Standing.{StandsFor}
+use Rattle.nl_volume_stage.specs.Serving.{counts_of, refusing_of, some_number, to_stage_of}
+use Rattle.nl_volume_stage.specs.Standing.{StandsFor}
 use Rattle.nl_volume.proofs.Answering.{cause_since, later, line_stands}
 use Rattle.nl_volume.proofs.Effected.{line_answers, line_less, line_ordinal, line_place, line_staged, stays_read}
-use Rattle.nl_staging.proofs.Serving.{worker_known}
+use Rattle.nl_volume_stage.proofs.Serving.{worker_known}
 use Rattle.nl_volume.proofs.volume.Volume.effect.Goals as goal
 
 pub answer-reply-requires-clause-stands : goal.answer-reply-requires-clause-stands

@@ -1,8 +1,8 @@
 use Rattle.std.proofs.Common.{◌∙◌, sym}
 use Rattle.nl_device.specs.contracts.counts.DeviceCounts.TheImpl.{ghosts}
-use Rattle.nl_answering.proofs.Counted.{goes_counted}
+use Rattle.nl_calls.proofs.Counted.{goes_counted}
 use Rattle.nl_core.proofs.Renamed.{as_many}
-use Rattle.nl_staging.proofs.Stages.{passes_reads}
+use Rattle.nl_volume_stage.proofs.Stages.{passes_reads}
 use Rattle.nl_volume.proofs.volume.Volume.next_path.Goals as goal
 
 pub next_path-item-requires : goal.next_path-item-requires

@@ -1,9 +1,9 @@
 use Rattle.std.proofs.Common.{◌∙◌, sym}
 use Rattle.nl_device.specs.contracts.counts.DeviceCounts.TheImpl.{ghosts}
 use Rattle.nl_core.proofs.Renamed.{as_many}
-use Rattle.nl_answering.proofs.Counted.{goes_counted}
-use Rattle.nl_staging.proofs.Serving.{worker_known}
-use Rattle.nl_staging.proofs.Staged.{staged_counts, staged_failed, staged_faults, staged_less, staged_read_only, staged_stands}
+use Rattle.nl_calls.proofs.Counted.{goes_counted}
+use Rattle.nl_volume_stage.proofs.Serving.{worker_known}
+use Rattle.nl_volume_stage.proofs.Staged.{staged_counts, staged_failed, staged_faults, staged_less, staged_read_only, staged_stands}
 use Rattle.nl_volume.proofs.volume.Volume.stage.Goals as goal
 
 pub stage_line-requires-clause-stands : goal.stage_line-requires-clause-stands

@@ -1,0 +1,65 @@
+use Rattle.std.proofs.Common.{◌∙◌, ◌<◌, ⊎_elim, ℕ, List, length, sym, ap, subst, arith}
+use Rattle.std.specs.Prelude.{IsTrue}
+use Rattle.nl_tree.specs.Causes.{is_changing}
+use Rattle.nl_core.specs.declared.state.Core.{Core}
+use Rattle.nl_core.proofs.Renamed.{as_many}
+use Rattle.nl_calls.specs.Answering.{AnswersCall}
+use Rattle.nl_calls.proofs.Answered.{answer_after, cleans_after}
+use Rattle.nl_calls.proofs.Counted.{goes_counted}
+use Rattle.nl_calls.proofs.Ended.{ends_dropped}
+use Rattle.nl_calls.proofs.Tried.{not_writing}
+use Rattle.nl_calls.proofs.calls.answer_call.Goals as goal
+
+pub answer_other-requires : goal.answer_other-requires
+answer_other-requires g c =
+    let G = g.D.Counts in
+    let u = c.args.core.now in
+    let v = c.drop_line.new.self in
+    let e = c.drop_line.ensures in
+    let r = c.requires in
+    let eight = r.core.flight.eight in
+    let low = r.known in
+    let known : c.args.worker < length u.flight = omega (arith, eight, low) in
+    let stamp = e.dropped.frees.kept.next_stamp in
+    record {
+      core = e.core;
+      known = r.known;
+      some = r.some;
+      idle = (ends_dropped c.args.worker u.flight v.flight known e.dropped.flight).idle;
+      may = record {
+        writes = λ changing. ap (λ (x : Core g.row.D.Denot). x.stopped) e.dropped.others ∙ r.may.writes changing;
+        stamp = λ changing. let was = r.may.stamp changing in omega (arith, was, stamp);
+      };
+      runs = λ tells. let k = r.runs tells in let on = e.goes.runs tells k.0 k.1 k.2 in (on.pages, k.1, on.runs);
+      bounded = r.bounded;
+      files = r.files ∙ sym (goes_counted G 0 u v e.goes as_many);
+      nothing = r.nothing;
+      other = not_writing c.args.call.now c.in_default.not-Write c.in_default.not-Fill;
+    }
+
+pub returns-in_default : goal.returns-in_default
+returns-in_default g c =
+    let G = g.D.Counts in
+    let u = c.args.core.now in
+    let v = c.drop_line.new.self in
+    let e = c.drop_line.ensures in
+    let eight = c.requires.core.flight.eight in
+    let low = c.requires.known in
+    let known : c.args.worker < length u.flight = omega (arith, eight, low) in
+    let a = c.answer_other in
+    record {
+      core = a.ensures.core;
+      answers = answer_after G c.args.call.now 0 u v a.new.core e.goes c.args.worker a.result.reply a.new.out a.result.files (ends_dropped c.args.worker u.flight v.flight known e.dropped.flight).others a.ensures.answers;
+      cleaned = λ is done. cleans_after G c.args.call.now 0 u v a.new.core e.goes g.D.MovingPages (a.ensures.cleaned is done);
+    }
+
+pub returns-in-Write-clause-answers : goal.returns-in-Write-clause-answers
+returns-in-Write-clause-answers g c =
+    let G = g.D.Counts in
+    subst (λ (o : List ℕ). AnswersCall G c.args.worker c.args.call.now c.args.core.now c.write.new.core c.write.result.reply o c.write.result.files) (sym c.requires.nothing) c.write.ensures.answers
+
+pub write-requires-clause-can : goal.write-requires-clause-can
+write-requires-clause-can g c =
+    let r = c.requires in
+    let changes : IsTrue (is_changing c.args.call.now) = ⊎_elim (λ w. ap is_changing w.3) (λ f. ap is_changing f.4) c.in-Write.is in
+    record { writes = r.may.writes changes; runs = r.runs; known = r.known; some = r.some; has_line = r.line; files_are = r.files; staged = r.staged; few = r.others }

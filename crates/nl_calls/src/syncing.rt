@@ -1,0 +1,38 @@
+ghost use Rattle.std.specs.Prelude.{◌≡◌, ◌+◌, ◌^◌, ◌≤◌, []};
+ghost use Rattle.nl_core.specs.Core.{IsCore};
+ghost use Rattle.nl_flight.specs.Flight.{begun, of_worker};
+ghost use Rattle.nl_tree.specs.declared.call.Call.TheVariants.{Sync};
+ghost use Rattle.nl_calls.specs.Answering.{AnswersCall, pages_of_files};
+
+use crate::answer::{Answer, failed};
+use nl_core::Core;
+use nl_core::laws::pages_stay_as_many;
+use nl_iface::MovingPages;
+use nl_journal::Committing;
+use nl_spec_commits::laws::device_stands;
+use nl_tree::{FaultReply, Reply};
+
+// A sync.
+pub(crate) fn sync<D: MovingPages>(core: &mut Core<D>, worker: u8, files: u32) -> Answer
+    requires core { IsCore D.Counts core.old }
+    requires writes { core.old.stopped ≡ 0 }
+    requires stamp { D.next_stamp core.old.device + 512 ≤ 2 ^ 63 }
+    requires idle { of_worker core.old.flight worker ≡ begun 0 }
+    requires files { files ≡ pages_of_files D.Counts core.old }
+    ensures core { IsCore D.Counts core.new }
+    ensures answers { AnswersCall D.Counts worker Sync core.old core.new result.reply [] result.files }
+{
+    pages_stay_as_many();
+    device_stands(&core.device);
+    let committed = core.commit();
+    device_stands(&core.device);
+    let reply = match committed {
+        Committing::Done(_) => Reply::Synced {
+            upto: core.committed,
+            moment: core.moment,
+        },
+        Committing::Lost { wanted, found } => Reply::Fault(FaultReply::Edamaged { wanted, found }),
+        Committing::Fault => failed(core),
+    };
+    Answer { reply, files }
+}

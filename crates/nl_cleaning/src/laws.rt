@@ -1,7 +1,0 @@
-//! Laws of the definitions. Each function stands for the law that its contract names.
-ghost use Rattle.nl_cleaning.specs.Laws.{IsOfARound};
-
-/// A cleaning that is done, or that finds nothing to clean, is what a round asks of its cleaning: so rounds gain, and they end.
-pub fn a_cleaning_is_of_a_round()
-    ensures { IsOfARound }
-{}

@@ -1,0 +1,69 @@
+use Rattle.std.proofs.Common.{◌≡◌, ◌∙◌, ◌≤◌, ap, refl, subst, arith}
+use Rattle.nl_calls.specs.Answering.{pages_of_files}
+use Rattle.nl_device.specs.Medium.{medium_of}
+use Rattle.nl_device.specs.contracts.counts.DeviceCounts.TheImpl.{ghosts}
+use Rattle.nl_field.specs.CrashStates.{top}
+use Rattle.nl_spec_image.specs.Crash.{StopsSafely}
+use Rattle.nl_spec_image.specs.Stands.{SoundAs}
+use Rattle.nl_turns.specs.History.{Opening}
+use Rattle.nl_turns.specs.Seat.{SeatState, entries}
+use Rattle.nl_spec_headline.specs.Streams.{medium}
+use Rattle.nl_volume.specs.Opening.{opening_of}
+use Rattle.nl_volume_stage.specs.Standing.{StandsFor}
+use Rattle.nl_volume.specs.declared.volume.Volume.{Volume}
+use Rattle.nl_cmd_course.specs.Rounds.{course_of}
+use Rattle.nl_cmd_run.proofs.Running.{rounds_and_end}
+use Rattle.nl_cmd_run.proofs.rounds.run_opened.Goals.{else-closed, then-closed}
+use Rattle.nl_cmd_run.proofs.rounds.run_opened.Goals as goal
+
+pub close-closed-requires : goal.close-closed-requires
+close-closed-requires g c =
+    let G = ghosts g.row.M g.M.Nand g.M.Nand-dict in
+    let origin = c.in-Ok.made.0.origin in
+    let seat = c.run_rounds.new.seat in (
+      origin,
+      seat.opening,
+      entries seat.seen,
+      c.close-volume.ensures,
+    )
+
+pub returns-clause-lost : goal.returns-clause-lost
+returns-clause-lost g c is = elim c.if-closed.branch [ then-closed w ↦ w.result-is ∙ w.if-closed.true | else-closed w ↦ w.result-is ∙ (w.lost.ensures ∙ is) ]
+
+pub returns-clause-ran : goal.returns-clause-ran
+returns-clause-ran g c =
+    let G = ghosts g.row.M g.M.Nand g.M.Nand-dict in
+    let N = g.M.Nand in
+    let v0 = c.args.volume.core in
+    let old = medium_of v0.device in
+    let opening = c.in-Ok.ensures.opening in
+    let after = c.run_rounds.new.seat in
+    let ran = c.run_rounds.ensures.ran in
+    let rows = c.run_rounds.new.answers.rows in
+    let last = c.close-volume.result in
+    let v = last.core in
+    let media = c.close-closed.result.media in
+    let e = c.close-closed.ensures in
+    let o = opening_of G v0 opening.0 c.args.lines.now in
+    let h = entries after.seen in
+    let stands = subst (λ (x : Volume _ × Opening). StandsFor G x.0.core x.1 h last.core last.done × (last.files ≡ pages_of_files G last.core))
+    (λ k. (c.in-Ok.ensures.lock.2 k, (ap (λ (z : SeatState). z.opening) ran.same ∙ opening.2) k)) c.close-volume.ensures in
+    let told = c.charges_of-charges.ensures in
+    let clock = c.clock-clock.ensures in
+    let clock_fits = c.clock-clock.type_inv in
+    let faults = c.write_faults-faults.ensures in
+    let faults_fit = c.write_faults-faults.type_inv in
+    let few : N.clock media ≤ top = omega (arith, clock, clock_fits) in
+    let writes : N.write_faults media ≤ top = omega (arith, faults, faults_fit) in (
+      course_of o rows,
+      c.calls-count.ensures,
+      rounds_and_end G v0 v last.done opening.0 c.args.lines.now c.in-Ok.made.1 after rows opening.2 c.as_slice-lines.ensures.each ran stands.0
+          (StopsSafely SoundAs (λ m i. N.left old m i) (λ m i. N.left media m i) (N.clock old) (N.clock media))
+          (medium (N.geometry old) (N.contents old) (N.clock old) (N.read_faults old) (N.write_faults old)) (medium (N.geometry media) (N.contents media) (N.clock media) (N.read_faults media) (N.write_faults media))
+          c.if-closed.result c.close-closed.result.worn c.charges_of-charges.result refl e.counts few writes c.requires.opened opening.1
+          (λ young. e.stops c.args.volume o h stands young)
+          (λ young none unworn. e.ends_well c.args.volume o h stands young none unworn)
+          (λ t. elim c.if-closed.branch [ then-closed w ↦ w.result-is ∙ e.lost t | else-closed w ↦ w.result-is ∙ (w.lost.ensures ∙ c.run_rounds.ensures.lost t) ])
+          e.worn.0
+          (λ page_of_stamp tree runs. let k = c.report.ensures.charges page_of_stamp tree runs in record { pages = told.pages ∙ k.pages; nodes = told.nodes ∙ k.nodes; meta = told.meta ∙ k.meta }),
+    )

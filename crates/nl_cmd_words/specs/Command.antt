@@ -1,0 +1,43 @@
+-- The words of a command line.
+use Rattle.std.specs.Prelude.{ℕ, ⊤, ◌<◌, ◌≤◌, nat_le, nat_lt, ◌&&◌, IsTrue, if◌then◌else◌, List, [], ◌∷◌, codes, bytes_eq, Option, Some, None}
+use Rattle.nl_field.specs.Numbers.{is_legal}
+use Rattle.nl_script.specs.Spellings.{digits_of}
+use Rattle.nl_cmd_words.specs.declared.command.Command.{Command}
+use Rattle.nl_cmd_words.specs.declared.command.Command.TheVariants.{Format, Run, Check, Tree, Report, Soak}
+
+-- a geometry that a volume can have
+abbrev pub format_of : Option ℕ → Option ℕ → Option Command
+format_of (Some blocks) (Some pages) = if is_legal blocks pages then Some (Format blocks pages) else None
+format_of None pages = None
+format_of (Some blocks) None = None
+
+-- 1 to 20,000 lines for each of 1 to 8 workers
+abbrev pub soak_of : Option ℕ → Option ℕ → Option ℕ → Option Command
+soak_of (Some seed) (Some lines) (Some workers) =
+    if nat_lt 0 lines && (nat_le lines 20000 && (nat_lt 0 workers && nat_le workers 8)) then Some (Soak seed lines workers) else None
+soak_of None lines workers = None
+soak_of (Some seed) None workers = None
+soak_of (Some seed) (Some lines) None = None
+
+-- a word alone
+abbrev pub plain_command : List ℕ → Option Command
+plain_command word =
+    if bytes_eq word (codes "run") then Some Run
+    else if bytes_eq word (codes "check") then Some Check
+    else if bytes_eq word (codes "tree") then Some Tree
+    else if bytes_eq word (codes "report") then Some Report
+    else None
+
+-- The command that the words name. None where they name none, or where their numbers are no spellings or illegal.
+abbrev pub command_of : List (List ℕ) → Option Command
+command_of (word ∷ []) = plain_command word
+command_of (word ∷ blocks ∷ pages ∷ []) = if bytes_eq word (codes "format") then format_of (digits_of blocks) (digits_of pages) else None
+command_of (word ∷ seed ∷ lines ∷ workers ∷ []) =
+    if bytes_eq word (codes "soak") then soak_of (digits_of seed) (digits_of lines) (digits_of workers) else None
+command_of words = None
+
+-- the numbers of a command are legal
+abbrev pub IsLegalCommand : Command → Type 0
+IsLegalCommand (Format blocks pages) = IsTrue (is_legal blocks pages)
+IsLegalCommand (Soak seed lines workers) = (0 < lines) × (lines ≤ 20000) × (0 < workers) × (workers ≤ 8)
+IsLegalCommand command = ⊤

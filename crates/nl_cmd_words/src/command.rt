@@ -1,0 +1,92 @@
+// The words of a command line.
+ghost use Rattle.std.specs.Prelude.{◌≡◌, IfSome};
+ghost use Rattle.nl_script.specs.Spellings.{digits_of};
+ghost use Rattle.nl_cmd_words.specs.Command.{IsLegalCommand, command_of, format_of, plain_command, soak_of};
+
+use crate::word::number_of;
+use nl_field::shape_of;
+use nl_io::Words;
+
+/// What a command line asks for.
+#[derive(Clone, Copy, Debug, PartialEq, Eq)]
+pub enum Command {
+    /// Makes a volume of so many blocks of so many pages.
+    Format(u32, u32),
+    /// Runs a script.
+    Run,
+    /// Prints what is at fault.
+    Check,
+    /// Prints every path.
+    Tree,
+    /// Prints counts of the opened volume.
+    Report,
+    /// Runs the script that is drawn from a seed, of so many lines for each of so many workers, and prints a summary.
+    Soak(u64, u32, u8),
+}
+
+/// The most lines of a soak for each worker, and the most workers.
+const MAX_LINES: u32 = 20_000;
+
+const MAX_WORKERS: u8 = 8;
+
+// The command of a geometry, where it is legal.
+fn format_of(blocks: &[u8], pages: &[u8]) -> Option<Command>
+    ensures command { result ≡ format_of (digits_of blocks.now) (digits_of pages.now) }
+    ensures legal { IfSome result IsLegalCommand }
+{
+    let blocks = u32::try_from(number_of(blocks)?).ok()?;
+    let pages = u32::try_from(number_of(pages)?).ok()?;
+    match shape_of(blocks, pages) {
+        Some(_) => Some(Command::Format(blocks, pages)),
+        None => None,
+    }
+}
+
+// The command of a soak, where its numbers are legal.
+fn soak_of(seed: &[u8], lines: &[u8], workers: &[u8]) -> Option<Command>
+    ensures command { result ≡ soak_of (digits_of seed.now) (digits_of lines.now) (digits_of workers.now) }
+    ensures legal { IfSome result IsLegalCommand }
+{
+    let seed = number_of(seed)?;
+    let lines = u32::try_from(number_of(lines)?).ok()?;
+    let workers = u8::try_from(number_of(workers)?).ok()?;
+    if lines == 0 || lines > MAX_LINES || workers == 0 || workers > MAX_WORKERS {
+        return None;
+    }
+    Some(Command::Soak(seed, lines, workers))
+}
+
+// The command of one word.
+fn plain_command(word: &[u8]) -> Option<Command>
+    ensures command { result ≡ plain_command word.now }
+    ensures legal { IfSome result IsLegalCommand }
+{
+    if word == b"run".as_slice() {
+        Some(Command::Run)
+    } else if word == b"check".as_slice() {
+        Some(Command::Check)
+    } else if word == b"tree".as_slice() {
+        Some(Command::Tree)
+    } else if word == b"report".as_slice() {
+        Some(Command::Report)
+    } else {
+        None
+    }
+}
+
+/// The command that the words name, None exactly where they name none or its numbers are illegal.
+pub fn command_of(words: &Words) -> Option<Command>
+    ensures command { result ≡ command_of words.now }
+    ensures legal { IfSome result IsLegalCommand }
+{
+    match words.as_slice() {
+        [word] => plain_command(word.bytes()),
+        [word, blocks, pages] if word.bytes() == b"format".as_slice() => {
+            format_of(blocks.bytes(), pages.bytes())
+        }
+        [word, seed, lines, workers] if word.bytes() == b"soak".as_slice() => {
+            soak_of(seed.bytes(), lines.bytes(), workers.bytes())
+        }
+        _ => None,
+    }
+}

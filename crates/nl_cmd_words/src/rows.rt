@@ -1,0 +1,27 @@
+//! Rows of the command line, computed from their definition.
+ghost use Rattle.std.specs.Prelude.{◌≡◌, ◌∷◌, [], codes, None, Some};
+ghost use Rattle.nl_cmd_words.specs.Command.{command_of};
+ghost use Rattle.nl_cmd_words.specs.declared.command.Command.TheVariants as command;
+
+/// Each command is named by its words.
+pub fn commands()
+    ensures run { command_of (codes "run" ∷ []) ≡ Some command.Run }
+    ensures check { command_of (codes "check" ∷ []) ≡ Some command.Check }
+    ensures tree { command_of (codes "tree" ∷ []) ≡ Some command.Tree }
+    ensures report { command_of (codes "report" ∷ []) ≡ Some command.Report }
+    ensures format { command_of (codes "format" ∷ codes "32" ∷ codes "032" ∷ []) ≡ Some (command.Format 32 32) }
+    ensures soak { command_of (codes "soak" ∷ codes "0" ∷ codes "20000" ∷ codes "8" ∷ []) ≡ Some (command.Soak 0 20000 8) }
+{}
+
+/// Words that name no command, or whose numbers are illegal, are none.
+pub fn no_commands()
+    ensures none { command_of [] ≡ None }
+    ensures other { command_of (codes "runs" ∷ []) ≡ None }
+    ensures more { command_of (codes "run" ∷ codes "run" ∷ []) ≡ None }
+    ensures few { command_of (codes "format" ∷ codes "32" ∷ []) ≡ None }
+    ensures geometry { command_of (codes "format" ∷ codes "3" ∷ codes "32" ∷ []) ≡ None }
+    ensures sign { command_of (codes "format" ∷ codes "+32" ∷ codes "32" ∷ []) ≡ None }
+    ensures no_lines { command_of (codes "soak" ∷ codes "1" ∷ codes "0" ∷ codes "1" ∷ []) ≡ None }
+    ensures many_lines { command_of (codes "soak" ∷ codes "1" ∷ codes "20001" ∷ codes "1" ∷ []) ≡ None }
+    ensures many_workers { command_of (codes "soak" ∷ codes "1" ∷ codes "1" ∷ codes "9" ∷ []) ≡ None }
+{}

@@ -1,5 +1,0 @@
-use Rattle.nl_commands.proofs.Completing.{format_completes}
-use Rattle.nl_commands.proofs.laws.format_completes.Goals as goal
-
-pub returns : goal.returns
-returns g c = format_completes g.M.Nand.tells

@@ -1,5 +1,0 @@
-use Rattle.nl_commit.proofs.HoldingOn.{holders_stand}
-use Rattle.nl_commit.proofs.laws.holders_stand.Goals as goal
-
-pub returns : goal.returns
-returns g c = holders_stand g.D.Counts

@@ -1,5 +1,0 @@
-use Rattle.nl_content.proofs.ContentProofs.{cut_laws}
-use Rattle.nl_content.proofs.content_laws.content_after_cut.Goals as goal
-
-pub returns : goal.returns
-returns c = cut_laws

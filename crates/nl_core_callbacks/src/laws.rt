@@ -1,0 +1,7 @@
+//! Laws of the definitions. Each function stands for the law that its contract names.
+ghost use Rattle.nl_core_callbacks.specs.Laws.{TreesStay};
+
+/// Where only names of pages change, the nodes stand for the tree that they stood for.
+pub fn trees_stay()
+    ensures { TreesStay }
+{}

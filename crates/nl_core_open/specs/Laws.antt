@@ -1,0 +1,10 @@
+-- Laws of the definitions.
+use Rattle.std.specs.Prelude.{◌≢◌, ℕ, []}
+use Rattle.nl_field.specs.Medium.{readable_pages}
+use Rattle.nl_field.specs.Page.{Image}
+use Rattle.nl_tree.specs.Tree.{Tree}
+use Rattle.nl_spec_image.specs.Stands.{SoundAs}
+
+-- a sound image has a readable page
+abbrev pub SoundIsReadable : Type 0
+SoundIsReadable = (image : Image) (count : ℕ) (tree : Tree) → SoundAs image count tree → readable_pages image ≢ []

@@ -1,5 +1,0 @@
-use Rattle.nl_device_tests.specs.Rigs.{HasAddressed}
-use Rattle.nl_device_tests.proofs.device.differs_at.Given as goal
-
-abbrev pub invariant-loop-row : goal.invariant-loop-row
-invariant-loop-row l = HasAddressed l.device

@@ -1,6 +1,0 @@
-use Rattle.std.proofs.Common.{◌≡◌, ◌+◌, ◌≤◌, drop}
-use Rattle.nl_entries.specs.Entries.{run_of}
-use Rattle.nl_entries.proofs.entries.run.Given as goal
-
-abbrev pub invariant-entries : goal.invariant-entries
-invariant-entries l = (l.count + run_of l.path (drop l.entry-index l.rest) ≡ run_of l.path l.rest) × (l.count ≤ l.entry-index)

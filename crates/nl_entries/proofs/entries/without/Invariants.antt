@@ -1,8 +1,0 @@
-use Rattle.std.proofs.Common.{◌≡◌, ◌++◌, not, drop}
-use Rattle.std.specs.FinMap.Entries.{where_key}
-use Rattle.nl_tree.specs.Tree.{path_cmp, paths_eq}
-use Rattle.nl_entries.proofs.entries.without.Given as goal
-
-abbrev pub invariant-entries : goal.invariant-entries
-invariant-entries l =
-    l.kept.items ++ where_key path_cmp (λ p. not (paths_eq l.path p)) (drop l.entry-index l.tree) ≡ where_key path_cmp (λ p. not (paths_eq l.path p)) l.tree

@@ -1,9 +1,0 @@
-use Rattle.nl_held.proofs.Ahead.{ahead_is_running}
-use Rattle.nl_held.proofs.Reading.{committed_reads}
-use Rattle.nl_held.proofs.laws.commits_read.Goals as goal
-
-pub returns-clause-ahead : goal.returns-clause-ahead
-returns-clause-ahead g c = ahead_is_running g.D.Counts
-
-pub returns-clause-committed : goal.returns-clause-committed
-returns-clause-committed g c = committed_reads

@@ -1,5 +1,0 @@
-use Rattle.nl_holders.proofs.LawProofs as laws
-use Rattle.nl_holders.proofs.laws.opening_holds.Goals as goal
-
-pub returns : goal.returns
-returns c = laws.opening_holds

@@ -1,8 +1,0 @@
-use Rattle.std.proofs.Common.{refl, inl}
-use Rattle.std.proofs.lemmas.Option.{none-some}
-use Rattle.nl_iface.specs.Examples.{pointer}
-use Rattle.nl_holders.proofs.rows.acknowledges_early.Goals as goal
-
--- the committed name leads nowhere
-pub returns : goal.returns
-returns c f = let r = f.committed (pointer 40 7) (inl refl) in none-some r.leads.0 r.leads.1

@@ -1,0 +1,29 @@
+//! Laws of the definitions. Each function stands for the laws that its contract names.
+ghost use Rattle.nl_journal_commit.specs.Freeing.{FreeingKeeps, FreesAll};
+ghost use Rattle.nl_journal_commit.specs.Holding.{HoldersStand};
+ghost use Rattle.nl_journal_commit.specs.Standing.{AddressesStand, ChangesCanFreeze, FreezingStands, ReadsStand, SuperPageStands, WritingStands};
+
+use nl_iface::VirtualPages;
+
+/// Where each live page is held once and the first of the pages that await their free are due, they are live, and once they are freed
+/// each live page is held once again, and what is committed leads.
+pub fn freeing_keeps()
+    ensures keeps { FreeingKeeps }
+    ensures all { FreesAll }
+{}
+
+/// A commit leaves the metadata as it runs: writes of the journal, the freezing of the dirty pages, which can be frozen where the super
+/// page is one of them, another super page, what leaves the addresses as they were, and reads.
+pub fn metadata_stands<D: VirtualPages>()
+    ensures writing { WritingStands D.Counts }
+    ensures changes { ChangesCanFreeze D.Counts }
+    ensures freezing { FreezingStands D.Counts }
+    ensures super_page { SuperPageStands D.Counts }
+    ensures addresses { AddressesStand D.Counts }
+    ensures reads { ReadsStand D.Counts }
+{}
+
+/// Where the metadata stands on and no name changes, each live page is held as before, and what is committed leads.
+pub fn holders_stand<D: VirtualPages>()
+    ensures { HoldersStand D.Counts }
+{}

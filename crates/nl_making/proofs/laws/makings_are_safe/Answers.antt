@@ -1,5 +1,0 @@
-use Rattle.nl_making.proofs.Safe.{makings_are_safe}
-use Rattle.nl_making.proofs.laws.makings_are_safe.Goals as goal
-
-pub returns : goal.returns
-returns c = makings_are_safe

@@ -1,0 +1,15 @@
+//! Laws of the definitions. Each function stands for the law that its contract names.
+ghost use Rattle.nl_meta_running.specs.FileLaws.{OneFileChanges};
+ghost use Rattle.nl_meta_running.specs.RunningLaws.{RunsStay};
+
+use nl_iface::VirtualPages;
+
+/// Where a call leaves a volume as it was, its nodes can be read again, and it runs on through the next call too.
+pub fn runs_stay<D: VirtualPages>()
+    ensures { RunsStay D.Counts }
+{}
+
+/// Where one file has another record and other pages of its own, all is right again, and every other node has what it had.
+pub fn one_file_changes()
+    ensures { OneFileChanges }
+{}

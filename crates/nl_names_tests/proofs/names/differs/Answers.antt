@@ -1,6 +1,0 @@
-use Rattle.std.proofs.Common.{refl}
-use Rattle.nl_names_tests.proofs.Opened.{volume-shape}
-use Rattle.nl_names_tests.proofs.names.differs.Goals as goal
-
-pub begun-requires-clause-volume : goal.begun-requires-clause-volume
-begun-requires-clause-volume c = volume-shape c.args.blocks c.args.pages c.in-Some.shape (c.in-Some.ensures.legal.0 refl) c.in-Some.ensures.numbers

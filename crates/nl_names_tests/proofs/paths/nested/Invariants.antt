@@ -1,5 +1,0 @@
-use Rattle.nl_tree.specs.Calls.{AreNames}
-use Rattle.nl_names_tests.proofs.paths.nested.Given as goal
-
-abbrev pub invariant-loop : goal.invariant-loop
-invariant-loop l = AreNames l.path

@@ -1,5 +1,0 @@
-use Rattle.nl_tree.specs.Calls.{AreNames}
-use Rattle.nl_names_tests.proofs.paths.path_of.Given as goal
-
-abbrev pub invariant-loop-at : goal.invariant-loop-at
-invariant-loop-at l = AreNames l.path

@@ -1,5 +1,0 @@
-use Rattle.nl_names_tests.proofs.Opened.{writes-on}
-use Rattle.nl_names_tests.proofs.volume.list_names.Goals as goal
-
-pub returns-clause-write : goal.returns-clause-write
-returns-clause-write g c = writes-on c.requires.write c.listed-seen.new.device c.listed-seen.ensures.formed c.listed-seen.ensures.reads

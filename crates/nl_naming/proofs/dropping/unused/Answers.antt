@@ -1,7 +1,0 @@
-use Rattle.std.proofs.Common.{refl}
-use Rattle.nl_field.specs.Bytes.{zeros}
-use Rattle.nl_naming.proofs.dropping.unused.Goals as goal
-
-pub returns : goal.returns
-unfolding zeros
-returns c = refl

@@ -1,7 +1,0 @@
-use Rattle.std.proofs.Common.{sym, subst, arith}
-use Rattle.nl_plain.specs.PlainTree.{IsRoomy}
-use Rattle.nl_plain.proofs.RoomProofs.{roomy}
-use Rattle.nl_plain.proofs.plain.reply_in.Goals as goal
-
-pub reply_of-requires-clause-roomy : goal.reply_of-requires-clause-roomy
-reply_of-requires-clause-roomy c = subst IsRoomy (sym c.deref.ensures.value) (roomy c.args.shape c.args.tree.now.items (omega arith) c.requires.plain)

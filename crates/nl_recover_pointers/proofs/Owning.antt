@@ -1,0 +1,96 @@
+-- From where the pages of a number and an owner are zero.
+use Rattle.std.proofs.Common.{◌≡◌, ℕ, ◌-◌, ◌*◌, Bool, true, false, not, ◌&&◌, ◌||◌, max, cond, List, [], ◌∷◌, Option, Some, None, refl, sym, ◌∙◌, ap, arith}
+use Rattle.std.specs.Prelude.{◌==◌, nat_le, fold}
+use Rattle.std.specs.List.{list_all, list_any}
+use Rattle.std.specs.BTreeMap.{BTreeMap, Updates, get}
+use Rattle.std.proofs.lemmas.Bool.{and_parts}
+use Rattle.std.proofs.lemmas.Bool.Decides.{nat_tests}
+use Rattle.nl_field.specs.SpareRecord.{stamp_of}
+use Rattle.nl_field.specs.declared.pointer.Tag.{Tag}
+use Rattle.nl_field.specs.declared.seen.Seen.{Seen}
+use Rattle.nl_field.specs.declared.spare.SpareRec.TheVariants.{Virtual, Physical}
+use Rattle.nl_meta.specs.Nodes.{Held}
+use Rattle.nl_meta.specs.Walk.{has_page, has_tag, tag_eq}
+use Rattle.nl_recover_pointers.specs.Owners.{PageKey, greatest_zeros, is_zero_from, key_cmp, key_of, more_zeros, with_page}
+use Rattle.nl_recover_pointers.proofs.Keys.{key_test, number_is}
+
+same_tag : (a b : Tag) → tag_eq b a ≡ true → a ≡ b
+same_tag a b is =
+    let parts = and_parts (b.ino == a.ino && b.generation == a.generation) (b.index == a.index) is in
+    let firsts = and_parts (b.ino == a.ino) (b.generation == a.generation) parts.0 in
+    λ i. record { ino = sym (number_is b.ino a.ino firsts.0) i; generation = sym (number_is b.generation a.generation firsts.1) i; index = sym (number_is b.index a.index parts.1) i }
+
+-- one more page of a key, as every key sees it
+noted : (s t : ℕ) (a b : Tag) (from : ℕ) (old new : BTreeMap PageKey ℕ) (test : Bool) → (s == t && tag_eq b a) ≡ test
+    → get key_cmp new (key_of t b) ≡ cond test (Some (more_zeros (get key_cmp old (key_of s a)) from)) (get key_cmp old (key_of t b))
+    → get key_cmp new (key_of t b) ≡ cond test (Some (more_zeros (get key_cmp old (key_of t b)) from)) (get key_cmp old (key_of t b))
+noted s t a b from old new true is e =
+    let parts = and_parts (s == t) (tag_eq b a) is in
+    e ∙ (λ i. Some (more_zeros (get key_cmp old (key_of (number_is s t parts.0 i) (same_tag a b parts.1 i))) from))
+noted s t a b from old new false is e = e
+
+at_key : (s t : ℕ) (a b : Tag) (from : ℕ) (old new : BTreeMap PageKey ℕ) → Updates key_cmp old new (key_of s a) (Some (more_zeros (get key_cmp old (key_of s a)) from))
+    → get key_cmp new (key_of t b) ≡ cond (s == t && tag_eq b a) (Some (more_zeros (get key_cmp old (key_of t b)) from)) (get key_cmp old (key_of t b))
+at_key s t a b from old new updates =
+    noted s t a b from old new (s == t && tag_eq b a) refl
+    (updates.0 (key_of t b) ∙ ap (λ x. cond x (Some (more_zeros (get key_cmp old (key_of s a)) from)) (get key_cmp old (key_of t b))) (key_test s t a b))
+
+-- a page with a record of the physical kind is noted under its key
+pub owned_more : (s : ℕ) (a : Tag) (wear : ℕ) (page : Seen) (old new : BTreeMap PageKey ℕ) → page.rec ≡ Physical a s wear
+    → Updates key_cmp old new (key_of s a) (Some (more_zeros (get key_cmp old (key_of s a)) page.zeros)) → (t : ℕ) (b : Tag) → get key_cmp new (key_of t b) ≡ with_page t b (get key_cmp old (key_of t b)) page
+owned_more s a wear page old new is updates t b =
+    at_key s t a b page.zeros old new updates
+    ∙ sym (ap (λ r. cond (stamp_of r == t && has_tag b r) (Some (more_zeros (get key_cmp old (key_of t b)) page.zeros)) (get key_cmp old (key_of t b))) is)
+
+none_of_virtual : (x : Bool) (y z : Option ℕ) → cond (x && false) y z ≡ z
+none_of_virtual true y z = refl
+none_of_virtual false y z = refl
+
+-- one of the virtual kind has no owner
+pub owned_same : (vaddr s wear : ℕ) (page : Seen) (zeros : Option ℕ) → page.rec ≡ Virtual vaddr s wear → (t : ℕ) (b : Tag) → with_page t b zeros page ≡ zeros
+owned_same vaddr s wear page zeros is t b = ap (λ r. cond (stamp_of r == t && has_tag b r) (Some (more_zeros zeros page.zeros)) zeros) is ∙ none_of_virtual (s == t) (Some (more_zeros zeros page.zeros)) zeros
+
+-- ---- what the greatest offset tells
+
+within_max : (a z end : ℕ) → nat_le (max a z) end ≡ (nat_le z end && nat_le a end)
+within_max a z end = grind (arith, nat_tests)
+
+and_regrouped : (a b c : Bool) → ((a && b) && c) ≡ (a && (b && c))
+and_regrouped true b c = refl
+and_regrouped false b c = refl
+
+module _ (stamp end : ℕ) (tag : Tag) where
+  abbrev is_it : Seen → Bool
+  is_it s = stamp_of s.rec == stamp && has_tag tag s.rec
+
+  abbrev is_short : Seen → Bool
+  is_short s = not (is_it s) || nat_le s.zeros end
+
+  after_some : (z : ℕ) (pages : List Seen) → is_zero_from end (fold (with_page stamp tag) (Some z) pages) ≡ (nat_le z end && list_all is_short pages)
+  after_some z [] = none (nat_le z end)
+    where
+      none : (b : Bool) → b ≡ (b && true)
+      none true = refl
+      none false = refl
+  after_some z (s ∷ pages) = by (is_it s) (after_some (max s.zeros z) pages) (after_some z pages)
+    where
+      by : (b : Bool) → is_zero_from end (fold (with_page stamp tag) (Some (max s.zeros z)) pages) ≡ (nat_le (max s.zeros z) end && list_all is_short pages)
+          → is_zero_from end (fold (with_page stamp tag) (Some z) pages) ≡ (nat_le z end && list_all is_short pages)
+          → is_zero_from end (fold (with_page stamp tag) (cond b (Some (max s.zeros z)) (Some z)) pages) ≡ (nat_le z end && ((not b || nat_le s.zeros end) && list_all is_short pages))
+      by true more same = more ∙ (ap (λ x. x && list_all is_short pages) (within_max s.zeros z end) ∙ and_regrouped (nat_le z end) (nat_le s.zeros end) (list_all is_short pages))
+      by false more same = same
+
+  after_none : (pages : List Seen) → is_zero_from end (fold (with_page stamp tag) None pages) ≡ (list_any is_it pages && list_all is_short pages)
+  after_none [] = refl
+  after_none (s ∷ pages) = by (is_it s) (after_some s.zeros pages) (after_none pages)
+    where
+      by : (b : Bool) → is_zero_from end (fold (with_page stamp tag) (Some s.zeros) pages) ≡ (nat_le s.zeros end && list_all is_short pages)
+          → is_zero_from end (fold (with_page stamp tag) None pages) ≡ (list_any is_it pages && list_all is_short pages)
+          → is_zero_from end (fold (with_page stamp tag) (cond b (Some s.zeros) None) pages) ≡ ((b || list_any is_it pages) && ((not b || nat_le s.zeros end) && list_all is_short pages))
+      by true more same = more
+      by false more same = same
+
+-- the page of a pointer is there exactly where its key has one that is zero early enough
+pub has_page_by_key : (physicals : List Seen) (h : Held) → is_zero_from (h.size - 4096 * h.tag.index) (greatest_zeros physicals h.pointer.stamp h.tag) ≡ has_page physicals h
+unfolding greatest_zeros
+has_page_by_key physicals h = after_none h.pointer.stamp (h.size - 4096 * h.tag.index) h.tag physicals

@@ -1,0 +1,9 @@
+use Rattle.std.proofs.Common.{ap, arith, ◌∙◌}
+use Rattle.nl_recover_pointers.specs.Spare.{has_spare}
+use Rattle.nl_recover_pointers.proofs.Copying.{physical_spare_is}
+use Rattle.nl_recover_pointers.proofs.crowded.has_physical_spare.Goals as goal
+
+pub returns : goal.returns
+returns c =
+    let is = ap (has_spare c.args.shape.now.vblocks c.args.shape.now.pblocks) c.in_ok-copies.ensures ∙ physical_spare_is c.args.shape.now c.args.scan.now.seen c.args.held.now in
+    grind (arith, is)

@@ -1,0 +1,24 @@
+-- Pages by their numbers and their write sequence numbers.
+use Rattle.std.specs.Prelude.{◌≡◌, ℕ, List}
+use Rattle.std.specs.Ordering.{nat_cmp, ordering_then}
+use Rattle.std.specs.declared.cmp.Ordering.{Ordering}
+use Rattle.std.specs.BTreeSet.{contains}
+use Rattle.nl_field.specs.ScanList.{on_list}
+use Rattle.nl_field.specs.Space.{holds_among, is_among}
+use Rattle.nl_field.specs.declared.seen.Seen.{Seen}
+use Rattle.nl_recover_pointers.specs.declared.places.Places.{Places}
+
+-- a number with a write sequence number, in one order
+abbrev pub PlaceKey : Type 0
+PlaceKey = ℕ × ℕ
+
+abbrev pub pair_cmp : PlaceKey → PlaceKey → Ordering
+pair_cmp x y = ordering_then (nat_cmp x.0 y.0) (nat_cmp x.1 y.1)
+
+abbrev pub place_key : ℕ → ℕ → PlaceKey
+place_key number stamp = (number, stamp)
+
+-- exactly these pages
+pub record KnowsPlaces (pages : List Seen) (places : Places) : Type 0 where
+  pub pages_are : (page : ℕ) → contains nat_cmp places.pages page ≡ is_among on_list pages page
+  pub stamped_are : (page stamp : ℕ) → contains pair_cmp places.stamped (place_key page stamp) ≡ holds_among on_list pages page stamp

@@ -1,5 +1,0 @@
-use Rattle.nl_segments_tests.proofs.Rigs.{least}
-use Rattle.nl_segments_tests.proofs.medium.least.Goals as goal
-
-pub returns-in-Some : goal.returns-in-Some
-returns-in-Some c = least c.in-Some.shape c.in-Some.ensures.numbers

@@ -1,5 +1,0 @@
-use Rattle.nl_sound.proofs.SoundProofs.{charges_of_image}
-use Rattle.nl_sound.proofs.laws.charges_of_image.Goals as goal
-
-pub returns : goal.returns
-returns c = charges_of_image

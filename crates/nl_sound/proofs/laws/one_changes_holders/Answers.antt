@@ -1,5 +1,0 @@
-use Rattle.nl_sound.proofs.HolderListProofs.{one_changes_holders}
-use Rattle.nl_sound.proofs.laws.one_changes_holders.Goals as goal
-
-pub returns : goal.returns
-returns c = one_changes_holders

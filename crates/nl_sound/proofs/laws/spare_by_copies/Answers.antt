@@ -1,5 +1,0 @@
-use Rattle.nl_sound.proofs.SpareProofs.{spare_by_copies}
-use Rattle.nl_sound.proofs.laws.spare_by_copies.Goals as goal
-
-pub returns : goal.returns
-returns c = spare_by_copies

@@ -1,5 +1,0 @@
-use Rattle.nl_sound.proofs.SpareProofs.{spare_by_few_pages}
-use Rattle.nl_sound.proofs.laws.spare_by_few_pages.Goals as goal
-
-pub returns : goal.returns
-returns c = spare_by_few_pages

@@ -1,0 +1,23 @@
+//! Laws of the definitions. Each function stands for the laws that its contract names.
+ghost use Rattle.nl_spec_crashes.specs.Laws.{CallGoesAlong, EffectGoesAlong, EndsStanding, OpeningGoesAlong, OpensSound, SyncGoesAlong};
+ghost use Rattle.nl_spec_crashes.specs.Effects.{StepTakesEffect};
+
+use nl_iface::MovingPages;
+
+/// A volume goes along the run of its calls from its opening on: through each call of its core, through the effect of a call, and through
+/// the commit of a sync. So what a stop leaves at any moment was left before, or opens as the tree after the first calls of the run, as
+/// many as the syncs up to that moment made durable and not more than were answered; such an image is sound as that tree. After a commit
+/// of all calls that left it firm, what is stored opens as the tree after all of them.
+pub fn stops_go_along<D: MovingPages>()
+    ensures opening { OpeningGoesAlong D.Counts }
+    ensures call { CallGoesAlong D.Counts }
+    ensures effect { EffectGoesAlong D.Counts }
+    ensures sync { SyncGoesAlong D.Counts }
+    ensures ends { EndsStanding D.Counts }
+    ensures sound { OpensSound D.Counts }
+{}
+
+/// A step of a file call takes effect, once it is counted, where the pages stand for what the call makes of the tree.
+pub fn steps_take_effect<D: MovingPages>()
+    ensures { StepTakesEffect D.Counts }
+{}

@@ -1,0 +1,207 @@
+// A volume is opened, goes through a table of calls, and is read back.
+use crate::image::{Layout, Plan, image};
+use crate::reading::{Work, Wrong, first_wrong};
+use crate::rig::{Rig, Seen, Step};
+use nl_core::Core;
+use nl_core_open::{Opened, open};
+use nl_device::Device;
+use nl_field::{FailList, Memory};
+use nl_iface::Counts;
+use nl_nand::{MemNand, Stop};
+use std::alloc::Global;
+
+/// What differs from what is wanted: the answer of a row, or what is read back.
+#[derive(Clone, Copy, PartialEq)]
+pub enum Differs {
+    Row(usize, Seen),
+    Holds(Wrong),
+}
+
+/// What is done with a volume that was opened, and what it is to hold then.
+#[derive(Clone, Copy)]
+pub struct Visit<'a> {
+    pub rows: &'a [(Step, Seen)],
+    pub holds: Option<Holds>,
+}
+
+/// After how many calls the metadata runs, and how many pages are in flight.
+#[derive(Clone, Copy)]
+pub struct Holds {
+    pub calls: u64,
+    pub in_flight: u32,
+}
+
+/// These rows, after which nothing is in flight.
+pub fn tree(rows: &[(Step, Seen)], calls: u64) -> Visit<'_> {
+    let holds = Holds {
+        calls,
+        in_flight: 0,
+    };
+    Visit {
+        rows,
+        holds: Some(holds),
+    }
+}
+
+/// No call fails, and the medium may stop.
+pub fn sound(alloc: Global, stop: Option<Stop>) -> Plan {
+    Plan {
+        reads: FailList::new(alloc),
+        writes: FailList::new(alloc),
+        stop,
+    }
+}
+
+/// The calls of these numbers fail, where they are not zero.
+pub fn failing(alloc: Global, read: u64, write: u64) -> Result<Plan, Memory> {
+    Ok(Plan {
+        reads: only(alloc, read)?,
+        writes: only(alloc, write)?,
+        stop: None,
+    })
+}
+
+fn only(alloc: Global, number: u64) -> Result<FailList, Memory> {
+    let mut list = FailList::new(alloc);
+    if 0 < number {
+        list.push(number)?;
+    }
+    Ok(list)
+}
+
+fn opened(alloc: Global, media: MemNand) -> Result<Rig, Memory> {
+    match open(alloc, media) {
+        Opened::Ready(core, _) => Ok(Rig { core }),
+        other => {
+            drop(other);
+            Err(Memory)
+        }
+    }
+}
+
+fn looks(core: &mut Core<Device<MemNand>>, holds: Option<Holds>, work: &mut Work) -> Option<Differs>
+    requires { ⟦<Device<MemNand> as Counts>⟧.formed core.old.device }
+{
+    match holds {
+        Some(holds) => match first_wrong(core, holds.calls, holds.in_flight, work) {
+            Some(wrong) => Some(Differs::Holds(wrong)),
+            None => None,
+        },
+        None => None,
+    }
+}
+
+fn medium_of(core: Core<Device<MemNand>>) -> MemNand {
+    let Core {
+        device,
+        shape: _,
+        journal: _,
+        meta: _,
+        nodes: _,
+        flight: _,
+        freeing: _,
+        count: _,
+        committed: _,
+        moment: _,
+        stopped: _,
+    } = core;
+    device.into_media()
+}
+
+/// What differs in a visit of the volume of a medium, and the medium then.
+fn visited(
+    alloc: Global,
+    media: MemNand,
+    visit: Visit<'_>,
+    work: &mut Work,
+) -> Result<(Option<Differs>, MemNand), Memory> {
+    let mut rig = opened(alloc, media)?;
+    let row = rig.differs(visit.rows, &mut work.page);
+    let Rig { mut core } = rig;
+    let holds = looks(&mut core, visit.holds, work);
+    let media = medium_of(core);
+    match row {
+        Some((at, seen)) => Ok((Some(Differs::Row(at, seen)), media)),
+        None => Ok((holds, media)),
+    }
+}
+
+/// Rounds until no page is dead: the 480 live pages fill 15 of 24 blocks.
+const CLEANED: [(Step, Seen); 4] = [
+    (Step::Quiet(30), Seen::Did),
+    (Step::Pairs, Seen::Number(0)),
+    (Step::FreeBlocks, Seen::Number(9)),
+    (Step::Clean, Seen::Nothing),
+];
+
+/// The first of two.
+fn either(first: Option<Differs>, second: Option<Differs>) -> Option<Differs> {
+    match first {
+        Some(differs) => Some(differs),
+        None => second,
+    }
+}
+
+/// What differs in a volume that is opened again: it has answered so many calls, and holds what it held, also once no page is dead any more.
+fn reopened(
+    alloc: Global,
+    media: MemNand,
+    calls: u64,
+    work: &mut Work,
+) -> Result<Option<Differs>, Memory> {
+    let counted = [(Step::Count, Seen::Number(calls))];
+    let (first, media) = visited(alloc, media, tree(&counted, calls), work)?;
+    let (second, media) = visited(alloc, media, tree(&CLEANED, calls), work)?;
+    drop(media);
+    Ok(either(first, second))
+}
+
+/// What differs in a visit of the volume of that layout, and then, where the number of its calls is told, once it is opened again.
+pub fn differing(
+    alloc: Global,
+    layout: &Layout,
+    plan: Plan,
+    visit: Visit<'_>,
+    calls: Option<u64>,
+) -> Result<Option<Differs>, Memory> {
+    let mut work = Work::new(alloc)?;
+    let found = differing_in(alloc, layout, plan, visit, calls, &mut work);
+    drop(work);
+    found
+}
+
+fn differing_in(
+    alloc: Global,
+    layout: &Layout,
+    plan: Plan,
+    visit: Visit<'_>,
+    calls: Option<u64>,
+    work: &mut Work,
+) -> Result<Option<Differs>, Memory> {
+    let media = image(alloc, layout, plan)?;
+    let (first, media) = visited(alloc, media, visit, work)?;
+    match calls {
+        Some(calls) => {
+            let second = reopened(alloc, media.restart(None), calls, work)?;
+            Ok(either(first, second))
+        }
+        None => {
+            drop(media);
+            Ok(first)
+        }
+    }
+}
+
+/// Whether an opening of the medium fails.
+pub fn is_fault(alloc: Global, media: MemNand) -> bool {
+    match open(alloc, media) {
+        Opened::Fault(media) => {
+            drop(media);
+            true
+        }
+        other => {
+            drop(other);
+            false
+        }
+    }
+}

@@ -1,5 +1,0 @@
-use Rattle.nl_turns_tests.specs.Work.{HasWorked}
-use Rattle.nl_turns_tests.proofs.work.take_turns.Given as goal
-
-abbrev pub invariant-loop : goal.invariant-loop
-invariant-loop g l = HasWorked l.initial.seat l.line.line l.counter l.seat

@@ -1,9 +1,0 @@
-use Rattle.nl_viewing.specs.Looking.{Reports}
-use Rattle.nl_viewing.proofs.Completing.{look_completes, tree_completes}
-use Rattle.nl_viewing.proofs.laws.look_completes.Goals as goal
-
-pub returns-clause-trees : goal.returns-clause-trees
-returns-clause-trees g c = tree_completes g.M.Nand.tells c.done_completes.ensures c.opening_completes.ensures
-
-pub returns-clause-reports : goal.returns-clause-reports
-returns-clause-reports g c = look_completes g.M.Nand.tells c.done_completes.ensures c.opening_completes.ensures Reports

@@ -1,0 +1,66 @@
+-- A walk over the paths of a tree: what it keeps, and what it has still to give.
+use Rattle.std.specs.Prelude.{◌≡◌, ◌≢◌, ⊤, ℕ, ◌+◌, Bool, true, false, List, [], ◌∷◌, length, take, slice_get, Option, Some, None}
+use Rattle.nl_field.specs.Graph.{Graph, NodeBody, directory_node, file_node}
+use Rattle.nl_field.specs.declared.pointer.Pointer.{Pointer}
+use Rattle.nl_tree.specs.Represents.{node_reached}
+use Rattle.nl_tree.specs.Tree.{Tree}
+use Rattle.nl_meta_running.specs.declared.answer.Stop.{Stop}
+use Rattle.nl_meta_running.specs.declared.answer.Stop.TheVariants as stop
+use Rattle.nl_volume_list.specs.Items.{Told, items_behind, items_of}
+use Rattle.nl_volume_list.specs.declared.item.TreeItem.{TreeItem}
+use Rattle.nl_volume_list.specs.declared.item.TreeItem.TheVariants as item
+
+-- the path that a walk holds, the nodes on its way, and for how many names it has room
+pub record WalkState : Type 0 where
+  pub path : List (List ℕ)
+  pub nodes : List ℕ
+  pub room : ℕ
+
+-- what is left behind a path; before the root there is no node on the way, and all is left
+abbrev pub left_behind : Tree → List (List ℕ) → List ℕ → List Told
+left_behind tree path [] = items_of tree
+left_behind tree path (n ∷ nodes) = items_behind path (items_of tree)
+
+-- what the walk has still to give of a tree
+abbrev pub left_of : Tree → WalkState → List Told
+left_of tree walk = left_behind tree walk.path walk.nodes
+
+-- It gives the first of what was left, and the rest is left then. The end comes where nothing was left.
+abbrev pub Gives : Tree → WalkState → WalkState → TreeItem → Type 0
+Gives tree old new (item.Dir entries) = left_of tree old ≡ (new.path, item.Dir entries) ∷ left_of tree new
+Gives tree old new (item.File size pages) = left_of tree old ≡ (new.path, item.File size pages) ∷ left_of tree new
+Gives tree old new item.End = left_of tree old ≡ []
+Gives tree old new item.Fault = ⊤
+Gives tree old new (item.Lost wanted found) = ⊤
+
+-- A path was given.
+abbrev pub is_path : TreeItem → Bool
+is_path (item.Dir entries) = true
+is_path (item.File size pages) = true
+is_path item.End = false
+is_path item.Fault = false
+is_path (item.Lost wanted found) = false
+
+-- what ended the reading of pages
+abbrev pub item_stop : TreeItem → Option Stop
+item_stop (item.Dir entries) = None
+item_stop (item.File size pages) = None
+item_stop item.End = None
+item_stop item.Fault = Some stop.Fault
+item_stop (item.Lost wanted found) = Some (stop.Lost wanted found)
+
+-- ---- in the nodes of a volume
+
+-- Before the root there is neither a name nor a node. Then there is a node for each beginning of the path, to which it leads.
+pub record OnWay (graph : Graph) (walk : WalkState) : Type 0 where
+  pub before : walk.nodes ≡ [] → walk.path ≡ []
+  pub one_each : walk.nodes ≢ [] → length walk.nodes ≡ length walk.path + 1
+  pub reached : (i n : ℕ) → slice_get walk.nodes i ≡ Some n → node_reached graph 0 (take i walk.path) ≡ Some n
+
+-- what is told of a node that is used
+abbrev pub TellsNode : NodeBody → TreeItem → Type 0
+TellsNode body (item.Dir entries) = (es : List (List ℕ × ℕ)) × (body ≡ directory_node es) × (entries ≡ length es)
+TellsNode body (item.File size pages) = (ps : List (ℕ × Pointer)) × (body ≡ file_node size ps) × (pages ≡ length ps)
+TellsNode body item.End = ⊥
+TellsNode body item.Fault = ⊤
+TellsNode body (item.Lost wanted found) = ⊤

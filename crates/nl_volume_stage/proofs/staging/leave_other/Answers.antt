@@ -1,0 +1,29 @@
+use Rattle.std.proofs.Common.{◌∙◌, inl, inr, ⊎_elim, refl, sym}
+use Rattle.nl_volume_stage.proofs.Nexts.{staged_dropped}
+use Rattle.nl_volume_stage.proofs.Stages.{passes_dropped, passes_none}
+use Rattle.nl_volume_stage.proofs.staging.leave_other.Goals as goal
+
+pub returns-then-now-line-clause-passes : goal.returns-then-now-line-clause-passes
+returns-then-now-line-clause-passes g c =
+    let G = g.D.Counts in
+    let u = c.args.core.now in
+    let e = c.drop_line.ensures in
+    passes_dropped G c.args.worker c.args.line u c.drop_line.new.self c.requires.stands.4.serves.core e.core c.counts.ensures c.requires.known c.requires.some
+    (λ same. c.if-now-line.true (c.line-now.ensures.line ∙ same)) 0 e.goes e.dropped
+
+pub returns-else-now-ne0-clause-passes : goal.returns-else-now-ne0-clause-passes
+returns-else-now-ne0-clause-passes g c =
+    let G = g.D.Counts in
+    passes_none G c.args.worker c.args.line c.args.core.now c.requires.stands.4.serves.core
+
+pub returns-else-now-ne0-clause-line : goal.returns-else-now-ne0-clause-line
+returns-else-now-ne0-clause-line g c = ⊎_elim (λ is. inr (sym c.line-now.ensures.line ∙ is.1)) (λ none. inl (sym c.line-now.ensures.line ∙ none)) c.else-now-ne0.either
+
+pub returns-then-now-line-clause-staged : goal.returns-then-now-line-clause-staged
+returns-then-now-line-clause-staged g c =
+    let G = g.D.Counts in
+    let u = c.args.core.now in
+    staged_dropped G c.args.worker c.args.line u c.drop_line.new.self c.requires.stands.4.serves.core c.requires.known c.requires.some (λ same. c.if-now-line.true (c.line-now.ensures.line ∙ same)) c.drop_line.ensures.dropped
+
+pub returns-else-now-ne0-clause-staged : goal.returns-else-now-ne0-clause-staged
+returns-else-now-ne0-clause-staged g c = refl

@@ -1,0 +1,124 @@
+ghost use Rattle.std.specs.Prelude.{◌≡◌, ◌≢◌, ◌⊎◌, ◌↔◌, ◌≤◌, ◌<◌, ◌^◌, length};
+ghost use Rattle.nl_core.specs.Programming.{HasLine};
+ghost use Rattle.nl_flight.specs.Flight.{of_worker};
+ghost use Rattle.nl_volume_stage.specs.Staging.{IsNext, PassesOn, StagesOn, Stands, StandsWithLine, TellsLeft, staged_indexes};
+
+use crate::next::{Next, fill_page, flying, next_of};
+use crate::numbers::{counts, is_worn};
+use nl_core::{Core, Programmed};
+use nl_field::{PageBuf, Tag};
+use nl_iface::MovingPages;
+use nl_spec_commits::laws::device_stands;
+use nl_tree::{Call, Stage};
+
+/// Stages one whole page of a line ahead of its effect: it is programmed, and in flight from now on. `Stopped` comes exactly where the volume is
+/// read-only or worn. Pages in flight of another line of the worker are freed first. The page given has bytes of the call then.
+pub fn stage_line<D: MovingPages>(
+    core: &mut Core<D>,
+    worker: u8,
+    line: u32,
+    call: &Call,
+    page: &mut PageBuf,
+) -> Stage
+    requires stands { StandsWithLine D.Counts worker line call.now core.old }
+    requires known { worker < 8 }
+    requires some { 0 < line }
+    ensures stages { StagesOn D.Counts worker line call.now core.old core.new result }
+    ensures left { TellsLeft D.Counts worker line call.now core.old core.new result }
+    ensures stopped { result ≡ Stage.Stopped ↔ (core.old.stopped ≢ 0) ⊎ (2 ^ 62 ≤ D.next_stamp core.old.device) }
+{
+    leave_other(core, worker, line);
+    if core.stopped != 0 || is_worn(core) {
+        return Stage::Stopped;
+    }
+    stage_now(core, worker, line, call, page)
+}
+
+// Stages a page of a line on a volume that can be written, where the worker has this line or none.
+fn stage_now<D: MovingPages>(
+    core: &mut Core<D>,
+    worker: u8,
+    line: u32,
+    call: &Call,
+    page: &mut PageBuf,
+) -> Stage
+    requires stands { StandsWithLine D.Counts worker line call.now core.old }
+    requires known { worker < 8 }
+    requires some { 0 < line }
+    requires line { HasLine core.old.flight worker line }
+    requires writes { core.old.stopped ≡ 0 }
+    requires stamp { D.next_stamp core.old.device < 2 ^ 62 }
+    ensures stages { StagesOn D.Counts worker line call.now core.old core.new result }
+    ensures left { TellsLeft D.Counts worker line call.now core.old core.new result }
+    ensures not_stopped { result ≢ Stage.Stopped }
+{
+    device_stands(&core.device);
+    let place = flying(&core.flight, worker);
+    let next = next_of(core, call, place);
+    device_stands(&core.device);
+    counts(core);
+    match next {
+        Next::Page(tag) => stage_page(core, worker, line, call, tag, page),
+        Next::Whole => Stage::Whole,
+        Next::Lost { wanted, found } => Stage::Lost { wanted, found },
+        Next::Fault => {
+            core.note_failure(worker, line);
+            Stage::Fault
+        }
+    }
+}
+
+// Programs the next page of a line.
+fn stage_page<D: MovingPages>(
+    core: &mut Core<D>,
+    worker: u8,
+    line: u32,
+    call: &Call,
+    tag: Tag,
+    page: &mut PageBuf,
+) -> Stage
+    requires stands { StandsWithLine D.Counts worker line call.now core.old }
+    requires known { worker < 8 }
+    requires some { 0 < line }
+    requires line { HasLine core.old.flight worker line }
+    requires writes { core.old.stopped ≡ 0 }
+    requires stamp { D.next_stamp core.old.device < 2 ^ 62 }
+    requires next { IsNext call.now (length (of_worker core.old.flight worker).pages) tag }
+    ensures stages { StagesOn D.Counts worker line call.now core.old core.new result }
+    ensures not_stopped { result ≢ Stage.Stopped }
+    ensures not_whole { result ≢ Stage.Whole }
+{
+    device_stands(&core.device);
+    fill_page(page, call, tag.index);
+    let programmed = core.program(worker, line, tag, page);
+    device_stands(&core.device);
+    counts(core);
+    match programmed {
+        Programmed::InFlight => Stage::Staged,
+        Programmed::Stopped => unreachable!(),
+        Programmed::Lost { wanted, found } => Stage::Lost { wanted, found },
+        Programmed::Fault => {
+            core.note_failure(worker, line);
+            Stage::Fault
+        }
+    }
+}
+
+/// Frees pages in flight of another line of the worker.
+pub fn leave_other<D: MovingPages>(core: &mut Core<D>, worker: u8, line: u32)
+    requires stands { Stands D.Counts core.old }
+    requires known { worker < 8 }
+    requires some { 0 < line }
+    ensures passes { PassesOn D.Counts worker line core.old core.new }
+    ensures line { HasLine core.new.flight worker line }
+    ensures staged { staged_indexes core.new.flight worker line ≡ staged_indexes core.old.flight worker line }
+    ensures stopped { core.new.stopped ≡ core.old.stopped }
+    ensures stamp { D.next_stamp core.new.device ≡ D.next_stamp core.old.device }
+{
+    let now = core.flight.line(worker);
+    if now != 0 && now != line {
+        device_stands(&core.device);
+        core.drop_line(worker);
+        counts(core);
+    }
+}

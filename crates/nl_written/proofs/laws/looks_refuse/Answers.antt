@@ -1,5 +1,0 @@
-use Rattle.nl_written.proofs.laws.looks_refuse.Goals as goal
-use Rattle.nl_filing.proofs.FoundFiles.{looks-refuse}
-
-pub returns : goal.returns
-returns c = λ shape pages page_of_stamp tree path runs short. looks-refuse c.looks_in_tree.ensures shape pages page_of_stamp tree runs path short
