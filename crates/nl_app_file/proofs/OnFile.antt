@@ -81,7 +81,7 @@ not_both : {o : Option Command} {command : Command} → o ≡ None → o ≡ Som
 not_both none some = cc (none, some)
 
 module _ {tells : Type 0} {words : List (List ℕ)} {leaves : Leaving → Type 0} {source source' sink sink' : Stream} {medium medium' : Medium} {order : List Ordered} {syncs : List Synced} {status : ℕ} (none : command_of words ≡ None) where
-  -- they end so on whatever medium
+  -- faulty words end so on whatever medium
   pub faulty_on_file : Ends tells words leaves source source' sink sink' medium medium' order syncs status → EndsOnFile words source source' sink sink' status
   faulty_on_file (faulty_words is two same kept before) = (medium, medium', order, syncs, faulty_words none two same tt (before_untold before))
   faulty_on_file (runs is ends) = absurd (not_both none is)

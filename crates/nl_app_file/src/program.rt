@@ -44,7 +44,8 @@ pub fn answer<Rt: Files<File = File> + AllocGlobal + Threads + Wait + Sync, S: S
     sink: &mut K,
 ) -> Result<u8, Notice>
     ensures faulty { command_of words.now ≡ None → result ≡ Ok 2 }
-    ensures ended { IfOk result (EndsOnFile words.now (stream (S.left src.old) (S.faults src.old)) (stream (S.left src.new) (S.faults src.new))
+    ensures ended { IfOk result (EndsOnFile words.now (stream (S.left src.old) (S.faults src.old))
+        (stream (S.left src.new) (S.faults src.new))
         (stream (K.taken sink.old) (K.faults sink.old)) (stream (K.taken sink.new) (K.faults sink.new))) }
     ensures untouched { OnErr result ((src.new ≡ src.old) × (sink.new ≡ sink.old)) }
     ensures of_the_file { IfErr result (λ notice. notice ≡ Notice.Words → ⊥) }

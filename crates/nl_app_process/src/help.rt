@@ -1,5 +1,9 @@
+// The texts that the program has for its version and for help.
+
+/// The name and the version of the program.
 pub const VERSION: &str = "nameless 0.2.0";
 
+/// What the program prints where help is asked for.
 pub const HELP: &str = "\
 nameless: a flash store with a journalling file system, in an image file
 

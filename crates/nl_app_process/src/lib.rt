@@ -1,4 +1,4 @@
-//! What the program takes of its process: its words and the image file that they name. And what it tells by itself.
+//! What the program takes of its process, its words and the image file that they name, and what it tells by itself.
 #![tactic(auto)]
 
 mod arguments;

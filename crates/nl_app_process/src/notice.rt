@@ -13,6 +13,7 @@ pub enum Notice {
 impl Notice {
     ghost use Rattle.std.specs.Prelude.{◌≡◌, codes};
 
+    /// The words of the notice, without the end of the line.
     pub fn text(self) -> &'static str
         ensures words { self ≡ Notice.Words → result.now ≡ codes "words" }
         ensures medium_fault { self ≡ Notice.MediumFault → result.now ≡ codes "medium fault" }
@@ -27,6 +28,7 @@ impl Notice {
         }
     }
 
+    /// The status with which the program ends: 2 for faulty words, 5 for the medium, 6 for want of memory.
     pub fn status(self) -> u8
         ensures words { self ≡ Notice.Words → result ≡ 2 }
         ensures medium_fault { self ≡ Notice.MediumFault → result ≡ 5 }

@@ -147,7 +147,7 @@ module _ (kind : BlockState → Bool) (t : Table) where
     unfolding used_in
     used-other other has_other differ = ap (row_used kind t.size) (block_at-with_block_other t block other row has has_other differ)
 
-    -- as many pages of it are used
+    -- as many pages of each block are used, where the row put in has as many
     pub used-each : row_used kind t.size row ≡ row_used kind t.size (block_at t block) → (other : ℕ) → HasBlock t other → SameUsed kind other t (with_block t block row)
     unfolding used_in
     used-each same other has_other = ⊎_elim
@@ -279,6 +279,6 @@ module _ (kind : BlockState → Bool) (t : Table) (rising : IsRising kind t) (bl
   pub kind-used : kind row.state ≡ kind (block_at t block).state → (other : ℕ) → HasBlock t other → SameUsed kind other t (with_block t block row)
   kind-used e = used-each kind t block row has (λ j. cond (e j) (first_unmarked (same j)) t.size)
 
-  -- it was not opened
+  -- the block was not opened
   pub rising-closed : (kind row.state ≡ true → kind (block_at t block).state ≡ true) → IsRising kind (with_block t block row)
   rising-closed was = rising-with kind t block row has rising (λ e. subst IsRisen (sym same) (rising.each block has (was e)))

@@ -119,7 +119,8 @@ in_state row state = record { state = state; wear = row.wear; pages = row.pages 
 
 -- the block with the page at this offset marked
 abbrev pub with_mark : BlockRow → ℕ → PageState → BlockRow
-with_mark row at state = record { state = row.state; wear = row.wear; pages = slice_set row.pages at (record { state = state; marked = true }) }
+with_mark row at state =
+    record { state = row.state; wear = row.wear; pages = slice_set row.pages at (record { state = state; marked = true }) }
 
 -- the block in a new state with no page marked
 abbrev pub taken : BlockRow → BlockState → BlockRow

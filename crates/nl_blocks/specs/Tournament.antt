@@ -1,4 +1,5 @@
--- A tournament in a list: node i has the better of what nodes 2·i and 2·i + 1 have, the leaves stand from `count` on, and node 0 is not used.
+-- A tournament in a list: node i has the better of what nodes 2·i and 2·i + 1 have, the leaves stand from `count` on, and node 0 is
+-- not used.
 use Rattle.std.specs.Prelude.{◌≡◌, ◌≢◌, ℕ, ◌+◌, ◌*◌, ◌^◌, ◌<◌, ◌≤◌, List, length, map, drop, Bool, ◌||◌, ◌&&◌, ◌==◌, nat_lt, Option, Some, None, IfSome, slice_index_or, if◌then◌else◌}
 use Rattle.nl_blocks.specs.declared.tournament.Entrant.{Entrant}
 
@@ -33,7 +34,7 @@ HasBetter tree i = entrant_at tree i ≡ better (entrant_at tree (2 * i)) (entra
 pub record HasWinners (count : ℕ) (tree : List (Option Entrant)) : Type 0 where
   pub each : (i : ℕ) → 1 ≤ i → i < count → HasBetter tree i
 
--- but at one node
+-- each inner node has the better of the two below it, but for one node
 pub record HasWinnersBut (but count : ℕ) (tree : List (Option Entrant)) : Type 0 where
   pub each : (i : ℕ) → 1 ≤ i → i < count → i ≢ but → HasBetter tree i
 
@@ -42,7 +43,7 @@ pub record HasLeaves (count : ℕ) (tree : List (Option Entrant)) : Type 0 where
   pub size : length tree ≡ 2 * count
   pub each : (k : ℕ) → k < count → IfSome (entrant_at tree (count + k)) (λ e. e.place ≡ k)
 
--- Of two trees the leaves are the same.
+-- Two trees have the same leaves.
 pub record HasSameLeaves (count : ℕ) (old new : List (Option Entrant)) : Type 0 where
   pub size : length new ≡ length old
   pub each : (i : ℕ) → count ≤ i → entrant_at new i ≡ entrant_at old i

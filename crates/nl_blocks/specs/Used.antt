@@ -30,7 +30,7 @@ is_target_state (Retired names) = false
 abbrev pub row_used : (BlockState → Bool) → ℕ → BlockRow → ℕ
 row_used kind size row = cond (kind row.state) (first_unmarked row.pages) size
 
--- the same of a block of the table
+-- how many pages are used of a block of the table, by its kind of state
 unfoldable pub used_in : (BlockState → Bool) → Table → ℕ → ℕ
 used_in kind t block = row_used kind t.size (block_at t block)
 
@@ -38,7 +38,7 @@ used_in kind t block = row_used kind t.size (block_at t block)
 pub record IsRisen (pages : List Page) : Type 0 where
   pub behind : (k : ℕ) → first_unmarked pages ≤ k → (slice_index_or pages k new_page).marked ≡ false
 
--- so in each block in a state of this kind
+-- in each block in a state of this kind, no page behind the first one that is not marked is marked
 pub record IsRising (kind : BlockState → Bool) (t : Table) : Type 0 where
   pub each : (block : ℕ) → HasBlock t block → kind (block_at t block).state ≡ true → IsRisen (block_at t block).pages
 

@@ -1,3 +1,4 @@
+//! The table of the blocks of one segment.
 ghost use Rattle.std.specs.Prelude.{◌≡◌, ◌⊎◌, ℕ, ◌+◌, ◌-◌, ◌*◌, ◌/◌, ◌^◌, ◌<◌, ◌≤◌, ◌↔◌, length, true, cond, IfOk, IfSome, IfNone, IsNone, IsSome, IsTrue};
 ghost use Rattle.nl_blocks.specs.Table.{BestOf, HasBlock, HasPage, IsLeastWornFree, IsNextPage, IsTable, after_erase, block_at, dead_count, erased_row, free_count, in_state, is_free, is_retired_state, is_sealed_state, is_free_state, names_of, new_table, page_at, taken, wear_of, with_block, with_page, worn_row};
 
@@ -76,6 +77,7 @@ impl Blocks {
         self.size
     }
 
+    /// What a block is used for now.
     pub fn state(&self, block: u32) -> BlockState
         requires { HasBlock self.now block }
         ensures { result ≡ (block_at self.now block).state }
@@ -83,6 +85,7 @@ impl Blocks {
         self.blocks[(block - self.first) as usize].state()
     }
 
+    /// The state of a page, by its number on the medium.
     pub fn page_state(&self, page: u32) -> PageState
         requires { HasPage self.now page }
         ensures { result ≡ (page_at self.now page).state }
@@ -258,7 +261,8 @@ impl Blocks {
     pub fn name_gone(&mut self, block: u32)
         requires has { HasBlock self.old block }
         requires retired { is_retired_state (block_at self.old block).state ≡ true }
-        ensures { let row = block_at self.old block in self.new ≡ with_block self.old block (in_state row (after_erase (names_of row.state - 1))) }
+        ensures { let row = block_at self.old block in self.new
+            ≡ with_block self.old block (in_state row (after_erase (names_of row.state - 1))) }
     {
         let at = block - self.first;
         let i = at as usize;
@@ -275,7 +279,8 @@ impl Blocks {
     pub fn found(&mut self, block: u32, wear: u32, names: u32)
         requires has { HasBlock self.old block }
         requires idle { (is_free_state (block_at self.old block).state ≡ true) ⊎ (is_retired_state (block_at self.old block).state ≡ true) }
-        ensures { self.new ≡ with_block self.old block (record { state = after_erase names; wear = wear; pages = (block_at self.old block).pages }) }
+        ensures { self.new ≡ with_block self.old block
+            (record { state = after_erase names; wear = wear; pages = (block_at self.old block).pages }) }
     {
         let at = block - self.first;
         let i = at as usize;

@@ -1,3 +1,4 @@
+//! One row of the table of blocks.
 ghost use Rattle.std.specs.Prelude.{◌≡◌, ℕ, ◌^◌, ◌<◌, ◌≤◌, ◌↔◌, length, map, true, false, IfOk, IfSome, IsNone, slice_index_or};
 ghost use Rattle.nl_blocks.specs.Table.{AreMarkedBefore, IsFirstUnmarked, after_erase, dead_count, erased_row, in_state, is_free, new_page, new_row, taken, unmarked, wear_if_free, with_mark, worn_row};
 
@@ -26,7 +27,8 @@ impl Model for Block {
 
     ghost view = { λ b. record { state = b.state; wear = b.wear; pages = b.pages.items } };
 
-    ghost invariant = { λ b. (b.dead ≡ count_by is_dead b.pages.items) × (length b.pages.items < 2 ^ 32) × IsFirstUnmarked b.pages.items b.next };
+    ghost invariant = { λ b. (b.dead ≡ count_by is_dead b.pages.items) × (length b.pages.items < 2 ^ 32)
+        × IsFirstUnmarked b.pages.items b.next };
 }
 
 impl Block {
@@ -48,18 +50,21 @@ impl Block {
         })
     }
 
+    /// What the block is used for now.
     pub fn state(&self) -> BlockState
         ensures { result ≡ self.now.state }
     {
         self.state
     }
 
+    /// How often the block was erased.
     pub fn wear(&self) -> u32
         ensures { result ≡ self.now.wear }
     {
         self.wear
     }
 
+    /// How many pages of the block are dead.
     pub fn dead(&self) -> u32
         ensures value { result ≡ dead_count self.now }
         ensures few { result ≤ length self.now.pages }
@@ -67,6 +72,7 @@ impl Block {
         self.dead
     }
 
+    /// The state of a page, by its place in the block from 0.
     pub fn page_state(&self, at: u32) -> PageState
         requires { at < length self.now.pages }
         ensures { result ≡ (slice_index_or self.now.pages at new_page).state }
@@ -88,12 +94,14 @@ impl Block {
         }
     }
 
+    /// The block is used for this from now on. Its wear and its pages stay.
     pub fn set_state(&mut self, state: BlockState)
         ensures { self.new ≡ in_state self.old state }
     {
         self.state = state;
     }
 
+    /// The block was erased so often. It is Free where no name is waited for, and else waits for so many. Its pages stay.
     pub fn found(&mut self, wear: u32, names: u32)
         ensures { self.new ≡ record { state = after_erase names; wear = wear; pages = self.old.pages } }
     {
@@ -101,12 +109,14 @@ impl Block {
         self.state = state_with(names);
     }
 
+    /// Whether the block is Free.
     pub fn is_free(&self) -> bool
         ensures { result ≡ is_free self.now }
     {
         matches!(self.state, BlockState::Free)
     }
 
+    /// The wear of the block where it is Free, else None.
     pub fn wear_if_free(&self) -> Option<u32>
         ensures { result ≡ wear_if_free self.now }
     {
@@ -141,6 +151,7 @@ impl Block {
         unmark(&mut self.pages);
     }
 
+    /// Gives a page, by its place in the block from 0, a state.
     pub fn mark(&mut self, at: u32, state: PageState)
         requires { at < length self.old.pages }
         ensures { self.new ≡ with_mark self.old at state }

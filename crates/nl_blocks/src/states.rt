@@ -1,17 +1,19 @@
+//! The states of blocks and of pages.
+
 /// What a block is used for now.
 #[derive(Clone, Copy, Debug, PartialEq, Eq)]
 pub enum BlockState {
     /// No page of it is in use.
     Free,
-    /// New pages are written to it.
+    /// New pages are written to the block.
     Active,
-    /// Pages that the cleaner copies are written to it.
+    /// Pages that the cleaner copies are written to the block.
     Target,
-    /// It takes no more pages.
+    /// The block takes no more pages.
     Sealed,
-    /// The cleaner moves its live pages away.
+    /// The cleaner moves the live pages of the block away.
     Victim,
-    /// It is erased, and not given out until this many names of its pages have gone out of use; at least one.
+    /// The block is erased, and not given out until this many names of its pages have gone out of use; at least one.
     Retired(u32),
 }
 

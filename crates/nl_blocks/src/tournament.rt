@@ -1,3 +1,4 @@
+//! The least of many keys, found without a search of them all.
 ghost use Rattle.std.specs.Prelude.{◌≡◌, ◌<◌, ◌≤◌, ◌+◌, ◌*◌, ◌^◌, length, replicate, IfOk, MatchOption, Some, None, slice_set};
 ghost use Rattle.nl_blocks.specs.Tournament.{HasLeaves, HasSameLeaves, HasWinners, HasWinnersBut, IsFirstOfLeast, NonePresent, better, entrant_of, is_before};
 

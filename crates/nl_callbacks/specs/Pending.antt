@@ -12,7 +12,10 @@ pub record PendingTable : Type 0 where
   pub room : ℕ
 
 abbrev pub no_entry : Entry
-no_entry = record { callback = record { number = 0; before = 0; after = 0; tag = record { ino = 0; generation = 0; index = 0 }; stamp = 0 }; transaction = None }
+no_entry = record {
+  callback = record { number = 0; before = 0; after = 0; tag = record { ino = 0; generation = 0; index = 0 }; stamp = 0 };
+  transaction = None;
+}
 
 abbrev pub entry_at : List Entry → ℕ → Entry
 entry_at es i = slice_index_or es i no_entry
@@ -70,7 +73,8 @@ pub record Cancels (old new : PendingTable) (name : ℕ) : Type 0 where
   pub at : ℕ
   pub within : at < length old.callbacks
   pub named : (entry_at old.callbacks at).callback.before ≡ name
-  pub least : (i : ℕ) → i < length old.callbacks → (entry_at old.callbacks i).callback.before ≡ name → number_of (entry_at old.callbacks at) ≤ number_of (entry_at old.callbacks i)
+  pub least : (i : ℕ) → i < length old.callbacks → (entry_at old.callbacks i).callback.before ≡ name
+      → number_of (entry_at old.callbacks at) ≤ number_of (entry_at old.callbacks i)
   pub gone : new ≡ without old at
 
 -- The callback of this old name was taken away. It was handled by a transaction up to `upto`, and none by an earlier
@@ -83,7 +87,8 @@ pub record Acknowledges (old new : PendingTable) (upto name : ℕ) : Type 0 wher
   pub handled : (entry_at old.callbacks at).transaction ≡ Some transaction
   pub acknowledged : transaction ≤ upto
   pub first : (i other : ℕ) → i < length old.callbacks → (entry_at old.callbacks i).transaction ≡ Some other → transaction ≤ other
-  pub least : (i : ℕ) → i < length old.callbacks → (entry_at old.callbacks i).transaction ≡ Some transaction → number_of (entry_at old.callbacks at) ≤ number_of (entry_at old.callbacks i)
+  pub least : (i : ℕ) → i < length old.callbacks → (entry_at old.callbacks i).transaction ≡ Some transaction
+      → number_of (entry_at old.callbacks at) ≤ number_of (entry_at old.callbacks i)
   pub gone : new ≡ without old at
 
 -- the least number from 1 on that no pending callback has

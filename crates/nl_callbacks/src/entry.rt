@@ -1,3 +1,4 @@
+// The entries of the list of pending callbacks.
 ghost use Rattle.std.specs.Prelude.{◌≡◌, ◌≤◌, ◌<◌, length, insert, vec_capacity};
 ghost use Rattle.nl_callbacks.specs.Lists.{IsPlace, Rises};
 ghost use Rattle.nl_callbacks.specs.Pending.{no_entry, number_of};

@@ -1,3 +1,4 @@
+// The lists by which pending callbacks are found.
 ghost use Rattle.std.specs.Prelude.{◌≡◌, ℕ, ◌<◌, ◌≤◌, Some, None, length, insert, remove, slice_set, vec_capacity};
 ghost use Rattle.nl_callbacks.specs.Kept.{IsKept};
 ghost use Rattle.nl_callbacks.specs.Pending.{IsPending, entry_at, place_of};
@@ -20,7 +21,8 @@ pub fn add_entry(
     requires names_room { length entries.old.items < vec_capacity names.old }
     requires waiting_room { length entries.old.items < vec_capacity waiting.old }
     ensures kept { IsKept entries.new.items names.new.items waiting.new.items done.now.items }
-    ensures items { entries.new.items ≡ insert entries.old.items (place_of entries.old.items callback.number) (record { callback = callback; transaction = None }) }
+    ensures items { entries.new.items
+        ≡ insert entries.old.items (place_of entries.old.items callback.number) (record { callback = callback; transaction = None }) }
     ensures entries_capacity { vec_capacity entries.old ≤ vec_capacity entries.new }
     ensures names_capacity { vec_capacity names.old ≤ vec_capacity names.new }
     ensures waiting_capacity { vec_capacity waiting.old ≤ vec_capacity waiting.new }
@@ -63,7 +65,8 @@ pub fn mark_entry(
     requires waits { (entry_at entries.old.items at).transaction ≡ None }
     requires done_room { length entries.old.items ≤ vec_capacity done.old }
     ensures kept { IsKept entries.new.items names.now.items waiting.new.items done.new.items }
-    ensures items { entries.new.items ≡ slice_set entries.old.items at (record { callback = (entry_at entries.old.items at).callback; transaction = Some transaction }) }
+    ensures items { entries.new.items
+        ≡ slice_set entries.old.items at (record { callback = (entry_at entries.old.items at).callback; transaction = Some transaction }) }
     ensures entries_capacity { vec_capacity entries.old ≤ vec_capacity entries.new }
     ensures waiting_capacity { vec_capacity waiting.old ≤ vec_capacity waiting.new }
     ensures done_capacity { vec_capacity done.old ≤ vec_capacity done.new }

@@ -1,3 +1,4 @@
+// The table of pending callbacks.
 ghost use Rattle.std.specs.Prelude.{◌≡◌, ℕ, ◌+◌, ◌-◌, ◌^◌, ◌<◌, ◌≤◌, ◌↔◌, ◌∷◌, ◌++◌, [], length, insert, min, slice_set, IsTrue, IfOk, IfSome, IfNone, Some};
 ghost use Rattle.std.specs.Bool.{OnTrue, OnFalse};
 ghost use Rattle.nl_callbacks.specs.Lists.{Rises};
@@ -18,11 +19,11 @@ pub struct Pending {
     room: u32,
     posted: u64,
     entries: Vec<Entry>,
-    /// By old name.
+    /// The callbacks by old name.
     names: Vec<Link>,
-    /// Those that were not handled, by number; each key is 0.
+    /// The callbacks that were not handled, by number; each key is 0.
     waiting: Vec<Link>,
-    /// Those that were handled, by transaction.
+    /// The callbacks that were handled, by transaction.
     done: Vec<Link>,
     /// By the stamp of the page that moved.
     stamps: Vec<Link>,
@@ -37,7 +38,8 @@ impl Model for Pending {
 
     ghost view = { λ p. record { callbacks = p.entries.items; posted = p.posted; room = p.room - length p.entries.items } };
 
-    ghost invariant = { λ p. IsInside p.room p.posted p.entries.items p.names.items p.waiting.items p.done.items p.stamps.items (vec_capacity p.entries) (vec_capacity p.names) (vec_capacity p.waiting) (vec_capacity p.done) (vec_capacity p.stamps) };
+    ghost invariant = { λ p. IsInside p.room p.posted p.entries.items p.names.items p.waiting.items p.done.items p.stamps.items
+        (vec_capacity p.entries) (vec_capacity p.names) (vec_capacity p.waiting) (vec_capacity p.done) (vec_capacity p.stamps) };
 }
 
 fn least_free(entries: &Vec<Entry>) -> u64
@@ -112,8 +114,13 @@ impl Pending {
         ensures reused { 2 ^ 64 ≤ self.old.posted + 1 → IsLeastFree self.old.callbacks result }
         ensures fresh { IsPending self.old.callbacks result → ⊥ }
         ensures table { IsTable self.new.callbacks self.new.posted }
-        ensures appends { self.old.posted + 1 < 2 ^ 64 → self.new.callbacks ≡ self.old.callbacks ++ new_entry (callback_of result old new tag stamp) ∷ [] }
-        ensures posted { self.new ≡ record { callbacks = insert self.old.callbacks (place_of self.old.callbacks result) (new_entry (callback_of result old new tag stamp)); posted = min (self.old.posted + 1) (2 ^ 64 - 1); room = self.old.room - 1 } }
+        ensures appends { self.old.posted + 1 < 2 ^ 64
+            → self.new.callbacks ≡ self.old.callbacks ++ new_entry (callback_of result old new tag stamp) ∷ [] }
+        ensures posted { self.new ≡ record {
+          callbacks = insert self.old.callbacks (place_of self.old.callbacks result) (new_entry (callback_of result old new tag stamp));
+          posted = min (self.old.posted + 1) (2 ^ 64 - 1);
+          room = self.old.room - 1;
+        } }
     {
         let number = self.next_number();
         let callback = Callback {
@@ -157,7 +164,9 @@ impl Pending {
     pub fn of_stamp(&self, stamp: u64) -> Option<Callback>
         ensures some { IfSome result (HasCallback self.now.callbacks) }
         ensures stamp { IfSome result (λ callback. callback.stamp ≡ stamp) }
-        ensures least { IfSome result (λ callback. (i : ℕ) → i < length self.now.callbacks → (entry_at self.now.callbacks i).callback.stamp ≡ stamp → callback.number ≤ number_of (entry_at self.now.callbacks i)) }
+        ensures least { IfSome result
+            (λ callback. (i : ℕ) → i < length self.now.callbacks → (entry_at self.now.callbacks i).callback.stamp ≡ stamp
+            → callback.number ≤ number_of (entry_at self.now.callbacks i)) }
         ensures none { IfNone result (beside_stamp self.now.callbacks stamp ≡ self.now.callbacks) }
     {
         let here = place(&self.stamps, stamp, 0);
@@ -190,7 +199,13 @@ impl Pending {
     /// earlier transaction. False exactly where the number is not pending.
     pub fn handled(&mut self, number: u64, transaction: u64) -> bool
         ensures found { IsTrue result ↔ IsPending self.old.callbacks number }
-        ensures handled { OnTrue result (let at = place_of self.old.callbacks number in self.new ≡ record { callbacks = slice_set self.old.callbacks at (marked (entry_at self.old.callbacks at) transaction); posted = self.old.posted; room = self.old.room }) }
+        ensures handled { OnTrue result
+            (let at = place_of self.old.callbacks number in self.new
+            ≡ record {
+              callbacks = slice_set self.old.callbacks at (marked (entry_at self.old.callbacks at) transaction);
+              posted = self.old.posted;
+              room = self.old.room;
+            }) }
         ensures kept { OnFalse result (self.new ≡ self.old) }
         ensures table { IsTable self.new.callbacks self.new.posted }
     {
@@ -224,7 +239,9 @@ impl Pending {
     /// `upto`.
     pub fn acknowledge_next(&mut self, upto: u64) -> Option<u32>
         ensures some { IfSome result (Acknowledges self.old self.new upto) }
-        ensures none { IfNone result ((i transaction : ℕ) → i < length self.old.callbacks → (entry_at self.old.callbacks i).transaction ≡ Some transaction → upto < transaction) }
+        ensures none { IfNone result
+            ((i transaction : ℕ) → i < length self.old.callbacks → (entry_at self.old.callbacks i).transaction ≡ Some transaction
+            → upto < transaction) }
         ensures kept { IfNone result (self.new ≡ self.old) }
         ensures over { unacknowledged upto self.new.callbacks ≡ unacknowledged upto self.old.callbacks }
         ensures all { IfNone result (unacknowledged upto self.new.callbacks ≡ self.new.callbacks) }

@@ -26,7 +26,8 @@ pub fn add_stamped(
     requires stamps_room { length entries.old.items < vec_capacity stamps.old }
     ensures kept { IsKept entries.new.items names.new.items waiting.new.items done.now.items }
     ensures stamped { IsStamped entries.new.items stamps.new.items }
-    ensures items { entries.new.items ≡ insert entries.old.items (place_of entries.old.items callback.number) (record { callback = callback; transaction = None }) }
+    ensures items { entries.new.items
+        ≡ insert entries.old.items (place_of entries.old.items callback.number) (record { callback = callback; transaction = None }) }
     ensures entries_capacity { vec_capacity entries.old ≤ vec_capacity entries.new }
     ensures names_capacity { vec_capacity names.old ≤ vec_capacity names.new }
     ensures waiting_capacity { vec_capacity waiting.old ≤ vec_capacity waiting.new }
@@ -56,7 +57,8 @@ pub fn mark_stamped(
     requires done_room { length entries.old.items ≤ vec_capacity done.old }
     ensures kept { IsKept entries.new.items names.now.items waiting.new.items done.new.items }
     ensures stamped { IsStamped entries.new.items stamps.now.items }
-    ensures items { entries.new.items ≡ slice_set entries.old.items at (record { callback = (entry_at entries.old.items at).callback; transaction = Some transaction }) }
+    ensures items { entries.new.items
+        ≡ slice_set entries.old.items at (record { callback = (entry_at entries.old.items at).callback; transaction = Some transaction }) }
     ensures entries_capacity { vec_capacity entries.old ≤ vec_capacity entries.new }
     ensures waiting_capacity { vec_capacity waiting.old ≤ vec_capacity waiting.new }
     ensures done_capacity { vec_capacity done.old ≤ vec_capacity done.new }

@@ -52,7 +52,7 @@ module _ {D : Type 0} (g : Ghosts D) (call : Call) (u v : Core D) where
   pub fault_effect : (fault : FaultReply) (n : ℕ) → IsCore g v → Goes g n u v → HasEffect g call (Some fault) u v
   fault_effect fault = leaves_effect (Some fault) (λ shape tree. refl)
 
-  -- that of a reply which is no sync's
+  -- the effect of a call whose reply is no sync's
   pub plain_effect : (reply : Reply) → is_synced reply ≡ false → HasEffect g call (fault_in reply) u v → HasEffectOf g call u v reply
   plain_effect Done is x = x
   plain_effect (Count n) is x = x

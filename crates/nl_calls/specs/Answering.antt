@@ -39,8 +39,8 @@ pub record EndsLine (worker : ℕ) (old new : List InFlight) : Type 0 where
 
 -- ---- what the call does
 
--- The core goes on, and then pages of the metadata change in memory, so that it makes of its tree what the call makes of it, with this fault, if it
--- met one.
+-- The core goes on, and then pages of the metadata change in memory, so that it makes of its tree what the call makes of it, with this
+-- fault, if it met one.
 pub record HasEffect {D : Type 0} (g : Ghosts D) (call : Call) (fault : Option FaultReply) (old new : Core D) : Type 0 where
   pub between : Core D
   pub core : IsCore g between
@@ -83,14 +83,15 @@ abbrev pub is_sync_call : Call → Bool
 is_sync_call Sync = true
 is_sync_call _ = false
 
--- As whatever tree the core ran, this is the answer on it.
+-- On each tree as which the core ran, the call has this reply and these bytes, with the fault of the reply if it is one.
 abbrev pub AnswersOn : {D : Type 0} → Ghosts D → Call → Core D → Reply → List ℕ → Type 0
 AnswersOn g call old reply out =
     g.tells → (page_of_stamp : ℕ → Option PageOfStamp) (tree : Tree) → CoreRuns g old page_of_stamp tree
     → Answers (step_marked (g.shape old.device) tree (call, fault_in reply)) reply out
 
--- A call that was tried: its reply is the one that is due, it had its effect, and a fault has its cause within it. Exactly a sync without a fault
--- has the numbers of one, and a call for cleaning that is done did a round. The worker has no line afterwards, and files have so many pages.
+-- A call that was tried: its reply is the one that is due, it had its effect, and a fault has its cause within it. Exactly a sync without a
+-- fault has the numbers of one, and a call for cleaning that is done did a round. The worker has no line afterwards, and files have so many
+-- pages.
 pub record AnswersCall {D : Type 0} (g : Ghosts D) (worker : ℕ) (call : Call) (old new : Core D) (reply : Reply) (out : List ℕ) (files : ℕ) : Type 0 where
   pub effect : HasEffectOf g call old new reply
   pub answers : AnswersOn g call old reply out

@@ -23,10 +23,10 @@ use nl_iface::MovingPages;
 use nl_spec_commits::laws::device_stands;
 use nl_tree::{Call, Reply, ReplyBuf};
 
-/// Does a file call, and tells its reply, with the bytes that belong to it in the buffer, and how many pages files have then. A call that changes
-/// something comes only where the volume can be written to. Pages that were staged for a call that writes are those of its range that are whole.
-/// While the medium tells its contents, the reply is that of the step of the tree as which the core runs, or a fault with its cause, which leaves
-/// the tree. A call for cleaning that is done did a round of reclaiming. The worker has no line afterwards.
+/// Does a file call, and tells its reply, with the bytes that belong to it in the buffer, and how many pages files have then. A call that
+/// changes something comes only where the volume can be written to. Pages that were staged for a call that writes are those of its range
+/// that are whole. While the medium tells its contents, the reply is that of the step of the tree as which the core runs, or a fault with
+/// its cause, which leaves the tree. A call for cleaning that is done did a round of reclaiming. The worker has no line afterwards.
 pub fn answer_call<D: MovingPages>(
     core: &mut Core<D>,
     worker: u8,
@@ -61,7 +61,7 @@ pub fn answer_call<D: MovingPages>(
     }
 }
 
-// The same of a call that writes no bytes, whose worker has no line.
+// Does a file call that writes no bytes, of a worker without a line, and tells its reply, and how many pages files have then.
 fn answer_other<D: MovingPages>(
     core: &mut Core<D>,
     worker: u8,

@@ -54,7 +54,7 @@ pub(crate) fn name<D: MovingPages>(
     }
 }
 
-// The same, where nine more pages may become dirty. Pages of a file that is gone await their free then.
+// A call that changes names, where nine more pages may become dirty. Pages of a file that is gone await their free then.
 fn name_now<D: MovingPages>(core: &mut Core<D>, worker: u8, call: &Call, files: u32) -> Answer
     requires core { IsCore D.Counts core.old }
     requires room { HasRoomFor 9 core.old.meta }

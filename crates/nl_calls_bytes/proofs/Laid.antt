@@ -6,7 +6,7 @@ use borrow.Rule.Slice.PartMut.{put_mid}
 use Rattle.nl_tree_content.specs.ContentLaws.{is_touched}
 use Rattle.nl_field.specs.FileContent.{overlaid}
 
--- so many elements, or all
+-- the first so many elements, or all of a list
 pub cut : {X : Type 0} (n k : ℕ) (xs : List X) → k ≡ min n (length xs) → take k xs ≡ take n xs
 cut n k xs e = by (cases_lt n (length xs))
   where

@@ -15,7 +15,7 @@ count_indexes from len = (from + len - 1) / 4096 + 1 - from / 4096
 abbrev pub indexes_written : ℕ → ℕ → List ℕ
 indexes_written from len = range_with_len (first_index from) (count_indexes from len)
 
--- Each page, with its index, is one of those in which the bytes lie, as they make it, and each of those is there.
+-- Pages with their indexes: each is one of those in which the bytes lie, as the bytes make it, and each of those is there.
 pub record IsWholeWrite (content : FileContent) (from : ℕ) (bytes : List ℕ) (pages : List (ℕ × List ℕ)) : Type 0 where
   pub made : (p : ℕ × List ℕ) → Has pages p → p.1 ≡ overlaid (page_bytes content p.0) p.0 from bytes
   pub touched : (p : ℕ × List ℕ) → Has pages p → is_touched from (length bytes) p.0 ≡ true

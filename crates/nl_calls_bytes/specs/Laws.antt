@@ -29,31 +29,40 @@ use Rattle.nl_calls_bytes.specs.Room.{room_refusal}
 -- Pages that bytes lie in, put into the content of a file in any order as the bytes make them, make what the write makes of it.
 abbrev pub PagesMakeWrite : Type 0
 PagesMakeWrite =
-    (content : FileContent) (from : ℕ) (bytes : List ℕ) (pages : List (ℕ × List ℕ)) (size : ℕ) → IsTrue (is_content content) → 0 < length bytes → IsWholeWrite content from bytes pages
+    (content : FileContent) (from : ℕ) (bytes : List ℕ) (pages : List (ℕ × List ℕ)) (size : ℕ) → IsTrue (is_content content)
+    → 0 < length bytes → IsWholeWrite content from bytes pages
     → size ≡ max content.size (from + length bytes) → with_pages pages size content ≡ written_over content from bytes
 
 -- What counts of free addresses, of pages of files, and of what the call adds to both refuse, is what the step refuses for want of room.
 abbrev pub RoomRefuses : Type 0
 RoomRefuses =
-    (shape : Shape) (pages : VirtualMap) (page_of_stamp : ℕ → Option PageOfStamp) (tree : Tree) (spaces : Spaces) (n : ℕ) (rec : InodeRec) (call : Call) → RunsAs shape pages page_of_stamp tree
-    → None ≡ space_refusal shape tree → PoolIsFree shape pages spaces → length spaces.pool ≡ shape.meta → IsNode shape pages n rec → rec.kind ≡ File → IsFileRecord rec
+    (shape : Shape) (pages : VirtualMap) (page_of_stamp : ℕ → Option PageOfStamp) (tree : Tree) (spaces : Spaces) (n : ℕ) (rec : InodeRec)
+    (call : Call) → RunsAs shape pages page_of_stamp tree
+    → None ≡ space_refusal shape tree → PoolIsFree shape pages spaces → length spaces.pool ≡ shape.meta → IsNode shape pages n rec
+    → rec.kind ≡ File → IsFileRecord rec
     → IsWriting call → 0 < len_of call → node_reached (graph_of shape pages) 0 (path_of call) ≡ Some n
-    → room_refusal (free_addresses spaces) (new_ranges rec (indexes_written (from_of call) (len_of call))) shape.cap (length (held_in shape pages)) (new_pointers pages rec (indexes_written (from_of call) (len_of call)))
+    → room_refusal (free_addresses spaces) (new_ranges rec (indexes_written (from_of call) (len_of call))) shape.cap
+    (length (held_in shape pages)) (new_pointers pages rec (indexes_written (from_of call) (len_of call)))
     ≡ space_refusal shape (effect_of tree call).tree
 
 -- What a look at a path answers says why it leads to no file.
 abbrev pub LooksRefuseAll : Type 0
 LooksRefuseAll =
-    (shape : Shape) (pages : VirtualMap) (page_of_stamp : ℕ → Option PageOfStamp) (tree : Tree) (path : List (List ℕ)) → RunsAs shape pages page_of_stamp tree → is_too_long path ≡ false
+    (shape : Shape) (pages : VirtualMap) (page_of_stamp : ℕ → Option PageOfStamp) (tree : Tree) (path : List (List ℕ))
+    → RunsAs shape pages page_of_stamp tree → is_too_long path ≡ false
     → LooksRefuse shape pages tree path
 
 -- The step of a call that writes: it is refused by its path, by its end, or for want of room, in this order, and else done.
 pub record StepsOfWrite (shape : Shape) (tree : Tree) (call : Call) : Type 0 where
-  pub by_path : (r : Refusal) → refusal_of_path tree (path_of call) ≡ Some r → step shape tree call ≡ record { reply = No r; bytes = []; tree = tree }
-  pub by_end : refusal_of_path tree (path_of call) ≡ None → 0 < len_of call → max_file_size < from_of call + len_of call → step shape tree call ≡ record { reply = No Efbig; bytes = []; tree = tree }
-  pub by_room : (r : Refusal) → refusal_of_path tree (path_of call) ≡ None → is_too_far call ≡ false → space_refusal shape (effect_of tree call).tree ≡ Some r
+  pub by_path : (r : Refusal) → refusal_of_path tree (path_of call) ≡ Some r
       → step shape tree call ≡ record { reply = No r; bytes = []; tree = tree }
-  pub done : refusal_of_path tree (path_of call) ≡ None → is_too_far call ≡ false → space_refusal shape (effect_of tree call).tree ≡ None → step shape tree call ≡ effect_of tree call
+  pub by_end : refusal_of_path tree (path_of call) ≡ None → 0 < len_of call → max_file_size < from_of call + len_of call
+      → step shape tree call ≡ record { reply = No Efbig; bytes = []; tree = tree }
+  pub by_room : (r : Refusal) → refusal_of_path tree (path_of call) ≡ None → is_too_far call ≡ false
+      → space_refusal shape (effect_of tree call).tree ≡ Some r
+      → step shape tree call ≡ record { reply = No r; bytes = []; tree = tree }
+  pub done : refusal_of_path tree (path_of call) ≡ None → is_too_far call ≡ false → space_refusal shape (effect_of tree call).tree ≡ None
+      → step shape tree call ≡ effect_of tree call
 
 abbrev pub WritesStep : Type 0
 WritesStep = (shape : Shape) (tree : Tree) (call : Call) → IsWriting call → StepsOfWrite shape tree call

@@ -1,3 +1,4 @@
+// The path, the offset and the count of the bytes that a call writes, and those bytes laid over a page.
 ghost use Rattle.std.specs.Prelude.{◌≡◌, ◌≤◌, length, true};
 ghost use Rattle.nl_field.specs.FileContent.{overlaid};
 ghost use Rattle.nl_field.specs.Numbers.{max_bytes};

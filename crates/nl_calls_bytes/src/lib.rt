@@ -1,4 +1,5 @@
-//! The bytes that a call writes, the pages of the file in which they lie, and what these need of a volume: definitions, laws, and what needs no core.
+//! The bytes that a call writes, the pages of the file in which they lie, and what these need of a volume: definitions, laws, and what
+//! needs no core.
 #![tactic(auto)]
 
 mod counting;

@@ -18,7 +18,7 @@ module _ {X : Type 0} (p q : X → Bool) (weaker : (x : X) → p x ≡ true → 
   pub no_more : (xs : List X) → count_by p xs ≤ count_by q xs
   no_more xs = sum_by-le-sum_by (λ x. bit (p x)) (λ x. bit (q x)) xs (λ x. bit_le (p x) (q x) (weaker x))
 
-  -- and fewer do, where one passes the other test alone
+  -- fewer pass, where one passes the other test alone
   pub one_less : (xs : List X) (x : X) → Has xs x → p x ≡ false → q x ≡ true → count_by p xs + 1 ≤ count_by q xs
   one_less [] x has off on = absurd has
   one_less (y ∷ ys) x (inl e) off on =

@@ -127,7 +127,7 @@ module _ (shape : Shape) (pages : VirtualMap) (page_of_stamp : ℕ → Option Pa
       counted-entries : length (entries_of tree path) ≡ length (entries_of_inode pages rec)
       counted-entries = entries-count b g path tree (entries_of_inode pages rec) under-directory order names-two
 
-      -- it has as many entries as its record tells
+      -- the directory has as many entries as its record tells
       pub directory-count : length (entries_of tree path) ≡ rec.size
       directory-count = counted-entries ∙ (entries_in_order pages rec (right-directory shape pages n rec runs.right.tree.addresses runs.right.tree.entries is dir)).count
 

@@ -74,7 +74,7 @@ module _ (shape : Shape) (old new : VirtualMap) (page_of_stamp : ℕ → Option 
   represents : Represents bytes after (with_content tree path (held_content page_of_stamp new is))
   represents = graph_changes.changed bytes bytes before after tree n path (held_content page_of_stamp new is) (once shape old page_of_stamp c.right_before) changes c.leads r.depicts
 
-  -- it is the one tree for which the pages stand
+  -- the tree with the file is the one tree for which the pages stand
   same : the_tree shape new page_of_stamp c.right_after ≡ with_content tree path (held_content page_of_stamp new is)
   same = tree_laws.same_tree (the_tree shape new page_of_stamp c.right_after) (with_content tree path (held_content page_of_stamp new is)) (is_tree shape new page_of_stamp c.right_after).in_order
       (order_content tree path (held_content page_of_stamp new is) r.is_tree.in_order) (λ q. tree_represents shape new page_of_stamp c.right_after q ∙ sym (represents q))

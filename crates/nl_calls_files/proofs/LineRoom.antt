@@ -58,7 +58,7 @@ at_most_one_more v xs =
     few true = omega arith
     few false = omega arith
 
--- so as many become dirty as were clean
+-- as many pages become dirty as were clean
 pub dirtied : (p : Pages) (v : ℕ) → length (besides_0 (with_address v p.dirty)) ≤ length (besides_0 p.dirty) + clean_at p v
 dirtied p v = by (is_dirty p v) refl
   where
@@ -168,7 +168,7 @@ begins_gets rec index to rest b =
     (eq-eqb (slice_index (slots_of rec) (range_of index)) 0 (sym (address-range rec index b.in_range) ∙ b.no_page))
     (ap (λ c. c || list_any (lies_within (range_of index)) rest) here)
 
--- it finds a free address
+-- a new range finds a free address
 pub has_free : (rec : InodeRec) (index : ℕ) (to : Pointer) (rest : List ℕ) (s : Spaces) → index < 4104 → new_ranges rec (index ∷ rest) ≤ free_addresses s → Begins rec index (Some to) → HasFree s
 has_free rec index to rest s within enough b =
     let one = at_least_one (gets_page rec (index ∷ rest)) (range_with_len 0 16) (range_of index) (range-member (range_of index) 0 16 (omega arith) (omega (arith, within))) (begins_gets rec index to rest b) in

@@ -26,8 +26,8 @@ use Rattle.nl_spec_commits.specs.Held.{IsHeldVolume}
 use Rattle.nl_spec_commits.specs.Trees.{RunsAs}
 use Rattle.nl_calls_files.specs.FileTrees.{HasPages, LeadOnce, held_content}
 
--- Of two maps of pages, a node is a file in both, under this path, and every other node has what it had. The second is right, the file has its pages
--- there, the pointers of all files lead once, and they are no more than the volume may have.
+-- Of two maps of pages, a node is a file in both, under this path, and every other node has what it had. The second is right, the file has
+-- its pages there, the pointers of all files lead once, and they are no more than the volume may have.
 pub record FileBecomes (shape : Shape) (old new : VirtualMap) (page_of_stamp : ℕ → Option PageOfStamp) (names : Names) (n : ℕ) (was is : InodeRec) (path : List (List ℕ)) : Type 0 where
   pub right : IsRight shape new
   pub file_before : IsFile shape old n was
@@ -38,10 +38,11 @@ pub record FileBecomes (shape : Shape) (old new : VirtualMap) (page_of_stamp : �
   pub few : length (tagged_in shape new) ≤ shape.cap
   pub leads : node_reached (graph_of shape old) 0 path ≡ Some n
 
--- So the second stands for the tree of the first with what the file holds now under the path.
+-- Of two such maps the second stands for the tree of the first with what the file holds now under the path.
 abbrev pub FileRunsOn : Type 0
 FileRunsOn =
-    (shape : Shape) (old new : VirtualMap) (page_of_stamp : ℕ → Option PageOfStamp) (names : Names) (n : ℕ) (was is : InodeRec) (path : List (List ℕ)) (tree : Tree)
+    (shape : Shape) (old new : VirtualMap) (page_of_stamp : ℕ → Option PageOfStamp) (names : Names) (n : ℕ) (was is : InodeRec)
+    (path : List (List ℕ)) (tree : Tree)
     → RunsAs shape old page_of_stamp tree → FileBecomes shape old new page_of_stamp names n was is path
     → RunsAs shape new page_of_stamp (with_content tree path (held_content page_of_stamp new is))
 
@@ -52,8 +53,10 @@ IsPageAt page_of_stamp n rec index to = IsThere page_of_stamp (record { size = r
 -- A file that took a pointer and did not become shorter has its pages, where the new one is below the pages of its size and is there.
 abbrev pub InstalledHasPages : Type 0
 InstalledHasPages =
-    (shape : Shape) (page_of_stamp : ℕ → Option PageOfStamp) (n index : ℕ) (to : Pointer) (was is : InodeRec) (before after : VirtualMap) (s t : Spaces)
-    → RightFor shape before page_of_stamp → IsFile shape before n was → FileIsInstalled shape n index to was is before after s t → was.size ≤ is.size
+    (shape : Shape) (page_of_stamp : ℕ → Option PageOfStamp) (n index : ℕ) (to : Pointer) (was is : InodeRec) (before after : VirtualMap)
+    (s t : Spaces)
+    → RightFor shape before page_of_stamp → IsFile shape before n was → FileIsInstalled shape n index to was is before after s t
+    → was.size ≤ is.size
     → index < div_ceil is.size 4096 → IsPageAt page_of_stamp n is index to → HasPages after page_of_stamp n is
 
 -- The page in which a file of this size ends holds nothing behind it: the file was not longer, it ends with a page, or it has none there.
@@ -68,11 +71,14 @@ EndsWith page_of_stamp n size pages was is (Some to) = (size % 4096 ≢ 0) × Is
 -- A file that was cut has its pages.
 abbrev pub CutHasPages : Type 0
 CutHasPages =
-    (shape : Shape) (page_of_stamp : ℕ → Option PageOfStamp) (n size : ℕ) (partial : Option Pointer) (was is : InodeRec) (before after : VirtualMap) (s t : Spaces)
-    → RightFor shape before page_of_stamp → IsFile shape before n was → CutIsWritten shape n size partial was is before after s t → is.size ≡ size
+    (shape : Shape) (page_of_stamp : ℕ → Option PageOfStamp) (n size : ℕ) (partial : Option Pointer) (was is : InodeRec)
+    (before after : VirtualMap) (s t : Spaces)
+    → RightFor shape before page_of_stamp → IsFile shape before n was → CutIsWritten shape n size partial was is before after s t
+    → is.size ≡ size
     → EndsWith page_of_stamp n size before was is partial → HasPages after page_of_stamp n is
 
 -- Where each live page is held once, the pointers of all files lead once.
 abbrev pub HeldLeadOnce : {D : Type 0} → Ghosts D → Type 0
 HeldLeadOnce {D} g =
-    (s : D) (p : Progress) (pages : Pages) (flight : List (Tag × Pointer)) (freeing : List Pointer) → IsHeldVolume g s p pages flight freeing → LeadOnce (g.names s) (running_holders g s pages)
+    (s : D) (p : Progress) (pages : Pages) (flight : List (Tag × Pointer)) (freeing : List Pointer)
+    → IsHeldVolume g s p pages flight freeing → LeadOnce (g.names s) (running_holders g s pages)

@@ -20,10 +20,11 @@ use Rattle.nl_spec_image.specs.Stands.{bytes_for}
 
 -- what a file holds: the pages of its pointers, by what the page of each write sequence number holds
 abbrev pub held_content : (ℕ → Option PageOfStamp) → VirtualMap → InodeRec → FileContent
-held_content page_of_stamp pages rec = record { size = rec.size; pages = map (λ p. (p.0, bytes_for page_of_stamp p.1.stamp)) (pointers_of_inode pages rec) }
+held_content page_of_stamp pages rec =
+    record { size = rec.size; pages = map (λ p. (p.0, bytes_for page_of_stamp p.1.stamp)) (pointers_of_inode pages rec) }
 
--- Of two maps of pages, both of them right, a node is a file and has this record in the second, and every other node has what it had. The path
--- leads to the node.
+-- Of two maps of pages, both of them right, a node is a file and has this record in the second, and every other node has what it had. The
+-- path leads to the node.
 pub record FileChanges (shape : Shape) (old new : VirtualMap) (page_of_stamp : ℕ → Option PageOfStamp) (n : ℕ) (was is : InodeRec) (path : List (List ℕ)) : Type 0 where
   pub right_before : RightFor shape old page_of_stamp
   pub right_after : RightFor shape new page_of_stamp
@@ -32,10 +33,11 @@ pub record FileChanges (shape : Shape) (old new : VirtualMap) (page_of_stamp : �
   pub others : (k : ℕ) → k ≢ n → graph_of shape new k ≡ graph_of shape old k
   pub leads : node_reached (graph_of shape old) 0 path ≡ Some n
 
--- So the tree has what the file holds now under the path, and all else stays.
+-- A file that changes so has what it holds now under its path in the tree, and all else of the tree stays.
 abbrev pub FileChangesTree : Type 0
 FileChangesTree =
-    (shape : Shape) (old new : VirtualMap) (page_of_stamp : ℕ → Option PageOfStamp) (n : ℕ) (was is : InodeRec) (path : List (List ℕ)) (tree : Tree)
+    (shape : Shape) (old new : VirtualMap) (page_of_stamp : ℕ → Option PageOfStamp) (n : ℕ) (was is : InodeRec) (path : List (List ℕ))
+    (tree : Tree)
     → FileChanges shape old new page_of_stamp n was is path → PagesRepresent shape old page_of_stamp tree
     → PagesRepresent shape new page_of_stamp (with_content tree path (held_content page_of_stamp new is))
 
@@ -48,15 +50,16 @@ pub record LeadOnce (names : Names) (pointers : List (Tag × Pointer)) : Type 0 
 
 -- the pointer of a file at an index, as one that holds a page
 abbrev pub held_at : ℕ → VirtualMap → InodeRec → ℕ → Held
-held_at n pages rec i = record { size = rec.size; tag = record { ino = n; generation = rec.generation; index = i }; pointer = pointer_at pages rec i }
+held_at n pages rec i =
+    record { size = rec.size; tag = record { ino = n; generation = rec.generation; index = i }; pointer = pointer_at pages rec i }
 
 -- Each pointer of the file is below the pages of its size, and has its page.
 pub record HasPages (pages : VirtualMap) (page_of_stamp : ℕ → Option PageOfStamp) (n : ℕ) (rec : InodeRec) : Type 0 where
   pub below : (i : ℕ) → is_none_pointer (pointer_at pages rec i) ≡ false → i < div_ceil rec.size 4096
   pub there : (i : ℕ) → is_none_pointer (pointer_at pages rec i) ≡ false → IsThere page_of_stamp (held_at n pages rec i)
 
--- Of two maps of pages the first is right, and in the second nodes, addresses and entries are. There a node is a file that has its pages, every
--- other node has what it had, and the pointers of all files lead once.
+-- Of two maps of pages the first is right, and in the second nodes, addresses and entries are. There a node is a file that has its pages,
+-- every other node has what it had, and the pointers of all files lead once.
 pub record FileIsOf (shape : Shape) (old new : VirtualMap) (page_of_stamp : ℕ → Option PageOfStamp) (names : Names) (n : ℕ) (is : InodeRec) : Type 0 where
   pub right_before : RightFor shape old page_of_stamp
   pub nodes : NodesRight shape new
@@ -67,7 +70,7 @@ pub record FileIsOf (shape : Shape) (old new : VirtualMap) (page_of_stamp : ℕ 
   pub lead : LeadOnce names (tagged_in shape new)
   pub pages : HasPages new page_of_stamp n is
 
--- So the second is right.
+-- Of two such maps the second is right too.
 abbrev pub FileStaysRight : Type 0
 FileStaysRight =
     (shape : Shape) (old new : VirtualMap) (page_of_stamp : ℕ → Option PageOfStamp) (names : Names) (n : ℕ) (is : InodeRec)

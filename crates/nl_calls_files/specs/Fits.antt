@@ -23,29 +23,33 @@ pub record IsFileOf {D : Type 0} (g : Ghosts D) (s : D) (pages : Pages) (n : ℕ
   pub is_node : IsNodeOf g s pages n rec
   pub is_file : rec.kind ≡ File
 
--- Its addresses have pages at hand that spell pointers.
+-- The addresses of a file have pages at hand that spell pointers.
 abbrev pub FilesStand : {D : Type 0} → Ghosts D → Type 0
 FilesStand {D} g = (s : D) (pages : Pages) (n : ℕ) (rec : InodeRec) → Runs g s pages → IsFileOf g s pages n rec → FileStands g s rec pages
 
--- Its pointers lead, where each live page is held.
+-- The pointers of a file lead, where each live page is held.
 abbrev pub FilesLead : {D : Type 0} → Ghosts D → Type 0
 FilesLead {D} g =
-    (s : D) (p : Progress) (pages : Pages) (flight : List (Tag × Pointer)) (freeing : List Pointer) (n : ℕ) (rec : InodeRec) → Runs g s pages → IsHeldVolume g s p pages flight freeing
+    (s : D) (p : Progress) (pages : Pages) (flight : List (Tag × Pointer)) (freeing : List Pointer) (n : ℕ) (rec : InodeRec)
+    → Runs g s pages → IsHeldVolume g s p pages flight freeing
     → IsFileOf g s pages n rec → PointersLead (g.names s) n rec (running_on g s pages)
 
 -- A call that only reads the file leaves the volume as it was.
 abbrev pub FilesReadRun : {D : Type 0} → Ghosts D → Type 0
 FilesReadRun {D} g =
-    (s t : D) (old new : Pages) (n : ℕ) (rec : InodeRec) → Runs g s old → IsFileOf g s old n rec → OnlyReads g s t → KeepsRunning g s old new → LoadsOwn rec old new → RunsOn g s old t new
+    (s t : D) (old new : Pages) (n : ℕ) (rec : InodeRec) → Runs g s old → IsFileOf g s old n rec → OnlyReads g s t
+    → KeepsRunning g s old new → LoadsOwn rec old new → RunsOn g s old t new
 
--- Its addresses are of the pool,
+-- The addresses of a file are of the pool.
 abbrev pub FilesOfPool : {D : Type 0} → Ghosts D → Type 0
 FilesOfPool {D} g =
-    (s : D) (pages : Pages) (spaces : Spaces) (n : ℕ) (rec : InodeRec) → IsVolumeShape (g.shape s) → Runs g s pages → IsFileOf g s pages n rec → PoolIsFree (g.shape s) (running_on g s pages) spaces
+    (s : D) (pages : Pages) (spaces : Spaces) (n : ℕ) (rec : InodeRec) → IsVolumeShape (g.shape s) → Runs g s pages
+    → IsFileOf g s pages n rec → PoolIsFree (g.shape s) (running_on g s pages) spaces
     → length spaces.pool ≡ (g.shape s).meta → AreOfPool spaces (slots_of rec)
 
--- and each free address may become a new page of it, where one more page may be dirty.
+-- Each free address may become a new page of a file, where one more page may be dirty.
 abbrev pub FreeFilePages : {D : Type 0} → Ghosts D → Type 0
 FreeFilePages {D} g =
-    (s : D) (pages : Pages) (spaces : Spaces) (n : ℕ) (rec : InodeRec) → IsVolumeShape (g.shape s) → Runs g s pages → IsFileOf g s pages n rec → PoolIsFree (g.shape s) (running_on g s pages) spaces
+    (s : D) (pages : Pages) (spaces : Spaces) (n : ℕ) (rec : InodeRec) → IsVolumeShape (g.shape s) → Runs g s pages
+    → IsFileOf g s pages n rec → PoolIsFree (g.shape s) (running_on g s pages) spaces
     → length spaces.pool ≡ (g.shape s).meta → length (besides_0 pages.dirty) < most → FreeAreNew spaces pages rec

@@ -1,4 +1,4 @@
--- What pages at these indexes of a file need, and what they make of its content.
+-- What pages at given indexes of a file need, and what they make of its content.
 use Rattle.std.specs.FinMap.{put as with_entry}
 use Rattle.std.specs.List.{list_any, range_with_len}
 use Rattle.std.specs.Ordering.{nat_cmp}
@@ -29,4 +29,5 @@ new_pointers metadata rec indexes = count_by (λ i. is_none_pointer (pointer_at 
 
 -- the content of this size with these pages at their indexes, one after the other
 abbrev pub with_pages : List (ℕ × List ℕ) → ℕ → FileContent → FileContent
-with_pages pages size content = record { size = size; pages = fold (λ entries page. with_entry nat_cmp page.0 page.1 entries) content.pages pages }
+with_pages pages size content =
+    record { size = size; pages = fold (λ entries page. with_entry nat_cmp page.0 page.1 entries) content.pages pages }

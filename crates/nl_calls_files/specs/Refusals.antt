@@ -22,5 +22,7 @@ refusal_of_path tree path = first_of (when (is_too_long path) Enametoolong ∷ r
 pub record LooksRefuse (shape : Shape) (pages : VirtualMap) (tree : Tree) (path : List (List ℕ)) : Type 0 where
   pub missing : Looks (graph_of shape pages) path look.Missing → refusal_of_path tree path ≡ Some Enoent
   pub refused : (r : Refusal) → Looks (graph_of shape pages) path (look.No r) → refusal_of_path tree path ≡ Some r
-  pub other : (n : ℕ) (rec : InodeRec) → IsNode shape pages n rec → node_reached (graph_of shape pages) 0 path ≡ Some n → (rec.kind ≡ File → ⊥) → refusal_of_path tree path ≡ Some Eisdir
-  pub file : (n : ℕ) (rec : InodeRec) → IsNode shape pages n rec → node_reached (graph_of shape pages) 0 path ≡ Some n → rec.kind ≡ File → refusal_of_path tree path ≡ None
+  pub other : (n : ℕ) (rec : InodeRec) → IsNode shape pages n rec → node_reached (graph_of shape pages) 0 path ≡ Some n
+      → (rec.kind ≡ File → ⊥) → refusal_of_path tree path ≡ Some Eisdir
+  pub file : (n : ℕ) (rec : InodeRec) → IsNode shape pages n rec → node_reached (graph_of shape pages) 0 path ≡ Some n → rec.kind ≡ File
+      → refusal_of_path tree path ≡ None

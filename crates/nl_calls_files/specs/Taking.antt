@@ -7,11 +7,12 @@ use Rattle.nl_indirect.specs.Ranges.{address_of}
 use Rattle.nl_meta.specs.Pages.{Pages, besides_0, is_dirty, most}
 use Rattle.nl_files.specs.Installing.{Installs}
 
--- how many pages become dirty where that of an address does
+-- how many pages become dirty where the page of an address does
 abbrev pub clean_at : Pages → ℕ → ℕ
 clean_at pages address = if is_dirty pages address then 0 else 1
 
--- and where that of the pointer of an index does: a new one does, and none does where the node has the pointer
+-- how many pages become dirty where the page with the pointer of an index does: one for a new page of pointers, and none where the node has
+-- the pointer
 abbrev pub clean_of : Pages → InodeRec → ℕ → ℕ
 clean_of pages rec index = if nat_lt index 8 then 0 else if address_of rec index == 0 then 1 else clean_at pages (address_of rec index)
 

@@ -36,7 +36,9 @@ pub fn cut_back(
     requires place { IsSome partial → 0 < freeing.old.room }
     requires few { IsSome partial → length freeing.old.items + 1 < 2 ^ 32 }
     ensures cut { CutsTo ino size partial rec.old rec.new meta.old meta.new nodes.old nodes.new }
-    ensures freeing { (device : VirtualMap) → freeing.new.items ≡ freeing.old.items ++ (if is_some partial then as_list (pointer_at (running_over device meta.old) rec.old (size / 4096)) else []) }
+    ensures freeing { (device : VirtualMap)
+        → freeing.new.items ≡ freeing.old.items
+        ++ (if is_some partial then as_list (pointer_at (running_over device meta.old) rec.old (size / 4096)) else []) }
     ensures left { length freeing.old.items + freeing.old.room ≤ length freeing.new.items + freeing.new.room }
 {
     cut(meta, nodes, rec, size, partial, freeing);

@@ -25,7 +25,8 @@ pub fn lines_write_over()
     ensures { LinesWriteOver }
 {}
 
-/// A page in flight that a file takes is held by the file, and what the file had there awaits its free. So it is with what a cut takes away.
+/// A page in flight that a file takes is held by the file, and what the file had there awaits its free. What a cut takes away from a file
+/// awaits its free too.
 pub fn files_hold<D: NamedPages>()
     ensures installing { InstallingHolds D.Counts }
     ensures cutting { CuttingHolds D.Counts }

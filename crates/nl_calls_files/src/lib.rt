@@ -1,4 +1,5 @@
-//! One file of a volume takes and gives up pages: what that needs, and what it makes of the tree, of the pages that are held and of those that are free. Needs no core.
+//! One file of a volume takes and gives up pages: what that needs, and what it makes of the tree, of the pages that are held and of those
+//! that are free. Needs no core.
 #![tactic(auto)]
 
 mod cutting;

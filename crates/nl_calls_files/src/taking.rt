@@ -40,7 +40,8 @@ pub fn take_page(
     requires place { 0 < freeing.old.room }
     requires few { length freeing.old.items + 1 < 2 ^ 32 }
     ensures taken { TakesPage ino index to size rec.old rec.new meta.old meta.new nodes.old nodes.new }
-    ensures freeing { (device : VirtualMap) → freeing.new.items ≡ freeing.old.items ++ as_list (pointer_at (running_over device meta.old) rec.old index) }
+    ensures freeing { (device : VirtualMap)
+        → freeing.new.items ≡ freeing.old.items ++ as_list (pointer_at (running_over device meta.old) rec.old index) }
     ensures left { length freeing.old.items + freeing.old.room ≤ length freeing.new.items + freeing.new.room }
 {
     install(meta, nodes, rec, index, to, freeing);

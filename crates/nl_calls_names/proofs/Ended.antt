@@ -186,7 +186,7 @@ module _ {D : Type 0} (g : Ghosts D) (s : D) (pages : Pages) (free : Spaces) (t 
   held_on p flight freeing volume j h = subst (λ (xs : List Pointer). IsHeldVolume g t p now flight (freeing ++ xs)) e.is_given
       (cutting_keeps_held g s t p pages now flight flight e.given [] freeing volume j h e.reads e.kept.same_frozen e.replaces refl)
 
-  -- those that are gone are as many as are held no longer
+  -- the pages that are gone are as many as are held no longer
   pub as_many : length (running_holders g t now) + length (pointers_of_node (graph_of (g.shape s) (running_on g s pages)) gone) ≡ length (running_holders g s pages)
   as_many =
       let a = ap length e.replaces.was ∙ length-append (e.replaces.front ++ e.given) e.replaces.behind in

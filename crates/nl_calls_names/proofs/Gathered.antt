@@ -104,7 +104,7 @@ module _ {D : Type 0} (g : Ghosts D) (v : Core D) (n : ℕ) (rec : InodeRec) (no
   at_node : pointers_of_node (graph_on g v) (Some n) ≡ map (λ (p : ℕ × Pointer). p.1) (pointers_in (body_of (running_of g v) rec rec.kind))
   at_node = ap (λ (x : GraphNode). map (λ (p : ℕ × Pointer). p.1) (pointers_in x.body)) (node_is (g.shape v.device) (running_of g v) n rec node)
 
-  -- those of a file, by page index
+  -- the pointers of a file, by page index
   pub of_file : Runs g v.device v.meta → rec.kind ≡ File → pointers_from (running_of g v) rec 0 ≡ pointers_of_node (graph_on g v) (Some n)
   of_file runs file =
       all_are_of_node (running_of g v) rec (stands g v.device v.meta n rec runs (record { is_node = node; is_file = file })).file
@@ -119,7 +119,7 @@ module _ {D : Type 0} (g : Ghosts D) (v : Core D) (n : ℕ) (rec : InodeRec) (no
       by Dir far = refl
       by File far = absurd (far refl)
 
-  -- they are no more than those of all files
+  -- the pointers of a node are no more than those of all files
   pub some_of_all : length (pointers_of_node (graph_on g v) (Some n)) ≤ length (running_holders g v.device v.meta)
   some_of_all =
       let around = node_changes (g.shape v.device) (running_of g v) (running_of g v) n node.below (λ k far. refl) in

@@ -63,7 +63,7 @@ module _ (free : Spaces) (old mid : Graph) (n : ℕ) where
   lost_by : (path : List (List ℕ)) → LosesName old mid path n → node_reached old 0 path ≡ Some n
   lost_by path l = leads_to old path l.n n l.name l.place (lost_entry path l)
 
-  -- it is the node at the path that loses its name,
+  -- the node at the path loses its name
   pub is_lost : (c : Call) → ChangesNames free old mid c (change.Changed (Some n)) → node_lost old c ≡ Some n
   is_lost (call.Mkdir path) h = absurd (none_gone h.1)
   is_lost (call.Rmdir path) h = lost_by path (loses_as path h.1.0 h.1.1 h.1.2)

@@ -99,7 +99,7 @@ module _ {D : Type 0} (g : Ghosts D) (s : D) (pages : Pages) (free : Spaces) (t 
     };
   }
 
-  -- it is the one tree for which the pages stand
+  -- the tree after the step is the one tree for which the pages stand
   same : the_tree shape later page_of_stamp right ≡ stepped
   same = tree_laws.same_tree (the_tree shape later page_of_stamp right) stepped (is_tree shape later page_of_stamp right).in_order (step_order shape tree call r.represents.is_tree.in_order)
       (λ q. tree_represents shape later page_of_stamp right q ∙ sym (represents q))

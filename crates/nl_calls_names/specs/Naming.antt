@@ -20,8 +20,8 @@ use Rattle.nl_calls_names.specs.declared.answer.Naming.TheVariants as naming
 abbrev pub StandsNow : {D : Type 0} → Ghosts D → Core D → (ℕ → Option PageOfStamp) → Tree → Type 0
 StandsNow g v page_of_stamp tree = RunsAs (g.shape v.device) (running_of g v) page_of_stamp tree
 
--- Done, the call is what the step of the tree is, and the core stands for the tree after it. Refused, it is refused as the step is, also for
--- want of room. Where a read failed, and where a page was lost, the tree stays too.
+-- Done, the call is what the step of the tree is, and the core stands for the tree after it. Refused, it is refused as the step is, also
+-- for want of room. Where a read failed, and where a page was lost, the tree stays too.
 abbrev pub EndsAs : {D : Type 0} → Ghosts D → Call → Core D → (ℕ → Option PageOfStamp) → Tree → Naming → Type 0
 EndsAs g call v page_of_stamp tree naming.Done =
     ((step (g.shape v.device) tree call).reply ≡ Done) × StandsNow g v page_of_stamp (step (g.shape v.device) tree call).tree
@@ -30,9 +30,11 @@ EndsAs g call v page_of_stamp tree (naming.No refusal) =
 EndsAs g call v page_of_stamp tree naming.Fault = StandsNow g v page_of_stamp tree
 EndsAs g call v page_of_stamp tree (naming.Lost w f) = StandsNow g v page_of_stamp tree
 
--- So it is for any tree for which the core stood.
+-- The call ends so for any tree for which the core stood.
 abbrev pub AnswersAs : {D : Type 0} → Ghosts D → Call → Core D → Core D → Naming → Type 0
-AnswersAs g call old new answer = (page_of_stamp : ℕ → Option PageOfStamp) (tree : Tree) → StandsNow g old page_of_stamp tree → EndsAs g call new page_of_stamp tree answer
+AnswersAs g call old new answer =
+    (page_of_stamp : ℕ → Option PageOfStamp) (tree : Tree) → StandsNow g old page_of_stamp tree
+    → EndsAs g call new page_of_stamp tree answer
 
 -- what ended the call early
 abbrev pub naming_stop : Naming → Option Stop

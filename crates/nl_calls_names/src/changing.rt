@@ -16,10 +16,11 @@ use nl_namespace::laws::changes_in_tree;
 use nl_spec_commits::laws::device_stands;
 use nl_tree::Call;
 
-/// Does a call that changes names: mkdir, rmdir, create, unlink or rename. It asks room for nine more dirty pages. `Done` comes where the step of the tree
-/// is done, and the core stands for the tree after it: the pages of a file that lost its name await their free, and its addresses and its number
-/// are free. `No` comes with the refusal of the step, also where a name or a path is too long and where there is no room; `Fault` where a read
-/// failed; and `Lost` where a page does not hold the sequence number under which its address was written. All of them leave the tree as it was.
+/// Does a call that changes names: mkdir, rmdir, create, unlink or rename. It asks room for nine more dirty pages. `Done` comes where the
+/// step of the tree is done, and the core stands for the tree after it: the pages of a file that lost its name await their free, and its
+/// addresses and its number are free. `No` comes with the refusal of the step, also where a name or a path is too long and where there is
+/// no room; `Fault` where a read failed; and `Lost` where a page does not hold the sequence number under which its address was written. All
+/// of them leave the tree as it was.
 pub fn change_names<D: MovingPages>(core: &mut Core<D>, call: &Call) -> Naming
     requires core { IsCore D.Counts core.old }
     requires names { HasNames call.now }

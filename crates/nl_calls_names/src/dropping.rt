@@ -1,3 +1,4 @@
+// A node that has lost its name becomes unused, and its addresses and its number free.
 ghost use Rattle.std.specs.Prelude.{◌≡◌, ◌<◌, IsSome, [], true, length};
 ghost use Rattle.nl_files.specs.Cutting.{AreOfPool, GivesBack};
 ghost use Rattle.nl_inode.specs.Nodes.{page_of_node};
@@ -11,8 +12,8 @@ use nl_meta::Meta;
 
 const SLOTS: usize = 16;
 
-/// Makes a node without a name unused: its page, which is resident and may become dirty, says so, and its addresses and its number are free.
-/// What its pointers lead to is not freed here.
+/// Makes a node without a name unused: its page, which is resident and may become dirty, says so, and its addresses and its number are
+/// free. What its pointers lead to is not freed here.
 pub(crate) fn drop_node(meta: &mut Meta, nodes: &mut Nodes, ino: u32)
     requires there { IsSome (page_of meta.old (page_of_node ino)) }
     requires spelled { IsSome (inode_at (page_of meta.old) ino) }

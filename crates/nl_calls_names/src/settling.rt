@@ -8,8 +8,8 @@ use nl_core::Core;
 use nl_iface::MovingPages;
 use nl_namespace::Change;
 
-/// Ends a call that changed names, or did not. A node that lost its name is dropped, and its pointers, which stand behind the first ones, await
-/// their free. Else only the first go on to do so.
+/// Ends a call that changed names, or did not. A node that lost its name is dropped, and its pointers, which stand behind the first ones,
+/// await their free. Else only the first go on to do so.
 pub(crate) fn settle<D: MovingPages>(core: &mut Core<D>, first: u32, answer: Change) -> Naming
     requires drop { IfGone answer (λ n. CanDrop n core.old) }
     requires first { first ≤ length core.old.freeing.items }

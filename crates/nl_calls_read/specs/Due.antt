@@ -17,8 +17,11 @@ use Rattle.nl_calls_read.specs.declared.answer.Spot.{Spot}
 -- Where the medium tells its contents, a reply and its bytes are those of the step of each tree as which the core runs.
 abbrev pub AnswersStep : {D : Type 0} → Ghosts D → Core D → Call → List ℕ → Looked → Type 0
 AnswersStep g v call bytes answer =
-    g.tells → (page_of_stamp : ℕ → Option PageOfStamp) (tree : Tree) → CoreRuns g v page_of_stamp tree → IfReplied answer (λ reply. Answers (step (g.shape v.device) tree call) reply bytes)
+    g.tells → (page_of_stamp : ℕ → Option PageOfStamp) (tree : Tree) → CoreRuns g v page_of_stamp tree
+    → IfReplied answer (λ reply. Answers (step (g.shape v.device) tree call) reply bytes)
 
--- It is the spot of the path in each tree as which the core runs.
+-- The spot is that of the path in each tree as which the core runs.
 abbrev pub FindsSpot : {D : Type 0} → Ghosts D → Core D → List (List ℕ) → Spot → Type 0
-FindsSpot g v path spot = (page_of_stamp : ℕ → Option PageOfStamp) (tree : Tree) → CoreRuns g v page_of_stamp tree → IsSpot (g.shape v.device) (running_of g v) page_of_stamp tree path spot
+FindsSpot g v path spot =
+    (page_of_stamp : ℕ → Option PageOfStamp) (tree : Tree) → CoreRuns g v page_of_stamp tree
+    → IsSpot (g.shape v.device) (running_of g v) page_of_stamp tree path spot

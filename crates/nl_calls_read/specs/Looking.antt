@@ -48,14 +48,14 @@ brings_bytes _ = false
 
 -- ---- parts of such a call
 
--- A fault comes of a read that failed, and none failed else. A page is lost only where it has another number than the wanted one, and where the
--- medium tells its contents none is.
+-- A fault comes of a read that failed, and none failed else. A page is lost only where it has another number than the wanted one, and where
+-- the medium tells its contents none is.
 pub record Ends {D : Type 0} (g : Ghosts D) (old new : D) (answer : Looked) : Type 0 where
   pub faults : ReadsCounted g (answer ≡ looked.Fault) old new
   pub lost : IfLost answer (λ w f. f ≡ w → ⊥)
   pub told : g.tells → IsLost answer → ⊥
 
--- It replies so, unless a read fails.
+-- A call that looks replies with a file, with names or with content, unless a read fails.
 abbrev pub IfFile : Looked → (ℕ → ℕ → Type 0) → Type 0
 IfFile (looked.Replied (FileReply size pages)) P = P size pages
 IfFile (looked.Replied reply) P = ⊥

@@ -25,8 +25,10 @@ refusal_of_path tree path = first_of (when (is_too_long path) Enametoolong ∷ p
 
 -- what stands there: a file with the content of its node, a directory, or nothing
 abbrev pub IsSpot : Shape → VirtualMap → (ℕ → Option PageOfStamp) → Tree → List (List ℕ) → Spot → Type 0
-IsSpot shape pages page_of_stamp tree path (spot.File n rec) = (refusal_of_path tree path ≡ None) × (node_at tree path ≡ Some (file (held_content page_of_stamp pages rec)))
-IsSpot shape pages page_of_stamp tree path (spot.Dir n rec) = (refusal_of_path tree path ≡ None) × (node_at tree path ≡ Some directory) × (node_reached (graph_of shape pages) 0 path ≡ Some n)
+IsSpot shape pages page_of_stamp tree path (spot.File n rec) =
+    (refusal_of_path tree path ≡ None) × (node_at tree path ≡ Some (file (held_content page_of_stamp pages rec)))
+IsSpot shape pages page_of_stamp tree path (spot.Dir n rec) =
+    (refusal_of_path tree path ≡ None) × (node_at tree path ≡ Some directory) × (node_reached (graph_of shape pages) 0 path ≡ Some n)
 IsSpot shape pages page_of_stamp tree path (spot.No refusal) = refusal_of_path tree path ≡ Some refusal
 IsSpot shape pages page_of_stamp tree path (spot.Lost w f) = ⊤
 IsSpot shape pages page_of_stamp tree path spot.Fault = ⊤
@@ -47,7 +49,7 @@ HasNode g s pages (spot.No refusal) = ⊤
 HasNode g s pages (spot.Lost w f) = ⊤
 HasNode g s pages spot.Fault = ⊤
 
--- It is the spot of this node, unless a read fails.
+-- The spot is that of this node, unless a read fails.
 abbrev pub IsOfNode : ℕ → Spot → Type 0
 IsOfNode ino (spot.File n rec) = n ≡ ino
 IsOfNode ino (spot.Dir n rec) = n ≡ ino

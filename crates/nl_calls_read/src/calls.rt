@@ -15,8 +15,8 @@ use nl_field::PageBuf;
 use nl_iface::MovingPages;
 use nl_tree::{Call, ReplyBuf};
 
-/// A file call that only looks: `Read`, `Stat` or `List`. The bytes of its reply come into `out`, which has none with any other answer. `page`
-/// is work space. While the medium tells its contents, the reply is that of the tree as which the core runs, refusals included.
+/// A file call that only looks: `Read`, `Stat` or `List`. The bytes of its reply come into `out`, which has none with any other answer.
+/// `page` is work space. While the medium tells its contents, the reply is that of the tree as which the core runs, refusals included.
 pub fn look_call<D: MovingPages>(
     core: &mut Core<D>,
     call: &Call,

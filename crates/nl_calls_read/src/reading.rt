@@ -1,3 +1,4 @@
+// The call that reads bytes of a file.
 ghost use Rattle.std.specs.Prelude.{◌≡◌, ◌+◌, ◌-◌, ◌≤◌, ◌<◌, ⊤, [], false, length, min};
 ghost use Rattle.nl_field.specs.Numbers.{max_bytes};
 ghost use Rattle.nl_iface.specs.Calls.{ReadsCounted};

@@ -59,7 +59,7 @@ module _ {D : Type 0} (g : Ghosts D) (v : Core D) (page_of_stamp : ℕ → Optio
 
 -- ---- what is read of it
 
--- Its first bytes, as far as the page lies below the size, and zeros behind them are the page.
+-- The first bytes of what is read, as far as the page lies below the size, and zeros behind them are the page.
 module _ {D : Type 0} (g : Ghosts D) (v : Core D) (core : IsCore g v) (n index : ℕ) (rec : InodeRec) (is : IsFileOf g v.device v.meta n rec) (low : index < 4104) (at held : ℕ) (head rest : List ℕ)
     (held_is : held ≡ min (rec.size - 4096 * index) 4096) (at_is : 0 < held → at ≡ 4096 * index) (len : length head ≡ held) (zeros_rest : rest ≡ zeros 4096)
     (are : g.tells → AreBytesFrom (file_page g v.device (running_of g v) rec) at head) where

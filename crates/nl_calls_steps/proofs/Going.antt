@@ -1,4 +1,5 @@
--- What is known of a core and its files after a part of a call: paths lead where they led, a file is one of its generation, files have as many pages.
+-- What is known of a core and its files after a part of a call: paths lead where they led, a file is one of its generation, files have as
+-- many pages.
 use Rattle.std.proofs.Common.{◌≡◌, ◌⊎◌, inl, inr, ℕ, Bool, true, false, List, [], ◌∷◌, length, option_and_then, Option, Some, None, refl, sym, ap, subst, ◌∙◌}
 use Rattle.std.proofs.lemmas.Bool.{false≢true}
 use Rattle.nl_field.specs.Graph.{Graph, GraphNode, NodeBody, directory_node, file_node, unused}

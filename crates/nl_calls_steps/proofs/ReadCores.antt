@@ -66,7 +66,7 @@ module _ {D : Type 0} (g : Ghosts D) (u v : Core D) (on : ReadsOn g u v) where
     same-bytes : g.bytes v.device ≡ g.bytes u.device
     same-bytes = λ i p. on.runs.reads.medium.bytes tells p i
 
-    -- it runs as the same trees
+    -- a core that was only read runs as the same trees
     pub runs-then : (page_of_stamp : ℕ → Option PageOfStamp) (tree : Tree) → CoreRuns g u page_of_stamp tree → CoreRuns g v page_of_stamp tree
     runs-then page_of_stamp tree r = record {
       runs = subst (λ (shape : Shape). RunsAs shape (running_of g v) page_of_stamp tree) (sym same-shape)
@@ -75,7 +75,7 @@ module _ {D : Type 0} (g : Ghosts D) (u v : Core D) (on : ReadsOn g u v) where
       given = λ stamp page is. let low = r.given stamp page is in let same = on.runs.reads.medium.next_stamp in omega (arith, low, same);
     }
 
-    -- and its files have the same bytes
+    -- the files of a core that was only read have the same bytes
     pub same-page : (rec : InodeRec) → file_page g v.device (running_of g v) rec ≡ file_page g u.device (running_of g u) rec
     same-page rec = λ j i. cond (is_none_pointer (pointer_at (same-running j) rec i)) (zeros 4096) (same-bytes j (place_of (same-names j) (pointer_at (same-running j) rec i)))
 

@@ -24,7 +24,7 @@ use Rattle.nl_calls_steps.specs.declared.answer.Written.TheVariants as written
 abbrev pub RunsAsSome : {D : Type 0} → Ghosts D → Core D → Type 0
 RunsAsSome g v = g.tells → (page_of_stamp : ℕ → Option PageOfStamp) × (tree : Tree) × CoreRuns g v page_of_stamp tree
 
--- so many pages files have
+-- files have so many pages
 abbrev pub HasPagesOfFiles : {D : Type 0} → Ghosts D → Core D → ℕ → Type 0
 HasPagesOfFiles g v files = files ≡ length (running_holders g v.device v.meta)
 
@@ -32,14 +32,14 @@ HasPagesOfFiles g v files = files ≡ length (running_holders g v.device v.meta)
 abbrev pub OthersStay : ℕ → List InFlight → List InFlight → Type 0
 OthersStay worker old new = (w : ℕ) → w ≢ worker → nameless_line (of_worker new w) ≡ nameless_line (of_worker old w)
 
--- As whatever tree the core ran, its pages stand for what the call makes of it.
+-- The pages of the core stand for what the call makes of each tree as which it ran.
 abbrev pub MakesTree : {D : Type 0} → Ghosts D → Core D → Core D → Call × Option FaultReply → Type 0
 MakesTree g old new x =
     g.tells → (page_of_stamp : ℕ → Option PageOfStamp) (tree : Tree) → CoreRuns g old page_of_stamp tree
     → RunsAs (g.shape new.device) (running_of g new) page_of_stamp (step_marked (g.shape old.device) tree x).tree
 
--- The core goes on, with at most so many write sequence numbers, and then makes of its tree what the call makes of it. The worker has no line
--- afterwards.
+-- The core goes on, with at most so many write sequence numbers, and then makes of its tree what the call makes of it. The worker has no
+-- line afterwards.
 pub record TakesWithin {D : Type 0} (g : Ghosts D) (most worker : ℕ) (call : Call) (old new : Core D) : Type 0 where
   pub between : Core D
   pub core : IsCore g between
@@ -58,7 +58,7 @@ IfDone (written.No refusal) P = ⊤
 IfDone (written.Lost w f) P = ⊤
 IfDone written.Fault P = ⊤
 
--- or it is not, and P holds
+-- the call is not done, and P holds
 abbrev pub IfUndone : Written → Type 0 → Type 0
 IfUndone (written.Done files) P = ⊤
 IfUndone (written.No refusal) P = P

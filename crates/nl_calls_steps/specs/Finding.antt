@@ -35,7 +35,8 @@ IsOfGeneration g v n generation = (rec : InodeRec) × IsFileOf g v.device v.meta
 abbrev pub IsFound : {D : Type 0} → Ghosts D → Core D → List (List ℕ) → Found → Type 0
 IsFound g v path (found.File n) = (is_too_long path ≡ false) × (node_reached (nodes_of g v) 0 path ≡ Some n) × IsSomeFile g v n
 IsFound g v path (found.No refusal) =
-    (page_of_stamp : ℕ → Option PageOfStamp) (tree : Tree) → RunsAs (g.shape v.device) (running_of g v) page_of_stamp tree → refusal_of_path tree path ≡ Some refusal
+    (page_of_stamp : ℕ → Option PageOfStamp) (tree : Tree) → RunsAs (g.shape v.device) (running_of g v) page_of_stamp tree
+    → refusal_of_path tree path ≡ Some refusal
 
 -- The node is a file, or a directory, which is refused.
 abbrev pub IsFileOrNot : {D : Type 0} → Ghosts D → Core D → ℕ → Found → Type 0

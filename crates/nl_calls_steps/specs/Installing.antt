@@ -28,7 +28,9 @@ with_landed v worker k = record v { flight = landed v.flight worker k }
 
 -- the page in flight at a place of the worker's line
 abbrev pub page_in : {D : Type 0} → Core D → ℕ → ℕ → FlightPage
-page_in v worker k = slice_index_or (of_worker v.flight worker).pages k (record { index = 0; at = no_pointer; tag = record { ino = 0; generation = 0; index = 0 } })
+page_in v worker k =
+    slice_index_or (of_worker v.flight worker).pages k
+    (record { index = 0; at = no_pointer; tag = record { ino = 0; generation = 0; index = 0 } })
 
 -- A file whose record, and whose pointer at an index, are resident.
 pub record IsAtHand {D : Type 0} (g : Ghosts D) (v : Core D) (n index : ℕ) (rec : InodeRec) : Type 0 where
@@ -36,12 +38,13 @@ pub record IsAtHand {D : Type 0} (g : Ghosts D) (v : Core D) (n index : ℕ) (re
   pub there : IsSome (page_of v.meta (page_of_node n))
   pub range : HasRange (page_of v.meta) rec index
 
--- There is room for the pages that become dirty. A new page of pointers finds a free address, and a new page of the file is one that the volume may
--- have.
+-- There is room for the pages that become dirty. A new page of pointers finds a free address, and a new page of the file is one that the
+-- volume may have.
 pub record HasRoom {D : Type 0} (g : Ghosts D) (v : Core D) (n : ℕ) (rec : InodeRec) (page : FlightPage) : Type 0 where
   pub dirty : HasRoomToTake v.meta rec n page.index
   pub pool : Begins rec page.index (Some page.at) → HasFree v.nodes
-  pub few : is_none_pointer (pointer_at (running_of g v) rec page.index) ≡ true → length (running_holders g v.device v.meta) < (g.shape v.device).cap
+  pub few : is_none_pointer (pointer_at (running_of g v) rec page.index) ≡ true
+      → length (running_holders g v.device v.meta) < (g.shape v.device).cap
 
 -- The page is one of the file at its index, and its pointer has a spelling: a write sequence number, and a name of the physical segment.
 pub record IsPageOfFile {D : Type 0} (g : Ghosts D) (v : Core D) (n : ℕ) (rec : InodeRec) (page : FlightPage) : Type 0 where

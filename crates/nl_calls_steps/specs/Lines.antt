@@ -28,8 +28,8 @@ worker_pages v worker = (of_worker v.flight worker).pages
 
 -- ---- what a line needs
 
--- There is room for a line: the node's page and two pages of pointers may become dirty, and one more. Each range that gets a page finds a free
--- address, and the volume may have the new pages.
+-- There is room for a line: the node's page and two pages of pointers may become dirty, and one more. Each range that gets a page finds a
+-- free address, and the volume may have the new pages.
 pub record HasRoomForLine {D : Type 0} (g : Ghosts D) (v : Core D) (rec : InodeRec) (pages : List FlightPage) : Type 0 where
   pub dirty : length (besides_0 v.meta.dirty) + 4 ≤ most
   pub pool : new_ranges rec (indexes_of pages) ≤ free_addresses v.nodes
@@ -52,12 +52,14 @@ pub record IsLineOfFile {D : Type 0} (g : Ghosts D) (v : Core D) (worker n size 
 
 -- ---- what it leaves
 
--- Of whatever tree the pages of the volume stood for, they stand for it with those pages in the file under its path.
+-- The pages of the volume stand for each tree for which they stood, with the pages of the line in the file under its path.
 abbrev pub LineIsWritten : {D : Type 0} → Ghosts D → ℕ → ℕ → List FlightPage → Core D → Core D → Type 0
 LineIsWritten g n size pages old new =
-    (page_of_stamp : ℕ → Option PageOfStamp) (tree : Tree) (path : List (List ℕ)) → RunsAs (g.shape old.device) (running_of g old) page_of_stamp tree
+    (page_of_stamp : ℕ → Option PageOfStamp) (tree : Tree) (path : List (List ℕ))
+    → RunsAs (g.shape old.device) (running_of g old) page_of_stamp tree
     → node_reached (graph_of (g.shape old.device) (running_of g old)) 0 path ≡ Some n → AreThere page_of_stamp size pages
-    → RunsAs (g.shape new.device) (running_of g new) page_of_stamp (with_content tree path (with_pages (shown_pages page_of_stamp pages) size (content_of (node_at tree path))))
+    → RunsAs (g.shape new.device) (running_of g new) page_of_stamp
+    (with_content tree path (with_pages (shown_pages page_of_stamp pages) size (content_of (node_at tree path))))
 
 -- The file has the pages and the size, every other node has what it had, and the worker has no line.
 pub record InstallsLine {D : Type 0} (g : Ghosts D) (worker n size : ℕ) (was is : InodeRec) (old new : Core D) : Type 0 where

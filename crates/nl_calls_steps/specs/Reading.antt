@@ -1,4 +1,4 @@
--- A node of a core that was read.
+-- What is known of a core of which one node was read.
 use Rattle.std.specs.Prelude.{ℕ, IsSome}
 use Rattle.nl_field.specs.declared.inode.InodeRec.{InodeRec}
 use Rattle.nl_iface.specs.declared.counts.Counts.{Ghosts}

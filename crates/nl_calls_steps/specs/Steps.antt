@@ -19,8 +19,8 @@ use Rattle.nl_core.specs.Core.{HasFree, IsCore, running_of}
 use Rattle.nl_core.specs.Trees.{CoreRuns, CoreStands, IsTold}
 use Rattle.nl_core.specs.declared.state.Core.{Core}
 
--- The device was only read, and pages of the metadata changed in memory. Of the rest at most what is free changed, what is in flight, and what
--- awaits its free, for which there is as much room as before.
+-- The device was only read, and pages of the metadata changed in memory. Of the rest at most what is free changed, what is in flight, and
+-- what awaits its free, for which there is as much room as before.
 pub record Steps {D : Type 0} (g : Ghosts D) (old new : Core D) : Type 0 where
   pub reads : OnlyReads g old.device new.device
   pub read_faults : g.read_faults old.device ≤ g.read_faults new.device
@@ -40,27 +40,35 @@ pub record IsHeldAfter {D : Type 0} (g : Ghosts D) (old new : Core D) : Type 0 w
   pub flight : IsFlight new.flight
   pub fewer : (x : Tag × Pointer) → Has (carried new.flight) x → Has (carried old.flight) x
 
--- Then it is a core again.
+-- After a step the core is one again, where the volume is held so.
 abbrev pub StepsAreCores : {D : Type 0} → Ghosts D → Type 0
-StepsAreCores {D} g = (old new : Core D) → IsVolumeShape (g.shape old.device) → g.formed new.device → (g.tells → StoresPages g new.device) → IsCore g old → Steps g old new → IsHeldAfter g old new → IsCore g new
+StepsAreCores {D} g =
+    (old new : Core D) → IsVolumeShape (g.shape old.device) → g.formed new.device → (g.tells → StoresPages g new.device) → IsCore g old
+    → Steps g old new → IsHeldAfter g old new → IsCore g new
 
--- Where it stood for trees, it goes on to stand for those that are committed, and for any tree of all calls for which its pages stand now.
+-- A core that stood for trees stands after a step for those that are committed, and for any tree of all calls for which its pages stand
+-- now.
 abbrev pub StepsGo : {D : Type 0} → Ghosts D → Type 0
 StepsGo {D} g =
-    (old new : Core D) (page_of_stamp : ℕ → Option PageOfStamp) (t : Trees) (tree : Tree) → IsVolumeShape (g.shape old.device) → IsCore g old → Steps g old new → IsTold g new → CoreStands g old page_of_stamp t
-    → RunsAs (g.shape new.device) (running_of g new) page_of_stamp tree → CoreStands g new page_of_stamp (record { committed = t.committed; frozen = t.frozen; running = tree })
+    (old new : Core D) (page_of_stamp : ℕ → Option PageOfStamp) (t : Trees) (tree : Tree) → IsVolumeShape (g.shape old.device)
+    → IsCore g old → Steps g old new → IsTold g new → CoreStands g old page_of_stamp t
+    → RunsAs (g.shape new.device) (running_of g new) page_of_stamp tree
+    → CoreStands g new page_of_stamp (record { committed = t.committed; frozen = t.frozen; running = tree })
 
--- Where the medium tells its contents, it runs as any tree for which its pages stand now.
+-- Where the medium tells its contents, a core runs after a step as any tree for which its pages stand now.
 abbrev pub StepsRun : {D : Type 0} → Ghosts D → Type 0
 StepsRun {D} g =
-    (old new : Core D) (page_of_stamp : ℕ → Option PageOfStamp) (was tree : Tree) → g.tells → Steps g old new → CoreRuns g old page_of_stamp was
+    (old new : Core D) (page_of_stamp : ℕ → Option PageOfStamp) (was tree : Tree) → g.tells → Steps g old new
+    → CoreRuns g old page_of_stamp was
     → RunsAs (g.shape new.device) (running_of g new) page_of_stamp tree → CoreRuns g new page_of_stamp tree
 
--- A stop within it leaves nothing that was not left before.
+-- A stop within a step leaves nothing that was not left before.
 abbrev pub StepsLeave : {D : Type 0} → Ghosts D → Type 0
-StepsLeave {D} g = (old new : Core D) (t : Trees) (y : Prefix) → g.tells → Steps g old new → Leaves g (OpensFrom (g.shape old.device) old.count new.moment t y) old.device new.device
+StepsLeave {D} g =
+    (old new : Core D) (t : Trees) (y : Prefix) → g.tells → Steps g old new
+    → Leaves g (OpensFrom (g.shape old.device) old.count new.moment t y) old.device new.device
 
--- And one step after the other is a step.
+-- One step after the other is a step.
 abbrev pub StepsThen : {D : Type 0} → Ghosts D → Type 0
 StepsThen {D} g = (first second third : Core D) → Steps g first second → Steps g second third → Steps g first third
 
@@ -70,12 +78,15 @@ pub record ReadsOn {D : Type 0} (g : Ghosts D) (old new : Core D) : Type 0 where
   pub read_faults : g.read_faults old.device ≤ g.read_faults new.device
   pub others : new ≡ record old { device = new.device; meta = new.meta }
 
--- It is a core after a step, and stands for the trees for which it stood.
+-- A core that was only read is one still, takes a step so, and stands for the trees for which it stood.
 pub record ReadAlike {D : Type 0} (g : Ghosts D) (old new : Core D) : Type 0 where
   pub core : IsCore g old → IsCore g new
   pub steps : Steps g old new
   pub trees : (page_of_stamp : ℕ → Option PageOfStamp) (tree : Tree)
-      → RunsAs (g.shape old.device) (running_of g old) page_of_stamp tree → RunsAs (g.shape new.device) (running_of g new) page_of_stamp tree
+      → RunsAs (g.shape old.device) (running_of g old) page_of_stamp tree
+      → RunsAs (g.shape new.device) (running_of g new) page_of_stamp tree
 
 abbrev pub ReadsAreAlike : {D : Type 0} → Ghosts D → Type 0
-ReadsAreAlike {D} g = (old new : Core D) → IsVolumeShape (g.shape old.device) → g.formed new.device → (g.tells → StoresPages g new.device) → ReadsOn g old new → ReadAlike g old new
+ReadsAreAlike {D} g =
+    (old new : Core D) → IsVolumeShape (g.shape old.device) → g.formed new.device → (g.tells → StoresPages g new.device) → ReadsOn g old new
+    → ReadAlike g old new

@@ -33,18 +33,22 @@ pub record IsPartialPage {D : Type 0} (g : Ghosts D) (v : Core D) (n size : ℕ)
 -- The worker has that page in flight alone. Or it has none, and the page in which the file ends holds nothing behind the size.
 abbrev pub HasPartial : {D : Type 0} → Ghosts D → Core D → ℕ → ℕ → ℕ → InodeRec → Type 0
 HasPartial g v worker n size rec =
-    ((worker_pages v worker ≡ []) × EndsClean (running_of g v) rec size) ⊎ ((page : FlightPage) × (worker_pages v worker ≡ page ∷ []) × IsPartialPage g v n size rec page)
+    ((worker_pages v worker ≡ []) × EndsClean (running_of g v) rec size)
+    ⊎ ((page : FlightPage) × (worker_pages v worker ≡ page ∷ []) × IsPartialPage g v n size rec page)
 
--- Each page is that of its write sequence number, with the bytes that the file has there below the size, and zeros behind it.
+-- Each page of a cut is that of its write sequence number, with the bytes that the file has there below the size, and zeros behind it.
 abbrev pub AreCut : (ℕ → Option PageOfStamp) → FileContent → ℕ → List FlightPage → Type 0
 AreCut page_of_stamp content size pages =
-    (k : ℕ) (page : FlightPage) → slice_get pages k ≡ Some page → page_of_stamp page.at.stamp ≡ Some (record { tag = page.tag; bytes = cut_page size page.index (page_bytes content page.index) })
+    (k : ℕ) (page : FlightPage) → slice_get pages k ≡ Some page
+    → page_of_stamp page.at.stamp ≡ Some (record { tag = page.tag; bytes = cut_page size page.index (page_bytes content page.index) })
 
--- Of whatever tree the pages of the volume stood for, they stand for it with the file under its path cut to the size.
+-- The pages of the volume stand for each tree for which they stood, with the file under its path cut to the size.
 abbrev pub TreeIsCut : {D : Type 0} → Ghosts D → ℕ → ℕ → List FlightPage → Core D → Core D → Type 0
 TreeIsCut g n size pages old new =
-    (page_of_stamp : ℕ → Option PageOfStamp) (tree : Tree) (path : List (List ℕ)) → RunsAs (g.shape old.device) (running_of g old) page_of_stamp tree
-    → node_reached (graph_of (g.shape old.device) (running_of g old)) 0 path ≡ Some n → AreCut page_of_stamp (content_of (node_at tree path)) size pages
+    (page_of_stamp : ℕ → Option PageOfStamp) (tree : Tree) (path : List (List ℕ))
+    → RunsAs (g.shape old.device) (running_of g old) page_of_stamp tree
+    → node_reached (graph_of (g.shape old.device) (running_of g old)) 0 path ≡ Some n
+    → AreCut page_of_stamp (content_of (node_at tree path)) size pages
     → RunsAs (g.shape new.device) (running_of g new) page_of_stamp (with_content tree path (cut_to (content_of (node_at tree path)) size))
 
 -- The file has the size and what it holds below it, every other node has what it had, and the worker has no line.

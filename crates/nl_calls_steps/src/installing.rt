@@ -10,8 +10,9 @@ use nl_field::InodeRec;
 use nl_iface::MovingPages;
 use nl_spec_commits::laws::device_stands;
 
-/// Gives a file the page in flight at a place of a worker's line, and a size. The pages of the line before that place are the file's by now:
-/// without them in flight, and afterwards without this one too, each live page is held once. What the file had at the index awaits its free.
+/// Gives a file the page in flight at a place of a worker's line, and a size. The pages of the line before that place are the file's by
+/// now: without them in flight, and afterwards without this one too, each live page is held once. What the file had at the index awaits its
+/// free.
 pub fn install_page<D: MovingPages>(
     core: &mut Core<D>,
     worker: u8,

@@ -1,3 +1,4 @@
+// The read of the page of an index of a file.
 ghost use Rattle.std.specs.Prelude.{◌≡◌, ◌<◌, length, OnOk};
 ghost use Rattle.nl_field.specs.Bytes.{zeros};
 ghost use Rattle.nl_meta_running.specs.Reading.{stop_of};
@@ -46,7 +47,7 @@ pub fn read_page<D: MovingPages>(
     }
 }
 
-// The same of a file whose record this is.
+// Reads the page of an index of a file with this record over zeros.
 fn read_head<D: MovingPages>(
     core: &mut Core<D>,
     ino: u32,

@@ -117,7 +117,8 @@ pub fn read_file<D: MovingPages>(
     ensures core { IsCore D.Counts core.new }
     ensures same { ReadsOn D.Counts core.old core.new }
     ensures len { length out.new ≡ length out.old }
-    ensures bytes { D.tells → result ≡ FileAnswer.Done → AreBytesFrom (file_page D.Counts core.old.device (running_of D.Counts core.old) rec.now) at out.new }
+    ensures bytes { D.tells → result ≡ FileAnswer.Done
+        → AreBytesFrom (file_page D.Counts core.old.device (running_of D.Counts core.old) rec.now) at out.new }
     ensures faults { ReadsCounted D.Counts (result ≡ FileAnswer.Fault) core.old.device core.new.device }
     ensures lost { LosesFile (IsWanted D.Counts core.old.device (running_of D.Counts core.old) rec.now) result }
     ensures told { D.tells → IsLostFile result → ⊥ }

@@ -1,3 +1,4 @@
+// The step of a call that cuts or lengthens a file.
 ghost use Rattle.std.specs.Prelude.{◌≡◌, ◌/◌, ◌<◌, ◌≤◌, option_map, slice_get};
 ghost use Rattle.nl_flight.specs.Flight.{of_worker};
 ghost use Rattle.nl_iface.specs.Calls.{ReadsCounted};

@@ -50,7 +50,7 @@ none_cut page_of_stamp content size k p at = absurd (cc at)
 
 module _ {D : Type 0} (g : Ghosts D) (v : Core D) (core : IsCore g v) (names : IsNames (g.shape v.device) (g.next_stamp v.device) (names_of g v)) (worker n size : ℕ) (rec : InodeRec) (known : worker < 8)
     (file : IsFileOf g v.device v.meta n rec) (page : FlightPage) (alone : worker_pages v worker ≡ page ∷ []) (within : page.index < 4104) where
-  -- it is live
+  -- the page in flight is live
   live : LeadsLive g v (page.tag, page.at)
   live = flight_leads g v names core (page.tag, page.at) (page_carried v.flight worker (in_flight v.flight worker core.flight known) page alone)
 

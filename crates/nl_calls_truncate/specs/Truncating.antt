@@ -42,19 +42,23 @@ pub record IsOpenFile {D : Type 0} (g : Ghosts D) (old new : Core D) (n : ℕ) (
   pub after : IsFileOf g new.device new.meta n rec
   pub there : IsSome (page_of new.meta (page_of_node n))
 
--- of the file to which a path leads in whatever tree the core runs as, these are the bytes of the page in which it ends, without those from this size on
+-- of the file to which a path leads in whatever tree the core runs as, these are the bytes of the page in which it ends, without those from
+-- this size on
 abbrev pub HasCutPage : {D : Type 0} → Ghosts D → Core D → ℕ → ℕ → List ℕ → Type 0
 HasCutPage g v n size bytes =
-    g.tells → (page_of_stamp : ℕ → Option PageOfStamp) (tree : Tree) (path : List (List ℕ)) → CoreRuns g v page_of_stamp tree → node_reached (nodes_of g v) 0 path ≡ Some n
+    g.tells → (page_of_stamp : ℕ → Option PageOfStamp) (tree : Tree) (path : List (List ℕ)) → CoreRuns g v page_of_stamp tree
+    → node_reached (nodes_of g v) 0 path ≡ Some n
     → bytes ≡ cut_page size (size / 4096) (page_bytes (content_of (node_at tree path)) (size / 4096))
 
--- and the worker's pages in flight are such
+-- the worker's pages in flight are those of a cut of the file to this size, in whatever tree the core runs as
 abbrev pub HasCutPages : {D : Type 0} → Ghosts D → Core D → ℕ → ℕ → ℕ → Type 0
 HasCutPages g v worker n size =
-    g.tells → (page_of_stamp : ℕ → Option PageOfStamp) (tree : Tree) (path : List (List ℕ)) → CoreRuns g v page_of_stamp tree → node_reached (nodes_of g v) 0 path ≡ Some n
+    g.tells → (page_of_stamp : ℕ → Option PageOfStamp) (tree : Tree) (path : List (List ℕ)) → CoreRuns g v page_of_stamp tree
+    → node_reached (nodes_of g v) 0 path ≡ Some n
     → AreCut page_of_stamp (content_of (node_at tree path)) size (worker_pages v worker)
 
--- The node is a file, and where it has bytes from this size on in the page in which it ends then, the worker has that page without them in flight.
+-- The node is a file, and where it has bytes from this size on in the page in which it ends then, the worker has that page without them in
+-- flight.
 pub record CanCut {D : Type 0} (g : Ghosts D) (v : Core D) (worker n size : ℕ) : Type 0 where
   pub rec : InodeRec
   pub file : IsFileOf g v.device v.meta n rec
@@ -65,10 +69,11 @@ pub record CanCut {D : Type 0} (g : Ghosts D) (v : Core D) (worker n size : ℕ)
 pub record IsCut {D : Type 0} (g : Ghosts D) (worker n size : ℕ) (old new : Core D) : Type 0 where
   pub steps : Steps g old new
   pub flight : new.flight ≡ with_line old.flight worker (begun 0)
-  pub cut : g.tells → (page_of_stamp : ℕ → Option PageOfStamp) (tree : Tree) (path : List (List ℕ)) → CoreRuns g old page_of_stamp tree → node_reached (nodes_of g old) 0 path ≡ Some n
+  pub cut : g.tells → (page_of_stamp : ℕ → Option PageOfStamp) (tree : Tree) (path : List (List ℕ)) → CoreRuns g old page_of_stamp tree
+      → node_reached (nodes_of g old) 0 path ≡ Some n
       → RunsAs (g.shape new.device) (running_of g new) page_of_stamp (with_content tree path (cut_to (content_of (node_at tree path)) size))
 
--- It is not, and the core goes on as it was.
+-- The file is not cut, and the core goes on as it was.
 pub record IsUncut {D : Type 0} (g : Ghosts D) (old new : Core D) : Type 0 where
   pub goes : Goes g 0 old new
   pub flight : new.flight ≡ old.flight
@@ -82,17 +87,18 @@ pub record CutsFile {D : Type 0} (g : Ghosts D) (most worker n size : ℕ) (old 
 
 -- ---- answers
 
--- As whatever tree the core ran, the step of the tree answers the same.
+-- The step of each tree as which the core ran answers to a truncate what the core answers.
 abbrev pub AnswersTruncate : {D : Type 0} → Ghosts D → List (List ℕ) → ℕ → Core D → Written → Type 0
 AnswersTruncate g path size old (written.Done files) =
-    g.tells → (page_of_stamp : ℕ → Option PageOfStamp) (tree : Tree) → CoreRuns g old page_of_stamp tree → (step (g.shape old.device) tree (Truncate path size)).reply ≡ Done
+    g.tells → (page_of_stamp : ℕ → Option PageOfStamp) (tree : Tree) → CoreRuns g old page_of_stamp tree
+    → (step (g.shape old.device) tree (Truncate path size)).reply ≡ Done
 AnswersTruncate g path size old (written.No refusal) =
     g.tells → (page_of_stamp : ℕ → Option PageOfStamp) (tree : Tree) → CoreRuns g old page_of_stamp tree
     → step (g.shape old.device) tree (Truncate path size) ≡ record { reply = No refusal; bytes = []; tree = tree }
 AnswersTruncate g path size old (written.Lost w f) = ⊤
 AnswersTruncate g path size old written.Fault = ⊤
 
--- All of it: what it does, what it answers, and why it ended early.
+-- All of a truncate: what it does, what it answers, and why it ended early.
 pub record Truncates {D : Type 0} (g : Ghosts D) (worker : ℕ) (path : List (List ℕ)) (size : ℕ) (old new : Core D) (answer : Written) : Type 0 where
   pub core : IsCore g new
   pub done : IfDone answer (λ files. TakesCall g worker (Truncate path size) old new × HasPagesOfFiles g new files)

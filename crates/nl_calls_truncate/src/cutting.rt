@@ -1,3 +1,4 @@
+// The page in which a file ends once it is cut, put in flight ahead of the cut.
 ghost use Rattle.std.specs.Prelude.{◌≡◌, ◌≢◌, ◌≤◌, ◌<◌, ◌/◌, ◌%◌, ◌^◌, ℕ, false, IfOk, OnOk};
 ghost use Rattle.nl_field.specs.Pointers.{is_none_pointer};
 ghost use Rattle.nl_iface.specs.Calls.{StoresPages};
@@ -30,7 +31,8 @@ const PAGE: u64 = 4096;
 // How many pages a file may have.
 const PAGES: u32 = 4104;
 
-/// Where a file has bytes from a size on in the page in which it ends then, puts that page without them in flight for a worker without a line.
+/// Where a file has bytes from a size on in the page in which it ends then, puts that page without them in flight for a worker without a
+/// line.
 pub(crate) fn put_cut<D: MovingPages>(
     core: &mut Core<D>,
     worker: u8,

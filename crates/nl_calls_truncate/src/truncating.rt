@@ -33,10 +33,11 @@ use nl_tree::{Path, Refusal};
 /// The greatest size of a file.
 const MOST: u64 = 16_809_984;
 
-/// Cuts a file to a size or lengthens it, on a volume that can be written and whose files have so many pages. The pages that the worker has in flight
-/// are dropped. `Done` comes where the step of the tree is done, with how many pages files have then; `No` with its refusal, which is never for want of
-/// room; `Fault` where a program, a read or a commit failed; and `Lost` where a page does not hold the write sequence number under which it is looked
-/// for. But for `Done` the tree and the number of pages are as before, and a page may be in flight for the line.
+/// Cuts a file to a size or lengthens it, on a volume that can be written and whose files have so many pages. The pages that the worker has
+/// in flight are dropped. `Done` comes where the step of the tree is done, with how many pages files have then; `No` with its refusal,
+/// which is never for want of room; `Fault` where a program, a read or a commit failed; and `Lost` where a page does not hold the write
+/// sequence number under which it is looked for. But for `Done` the tree and the number of pages are as before, and a page may be in flight
+/// for the line.
 pub fn truncate_call<D: MovingPages>(
     core: &mut Core<D>,
     worker: u8,
@@ -54,7 +55,8 @@ pub fn truncate_call<D: MovingPages>(
     requires some { 0 < line }
     requires files { HasPagesOfFiles D.Counts core.old files }
     ensures core { IsCore D.Counts core.new }
-    ensures done { IfDone result (λ now. TakesCall D.Counts worker (Truncate path.now size) core.old core.new × HasPagesOfFiles D.Counts core.new now) }
+    ensures done { IfDone result (λ now. TakesCall D.Counts worker (Truncate path.now size) core.old core.new
+        × HasPagesOfFiles D.Counts core.new now) }
     ensures undone { IfUndone result (Goes D.Counts (2 ^ 40) core.old core.new × HasPagesOfFiles D.Counts core.new files) }
     ensures answer { AnswersTruncate D.Counts path.now size core.old result }
     ensures others { OthersStay worker core.old.flight core.new.flight }
@@ -64,7 +66,7 @@ pub fn truncate_call<D: MovingPages>(
     truncate_alone(core, worker, line, path, size, files, page)
 }
 
-// The same of a worker without a line.
+// Cuts a file to a size or lengthens it, for a worker without a line.
 fn truncate_alone<D: MovingPages>(
     core: &mut Core<D>,
     worker: u8,
@@ -88,7 +90,7 @@ fn truncate_alone<D: MovingPages>(
     }
 }
 
-// What the path leads to.
+// The file that a path leads to, or why it leads to none.
 fn find_there<D: MovingPages>(core: &mut Core<D>, path: &Path) -> Result<Found, Stop>
     requires core { IsCore D.Counts core.old }
     ensures core { IsCore D.Counts core.new }
@@ -104,7 +106,7 @@ fn find_there<D: MovingPages>(core: &mut Core<D>, path: &Path) -> Result<Found, 
     found
 }
 
-// The same of the file to which the path leads.
+// Cuts the file to which the path leads to a size or lengthens it, for a worker without a line.
 fn truncate_found<D: MovingPages>(
     core: &mut Core<D>,
     worker: u8,
@@ -167,7 +169,7 @@ fn truncate_file<D: MovingPages>(
     cut_now(core, worker, ino, size, files)
 }
 
-// The same where the page in which the file ends then is in flight, if it needs one, and pages may become dirty.
+// Cuts a file where the page in which it ends then is in flight, if it needs one, and pages may become dirty.
 fn cut_now<D: MovingPages>(
     core: &mut Core<D>,
     worker: u8,
@@ -192,7 +194,7 @@ fn cut_now<D: MovingPages>(
     cut_held(core, worker, ino, &mut rec, size, files)
 }
 
-// The same of a file whose record is resident, and the page that has the pointer of the index in which it ends then.
+// Cuts a file whose record is resident, and the page that has the pointer of the index in which it ends then.
 fn cut_held<D: MovingPages>(
     core: &mut Core<D>,
     worker: u8,

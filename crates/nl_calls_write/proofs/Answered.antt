@@ -55,11 +55,11 @@ module _ {D : Type 0} (g : Ghosts D) (v : Core D) (core : IsCore g v) (n : ℕ) 
   roomy : None ≡ space_refusal shape tree
   roomy = has_room shape (running_of g v) page_of_stamp tree at.runs
 
-  -- it ends too far
+  -- the call ends too far
   pub refuses_far : 0 < len_of call → max_file_size < from_of call + len_of call → step shape tree call ≡ record { reply = No Efbig; bytes = []; tree = tree }
   refuses_far some far = far-refuses shape tree call w path_allows some far
 
-  -- it has no bytes
+  -- the call has no bytes
   module _ (none : len_of call ≡ 0) where
     no_data : length (data_of call) ≡ 0
     no_data = length-data call w ∙ none
@@ -91,7 +91,7 @@ module _ {D : Type 0} (g : Ghosts D) (v : Core D) (core : IsCore g v) (n : ℕ) 
     pub done_none : step shape tree call ≡ effect_of tree call
     done_none = is-done shape tree call w path_allows (ap (λ (k : ℕ). nat_lt 0 k && nat_lt max_file_size (from_of call + k)) none) (ap (space_refusal shape) tree_stays ∙ sym roomy)
 
-  -- it has some
+  -- the call has some bytes
   module _ (some : 0 < len_of call) (within : from_of call + len_of call ≤ 16809984) (files : ℕ) (count : HasPagesOfFiles g v files) where
     near : is_too_far call ≡ false
     near = ap (λ (b : Bool). nat_lt 0 (len_of call) && b) (le-ltb max_file_size (from_of call + len_of call) within) ∙ and_false (nat_lt 0 (len_of call))
@@ -113,7 +113,7 @@ module _ {D : Type 0} (g : Ghosts D) (v : Core D) (core : IsCore g v) (n : ℕ) 
 pub replies : (shape : Shape) (tree : Tree) (call : Call) → IsWriting call → step shape tree call ≡ effect_of tree call → (step shape tree call).reply ≡ Count (len_of call)
 replies shape tree call w e = ap (λ (o : Outcome). o.reply) (e ∙ effect-is shape tree call w)
 
--- and the tree after it
+-- the tree after the call
 pub tree_after : (shape : Shape) (tree : Tree) (call : Call) → IsWriting call → step shape tree call ≡ effect_of tree call
     → with_content tree (path_of call) (written_over (content_of (node_at tree (path_of call))) (from_of call) (data_of call)) ≡ (step shape tree call).tree
 tree_after shape tree call w e = sym (ap (λ (o : Outcome). o.tree) (e ∙ effect-is shape tree call w))

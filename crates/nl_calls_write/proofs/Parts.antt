@@ -55,7 +55,7 @@ module _ {D : Type 0} (g : Ghosts D) (worker : ℕ) (call : Call) (u v : Core D)
       (λ tells page_of_stamp tree runs.
       path-refuses (g.shape u.device) tree call writing refusal (subst (λ (p : List (List ℕ)). IsFound g u p (found.No refusal)) same at page_of_stamp tree runs.runs))
 
-  -- there is no room for it
+  -- there is no room for the bytes of the call
   module _ (after : IsCore g v) (n files : ℕ) (writing : IsWriting call) (short : is_too_long (path_of call) ≡ false) (leads : node_reached (nodes_of g v) 0 (path_of call) ≡ Some n) (looks : LooksRefuseAll)
       (some : 0 < len_of call) (within : from_of call + len_of call ≤ 16809984) (count : HasPagesOfFiles g v files) where
     pub room_refused : (refusal : Refusal) → IsFitting g v n (from_of call) (len_of call) files (fits.No refusal) → EndsWrite g k worker call u v (answer.No refusal)
@@ -63,7 +63,7 @@ module _ {D : Type 0} (g : Ghosts D) (worker : ℕ) (call : Call) (u v : Core D)
         (ends_refused g 0 worker call v v refusal (goes_none g v after) (others_none worker v.flight)
         (λ tells page_of_stamp tree at. refuses_room g v after n f.0 f.1 call writing short leads looks page_of_stamp tree at some within files count refusal f.2))
 
--- it ends too far
+-- the call ends too far
 pub far_refused : {D : Type 0} (g : Ghosts D) (k worker n : ℕ) (call : Call) (u : Core D) → IsCore g u → IsWriting call → is_too_long (path_of call) ≡ false → node_reached (nodes_of g u) 0 (path_of call) ≡ Some n
     → IsSomeFile g u n → LooksRefuseAll → 0 < len_of call → max_file_size < from_of call + len_of call → EndsWrite g k worker call u u (answer.No Efbig)
 far_refused g k worker n call u core writing short leads f looks some far =

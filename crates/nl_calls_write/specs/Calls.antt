@@ -24,8 +24,8 @@ use Rattle.nl_calls_steps.specs.Calls.{HasPagesOfFiles, IfDone, IfUndone, Others
 use Rattle.nl_calls_steps.specs.Answers.{EndsEarly}
 use Rattle.nl_calls_steps.specs.declared.answer.Written.{Written}
 
--- The page at a place of a line: that of the whole page at that place of the call's range. While the medium tells its contents, it holds what the
--- call gives it.
+-- The page at a place of a line: that of the whole page at that place of the call's range. While the medium tells its contents, it holds
+-- what the call gives it.
 pub record IsStagedPage {D : Type 0} (g : Ghosts D) (s : D) (call : Call) (place : ℕ) (page : FlightPage) : Type 0 where
   pub index : page.index ≡ div_ceil (from_of call) 4096 + place
   pub tagged : page.tag.index ≡ page.index
@@ -35,8 +35,8 @@ pub record IsStagedPage {D : Type 0} (g : Ghosts D) (s : D) (call : Call) (place
 abbrev pub AreStaged : {D : Type 0} → Ghosts D → Core D → Call → List FlightPage → Type 0
 AreStaged g v call pages = (place : ℕ) (page : FlightPage) → slice_get pages place ≡ Some page → IsStagedPage g v.device call place page
 
--- What holds before a worker's line is done that writes: the volume runs and can be written, and its files have so many pages. No worker has more pages
--- in flight than a line may, and those of this one are of this line, whole pages of the call from the first one on.
+-- What holds before a worker's line is done that writes: the volume runs and can be written, and its files have so many pages. No worker
+-- has more pages in flight than a line may, and those of this one are of this line, whole pages of the call from the first one on.
 pub record CanWriteLine {D : Type 0} (g : Ghosts D) (v : Core D) (worker line : ℕ) (call : Call) (files : ℕ) : Type 0 where
   pub writes : v.stopped ≡ 0
   pub runs : RunsAsSome g v
@@ -49,23 +49,24 @@ pub record CanWriteLine {D : Type 0} (g : Ghosts D) (v : Core D) (worker line : 
 
 -- ---- answers
 
--- As whatever tree the core ran, the step of the tree answers the same.
+-- The step of each tree as which the core ran answers to a write what the core answers.
 abbrev pub AnswersWrite : {D : Type 0} → Ghosts D → Call → Core D → Written → Type 0
 AnswersWrite g call old (written.Done files) =
-    g.tells → (page_of_stamp : ℕ → Option PageOfStamp) (tree : Tree) → CoreRuns g old page_of_stamp tree → (step (g.shape old.device) tree call).reply ≡ Count (len_of call)
+    g.tells → (page_of_stamp : ℕ → Option PageOfStamp) (tree : Tree) → CoreRuns g old page_of_stamp tree
+    → (step (g.shape old.device) tree call).reply ≡ Count (len_of call)
 AnswersWrite g call old (written.No refusal) =
     g.tells → (page_of_stamp : ℕ → Option PageOfStamp) (tree : Tree) → CoreRuns g old page_of_stamp tree
     → step (g.shape old.device) tree call ≡ record { reply = No refusal; bytes = []; tree = tree }
 AnswersWrite g call old (written.Lost w f) = ⊤
 AnswersWrite g call old written.Fault = ⊤
 
--- a part of the call ended, or ended it early
+-- the answer of a part of the call, or of what ended the call early
 abbrev pub ended_as : Result Written Stop → Written
 ended_as (Ok answer) = answer
 ended_as (Err stop.Fault) = written.Fault
 ended_as (Err (stop.Lost w f)) = written.Lost w f
 
--- All of it: what the call does, with at most so many write sequence numbers, what it answers, and why it ended early.
+-- All of a call that writes: what it does, with at most so many write sequence numbers, what it answers, and why it ended early.
 pub record EndsWrite {D : Type 0} (g : Ghosts D) (most worker : ℕ) (call : Call) (old new : Core D) (answer : Written) : Type 0 where
   pub done : IfDone answer (λ files. TakesWithin g most worker call old new × HasPagesOfFiles g new files)
   pub undone : IfUndone answer (Goes g most old new)

@@ -18,7 +18,8 @@ use Rattle.nl_calls_write.specs.declared.answer.Fits.TheVariants as fits
 -- what refuses to give each of them a page, where the files have so many
 abbrev pub refusal_for : {D : Type 0} → Ghosts D → Core D → InodeRec → ℕ → ℕ → ℕ → Option Refusal
 refusal_for g v rec from len files =
-    room_refusal (free_addresses v.nodes) (new_ranges rec (indexes_written from len)) (g.shape v.device).cap files (new_pointers (running_of g v) rec (indexes_written from len))
+    room_refusal (free_addresses v.nodes) (new_ranges rec (indexes_written from len)) (g.shape v.device).cap files
+    (new_pointers (running_of g v) rec (indexes_written from len))
 
 -- The file's record and the pages of its pointers are resident, and there is room.
 pub record IsReady {D : Type 0} (g : Ghosts D) (v : Core D) (n from len files : ℕ) (rec : InodeRec) : Type 0 where
@@ -27,7 +28,8 @@ pub record IsReady {D : Type 0} (g : Ghosts D) (v : Core D) (n from len files : 
   pub ranges : (i : ℕ) → first_index from ≤ i → i < first_index from + count_indexes from len → HasRange (page_of v.meta) rec i
   pub room : refusal_for g v rec from len files ≡ None
 
--- It is ready, or there is no room.
+-- The file is ready for the pages, or there is no room for them.
 abbrev pub IsFitting : {D : Type 0} → Ghosts D → Core D → ℕ → ℕ → ℕ → ℕ → Fits → Type 0
 IsFitting g v n from len files (fits.Fits rec) = IsReady g v n from len files rec
-IsFitting g v n from len files (fits.No refusal) = (rec : InodeRec) × IsFileOf g v.device v.meta n rec × (refusal_for g v rec from len files ≡ Some refusal)
+IsFitting g v n from len files (fits.No refusal) =
+    (rec : InodeRec) × IsFileOf g v.device v.meta n rec × (refusal_for g v rec from len files ≡ Some refusal)

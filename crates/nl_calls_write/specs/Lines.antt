@@ -23,26 +23,29 @@ use Rattle.nl_calls_steps.specs.Finding.{IsSomeFile, nodes_of}
 use Rattle.nl_calls_steps.specs.Calls.{OthersStay}
 use Rattle.nl_calls_write.specs.Making.{content_at}
 
--- The core runs as the tree, and the worker's pages are so.
+-- The core runs as the tree, and the worker's pages are as the call leaves them.
 pub record RunsWith {D : Type 0} (g : Ghosts D) (v : Core D) (worker : ℕ) (call : Call) (page_of_stamp : ℕ → Option PageOfStamp) (tree : Tree) : Type 0 where
   pub pages : ℕ → Option PageOfStamp
   pub extends : Extends page_of_stamp pages
   pub runs : CoreRuns g v pages tree
   pub written : AreWritten pages (content_at tree call) call (worker_pages v worker)
 
--- Where they were so, they are so.
+-- Where the core ran as a tree and the worker's pages were as the call leaves them, they are still.
 abbrev pub KeepsWritten : {D : Type 0} → Ghosts D → ℕ → Call → Core D → Core D → Type 0
 KeepsWritten g worker call old new =
-    g.tells → (page_of_stamp : ℕ → Option PageOfStamp) (tree : Tree) → CoreRuns g old page_of_stamp tree → AreWritten page_of_stamp (content_at tree call) call (worker_pages old worker)
+    g.tells → (page_of_stamp : ℕ → Option PageOfStamp) (tree : Tree) → CoreRuns g old page_of_stamp tree
+    → AreWritten page_of_stamp (content_at tree call) call (worker_pages old worker)
     → RunsWith g new worker call page_of_stamp tree
 
--- the core runs as some tree while the medium tells its contents, and they are so
+-- while the medium tells its contents, the core runs as some tree, and the worker's pages are as the call leaves them
 abbrev pub RunsWritten : {D : Type 0} → Ghosts D → ℕ → Call → Core D → Type 0
-RunsWritten g worker call v = g.tells → (page_of_stamp : ℕ → Option PageOfStamp) × (tree : Tree) × RunsWith g v worker call page_of_stamp tree
+RunsWritten g worker call v =
+    g.tells → (page_of_stamp : ℕ → Option PageOfStamp) × (tree : Tree) × RunsWith g v worker call page_of_stamp tree
 
 -- the node is a file, and the worker's pages are those of the call for it
 abbrev pub IsLineOfCall : {D : Type 0} → Ghosts D → Core D → ℕ → ℕ → Call → Type 0
-IsLineOfCall g v n worker call = (rec : InodeRec) × IsFileOf g v.device v.meta n rec × AreOfCall n rec.generation call (worker_pages v worker)
+IsLineOfCall g v n worker call =
+    (rec : InodeRec) × IsFileOf g v.device v.meta n rec × AreOfCall n rec.generation call (worker_pages v worker)
 
 -- The worker's pages are those of the call, as it leaves them in a file of this generation, or none: all else stays.
 pub record KeepsLine {D : Type 0} (g : Ghosts D) (n generation worker line : ℕ) (call : Call) (old new : Core D) : Type 0 where
@@ -54,7 +57,8 @@ pub record KeepsLine {D : Type 0} (g : Ghosts D) (n generation worker line : ℕ
   pub few : (w : ℕ) → length (of_worker new.flight w).pages ≤ 16
   pub others : OthersStay worker old.flight new.flight
 
--- What holds before pages of a call are put in flight for a worker's line: the volume can be written, and the path of the call leads to the file.
+-- What holds before pages of a call are put in flight for a worker's line: the volume can be written, and the path of the call leads to the
+-- file.
 pub record CanPut {D : Type 0} (g : Ghosts D) (v : Core D) (worker line : ℕ) (call : Call) (n : ℕ) : Type 0 where
   pub writes : v.stopped ≡ 0
   pub known : worker < 8

@@ -15,8 +15,9 @@ use Rattle.nl_calls_bytes.specs.Ranges.{page_after, path_of}
 abbrev pub content_at : Tree → Call → FileContent
 content_at tree call = content_of (node_at tree (path_of call))
 
--- These are the bytes of the page of an index of a file once the bytes of the call are written, whose path leads to the node.
+-- The bytes are those of the page of an index of the file to which the path of the call leads, once the bytes of the call are written.
 abbrev pub MakesPage : {D : Type 0} → Ghosts D → Core D → ℕ → Call → ℕ → List ℕ → Type 0
 MakesPage g v n call index bytes =
-    g.tells → (page_of_stamp : ℕ → Option PageOfStamp) (tree : Tree) → CoreRuns g v page_of_stamp tree → node_reached (nodes_of g v) 0 (path_of call) ≡ Some n
+    g.tells → (page_of_stamp : ℕ → Option PageOfStamp) (tree : Tree) → CoreRuns g v page_of_stamp tree
+    → node_reached (nodes_of g v) 0 (path_of call) ≡ Some n
     → bytes ≡ page_after (content_at tree call) call index

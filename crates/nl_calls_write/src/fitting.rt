@@ -1,3 +1,4 @@
+// Whether there is room for the pages of a call that writes, and a file made ready for them.
 ghost use Rattle.std.specs.Prelude.{◌<◌, ◌≤◌, ◌+◌, IfOk};
 ghost use Rattle.nl_field.specs.Numbers.{max_bytes};
 ghost use Rattle.nl_meta_running.specs.Reading.{stop_of};
@@ -19,8 +20,8 @@ use nl_tree::{Refusal, Space};
 
 const PAGE: u64 = 4096;
 
-/// Makes a file ready for pages at the indexes in which so many bytes from an offset on lie, where there is room for them, with as many pages as
-/// the files have.
+/// Makes a file ready for pages at the indexes in which so many bytes from an offset on lie, where there is room for them, with as many
+/// pages as the files have.
 pub(crate) fn fits<D: MovingPages>(
     core: &mut Core<D>,
     ino: u32,

@@ -1,3 +1,4 @@
+// The page of a file as a call leaves it that writes some of its bytes.
 ghost use Rattle.std.specs.Prelude.{◌≡◌, ◌<◌, ◌≤◌, true, OnOk};
 ghost use Rattle.nl_field.specs.Numbers.{max_bytes};
 ghost use Rattle.nl_meta_running.specs.Reading.{stop_of};

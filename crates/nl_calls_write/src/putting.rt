@@ -1,3 +1,4 @@
+// The pages of a call that writes, programmed and put in flight for the line of a worker.
 ghost use Rattle.std.specs.Prelude.{◌≡◌, ◌≢◌, ◌+◌, ◌≤◌, ◌<◌, ◌*◌, ◌^◌, ℕ, true, OnErr, OnOk, length};
 ghost use Rattle.nl_field.specs.Numbers.{max_bytes};
 ghost use Rattle.nl_flight.specs.Flight.{HasPlace, of_worker};
@@ -22,7 +23,8 @@ use nl_tree::Call;
 
 const PAGE: u64 = 4096;
 
-/// Puts in flight for a worker's line each page of a file in which bytes of a call lie and which is not in flight yet, as the call leaves it.
+/// Puts in flight for a worker's line each page of a file in which bytes of a call lie and which is not in flight yet, as the call leaves
+/// it.
 pub(crate) fn put_pages<D: MovingPages>(
     core: &mut Core<D>,
     worker: u8,
@@ -41,7 +43,8 @@ pub(crate) fn put_pages<D: MovingPages>(
     requires others { (w : ℕ) → length (of_worker core.old.flight w).pages ≤ 16 }
     ensures core { IsCore D.Counts core.new }
     ensures puts { PutsOn D.Counts (17 * 2 ^ 30) worker call.now core.old core.new }
-    ensures pages { OnOk result (AreOfCall ino generation call.now (worker_pages core.new worker) × HasAll call.now (worker_pages core.new worker)) }
+    ensures pages { OnOk result (AreOfCall ino generation call.now (worker_pages core.new worker)
+        × HasAll call.now (worker_pages core.new worker)) }
     ensures early { EndsEarly D.Counts core.old core.new (stop_of result) }
 {
     let first = (offset_of(call) / PAGE) as u32;
@@ -63,7 +66,7 @@ pub(crate) fn put_pages<D: MovingPages>(
     Ok(())
 }
 
-// The same of the page of one index.
+// Puts in flight for the line the page of one index, as the call leaves it, where it is not in flight yet.
 fn put_index<D: MovingPages>(
     core: &mut Core<D>,
     worker: u8,
@@ -91,7 +94,7 @@ fn put_index<D: MovingPages>(
     put_page(core, worker, line, call, tag, page)
 }
 
-// The same of a page that is not in flight.
+// Puts in flight for the line the page of one index that is not in flight, as the call leaves it.
 fn put_page<D: MovingPages>(
     core: &mut Core<D>,
     worker: u8,

@@ -1,3 +1,4 @@
+// The call that writes bytes to a file, and the parts of which it consists.
 ghost use Rattle.std.specs.Prelude.{◌≡◌, ◌+◌, ◌≤◌, ◌<◌, ◌^◌, ℕ, false, nat_lt, length, Err, Some};
 ghost use Rattle.nl_field.specs.Numbers.{max_bytes, max_file_size};
 ghost use Rattle.nl_flight.specs.Flight.{of_worker};
@@ -38,11 +39,11 @@ const PAGE: u64 = 4096;
 /// The greatest size of a file.
 const MOST: u64 = 16_809_984;
 
-/// Writes bytes to a file, on a volume that can be written and whose files have so many pages. Pages that are in flight for the line are those of
-/// the range that lie wholly in it, from the first one on; the others are programmed here, and all of them become the file's at once. `Done` comes
-/// where the step of the tree is done, with how many pages files have then; `No` with its refusal, also for want of room; `Fault` where a program or a
-/// read failed, and `Lost` where a page does not hold the write sequence number under which it is looked for. But for `Done` the tree and the number of
-/// pages are as before, and pages may be in flight for the line.
+/// Writes bytes to a file, on a volume that can be written and whose files have so many pages. Pages that are in flight for the line are
+/// those of the range that lie wholly in it, from the first one on; the others are programmed here, and all of them become the file's at
+/// once. `Done` comes where the step of the tree is done, with how many pages files have then; `No` with its refusal, also for want of
+/// room; `Fault` where a program or a read failed, and `Lost` where a page does not hold the write sequence number under which it is looked
+/// for. But for `Done` the tree and the number of pages are as before, and pages may be in flight for the line.
 pub fn write_call<D: MovingPages>(
     core: &mut Core<D>,
     worker: u8,
@@ -76,7 +77,7 @@ fn ended_early(stop: Stop) -> Written
     }
 }
 
-// The same, where reads and programs may end it early.
+// Writes the bytes of a call to what its path leads to, where reads and programs may end the call early.
 fn write_path<D: MovingPages>(
     core: &mut Core<D>,
     worker: u8,
@@ -104,7 +105,7 @@ fn write_path<D: MovingPages>(
     }
 }
 
-// The same of a file.
+// Writes the bytes of a call to a file, where reads and programs may end the call early.
 fn write_file<D: MovingPages>(
     core: &mut Core<D>,
     worker: u8,
@@ -298,8 +299,8 @@ fn install_pages<D: MovingPages>(
     }
 }
 
-// The same where four more pages of metadata may become dirty. Reclaiming may have moved pages since there was room for those of the file, so that is
-// seen again.
+// Gives the file the pages of the call, where four more pages of metadata may become dirty. Reclaiming may have moved pages since there was
+// room for those of the file, so the room is seen again.
 fn install<D: MovingPages>(
     core: &mut Core<D>,
     worker: u8,
@@ -371,7 +372,8 @@ fn files_after<D: MovingPages>(core: &Core<D>, call: &Call, files: u32, waiting:
     requires writing { IsWriting call.now }
     requires some { 0 < len_of call.now }
     requires within { from_of call.now + len_of call.now ≤ 16809984 }
-    requires taken { length (running_holders D.Counts core.now.device core.now.meta) + length core.now.freeing.items ≡ files + waiting + count_indexes (from_of call.now) (len_of call.now) }
+    requires taken { length (running_holders D.Counts core.now.device core.now.meta) + length core.now.freeing.items
+        ≡ files + waiting + count_indexes (from_of call.now) (len_of call.now) }
     ensures { HasPagesOfFiles D.Counts core.now result }
 {
     let first = offset_of(call) / PAGE;

@@ -12,7 +12,7 @@ use Rattle.nl_meta.specs.Walk.{AreFindings, walk}
 use Rattle.nl_check.specs.declared.check.Checked.{Checked}
 use Rattle.nl_check.specs.declared.check.Checked.TheVariants.{Found, Blank, Fault, Memory}
 
--- these findings and this count, where it found anything out
+-- what holds of the findings and the count of a check that found anything out
 abbrev pub IfFound : Checked → (Findings → ℕ → Type 0) → Type 0
 IfFound (Found bits count) P = P bits count
 IfFound Blank P = ⊤

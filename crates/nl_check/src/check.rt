@@ -1,3 +1,4 @@
+//! The check of a medium, by an opening that writes nothing.
 ghost use Rattle.std.specs.Prelude.{◌≡◌, ◌≢◌, ◌↔◌, ℕ, []};
 ghost use Rattle.nl_check.specs.Checking.{Checks, IfFound, SetsOne};
 ghost use Rattle.nl_field.specs.CrashStates.{Rose};
@@ -23,8 +24,8 @@ pub enum Checked {
     Memory,
 }
 
-/// Checks what a medium holds, by an opening. No finding is set exactly where the image is sound; else that of the walk's first fault is. The
-/// medium is only read.
+/// Checks what a medium holds, by an opening. No finding is set exactly where the image is sound; else that of the walk's first fault is.
+/// The medium is only read.
 pub fn findings<M: Nand>(alloc: Global, media: M) -> (Checked, M)
     ensures found { M.tells → IfFound result.0 (Checks (M.contents media)) }
     ensures readable { M.tells → IfFound result.0 (λ bits count. readable_pages (M.contents media) ≢ []) }

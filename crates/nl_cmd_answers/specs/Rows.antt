@@ -53,7 +53,8 @@ read_in answered = sum_by (λ (a : Answered). read_by a.1 a.2) answered
 
 -- How many lines were answered, and how many of them ok; how many bytes were written and read, at most 2^64 - 1; and the charges of a tree.
 abbrev pub summary_text : List Answered → (pages nodes meta : ℕ) → List ℕ
-summary_text answered pages nodes meta = soak_text (length answered) (ok_in answered) (saturated (written_in answered)) (saturated (read_in answered)) pages nodes meta
+summary_text answered pages nodes meta =
+    soak_text (length answered) (ok_in answered) (saturated (written_in answered)) (saturated (read_in answered)) pages nodes meta
 
 -- ---- a law
 

@@ -1,4 +1,4 @@
-// The answers of a script.
+// Prints the answers of a script.
 ghost use Rattle.std.specs.Prelude.{◌≡◌, ◌<◌, ◌≤◌, IfSome, flat_map, length, slice_get};
 ghost use Rattle.nl_field.specs.CrashStates.{Rose};
 ghost use Rattle.nl_io.specs.Streams.{Writes};
@@ -8,8 +8,8 @@ use nl_io::{Sink, SinkAnswer};
 use nl_print::{answer_line, number_line};
 use nl_workers::AnswerTable;
 
-/// Prints with which count a volume opened, and a line for each answer, in the order of their places. After a failure of the sink no more is
-/// printed.
+/// Prints with which count a volume opened, and a line for each answer, in the order of their places. After a failure of the sink no more
+/// is printed.
 pub fn print_answers<K: Sink>(sink: &mut K, count: u64, answers: &AnswerTable) -> SinkAnswer
     ensures text { Writes (K.taken sink.old) (K.taken sink.new) result (rows_text count answers.now.rows) }
     ensures never_falls { K.faults sink.old ≤ K.faults sink.new }

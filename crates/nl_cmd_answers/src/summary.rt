@@ -1,4 +1,4 @@
-// The summary of a soak.
+// Prints the summary of a soak.
 ghost use Rattle.std.specs.Prelude.{◌≡◌, ◌≤◌, cond, length, map};
 ghost use Rattle.nl_field.specs.CrashStates.{Rose, saturated};
 ghost use Rattle.nl_io.specs.Streams.{Writes};

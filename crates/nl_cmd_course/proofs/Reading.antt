@@ -1,4 +1,5 @@
--- For a caller: a medium was only read before lines were run, so what is said from there on is said from before; and there are as many rows as lines.
+-- For a caller: a medium was only read before lines were run, so what is said from there on is said from before; and there are as many rows
+-- as lines.
 use Rattle.std.proofs.Common.{length, ap, ◌≡◌, inl, inr, ⊎_elim, ℕ, Bool, List, sym, subst, arith}
 use Rattle.std.proofs.lemmas.List.{length-map}
 use Rattle.std.proofs.lemmas.List.Sorted.{length_permutation}

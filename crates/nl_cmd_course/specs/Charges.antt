@@ -4,7 +4,7 @@ use Rattle.nl_tree.specs.Charges.{data_charge, meta_charge, node_charge}
 use Rattle.nl_tree.specs.Tree.{Tree}
 use Rattle.nl_cmd_course.specs.declared.charges.Charges.{Charges}
 
--- They are the charges of the tree.
+-- The counts are the charges of the tree.
 pub record AreCharges (charges : Charges) (tree : Tree) : Type 0 where
   pub pages : charges.pages ≡ data_charge tree
   pub nodes : charges.nodes ≡ node_charge tree

@@ -71,9 +71,10 @@ pub record AreRoomyFor (rows : List Row) (order : Table Ordered) (syncs : Table 
 
 -- ---- the lines were run
 
--- They were run on a volume that opened on a medium, and the volume was closed. The rows are their answers. The sentences of the headline hold of
--- their course, with the order and the syncs that the rows tell; a lost page and a worn volume have their causes; what is printed of the rows is
--- what is printed of the course, and they have its places. Where the medium tells its contents, the charges are those of the tree after all of it.
+-- The lines were run on a volume that opened on a medium, and the volume was closed. The rows are their answers. The sentences of the
+-- headline hold of their course, with the order and the syncs that the rows tell; a lost page and a worn volume have their causes; what is
+-- printed of the rows is what is printed of the course, and the rows have its places. Where the medium tells its contents, the charges are
+-- those of the tree after the whole course.
 pub record LinesRan (tells : Type 0) (lines : List Line) (stops : Run → Type 0) (medium medium' : Medium) (rows : List Row) (lost worn : Bool) (charges : Charges) (course : Course) : Type 0 where
   pub runs : RunsLines tells lines stops medium medium' (order_of_rows rows) (syncs_of_rows rows) worn course
   pub causes : HaveCauses tells medium.counts medium'.counts course.next_stamp lost worn

@@ -1,4 +1,5 @@
-//! What a run keeps of its lines, and the sentences of the headline of their course: each from what the workers, the volume and its closing say.
+//! What a run keeps of its lines, and the sentences of the headline of their course: each from what the workers, the volume and its closing
+//! say.
 #![tactic(auto)]
 
 mod charges;

@@ -30,7 +30,7 @@ begins_with text rest whole is = sym (ap (take (length text)) is ∙ take-append
 pub with_rest : (text whole : List ℕ) → Begins text whole → text ++ drop (length text) whole ≡ whole
 with_rest text whole begins = ap (λ (t : List ℕ). t ++ drop (length text) whole) begins ∙ take-append-drop (length text) whole
 
--- It is the lines of the items that are not left, of which there are so many.
+-- The text is the lines of the items that are not left, of which there are so many.
 pub record SoFar (tree : Tree) (walk : WalkState) (count : ℕ) (text : List ℕ) : Type 0 where
   pub done : List Told
   pub whole : items_of tree ≡ done ++ left_of tree walk

@@ -24,11 +24,11 @@ sink_answer shown.NotTaken = sink.Failed
 sink_answer shown.Fault = sink.Took
 sink_answer shown.Lost = sink.Took
 
--- It is a beginning of the whole.
+-- The text is a beginning of the whole.
 abbrev pub Begins : List ℕ → List ℕ → Type 0
 Begins text whole = text ≡ take (length text) whole
 
--- It is the whole, or a beginning of it where the printing ended early.
+-- The text is the whole, or a beginning of it where the printing ended early.
 abbrev pub IsShown : Shown → List ℕ → List ℕ → Type 0
 IsShown shown.All text whole = text ≡ whole
 IsShown shown.NotTaken text whole = Begins text whole
@@ -39,7 +39,8 @@ IsShown shown.Lost text whole = Begins text whole
 pub record Shows {D : Type 0} (g : Ghosts D) (v : Core D) (text_of : Tree → List ℕ) (old new : Option (List ℕ)) (answer : Shown) : Type 0 where
   pub text : List ℕ
   pub taken : Writes old new (sink_answer answer) text
-  pub of_tree : g.tells → (page_of_stamp : ℕ → Option PageOfStamp) (tree : Tree) → CoreRuns g v page_of_stamp tree → IsShown answer text (text_of tree)
+  pub of_tree : g.tells → (page_of_stamp : ℕ → Option PageOfStamp) (tree : Tree) → CoreRuns g v page_of_stamp tree
+      → IsShown answer text (text_of tree)
 
 -- Reads failed only where a fault ended the printing, and then one did. A page is lost only where the medium does not tell its contents.
 abbrev pub ReadsFor : {D : Type 0} → Ghosts D → D → D → Shown → Type 0
@@ -68,7 +69,7 @@ abbrev pub ReadsUntil : {D : Type 0} → Ghosts D → D → D → Option Shown �
 ReadsUntil g old new None = g.read_faults new ≡ g.read_faults old
 ReadsUntil g old new (Some answer) = ReadsFor g old new answer
 
--- It is the line of the first path that was left, and the rest is left then.
+-- The line is that of the first path that was left, and the rest is left then.
 pub record IsNextLine (tree : Tree) (was walk : WalkState) (line : List ℕ) : Type 0 where
   pub one : Told
   pub left : left_of tree was ≡ one ∷ left_of tree walk
@@ -82,7 +83,7 @@ IsLine tree was walk line (Some shown.NotTaken) = IsNextLine tree was walk line
 IsLine tree was walk line (Some shown.Fault) = line ≡ []
 IsLine tree was walk line (Some shown.Lost) = line ≡ []
 
--- It is that of each tree as which the core runs.
+-- Some line was printed, which is that of each tree as which the core runs.
 pub record ShowsNext {D : Type 0} (g : Ghosts D) (v : Core D) (was walk : WalkState) (old new : Option (List ℕ)) (answer : Option Shown) : Type 0 where
   pub line : List ℕ
   pub taken : Writes old new (line_answer answer) line
@@ -90,10 +91,11 @@ pub record ShowsNext {D : Type 0} (g : Ghosts D) (v : Core D) (was walk : WalkSt
 
 -- ---- the report
 
--- Some text was printed. It has the charges of each tree as which the core runs, as many pairs as its device has now, and the next write sequence
--- number of the device.
+-- Some text was printed. It has the charges of each tree as which the core runs, as many pairs as its device has now, and the next write
+-- sequence number of the device.
 pub record Reports {D : Type 0} (g : Ghosts D) (v : Core D) (least greatest : ℕ) (old new : Option (List ℕ)) (answer : SinkAnswer) : Type 0 where
   pub text : List ℕ
   pub taken : Writes old new answer text
   pub of_tree : (page_of_stamp : ℕ → Option PageOfStamp) (tree : Tree) → CoreRuns g v page_of_stamp tree
-      → text ≡ report_text (g.shape v.device) v.count (data_charge tree) (node_charge tree) (meta_charge tree) (g.names v.device).space.pairs least greatest (g.next_stamp v.device)
+      → text ≡ report_text (g.shape v.device) v.count (data_charge tree) (node_charge tree) (meta_charge tree)
+      (g.names v.device).space.pairs least greatest (g.next_stamp v.device)

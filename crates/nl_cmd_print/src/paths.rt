@@ -1,4 +1,4 @@
-// Every path of the tree as which a core runs.
+// Prints every path of the tree as which a core runs.
 ghost use Rattle.std.specs.Prelude.{◌≡◌, ◌≤◌, [], Some};
 ghost use Rattle.nl_core.specs.Core.{IsCore};
 ghost use Rattle.nl_calls_steps.specs.Steps.{ReadsOn};
@@ -29,8 +29,8 @@ pub enum Shown {
     Lost,
 }
 
-/// Prints a count of calls, and a line for each path of the tree as which a core runs, in the order of the paths. After a failure of the sink
-/// or of a read no more is printed. The walk is one that was made for the core, of which pages are only read.
+/// Prints a count of calls, and a line for each path of the tree as which a core runs, in the order of the paths. After a failure of the
+/// sink or of a read no more is printed. The walk is one that was made for the core, of which pages are only read.
 pub fn print_tree<K: Sink, D: MovingPages>(
     sink: &mut K,
     core: &mut Core<D>,

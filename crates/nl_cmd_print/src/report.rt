@@ -1,4 +1,4 @@
-// The counts of a volume.
+// Prints the report of a volume, which tells its counts.
 ghost use Rattle.std.specs.Prelude.{◌≡◌, ◌≤◌, length};
 ghost use Rattle.nl_journal_commit.specs.Holding.{running_holders};
 ghost use Rattle.nl_core.specs.Core.{IsCore};
@@ -12,9 +12,9 @@ use nl_print::report_lines;
 use nl_volume_list::count_taken;
 use nl_volume_list::laws::files_are_charged;
 
-/// Prints the report of a volume, by its core, how many pages its files have, and the least and the greatest wear of the pages that were readable
-/// at its opening: its count of calls, the blocks of the segments, how much of the volume its tree takes, how many pairs its device has, that wear,
-/// and its next write sequence number.
+/// Prints the report of a volume, by its core, how many pages its files have, and the least and the greatest wear of the pages that were
+/// readable at its opening: its count of calls, the blocks of the segments, how much of the volume its tree takes, how many pairs its
+/// device has, that wear, and its next write sequence number.
 pub fn print_report<K: Sink, D: MovingPages>(
     sink: &mut K,
     core: &Core<D>,

@@ -37,9 +37,9 @@ pub struct Ran<M: Nand> {
     pub charges: Charges,
 }
 
-/// Opens the volume of a medium, runs the lines on it in turns of a lock, and closes it. The sentences of the headline hold of the course that the
-/// answers in the table are of, of which there is one for each line. Or no volume was opened, or memory was wanting for the lock: then the
-/// medium was only read.
+/// Opens the volume of a medium, runs the lines on it in turns of a lock, and closes it. The sentences of the headline hold of the course
+/// that the answers in the table are of, of which there is one for each line. Or no volume was opened, or memory was wanting for the lock:
+/// then the medium was only read.
 pub fn run_lines<Rt: Threads + Wait + Sync, M: Nand + Send, G: Gate + Sync>(
     rt: &Rt,
     alloc: Global,
@@ -79,10 +79,12 @@ fn run_opened<Rt: Threads + Wait + Sync, M: Nand + Send, G: Gate + Sync>(
     gate: &G,
 ) -> Result<Ran<M>, Volume<M>>
     requires opened { ⟦<Volume<M> as Told>⟧.opened_on (M.contents (medium_of volume.core.device)) volume }
-    requires stands { (tree : Tree) → (M.tells → SoundAs (M.contents (medium_of volume.core.device)) volume.core.count tree) → ⟦<Volume<M> as Kept>⟧.stands volume (⟦<Volume<M> as Told>⟧.opening volume tree lines.now) [] volume }
+    requires stands { (tree : Tree) → (M.tells → SoundAs (M.contents (medium_of volume.core.device)) volume.core.count tree)
+        → ⟦<Volume<M> as Kept>⟧.stands volume (⟦<Volume<M> as Told>⟧.opening volume tree lines.now) [] volume }
     requires table { IsTableFor lines.now tables.old.answers }
     ensures ran { IfOk result (λ r. (course : Course) × (r.count ≡ course.count) × LinesRan M.tells lines.now
-        (stops_within M.Nand (medium_of volume.core.device) r.media) (medium_seen M.Nand (medium_of volume.core.device)) (medium_seen M.Nand r.media)
+        (stops_within M.Nand (medium_of volume.core.device) r.media) (medium_seen M.Nand (medium_of volume.core.device))
+        (medium_seen M.Nand r.media)
         tables.new.answers.rows r.lost r.worn r.charges course) }
     ensures lost { IfOk result (λ r. tables.new.answers.lost ≡ true → r.lost ≡ true) }
     ensures lists { (tables.new.order ≡ tables.old.order) × (tables.new.syncs ≡ tables.old.syncs) }
@@ -117,15 +119,18 @@ fn run_opened<Rt: Threads + Wait + Sync, M: Nand + Send, G: Gate + Sync>(
     })
 }
 
-// The lock over a volume, which stands for the lines from the tree of its image, and its first seat. The volume comes back for want of memory.
+// The lock over a volume, which stands for the lines from the tree of its image, and its first seat. The volume comes back for want of
+// memory.
 fn open_lock<M: Nand>(
     alloc: Global,
     volume: Volume<M>,
     lines: &Lines,
 ) -> Result<(Turns<Volume<M>>, TurnSeat), Volume<M>>
     requires opened { ⟦<Volume<M> as Told>⟧.opened_on (M.contents (medium_of volume.core.device)) volume }
-    requires stands { (tree : Tree) → (M.tells → SoundAs (M.contents (medium_of volume.core.device)) volume.core.count tree) → ⟦<Volume<M> as Kept>⟧.stands volume (⟦<Volume<M> as Told>⟧.opening volume tree lines.now) [] volume }
-    ensures opening { IfOk result (λ r. (tree : Tree) × (M.tells → SoundAs (M.contents (medium_of volume.core.device)) volume.core.count tree) × (r.1.opening ≡ ⟦<Volume<M> as Told>⟧.opening volume tree lines.now)) }
+    requires stands { (tree : Tree) → (M.tells → SoundAs (M.contents (medium_of volume.core.device)) volume.core.count tree)
+        → ⟦<Volume<M> as Kept>⟧.stands volume (⟦<Volume<M> as Told>⟧.opening volume tree lines.now) [] volume }
+    ensures opening { IfOk result (λ r. (tree : Tree) × (M.tells → SoundAs (M.contents (medium_of volume.core.device)) volume.core.count tree)
+        × (r.1.opening ≡ ⟦<Volume<M> as Told>⟧.opening volume tree lines.now)) }
     ensures first { IfOk result (λ r. IsFirstSeat lines.now r.1) }
     ensures lock { IfOk result (λ r. (r.1.lock ≡ r.0.name) × (r.1.places + 1 ≡ r.0.seats) × (r.0.origin ≡ volume)) }
     ensures memory { IfErr result (λ v. v ≡ volume) }

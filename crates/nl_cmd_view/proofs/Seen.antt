@@ -97,7 +97,7 @@ module _ (tells : Type 0) (sink sink' : Stream) (start middle : Medium) (order :
       → LookEnds tells shows sink sink' start middle order syncs status
   was_seen shows answer text shown still taken cause done = seen text shown still (ends_before answer text taken cause) (done sink sink' text taken cause)
 
-  -- it was given the paths of a tree, or a beginning of them
+  -- the sink was given the paths of a tree, or a beginning of them
   module _ (whole text : List ℕ) (shown_whole : tells → ShowsTree start.contents whole) where
     shown_rest : text ++ drop (length text) whole ≡ whole → tells → ShowsTree start.contents (text ++ drop (length text) whole)
     shown_rest is t = subst (ShowsTree start.contents) (sym is) (shown_whole t)

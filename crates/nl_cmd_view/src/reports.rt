@@ -1,4 +1,4 @@
-// The report of a medium.
+// The command that prints the report of the volume of a medium.
 ghost use Rattle.std.specs.Prelude.{◌≡◌, ℕ};
 ghost use Rattle.nl_field.specs.Page.{Image};
 ghost use Rattle.nl_spec_headline.specs.Streams.{medium_seen, sink_seen};
@@ -12,8 +12,9 @@ use nl_nand::Nand;
 use nl_volume::open;
 use std::alloc::Global;
 
-/// Opens the volume of a medium, and prints its count of calls, the blocks of its segments, how much of it its tree takes, how many pairs it has,
-/// the least and the greatest wear, and its next write sequence number. The medium is only read, and that before anything is printed.
+/// Opens the volume of a medium, and prints its count of calls, the blocks of its segments, how much of it its tree takes, how many pairs
+/// it has, the least and the greatest wear, and its next write sequence number. The medium is only read, and that before anything is
+/// printed.
 pub fn report<K: Sink, M: Nand>(alloc: Global, sink: &mut K, media: M) -> Done<M>
     ensures ended { LookEnds M.tells Reports (sink_seen K.Sink sink.old) (sink_seen K.Sink sink.new)
         (medium_seen M.Nand media) (medium_seen M.Nand result.media)

@@ -1,4 +1,4 @@
-// Every path of the tree of a medium.
+// The command that prints every path of the tree of a medium.
 ghost use Rattle.std.specs.Prelude.{◌≡◌, ◌⊎◌, ℕ, []};
 ghost use Rattle.nl_cmd_words.specs.Ends.{IsStatusOf};
 ghost use Rattle.nl_field.specs.CrashStates.{Rose};
@@ -14,8 +14,8 @@ use nl_nand::Nand;
 use nl_volume::{TreeWalk, open};
 use std::alloc::Global;
 
-/// Opens the volume of a medium, and prints its count of calls and a line for each path of its tree. Where a read fails on the way, or a page is
-/// lost, the text ends there, with status 5. The medium is only read.
+/// Opens the volume of a medium, and prints its count of calls and a line for each path of its tree. Where a read fails on the way, or a
+/// page is lost, the text ends there, with status 5. The medium is only read.
 pub fn tree<K: Sink, M: Nand>(alloc: Global, sink: &mut K, media: M) -> Done<M>
     ensures ended { TreeEnds M.tells (sink_seen K.Sink sink.old) (sink_seen K.Sink sink.new)
         (medium_seen M.Nand media) (medium_seen M.Nand result.media)
@@ -36,12 +36,15 @@ pub fn tree<K: Sink, M: Nand>(alloc: Global, sink: &mut K, media: M) -> Done<M>
     ending_of(alloc, before, shown, media)
 }
 
-// The ending after paths were printed: with status 5 where a read failed or a page was lost, else with that of a command that was carried out.
+// The ending after paths were printed: with status 5 where a read failed or a page was lost, else with that of a command that was carried
+// out.
 fn ending_of<M: Nand>(alloc: Global, before: Faults, shown: Shown, media: M) -> Done<M>
     ensures fault { shown ≡ Shown.Fault → result.status ≡ 5 }
     ensures lost { shown ≡ Shown.Lost → result.status ≡ 5 }
-    ensures all { shown ≡ Shown.All → IsStatusOf result.status (Rose before.reads (M.read_faults media) ⊎ Rose before.writes (M.write_faults media)) SinkAnswer.Took }
-    ensures not_taken { shown ≡ Shown.NotTaken → IsStatusOf result.status (Rose before.reads (M.read_faults media) ⊎ Rose before.writes (M.write_faults media)) SinkAnswer.Failed }
+    ensures all { shown ≡ Shown.All → IsStatusOf result.status
+        (Rose before.reads (M.read_faults media) ⊎ Rose before.writes (M.write_faults media)) SinkAnswer.Took }
+    ensures not_taken { shown ≡ Shown.NotTaken
+        → IsStatusOf result.status (Rose before.reads (M.read_faults media) ⊎ Rose before.writes (M.write_faults media)) SinkAnswer.Failed }
     ensures media { result.media ≡ media }
     ensures order { result.order.items ≡ [] }
     ensures syncs { result.syncs.items ≡ [] }

@@ -35,16 +35,20 @@ DoneCompletes =
 abbrev pub OpeningCompletes : Type 0 → Type 0
 OpeningCompletes tells =
     (source source' sink sink' : Stream) (medium medium' : Medium) (status count : ℕ) (text : List ℕ)
-    → NotOpened tells medium medium' status text → StartsSound tells medium count → NothingRose source source' sink sink' medium medium' → status ≡ 6
+    → NotOpened tells medium medium' status text → StartsSound tells medium count → NothingRose source source' sink sink' medium medium'
+    → status ≡ 6
 
 -- Where nothing fails a volume is made.
 abbrev pub FormatCompletes : Type 0 → Type 0
 FormatCompletes tells =
-    (blocks pages : ℕ) (source source' sink sink' : Stream) (medium medium' : Medium) (order : List Ordered) (syncs : List Synced) (status : ℕ)
-    → FormatEnds tells blocks pages sink sink' medium medium' order syncs status → NothingRose source source' sink sink' medium medium' → Completes status
+    (blocks pages : ℕ) (source source' sink sink' : Stream) (medium medium' : Medium) (order : List Ordered) (syncs : List Synced)
+    (status : ℕ)
+    → FormatEnds tells blocks pages sink sink' medium medium' order syncs status → NothingRose source source' sink sink' medium medium'
+    → Completes status
 
 -- Where nothing fails a sound image is found sound.
 abbrev pub CheckCompletes : Type 0 → Type 0
 CheckCompletes tells =
     (source source' sink sink' : Stream) (medium medium' : Medium) (order : List Ordered) (syncs : List Synced) (status count : ℕ)
-    → CheckEnds tells sink sink' medium medium' order syncs status → StartsSound tells medium count → NothingRose source source' sink sink' medium medium' → Completes status
+    → CheckEnds tells sink sink' medium medium' order syncs status → StartsSound tells medium count
+    → NothingRose source source' sink sink' medium medium' → Completes status

@@ -13,7 +13,8 @@ use Rattle.nl_cmd_words.specs.declared.script.Script.TheVariants as given
 
 -- What was left begins with the bytes that were read: all of it, or one byte more than a script may have.
 abbrev pub ReadsAll : Option (List ℕ) → Option (List ℕ) → Input → Type 0
-ReadsAll old new (input.All bytes) = (length bytes ≤ max_script) × (old ≡ option_map (λ rest. bytes ++ rest) new) × IfSome new (λ rest. rest ≡ [])
+ReadsAll old new (input.All bytes) =
+    (length bytes ≤ max_script) × (old ≡ option_map (λ rest. bytes ++ rest) new) × IfSome new (λ rest. rest ≡ [])
 ReadsAll old new input.TooLong = (read : List ℕ) × (length read ≡ max_script + 1) × (old ≡ option_map (λ rest. read ++ rest) new)
 ReadsAll old new input.Failed = ⊤
 ReadsAll old new input.Memory = ⊤
@@ -25,7 +26,7 @@ GivesScript old new (given.Refused line column why) = RefusesScript old new line
 GivesScript old new given.Failed = Rose old.faults new.faults
 GivesScript old new given.Memory = ⊤
 
--- These bytes are a script of the lines, or are refused so.
+-- The bytes are a script of the lines, or are refused so.
 abbrev pub IsReadAs : List ℕ → Script → Type 0
 IsReadAs bytes (given.Lines lines) = script bytes ≡ Ok lines
 IsReadAs bytes (given.Refused line column why) = script bytes ≡ Err (refusal.Refused line column why)

@@ -15,8 +15,8 @@ use Rattle.nl_tree.specs.Tree.{Tree, empty_tree}
 
 -- ---- format
 
--- A volume of this geometry was made, whatever the medium held: its two pages are the only ones that are not erased. It is sound as the tree with
--- only the root, after no call.
+-- A volume of this geometry was made, whatever the medium held: its two pages are the only ones that are not erased. It is sound as the
+-- tree with only the root, after no call.
 pub record Formats (tells : Type 0) (blocks pages : ℕ) (medium' : Medium) (text : List ℕ) : Type 0 where
   pub geometry : medium'.geometry ≡ record { blocks = blocks; pages = pages }
   pub two_pages : tells → IsFormatted blocks pages medium'.contents

@@ -1,4 +1,4 @@
-// Checks what a medium holds.
+// The command that checks what a medium holds.
 ghost use Rattle.std.specs.Prelude.{◌≡◌, ◌≢◌, ◌⊎◌, ◌≤◌, ℕ, []};
 ghost use Rattle.nl_field.specs.CrashStates.{Rose};
 ghost use Rattle.nl_field.specs.FindingBits.{bits_of};
@@ -17,8 +17,8 @@ use nl_print::{findings_lines, number_line};
 use nl_spec_image::laws::walk_is_soundness;
 use std::alloc::Global;
 
-/// Prints what a check finds on a medium: that it is sound after so many calls, with status 0, or what is at fault, with status 8. Of a medium
-/// that is blank it says so, with status 7. The medium is only read.
+/// Prints what a check finds on a medium: that it is sound after so many calls, with status 0, or what is at fault, with status 8. Of a
+/// medium that is blank it says so, with status 7. The medium is only read.
 pub fn check<K: Sink, M: Nand>(alloc: Global, sink: &mut K, media: M) -> Done<M>
     ensures ended { CheckEnds M.tells (sink_seen K.Sink sink.old) (sink_seen K.Sink sink.new)
         (medium_seen M.Nand media) (medium_seen M.Nand result.media)
@@ -50,7 +50,8 @@ fn print_found<K: Sink, M: Nand>(
     ensures sound { bits_of bits ≡ 0 → Prints (sink_seen K.Sink sink.old) (sink_seen K.Sink sink.new) (sound_text count)
         × DoneStatus result.status (Rose before.reads (M.read_faults media) ⊎ Rose before.writes (M.write_faults media))
         (sink_seen K.Sink sink.old) (sink_seen K.Sink sink.new) (sound_text count) }
-    ensures faults { bits_of bits ≢ 0 → (result.status ≡ 8) × Prints (sink_seen K.Sink sink.old) (sink_seen K.Sink sink.new) (findings_text bits) }
+    ensures faults { bits_of bits ≢ 0 → (result.status ≡ 8)
+        × Prints (sink_seen K.Sink sink.old) (sink_seen K.Sink sink.new) (findings_text bits) }
     ensures media { result.media ≡ media }
     ensures order { result.order.items ≡ [] }
     ensures syncs { result.syncs.items ≡ [] }

@@ -1,4 +1,4 @@
-// Makes a volume.
+// The command that makes a volume on a medium.
 ghost use Rattle.std.specs.Prelude.{◌⊎◌, ℕ, IsTrue};
 ghost use Rattle.nl_field.specs.Numbers.{is_legal};
 ghost use Rattle.nl_field.specs.Page.{Image};

@@ -1,5 +1,5 @@
-//! The commands of the store as far as they need no volume: a command line's words, the reading of a script, what is printed of answers, the
-//! making of a volume and the check of an image.
+//! The commands of the store as far as they need no volume: a command line's words, the reading of a script, what is printed of answers,
+//! the making of a volume and the check of an image.
 #![tactic(auto)]
 
 mod checking;

@@ -94,8 +94,8 @@ pub fn status_of(failed: bool, answer: SinkAnswer) -> u8
     }
 }
 
-/// Ends a command that was carried out and whose text was printed, before any line was run: with status 5 where a count of faults of the medium
-/// has risen since, else 4 where the sink did not take the text.
+/// Ends a command that was carried out and whose text was printed, before any line was run: with status 5 where a count of faults of the
+/// medium has risen since, else 4 where the sink did not take the text.
 pub fn carried_out<M: Nand>(alloc: Global, before: Faults, answer: SinkAnswer, media: M) -> Done<M>
     ensures status { IsStatusOf result.status (Rose before.reads (M.read_faults media) ⊎ Rose before.writes (M.write_faults media)) answer }
     ensures media { result.media ≡ media }

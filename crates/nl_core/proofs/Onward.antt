@@ -171,7 +171,7 @@ cause_then g second failed u v w m a b of f =
     let writes = a.writes in
     ⊎_elim (λ rose. inl (omega (arith, rose, reads))) (λ rose. inr (omega (arith, rose, writes))) (b (of f))
 
--- and one of the first
+-- a failure of the first of two calls has its cause
 pub cause_first : {D : Type 0} (g : Ghosts D) (first failed : Type 0) (u v w : Core D) (n : ℕ) → HasCause g first u v → Goes g n v w → (failed → first) → HasCause g failed u w
 cause_first g first failed u v w n a b of f =
     let reads = b.reads in
@@ -237,7 +237,7 @@ cause_stopped g failed u v m a ran off of = inr (a.stops.some ran off).0
 pub paid_on : {D : Type 0} (g : Ghosts D) (clock number : ℕ) (u v : Core D) (m : ℕ) → Goes g m u v → PaidSince g clock number u → PaidSince g clock number v
 paid_on g clock number u v m a was = paid_then clock number (g.clock u.device) u.journal.number (g.clock v.device) v.journal.number a.clock was a.paid
 
--- and has a spelling, as long as the clock leaves room
+-- the number has a spelling, as long as the clock leaves room
 pub number_lasts : {D : Type 0} (g : Ghosts D) (clock : ℕ) (origin v : Core D) → PaidSince g clock origin.journal.number v → g.clock v.device < top → begun_of origin + g.clock v.device + 1 < 2 ^ 63 + clock
     → begun_of v < 2 ^ 63
 number_lasts g clock origin v paid low room =

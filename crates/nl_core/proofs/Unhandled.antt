@@ -143,7 +143,7 @@ module _ (r s : Names) (start : IsTable r) (before : OpenBefore r s) (number : �
         let numbered : k.0.number ≡ number = ap (λ (c : Callback). c.number) same ∙ was.2 in
         is (k.0, k.1, numbered, ap t.handled (sym numbered) ∙ k.3)
 
-    -- and one less once the callback of its number is handled
+    -- one less is left once the callback of its number is handled
     pub left_falls : left r t < left r s
     unfolding left
     left_falls =
@@ -156,7 +156,7 @@ pub left_few : (s t : Names) → left s t ≤ length s.pairs
 unfolding left
 left_few s t = count_by-le-length (λ (pair : ℕ × ℕ). is_open t pair.0) s.pairs
 
--- and few, where the pairs of a table are
+-- few are left, as the pairs of a table are few
 pub left_most : (shape : Shape) (next : ℕ) (s t : Names) → IsVolumeShape shape → IsNames shape next s → left s t ≤ 1024
 left_most shape next s t volume names =
     let few = left_few s t in

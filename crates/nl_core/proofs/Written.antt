@@ -69,7 +69,7 @@ not_rose stopped reads before writes none rose = ⊎_elim
 pub below_end : (before now : ℕ) → (Rose before now → ⊥) → now < top
 below_end before now none = ⊎_elim (λ low. omega (arith, low)) (λ high. absurd (none high)) (cases_lt now (saturated (before + 1)))
 
--- and where it is the same below its end, it did not rise
+-- where a count is the same below its end, it did not rise
 pub same_below_end : (before now : ℕ) → before < top → now ≡ before → Rose before now → ⊥
 same_below_end before now low same rose = omega (arith, low, same, rose)
 

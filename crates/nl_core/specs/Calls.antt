@@ -14,7 +14,8 @@ use Rattle.nl_core.specs.declared.state.Core.{Core}
 
 -- a count of failures rose where the call failed
 abbrev pub HasCause : {D : Type 0} → Ghosts D → Type 0 → Core D → Core D → Type 0
-HasCause g failed old new = failed → Rose (g.read_faults old.device) (g.read_faults new.device) ⊎ Rose (g.write_faults old.device) (g.write_faults new.device)
+HasCause g failed old new =
+    failed → Rose (g.read_faults old.device) (g.read_faults new.device) ⊎ Rose (g.write_faults old.device) (g.write_faults new.device)
 
 -- the lines in flight are those of before, but for the names of their pages
 abbrev pub KeepsLines : {D : Type 0} → Core D → Core D → Type 0
@@ -39,7 +40,7 @@ pub record CommitsAll {D : Type 0} (g : Ghosts D) (old new : Core D) (number : �
   pub acknowledged : Acknowledged (names_of g old) (names_of g new)
   pub space : new.stopped ≡ 0 → Empties (names_of g old).space (names_of g new).space
 
--- Where it was not done, pages and callbacks are as before, and the metadata is as it runs.
+-- Where a commit was not done, pages and callbacks are as before, and the metadata is as it runs.
 pub record CommitsNot {D : Type 0} (g : Ghosts D) (old new : Core D) : Type 0 where
   pub same_flight : new.flight ≡ old.flight
   pub same_nodes : new.nodes ≡ old.nodes

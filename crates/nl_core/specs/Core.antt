@@ -37,8 +37,8 @@ begun_of v = begun v.journal (length v.meta.frozen.addresses)
 abbrev pub holders_of : {D : Type 0} → Ghosts D → Core D → Holders
 holders_of g v = record { running = running_holders g v.device v.meta; flight = carried v.flight; freeing = v.freeing.items }
 
--- What writes need: the virtual segment keeps a spare block, the live pages of a victim can land, and what is stored can be opened. One more write
--- that fails can be counted.
+-- What writes need: the virtual segment keeps a spare block, the live pages of a victim can land, and what is stored can be opened. One
+-- more write that fails can be counted.
 pub record CanWrite {D : Type 0} (g : Ghosts D) (v : Core D) : Type 0 where
   pub spare : g.keeps_spare v.device
   pub lands : CanLand (names_of g v).space
@@ -57,7 +57,8 @@ pub record HasFree {D : Type 0} (g : Ghosts D) (v : Core D) : Type 0 where
 pub record HasSpace {D : Type 0} (g : Ghosts D) (v : Core D) : Type 0 where
   pub counted : IsCounted (names_of g v) (holders_of g v)
   pub few : length (running_holders g v.device v.meta) ≤ (g.shape v.device).cap
-  pub all : (names_of g v).space.all ≡ (g.shape v.device).cap + ((names_of g v).space.keep + (names_of g v).space.bad + 3) * (names_of g v).space.block + 160
+  pub all : (names_of g v).space.all
+      ≡ (g.shape v.device).cap + ((names_of g v).space.keep + (names_of g v).space.bad + 3) * (names_of g v).space.block + 160
   pub room : (g.shape v.device).pblocks * (g.shape v.device).pages ≤ length v.freeing.items + v.freeing.room
 
 -- the name is one of the physical segment
@@ -65,21 +66,21 @@ abbrev pub IsPhysical : Shape → ℕ → Type 0
 IsPhysical shape name = (first_physical shape ≤ name) × (name < shape.blocks * shape.pages)
 
 pub record IsCore {D : Type 0} (g : Ghosts D) (v : Core D) : Type 0 where
-  -- the device is formed,
+  -- the device is formed
   pub formed : g.formed v.device
   pub shape : v.shape ≡ g.shape v.device
-  -- the metadata runs, and its journal is in order,
+  -- the metadata runs, and its journal is in order
   pub journaled : IsJournaled g v.device v.journal v.meta
   pub free : HasFree g v
-  -- each live page is held once, and what is committed keeps its pages,
+  -- each live page is held once, and what is committed keeps its pages
   pub held : IsHeldVolume g v.device v.journal v.meta (carried v.flight) v.freeing.items
-  -- the pages in flight have names of the physical segment, and write sequence numbers that are spelled,
+  -- the pages in flight have names of the physical segment, and write sequence numbers that are spelled
   pub flight : IsFlight v.flight
   pub named : (x : Tag × Pointer) → Has (carried v.flight) x → IsPhysical (g.shape v.device) x.1.name
   pub stamped : (x : Tag × Pointer) → Has (carried v.flight) x → IsTrue (is_stamp x.1.stamp)
   pub space : HasSpace g v
-  -- callbacks were handled by the next transaction or an earlier one,
+  -- callbacks were handled by the next transaction or an earlier one
   pub marked : MarkedTo (names_of g v) (begun_of v + 1)
   pub moment : v.moment ≤ g.clock v.device
-  -- and until a write fails, the next one can be made
+  -- until a write fails, the next one can be made
   pub writes : v.stopped ≡ 0 → CanWrite g v

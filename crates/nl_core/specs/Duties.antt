@@ -75,29 +75,35 @@ KeepsAllButDevice old new = new ≡ record old { device = new.device; stopped = 
 
 -- each page of the victim is blank
 abbrev pub Wipes : {D : Type 0} → Ghosts D → Moving D → D → D → Type 0
-Wipes g m old new = (block : ℕ) × (m.victim old ≡ Some block) × (m.victim new ≡ None) × (g.tells → IsWiped (m.blank new) (g.shape old).pages block (stored g new))
+Wipes g m old new =
+    (block : ℕ) × (m.victim old ≡ Some block) × (m.victim new ≡ None)
+    × (g.tells → IsWiped (m.blank new) (g.shape old).pages block (stored g new))
 
--- A page of the victim was moved, or a victim was begun that has none to move; the victim was erased; the callback of the number is handled;
--- all calls so far are committed; a victim was begun.
+-- A page of the victim was moved, or a victim was begun that has none to move; the victim was erased; the callback of the number is
+-- handled; all calls so far are committed; a victim was begun.
 abbrev pub IsDone : {D : Type 0} → Ghosts D → Moving D → Duty → Core D → Core D → Type 0
-IsDone g m task.Copy old new = HasCopied g old.device new.device × StaysOrTakes (m.most_dead old.device) (m.victim old.device) (m.victim new.device) × KeepsAllButDevice old new
+IsDone g m task.Copy old new =
+    HasCopied g old.device new.device × StaysOrTakes (m.most_dead old.device) (m.victim old.device) (m.victim new.device)
+    × KeepsAllButDevice old new
 IsDone g m task.Erase old new = ErasesVictim g old.device new.device × Wipes g m old.device new.device × KeepsAllButDevice old new
 IsDone g m (task.Handle number) old new = HandlesNumber g number old new
 IsDone g m task.Commit old new = (number : ℕ) × CommitsAll g old new number
-IsDone g m task.Level old new = Begins g old.device new.device × Takes (m.coldest old.device) (m.victim new.device) × KeepsAllButDevice old new
+IsDone g m task.Level old new =
+    Begins g old.device new.device × Takes (m.coldest old.device) (m.victim new.device) × KeepsAllButDevice old new
 
 -- What a task does. `Nothing` comes exactly where `none` holds, and then all is as before. A page is lost only with another number found,
 -- and never where the medium tells what it stores.
-pub record Does {D : Type 0} (g : Ghosts D) (m : Moving D) (none : Type 0) (which : Duty) (old new : Core D) (answer : DutyAnswer) : Type 0 where
+pub record Does {D : Type 0} (g : Ghosts D) (m : Moving D) (none : Type 0) (which : Duty) (old new : Core D)
+    (answer : DutyAnswer) : Type 0 where
   pub nothing : (answer ≡ duty.Nothing) ↔ none
   pub same : answer ≡ duty.Nothing → Stays g which old new
   pub done : answer ≡ duty.Did → IsDone g m which old new
   pub lost : (w found : ℕ) → answer ≡ duty.Lost w found → (found ≢ w) × (g.tells → ⊥)
 
--- of a volume that can be written
+-- what a task does of a volume that can be written
 abbrev pub DoesTask : {D : Type 0} → Ghosts D → Moving D → Duty → Core D → Core D → DutyAnswer → Type 0
 DoesTask g m which old new answer = Does g m (HasNothingToDo g m which old) which old new answer
 
--- of any volume
+-- what a task does of any volume
 abbrev pub DoesDuty : {D : Type 0} → Ghosts D → Moving D → Duty → Core D → Core D → DutyAnswer → Type 0
 DoesDuty g m which old new answer = Does g m (IsAtRest g old ⊎ HasNothingToDo g m which old) which old new answer

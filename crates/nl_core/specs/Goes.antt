@@ -17,8 +17,8 @@ use Rattle.nl_core.specs.Core.{begun_of, running_of}
 use Rattle.nl_core.specs.Trees.{CoreRuns, CoreStands, IsTold}
 use Rattle.nl_core.specs.declared.state.Core.{Core}
 
--- The core stands for the same tree of all calls. What is committed is what was committed before or frozen, or all calls; each page that was
--- programmed before holds what it held.
+-- The core stands for the same tree of all calls. What is committed is what was committed before or frozen, or all calls; each page that
+-- was programmed before holds what it held.
 pub record GoesTo {D : Type 0} (g : Ghosts D) (old new : Core D) (page_of_stamp : ℕ → Option PageOfStamp) (t : Trees) : Type 0 where
   pub pages : ℕ → Option PageOfStamp
   pub trees : Trees
@@ -29,7 +29,7 @@ pub record GoesTo {D : Type 0} (g : Ghosts D) (old new : Core D) (page_of_stamp 
   pub frozen : Has (prefixes old.count t) trees.frozen
   pub later : t.committed.0 ≤ trees.committed.0
 
--- It runs as the tree, and each page that was programmed before holds what it held.
+-- The core runs as the tree, and each page that was programmed before holds what it held.
 pub record RunsOnAs {D : Type 0} (g : Ghosts D) (new : Core D) (page_of_stamp : ℕ → Option PageOfStamp) (tree : Tree) : Type 0 where
   pub pages : ℕ → Option PageOfStamp
   pub extends : Extends page_of_stamp pages
@@ -41,17 +41,18 @@ pub record Stops {D : Type 0} (g : Ghosts D) (old new : Core D) : Type 0 where
   pub none : new.stopped ≡ 0 → Rose (g.write_faults old.device) (g.write_faults new.device) → ⊥
   pub some : old.stopped ≡ 0 → (new.stopped ≡ 0 → ⊥)
       → Rose (g.write_faults old.device) (g.write_faults new.device)
-      × (Rose (g.read_faults old.device + g.write_faults old.device) new.stopped × (new.stopped ≤ saturated (g.read_faults new.device + g.write_faults new.device)))
+      × (Rose (g.read_faults old.device + g.write_faults old.device) new.stopped
+      × (new.stopped ≤ saturated (g.read_faults new.device + g.write_faults new.device)))
 
 -- Since this clock, when the number of the last transaction was this one, it has risen by no more than the clock.
 abbrev pub PaidSince : {D : Type 0} → Ghosts D → ℕ → ℕ → Core D → Type 0
 PaidSince g clock number v = NumberPaid clock number (g.clock v.device) v.journal.number
 
--- It is the volume that it was, but for what a call does beside: the same calls were answered, and nodes have other names of pages at most.
--- Numbers and counts do not fall, and the number of the last transaction rises by no more than the clock does. What is committed changes with a
--- commit page that was finished since. Where the medium tells its contents, it runs on as the tree as which it ran. Where counts have not ended
--- either, it goes on to stand for the trees for which it stood, and what a stop leaves opens as one of them, from the moment of the last commit
--- page on as none earlier than what that one committed.
+-- The core is the volume that it was, but for what a call does beside: the same calls were answered, and nodes have other names of pages at
+-- most. Numbers and counts do not fall, and the number of the last transaction rises by no more than the clock does. What is committed
+-- changes with a commit page that was finished since. Where the medium tells its contents, it runs on as the tree as which it ran. Where
+-- counts have not ended either, it goes on to stand for the trees for which it stood, and what a stop leaves opens as one of them, from the
+-- moment of the last commit page on as none earlier than what that one committed.
 pub record Goes {D : Type 0} (g : Ghosts D) (most : ℕ) (old new : Core D) : Type 0 where
   pub same_shape : g.shape new.device ≡ g.shape old.device
   pub count : new.count ≡ old.count
@@ -61,10 +62,14 @@ pub record Goes {D : Type 0} (g : Ghosts D) (most : ℕ) (old new : Core D) : Ty
   pub reads : g.read_faults old.device ≤ g.read_faults new.device
   pub writes : g.write_faults old.device ≤ g.write_faults new.device
   pub clock : g.clock old.device ≤ g.clock new.device
-  pub moment : ((new.moment ≡ old.moment) × (new.committed ≡ old.committed)) ⊎ (Earlier (g.clock old.device) new.moment × (g.clock old.device ≤ new.moment))
+  pub moment : ((new.moment ≡ old.moment) × (new.committed ≡ old.committed))
+      ⊎ (Earlier (g.clock old.device) new.moment × (g.clock old.device ≤ new.moment))
   pub stops : Stops g old new
   pub stamps : StampsRise g most old.device new.device
-  pub runs : g.tells → (page_of_stamp : ℕ → Option PageOfStamp) (tree : Tree) → CoreRuns g old page_of_stamp tree → RunsOnAs g new page_of_stamp tree
-  pub trees : IsTold g new → (page_of_stamp : ℕ → Option PageOfStamp) (t : Trees) → CoreStands g old page_of_stamp t → GoesTo g old new page_of_stamp t
-  pub left : IsTold g new → (page_of_stamp : ℕ → Option PageOfStamp) (t : Trees) (y : Prefix) → y.0 ≡ new.committed → CoreStands g old page_of_stamp t
+  pub runs : g.tells → (page_of_stamp : ℕ → Option PageOfStamp) (tree : Tree) → CoreRuns g old page_of_stamp tree
+      → RunsOnAs g new page_of_stamp tree
+  pub trees : IsTold g new → (page_of_stamp : ℕ → Option PageOfStamp) (t : Trees) → CoreStands g old page_of_stamp t
+      → GoesTo g old new page_of_stamp t
+  pub left : IsTold g new → (page_of_stamp : ℕ → Option PageOfStamp) (t : Trees) (y : Prefix) → y.0 ≡ new.committed
+      → CoreStands g old page_of_stamp t
       → Leaves g (OpensFrom (g.shape old.device) old.count new.moment t y) old.device new.device

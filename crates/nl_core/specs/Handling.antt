@@ -26,8 +26,8 @@ IsPending names number = (c : Callback) × Has names.pending c × (c.number ≡ 
 
 -- ---- one try
 
--- Where it was done, the callback counts as handled by this transaction, or by the earlier one that it had. Else no name changed, and there
--- is `NoRoom` only where the metadata has the pointer in a page that cannot be made dirty.
+-- Where a try was done, the callback counts as handled by this transaction, or by the earlier one that it had. Else no name changed, and
+-- there is `NoRoom` only where the metadata has the pointer in a page that cannot be made dirty.
 pub record TriesCallback {D : Type 0} (g : Ghosts D) (mark : ℕ) (old new : Core D) (c : Callback) (answer : Drained) : Type 0 where
   pub done : answer ≡ drained.Done → Marks c mark (names_of g old) (names_of g new)
   pub same : (answer ≡ drained.Done → ⊥) → (names_of g new ≡ names_of g old) × (new.meta.dirty ≡ old.meta.dirty)
@@ -45,11 +45,12 @@ pub record TriesNumber {D : Type 0} (g : Ghosts D) (mark number : ℕ) (old new 
 
 -- ---- the whole call
 
--- The callback of the number is pending no longer, or counts as handled. Those that are unhandled then were, and none was posted, so that handling
--- one after the other ends with all handled. Where no write has failed, the space is as after a commit at most.
+-- The callback of the number is pending no longer, or counts as handled. Those that are unhandled then were, and none was posted, so that
+-- handling one after the other ends with all handled. Where no write has failed, the space is as after a commit at most.
 pub record HandlesNumber {D : Type 0} (g : Ghosts D) (number : ℕ) (old new : Core D) : Type 0 where
   pub handled : IsUnhandled (names_of g new) number → ⊥
-  pub others : (c : Callback) → Has (names_of g new).pending c → (names_of g new).handled c.number ≡ None → Has (names_of g old).pending c × ((names_of g old).handled c.number ≡ None)
+  pub others : (c : Callback) → Has (names_of g new).pending c → (names_of g new).handled c.number ≡ None
+      → Has (names_of g old).pending c × ((names_of g old).handled c.number ≡ None)
   pub posted : (names_of g new).posted ≡ (names_of g old).posted
   pub space : new.stopped ≡ 0 → Empties (names_of g old).space (names_of g new).space
 
@@ -60,7 +61,7 @@ HandlesWithRoom g number old new duty.Nothing = ⊥
 HandlesWithRoom g number old new duty.Fault = ⊤
 HandlesWithRoom g number old new (duty.Lost w f) = (f ≡ w → ⊥) × (g.tells → ⊥)
 
--- what it answers then: a callback that is pending no longer was handled before
+-- what the task of handling answers after a try: a callback that is pending no longer was handled before
 abbrev pub duty_of : Option Drained → DutyAnswer
 duty_of None = duty.Did
 duty_of (Some drained.Done) = duty.Did

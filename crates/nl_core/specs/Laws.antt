@@ -20,10 +20,12 @@ use Rattle.nl_core.specs.declared.state.Core.{Core}
 
 -- What is stored now opens as the committed tree.
 abbrev pub StoredOpens : {D : Type 0} → Ghosts D → Core D → Type 0
-StoredOpens g v = IsTold g v → (page_of_stamp : ℕ → Option PageOfStamp) (t : Trees) → CoreStands g v page_of_stamp t → OpensAs (g.shape v.device) (stored g v.device) t.committed
+StoredOpens g v =
+    IsTold g v → (page_of_stamp : ℕ → Option PageOfStamp) (t : Trees) → CoreStands g v page_of_stamp t
+    → OpensAs (g.shape v.device) (stored g v.device) t.committed
 
--- A page in flight is live where its pointer leads, under its owner and its write sequence number, which was given. The pointer has a spelling: its
--- number, and a name of the physical segment.
+-- A page in flight is live where its pointer leads, under its owner and its write sequence number, which was given. The pointer has a
+-- spelling: its number, and a name of the physical segment.
 pub record LeadsLive {D : Type 0} (g : Ghosts D) (v : Core D) (x : Tag × Pointer) : Type 0 where
   pub live : (names_of g v).live (led (names_of g v) x.1.name) ≡ Some (record { tag = x.0; stamp = x.1.stamp })
   pub given : x.1.stamp < g.next_stamp v.device
@@ -35,4 +37,6 @@ FlightLeads g v = (x : Tag × Pointer) → Has (carried v.flight) x → LeadsLiv
 
 -- Where nodes are the same but for names of pages, files have as many pages.
 abbrev pub PagesStayAsMany : Type 0
-PagesStayAsMany = (shape : Shape) (old new : VirtualMap) → SameButNames (graph_of shape old) (graph_of shape new) → length (tagged_in shape new) ≡ length (tagged_in shape old)
+PagesStayAsMany =
+    (shape : Shape) (old new : VirtualMap) → SameButNames (graph_of shape old) (graph_of shape new)
+    → length (tagged_in shape new) ≡ length (tagged_in shape old)

@@ -46,7 +46,8 @@ pub record Programs {D : Type 0} (g : Ghosts D) (tag : Tag) (main : List ℕ) (a
   pub retired : NoneRetired (g.names old).space (g.names new).space
 
 -- The page is placed under the pointer, and in flight behind the others of the worker's line.
-pub record PutsPage {D : Type 0} (g : Ghosts D) (worker line : ℕ) (tag : Tag) (main : List ℕ) (old new : Core D) (at : Pointer) : Type 0 where
+pub record PutsPage {D : Type 0} (g : Ghosts D) (worker line : ℕ) (tag : Tag) (main : List ℕ) (old new : Core D)
+    (at : Pointer) : Type 0 where
   pub places : Places g tag main 0 (names_of g old) old.device new.device at
   pub flight : new.flight ≡ with_page old.flight worker line tag at
   pub others : new ≡ record old { device = new.device; flight = new.flight; stopped = new.stopped }
@@ -64,8 +65,8 @@ pub record PutsNone {D : Type 0} (g : Ghosts D) (answer : Named) (old new : Core
 abbrev pub last_stamp : ℕ
 last_stamp = 2 ^ 62 + 2 ^ 40
 
--- A page with these bytes is live under the pointer, and in flight behind the others of the worker's line, which are those of before but for the
--- names of their pages. Its write sequence number was not given before.
+-- A page with these bytes is live under the pointer, and in flight behind the others of the worker's line, which are those of before but
+-- for the names of their pages. Its write sequence number was not given before.
 pub record PutsInFlight {D : Type 0} (g : Ghosts D) (worker line : ℕ) (tag : Tag) (main : List ℕ) (old new : Core D) : Type 0 where
   pub at : Pointer
   pub flight : map nameless_line new.flight ≡ map nameless_line (with_page old.flight worker line tag at)
@@ -74,8 +75,8 @@ pub record PutsInFlight {D : Type 0} (g : Ghosts D) (worker line : ℕ) (tag : T
   pub is_new : g.next_stamp old.device ≤ at.stamp
   pub bytes : g.tells → g.bytes new.device at.name ≡ main
 
--- What a program does by its answer. Where it did none, the lines in flight are those of before; where it was stopped, all is as before. A page is
--- lost only with another number found, and never where the medium tells what it stores.
+-- What a program does by its answer. Where it did none, the lines in flight are those of before; where it was stopped, all is as before. A
+-- page is lost only with another number found, and never where the medium tells what it stores.
 abbrev pub ProgramsFor : {D : Type 0} → Ghosts D → ℕ → ℕ → Tag → List ℕ → Core D → Core D → Programmed → Type 0
 ProgramsFor g worker line tag main old new programmed.InFlight = PutsInFlight g worker line tag main old new
 ProgramsFor g worker line tag main old new programmed.Stopped = new ≡ old

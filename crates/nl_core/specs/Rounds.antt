@@ -26,10 +26,12 @@ pub record EmptiesTable {D : Type 0} (g : Ghosts D) (old new : Core D) : Type 0 
 
 -- A victim was cleaned: the one in hand, or else a block with the most dead pages. Or nothing was, and then no block has a dead page.
 abbrev pub CleansOne : {D : Type 0} → Ghosts D → Moving D → Core D → Core D → Type 0
-CleansOne g m old new = CleansDevice g m old new cleaned.Done ⊎ (CleansDevice g m old new cleaned.Nothing × ((names_of g new).space.dead ≡ 0))
+CleansOne g m old new =
+    CleansDevice g m old new cleaned.Done ⊎ (CleansDevice g m old new cleaned.Nothing × ((names_of g new).space.dead ≡ 0))
 
--- The table of old names was emptied, and one victim cleaned, where there was one. Such a round gives a Free block more than are kept for the
--- cleaner, or finishes a victim that was in hand, or brings more pages within reach. No victim is in hand afterwards, and no page awaits its free.
+-- The table of old names was emptied, and one victim cleaned, where there was one. Such a round gives a Free block more than are kept for
+-- the cleaner, or finishes a victim that was in hand, or brings more pages within reach. No victim is in hand afterwards, and no page
+-- awaits its free.
 pub record RoundIsDone {D : Type 0} (g : Ghosts D) (m : Moving D) (old new : Core D) : Type 0 where
   pub between : Core D
   pub emptied : EmptiesTable g old between

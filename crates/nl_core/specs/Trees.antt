@@ -9,7 +9,8 @@ use Rattle.nl_spec_commits.specs.Trees.{RunsAs, StandsFor, Trees}
 use Rattle.nl_core.specs.Core.{names_of, running_of}
 use Rattle.nl_core.specs.declared.state.Core.{Core}
 
--- The core runs as this tree, with what the page of each write sequence number holds: each live page is that page, and each number was given.
+-- The core runs as this tree, with what the page of each write sequence number holds: each live page is that page, and each number was
+-- given.
 pub record CoreRuns {D : Type 0} (g : Ghosts D) (v : Core D) (page_of_stamp : ℕ → Option PageOfStamp) (tree : Tree) : Type 0 where
   pub runs : RunsAs (g.shape v.device) (running_of g v) page_of_stamp tree
   pub shows : ShowsPages (names_of g v) (g.bytes v.device) page_of_stamp

@@ -49,7 +49,8 @@ committed_count v earlier decided = committed_by v.committed (frozen_count v) v.
 
 -- the sum of both fault counts once a write failed
 abbrev pub stopped_by : ℕ → ℕ → ℕ → ℕ → ℕ
-stopped_by stopped reads writes_before writes = if stopped == 0 && nat_le (saturated (writes_before + 1)) writes then saturated (reads + writes) else stopped
+stopped_by stopped reads writes_before writes =
+    if stopped == 0 && nat_le (saturated (writes_before + 1)) writes then saturated (reads + writes) else stopped
 
 abbrev pub stopped_on : {D : Type 0} → Ghosts D → ℕ → Core D → Core D → ℕ
 stopped_on g writes_before old new = stopped_by old.stopped (g.read_faults new.device) writes_before (g.write_faults new.device)

@@ -1,3 +1,4 @@
+//! One victim of a core's device is cleaned.
 ghost use Rattle.std.specs.Prelude.{◌≡◌};
 ghost use Rattle.nl_core.specs.Calls.{HasCause};
 ghost use Rattle.nl_core.specs.Core.{IsCore};

@@ -1,3 +1,4 @@
+//! The commit of a core: all calls so far take effect at once, and what they gave up is freed.
 ghost use Rattle.std.specs.Prelude.{◌≡◌, ◌≤◌, ◌+◌, ◌^◌};
 ghost use Rattle.nl_iface.specs.Calls.{StoresPages};
 ghost use Rattle.nl_iface.specs.Device.{IsVolumeShape};
@@ -21,8 +22,9 @@ const LAST: u64 = (1 << 63) - 1;
 
 impl<D: MovingPages> Core<D> {
     /// Makes all calls so far take effect at once. Once that is done, the pages are freed that awaited it, and the callbacks are
-    /// acknowledged that were handled before. A stop within leaves what was committed before, or was frozen, or all calls; from the moment of
-    /// the last commit page on nothing earlier than what that one committed. After `Lost` and `Fault` the next commit goes on from there.
+    /// acknowledged that were handled before. A stop within leaves what was committed before, or was frozen, or all calls; from the moment
+    /// of the last commit page on nothing earlier than what that one committed. After `Lost` and `Fault` the next commit goes on from
+    /// there.
     pub fn commit(&mut self) -> Committing
         requires core { IsCore D.Counts self.old }
         requires writes { self.old.stopped ≡ 0 }
@@ -86,7 +88,7 @@ impl<D: MovingPages> Core<D> {
         }
     }
 
-    // After a commit: what awaited it is freed, and what was handled before is acknowledged.
+    // What awaited a commit is freed after it, and what was handled before is acknowledged.
     fn settle(&mut self, mark: u64)
         requires formed { D.formed self.old.device }
         ensures formed { D.formed self.new.device }

@@ -1,3 +1,4 @@
+//! The line of a worker is dropped, and the pages that were programmed for it are freed.
 ghost use Rattle.std.specs.Prelude.{◌≡◌, ◌<◌};
 ghost use Rattle.nl_flight.specs.Flight.{IsFlight, of_worker};
 ghost use Rattle.nl_iface.specs.Calls.{KeepsMedium};

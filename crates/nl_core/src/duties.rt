@@ -1,3 +1,4 @@
+//! The background tasks of a core.
 ghost use Rattle.std.specs.Prelude.{◌≡◌, ◌↔◌, ◌+◌, ◌≤◌, ◌<◌, ◌^◌, IsTrue, if◌then◌else◌};
 ghost use Rattle.nl_core.specs.Calls.{HasCause, KeepsLines};
 ghost use Rattle.nl_core.specs.Core.{IsCore};

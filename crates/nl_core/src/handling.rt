@@ -1,3 +1,4 @@
+//! The callback of a number is handled, with a commit before a second try where there is no room for the first.
 ghost use Rattle.std.specs.Prelude.{◌≡◌, ◌+◌, ◌≤◌, ◌^◌, Some};
 ghost use Rattle.nl_core.specs.Calls.{HasCause, KeepsLines};
 ghost use Rattle.nl_core.specs.Core.{IsCore, begun_of};
@@ -72,7 +73,7 @@ impl<D: MovingPages> Core<D> {
         tried
     }
 
-    // One try. It only reads, so no write can fail.
+    // One try to handle a callback. It only reads, so no write can fail.
     fn try_callback(&mut self, number: u64, mark: u64) -> Option<Drained>
         requires formed { D.formed self.old.device }
         requires runs { Runs D.Counts self.old.device self.old.meta }

@@ -1,4 +1,4 @@
-//! Laws of a core between two calls. Each function stands for the laws that its contract names.
+//! Laws of a core between two calls: what it stores, where its pages in flight lead, how many pages files have. A function stands for each.
 ghost use Rattle.std.specs.Prelude.{◌≡◌};
 ghost use Rattle.nl_core.specs.Core.{IsCore};
 ghost use Rattle.nl_core.specs.Laws.{FlightLeads, PagesStayAsMany, StoredOpens};

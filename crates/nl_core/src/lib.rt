@@ -1,5 +1,5 @@
-//! The core of a volume that runs: commits of all calls so far, after which what they gave up is freed, callbacks that are handled, pages that
-//! are programmed, lines of workers that are dropped, rounds of reclaiming, and background tasks.
+//! The core of a volume that runs: commits of all calls so far, after which what they gave up is freed, callbacks that are handled, pages
+//! that are programmed, lines of workers that are dropped, rounds of reclaiming, and background tasks.
 #![tactic(auto)]
 
 mod changes;

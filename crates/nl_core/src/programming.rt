@@ -1,3 +1,4 @@
+//! A page is programmed for the line of a worker, and is in flight from then on.
 ghost use Rattle.std.specs.Prelude.{◌≡◌, ◌≢◌, ◌↔◌, ◌⊎◌, ◌+◌, ◌<◌, ◌≤◌, ◌^◌};
 ghost use Rattle.nl_flight.specs.Flight.{HasPlace, IsFlight, with_line};
 ghost use Rattle.nl_iface.specs.Answers.{IfPlaced, IsPlaced};
@@ -92,8 +93,8 @@ impl<D: MovingPages> Core<D> {
         }
     }
 
-    // One try. The page is in flight from now on, behind the others of the line. `NoPage` comes exactly where the device has no room for it,
-    // and then nothing was written. A stop within leaves what was committed before.
+    // One try. The page is in flight from now on, behind the others of the line. `NoPage` comes exactly where the device has no room for
+    // it, and then nothing was written. A stop within leaves what was committed before.
     fn place_once(&mut self, worker: u8, line: u32, tag: Tag, from: &PageBuf) -> Named
         requires core { IsCore D.Counts self.old }
         requires writes { self.old.stopped ≡ 0 }

@@ -1,3 +1,4 @@
+//! A round of reclaiming: callbacks are handled, the metadata is committed, and one victim is cleaned.
 ghost use Rattle.std.specs.Prelude.{◌≡◌, ◌↔◌, ◌≤◌, ◌+◌, ◌^◌, [], false};
 ghost use Rattle.nl_core.specs.Calls.{HasCause, KeepsLines};
 ghost use Rattle.nl_core.specs.Core.{IsCore, names_of};

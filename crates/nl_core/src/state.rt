@@ -1,3 +1,4 @@
+//! The state of a core: a device, the metadata that runs over it, the pages in flight, and the pointers that await their free.
 ghost use Rattle.std.specs.Prelude.{◌≡◌, ◌+◌, ◌≤◌, ◌^◌, nat_le};
 ghost use Rattle.nl_field.specs.CrashStates.{saturated};
 ghost use Rattle.nl_meta.specs.Pages.{is_frozen};
@@ -24,9 +25,9 @@ pub struct Core<D: MovingPages> {
     pub freeing: PointerList,
     /// How many calls the volume has answered.
     pub count: u64,
-    /// After how many of them the metadata is committed.
+    /// After how many calls the metadata is committed.
     pub committed: u64,
-    /// The clock as the commit page of that transaction was finished, or at the opening where none was committed since.
+    /// The clock as the commit page of the last transaction was finished, or at the opening where none was committed since.
     pub moment: u64,
     /// The sum of both fault counts after the failure that made the volume read-only, 0 before it.
     pub stopped: u64,

@@ -31,10 +31,11 @@ pub record Volume (D : Type 0) : Type 0 where
 abbrev pub volume : {D : Type 0} → D → Pages → List InFlight → List Pointer → Volume D
 volume device pages flight freeing = record { device = device; pages = pages; flight = flight; freeing = freeing }
 
--- its running map, and its nodes
+-- the running map of a volume
 abbrev pub running_of : {D : Type 0} → Ghosts D → Volume D → VirtualMap
 running_of g v = running_on g v.device v.pages
 
+-- the nodes of a volume
 abbrev pub nodes_of : {D : Type 0} → Ghosts D → Volume D → Graph
 nodes_of g v = graph_of (g.shape v.device) (running_of g v)
 
@@ -101,6 +102,7 @@ pub record HandlesSome {D : Type 0} (g : Ghosts D) (transaction : ℕ) (v w : Vo
   pub dirty : (a : ℕ) → is_dirty w.pages a ≡ true → (is_dirty v.pages a ≡ true) ⊎ (67 ≤ a)
   pub flight : map nameless_line w.flight ≡ map nameless_line v.flight
   -- a page in flight has the name that it had, or that of the page of a callback
-  pub names : (x : Tag × Pointer) → Has (carried w.flight) x → Has (carried v.flight) x ⊎ ((c : Callback) × Has (g.names v.device).pending c × (x.1.name ≡ led (g.names v.device) c.before))
+  pub names : (x : Tag × Pointer) → Has (carried w.flight) x
+      → Has (carried v.flight) x ⊎ ((c : Callback) × Has (g.names v.device).pending c × (x.1.name ≡ led (g.names v.device) c.before))
   pub freeing : map nameless w.freeing ≡ map nameless v.freeing
   pub medium : KeepsMedium g v.device w.device

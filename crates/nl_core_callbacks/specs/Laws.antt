@@ -7,4 +7,6 @@ use Rattle.nl_core_callbacks.specs.Handled.{SameButNames}
 
 -- The nodes stand for the same tree, since the bytes of a page are known by its sequence number.
 abbrev pub TreesStay : Type 0
-TreesStay = (bytes_of : ℕ → List ℕ) (old new : Graph) (tree : Tree) → SameButNames old new → Represents bytes_of old tree → Represents bytes_of new tree
+TreesStay =
+    (bytes_of : ℕ → List ℕ) (old new : Graph) (tree : Tree) → SameButNames old new → Represents bytes_of old tree
+    → Represents bytes_of new tree

@@ -1,3 +1,4 @@
+//! A pending callback is handled, and marked with the transaction that did it.
 ghost use Rattle.std.specs.Prelude.{◌≡◌, ◌+◌, ◌≤◌, length};
 ghost use Rattle.nl_core_callbacks.specs.Blocked.{IsBlocked, drained_stop};
 ghost use Rattle.nl_core_callbacks.specs.Handled.{HandlesSome, volume};
@@ -17,9 +18,9 @@ use nl_meta::Meta;
 /// What the handling of a callback answers.
 #[derive(Clone, Copy, Debug, PartialEq, Eq)]
 pub enum Drained {
-    /// It was handled.
+    /// The callback was handled.
     Done,
-    /// A page of the metadata has its pointer, and cannot be made dirty.
+    /// A page of the metadata has the callback's pointer, and cannot be made dirty.
     NoRoom,
     /// A read failed.
     Fault,
@@ -55,8 +56,10 @@ pub fn handle_one<D: MovingPages>(
     ensures few { length meta.new.dirty ≤ length meta.old.dirty + 1 }
     ensures same { (result ≡ Drained.Done → ⊥) → (D.names device.new ≡ D.names device.old) × (meta.new.dirty ≡ meta.old.dirty) }
     ensures no_room { result ≡ Drained.NoRoom → IsBlocked D.Counts (volume device.new meta.new flight.new freeing.new.items) callback.now }
-    ensures room_made { result ≡ Drained.Done → IsBlocked D.Counts (volume device.old meta.old flight.old freeing.old.items) callback.now → ⊥ }
-    ensures handles { HandlesSome D.Counts transaction (volume device.old meta.old flight.old freeing.old.items) (volume device.new meta.new flight.new freeing.new.items) }
+    ensures room_made { result ≡ Drained.Done → IsBlocked D.Counts (volume device.old meta.old flight.old freeing.old.items) callback.now
+        → ⊥ }
+    ensures handles { HandlesSome D.Counts transaction (volume device.old meta.old flight.old freeing.old.items)
+        (volume device.new meta.new flight.new freeing.new.items) }
     ensures nodes { nodes.new ≡ nodes.old }
     ensures room { freeing.new.room ≡ freeing.old.room }
     ensures reads { Reads D.Counts device.old device.new (drained_stop result) }

@@ -18,7 +18,7 @@ pub record WipesBlock {D : Type 0} (g : Ghosts D) (m : Moving D) (old new : D) :
   pub none : m.victim new ≡ None
   pub wiped : g.tells → IsWiped (m.blank new) (g.shape old).pages block (stored g new)
 
--- Where it was not done, the victim is the one that was in hand, or one with the most dead pages from now on.
+-- Where a cleaning was not done, the victim is the one that was in hand, or one with the most dead pages from now on.
 abbrev pub CleansBlock : {D : Type 0} → Ghosts D → Moving D → Cleaned → D → D → Type 0
 CleansBlock g m the.Done old new = WipesBlock g m old new
 CleansBlock g m the.Nothing old new = m.victim new ≡ m.victim old

@@ -1,3 +1,4 @@
+//! One victim is cleaned whole: the calls of cleaning, one after the other, until it is erased.
 ghost use Rattle.std.specs.Prelude.{◌≡◌, ◌↔◌, ◌⊎◌, ℕ, Some};
 ghost use Rattle.nl_core_clean.specs.Carried.{KeepsHeld, KeepsStored};
 ghost use Rattle.nl_core_clean.specs.Spaces.{CleansVictim, HasEmptied};
@@ -38,9 +39,12 @@ pub fn clean<D: MovingPages>(device: &mut D) -> Cleaned
     ensures block { CleansBlock D.Counts D.MovingPages.own result device.old device.new }
     ensures space { CleansVictim result (D.names device.old).space (D.names device.new).space }
     ensures held { KeepsHeld D.Counts device.old device.new }
-    ensures stored { D.tells → ((result ≡ Cleaned.Fault) × Rose (D.write_faults device.old) (D.write_faults device.new)) ⊎ KeepsStored (stored D.Counts device.old) (stored D.Counts device.new) }
-    ensures lands { ((result ≡ Cleaned.Done → ⊥) × Rose (D.write_faults device.old) (D.write_faults device.new)) ⊎ CanLand (D.names device.new).space }
-    ensures lost { (w found : ℕ) → result ≡ Cleaned.Lost w found → (found ≡ w → ⊥) × ((p : ℕ) × (page : LivePage) × ((D.names device.old).live p ≡ Some page) × (page.stamp ≡ w)) }
+    ensures stored { D.tells → ((result ≡ Cleaned.Fault) × Rose (D.write_faults device.old) (D.write_faults device.new))
+        ⊎ KeepsStored (stored D.Counts device.old) (stored D.Counts device.new) }
+    ensures lands { ((result ≡ Cleaned.Done → ⊥) × Rose (D.write_faults device.old) (D.write_faults device.new))
+        ⊎ CanLand (D.names device.new).space }
+    ensures lost { (w found : ℕ) → result ≡ Cleaned.Lost w found
+        → (found ≡ w → ⊥) × ((p : ℕ) × (page : LivePage) × ((D.names device.old).live p ≡ Some page) × (page.stamp ≡ w)) }
     ensures told { D.tells → (w found : ℕ) → result ≡ Cleaned.Lost w found → ⊥ }
     ensures ticks { Ticks D.Counts (result ≡ Cleaned.Done) device.old device.new }
     ensures faults { CallCounted D.Counts (result ≡ Cleaned.Fault) device.old device.new }
@@ -67,7 +71,8 @@ fn empty_victim<D: MovingPages>(device: &mut D) -> Copying
     ensures held { KeepsHeld D.Counts device.old device.new }
     ensures stored { D.tells → KeepsStored (stored D.Counts device.old) (stored D.Counts device.new) }
     ensures lands { Rose (D.write_faults device.old) (D.write_faults device.new) ⊎ CanLand (D.names device.new).space }
-    ensures lost { (w found : ℕ) → result ≡ Copying.Lost w found → (found ≡ w → ⊥) × ((p : ℕ) × (page : LivePage) × ((D.names device.old).live p ≡ Some page) × (page.stamp ≡ w)) }
+    ensures lost { (w found : ℕ) → result ≡ Copying.Lost w found
+        → (found ≡ w → ⊥) × ((p : ℕ) × (page : LivePage) × ((D.names device.old).live p ≡ Some page) × (page.stamp ≡ w)) }
     ensures told { D.tells → (w found : ℕ) → result ≡ Copying.Lost w found → ⊥ }
     ensures faults { CallCounted D.Counts (result ≡ Copying.Fault) device.old device.new }
 {

@@ -1,4 +1,4 @@
-//! Laws of the definitions. Each function stands for the law that its contract names.
+//! The law of a cleaning in a round of reclaiming. A function stands for it.
 ghost use Rattle.nl_core_clean.specs.Laws.{IsOfARound};
 
 /// A cleaning that is done, or that finds nothing to clean, is what a round asks of its cleaning: so rounds gain, and they end.

@@ -51,7 +51,7 @@ use Rattle.nl_field.specs.SpareRecord.{stamp_of}
 use Rattle.nl_spec_image.specs.RightFor.{PagesRepresent}
 use Rattle.nl_spec_image.specs.Stands.{Stands, bytes_found}
 use Rattle.nl_spec_commits.proofs.Stopping.{stands_alike}
-use Rattle.nl_spec_commits.specs.Trees.{RunsAs}
+use Rattle.nl_spec_commits.specs.Trees.{RunsAs, all_at}
 use Rattle.nl_recover.proofs.Imaged.{walks_the_image}
 use Rattle.nl_core.specs.Trees.{CoreStands}
 use Rattle.nl_spec_commits.proofs.Holding.{opening_is_held}
@@ -66,7 +66,7 @@ use Rattle.nl_recover.proofs.StartFacts.{walked_starts}
 use Rattle.nl_core.specs.Core.{HasFree, HasSpace, IsCore}
 use Rattle.nl_core.specs.declared.state.Core.{Core}
 use Rattle.nl_core.proofs.Written.{has_free_on, same_running}
-use Rattle.nl_core_open.specs.Beginning.{CanBegin, IsOver, all_at, stopped_by}
+use Rattle.nl_core_open.specs.Beginning.{CanBegin, IsOver, stopped_by}
 use Rattle.nl_core_open.proofs.Opens.{are_tagged, opens, tagged_pointers}
 use Rattle.nl_core_open.proofs.Owners.{IsSeenAs}
 use Rattle.nl_core_open.proofs.Shown.{on_readable, shown}

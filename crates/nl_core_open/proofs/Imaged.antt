@@ -67,7 +67,7 @@ module _ {M : Type 0} (g : Ghosts (Device M)) (s d : Device M) (image : Image) (
     pub kept_are : w.kept.items ≡ map_of (λ (h : Held). h.pointer) (committed_pointers image)
     kept_are = walked.kept ∙ (λ i. map_of (λ (h : Held). h.pointer) (held_in ((same_shape ∙ is) i) (runs i)))
 
-    -- and as many of them have places that are not their names
+    -- as many pointers as in the image have places that are not their names
     pub pairs : kept_of d ≡ kept_of_scan (g.shape d) t.seen → length (moved_among (kept_of d) w.kept.items) ≡ pairs_of image
     pairs kept =
         (λ i. length (moved_among ((kept ∙ (λ k. kept_of_scan ((same_shape ∙ is) k) (listed k))) i) (kept_are i)))

@@ -19,20 +19,21 @@ use Rattle.nl_iface.specs.Stored.{NoneFailed, stored_in, value_on}
 use Rattle.nl_iface.specs.declared.counts.Counts.{Ghosts}
 use Rattle.nl_meta.specs.Consistent.{Consistent, tag_on}
 use Rattle.nl_spec_image.specs.Stands.{SoundAs}
-use Rattle.nl_spec_commits.specs.Trees.{Trees}
 use Rattle.nl_recover.specs.declared.opening.Walked.{Walked}
 use Rattle.nl_core.specs.declared.state.Core.{Core}
 
 -- of two pages of files that agree with the lower ones of their stamp, and have one stamp, both have one owner
 abbrev pub HaveOneOwner : Shape → List Seen → Type 0
-HaveOneOwner shape seen = (s q : Seen) → Has (physical_seen shape seen) s → Has (physical_seen shape seen) q → s.agrees ≡ true → q.agrees ≡ true → stamp_of s.rec ≡ stamp_of q.rec → tag_on s.rec ≡ tag_on q.rec
+HaveOneOwner shape seen =
+    (s q : Seen) → Has (physical_seen shape seen) s → Has (physical_seen shape seen) q → s.agrees ≡ true → q.agrees ≡ true
+    → stamp_of s.rec ≡ stamp_of q.rec → tag_on s.rec ≡ tag_on q.rec
 
 -- A volume on which no more failed write can be counted is begun read-only.
 abbrev pub stopped_by : ℕ → ℕ
 stopped_by write_faults = cond (nat_lt write_faults top) 0 top
 
--- The device is as a start leaves it: no page is live, no block in hand, and what it keeps is what its scan saw. Its virtual segment keeps a spare
--- block where the scan saw one. Where the medium tells what it stores, that is a sound image, and no write of an address failed.
+-- The device is as a start leaves it: no page is live, no block in hand, and what it keeps is what its scan saw. Its virtual segment keeps
+-- a spare block where the scan saw one. Where the medium tells what it stores, that is a sound image, and no write of an address failed.
 pub record CanBegin {M : Type 0} (g : Ghosts (Device M)) (s : Device M) (seen : List Seen) : Type 0 where
   pub idle : (g.names s).space.victim ≡ 0
   pub no_live : (p : ℕ) → (g.names s).live p ≡ None
@@ -41,10 +42,6 @@ pub record CanBegin {M : Type 0} (g : Ghosts (Device M)) (s : Device M) (seen : 
   pub spare : (block : ℕ) → virtual_spare_seen (g.shape s) seen ≡ Some block → g.keeps_spare s
   pub none_failed : g.tells → NoneFailed (g.shape s).vaddrs (g.failed s)
   pub image : g.tells → (image : Image) × (stored g s ≡ stored_in image) × Consistent image
-
--- all trees of a volume are this one, after so many calls
-abbrev pub all_at : ℕ → Tree → Trees
-all_at count tree = record { committed = (count, tree); frozen = (count, tree); running = tree }
 
 -- The device was started over this image, which is sound as this tree after as many calls as the walk tells.
 pub record IsOver {M : Type 0} (g : Ghosts (Device M)) (s : Device M) (w : Walked) (image : Image) (tree : Tree) : Type 0 where

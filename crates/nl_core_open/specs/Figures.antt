@@ -14,7 +14,8 @@ use Rattle.nl_core_open.specs.declared.opening.Opened.TheVariants.{Ready, Blank,
 
 -- the page at which an opening finds a pointer is not the one that it names
 abbrev pub is_moved : Image → Pointer → Bool
-is_moved image p = not (unwrap_or (place_outside image (physical_spare image (map (λ h. h.pointer.stamp) (committed_pointers image))) p) p.name == p.name)
+is_moved image p =
+    not (unwrap_or (place_outside image (physical_spare image (map (λ h. h.pointer.stamp) (committed_pointers image))) p) p.name == p.name)
 
 -- how many pairs there are right after an opening
 unfoldable pub pairs_of : Image → ℕ
@@ -26,12 +27,12 @@ pairs_of image = count_by (λ h. is_moved image h.pointer) (committed_pointers i
 unfoldable pub greatest_seen : List Seen → ℕ
 greatest_seen seen = fold (λ best s. max best (wear_of s.rec)) 0 seen
 
--- the least one, 0 where it saw none
+-- the least wear that a scan saw, 0 where it saw no page
 unfoldable pub least_seen : List Seen → ℕ
 least_seen [] = 0
 least_seen (s ∷ rest) = fold (λ best q. min best (wear_of q.rec)) (wear_of s.rec) rest
 
--- it tells the least and the greatest wear of the readable pages
+-- An opening tells the least and the greatest wear of the readable pages.
 abbrev pub TellsWear : {M : Type 0} → Image → Opened M → Type 0
 TellsWear image (Ready v figures) = (figures.least ≡ least_wear image) × (figures.greatest ≡ greatest_wear image)
 TellsWear image (Blank m) = ⊤

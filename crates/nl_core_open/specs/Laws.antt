@@ -1,4 +1,4 @@
--- Laws of the definitions.
+-- The law of a sound image: it has a readable page.
 use Rattle.std.specs.Prelude.{◌≢◌, ℕ, []}
 use Rattle.nl_field.specs.Medium.{readable_pages}
 use Rattle.nl_field.specs.Page.{Image}

@@ -24,7 +24,7 @@ IfReady (Damaged place m) P = ⊤
 IfReady (Fault m) P = ⊤
 IfReady (Memory m) P = ⊤
 
--- it is handed out with the number of pages that its files have
+-- A core is handed out with the number of pages that its files have.
 abbrev pub IfCounted : {M : Type 0} → Ghosts (Device M) → Opened M → Type 0
 IfCounted g (Ready v figures) = figures.files ≡ length (running_holders g v.device v.meta)
 IfCounted g (Blank m) = ⊤
@@ -48,7 +48,8 @@ opened_medium (Fault m) = m
 opened_medium (Memory m) = m
 
 -- The medium was only read, as far as it tells what it holds.
-pub record OnlyReadsMedium {M : Type 0} (tells : Type 0) (contents : M → Image) (clock write_faults : M → ℕ) (left : M → ℕ → Image → Type 0) (old new : M) : Type 0 where
+pub record OnlyReadsMedium {M : Type 0} (tells : Type 0) (contents : M → Image) (clock write_faults : M → ℕ) (left : M → ℕ → Image → Type 0)
+    (old new : M) : Type 0 where
   pub same_contents : tells → contents new ≡ contents old
   pub no_more_left : tells → (m : ℕ) (c : Image) → left new m c → left old m c
   pub same_clock : clock new ≡ clock old
@@ -57,7 +58,9 @@ pub record OnlyReadsMedium {M : Type 0} (tells : Type 0) (contents : M → Image
 -- What an image opens as: blank where no page is readable, and else ready with the count that its super page tells where it is consistent,
 -- or damaged at the first place at which a walk finds a fault.
 abbrev pub OpensImage : {M : Type 0} → Image → Opened M → Type 0
-OpensImage image (Ready v figures) = (readable_pages image ≢ []) × Consistent image × ((rec : SuperRec) × (super_of_pages (committed_of image) ≡ Some rec) × (rec.count ≡ v.count))
+OpensImage image (Ready v figures) =
+    (readable_pages image ≢ []) × Consistent image
+    × ((rec : SuperRec) × (super_of_pages (committed_of image) ≡ Some rec) × (rec.count ≡ v.count))
 OpensImage image (Blank m) = readable_pages image ≡ []
 OpensImage image (Damaged place m) = (readable_pages image ≢ []) × (walk image ≡ Some place)
 OpensImage image (Fault m) = ⊤

@@ -1,5 +1,7 @@
+//! A core is begun over a device that was started and walked.
 ghost use Rattle.std.specs.Prelude.{◌≡◌, ◌≤◌, ◌*◌, [], length};
 ghost use Rattle.nl_journal_commit.specs.Holding.{running_holders};
+ghost use Rattle.nl_spec_commits.specs.Trees.{all_at};
 ghost use Rattle.nl_core.specs.Core.{IsCore};
 ghost use Rattle.nl_core.specs.Trees.{CoreStands};
 ghost use Rattle.nl_device.specs.Retain.{kept_of, moved_among};
@@ -8,7 +10,7 @@ ghost use Rattle.nl_meta.specs.Consistent.{page_on};
 ghost use Rattle.nl_tree.specs.Tree.{Tree};
 ghost use Rattle.nl_flight.specs.Flight.{IsFlight, nothing};
 ghost use Rattle.nl_recover.specs.Recovering.{IsWalked};
-ghost use Rattle.nl_core_open.specs.Beginning.{BeginsCore, CanBegin, IsOver, all_at, stopped_by};
+ghost use Rattle.nl_core_open.specs.Beginning.{BeginsCore, CanBegin, IsOver, stopped_by};
 
 use nl_core::Core;
 use nl_device::Device;
@@ -22,9 +24,9 @@ use nl_recover::laws::kept_can_be_retained;
 use nl_scan::ScanTables;
 use nl_spec_commits::laws::device_stands;
 
-/// Begins a core over a device that was started and walked: exactly the pointers of its files are live, each at its place, and nothing is in
-/// flight or awaits its free. There is a pair for each of them whose place is not its name. Over an image that is sound as a tree it stands for
-/// that tree. It is read-only where the count of failed writes stands at its end. The medium is not touched.
+/// Begins a core over a device that was started and walked: exactly the pointers of its files are live, each at its place, and nothing is
+/// in flight or awaits its free. There is a pair for each of them whose place is not its name. Over an image that is sound as a tree it
+/// stands for that tree. It is read-only where the count of failed writes stands at its end. The medium is not touched.
 pub fn begin<M: Nand>(
     device: Device<M>,
     shape: Shape,
@@ -41,7 +43,8 @@ pub fn begin<M: Nand>(
     requires freeing { freeing.items ≡ [] }
     requires room { shape.pblocks * shape.pages ≤ freeing.room }
     ensures core { IsCore ⟦<Device<M> as Counts>⟧ result }
-    ensures stands { M.tells → (image : Image) (tree : Tree) → IsOver ⟦<Device<M> as Counts>⟧ device walked image tree → CoreStands ⟦<Device<M> as Counts>⟧ result (page_on image) (all_at walked.count tree) }
+    ensures stands { M.tells → (image : Image) (tree : Tree) → IsOver ⟦<Device<M> as Counts>⟧ device walked image tree
+        → CoreStands ⟦<Device<M> as Counts>⟧ result (page_on image) (all_at walked.count tree) }
     ensures pairs { (⟦<Device<M> as Counts>⟧.names result.device).space.pairs ≡ length (moved_among (kept_of device) walked.kept.items) }
     ensures files { length (running_holders ⟦<Device<M> as Counts>⟧ result.device result.meta) ≡ length walked.kept.items }
     ensures begins { BeginsCore ⟦<Device<M> as Counts>⟧ device walked result }

@@ -1,4 +1,4 @@
-//! Laws of the definitions. Each function stands for the law that its contract names.
+//! The law of a sound image: it has a readable page. A function stands for it.
 ghost use Rattle.nl_core_open.specs.Laws.{SoundIsReadable};
 
 /// An image that is sound as a tree is not blank: it has a readable page.

@@ -1,4 +1,6 @@
+//! The opening of a volume over a medium, and the figures that it tells.
 ghost use Rattle.std.specs.Prelude.{◌≡◌, ◌*◌, ◌+◌, ◌≤◌, [], IfOk, IsTrue};
+ghost use Rattle.nl_spec_commits.specs.Trees.{all_at};
 ghost use Rattle.nl_core.specs.Core.{IsCore, begun_of};
 ghost use Rattle.nl_core.specs.Trees.{CoreStands};
 ghost use Rattle.nl_field.specs.CrashStates.{Rose};
@@ -9,7 +11,6 @@ ghost use Rattle.nl_field.specs.Scan.{next_stamp_of};
 ghost use Rattle.nl_flight.specs.Flight.{nothing};
 ghost use Rattle.nl_meta.specs.Committed.{next_number};
 ghost use Rattle.nl_meta.specs.Consistent.{page_on};
-ghost use Rattle.nl_core_open.specs.Beginning.{all_at};
 ghost use Rattle.nl_core_open.specs.Figures.{TellsWear, pairs_of};
 ghost use Rattle.nl_core_open.specs.Opening.{IfCounted, IfReady, IsFault, IsOpened, OnlyReadsMedium, OpensImage, opened_medium};
 ghost use Rattle.nl_spec_image.specs.Stands.{SoundAs};
@@ -48,6 +49,7 @@ pub enum Opened<M: Nand> {
     Damaged(Place, M),
     /// A read failed.
     Fault(M),
+    /// Memory was wanted and not there.
     Memory(M),
 }
 
@@ -71,16 +73,18 @@ impl<M: Nand> Opened<M> {
 
 /// Opens the volume on a medium: one scan, the walk over its committed pages, and the pointers of its files made live, each at its place.
 /// The medium is only read. Over one that tells what it stores it is blank exactly where no page is readable, and else ready exactly where
-/// the image is consistent, or damaged at the walk's first fault; ready, it stands for the tree as which the image is sound, and its next write
-/// sequence number, the number of its next transaction, and how many pairs it has are what the image tells. Ready, it tells how many pages its
-/// files have, and the least and the greatest wear of the readable pages.
+/// the image is consistent, or damaged at the walk's first fault; ready, it stands for the tree as which the image is sound, and its next
+/// write sequence number, the number of its next transaction, and how many pairs it has are what the image tells. Ready, it tells how many
+/// pages its files have, and the least and the greatest wear of the readable pages.
 pub fn open<M: Nand>(alloc: Global, media: M) -> Opened<M>
     ensures core { IfReady result (λ v. IsCore ⟦<Device<M> as Counts>⟧ v) }
     ensures opened { IfReady result (λ v. IsOpened ⟦<Device<M> as Counts>⟧ v) }
     ensures files { IfCounted ⟦<Device<M> as Counts>⟧ result }
-    ensures number { M.tells → IfReady result (λ v. begun_of v + 1 ≡ next_number (shape_of_image (M.contents media)) (virtual_bytes (M.contents media))) }
+    ensures number { M.tells
+        → IfReady result (λ v. begun_of v + 1 ≡ next_number (shape_of_image (M.contents media)) (virtual_bytes (M.contents media))) }
     ensures told { M.tells → OpensImage (M.contents media) result }
-    ensures stands { M.tells → IfReady result (λ v. (tree : Tree) × SoundAs (M.contents media) v.count tree × CoreStands ⟦<Device<M> as Counts>⟧ v (page_on (M.contents media)) (all_at v.count tree)) }
+    ensures stands { M.tells → IfReady result (λ v. (tree : Tree) × SoundAs (M.contents media) v.count tree
+        × CoreStands ⟦<Device<M> as Counts>⟧ v (page_on (M.contents media)) (all_at v.count tree)) }
     ensures next_stamp { M.tells → IfReady result (λ v. ⟦<Device<M> as Counts>⟧.next_stamp v.device ≡ next_stamp_of (M.contents media)) }
     ensures pairs { M.tells → IfReady result (λ v. (⟦<Device<M> as Counts>⟧.names v.device).space.pairs ≡ pairs_of (M.contents media)) }
     ensures wear { M.tells → TellsWear (M.contents media) result }
@@ -102,9 +106,11 @@ fn open_formed<M: Nand>(alloc: Global, media: M, shape: Shape) -> Opened<M>
     ensures core { IfReady result (λ v. IsCore ⟦<Device<M> as Counts>⟧ v) }
     ensures opened { IfReady result (λ v. IsOpened ⟦<Device<M> as Counts>⟧ v) }
     ensures files { IfCounted ⟦<Device<M> as Counts>⟧ result }
-    ensures number { M.tells → IfReady result (λ v. begun_of v + 1 ≡ next_number (shape_of_image (M.contents media)) (virtual_bytes (M.contents media))) }
+    ensures number { M.tells
+        → IfReady result (λ v. begun_of v + 1 ≡ next_number (shape_of_image (M.contents media)) (virtual_bytes (M.contents media))) }
     ensures told { M.tells → OpensImage (M.contents media) result }
-    ensures stands { M.tells → IfReady result (λ v. (tree : Tree) × SoundAs (M.contents media) v.count tree × CoreStands ⟦<Device<M> as Counts>⟧ v (page_on (M.contents media)) (all_at v.count tree)) }
+    ensures stands { M.tells → IfReady result (λ v. (tree : Tree) × SoundAs (M.contents media) v.count tree
+        × CoreStands ⟦<Device<M> as Counts>⟧ v (page_on (M.contents media)) (all_at v.count tree)) }
     ensures next_stamp { M.tells → IfReady result (λ v. ⟦<Device<M> as Counts>⟧.next_stamp v.device ≡ next_stamp_of (M.contents media)) }
     ensures pairs { M.tells → IfReady result (λ v. (⟦<Device<M> as Counts>⟧.names v.device).space.pairs ≡ pairs_of (M.contents media)) }
     ensures wear { M.tells → TellsWear (M.contents media) result }

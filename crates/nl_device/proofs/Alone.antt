@@ -18,7 +18,7 @@ use Rattle.nl_device.proofs.Lookups.{is_number, number_is, other_number, same_nu
 use Rattle.nl_device.proofs.Places.{first_found}
 use Rattle.nl_device.proofs.Ranges.{find_same_range}
 
--- its pages lie in this block only
+-- the pages of a stamp lie in this block only
 abbrev pub lie_in : ℕ → ℕ → Option Copies → Bool
 lie_in size block None = false
 lie_in size block (Some c) = not (is_some c.apart) && c.first / size == block

@@ -145,7 +145,7 @@ module _ (old new : Physical) (place : ℕ) (t : PendingTable) (called : AreCall
       (λ led. let k = pair_back c.before (resolve new.pairs c.before) led in absurd (k.1 (sym (led_by old.pairs c.before (resolve new.pairs c.before) was.pages.one_target k.0) ∙ led_by old.pairs c.before place was.pages.one_target pair)))
       (old_or new.pairs c.before)
 
-  -- they are those of the page's stamp
+  -- the callbacks whose names led to the page are those of its stamp
   pub led_by_stamp : HasLive old → (h : Held) → held_at old place ≡ Some h → beside_stamp t.callbacks h.stamp ≡ filter (is_led new.pairs) t.callbacks
   led_by_stamp live h here = filter_same (λ e. not (e.callback.stamp == h.stamp)) (is_led new.pairs) t.callbacks (λ i within.
       let c = (entry_at t.callbacks i).callback in
@@ -162,7 +162,7 @@ module _ (old new : Physical) (place : ℕ) (t : PendingTable) (called : AreCall
       ap not (ne_eqb c.stamp h.stamp far) ∙ sym (away_true c (o.0, pair_on c.before o.0 o.1 away)))
       (cases_eq c.stamp h.stamp))
 
-  -- they are those whose names led to the page
+  -- the callbacks whose names led to the page are no longer pending
   pub pending_less : (u : PendingTable) → u.callbacks ≡ filter (is_led new.pairs) t.callbacks → callbacks_of u.callbacks ≡ callbacks_beside old.pairs (callbacks_of t.callbacks) place
   pending_less u kept = ap callbacks_of kept ∙ kept_list (led_test new.pairs) (λ c. not (list_any (λ pair. pair.0 == c.before && pair.1 == place) old.pairs)) t.callbacks agree
     where

@@ -89,7 +89,7 @@ module _ (kept : KeptPages) (copies : BTreeMap ℕ Copies) (pointers : List Poin
   abbrev Of : ℕ → Physical → Callback → Type 0
   Of n s c = (i : ℕ) × (q : Pointer) × (i < n) × (slice_get pointers i ≡ Some q) × (q.name ≡ c.before) × (retained_at kept pointers q ≢ q.name) × (held_at s (retained_at kept pointers q) ≡ held_by c)
 
-  -- those before stay
+  -- the callbacks that were there before stay
   before : (c : Callback) → Has (callbacks_of t.callbacks) c → Of (at + 1) new c
   before c has =
       let one = called.only c has in

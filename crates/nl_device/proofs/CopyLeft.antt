@@ -81,13 +81,13 @@ failed_tables old mid new began pending begun none m =
       posted = refl;
     }
 
--- and its numbers
+-- the numbers of the space after a copy that failed
 pub failed_space : (old mid new : Physical) (began : Bool) → OnTrue began ((block : ℕ) × IsChosen false old block × Begins block old mid) → OnFalse began (mid ≡ old) → MovesNone mid new → IsWhole mid → IsWhole new → (left_of mid ≡ 0 → ⊥) → TakesVictim (space_of old) (space_of mid) × Wasted (space_of mid) (space_of new)
 failed_space old mid new began begun none m was is some =
     let one = in_hand mid was some in
     (takes_victim old mid began begun none one, wasted mid new m was is one)
 
--- its counts of failures
+-- the counts of failures after a copy
 pub copy_counted : {M : Type 0} {clock reads writes : M → ℕ} {clean : Type 0} {old new : M} {answer : Answer} → CountedMove clock reads writes clean old new answer
     → {failed exact : Type 0} → (failed → answer ≡ the.Fault) → (answer ≡ the.Fault → failed) → EitherCounted exact (reads old) (reads new) (writes old) (writes new) failed
 copy_counted n to from = record {

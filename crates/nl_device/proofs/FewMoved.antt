@@ -139,7 +139,7 @@ take_few q ps n =
         let rest = counts xs k in
         omega (arith, a, b, rest)
 
--- so there is room for one that is moved
+-- there is room for a pointer that is moved
 pub room_for : (kept : KeptPages) (pointers : List Pointer) (at : ℕ) (p : Pointer) → 0 < kept.size → CanRetain kept pointers → slice_get pointers at ≡ Some p → is_moved kept (spare_for kept pointers) p ≡ true
     → length (filter (is_moved kept (spare_for kept pointers)) (take at pointers)) < 4 * kept.size
 room_for kept pointers at p some can here moved =

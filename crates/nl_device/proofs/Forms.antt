@@ -79,7 +79,7 @@ module _ (shape : Shape) (old c : Image) (is : shape_of_image old ≡ shape) (fo
   pub as_firm : ((p : ℕ) → p < shape.vblocks * shape.pages → page_at c p ≡ page_at old p) → (stored_in c).firm ≡ (stored_in old).firm
   as_firm same = firm_same old c form (subst (λ s. (p : ℕ) → p < first_physical s → page_at c p ≡ page_at old p) (sym is) same)
 
--- those of the physical segment are as before
+-- the pages of the physical segment are as before
 pub same_from : (shape : Shape) (old c : Image) → shape_of_image old ≡ shape → shape_of_image c ≡ shape → ((p : ℕ) → shape.vblocks * shape.pages ≤ p → page_at c p ≡ page_at old p) → (p : ℕ) → (stored_in c).named p ≡ (stored_in old).named p
 same_from shape old c old_is c_is same p = ⊎_elim
     (λ lt. named_below shape c c_is p lt ∙ sym (named_below shape old old_is p lt))

@@ -125,7 +125,7 @@ unfolding has_stamp holds_seen owns_seen kept_pages physical_seen
 owns_is shape seen p =
     λ i. any_same (first_physical shape) (λ page stamp. page == p.name && stamp == p.stamp) seen i || not (any_same (first_physical shape) (λ page stamp. page == p.name) seen i)
 
--- and a stamp has a page as the list tells
+-- a stamp has a page in what is kept of a scan as the list tells
 pub stamp_is : (shape : Shape) (seen : List Seen) (stamp : ℕ) → list_any (λ k. k.stamp == stamp) (kept_of_scan shape seen).pages ≡ list_any (λ s. stamp_of s.rec == stamp) (physical_seen shape seen)
 unfolding kept_pages physical_seen
 stamp_is shape seen stamp = any_same (first_physical shape) (λ page other. other == stamp) seen

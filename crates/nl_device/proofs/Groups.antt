@@ -10,7 +10,7 @@ use Rattle.nl_device.specs.declared.opening.spare.Spread.TheVariants.{Nowhere, I
 abbrev pub spread_at : List Spread → ℕ → Spread
 spread_at spreads group = slice_index_or spreads group Nowhere
 
--- it is the spread of a group that has pages in those blocks
+-- the spread is that of a group that has pages in those blocks
 abbrev pub IsSpread : Spread → (ℕ → Type 0) → Type 0
 IsSpread Nowhere HasPage = (block : ℕ) → HasPage block → ⊥
 IsSpread (In one) HasPage = HasPage one × ((block : ℕ) → HasPage block → block ≡ one)
@@ -33,7 +33,7 @@ pub record AreGrouped (size : ℕ) (pages : List Readable) (is_needed : Readable
   pub copied : (q r : Readable) (group : ℕ) → IsOneOf q pages → IsOneOf r pages → group_of q ≡ Some group → group_of r ≡ Some group → is_copy q r ≡ true
   pub each : (group : ℕ) → group < length spreads → IsSpread (spread_at spreads group) (GroupLiesIn size pages group_of group)
 
--- Then the least block that holds no group alone is the spare block.
+-- Where pages stand in groups, the least block that holds no group alone is the spare block.
 abbrev pub FindsSpare : Type 0
 FindsSpare = (image : Image) (first count : ℕ) (pages : List Readable) (is_needed : Readable → Bool) (is_copy : Readable → Readable → Bool) (group_of : Readable → Option ℕ) (spreads : List Spread)
     → AreGrouped image.pages pages is_needed is_copy group_of spreads → spare_block image first count pages is_needed is_copy ≡ spare_of first count spreads

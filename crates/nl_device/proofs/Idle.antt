@@ -48,7 +48,7 @@ unfolding space_of
 idle_left seg whole (inl hand) = hand.1
 idle_left seg whole (inr why) = none_left seg whole why.0
 
--- then no victim is begun, and none is in hand that has a live page
+-- where nothing can be copied, no victim is begun, and none is in hand that has a live page
 pub idle_mid : (old mid : Physical) (began : Bool) → IsTrue began ↔ (CannotBegin false old → ⊥) → OnFalse began (mid ≡ old) → IsWhole old → HasNothingToCopy (space_of old) → (began ≡ false) × (left_of mid ≡ 0)
 idle_mid old mid began cannot none whole idle =
     let un : began ≡ false = ⊎_elim (λ is. absurd (cannot.0 is (cannot_idle old idle))) (λ is. is) (cases_Bool began) in
@@ -78,6 +78,6 @@ mid_reason seg off left = ⊎_elim
     by : is_some seg.victim ≡ true → victims seg ≡ 1
     by some = ap (λ b. cond b 1 0) some
 
--- and where none was begun, nor had one in hand a live page, there is nothing to copy
+-- where no victim was begun, and none in hand has a live page, there is nothing to copy
 pub mid_idle : (old mid : Physical) (began : Bool) → IsTrue began ↔ (CannotBegin false old → ⊥) → OnFalse began (mid ≡ old) → began ≡ false → left_of mid ≡ 0 → HasNothingToCopy (space_of old)
 mid_idle old mid began cannot none un left = mid_reason old (λ off. true≢false (sym (cannot.1 off) ∙ un)) (ap left_of (sym (OnFalse_at un none)) ∙ left)

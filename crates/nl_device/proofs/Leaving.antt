@@ -117,7 +117,7 @@ module _ (seg : Physical) (old c : Image) (either : (p : ℕ) → (page_at c p �
       (λ q is. ⊎_elim (λ same. same) (λ dead. absurd (dead.apart is)) (either q))
       s
 
-  -- so is the page that a name names which leads to a live page
+  -- the page that a name names which leads to a live page is as it was
   pub named_either : (name : ℕ) (page : LivePage) → (names_of seg).live (led (names_of seg) name) ≡ Some page → page_at c name ≡ page_at old name
   named_either name page live = ⊎_elim
       (λ same. same)

@@ -51,7 +51,7 @@ set_held held name x q h below is = elim (cases_eq q name) [
   | inr ne ↦ inr (ne, sym (get_or-set_other held name q (Some x) None ne) ∙ is)
 ]
 
--- and after one less
+-- what is live after one page less
 pub clear_held : (held : List (Option Held)) (place q : ℕ) (h : Held) → place < length held → get_or (set held place None) q None ≡ Some h → (q ≡ place → ⊥) × (get_or held q None ≡ Some h)
 clear_held held place q h below is = elim (cases_eq q place) [
   | inl same ↦ absurd (none-some h (sym (get_or-set_same held place None None below) ∙ (ap (λ n. get_or (set held place None) n None) (sym same) ∙ is)))
@@ -94,7 +94,7 @@ live_less old new place live same blank below is = record {
     split : (p : ℕ) (h : Held) → held_at new p ≡ Some h → (p ≡ place → ⊥) × (held_at old p ≡ Some h)
     split p h has = clear_held old.held place p h below (ap (λ (l : List (Option Held)). get_or l p None) (sym is) ∙ has)
 
--- the same pages
+-- what is live where the pages are the same
 pub live_kept : (old new : Physical) → HasLive old → SamePages old new → ((p : ℕ) → TakenAsErased new p → InSegment new p) → new.held ≡ old.held → HasLive new
 live_kept old new live same blank is = record {
   in_segment = λ p h has. moved_in old new same p (live.in_segment p h (split p h has));
@@ -109,7 +109,7 @@ live_kept old new live same blank is = record {
 pub none_wait : (seg : Physical) → IsWhole seg → seg.pairs ≡ [] → waiting seg ≡ 0
 none_wait seg whole none = let few = whole.numbers.few_wait in let e = ap (λ (l : List (ℕ × ℕ)). length l) none in omega (arith, few, e)
 
--- and no name is an old one
+-- where there are no pairs, no name is an old one
 pub no_old : (pairs : List (ℕ × ℕ)) (name : ℕ) → pairs ≡ [] → (target : ℕ) × Contains pairs (name, target) → ⊥
 no_old pairs name none = subst (λ (l : List (ℕ × ℕ)). (target : ℕ) × Contains l (name, target) → ⊥) (sym none) (λ old. let lt = old.1.1 in absurd (omega (arith, lt)))
 
@@ -153,7 +153,7 @@ more_keeps old new name x dead is p h has =
 pub more_less : (old new : Physical) (name : ℕ) (x : Held) → name < length old.held → new.held ≡ set old.held name (Some x) → (p : ℕ) (h : Held) → held_at new p ≡ Some h → (held_at old p ≡ Some h) ⊎ (p ≡ name)
 more_less old new name x below is p h has = ⊎_elim (λ here. inr here.0) (λ was. inl was.1) (set_held old.held name x p h below (ap (λ (l : List (Option Held)). get_or l p None) (sym is) ∙ has))
 
--- and another one less
+-- what is live after one page more and another one less
 pub swap_keeps : (old new : Physical) (name place : ℕ) (x : Held) → held_at old name ≡ None → new.held ≡ set (set old.held name (Some x)) place None → (p : ℕ) (h : Held) → (p ≡ place → ⊥) → held_at old p ≡ Some h → held_at new p ≡ Some h
 swap_keeps old new name place x dead is p h far has =
     ap (λ (l : List (Option Held)). get_or l p None) is
@@ -170,7 +170,7 @@ less_keeps old new place is p h far has = ap (λ (l : List (Option Held)). get_o
 pub less_before : (old new : Physical) (place : ℕ) → place < length old.held → new.held ≡ set old.held place None → (p : ℕ) (h : Held) → held_at new p ≡ Some h → held_at old p ≡ Some h
 less_before old new place below is p h has = (clear_held old.held place p h below (ap (λ (l : List (Option Held)). get_or l p None) (sym is) ∙ has)).1
 
--- the same pages
+-- what is live where the pages are the same
 pub same_before : (old new : Physical) → new.held ≡ old.held → (p : ℕ) (h : Held) → held_at new p ≡ Some h → held_at old p ≡ Some h
 same_before old new is p h has = ap (λ (l : List (Option Held)). get_or l p None) (sym is) ∙ has
 

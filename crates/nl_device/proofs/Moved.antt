@@ -138,7 +138,7 @@ mid_tables old mid began begun none = ⊎_elim
     (λ is. let e = OnFalse_at is none in (ap (λ (s : Physical). s.held) e, ap (λ (s : Physical). s.pairs) e))
     (cases_Bool began)
 
--- so a move from there is one from before
+-- a move after a victim was begun is a move from the state before it
 pub copies_from : (c : Callback) (old mid : Physical) (t : PendingTable) (n : Names) → mid.held ≡ old.held → mid.pairs ≡ old.pairs → Copies c (names_with mid t) n → Copies c (names_with old t) n
 copies_from c old mid t n held pairs k = record {
   was = ap (λ (l : List (Option Held)). live_page (get_or l c.before None)) (sym held) ∙ k.was;

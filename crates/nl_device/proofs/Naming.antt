@@ -52,11 +52,11 @@ to_takes (inr k) = inr k.takes
 pub shown_from : (tag : Tag) (stamp wear : ℕ) (main : List ℕ) (page : Page) → page ≡ written (page_with main tag stamp wear) → shown_by page ≡ Some (tag, stamp, main_of page) → shown_by (written (page_with main tag stamp wear)) ≡ Some (tag, stamp, main)
 shown_from tag stamp wear main page is shows = subst (λ (p : Page). shown_by p ≡ Some (tag, stamp, main_of p)) is shows
 
--- so a page of the virtual segment is as it was
+-- after a write under a new name a page of the virtual segment is as it was
 pub either_low : {seg : Physical} {page : ℕ} {value : Page} {old c : Image} → Keeps seg old c ⊎ Takes seg page value old c → (p : ℕ) → p < seg.first * seg.size → page_at c p ≡ page_at old p
 either_low k p below = ⊎_elim (λ same. same) (λ dead. let from = dead.within.0 in absurd (omega (arith, below, from))) (either_each k p)
 
--- and a live page is
+-- after a write under a new name a live page is as it was
 pub either_live : {seg : Physical} {page : ℕ} {value : Page} {old c : Image} → Keeps seg old c ⊎ Takes seg page value old c → (p : ℕ) (h : Held) → held_at seg p ≡ Some h → page_at c p ≡ page_at old p
 either_live k p h has = ⊎_elim (λ same. same) (λ dead. absurd (none-some h (sym dead.dead ∙ has))) (either_each k p)
 

@@ -101,7 +101,7 @@ module _ (v : ℕ) where
   unfolding greatest_of
   most os o is at = fold_has raise raise_grows o o.stamp (λ n. let e = raise_at n o at in omega (arith, e)) os 0 is
 
-  -- and one has that stamp, or it is 0
+  -- one page of the address has the greatest stamp, or that is 0
   pub reached : (os : List Own) → (greatest_of os v ≡ 0) ⊎ ((o : Own) × In o os × (o.vaddr ≡ v) × (greatest_of os v ≡ o.stamp))
   unfolding greatest_of
   reached os = raised_by os 0

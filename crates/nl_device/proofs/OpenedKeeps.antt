@@ -82,7 +82,7 @@ module _ (image : Image) (block : ℕ) (spare : virtual_spare image ≡ Some blo
           let mine = filter_from test q.0 pages q.1 (and_from (address_on q.0 == v) (has_greatest_stamp pages q.0) (eq-eqb (address_on q.0) v (address ∙ n.1)) most) in
           none_found out (filter test pages) q.0 none mine (outside_is q.0 ∙ parts.0)
 
--- so the segment keeps that block free of the map
+-- the opened segment keeps the spare block free of the map
 pub opened_keeps : (image : Image) (t : Table) (vseg : Segment) (block : ℕ) → IsTableOf image t → IsOpenedVirtual (shape_of_image image) t vseg → virtual_spare image ≡ Some block → KeepsSpare vseg
 opened_keeps image t vseg block is opened spare =
     let shape = shape_of_image image in

@@ -95,7 +95,7 @@ pub named_at : (image : Image) (p : ℕ) → first_physical (shape_of_image imag
 unfolding stored_in physical_page_at physical_pages readable_pages
 named_at image p from = at (first_physical (shape_of_image image)) p p 0 image.contents from (omega arith)
 
--- and a page before it stores nothing there
+-- a page before the physical segment stores nothing under a name
 pub named_low : (image : Image) (p : ℕ) → p < first_physical (shape_of_image image) → (stored_in image).named p ≡ None
 unfolding stored_in physical_page_at physical_pages readable_pages
 named_low image p below = ap named_in (low (first_physical (shape_of_image image)) p 0 image.contents below)

@@ -119,7 +119,7 @@ count_from : (kept : KeptPages) (count : ℕ) → kept.count ≡ count → 0 < c
 count_from kept zero is some = absurd (omega (arith, some))
 count_from kept (suc n) is some = (n, is)
 
--- so no pointer can be retained
+-- where a segment has a block, no pointers at all can be retained
 pub can_none : (kept : KeptPages) (count : ℕ) → kept.count ≡ count → 0 < count → CanRetain kept []
 can_none kept count is some =
     let c = count_from kept count is some in

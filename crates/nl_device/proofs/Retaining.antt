@@ -80,7 +80,7 @@ module _ (kept : KeptPages) (copies : BTreeMap ℕ Copies) (pointers : List Poin
       let e : a.kept_page ≡ b.kept_page = same_Some a.kept_page b.kept_page (sym a.found ∙ ap (λ n. find (λ (k : KeptPage). k.page == n) kept.pages) same ∙ b.found) in
       sym a.stamp ∙ ap (λ (k : KeptPage). k.stamp) e ∙ b.stamp
 
-  -- and so have two of which one has its place at the other's name
+  -- two pointers of which one has its place at the other's name have one stamp
   pub same_owner : (i j : ℕ) (p q : Pointer) → Listed i p → Listed j q → place p ≡ q.name → p.stamp ≡ q.stamp
   same_owner i j p q first second same =
       let a = there_at i p first in
@@ -280,7 +280,7 @@ module _ (kept : KeptPages) (copies : BTreeMap ℕ Copies) (pointers : List Poin
       let other : count_by (is_kept seg) (range_with_len kept.first kept.count) + needed_blocks kept pointers ≡ kept.count = count_other (is_taken kept (spare_for kept pointers) pointers) (is_kept seg) kept.first kept.count (λ block from below. loaded.blocks block from below ∙ ap not (taken_all block)) in
       omega (arith, all, same, other)
 
-  -- and the spare block is one
+  -- a block is Free or waits, since the spare block is one that is kept
   pub some_kept : 1 ≤ seg.free + waiting seg
   unfolding spare_among needed_blocks
   some_kept = by (spare_for kept pointers) refl can.spare

@@ -145,7 +145,7 @@ module _ (shape : Shape) (needed : List Own) (spreads : List Spread) (are : Tabu
           none_found at_block needed x.0 none (to_in x.0 needed x.1)
           (and_from (x.0.vaddr == v) (not (x.0.page / shape.pages == block)) (eq-eqb x.0.vaddr v x.2) (not_from_false (x.0.page / shape.pages == block) (ne_eqb (x.0.page / shape.pages) block (λ same. q.1 (sym x.3 ∙ same)))))
 
-  -- so the page that an address gets does not
+  -- the page that an address gets does not lie in the spare block
   pick_outside : (place : Place) → option_map place_on (pick_of shape.pages (Some block) needed v) ≡ Some place → place.page / shape.pages ≡ block → ⊥
   unfolding pick_of
   pick_outside place is here = by (first_outside shape.pages (Some block) needed v) refl (first_outside shape.pages None needed v) refl is

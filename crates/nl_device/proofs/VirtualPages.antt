@@ -67,7 +67,7 @@ newest_is : (image : Image) (v : ℕ) → newest image v ≡ newest_of image.pag
 unfolding newest newest_of virtual_spare spare_block
 newest_is image v = refl
 
--- so the addresses have the same values
+-- where the pages of the virtual segment are the same, the addresses have the same values
 pub virtual_same : (old c : Image) → SameForm old c → ((p : ℕ) → p < first_physical (shape_of_image old) → page_at c p ≡ page_at old p) → (v : ℕ) → (stored_in c).virtual v ≡ (stored_in old).virtual v
 unfolding stored_in
 virtual_same old c form same v = ap (option_map value_on)
@@ -84,6 +84,6 @@ firm_is : (image : Image) → (stored_in image).firm ≡ firm_of image.pages (sh
 unfolding stored_in is_firm firm_of virtual_spare spare_block
 firm_is image = refl
 
--- so it is as firm as before
+-- where the pages of the virtual segment are the same, an image is as firm as before
 pub firm_same : (old c : Image) → SameForm old c → ((p : ℕ) → p < first_physical (shape_of_image old) → page_at c p ≡ page_at old p) → (stored_in c).firm ≡ (stored_in old).firm
 firm_same old c form same = firm_is c ∙ ((λ i. firm_of (form.pages i) (shape_for (form.blocks i) (form.pages i)).vblocks (pages_same old c form same i)) ∙ sym (firm_is old))

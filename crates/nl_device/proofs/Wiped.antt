@@ -45,7 +45,7 @@ hand_of : (o : Option ℕ) → hand_count o ≡ 1 → (block : ℕ) × (o ≡ So
 hand_of None one = absurd (omega (arith, one))
 hand_of (Some block) one = (block, refl)
 
--- else a victim is in hand that has no live page
+-- where an erase finds something to erase, a victim is in hand that has no live page
 pub erasable : (seg : Physical) → (((victims seg ≡ 1) × (left_of seg ≡ 0) → ⊥) → ⊥) → (block : ℕ) × (seg.victim ≡ Some block) × (left_of seg ≡ 0)
 erasable seg some = ⊎_elim
     (λ one. ⊎_elim
@@ -55,7 +55,7 @@ erasable seg some = ⊎_elim
     (λ off. absurd (some (λ both. off both.0)))
     (cases_eq (victims seg) 1)
 
--- it can be done without, whatever an image holds of it
+-- a victim without a live page can be done without, whatever an image holds of it
 pub victim_spare : (seg : Physical) (image : Image) (block : ℕ) → HasSpareBlock seg → seg.victim ≡ Some block → left_of seg ≡ 0 → HasSpare image seg
 victim_spare seg image block spare named none = record {
   block = block;

@@ -106,7 +106,7 @@ pub beyond_of : {pages bound v next : ℕ} {main : List ℕ} {map : ℕ → Opti
 beyond_of (inl k) = k.beyond
 beyond_of (inr k) = k.beyond
 
--- so the physical segment is that of the image still
+-- the physical segment is that of the image still, where the pages from its first on stay
 pub physical_kept : (bound : ℕ) (seg : Physical) (old c : Image) → HasLive seg → IsWhole seg → seg.first * seg.size ≡ bound → ((p : ℕ) → bound ≤ p → page_at c p ≡ page_at old p) → IsPhysicalOf old seg → IsPhysicalOf c seg
 physical_kept bound seg old c live whole first same is = record {
   holds = λ p h held.
@@ -126,7 +126,7 @@ module _ (pages bound v next : ℕ) (main : List ℕ) (map now : ℕ → Option 
       (λ was. record { shown = was.1.shown; newer = was.1.newer })
       (takes_each pages bound v next main map old c k below u x.0 x.1 stray.shown)
 
-  -- and at the address that was written none is newer
+  -- at the address that was written no value is newer
   pub none_stray : Takes pages bound map v next main old c → ((u : ℕ) → now u ≡ with_value map v (next, main) u) → (x : Value) → IsStray bound c now v x → ⊥
   none_stray k is x stray = ⊎_elim
       (λ d. stray.newer (subst (λ o. Dominated o x.0 x.1) (sym (is v)) d))

@@ -23,7 +23,8 @@ handled_in (e ∷ es) n = if e.callback.number == n then e.transaction else hand
 
 -- the names of a segment with the pending callbacks
 abbrev pub names_with : Physical → PendingTable → Names
-names_with pseg table = record (names_of pseg) { pending = callbacks_of table.callbacks; handled = handled_in table.callbacks; posted = table.posted }
+names_with pseg table =
+    record (names_of pseg) { pending = callbacks_of table.callbacks; handled = handled_in table.callbacks; posted = table.posted }
 
 -- of these callbacks one has this number, and no transaction handled it
 abbrev pub IsUnhandled : List Callback → (ℕ → Option ℕ) → ℕ → Type 0

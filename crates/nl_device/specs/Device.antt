@@ -67,7 +67,8 @@ pub record IsOnMedium (shape : Shape) (next : ℕ) (image : Image) (vseg : Segme
   pub physical_is : IsPhysicalOf image pseg
   pub there : (v s : ℕ) (main : List ℕ) → map_of vseg.places image v ≡ Some (s, main) → Shows (shape.vblocks * shape.pages) image v s main
   pub below : (v t : ℕ) (n : List ℕ) → Shows (shape.vblocks * shape.pages) image v t n → t < next
-  pub shown : StoresMap shape.vaddrs (λ v. map_of vseg.places image v) (λ v x. IsStray (shape.vblocks * shape.pages) image (λ u. map_of vseg.places image u) v x) (stored_in image)
+  pub shown : StoresMap shape.vaddrs (λ v. map_of vseg.places image v)
+      (λ v x. IsStray (shape.vblocks * shape.pages) image (λ u. map_of vseg.places image u) v x) (stored_in image)
   pub holds : HoldsLive (names_of pseg).live (λ p. bytes_at (shape.vblocks * shape.pages) image p) (stored_in image)
   pub beyond : NoneBeyond shape.vaddrs (stored_in image)
   pub pages : LeavesPages shape (names_of pseg) (λ p. bytes_at (shape.vblocks * shape.pages) image p) (stored_in image)
@@ -87,7 +88,8 @@ pub record IsFoundStored (kept : KeptPages) (bytes : ℕ → List ℕ) (c : Stor
   pub only : (p : ℕ) → found_in kept p ≡ None → (kept.pages ≡ []) ⊎ (c.named p ≡ None)
 
 -- The tables stand for the medium, and for the names that are shown. What the scan found, and was not forgotten since, is stored.
-pub record IsDevice (geometry : Geometry) (tells : Type 0) (image : Image) (shape : Shape) (vseg : Segment) (pseg : Physical) (pending : PendingTable) (kept : KeptPages) (next : ℕ) : Type 0 where
+pub record IsDevice (geometry : Geometry) (tells : Type 0) (image : Image) (shape : Shape) (vseg : Segment) (pseg : Physical)
+    (pending : PendingTable) (kept : KeptPages) (next : ℕ) : Type 0 where
   pub segments : HasSegments geometry shape vseg pseg
   pub mapped : HasMapped vseg
   pub live : HasLive pseg

@@ -40,7 +40,8 @@ kept_pages low seen = filter_map (kept_from low) seen
 
 -- what is kept of the pages that a scan saw
 abbrev pub kept_of_scan : Shape → List Seen → KeptPages
-kept_of_scan shape seen = record { first = shape.vblocks; count = shape.pblocks; size = shape.pages; pages = kept_pages (first_physical shape) seen }
+kept_of_scan shape seen =
+    record { first = shape.vblocks; count = shape.pblocks; size = shape.pages; pages = kept_pages (first_physical shape) seen }
 
 -- the page of that number has the stamp
 unfoldable pub has_stamp : List KeptPage → ℕ → ℕ → Bool
@@ -52,7 +53,8 @@ copy_apart size pages stamp page = option_map (λ k. k.page) (find (λ k. k.stam
 
 -- the least page of the stamp, and the least one in another block
 unfoldable pub copies_of : ℕ → List KeptPage → ℕ → Option Copies
-copies_of size pages stamp = option_map (λ k. record { first = k.page; apart = copy_apart size pages stamp k.page }) (find (λ k. k.stamp == stamp) pages)
+copies_of size pages stamp =
+    option_map (λ k. record { first = k.page; apart = copy_apart size pages stamp k.page }) (find (λ k. k.stamp == stamp) pages)
 
 -- the copies of each stamp are noted
 abbrev pub AreNoted : ℕ → List KeptPage → BTreeMap ℕ Copies → Type 0

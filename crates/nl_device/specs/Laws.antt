@@ -23,20 +23,27 @@ stamp_of_value : (image : Image) (place : Option Place) → option_map (λ (x : 
 stamp_of_value image None = refl
 stamp_of_value image (Some place) = refl
 
-pub stamp_in_map : (places : List (Option Place)) (image : Image) (v : ℕ) → option_map (λ (x : Value). x.0) (map_of places image v) ≡ stamp_for places v
+pub stamp_in_map : (places : List (Option Place)) (image : Image) (v : ℕ)
+    → option_map (λ (x : Value). x.0) (map_of places image v) ≡ stamp_for places v
 stamp_in_map places image v = stamp_of_value image (place_of places v)
 
-pub state_is : {geometry : Geometry} {tells : Type 0} {image : Image} {shape : Shape} {vseg : Segment} {pseg : Physical} {pending : PendingTable} {kept : KeptPages} {next : ℕ} (bytes : ℕ → List ℕ) (map : ℕ → Option Value) → IsDevice geometry tells image shape vseg pseg pending kept next
+pub state_is : {geometry : Geometry} {tells : Type 0} {image : Image} {shape : Shape} {vseg : Segment} {pseg : Physical}
+    {pending : PendingTable} {kept : KeptPages} {next : ℕ} (bytes : ℕ → List ℕ) (map : ℕ → Option Value)
+    → IsDevice geometry tells image shape vseg pseg pending kept next
     → IsDeviceState shape.pages (state_of (names_with pseg pending) bytes map next)
 state_is {geometry} {tells} {image} {shape} {vseg} {pseg} {pending} {kept} {next} bytes map f =
-    subst (λ pages. IsDeviceState pages (state_of (names_with pseg pending) bytes map next)) f.segments.physical_pages (state_called pseg pending bytes map next f.spare.whole f.live f.called)
+    subst (λ pages. IsDeviceState pages (state_of (names_with pseg pending) bytes map next)) f.segments.physical_pages
+    (state_called pseg pending bytes map next f.spare.whole f.live f.called)
 
 -- a write that failed has a lesser stamp than the next
-pub failed_below : {shape : Shape} {next : ℕ} {image : Image} {vseg : Segment} {pseg : Physical} → IsOnMedium shape next image vseg pseg → (v : ℕ) (x : Value) → IsStray (shape.vblocks * shape.pages) image (λ u. map_of vseg.places image u) v x → x.0 + 1 ≤ next
+pub failed_below : {shape : Shape} {next : ℕ} {image : Image} {vseg : Segment} {pseg : Physical}
+    → IsOnMedium shape next image vseg pseg → (v : ℕ) (x : Value)
+    → IsStray (shape.vblocks * shape.pages) image (λ u. map_of vseg.places image u) v x → x.0 + 1 ≤ next
 failed_below on v x stray = let lt = on.below v x.0 x.1 stray.shown in omega (arith, lt)
 
 -- the names with their callbacks
-pub names_as : {shape : Shape} {next : ℕ} (pseg : Physical) (table : PendingTable) → IsTable table.callbacks table.posted → IsNames shape next (names_of pseg) → IsNames shape next (names_with pseg table)
+pub names_as : {shape : Shape} {next : ℕ} (pseg : Physical) (table : PendingTable) → IsTable table.callbacks table.posted
+    → IsNames shape next (names_of pseg) → IsNames shape next (names_with pseg table)
 names_as pseg table numbers is = record {
   space = is.space;
   block = is.block;
@@ -51,8 +58,18 @@ names_as pseg table numbers is = record {
 }
 
 -- what is left of the live pages does not hang on the callbacks
-pub leaves_as : {shape : Shape} {bytes : ℕ → List ℕ} {c : Stored} (pseg : Physical) (table : PendingTable) → LeavesPages shape (names_of pseg) bytes c → LeavesPages shape (names_with pseg table) bytes c
-leaves_as pseg table l = record { spare = l.spare; from = l.from; below = l.below; held = l.held; own = l.own; stale = l.stale; few = l.few; at_names = l.at_names }
+pub leaves_as : {shape : Shape} {bytes : ℕ → List ℕ} {c : Stored} (pseg : Physical) (table : PendingTable)
+    → LeavesPages shape (names_of pseg) bytes c → LeavesPages shape (names_with pseg table) bytes c
+leaves_as pseg table l = record {
+  spare = l.spare;
+  from = l.from;
+  below = l.below;
+  held = l.held;
+  own = l.own;
+  stale = l.stale;
+  few = l.few;
+  at_names = l.at_names;
+}
 
 -- the victim is one block
 pub in_hand : (pseg : Physical) → (space_of pseg).victim ≡ cond (is_some pseg.victim) 1 0

@@ -26,7 +26,8 @@ pub record Tabulates {Y : Type 0} (count : ℕ) (default : Y) (value : ℕ → Y
 
 -- what a readable page of the virtual segment is for
 abbrev pub own_in : Shape → ℕ → SpareRec → Option Own
-own_in shape page (Virtual vaddr stamp wear) = if nat_lt vaddr shape.vaddrs then Some (record { page = page; vaddr = vaddr; stamp = stamp }) else None
+own_in shape page (Virtual vaddr stamp wear) =
+    if nat_lt vaddr shape.vaddrs then Some (record { page = page; vaddr = vaddr; stamp = stamp }) else None
 own_in shape page (Physical tag stamp wear) = None
 
 abbrev pub own_of : Shape → Seen → Option Own
@@ -114,7 +115,8 @@ pub record IsOpenedVirtual (shape : Shape) (t : Table) (vseg : Virtuals) : Type 
   pub addresses : length vseg.places ≡ shape.vaddrs
   pub spreads : List Spread
   pub are_spreads : Tabulates shape.vaddrs Nowhere (spread_in shape.pages (needed_of shape t.seen)) spreads
-  pub places : (v : ℕ) → v < shape.vaddrs → place_of vseg.places v ≡ option_map place_on (pick_of shape.pages (spare_of 0 shape.vblocks spreads) (needed_of shape t.seen) v)
+  pub places : (v : ℕ) → v < shape.vaddrs
+      → place_of vseg.places v ≡ option_map place_on (pick_of shape.pages (spare_of 0 shape.vblocks spreads) (needed_of shape t.seen) v)
   pub blank : (p : ℕ) → is_blank vseg p ≡ true → (p < vseg.bound) × SaysErased t (p / shape.pages)
 
 -- The physical segment after a scan: no page is live, each block is Free, and only pages of blocks that read as erased are taken

@@ -16,7 +16,8 @@ only_running running = record { running = running; flight = []; freeing = [] }
 
 -- each pointer has the tag that was found at its place with its stamp
 abbrev pub AreTagged : (Pointer → ℕ) → List (ℕ × LivePage) → List (Tag × Pointer) → Type 0
-AreTagged place found running = (h : Tag × Pointer) (page : LivePage) → Has running h → Has found (place h.1, page) → page.stamp ≡ h.1.stamp → page.tag ≡ h.0
+AreTagged place found running =
+    (h : Tag × Pointer) (page : LivePage) → Has running h → Has found (place h.1, page) → page.stamp ≡ h.1.stamp → page.tag ≡ h.0
 
 -- The list of a scan tells a spare block for the stamps of the pointers and a page of each of them; no two share a stamp or a name; they
 -- own their names, and few are lost.

@@ -69,12 +69,15 @@ tag_on kept page = unwrap_or (option_map (λ k. k.tag) (find (λ k. k.page == pa
 
 -- the callback of this number: the page of the pointer's name is now at its place
 abbrev pub call_for : KeptPages → Option ℕ → ℕ → Pointer → Callback
-call_for kept spare number p = record { number = number; before = p.name; after = placed_at kept spare p; tag = tag_on kept (placed_at kept spare p); stamp = p.stamp }
+call_for kept spare number p =
+    record { number = number; before = p.name; after = placed_at kept spare p; tag = tag_on kept (placed_at kept spare p); stamp = p.stamp }
 
 -- the callbacks of those of the pointers whose places are not their names, in their order, with the numbers from the one after `posted` on
 unfoldable pub calls_beside : KeptPages → Option ℕ → ℕ → List Pointer → List Callback
 calls_beside kept spare posted [] = []
-calls_beside kept spare posted (p ∷ ps) = if is_moved kept spare p then call_for kept spare (posted + 1) p ∷ calls_beside kept spare (posted + 1) ps else calls_beside kept spare posted ps
+calls_beside kept spare posted (p ∷ ps) =
+    if is_moved kept spare p then call_for kept spare (posted + 1) p ∷ calls_beside kept spare (posted + 1) ps
+    else calls_beside kept spare posted ps
 
 abbrev pub calls_for : KeptPages → List Pointer → ℕ → List Callback
 calls_for kept pointers posted = calls_beside kept (spare_for kept pointers) posted pointers
@@ -157,14 +160,18 @@ pub record IsCalled (kept : KeptPages) (spare : Option ℕ) (p : Pointer) (old n
 -- The first pointers are loaded, so many of them: exactly these are live, each at its place, to which its name leads.
 pub record HasLoaded (kept : KeptPages) (pointers : List Pointer) (at : ℕ) (old seg : Physical) : Type 0 where
   pub segment : IsSegmentFor kept seg
-  pub listed : (i : ℕ) (p : Pointer) → i < at → slice_get pointers i ≡ Some p → held_at seg (retained_at kept pointers p) ≡ held_for kept (retained_at kept pointers p) p
-  pub only : (page : ℕ) (h : Held) → held_at seg page ≡ Some h → (i : ℕ) × (p : Pointer) × (i < at) × (slice_get pointers i ≡ Some p) × (retained_at kept pointers p ≡ page) × (h.stamp ≡ p.stamp)
+  pub listed : (i : ℕ) (p : Pointer) → i < at → slice_get pointers i ≡ Some p
+      → held_at seg (retained_at kept pointers p) ≡ held_for kept (retained_at kept pointers p) p
+  pub only : (page : ℕ) (h : Held) → held_at seg page ≡ Some h
+      → (i : ℕ) × (p : Pointer) × (i < at) × (slice_get pointers i ≡ Some p) × (retained_at kept pointers p ≡ page) × (h.stamp ≡ p.stamp)
   pub ways : (i : ℕ) (p : Pointer) → i < at → slice_get pointers i ≡ Some p → resolve seg.pairs p.name ≡ retained_at kept pointers p
-  pub olds : (name : ℕ) → IsOldName seg name → (i : ℕ) × (p : Pointer) × (i < at) × (slice_get pointers i ≡ Some p) × (p.name ≡ name) × (retained_at kept pointers p ≢ name)
+  pub olds : (name : ℕ) → IsOldName seg name
+      → (i : ℕ) × (p : Pointer) × (i < at) × (slice_get pointers i ≡ Some p) × (p.name ≡ name) × (retained_at kept pointers p ≢ name)
   pub live : live_in seg.held ≡ at
   pub pages : length seg.held ≡ length old.held
   pub pairs : length seg.pairs ≡ length (filter (is_moved kept (spare_for kept pointers)) (take at pointers))
-  pub blocks : (block : ℕ) → kept.first ≤ block → block < kept.first + kept.count → is_kept seg block ≡ not (is_taken kept (spare_for kept pointers) (take at pointers) block)
+  pub blocks : (block : ℕ) → kept.first ≤ block → block < kept.first + kept.count
+      → is_kept seg block ≡ not (is_taken kept (spare_for kept pointers) (take at pointers) block)
   pub kept_before : (block : ℕ) → is_kept seg block ≡ true → is_kept old block ≡ true
   pub same_soiled : (block : ℕ) → soiled seg block ≡ soiled old block
   pub left : seg.left ≤ old.left
@@ -176,18 +183,22 @@ pub record HasLoaded (kept : KeptPages) (pointers : List Pointer) (at : ℕ) (ol
   pub kept_block : KeepsBlock old → 1 ≤ seg.free + waiting seg → KeepsBlock seg
   pub kept_dead : KeptAreDead old → KeptAreDead seg
 
--- And each of them whose place is not its name has a callback, which was posted in this order.
+-- Each of the first pointers whose place is not its name has a callback. These were posted in the order of the pointers.
 pub record HasCalled (kept : KeptPages) (pointers : List Pointer) (at : ℕ) (seg : Physical) (old t : PendingTable) : Type 0 where
   pub numbers : IsTable t.callbacks t.posted
-  pub only : (c : Callback) → Has (callbacks_of t.callbacks) c → (i : ℕ) × (p : Pointer) × (i < at) × (slice_get pointers i ≡ Some p) × (p.name ≡ c.before) × (retained_at kept pointers p ≢ p.name) × (held_at seg (retained_at kept pointers p) ≡ held_by c)
-  pub each : (i : ℕ) (p : Pointer) → i < at → slice_get pointers i ≡ Some p → retained_at kept pointers p ≢ p.name → (c : Callback) × Has (callbacks_of t.callbacks) c × (c.before ≡ p.name)
+  pub only : (c : Callback) → Has (callbacks_of t.callbacks) c
+      → (i : ℕ) × (p : Pointer) × (i < at) × (slice_get pointers i ≡ Some p) × (p.name ≡ c.before)
+      × (retained_at kept pointers p ≢ p.name) × (held_at seg (retained_at kept pointers p) ≡ held_by c)
+  pub each : (i : ℕ) (p : Pointer) → i < at → slice_get pointers i ≡ Some p → retained_at kept pointers p ≢ p.name
+      → (c : Callback) × Has (callbacks_of t.callbacks) c × (c.before ≡ p.name)
   pub once : NamesDiffer t.callbacks
   pub unhandled : (n : ℕ) → handled_in t.callbacks n ≡ None
   pub count : length t.callbacks ≡ length (filter (is_moved kept (spare_for kept pointers)) (take at pointers))
   pub room : length t.callbacks + t.room ≡ 4 * kept.size
   pub posted : t.posted ≡ min (old.posted + length t.callbacks) (2 ^ 64 - 1)
   pub unchanged : at ≡ 0 → t ≡ old
-  pub in_order : old.posted + length t.callbacks < 2 ^ 64 → t.callbacks ≡ map new_entry (calls_beside kept (spare_for kept pointers) old.posted (take at pointers))
+  pub in_order : old.posted + length t.callbacks < 2 ^ 64
+      → t.callbacks ≡ map new_entry (calls_beside kept (spare_for kept pointers) old.posted (take at pointers))
 
 -- every block of the segment is Free
 abbrev pub HasAllFree : Shape → Names → Type 0

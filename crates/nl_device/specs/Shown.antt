@@ -1,4 +1,4 @@
--- What a device shows.
+-- What a device shows: its names, the bytes of its pages, and what it found at its start.
 use Rattle.std.specs.Prelude.{ℕ, nat_lt, ◌==◌, cond, find, map, option_map, List, [], Option, Some, None}
 use Rattle.nl_field.specs.Page.{Image, page_at}
 use Rattle.nl_iface.specs.Names.{LivePage, Names}
@@ -18,7 +18,15 @@ live_page (Some h) = Some (record { tag = h.tag; stamp = h.stamp })
 
 -- the live pages and what leads to them, where no callback is pending
 abbrev pub names_of : Physical → Names
-names_of pseg = record { live = λ p. live_page (held_at pseg p); pairs = pseg.pairs; pending = []; handled = λ n. None; posted = 0; space = space_of pseg }
+names_of pseg =
+    record {
+      live = λ p. live_page (held_at pseg p);
+      pairs = pseg.pairs;
+      pending = [];
+      handled = λ n. None;
+      posted = 0;
+      space = space_of pseg;
+    }
 
 -- The image shows a value of the address that is neither the map's nor older.
 pub record IsStray (bound : ℕ) (image : Image) (map : ℕ → Option Value) (v : ℕ) (x : Value) : Type 0 where

@@ -1,4 +1,4 @@
--- When a stamp is taken.
+-- Which answers of a write say that its stamp was taken.
 use Rattle.std.specs.Prelude.{Bool, true, false}
 use Rattle.nl_field.specs.declared.answers.Named.{Named}
 use Rattle.nl_field.specs.declared.answers.Named.TheVariants as named

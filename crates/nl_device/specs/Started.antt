@@ -31,10 +31,12 @@ IfMemory (Memory m) P = P m
 
 -- A block of the virtual segment can be done without, by what was seen or on a medium that tells its contents.
 abbrev pub HasVirtualSpare : Type 0 → Image → Shape → List Seen → Type 0
-HasVirtualSpare tells image shape seen = (block : ℕ) × ((virtual_spare_seen shape seen ≡ Some block) ⊎ (tells × (virtual_spare image ≡ Some block)))
+HasVirtualSpare tells image shape seen =
+    (block : ℕ) × ((virtual_spare_seen shape seen ≡ Some block) ⊎ (tells × (virtual_spare image ≡ Some block)))
 
--- What a device has after a start: the numbers of its medium; no page under a name, nothing that leads to one, and no callback posted; no block in hand; each block of the
--- segment Free, and room in all but one; and the stamp after the greatest that was seen.
+-- What a device has after a start: the numbers of its medium; no page under a name, nothing that leads to one, and no callback
+-- posted; no block in hand; each block of the segment Free, and room in all but one; and the stamp after the greatest that was
+-- seen.
 pub record IsStarted (geometry : Geometry) (t : Table) (shape : Shape) (names : Names) (next : ℕ) : Type 0 where
   pub numbers : shape ≡ shape_for geometry.blocks geometry.pages
   pub live : (p : ℕ) → names.live p ≡ None

@@ -1,3 +1,4 @@
+// Takes pending callbacks away: those that are over, and those of pages that are gone.
 ghost use Rattle.std.specs.Prelude.{◌≡◌, ◌+◌, if◌then◌else◌, length};
 ghost use Rattle.nl_callbacks.specs.Pending.{IsTable, beside_stamp, unacknowledged};
 ghost use Rattle.nl_device.specs.Callbacks.{AreCalled, DropsNames, NamesDiffer};

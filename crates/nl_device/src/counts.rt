@@ -1,3 +1,4 @@
+// What is seen of a device, and the counts of its medium.
 ghost use Rattle.std.specs.Prelude.{◌≡◌, ◌*◌};
 ghost use Rattle.nl_device.specs.Device.{IsDevice};
 ghost use Rattle.nl_device.specs.Shown.{IsStray, bytes_at, found_by_number};
@@ -37,7 +38,8 @@ impl<M: Nand> Counts for Device<M> {
 
     ghost map = { λ d v. map_of d.vseg.places (M.contents d.media) v };
 
-    ghost failed = { λ d v x. IsStray (d.shape.vblocks * d.shape.pages) (M.contents d.media) (λ u. map_of d.vseg.places (M.contents d.media) u) v x };
+    ghost failed = { λ d v x. IsStray (d.shape.vblocks * d.shape.pages) (M.contents d.media)
+        (λ u. map_of d.vseg.places (M.contents d.media) u) v x };
 
     ghost keeps_spare = { λ d. KeepsSpare d.vseg };
 

@@ -1,3 +1,4 @@
+// The device, and what it is seen as.
 use crate::kept::Kept;
 use nl_callbacks::Pending;
 use nl_field::{PageBuf, Shape};

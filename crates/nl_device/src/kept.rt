@@ -1,3 +1,4 @@
+// What a device keeps of the scan of its start.
 ghost use Rattle.std.specs.Prelude.{◌≡◌, ◌*◌, ◌+◌, ◌<◌, ◌^◌, ◌++◌, ◌∷◌, [], All, IfOk, OnOk, Some, length};
 ghost use Rattle.std.specs.List.{AllPairs};
 ghost use Rattle.std.specs.Ordering.{nat_cmp};
@@ -40,7 +41,12 @@ impl Model for Kept {
 
     ghost view = { λ k. record { first = k.first; count = length k.alone.items; size = k.size; pages = k.pages.items } };
 
-    ghost invariant = { λ k. IsKept (record { first = k.first; count = length k.alone.items; size = k.size; pages = k.pages.items }) k.copies };
+    ghost invariant = { λ k. IsKept (record {
+      first = k.first;
+      count = length k.alone.items;
+      size = k.size;
+      pages = k.pages.items;
+    }) k.copies };
 }
 
 impl Kept {
@@ -91,7 +97,8 @@ fn kept_from(low: u64, seen: &Seen) -> Option<KeptPage>
 /// Notes a page among the copies of its stamp.
 fn note(copies: &mut BTreeMap<u64, Copies>, page: &KeptPage, size: u32) -> Result<(), Memory>
     requires { 0 < size }
-    ensures { OnOk result (Updates nat_cmp copies.old copies.new page.now.stamp (Some (noted size page.now.page (get nat_cmp copies.old page.now.stamp)))) }
+    ensures { OnOk result (Updates nat_cmp copies.old copies.new page.now.stamp
+        (Some (noted size page.now.page (get nat_cmp copies.old page.now.stamp)))) }
 {
     let noted = match copies.get(&page.stamp) {
         Some(seen) => seen.with(page.page, size),

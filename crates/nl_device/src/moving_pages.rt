@@ -1,3 +1,4 @@
+// The device moves pages to other places so that a block can be erased, and keeps a callback of each move.
 ghost use Rattle.nl_device.specs.Laws.{in_hand, none_bad};
 ghost use Rattle.nl_field.specs.Page.{erased, page_at};
 ghost use Rattle.nl_pseg.specs.Cleaning.{IsChosen};

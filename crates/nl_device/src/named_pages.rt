@@ -1,3 +1,4 @@
+// The device reads, writes and frees pages under names that it picks.
 ghost use Rattle.nl_device.specs.Laws.{leaves_as, names_as, state_is};
 
 use crate::callbacks::cancel_gone;
@@ -12,7 +13,11 @@ impl<M: Nand> NamedPages for Device<M> {
 
     ghost tables = { λ s f. names_as s.pseg s.pending f.called.numbers f.names };
 
-    ghost stores_pages = { λ s t f. record { holds = (f.medium t).holds; pages = leaves_as s.pseg s.pending (f.medium t).pages; named_below = (f.medium t).named_below } };
+    ghost stores_pages = { λ s t f. record {
+      holds = (f.medium t).holds;
+      pages = leaves_as s.pseg s.pending (f.medium t).pages;
+      named_below = (f.medium t).named_below;
+    } };
 
     fn nameless_write(&mut self, tag: Tag, from: &PageBuf) -> Named {
         let answer = self

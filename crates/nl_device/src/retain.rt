@@ -1,3 +1,4 @@
+// Serves an opening: makes the pages of listed pointers live, and all other pages under names free.
 ghost use Rattle.std.specs.Prelude.{◌≡◌, ◌+◌, ◌^◌, ◌<◌, ℕ, [], length, None};
 ghost use Rattle.nl_iface.specs.Moves.{Retains};
 ghost use Rattle.nl_device.specs.Retain.{CanRetain, HasAllFree, HasPosted, IsReopened, SameMedium, calls_for, kept_of, moved_among, needed_blocks, retained_at};
@@ -22,11 +23,18 @@ impl<M: Nand> Device<M> {
         requires no_live { (p : ℕ) → (⟦<Device<M> as Counts>⟧.names self.old).live p ≡ None }
         requires can { CanRetain (kept_of self.old) kept.now.items }
         ensures formed { ⟦<Device<M> as Counts>⟧.formed self.new }
-        ensures retained { Retains kept.now.items (retained_at (kept_of self.old) kept.now.items) (⟦<Device<M> as Counts>⟧.found self.old) (⟦<Device<M> as Counts>⟧.names self.new) }
-        ensures posted { let posted = (⟦<Device<M> as Counts>⟧.names self.old).posted in posted + length (moved_among (kept_of self.old) kept.now.items) < 2 ^ 64 → HasPosted (calls_for (kept_of self.old) kept.now.items posted) posted (⟦<Device<M> as Counts>⟧.names self.new) }
-        ensures space { IsReopened (⟦<Device<M> as Counts>⟧.shape self.old).pblocks (needed_blocks (kept_of self.old) kept.now.items) (length (moved_among (kept_of self.old) kept.now.items)) (⟦<Device<M> as Counts>⟧.names self.new).space }
-        ensures none { HasAllFree (⟦<Device<M> as Counts>⟧.shape self.old) (⟦<Device<M> as Counts>⟧.names self.old) → kept.now.items ≡ [] → ⟦<Device<M> as Counts>⟧.names self.new ≡ ⟦<Device<M> as Counts>⟧.names self.old }
-        ensures clean { HasAllFree (⟦<Device<M> as Counts>⟧.shape self.old) (⟦<Device<M> as Counts>⟧.names self.old) → ⟦<Device<M> as Counts>⟧.clean self.old → ⟦<Device<M> as Counts>⟧.clean self.new }
+        ensures retained { Retains kept.now.items (retained_at (kept_of self.old) kept.now.items)
+            (⟦<Device<M> as Counts>⟧.found self.old) (⟦<Device<M> as Counts>⟧.names self.new) }
+        ensures posted { let posted = (⟦<Device<M> as Counts>⟧.names self.old).posted in posted + length
+            (moved_among (kept_of self.old) kept.now.items) < 2 ^ 64
+            → HasPosted (calls_for (kept_of self.old) kept.now.items posted) posted (⟦<Device<M> as Counts>⟧.names self.new) }
+        ensures space { IsReopened (⟦<Device<M> as Counts>⟧.shape self.old).pblocks
+            (needed_blocks (kept_of self.old) kept.now.items) (length (moved_among (kept_of self.old) kept.now.items))
+            (⟦<Device<M> as Counts>⟧.names self.new).space }
+        ensures none { HasAllFree (⟦<Device<M> as Counts>⟧.shape self.old) (⟦<Device<M> as Counts>⟧.names self.old)
+            → kept.now.items ≡ [] → ⟦<Device<M> as Counts>⟧.names self.new ≡ ⟦<Device<M> as Counts>⟧.names self.old }
+        ensures clean { HasAllFree (⟦<Device<M> as Counts>⟧.shape self.old) (⟦<Device<M> as Counts>⟧.names self.old)
+            → ⟦<Device<M> as Counts>⟧.clean self.old → ⟦<Device<M> as Counts>⟧.clean self.new }
         ensures medium { SameMedium ⟦<Device<M> as Counts>⟧ self.old self.new }
     {
         self.pseg.give_back();

@@ -1,3 +1,4 @@
+// When a call of a device takes a stamp, and which stamp is the next one then.
 ghost use Rattle.std.specs.Prelude.{◌≡◌, ◌↔◌, ◌⊎◌, ◌+◌, ◌<◌, ◌^◌, IsTrue, cond};
 ghost use Rattle.nl_field.specs.CrashStates.{Rose};
 ghost use Rattle.nl_device.specs.Stamps.{is_tried};

@@ -1,3 +1,4 @@
+// Starts a device: a scan of the medium, and the tables that it gives.
 ghost use Rattle.std.specs.Prelude.{◌*◌, ◌≡◌, ◌+◌, ◌<◌, ◌≤◌, ℕ, [], None, Some, option_map, true, IfOk, IsTrue};
 ghost use Rattle.std.specs.List.{list_all};
 ghost use Rattle.nl_field.specs.CrashStates.{Rose};
@@ -92,19 +93,34 @@ impl<M: Nand> Device<M> {
     pub fn start(alloc: Global, media: M) -> Started<M>
         requires formed { IsTrue (is_legal (M.geometry media).blocks (M.geometry media).pages) }
         ensures formed { IfReady result (λ d t. ⟦<Device<M> as Counts>⟧.formed d) }
-        ensures started { IfReady result (λ d t. IsStarted (M.geometry media) t (⟦<Device<M> as Counts>⟧.shape d) (⟦<Device<M> as Counts>⟧.names d) (⟦<Device<M> as Counts>⟧.next_stamp d)) }
-        ensures clean { IfReady result (λ d t. let shape = ⟦<Device<M> as Counts>⟧.shape d in ((block : ℕ) → shape.vblocks ≤ block → block < shape.blocks → SaysErased t block) → ⟦<Device<M> as Counts>⟧.clean d) }
-        ensures map { M.tells → IfReady result (λ d t. (v : ℕ) → v < (⟦<Device<M> as Counts>⟧.shape d).vaddrs → ⟦<Device<M> as Counts>⟧.map d v ≡ option_map value_on (newest (M.contents media) v)) }
-        ensures agreed { M.tells → IfReady result (λ d t. list_all (λ s. s.agrees) t.seen ≡ true → (v : ℕ) (x : Value) → v < (⟦<Device<M> as Counts>⟧.shape d).vaddrs → ⟦<Device<M> as Counts>⟧.failed d v x → ⊥) }
-        ensures spare { IfReady result (λ d t. HasVirtualSpare M.tells (M.contents media) (⟦<Device<M> as Counts>⟧.shape d) t.seen → ⟦<Device<M> as Counts>⟧.keeps_spare d) }
+        ensures started { IfReady result
+            (λ d t. IsStarted (M.geometry media) t (⟦<Device<M> as Counts>⟧.shape d) (⟦<Device<M> as Counts>⟧.names d)
+            (⟦<Device<M> as Counts>⟧.next_stamp d)) }
+        ensures clean { IfReady result
+            (λ d t. let shape = ⟦<Device<M> as Counts>⟧.shape d in ((block : ℕ) → shape.vblocks ≤ block → block < shape.blocks
+            → SaysErased t block) → ⟦<Device<M> as Counts>⟧.clean d) }
+        ensures map { M.tells → IfReady result
+            (λ d t. (v : ℕ) → v < (⟦<Device<M> as Counts>⟧.shape d).vaddrs
+            → ⟦<Device<M> as Counts>⟧.map d v ≡ option_map value_on (newest (M.contents media) v)) }
+        ensures agreed { M.tells → IfReady result
+            (λ d t. list_all (λ s. s.agrees) t.seen ≡ true → (v : ℕ) (x : Value) → v < (⟦<Device<M> as Counts>⟧.shape d).vaddrs
+            → ⟦<Device<M> as Counts>⟧.failed d v x → ⊥) }
+        ensures spare { IfReady result
+            (λ d t. HasVirtualSpare M.tells (M.contents media) (⟦<Device<M> as Counts>⟧.shape d) t.seen
+            → ⟦<Device<M> as Counts>⟧.keeps_spare d) }
         ensures tables { M.tells → IfReady result (λ d t. IsTableOf (M.contents media) t) }
         ensures fits { IfReady result (λ d t. FitsMedium (M.geometry media) t) }
-        ensures counts { IfReady result (λ d t. (⟦<Device<M> as Counts>⟧.clock d ≡ M.clock media) × (⟦<Device<M> as Counts>⟧.read_faults d ≡ M.read_faults media) × (⟦<Device<M> as Counts>⟧.write_faults d ≡ M.write_faults media)) }
+        ensures counts { IfReady result
+            (λ d t. (⟦<Device<M> as Counts>⟧.clock d ≡ M.clock media)
+            × (⟦<Device<M> as Counts>⟧.read_faults d ≡ M.read_faults media)
+            × (⟦<Device<M> as Counts>⟧.write_faults d ≡ M.write_faults media)) }
         ensures kept { IfReady result (λ d t. OnlyReads M.geometry M.contents M.clock M.write_faults M.left media (medium_of d)) }
         ensures scanned { IfReady result (λ d t. kept_of d ≡ kept_of_scan (⟦<Device<M> as Counts>⟧.shape d) t.seen) }
         ensures nothing { IfReady result (λ d t. CanRetain (kept_of d) []) }
-        ensures fault { IfFault result (λ m. Rose (M.read_faults media) (M.read_faults m) × OnlyReads M.geometry M.contents M.clock M.write_faults M.left media m) }
-        ensures memory { IfMemory result (λ m. (M.read_faults m ≡ M.read_faults media) × OnlyReads M.geometry M.contents M.clock M.write_faults M.left media m) }
+        ensures fault { IfFault result
+            (λ m. Rose (M.read_faults media) (M.read_faults m) × OnlyReads M.geometry M.contents M.clock M.write_faults M.left media m) }
+        ensures memory { IfMemory result
+            (λ m. (M.read_faults m ≡ M.read_faults media) × OnlyReads M.geometry M.contents M.clock M.write_faults M.left media m) }
     {
         let mut media = media;
         let shape = legal_shape(media.geometry());

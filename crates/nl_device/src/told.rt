@@ -1,3 +1,4 @@
+// The end of a device: it gives its medium back.
 ghost use Rattle.std.specs.Prelude.{◌≡◌};
 ghost use Rattle.nl_device.specs.Medium.{medium_of};
 

@@ -1,3 +1,4 @@
+// The device reads and writes pages by virtual address.
 ghost use Rattle.nl_device.specs.Laws.{failed_below, stamp_in_map};
 
 use crate::device::Device;
@@ -17,7 +18,11 @@ impl<M: Nand> VirtualPages for Device<M> {
 
     ghost beyond = { λ s v f past. f.unwritten v past };
 
-    ghost stores = { λ s t f. record { shows = (f.medium t).shown; beyond = (f.medium t).beyond; failed_below = λ v x stray. failed_below (f.medium t) v x stray } };
+    ghost stores = { λ s t f. record {
+      shows = (f.medium t).shown;
+      beyond = (f.medium t).beyond;
+      failed_below = λ v x stray. failed_below (f.medium t) v x stray;
+    } };
 
     ghost now_left = { λ s. M.now_left s.media };
 

@@ -80,7 +80,7 @@ module _ (rec : InodeRec) (old : Pages) (is : IsDirectory (page_of old) rec) whe
   at-place : (k : ℕ) → k < rec.size → IsSome (page_of old (address_of_place rec k)) ⊎ IsApart (address_of_place rec k)
   at-place k h = inl (is.places.there k h)
 
-  -- and so is the last one where that is not full
+  -- the last page is resident where it is not full
   at-end : rec.size % 64 ≢ 0 → IsSome (page_of old (address_of_place rec rec.size))
   at-end off = ap (λ (k : ℕ). is_some (page_of old (get_or rec.addresses k 0))) same ∙ is.places.there (rec.size - 1) below
     where

@@ -28,7 +28,9 @@ abbrev pub ListsInserted : Type 0
 ListsInserted = (entry : EntryRec) (fresh : Option ℕ) (rec after : InodeRec) (old new : Pages) → InsertsEntry entry fresh rec after old new
     → (e : EntryRec) → Has (entries_of_inode (page_of new) after) e ↔ (Has (entries_of_inode (page_of old) rec) e ⊎ (e ≡ entry))
 
--- and once one is removed
+-- what a directory lists once an entry is removed
 abbrev pub ListsRemoved : Type 0
-ListsRemoved = (name : List ℕ) (gone : Option ℕ) (rec after : InodeRec) (old new : Pages) → IsDirectory (page_of old) rec → RemovesEntry name gone rec after old new
+ListsRemoved =
+    (name : List ℕ) (gone : Option ℕ) (rec after : InodeRec) (old new : Pages) → IsDirectory (page_of old) rec
+    → RemovesEntry name gone rec after old new
     → (e : EntryRec) → Has (entries_of_inode (page_of new) after) e ↔ (Has (entries_of_inode (page_of old) rec) e × (e.name ≢ name))

@@ -25,15 +25,16 @@ pub record HasPlaces (pages : VirtualMap) (rec : InodeRec) : Type 0 where
   pub one_use : (i j : ℕ) → i < rec.size → j < rec.size → address_of_place rec i ≡ address_of_place rec j → i / 64 ≡ j / 64
   pub rest : (i : ℕ) → rec.size ≤ i → i < 64 * div_ceil rec.size 64 → IsTrue (all_zero (bytes_of_place pages rec i))
 
--- And each place below the size has an entry, under names that differ.
+-- A directory: its places have pages, and each place below the size has an entry, under names that differ.
 pub record IsDirectory (pages : VirtualMap) (rec : InodeRec) : Type 0 where
   pub places : HasPlaces pages rec
   pub entries : (i : ℕ) → i < rec.size → IsSome (entry_at pages rec i)
-  pub names_differ : (i j : ℕ) (e f : EntryRec) → i < rec.size → j < rec.size → entry_at pages rec i ≡ Some e → entry_at pages rec j ≡ Some f → e.name ≡ f.name → i ≡ j
+  pub names_differ : (i j : ℕ) (e f : EntryRec) → i < rec.size → j < rec.size → entry_at pages rec i ≡ Some e
+      → entry_at pages rec j ≡ Some f → e.name ≡ f.name → i ≡ j
 
 -- ---- what a change needs
 
--- So many more pages may become dirty.
+-- There is room for so many more dirty pages.
 abbrev pub HasRoomFor : ℕ → Pages → Type 0
 HasRoomFor n p = length (besides_0 p.dirty) + n ≤ most
 

@@ -16,9 +16,11 @@ use Rattle.nl_dir.specs.Directory.{HasRoomFor, IsDirectory, entry_at}
 
 -- A directory of metadata that is right is one.
 abbrev pub RightIsDirectory : Type 0
-RightIsDirectory = (shape : Shape) (pages : VirtualMap) (n : ℕ) (rec : InodeRec) → AddressesRight shape pages → EntriesRight shape pages → IsNode shape pages n rec → rec.kind ≡ Dir → IsDirectory pages rec
+RightIsDirectory =
+    (shape : Shape) (pages : VirtualMap) (n : ℕ) (rec : InodeRec) → AddressesRight shape pages → EntriesRight shape pages
+    → IsNode shape pages n rec → rec.kind ≡ Dir → IsDirectory pages rec
 
--- One without entries is one, whatever the pages have.
+-- A directory without entries is one, whatever the pages have.
 abbrev pub EmptyIsDirectory : Type 0
 EmptyIsDirectory = (pages : VirtualMap) (rec : InodeRec) → rec.kind ≡ Dir → IsTrue (is_inode rec) → rec.size ≡ 0 → IsDirectory pages rec
 
@@ -49,7 +51,9 @@ pub record ResidentRuns (device : VirtualMap) (p : Pages) (rec : InodeRec) : Typ
   pub entries : entries_of_inode (running_over device p) rec ≡ entries_of_inode (page_of p) rec
 
 abbrev pub ResidentIsRunning : Type 0
-ResidentIsRunning = (device : VirtualMap) (p : Pages) (rec : InodeRec) → ((i : ℕ) → i < rec.size → IsSome (page_of p (address_of_place rec i))) → ResidentRuns device p rec
+ResidentIsRunning =
+    (device : VirtualMap) (p : Pages) (rec : InodeRec) → ((i : ℕ) → i < rec.size → IsSome (page_of p (address_of_place rec i)))
+    → ResidentRuns device p rec
 
 -- ---- what a change of pages means
 
@@ -60,8 +64,11 @@ pub record ChangeRuns (changed : List ℕ) (device : VirtualMap) (old new : Page
   pub clean : CleanIsStored device new
 
 abbrev pub ChangedPagesRun : Type 0
-ChangedPagesRun = (changed : List ℕ) (device : VirtualMap) (old new : Pages) → CleanIsStored device old → ChangesPages changed old new → ChangeRuns changed device old new
+ChangedPagesRun =
+    (changed : List ℕ) (device : VirtualMap) (old new : Pages) → CleanIsStored device old → ChangesPages changed old new
+    → ChangeRuns changed device old new
 
 -- Each page that changed takes the room of one at most.
 abbrev pub ChangeTakesRoom : Type 0
-ChangeTakesRoom = (changed : List ℕ) (old new : Pages) (n : ℕ) → ChangesPages changed old new → HasRoomFor (n + length changed) old → HasRoomFor n new
+ChangeTakesRoom =
+    (changed : List ℕ) (old new : Pages) (n : ℕ) → ChangesPages changed old new → HasRoomFor (n + length changed) old → HasRoomFor n new

@@ -27,8 +27,9 @@ pub record ListsRight (shape : Shape) (pages : VirtualMap) : Type 0 where
   -- each entry names a used node but 0 under its generation
   pub good : (d : ℕ) (e : EntryRec) → Lists shape pages d e → GoodEntry shape pages e
   -- each used node but 0 is named by an entry, under its generation
-  pub named : (n : ℕ) (rec : InodeRec) → IsNode shape pages n rec → n ≢ 0 → (d : ℕ) × (e : EntryRec) × Lists shape pages d e × (e.ino ≡ n) × (e.generation ≡ rec.generation)
-  -- and by no second one
+  pub named : (n : ℕ) (rec : InodeRec) → IsNode shape pages n rec → n ≢ 0
+      → (d : ℕ) × (e : EntryRec) × Lists shape pages d e × (e.ino ≡ n) × (e.generation ≡ rec.generation)
+  -- no used node is named by two entries
   pub one_name : (d d' : ℕ) (e e' : EntryRec) → Lists shape pages d e → Lists shape pages d' e' → e.ino ≡ e'.ino → (d ≡ d') × (e ≡ e')
   pub reached : (n : ℕ) (rec : InodeRec) → IsNode shape pages n rec → ReachedByLists shape pages n
 

@@ -1,4 +1,4 @@
--- Where a name stands.
+-- Where a name stands among the entries of a directory.
 use Rattle.std.specs.Prelude.{◌≡◌, ◌≢◌, ℕ, ◌<◌, List, Some}
 use Rattle.nl_field.specs.declared.entry.EntryRec.{EntryRec}
 use Rattle.nl_field.specs.declared.inode.InodeRec.{InodeRec}
@@ -12,6 +12,6 @@ pub record IsNamedAt (pages : VirtualMap) (rec : InodeRec) (name : List ℕ) (i 
   pub at : entry_at pages rec i ≡ Some entry
   pub has_name : entry.name ≡ name
 
--- None of the first entries, so many, has the name.
+-- None of so many entries from the front has the name.
 pub record NoneNamed (pages : VirtualMap) (rec : InodeRec) (count : ℕ) (name : List ℕ) : Type 0 where
   pub none : (i : ℕ) (e : EntryRec) → i < count → entry_at pages rec i ≡ Some e → e.name ≢ name

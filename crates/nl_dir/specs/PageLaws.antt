@@ -1,4 +1,4 @@
--- What the calls mean for the pages in memory as a whole.
+-- What the calls on directories mean for the pages in memory as a whole.
 use Rattle.std.specs.Prelude.{◌⊎◌, ℕ, List, Option, IfSome, IsSome}
 use Rattle.nl_field.specs.Members.{Has}
 use Rattle.nl_field.specs.declared.entry.EntryRec.{EntryRec}
@@ -12,15 +12,18 @@ use Rattle.nl_dir.specs.Directory.{FitsFresh, IsDirectory}
 -- No page is lost where pages of these addresses change that are resident, or none of the journal's.
 abbrev pub ChangedPagesAreKept : Type 0
 ChangedPagesAreKept =
-    (changed : List ℕ) (old new : Pages) → ((u : ℕ) → Has changed u → IsSome (page_of old u) ⊎ IsApart u) → ChangesPages changed old new → step.ChangesPages old new
+    (changed : List ℕ) (old new : Pages) → ((u : ℕ) → Has changed u → IsSome (page_of old u) ⊎ IsApart u) → ChangesPages changed old new
+    → step.ChangesPages old new
 
--- So it is where an entry is inserted into a directory, with a new page that is none of the journal's,
+-- No page is lost where an entry is inserted into a directory, with a new page that is none of the journal's.
 abbrev pub InsertingChangesPages : Type 0
 InsertingChangesPages =
     (entry : EntryRec) (fresh : Option ℕ) (rec after : InodeRec) (old new : Pages)
-    → IsDirectory (page_of old) rec → FitsFresh old rec fresh → IfSome fresh IsApart → InsertsEntry entry fresh rec after old new → step.ChangesPages old new
+    → IsDirectory (page_of old) rec → FitsFresh old rec fresh → IfSome fresh IsApart → InsertsEntry entry fresh rec after old new
+    → step.ChangesPages old new
 
--- and where one is removed.
+-- No page is lost where an entry is removed from a directory.
 abbrev pub RemovingChangesPages : Type 0
 RemovingChangesPages =
-    (name : List ℕ) (gone : Option ℕ) (rec after : InodeRec) (old new : Pages) → IsDirectory (page_of old) rec → RemovesEntry name gone rec after old new → step.ChangesPages old new
+    (name : List ℕ) (gone : Option ℕ) (rec after : InodeRec) (old new : Pages) → IsDirectory (page_of old) rec
+    → RemovesEntry name gone rec after old new → step.ChangesPages old new

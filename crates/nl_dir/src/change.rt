@@ -1,3 +1,4 @@
+//! An entry is put into a directory, or removed from it.
 ghost use Rattle.std.specs.Prelude.{◌≡◌, ◌<◌, IsSome, None, Some};
 ghost use Rattle.nl_meta.specs.Nodes.{entry_named};
 ghost use Rattle.nl_meta.specs.Pages.{page_of};

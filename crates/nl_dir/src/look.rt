@@ -1,3 +1,4 @@
+//! Entries of a directory are found by name and by place.
 ghost use Rattle.std.specs.Prelude.{◌≡◌, ◌<◌, ◌≤◌, IsTrue, MatchOption, Some, slice_get};
 ghost use Rattle.nl_field.specs.Inode.{is_inode};
 ghost use Rattle.nl_meta.specs.Nodes.{address_of_place, entries_of_inode, entry_named};
@@ -32,7 +33,8 @@ pub fn entry_at(rec: &InodeRec, meta: &Meta, place: u32) -> EntryRec
 // The place of a name.
 pub(crate) fn place_of(rec: &InodeRec, meta: &Meta, name: &[u8]) -> Option<u32>
     requires { IsDirectory (page_of meta.now) rec.now }
-    ensures { MatchOption result (NoneNamed (page_of meta.now) rec.now rec.now.size name.now) (IsNamedAt (page_of meta.now) rec.now name.now) }
+    ensures { MatchOption result (NoneNamed (page_of meta.now) rec.now rec.now.size name.now)
+        (IsNamedAt (page_of meta.now) rec.now name.now) }
 {
     for place in 0..count(rec) {
         if has_name(page_at(rec, meta, place), place % 64, name) {

@@ -1,3 +1,4 @@
+//! One page of 64 entries: its slots are read and compared.
 ghost use Rattle.std.specs.Prelude.{◌≡◌, ◌<◌, ◌≤◌, ◌+◌, ◌*◌, IsSome, Some, true, if◌then◌else◌, length, bytes_eq, unwrap_or, []};
 ghost use Rattle.nl_field.specs.Bytes.{zeros};
 ghost use Rattle.nl_field.specs.EntryRecord.{entry_bytes, entry_fields, entry_of};

@@ -43,7 +43,7 @@ pub no_newest : (image : Image) (v : ℕ) → (shape_of_image image).vaddrs ≤ 
 unfolding newest
 no_newest image v beyond = ap (λ (l : List Readable). or_first_in l (find (λ r. is_outside image.pages (virtual_spare image) r.page) l)) (greatest_none image v beyond)
 
--- nor is it one of an inode page
+-- an address beyond the last is none of an inode page
 no_inode : (blocks pages v : ℕ) → (shape_for blocks pages).vaddrs ≤ v → is_inode_address (shape_for blocks pages) v ≡ false
 unfolding shape_for
 no_inode blocks pages v beyond = by (nat_le 67 v) (le-ltb v (67 + div_ceil (blocks * pages / 16) 16) (omega (arith, beyond)))

@@ -65,7 +65,7 @@ module _ {M I : Type 0} {clock : M → ℕ} {left : M → ℕ → I → Type 0} 
       earlier : (m : ℕ) → Earlier m (clock b) → Earlier m (clock d)
       earlier m before below = omega (arith, before below, second.later)
 
-  -- the same calls, each state with more
+  -- what one call may have left, where each state has P or Q beside
   pub turns_both : {old new : M} (finished : Type 0) (B A P Q : I → Type 0) → LeavesOnly clock left old new (Turns finished (clock new) B A)
       → ((c : I) → B c → P c) → ((c : I) → A c → Q c) → LeavesOnly clock left old new (Turns finished (clock new) P Q)
   turns_both {old} {new} finished B A P Q leaves on_b on_a = weaken (Turns finished (clock new) B A) (Turns finished (clock new) P Q) leaves

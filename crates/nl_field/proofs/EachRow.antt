@@ -20,7 +20,7 @@ get_or-each_of read width (suc n) bytes (suc k) d below =
     let next : width * suc k ≡ width + width * k = omega arith in
     get_or-each_of read width n (drop width bytes) k d (omega arith) ∙ ap read (drop-drop (width * k) width bytes ∙ ap (λ (m : ℕ). drop m bytes) (sym next))
 
--- so a list whose items are the rows is what is read
+-- a list whose items are the rows is what is read
 pub each_of-of_rows : {X : Type 0} (read : List ℕ → X) (width : ℕ) (bytes : List ℕ) (xs : List X) (n : ℕ) (d : X) → length xs ≡ n
     → ((k : ℕ) → k < n → get_or xs k d ≡ read (drop (width * k) bytes)) → xs ≡ each_of read width n bytes
 each_of-of_rows read width bytes xs n d len rows =

@@ -38,7 +38,7 @@ put_next front old b at w len =
     let past : drop (at + w) (front ++ drop at old) ≡ drop (at + w) old = drop-append-drop at old front (at + w) (omega arith) len in
     rw (past, take_at front (drop at old) at len) refl
 
--- and over all the others
+-- bytes put over all bytes behind the first ones
 pub put_last : (front rest b : List ℕ) (at w : ℕ) → length front ≡ at → length rest ≤ w → take at (front ++ rest) ++ b ++ drop (at + w) (front ++ rest) ≡ front ++ b
 put_last front rest b at w len few =
     let past : drop (at + w) (front ++ rest) ≡ [] = drop_all (at + w) (front ++ rest) (omega (arith, length-append front rest, len)) in

@@ -13,7 +13,7 @@ spelled-back has bytes_of fields value back spelled =
     let same : bytes_eq (bytes_of value) (bytes_of value) ≡ true = (bytes_eq-Decides (bytes_of value) (bytes_of value)).1 refl in
     rw (back, spelled, same) refl
 
--- and what is read from any bytes is what they spell
+-- what is read from any bytes is what they spell
 pub reads-spelled : {R : Type 0} (fits has : R → Bool) (bytes_of : R → List ℕ) (fields : List ℕ → R) (bytes : List ℕ)
     → IsTrue (fits (fields bytes)) → ((value : R) → IsTrue (fits value) → IsTrue (has value) → fields (bytes_of value) ≡ value)
     → Reads fits has bytes_of bytes (spelled_by has bytes_of (fields bytes) bytes)

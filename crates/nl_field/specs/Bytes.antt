@@ -1,4 +1,4 @@
--- Zero bytes.
+-- Lists of zero bytes, and the test that all bytes are zero.
 use Rattle.std.specs.Prelude.{ℕ, ◌==◌, Bool, List, replicate}
 use Rattle.std.specs.List.{list_all}
 

@@ -22,7 +22,10 @@ fresh_image =
       pages = 32;
       contents =
           written (record { main = inode_bytes root_inode ++ zeros 3840; spare = spare_bytes (Virtual 67 1 0) })
-          ∷ written (record { main = super_bytes (record { version = 1; blocks = 32; pages = 32; count = 0 }); spare = spare_bytes (Virtual 0 2 0) })
+          ∷ written (record {
+            main = super_bytes (record { version = 1; blocks = 32; pages = 32; count = 0 });
+            spare = spare_bytes (Virtual 0 2 0);
+          })
           ∷ replicate 1022 erased;
     }
 
@@ -36,7 +39,10 @@ two_supers =
           written (record { main = codes "junk" ++ zeros 4092; spare = spare_bytes (Virtual 0 2 0) })
           ∷ replicate 31 erased
           ++ written (record { main = inode_bytes root_inode ++ zeros 3840; spare = spare_bytes (Virtual 67 1 0) })
-          ∷ written (record { main = super_bytes (record { version = 1; blocks = 32; pages = 32; count = 0 }); spare = spare_bytes (Virtual 0 2 0) })
+          ∷ written (record {
+            main = super_bytes (record { version = 1; blocks = 32; pages = 32; count = 0 });
+            spare = spare_bytes (Virtual 0 2 0);
+          })
           ∷ replicate 990 erased;
     }
 
@@ -49,7 +55,10 @@ one_stamp_two_addresses =
       contents =
           written (record { main = inode_bytes root_inode ++ zeros 3840; spare = spare_bytes (Virtual 67 2 0) })
           ∷ replicate 31 erased
-          ++ written (record { main = super_bytes (record { version = 1; blocks = 32; pages = 32; count = 0 }); spare = spare_bytes (Virtual 0 2 0) })
+          ++ written (record {
+            main = super_bytes (record { version = 1; blocks = 32; pages = 32; count = 0 });
+            spare = spare_bytes (Virtual 0 2 0);
+          })
           ∷ replicate 991 erased;
     }
 
@@ -59,11 +68,19 @@ short_page =
     record {
       blocks = 32;
       pages = 32;
-      contents = replicate 256 erased ++ written (record { main = codes "hello"; spare = spare_bytes (Physical (record { ino = 1; generation = 1; index = 0 }) 3 7) }) ∷ replicate 767 erased;
+      contents = replicate 256 erased
+          ++ written (record {
+            main = codes "hello";
+            spare = spare_bytes (Physical (record { ino = 1; generation = 1; index = 0 }) 3 7);
+          }) ∷ replicate 767 erased;
     }
 
 abbrev pub copy_of_3 : Page
-copy_of_3 = written (record { main = codes "hello" ++ zeros 4091; spare = spare_bytes (Physical (record { ino = 1; generation = 1; index = 0 }) 3 0) })
+copy_of_3 =
+    written (record {
+      main = codes "hello" ++ zeros 4091;
+      spare = spare_bytes (Physical (record { ino = 1; generation = 1; index = 0 }) 3 0);
+    })
 
 -- the page of stamp 3 in physical blocks 8 and 9
 abbrev pub two_copies : Image

@@ -25,7 +25,8 @@ byte_of file i = slice_index (unwrap_or (value_at nat_cmp (i / 4096) file.pages)
 unfoldable pub is_content : FileContent → Bool
 is_content file =
     is_sorted nat_cmp file.pages
-    && list_all (λ page. nat_lt page.0 (div_ceil file.size 4096) && length page.1 == 4096 && all_zero (drop (file.size - 4096 * page.0) page.1)) file.pages
+    && list_all (λ page. nat_lt page.0 (div_ceil file.size 4096) && length page.1 == 4096
+    && all_zero (drop (file.size - 4096 * page.0) page.1)) file.pages
 
 -- the bytes from an offset on, at most this many, ending at the size
 unfoldable pub bytes_read : FileContent → ℕ → ℕ → List ℕ
@@ -48,7 +49,8 @@ written_over file from bytes =
     if length bytes == 0 then file
     else record {
       size = max file.size (from + length bytes);
-      pages = fold (λ pages index. with_entry nat_cmp index (overlaid (page_bytes file index) index from bytes) pages) file.pages (touched from (length bytes));
+      pages = fold (λ pages index. with_entry nat_cmp index (overlaid (page_bytes file index) index from bytes) pages) file.pages
+          (touched from (length bytes));
     }
 
 -- the file cut or lengthened to a size

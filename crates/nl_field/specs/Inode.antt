@@ -25,7 +25,7 @@ inode_bytes rec =
     kind_byte rec.kind ∷ gap 3 ++ u32_bytes rec.generation ++ u64_bytes rec.size ++ gap 48
     ++ flat_map pointer_bytes rec.direct ++ flat_map u32_bytes rec.addresses
 
--- the first n are not 0, and the others are
+-- the first n addresses are not 0, and the others are
 unfoldable pub are_filled : ℕ → List ℕ → Bool
 are_filled zero addresses = all_zero addresses
 are_filled (suc n) [] = false
@@ -35,7 +35,8 @@ are_filled (suc n) (a ∷ rest) = not (a == 0) && are_filled n rest
 unfoldable pub is_inode_of_kind : Kind → InodeRec → Bool
 is_inode_of_kind Unused rec = rec.size == 0 && list_all is_none_pointer rec.direct && all_zero rec.addresses
 is_inode_of_kind File rec = nat_le rec.size max_file_size && list_all is_pointer rec.direct
-is_inode_of_kind Dir rec = nat_le rec.size max_entries && list_all is_none_pointer rec.direct && are_filled (div_ceil rec.size 64) rec.addresses
+is_inode_of_kind Dir rec =
+    nat_le rec.size max_entries && list_all is_none_pointer rec.direct && are_filled (div_ceil rec.size 64) rec.addresses
 
 -- which have a spelling
 abbrev pub is_inode : InodeRec → Bool

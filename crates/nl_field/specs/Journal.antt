@@ -8,7 +8,7 @@ use Rattle.nl_field.specs.declared.commit.CommitRec.{CommitRec}
 
 -- ---- the header
 
--- they rise, and each is 0 or from 67 on
+-- home addresses rise, and each is 0 or from 67 on
 unfoldable pub are_home_addresses : List ℕ → Bool
 are_home_addresses [] = true
 are_home_addresses (a ∷ rest) = (a == 0 || nat_le 67 a) && list_all (λ b. nat_lt a b) rest && are_home_addresses rest
@@ -50,7 +50,7 @@ commit_bytes rec = commit_head rec ++ zeros 4080
 abbrev pub is_commit : CommitRec → Bool
 is_commit rec = is_transaction_number rec.number
 
--- its one number fits where it is spelled
+-- the number of a commit page fits where it is spelled
 abbrev pub fits_commit : CommitRec → Bool
 fits_commit rec = true
 

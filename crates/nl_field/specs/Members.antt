@@ -1,4 +1,4 @@
--- Being in a list.
+-- Whether an item is in a list.
 use Rattle.std.specs.Prelude.{◌≡◌, ◌⊎◌, List, [], ◌∷◌}
 
 -- x is in the list

@@ -12,7 +12,7 @@ abbrev pub without_wear : SpareRec → SpareRec
 without_wear (Virtual vaddr stamp wear) = Virtual vaddr stamp 0
 without_wear (Physical tag stamp wear) = Physical tag stamp 0
 
--- the same main bytes, and apart from wear the same record
+-- two pages have the same main bytes, and apart from wear the same record
 abbrev pub agree : Readable → Readable → Bool
 agree r q = bytes_eq r.main q.main && bytes_eq (spare_bytes (without_wear r.rec)) (spare_bytes (without_wear q.rec))
 

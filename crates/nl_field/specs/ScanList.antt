@@ -17,7 +17,12 @@ unfoldable pub seen_in : Image → List Seen
 seen_in image =
     let virtuals = virtual_pages image in
     let physicals = physical_pages image in
-    map (λ r. record { page = r.page; rec = r.rec; zeros = zeros_from r.main; agrees = agrees_among virtuals physicals r }) (readable_pages image)
+    map (λ r. record {
+      page = r.page;
+      rec = r.rec;
+      zeros = zeros_from r.main;
+      agrees = agrees_among virtuals physicals r;
+    }) (readable_pages image)
 
 abbrev pub on_list : PageView Seen
 on_list = record { page = λ s. s.page; rec = λ s. s.rec }
@@ -47,7 +52,8 @@ virtual_spare_seen shape seen = virtual_spare_among on_list shape.pages shape.vb
 
 -- the spare block of the physical segment, where pages of these stamps are needed
 unfoldable pub physical_spare_seen : Shape → List Seen → List ℕ → Option ℕ
-physical_spare_seen shape seen stamps = physical_spare_among on_list shape.pages shape.vblocks shape.pblocks (physical_seen shape seen) stamps
+physical_spare_seen shape seen stamps =
+    physical_spare_among on_list shape.pages shape.vblocks shape.pblocks (physical_seen shape seen) stamps
 
 -- the place of a pointer beside this spare block
 unfoldable pub place_seen : Shape → List Seen → Option ℕ → Pointer → Option ℕ

@@ -61,7 +61,8 @@ virtual_spare_among view size count pages =
 -- In the physical segment a page of one of these stamps is needed. A copy has its stamp.
 abbrev pub physical_spare_among : {X : Type 0} → PageView X → ℕ → ℕ → ℕ → List X → List ℕ → Option ℕ
 physical_spare_among view size first count pages stamps =
-    spare_among view size first count pages (λ r. list_any (λ s. s == stamp_of (view.rec r)) stamps) (λ q r. stamp_of (view.rec q) == stamp_of (view.rec r))
+    spare_among view size first count pages (λ r. list_any (λ s. s == stamp_of (view.rec r)) stamps)
+    (λ q r. stamp_of (view.rec q) == stamp_of (view.rec r))
 
 unfoldable pub spare_block : Image → ℕ → ℕ → List Readable → (Readable → Bool) → (Readable → Readable → Bool) → Option ℕ
 spare_block image first count pages is_needed is_copy = spare_among on_image image.pages first count pages is_needed is_copy
@@ -72,12 +73,14 @@ has_greatest_stamp pages r = has_greatest_among on_image pages r
 unfoldable pub virtual_spare : Image → Option ℕ
 virtual_spare image =
     let pages = virtual_pages image in
-    spare_block image 0 (shape_of_image image).vblocks pages (has_greatest_stamp pages) (λ q r. address_on q == address_on r && stamp_on q == stamp_on r)
+    spare_block image 0 (shape_of_image image).vblocks pages (has_greatest_stamp pages)
+    (λ q r. address_on q == address_on r && stamp_on q == stamp_on r)
 
 unfoldable pub physical_spare : Image → List ℕ → Option ℕ
 physical_spare image stamps =
     let shape = shape_of_image image in
-    spare_block image shape.vblocks shape.pblocks (physical_pages image) (λ r. list_any (λ s. s == stamp_on r) stamps) (λ q r. stamp_on q == stamp_on r)
+    spare_block image shape.vblocks shape.pblocks (physical_pages image) (λ r. list_any (λ s. s == stamp_on r) stamps)
+    (λ q r. stamp_on q == stamp_on r)
 
 -- ---- places
 

@@ -30,7 +30,11 @@ fits_spare (Physical tag stamp wear) = fits_u32 tag.ino && fits_u32 tag.generati
 unfoldable pub spare_fields : List ℕ → SpareRec
 spare_fields bytes =
     if slice_index bytes 0 == 1 then Virtual (u32_at bytes 16) (u64_at bytes 8) (u32_at bytes 4)
-    else Physical (record { ino = u32_at bytes 16; generation = u32_at bytes 20; index = u32_at bytes 24 }) (u64_at bytes 8) (u32_at bytes 4)
+    else Physical (record {
+      ino = u32_at bytes 16;
+      generation = u32_at bytes 20;
+      index = u32_at bytes 24;
+    }) (u64_at bytes 8) (u32_at bytes 4)
 
 -- the record that these bytes spell
 unfoldable pub spare_rec_of : List ℕ → Option SpareRec

@@ -1,3 +1,4 @@
+//! A short list of virtual addresses, without memory of its own.
 ghost use Rattle.std.specs.Prelude.{◌≡◌, ◌<◌, ◌≤◌, [], ◌∷◌, ◌++◌, length, slice_index};
 
 use std::marker::Model;
@@ -39,6 +40,7 @@ impl AddressList {
         self.len += 1;
     }
 
+    /// How many addresses there are, 0 to 64.
     pub fn len(&self) -> u32
         ensures count { result ≡ length self.now }
         ensures most { result ≤ 64 }

@@ -1,3 +1,4 @@
+//! The answers of reads and writes of a device.
 use crate::Pointer;
 
 /// The answer of a read by a virtual address.

@@ -1,3 +1,4 @@
+//! The record on the commit page of a transaction: written to a page, and read from one.
 ghost use Rattle.std.specs.Prelude.{◌≡◌, IsTrue, Some, length, bytes_eq};
 ghost use Rattle.nl_field.specs.Spelling.{Reads};
 ghost use Rattle.nl_field.specs.Journal.{commit_head, commit_bytes, commit_of, commit_fields, is_commit, fits_commit};

@@ -1,3 +1,4 @@
+//! The record of a directory entry: written to a page, and read from one.
 ghost use Rattle.std.specs.Prelude.{◌≡◌, ◌↔◌, ◌≤◌, ◌+◌, ◌++◌, IsTrue, IsSome, IfSome, Some, length, take, drop, bytes_eq};
 ghost use Rattle.nl_field.specs.Spelling.{Reads};
 ghost use Rattle.nl_field.specs.EntryRecord.{entry_bytes, entry_of, entry_fields, is_entry, fits_entry};

@@ -1,3 +1,4 @@
+//! Which calls are to fail, by number.
 ghost use Rattle.std.specs.Prelude.{◌≡◌, ◌<◌, ◌↔◌, [], ◌∷◌, ◌++◌, All, Contains, length, slice_get, Some, IsTrue, OnOk, OnErr};
 ghost use Rattle.nl_field.specs.FailNumbers.{AreRising};
 

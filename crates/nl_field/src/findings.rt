@@ -1,3 +1,4 @@
+//! The findings of a check as bits, with their names.
 ghost use Rattle.std.specs.Prelude.{⊤, ◌≡◌, ◌≢◌, ◌==◌, IsTrue, [], ◌∷◌, codes};
 ghost use Rattle.std.specs.Int.RustNames.{bit_or};
 ghost use Rattle.nl_field.specs.FindingBits.{bit_of, bits_of, has_finding};
@@ -29,7 +30,8 @@ impl Flags for Findings {
 
     ghost exact = { ⊤ };
 
-    ghost table = { (codes "SUPER", 1) ∷ (codes "STAMP", 2) ∷ (codes "INODE", 4) ∷ (codes "PAGES", 8) ∷ (codes "ENTRY", 16) ∷ (codes "POINTER", 32) ∷ (codes "NAMES", 64) ∷ (codes "CHARGES", 128) ∷ (codes "CROWDED", 256) ∷ [] };
+    ghost table = { (codes "SUPER", 1) ∷ (codes "STAMP", 2) ∷ (codes "INODE", 4) ∷ (codes "PAGES", 8) ∷ (codes "ENTRY", 16)
+        ∷ (codes "POINTER", 32) ∷ (codes "NAMES", 64) ∷ (codes "CHARGES", 128) ∷ (codes "CROWDED", 256) ∷ [] };
 
     ghost set_of = { λ f. f.0 };
 

@@ -1,3 +1,4 @@
+//! The record on the header page of a transaction: written to a page, and read from one.
 ghost use Rattle.std.specs.Prelude.{◌≡◌, ◌≤◌, ◌+◌, ◌*◌, IsTrue, Some, length, ◌<◌, ◌==◌, ◌&&◌, ◌||◌, take, drop, slice_index, bytes_eq, nat_le, nat_lt};
 ghost use Rattle.std.specs.List.{list_all};
 ghost use Rattle.nl_field.specs.Spelling.{Reads, u32s};
@@ -129,7 +130,8 @@ fn are_home(addresses: &[u32]) -> bool
 // Whether the address at i is 0 or from 67 on, and those behind it are above it.
 fn is_next(addresses: &[u32], i: usize) -> bool
     requires { i < length addresses.now }
-    ensures { result ≡ ((slice_index addresses.now i == 0 || nat_le 67 (slice_index addresses.now i)) && list_all (λ other. nat_lt (slice_index addresses.now i) other) (drop (i + 1) addresses.now)) }
+    ensures { result ≡ ((slice_index addresses.now i == 0 || nat_le 67 (slice_index addresses.now i))
+        && list_all (λ other. nat_lt (slice_index addresses.now i) other) (drop (i + 1) addresses.now)) }
 {
     is_home(addresses[i]) && are_above(addresses[i], &addresses[i + 1..])
 }

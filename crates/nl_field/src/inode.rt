@@ -1,3 +1,4 @@
+//! The record of a node in 256 bytes of a page: read from them, and written to them.
 ghost use Rattle.std.specs.Prelude.{◌≡◌, ◌≤◌, ◌+◌, ◌++◌, ◌==◌, not, IsTrue, Some, length, take, drop, bytes_eq};
 ghost use Rattle.std.specs.List.{list_all};
 ghost use Rattle.nl_field.specs.Bytes.{all_zero};

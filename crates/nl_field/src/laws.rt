@@ -1,3 +1,4 @@
+//! Laws of the spellings. Each function stands for the law that its contract names.
 ghost use Rattle.nl_field.specs.ScanList.{ListsTell};
 ghost use Rattle.nl_field.specs.Virtual.{MapIsImage};
 ghost use Rattle.std.specs.Prelude.{◌≡◌, ◌≤◌, length, take};

@@ -1,3 +1,5 @@
+//! The limits of a volume that no geometry changes.
+
 /// The most bytes of a file: 8 pages by direct pointers and 16 ranges of 256 pages.
 pub const MAX_FILE_SIZE: u64 = 16_809_984;
 

@@ -1,3 +1,4 @@
+//! A name in a directory, without memory of its own.
 ghost use Rattle.std.specs.Prelude.{◌≡◌, ◌↔◌, ◌≤◌, ◌&&◌, nat_le, length, IsTrue, IsSome, IfSome};
 ghost use Rattle.nl_field.specs.Numbers.{max_name};
 ghost use Rattle.nl_field.specs.Names.{is_name, is_name_byte};
@@ -42,6 +43,7 @@ impl Name {
         })
     }
 
+    /// The bytes of the name, at most 55.
     pub fn bytes(&self) -> &[u8]
         ensures value { result.now ≡ self.now }
         ensures named { IsTrue (is_name self.now) }

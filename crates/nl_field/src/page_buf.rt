@@ -1,3 +1,4 @@
+//! A page in memory, to be filled by a read of a medium or to be programmed.
 ghost use Rattle.std.specs.Prelude.{◌≡◌, ◌≤◌, ◌+◌, ◌-◌, ◌++◌, length, take, drop, IfOk};
 ghost use Rattle.nl_field.specs.Bytes.{zeros};
 ghost use Rattle.nl_field.specs.Page.{PageBytes};
@@ -41,6 +42,7 @@ impl PageBuf {
         Ok(PageBuf { main, spare })
     }
 
+    /// The 4096 main bytes.
     pub fn main(&self) -> &[u8]
         ensures bytes { result.now ≡ self.now.main }
         ensures len { length result.now ≡ 4096 }
@@ -48,6 +50,7 @@ impl PageBuf {
         &self.main
     }
 
+    /// The 64 spare bytes.
     pub fn spare(&self) -> &[u8; 64]
         ensures { result.now ≡ self.now.spare }
     {
@@ -72,6 +75,7 @@ impl PageBuf {
         pad(&mut self.main, bytes);
     }
 
+    /// Replaces all spare bytes. The main bytes stay.
     pub fn set_spare(&mut self, bytes: &[u8; 64])
         ensures main { self.new.main ≡ self.old.main }
         ensures spare { self.new.spare ≡ bytes.now }

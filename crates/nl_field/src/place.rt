@@ -1,3 +1,5 @@
+//! The first fault of an opening: where it is, and what is at fault.
+
 /// What an opening finds at fault, by the phases of its walk in their order.
 #[derive(Clone, Copy, Debug, PartialEq, Eq)]
 pub enum What {

@@ -1,3 +1,4 @@
+//! Pointers to pages under names: written to a page, and read from one.
 ghost use Rattle.std.specs.Prelude.{◌≡◌, ◌≤◌, ◌+◌, ◌++◌, IsTrue, Some, length, take, drop, bytes_eq};
 ghost use Rattle.nl_field.specs.Spelling.{Reads};
 ghost use Rattle.nl_field.specs.Pointers.{pointer_bytes, pointer_of, is_pointer, is_none_pointer, fits_pointer};
@@ -53,6 +54,7 @@ impl Pointer {
         self.name == 0 && self.stamp == 0
     }
 
+    /// Whether it has a spelling: it is no pointer, or its write sequence number is at least 1 and below 2^63.
     pub(crate) fn is_spelled(&self) -> bool
         ensures { result ≡ is_pointer self.now }
     {

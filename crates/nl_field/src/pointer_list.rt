@@ -1,3 +1,4 @@
+//! A list of pointers whose room is taken beforehand.
 ghost use Rattle.std.specs.Prelude.{◌≡◌, ◌<◌, ◌≤◌, ◌+◌, ◌-◌, ◌^◌, [], ◌∷◌, ◌++◌, length, take, drop, slice_set, slice_get, Some, OnOk, OnErr, IsOk};
 
 use crate::{Memory, Pointer};
@@ -53,6 +54,7 @@ impl PointerList {
         Ok(())
     }
 
+    /// How many pointers there are.
     pub fn len(&self) -> u32
         ensures count { result ≡ length self.now.items }
     {

@@ -1,3 +1,4 @@
+//! A readable page as a scan lists it.
 use crate::spare::SpareRec;
 
 /// A readable page: one whose spare bytes spell a record.

@@ -1,3 +1,4 @@
+//! The numbers of a volume, from the geometry of its medium.
 ghost use Rattle.std.specs.Prelude.{◌≡◌, ◌↔◌, IsTrue, IsSome, IfSome};
 ghost use Rattle.nl_field.specs.Numbers.{ShapeBounds, is_legal, shape_for};
 

@@ -1,3 +1,4 @@
+//! The record in the spare bytes of a page: written to a page, and read from one.
 ghost use Rattle.std.specs.Prelude.{◌≡◌, IsTrue, Some};
 ghost use Rattle.nl_field.specs.Spelling.{Reads};
 ghost use Rattle.nl_field.specs.declared.spare.SpareRec.TheVariants.{Virtual, Physical};

@@ -1,3 +1,4 @@
+//! The record on the super page: written to a page, and read from one.
 ghost use Rattle.std.specs.Prelude.{◌≡◌, IsTrue, Some, length, bytes_eq};
 ghost use Rattle.nl_field.specs.Spelling.{Reads};
 ghost use Rattle.nl_field.specs.SuperPage.{super_head, super_bytes, super_of, super_fields, is_super, fits_super};

@@ -1,3 +1,4 @@
+//! A list of bytes that grows.
 ghost use Rattle.std.specs.Prelude.{◌≡◌, ◌<◌, [], ◌∷◌, ◌++◌, length, slice_get, Some, IfOk, OnOk, OnErr};
 
 use crate::Memory;
@@ -44,6 +45,7 @@ impl Text {
         })
     }
 
+    /// Adds a byte at the end. Where memory is refused, the list is as it was.
     pub fn push(&mut self, byte: u8) -> Result<(), Memory>
         ensures ok { OnOk result (self.new ≡ self.old ++ byte ∷ []) }
         ensures err { OnErr result (self.new ≡ self.old) }
@@ -82,6 +84,7 @@ impl Text {
         self.bytes.clear();
     }
 
+    /// All its bytes, in order.
     pub fn bytes(&self) -> &[u8]
         ensures { result.now ≡ self.now }
     {

@@ -268,7 +268,7 @@ module _ (shape : Shape) (device : VirtualMap) (n index : ℕ) (to : Pointer) (s
         (λ none. same k ∙ (are.each k below).1 (λ rec x. none rec (record { below = x.below; spelled = same-of shape n index was put one half two file k below off ∙ x.spelled; used = x.used }))),
       )
 
-  -- so is an address but the new one
+  -- an address but the new one is used as before
   used-on : (b : ℕ) → Uses shape one b → Uses shape two b
   used-on b (k, slot, x) = by (cases_eq k n)
     where

@@ -37,7 +37,7 @@ pub over-twice : (d : VirtualMap) (q : Pages) (u : ℕ) → running_over (runnin
 unfolding running_over
 over-twice d q u = or-twice (page_of q u) (d u)
 
--- and so they do once they changed
+-- over what runs, the pages run as over the device once they changed
 pub over-changed : (d : VirtualMap) (q r : Pages) → ((u : ℕ) → IsSome (page_of q u) → IsSome (page_of r u)) → (u : ℕ) → running_over (running_over d q) r u ≡ running_over d r u
 unfolding running_over
 over-changed d q r stays u = by (page_of r u) refl

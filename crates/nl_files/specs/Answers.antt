@@ -1,4 +1,4 @@
--- What the answers tell.
+-- What the answers of calls on a file tell.
 use Rattle.std.specs.Prelude.{◌≡◌, ◌≢◌, ℕ, ◌<◌, ⊤, false, slice_index, Option, Some}
 use Rattle.nl_field.specs.Pointers.{is_none_pointer}
 use Rattle.nl_field.specs.declared.inode.InodeRec.{InodeRec}
@@ -36,7 +36,7 @@ IsLostFile answer.Done = ⊥
 IsLostFile answer.Fault = ⊥
 IsLostFile (answer.Lost w f) = ⊤
 
--- the same of a count, and how many pages it counts
+-- what holds of a count of pages that came to an end
 abbrev pub IfPages : CountPages → (ℕ → Type 0) → Type 0
 IfPages (counted.Pages n) P = P n
 IfPages counted.Fault P = ⊤
@@ -52,7 +52,7 @@ IsLostCount (counted.Pages n) = ⊥
 IsLostCount counted.Fault = ⊥
 IsLostCount (counted.Lost w f) = ⊤
 
--- the same of a look, and what it finds
+-- what holds of what a look at a pointer found
 abbrev pub IfAt : Looked → (Option Pointer → Type 0) → Type 0
 IfAt (looked.At found) P = P found
 IfAt looked.Fault P = ⊤

@@ -18,7 +18,8 @@ use Rattle.nl_files.specs.Cutting.{Cuts}
 
 -- A cut of node n of a volume whose addresses are right. Afterwards the node has the record that the call left, and every other node the
 -- bytes that it had.
-pub record CutsAt (shape : Shape) (device : VirtualMap) (n size : ℕ) (partial : Option Pointer) (was is : InodeRec) (old new : Pages) (s t : Spaces) (after : VirtualMap) : Type 0 where
+pub record CutsAt (shape : Shape) (device : VirtualMap) (n size : ℕ) (partial : Option Pointer) (was is : InodeRec) (old new : Pages)
+    (s t : Spaces) (after : VirtualMap) : Type 0 where
   pub bounds : ShapeBounds shape
   pub right : AddressesRight shape (running_over device old)
   pub is_node : IsNode shape (running_over device old) n was
@@ -39,5 +40,7 @@ pub record FileIsCut (shape : Shape) (n : ℕ) (was is : InodeRec) (before cut a
 
 abbrev pub OneFileIsCut : Type 0
 OneFileIsCut =
-    (shape : Shape) (device : VirtualMap) (n size : ℕ) (partial : Option Pointer) (was is : InodeRec) (old new : Pages) (s t : Spaces) (after : VirtualMap)
-    → CutsAt shape device n size partial was is old new s t after → FileIsCut shape n was is (running_over device old) (running_over device new) after s t
+    (shape : Shape) (device : VirtualMap) (n size : ℕ) (partial : Option Pointer) (was is : InodeRec) (old new : Pages) (s t : Spaces)
+    (after : VirtualMap)
+    → CutsAt shape device n size partial was is old new s t after
+    → FileIsCut shape n was is (running_over device old) (running_over device new) after s t

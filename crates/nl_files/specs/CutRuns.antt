@@ -22,9 +22,10 @@ use Rattle.nl_meta_running.specs.FileLaws.{ChangesFile, IsRight}
 use Rattle.nl_meta_running.specs.Running.{IsNodeOf, Runs, running_on}
 use Rattle.nl_files.specs.Cutting.{Cuts}
 
--- File n of a volume that is right is cut, over this device, and its record is written back. The pages that have the record and the pointer of
--- the index in which the file ends are resident, and a pointer that is given names a page of the physical segment.
-pub record WritesCut (shape : Shape) (device : VirtualMap) (n size : ℕ) (partial : Option Pointer) (was is : InodeRec) (old new written : Pages) (s t : Spaces) : Type 0 where
+-- File n of a volume that is right is cut, over this device, and its record is written back. The pages that have the record and the pointer
+-- of the index in which the file ends are resident, and a pointer that is given names a page of the physical segment.
+pub record WritesCut (shape : Shape) (device : VirtualMap) (n size : ℕ) (partial : Option Pointer) (was is : InodeRec)
+    (old new written : Pages) (s t : Spaces) : Type 0 where
   pub bounds : ShapeBounds shape
   pub right : IsRight shape (running_over device old)
   pub is_node : IsNode shape (running_over device old) n was
@@ -36,9 +37,10 @@ pub record WritesCut (shape : Shape) (device : VirtualMap) (n size : ℕ) (parti
   pub cuts : Cuts size partial was is old new s t
   pub puts : PutsNode n is new written
 
--- All is right again. Of the file each index wholly behind the size has no pointer, that in which it ends the one that is given, if any, and
--- each other index what it had; every other node has what it had. What is free stays exactly what no node has.
-pub record CutIsWritten (shape : Shape) (n size : ℕ) (partial : Option Pointer) (was is : InodeRec) (before after : VirtualMap) (s t : Spaces) : Type 0 where
+-- All is right again. Of the file each index wholly behind the size has no pointer, that in which it ends the one that is given, if any,
+-- and each other index what it had; every other node has what it had. What is free stays exactly what no node has.
+pub record CutIsWritten (shape : Shape) (n size : ℕ) (partial : Option Pointer) (was is : InodeRec) (before after : VirtualMap)
+    (s t : Spaces) : Type 0 where
   pub changes : ChangesFile shape before after n was is
   pub right : IsRight shape after
   pub others : (k : ℕ) → k ≢ n → graph_of shape after k ≡ graph_of shape before k
@@ -50,12 +52,15 @@ pub record CutIsWritten (shape : Shape) (n size : ℕ) (partial : Option Pointer
 
 abbrev pub OneCutIsWritten : Type 0
 OneCutIsWritten =
-    (shape : Shape) (device : VirtualMap) (n size : ℕ) (partial : Option Pointer) (was is : InodeRec) (old new written : Pages) (s t : Spaces)
-    → WritesCut shape device n size partial was is old new written s t → CutIsWritten shape n size partial was is (running_over device old) (running_over device written) s t
+    (shape : Shape) (device : VirtualMap) (n size : ℕ) (partial : Option Pointer) (was is : InodeRec) (old new written : Pages)
+    (s t : Spaces)
+    → WritesCut shape device n size partial was is old new written s t
+    → CutIsWritten shape n size partial was is (running_over device old) (running_over device written) s t
 
 -- ---- over a device that may tell nothing
 
-pub record CutsOn {D : Type 0} (g : Ghosts D) (s : D) (n size : ℕ) (partial : Option Pointer) (was is : InodeRec) (old new written : Pages) (f t : Spaces) : Type 0 where
+pub record CutsOn {D : Type 0} (g : Ghosts D) (s : D) (n size : ℕ) (partial : Option Pointer) (was is : InodeRec) (old new written : Pages)
+    (f t : Spaces) : Type 0 where
   pub is_node : IsNodeOf g s old n was
   pub is_file : was.kind ≡ File
   pub physical : IfSome partial (λ p. IsTrue (is_physical_name (g.shape s) p))
@@ -64,13 +69,15 @@ pub record CutsOn {D : Type 0} (g : Ghosts D) (s : D) (n size : ℕ) (partial : 
   pub cuts : Cuts size partial was is old new f t
   pub puts : PutsNode n is new written
 
--- It runs, with the file so cut, and no page was lost.
-pub record RunsCut {D : Type 0} (g : Ghosts D) (s : D) (n size : ℕ) (partial : Option Pointer) (was is : InodeRec) (old written : Pages) (f t : Spaces) : Type 0 where
+-- A volume runs, with the file so cut, and no page was lost.
+pub record RunsCut {D : Type 0} (g : Ghosts D) (s : D) (n size : ℕ) (partial : Option Pointer) (was is : InodeRec) (old written : Pages)
+    (f t : Spaces) : Type 0 where
   pub runs : Runs g s written
   pub cut : CutIsWritten (g.shape s) n size partial was is (running_on g s old) (running_on g s written) f t
   pub pages : ChangesPages old written
 
 abbrev pub CutRuns : {D : Type 0} → Ghosts D → Type 0
 CutRuns {D} g =
-    (s : D) (n size : ℕ) (partial : Option Pointer) (was is : InodeRec) (old new written : Pages) (f t : Spaces) → IsVolumeShape (g.shape s) → Runs g s old
+    (s : D) (n size : ℕ) (partial : Option Pointer) (was is : InodeRec) (old new written : Pages) (f t : Spaces) → IsVolumeShape (g.shape s)
+    → Runs g s old
     → CutsOn g s n size partial was is old new written f t → RunsCut g s n size partial was is old written f t

@@ -17,7 +17,8 @@ use Rattle.nl_indirect.specs.Truncating.{CutsAddresses}
 
 -- Each address of the file is one of the pool.
 abbrev pub AreOfPool : Spaces → List ℕ → Type 0
-AreOfPool s addresses = (r : ℕ) → slice_index addresses r ≢ 0 → (s.first ≤ slice_index addresses r) × (slice_index addresses r < s.first + length s.pool)
+AreOfPool s addresses =
+    (r : ℕ) → slice_index addresses r ≢ 0 → (s.first ≤ slice_index addresses r) × (slice_index addresses r < s.first + length s.pool)
 
 -- a is an address that the file had, and has no longer.
 pub record LosesAddress (was is : List ℕ) (a : ℕ) : Type 0 where
@@ -48,7 +49,8 @@ pub record CutsPointers (size : ℕ) (partial : Option Pointer) (was is : InodeR
   pub gone : (i : ℕ) → div_ceil size 4096 ≤ i → pointer_at new is i ≡ no_pointer
   pub replaced : IfSome partial (λ p. pointer_at new is (size / 4096) ≡ p)
   pub kept : (i : ℕ) → i < div_ceil size 4096 → (IsSome partial → i ≢ size / 4096) → pointer_at new is i ≡ pointer_at old was i
-  pub spelled : (r : ℕ) → slice_index (slots_of is) r ≢ 0 → HasPointers old (slice_index (slots_of is) r) → HasPointers new (slice_index (slots_of is) r)
+  pub spelled : (r : ℕ) → slice_index (slots_of is) r ≢ 0 → HasPointers old (slice_index (slots_of is) r)
+      → HasPointers new (slice_index (slots_of is) r)
   pub pages : DiffersInPage (address_of is (size / 4096)) old new
 
 -- The page of an address has other bytes, and is dirty.
@@ -58,16 +60,17 @@ pub record Rewrites (a : ℕ) (old new : Pages) : Type 0 where
   pub page : new ≡ with_dirty old a bytes
 
 pub record Cuts (size : ℕ) (partial : Option Pointer) (was is : InodeRec) (old new : Pages) (s t : Spaces) : Type 0 where
-  -- over any device the file has no pointer behind the size, and else what it had, with the one that is given,
-  pub pointers : (device : VirtualMap) → CleanIsStored device old → CutsPointers size partial was is (running_over device old) (running_over device new)
+  -- over any device the file has no pointer behind the size, and else what it had, with the one that is given
+  pub pointers : (device : VirtualMap) → CleanIsStored device old
+      → CutsPointers size partial was is (running_over device old) (running_over device new)
   pub clean : (device : VirtualMap) → CleanIsStored device old → CleanIsStored device new
-  -- the record is still a file's, and has the size,
+  -- the record is still a file's, and has the size
   pub file : IsFileRecord is
   pub sized : is.size ≡ size
   pub generation : is.generation ≡ was.generation
-  -- the addresses that it lost are free,
+  -- the addresses that the file lost are free
   pub addresses : CutsAddresses (div_ceil size 4096) (slots_of was) (slots_of is)
   pub given : GivesBack (slots_of was) (slots_of is) s t
-  -- and the page of the index in which the file ends was written, or none
+  -- the page of the index in which the file ends was written, or none was
   pub written : (new ≡ old) ⊎ Rewrites (address_of is (size / 4096)) old new
   pub one_more : length (besides_0 new.dirty) ≤ length (besides_0 old.dirty) + 1

@@ -20,7 +20,8 @@ use Rattle.nl_files.specs.Installing.{Installs}
 
 -- A pointer to the physical segment is installed in file n of a volume that is right, over this device, and the record is written back with
 -- this size. The pages that have the record and the pointer are resident.
-pub record InstallsAt (shape : Shape) (device : VirtualMap) (n index : ℕ) (to : Pointer) (size : ℕ) (was is : InodeRec) (old new written : Pages) (s t : Spaces) : Type 0 where
+pub record InstallsAt (shape : Shape) (device : VirtualMap) (n index : ℕ) (to : Pointer) (size : ℕ) (was is : InodeRec)
+    (old new written : Pages) (s t : Spaces) : Type 0 where
   pub bounds : ShapeBounds shape
   pub right : IsRight shape (running_over device old)
   pub is_node : IsNode shape (running_over device old) n was
@@ -38,7 +39,8 @@ pub record InstallsAt (shape : Shape) (device : VirtualMap) (n index : ℕ) (to 
 
 -- All is right again, the file has the pointer and else what it had, and every other node what it had. What is free is exactly what no
 -- node has.
-pub record FileIsInstalled (shape : Shape) (n index : ℕ) (to : Pointer) (was is : InodeRec) (before after : VirtualMap) (s t : Spaces) : Type 0 where
+pub record FileIsInstalled (shape : Shape) (n index : ℕ) (to : Pointer) (was is : InodeRec) (before after : VirtualMap)
+    (s t : Spaces) : Type 0 where
   pub changes : ChangesFile shape before after n was is
   pub right : IsRight shape after
   pub others : (k : ℕ) → k ≢ n → graph_of shape after k ≡ graph_of shape before k
@@ -49,6 +51,7 @@ pub record FileIsInstalled (shape : Shape) (n index : ℕ) (to : Pointer) (was i
 
 abbrev pub OneFileIsInstalled : Type 0
 OneFileIsInstalled =
-    (shape : Shape) (device : VirtualMap) (n index : ℕ) (to : Pointer) (size : ℕ) (was is : InodeRec) (old new written : Pages) (s t : Spaces)
+    (shape : Shape) (device : VirtualMap) (n index : ℕ) (to : Pointer) (size : ℕ) (was is : InodeRec) (old new written : Pages)
+    (s t : Spaces)
     → InstallsAt shape device n index to size was is old new written s t
     → FileIsInstalled shape n index to was (record is { size = size }) (running_over device old) (running_over device written) s t

@@ -18,7 +18,8 @@ use Rattle.nl_files.specs.Installing.{Installs}
 
 -- A pointer to the physical segment is installed in file n, and the record is written back with this size. The pages that have the record
 -- and the pointer are resident.
-pub record InstallsOn {D : Type 0} (g : Ghosts D) (s : D) (n index : ℕ) (to : Pointer) (size : ℕ) (was is : InodeRec) (old new written : Pages) (f t : Spaces) : Type 0 where
+pub record InstallsOn {D : Type 0} (g : Ghosts D) (s : D) (n index : ℕ) (to : Pointer) (size : ℕ) (was is : InodeRec)
+    (old new written : Pages) (f t : Spaces) : Type 0 where
   pub is_node : IsNodeOf g s old n was
   pub is_file : was.kind ≡ File
   pub within : index < 4104
@@ -31,13 +32,16 @@ pub record InstallsOn {D : Type 0} (g : Ghosts D) (s : D) (n index : ℕ) (to : 
   pub installs : Installs index to was is old new f t
   pub puts : PutsNode n (record is { size = size }) new written
 
--- It runs, with the file so changed, and no page was lost.
-pub record RunsInstalled {D : Type 0} (g : Ghosts D) (s : D) (n index : ℕ) (to : Pointer) (was is : InodeRec) (old written : Pages) (f t : Spaces) : Type 0 where
+-- A volume runs, with the pointer so installed in the file, and no page was lost.
+pub record RunsInstalled {D : Type 0} (g : Ghosts D) (s : D) (n index : ℕ) (to : Pointer) (was is : InodeRec) (old written : Pages)
+    (f t : Spaces) : Type 0 where
   pub runs : Runs g s written
   pub installed : FileIsInstalled (g.shape s) n index to was is (running_on g s old) (running_on g s written) f t
   pub pages : ChangesPages old written
 
 abbrev pub InstalledRuns : {D : Type 0} → Ghosts D → Type 0
 InstalledRuns {D} g =
-    (s : D) (n index : ℕ) (to : Pointer) (size : ℕ) (was is : InodeRec) (old new written : Pages) (f t : Spaces) → IsVolumeShape (g.shape s) → Runs g s old
-    → InstallsOn g s n index to size was is old new written f t → RunsInstalled g s n index to was (record is { size = size }) old written f t
+    (s : D) (n index : ℕ) (to : Pointer) (size : ℕ) (was is : InodeRec) (old new written : Pages) (f t : Spaces) → IsVolumeShape (g.shape s)
+    → Runs g s old
+    → InstallsOn g s n index to size was is old new written f t
+    → RunsInstalled g s n index to was (record is { size = size }) old written f t

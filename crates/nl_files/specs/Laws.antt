@@ -24,7 +24,8 @@ GoodAddressesHavePages =
 
 -- The pointers from index 0 on are those that the file has in the graph of nodes.
 abbrev pub AllAreOfNode : Type 0
-AllAreOfNode = (pages : VirtualMap) (rec : InodeRec) → IsFileRecord rec → pointers_from pages rec 0 ≡ map (λ p. p.1) (pointers_of_inode pages rec)
+AllAreOfNode =
+    (pages : VirtualMap) (rec : InodeRec) → IsFileRecord rec → pointers_from pages rec 0 ≡ map (λ p. p.1) (pointers_of_inode pages rec)
 
 -- A file stands on, with the pointers that it had, and they still lead.
 pub record StandsAs {D : Type 0} (g : Ghosts D) (s t : D) (rec : InodeRec) (p q : Pages) : Type 0 where
@@ -38,14 +39,19 @@ pub record StandsAfter {D : Type 0} (g : Ghosts D) (s : D) (was is : InodeRec) (
   pub stands : FileStands g s was p → FileStands g s is q
   pub ranges : (i : ℕ) → HasRange (page_of p) was i → HasRange (page_of q) is i
 
--- So it does where a pointer is installed,
+-- A file stands on with its new record where a pointer is installed in it.
 abbrev pub InstalledStands : {D : Type 0} → Ghosts D → Type 0
-InstalledStands {D} g = (s : D) (index : ℕ) (to : Pointer) (was is : InodeRec) (p q : Pages) (t u : Spaces) → Installs index to was is p q t u → StandsAfter g s was is p q
+InstalledStands {D} g =
+    (s : D) (index : ℕ) (to : Pointer) (was is : InodeRec) (p q : Pages) (t u : Spaces) → Installs index to was is p q t u
+    → StandsAfter g s was is p q
 
--- and where it is cut.
+-- A file stands on with its new record where it is cut.
 abbrev pub CutStands : {D : Type 0} → Ghosts D → Type 0
-CutStands {D} g = (s : D) (size : ℕ) (partial : Option Pointer) (was is : InodeRec) (p q : Pages) (t u : Spaces) → Cuts size partial was is p q t u → StandsAfter g s was is p q
+CutStands {D} g =
+    (s : D) (size : ℕ) (partial : Option Pointer) (was is : InodeRec) (p q : Pages) (t u : Spaces) → Cuts size partial was is p q t u
+    → StandsAfter g s was is p q
 
--- Each file does after calls that only read.
+-- Each file stands on after calls that only read.
 abbrev pub FilesStandOn : {D : Type 0} → Ghosts D → Type 0
-FilesStandOn {D} g = (s t : D) (rec : InodeRec) (p q : Pages) → OnlyReads g s t → KeepsRunning g s p q → FileStands g s rec p → StandsAs g s t rec p q
+FilesStandOn {D} g =
+    (s t : D) (rec : InodeRec) (p q : Pages) → OnlyReads g s t → KeepsRunning g s p q → FileStands g s rec p → StandsAs g s t rec p q

@@ -18,7 +18,7 @@ file_page g s pages rec index =
 abbrev pub byte_at : (ℕ → List ℕ) → ℕ → ℕ
 byte_at page i = slice_index (page (i / 4096)) (i % 4096)
 
--- These are the file's bytes from an offset on.
+-- A list of bytes is the file's from an offset on.
 abbrev pub AreBytesFrom : (ℕ → List ℕ) → ℕ → List ℕ → Type 0
 AreBytesFrom page from bytes = (k : ℕ) → k < length bytes → slice_index bytes k ≡ byte_at page (from + k)
 

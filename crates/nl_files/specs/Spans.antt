@@ -7,11 +7,11 @@ use Rattle.nl_field.specs.declared.pointer.Pointer.{Pointer}
 use Rattle.nl_meta.specs.Committed.{VirtualMap}
 use Rattle.nl_meta.specs.Nodes.{pointer_at}
 
--- those of so many indexes from one on, in rising order
+-- the pointers of so many indexes from one on, in rising order
 unfoldable pub pointers_of_span : VirtualMap → InodeRec → ℕ → ℕ → List Pointer
 pointers_of_span pages rec from count = filter (λ p. not (is_none_pointer p)) (map (pointer_at pages rec) (range_with_len from count))
 
--- those of all indexes from one on
+-- the pointers of all indexes from one on
 abbrev pub pointers_from : VirtualMap → InodeRec → ℕ → List Pointer
 pointers_from pages rec from = pointers_of_span pages rec from (4104 - from)
 

@@ -1,3 +1,4 @@
+//! A file gets a size, and the pointers behind it are taken away.
 ghost use Rattle.std.specs.Prelude.{◌≡◌, ◌≢◌, ◌<◌, ◌≤◌, ◌+◌, ◌/◌, ◌^◌, ◌++◌, [], if◌then◌else◌, is_some, IfSome, IsSome, true, length};
 ghost use Rattle.nl_meta.specs.Committed.{VirtualMap};
 ghost use Rattle.nl_meta.specs.Nodes.{pointer_at, slots_of};
@@ -38,7 +39,8 @@ pub fn cut(
     requires place { IsSome partial → 0 < freeing.old.room }
     requires few { IsSome partial → length freeing.old.items + 1 < 2 ^ 32 }
     ensures cut { Cuts size partial rec.old rec.new meta.old meta.new nodes.old nodes.new }
-    ensures freeing { (device : VirtualMap) → freeing.new.items ≡ freeing.old.items ++ (if is_some partial then as_list (pointer_at (running_over device meta.old) rec.old (size / 4096)) else []) }
+    ensures freeing { (device : VirtualMap) → freeing.new.items
+        ≡ freeing.old.items ++ (if is_some partial then as_list (pointer_at (running_over device meta.old) rec.old (size / 4096)) else []) }
     ensures left { length freeing.old.items + freeing.old.room ≤ length freeing.new.items + freeing.new.room }
 {
     let before = rec.addresses;

@@ -1,3 +1,4 @@
+//! The pointers of a file are counted, and gathered into a list.
 ghost use Rattle.std.specs.Prelude.{◌≡◌, ◌<◌, ◌≤◌, ◌+◌, ◌^◌, ◌++◌, ◌∷◌, [], if◌then◌else◌, is_some, length};
 ghost use Rattle.nl_iface.specs.Calls.{OnlyReads, ReadsCounted};
 ghost use Rattle.nl_meta.specs.Nodes.{pointer_at};
@@ -63,7 +64,8 @@ pub fn gather<D: NamedPages>(
     ensures kept { OnlyReads D.Counts device.old device.new }
     ensures pages { KeepsRunning D.Counts device.old meta.old meta.new }
     ensures only { LoadsOwn rec.now meta.old meta.new }
-    ensures done { result ≡ FileAnswer.Done → freeing.new.items ≡ freeing.old.items ++ pointers_from (running_map D.Counts device.old meta.old) rec.now from }
+    ensures done { result ≡ FileAnswer.Done
+        → freeing.new.items ≡ freeing.old.items ++ pointers_from (running_map D.Counts device.old meta.old) rec.now from }
     ensures refused { (result ≡ FileAnswer.Done → ⊥) → freeing.new.items ≡ freeing.old.items }
     ensures room { length freeing.old.items + freeing.old.room ≤ length freeing.new.items + freeing.new.room }
     ensures faults { ReadsCounted D.Counts (result ≡ FileAnswer.Fault) device.old device.new }
@@ -95,12 +97,14 @@ fn gather_one<D: NamedPages>(
     requires within { index < 4104 }
     requires stands { FileStands D.Counts device.old rec.now meta.old }
     requires room { length (as_list (pointer_at (running_map D.Counts device.old meta.old) rec.now index)) ≤ freeing.old.room }
-    requires few { length freeing.old.items + length (as_list (pointer_at (running_map D.Counts device.old meta.old) rec.now index)) < 2 ^ 32 }
+    requires few { length freeing.old.items
+        + length (as_list (pointer_at (running_map D.Counts device.old meta.old) rec.now index)) < 2 ^ 32 }
     ensures formed { D.formed device.new }
     ensures kept { OnlyReads D.Counts device.old device.new }
     ensures pages { KeepsRunning D.Counts device.old meta.old meta.new }
     ensures only { LoadsOwn rec.now meta.old meta.new }
-    ensures done { result ≡ FileAnswer.Done → freeing.new.items ≡ freeing.old.items ++ as_list (pointer_at (running_map D.Counts device.old meta.old) rec.now index) }
+    ensures done { result ≡ FileAnswer.Done
+        → freeing.new.items ≡ freeing.old.items ++ as_list (pointer_at (running_map D.Counts device.old meta.old) rec.now index) }
     ensures refused { (result ≡ FileAnswer.Done → ⊥) → freeing.new ≡ freeing.old }
     ensures room { length freeing.old.items + freeing.old.room ≤ length freeing.new.items + freeing.new.room }
     ensures faults { ReadsCounted D.Counts (result ≡ FileAnswer.Fault) device.old device.new }

@@ -1,3 +1,4 @@
+//! A page index of a file gets a pointer, with a page for its range where that has none.
 ghost use Rattle.std.specs.Prelude.{◌≡◌, ◌≢◌, ◌↔◌, ◌<◌, ◌≤◌, ◌+◌, ◌^◌, ◌++◌, IfSome, IsSome, IsTrue, Some, true, length};
 ghost use Rattle.nl_field.specs.Spelling.{is_stamp};
 ghost use Rattle.nl_field.specs.declared.pointer.Pointer.{Pointer as PointerOf};
@@ -40,7 +41,8 @@ pub fn install(
     requires place { 0 < freeing.old.room }
     requires few { length freeing.old.items + 1 < 2 ^ 32 }
     ensures installed { Installs index to rec.old rec.new meta.old meta.new nodes.old nodes.new }
-    ensures freeing { (device : VirtualMap) → freeing.new.items ≡ freeing.old.items ++ as_list (pointer_at (running_over device meta.old) rec.old index) }
+    ensures freeing { (device : VirtualMap)
+        → freeing.new.items ≡ freeing.old.items ++ as_list (pointer_at (running_over device meta.old) rec.old index) }
     ensures left { length freeing.old.items + freeing.old.room ≤ length freeing.new.items + freeing.new.room }
 {
     let fresh = fresh_for(nodes, rec, index);
@@ -66,7 +68,8 @@ pub(crate) fn replace(
     requires place { 0 < freeing.old.room }
     requires few { length freeing.old.items + 1 < 2 ^ 32 }
     ensures stored { Stores index to fresh rec.old rec.new meta.old meta.new Done }
-    ensures freeing { (device : VirtualMap) → freeing.new.items ≡ freeing.old.items ++ as_list (pointer_at (running_over device meta.old) rec.old index) }
+    ensures freeing { (device : VirtualMap)
+        → freeing.new.items ≡ freeing.old.items ++ as_list (pointer_at (running_over device meta.old) rec.old index) }
     ensures left { length freeing.old.items + freeing.old.room ≤ length freeing.new.items + freeing.new.room }
 {
     let had = lookup(rec, meta, index);

@@ -1,3 +1,4 @@
+//! The pages that have the pointers of a file are made resident.
 ghost use Rattle.std.specs.Prelude.{◌≡◌, ◌<◌, ◌≤◌, ◌+◌, ◌≢◌, ℕ, Some, length, take};
 ghost use Rattle.nl_field.specs.Members.{Has};
 ghost use Rattle.nl_iface.specs.Calls.{OnlyReads, ReadsCounted};
@@ -58,7 +59,8 @@ pub fn prepare<D: NamedPages>(
     ensures pages { KeepsRunning D.Counts device.old meta.old meta.new }
     ensures only { LoadsOwn rec.now meta.old meta.new }
     ensures ready { result ≡ FileAnswer.Done → (i : ℕ) → first ≤ i → i ≤ last → HasRange (page_of meta.new) rec.now i }
-    ensures recent { result ≡ FileAnswer.Done → (i : ℕ) → first ≤ i → i ≤ last → address_of rec.now i ≢ 0 → Has (take 2 meta.new.recent) (address_of rec.now i) }
+    ensures recent { result ≡ FileAnswer.Done → (i : ℕ) → first ≤ i → i ≤ last → address_of rec.now i ≢ 0
+        → Has (take 2 meta.new.recent) (address_of rec.now i) }
     ensures faults { ReadsCounted D.Counts (result ≡ FileAnswer.Fault) device.old device.new }
     ensures lost { LosesFile (IsPageStamp (D.stamps device.old) rec.now) result }
     ensures told { D.tells → IsLostFile result → ⊥ }

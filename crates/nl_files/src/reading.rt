@@ -1,3 +1,4 @@
+//! The bytes of a file are read, zeros where nothing was ever written.
 ghost use Rattle.std.specs.Prelude.{◌≡◌, ◌<◌, ◌≤◌, ◌+◌, ℕ, length, slice_index};
 ghost use Rattle.nl_iface.specs.Calls.{OnlyReads, ReadsCounted};
 ghost use Rattle.nl_iface.specs.Holders.{IsRef, always, wants_tagged};
@@ -34,7 +35,8 @@ pub fn read<D: NamedPages>(
     ensures pages { KeepsRunning D.Counts device.old meta.old meta.new }
     ensures only { LoadsOwn rec.now meta.old meta.new }
     ensures len { length out.new ≡ length out.old }
-    ensures bytes { D.tells → result ≡ FileAnswer.Done → AreBytesFrom (file_page D.Counts device.old (running_map D.Counts device.old meta.old) rec.now) at out.new }
+    ensures bytes { D.tells → result ≡ FileAnswer.Done
+        → AreBytesFrom (file_page D.Counts device.old (running_map D.Counts device.old meta.old) rec.now) at out.new }
     ensures faults { ReadsCounted D.Counts (result ≡ FileAnswer.Fault) device.old device.new }
     ensures lost { LosesFile (IsWanted D.Counts device.old (running_map D.Counts device.old meta.old) rec.now) result }
     ensures told { D.tells → IsLostFile result → ⊥ }
@@ -84,7 +86,8 @@ fn read_page<D: NamedPages>(
     ensures kept { OnlyReads D.Counts device.old device.new }
     ensures pages { KeepsRunning D.Counts device.old meta.old meta.new }
     ensures only { LoadsOwn rec.now meta.old meta.new }
-    ensures bytes { D.tells → result ≡ FileAnswer.Done → buf.new.main ≡ file_page D.Counts device.old (running_map D.Counts device.old meta.old) rec.now index }
+    ensures bytes { D.tells → result ≡ FileAnswer.Done
+        → buf.new.main ≡ file_page D.Counts device.old (running_map D.Counts device.old meta.old) rec.now index }
     ensures faults { ReadsCounted D.Counts (result ≡ FileAnswer.Fault) device.old device.new }
     ensures lost { LosesFile (IsWanted D.Counts device.old (running_map D.Counts device.old meta.old) rec.now) result }
     ensures told { D.tells → IsLostFile result → ⊥ }

@@ -39,7 +39,8 @@ HasPlace flight worker = (length (of_worker flight worker).pages < 16) ⊎ (sum_
 pub record IsFlight (flight : List InFlight) : Type 0 where
   pub eight : length flight ≡ 8
   pub places : sum_by extra flight ≤ 2
-  pub idle : (worker : ℕ) → (of_worker flight worker).line ≡ 0 → ((of_worker flight worker).pages ≡ []) × ((of_worker flight worker).goal ≡ None)
+  pub idle : (worker : ℕ) → (of_worker flight worker).line ≡ 0
+      → ((of_worker flight worker).pages ≡ []) × ((of_worker flight worker).goal ≡ None)
 
 -- the pages of all workers, each with its owner
 unfoldable pub carried : List InFlight → List (Tag × Pointer)

@@ -1,3 +1,4 @@
+//! The lines of eight workers in flight, each with its pages, and the calls that begin, fill and end them.
 ghost use Rattle.std.specs.Prelude.{◌≡◌, ℕ, ◌+◌, ◌<◌, ◌≤◌, ◌↔◌, [], ◌∷◌, ◌++◌, length, slice_get, Some, None, IsTrue, IsNone, IfOk, IfSome};
 ghost use Rattle.nl_field.specs.declared.pointer.Pointer.{Pointer};
 ghost use Rattle.nl_field.specs.declared.pointer.Tag.{Tag};
@@ -80,7 +81,8 @@ impl Flight {
     /// Index, pointer and owner of the worker's page of that place, from 0. None exactly where it has no more than so many.
     pub fn get(&self, worker: u8, i: u32) -> Option<(u32, Pointer, Tag)>
         requires known { worker < 8 }
-        ensures some { IfSome result (λ found. slice_get (of_worker self.now worker).pages i ≡ Some (record { index = found.0; at = found.1; tag = found.2 })) }
+        ensures some { IfSome result (λ found. slice_get (of_worker self.now worker).pages i
+            ≡ Some (record { index = found.0; at = found.1; tag = found.2 })) }
         ensures none { IsNone result ↔ length (of_worker self.now worker).pages ≤ i }
     {
         let line = &self.lines[worker as usize];
@@ -112,7 +114,8 @@ impl Flight {
     /// Keeps the sum of both fault counts after a stage that failed.
     pub fn set_fault(&mut self, worker: u8, sum: u64)
         requires known { worker < 8 }
-        ensures kept { let was = of_worker self.old worker in self.new ≡ with_line self.old worker (record { line = was.line; fault = sum; goal = was.goal; pages = was.pages }) }
+        ensures kept { let was = of_worker self.old worker in self.new
+            ≡ with_line self.old worker (record { line = was.line; fault = sum; goal = was.goal; pages = was.pages }) }
     {
         self.lines[worker as usize].set_fault(sum);
     }
@@ -121,7 +124,8 @@ impl Flight {
     pub fn set_goal(&mut self, worker: u8, goal: u64)
         requires known { worker < 8 }
         requires some { 0 < (of_worker self.old worker).line }
-        ensures fixed { let was = of_worker self.old worker in self.new ≡ with_line self.old worker (record { line = was.line; fault = was.fault; goal = Some goal; pages = was.pages }) }
+        ensures fixed { let was = of_worker self.old worker in self.new
+            ≡ with_line self.old worker (record { line = was.line; fault = was.fault; goal = Some goal; pages = was.pages }) }
     {
         self.lines[worker as usize].set_goal(goal);
     }
@@ -131,7 +135,8 @@ impl Flight {
         requires known { worker < 8 }
         requires some { 0 < (of_worker self.old worker).line }
         requires place { HasPlace self.old worker }
-        ensures put { let was = of_worker self.old worker in self.new ≡ with_line self.old worker (record { line = was.line; fault = was.fault; goal = was.goal; pages = was.pages ++ record { index = index; at = at; tag = tag } ∷ [] }) }
+        ensures put { let was = of_worker self.old worker in self.new ≡ with_line self.old worker
+            (record { line = was.line; fault = was.fault; goal = was.goal; pages = was.pages ++ record { index = index; at = at; tag = tag } ∷ [] }) }
     {
         self.lines[worker as usize].push(FlightPage { index, at, tag });
     }

@@ -1,3 +1,4 @@
+//! The line of one worker in flight, with the pages that were programmed for it.
 ghost use Rattle.std.specs.Prelude.{◌≡◌, ◌<◌, ◌++◌, ◌∷◌, [], length, map, Some, IfOk, slice_index_or, vec_capacity};
 ghost use Rattle.nl_flight.specs.Flight.{InFlight, begun, line_has_stamp, renamed_line, renamed_page};
 
@@ -49,6 +50,7 @@ fn rename_pages(pages: &mut Vec<FlightPage>, stamp: u64, to: u32)
 }
 
 impl WorkerLine {
+    /// No line, with room for eighteen pages. `Memory` where there is none for them.
     pub fn new(alloc: Global) -> Result<WorkerLine, Memory>
         ensures { IfOk result (λ now. now ≡ begun 0) }
     {
@@ -61,30 +63,35 @@ impl WorkerLine {
         })
     }
 
+    /// The number of the line, 0 for none.
     pub fn line(&self) -> u32
         ensures { result ≡ self.now.line }
     {
         self.line
     }
 
+    /// The sum of both fault counts after the last failed stage of the line, 0 for none.
     pub fn fault(&self) -> u64
         ensures { result ≡ self.now.fault }
     {
         self.fault
     }
 
+    /// The count of calls that the line has to reach, where it is fixed.
     pub fn goal(&self) -> Option<u64>
         ensures { result ≡ self.now.goal }
     {
         self.goal
     }
 
+    /// How many pages are in flight for the line, 18 at most.
     pub fn len(&self) -> usize
         ensures { result ≡ length self.now.pages }
     {
         self.pages.len()
     }
 
+    /// The page at a place below the length, in the order in which pages were added.
     pub fn get(&self, at: usize) -> FlightPage
         requires { at < length self.now.pages }
         ensures { (page : FlightPage) → result ≡ slice_index_or self.now.pages at page }
@@ -92,7 +99,7 @@ impl WorkerLine {
         self.pages[at]
     }
 
-    // Ends what was in flight, and begins a line, 0 for none.
+    /// Ends what was in flight, and begins a line, 0 for none.
     pub fn restart(&mut self, line: u32)
         ensures { self.new ≡ begun line }
     {
@@ -102,32 +109,37 @@ impl WorkerLine {
         self.pages.clear();
     }
 
+    /// Keeps the sum of both fault counts after a stage that failed.
     pub fn set_fault(&mut self, sum: u64)
         ensures { self.new ≡ record { line = self.old.line; fault = sum; goal = self.old.goal; pages = self.old.pages } }
     {
         self.fault = sum;
     }
 
+    /// Fixes the count of calls that the line has to reach.
     pub fn set_goal(&mut self, goal: u64)
         ensures { self.new ≡ record { line = self.old.line; fault = self.old.fault; goal = Some goal; pages = self.old.pages } }
     {
         self.goal = Some(goal);
     }
 
+    /// Adds a page behind the others, of which there are fewer than 18. It takes no memory.
     pub fn push(&mut self, page: FlightPage)
         requires { length self.old.pages < 18 }
-        ensures { self.new ≡ record { line = self.old.line; fault = self.old.fault; goal = self.old.goal; pages = self.old.pages ++ page ∷ [] } }
+        ensures { self.new
+            ≡ record { line = self.old.line; fault = self.old.fault; goal = self.old.goal; pages = self.old.pages ++ page ∷ [] } }
     {
         self.pages.push_reserved(page);
     }
 
+    /// Whether a page of the line has this write sequence number.
     pub fn has_stamp(&self, stamp: u64) -> bool
         ensures { result ≡ line_has_stamp stamp self.now }
     {
         self.pages.iter().any(|page| page.at.stamp == stamp)
     }
 
-    // Gives each page of this write sequence number the name.
+    /// Gives each page of this write sequence number the name.
     pub fn rename(&mut self, stamp: u64, to: u32)
         ensures { self.new ≡ renamed_line stamp to self.old }
     {

@@ -1,3 +1,4 @@
+//! The record of one page in flight.
 use nl_field::{Pointer, Tag};
 
 /// A page that is programmed and stands in no file yet: its index in the file, its name with its write sequence number,

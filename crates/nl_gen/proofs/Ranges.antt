@@ -20,7 +20,7 @@ same_from f g a (suc n) each =
     ap (λ (t : List ℕ). t ++ flat_map f (range_with_len (a + 1) n)) (each a (omega arith))
     ∙ ap (λ (t : List ℕ). g a ++ t) (same_from f g (a + 1) n (λ k lt. each k (omega arith)))
 
--- the same texts of all numbers
+-- two functions that give each number one text give all numbers one text
 pub same_each : (f g : ℕ → List ℕ) (n : ℕ) → ((k : ℕ) → k < n → f k ≡ g k) → flat_map f (range_with_len 0 n) ≡ flat_map g (range_with_len 0 n)
 same_each f g n each = same_from f g 0 n (λ k lt. each k (omega arith))
 

@@ -55,7 +55,7 @@ of_kind kind file cap a b byte =
 unfoldable pub drawn_of : ℕ → ℕ → ℕ → Drawn
 drawn_of r a b = let file = file_number r in of_kind (r % 10) file (cap_of file) a b (r / 16777216 % 256)
 
--- ---- its text
+-- ---- the text of a line
 
 -- `/wK`
 abbrev pub directory_text : ℕ → List ℕ
@@ -71,8 +71,10 @@ four_bytes n = n / 16777216 % 256 ∷ n / 65536 % 256 ∷ n / 256 % 256 ∷ n % 
 
 abbrev pub drawn_text : ℕ → Drawn → List ℕ
 drawn_text worker (Create file) = codes "create " ++ file_text worker file
-drawn_text worker (Fill file from len byte) = codes "fill " ++ file_text worker file ++ codes " " ++ decimal from ++ codes " " ++ decimal len ++ codes " " ++ encode_lower (byte ∷ [])
-drawn_text worker (Write file from word) = codes "write " ++ file_text worker file ++ codes " " ++ decimal from ++ codes " " ++ encode_lower (four_bytes word)
+drawn_text worker (Fill file from len byte) =
+    codes "fill " ++ file_text worker file ++ codes " " ++ decimal from ++ codes " " ++ decimal len ++ codes " " ++ encode_lower (byte ∷ [])
+drawn_text worker (Write file from word) =
+    codes "write " ++ file_text worker file ++ codes " " ++ decimal from ++ codes " " ++ encode_lower (four_bytes word)
 drawn_text worker (Read file from len) = codes "read " ++ file_text worker file ++ codes " " ++ decimal from ++ codes " " ++ decimal len
 drawn_text worker (Truncate file size) = codes "truncate " ++ file_text worker file ++ codes " " ++ decimal size
 drawn_text worker (Unlink file) = codes "unlink " ++ file_text worker file

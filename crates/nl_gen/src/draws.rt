@@ -17,7 +17,8 @@ fn word(generator: &mut Lcg64Xsh32) -> u32
 
 /// Draws the call of a line.
 pub(crate) fn draw(generator: &mut Lcg64Xsh32) -> Drawn
-    ensures drawn { result ≡ soak.drawn_of (first_word generator.old) (first_word (after_word generator.old)) (first_word (after_word (after_word generator.old))) }
+    ensures drawn { result ≡ soak.drawn_of (first_word generator.old) (first_word (after_word generator.old))
+        (first_word (after_word (after_word generator.old))) }
     ensures after { generator.new ≡ after_line generator.old }
 {
     let r = word(generator);

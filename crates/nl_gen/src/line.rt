@@ -8,6 +8,7 @@ use crate::drawn::Drawn;
 use itoa::Buffer;
 use nl_field::Memory;
 
+/// Adds bytes at the end. An error where memory is refused.
 pub(crate) fn push(text: &mut Vec<u8>, bytes: &[u8]) -> Result<(), Memory>
     ensures { OnOk result (text.new.items ≡ text.old.items ++ bytes.now) }
 {

@@ -1,3 +1,4 @@
+// The script of a soak: its workers draw their lines in turn.
 ghost use Rattle.std.specs.Prelude.{◌≡◌, ℕ, ◌+◌, ◌*◌, ◌<◌, ◌≤◌, ◌++◌, List, length, flat_map, slice_index_or, vec_len, Ok, OnOk, IfOk};
 ghost use Rattle.std.specs.List.{range_with_len};
 ghost use Rattle.rand_pcg.specs.Lcg.{Lcg};
@@ -27,8 +28,11 @@ fn generators(alloc: Global, seed: u64, workers: u8) -> Result<Vec<Lcg64Xsh32>, 
 // Adds a line of each worker, in their order.
 fn push_round(text: &mut Vec<u8>, all: &mut Vec<Lcg64Xsh32>) -> Result<(), Memory>
     requires { vec_len all.old ≤ 8 }
-    ensures text { OnOk result ((d : Lcg) → text.new.items ≡ text.old.items ++ flat_map (λ k. line_from k (slice_index_or all.old.items k d)) (range_with_len 0 (vec_len all.old))) }
-    ensures after { OnOk result ((k : ℕ) (d : Lcg) → k < vec_len all.old → slice_index_or all.new.items k d ≡ after_line (slice_index_or all.old.items k d)) }
+    ensures text { OnOk result ((d : Lcg)
+        → text.new.items
+        ≡ text.old.items ++ flat_map (λ k. line_from k (slice_index_or all.old.items k d)) (range_with_len 0 (vec_len all.old))) }
+    ensures after { OnOk result ((k : ℕ) (d : Lcg) → k < vec_len all.old
+        → slice_index_or all.new.items k d ≡ after_line (slice_index_or all.old.items k d)) }
     ensures count { vec_len all.new ≡ vec_len all.old }
 {
     for k in 0..all.len() {

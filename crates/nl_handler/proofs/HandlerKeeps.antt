@@ -116,7 +116,7 @@ module _ {D : Type 0} (g : Ghosts D) (s : D) (p : Pages) (t : D) (q : Pages) (fl
       same : ref.leads.0 ≡ told_page c
       same = some_in ref.leads.0 (told_page c) (sym ref.leads.1 ∙ ap (g.names s).live one-place ∙ called)
 
-  -- so the metadata has it where the tag says
+  -- where a holder of its number has its tag, the metadata has it where the tag says
   holds-tagged : 1 ≤ times tagged c.stamp running → HoldsTagged (g.shape s) (running_on g s p) c.tag c.stamp
   holds-tagged h = (
     at.rec,

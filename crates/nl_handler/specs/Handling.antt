@@ -39,7 +39,7 @@ pub record IsTagged (tag : Tag) (rec : InodeRec) : Type 0 where
   pub generation : rec.generation ≡ tag.generation
   pub within : tag.index < 4104
 
--- It is that of the tag's node.
+-- The record is that of the tag's node, and tagged as the tag says.
 pub record TagsFile (shape : Shape) (pages : VirtualMap) (tag : Tag) (rec : InodeRec) : Type 0 where
   pub is_node : IsNode shape pages tag.ino rec
   pub tagged : IsTagged tag rec

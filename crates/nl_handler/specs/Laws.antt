@@ -21,18 +21,22 @@ use Rattle.nl_handler.specs.declared.answer.Handled.TheVariants as handled
 -- The holder of the metadata has the name, where no second one has its sequence number.
 abbrev pub StoredRenames : Type 0
 StoredRenames =
-    (shape : Shape) (old new : VirtualMap) (tag : Tag) (stamp name : ℕ) → times tagged stamp (tagged_in shape old) ≤ 1 → RenamesPointer shape old new tag stamp name
+    (shape : Shape) (old new : VirtualMap) (tag : Tag) (stamp name : ℕ) → times tagged stamp (tagged_in shape old) ≤ 1
+    → RenamesPointer shape old new tag stamp name
     → Renames tagged wants_tagged stamp name (tagged_in shape old) (tagged_in shape new)
 
--- So has a page in flight,
+-- A page in flight has the name too, where no second one has its sequence number.
 abbrev pub FlightRenames : Type 0
-FlightRenames = (stamp name : ℕ) (flight : List InFlight) → Renames tagged wants_tagged stamp name (carried flight) (carried (renamed stamp name flight))
+FlightRenames =
+    (stamp name : ℕ) (flight : List InFlight)
+    → Renames tagged wants_tagged stamp name (carried flight) (carried (renamed stamp name flight))
 
--- and a pointer that awaits its free, and each such pointer stays in its place.
+-- A pointer that awaits its free has the name too, and each such pointer stays in its place.
 abbrev pub FreeingRenames : Type 0
 FreeingRenames =
     (stamp name : ℕ) (list : List Pointer)
-    → Renames plain wants stamp name list (map (renamed_pointer stamp name) list) × SameBehind plain list (map (renamed_pointer stamp name) list)
+    → Renames plain wants stamp name list (map (renamed_pointer stamp name) list)
+    × SameBehind plain list (map (renamed_pointer stamp name) list)
 
 -- ---- a call of `handle`
 
@@ -41,15 +45,18 @@ abbrev pub holders_on : {D : Type 0} → Ghosts D → D → Pages → List InFli
 holders_on g s p flight freeing = record { running = tagged_in (g.shape s) (running_on g s p); flight = carried flight; freeing = freeing }
 
 -- what the call says of the metadata
-pub record Handles {D : Type 0} (g : Ghosts D) (s : D) (p : Pages) (t : D) (q : Pages) (flight : List InFlight) (freeing : List Pointer) (c : Callback) (answer : Handled) : Type 0 where
+pub record Handles {D : Type 0} (g : Ghosts D) (s : D) (p : Pages) (t : D) (q : Pages) (flight : List InFlight) (freeing : List Pointer)
+    (c : Callback) (answer : Handled) : Type 0 where
   pub elsewhere : IsElsewhere c.stamp flight freeing → (answer ≡ handled.Renamed) × (q ≡ p) × (t ≡ s)
   pub stored : (IsElsewhere c.stamp flight freeing → ⊥) → HandlesStored g s p t q c.tag c.stamp (led (g.names s) c.before) answer
 
 -- The page of the callback has a holder, and where it was handled the holder of the metadata, where it is that, has the name.
-pub record HandledHolders {D : Type 0} (g : Ghosts D) (s : D) (p : Pages) (t : D) (q : Pages) (c : Callback) (answer : Handled) : Type 0 where
+pub record HandledHolders {D : Type 0} (g : Ghosts D) (s : D) (p : Pages) (t : D) (q : Pages) (c : Callback)
+    (answer : Handled) : Type 0 where
   pub never_gone : answer ≡ handled.Gone → ⊥
   pub running : answer ≡ handled.Renamed
-      → Renames tagged wants_tagged c.stamp (led (g.names s) c.before) (tagged_in (g.shape s) (running_on g s p)) (tagged_in (g.shape t) (running_on g t q))
+      → Renames tagged wants_tagged c.stamp (led (g.names s) c.before) (tagged_in (g.shape s) (running_on g s p))
+      (tagged_in (g.shape t) (running_on g t q))
 
 -- Where each live page is held once, a pending callback is never gone.
 abbrev pub HandlerKeeps : {D : Type 0} → Ghosts D → Type 0
@@ -63,4 +70,5 @@ HandlerKeeps {D} g =
 -- However a call was answered, it loses no page that is resident, thaws none, and makes none of the journal's resident.
 abbrev pub HandlerChangesPages : {D : Type 0} → Ghosts D → Type 0
 HandlerChangesPages {D} g =
-    (s : D) (p : Pages) (t : D) (q : Pages) (tag : Tag) (stamp name : ℕ) (answer : Handled) → HandlesStored g s p t q tag stamp name answer → ChangesPages p q
+    (s : D) (p : Pages) (t : D) (q : Pages) (tag : Tag) (stamp name : ℕ) (answer : Handled) → HandlesStored g s p t q tag stamp name answer
+    → ChangesPages p q

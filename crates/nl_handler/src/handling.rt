@@ -1,3 +1,4 @@
+//! The handling of one callback: the pages in flight, then the pointers that await their free, then the metadata.
 ghost use Rattle.std.specs.Prelude.{◌≡◌, ◌<◌, ◌⊎◌, true, map};
 ghost use Rattle.nl_field.specs.Live.{resolve};
 ghost use Rattle.nl_flight.specs.Flight.{has_stamp, renamed, renamed_pointer};
@@ -36,8 +37,11 @@ pub fn handle<D: NamedPages>(
     ensures flight { flight.new ≡ renamed callback.now.stamp (resolve (D.names device.old).pairs callback.now.before) flight.old }
     ensures freeing { freeing.new ≡ record { items = map (renamed_pointer callback.now.stamp (resolve (D.names device.old).pairs callback.now.before)) freeing.old.items; room = freeing.old.room } }
     ensures nodes { nodes.new ≡ nodes.old }
-    ensures elsewhere { IsElsewhere callback.now.stamp flight.old freeing.old.items → (result ≡ Handled.Renamed) × (meta.new ≡ meta.old) × (device.new ≡ device.old) }
-    ensures stored { (IsElsewhere callback.now.stamp flight.old freeing.old.items → ⊥) → HandlesStored D.Counts device.old meta.old device.new meta.new callback.now.tag callback.now.stamp (resolve (D.names device.old).pairs callback.now.before) result }
+    ensures elsewhere { IsElsewhere callback.now.stamp flight.old freeing.old.items
+        → (result ≡ Handled.Renamed) × (meta.new ≡ meta.old) × (device.new ≡ device.old) }
+    ensures stored { (IsElsewhere callback.now.stamp flight.old freeing.old.items → ⊥)
+        → HandlesStored D.Counts device.old meta.old device.new meta.new callback.now.tag callback.now.stamp
+        (resolve (D.names device.old).pairs callback.now.before) result }
     ensures reads { Reads D.Counts device.old device.new (handled_stop result) }
 {
     let to = device.resolve(callback.before);

@@ -1,4 +1,4 @@
-//! Laws of the definitions. Each function stands for the laws that its contract names.
+//! Laws of the handling of a callback: who holds live pages after it, and that no page in memory is lost. A function stands for each law.
 ghost use Rattle.nl_handler.specs.Laws.{FlightRenames, FreeingRenames, HandlerChangesPages, HandlerKeeps, StoredRenames};
 
 use nl_iface::NamedPages;

@@ -1,3 +1,4 @@
+//! The pointer of a moved page in the metadata: it is found by the tag of the page, and gets the new name.
 ghost use Rattle.std.specs.Prelude.{◌≡◌, ◌<◌, ◌↔◌, IfOk, IsSome, IsTrue, MatchOption, true, false};
 ghost use Rattle.nl_field.specs.Live.{resolve};
 ghost use Rattle.nl_field.specs.Spelling.{is_stamp};
@@ -78,7 +79,10 @@ fn find<D: NamedPages>(
     ensures formed { D.formed device.new }
     ensures kept { RunsOn D.Counts device.old meta.old device.new meta.new }
     ensures reads { Reads D.Counts device.old device.new (stop_of result) }
-    ensures found { IfOk result (λ o. MatchOption o (HoldsTagged (D.shape device.old) (running_on D.Counts device.old meta.old) tag.now stamp → ⊥) (λ rec. HasTagged (D.shape device.old) (running_on D.Counts device.old meta.old) tag.now stamp rec × IsAtHand meta.new tag.now rec × IsTrue (is_stamp stamp))) }
+    ensures found { IfOk result (λ o. MatchOption o
+        (HoldsTagged (D.shape device.old) (running_on D.Counts device.old meta.old) tag.now stamp → ⊥)
+        (λ rec. HasTagged (D.shape device.old) (running_on D.Counts device.old meta.old) tag.now stamp rec
+        × IsAtHand meta.new tag.now rec × IsTrue (is_stamp stamp))) }
 {
     let rec = match file_at(device, meta, nodes, tag) {
         Ok(Some(rec)) => rec,
@@ -110,7 +114,9 @@ fn file_at<D: NamedPages>(
     ensures formed { D.formed device.new }
     ensures kept { RunsOn D.Counts device.old meta.old device.new meta.new }
     ensures reads { Reads D.Counts device.old device.new (stop_of result) }
-    ensures file { IfOk result (λ o. MatchOption o ((rec : InodeRecOf) → TagsFile (D.shape device.old) (running_on D.Counts device.old meta.old) tag.now rec → ⊥) (TagsFile (D.shape device.old) (running_on D.Counts device.old meta.old) tag.now)) }
+    ensures file { IfOk result (λ o. MatchOption o
+        ((rec : InodeRecOf) → TagsFile (D.shape device.old) (running_on D.Counts device.old meta.old) tag.now rec → ⊥)
+        (TagsFile (D.shape device.old) (running_on D.Counts device.old meta.old) tag.now)) }
     ensures there { IfOk result (λ o. IsSome (page_of meta.new (page_of_node tag.now.ino))) }
 {
     match hold(device, meta, 67 + tag.ino / 16) {

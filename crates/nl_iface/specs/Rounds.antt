@@ -62,7 +62,7 @@ pub record MovesLaws : Type 0 where
 abbrev pub ARoundGains : Type 0
 ARoundGains = (s t : Space) → (is : IsRound s t) → IsSpace is.emptied → HasCapacity is.emptied → Gains s t
 
--- After it no victim is in hand, and one block waits at most. So rounds end: once so many pages are within reach, a block is Free.
+-- After a round no victim is in hand, and one block waits at most. So rounds end: once so many pages are within reach, a block is Free.
 pub record RoundsEnd : Type 0 where
   pub none_in_hand : (s t : Space) → (is : IsRound s t) → IsSpace is.emptied → (t.victim ≡ 0) × (t.waiting ≤ 1)
   pub free : (s : Space) → IsSpace s → s.victim ≡ 0 → s.waiting ≤ 1 → (s.keep + 2) * s.block + 1 ≤ s.reach → HasFreed s

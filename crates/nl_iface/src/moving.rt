@@ -1,3 +1,5 @@
+//! The answers of the calls that move pages.
+
 /// What a copy answers.
 #[derive(Clone, Copy, Debug, PartialEq, Eq)]
 pub enum Copying {

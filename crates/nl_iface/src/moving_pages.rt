@@ -1,3 +1,4 @@
+//! The trait of a device that moves pages to clean blocks.
 ghost use Rattle.std.specs.Prelude.{◌≡◌, ◌≢◌, ◌↔◌, ◌⊎◌, ◌+◌, ◌≤◌, ℕ, Option, Some, None, IfNone, IfSome, cond, is_some, true, false};
 ghost use Rattle.nl_field.specs.CrashStates.{Rose, saturated};
 ghost use Rattle.nl_iface.specs.Calls.{CallCounted, KeepsMedium, OnlyReads, stored};
@@ -49,9 +50,11 @@ pub trait MovingPages: NamedPages {
         ensures none { result ≡ Copying.Nothing → OnlyReads Self.Counts self.old self.new }
         ensures failed { (result ≡ Copying.Did → ⊥) → (result ≡ Copying.Nothing → ⊥) → FailsToCopy Self.Counts self.old self.new }
         ensures chosen { StaysOrTakes (most_dead self.old) (victim self.old) (victim self.new) }
-        ensures lost { (w found : ℕ) → result ≡ Copying.Lost w found → (found ≡ w → ⊥) × ((p : ℕ) × (page : LivePage) × ((Self.names self.old).live p ≡ Some page) × (page.stamp ≡ w)) }
+        ensures lost { (w found : ℕ) → result ≡ Copying.Lost w found
+            → (found ≡ w → ⊥) × ((p : ℕ) × (page : LivePage) × ((Self.names self.old).live p ≡ Some page) × (page.stamp ≡ w)) }
         ensures told { Self.tells → (w found : ℕ) → result ≡ Copying.Lost w found → ⊥ }
-        ensures left { Self.tells → LeavesMove Self.Counts (MovesPage Self.Counts self.old self.new) (λ c. Copies c (Self.names self.old) (Self.names self.new)) self.old self.new ⊎ KeepsMedium Self.Counts self.old self.new }
+        ensures left { Self.tells → LeavesMove Self.Counts (MovesPage Self.Counts self.old self.new)
+            (λ c. Copies c (Self.names self.old) (Self.names self.new)) self.old self.new ⊎ KeepsMedium Self.Counts self.old self.new }
         ensures lands { Rose (Self.write_faults self.old) (Self.write_faults self.new) ⊎ CanLand (Self.names self.new).space }
         ensures kept { KeepsCleaning Self.Counts self.old self.new }
         ensures clock { CopyTicks Self.Counts self.old self.new }
@@ -63,16 +66,21 @@ pub trait MovingPages: NamedPages {
     fn erase(&mut self) -> Erasing
         requires formed { Self.formed self.old }
         ensures formed { Self.formed self.new }
-        ensures nothing { let space = (Self.names self.old).space in result ≡ Erasing.Nothing ↔ ((space.victim ≡ 1) × (space.left ≡ 0) → ⊥) }
+        ensures nothing { let space = (Self.names self.old).space in result ≡ Erasing.Nothing
+            ↔ ((space.victim ≡ 1) × (space.left ≡ 0) → ⊥) }
         ensures none { result ≡ Erasing.Nothing → OnlyReads Self.Counts self.old self.new }
         ensures done { result ≡ Erasing.Done → ErasesVictim Self.Counts self.old self.new }
-        ensures wiped { result ≡ Erasing.Done → (block : ℕ) × (victim self.old ≡ Some block) × (victim self.new ≡ None) × (Self.tells → IsWiped (blank self.new) (Self.shape self.old).pages block (stored Self.Counts self.new)) }
+        ensures wiped { result ≡ Erasing.Done
+            → (block : ℕ) × (victim self.old ≡ Some block) × (victim self.new ≡ None)
+            × (Self.tells → IsWiped (blank self.new) (Self.shape self.old).pages block (stored Self.Counts self.new)) }
         ensures failed { result ≡ Erasing.Fault → EraseFails (Self.names self.old).space (Self.names self.new).space }
         ensures same { (result ≡ Erasing.Done → ⊥) → (Self.names self.new ≡ Self.names self.old) × (victim self.new ≡ victim self.old) }
-        ensures now { Self.tells → result ≡ Erasing.Fault → LeavesErased (Self.names self.old) (Self.bytes self.old) (stored Self.Counts self.old) (stored Self.Counts self.new) }
+        ensures now { Self.tells → result ≡ Erasing.Fault
+            → LeavesErased (Self.names self.old) (Self.bytes self.old) (stored Self.Counts self.old) (stored Self.Counts self.new) }
         ensures left { Self.tells → ErasesAtStops Self.Counts self.old self.new }
         ensures kept { KeepsCleaning Self.Counts self.old self.new }
-        ensures clock { (result ≡ Erasing.Done → Self.clock self.new ≡ saturated (Self.clock self.old + 1)) × ((result ≡ Erasing.Done → ⊥) → Self.clock self.new ≡ Self.clock self.old) }
+        ensures clock { (result ≡ Erasing.Done → Self.clock self.new ≡ saturated (Self.clock self.old + 1))
+            × ((result ≡ Erasing.Done → ⊥) → Self.clock self.new ≡ Self.clock self.old) }
         ensures read_faults { Self.read_faults self.new ≡ Self.read_faults self.old }
         ensures write_faults { WritesCounted Self.Counts (result ≡ Erasing.Fault) self.old self.new };
 
@@ -96,7 +104,8 @@ pub trait MovingPages: NamedPages {
     fn handled(&mut self, number: u64, transaction: u64) -> bool
         requires formed { Self.formed self.old }
         ensures formed { Self.formed self.new }
-        ensures marked { result ≡ true → (c : CallbackOf) × (c.number ≡ number) × Marks c transaction (Self.names self.old) (Self.names self.new) }
+        ensures marked { result ≡ true
+            → (c : CallbackOf) × (c.number ≡ number) × Marks c transaction (Self.names self.old) (Self.names self.new) }
         ensures none { result ≡ false → (c : CallbackOf) → Has (Self.names self.old).pending c → c.number ≢ number }
         ensures same { result ≡ false → Self.names self.new ≡ Self.names self.old }
         ensures kept { KeepsMedium Self.Counts self.old self.new }

@@ -1,3 +1,4 @@
+// A flash medium in an image file, with the calls of a medium on it.
 ghost use Rattle.std.specs.Prelude.{◌≡◌, ◌+◌, ◌<◌, ◌^◌, IsTrue};
 ghost use Rattle.nl_field.specs.Numbers.{is_legal};
 ghost use Rattle.nl_nand.specs.Record.{is_geometry};
@@ -19,7 +20,7 @@ use std::io;
 /// Why a file was not attached. It is given back.
 #[derive(Debug, Drop)]
 pub enum Attach {
-    /// It could not be locked, or its header could not be read.
+    /// The file could not be locked, or its header could not be read.
     Fault(File),
     /// Another program, or another medium of this one, has the file.
     InUse(File),
@@ -234,7 +235,8 @@ impl Nand for FileNand {
     fn erase(&mut self, block: u32) -> WriteAnswer
         requires { block < (geometry_of self.old).blocks }
         ensures record { record_of self.new ≡ erased_record }
-        ensures crash { CrashLeaves clock_of contents_of left_of (block_start (geometry_of self.old) block) (block_end (geometry_of self.old) block) erased self.old self.new }
+        ensures crash { CrashLeaves clock_of contents_of left_of (block_start (geometry_of self.old) block)
+            (block_end (geometry_of self.old) block) erased self.old self.new }
         ensures counted { OperationCounted geometry_of clock_of read_faults_of write_faults_of self.old self.new result }
     {
         let pages = self.geometry.pages;

@@ -1,3 +1,4 @@
+// The record of one page as an image file has it, in memory.
 ghost use Rattle.std.specs.Prelude.{◌≡◌, ◌≤◌, ◌+◌, ◌++◌, length, take, drop};
 ghost use Rattle.nl_field.specs.Page.{written};
 ghost use Rattle.nl_field.specs.Spelling.{u64_at};
@@ -40,12 +41,14 @@ impl Model for PageRecord {
 }
 
 impl PageRecord {
+    /// Room for one record, of 4168 bytes. An error where memory is refused.
     pub fn new(alloc: Global) -> Result<PageRecord, Memory> {
         Ok(PageRecord {
             bytes: vec![in alloc; 0u8; RECORD]?,
         })
     }
 
+    /// The 4168 bytes of the record.
     pub fn bytes(&self) -> &[u8]
         ensures bytes { result.now ≡ self.now }
         ensures len { length result.now ≡ 4168 }

@@ -77,7 +77,7 @@ to-none (Some p) h = absurd (h refl)
 pub holds-put : (bytes : List ℕ) (i : ℕ) (p : Pointer) → length bytes ≡ 4096 → i < 256 → pointer_of (pointer_bytes p) ≡ Some p → is_none_pointer p ≡ false → HoldsSome (with_slot 16 i (pointer_bytes p) bytes)
 holds-put bytes i p whole below back some = record { at = i; below = below; some = ap is_none_pointer (put-pointer bytes whole i below p back) ∙ some }
 
--- and else one of another slot
+-- where none was put into a page, it has one of another slot
 pub holds-other : (bytes : List ℕ) (i : ℕ) (p : Pointer) → length bytes ≡ 4096 → i < 256 → HasOther bytes i → HoldsSome (with_slot 16 i (pointer_bytes p) bytes)
 holds-other bytes i p whole below has = record { at = has.at; below = has.below; some = ap (λ (s : List ℕ). is_none_pointer (pointer_fields s)) (kept-slot bytes whole i below p has.at has.other) ∙ has.some }
 

@@ -23,7 +23,7 @@ pub record Spells (bytes : List ℕ) : Type 0 where
   pub whole : length bytes ≡ 4096
   pub each : (j : ℕ) → j < 256 → pointer_of (slot_in 16 j bytes) ≡ Some (pointer_in bytes j)
 
--- and one of them is not none
+-- each slot of a page spells its pointer, and one of them is not none
 pub record HoldsSome (bytes : List ℕ) : Type 0 where
   pub at : ℕ
   pub below : at < 256

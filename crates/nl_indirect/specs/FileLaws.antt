@@ -24,14 +24,16 @@ use Rattle.nl_indirect.specs.declared.answer.Stored.TheVariants.{Done, Emptied}
 -- pointers and entries.
 pub record PageLaws (a : ℕ) (old new : VirtualMap) : Type 0 where
   pub node : (n : ℕ) → 67 + n / 16 ≢ a → inode_at new n ≡ inode_at old n
-  pub body : (rec : InodeRec) → ((r : ℕ) → slice_index (slots_of rec) r ≡ a → slice_index (slots_of rec) r ≡ 0) → (kind : Kind) → body_of new rec kind ≡ body_of old rec kind
+  pub body : (rec : InodeRec) → ((r : ℕ) → slice_index (slots_of rec) r ≡ a → slice_index (slots_of rec) r ≡ 0) → (kind : Kind)
+      → body_of new rec kind ≡ body_of old rec kind
 
 abbrev pub OtherNodes : Type 0
 OtherNodes = (a : ℕ) (old new : VirtualMap) → DiffersInPage a old new → PageLaws a old new
 
 -- A call of `store` on a volume of these numbers over this device: the pointer names a page of the physical segment, and a new page is one
 -- of the pool.
-pub record StoresOver (shape : Shape) (device : VirtualMap) (index : ℕ) (to : Option Pointer) (fresh : Option ℕ) (was is : InodeRec) (old new : Pages) (answer : Stored) : Type 0 where
+pub record StoresOver (shape : Shape) (device : VirtualMap) (index : ℕ) (to : Option Pointer) (fresh : Option ℕ) (was is : InodeRec)
+    (old new : Pages) (answer : Stored) : Type 0 where
   pub clean : CleanIsStored device old
   pub spelled : IfSome to (λ p. IsTrue (is_stamp p.stamp))
   pub physical : IsTrue (is_physical_name shape (or_none to))
@@ -55,14 +57,17 @@ pub record GivesBack (index : ℕ) (was is : InodeRec) (old new : VirtualMap) (a
   pub done : answer ≡ Done → HoldsPointer old was index → HoldsPointer new is index
 
 -- What was stored is found, the addresses of the file stay good, and a page without pointers is given back.
-pub record FileLaws (shape : Shape) (device : VirtualMap) (index : ℕ) (to : Option Pointer) (was is : InodeRec) (old new : Pages) (answer : Stored) : Type 0 where
+pub record FileLaws (shape : Shape) (device : VirtualMap) (index : ℕ) (to : Option Pointer) (was is : InodeRec) (old new : Pages)
+    (answer : Stored) : Type 0 where
   pub found : some_pointer (pointer_at (running_over device new) is index) ≡ to
   pub good : AddressesGood shape (running_over device old) was → AddressesGood shape (running_over device new) is
-  pub given_back : 8 ≤ index → AddressesGood shape (running_over device old) was → GivesBack index was is (running_over device old) (running_over device new) answer
+  pub given_back : 8 ≤ index → AddressesGood shape (running_over device old) was
+      → GivesBack index was is (running_over device old) (running_over device new) answer
 
 abbrev pub StoredFile : Type 0
 StoredFile =
-    (shape : Shape) (device : VirtualMap) (index : ℕ) (to : Option Pointer) (fresh : Option ℕ) (was is : InodeRec) (old new : Pages) (answer : Stored)
+    (shape : Shape) (device : VirtualMap) (index : ℕ) (to : Option Pointer) (fresh : Option ℕ) (was is : InodeRec) (old new : Pages)
+    (answer : Stored)
     → StoresOver shape device index to fresh was is old new answer → FileLaws shape device index to was is old new answer
 
 -- A file of a volume whose addresses are right has such a record and such addresses; and an address that no slot of its node has is none of
@@ -73,15 +78,20 @@ pub record NodeLaws (shape : Shape) (pages : VirtualMap) (n : ℕ) (rec : InodeR
   pub unused : (a : ℕ) → a ≢ 0 → ((slot : ℕ) → AddressAt shape pages n slot a → ⊥) → (r : ℕ) → slice_index (slots_of rec) r ≢ a
 
 abbrev pub FileOfNode : Type 0
-FileOfNode = (shape : Shape) (pages : VirtualMap) (n : ℕ) (rec : InodeRec) → AddressesRight shape pages → IsNode shape pages n rec → rec.kind ≡ File → NodeLaws shape pages n rec
+FileOfNode =
+    (shape : Shape) (pages : VirtualMap) (n : ℕ) (rec : InodeRec) → AddressesRight shape pages → IsNode shape pages n rec → rec.kind ≡ File
+    → NodeLaws shape pages n rec
 
 -- A good address whose page is resident can be looked at.
 abbrev pub ResidentPointers : Type 0
-ResidentPointers = (shape : Shape) (device : VirtualMap) (p : Pages) (a : ℕ) → GoodAddress shape (running_over device p) File a → IsSome (page_of p a) → HasPointers (page_of p) a
+ResidentPointers =
+    (shape : Shape) (device : VirtualMap) (p : Pages) (a : ℕ) → GoodAddress shape (running_over device p) File a → IsSome (page_of p a)
+    → HasPointers (page_of p) a
 
 -- A call of `store` for node n of a volume whose addresses are right, where a new page is one that no node has. Afterwards the node has
 -- the record that the call left, and every other node the bytes that it had.
-pub record StoresAt (shape : Shape) (device : VirtualMap) (n index : ℕ) (to : Option Pointer) (fresh : Option ℕ) (was is : InodeRec) (old new : Pages) (answer : Stored) (after : VirtualMap) : Type 0 where
+pub record StoresAt (shape : Shape) (device : VirtualMap) (n index : ℕ) (to : Option Pointer) (fresh : Option ℕ) (was is : InodeRec)
+    (old new : Pages) (answer : Stored) (after : VirtualMap) : Type 0 where
   pub bounds : ShapeBounds shape
   pub right : AddressesRight shape (running_over device old)
   pub is_node : IsNode shape (running_over device old) n was
@@ -95,5 +105,7 @@ pub record StoresAt (shape : Shape) (device : VirtualMap) (n index : ℕ) (to : 
 -- One pointer of one file changed, and no other node.
 abbrev pub OnePointerStored : Type 0
 OnePointerStored =
-    (shape : Shape) (device : VirtualMap) (n index : ℕ) (to : Option Pointer) (fresh : Option ℕ) (was is : InodeRec) (old new : Pages) (answer : Stored) (after : VirtualMap)
-    → StoresAt shape device n index to fresh was is old new answer after → ChangesPointer shape (running_over device old) after n index was is
+    (shape : Shape) (device : VirtualMap) (n index : ℕ) (to : Option Pointer) (fresh : Option ℕ) (was is : InodeRec) (old new : Pages)
+    (answer : Stored) (after : VirtualMap)
+    → StoresAt shape device n index to fresh was is old new answer after
+    → ChangesPointer shape (running_over device old) after n index was is

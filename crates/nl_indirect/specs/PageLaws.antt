@@ -1,4 +1,4 @@
--- What the calls mean for the pages in memory as a whole.
+-- What the calls on pointers mean for the pages in memory as a whole.
 use Rattle.std.specs.Prelude.{◌≢◌, ℕ, Option, IfSome}
 use Rattle.nl_field.specs.declared.inode.InodeRec.{InodeRec}
 use Rattle.nl_field.specs.declared.pointer.Pointer.{Pointer}
@@ -19,4 +19,5 @@ StoringChangesPages =
 -- Pointers are taken away: the page of the first index was resident, where it has earlier ones.
 abbrev pub TruncatingChangesPages : Type 0
 TruncatingChangesPages =
-    (from : ℕ) (was is : InodeRec) (old new : Pages) → (slot_of from ≢ 0 → HasRange (page_of old) was from) → Truncates from was is old new → ChangesPages old new
+    (from : ℕ) (was is : InodeRec) (old new : Pages) → (slot_of from ≢ 0 → HasRange (page_of old) was from) → Truncates from was is old new
+    → ChangesPages old new

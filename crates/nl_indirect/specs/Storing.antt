@@ -55,13 +55,13 @@ pub record HasNewPage (v : ℕ) (bytes : List ℕ) (old new : Pages) : Type 0 wh
 
 -- How the pages change. The page of the index is at address a after the call, and no page has the index where that is 0.
 pub record StoresPages (slot : ℕ) (to : Pointer) (fresh : Option ℕ) (a : ℕ) (old new : Pages) : Type 0 where
-  -- without a page none changes,
+  -- without a page none changes
   pub same : a ≡ 0 → new ≡ old
-  -- a page that was there has the pointer in its slot, and is dirty,
+  -- a page that was there has the pointer in its slot, and is dirty
   pub written : a ≢ 0 → fresh ≡ None → new ≡ with_dirty old a (with_slot 16 slot (pointer_bytes to) (unwrap_or (page_of old a) []))
-  -- a new one has nothing but the pointer
+  -- a new page has nothing but the pointer
   pub begun : IsSome fresh → HasNewPage a (with_slot 16 slot (pointer_bytes to) (zeros 4096)) old new
-  -- and no second page becomes dirty
+  -- no second page becomes dirty
   pub one_more : length (besides_0 new.dirty) ≤ length (besides_0 old.dirty) + 1
 
 -- The range's page is given back exactly where it had one and has none now. Else the range has the page that it had, or the new one.
@@ -70,15 +70,16 @@ Answers index fresh was is Done = address_of is index ≡ unwrap_or fresh (addre
 Answers index fresh was is (Emptied a) = (a ≢ 0) × (address_of was index ≡ a) × (address_of is index ≡ 0)
 
 pub record Stores (index : ℕ) (to : Pointer) (fresh : Option ℕ) (was is : InodeRec) (old new : Pages) (answer : Stored) : Type 0 where
-  -- over any device the index has the pointer, and each other index and each other page what it had,
-  pub pointers : (device : VirtualMap) → CleanIsStored device old → StoresPointer index to was is (running_over device old) (running_over device new)
+  -- over any device the index has the pointer, and each other index and each other page what it had
+  pub pointers : (device : VirtualMap) → CleanIsStored device old
+      → StoresPointer index to was is (running_over device old) (running_over device new)
   pub clean : (device : VirtualMap) → CleanIsStored device old → CleanIsStored device new
-  -- the record is still a file's,
+  -- the record is still a file's
   pub file : IsFileRecord is
   pub record_kept : KeepsRecord index was is
-  -- the range's page, where there is one, is resident and has a pointer,
+  -- the range's page, where there is one, is resident and has a pointer
   pub range : HasRange (page_of new) is index
-  -- it alone was written,
+  -- the range's page alone was written
   pub pages : StoresPages (slot_of index) to fresh (address_of is index) old new
-  -- and the answer tells the page that is given back
+  -- the answer tells the page that is given back
   pub answered : Answers index fresh was is answer

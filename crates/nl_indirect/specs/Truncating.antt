@@ -32,7 +32,8 @@ pub record StaysBefore (p : Pages) (rec : InodeRec) (from : ℕ) : Type 0 where
 -- The range of the index has no pointer before the index, over any device.
 abbrev pub NoneBefore : Pages → InodeRec → ℕ → Type 0
 NoneBefore p rec from =
-    (device : VirtualMap) (i : ℕ) → 8 ≤ i → i < from → range_of i ≡ range_of from → is_none_pointer (pointer_at (running_over device p) rec i) ≡ true
+    (device : VirtualMap) (i : ℕ) → 8 ≤ i → i < from → range_of i ≡ range_of from
+    → is_none_pointer (pointer_at (running_over device p) rec i) ≡ true
 
 -- Each index of a file from one on has no pointer, and each index before it the pointer that it had. Each range that still has a page
 -- has a pointer, as it had one before, so a page is the file's no longer where its range lost the last one. Of the pages at most the one
@@ -40,7 +41,8 @@ NoneBefore p rec from =
 pub record TakesFrom (from : ℕ) (was is : InodeRec) (old new : VirtualMap) : Type 0 where
   pub gone : (i : ℕ) → from ≤ i → pointer_at new is i ≡ no_pointer
   pub kept : (i : ℕ) → i < from → pointer_at new is i ≡ pointer_at old was i
-  pub spelled : (r : ℕ) → slice_index (slots_of is) r ≢ 0 → HasPointers old (slice_index (slots_of is) r) → HasPointers new (slice_index (slots_of is) r)
+  pub spelled : (r : ℕ) → slice_index (slots_of is) r ≢ 0 → HasPointers old (slice_index (slots_of is) r)
+      → HasPointers new (slice_index (slots_of is) r)
   pub pages : DiffersInPage (address_of is from) old new
 
 -- The ranges behind an index have no page, those before it have the page that they had, and that of the index may have lost it.
@@ -51,21 +53,22 @@ pub record CutsAddresses (from : ℕ) (was is : List ℕ) : Type 0 where
 
 -- How the pages change. The page of the index is at address a after the call, and no page has the index where that is 0.
 pub record TruncatesPages (slot : ℕ) (a : ℕ) (old new : Pages) : Type 0 where
-  -- without a page none changes,
+  -- without a page none changes
   pub same : a ≡ 0 → new ≡ old
-  -- a page that stays was cut, and is dirty,
+  -- a page that stays was cut, and is dirty
   pub written : a ≢ 0 → (bytes : List ℕ) × CutsSlots slot (unwrap_or (page_of old a) []) bytes × (new ≡ with_dirty old a bytes)
-  -- and no second page becomes dirty
+  -- no second page becomes dirty
   pub one_more : length (besides_0 new.dirty) ≤ length (besides_0 old.dirty) + 1
 
 pub record Truncates (from : ℕ) (was is : InodeRec) (old new : Pages) : Type 0 where
-  -- over any device the pointers from the index on are taken away, and each other index and each other page has what it had,
-  pub pointers : (device : VirtualMap) → CleanIsStored device old → TakesFrom from was is (running_over device old) (running_over device new)
+  -- over any device the pointers from the index on are taken away, and each other index and each other page has what it had
+  pub pointers : (device : VirtualMap) → CleanIsStored device old
+      → TakesFrom from was is (running_over device old) (running_over device new)
   pub clean : (device : VirtualMap) → CleanIsStored device old → CleanIsStored device new
-  -- the record is still a file's,
+  -- the record is still a file's
   pub file : IsFileRecord is
   pub generation : is.generation ≡ was.generation
   pub size : is.size ≡ was.size
   pub addresses : CutsAddresses from (slots_of was) (slots_of is)
-  -- and one page at most was written
+  -- one page at most was written
   pub pages : TruncatesPages (slot_of from) (address_of is from) old new

@@ -1,3 +1,4 @@
+//! One page of 256 pointers: its slots are read, written and looked through.
 ghost use Rattle.std.specs.Prelude.{◌≡◌, ◌≢◌, ◌<◌, ℕ, IsSome, IsTrue, Some, true, false, length};
 ghost use Rattle.nl_field.specs.Pointers.{indirect_of, is_none_pointer, is_pointer, pointer_bytes, pointer_of};
 ghost use Rattle.nl_meta.specs.SlotLaws.{with_slot};

@@ -1,3 +1,4 @@
+//! The pointer of a file at a page index: it is looked up, and stored.
 ghost use Rattle.std.specs.Prelude.{◌≡◌, ◌≢◌, ◌↔◌, ◌<◌, [], ℕ, IfSome, IsSome, IsTrue, Some, true, length, unwrap_or};
 ghost use Rattle.nl_field.specs.Bytes.{zeros};
 ghost use Rattle.nl_field.specs.Pointers.{is_pointer, pointer_bytes, pointer_of};
@@ -104,7 +105,8 @@ fn put(meta: &mut Meta, address: u32, slot: u32, pointer: &Pointer)
     requires there { IsSome (page_of meta.old address) }
     requires room { has_room meta.old address ≡ true }
     requires spelled { IsTrue (is_pointer pointer.now) }
-    ensures page { meta.new ≡ with_dirty meta.old address (with_slot 16 slot (pointer_bytes pointer.now) (unwrap_or (page_of meta.old address) [])) }
+    ensures page { meta.new
+        ≡ with_dirty meta.old address (with_slot 16 slot (pointer_bytes pointer.now) (unwrap_or (page_of meta.old address) [])) }
     ensures whole { length (unwrap_or (page_of meta.old address) []) ≡ 4096 }
     ensures back { pointer_of (pointer_bytes pointer.now) ≡ Some pointer.now }
 {
@@ -121,7 +123,8 @@ fn begin(meta: &mut Meta, address: u32, slot: u32, pointer: &Pointer)
     requires inside { address < length meta.old.running }
     requires room { has_room meta.old address ≡ true }
     requires spelled { IsTrue (is_pointer pointer.now) }
-    ensures page { (blank : Pages) × Freshens address meta.old blank × (meta.new ≡ with_dirty blank address (with_slot 16 slot (pointer_bytes pointer.now) (zeros 4096))) }
+    ensures page { (blank : Pages) × Freshens address meta.old blank
+        × (meta.new ≡ with_dirty blank address (with_slot 16 slot (pointer_bytes pointer.now) (zeros 4096))) }
     ensures back { pointer_of (pointer_bytes pointer.now) ≡ Some pointer.now }
 {
     meta.fresh(address);

@@ -1,3 +1,4 @@
+//! The pointers of a file from a page index on are taken away.
 ghost use Rattle.std.specs.Prelude.{◌≡◌, ◌≢◌, ◌≤◌, ◌<◌, ◌++◌, ◌-◌, [], List, ℕ, IsSome, IsTrue, true, false, length, replicate, take, unwrap_or};
 ghost use Rattle.nl_field.specs.Pointers.{no_pointer};
 ghost use Rattle.nl_field.specs.declared.inode.InodeRec.{InodeRec as Rec};
@@ -79,7 +80,8 @@ fn cut(meta: &mut Meta, address: u32, slot: u32)
     requires there { IsSome (page_of meta.old address) }
     requires whole { length (unwrap_or (page_of meta.old address) []) ≡ 4096 }
     requires room { has_room meta.old address ≡ true }
-    ensures { (bytes : List ℕ) × CutsSlots slot (unwrap_or (page_of meta.old address) []) bytes × (meta.new ≡ with_dirty meta.old address bytes) }
+    ensures { (bytes : List ℕ) × CutsSlots slot (unwrap_or (page_of meta.old address) []) bytes
+        × (meta.new ≡ with_dirty meta.old address bytes) }
 {
     match meta.page_mut(address) {
         Some(page) => clear_from(page, slot),

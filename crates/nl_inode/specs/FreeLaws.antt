@@ -33,13 +33,18 @@ UsesOthers shape a old new = (b : ℕ) → b ≢ a → Uses shape new b ↔ Uses
 
 pub record FreeLaws (shape : Shape) (old new : VirtualMap) (s t : Spaces) : Type 0 where
   -- a node was taken and is used
-  pub node_taken : (n : ℕ) (rec : InodeRec) → NodesAreFree shape old s → NodeBecomes n false s t → NodeIs n rec old new → rec.kind ≢ Unused → NodesAreFree shape new t
+  pub node_taken : (n : ℕ) (rec : InodeRec) → NodesAreFree shape old s → NodeBecomes n false s t → NodeIs n rec old new → rec.kind ≢ Unused
+      → NodesAreFree shape new t
   -- a node is used no longer and was given
-  pub node_given : (n : ℕ) (rec : InodeRec) → NodesAreFree shape old s → NodeBecomes n true s t → NodeIs n rec old new → rec.kind ≡ Unused → NodesAreFree shape new t
+  pub node_given : (n : ℕ) (rec : InodeRec) → NodesAreFree shape old s → NodeBecomes n true s t → NodeIs n rec old new → rec.kind ≡ Unused
+      → NodesAreFree shape new t
   -- a used node has another record
-  pub node_changed : (n : ℕ) (rec : InodeRec) → NodesAreFree shape old s → is_free_node s n ≡ false → NodeIs n rec old new → rec.kind ≢ Unused → NodesAreFree shape new s
-  pub address_taken : (a : ℕ) → PoolIsFree shape old s → s.first ≤ a → AddressBecomes a false s t → UsesOthers shape a old new → Uses shape new a → PoolIsFree shape new t
-  pub address_given : (a : ℕ) → PoolIsFree shape old s → s.first ≤ a → AddressBecomes a true s t → UsesOthers shape a old new → (Uses shape new a → ⊥) → PoolIsFree shape new t
+  pub node_changed : (n : ℕ) (rec : InodeRec) → NodesAreFree shape old s → is_free_node s n ≡ false → NodeIs n rec old new
+      → rec.kind ≢ Unused → NodesAreFree shape new s
+  pub address_taken : (a : ℕ) → PoolIsFree shape old s → s.first ≤ a → AddressBecomes a false s t → UsesOthers shape a old new
+      → Uses shape new a → PoolIsFree shape new t
+  pub address_given : (a : ℕ) → PoolIsFree shape old s → s.first ≤ a → AddressBecomes a true s t → UsesOthers shape a old new
+      → (Uses shape new a → ⊥) → PoolIsFree shape new t
 
 abbrev pub FreeIsUnused : Type 0
 FreeIsUnused = (shape : Shape) (old new : VirtualMap) (s t : Spaces) → FreeLaws shape old new s t

@@ -56,7 +56,7 @@ pub record NodeBecomes (n : ℕ) (b : Bool) (old new : Spaces) : Type 0 where
   pub first : new.first ≡ old.first
   pub pool : new.pool ≡ old.pool
 
--- So is an address.
+-- An address is free or not from now on; every other one, and each node, as before.
 pub record AddressBecomes (a : ℕ) (b : Bool) (old new : Spaces) : Type 0 where
   pub nodes : new.nodes ≡ old.nodes
   pub first : new.first ≡ old.first
@@ -65,4 +65,5 @@ pub record AddressBecomes (a : ℕ) (b : Bool) (old new : Spaces) : Type 0 where
 -- What is free is exactly what the pages do not use.
 pub record AreFree (shape : Shape) (pages : VirtualMap) (s : Spaces) : Type 0 where
   pub nodes : (n : ℕ) → n < shape.nodes → (is_free_node s n ≡ true) ↔ ((rec : InodeRec) → IsNode shape pages n rec → ⊥)
-  pub pool : (a : ℕ) → 67 + shape.inode_pages ≤ a → a < shape.vaddrs → (is_free_address s a ≡ true) ↔ ((n slot : ℕ) → AddressAt shape pages n slot a → ⊥)
+  pub pool : (a : ℕ) → 67 + shape.inode_pages ≤ a → a < shape.vaddrs
+      → (is_free_address s a ≡ true) ↔ ((n slot : ℕ) → AddressAt shape pages n slot a → ⊥)

@@ -1,4 +1,4 @@
--- What the calls mean for the pages in memory as a whole.
+-- What the calls on nodes mean for the pages in memory as a whole.
 use Rattle.std.specs.Prelude.{ℕ, List, Option}
 use Rattle.nl_field.specs.declared.inode.InodeRec.{InodeRec}
 use Rattle.nl_iface.specs.declared.counts.Counts.{Ghosts}

@@ -4,14 +4,14 @@ use Rattle.std.specs.Prelude.{◌≡◌, ◌≢◌, ℕ, ◌+◌, ◌*◌, ◌^�
 abbrev pub mark_at : List Bool → ℕ → Bool
 mark_at tree i = slice_index_or tree i false
 
--- at node i
+-- node i is set exactly where one of the two below it is
 abbrev pub HoldsAt : List Bool → ℕ → Type 0
 HoldsAt tree i = mark_at tree i ≡ (mark_at tree (2 * i) || mark_at tree (2 * i + 1))
 
 pub record MarksBelow (tree : List Bool) : Type 0 where
   pub each : (i : ℕ) → 1 ≤ i → 2 * i + 1 < length tree → HoldsAt tree i
 
--- but at one node
+-- each node is set where one below it is, but at one node
 pub record MarksBelowBut (but : ℕ) (tree : List Bool) : Type 0 where
   pub each : (i : ℕ) → 1 ≤ i → 2 * i + 1 < length tree → i ≢ but → HoldsAt tree i
 
@@ -20,7 +20,7 @@ pub record SameLeaves (old new : List Bool) : Type 0 where
   pub size : length new ≡ length old
   pub each : (i : ℕ) → length old ≤ 2 * i → mark_at new i ≡ mark_at old i
 
--- This leaf is set in its span, and none before it.
+-- A leaf is set, and is the first one that is, of so many leaves from one on.
 pub record IsFirstIn (tree : List Bool) (from width leaf : ℕ) : Type 0 where
   pub above : from ≤ leaf
   pub below : leaf < from + width

@@ -1,3 +1,4 @@
+//! A set of free numbers below a count, as a tree of marks in which the least free one is found on the way down.
 ghost use Rattle.std.specs.Prelude.{◌≡◌, ◌<◌, ◌≤◌, ◌+◌, ◌*◌, ◌/◌, ◌^◌, ◌||◌, ℕ, IfOk, MatchOption, true, false, length, slice_index_or, slice_set};
 ghost use Rattle.nl_inode.specs.Free.{Becomes, IsLeast, NoneFree, count_free, is_free};
 ghost use Rattle.nl_inode.specs.Tree.{IsFirstIn, MarksBelow, MarksBelowBut, SameLeaves, mark_at};
@@ -40,7 +41,7 @@ impl FreeSet {
         Ok(free)
     }
 
-    // None is free.
+    // All numbers below the count, none of which is free.
     fn none(alloc: Global, count: u32) -> Result<FreeSet, Memory>
         ensures count { IfOk result (λ s. length s ≡ count) }
     {

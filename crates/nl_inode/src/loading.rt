@@ -1,3 +1,4 @@
+//! The page of an address is read from the device into memory, where it is not resident.
 ghost use Rattle.std.specs.Prelude.{◌≡◌, ◌<◌, ⊤, Some, None, true, length};
 ghost use Rattle.nl_field.specs.Virtual.{is_inode_address, map_bytes};
 ghost use Rattle.nl_iface.specs.Calls.{OnlyReads};
@@ -16,10 +17,12 @@ pub fn fetch<D: VirtualPages>(device: &mut D, meta: &mut Meta, vaddr: u32) -> Fe
     requires formed { D.formed device.old }
     requires within { vaddr < (D.shape device.old).vaddrs }
     requires count { length meta.old.running ≡ (D.shape device.old).vaddrs }
-    requires stored { page_of meta.old vaddr ≡ None → D.stamps device.old vaddr ≡ None → is_inode_address (D.shape device.old) vaddr ≡ true }
+    requires stored { page_of meta.old vaddr ≡ None → D.stamps device.old vaddr ≡ None
+        → is_inode_address (D.shape device.old) vaddr ≡ true }
     ensures formed { D.formed device.new }
     ensures device { OnlyReads D.Counts device.old device.new }
-    ensures ready { result ≡ Fetch.Ready → Fetches D.tells (map_bytes (D.shape device.old) (D.map device.old) vaddr) vaddr meta.old meta.new }
+    ensures ready { result ≡ Fetch.Ready
+        → Fetches D.tells (map_bytes (D.shape device.old) (D.map device.old) vaddr) vaddr meta.old meta.new }
     ensures refused { (result ≡ Fetch.Ready → ⊥) → FetchesNone vaddr meta.old meta.new }
     ensures faults { FailuresCounted ⊤ (D.read_faults device.old) (D.read_faults device.new) (result ≡ Fetch.Fault) }
     ensures lost { LosesFetch (D.stamps device.old vaddr) result }

@@ -1,3 +1,4 @@
+//! The records of nodes in the running pages, and which nodes and which addresses of the pool are free.
 ghost use Rattle.std.specs.Prelude.{◌≡◌, ◌<◌, ◌≤◌, ◌+◌, ◌/◌, ◌%◌, ℕ, IfOk, IsSome, IsTrue, MatchOption, Some, true, false, length};
 ghost use Rattle.nl_field.specs.Inode.{inode_bytes, inode_of, is_inode};
 ghost use Rattle.nl_field.specs.Numbers.{ShapeBounds};

@@ -1,3 +1,4 @@
+//! A sink in memory, for tests.
 ghost use Rattle.std.specs.Prelude.{◌≡◌, ◌≤◌, ◌<◌, ◌+◌, ◌⊎◌, ◌↔◌, [], Some, length, Contains, IfOk};
 ghost use Rattle.nl_field.specs.CrashStates.{Rose, saturated};
 ghost use Rattle.nl_io.specs.Streams.{Writes};
@@ -30,6 +31,7 @@ impl Model for MemSink {
 }
 
 impl MemSink {
+    /// An empty sink with room for so many bytes, which fails at the listed writes. An error where memory is refused.
     pub fn new(alloc: Global, room: u32, failing: FailList) -> Result<MemSink, Memory>
         ensures { IfOk result (λ s. s ≡ record { taken = []; room = room; calls = 0; failing = failing; faults = 0 }) }
     {
@@ -59,7 +61,8 @@ impl Sink for MemSink {
         ensures bytes { Writes (Some self.old.taken) (Some self.new.taken) result bytes.now }
         ensures never_falls { self.old.faults ≤ self.new.faults }
         ensures cause { result ≡ SinkAnswer.Failed → Rose self.old.faults self.new.faults }
-        ensures fails { (result ≡ SinkAnswer.Failed) ↔ (Contains self.old.failing (saturated (self.old.calls + 1)) ⊎ (self.old.room < length self.old.taken + length bytes.now)) }
+        ensures fails { (result ≡ SinkAnswer.Failed)
+            ↔ (Contains self.old.failing (saturated (self.old.calls + 1)) ⊎ (self.old.room < length self.old.taken + length bytes.now)) }
         ensures keeps { result ≡ SinkAnswer.Failed → self.new.taken ≡ self.old.taken }
         ensures counted { result ≡ SinkAnswer.Took → self.new.faults ≡ self.old.faults }
         ensures calls { self.new.calls ≡ saturated (self.old.calls + 1) }

@@ -1,3 +1,4 @@
+//! A source in memory, for tests.
 ghost use Rattle.std.specs.Prelude.{◌≡◌, ◌<◌, ◌≤◌, ◌+◌, ◌⊎◌, ◌↔◌, Some, length, Contains};
 ghost use Rattle.nl_field.specs.CrashStates.{Rose, saturated};
 ghost use Rattle.nl_io.specs.Streams.{Reads};

@@ -1,3 +1,4 @@
+//! Where bytes are written to, and the answer of a write.
 ghost use Rattle.std.specs.Prelude.{◌≡◌, ◌≤◌, ℕ, List, Option};
 ghost use Rattle.nl_field.specs.CrashStates.{Rose};
 ghost use Rattle.nl_io.specs.Streams.{Writes};
@@ -19,11 +20,13 @@ pub trait Sink {
     /// How often a write has failed. It stands still at 2^64 - 1.
     ghost faults: { Self → ℕ };
 
+    /// Takes all bytes, or fails.
     fn write(&mut self, bytes: &[u8]) -> SinkAnswer
         ensures bytes { Writes (taken self.old) (taken self.new) result bytes.now }
         ensures never_falls { faults self.old ≤ faults self.new }
         ensures cause { result ≡ SinkAnswer.Failed → Rose (faults self.old) (faults self.new) };
 
+    /// The count of faults.
     fn faults(&self) -> u64
         ensures { result ≡ faults self.now };
 }

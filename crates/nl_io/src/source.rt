@@ -1,3 +1,4 @@
+//! Where bytes are read from, and the answer of a read.
 ghost use Rattle.std.specs.Prelude.{◌≡◌, ◌<◌, ◌≤◌, ℕ, List, Option, length};
 ghost use Rattle.nl_field.specs.CrashStates.{Rose};
 ghost use Rattle.nl_io.specs.Streams.{Reads};
@@ -28,6 +29,7 @@ pub trait Source {
         ensures never_falls { faults self.old ≤ faults self.new }
         ensures cause { result ≡ SourceAnswer.Failed → Rose (faults self.old) (faults self.new) };
 
+    /// The count of faults.
     fn faults(&self) -> u64
         ensures { result ≡ faults self.now };
 }

@@ -12,7 +12,8 @@ const PIECE: usize = 65536;
 // What a read tells: `Failed` exactly where its result is an error, and `End` where no byte came.
 fn answer_of_read(read: &io::Result<usize>) -> SourceAnswer
     requires { IfOk read.now (λ count. count ≤ 65536) }
-    ensures { MatchResult read.now (λ count. result ≡ (if count == 0 then SourceAnswer.End else SourceAnswer.Got count)) (λ _. result ≡ SourceAnswer.Failed) }
+    ensures { MatchResult read.now (λ count. result ≡ (if count == 0 then SourceAnswer.End else SourceAnswer.Got count))
+        (λ _. result ≡ SourceAnswer.Failed) }
 {
     match read {
         Ok(0) => SourceAnswer::End,
@@ -48,7 +49,7 @@ pub struct StdSource<R: Read + Drop> {
     faults: u64,
 }
 
-// It is seen as its count of faults.
+// A source over a reader is seen as its count of faults.
 impl<R: Read + Drop> Model for StdSource<R> {
     ghost use Rattle.std.specs.Prelude.{ℕ};
 
@@ -92,7 +93,7 @@ pub struct StdSink<W: Write + Drop> {
     faults: u64,
 }
 
-// It is seen as its count of faults.
+// A sink over a writer is seen as its count of faults.
 impl<W: Write + Drop> Model for StdSink<W> {
     ghost use Rattle.std.specs.Prelude.{ℕ};
 

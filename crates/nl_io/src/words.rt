@@ -1,3 +1,4 @@
+//! The words of a command line.
 ghost use Rattle.std.specs.Prelude.{◌≡◌, ◌<◌, ◌+◌, ◌^◌, ◌-◌, [], ◌∷◌, ◌++◌, Some, length, OnOk, OnErr, slice_get};
 
 use nl_field::{Memory, Text};
@@ -43,12 +44,14 @@ impl Words {
         Ok(())
     }
 
+    /// How many words there are.
     pub fn len(&self) -> u32
         ensures { result ≡ length self.now }
     {
         self.words.len() as u32
     }
 
+    /// The word at a place below the length.
     pub fn get(&self, at: u32) -> &Text
         requires { at < length self.now }
         ensures { slice_get self.now at ≡ Some result.now }
@@ -56,6 +59,7 @@ impl Words {
         &self.words[at as usize]
     }
 
+    /// All words, in order.
     pub fn as_slice(&self) -> &[Text]
         ensures { result.now ≡ self.now }
     {

@@ -162,7 +162,7 @@ begun_step p q pages mid_pages some is_next is_after =
     ap (λ (s : Progress). begun s (length mid_pages.frozen.addresses)) is_next
     ∙ ap (λ (n : Pages). begun (next p (length pages.frozen.addresses)) (length n.frozen.addresses)) is_after ∙ begun_next p.phase p.number pages.frozen some
 
--- and the number of the last one whose commit page was written
+-- the number of the last transaction whose commit page was written, after a unit by its answer
 number_next : (phase : Phase) (number pages : ℕ) → (next_number_in phase number ≡ number) ⊎ (next_number_in phase number ≡ begun_in phase number pages)
 number_next Header number pages = inl refl
 number_next (Image i) number pages = inl refl

@@ -1,4 +1,4 @@
--- As the dirty pages are frozen.
+-- The journal stays in order as the dirty pages are frozen.
 use Rattle.std.proofs.Common.{◌≡◌, ℕ, zero, suc, ◌<◌, ◌^◌, ◌==◌, if◌then◌else◌, Option, Some, None, List, [], length, refl, sym, ◌∙◌, ap, subst, arith}
 use Rattle.std.proofs.lemmas.Bool.{cond-false, ne_eqb}
 use Rattle.nl_iface.specs.declared.counts.Counts.{Ghosts}

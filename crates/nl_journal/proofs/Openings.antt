@@ -198,7 +198,7 @@ pub some_is : (r : Option Bool) (x y : Bool) → x ≡ y → IfSome r (λ b. b �
 some_is None x y is h = h
 some_is (Some b) x y is h = h ∙ is
 
--- one more image is there
+-- one image more from a place on is there
 pub there_on : (f g : VirtualMap) (from count : ℕ) → (count ≡ 0 → ⊥) → ((v : ℕ) → g v ≡ f v) → is_some (f (2 + from)) ≡ true → are_there g (from + 1) (count - 1) ≡ are_there f from count
 there_on f g from zero some same is = absurd (some refl)
 there_on f g from (suc n) some same is =

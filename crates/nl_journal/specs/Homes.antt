@@ -19,7 +19,7 @@ copied (Image i) = 0
 copied Commit = 0
 copied (Home i) = i
 
--- and once the write is done that is due
+-- how many pages are home once the write is done that is due
 abbrev pub copied_next : Phase → ℕ
 copied_next Header = 0
 copied_next (Image i) = 0
@@ -38,7 +38,8 @@ pub record WritesHome (phase : Phase) (frozen : Frozen) (done : Type 0) (count :
 
 -- As many pages are home as the journal says; once nothing is frozen any more, all.
 abbrev pub HomeBy : Progress → Frozen → Frozen → VirtualMap → Type 0
-HomeBy p frozen now map = ((now ≡ frozen) × AreHome frozen (copied p.phase) map) ⊎ ((now ≡ none_frozen) × AreHome frozen (length frozen.addresses) map)
+HomeBy p frozen now map =
+    ((now ≡ frozen) × AreHome frozen (copied p.phase) map) ⊎ ((now ≡ none_frozen) × AreHome frozen (length frozen.addresses) map)
 
 -- Writes of a transaction change no page of the volume but those of its addresses, and bring pages home.
 pub record BringsHome (count : ℕ) (p q : Progress) (frozen now : Frozen) (old new : VirtualMap) : Type 0 where

@@ -75,7 +75,7 @@ IsFault seen.There = ⊥
 IsFault seen.Absent = ⊥
 IsFault seen.Fault = ⊤
 
--- so many images from a place on are there
+-- whether so many images from a place on are there
 abbrev pub are_there : VirtualMap → ℕ → ℕ → Bool
 are_there f from count = list_all (λ i. is_some (f (2 + i))) (range_with_len from count)
 

@@ -11,11 +11,11 @@ bytes_of map v = option_map (λ (x : Value). x.1) (map v)
 abbrev pub May : (ℕ → Option Value) → (ℕ → Value → Type 0) → ℕ → Option (List ℕ) → Type 0
 May map failed v b = (b ≡ bytes_of map v) ⊎ ((x : Value) × failed v x × (b ≡ Some x.1))
 
--- after a write of these bytes that did not finish
+-- what a stop may show after a write of these bytes that did not finish
 abbrev pub Tried : (ℕ → Option (List ℕ) → Type 0) → ℕ → List ℕ → ℕ → Option (List ℕ) → Type 0
 Tried may v main u b = ((u ≡ v) × (b ≡ Some main)) ⊎ may u b
 
--- after a write of these bytes
+-- what a stop may show after a write of these bytes
 abbrev pub Written : (ℕ → Option (List ℕ) → Type 0) → ℕ → List ℕ → ℕ → Option (List ℕ) → Type 0
 Written may v main u b = ((u ≡ v) × (b ≡ Some main)) ⊎ ((u ≡ v → ⊥) × may u b)
 
@@ -32,6 +32,6 @@ pub record IsHome (count v : ℕ) : Type 0 where
   pub below : v < count
   pub outside : (v ≡ 0) ⊎ (67 ≤ v)
 
--- the same pages at the addresses outside the journal
+-- two maps have the same pages at the addresses outside the journal
 abbrev pub Agrees : ℕ → VirtualMap → VirtualMap → Type 0
 Agrees count f g = (v : ℕ) → IsHome count v → f v ≡ g v

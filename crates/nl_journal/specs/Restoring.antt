@@ -32,7 +32,7 @@ pub record AreRestored (tells : Type 0) (stored : VirtualMap) (addresses : List 
   pub others : (v : ℕ) → is_frozen p v ≡ false → page_of p v ≡ None
   pub clean : p.dirty ≡ []
 
--- They are all pages that the header lists, which stands behind address 1 where it is told.
+-- A transaction is all pages that the header lists, which stands behind address 1 where the device tells what it has.
 pub record AreListed (tells : Type 0) (shape : Shape) (stored : VirtualMap) (p : Pages) : Type 0 where
   pub header : HeaderRec
   pub spelled : is_header header ≡ true
@@ -59,7 +59,8 @@ pub record BringsBack {D : Type 0} (g : Ghosts D) (s : D) (journal : Progress) (
   pub clean : p.dirty ≡ []
   pub apart : (v : ℕ) → 1 ≤ v → v < 67 → page_of p v ≡ None
   pub restored : HasRestored journal p
-  pub same : g.tells → (v : ℕ) → running_over (map_bytes (g.shape s) (g.map s)) p v ≡ committed (g.shape s) (map_bytes (g.shape s) (g.map s)) v
+  pub same : g.tells → (v : ℕ)
+      → running_over (map_bytes (g.shape s) (g.map s)) p v ≡ committed (g.shape s) (map_bytes (g.shape s) (g.map s)) v
   pub phase : IsPhase journal.phase (length p.frozen.addresses)
   pub pages : 1 ≤ length p.frozen.addresses → IsTransaction (g.shape s).vaddrs p.frozen
   pub number : g.tells → journal.number + 1 ≡ next_number (g.shape s) (bytes_of (g.map s))

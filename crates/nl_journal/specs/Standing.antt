@@ -19,7 +19,8 @@ pub record AtRest (shape : Shape) (may : ℕ → Option (List ℕ) → Type 0) (
   pub agrees : (f : VirtualMap) → Within shape.vaddrs may f → Agrees shape.vaddrs (committed shape f) base
 
 -- The header stands, and so many images. The pages at home are the committed ones.
-pub record Staged (shape : Shape) (may : ℕ → Option (List ℕ) → Type 0) (base : VirtualMap) (number : ℕ) (frozen : Frozen) (done : ℕ) : Type 0 where
+pub record Staged (shape : Shape) (may : ℕ → Option (List ℕ) → Type 0) (base : VirtualMap) (number : ℕ) (frozen : Frozen)
+    (done : ℕ) : Type 0 where
   pub begins : (b : Option (List ℕ)) → may 1 b → head shape b ≡ Some (header number frozen)
   pub images : (i : ℕ) (b : Option (List ℕ)) → i < done → may (2 + i) b → b ≡ Some (main_at frozen.images i)
   pub home : (v : ℕ) (b : Option (List ℕ)) → IsHome shape.vaddrs v → may v b → b ≡ base v
@@ -34,24 +35,28 @@ pub record Deciding (may : ℕ → Option (List ℕ) → Type 0) (now : Option (
   pub either : (b : Option (List ℕ)) → may 66 b → Older number b ⊎ (mark b ≡ Some (record { number = number }))
 
 -- The transaction counts, and so many of its pages are home.
-pub record Counts (shape : Shape) (may : ℕ → Option (List ℕ) → Type 0) (base : VirtualMap) (number : ℕ) (frozen : Frozen) (copied : ℕ) : Type 0 where
+pub record Counts (shape : Shape) (may : ℕ → Option (List ℕ) → Type 0) (base : VirtualMap) (number : ℕ) (frozen : Frozen)
+    (copied : ℕ) : Type 0 where
   pub begins : (b : Option (List ℕ)) → may 1 b → head shape b ≡ Some (header number frozen)
   pub ends : (b : Option (List ℕ)) → may 66 b → mark b ≡ Some (record { number = number })
   pub images : (i : ℕ) (b : Option (List ℕ)) → i < length frozen.addresses → may (2 + i) b → b ≡ Some (main_at frozen.images i)
   pub listed : (v i : ℕ) → IsHome shape.vaddrs v → place frozen v ≡ Some i → base v ≡ Some (main_at frozen.images i)
-  pub home : (v i : ℕ) (b : Option (List ℕ)) → IsHome shape.vaddrs v → place frozen v ≡ Some i → i < copied → may v b → b ≡ Some (main_at frozen.images i)
+  pub home : (v i : ℕ) (b : Option (List ℕ)) → IsHome shape.vaddrs v → place frozen v ≡ Some i → i < copied → may v b
+      → b ≡ Some (main_at frozen.images i)
   pub others : (v : ℕ) (b : Option (List ℕ)) → IsHome shape.vaddrs v → place frozen v ≡ None → may v b → b ≡ base v
 
 -- By which page is due: what may be shown, and what is shown where no failed write is.
 abbrev pub Stands : Phase → Shape → (ℕ → Option (List ℕ) → Type 0) → VirtualMap → VirtualMap → ℕ → Frozen → Type 0
 Stands Header shape may now base number frozen = AtRest shape may base number
 Stands (Image i) shape may now base number frozen = Staged shape may base number frozen i × Undecided may number
-Stands Commit shape may now base number frozen = Staged shape may base number frozen (length frozen.addresses) × Deciding may (now 66) number
+Stands Commit shape may now base number frozen =
+    Staged shape may base number frozen (length frozen.addresses) × Deciding may (now 66) number
 Stands (Home i) shape may now base number frozen = Counts shape may base number frozen i
 
 -- The pages of the journal stand on a device of this map, but for writes that failed. The committed pages are those of the map.
 abbrev pub Keeps : Shape → (ℕ → Option Value) → (ℕ → Value → Type 0) → Progress → Frozen → Type 0
-Keeps shape map failed p frozen = Stands p.phase shape (May map failed) (bytes_of map) (committed shape (bytes_of map)) (transaction p) frozen
+Keeps shape map failed p frozen =
+    Stands p.phase shape (May map failed) (bytes_of map) (committed shape (bytes_of map)) (transaction p) frozen
 
 -- The journal of a device, between calls: the frozen pages are a transaction, and its pages stand as far as it is. Where a number
 -- has no spelling, nothing is said of what is stored.

@@ -49,7 +49,7 @@ pub record IsFrozen (frozen : Frozen) : Type 0 where
   pub rise : are_home_addresses frozen.addresses ≡ true
   pub apart : (i j : ℕ) → i < j → j < length frozen.addresses → slice_index frozen.addresses i ≢ slice_index frozen.addresses j
 
--- And these are addresses of a volume with so many.
+-- Pages that a transaction can have, at addresses of a volume with so many.
 pub record IsTransaction (count : ℕ) (frozen : Frozen) : Type 0 where
   pub pages : IsFrozen frozen
   pub listed : list_all (λ a. nat_lt a count) frozen.addresses ≡ true

@@ -45,7 +45,8 @@ frozen_after (Home i) frozen = if nat_lt (i + 1) (length frozen.addresses) then 
 
 -- The journal goes on where the unit was done. Of the metadata only the frozen pages change.
 pub record Advances (result : Answer) (old new : Progress) (old_pages new_pages : Pages) : Type 0 where
-  pub done : IsDone result → (result ≡ answer old (length old_pages.frozen.addresses)) × (new ≡ next old (length old_pages.frozen.addresses))
+  pub done : IsDone result
+      → (result ≡ answer old (length old_pages.frozen.addresses)) × (new ≡ next old (length old_pages.frozen.addresses))
       × (new_pages ≡ record old_pages { frozen = frozen_after old.phase old_pages.frozen })
   pub waits : (IsDone result → ⊥) → (new ≡ old) × (new_pages ≡ old_pages)
 

@@ -3,11 +3,11 @@
 pub enum Phase {
     /// The header, where a transaction is frozen.
     Header,
-    /// This image.
+    /// The image of this place among those of the transaction.
     Image(u32),
     /// The commit page.
     Commit,
-    /// This page, to be copied home.
+    /// The page of this place among those of the transaction, to be copied home.
     Home(u32),
 }
 
@@ -42,7 +42,7 @@ pub enum Committing {
 pub enum ReadBack {
     /// The transaction of this number counts.
     Agreed(u64),
-    /// None counts.
+    /// No transaction counts.
     Nothing,
     /// A read failed.
     Fault,

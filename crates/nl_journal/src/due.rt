@@ -1,3 +1,4 @@
+//! The page of a frozen transaction that is due next is made.
 ghost use Rattle.std.specs.Prelude.{◌≡◌, ◌<◌, ◌≤◌, ◌^◌, length, slice_index, Some};
 ghost use Rattle.nl_field.specs.Journal.{header_of};
 ghost use Rattle.nl_journal.specs.Progress.{IsPhase, next_after as after};

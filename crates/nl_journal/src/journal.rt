@@ -1,3 +1,4 @@
+//! The journal of a volume, and its units: each writes one page of the frozen transaction, or copies one home.
 ghost use Rattle.std.specs.Prelude.{◌≡◌, ◌⊎◌, ◌<◌, ◌≤◌, ◌+◌, ◌-◌, ◌^◌, ℕ, [], length, max, IfOk, IfSome, None, Some};
 ghost use Rattle.nl_field.specs.CrashStates.{Earlier};
 ghost use Rattle.nl_iface.specs.Answers.{IsLostStamp, LosesStamp};
@@ -111,8 +112,10 @@ impl Journal {
         ensures formed { D.formed device.new }
         ensures order { InOrder D.Counts device.new self.new meta.new.frozen }
         ensures advances { Advances result self.old self.new meta.old meta.new }
-        ensures writes { D.tells → HasNumber self.old (length meta.old.frozen.addresses) → UnitWrites D.Counts (IsDone result) self.old self.new meta.old meta.new device.old device.new }
-        ensures home { D.tells → WritesHome self.old.phase meta.old.frozen (IsDone result) (D.shape device.old).vaddrs (bytes_of (D.map device.old)) (bytes_of (D.map device.new)) }
+        ensures writes { D.tells → HasNumber self.old (length meta.old.frozen.addresses)
+            → UnitWrites D.Counts (IsDone result) self.old self.new meta.old meta.new device.old device.new }
+        ensures home { D.tells → WritesHome self.old.phase meta.old.frozen (IsDone result) (D.shape device.old).vaddrs
+            (bytes_of (D.map device.old)) (bytes_of (D.map device.new)) }
         ensures passes { Passes D.Counts (IsDone result) 1 device.old device.new }
         ensures lost { IfLostUnit result (IsLostStamp D.tells (D.stamps device.new)) }
         ensures next_stamp { TakesStamp D.Counts (DoneOrFailed D.Counts (IsDone result) device.old device.new) device.old device.new }
@@ -127,10 +130,10 @@ impl Journal {
         }
     }
 
-    /// Makes all dirty pages take effect at once: it finishes the frozen transaction, where there is one, and then freezes the
-    /// dirty pages and finishes these. After `Lost` and `Fault` the pages in memory are as before, or the dirty ones are frozen;
-    /// the next commit goes on where this one stopped, and the number tells which pages are committed. A stop within it leaves the committed pages of before, or those with the frozen ones, or
-    /// those with the dirty ones too, and after `Done` the last.
+    /// Makes all dirty pages take effect at once: it finishes the frozen transaction, where there is one, and then freezes the dirty pages
+    /// and finishes these. After `Lost` and `Fault` the pages in memory are as before, or the dirty ones are frozen; the next commit goes
+    /// on where this one stopped, and the number tells which pages are committed. A stop within it leaves the committed pages of before, or
+    /// those with the frozen ones, or those with the dirty ones too, and after `Done` the last.
     pub fn commit<D: VirtualPages>(&mut self, device: &mut D, meta: &mut Meta) -> Committing
         requires formed { D.formed device.old }
         requires spare { D.keeps_spare device.old }
@@ -142,7 +145,8 @@ impl Journal {
         ensures running { meta.new.running ≡ meta.old.running }
         ensures done { IfCommitted result (λ n. Ends n self.old self.new meta.old meta.new) }
         ensures waits { (IsCommitted result → ⊥) → Waits meta.old meta.new }
-        ensures writes { D.tells → HasNumber self.new (length meta.new.frozen.addresses) → CommitWrites D.Counts (IsCommitted result) self.old self.new meta.old meta.new device.old device.new }
+        ensures writes { D.tells → HasNumber self.new (length meta.new.frozen.addresses)
+            → CommitWrites D.Counts (IsCommitted result) self.old self.new meta.old meta.new device.old device.new }
         ensures passes { Passes D.Counts (IsCommitted result) 1024 device.old device.new }
         ensures lost { IfLost result (IsLostStamp D.tells (D.stamps device.new)) }
         ensures clock { Ticks D.Counts (IsCommitted result) device.old device.new }
@@ -162,7 +166,8 @@ impl Journal {
         requires shape { shape.now ≡ D.shape device.old }
         ensures formed { D.formed device.new }
         ensures found { D.tells → Finds (D.shape device.old) (bytes_of (D.map device.old)) result }
-        ensures number { D.tells → (result ≡ ReadBack.Fault → ⊥) → self.new.number + 1 ≡ number_of_next (D.shape device.old) (bytes_of (D.map device.old)) }
+        ensures number { D.tells → (result ≡ ReadBack.Fault → ⊥)
+            → self.new.number + 1 ≡ number_of_next (D.shape device.old) (bytes_of (D.map device.old)) }
         ensures phase { self.new.phase ≡ phase_found result }
         ensures kept { OnlyReads D.Counts device.old device.new }
         ensures faults { ReadsCounted D.Counts (result ≡ ReadBack.Fault) device.old device.new }
@@ -226,7 +231,8 @@ impl Journal {
         requires none { meta.old ≡ no_pages (D.shape device.old).vaddrs }
         requires listing { IsListing (D.shape device.old) header }
         requires header { D.tells → head (D.shape device.old) (bytes_of (D.map device.old) 1) ≡ Some header }
-        requires decides { D.tells → counting (D.shape device.old) (bytes_of (D.map device.old)) ≡ counted_in (bytes_of (D.map device.old)) (Some header) }
+        requires decides { D.tells
+            → counting (D.shape device.old) (bytes_of (D.map device.old)) ≡ counted_in (bytes_of (D.map device.old)) (Some header) }
         requires phase { self.old.phase ≡ Phase.Header }
         ensures formed { D.formed device.new }
         ensures found { D.tells → Finds (D.shape device.old) (bytes_of (D.map device.old)) result }
@@ -262,8 +268,10 @@ impl Journal {
         ensures formed { D.formed device.new }
         ensures listing { IfSome result (λ o. IfSome o (IsListing shape.now)) }
         ensures header { D.tells → IfSome result (λ o. IfSome o (λ h. head (D.shape device.old) (bytes_of (D.map device.old) 1) ≡ Some h)) }
-        ensures decides { D.tells → IfSome result (λ o. counting (D.shape device.old) (bytes_of (D.map device.old)) ≡ counted_in (bytes_of (D.map device.old)) o) }
-        ensures number { D.tells → IfSome result (λ o. self.new.number + 1 ≡ number_of_next (D.shape device.old) (bytes_of (D.map device.old))) }
+        ensures decides { D.tells → IfSome result
+            (λ o. counting (D.shape device.old) (bytes_of (D.map device.old)) ≡ counted_in (bytes_of (D.map device.old)) o) }
+        ensures number { D.tells
+            → IfSome result (λ o. self.new.number + 1 ≡ number_of_next (D.shape device.old) (bytes_of (D.map device.old))) }
         ensures phase { self.new.phase ≡ Phase.Header }
         ensures kept { OnlyReads D.Counts device.old device.new }
         ensures faults { ReadsCounted D.Counts (result ≡ None) device.old device.new }
@@ -328,11 +336,15 @@ impl Journal {
         ensures formed { D.formed device.new }
         ensures order { InOrder D.Counts device.new self.new meta.new.frozen }
         ensures finishes { Finishes until (result ≡ VirtualWrite.Done) self.old self.new meta.old meta.new }
-        ensures writes { D.tells → HasNumber self.old (length meta.old.frozen.addresses) → FinishWrites D.Counts (result ≡ VirtualWrite.Done) self.old self.new meta.old meta.new device.old device.new }
-        ensures home { D.tells → BringsHome (D.shape device.old).vaddrs self.old self.new meta.old.frozen meta.new.frozen (bytes_of (D.map device.old)) (bytes_of (D.map device.new)) }
-        ensures passes { Passes D.Counts (result ≡ VirtualWrite.Done) (units_left self.old.phase (length meta.old.frozen.addresses)) device.old device.new }
+        ensures writes { D.tells → HasNumber self.old (length meta.old.frozen.addresses)
+            → FinishWrites D.Counts (result ≡ VirtualWrite.Done) self.old self.new meta.old meta.new device.old device.new }
+        ensures home { D.tells → BringsHome (D.shape device.old).vaddrs self.old self.new meta.old.frozen meta.new.frozen
+            (bytes_of (D.map device.old)) (bytes_of (D.map device.new)) }
+        ensures passes { Passes D.Counts (result ≡ VirtualWrite.Done)
+            (units_left self.old.phase (length meta.old.frozen.addresses)) device.old device.new }
         ensures lost { LosesStamp D.tells (D.stamps device.new) result }
-        ensures clock { Ticks D.Counts ((result ≡ VirtualWrite.Done) × (until < units_left self.old.phase (length meta.old.frozen.addresses))) device.old device.new }
+        ensures clock { Ticks D.Counts
+            ((result ≡ VirtualWrite.Done) × (until < units_left self.old.phase (length meta.old.frozen.addresses))) device.old device.new }
         ensures faults { CallCounted D.Counts (result ≡ VirtualWrite.Fault) device.old device.new }
     {
         if self.left(meta) <= until {
@@ -357,7 +369,8 @@ impl Journal {
         ensures formed { D.formed device.new }
         ensures order { InOrder D.Counts device.new self.new meta.new.frozen }
         ensures commits { CommitsDirty result self.old self.new meta.old meta.new }
-        ensures writes { D.tells → HasNumber self.new (length meta.new.frozen.addresses) → DirtyWrites D.Counts (IsCommitted result) self.old self.new meta.old meta.new device.old device.new }
+        ensures writes { D.tells → HasNumber self.new (length meta.new.frozen.addresses)
+            → DirtyWrites D.Counts (IsCommitted result) self.old self.new meta.old meta.new device.old device.new }
         ensures passes { Passes D.Counts (IsCommitted result) 512 device.old device.new }
         ensures lost { IfLost result (IsLostStamp D.tells (D.stamps device.new)) }
         ensures clock { Ticks D.Counts (IsCommitted result) device.old device.new }

@@ -1,4 +1,4 @@
-//! Laws. Each function stands for the law that its contract names.
+//! Laws of the journal between two calls: what is stored, and that it stays in order. A function stands for each law.
 ghost use Rattle.nl_journal.specs.Laws.{DirtyPagesAreTransaction, FreezesInOrder, FreezingStays, OpenedInOrder, StaysInOrder, StoredPages};
 
 use nl_iface::VirtualPages;

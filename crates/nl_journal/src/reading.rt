@@ -1,3 +1,4 @@
+//! The pages of the journal are read at an opening.
 ghost use Rattle.std.specs.Prelude.{◌≡◌, ◌<◌, ◌≤◌, ◌+◌, ◌-◌, ◌*◌, ◌^◌, ℕ, length, Some, None, IfSome, nat_lt, true, option_and_then};
 ghost use Rattle.std.specs.List.{list_all};
 ghost use Rattle.nl_field.specs.Journal.{are_home_addresses};
@@ -137,7 +138,8 @@ pub(crate) fn images<D: VirtualPages>(
     ensures formed { D.formed device.new }
     ensures count { length meta.new.running ≡ length meta.old.running }
     ensures images { D.tells → IfSome result (λ b. b ≡ are_there (bytes_of (D.map device.old)) from (length addresses.now - from)) }
-    ensures restored { result ≡ Some true → AreRestored D.tells (bytes_of (D.map device.old)) addresses.now (length addresses.now) meta.new }
+    ensures restored { result ≡ Some true
+        → AreRestored D.tells (bytes_of (D.map device.old)) addresses.now (length addresses.now) meta.new }
     ensures kept { OnlyReads D.Counts device.old device.new }
     ensures faults { ReadsCounted D.Counts (result ≡ None) device.old device.new }
 {

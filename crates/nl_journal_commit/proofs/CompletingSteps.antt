@@ -56,12 +56,12 @@ finished_decided (Image i) frozen base v is = absurd (let no : ⊥ = cc in no)
 finished_decided Commit frozen base v is = absurd (let no : ⊥ = cc in no)
 finished_decided (Home i) frozen base v is = refl
 
--- so the number is that of the last transaction that was begun
+-- where nothing is frozen, or the commit page is written, the number is that of the last transaction that was begun
 pub closed_number : (q : Progress) (frozen : Frozen) → IsClosed q.phase frozen → begun q (length frozen.addresses) ≡ q.number
 closed_number q frozen (inl none) = begun_header q.phase q.number (length frozen.addresses) none.0 (ap length none.1)
 closed_number q frozen (inr decided) = begun_decided q.phase q.number (length frozen.addresses) decided
 
--- and its pages are the committed ones
+-- where nothing is frozen, or the commit page is written, the pages are the committed ones
 pub closed_pages : (phase : Phase) (frozen : Frozen) (base : VirtualMap) (count : ℕ) → IsClosed phase frozen → Agrees count base (finished phase frozen base)
 closed_pages phase frozen base count (inl none) v home = sym (none_left phase frozen base v none.0 none.1)
 closed_pages phase frozen base count (inr decided) v home = sym (finished_decided phase frozen base v decided)

@@ -96,7 +96,7 @@ freeing_keeps v front rest t d freed = record {
 pub frees_all : FreesAll
 frees_all v front rest t d f freed = frees_live front rest v t (old_differ_from v.names.pairs d.differ) d.first d.due d.thawed d.none_leaves freed (to_words f)
 
--- one more is freed behind the others
+-- one page more is freed behind the others
 pub frees_last : (front : List Pointer) (p : Pointer) (s m t : Names) → FreesEach front s m → FreesOne p m t → FreesEach (front ++ p ∷ []) s t
 frees_last [] p s m t same one = (t, subst (λ (n : Names). FreesOne p n t) same one, refl)
 frees_last (q ∷ qs) p s m t freed one = (freed.0, freed.1, frees_last qs p freed.0 m t freed.2 one)

@@ -1,4 +1,4 @@
--- The same pages are held as the metadata stands on.
+-- Who holds live pages holds the same ones as the metadata stands on.
 use Rattle.std.proofs.Common.{◌≡◌, List, map, sym, ◌∙◌, ap, subst}
 use Rattle.nl_field.specs.Graph.{Graph}
 use Rattle.nl_field.specs.declared.pointer.Pointer.{Pointer}

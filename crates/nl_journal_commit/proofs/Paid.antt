@@ -33,7 +33,7 @@ header_least number pages = ⊎_elim
     (λ ne. let is : begun_in Header number pages ≡ raised number = begun_header Header number pages refl (omega (arith, ne)) in omega (arith, is))
     (cases_eq pages 0)
 
--- and no less, but at the end
+-- the number that is begun is no less than the last, but at the end
 pub begun_least : (phase : Phase) (number pages : ℕ) → spelled number ≤ begun_in phase number pages
 begun_least Header number pages = header_least number pages
 begun_least (Image i) number pages = omega arith

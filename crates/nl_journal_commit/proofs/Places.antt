@@ -72,7 +72,7 @@ needed_home shape bounds pages v right (inr (n, slot, at)) =
     let low = good.from_pool in
     record { below = good.in_pool; outside = inr (omega (arith, low)) }
 
--- and none of the journal's
+-- an address that nodes need is none of the journal's
 pub low_of : (shape : Shape) (pages : VirtualMap) (v : ℕ) → AddressesRight shape pages → IsNeeded shape pages v → 67 ≤ v
 low_of shape pages v right (inl is) = leb-true 67 v (and_parts _ _ is).0
 low_of shape pages v right (inr (n, slot, at)) = let low = (right.good n slot v at).from_pool in omega (arith, low)

@@ -15,8 +15,8 @@ use Rattle.nl_journal_commit.specs.Standing.{StandsOn}
 abbrev pub IsOpen : Progress → Frozen → Type 0
 IsOpen p frozen = length frozen.addresses < units_left p.phase (length frozen.addresses)
 
--- The commit page was finished at this moment, later than the call began. The number is the transaction's, and a stop at that moment or a later one leaves its pages
--- committed.
+-- The commit page was finished at this moment, later than the call began. The number is the transaction's, and a stop at that moment or a
+-- later one leaves its pages committed.
 pub record DecidesAt {D : Type 0} (g : Ghosts D) (old new : D) (p q : Progress) (pages : Pages) (moment : ℕ) : Type 0 where
   pub was_open : IsOpen p pages.frozen
   pub number : q.number ≡ begun p (length pages.frozen.addresses)
@@ -24,13 +24,14 @@ pub record DecidesAt {D : Type 0} (g : Ghosts D) (old new : D) (p q : Progress) 
   pub from : g.clock old ≤ moment
   pub to : moment ≤ g.clock new
   pub stops : g.tells → HasNumber p (length pages.frozen.addresses)
-      → Leaves g (Turns ⊤ moment (LeavesEither g old (committed_on g old) (finished_on g old p pages)) (LeavesOne g old (finished_on g old p pages))) old new
+      → Leaves g (Turns ⊤ moment (LeavesEither g old (committed_on g old) (finished_on g old p pages))
+      (LeavesOne g old (finished_on g old p pages))) old new
 
--- It was not written: where it was to be written, it still is.
+-- The commit page was not written: where it was to be written, it still is.
 abbrev pub StaysOpen : Progress → Progress → Frozen → Frozen → Type 0
 StaysOpen p q frozen now = IsOpen p frozen → IsOpen q now
 
--- Whether it was finished: at a moment that is told, or not.
+-- Whether the commit page was finished: at a moment that is told, or not.
 abbrev pub IsDecided : Option ℕ → Progress → Progress → Frozen → Frozen → Type 0
 IsDecided None p q frozen now = StaysOpen p q frozen now
 IsDecided (Some moment) p q frozen now = IsOpen p frozen × (q.number ≡ begun p (length frozen.addresses))
@@ -44,8 +45,10 @@ spelled number = min number (2 ^ 63 - 1)
 abbrev pub NumberPaid : ℕ → ℕ → ℕ → ℕ → Type 0
 NumberPaid clock_before before clock_now now = clock_now < top → spelled now + clock_before ≤ spelled before + clock_now
 
--- What completing says of the metadata and of who holds pages: the units that were left of the frozen transaction were done, or some of them.
-pub record Completes {D : Type 0} (g : Ghosts D) (done : Type 0) (s : D) (p : Progress) (pages : Pages) (t : D) (q : Progress) (now : Pages) : Type 0 where
+-- What completing says of the metadata and of who holds pages: the units that were left of the frozen transaction were done, or some of
+-- them.
+pub record Completes {D : Type 0} (g : Ghosts D) (done : Type 0) (s : D) (p : Progress) (pages : Pages) (t : D) (q : Progress)
+    (now : Pages) : Type 0 where
   pub same_shape : g.shape t ≡ g.shape s
   pub tables : SameTables (g.names s) (g.names t)
   pub stands : StandsOn g s pages t q now

@@ -12,11 +12,11 @@ pub record FreesPage (p : Pointer) (s t : Names) : Type 0 where
   pub names : Drops (place_of s p) s t
   pub space : Freed s.space t.space
 
--- It is freed where it is live, and else nothing changes.
+-- The page to which a pointer leads is freed where it is live, and else nothing changes.
 abbrev pub FreesOne : Pointer → Names → Names → Type 0
 FreesOne p s t = FreesPage p s t ⊎ ((leads s p ≡ false) × (t ≡ s))
 
--- One after the other is freed.
+-- The pages of a list of pointers are freed one after the other.
 abbrev pub FreesEach : List Pointer → Names → Names → Type 0
 FreesEach [] s t = t ≡ s
 FreesEach (p ∷ ps) s t = (m : Names) × FreesOne p s m × FreesEach ps m t
@@ -29,10 +29,15 @@ pub record AreDue (front rest : List Pointer) (v : Holding) : Type 0 where
   pub none_leaves : v.leaving ≡ 0
   pub differ : OldNamesDiffer v.names
 
--- Once they are freed, the others await their free, and none is due.
+-- Once the pages that are due are freed, the others await their free, and none is due.
 abbrev pub FreeingKeeps : Type 0
-FreeingKeeps = (v : Holding) (front rest : List Pointer) (t : Names) → AreDue front rest v → FreesEach front v.names t → Keeps v (record v { names = t; freeing = rest; due = 0 })
+FreeingKeeps =
+    (v : Holding) (front rest : List Pointer) (t : Names) → AreDue front rest v → FreesEach front v.names t
+    → Keeps v (record v { names = t; freeing = rest; due = 0 })
 
--- And where each live page is held once, so many fewer are live.
+-- Where each live page is held once, the pages that are due are live no longer once they are freed, and the others still are: so many fewer
+-- are live.
 abbrev pub FreesAll : Type 0
-FreesAll = (v : Holding) (front rest : List Pointer) (t : Names) → AreDue front rest v → HoldsPages v → FreesEach front v.names t → t.space.live + length front ≡ v.names.space.live
+FreesAll =
+    (v : Holding) (front rest : List Pointer) (t : Names) → AreDue front rest v → HoldsPages v → FreesEach front v.names t
+    → t.space.live + length front ≡ v.names.space.live

@@ -24,5 +24,6 @@ pub record IsHoldingOf {D : Type 0} (g : Ghosts D) (s : D) (pages : Pages) (v : 
 -- Where the metadata stands on and no name changes, the same pages are held, and what is committed leads.
 abbrev pub HoldersStand : {D : Type 0} → Ghosts D → Type 0
 HoldersStand {D} g =
-    (s t : D) (q : Progress) (pages now : Pages) (v : Holding) → IsHoldingOf g s pages v → g.shape t ≡ g.shape s → SameTables (g.names s) (g.names t) → StandsOn g s pages t q now
+    (s t : D) (q : Progress) (pages now : Pages) (v : Holding) → IsHoldingOf g s pages v → g.shape t ≡ g.shape s
+    → SameTables (g.names s) (g.names t) → StandsOn g s pages t q now
     → Keeps v (record v { names = g.names t; running = running_holders g t now })

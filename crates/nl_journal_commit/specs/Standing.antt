@@ -30,7 +30,8 @@ pub record IsJournaled {D : Type 0} (g : Ghosts D) (s : D) (p : Progress) (pages
   pub super_page : IsSome (page_of pages 0)
   pub apart : (v : ℕ) → 1 ≤ v → v < 67 → page_of pages v ≡ None
 
--- It stands on, and each page that its nodes need is the one that it was, so that the nodes stand for the tree that they stood for.
+-- The metadata stands on, and each page that its nodes need is the one that it was, so that the nodes stand for the tree that they stood
+-- for.
 pub record StandsOn {D : Type 0} (g : Ghosts D) (s : D) (pages : Pages) (t : D) (q : Progress) (now : Pages) : Type 0 where
   pub journaled : IsJournaled g t q now
   pub needed : (v : ℕ) → IsNeeded (g.shape s) (running_on g s pages) v → running_on g t now v ≡ running_on g s pages v
@@ -39,7 +40,8 @@ pub record StandsOn {D : Type 0} (g : Ghosts D) (s : D) (pages : Pages) (t : D) 
 -- ---- what a commit does
 
 -- Pages of the transaction were written. Where all are home, nothing is frozen any more.
-pub record WritesFrozen {D : Type 0} (g : Ghosts D) (s : D) (p : Progress) (pages : Pages) (t : D) (q : Progress) (now : Pages) : Type 0 where
+pub record WritesFrozen {D : Type 0} (g : Ghosts D) (s : D) (p : Progress) (pages : Pages) (t : D) (q : Progress)
+    (now : Pages) : Type 0 where
   pub same_shape : g.shape t ≡ g.shape s
   pub order : InOrder g t q now.frozen
   pub kept : now ≡ record pages { frozen = now.frozen }
@@ -47,7 +49,9 @@ pub record WritesFrozen {D : Type 0} (g : Ghosts D) (s : D) (p : Progress) (page
   pub home : g.tells → BringsHome (g.shape s).vaddrs p q pages.frozen now.frozen (bytes_of (g.map s)) (bytes_of (g.map t))
 
 abbrev pub WritingStands : {D : Type 0} → Ghosts D → Type 0
-WritingStands {D} g = (s t : D) (p q : Progress) (pages now : Pages) → IsVolumeShape (g.shape s) → IsJournaled g s p pages → WritesFrozen g s p pages t q now → StandsOn g s pages t q now
+WritingStands {D} g =
+    (s t : D) (p q : Progress) (pages now : Pages) → IsVolumeShape (g.shape s) → IsJournaled g s p pages → WritesFrozen g s p pages t q now
+    → StandsOn g s pages t q now
 
 -- Nothing is frozen, and the dirty pages are a transaction.
 pub record CanFreeze (count : ℕ) (p : Progress) (pages : Pages) : Type 0 where
@@ -55,27 +59,34 @@ pub record CanFreeze (count : ℕ) (p : Progress) (pages : Pages) : Type 0 where
   pub none : pages.frozen ≡ none_frozen
   pub dirty : IsTransaction count (dirty_pages pages)
 
--- They are where the super page is dirty.
+-- The dirty pages are a transaction where nothing is frozen and the super page is dirty.
 abbrev pub ChangesCanFreeze : {D : Type 0} → Ghosts D → Type 0
 ChangesCanFreeze {D} g =
-    (s : D) (p : Progress) (pages : Pages) → IsJournaled g s p pages → IsPages pages → is_dirty pages 0 ≡ true → p.phase ≡ Header → pages.frozen ≡ none_frozen
+    (s : D) (p : Progress) (pages : Pages) → IsJournaled g s p pages → IsPages pages → is_dirty pages 0 ≡ true → p.phase ≡ Header
+    → pages.frozen ≡ none_frozen
     → CanFreeze (g.shape s).vaddrs p pages
 
 -- The dirty pages are frozen.
 abbrev pub FreezingStands : {D : Type 0} → Ghosts D → Type 0
 FreezingStands {D} g =
-    (s : D) (p : Progress) (pages : Pages) → IsVolumeShape (g.shape s) → IsJournaled g s p pages → IsPages pages → CanFreeze (g.shape s).vaddrs p pages
+    (s : D) (p : Progress) (pages : Pages) → IsVolumeShape (g.shape s) → IsJournaled g s p pages → IsPages pages
+    → CanFreeze (g.shape s).vaddrs p pages
     → StandsOn g s pages s p (record pages { dirty = []; frozen = dirty_pages pages })
 
 -- The super page has other bytes.
 abbrev pub SuperPageStands : {D : Type 0} → Ghosts D → Type 0
 SuperPageStands {D} g =
-    (s : D) (p : Progress) (pages : Pages) (bytes : List ℕ) → IsVolumeShape (g.shape s) → IsJournaled g s p pages → StandsOn g s pages s p (with_dirty pages 0 bytes)
+    (s : D) (p : Progress) (pages : Pages) (bytes : List ℕ) → IsVolumeShape (g.shape s) → IsJournaled g s p pages
+    → StandsOn g s pages s p (with_dirty pages 0 bytes)
 
 -- The device keeps what its addresses have.
 abbrev pub AddressesStand : {D : Type 0} → Ghosts D → Type 0
-AddressesStand {D} g = (s t : D) (p : Progress) (pages : Pages) → IsVolumeShape (g.shape s) → IsJournaled g s p pages → KeepsVirtual g s t → StandsOn g s pages t p pages
+AddressesStand {D} g =
+    (s t : D) (p : Progress) (pages : Pages) → IsVolumeShape (g.shape s) → IsJournaled g s p pages → KeepsVirtual g s t
+    → StandsOn g s pages t p pages
 
 -- Pages are read, and some become resident.
 abbrev pub ReadsStand : {D : Type 0} → Ghosts D → Type 0
-ReadsStand {D} g = (s t : D) (p : Progress) (pages now : Pages) → IsVolumeShape (g.shape s) → IsJournaled g s p pages → RunsOn g s pages t now → StandsOn g s pages t p now
+ReadsStand {D} g =
+    (s t : D) (p : Progress) (pages now : Pages) → IsVolumeShape (g.shape s) → IsJournaled g s p pages → RunsOn g s pages t now
+    → StandsOn g s pages t p now

@@ -1,3 +1,4 @@
+//! The dirty pages are frozen, and their transaction is completed.
 ghost use Rattle.std.specs.Prelude.{◌≡◌, ◌≤◌, ◌+◌, ◌^◌, length, MatchOption};
 ghost use Rattle.nl_iface.specs.Answers.{LosesStamp};
 ghost use Rattle.nl_iface.specs.Calls.{CallCounted};
@@ -32,8 +33,10 @@ pub fn commit_changes<D: VirtualPages>(
     ensures formed { D.formed device.new }
     ensures stands { StandsOn D.Counts device.old meta.old device.new journal.new meta.new }
     ensures finishes { Finishes 0 (result.answer ≡ VirtualWrite.Done) journal.old journal.new (with_frozen meta.old) meta.new }
-    ensures decided { MatchOption result.decided (StaysOpen journal.old journal.new (dirty_pages meta.old) meta.new.frozen) (DecidesAt D.Counts device.old device.new journal.old journal.new (with_frozen meta.old)) }
-    ensures writes { D.tells → HasNumber journal.old (length meta.old.dirty) → FinishWrites D.Counts (result.answer ≡ VirtualWrite.Done) journal.old journal.new (with_frozen meta.old) meta.new device.old device.new }
+    ensures decided { MatchOption result.decided (StaysOpen journal.old journal.new (dirty_pages meta.old) meta.new.frozen)
+        (DecidesAt D.Counts device.old device.new journal.old journal.new (with_frozen meta.old)) }
+    ensures writes { D.tells → HasNumber journal.old (length meta.old.dirty) → FinishWrites D.Counts
+        (result.answer ≡ VirtualWrite.Done) journal.old journal.new (with_frozen meta.old) meta.new device.old device.new }
     ensures passes { Passes D.Counts (result.answer ≡ VirtualWrite.Done) 256 device.old device.new }
     ensures lost { LosesStamp D.tells (D.stamps device.new) result.answer }
     ensures clock { D.clock device.old ≤ D.clock device.new }

@@ -1,3 +1,4 @@
+//! A whole commit: what was frozen is completed, and then the dirty pages under a count of calls.
 ghost use Rattle.std.specs.Prelude.{◌≡◌, ◌<◌, ◌≤◌, ◌+◌, ◌^◌, length, IfSome};
 ghost use Rattle.nl_iface.specs.Answers.{LosesStamp};
 ghost use Rattle.nl_iface.specs.Calls.{CallCounted};
@@ -44,10 +45,14 @@ pub fn commit<D: VirtualPages>(
     requires count { count < 2 ^ 63 }
     ensures formed { D.formed device.new }
     ensures stands { StandsOn D.Counts device.old meta.old device.new journal.new meta.new }
-    ensures commits { Commits D.Counts (result.answer ≡ VirtualWrite.Done) result.earlier result.decided device.old journal.old (with_count shape.now count meta.old) device.new journal.new meta.new }
-    ensures earlier { IfSome result.earlier (EarlierAt D.Counts device.old device.new journal.old journal.new (with_count shape.now count meta.old) meta.new) }
-    ensures decided { IfSome result.decided (ChangesAt D.Counts device.old device.new journal.old journal.new (with_count shape.now count meta.old) meta.new) }
-    ensures writes { D.tells → HasNumber journal.new (length meta.new.frozen.addresses) → CommitWrites D.Counts (result.answer ≡ VirtualWrite.Done) journal.old journal.new (with_count shape.now count meta.old) meta.new device.old device.new }
+    ensures commits { Commits D.Counts (result.answer ≡ VirtualWrite.Done) result.earlier result.decided device.old journal.old
+        (with_count shape.now count meta.old) device.new journal.new meta.new }
+    ensures earlier { IfSome result.earlier
+        (EarlierAt D.Counts device.old device.new journal.old journal.new (with_count shape.now count meta.old) meta.new) }
+    ensures decided { IfSome result.decided
+        (ChangesAt D.Counts device.old device.new journal.old journal.new (with_count shape.now count meta.old) meta.new) }
+    ensures writes { D.tells → HasNumber journal.new (length meta.new.frozen.addresses) → CommitWrites D.Counts
+        (result.answer ≡ VirtualWrite.Done) journal.old journal.new (with_count shape.now count meta.old) meta.new device.old device.new }
     ensures passes { Passes D.Counts (result.answer ≡ VirtualWrite.Done) 512 device.old device.new }
     ensures lost { LosesStamp D.tells (D.stamps device.new) result.answer }
     ensures clock { D.clock device.old ≤ D.clock device.new }

@@ -1,3 +1,4 @@
+//! The pages that a transaction gave up are freed.
 ghost use Rattle.std.specs.Prelude.{◌≡◌, ◌≤◌, ◌+◌, length, take, drop};
 ghost use Rattle.nl_iface.specs.Calls.{KeepsMedium};
 ghost use Rattle.nl_journal_commit.specs.Freeing.{FreesEach};

@@ -1,4 +1,4 @@
-//! Laws of the definitions. Each function stands for the laws that its contract names.
+//! Laws of a commit: the metadata stands on, and each live page is held once as pages are freed. A function stands for each law.
 ghost use Rattle.nl_journal_commit.specs.Freeing.{FreeingKeeps, FreesAll};
 ghost use Rattle.nl_journal_commit.specs.Holding.{HoldersStand};
 ghost use Rattle.nl_journal_commit.specs.Standing.{AddressesStand, ChangesCanFreeze, FreezingStands, ReadsStand, SuperPageStands, WritingStands};

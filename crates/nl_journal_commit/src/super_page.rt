@@ -1,3 +1,4 @@
+//! The count of calls is written into the super page.
 ghost use Rattle.std.specs.Prelude.{◌≡◌, ◌<◌, ◌^◌, true, IsSome, Some};
 ghost use Rattle.nl_field.specs.SuperPage.{super_bytes};
 ghost use Rattle.nl_meta.specs.Pages.{has_room, page_of};

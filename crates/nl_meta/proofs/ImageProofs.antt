@@ -64,7 +64,7 @@ zero_all (b ∷ bytes) e =
     let p = and_parts (b == 0) (all_zero bytes) e in
     ap (λ (t : Bool). cond t 0 (zeros_from bytes + 1)) (and_from _ _ (eq-eqb (zeros_from bytes) 0 (zero_all bytes p.1)) p.0)
 
--- and where it is zero its zeros have begun
+-- where a page is zero its zeros have begun
 pub from_zero : (bytes : List ℕ) (n : ℕ) → all_zero (drop n bytes) ≡ true → zeros_from bytes ≤ n
 unfolding zeros_from
 from_zero [] n e = omega arith
@@ -91,7 +91,7 @@ same_tag t u s z w v e = cc
 no_virtual : (a s w : ℕ) (u : Tag) (z v : ℕ) → Virtual a s w ≡ Physical u z v → ⊥
 no_virtual a s w u z v e = cc
 
--- and stands in the bytes that are read
+-- the owner stands in the bytes that are read
 tag_read : (bytes : List ℕ) (tag : Tag) (stamp wear : ℕ) → spare_rec_of bytes ≡ Some (Physical tag stamp wear) → tag ≡ tag_in (spare_bytes (Physical tag stamp 0))
 unfolding spare_rec_of spare_fields
 tag_read bytes tag stamp wear e = by (is_spare (spare_fields bytes) && bytes_eq (spare_bytes (spare_fields bytes)) bytes) refl e

@@ -48,7 +48,7 @@ module _ (device : VirtualMap) (p : Pages) (clean : CleanIsStored device p) wher
   unfolding running_over
   stays v new keeps u far = ap (λ o. or_stored o (device u)) (keeps.others u far)
 
-  -- and what it has there is the device's, where it is clean
+  -- what another address has is the device's, where it is clean
   stored : (v : ℕ) (new : Pages) → Keeps v p new → (u : ℕ) → u ≢ v → (bytes : List ℕ) → page_of new u ≡ Some bytes → is_dirty p u ≡ false → is_frozen p u ≡ false → device u ≡ Some bytes
   stored v new keeps u far bytes is d f = clean.each u bytes (sym (keeps.others u far) ∙ is) d f
 

@@ -41,7 +41,7 @@ pub record NumbersRight (shape : Shape) (pages : VirtualMap) (rec : SuperRec) : 
 abbrev pub AllAgree : List Seen → Type 0
 AllAgree seen = (s : Seen) → Has seen s → s.agrees ≡ true
 
--- the same main bytes, and apart from wear the same record
+-- two pages have the same main bytes, and apart from wear the same record
 pub record SamePage (r q : Readable) : Type 0 where
   pub main : r.main ≡ q.main
   pub rec : spare_bytes (without_wear r.rec) ≡ spare_bytes (without_wear q.rec)
@@ -72,7 +72,7 @@ pub record NodesRight (shape : Shape) (pages : VirtualMap) : Type 0 where
 
 -- ---- addresses
 
--- It lies in the pool and has a committed page, which spells pointers where a file has it.
+-- An address lies in the pool and has a committed page, which spells pointers where a file has the address.
 pub record GoodAddress (shape : Shape) (pages : VirtualMap) (kind : Kind) (a : ℕ) : Type 0 where
   pub from_pool : 67 + shape.inode_pages ≤ a
   pub in_pool : a < shape.vaddrs
@@ -102,7 +102,7 @@ pub record EntryAt (shape : Shape) (pages : VirtualMap) (d i : ℕ) (e : EntryRe
   pub below : i < rec.size
   pub spelled : entry_of (bytes_of_place pages rec i) ≡ Some e
 
--- It names a used node but 0, under its generation.
+-- An entry names a used node but 0, under the node's generation.
 pub record GoodEntry (shape : Shape) (pages : VirtualMap) (e : EntryRec) : Type 0 where
   pub no_root : e.ino ≢ 0
   pub target : InodeRec
@@ -116,7 +116,8 @@ pub data Reached (shape : Shape) (pages : VirtualMap) : ℕ → Type 0 where
 
 pub record EntriesRight (shape : Shape) (pages : VirtualMap) : Type 0 where
   -- each place below the size of a directory has an entry, which names a used node but 0 under its generation
-  pub spelled : (d : ℕ) (rec : InodeRec) (i : ℕ) → IsNode shape pages d rec → rec.kind ≡ Dir → i < rec.size → (e : EntryRec) × EntryAt shape pages d i e × GoodEntry shape pages e
+  pub spelled : (d : ℕ) (rec : InodeRec) (i : ℕ) → IsNode shape pages d rec → rec.kind ≡ Dir → i < rec.size
+      → (e : EntryRec) × EntryAt shape pages d i e × GoodEntry shape pages e
   -- the places behind them are zero
   pub rest : (d : ℕ) (rec : InodeRec) (i : ℕ) → IsNode shape pages d rec → rec.kind ≡ Dir → rec.size ≤ i → i < 64 * div_ceil rec.size 64
       → IsTrue (all_zero (bytes_of_place pages rec i))
@@ -125,14 +126,15 @@ pub record EntriesRight (shape : Shape) (pages : VirtualMap) : Type 0 where
   -- each used node but 0 is named by an entry, under its generation
   pub named : (n : ℕ) (rec : InodeRec) → IsNode shape pages n rec → n ≢ 0
       → (d : ℕ) × (i : ℕ) × (e : EntryRec) × EntryAt shape pages d i e × (e.ino ≡ n) × (e.generation ≡ rec.generation)
-  -- and by no second one
-  pub one_name : (d i d' i' : ℕ) (e e' : EntryRec) → EntryAt shape pages d i e → EntryAt shape pages d' i' e' → e.ino ≡ e'.ino → (d ≡ d') × (i ≡ i')
+  -- no used node is named by two entries
+  pub one_name : (d i d' i' : ℕ) (e e' : EntryRec) → EntryAt shape pages d i e → EntryAt shape pages d' i' e' → e.ino ≡ e'.ino
+      → (d ≡ d') × (i ≡ i')
   -- each used node is reached from node 0
   pub reached : (n : ℕ) (rec : InodeRec) → IsNode shape pages n rec → Reached shape pages n
 
 -- ---- pointers
 
--- both are the pointer of one node at one index
+-- two pointers are the pointer of one node at one index
 abbrev pub OnePointer : Held → Held → Type 0
 OnePointer h k = (h.tag.ino ≡ k.tag.ino) × (h.tag.index ≡ k.tag.index)
 
@@ -142,7 +144,7 @@ pub record PointersRight (held : List Held) (HasPage : Held → Type 0) : Type 0
   pub there : (h : Held) → Has held h → HasPage h
   -- no two pointers share a stamp
   pub stamps_differ : (h k : Held) → Has held h → Has held k → h.pointer.stamp ≡ k.pointer.stamp → OnePointer h k
-  -- or a name
+  -- no two pointers share a name
   pub names_differ : (h k : Held) → Has held h → Has held k → h.pointer.name ≡ k.pointer.name → OnePointer h k
 
 -- the page is one of that stamp with the tag of node, generation and index
@@ -178,8 +180,8 @@ pub record IsThere (page_of_stamp : ℕ → Option PageOfStamp) (h : Held) : Typ
   pub whole : length bytes ≡ 4096
   pub behind : IsTrue (all_zero (drop (h.size - 4096 * h.tag.index) bytes))
 
--- The same without a medium: metadata with the pages that these stamps lead to, as a running volume has them, or a transaction that is
--- frozen.
+-- Pages are metadata of a tree, with the pages of files to which stamps lead, and no medium: so a running volume has them, or a frozen
+-- transaction.
 pub record RightFor (shape : Shape) (pages : VirtualMap) (page_of_stamp : ℕ → Option PageOfStamp) : Type 0 where
   pub legal : IsTrue (is_legal shape.blocks shape.pages)
   pub numbers : shape ≡ shape_for shape.blocks shape.pages

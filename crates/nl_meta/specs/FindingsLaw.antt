@@ -14,4 +14,6 @@ NoFindings = (image : Image) (is_set : What → Bool) → AreFindings image is_s
 
 -- The place is the one that a device takes beside the spare block for the stamps of all committed pointers.
 abbrev pub PlacesAreTaken : Type 0
-PlacesAreTaken = (image : Image) (p : Pointer) → place_of_pointer image p ≡ place_outside image (physical_spare image (map (λ h. h.pointer.stamp) (committed_pointers image))) p
+PlacesAreTaken =
+    (image : Image) (p : Pointer)
+    → place_of_pointer image p ≡ place_outside image (physical_spare image (map (λ h. h.pointer.stamp) (committed_pointers image))) p

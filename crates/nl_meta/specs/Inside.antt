@@ -1,4 +1,4 @@
--- How the pages are kept.
+-- How the pages of `Meta` are kept in memory: lists of pages and marks, and what holds of them.
 use Rattle.std.specs.Prelude.{◌≡◌, ℕ, ◌≤◌, ◌<◌, ◌^◌, Bool, true, false, if◌then◌else◌, List, [], ◌∷◌, length, filter, slice_index_or, Option, Some, None}
 use Rattle.nl_field.specs.Members.{Has}
 use Rattle.nl_field.specs.Page.{PageBytes}
@@ -10,7 +10,8 @@ slots [] pages = []
 slots (b ∷ bs) [] = []
 slots (b ∷ bs) (page ∷ pages) = (if b then Some page.main else None) ∷ slots bs pages
 
-pub record IsKept (pages : List PageBytes) (resident : List Bool) (count : ℕ) (dirty recent frozen : List ℕ) (images : List PageBytes) : Type 0 where
+pub record IsKept (pages : List PageBytes) (resident : List Bool) (count : ℕ) (dirty recent frozen : List ℕ)
+    (images : List PageBytes) : Type 0 where
   pub each : length resident ≡ length pages
   pub room : length pages < 2 ^ 32
   pub counted : count ≡ length (filter (λ b. b) resident)

@@ -1,4 +1,4 @@
--- What the pages become once a borrow has ended.
+-- What the metadata pages become once the borrow of one of them has ended.
 use Rattle.std.specs.Prelude.{ℕ, Option}
 use Rattle.std.specs.Borrow.{Lends, LendsIf, MutBor, Fml}
 use Rattle.nl_field.specs.Page.{PageBytes}
@@ -11,10 +11,10 @@ use Rattle.nl_meta.specs.contracts.meta.Meta.{the_row}
 abbrev pub LendsPage : MutBor Pages → ℕ → MutBor PageBytes → Fml
 LendsPage p v r = Lends the_row page.the_row p r (λ page. with_page p.now v page.main)
 
--- and it is dirty; at None all is as before
+-- the page of an address is the last one behind the borrow, and dirty; at None all is as before
 abbrev pub LendsDirty : MutBor Pages → ℕ → Option (MutBor PageBytes) → Fml
 LendsDirty p v r = LendsIf the_row page.the_row p r (λ page. with_dirty p.now v page.main) p.now
 
--- or it is resident and touched
+-- the page of an address is the last one behind the borrow, resident and touched
 abbrev pub LendsAdmitted : MutBor Pages → ℕ → MutBor PageBytes → Fml
 LendsAdmitted p v r = Lends the_row page.the_row p r (λ page. with_admitted p.now v page.main)

@@ -36,7 +36,7 @@ is_frozen p v = list_any (λ a. a == v) p.frozen.addresses
 abbrev pub frozen_at : Pages → ℕ → Option (List ℕ)
 frozen_at p v = option_and_then (slice_get p.frozen.images) (position (λ a. a == v) p.frozen.addresses)
 
--- those that are not address 0
+-- the addresses of a list that are not 0
 abbrev pub besides_0 : List ℕ → List ℕ
 besides_0 addresses = filter (λ a. not (a == 0)) addresses
 
@@ -73,11 +73,11 @@ touched v recent = first_most (v ∷ filter (λ a. not (a == v)) recent)
 abbrev pub none_frozen : Frozen
 none_frozen = record { addresses = []; images = [] }
 
--- with one more page behind the others
+-- frozen pages with one more behind the others
 abbrev pub with_image : Frozen → ℕ → List ℕ → Frozen
 with_image frozen v bytes = record { addresses = frozen.addresses ++ v ∷ []; images = frozen.images ++ bytes ∷ [] }
 
--- so many addresses, none of which is resident
+-- pages of so many addresses, none of which is resident
 unfoldable pub no_pages : ℕ → Pages
 no_pages count = record { running = replicate count None; dirty = []; recent = []; frozen = none_frozen }
 

@@ -14,11 +14,11 @@ use Rattle.nl_meta.specs.Nodes.{graph_of, Held, held_by, held_in, inode_at, poin
 abbrev pub with_tag : Held → Tag × Pointer
 with_tag h = (h.tag, h.pointer)
 
--- those of one node
+-- the pointers of one node
 abbrev pub tagged_by : ℕ → GraphNode → List (Tag × Pointer)
 tagged_by n node = map with_tag (held_by n node)
 
--- those of all files, in the order of nodes and indexes
+-- the pointers of all files, in the order of nodes and indexes
 abbrev pub tagged_in : Shape → VirtualMap → List (Tag × Pointer)
 tagged_in shape pages = map with_tag (held_in shape pages)
 
@@ -54,4 +54,5 @@ pub record ChangesPointer (shape : Shape) (old new : VirtualMap) (n index : ℕ)
 abbrev pub OnePointerChanges : Type 0
 OnePointerChanges =
     (shape : Shape) (old new : VirtualMap) (n index : ℕ) (was is : InodeRec) → ChangesPointer shape old new n index was is
-    → OneChanges (record { ino = n; generation = was.generation; index = index }) (pointer_at old was index) (pointer_at new is index) (tagged_in shape old) (tagged_in shape new)
+    → OneChanges (record { ino = n; generation = was.generation; index = index }) (pointer_at old was index) (pointer_at new is index)
+    (tagged_in shape old) (tagged_in shape new)

@@ -6,4 +6,5 @@ use Rattle.nl_meta.specs.Committed.{committed_of}
 use Rattle.nl_meta.specs.Consistent.{MetadataRight, RightFor, page_on}
 
 abbrev pub ImageIsRight : Type 0
-ImageIsRight = (image : Image) → IsTrue (is_image image) → MetadataRight image → RightFor (shape_of_image image) (committed_of image) (page_on image)
+ImageIsRight =
+    (image : Image) → IsTrue (is_image image) → MetadataRight image → RightFor (shape_of_image image) (committed_of image) (page_on image)

@@ -36,8 +36,9 @@ DiffersAt v old new = (u : ℕ) → u ≢ v → new u ≡ old u
 -- What each call means for the running map.
 pub record RunningLaws (device : VirtualMap) (p : Pages) (clean : CleanIsStored device p) : Type 0 where
   -- a page is admitted that is the device's
-  pub admitted : (v : ℕ) (bytes : List ℕ) (new : Pages) → device v ≡ Some bytes → page_of p v ≡ None → Admits v bytes p new → RunsAlike device p new
-  -- or it could not be read
+  pub admitted : (v : ℕ) (bytes : List ℕ) (new : Pages) → device v ≡ Some bytes → page_of p v ≡ None → Admits v bytes p new
+      → RunsAlike device p new
+  -- a page could not be read
   pub missed : (v : ℕ) (new : Pages) → page_of p v ≡ None → Misses v p new → RunsAlike device p new
   pub freshened : (v : ℕ) (new : Pages) → Freshens v p new → RunsWith v (zeros 4096) device p new
   pub changed : (v : ℕ) (bytes : List ℕ) → v < length p.running → RunsWith v bytes device p (with_dirty p v bytes)
@@ -48,7 +49,8 @@ pub record RunningLaws (device : VirtualMap) (p : Pages) (clean : CleanIsStored 
   pub thawed : ((u : ℕ) (bytes : List ℕ) → page_of p u ≡ Some bytes → is_frozen p u ≡ true → is_dirty p u ≡ false → device u ≡ Some bytes)
       → RunsAlike device p (record p { frozen = none_frozen })
   -- a page is written to the device at the address of a dirty or frozen one
-  pub written : (v : ℕ) (after : VirtualMap) → DiffersAt v device after → IsSome (page_of p v) → (is_dirty p v ≡ true) ⊎ (is_frozen p v ≡ true)
+  pub written : (v : ℕ) (after : VirtualMap) → DiffersAt v device after → IsSome (page_of p v)
+      → (is_dirty p v ≡ true) ⊎ (is_frozen p v ≡ true)
       → ((u : ℕ) → running_over after p u ≡ running_over device p u) × CleanIsStored after p
 
 abbrev pub RunningMap : Type 0
@@ -58,6 +60,7 @@ RunningMap = (device : VirtualMap) (p : Pages) (clean : CleanIsStored device p) 
 abbrev pub AdmitsPage : Type 0
 AdmitsPage = (v : ℕ) (bytes : List ℕ) (p : Pages) → v < length p.running → Admits v bytes p (with_admitted p v bytes)
 
--- And none is where it is given up at once.
+-- A page is missed where its place becomes resident and is given up at once.
 abbrev pub MissesPage : Type 0
-MissesPage = (v : ℕ) (bytes : List ℕ) (p : Pages) → v < length p.running → page_of p v ≡ None → Misses v p (without_page (with_admitted p v bytes) v)
+MissesPage =
+    (v : ℕ) (bytes : List ℕ) (p : Pages) → v < length p.running → page_of p v ≡ None → Misses v p (without_page (with_admitted p v bytes) v)

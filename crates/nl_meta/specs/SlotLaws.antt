@@ -21,16 +21,21 @@ pub record ChangesSlot (width v i : ℕ) (old new : VirtualMap) : Type 0 where
 
 pub record OneSlot : Type 0 where
   -- what is put into a slot is there, and the other slots are as before
-  pub put : (width i : ℕ) (slot bytes : List ℕ) → length slot ≡ width → width * i + width ≤ length bytes → slot_in width i (with_slot width i slot bytes) ≡ slot
-  pub kept : (width i j : ℕ) (slot bytes : List ℕ) → length slot ≡ width → width * i + width ≤ length bytes → j ≢ i → slot_in width j (with_slot width i slot bytes) ≡ slot_in width j bytes
+  pub put : (width i : ℕ) (slot bytes : List ℕ) → length slot ≡ width → width * i + width ≤ length bytes
+      → slot_in width i (with_slot width i slot bytes) ≡ slot
+  pub kept : (width i j : ℕ) (slot bytes : List ℕ) → length slot ≡ width → width * i + width ≤ length bytes → j ≢ i
+      → slot_in width j (with_slot width i slot bytes) ≡ slot_in width j bytes
   -- a slot at another place is as before
-  pub other : (width v i : ℕ) (old new : VirtualMap) → ChangesSlot width v i old new → (u j : ℕ) → (u ≡ v → j ≡ i → ⊥) → slot_at new width u j ≡ slot_at old width u j
-  -- so is another node,
-  pub node : (v i : ℕ) (old new : VirtualMap) → ChangesSlot 256 v i old new → (n : ℕ) → (67 + n / 16 ≡ v → n % 16 ≡ i → ⊥) → bytes_of_node new n ≡ bytes_of_node old n
-  -- another place of a directory,
-  pub place : (v i : ℕ) (old new : VirtualMap) → ChangesSlot 64 v i old new → (rec : InodeRec) (k : ℕ) → (address_of_place rec k ≡ v → k % 64 ≡ i → ⊥)
+  pub other : (width v i : ℕ) (old new : VirtualMap) → ChangesSlot width v i old new → (u j : ℕ) → (u ≡ v → j ≡ i → ⊥)
+      → slot_at new width u j ≡ slot_at old width u j
+  -- another node is as before
+  pub node : (v i : ℕ) (old new : VirtualMap) → ChangesSlot 256 v i old new → (n : ℕ) → (67 + n / 16 ≡ v → n % 16 ≡ i → ⊥)
+      → bytes_of_node new n ≡ bytes_of_node old n
+  -- another place of a directory is as before
+  pub place : (v i : ℕ) (old new : VirtualMap) → ChangesSlot 64 v i old new → (rec : InodeRec) (k : ℕ)
+      → (address_of_place rec k ≡ v → k % 64 ≡ i → ⊥)
       → bytes_of_place new rec k ≡ bytes_of_place old rec k
-  -- and another pointer
+  -- another pointer is as before
   pub pointer : (v i : ℕ) (old new : VirtualMap) → ChangesSlot 16 v i old new → (rec : InodeRec) (k : ℕ)
       → (8 ≤ k → slice_index (slots_of rec) ((k - 8) / 256) ≡ v → (k - 8) % 256 ≡ i → ⊥) → pointer_at new rec k ≡ pointer_at old rec k
 

@@ -7,17 +7,18 @@ use Rattle.nl_meta.specs.Pages.{Pages, is_dirty, page_of, with_address, touched,
 abbrev pub with_page : Pages → ℕ → List ℕ → Pages
 with_page p v bytes = record p { running = slice_set p.running v (Some bytes) }
 
--- and dirty
+-- the running page of an address replaced, and dirty
 abbrev pub with_dirty : Pages → ℕ → List ℕ → Pages
 with_dirty p v bytes = record p { running = slice_set p.running v (Some bytes); dirty = with_address v p.dirty }
 
--- and resident, and touched
+-- the running page of an address replaced, resident and touched
 abbrev pub with_admitted : Pages → ℕ → List ℕ → Pages
 with_admitted p v bytes = record p { running = slice_set p.running v (Some bytes); recent = touched v p.recent }
 
--- and frozen, behind the frozen ones
+-- the running page of an address replaced, resident and touched, and its image frozen behind the frozen ones
 abbrev pub with_restored : Pages → ℕ → List ℕ → Pages
-with_restored p v bytes = record p { running = slice_set p.running v (Some bytes); recent = touched v p.recent; frozen = with_image p.frozen v bytes }
+with_restored p v bytes =
+    record p { running = slice_set p.running v (Some bytes); recent = touched v p.recent; frozen = with_image p.frozen v bytes }
 
 -- no page at an address
 abbrev pub without_page : Pages → ℕ → Pages
@@ -48,8 +49,8 @@ pub record Freshens (v : ℕ) (old new : Pages) : Type 0 where
   pub dirty : new.dirty ≡ with_address v old.dirty
   pub keeps : Keeps v old new
 
--- The running pages change, and no frozen one. Each resident page stays so. One that is not dirty afterwards was not before, and is as it was.
--- A page that became resident is none of the journal's.
+-- The running pages change, and no frozen one. Each resident page stays so. One that is not dirty afterwards was not before, and is as it
+-- was. A page that became resident is none of the journal's.
 pub record ChangesPages (old new : Pages) : Type 0 where
   pub same_frozen : new.frozen ≡ old.frozen
   pub stays : (v : ℕ) → IsSome (page_of old v) → IsSome (page_of new v)

@@ -51,7 +51,8 @@ is_super_of shape (Some rec) = rec.blocks == shape.blocks && rec.pages == shape.
 unfoldable pub stamp_fault : List Seen → Option ℕ
 stamp_fault seen = option_map (λ s. s.page) (find (λ s. not s.agrees) seen)
 
--- ---- inode: records are spelled, their direct pointers lie in the physical segment, what follows the last node is zero, and node 0 is a directory
+-- ---- inode: records are spelled, their direct pointers lie in the physical segment, what follows the last node is zero, and node 0 is
+-- a directory
 
 abbrev pub is_dir_kind : Kind → Bool
 is_dir_kind Dir = true
@@ -82,7 +83,7 @@ unfoldable pub used_nodes : Shape → VirtualMap → List (ℕ × InodeRec)
 used_nodes shape pages =
     filter (λ x. is_used_kind x.1.kind) (filter_map (λ n. option_map (λ rec. (n, rec)) (inode_at pages n)) (range_with_len 0 shape.nodes))
 
--- whether it is of a file, and the address
+-- the addresses of a used node, each with whether the node is a file
 abbrev pub addresses_of : ℕ × InodeRec → List (Bool × ℕ)
 addresses_of (n, rec) = map (λ a. (is_file_kind rec.kind, a)) (filter (λ a. not (a == 0)) (slots_of rec))
 
@@ -172,7 +173,8 @@ has_page physicals h =
 
 abbrev pub is_bad_pointer : List Seen → List Held → Held → Bool
 is_bad_pointer physicals earlier h =
-    not (nat_lt h.tag.index (div_ceil h.size 4096)) || list_any (λ e. e.pointer.stamp == h.pointer.stamp || e.pointer.name == h.pointer.name) earlier
+    not (nat_lt h.tag.index (div_ceil h.size 4096))
+    || list_any (λ e. e.pointer.stamp == h.pointer.stamp || e.pointer.name == h.pointer.name) earlier
     || not (has_page physicals h)
 
 unfoldable pub pointer_fault : List Seen → List Held → Option ℕ

@@ -10,7 +10,9 @@ use Rattle.nl_meta.specs.Walk.{walk, walk_over}
 use Rattle.nl_meta.specs.Consistent.{AllAgree, StampsRight, Consistent, ConsistentOver}
 
 abbrev pub WalkIsConsistencyOver : Type 0
-WalkIsConsistencyOver = (blocks in_block : ℕ) (pages : VirtualMap) (seen : List Seen) → (walk_over (shape_for blocks in_block) pages seen ≡ None) ↔ ConsistentOver (shape_for blocks in_block) pages seen
+WalkIsConsistencyOver =
+    (blocks in_block : ℕ) (pages : VirtualMap) (seen : List Seen)
+    → (walk_over (shape_for blocks in_block) pages seen ≡ None) ↔ ConsistentOver (shape_for blocks in_block) pages seen
 
 abbrev pub WalkIsConsistency : Type 0
 WalkIsConsistency = (image : Image) → (walk image ≡ None) ↔ Consistent image

@@ -1,3 +1,4 @@
+//! Rising lists of virtual addresses: look-up, count, and one address more.
 ghost use Rattle.std.specs.Prelude.{◌≡◌, ◌≤◌, ◌+◌, ◌++◌, ◌∷◌, ◌==◌, [], length};
 ghost use Rattle.std.specs.List.{list_any};
 ghost use Rattle.nl_meta.specs.Pages.{above, below, besides_0, first_most, most, touched, with_address};
@@ -6,6 +7,7 @@ use nl_field::AddressList;
 
 const MOST: u32 = 63;
 
+/// Whether a list has an address.
 pub(crate) fn contains(addresses: &AddressList, vaddr: u32) -> bool
     ensures { result ≡ list_any (λ a. a == vaddr) addresses.now }
 {
@@ -36,7 +38,7 @@ pub(crate) fn inserted(addresses: &AddressList, vaddr: u32) -> AddressList
     out
 }
 
-// Those below an address.
+// The addresses of a list that lie below an address.
 fn lower(addresses: &AddressList, vaddr: u32) -> AddressList
     ensures { result ≡ below vaddr addresses.now }
 {

@@ -1,3 +1,4 @@
+//! The metadata pages in memory: those that run, and beside them those that a transaction has frozen.
 ghost use Rattle.std.specs.Prelude.{◌==◌, ◌≡◌, ◌↔◌, ◌<◌, ◌≤◌, ◌+◌, ◌^◌, ◌++◌, ◌∷◌, ℕ, [], List, map, take, position, slice_index, IsNone, IsSome, IfOk, IfSome, IsTrue, Some, None, true, false, is_some, slice_index_or, slice_get, slice_set, length, filter};
 ghost use Rattle.std.specs.Borrow.{sem};
 ghost use Rattle.nl_field.specs.Bytes.{zeros};
@@ -67,6 +68,7 @@ impl Meta {
         let _dirty = &self.dirty;
     }
 
+    /// Whether the running page of an address is in memory; not where the volume has no such address.
     pub fn resident(&self, vaddr: u32) -> bool
         ensures { result ≡ is_some (page_of self.now vaddr) }
     {

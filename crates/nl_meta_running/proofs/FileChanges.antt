@@ -110,7 +110,7 @@ module _ (shape : Shape) (old new : VirtualMap) (n : ℕ) (was is : InodeRec) (b
       by (inl e) = (was, subst (λ (k : ℕ). IsNode shape old k was) (sym e) c.node_before, sym c.generation ∙ ap (λ (r : InodeRec). r.generation) (own-new rec (subst (λ (k : ℕ). IsNode shape new k rec) e f)))
       by (inr far) = (rec, node-from m rec far f, refl)
 
-  -- and the other way round
+  -- a used node of the old map is one of the new, of the same generation
   used-to : (m : ℕ) (rec : InodeRec) → IsNode shape old m rec → (r : InodeRec) × IsNode shape new m r × (r.generation ≡ rec.generation)
   used-to m rec f = by (cases_eq m n)
     where

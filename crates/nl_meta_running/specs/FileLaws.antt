@@ -22,9 +22,9 @@ pub record ChangesFile (shape : Shape) (old new : VirtualMap) (n : ℕ) (was is 
   pub file_after : is.kind ≡ File
   pub generation : is.generation ≡ was.generation
   pub direct : NamesPhysical shape is.direct
-  -- each other node, and each place for one, has the bytes that it had,
+  -- each other node, and each place for one, has the bytes that it had
   pub others : (m : ℕ) → m ≢ n → m < 16 * shape.inode_pages → bytes_of_node new m ≡ bytes_of_node old m
-  -- and each address of another node its page;
+  -- each address of another node has its page
   pub pages : (m slot a : ℕ) → m ≢ n → AddressAt shape old m slot a → new a ≡ old a
   -- the addresses of the file are good, no two are the same, and none is another node's
   pub good : (slot a : ℕ) → AddressAt shape new n slot a → GoodAddress shape new File a
@@ -37,4 +37,6 @@ pub record StaysRight (shape : Shape) (old new : VirtualMap) (n : ℕ) : Type 0 
   pub others : (k : ℕ) → k ≢ n → graph_of shape new k ≡ graph_of shape old k
 
 abbrev pub OneFileChanges : Type 0
-OneFileChanges = (shape : Shape) (old new : VirtualMap) (n : ℕ) (was is : InodeRec) → ShapeBounds shape → IsRight shape old → ChangesFile shape old new n was is → StaysRight shape old new n
+OneFileChanges =
+    (shape : Shape) (old new : VirtualMap) (n : ℕ) (was is : InodeRec) → ShapeBounds shape → IsRight shape old
+    → ChangesFile shape old new n was is → StaysRight shape old new n

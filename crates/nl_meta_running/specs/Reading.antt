@@ -14,4 +14,5 @@ stop_of (Err s) = Some s
 abbrev pub Reads : {D : Type 0} → Ghosts D → D → D → Option Stop → Type 0
 Reads g old new None = g.read_faults new ≡ g.read_faults old
 Reads g old new (Some stop.Fault) = FailuresCounted ⊤ (g.read_faults old) (g.read_faults new) ⊤
-Reads g old new (Some (stop.Lost w f)) = (g.read_faults new ≡ g.read_faults old) × ((v : ℕ) × (g.stamps old v ≡ Some w)) × (f ≡ w → ⊥) × (g.tells → ⊥)
+Reads g old new (Some (stop.Lost w f)) =
+    (g.read_faults new ≡ g.read_faults old) × ((v : ℕ) × (g.stamps old v ≡ Some w)) × (f ≡ w → ⊥) × (g.tells → ⊥)

@@ -12,7 +12,7 @@ pub record StaysRunning {D : Type 0} (g : Ghosts D) (s : D) (p : Pages) (t : D) 
   pub nodes : (n : ℕ) (rec : InodeRec) → IsNodeOf g s p n rec → IsNodeOf g t q n rec
   -- the nodes stand for the tree that they stood for
   pub graph : graph_of (g.shape t) (running_on g t q) ≡ graph_of (g.shape s) (running_on g s p)
-  -- and one call after the other leaves it
+  -- one call after the other leaves the volume as it was
   pub after : (u : D) (r : Pages) → RunsOn g t q u r → RunsOn g s p u r
 
 abbrev pub RunsStay : {D : Type 0} → Ghosts D → Type 0

@@ -1,3 +1,4 @@
+//! Pages that a call needs are made resident, and the records of used nodes read from them.
 ghost use Rattle.std.specs.Prelude.{◌≡◌, IfOk, IsSome};
 ghost use Rattle.nl_inode.specs.Nodes.{page_of_node};
 ghost use Rattle.nl_meta.specs.Pages.{page_of};

@@ -1,4 +1,4 @@
-//! Laws of the definitions. Each function stands for the law that its contract names.
+//! Laws of a volume that runs over a device: what a call leaves of it, and the change of one file. A function stands for each law.
 ghost use Rattle.nl_meta_running.specs.FileLaws.{OneFileChanges};
 ghost use Rattle.nl_meta_running.specs.RunningLaws.{RunsStay};
 

@@ -85,7 +85,7 @@ pub record DirStep (shape : Shape) (device : VirtualMap) (d : ℕ) (was is : Ino
   pub was_dir : was.kind ≡ Dir
   -- the pages that changed were the directory's, or are new
   pub own : (u : ℕ) → Has changed u → ((k : ℕ) × HasAddress was k u) ⊎ IsNew shape (running_over device old) u
-  -- and so are the addresses of the record
+  -- the addresses of the record were the directory's, or are new
   pub from : (k a : ℕ) → HasAddress is k a → HasAddress was k a ⊎ ((k ≡ row) × IsNew shape (running_over device old) a × Has changed a)
   pub generation : is.generation ≡ was.generation
 

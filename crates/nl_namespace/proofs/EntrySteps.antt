@@ -100,7 +100,7 @@ module _ (shape : Shape) (bounds : ShapeBounds shape) (device : VirtualMap) (d :
       others : (k : ℕ) → k ≢ d → graph_of shape (running_over device q) k ≡ graph_of shape (running_over device p) k
       others = put-others shape bounds device d entry p q s t state below puts
 
--- and one that was not there
+-- an entry that is put in was not there
 pub absent-step : (shape : Shape) (device : VirtualMap) (d : ℕ) (name : List ℕ) (p : Pages) → entry_at (graph_of shape (running_over device p)) d name ≡ None → EntryStep shape device d name None 0 p p
 absent-step shape device d name p none = record {
   follows = record { there = λ v h. h; frozen = refl; few = few (besides_0 p.dirty); count = refl; clean = λ c. c; pages = none-changed p };

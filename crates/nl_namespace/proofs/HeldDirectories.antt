@@ -37,7 +37,7 @@ pub record Held (shape : Shape) (device : VirtualMap) (p : Pages) (d : ℕ) (rec
   pub node_there : IsSome (page_of p (page_of_node d))
   pub there : (i : ℕ) → i < rec.size → IsSome (page_of p (address_of_place rec i))
 
--- And it has room for one more entry.
+-- A directory has room for one more entry, and all its pages are resident.
 pub record Ready (shape : Shape) (device : VirtualMap) (p : Pages) (free : Spaces) (d : ℕ) : Type 0 where
   pub rec : InodeRec
   pub held : Held shape device p d rec
@@ -159,7 +159,7 @@ module _ (shape : Shape) (bounds : ShapeBounds shape) (device : VirtualMap) (d :
       ∙ ap (λ (b : Bool). b && is_free t.pool (a - s.first)) (le-leb s.first a low)
       ∙ becomes.pool.at
 
-  -- and so is each that was
+  -- each address that was free is free
   pub free-stays : (b : ℕ) → is_free_address s b ≡ true → is_free_address t b ≡ true
   free-stays b f = by takes.given refl
     where

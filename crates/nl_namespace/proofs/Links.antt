@@ -73,7 +73,7 @@ module _ (shape : Shape) (pages : VirtualMap) where
       below true e = of_inode (ltb-true k shape.nodes e) (inode_at pages k) refl (sym (ap (λ b. node_named x (entries_in (node_from pages (cond b (inode_at pages k) None)).body)) e) ∙ at)
 
   module _ (directories : (d : ℕ) (rec : InodeRec) → IsNode shape pages d rec → rec.kind ≡ Dir → IsDirectory pages rec) where
-    -- and the other way
+    -- an entry that a directory lists is what it has under the name
     pub listed-entry : (k : ℕ) (e : EntryRec) → Lists shape pages k e → entry_at (graph_of shape pages) k e.name ≡ Some e.ino
     listed-entry k e l =
         dir-entry shape pages k l.rec l.is_node l.is_dir e.name

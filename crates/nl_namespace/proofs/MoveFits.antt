@@ -32,7 +32,7 @@ module _ (shape : Shape) (bounds : ShapeBounds shape) (device : VirtualMap) (n l
   pub origin-named : entry_at (graph_of shape (running_over device p)) n entry.name ≡ Some entry.ino → HasRoomFor 5 p → HasNamed n entry.name p s
   origin-named e room = named-fits shape bounds device p s state n rec held entry.name entry.ino e (omega (arith, room))
 
-  -- and then put in
+  -- the entry can be put in once it is taken out
   pub fits-after : HasRoomFor 5 p → entry_at (graph_of shape (running_over device p)) l name_to ≡ None → HasPlaceIn shape device p s n rec l → FitsAfter n entry l name_to p s
   fits-after room none place q after takes =
       behind-fits shape bounds device q after state2 l ready.rec ready.held (renamed entry name_to) ready.few ready.address

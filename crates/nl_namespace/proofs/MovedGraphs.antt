@@ -114,7 +114,7 @@ module _ (g0 g1 g2 g3 : Graph) (n m l : ℕ) (name name_to : List ℕ) (once : N
     unfolding node_reached
     led-to = leads path_to [] 0 refl at_to refl Led.at_root
 
-    -- and so is each node but what stood at the new name
+    -- each node is led to but what stood at the new name
     pub led-moved : (k : ℕ) → (entry_at g0 l name_to ≡ Some k → ⊥) → Led g0 k → Led g3 k
     led-moved k alive Led.at_root = Led.at_root
     led-moved k alive (Led.by_entry d j x e led) = by (led-moved d (λ stood. none_some k (sym (bare d x stood) ∙ e)) led) (cases_eq d n) (cases_eq d l) (is_same_name x name) (is_same_name x name_to)

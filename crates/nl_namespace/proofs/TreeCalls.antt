@@ -58,7 +58,7 @@ last-of-four None None (Some x) d r e = absurd (none_some x (sym e))
 last-of-four None None None true r e = absurd (none_some r (sym e))
 last-of-four None None None false r e = refl
 
--- and of the fourth of five
+-- what the fourth of five tests asks holds where none refuses
 fourth-of-five : (a b c z : Option Refusal) (d : Bool) (r : Refusal) → first_of (a ∷ b ∷ c ∷ when d r ∷ z ∷ []) ≡ None → d ≡ false
 fourth-of-five (Some x) b c z d r e = absurd (none_some x (sym e))
 fourth-of-five None (Some x) c z d r e = absurd (none_some x (sym e))

@@ -304,7 +304,7 @@ module _ (shape : Shape) (tree : Tree) (path p : Path) (x : List ℕ) (node : No
   unfolding less
   drop-count = of-parent less tree path p x node drops
 
-  -- and every other one as many
+  -- every other directory has as many entries
   pub drop-other : (q : Path) → paths_eq p q ≡ false → length (entries_of tree q) ≡ length (entries_of (without tree path) q)
   unfolding less
   drop-other q far = elsewhere less tree path p x node drops q far

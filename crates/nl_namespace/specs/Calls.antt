@@ -45,14 +45,18 @@ ChangesNames free old new (Unlink path) answer = RemovesName File old new path a
 ChangesNames free old new (Rename from to) answer = RenamesName free old new from to answer
 ChangesNames free old new _ answer = ⊥
 
--- The call answers as the tree's step does, on a volume of these numbers: it is done and the nodes stand for the tree that the step leaves, or
--- it is refused as the step refuses it, also for want of room.
+-- The call answers as the tree's step does, on a volume of these numbers: it is done and the nodes stand for the tree that the step leaves,
+-- or it is refused as the step refuses it, also for want of room.
 abbrev pub IsStep : Shape → (ℕ → List ℕ) → Graph → Tree → Call → Change → Type 0
-IsStep shape bytes_of new tree call (change.Changed lost) = ((step shape tree call).reply ≡ Done) × Represents bytes_of new (step shape tree call).tree
+IsStep shape bytes_of new tree call (change.Changed lost) =
+    ((step shape tree call).reply ≡ Done) × Represents bytes_of new (step shape tree call).tree
 IsStep shape bytes_of new tree call (change.No refusal) = step shape tree call ≡ record { reply = No refusal; bytes = []; tree = tree }
 IsStep shape bytes_of new tree call change.Fault = ⊤
 IsStep shape bytes_of new tree call (change.Lost w f) = ⊤
 
 abbrev pub ChangesInTree : Type 0
-ChangesInTree = (shape : Shape) (pages : VirtualMap) (page_of_stamp : ℕ → Option PageOfStamp) (free : Spaces) (new : Graph) (tree : Tree) (call : Call) (answer : Change)
-    → HoldsTree shape pages page_of_stamp free tree → ChangesNames free (graph_of shape pages) new call answer → IsStep shape (bytes_for page_of_stamp) new tree call answer
+ChangesInTree =
+    (shape : Shape) (pages : VirtualMap) (page_of_stamp : ℕ → Option PageOfStamp) (free : Spaces) (new : Graph) (tree : Tree) (call : Call)
+    (answer : Change)
+    → HoldsTree shape pages page_of_stamp free tree → ChangesNames free (graph_of shape pages) new call answer
+    → IsStep shape (bytes_for page_of_stamp) new tree call answer

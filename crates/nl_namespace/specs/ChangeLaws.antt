@@ -25,7 +25,8 @@ pub record StandsFor (bytes_of : ℕ → List ℕ) (graph : Graph) (tree : Tree)
 -- A node was made as the tree's step makes it, or refused as the tree refuses it, or its directory lacks room.
 abbrev pub IsMade : (ℕ → List ℕ) → Spaces → Graph → Graph → Tree → List (List ℕ) → Node → Change → Type 0
 IsMade bytes_of free old new tree path node (change.Changed _) =
-    (first_of (when (is_too_long path) Enametoolong ∷ refusal_of_new tree path ∷ []) ≡ None) × Represents bytes_of new (with_new tree path node)
+    (first_of (when (is_too_long path) Enametoolong ∷ refusal_of_new tree path ∷ []) ≡ None)
+    × Represents bytes_of new (with_new tree path node)
 IsMade bytes_of free old new tree path node (change.No refusal) =
     (first_of (when (is_too_long path) Enametoolong ∷ refusal_of_new tree path ∷ []) ≡ Some refusal)
     ⊎ ((first_of (when (is_too_long path) Enametoolong ∷ refusal_of_new tree path ∷ []) ≡ None) × LacksRoom free old path refusal)
@@ -69,14 +70,16 @@ abbrev pub RmdirsInTree : Type 0
 RmdirsInTree = (bytes_of : ℕ → List ℕ) (old new : Graph) (tree : Tree) (path : List (List ℕ)) (answer : Change)
     → StandsFor bytes_of old tree → RemovesName Dir old new path answer → IsRmdirOf tree path answer
 
--- What was under the one path is under the other, or nothing changed where both are one; or the refusal is the tree's, or the directory lacks room.
+-- What was under the one path is under the other, or nothing changed where both are one; or the refusal is the tree's, or the directory
+-- lacks room.
 abbrev pub IsRenamed : (ℕ → List ℕ) → Spaces → Graph → Graph → Tree → List (List ℕ) → List (List ℕ) → Change → Type 0
 IsRenamed bytes_of free old new tree from to (change.Changed _) =
     (first_of (when (list_any is_too_long (from ∷ to ∷ [])) Enametoolong ∷ refusal_of_rename tree from to ∷ []) ≡ None)
     × Represents bytes_of new (if paths_eq from to then tree else with_renamed tree from to)
 IsRenamed bytes_of free old new tree from to (change.No refusal) =
     (first_of (when (list_any is_too_long (from ∷ to ∷ [])) Enametoolong ∷ refusal_of_rename tree from to ∷ []) ≡ Some refusal)
-    ⊎ ((first_of (when (list_any is_too_long (from ∷ to ∷ [])) Enametoolong ∷ refusal_of_rename tree from to ∷ []) ≡ None) × LacksPlace free old from to refusal)
+    ⊎ ((first_of (when (list_any is_too_long (from ∷ to ∷ [])) Enametoolong ∷ refusal_of_rename tree from to ∷ []) ≡ None)
+    × LacksPlace free old from to refusal)
 IsRenamed bytes_of free old new tree from to change.Fault = ⊤
 IsRenamed bytes_of free old new tree from to (change.Lost w f) = ⊤
 

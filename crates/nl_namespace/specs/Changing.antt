@@ -28,7 +28,8 @@ pub record FreeFits {D : Type 0} (g : Ghosts D) (s : D) (p : Pages) (free : Spac
 -- Entries are right, once the node that lost its name, if one did, is unused.
 abbrev pub EntriesBut : Shape → VirtualMap → Option ℕ → Type 0
 EntriesBut shape pages None = EntriesRight shape pages
-EntriesBut shape pages (Some n) = (rec : InodeRec) (after : VirtualMap) → rec.kind ≡ Unused → NodeIs n rec pages after → EntriesRight shape after
+EntriesBut shape pages (Some n) =
+    (rec : InodeRec) (after : VirtualMap) → rec.kind ≡ Unused → NodeIs n rec pages after → EntriesRight shape after
 
 -- Names can be looked up, once that node is unused. Its record is what it was, and so are the pages that it has.
 pub record RunsBut {D : Type 0} (g : Ghosts D) (s : D) (p : Pages) (gone : Option ℕ) : Type 0 where
@@ -44,8 +45,8 @@ pub record FileStays {D : Type 0} (g : Ghosts D) (s : D) (p : Pages) (t : D) (q 
   pub is_node : IsNodeOf g t q n rec
   pub graph : graph_of (g.shape t) (running_on g t q) n ≡ graph_of (g.shape s) (running_on g s p) n
 
--- Names changed: at most eight pages are dirty that were not, besides address 0. The device was only read, no page was lost, the frozen pages
--- stay, and so does each file, whether it lost its name or not.
+-- Names changed: at most eight pages are dirty that were not, besides address 0. The device was only read, no page was lost, the frozen
+-- pages stay, and so does each file, whether it lost its name or not.
 pub record Changes {D : Type 0} (g : Ghosts D) (s : D) (p : Pages) (t : D) (q : Pages) (free : Spaces) (gone : Option ℕ) : Type 0 where
   pub reads : OnlyReads g s t
   pub frozen : q.frozen ≡ p.frozen
@@ -55,7 +56,7 @@ pub record Changes {D : Type 0} (g : Ghosts D) (s : D) (p : Pages) (t : D) (q : 
   -- the node that lost its name still counts as used
   pub fits : FreeFits g t q free
   pub files : (n : ℕ) (rec : InodeRec) → IsNodeOf g s p n rec → rec.kind ≡ File → FileStays g s p t q n rec
-  -- so the pointers of all files, in their order, are what they were
+  -- the pointers of all files, in their order, are what they were
   pub pointers : tagged_in (g.shape t) (running_on g t q) ≡ tagged_in (g.shape s) (running_on g s p)
 
 -- what a call leaves: all as it was, unless it was done

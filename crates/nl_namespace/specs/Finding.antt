@@ -42,9 +42,10 @@ renamed entry name = record entry { name = name }
 
 -- Once the entry is out of the one directory, it fits behind those of the other under the new name.
 abbrev pub FitsAfter : ℕ → EntryRec → ℕ → List ℕ → Pages → Spaces → Type 0
-FitsAfter dir entry to name p free = (q : Pages) (after : Spaces) → TakesOut dir entry.name p q free after → FitsBehind to (renamed entry name) q after
+FitsAfter dir entry to name p free =
+    (q : Pages) (after : Spaces) → TakesOut dir entry.name p q free after → FitsBehind to (renamed entry name) q after
 
--- It is out of the one, and stands in the other.
+-- An entry is out of one directory, and stands in another under a new name.
 pub record MovesIn (dir : ℕ) (entry : EntryRec) (to : ℕ) (name : List ℕ) (old new : Pages) (s t : Spaces) : Type 0 where
   pub between : Pages
   pub free : Spaces

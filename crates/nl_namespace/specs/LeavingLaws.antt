@@ -17,4 +17,5 @@ pub record KeepsAround {D : Type 0} (g : Ghosts D) (s : D) (p : Pages) (t : D) (
 
 abbrev pub NamesKeepAround : {D : Type 0} → Ghosts D → Type 0
 NamesKeepAround {D} g =
-    (s : D) (p : Pages) (free : Spaces) (t : D) (q : Pages) (after : Spaces) (answer : Change) → IsVolumeShape (g.shape s) → Leaves g s p free t q after answer → KeepsAround g s p t q
+    (s : D) (p : Pages) (free : Spaces) (t : D) (q : Pages) (after : Spaces) (answer : Change) → IsVolumeShape (g.shape s)
+    → Leaves g s p free t q after answer → KeepsAround g s p t q

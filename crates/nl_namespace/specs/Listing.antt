@@ -16,7 +16,7 @@ use Rattle.nl_meta_running.specs.Running.{IsNodeOf, running_on}
 use Rattle.nl_namespace.specs.declared.answer.Listing.{Listing}
 use Rattle.nl_namespace.specs.declared.answer.Listing.TheVariants as listing
 
--- by the bytes of the names
+-- an entry comes before another by the bytes of their names
 abbrev pub is_before : EntryRec → EntryRec → Bool
 is_before a b = is_lt (slice_cmp nat_cmp a.name b.name)
 

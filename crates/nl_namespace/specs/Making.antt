@@ -32,7 +32,7 @@ pub record FitsNew (n m : ℕ) (name : List ℕ) (p : Pages) (free : Spaces) : T
   pub address : rec.size % 64 ≡ 0 → HasFreeAddress free
   pub new : FreeAreNew rec p free
 
--- It has an empty record of its next generation, and the name.
+-- Node m, which was free, has an empty record of its next generation, and the name in directory n.
 pub record MakesIn (n m : ℕ) (kind : Kind) (name : List ℕ) (old new : Pages) (s t : Spaces) : Type 0 where
   pub generation : ℕ
   pub between : Pages

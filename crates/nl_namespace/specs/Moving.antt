@@ -35,7 +35,7 @@ refusal_over (file_node size pointers) (file_node other more) = None
 refusal_over (file_node size pointers) unused = None
 refusal_over unused other = None
 
--- the same of the kinds of two nodes that are there, and of the size of the second
+-- why a node cannot take the place of another, by the kinds of both and the size of the second
 abbrev pub refusal_over_record : Kind → Kind → ℕ → Option Refusal
 refusal_over_record Dir Dir size = when (nat_lt 0 size) Enotempty
 refusal_over_record Dir File size = Some Enotdir
@@ -48,12 +48,14 @@ refusal_over_record Unused kind size = None
 -- what refuses that a node that is there gets another path
 abbrev pub refusal_of_place : Graph → List (List ℕ) → List (List ℕ) → Option Refusal
 refusal_of_place graph from to =
-    first_of (when (is_directory_body (body_at graph from) && is_at_or_under from to) Einval ∷ walk_refusal graph 0 to ∷ refusal_over (body_at graph from) (body_at graph to) ∷ [])
+    first_of (when (is_directory_body (body_at graph from) && is_at_or_under from to) Einval ∷ walk_refusal graph 0 to
+    ∷ refusal_over (body_at graph from) (body_at graph to) ∷ [])
 
 -- what refuses a rename, before any room is asked for
 abbrev pub refusal_of_rename : Graph → List (List ℕ) → List (List ℕ) → Option Refusal
 refusal_of_rename graph from to =
-    first_of (when (is_too_long from || is_too_long to) Enametoolong ∷ when (is_root from || is_root to) Einval ∷ walk_refusal graph 0 from ∷ when (is_none (node_reached graph 0 from)) Enoent
+    first_of (when (is_too_long from || is_too_long to) Enametoolong ∷ when (is_root from || is_root to) Einval
+    ∷ walk_refusal graph 0 from ∷ when (is_none (node_reached graph 0 from)) Enoent
     ∷ (if paths_eq from to then None else refusal_of_place graph from to) ∷ [])
 
 -- The node has the one path in place of the other. What stood there, a file or an empty directory, lost its name.
@@ -112,8 +114,10 @@ pub record HasPlaceTo (free : Spaces) (graph : Graph) (from to : List (List ℕ)
 
 -- how a rename answers
 abbrev pub RenamesName : Spaces → Graph → Graph → List (List ℕ) → List (List ℕ) → Change → Type 0
-RenamesName free old new from to (change.Changed gone) = (refusal_of_rename old from to ≡ None) × MovesOrStays old new from to gone × (paths_eq from to ≡ false → HasPlaceTo free old from to)
-RenamesName free old new from to (change.No refusal) = (refusal_of_rename old from to ≡ Some refusal) ⊎ ((refusal_of_rename old from to ≡ None) × LacksPlace free old from to refusal)
+RenamesName free old new from to (change.Changed gone) =
+    (refusal_of_rename old from to ≡ None) × MovesOrStays old new from to gone × (paths_eq from to ≡ false → HasPlaceTo free old from to)
+RenamesName free old new from to (change.No refusal) =
+    (refusal_of_rename old from to ≡ Some refusal) ⊎ ((refusal_of_rename old from to ≡ None) × LacksPlace free old from to refusal)
 RenamesName free old new from to change.Fault = ⊤
 RenamesName free old new from to (change.Lost w f) = ⊤
 

@@ -39,7 +39,8 @@ pub record MakesName (old new : Graph) (path : List (List ℕ)) (node : Node) : 
 -- what refuses a new name, before any room is asked for
 abbrev pub refusal_of_name : Graph → List (List ℕ) → Option Refusal
 refusal_of_name graph path =
-    first_of (when (is_too_long path) Enametoolong ∷ when (is_root path) Eexist ∷ walk_refusal graph 0 path ∷ when (is_some (node_reached graph 0 path)) Eexist ∷ [])
+    first_of (when (is_too_long path) Enametoolong ∷ when (is_root path) Eexist ∷ walk_refusal graph 0 path
+    ∷ when (is_some (node_reached graph 0 path)) Eexist ∷ [])
 
 -- A directory of so many entries has no room for a new node under one more name: it has 1024; or else no node is free; or else its pages
 -- are full, and no address is free.
@@ -67,8 +68,10 @@ pub record HasPlace (free : Spaces) (graph : Graph) (path : List (List ℕ)) : T
 
 -- how a call answers that makes a node under a path
 abbrev pub MakesNode : Spaces → Graph → Graph → List (List ℕ) → Node → Change → Type 0
-MakesNode free old new path node (change.Changed gone) = (refusal_of_name old path ≡ None) × (gone ≡ None) × MakesName old new path node × HasPlace free old path
-MakesNode free old new path node (change.No refusal) = (refusal_of_name old path ≡ Some refusal) ⊎ ((refusal_of_name old path ≡ None) × LacksRoom free old path refusal)
+MakesNode free old new path node (change.Changed gone) =
+    (refusal_of_name old path ≡ None) × (gone ≡ None) × MakesName old new path node × HasPlace free old path
+MakesNode free old new path node (change.No refusal) =
+    (refusal_of_name old path ≡ Some refusal) ⊎ ((refusal_of_name old path ≡ None) × LacksRoom free old path refusal)
 MakesNode free old new path node change.Fault = ⊤
 MakesNode free old new path node (change.Lost w f) = ⊤
 
@@ -102,7 +105,7 @@ refusal_of_kind Unused (directory_node entries) = Some Eisdir
 refusal_of_kind Unused (file_node size pointers) = None
 refusal_of_kind Unused unused = None
 
--- the same of its record
+-- why a node cannot lose its name, by the kind in its record and its size
 abbrev pub refusal_of_record : Kind → Kind → ℕ → Option Refusal
 refusal_of_record Dir Dir size = when (nat_lt 0 size) Enotempty
 refusal_of_record Dir File size = Some Enotdir
@@ -117,12 +120,14 @@ refusal_of_record Unused Unused size = None
 -- what refuses that a file, or an empty directory, loses its name
 abbrev pub refusal_of_removal : Kind → Graph → List (List ℕ) → Option Refusal
 refusal_of_removal kind graph path =
-    first_of (when (is_too_long path) Enametoolong ∷ when (is_root path) (root_refusal kind) ∷ walk_refusal graph 0 path ∷ when (is_none (node_reached graph 0 path)) Enoent
+    first_of (when (is_too_long path) Enametoolong ∷ when (is_root path) (root_refusal kind) ∷ walk_refusal graph 0 path
+    ∷ when (is_none (node_reached graph 0 path)) Enoent
     ∷ refusal_of_kind kind (body_at graph path) ∷ [])
 
 -- how a call answers that takes the name from a file, or from an empty directory
 abbrev pub RemovesName : Kind → Graph → Graph → List (List ℕ) → Change → Type 0
-RemovesName kind old new path (change.Changed gone) = (refusal_of_removal kind old path ≡ None) × ((m : ℕ) × (gone ≡ Some m) × LosesName old new path m)
+RemovesName kind old new path (change.Changed gone) =
+    (refusal_of_removal kind old path ≡ None) × ((m : ℕ) × (gone ≡ Some m) × LosesName old new path m)
 RemovesName kind old new path (change.No refusal) = refusal_of_removal kind old path ≡ Some refusal
 RemovesName kind old new path change.Fault = ⊤
 RemovesName kind old new path (change.Lost w f) = ⊤

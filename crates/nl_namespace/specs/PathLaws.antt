@@ -30,7 +30,10 @@ pub record ListsUnder (bytes_of : ℕ → List ℕ) (graph : Graph) (tree : Tree
 
 -- for a directory whose names differ
 abbrev pub ListsInTree : Type 0
-ListsInTree = (bytes_of : ℕ → List ℕ) (graph : Graph) (tree : Tree) (path : List (List ℕ)) (n : ℕ) (entries : List EntryRec) (count : ℕ) (text : List ℕ)
-    → Represents bytes_of graph tree → node_reached graph 0 path ≡ Some n → (graph n).body ≡ directory_node (map (λ e. (e.name, e.ino)) entries)
+ListsInTree =
+    (bytes_of : ℕ → List ℕ) (graph : Graph) (tree : Tree) (path : List (List ℕ)) (n : ℕ) (entries : List EntryRec) (count : ℕ)
+    (text : List ℕ)
+    → Represents bytes_of graph tree → node_reached graph 0 path ≡ Some n
+    → (graph n).body ≡ directory_node (map (λ e. (e.name, e.ino)) entries)
     → ((e f : EntryRec) → Has entries e → Has entries f → e.name ≡ f.name → e ≡ f)
     → (lists : IsListing graph entries count text) → ListsUnder bytes_of graph tree path lists.listed

@@ -34,7 +34,8 @@ pub record IsParentAt {D : Type 0} (g : Ghosts D) (s : D) (p : Pages) (path : Li
   pub name : List ℕ
   pub last : slice_get path (length path - 1) ≡ Some name
   pub named : NameIn (graph_of (g.shape s) (running_on g s p)) path n name
-  pub walked : walk_refusal (graph_of (g.shape s) (running_on g s p)) 0 path ≡ walk_refusal (graph_of (g.shape s) (running_on g s p)) n (name ∷ [])
+  pub walked : walk_refusal (graph_of (g.shape s) (running_on g s p)) 0 path
+      ≡ walk_refusal (graph_of (g.shape s) (running_on g s p)) n (name ∷ [])
   pub used : IsUsed g s p n
 
 abbrev pub IsParent : {D : Type 0} → Ghosts D → D → Pages → List (List ℕ) → Parent → Type 0

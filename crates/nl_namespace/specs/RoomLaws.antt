@@ -14,4 +14,6 @@ pub record IsCrowded (shape : Shape) (pages : VirtualMap) (free : Spaces) : Type
   pub pool : NoneFree free.pool → (a : ℕ) → 67 + shape.inode_pages ≤ a → a < shape.vaddrs → Uses shape pages a
 
 abbrev pub NoneFreeIsCrowded : Type 0
-NoneFreeIsCrowded = (shape : Shape) (pages : VirtualMap) (free : Spaces) → NodesRight shape pages → NodesAreFree shape pages free → PoolIsFree shape pages free → IsCrowded shape pages free
+NoneFreeIsCrowded =
+    (shape : Shape) (pages : VirtualMap) (free : Spaces) → NodesRight shape pages → NodesAreFree shape pages free
+    → PoolIsFree shape pages free → IsCrowded shape pages free

@@ -10,7 +10,8 @@ use Rattle.nl_tree.specs.Charges.{data_charge}
 use Rattle.nl_tree.specs.Tree.{Tree}
 
 -- The pages are right and represent the tree, its pages of files fit, and what is free is exactly what the pages do not use.
-pub record HoldsTree (shape : Shape) (pages : VirtualMap) (page_of_stamp : ℕ → Option PageOfStamp) (free : Spaces) (tree : Tree) : Type 0 where
+pub record HoldsTree (shape : Shape) (pages : VirtualMap) (page_of_stamp : ℕ → Option PageOfStamp) (free : Spaces)
+    (tree : Tree) : Type 0 where
   pub right : RightFor shape pages page_of_stamp
   pub represents : PagesRepresent shape pages page_of_stamp tree
   pub data_fits : data_charge tree ≤ shape.cap

@@ -1,11 +1,14 @@
+//! What a look at a path, and the listing of a directory, answer.
 use nl_tree::Refusal;
 
 /// What a path leads to.
 #[derive(Clone, Copy, Debug, PartialEq, Eq)]
 pub enum Look {
+    /// The path leads to the node of this number.
     At(u32),
     /// The last name is missing, and no other.
     Missing,
+    /// The path leads nowhere, for this cause.
     No(Refusal),
     /// A read failed.
     Fault,
@@ -16,7 +19,7 @@ pub enum Look {
 /// How the names of a directory were listed.
 #[derive(Clone, Copy, Debug, PartialEq, Eq)]
 pub enum Listing {
-    /// So many.
+    /// So many names were listed.
     Listed(u32),
     /// A read failed.
     Fault,
@@ -29,6 +32,7 @@ pub enum Listing {
 pub enum Change {
     /// Done, and the node that lost its name, if one did.
     Changed { gone: Option<u32> },
+    /// Nothing changed, for this cause.
     No(Refusal),
     /// A read failed.
     Fault,

@@ -1,3 +1,4 @@
+//! The calls that change names, each led to the function that does it.
 ghost use Rattle.nl_dir.specs.Directory.{HasRoomFor};
 ghost use Rattle.nl_meta.specs.Nodes.{graph_of};
 ghost use Rattle.nl_namespace.specs.Calls.{ChangesNames, HasNames, IsOfNames};
@@ -31,7 +32,8 @@ pub fn change<D: VirtualPages>(
     requires names { HasNames call.now }
     requires of_names { IsOfNames call.now }
     ensures formed { D.formed device.new }
-    ensures answer { ChangesNames nodes.old (graph_of (D.shape device.old) (running_on D.Counts device.old meta.old)) (graph_of (D.shape device.new) (running_on D.Counts device.new meta.new)) call.now result }
+    ensures answer { ChangesNames nodes.old (graph_of (D.shape device.old) (running_on D.Counts device.old meta.old))
+        (graph_of (D.shape device.new) (running_on D.Counts device.new meta.new)) call.now result }
     ensures left { Leaves D.Counts device.old meta.old nodes.old device.new meta.new nodes.new result }
     ensures reads { Reads D.Counts device.old device.new (change_stop result) }
 {

@@ -1,3 +1,4 @@
+//! An entry is put into a directory or taken out, with the record written back and the address of its last page taken or given.
 ghost use Rattle.std.specs.Prelude.{◌≡◌, IsSome, IsTrue};
 ghost use Rattle.nl_field.specs.Inode.{is_inode};
 ghost use Rattle.nl_meta.specs.Pages.{has_room, page_of};

@@ -1,3 +1,4 @@
+//! What stands at a path: the directory that has its last name, the entry, and the node that it names.
 ghost use Rattle.std.specs.Prelude.{◌≡◌, ◌≢◌, [], IfOk};
 ghost use Rattle.nl_namespace.specs.Finding.{IfFound, IsFound};
 ghost use Rattle.nl_meta_running.specs.Reading.{Reads, stop_of};

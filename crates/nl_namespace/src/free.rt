@@ -1,3 +1,4 @@
+//! What is free for a new node or a new page of a directory, and what there is not enough of.
 ghost use Rattle.std.specs.Prelude.{◌≡◌, ◌≤◌, IfErr, IfOk, MatchBool, MatchOption};
 ghost use Rattle.nl_inode.specs.Free.{IsLeast, NoneFree};
 ghost use Rattle.nl_namespace.specs.Entering.{HasFreeAddress};

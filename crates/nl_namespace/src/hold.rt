@@ -1,3 +1,4 @@
+//! The pages of a directory are made resident.
 ghost use Rattle.std.specs.Prelude.{IfOk};
 ghost use Rattle.nl_namespace.specs.Holding.{HasEntries};
 ghost use Rattle.nl_meta_running.specs.Reading.{Reads, stop_of};

@@ -1,4 +1,4 @@
-//! Laws of the definitions. Each function stands for the law that its contract names.
+//! Laws of paths and names: what the calls that look and change answer is what the step of the tree does. A function stands for each law.
 ghost use Rattle.nl_namespace.specs.Calls.{ChangesInTree};
 ghost use Rattle.nl_namespace.specs.ChangeLaws.{MakesInTree, RemovesInTree, RenamesInTree, RmdirsInTree, UnlinksInTree};
 ghost use Rattle.nl_namespace.specs.LeavingLaws.{NamesKeepAround};
@@ -34,8 +34,8 @@ pub fn renames_in_tree()
     ensures { RenamesInTree }
 {}
 
-/// A call that changes names answers exactly as the step of the tree for which the pages stand, also where there is no room and of what, and
-/// leaves the nodes of the tree that the step leaves.
+/// A call that changes names answers exactly as the step of the tree for which the pages stand, also where there is no room and of what,
+/// and leaves the nodes of the tree that the step leaves.
 pub fn changes_in_tree()
     ensures { ChangesInTree }
 {}

@@ -1,3 +1,4 @@
+//! An empty directory, or an empty file, is made under a path.
 ghost use Rattle.std.specs.Prelude.{◌≡◌, ◌≢◌, ◌-◌, ◌&&◌, nat_le, None, Some, IsTrue, length, slice_get};
 ghost use Rattle.nl_dir.specs.Directory.{HasRoomFor};
 ghost use Rattle.nl_meta.specs.Nodes.{graph_of};
@@ -38,7 +39,8 @@ pub fn make<D: VirtualPages>(
     requires names { AreNames path.now }
     requires used { kind ≢ Kind.Unused }
     ensures formed { D.formed device.new }
-    ensures answer { MakesNode nodes.old (graph_of (D.shape device.old) (running_on D.Counts device.old meta.old)) (graph_of (D.shape device.new) (running_on D.Counts device.new meta.new)) path.now (empty_node kind) result }
+    ensures answer { MakesNode nodes.old (graph_of (D.shape device.old) (running_on D.Counts device.old meta.old))
+        (graph_of (D.shape device.new) (running_on D.Counts device.new meta.new)) path.now (empty_node kind) result }
     ensures left { Leaves D.Counts device.old meta.old nodes.old device.new meta.new nodes.new result }
     ensures reads { Reads D.Counts device.old device.new (change_stop result) }
 {
@@ -84,7 +86,8 @@ fn make_at<D: VirtualPages>(
     requires unrefused { refusal_of_name (graph_of (D.shape device.old) (running_on D.Counts device.old meta.old)) path.now ≡ None }
     requires used { kind ≢ Kind.Unused }
     ensures formed { D.formed device.new }
-    ensures answer { MakesNode nodes.old (graph_of (D.shape device.old) (running_on D.Counts device.old meta.old)) (graph_of (D.shape device.new) (running_on D.Counts device.new meta.new)) path.now (empty_node kind) result }
+    ensures answer { MakesNode nodes.old (graph_of (D.shape device.old) (running_on D.Counts device.old meta.old))
+        (graph_of (D.shape device.new) (running_on D.Counts device.new meta.new)) path.now (empty_node kind) result }
     ensures left { Leaves D.Counts device.old meta.old nodes.old device.new meta.new nodes.new result }
     ensures reads { Reads D.Counts device.old device.new (change_stop result) }
 {

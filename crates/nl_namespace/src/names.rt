@@ -1,3 +1,4 @@
+//! The names of a directory are listed, in the order of their bytes.
 ghost use Rattle.std.specs.Prelude.{◌≡◌, ◌<◌, ◌≤◌, ◌+◌, ◌++◌, ◌∷◌, [], ℕ, IfOk, length};
 ghost use Rattle.nl_field.specs.Numbers.{max_bytes};
 ghost use Rattle.nl_meta.specs.Nodes.{entries_of_inode, graph_of};
@@ -59,7 +60,8 @@ fn print_all<D: VirtualPages>(
     requires directory { IsDirectoryOf D.Counts device.old meta.old rec.now }
     requires nothing { out.old ≡ [] }
     ensures formed { D.formed device.new }
-    ensures listed { IfOk result (λ n. IsListing (graph_of (D.shape device.old) (running_on D.Counts device.old meta.old)) (entries_of_inode (running_on D.Counts device.old meta.old) rec.now) n out.new) }
+    ensures listed { IfOk result (λ n. IsListing (graph_of (D.shape device.old) (running_on D.Counts device.old meta.old))
+        (entries_of_inode (running_on D.Counts device.old meta.old) rec.now) n out.new) }
     ensures kept { RunsOn D.Counts device.old meta.old device.new meta.new }
     ensures reads { Reads D.Counts device.old device.new (stop_of result) }
 {
@@ -101,7 +103,8 @@ fn print_place<D: VirtualPages>(
     requires below { place < rec.now.size }
     requires room { length out.old + 57 ≤ max_bytes }
     ensures formed { D.formed device.new }
-    ensures printed { IfOk result (λ u. PrintsPlace (graph_of (D.shape device.old) (running_on D.Counts device.old meta.old)) (entries_of_inode (running_on D.Counts device.old meta.old) rec.now) place out.old out.new) }
+    ensures printed { IfOk result (λ u. PrintsPlace (graph_of (D.shape device.old) (running_on D.Counts device.old meta.old))
+        (entries_of_inode (running_on D.Counts device.old meta.old) rec.now) place out.old out.new) }
     ensures short { IfOk result (λ u. length out.new ≤ length out.old + 57) }
     ensures kept { RunsOn D.Counts device.old meta.old device.new meta.new }
     ensures reads { Reads D.Counts device.old device.new (stop_of result) }

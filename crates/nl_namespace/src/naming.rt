@@ -1,3 +1,4 @@
+//! A free node gets a record and a name.
 ghost use Rattle.std.specs.Prelude.{◌≡◌, ◌≢◌, ◌&&◌, nat_le, IsTrue, length};
 ghost use Rattle.nl_field.specs.Names.{is_name};
 ghost use Rattle.nl_field.specs.Numbers.{max_name};

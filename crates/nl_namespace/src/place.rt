@@ -1,3 +1,4 @@
+//! Where the last name of a path stands, or would stand.
 ghost use Rattle.std.specs.Prelude.{◌≡◌, ◌≢◌, [], IfOk};
 ghost use Rattle.nl_namespace.specs.Placing.{Enters, IfEntered, IfHeld, IsParent, IsSpot};
 ghost use Rattle.nl_meta_running.specs.Reading.{Reads, stop_of};

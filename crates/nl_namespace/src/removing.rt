@@ -1,3 +1,4 @@
+//! A file, or an empty directory, loses its name.
 ghost use Rattle.std.specs.Prelude.{◌≡◌, ◌≢◌, Some, false};
 ghost use Rattle.nl_dir.specs.Directory.{HasRoomFor};
 ghost use Rattle.nl_meta.specs.Nodes.{graph_of};
@@ -34,7 +35,8 @@ pub fn remove<D: VirtualPages>(
     requires room { HasRoomFor 8 meta.old }
     requires used { kind ≢ Kind.Unused }
     ensures formed { D.formed device.new }
-    ensures answer { RemovesName kind (graph_of (D.shape device.old) (running_on D.Counts device.old meta.old)) (graph_of (D.shape device.new) (running_on D.Counts device.new meta.new)) path.now result }
+    ensures answer { RemovesName kind (graph_of (D.shape device.old) (running_on D.Counts device.old meta.old))
+        (graph_of (D.shape device.new) (running_on D.Counts device.new meta.new)) path.now result }
     ensures left { Leaves D.Counts device.old meta.old nodes.old device.new meta.new nodes.new result }
     ensures reads { Reads D.Counts device.old device.new (change_stop result) }
 {
@@ -75,7 +77,8 @@ fn remove_at<D: VirtualPages>(
     requires short { is_too_long path.now ≡ false }
     requires used { kind ≢ Kind.Unused }
     ensures formed { D.formed device.new }
-    ensures answer { RemovesName kind (graph_of (D.shape device.old) (running_on D.Counts device.old meta.old)) (graph_of (D.shape device.new) (running_on D.Counts device.new meta.new)) path.now result }
+    ensures answer { RemovesName kind (graph_of (D.shape device.old) (running_on D.Counts device.old meta.old))
+        (graph_of (D.shape device.new) (running_on D.Counts device.new meta.new)) path.now result }
     ensures left { Leaves D.Counts device.old meta.old nodes.old device.new meta.new nodes.new result }
     ensures reads { Reads D.Counts device.old device.new (change_stop result) }
 {

@@ -1,3 +1,4 @@
+//! A file or a directory gets another path.
 ghost use Rattle.std.specs.Prelude.{◌≡◌, ◌≢◌, ◌≤◌, MatchBool, MatchOption, false};
 ghost use Rattle.nl_dir.specs.Directory.{HasRoomFor};
 ghost use Rattle.nl_meta.specs.Nodes.{graph_of};
@@ -41,7 +42,8 @@ pub fn rename<D: VirtualPages>(
     requires room { HasRoomFor 8 meta.old }
     requires names { AreNames to.now }
     ensures formed { D.formed device.new }
-    ensures answer { RenamesName nodes.old (graph_of (D.shape device.old) (running_on D.Counts device.old meta.old)) (graph_of (D.shape device.new) (running_on D.Counts device.new meta.new)) from.now to.now result }
+    ensures answer { RenamesName nodes.old (graph_of (D.shape device.old) (running_on D.Counts device.old meta.old))
+        (graph_of (D.shape device.new) (running_on D.Counts device.new meta.new)) from.now to.now result }
     ensures left { Leaves D.Counts device.old meta.old nodes.old device.new meta.new nodes.new result }
     ensures reads { Reads D.Counts device.old device.new (change_stop result) }
 {
@@ -88,7 +90,8 @@ fn rename_to<D: VirtualPages>(
     requires other { paths_eq from.now to.now ≡ false }
     requires not_under { old.now.node.kind ≡ Dir → is_at_or_under from.now to.now ≡ false }
     ensures formed { D.formed device.new }
-    ensures answer { RenamesName nodes.old (graph_of (D.shape device.old) (running_on D.Counts device.old meta.old)) (graph_of (D.shape device.new) (running_on D.Counts device.new meta.new)) from.now to.now result }
+    ensures answer { RenamesName nodes.old (graph_of (D.shape device.old) (running_on D.Counts device.old meta.old))
+        (graph_of (D.shape device.new) (running_on D.Counts device.new meta.new)) from.now to.now result }
     ensures left { Leaves D.Counts device.old meta.old nodes.old device.new meta.new nodes.new result }
     ensures reads { Reads D.Counts device.old device.new (change_stop result) }
 {

@@ -1,3 +1,4 @@
+//! A path is walked from node 0, name by name.
 ghost use Rattle.std.specs.Prelude.{◌≡◌, IfOk};
 ghost use Rattle.nl_meta.specs.Nodes.{graph_of};
 ghost use Rattle.nl_namespace.specs.Paths.{IfAt, Looks};

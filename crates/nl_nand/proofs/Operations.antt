@@ -72,7 +72,7 @@ module _ {m n : MemNand} {low high : ℕ} {value : Page} (noted : Noted (log_of 
   crash : CrashLeaves clock_of contents_of left_of low high value m n
   crash = record { later = noted.later; each = noted_each noted; keeps = noted_keeps noted }
 
-  -- it failed, and changed no page
+  -- the operation failed, and changed no page
   pub operated_failed : contents_of n ≡ contents_of m → n.geometry ≡ m.geometry → n.clock ≡ m.clock → n.read_faults ≡ m.read_faults
       → m.write_faults ≤ n.write_faults → n.write_faults ≡ saturated (m.write_faults + 1)
       → (plan_of m).stopped ≡ None → plan_of n ≡ begun low high value (plan_of m) → OperationFails (plan_of m) → room_of m ≤ room_of n + 1
@@ -97,7 +97,7 @@ module _ {m n : MemNand} {low high : ℕ} {value : Page} (noted : Noted (log_of 
     });
   })
 
-  -- it finished
+  -- the operation finished
   pub operated_done : Filled low high value (contents_of m) (contents_of n) → n.geometry ≡ m.geometry → n.clock ≡ saturated (m.clock + 1) → n.read_faults ≡ m.read_faults → n.write_faults ≡ m.write_faults
       → (plan_of m).stopped ≡ None → plan_of n ≡ begun low high value (plan_of m) → (OperationFails (plan_of m) → ⊥) → room_of m ≤ room_of n + 1
       → (v : Page) → value ≡ v → Operated low high v m n write.Done

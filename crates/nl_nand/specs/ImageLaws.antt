@@ -23,18 +23,22 @@ all_from : (pages : List Page) → ((p : ℕ) → IsTrue (is_page (get_or pages 
 all_from [] each = refl
 all_from (x ∷ xs) each = and_both (is_page x) (list_all is_page xs) (each zero) (all_from xs (λ p. each (suc p)))
 
-pub image_from : (image : Image) → length image.contents ≡ image.blocks * image.pages → ((p : ℕ) → IsTrue (is_page (page_at image p))) → IsTrue (is_image image)
+pub image_from : (image : Image) → length image.contents ≡ image.blocks * image.pages
+    → ((p : ℕ) → IsTrue (is_page (page_at image p))) → IsTrue (is_image image)
 unfolding is_image
 image_from image size each = and_both (length image.contents == image.blocks * image.pages) (list_all is_page image.contents)
     (eq-eqb (length image.contents) (image.blocks * image.pages) size) (all_from image.contents each)
 
 pub image_size : (image : Image) → IsTrue (is_image image) → length image.contents ≡ image.blocks * image.pages
 unfolding is_image
-image_size image is = eqb-true (length image.contents) (image.blocks * image.pages) (and_left (length image.contents == image.blocks * image.pages) (list_all is_page image.contents) is)
+image_size image is =
+    eqb-true (length image.contents) (image.blocks * image.pages)
+    (and_left (length image.contents == image.blocks * image.pages) (list_all is_page image.contents) is)
 
 pub image_page : (image : Image) → IsTrue (is_image image) → (p : ℕ) → IsTrue (is_page (page_at image p))
 unfolding is_image
-image_page image is = all_at image.contents (and_right (length image.contents == image.blocks * image.pages) (list_all is_page image.contents) is)
+image_page image is =
+    all_at image.contents (and_right (length image.contents == image.blocks * image.pages) (list_all is_page image.contents) is)
 
 filled_each : {low high : ℕ} {value : Page} {old c : Image} → Filled low high value old c → (p : ℕ)
     → (page_at c p ≡ page_at old p) ⊎ ((low ≤ p) × (p < high) × ((page_at c p ≡ value) ⊎ (page_at c p ≡ uncorrectable)))
@@ -53,11 +57,12 @@ filled_cut filled = record { shape = filled.shape; each = filled_each filled }
 pub same_shape : (image : Image) → SameShape image image
 same_shape image = record { same_blocks = refl; same_pages = refl; same_length = refl }
 
--- so does one that changed nothing
+-- an operation cut short may have changed nothing
 pub nothing_cut : {low high : ℕ} {value : Page} (image : Image) → Cut low high value image image
 nothing_cut image = record { shape = same_shape image; each = λ p. inl refl }
 
-pub cut_fits : {low high : ℕ} {value : Page} {old c : Image} → Cut low high value old c → IsTrue (is_page value) → IsTrue (is_image old) → IsTrue (is_image c)
+pub cut_fits : {low high : ℕ} {value : Page} {old c : Image} → Cut low high value old c → IsTrue (is_page value)
+    → IsTrue (is_image old) → IsTrue (is_image c)
 cut_fits {low} {high} {value} {old} {c} cut page is = image_from c size each
   where
     size : length c.contents ≡ c.blocks * c.pages

@@ -19,7 +19,7 @@ pub record ImageOf (geometry : Geometry) (image : Image) : Type 0 where
   pub pages : image.pages ≡ geometry.pages
   pub whole : IsTrue (is_image image)
 
--- as many blocks and pages
+-- two images have as many blocks and as many pages
 pub record SameShape (old new : Image) : Type 0 where
   pub same_blocks : new.blocks ≡ old.blocks
   pub same_pages : new.pages ≡ old.pages
@@ -57,7 +57,8 @@ pub record Filled (low high : ℕ) (value : Page) (old new : Image) : Type 0 whe
 -- is uncorrectable, and no other page changed.
 pub record Cut (low high : ℕ) (value : Page) (old new : Image) : Type 0 where
   pub shape : SameShape old new
-  pub each : (p : ℕ) → (page_at new p ≡ page_at old p) ⊎ ((low ≤ p) × (p < high) × ((page_at new p ≡ value) ⊎ (page_at new p ≡ uncorrectable)))
+  pub each : (p : ℕ) → (page_at new p ≡ page_at old p)
+      ⊎ ((low ≤ p) × (p < high) × ((page_at new p ≡ value) ⊎ (page_at new p ≡ uncorrectable)))
 
 -- what a finished or a failed operation leaves
 abbrev pub Leaves : ℕ → ℕ → Page → Image → WriteAnswer → Image → Type 0
@@ -81,13 +82,15 @@ pub record SameLeft {M : Type 0} (left : M → ℕ → Image → Type 0) (old ne
   pub no_fewer : (m : ℕ) (c : Image) → left old m c → left new m c
 
 -- the medium has what it had before the call
-pub record Unchanged {M : Type 0} (geometry : M → Geometry) (contents : M → Image) (left : M → ℕ → Image → Type 0) (old new : M) : Type 0 where
+pub record Unchanged {M : Type 0} (geometry : M → Geometry) (contents : M → Image) (left : M → ℕ → Image → Type 0)
+    (old new : M) : Type 0 where
   pub same_geometry : geometry new ≡ geometry old
   pub same_contents : contents new ≡ contents old
   pub same_left : SameLeft left old new
 
 -- the medium was read, and nothing else was done to it
-pub record OnlyReads {M : Type 0} (geometry : M → Geometry) (contents : M → Image) (clock write_faults : M → ℕ) (left : M → ℕ → Image → Type 0) (old new : M) : Type 0 where
+pub record OnlyReads {M : Type 0} (geometry : M → Geometry) (contents : M → Image) (clock write_faults : M → ℕ)
+    (left : M → ℕ → Image → Type 0) (old new : M) : Type 0 where
   pub same_geometry : geometry new ≡ geometry old
   pub same_contents : contents new ≡ contents old
   pub same_left : SameLeft left old new
@@ -96,7 +99,8 @@ pub record OnlyReads {M : Type 0} (geometry : M → Geometry) (contents : M → 
 
 -- A program or an erase was answered so: the clock counts it where it finished and the failed writes where it failed, and
 -- the geometry and the failed reads are as they were.
-pub record OperationCounted {M : Type 0} (geometry : M → Geometry) (clock read_faults write_faults : M → ℕ) (old new : M) (answer : WriteAnswer) : Type 0 where
+pub record OperationCounted {M : Type 0} (geometry : M → Geometry) (clock read_faults write_faults : M → ℕ) (old new : M)
+    (answer : WriteAnswer) : Type 0 where
   pub same_geometry : geometry new ≡ geometry old
   pub same_read_faults : read_faults new ≡ read_faults old
   pub ticks : clock new ≡ ticked (clock old) answer
@@ -111,7 +115,8 @@ block_end geometry block = block_start geometry block + geometry.pages
 
 -- What a crash may have left since `old`, where one operation ran from `old` to `new`: at the moment before it what a cut
 -- one leaves, and at the moment after it what there is; and still all that it may have left before.
-pub record CrashLeaves {M : Type 0} (clock : M → ℕ) (contents : M → Image) (left : M → ℕ → Image → Type 0) (low high : ℕ) (value : Page) (old new : M) : Type 0 where
+pub record CrashLeaves {M : Type 0} (clock : M → ℕ) (contents : M → Image) (left : M → ℕ → Image → Type 0) (low high : ℕ)
+    (value : Page) (old new : M) : Type 0 where
   pub later : clock old ≤ clock new
   pub each : (m : ℕ) (c : Image) → left new m c → left old m c
       ⊎ (((m ≡ clock old) × Cut low high value (contents old) c) ⊎ ((m ≡ clock new) × (c ≡ contents new)))

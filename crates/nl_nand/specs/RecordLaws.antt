@@ -9,7 +9,7 @@ use Rattle.nl_nand.specs.declared.record.Entry.{Entry}
 use Rattle.nl_nand.specs.declared.record.Entry.TheVariants as entry
 use Rattle.nl_nand.specs.ImageLaws.{cut_fits}
 
--- the same as a fact
+-- a record that a medium may have, as a fact and not as a test
 abbrev pub IsHistory : List Entry → Image → ℕ → Type 0
 IsHistory [] now clock = IsTrue (is_image now)
 IsHistory (e ∷ older) now clock =
@@ -30,7 +30,8 @@ history_from [] now clock is = is
 history_from (e ∷ older) now clock is =
     let order : IsTrue (nat_le (moment_of e) clock) = let le = is.2 in search rules in
     both (is_image now && is_page (value_in e now) && nat_le (moment_of e) clock) (is_history older (undone e now) (moment_of e))
-    (both (is_image now && is_page (value_in e now)) (nat_le (moment_of e) clock) (both (is_image now) (is_page (value_in e now)) is.0 is.1) order)
+    (both (is_image now && is_page (value_in e now)) (nat_le (moment_of e) clock)
+    (both (is_image now) (is_page (value_in e now)) is.0 is.1) order)
     (history_from older (undone e now) (moment_of e) is.3)
 
 order_from : (a b : ℕ) → IsTrue (nat_le a b) → a ≤ b
@@ -40,12 +41,15 @@ pub history_is : (h : List Entry) (now : Image) (clock : ℕ) → IsTrue (is_his
 unfolding is_history
 history_is [] now clock is = is
 history_is (e ∷ older) now clock is =
-    let three = first (is_image now && is_page (value_in e now) && nat_le (moment_of e) clock) (is_history older (undone e now) (moment_of e)) is in
+    let three = first (is_image now && is_page (value_in e now) && nat_le (moment_of e) clock)
+    (is_history older (undone e now) (moment_of e)) is in
     let two = first (is_image now && is_page (value_in e now)) (nat_le (moment_of e) clock) three in (
       first (is_image now) (is_page (value_in e now)) two,
       second (is_image now) (is_page (value_in e now)) two,
       order_from (moment_of e) clock (second (is_image now && is_page (value_in e now)) (nat_le (moment_of e) clock) three),
-      history_is older (undone e now) (moment_of e) (second (is_image now && is_page (value_in e now) && nat_le (moment_of e) clock) (is_history older (undone e now) (moment_of e)) is),
+      history_is older (undone e now) (moment_of e)
+          (second (is_image now && is_page (value_in e now) && nat_le (moment_of e) clock)
+          (is_history older (undone e now) (moment_of e)) is),
     )
 
 -- what there is now
@@ -63,7 +67,8 @@ unfolding LeftBy
 no_later [] now clock m c history l = le_of_eq l.0
 no_later (e ∷ older) now clock m c history (inl here) = le_of_eq here.0
 no_later (e ∷ older) now clock m c history (inr (inl cut)) = le_trans (le_of_eq cut.0) history.2
-no_later (e ∷ older) now clock m c history (inr (inr past)) = le_trans (no_later older (undone e now) (moment_of e) m c history.3 past) history.2
+no_later (e ∷ older) now clock m c history (inr (inr past)) =
+    le_trans (no_later older (undone e now) (moment_of e) m c history.3 past) history.2
 
 undone_blocks : (e : Entry) (now : Image) → (undone e now).blocks ≡ now.blocks
 undone_blocks (entry.Programmed page moment) now = refl
@@ -75,13 +80,22 @@ undone_pages (entry.Programmed page moment) now = refl
 undone_pages (entry.Erased low cells moment) now = refl
 undone_pages (entry.Failed tried moment) now = refl
 
-pub left_fits : (g : Geometry) (h : List Entry) (now : Image) (clock m : ℕ) (c : Image) → now.blocks ≡ g.blocks → now.pages ≡ g.pages → IsHistory h now clock → LeftBy h now clock m c
+pub left_fits : (g : Geometry) (h : List Entry) (now : Image) (clock m : ℕ) (c : Image) → now.blocks ≡ g.blocks
+    → now.pages ≡ g.pages → IsHistory h now clock → LeftBy h now clock m c
     → ImageOf g c
 unfolding LeftBy
 left_fits g [] now clock m c blocks pages history l =
-    record { blocks = ap (λ (i : Image). i.blocks) l.1 ∙ blocks; pages = ap (λ (i : Image). i.pages) l.1 ∙ pages; whole = ap is_image l.1 ∙ history }
+    record {
+      blocks = ap (λ (i : Image). i.blocks) l.1 ∙ blocks;
+      pages = ap (λ (i : Image). i.pages) l.1 ∙ pages;
+      whole = ap is_image l.1 ∙ history;
+    }
 left_fits g (e ∷ older) now clock m c blocks pages history (inl here) =
-    record { blocks = ap (λ (i : Image). i.blocks) here.1 ∙ blocks; pages = ap (λ (i : Image). i.pages) here.1 ∙ pages; whole = ap is_image here.1 ∙ history.0 }
+    record {
+      blocks = ap (λ (i : Image). i.blocks) here.1 ∙ blocks;
+      pages = ap (λ (i : Image). i.pages) here.1 ∙ pages;
+      whole = ap is_image here.1 ∙ history.0;
+    }
 left_fits g (e ∷ older) now clock m c blocks pages history (inr (inl cut)) = record {
   blocks = cut.1.shape.same_blocks ∙ undone_blocks e now ∙ blocks;
   pages = cut.1.shape.same_pages ∙ undone_pages e now ∙ pages;
@@ -106,9 +120,12 @@ legal g is = ⊎_elim (λ h. inl h) (λ h. inr (both_zero g h)) (or_cases (is_le
 pub not_later : (h : List Entry) (now : Image) (clock m : ℕ) (c : Image) → IsTrue (is_history h now clock) → LeftBy h now clock m c → m ≤ clock
 not_later h now clock m c history l = no_later h now clock m c (history_is h now clock history) l
 
-pub now_fits : (g : Geometry) (h : List Entry) (now : Image) (clock : ℕ) → now.blocks ≡ g.blocks → now.pages ≡ g.pages → IsTrue (is_history h now clock) → ImageOf g now
-now_fits g h now clock blocks pages history = record { blocks = blocks; pages = pages; whole = history_now h now clock (history_is h now clock history) }
+pub now_fits : (g : Geometry) (h : List Entry) (now : Image) (clock : ℕ) → now.blocks ≡ g.blocks → now.pages ≡ g.pages
+    → IsTrue (is_history h now clock) → ImageOf g now
+now_fits g h now clock blocks pages history =
+    record { blocks = blocks; pages = pages; whole = history_now h now clock (history_is h now clock history) }
 
-pub all_fit : (g : Geometry) (h : List Entry) (now : Image) (clock m : ℕ) (c : Image) → now.blocks ≡ g.blocks → now.pages ≡ g.pages → IsTrue (is_history h now clock) → LeftBy h now clock m c
+pub all_fit : (g : Geometry) (h : List Entry) (now : Image) (clock m : ℕ) (c : Image) → now.blocks ≡ g.blocks → now.pages ≡ g.pages
+    → IsTrue (is_history h now clock) → LeftBy h now clock m c
     → ImageOf g c
 all_fit g h now clock m c blocks pages history l = left_fits g h now clock m c blocks pages (history_is h now clock history) l

@@ -1,3 +1,5 @@
+//! The answers of the calls of a medium.
+
 /// What a forming answers.
 #[derive(Clone, Copy, Debug, PartialEq, Eq)]
 pub enum FormAnswer {

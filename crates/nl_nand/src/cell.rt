@@ -1,3 +1,4 @@
+//! The pages of a medium in memory.
 ghost use Rattle.std.specs.Prelude.{◌≡◌, ◌+◌, ◌≤◌, ◌++◌, length, take, drop, replicate, IfOk};
 
 use nl_field::PageBuf;

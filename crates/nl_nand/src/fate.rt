@@ -1,3 +1,4 @@
+//! Whether an operation of a medium in memory finishes, fails, or is cut short by a stop.
 ghost use Rattle.std.specs.Prelude.{◌≡◌};
 ghost use Rattle.nl_nand.specs.Fate.{IsFate};
 

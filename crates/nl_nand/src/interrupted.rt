@@ -1,3 +1,4 @@
+//! The operation that a stop cut short, as a medium in memory keeps it.
 use crate::record::Attempt;
 use crate::stop::Cut;
 

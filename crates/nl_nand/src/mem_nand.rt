@@ -1,3 +1,4 @@
+//! A flash medium in memory, for tests: it fails and stops as it is told to.
 ghost use Rattle.std.specs.Prelude.{◌≡◌, ◌≤◌, ◌*◌, IsTrue};
 ghost use Rattle.nl_nand.specs.Record.{image_of, logged, is_geometry, is_history, end_of};
 
@@ -78,7 +79,8 @@ impl MemNand {
     /// empty, with no room.
     pub fn restart(self, stop: Option<Stop>) -> MemNand
         ensures geometry { geometry_of result ≡ geometry_of self }
-        ensures contents { MatchOption (plan_of self).stopped (contents_of result ≡ contents_of self) (λ s. LeftImage s (contents_of self) (contents_of result)) }
+        ensures contents { MatchOption (plan_of self).stopped (contents_of result ≡ contents_of self)
+            (λ s. LeftImage s (contents_of self) (contents_of result)) }
         ensures was_left { left_of self (clock_of self) (contents_of result) }
         ensures begins { (m : ℕ) (c : Image) → left_of result m c → (m ≡ 0) × (c ≡ contents_of result) }
         ensures clock { clock_of result ≡ 0 }
@@ -273,7 +275,8 @@ impl Nand for MemNand {
         requires { IsTrue (is_legal blocks pages) }
         ensures done { result ≡ FormAnswer.Done → geometry_of self.new ≡ record { blocks = blocks; pages = pages } }
         ensures erased { result ≡ FormAnswer.Done → IsBlank (contents_of self.new) }
-        ensures begins { result ≡ FormAnswer.Done → (m : ℕ) (c : Image) → left_of self.new m c → (m ≡ clock_of self.new) × (c ≡ contents_of self.new) }
+        ensures begins { result ≡ FormAnswer.Done → (m : ℕ) (c : Image) → left_of self.new m c
+            → (m ≡ clock_of self.new) × (c ≡ contents_of self.new) }
         ensures failed { result ≡ FormAnswer.Failed → Unchanged geometry_of contents_of left_of self.old self.new }
         ensures memory { result ≡ FormAnswer.Memory → Unchanged geometry_of contents_of left_of self.old self.new }
         ensures clock { clock_of self.new ≡ clock_of self.old }
@@ -339,11 +342,15 @@ impl Nand for MemNand {
     /// Erases a block. Once it is begun it fails exactly where its number is in the list or the stop comes within it.
     fn erase(&mut self, block: u32) -> WriteAnswer
         requires { block < (geometry_of self.old).blocks }
-        ensures effect { Leaves (block_start (geometry_of self.old) block) (block_end (geometry_of self.old) block) erased (contents_of self.old) result (contents_of self.new) }
-        ensures crash { CrashLeaves clock_of contents_of left_of (block_start (geometry_of self.old) block) (block_end (geometry_of self.old) block) erased self.old self.new }
-        ensures reached { CrashReaches clock_of contents_of left_of (block_start (geometry_of self.old) block) (block_end (geometry_of self.old) block) erased self.old self.new result }
+        ensures effect { Leaves (block_start (geometry_of self.old) block) (block_end (geometry_of self.old) block) erased
+            (contents_of self.old) result (contents_of self.new) }
+        ensures crash { CrashLeaves clock_of contents_of left_of (block_start (geometry_of self.old) block)
+            (block_end (geometry_of self.old) block) erased self.old self.new }
+        ensures reached { CrashReaches clock_of contents_of left_of (block_start (geometry_of self.old) block)
+            (block_end (geometry_of self.old) block) erased self.old self.new result }
         ensures counted { OperationCounted geometry_of clock_of read_faults_of write_faults_of self.old self.new result }
-        ensures exact { NotBegun self.old self.new result ⊎ Begun (block_start (geometry_of self.old) block) (block_end (geometry_of self.old) block) erased self.old self.new result }
+        ensures exact { NotBegun self.old self.new result
+            ⊎ Begun (block_start (geometry_of self.old) block) (block_end (geometry_of self.old) block) erased self.old self.new result }
     {
         self.run_erase(block as usize * self.geometry.pages as usize)
     }

@@ -1,3 +1,4 @@
+//! The trait of a flash medium.
 ghost use Rattle.std.specs.Prelude.{◌≡◌, ◌⊎◌, ◌<◌, ◌≤◌, ◌+◌, ◌*◌, ℕ, IsTrue};
 ghost use Rattle.nl_field.specs.Page.{Image, page_at, erased, written};
 ghost use Rattle.nl_field.specs.Numbers.{is_legal};
@@ -14,7 +15,7 @@ use nl_field::PageBuf;
 /// A program cut short leaves its page erased, wholly new or uncorrectable. An erase cut short leaves each page of the block
 /// as it was, erased or uncorrectable. A failed one leaves what one cut short may. No other page changes.
 pub trait Nand {
-    /// It tells what its pages hold. Where it does not, no clause says what `contents` and `left` are of the medium.
+    /// The medium tells what its pages hold. Where it does not, no clause says what `contents` and `left` are of it.
     ghost tells: { Type 0 };
 
     ghost geometry: { Self → Numbers };
@@ -33,15 +34,19 @@ pub trait Nand {
     /// The images that a crash at a moment may have left. A moment is the number of operations that had finished.
     ghost left: { Self → ℕ → Image → Type 0 };
 
+    /// The blocks of the medium and the pages of each, both 0 where it was never formed.
     fn geometry(&self) -> Geometry
         ensures { result ≡ geometry self.now };
 
+    /// How many programs and erases have finished.
     fn clock(&self) -> u64
         ensures { result ≡ clock self.now };
 
+    /// How many reads have failed.
     fn read_faults(&self) -> u64
         ensures { result ≡ read_faults self.now };
 
+    /// How many formings, programs and erases have failed.
     fn write_faults(&self) -> u64
         ensures { result ≡ write_faults self.now };
 
@@ -51,8 +56,10 @@ pub trait Nand {
         requires { IsTrue (is_legal blocks pages) }
         ensures done { result ≡ FormAnswer.Done → geometry self.new ≡ record { blocks = blocks; pages = pages } }
         ensures erased { tells → result ≡ FormAnswer.Done → IsBlank (contents self.new) }
-        ensures begins { tells → result ≡ FormAnswer.Done → (m : ℕ) (c : Image) → left self.new m c → (m ≡ clock self.new) × (c ≡ contents self.new) }
-        ensures failed { result ≡ FormAnswer.Failed → (geometry self.new ≡ geometry self.old) ⊎ (geometry self.new ≡ record { blocks = blocks; pages = pages }) }
+        ensures begins { tells → result ≡ FormAnswer.Done → (m : ℕ) (c : Image) → left self.new m c
+            → (m ≡ clock self.new) × (c ≡ contents self.new) }
+        ensures failed { result ≡ FormAnswer.Failed
+            → (geometry self.new ≡ geometry self.old) ⊎ (geometry self.new ≡ record { blocks = blocks; pages = pages }) }
         ensures failed_told { tells → result ≡ FormAnswer.Failed → Unchanged geometry contents left self.old self.new }
         ensures memory { result ≡ FormAnswer.Memory → Unchanged geometry contents left self.old self.new }
         ensures clock { clock self.new ≡ clock self.old }
@@ -78,15 +85,18 @@ pub trait Nand {
     /// Erases all pages of a block.
     fn erase(&mut self, block: u32) -> WriteAnswer
         requires { block < (geometry self.old).blocks }
-        ensures effect { tells → Leaves (block_start (geometry self.old) block) (block_end (geometry self.old) block) erased (contents self.old) result (contents self.new) }
-        ensures crash { CrashLeaves clock contents left (block_start (geometry self.old) block) (block_end (geometry self.old) block) erased self.old self.new }
-        ensures reached { tells → CrashReaches clock contents left (block_start (geometry self.old) block) (block_end (geometry self.old) block) erased self.old self.new result }
+        ensures effect { tells → Leaves (block_start (geometry self.old) block) (block_end (geometry self.old) block) erased
+            (contents self.old) result (contents self.new) }
+        ensures crash { CrashLeaves clock contents left (block_start (geometry self.old) block)
+            (block_end (geometry self.old) block) erased self.old self.new }
+        ensures reached { tells → CrashReaches clock contents left (block_start (geometry self.old) block)
+            (block_end (geometry self.old) block) erased self.old self.new result }
         ensures counted { OperationCounted geometry clock read_faults write_faults self.old self.new result };
 
     /// The numbers are legal, or both 0.
     ghost legal: { (s : Self) → IsLegal (geometry s) };
 
-    /// What there is now may be left now.
+    /// The contents are what a crash may leave now.
     ghost now_left: { (s : Self) → left s (clock s) (contents s) };
 
     /// No moment is later than now.
@@ -95,6 +105,6 @@ pub trait Nand {
     /// The contents have as many pages as the geometry.
     ghost contents_fit: { (s : Self) → tells → ImageOf (geometry s) (contents s) };
 
-    /// So has each image that a crash may have left.
+    /// Each image that a crash may have left has as many pages as the geometry.
     ghost left_fits: { (s : Self) (m : ℕ) (c : Image) → tells → left s m c → ImageOf (geometry s) c };
 }

@@ -1,3 +1,4 @@
+//! The record of the operations of a medium in memory.
 ghost use Rattle.std.specs.Prelude.{◌≡◌, ◌+◌, ◌≤◌, ◌<◌, ◌∷◌, [], ◌++◌, replicate, All, vec_len, vec_capacity, IsTrue, IfOk, OnOk, OnErr};
 ghost use Rattle.nl_field.specs.Page.{is_page, written};
 ghost use Rattle.nl_nand.specs.declared.cell.Cell.TheVariants as cell;

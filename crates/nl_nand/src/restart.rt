@@ -1,3 +1,4 @@
+//! The cells of a medium in memory after a stop.
 ghost use Rattle.std.specs.Prelude.{◌≡◌, ◌+◌, ◌<◌, ◌≤◌, length, slice_set, slice_index_or};
 ghost use Rattle.nl_field.specs.Page.{erased};
 ghost use Rattle.nl_nand.specs.Stop.{page_after};
@@ -23,7 +24,8 @@ pub fn left_cells(mut cells: Vec<Cell>, stopped: Option<Interrupted>) -> Vec<Cel
 /// Leaves of the cells what the stop does.
 fn cut_cells(cells: &mut Vec<Cell>, stopped: Interrupted)
     requires { high_of_attempt stopped.attempt ≤ length cells.old.items }
-    ensures { IsCut (low_of_attempt stopped.attempt) (high_of_attempt stopped.attempt) (value_of_attempt stopped.attempt) stopped.cut cells.old.items cells.new.items }
+    ensures { IsCut (low_of_attempt stopped.attempt) (high_of_attempt stopped.attempt)
+        (value_of_attempt stopped.attempt) stopped.cut cells.old.items cells.new.items }
 {
     let Interrupted { attempt, cut } = stopped;
     match attempt {
@@ -37,7 +39,9 @@ fn cut_cells(cells: &mut Vec<Cell>, stopped: Interrupted)
 /// Gives a page its outcome, where the operation would make it of this value.
 fn give(cells: &mut Vec<Cell>, page: usize, outcome: Outcome, value: Cell)
     requires { page < length cells.old.items }
-    ensures { pages_of cells.new.items ≡ slice_set (pages_of cells.old.items) page (page_after outcome (page_of value) (slice_index_or (pages_of cells.old.items) page erased)) }
+    ensures { pages_of cells.new.items
+        ≡ slice_set (pages_of cells.old.items) page
+        (page_after outcome (page_of value) (slice_index_or (pages_of cells.old.items) page erased)) }
 {
     match outcome {
         Outcome::Stays => {}

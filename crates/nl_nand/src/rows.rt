@@ -1,3 +1,4 @@
+//! Examples of a medium. Each function stands for the example that its contract states.
 ghost use Rattle.std.specs.Prelude.{◌≡◌, ℕ, ◌<◌, ◌∷◌, []};
 ghost use Rattle.nl_field.specs.Page.{Page, erased, uncorrectable, Image, page_at};
 ghost use Rattle.nl_nand.specs.Nand.{CanProgram, Cut};

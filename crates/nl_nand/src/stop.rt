@@ -1,14 +1,15 @@
+//! Where a medium in memory stops, and what that leaves of its pages.
 ghost use Rattle.std.specs.Prelude.{◌≡◌, ◌/◌, ◌%◌, ◌^◌};
 ghost use Rattle.nl_nand.specs.Stop.{outcome_of};
 
 /// What becomes of the pages of an operation that is cut short.
 #[derive(Clone, Copy, Debug, PartialEq, Eq)]
 pub enum Cut {
-    /// They stay as they were.
+    /// The pages stay as they were.
     Before,
-    /// They are as the finished operation leaves them.
+    /// The pages are as the finished operation leaves them.
     After,
-    /// They are uncorrectable.
+    /// The pages are uncorrectable.
     Spoilt,
     /// The ternary digits of the number, the least first, say it page by page: 0 as `Before`, 1 as `After` and 2 as
     /// `Spoilt`. After 40 pages the digits are taken again from the least.
@@ -22,7 +23,7 @@ pub struct Stop {
     pub cut: Cut,
 }
 
-/// What becomes of one page.
+/// What becomes of one page of an operation that is cut short.
 #[derive(Clone, Copy, Debug, PartialEq, Eq)]
 pub enum Outcome {
     Stays,

@@ -156,7 +156,9 @@ abbrev pub blocks_text : ℕ → ℕ → List ℕ
 blocks_text vblocks pblocks = field (codes "blocks virtual") vblocks ++ field (codes " physical") pblocks ++ 10 ∷ []
 
 abbrev pub pages_text : Shape → ℕ → ℕ → ℕ → List ℕ
-pages_text shape pages nodes meta = share (codes "pages data") pages shape.cap ++ share (codes " nodes") nodes shape.nodes ++ share (codes " meta") meta shape.meta ++ 10 ∷ []
+pages_text shape pages nodes meta =
+    share (codes "pages data") pages shape.cap ++ share (codes " nodes") nodes shape.nodes
+    ++ share (codes " meta") meta shape.meta ++ 10 ∷ []
 
 abbrev pub wear_text : ℕ → ℕ → List ℕ
 wear_text least greatest = field (codes "wear least") least ++ field (codes " greatest") greatest ++ 10 ∷ []
@@ -164,7 +166,8 @@ wear_text least greatest = field (codes "wear least") least ++ field (codes " gr
 -- the text of `report`: the charges of the tree, the pairs after opening, the wear of readable pages and the next stamp
 abbrev pub report_text : Shape → ℕ → ℕ → ℕ → ℕ → ℕ → ℕ → ℕ → ℕ → List ℕ
 report_text shape count pages nodes meta pairs least greatest stamp =
-    number_text (codes "opened") count ++ blocks_text shape.vblocks shape.pblocks ++ pages_text shape pages nodes meta ++ number_text (codes "remap") pairs
+    number_text (codes "opened") count ++ blocks_text shape.vblocks shape.pblocks ++ pages_text shape pages nodes meta
+    ++ number_text (codes "remap") pairs
     ++ wear_text least greatest ++ number_text (codes "stamp") stamp
 
 abbrev pub calls_text : ℕ → ℕ → List ℕ

@@ -21,6 +21,7 @@ impl Model for LineBuf {
 }
 
 impl LineBuf {
+    /// An empty line.
     pub fn new() -> LineBuf
         ensures { result ≡ [] }
     {
@@ -29,6 +30,7 @@ impl LineBuf {
         }
     }
 
+    /// Adds bytes at the end, up to 4096 bytes in all.
     pub fn push(&mut self, bytes: &[u8])
         requires { length self.old + length bytes.now ≤ 4096 }
         ensures bytes { self.new ≡ self.old ++ bytes.now }
@@ -80,12 +82,14 @@ impl LineBuf {
         self.push_field(b" of", most);
     }
 
+    /// How many bytes there are.
     pub fn len(&self) -> usize
         ensures { result ≡ length self.now }
     {
         self.bytes.len()
     }
 
+    /// All its bytes, in order.
     pub fn bytes(&self) -> &[u8]
         ensures { result.now ≡ self.now }
     {

@@ -79,7 +79,8 @@ pub fn report_lines<K: Sink>(
     greatest: u32,
     stamp: u64,
 ) -> SinkAnswer
-    ensures text { Writes (K.taken sink.old) (K.taken sink.new) result (report_text shape.now count «data» nodes meta pairs least greatest stamp) }
+    ensures text { Writes (K.taken sink.old) (K.taken sink.new) result
+        (report_text shape.now count «data» nodes meta pairs least greatest stamp) }
     ensures never_falls { K.faults sink.old ≤ K.faults sink.new }
     ensures cause { result ≡ SinkAnswer.Failed → Rose (K.faults sink.old) (K.faults sink.new) }
 {

@@ -32,6 +32,7 @@ pub fn refused_line<K: Sink>(sink: &mut K, line: u32, column: u32, why: &[u8]) -
     word_line(sink, why)
 }
 
+/// The word for what is at fault, of at most 7 bytes.
 pub(crate) fn what_bytes(what: What) -> &'static [u8]
     ensures text { result.now ≡ what_text what }
     ensures short { length result.now ≤ 7 }

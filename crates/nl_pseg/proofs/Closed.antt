@@ -15,7 +15,7 @@ use Rattle.nl_pseg.specs.declared.state.State.{State}
 use Rattle.nl_pseg.proofs.States.{next_block}
 use Rattle.nl_pseg_blocks.proofs.Tables.{IsShut, has_same, numbers_then, shut_sealed}
 
--- the same with numbers that are equal
+-- a state is the same with numbers of used pages that are equal
 pub as_counted : (s : Kept) (u f : ℕ) → u ≡ s.used → f ≡ s.filled → s ≡ record s { used = u; filled = f }
 as_counted s u f used filled i = record s { used = sym used i; filled = sym filled i }
 

@@ -60,7 +60,7 @@ module _ {x : Option Held} {seg new : Physical} (u : IsCopyUsed x seg new) where
     blank_copy = λ p next. let w = copy_back p next in program_others cut p w.1 ∙ was.blank_copy p w.0;
   }
 
--- and the names lead on to it
+-- the image of a segment whose names lead on to the copy
 pub after_led : {before after : ℕ} {seg new : Physical} {c : Image} → IsLed before after seg new → before < length seg.held → IsPhysicalOf c seg → IsPhysicalOf c new
 after_led {before} {after} {seg} {new} {c} l within was = record {
   holds = λ p h named. ⊎_elim

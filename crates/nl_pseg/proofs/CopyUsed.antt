@@ -39,7 +39,7 @@ module _ (s : Kept) (is : IsFormed s) (tied : IsTied s) (room : s.filled < s.blo
   pub copy_in_use : is_kept (seen s) s.target ≡ false
   copy_in_use = ap (λ (u : Use). u.is_kept) (use_here s.blocks s.target tied.phases.target_in) ∙ ap (λ (b : BlockState). is_kept_state b) (tied.phases.filling room)
 
-  -- it is not one that is programmed next
+  -- the page of the copy is not one that is programmed next
   pub copy_behind : IsNext (seen s) (s.target * s.blocks.size + s.filled) → ⊥
   copy_behind next =
       let fits = is.used_fits in
@@ -47,7 +47,7 @@ module _ (s : Kept) (is : IsFormed s) (tied : IsTied s) (room : s.filled < s.blo
       let at : s.active ≡ s.target = sym (next_block s is used (s.target * s.blocks.size + s.filled) next) ∙ copy_block in
       cc (sym (is.taken used) ∙ (ap (λ b. (block_at s.blocks b).state) at ∙ tied.phases.filling room))
 
-  -- nor in the victim
+  -- the page of the copy is not in the victim
   pub copy_apart : s.victim ≡ Some s.target → ⊥
   copy_apart named = cc (sym (tied.phases.victim_in s.target named).1 ∙ tied.phases.filling room)
 

@@ -123,7 +123,7 @@ done_erases {block} s e = record {
   kept_block = λ k. erases_kept s e;
 }
 
--- it was not
+-- the victim was not erased
 pub not_erases : (answer : Erasure) (seg : Physical) → (answer ≡ the.Done → ⊥) → ErasesIfDone answer seg seg
 not_erases answer seg not = record {
   kept = λ un. refl;

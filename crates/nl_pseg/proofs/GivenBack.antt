@@ -127,7 +127,7 @@ module _ (s : Kept) (is : IsFormed s) where
     | inr full ↦ omega (arith, full)
   ]
 
--- and none is for copies
+-- where all blocks are Free, no page is left for copies
 pub copies_none : (s : Kept) → IsTied s → AllFree (seen s) → (seen s).copy_left ≡ 0
 copies_none s tied all = elim (cases_lt s.filled s.blocks.size) [
   | inl room ↦

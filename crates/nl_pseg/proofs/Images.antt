@@ -76,7 +76,7 @@ erase_keeps seg block g {old} {c} is count are free own apart cut = record {
           apart = λ at. apart (at ∙ ap (λ b. Some b) (block_of p seg.size block from below));
         }
 
--- and of all others
+-- what an erase leaves of the pages of all other blocks
 pub erase_others : (block g size : ℕ) {old c : Image} → g ≡ size → Cut (block * g) (block * g + g) erased old c → (p : ℕ) → (p / size ≡ block → ⊥) → page_at c p ≡ page_at old p
 erase_others block g size is cut p ne = ⊎_elim
     (λ same. same)

@@ -46,11 +46,11 @@ opening_pages {old} {new} opening = ⊎_elim
 pub failed_fault : {before now : ℕ} {was is : Type 0} → FaultsCounted before now was → was → is → FaultsCounted before now is
 failed_fault counted failed here = record { never_falls = counted.never_falls; cause = λ x. counted.cause failed; stays = λ not. absurd (not here) }
 
--- and where it did not
+-- the count of faults where the call did not fail
 pub done_unfailed : {before now : ℕ} {was is : Type 0} → FaultsCounted before now was → (was → ⊥) → (is → ⊥) → FaultsCounted before now is
 done_unfailed counted well here = record { never_falls = counted.never_falls; cause = λ x. absurd (here x); stays = λ not. counted.stays well }
 
--- where no call was made
+-- the count of faults where no call was made
 pub none_failed : {n : ℕ} {failed : Type 0} → (failed → ⊥) → FaultsCounted n n failed
 none_failed well = record { never_falls = omega arith; cause = λ x. absurd (well x); stays = λ not. refl }
 

@@ -69,7 +69,7 @@ moves_copied {seg} n page h answer tied victim live m = record {
 pub landed_none : {seg new : Physical} (page : ℕ) (h : Held) → IsCopyUsed None seg new → IsDead seg seg.copy_next → LandsPage page h copy.Fault seg new
 landed_none page h used dead = record { moved = tt; kept = λ not. (refl, unmoved used dead.dead); same_room = unmoved_room used; clean = unmoved_clean used }
 
--- it was programmed, and the names lead to it
+-- the copy was programmed, and the names lead to it
 pub landed_moved : {seg mid new : Physical} (page after : ℕ) (h : Held) → after ≡ seg.copy_next → IsCopyUsed (Some h) seg mid → IsLed page after mid new → InVictim seg page → held_at seg page ≡ Some h → IsDead seg seg.copy_next
     → LandsPage page h (copy.Moved page after h.tag h.stamp) seg new
 landed_moved {seg} {mid} {new} page after h at used at_after victim live dead =
@@ -94,7 +94,7 @@ nothing_copied_on a is = record {
   crash = λ some. absurd (some refl);
 }
 
--- it has the same pages after a read
+-- the medium has the same pages after a read
 pub read_moves_on : {M : Type 0} {clock : M → ℕ} {contents : M → Image} {left : M → ℕ → Image → Type 0} {seg : Physical} {a r : M} (page : ℕ) (h : Held) (answer : Copied) → (IsMoved answer → ⊥) → ((w f : ℕ) → answer ≡ copy.Lost w f → ⊥) → contents r ≡ contents a
     → IsPhysicalOf (contents a) seg → Crashes clock contents left seg h.tag h.stamp (main_of (page_at (contents a) page)) a r (programmed_by answer) → MovesOn clock contents left page h answer seg seg a r
 read_moves_on {seg = seg} page h answer not told same is crash = record {

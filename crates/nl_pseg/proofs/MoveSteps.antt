@@ -157,7 +157,7 @@ module _ {M : Type 0} {clock : M → ℕ} {contents : M → Image} {left : M →
   }
 
   module _ {seg mid : Physical} (r : IsReadied seg mid) where
-    -- and then the copy was programmed
+    -- a block was readied, and then the copy was programmed
     pub landed_crashes : {a m d : M} (tag : Tag) (stamp : ℕ) (main : List ℕ) (answer : Copied) {was : WriteAnswer} → ReadiedOn clock contents left was seg mid a m → (IsMoved answer → Earlier (clock m) (clock d))
         → Crashes clock contents left mid tag stamp main m d (programmed_by answer) → Crashes clock contents left seg tag stamp main a d (programmed_by answer)
     landed_crashes {a} {m} {d} tag stamp main answer on strict k = record {

@@ -21,7 +21,7 @@ module _ (s : State) (is : IsFormed (kept s)) (tied : IsTied (kept s)) (page : �
     pub next_up : page % s.blocks.size ≤ used_in is_active_state s.blocks (page / s.blocks.size)
     next_up = let at = next_at in omega (arith, at)
 
-    -- it counts as a page that is used for a copy
+    -- the next page counts as one that is used for a copy
     pub next_filled : page % s.blocks.size < used_in is_target_state s.blocks (page / s.blocks.size)
     next_filled = shut_used is_target_state s.blocks page is.some (ap (λ b. is_target_state (block_at s.blocks b).state) next_block ∙ ap is_target_state (is.taken room))
 
@@ -42,7 +42,7 @@ module _ (s : State) (is : IsFormed (kept s)) (tied : IsTied (kept s)) (page : �
     pub copy_up : page % s.blocks.size ≤ used_in is_target_state s.blocks (page / s.blocks.size)
     copy_up = let at = copy_at in omega (arith, at)
 
-    -- it counts as a page that is used for a new name
+    -- the next page for a copy counts as one that is used for a new name
     pub copy_used : page % s.blocks.size < used_in is_active_state s.blocks (page / s.blocks.size)
     copy_used = shut_used is_active_state s.blocks page is.some (ap (λ b. is_active_state (block_at s.blocks b).state) copy_block ∙ ap is_active_state (tied.phases.filling room))
 

@@ -264,7 +264,7 @@ module _ {M : Type 0} {clock : M → ℕ} {contents : M → Image} {left : M →
         shows = sym (ap shown_by (value opening tag stamp main k.page)) ∙ x.shows;
       }
 
-  -- and then the page was programmed
+  -- a block was opened, and then the page was programmed
   pub writes_then : {new : Physical} {d : M} → IfPlaced answer (λ at. IsDead mid at.name) → IfPlaced answer (λ at. at.name ≡ mid.next) → (IsPlaced answer → Earlier (clock b) (clock d)) → ProgramsOn clock contents left tag stamp main answer mid new b d
       → WritesOn clock contents left tag stamp main answer seg new a d
   writes_then {new} {d} dead next strict p = record { segment = p.segment; programmed = programmed_then d dead next p.alone; crash = crashes_then strict p.crash }
@@ -325,7 +325,7 @@ nothing_placed answer stamp now seg not no_fault = record {
   names = record { same_pairs = refl; same_pair_room = refl; same_victim = refl; copies = (refl, refl) };
 }
 
--- and the medium is as it was
+-- nothing was written, and the medium is as it was
 pub nothing_on : {M : Type 0} {clock : M → ℕ} {contents : M → Image} {left : M → ℕ → Image → Type 0} {seg : Physical} (a : M) (tag : Tag) (stamp : ℕ) (main : List ℕ) (answer : Named) → (IsPlaced answer → ⊥) → IsPhysicalOf (contents a) seg
     → WritesOn clock contents left tag stamp main answer seg seg a a
 nothing_on a tag stamp main answer not is = record { segment = is; programmed = if_none answer _ not; crash = nothing_crashes a tag stamp main answer (if_none answer _ not) }

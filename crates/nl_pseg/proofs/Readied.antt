@@ -76,7 +76,7 @@ module _ (s : Kept) (is : IsFormed s) (block : ℕ) (has : HasBlock s.blocks blo
         ap is_some (sym (get_or-set_other s.soiled.items block (p / s.blocks.size) None None ne)) ∙ (ap (λ n. is_soiled new (p / n)) (sym r.numbers.same_size) ∙ x.1),
       )
 
-  -- its erase failed
+  -- the erase of the block for copies failed
   pub again_segment : (t : Table) → SameUse s.blocks t → s.blocks.size ≤ s.filled → is_soiled (seen s) block ≡ true → {old c : Image} → IsPhysicalOf old (seen s) → ((p : ℕ) → (p / s.blocks.size ≡ block → ⊥) → page_at c p ≡ page_at old p) → IsPhysicalOf c (seen (record s { blocks = t }))
   again_segment t same full dirty {old} {c} was others = record {
     holds = λ p h held. shows_same h (others p (free_dead p h held)) (was.holds p h held);

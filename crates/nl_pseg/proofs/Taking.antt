@@ -26,7 +26,7 @@ some_holds (Some page) P Q holds some = holds.0
 abbrev pub taken_by : State → Table → Kept
 taken_by s t = record (kept s) { used = t.size; filled = used_in is_target_state t s.target }
 
--- the same where the block for copies is
+-- what a state keeps with another table, where the block for copies was taken
 abbrev pub targeted_by : State → Table → Kept
 targeted_by s t = record (kept s) { used = used_in is_active_state t s.active; filled = t.size }
 

@@ -24,7 +24,8 @@ use Rattle.nl_pseg_blocks.proofs.Tables.{has_same, use_here}
 pub back : {a b : Table} → SameNumbers a b → SameNumbers b a
 back n = record { same_first = sym n.same_first; same_size = sym n.same_size; same_count = sym n.same_count }
 
--- The same pairs: each old name stands still and is no live page, each pair leads to a live page, and no other block waits.
+-- What is tied to the names stays so where the pairs are the same: each old name stands still and is no live page, each pair leads
+-- to a live page, and no other block waits.
 pub named_on : (s x : Kept) → IsNamed s → x.names ≡ s.names → SameNumbers s.blocks x.blocks → ((p : ℕ) (h : Held) → held_at (seen x) p ≡ Some h → IsOld s.names.pairs p → ⊥)
     → ((pair : Link) → HasLink s.names.pairs pair → (h : Held) × (held_at (seen x) pair.to ≡ Some h)) → ((n : ℕ) → IsOld s.names.pairs n → IsStanding (seen s) n → IsStanding (seen x) n)
     → ((b k : ℕ) → HasBlock s.blocks b → (block_at x.blocks b).state ≡ Retired k → (block_at s.blocks b).state ≡ Retired k) → IsNamed x

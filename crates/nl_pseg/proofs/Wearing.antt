@@ -97,7 +97,7 @@ counts_then frees f g = record {
 pub counts_used : {old new : Physical} → ((b : ℕ) → use_at new.first new.uses b ≡ use_at old.first old.uses b) → new.soiled ≡ old.soiled → CountsErases old new
 counts_used uses marks = counts_same (λ b. ap (λ (u : Use). u.wear) (uses b)) (λ b. ap (λ (l : List (Option ℕ)). get_or l b None) marks)
 
--- then each block stays as it is
+-- erases stay counted where each block stays as it is
 pub counts_after : {a b c : Physical} → CountsErases a b → ((k : ℕ) → erasures c k ≡ erasures b k) → ((k : ℕ) → soiled c k ≡ soiled b k) → CountsErases a c
 counts_after f wears same = record {
   each = λ k. ⊎_elim

@@ -1,4 +1,4 @@
--- When the calls answer what.
+-- What an answer of a read or a write says was done, and which answers are right.
 use Rattle.std.specs.Prelude.{◌≡◌, ℕ, ⊤, Bool, true, false, Option, Some}
 use Rattle.nl_field.specs.Page.{PageBytes, written}
 use Rattle.nl_field.specs.declared.answers.Named.{Named}
@@ -31,7 +31,7 @@ is_placed write.Fault = false
 abbrev pub IsFault : Named → Type 0
 IsFault answer = answer ≡ write.Fault
 
--- it placed a page, or the medium failed
+-- the write placed a page, or the medium failed
 abbrev pub IsTried : Named → Type 0
 IsTried (write.Placed at) = ⊤
 IsTried write.NotLive = ⊥
@@ -46,7 +46,8 @@ Names page stamp answer = IfPlaced answer (λ at. at ≡ record { name = page; s
 -- live. Done where the page read has the owner and the number that were asked for, and the live page has that owner. Lost with
 -- the number that is wanted and another one that was found.
 abbrev pub ReadsHeld : Option Held → Tag → ℕ → PageBytes → NamedRead → Type 0
-ReadsHeld held tag stamp buf read.Done = (held ≡ Some (record { tag = tag; stamp = stamp })) × (shown_by (written buf) ≡ Some (tag, stamp, buf.main))
+ReadsHeld held tag stamp buf read.Done =
+    (held ≡ Some (record { tag = tag; stamp = stamp })) × (shown_by (written buf) ≡ Some (tag, stamp, buf.main))
 ReadsHeld held tag stamp buf read.NotLive = (h : Held) → held ≡ Some h → h.stamp ≡ stamp → ⊥
 ReadsHeld held tag stamp buf (read.Lost w f) = ((h : Held) × (held ≡ Some h) × (h.stamp ≡ stamp)) × (w ≡ stamp) × (f ≡ w → ⊥)
 ReadsHeld held tag stamp buf read.Fault = (h : Held) × (held ≡ Some h) × (h.stamp ≡ stamp)

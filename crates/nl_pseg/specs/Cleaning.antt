@@ -14,7 +14,7 @@ use Rattle.nl_pseg.specs.declared.cleaned.Copied.{Copied}
 use Rattle.nl_pseg.specs.declared.cleaned.Copied.TheVariants as copy
 use Rattle.nl_pseg.specs.declared.held.Held.{Held}
 
--- the same pages and names
+-- two segments have the same pages and names
 pub record SameTables (old new : Physical) : Type 0 where
   pub same_first : new.first ≡ old.first
   pub same_blocks : new.blocks ≡ old.blocks
@@ -34,15 +34,21 @@ pub record IsChosen (cold : Bool) (seg : Physical) (block : ℕ) : Type 0 where
   pub below : block < seg.blocks
   pub sealed : is_sealed seg block ≡ true
   pub some : cold ≡ false → 0 < dead_in seg block
-  pub first_most : cold ≡ false → (other : ℕ) → seg.first ≤ other → other < block → is_sealed seg other ≡ true → dead_in seg other < dead_in seg block
-  pub first_least : cold ≡ true → (other : ℕ) → seg.first ≤ other → other < block → is_sealed seg other ≡ true → erasures seg block < erasures seg other
-  pub most : cold ≡ false → (other : ℕ) → seg.first ≤ other → other < seg.blocks → is_sealed seg other ≡ true → dead_in seg other ≤ dead_in seg block
-  pub least : cold ≡ true → (other : ℕ) → seg.first ≤ other → other < seg.blocks → is_sealed seg other ≡ true → erasures seg block ≤ erasures seg other
+  pub first_most : cold ≡ false → (other : ℕ) → seg.first ≤ other → other < block → is_sealed seg other ≡ true
+      → dead_in seg other < dead_in seg block
+  pub first_least : cold ≡ true → (other : ℕ) → seg.first ≤ other → other < block → is_sealed seg other ≡ true
+      → erasures seg block < erasures seg other
+  pub most : cold ≡ false → (other : ℕ) → seg.first ≤ other → other < seg.blocks → is_sealed seg other ≡ true
+      → dead_in seg other ≤ dead_in seg block
+  pub least : cold ≡ true → (other : ℕ) → seg.first ≤ other → other < seg.blocks → is_sealed seg other ≡ true
+      → erasures seg block ≤ erasures seg other
   pub worn : cold ≡ true → (other : ℕ) × (seg.first ≤ other) × (other < seg.blocks) × (erasures seg block + 16 ≤ erasures seg other)
 
--- no such block is there
+-- no block can be chosen as the victim
 abbrev pub NoneChosen : Bool → Physical → Type 0
-NoneChosen true seg = (block : ℕ) → seg.first ≤ block → block < seg.blocks → is_sealed seg block ≡ true → (other : ℕ) → seg.first ≤ other → other < seg.blocks → erasures seg other < erasures seg block + 16
+NoneChosen true seg =
+    (block : ℕ) → seg.first ≤ block → block < seg.blocks → is_sealed seg block ≡ true → (other : ℕ) → seg.first ≤ other
+    → other < seg.blocks → erasures seg other < erasures seg block + 16
 NoneChosen false seg = dead_pages seg ≡ 0
 
 -- why no victim is begun
@@ -130,7 +136,8 @@ programmed_by copy.Fault = named.Fault
 
 -- What a stop within a move may leave, and what the move leaves: that of a write of one live page of the victim, with its owner, its
 -- number and its bytes.
-pub record CrashesMove {M : Type 0} (clock : M → ℕ) (contents : M → Image) (left : M → ℕ → Image → Type 0) (seg : Physical) (old new : M) (answer : Copied) : Type 0 where
+pub record CrashesMove {M : Type 0} (clock : M → ℕ) (contents : M → Image) (left : M → ℕ → Image → Type 0) (seg : Physical)
+    (old new : M) (answer : Copied) : Type 0 where
   pub before : ℕ
   pub h : Held
   pub in_victim : InVictim seg before

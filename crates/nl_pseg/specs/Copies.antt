@@ -17,17 +17,22 @@ use Rattle.nl_pseg.specs.declared.held.Held.{Held}
 pub record CopiesPage (answer : Copied) (old new : Physical) : Type 0 where
   pub moved : IfMoved answer (λ before after h. Moves before after h old new)
   pub kept : (IsMoved answer → ⊥) → MovesNone old new
-  pub lost : (w f : ℕ) → answer ≡ copy.Lost w f → (f ≡ w → ⊥) × ((p : ℕ) × (h : Held) × InVictim old p × (held_at old p ≡ Some h) × (h.stamp ≡ w))
+  pub lost : (w f : ℕ) → answer ≡ copy.Lost w f
+      → (f ≡ w → ⊥) × ((p : ℕ) × (h : Held) × InVictim old p × (held_at old p ≡ Some h) × (h.stamp ≡ w))
   pub clean : IsClean old → IsClean new
   pub kept_block : KeepsBlock old → KeepsBlock new
 
--- What it does to the medium, which is still that of the segment: the copy is programmed with the owner, the number and the bytes of
--- the page that was moved, and no page was lost.
-pub record CopiesOn {M : Type 0} (clock : M → ℕ) (contents : M → Image) (left : M → ℕ → Image → Type 0) (answer : Copied) (seg seg_new : Physical) (old new : M) : Type 0 where
+-- What a move does to the medium, which is still that of the segment: the copy is programmed with the owner, the number and the bytes
+-- of the page that was moved, and no page was lost.
+pub record CopiesOn {M : Type 0} (clock : M → ℕ) (contents : M → Image) (left : M → ℕ → Image → Type 0) (answer : Copied)
+    (seg seg_new : Physical) (old new : M) : Type 0 where
   pub told : (w f : ℕ) → answer ≡ copy.Lost w f → ⊥
   pub segment : IsPhysicalOf (contents new) seg_new
   pub spare : HasSpare (contents old) seg → HasSpare (contents new) seg_new
-  pub programmed : IfMoved answer (λ before after h. Programmed seg after (written (page_with (main_of (page_at (contents old) before)) h.tag h.stamp (wear_of seg (after / seg.size)))) (contents old) (contents new))
+  pub programmed : IfMoved answer
+      (λ before after h. Programmed seg after
+      (written (page_with (main_of (page_at (contents old) before)) h.tag h.stamp (wear_of seg (after / seg.size)))) (contents old)
+      (contents new))
   pub crash : (answer ≡ copy.Nothing → ⊥) → CrashesMove clock contents left seg old new answer
 
 -- What an erase of the victim does to the segment: only where it is done, the victim was erased.
@@ -37,8 +42,10 @@ pub record ErasesIfDone (answer : Erasure) (old new : Physical) : Type 0 where
   pub clean : IsClean old → IsClean new
   pub kept_block : KeepsBlock old → KeepsBlock new
 
--- What it does to the medium, which is still that of the segment: only pages of the victim change, also where a stop comes within it.
-pub record ErasesOn {M : Type 0} (clock : M → ℕ) (contents : M → Image) (left : M → ℕ → Image → Type 0) (answer : Erasure) (seg seg_new : Physical) (old new : M) : Type 0 where
+-- What an erase of the victim does to the medium, which is still that of the segment: only pages of the victim change, also where a
+-- stop comes within it.
+pub record ErasesOn {M : Type 0} (clock : M → ℕ) (contents : M → Image) (left : M → ℕ → Image → Type 0) (answer : Erasure)
+    (seg seg_new : Physical) (old new : M) : Type 0 where
   pub segment : IsPhysicalOf (contents new) seg_new
   pub spare : (answer ≡ erasure.Nothing → ⊥) → HasSpare (contents new) seg_new
   pub pages : (block : ℕ) → seg.victim ≡ Some block → KeepsBeside seg block (contents old) (contents new)

@@ -25,7 +25,8 @@ pub record Programmed (seg : Physical) (page : ℕ) (value : Page) (old new : Im
   pub dead : IsDead seg page
   pub has : page_at new page ≡ value
   pub others : (p : ℕ) → (p ≡ page → ⊥) → (page_at new p ≡ page_at old p)
-      ⊎ ((p / seg.size ≡ page / seg.size) × (is_free seg (page / seg.size) ≡ true) × (is_soiled seg (page / seg.size) ≡ true) × (page_at new p ≡ erased))
+      ⊎ ((p / seg.size ≡ page / seg.size) × (is_free seg (page / seg.size) ≡ true) × (is_soiled seg (page / seg.size) ≡ true)
+      × (page_at new p ≡ erased))
 
 -- The image has a page of this owner more, which shows its owner, its number and its bytes.
 pub record Places (seg : Physical) (page : ℕ) (tag : Tag) (stamp : ℕ) (main : List ℕ) (old c : Image) : Type 0 where
@@ -34,7 +35,8 @@ pub record Places (seg : Physical) (page : ℕ) (tag : Tag) (stamp : ℕ) (main 
 
 -- What a stop within a write may leave, and what the write leaves: there is one page that it may have programmed, the one that
 -- it named. Until the write is done an image keeps the segment or has that page more, and once it placed the page it has it.
-pub record Crashes {M : Type 0} (clock : M → ℕ) (contents : M → Image) (left : M → ℕ → Image → Type 0) (seg : Physical) (tag : Tag) (stamp : ℕ) (main : List ℕ) (old new : M) (answer : Named) : Type 0 where
+pub record Crashes {M : Type 0} (clock : M → ℕ) (contents : M → Image) (left : M → ℕ → Image → Type 0) (seg : Physical) (tag : Tag)
+    (stamp : ℕ) (main : List ℕ) (old new : M) (answer : Named) : Type 0 where
   pub page : ℕ
   pub named : Names page stamp answer
   pub either : Keeps seg (contents old) (contents new) ⊎ Places seg page tag stamp main (contents old) (contents new)

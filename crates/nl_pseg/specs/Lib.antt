@@ -1,3 +1,4 @@
+-- The modules of this crate's definitions, with those of the pages of files.
 pub mod Answers
 pub mod Effects
 pub use Rattle.nl_pseg_pages.specs.Pages

@@ -32,11 +32,15 @@ pub record MovesPage (page : ℕ) (h : Held) (answer : Copied) (old new : Physic
   pub lost : (w f : ℕ) → answer ≡ copy.Lost w f → (f ≡ w → ⊥) × (h.stamp ≡ w)
   pub clean : IsClean old → IsClean new
 
--- What that does to the medium, which is still that of the segment: the copy is programmed with the owner, the number and the bytes of
--- this page, which was not lost.
-pub record MovesOn {M : Type 0} (clock : M → ℕ) (contents : M → Image) (left : M → ℕ → Image → Type 0) (page : ℕ) (h : Held) (answer : Copied) (seg seg_new : Physical) (old new : M) : Type 0 where
+-- What the move of a live page does to the medium, which is still that of the segment: the copy is programmed with the owner, the
+-- number and the bytes of this page, which was not lost.
+pub record MovesOn {M : Type 0} (clock : M → ℕ) (contents : M → Image) (left : M → ℕ → Image → Type 0) (page : ℕ) (h : Held)
+    (answer : Copied) (seg seg_new : Physical) (old new : M) : Type 0 where
   pub told : (w f : ℕ) → answer ≡ copy.Lost w f → ⊥
   pub segment : IsPhysicalOf (contents new) seg_new
   pub spare : HasSpare (contents old) seg → HasSpare (contents new) seg_new
-  pub programmed : IfMoved answer (λ before after held. Programmed seg after (written (page_with (main_of (page_at (contents old) before)) held.tag held.stamp (wear_of seg (after / seg.size)))) (contents old) (contents new))
+  pub programmed : IfMoved answer
+      (λ before after held. Programmed seg after
+      (written (page_with (main_of (page_at (contents old) before)) held.tag held.stamp (wear_of seg (after / seg.size))))
+      (contents old) (contents new))
   pub crash : Crashes clock contents left seg h.tag h.stamp (main_of (page_at (contents old) page)) old new (programmed_by answer)

@@ -36,7 +36,8 @@ pub record LoadsPage (page : ℕ) (h : Held) (old new : Physical) : Type 0 where
   pub victim : new.victim ≡ old.victim
   pub here : is_free new (page / old.size) ≡ false
   pub free : new.free + cond (is_free old (page / old.size)) 1 0 ≡ old.free
-  pub others : (block : ℕ) → (block ≡ page / old.size → ⊥) → (is_free new block ≡ is_free old block) × (is_kept new block ≡ is_kept old block)
+  pub others : (block : ℕ) → (block ≡ page / old.size → ⊥)
+      → (is_free new block ≡ is_free old block) × (is_kept new block ≡ is_kept old block)
   pub left : new.left ≤ old.left
   pub same_soiled : new.soiled ≡ old.soiled
   pub wears : (block : ℕ) → erasures new block ≡ erasures old block

@@ -1,4 +1,4 @@
--- The segment that a state is.
+-- How the state of a physical segment is seen, and which states are formed.
 use Rattle.std.specs.Prelude.{◌≡◌, ℕ, ◌+◌, ◌-◌, ◌*◌, ◌/◌, ◌^◌, ◌<◌, ◌≤◌, true, false, [], length, map, replicate, slice_index_or, Some, None, IsTrue, Option, List}
 use Rattle.nl_field.specs.Spelling.{is_stamp}
 use Rattle.nl_field.specs.declared.shape.Shape.{Shape}
@@ -94,7 +94,8 @@ pub record IsNamed (s : Kept) : Type 0 where
   pub standing : (name : ℕ) → IsOld s.names.pairs name → IsStanding (seen s) name
   pub own : (page : ℕ) (h : Held) → held_at (seen s) page ≡ Some h → IsOld s.names.pairs page → ⊥
   pub to_live : (pair : Link) → HasLink s.names.pairs pair → (h : Held) × (held_at (seen s) pair.to ≡ Some h)
-  pub waits : (block names : ℕ) → HasBlock s.blocks block → (block_at s.blocks block).state ≡ Retired names → names ≡ names_among s.blocks.size block s.names.pairs
+  pub waits : (block names : ℕ) → HasBlock s.blocks block → (block_at s.blocks block).state ≡ Retired names
+      → names ≡ names_among s.blocks.size block s.names.pairs
 
 -- Of the blocks in use one is written to, and one takes copies, where they are not full; one is the victim, where it is in hand; and
 -- the others are Sealed.
@@ -102,8 +103,10 @@ pub record HasPhases (s : Kept) : Type 0 where
   pub target_in : HasBlock s.blocks s.target
   pub filled_fits : s.filled ≤ s.blocks.size
   pub filling : s.filled < s.blocks.size → (block_at s.blocks s.target).state ≡ Target
-  pub one_active : (block : ℕ) → HasBlock s.blocks block → (block_at s.blocks block).state ≡ Active → (block ≡ s.active) × (s.used < s.blocks.size)
-  pub one_target : (block : ℕ) → HasBlock s.blocks block → (block_at s.blocks block).state ≡ Target → (block ≡ s.target) × (s.filled < s.blocks.size)
+  pub one_active : (block : ℕ) → HasBlock s.blocks block → (block_at s.blocks block).state ≡ Active
+      → (block ≡ s.active) × (s.used < s.blocks.size)
+  pub one_target : (block : ℕ) → HasBlock s.blocks block → (block_at s.blocks block).state ≡ Target
+      → (block ≡ s.target) × (s.filled < s.blocks.size)
   pub one_victim : (block : ℕ) → HasBlock s.blocks block → (block_at s.blocks block).state ≡ Victim → s.victim ≡ Some block
   pub victim_in : (block : ℕ) → s.victim ≡ Some block → HasBlock s.blocks block × ((block_at s.blocks block).state ≡ Victim)
 

@@ -111,9 +111,10 @@ IsOldName seg name = (target : ℕ) × Contains seg.pairs (name, target)
 -- The block was erased as often as before, and is as soiled; or it was Free and soiled, and was erased once.
 abbrev pub CountsErase : Physical → Physical → ℕ → Type 0
 CountsErase old new block = ((erasures new block ≡ erasures old block) × (soiled new block ≡ soiled old block))
-    ⊎ ((is_free old block ≡ true) × (is_some (soiled old block) ≡ true) × (soiled new block ≡ None) × (erasures new block ≡ worn (erasures old block)))
+    ⊎ ((is_free old block ≡ true) × (is_some (soiled old block) ≡ true) × (soiled new block ≡ None)
+    × (erasures new block ≡ worn (erasures old block)))
 
--- so each block
+-- each block was erased as often as before and is as soiled, or was Free and soiled and was erased once
 pub record CountsErases (old new : Physical) : Type 0 where
   pub each : (block : ℕ) → CountsErase old new block
 
@@ -188,7 +189,8 @@ IsNextCopy seg page = (seg.copy_next ≤ page) × (page < seg.copy_next + seg.co
 
 -- The image is one of this segment: each live page holds its owner and its number, and what the segment takes as erased is erased.
 pub record IsPhysicalOf (image : Image) (seg : Physical) : Type 0 where
-  pub holds : (page : ℕ) (h : Held) → held_at seg page ≡ Some h → shown_by (page_at image page) ≡ Some (h.tag, h.stamp, main_of (page_at image page))
+  pub holds : (page : ℕ) (h : Held) → held_at seg page ≡ Some h
+      → shown_by (page_at image page) ≡ Some (h.tag, h.stamp, main_of (page_at image page))
   pub blank : (page : ℕ) → TakenAsErased seg page → page_at image page ≡ erased
   pub blank_copy : (page : ℕ) → IsNextCopy seg page → page_at image page ≡ erased
 
@@ -198,16 +200,17 @@ pub record HasSpare (image : Image) (seg : Physical) : Type 0 where
   pub from : seg.first ≤ block
   pub below : block < seg.blocks
   pub idle : (page : ℕ) → IsNext seg page → page / seg.size ≡ block → ⊥
-  pub copied : (page : ℕ) (h : Held) → held_at seg page ≡ Some h → page / seg.size ≡ block → (q : ℕ) × InVictim seg q × (q / seg.size ≡ block → ⊥) × (shown_by (page_at image q) ≡ shown_by (page_at image page))
+  pub copied : (page : ℕ) (h : Held) → held_at seg page ≡ Some h → page / seg.size ≡ block
+      → (q : ℕ) × InVictim seg q × (q / seg.size ≡ block → ⊥) × (shown_by (page_at image q) ≡ shown_by (page_at image page))
 
--- the same blocks and pages
+-- two segments have the same blocks and pages, and the same wear of each block
 pub record SamePages (old new : Physical) : Type 0 where
   pub same_first : new.first ≡ old.first
   pub same_blocks : new.blocks ≡ old.blocks
   pub same_size : new.size ≡ old.size
   pub same_wear : (block : ℕ) → wear_of new block ≡ wear_of old block
 
--- the same pairs, the same victim, and the same pages for copies
+-- two segments have the same pairs, the same victim, and the same pages for copies
 pub record SameNames (old new : Physical) : Type 0 where
   pub same_pairs : new.pairs ≡ old.pairs
   pub same_pair_room : new.pair_room ≡ old.pair_room

@@ -63,9 +63,10 @@ pub record HasPages (seg : Physical) : Type 0 where
   pub no_name_free : (name : ℕ) → IsOldName seg name → is_free seg (name / seg.size) ≡ true → ⊥
   pub victim_idle : (page : ℕ) → IsNext seg page → InVictim seg page → ⊥
 
--- And of its numbers: each live page of a victim is counted; there are at most 4 pairs for each page of a block, and with a victim in
--- hand at most 3 with its live pages; a block that waits has a name; the blocks that are kept for the cleaner are Free or wait, and where there is one or it is in
--- hand, one is Free, waits, or is the victim; and but for three blocks all pages are live, dead, or in blocks that are Free.
+-- What holds of each segment, of its numbers: each live page of a victim is counted; there are at most 4 pairs for each page of a
+-- block, and with a victim in hand at most 3 with its live pages; a block that waits has a name; the blocks that are kept for the
+-- cleaner are Free or wait, and where there is one or it is in hand, one is Free, waits, or is the victim; and but for three blocks
+-- all pages are live, dead, or in blocks that are Free.
 pub record HasNumbers (seg : Physical) : Type 0 where
   pub left : seg.left ≤ seg.size
   pub copy_left : seg.copy_left ≤ seg.size
@@ -76,7 +77,8 @@ pub record HasNumbers (seg : Physical) : Type 0 where
   pub few_wait : waiting seg ≤ length seg.pairs
   pub counted : seg.free + waiting seg ≡ count_by (is_kept seg) (range_with_len seg.first (seg.blocks - seg.first))
   pub kept : KeepsBlock seg → 1 ≤ seg.free + waiting seg + victims seg
-  pub dead : waiting seg ≡ 0 → victims seg ≡ 0 → (seg.blocks - seg.first) * seg.size ≤ live_in seg.held + dead_pages seg + (seg.free + 2) * seg.size
+  pub dead : waiting seg ≡ 0 → victims seg ≡ 0
+      → (seg.blocks - seg.first) * seg.size ≤ live_in seg.held + dead_pages seg + (seg.free + 2) * seg.size
 
 pub record IsWhole (seg : Physical) : Type 0 where
   pub pages : HasPages seg

@@ -18,7 +18,7 @@ use Rattle.nl_pseg_blocks.specs.Uses.{IsPut, Restated, aside_state, use_at, use_
 use Rattle.nl_pseg.specs.declared.held.Held.{Held}
 use Rattle.nl_pseg.specs.Kept.{Kept}
 
--- the same blocks and pages
+-- two segments have the same blocks and pages
 pub record SameRange (old new : Physical) : Type 0 where
   pub range_first : new.first ≡ old.first
   pub range_blocks : new.blocks ≡ old.blocks
@@ -72,11 +72,13 @@ pub record Loads (page : ℕ) (at : Pointer) (tag : Tag) (old new : Physical) : 
   pub name_here : (at.name ≡ page → ⊥) → is_free new (at.name / old.size) ≡ false
   pub free : new.free + cond (is_free old (page / old.size)) 1 0 + cond (names_another_free old page at.name) 1 0 ≡ old.free
   pub left : new.left ≤ old.left
-  pub others : (block : ℕ) → (block ≡ page / old.size → ⊥) → (is_kept new block ≡ is_kept old block) × ((block ≡ at.name / old.size → ⊥) → is_free new block ≡ is_free old block)
+  pub others : (block : ℕ) → (block ≡ page / old.size → ⊥)
+      → (is_kept new block ≡ is_kept old block) × ((block ≡ at.name / old.size → ⊥) → is_free new block ≡ is_free old block)
   pub same_soiled : (block : ℕ) → soiled new block ≡ soiled old block
   pub wears : (block : ℕ) → erasures new block ≡ erasures old block
   pub erased : (p : ℕ) → TakenAsErased new p → TakenAsErased old p × (p / old.size ≡ page / old.size → ⊥)
-  pub still : (p : ℕ) → TakenAsErased old p → (p / old.size ≡ page / old.size → ⊥) → (IsNext old p → p / old.size ≡ at.name / old.size → ⊥) → TakenAsErased new p
+  pub still : (p : ℕ) → TakenAsErased old p → (p / old.size ≡ page / old.size → ⊥)
+      → (IsNext old p → p / old.size ≡ at.name / old.size → ⊥) → TakenAsErased new p
   pub copies : (p : ℕ) → IsNextCopy new p → IsNextCopy old p
 
 -- A block was taken that was Free, where the block that was written to is full, and no page of it is used.
@@ -131,7 +133,7 @@ pub record Ends (page : ℕ) (old new : Physical) : Type 0 where
 abbrev pub AllFree : Physical → Type 0
 AllFree seg = (block : ℕ) → seg.first ≤ block → block < seg.blocks → is_free seg block ≡ true
 
--- the same of each block below the end
+-- each block below the end is Free now, and one that was not is to be erased before use
 pub record AreGivenBack (end : ℕ) (old new : Physical) : Type 0 where
   pub range : SameRange old new
   pub held : new.held ≡ old.held
@@ -143,7 +145,8 @@ pub record AreGivenBack (end : ℕ) (old new : Physical) : Type 0 where
   pub wears : (block : ℕ) → old.first ≤ block → block < end → erasures new block ≡ erasures old block
   pub later : (block : ℕ) → end ≤ block → use_at new.first new.uses block ≡ use_at old.first old.uses block
   pub later_soiled : (block : ℕ) → end ≤ block → soiled new block ≡ soiled old block
-  pub free_before : (block : ℕ) → is_free old block ≡ true → (soiled new block ≡ soiled old block) × (erasures new block ≡ erasures old block)
+  pub free_before : (block : ℕ) → is_free old block ≡ true
+      → (soiled new block ≡ soiled old block) × (erasures new block ≡ erasures old block)
   pub erased : (p : ℕ) → TakenAsErased new p → TakenAsErased old p
   pub same : AllFree old → new ≡ old
 
@@ -187,18 +190,21 @@ abbrev pub Opening : WriteAnswer → Physical → Physical → Type 0
 Opening wrote.Done old new = ((0 < old.left) × (new ≡ old)) ⊎ ((block : ℕ) × IsOpened block old new)
 Opening wrote.Failed old new = SamePages old new × (new.held ≡ old.held) × IsUnspent old new × (IsReady old → ⊥) × SameNames old new
 
--- and to the medium: the page that is programmed next is erased, and only pages of its block have changed, where that had to be
--- erased
-pub record OpeningOn {M : Type 0} (clock : M → ℕ) (contents : M → Image) (left : M → ℕ → Image → Type 0) (answer : WriteAnswer) (seg seg_new : Physical) (old new : M) : Type 0 where
+-- What was done to the medium to have a page to program: the page that is programmed next is erased, and only pages of its block
+-- have changed, where that had to be erased.
+pub record OpeningOn {M : Type 0} (clock : M → ℕ) (contents : M → Image) (left : M → ℕ → Image → Type 0) (answer : WriteAnswer)
+    (seg seg_new : Physical) (old new : M) : Type 0 where
   pub segment : IsPhysicalOf (contents new) seg_new
   pub keeps : Keeps seg (contents old) (contents new)
   pub crash : LeavesOnly clock left old new (λ m c. Keeps seg (contents old) c)
   pub others : answer ≡ wrote.Done → (p : ℕ) → (page_at (contents new) p ≡ page_at (contents old) p)
-      ⊎ ((p / seg.size ≡ seg_new.next / seg.size) × (is_free seg (seg_new.next / seg.size) ≡ true) × (is_soiled seg (seg_new.next / seg.size) ≡ true) × (page_at (contents new) p ≡ erased))
+      ⊎ ((p / seg.size ≡ seg_new.next / seg.size) × (is_free seg (seg_new.next / seg.size) ≡ true)
+      × (is_soiled seg (seg_new.next / seg.size) ≡ true) × (page_at (contents new) p ≡ erased))
 
 -- No Free block was taken, and a page that was placed is one of those that were programmed next; or another block is Free.
 abbrev pub LeavesFree : Named → Physical → Physical → Type 0
-LeavesFree answer old new = ((new.free ≡ old.free) × ((p : ℕ) → IsNext new p → IsNext old p) × IfPlaced answer (λ at. IsNext old at.name)) ⊎ (1 ≤ new.free)
+LeavesFree answer old new =
+    ((new.free ≡ old.free) × ((p : ℕ) → IsNext new p → IsNext old p) × IfPlaced answer (λ at. IsNext old at.name)) ⊎ (1 ≤ new.free)
 
 -- what placing a page does to the segment, where it then has these live pages
 pub record Placing (stamp : ℕ) (now : Pointer → List (Option Held)) (answer : Named) (old new : Physical) : Type 0 where
@@ -215,7 +221,7 @@ pub record Placing (stamp : ℕ) (now : Pointer → List (Option Held)) (answer 
   pub wears : CountsErases old new
   pub names : SameNames old new
 
--- What writing over a live page does to it: where a page was placed, the other one is live no longer.
+-- What writing over a live page does to the segment: where a page was placed, the other one is live no longer.
 pub record WritesOver (place stamp : ℕ) (now : Pointer → List (Option Held)) (answer : Named) (old new : Physical) : Type 0 where
   pub mid : Physical
   pub placing : Placing stamp now answer old mid
@@ -259,14 +265,16 @@ pub record IsReadied (old new : Physical) : Type 0 where
   pub most : old.free ≤ new.free + 1
   pub clean : IsClean old → IsClean new
 
--- What was done to the medium for that: the page that the next copy is programmed on is erased, and only pages of its block have
--- changed, where that had to be erased.
-pub record ReadiedOn {M : Type 0} (clock : M → ℕ) (contents : M → Image) (left : M → ℕ → Image → Type 0) (answer : WriteAnswer) (seg seg_new : Physical) (old new : M) : Type 0 where
+-- What was done to the medium to have a page for a copy: the page that the next copy is programmed on is erased, and only pages of
+-- its block have changed, where that had to be erased.
+pub record ReadiedOn {M : Type 0} (clock : M → ℕ) (contents : M → Image) (left : M → ℕ → Image → Type 0) (answer : WriteAnswer)
+    (seg seg_new : Physical) (old new : M) : Type 0 where
   pub segment : IsPhysicalOf (contents new) seg_new
   pub keeps : Keeps seg (contents old) (contents new)
   pub crash : LeavesOnly clock left old new (λ m c. Keeps seg (contents old) c)
   pub others : answer ≡ wrote.Done → (p : ℕ) → (page_at (contents new) p ≡ page_at (contents old) p)
-      ⊎ ((p / seg.size ≡ seg_new.copy_next / seg.size) × (is_free seg (seg_new.copy_next / seg.size) ≡ true) × (is_soiled seg (seg_new.copy_next / seg.size) ≡ true) × (page_at (contents new) p ≡ erased))
+      ⊎ ((p / seg.size ≡ seg_new.copy_next / seg.size) × (is_free seg (seg_new.copy_next / seg.size) ≡ true)
+      × (is_soiled seg (seg_new.copy_next / seg.size) ≡ true) × (page_at (contents new) p ≡ erased))
 
 -- The next page for copies was used: it holds this.
 pub record IsCopyUsed (x : Option Held) (old new : Physical) : Type 0 where

@@ -10,8 +10,8 @@ use Rattle.nl_pseg.specs.Segment.{Physical, IsClean, IsDead, IsPhysicalOf, IsRea
 use Rattle.nl_pseg.specs.Space.{HasRoomForVictim, Lessens, SameCleaning, waiting}
 use Rattle.nl_pseg.specs.Steps.{IsAlone}
 
--- What each of them does to the segment. A page that it placed was not live, and has this number. Where it placed none, what is live,
--- the pairs and what is cleaned are as they were; where the medium failed, a page may be lost.
+-- What a write or an overwrite does to the segment. A page that it placed was not live, and has this number. Where it placed none,
+-- what is live, the pairs and what is cleaned are as they were; where the medium failed, a page may be lost.
 pub record Writes (stamp : ℕ) (answer : Named) (old new : Physical) : Type 0 where
   pub pages : SamePages old new
   pub placed : IfPlaced answer (λ at. IsDead old at.name × (at.stamp ≡ stamp))
@@ -37,22 +37,27 @@ pub record AddsPage (tag : Tag) (stamp : ℕ) (answer : Named) (old new : Physic
 -- to it. One page was given out, but for blocks that waited for those pairs.
 pub record ReplacesPage (place : ℕ) (tag : Tag) (stamp : ℕ) (answer : Named) (old new : Physical) : Type 0 where
   pub writes : Writes stamp answer old new
-  pub held : IfPlaced answer (λ at. new.held ≡ slice_set (slice_set old.held at.name (Some (record { tag = tag; stamp = stamp }))) place None)
+  pub held : IfPlaced answer
+      (λ at. new.held ≡ slice_set (slice_set old.held at.name (Some (record { tag = tag; stamp = stamp }))) place None)
   pub pairs : IsPlaced answer → new.pairs ≡ without_target place old.pairs
   pub spent : IsPlaced answer → waiting old ≡ 0 → IsSpent old new
   pub space : Lessens (cond (is_placed answer) 1 0) old new
   pub blocks : IsPlaced answer → new.free + waiting new ≤ old.free + waiting old
   pub room : IsPlaced answer → room old ≤ room new + 1
 
--- What each of them does to the medium, which is still that of the segment: the page that it named was programmed, and a stop within
--- it leaves that page or none.
-pub record WritesOn {M : Type 0} (clock : M → ℕ) (contents : M → Image) (left : M → ℕ → Image → Type 0) (tag : Tag) (stamp : ℕ) (main : List ℕ) (answer : Named) (seg seg_new : Physical) (old new : M) : Type 0 where
+-- What a write or an overwrite does to the medium, which is still that of the segment: the page that it named was programmed, and a
+-- stop within it leaves that page or none.
+pub record WritesOn {M : Type 0} (clock : M → ℕ) (contents : M → Image) (left : M → ℕ → Image → Type 0) (tag : Tag) (stamp : ℕ)
+    (main : List ℕ) (answer : Named) (seg seg_new : Physical) (old new : M) : Type 0 where
   pub segment : IsPhysicalOf (contents new) seg_new
-  pub programmed : IfPlaced answer (λ at. Programmed seg at.name (written (page_with main tag stamp (wear_of seg (at.name / seg.size)))) (contents old) (contents new))
+  pub programmed : IfPlaced answer
+      (λ at. Programmed seg at.name (written (page_with main tag stamp (wear_of seg (at.name / seg.size)))) (contents old) (contents new))
   pub crash : Crashes clock contents left seg tag stamp main old new answer
 
--- The same where the page was taken as erased: no other page changed.
-pub record ProgramsOn {M : Type 0} (clock : M → ℕ) (contents : M → Image) (left : M → ℕ → Image → Type 0) (tag : Tag) (stamp : ℕ) (main : List ℕ) (answer : Named) (seg seg_new : Physical) (old new : M) : Type 0 where
+-- What a write does to the medium where the page was taken as erased: no other page changed.
+pub record ProgramsOn {M : Type 0} (clock : M → ℕ) (contents : M → Image) (left : M → ℕ → Image → Type 0) (tag : Tag) (stamp : ℕ)
+    (main : List ℕ) (answer : Named) (seg seg_new : Physical) (old new : M) : Type 0 where
   pub segment : IsPhysicalOf (contents new) seg_new
-  pub alone : IfPlaced answer (λ at. IsAlone at.name (written (page_with main tag stamp (wear_of seg (at.name / seg.size)))) (contents old) (contents new))
+  pub alone : IfPlaced answer
+      (λ at. IsAlone at.name (written (page_with main tag stamp (wear_of seg (at.name / seg.size)))) (contents old) (contents new))
   pub crash : Crashes clock contents left seg tag stamp main old new answer

@@ -16,7 +16,8 @@ impl State {
     /// Whether a victim can be begun, where there is one.
     fn may_begin(&self) -> bool
         requires tied { IsTied (kept self.now) }
-        ensures { IsTrue result ↔ ((self.now.victim ≡ None) × (length self.now.names.pairs ≤ 2 * self.now.blocks.size) × (0 < free_count self.now.blocks)) }
+        ensures { IsTrue result
+            ↔ ((self.now.victim ≡ None) × (length self.now.names.pairs ≤ 2 * self.now.blocks.size) × (0 < free_count self.now.blocks)) }
     {
         let pairs = self.names.len();
         self.victim.is_none() && pairs <= 2 * self.blocks.pages() && self.blocks.free() > 0
@@ -25,7 +26,8 @@ impl State {
     /// The block that is cleaned next.
     fn pick(&self, cold: bool) -> Option<u32>
         ensures some { IfSome result (IsChosen cold (seen (kept self.now))) }
-        ensures here { IfSome result (λ block. HasBlock self.now.blocks block × ((block_at self.now.blocks block).state ≡ BlockState.Sealed)) }
+        ensures here { IfSome result
+            (λ block. HasBlock self.now.blocks block × ((block_at self.now.blocks block).state ≡ BlockState.Sealed)) }
         ensures none { IfNone result (NoneChosen cold (seen (kept self.now))) }
     {
         if cold {
@@ -44,7 +46,8 @@ impl State {
         ensures tied { IsTied (kept self.new) }
         ensures few { HasFewPairs (seen (kept self.new)) }
         ensures table { IsTable self.new.blocks }
-        ensures begun { OnTrue result ((block : ℕ) × IsChosen cold (seen (kept self.old)) block × Begins block (seen (kept self.old)) (seen (kept self.new))) }
+        ensures begun { OnTrue result
+            ((block : ℕ) × IsChosen cold (seen (kept self.old)) block × Begins block (seen (kept self.old)) (seen (kept self.new))) }
         ensures none { OnFalse result (seen (kept self.new) ≡ seen (kept self.old)) }
         ensures cannot { IsTrue result ↔ (CannotBegin cold (seen (kept self.old)) → ⊥) }
     {

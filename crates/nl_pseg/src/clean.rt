@@ -66,7 +66,8 @@ impl PSeg {
         ensures whole { IsWhole self.new }
         ensures medium { M.tells → ErasesOn M.clock M.contents M.left result self.old self.new media.old media.new }
         ensures geometry { M.geometry media.new ≡ M.geometry media.old }
-        ensures clock { (result ≡ Erasure.Done → M.clock media.new ≡ saturated (M.clock media.old + 1)) × ((result ≡ Erasure.Done → ⊥) → M.clock media.new ≡ M.clock media.old) }
+        ensures clock { (result ≡ Erasure.Done → M.clock media.new ≡ saturated (M.clock media.old + 1))
+            × ((result ≡ Erasure.Done → ⊥) → M.clock media.new ≡ M.clock media.old) }
         ensures read_faults { M.read_faults media.new ≡ M.read_faults media.old }
         ensures write_faults { FaultsCounted (M.write_faults media.old) (M.write_faults media.new) (result ≡ Erasure.Fault) }
     {

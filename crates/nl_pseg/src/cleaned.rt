@@ -1,3 +1,4 @@
+// The answers of the calls of cleaning.
 use nl_field::Tag;
 
 /// What a move answers.

@@ -48,7 +48,8 @@ impl State {
         requires has { HasBlock self.now.blocks block }
         requires within { to ≤ self.now.blocks.size }
         ensures some { IfSome result (λ page. (page / self.now.blocks.size ≡ block) × IsSome (held_at (seen (kept self.now)) page)) }
-        ensures none { IfNone result ((at : ℕ) → from ≤ at → at < to → held_at (seen (kept self.now)) (block * self.now.blocks.size + at) ≡ None) }
+        ensures none { IfNone result
+            ((at : ℕ) → from ≤ at → at < to → held_at (seen (kept self.now)) (block * self.now.blocks.size + at) ≡ None) }
     {
         let pages = self.blocks.pages();
         for at in from..to {
@@ -72,7 +73,8 @@ impl State {
         ensures tied { IsTied (kept self.new) }
         ensures left { result ≡ WriteAnswer.Done → (kept self.new).filled < self.new.blocks.size }
         ensures readied { IsReadied (seen (kept self.old)) (seen (kept self.new)) }
-        ensures medium { M.tells → ReadiedOn M.clock M.contents M.left result (seen (kept self.old)) (seen (kept self.new)) media.old media.new }
+        ensures medium { M.tells → ReadiedOn M.clock M.contents M.left result (seen (kept self.old))
+            (seen (kept self.new)) media.old media.new }
         ensures geometry { M.geometry media.new ≡ M.geometry media.old }
         ensures clean { IsClean (seen (kept self.old)) → (result ≡ WriteAnswer.Done) × (M.clock media.new ≡ M.clock media.old) }
         ensures clock { (M.clock media.old ≤ M.clock media.new) × (M.clock media.new ≤ M.clock media.old + 1) }
@@ -171,11 +173,14 @@ impl State {
         requires segment { M.tells → IsPhysicalOf (M.contents media.old) (seen (kept self.old)) }
         ensures consistent { IsConsistent (kept self.new) }
         ensures lands { LandsPage before held result (seen (kept self.old)) (seen (kept self.new)) }
-        ensures medium { M.tells → ProgramsOn M.clock M.contents M.left held.tag held.stamp buf.old.main (programmed_by result) (seen (kept self.old)) (seen (kept self.new)) media.old media.new }
-        ensures spare { M.tells → shown_by (page_at (M.contents media.old) before) ≡ Some (held.tag, held.stamp, buf.old.main) → HasSpare (M.contents media.old) (seen (kept self.old)) → HasSpare (M.contents media.new) (seen (kept self.new)) }
+        ensures medium { M.tells → ProgramsOn M.clock M.contents M.left held.tag held.stamp buf.old.main (programmed_by result)
+            (seen (kept self.old)) (seen (kept self.new)) media.old media.new }
+        ensures spare { M.tells → shown_by (page_at (M.contents media.old) before) ≡ Some (held.tag, held.stamp, buf.old.main)
+            → HasSpare (M.contents media.old) (seen (kept self.old)) → HasSpare (M.contents media.new) (seen (kept self.new)) }
         ensures geometry { M.geometry media.new ≡ M.geometry media.old }
         ensures later { M.clock media.old ≤ M.clock media.new }
-        ensures clock { (IsMoved result → M.clock media.new ≡ saturated (M.clock media.old + 1)) × ((IsMoved result → ⊥) → M.clock media.new ≡ M.clock media.old) }
+        ensures clock { (IsMoved result → M.clock media.new ≡ saturated (M.clock media.old + 1))
+            × ((IsMoved result → ⊥) → M.clock media.new ≡ M.clock media.old) }
         ensures read_faults { M.read_faults media.new ≡ M.read_faults media.old }
         ensures write_faults { FaultsCounted (M.write_faults media.old) (M.write_faults media.new) (result ≡ Copied.Fault) }
     {
@@ -218,8 +223,10 @@ impl State {
         ensures consistent { IsConsistent (kept self.new) }
         ensures nothing { result ≡ Copied.Nothing → ⊥ }
         ensures moves { MovesPage before held result (seen (kept self.old)) (seen (kept self.new)) }
-        ensures lands { HasRoomForVictim (seen (kept self.old)) → Rose (M.write_faults media.old) (M.write_faults media.new) ⊎ HasRoomForVictim (seen (kept self.new)) }
-        ensures medium { M.tells → MovesOn M.clock M.contents M.left before held result (seen (kept self.old)) (seen (kept self.new)) media.old media.new }
+        ensures lands { HasRoomForVictim (seen (kept self.old))
+            → Rose (M.write_faults media.old) (M.write_faults media.new) ⊎ HasRoomForVictim (seen (kept self.new)) }
+        ensures medium { M.tells → MovesOn M.clock M.contents M.left before held result (seen (kept self.old))
+            (seen (kept self.new)) media.old media.new }
         ensures geometry { M.geometry media.new ≡ M.geometry media.old }
         ensures counts { CountedMove M.clock M.read_faults M.write_faults (IsClean (seen (kept self.old))) media.old media.new result }
     {
@@ -246,7 +253,8 @@ impl State {
         ensures refused { result ≡ Copied.Nothing → (seen (kept self.new) ≡ seen (kept self.old)) × (media.new ≡ media.old) }
         ensures copies { CopiesPage result (seen (kept self.old)) (seen (kept self.new)) }
         ensures lands { Rose (M.write_faults media.old) (M.write_faults media.new) ⊎ HasRoomForVictim (seen (kept self.new)) }
-        ensures medium { M.tells → CopiesOn M.clock M.contents M.left result (seen (kept self.old)) (seen (kept self.new)) media.old media.new }
+        ensures medium { M.tells → CopiesOn M.clock M.contents M.left result (seen (kept self.old))
+            (seen (kept self.new)) media.old media.new }
         ensures geometry { M.geometry media.new ≡ M.geometry media.old }
         ensures counts { CountedMove M.clock M.read_faults M.write_faults (IsClean (seen (kept self.old))) media.old media.new result }
     {

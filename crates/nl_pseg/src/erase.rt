@@ -46,9 +46,11 @@ impl State {
         ensures nothing { result ≡ Erasure.Nothing ↔ ((victims (seen (kept self.old)) ≡ 1) × (left_of (seen (kept self.old)) ≡ 0) → ⊥) }
         ensures refused { result ≡ Erasure.Nothing → media.new ≡ media.old }
         ensures erases { ErasesIfDone result (seen (kept self.old)) (seen (kept self.new)) }
-        ensures medium { M.tells → ErasesOn M.clock M.contents M.left result (seen (kept self.old)) (seen (kept self.new)) media.old media.new }
+        ensures medium { M.tells → ErasesOn M.clock M.contents M.left result (seen (kept self.old))
+            (seen (kept self.new)) media.old media.new }
         ensures geometry { M.geometry media.new ≡ M.geometry media.old }
-        ensures clock { (result ≡ Erasure.Done → M.clock media.new ≡ saturated (M.clock media.old + 1)) × ((result ≡ Erasure.Done → ⊥) → M.clock media.new ≡ M.clock media.old) }
+        ensures clock { (result ≡ Erasure.Done → M.clock media.new ≡ saturated (M.clock media.old + 1))
+            × ((result ≡ Erasure.Done → ⊥) → M.clock media.new ≡ M.clock media.old) }
         ensures read_faults { M.read_faults media.new ≡ M.read_faults media.old }
         ensures write_faults { FaultsCounted (M.write_faults media.old) (M.write_faults media.new) (result ≡ Erasure.Fault) }
     {

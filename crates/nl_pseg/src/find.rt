@@ -1,3 +1,4 @@
+// Looks up what a segment keeps: where a pointer leads, and what is live on a page.
 ghost use Rattle.std.specs.Prelude.{◌≡◌, ◌↔◌, ◌<◌, ℕ, slice_set, slice_index_or, None, IsSome, IfSome, IsTrue};
 ghost use Rattle.std.specs.Bool.{OnTrue, OnFalse};
 ghost use Rattle.nl_field.specs.Live.{resolve};
@@ -35,6 +36,7 @@ impl State {
         let _ = self.blocks.count();
     }
 
+    /// How many blocks are Free.
     pub fn free_blocks(&self) -> u32
         ensures { result ≡ free_count self.now.blocks }
     {

@@ -1,3 +1,4 @@
+// The live pages of a segment, and the blocks that were told to be soiled.
 ghost use Rattle.std.specs.Prelude.{◌≡◌, replicate, None, IfOk};
 
 use nl_field::{Memory, Tag};
@@ -10,14 +11,14 @@ pub struct Held {
     pub stamp: u64,
 }
 
-/// So many pages that are not live.
+/// A list of so many pages, none of which is live. An error where memory is refused.
 pub fn no_pages(alloc: Global, count: u32) -> Result<Vec<Option<Held>>, Memory>
     ensures { IfOk result (λ v. v.items ≡ replicate count None) }
 {
     Ok(vec![in alloc; None; count as usize]?)
 }
 
-/// So many blocks that were not told to be soiled.
+/// A list of so many blocks, none of which was told to be soiled. An error where memory is refused.
 pub fn no_marks(alloc: Global, count: u32) -> Result<Vec<Option<u32>>, Memory>
     ensures { IfOk result (λ v. v.items ≡ replicate count None) }
 {

@@ -56,7 +56,8 @@ impl State {
         ensures found { IsTrue result ↔ IsOld self.old.names.pairs name }
         ensures pairs { OnTrue result (self.new.names.pairs ≡ remove self.old.names.pairs (place_of self.old.names.pairs name)) }
         ensures room { OnTrue result (self.new.names.room ≡ self.old.names.room + 1) }
-        ensures beside { OnTrue result (let target = led self.old.names.pairs name in beside self.new.names.pairs target ≡ beside self.old.names.pairs target) }
+        ensures beside { OnTrue result
+            (let target = led self.old.names.pairs name in beside self.new.names.pairs target ≡ beside self.old.names.pairs target) }
         ensures held { self.new.held ≡ self.old.held }
         ensures gone { NamesGone (seen (kept self.old)) (seen (kept self.new)) }
         ensures kept { OnFalse result (seen (kept self.new) ≡ seen (kept self.old)) }

@@ -1,3 +1,4 @@
+// Serves an opening: takes over live pages with their old names, and blocks that were written to.
 ghost use Rattle.std.specs.Prelude.{◌≡◌, ◌⊎◌, ◌+◌, ◌/◌, ◌<◌, ◌^◌, None, IsSome, IsTrue};
 ghost use Rattle.nl_field.specs.Spelling.{is_stamp};
 ghost use Rattle.nl_blocks.specs.Table.{HasBlock, block_at, names_of};
@@ -57,7 +58,8 @@ impl State {
         requires tied { IsTied (kept self.old) }
         requires few { HasBlock self.old.blocks block → names_of (block_at self.old.blocks block).state + 1 < 2 ^ 32 }
         ensures formed { IsFormed (kept self.new) }
-        ensures aside { ((HasBlock self.old.blocks block → ⊥) × (kept self.new ≡ kept self.old)) ⊎ (HasBlock self.old.blocks block × IsAside block (kept self.old) (kept self.new)) }
+        ensures aside { ((HasBlock self.old.blocks block → ⊥) × (kept self.new ≡ kept self.old))
+            ⊎ (HasBlock self.old.blocks block × IsAside block (kept self.old) (kept self.new)) }
     {
         if block < self.blocks.first() || block - self.blocks.first() >= self.blocks.count() {
             return;

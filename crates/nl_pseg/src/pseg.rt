@@ -1,3 +1,4 @@
+// A physical segment as its users see it.
 ghost use Rattle.std.specs.Prelude.{◌≡◌, ◌⊎◌, ℕ, ◌+◌, ◌<◌, ◌≤◌, ◌↔◌, length, slice_set, None, Some, Contains, IsTrue, IfOk, IfSome, IfNone};
 ghost use Rattle.std.specs.Bool.{OnTrue, OnFalse};
 ghost use Rattle.nl_field.specs.Live.{resolve};
@@ -206,8 +207,10 @@ impl PSeg {
         requires segment { M.tells → IsPhysicalOf (M.contents media.old) self.old }
         ensures segment { self.new ≡ self.old }
         ensures answer { ReadsHeld (held_at self.old (resolve self.old.pairs at.name)) tag at.stamp buf.new result }
-        ensures value { M.tells → result ≡ NamedRead.Done → page_at (M.contents media.old) (resolve self.old.pairs at.name) ≡ written buf.new }
-        ensures kept { M.tells → held_at self.old (resolve self.old.pairs at.name) ≡ Some (record { tag = tag; stamp = at.stamp }) → (result ≡ NamedRead.Done) ⊎ (result ≡ NamedRead.Fault) }
+        ensures value { M.tells → result ≡ NamedRead.Done
+            → page_at (M.contents media.old) (resolve self.old.pairs at.name) ≡ written buf.new }
+        ensures kept { M.tells → held_at self.old (resolve self.old.pairs at.name) ≡ Some (record { tag = tag; stamp = at.stamp })
+            → (result ≡ NamedRead.Done) ⊎ (result ≡ NamedRead.Fault) }
         ensures geometry { M.geometry media.new ≡ M.geometry media.old }
         ensures contents { M.contents media.new ≡ M.contents media.old }
         ensures left { SameLeft M.left media.old media.new }
@@ -247,8 +250,8 @@ impl PSeg {
         named
     }
 
-    /// As `nameless_write`, in place of the page to which a pointer leads: that is dead once the new one is placed, and only then.
-    /// It answers `NotLive` exactly where the pointer leads to no live page of its write sequence number, and that before
+    /// Writes a page in place of the one to which a pointer leads: that is dead once the new one is placed, and only then.
+    /// `NotLive` is answered exactly where the pointer leads to no live page of its write sequence number, and that before
     /// `NoPage`.
     pub fn nameless_overwrite<M: Nand>(
         &mut self,

@@ -1,3 +1,4 @@
+// Reads the page to which a pointer leads.
 ghost use Rattle.std.specs.Prelude.{◌≡◌, ◌⊎◌, Some};
 ghost use Rattle.nl_field.specs.Live.{resolve};
 ghost use Rattle.nl_field.specs.Page.{page_at, written};
@@ -13,6 +14,7 @@ use nl_nand::Nand;
 use nl_pseg_pages::read_page;
 
 impl State {
+    /// Reads the page to which a pointer leads, for its owner. A `Fault` is counted.
     pub fn read<M: Nand>(
         &self,
         media: &mut M,
@@ -23,9 +25,12 @@ impl State {
         requires formed { IsFormed (kept self.now) }
         requires fits { Fits (M.geometry media.old) (seen (kept self.now)) }
         requires segment { M.tells → IsPhysicalOf (M.contents media.old) (seen (kept self.now)) }
-        ensures answer { ReadsHeld (held_at (seen (kept self.now)) (resolve (seen (kept self.now)).pairs at.name)) tag at.stamp buf.new result }
-        ensures value { M.tells → result ≡ NamedRead.Done → page_at (M.contents media.old) (resolve (seen (kept self.now)).pairs at.name) ≡ written buf.new }
-        ensures kept { M.tells → held_at (seen (kept self.now)) (resolve (seen (kept self.now)).pairs at.name) ≡ Some (record { tag = tag; stamp = at.stamp }) → (result ≡ NamedRead.Done) ⊎ (result ≡ NamedRead.Fault) }
+        ensures answer { ReadsHeld (held_at (seen (kept self.now))
+            (resolve (seen (kept self.now)).pairs at.name)) tag at.stamp buf.new result }
+        ensures value { M.tells → result ≡ NamedRead.Done
+            → page_at (M.contents media.old) (resolve (seen (kept self.now)).pairs at.name) ≡ written buf.new }
+        ensures kept { M.tells → held_at (seen (kept self.now)) (resolve (seen (kept self.now)).pairs at.name)
+            ≡ Some (record { tag = tag; stamp = at.stamp }) → (result ≡ NamedRead.Done) ⊎ (result ≡ NamedRead.Fault) }
         ensures geometry { M.geometry media.new ≡ M.geometry media.old }
         ensures contents { M.contents media.new ≡ M.contents media.old }
         ensures left { SameLeft M.left media.old media.new }

@@ -31,7 +31,7 @@ impl State {
         self.soiled[block as usize].is_some()
     }
 
-    /// This block is written to. No page of it is used.
+    /// The block is written to from now on. No page of it is used.
     fn write_to(&mut self, block: u32)
         requires formed { IsFormed (all_used (kept self.old)) }
         requires has { HasBlock self.old.blocks block }
@@ -61,7 +61,8 @@ impl State {
         ensures tied { IsTied (kept self.new) }
         ensures left { result ≡ WriteAnswer.Done → (kept self.new).used < self.new.blocks.size }
         ensures opening { Opening result (seen (kept self.old)) (seen (kept self.new)) }
-        ensures medium { M.tells → OpeningOn M.clock M.contents M.left result (seen (kept self.old)) (seen (kept self.new)) media.old media.new }
+        ensures medium { M.tells → OpeningOn M.clock M.contents M.left result (seen (kept self.old))
+            (seen (kept self.new)) media.old media.new }
         ensures geometry { M.geometry media.new ≡ M.geometry media.old }
         ensures ready { IsReady (seen (kept self.old)) → (result ≡ WriteAnswer.Done) × (M.clock media.new ≡ M.clock media.old) }
         ensures clock { (M.clock media.old ≤ M.clock media.new) × (M.clock media.new ≤ M.clock media.old + 1) }

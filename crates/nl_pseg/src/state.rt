@@ -1,3 +1,4 @@
+// The state of a physical segment.
 ghost use Rattle.std.specs.Prelude.{◌≡◌, ◌<◌, IfOk, IfSome, IsTrue};
 ghost use Rattle.nl_field.specs.Numbers.{is_legal, shape_for};
 ghost use Rattle.nl_field.specs.Spelling.{is_stamp};
@@ -34,6 +35,7 @@ pub struct State {
 }
 
 impl State {
+    /// A segment with no live page and no old name. An error where memory is refused.
     pub fn new(alloc: Global, shape: &Shape) -> Result<State, Memory>
         requires legal { IsTrue (is_legal shape.now.blocks shape.now.pages) }
         requires numbers { shape.now ≡ shape_for shape.now.blocks shape.now.pages }
@@ -64,7 +66,8 @@ impl State {
         ensures formed { IsFormed (kept self.new) }
         ensures tied { IsTied (kept self.new) }
         ensures used { IsUsed held (seen (kept self.old)) (seen (kept self.new)) }
-        ensures sealed { (kept self.new).used ≡ self.new.blocks.size → (block_at self.new.blocks self.old.active).state ≡ BlockState.Sealed }
+        ensures sealed { (kept self.new).used ≡ self.new.blocks.size
+            → (block_at self.new.blocks self.old.active).state ≡ BlockState.Sealed }
     {
         mark(&mut self.blocks, page, held.is_some());
         self.held[page as usize] = held;

@@ -1,3 +1,4 @@
+// Writes pages whose place the segment picks, also in place of a live page.
 ghost use Rattle.std.specs.Prelude.{◌≡◌, ◌⊎◌, ◌<◌, ◌↔◌, slice_set, Some, IsTrue};
 ghost use Rattle.nl_field.specs.Live.{resolve};
 ghost use Rattle.nl_field.specs.Spelling.{is_stamp};
@@ -28,9 +29,12 @@ impl State {
         ensures formed { IsFormed (kept self.new) }
         ensures tied { IsTied (kept self.new) }
         ensures tried { IsTried result }
-        ensures placing { Placing stamp (λ at. slice_set self.old.held.items at.name (Some (record { tag = tag; stamp = stamp }))) result (seen (kept self.old)) (seen (kept self.new)) }
+        ensures placing { Placing stamp
+            (λ at. slice_set self.old.held.items at.name (Some (record { tag = tag; stamp = stamp }))) result (seen (kept self.old))
+            (seen (kept self.new)) }
         ensures next { IfPlaced result (λ at. at.name ≡ (seen (kept self.old)).next) }
-        ensures medium { M.tells → ProgramsOn M.clock M.contents M.left tag stamp from.now.main result (seen (kept self.old)) (seen (kept self.new)) media.old media.new }
+        ensures medium { M.tells → ProgramsOn M.clock M.contents M.left tag stamp from.now.main result (seen (kept self.old))
+            (seen (kept self.new)) media.old media.new }
         ensures geometry { M.geometry media.new ≡ M.geometry media.old }
         ensures counts { Counted M.clock M.read_faults M.write_faults (IsReady (seen (kept self.old))) media.old media.new result }
     {
@@ -62,8 +66,11 @@ impl State {
         ensures formed { IsFormed (kept self.new) }
         ensures tied { IsTied (kept self.new) }
         ensures tried { IsTried result }
-        ensures placing { Placing stamp (λ at. slice_set self.old.held.items at.name (Some (record { tag = tag; stamp = stamp }))) result (seen (kept self.old)) (seen (kept self.new)) }
-        ensures medium { M.tells → WritesOn M.clock M.contents M.left tag stamp from.now.main result (seen (kept self.old)) (seen (kept self.new)) media.old media.new }
+        ensures placing { Placing stamp
+            (λ at. slice_set self.old.held.items at.name (Some (record { tag = tag; stamp = stamp }))) result (seen (kept self.old))
+            (seen (kept self.new)) }
+        ensures medium { M.tells → WritesOn M.clock M.contents M.left tag stamp from.now.main result (seen (kept self.old))
+            (seen (kept self.new)) media.old media.new }
         ensures geometry { M.geometry media.new ≡ M.geometry media.old }
         ensures counts { Counted M.clock M.read_faults M.write_faults (IsReady (seen (kept self.old))) media.old media.new result }
     {
@@ -73,6 +80,7 @@ impl State {
         }
     }
 
+    /// Writes a page of this owner, under this write sequence number, to a page that the segment picks.
     pub fn write<M: Nand>(&mut self, media: &mut M, tag: Tag, from: &PageBuf, stamp: u64) -> Named
         requires formed { IsFormed (kept self.old) }
         requires tied { IsTied (kept self.old) }
@@ -84,8 +92,11 @@ impl State {
         ensures live { result ≡ Named.NotLive → ⊥ }
         ensures full { result ≡ Named.NoPage ↔ room (seen (kept self.old)) ≡ 0 }
         ensures refused { result ≡ Named.NoPage → (seen (kept self.new) ≡ seen (kept self.old)) × (media.new ≡ media.old) }
-        ensures placing { Placing stamp (λ at. slice_set self.old.held.items at.name (Some (record { tag = tag; stamp = stamp }))) result (seen (kept self.old)) (seen (kept self.new)) }
-        ensures medium { M.tells → WritesOn M.clock M.contents M.left tag stamp from.now.main result (seen (kept self.old)) (seen (kept self.new)) media.old media.new }
+        ensures placing { Placing stamp
+            (λ at. slice_set self.old.held.items at.name (Some (record { tag = tag; stamp = stamp }))) result (seen (kept self.old))
+            (seen (kept self.new)) }
+        ensures medium { M.tells → WritesOn M.clock M.contents M.left tag stamp from.now.main result (seen (kept self.old))
+            (seen (kept self.new)) media.old media.new }
         ensures geometry { M.geometry media.new ≡ M.geometry media.old }
         ensures counts { Counted M.clock M.read_faults M.write_faults (IsReady (seen (kept self.old))) media.old media.new result }
     {
@@ -95,6 +106,7 @@ impl State {
         self.place(media, tag, from, stamp)
     }
 
+    /// Writes a page in place of the one to which a pointer leads, which is dead once the new one is placed, and only then.
     pub fn overwrite<M: Nand>(
         &mut self,
         media: &mut M,
@@ -112,9 +124,13 @@ impl State {
         ensures tied { IsTied (kept self.new) }
         ensures live { result ≡ Named.NotLive ↔ (IsLive (seen (kept self.old)) old → ⊥) }
         ensures full { result ≡ Named.NoPage ↔ (IsLive (seen (kept self.old)) old × (room (seen (kept self.old)) ≡ 0)) }
-        ensures refused { (result ≡ Named.NotLive) ⊎ (result ≡ Named.NoPage) → (seen (kept self.new) ≡ seen (kept self.old)) × (media.new ≡ media.old) }
-        ensures over { WritesOver (resolve (seen (kept self.old)).pairs old.name) stamp (λ at. slice_set self.old.held.items at.name (Some (record { tag = tag; stamp = stamp }))) result (seen (kept self.old)) (seen (kept self.new)) }
-        ensures medium { M.tells → WritesOn M.clock M.contents M.left tag stamp from.now.main result (seen (kept self.old)) (seen (kept self.new)) media.old media.new }
+        ensures refused { (result ≡ Named.NotLive) ⊎ (result ≡ Named.NoPage)
+            → (seen (kept self.new) ≡ seen (kept self.old)) × (media.new ≡ media.old) }
+        ensures over { WritesOver (resolve (seen (kept self.old)).pairs old.name) stamp
+            (λ at. slice_set self.old.held.items at.name (Some (record { tag = tag; stamp = stamp }))) result (seen (kept self.old))
+            (seen (kept self.new)) }
+        ensures medium { M.tells → WritesOn M.clock M.contents M.left tag stamp from.now.main result (seen (kept self.old))
+            (seen (kept self.new)) media.old media.new }
         ensures geometry { M.geometry media.new ≡ M.geometry media.old }
         ensures counts { Counted M.clock M.read_faults M.write_faults (IsReady (seen (kept self.old))) media.old media.new result }
     {

@@ -44,7 +44,7 @@ pub record AreRising (table : Table) : Type 0 where
   pub active : IsRising is_active_state table
   pub target : IsRising is_target_state table
 
--- as many blocks, with the same numbers
+-- two tables have as many blocks, with the same numbers
 pub record SameNumbers (old new : Table) : Type 0 where
   pub same_first : new.first ≡ old.first
   pub same_size : new.size ≡ old.size
@@ -61,7 +61,7 @@ pub record SameFill (old new : Table) : Type 0 where
   pub used : (block : ℕ) → HasBlock old block → SameUsed is_active_state block old new
   pub filled : (block : ℕ) → HasBlock old block → SameUsed is_target_state block old new
 
--- so but for this block
+-- in each block but this one as many pages are used, for new names and for copies
 pub record SameFillBeside (block : ℕ) (old new : Table) : Type 0 where
   pub used : (other : ℕ) → HasBlock old other → (other ≡ block → ⊥) → SameUsed is_active_state other old new
   pub filled : (other : ℕ) → HasBlock old other → (other ≡ block → ⊥) → SameUsed is_target_state other old new
@@ -78,7 +78,8 @@ IsUpTo kind page t = page % t.size ≤ used_in kind t (page / t.size)
 -- What marking a page does to the number of the used pages: a page that is used leaves it, and the next one is used now.
 pub record Uses (kind : BlockState → Bool) (page : ℕ) (old new : Table) : Type 0 where
   pub again : page % old.size < used_in kind old (page / old.size) → (block : ℕ) → HasBlock old block → SameUsed kind block old new
-  pub next : page % old.size ≡ used_in kind old (page / old.size) → used_in kind new (page / old.size) ≡ used_in kind old (page / old.size) + 1
+  pub next : page % old.size ≡ used_in kind old (page / old.size)
+      → used_in kind new (page / old.size) ≡ used_in kind old (page / old.size) + 1
   pub others : (block : ℕ) → HasBlock old block → (block ≡ page / old.size → ⊥) → SameUsed kind block old new
 
 -- one page is live now, or not, and the others are as before

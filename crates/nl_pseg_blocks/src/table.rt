@@ -6,6 +6,7 @@ ghost use Rattle.nl_pseg_blocks.specs.Uses.{use_in, AreRising, IsMarked, IsPut, 
 
 use nl_blocks::{BlockState, Blocks, PageState};
 
+/// Whether a block is Free.
 pub fn is_free(blocks: &Blocks, block: u32) -> bool
     requires { HasBlock blocks.now block }
     ensures { result ≡ (use_in blocks.now block).is_free }
@@ -16,7 +17,9 @@ pub fn is_free(blocks: &Blocks, block: u32) -> bool
 /// The page that is used next for a new name in this block, where it is Active and has one that is not used.
 pub fn next_page(blocks: &Blocks, block: u32) -> Option<u32>
     requires { HasBlock blocks.now block }
-    ensures some { IfSome result (λ page. (used_in is_active_state blocks.now block < blocks.now.size) × (page ≡ block * blocks.now.size + used_in is_active_state blocks.now block)) }
+    ensures some { IfSome result
+        (λ page. (used_in is_active_state blocks.now block < blocks.now.size)
+        × (page ≡ block * blocks.now.size + used_in is_active_state blocks.now block)) }
     ensures none { IfNone result (used_in is_active_state blocks.now block ≡ blocks.now.size) }
 {
     let _ = blocks.count();
@@ -29,7 +32,9 @@ pub fn next_page(blocks: &Blocks, block: u32) -> Option<u32>
 /// The page that is used next for a copy in this block, where it is a Target and has one that is not used.
 pub fn next_copy(blocks: &Blocks, block: u32) -> Option<u32>
     requires { HasBlock blocks.now block }
-    ensures some { IfSome result (λ page. (used_in is_target_state blocks.now block < blocks.now.size) × (page ≡ block * blocks.now.size + used_in is_target_state blocks.now block)) }
+    ensures some { IfSome result
+        (λ page. (used_in is_target_state blocks.now block < blocks.now.size)
+        × (page ≡ block * blocks.now.size + used_in is_target_state blocks.now block)) }
     ensures none { IfNone result (used_in is_target_state blocks.now block ≡ blocks.now.size) }
 {
     let _ = blocks.count();
@@ -103,7 +108,8 @@ pub fn seal_full(blocks: &mut Blocks, block: u32)
     ensures fill { SameFill blocks.old blocks.new }
     ensures more { used_in is_active_state blocks.old block < blocks.old.size → (block_at blocks.new block).state ≡ BlockState.Active }
     ensures sealed { used_in is_active_state blocks.old block ≡ blocks.old.size → (block_at blocks.new block).state ≡ BlockState.Sealed }
-    ensures others { (other : ℕ) → HasBlock blocks.old other → (other ≡ block → ⊥) → (block_at blocks.new other).state ≡ (block_at blocks.old other).state }
+    ensures others { (other : ℕ) → HasBlock blocks.old other → (other ≡ block → ⊥)
+        → (block_at blocks.new other).state ≡ (block_at blocks.old other).state }
 {
     let _ = blocks.count();
     if blocks.next_page(block).is_none() {
@@ -120,7 +126,8 @@ pub fn seal_filled(blocks: &mut Blocks, block: u32)
     ensures fill { SameFill blocks.old blocks.new }
     ensures more { used_in is_target_state blocks.old block < blocks.old.size → (block_at blocks.new block).state ≡ BlockState.Target }
     ensures sealed { used_in is_target_state blocks.old block ≡ blocks.old.size → (block_at blocks.new block).state ≡ BlockState.Sealed }
-    ensures others { (other : ℕ) → HasBlock blocks.old other → (other ≡ block → ⊥) → (block_at blocks.new other).state ≡ (block_at blocks.old other).state }
+    ensures others { (other : ℕ) → HasBlock blocks.old other → (other ≡ block → ⊥)
+        → (block_at blocks.new other).state ≡ (block_at blocks.old other).state }
 {
     let _ = blocks.count();
     if blocks.next_page(block).is_none() {
@@ -137,7 +144,8 @@ pub fn choose(blocks: &mut Blocks, block: u32)
     ensures fill { SameFill blocks.old blocks.new }
     ensures here { (block_at blocks.new block).state ≡ BlockState.Victim }
     ensures table { blocks.new ≡ with_block blocks.old block (in_state (block_at blocks.old block) BlockState.Victim) }
-    ensures others { (other : ℕ) → HasBlock blocks.old other → (other ≡ block → ⊥) → (block_at blocks.new other).state ≡ (block_at blocks.old other).state }
+    ensures others { (other : ℕ) → HasBlock blocks.old other → (other ≡ block → ⊥)
+        → (block_at blocks.new other).state ≡ (block_at blocks.old other).state }
 {
     blocks.choose(block);
 }
@@ -151,7 +159,8 @@ pub fn end_name(blocks: &mut Blocks, block: u32)
     ensures wears { (other : ℕ) → (use_in blocks.new other).wear ≡ (use_in blocks.old other).wear }
     ensures uses { (other : ℕ) → (other ≡ block → ⊥) → use_in blocks.new other ≡ use_in blocks.old other }
     ensures here { (block_at blocks.new block).state ≡ after_erase (names_of (block_at blocks.old block).state - 1) }
-    ensures others { (other : ℕ) → HasBlock blocks.old other → (other ≡ block → ⊥) → (block_at blocks.new other).state ≡ (block_at blocks.old other).state }
+    ensures others { (other : ℕ) → HasBlock blocks.old other → (other ≡ block → ⊥)
+        → (block_at blocks.new other).state ≡ (block_at blocks.old other).state }
     ensures marks { SameMarks blocks.old blocks.new }
     ensures fill { SameFill blocks.old blocks.new }
 {

@@ -81,7 +81,7 @@ kept_add {size} {room} {limit} {xs} {ys} {counts} {now} after old new at is some
   };
 }
 
--- and as one is taken away
+-- what is kept stays whole as one old name is taken away
 pub kept_take : {size room limit : ℕ} {xs ys : List Link} {counts now : List ℕ} (after name : ℕ) → IsKept size room limit xs counts → IsOld xs name → ys ≡ remove xs (place_of xs name) → after ≡ room + 1
     → IsRemap ys → length now ≡ length counts → ((i : ℕ) → i < length counts → get_or now i 0 + cond (name / size == i) 1 0 ≡ get_or counts i 0) → IsKept size after limit ys now
 kept_take {size} {room} {limit} {xs} {ys} {counts} {now} after name is old taken more table same each = record {

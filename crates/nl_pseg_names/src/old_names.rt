@@ -10,6 +10,7 @@ use nl_remap::Remap;
 use std::alloc::Global;
 use std::marker::Model;
 
+/// The pairs of an old name and the page to which it leads, and how many old names stand in each block.
 #[derive(Drop)]
 pub struct OldNames {
     remap: Remap,
@@ -88,7 +89,8 @@ impl OldNames {
         requires fresh { IsOld self.old.pairs old → ⊥ }
         requires free { IsOld self.old.pairs new → ⊥ }
         requires other { old ≡ new → ⊥ }
-        ensures added { let pairs = map (led_on old new) self.old.pairs in self.new ≡ record self.old { pairs = insert pairs (place_of pairs old) (pair old new); room = self.old.room - 1 } }
+        ensures added { let pairs = map (led_on old new) self.old.pairs in self.new
+            ≡ record self.old { pairs = insert pairs (place_of pairs old) (pair old new); room = self.old.room - 1 } }
         ensures table { IsRemap self.new.pairs }
         ensures ways { (name : ℕ) → led self.new.pairs name ≡ (if led self.old.pairs name == old then new else led self.old.pairs name) }
     {
@@ -99,11 +101,13 @@ impl OldNames {
     /// Takes the pair of this old name away. False exactly where there is none.
     pub fn drop_name(&mut self, name: u32) -> bool
         ensures found { IsTrue result ↔ IsOld self.old.pairs name }
-        ensures dropped { OnTrue result (self.new ≡ record self.old { pairs = remove self.old.pairs (place_of self.old.pairs name); room = self.old.room + 1 }) }
+        ensures dropped { OnTrue result
+            (self.new ≡ record self.old { pairs = remove self.old.pairs (place_of self.old.pairs name); room = self.old.room + 1 }) }
         ensures kept { OnFalse result (self.new ≡ self.old) }
         ensures table { IsRemap self.new.pairs }
         ensures ways { OnTrue result ((other : ℕ) → led self.new.pairs other ≡ (if other == name then name else led self.old.pairs other)) }
-        ensures beside { OnTrue result (let target = led self.old.pairs name in beside self.new.pairs target ≡ beside self.old.pairs target) }
+        ensures beside { OnTrue result
+            (let target = led self.old.pairs name in beside self.new.pairs target ≡ beside self.old.pairs target) }
     {
         if !self.remap.drop_name(name) {
             return false;
@@ -113,22 +117,24 @@ impl OldNames {
     }
 }
 
-/// One more at an index of the list, where there is one.
+/// Adds 1 to the count at an index of the list, where there is one.
 fn add_one(counts: &mut Vec<u32>, at: u32)
     requires { slice_index_or counts.old.items at 0 + 1 < 2 ^ 32 }
     ensures size { length counts.new.items ≡ length counts.old.items }
-    ensures each { (i : ℕ) → i < length counts.old.items → slice_index_or counts.new.items i 0 ≡ slice_index_or counts.old.items i 0 + cond (at == i) 1 0 }
+    ensures each { (i : ℕ) → i < length counts.old.items
+        → slice_index_or counts.new.items i 0 ≡ slice_index_or counts.old.items i 0 + cond (at == i) 1 0 }
 {
     if (at as usize) < counts.len() {
         counts[at as usize] += 1;
     }
 }
 
-/// One fewer.
+/// Takes 1 off the count at an index of the list, where there is one.
 fn take_one(counts: &mut Vec<u32>, at: u32)
     requires { at < length counts.old.items → 0 < slice_index_or counts.old.items at 0 }
     ensures size { length counts.new.items ≡ length counts.old.items }
-    ensures each { (i : ℕ) → i < length counts.old.items → slice_index_or counts.new.items i 0 + cond (at == i) 1 0 ≡ slice_index_or counts.old.items i 0 }
+    ensures each { (i : ℕ) → i < length counts.old.items
+        → slice_index_or counts.new.items i 0 + cond (at == i) 1 0 ≡ slice_index_or counts.old.items i 0 }
 {
     if (at as usize) < counts.len() {
         counts[at as usize] -= 1;

@@ -46,7 +46,8 @@ pub fn read_page<M: Nand>(
     ensures value { M.tells → result ≡ NamedRead.Done → page_at (M.contents media.old) page ≡ written buf.new }
     ensures live { result ≡ NamedRead.NotLive → ⊥ }
     ensures lost { (w f : ℕ) → result ≡ NamedRead.Lost w f → (w ≡ wanted) × (f ≡ wanted → ⊥) }
-    ensures kept { M.tells → shown_by (page_at (M.contents media.old) page) ≡ Some (tag, wanted, main_of (page_at (M.contents media.old) page)) → (result ≡ NamedRead.Done) ⊎ (result ≡ NamedRead.Fault) }
+    ensures kept { M.tells → shown_by (page_at (M.contents media.old) page)
+        ≡ Some (tag, wanted, main_of (page_at (M.contents media.old) page)) → (result ≡ NamedRead.Done) ⊎ (result ≡ NamedRead.Fault) }
     ensures geometry { M.geometry media.new ≡ M.geometry media.old }
     ensures contents { M.contents media.new ≡ M.contents media.old }
     ensures left { SameLeft M.left media.old media.new }
@@ -80,8 +81,10 @@ pub fn program_page<M: Nand>(
     requires erased { M.tells → CanProgram (M.contents media.old) page }
     requires spelled { IsTrue (is_stamp stamp) }
     ensures shows { shown_by (written (page_with buf.old.main tag stamp wear)) ≡ Some (tag, stamp, buf.old.main) }
-    ensures effect { M.tells → Leaves page (page + 1) (written (page_with buf.old.main tag stamp wear)) (M.contents media.old) result (M.contents media.new) }
-    ensures crash { CrashLeaves M.clock M.contents M.left page (page + 1) (written (page_with buf.old.main tag stamp wear)) media.old media.new }
+    ensures effect { M.tells → Leaves page (page + 1) (written (page_with buf.old.main tag stamp wear))
+        (M.contents media.old) result (M.contents media.new) }
+    ensures crash { CrashLeaves M.clock M.contents M.left page (page + 1)
+        (written (page_with buf.old.main tag stamp wear)) media.old media.new }
     ensures geometry { M.geometry media.new ≡ M.geometry media.old }
     ensures clock { M.clock media.new ≡ ticked (M.clock media.old) result }
     ensures read_faults { M.read_faults media.new ≡ M.read_faults media.old }

@@ -45,7 +45,7 @@ pub same-node : (old new : VirtualMap) (n : ℕ) → new (67 + n / 16) ≡ old (
 unfolding inode_at bytes_of_node
 same-node old new n e = ap (λ (o : Option (List ℕ)). inode_of (slot_in 256 (n % 16) (unwrap_or o []))) e
 
--- and stays
+-- the page of a node that has a record stays resident
 pub still-at : (tells : Type 0) (stored : VirtualMap) (shape : Shape) (p q : Pages) → Loads tells stored p q → (n slot a : ℕ) → AddressAt shape (page_of p) n slot a → AddressAt shape (page_of q) n slot a
 still-at tells stored shape p q loads n slot a at = record {
   rec = at.rec;

@@ -151,7 +151,7 @@ module _ {D : Type 0} (g : Ghosts D) where
         by None e = e
         by (Some b) e = absurd (none b e (l.apart v (ap is_some e)))
 
-    -- and each that was restored stays
+    -- each page that was restored stays
     restored-loaded : (q : Pages) → Loads g.tells (stored_on g s) p q → HasRestored journal q
     restored-loaded q l = record {
       due = subst (λ (f : Frozen). ((journal.phase ≡ Header) × (f ≡ none_frozen)) ⊎ ((journal.phase ≡ Home 0) × (1 ≤ length f.addresses))) (sym l.frozen) back.restored.due;

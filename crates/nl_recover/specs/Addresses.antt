@@ -25,7 +25,7 @@ with_mark marks (of_file, a) = slice_set marks a true
 abbrev pub listed : Bool → List ℕ → List (Bool × ℕ)
 listed of_file addresses = map (λ a. (of_file, a)) (filter (λ a. not (a == 0)) addresses)
 
--- those of a node, none where it is not used
+-- the addresses of a node that are not 0, none where it is not used
 abbrev pub addresses_in : ℕ → Option InodeRec → List (Bool × ℕ)
 addresses_in n None = []
 addresses_in n (Some rec) = if is_used_kind rec.kind then addresses_of (n, rec) else []

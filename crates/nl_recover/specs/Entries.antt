@@ -28,7 +28,7 @@ is_bad_entry shape pages s (Some e) =
     e.ino == 0 || not (nat_lt e.ino shape.nodes) || not (has_generation e.generation (inode_at pages e.ino))
     || (slice_index_or s.nodes e.ino false || list_any (λ name. bytes_eq name e.name) s.names)
 
--- So is a place that has one, and a place behind the last entry that is not zero.
+-- A place is at fault beside these: its entry is, or it lies behind the last entry and is not zero.
 abbrev pub is_bad_among : Shape → VirtualMap → Named → EntryPlace → Bool
 is_bad_among shape pages s p = if p.is_entry then is_bad_entry shape pages s (entry_of p.bytes) else not (all_zero p.bytes)
 

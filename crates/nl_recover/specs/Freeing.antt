@@ -18,14 +18,16 @@ pub record TakesAddresses (shape : Shape) (addresses : List ℕ) (old new : Spac
   pub spaces : SpacesOf shape new
   pub nodes : new.nodes ≡ old.nodes
   pub each : (a : ℕ) → 67 + shape.inode_pages ≤ a → a < shape.vaddrs
-      → is_free new.pool (a - (67 + shape.inode_pages)) ≡ (is_free old.pool (a - (67 + shape.inode_pages)) && not (list_any (λ b. b == a) addresses))
+      → is_free new.pool (a - (67 + shape.inode_pages))
+      ≡ (is_free old.pool (a - (67 + shape.inode_pages)) && not (list_any (λ b. b == a) addresses))
 
--- So is a node with its addresses, where it is used.
+-- A node is in use from now on where it is a used one, and each of these addresses; nothing else changes.
 pub record TakesNode (shape : Shape) (n : ℕ) (used : Bool) (addresses : List ℕ) (old new : Spaces) : Type 0 where
   pub spaces : SpacesOf shape new
   pub nodes : (m : ℕ) → m < shape.nodes → is_free new.nodes m ≡ (is_free old.nodes m && not (m == n && used))
   pub each : (a : ℕ) → 67 + shape.inode_pages ≤ a → a < shape.vaddrs
-      → is_free new.pool (a - (67 + shape.inode_pages)) ≡ (is_free old.pool (a - (67 + shape.inode_pages)) && not (list_any (λ b. b == a) addresses))
+      → is_free new.pool (a - (67 + shape.inode_pages))
+      ≡ (is_free old.pool (a - (67 + shape.inode_pages)) && not (list_any (λ b. b == a) addresses))
 
 -- the addresses of a used node
 abbrev pub taken_by : Option InodeRec → List ℕ

@@ -16,7 +16,7 @@ held_entry n rec i p = record { size = rec.size; tag = record { ino = n; generat
 abbrev pub held_index : VirtualMap → ℕ → InodeRec → ℕ → List Held
 held_index pages n rec i = if is_none_pointer (pointer_at pages rec i) then [] else held_entry n rec i (pointer_at pages rec i) ∷ []
 
--- those of so many indexes from one on
+-- the pointers of a file at so many indexes from one on
 unfoldable pub held_from : VirtualMap → ℕ → InodeRec → ℕ → ℕ → List Held
 held_from pages n rec from count = flat_map (held_index pages n rec) (range_with_len from count)
 

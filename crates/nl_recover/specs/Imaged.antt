@@ -12,15 +12,21 @@ use Rattle.nl_meta.specs.Walk.{walk, walk_over}
 use Rattle.nl_nand.specs.Nand.{ImageOf, IsLegal}
 use Rattle.nl_nand.specs.declared.geometry.Geometry.{Geometry}
 
--- Where a map of addresses has the newest page of each, what it commits is what the image does, and a walk over it is a walk over the image.
+-- Where a map of addresses has the newest page of each, what it commits is what the image does, and a walk over it is a walk over the
+-- image.
 abbrev pub WalksTheImage : Type 0
-WalksTheImage = (image : Image) (shape : Shape) (values : ℕ → Option Value) → shape ≡ shape_of_image image → ((v : ℕ) → v < shape.vaddrs → values v ≡ option_map value_on (newest image v))
-    → (committed shape (map_bytes shape values) ≡ committed_of image) × (walk_over shape (committed shape (map_bytes shape values)) (seen_in image) ≡ walk image)
+WalksTheImage =
+    (image : Image) (shape : Shape) (values : ℕ → Option Value) → shape ≡ shape_of_image image
+    → ((v : ℕ) → v < shape.vaddrs → values v ≡ option_map value_on (newest image v))
+    → (committed shape (map_bytes shape values) ≡ committed_of image)
+    × (walk_over shape (committed shape (map_bytes shape values)) (seen_in image) ≡ walk image)
 
--- A scan lists no page exactly where none is readable,
+-- A scan lists no page exactly where none is readable.
 abbrev pub ListsReadable : Type 0
 ListsReadable = (image : Image) → (seen_in image ≡ []) ↔ (readable_pages image ≡ [])
 
--- and none is on a medium that was never formed.
+-- No page is readable on a medium that was never formed.
 abbrev pub IsBlankUnformed : Type 0
-IsBlankUnformed = (geometry : Geometry) (image : Image) → ImageOf geometry image → IsLegal geometry → (IsTrue (is_legal geometry.blocks geometry.pages) → ⊥) → readable_pages image ≡ []
+IsBlankUnformed =
+    (geometry : Geometry) (image : Image) → ImageOf geometry image → IsLegal geometry
+    → (IsTrue (is_legal geometry.blocks geometry.pages) → ⊥) → readable_pages image ≡ []

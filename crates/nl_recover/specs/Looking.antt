@@ -15,4 +15,6 @@ pub record LooksAlike (shape : Shape) (old new : VirtualMap) : Type 0 where
   pub slots : (n slot a : ℕ) → AddressAt shape old n slot a → 67 + shape.inode_pages ≤ a → a < shape.vaddrs → new a ≡ old a
 
 abbrev pub WalksAlike : Type 0
-WalksAlike = (shape : Shape) (old new : VirtualMap) (seen : List Seen) → ShapeBounds shape → LooksAlike shape old new → walk_over shape new seen ≡ walk_over shape old seen
+WalksAlike =
+    (shape : Shape) (old new : VirtualMap) (seen : List Seen) → ShapeBounds shape → LooksAlike shape old new
+    → walk_over shape new seen ≡ walk_over shape old seen

@@ -12,7 +12,8 @@ use Rattle.nl_meta.specs.Walk.{is_good_inode}
 
 -- A place for nodes is at fault: the record of a node, or what follows the last node.
 abbrev pub is_bad_node : Shape → VirtualMap → ℕ → Bool
-is_bad_node shape pages n = not (if nat_lt n shape.nodes then is_good_inode shape n (inode_at pages n) else all_zero (bytes_of_node pages n))
+is_bad_node shape pages n =
+    not (if nat_lt n shape.nodes then is_good_inode shape n (inode_at pages n) else all_zero (bytes_of_node pages n))
 
 -- ---- write sequence numbers
 
@@ -24,7 +25,7 @@ is_virtual_page shape s = nat_lt s.page (first_physical shape) && is_virtual_rec
 abbrev pub is_physical_page : Shape → Seen → Bool
 is_physical_page shape s = nat_le (first_physical shape) s.page && is_physical_rec s.rec
 
--- one of them that does not agree with a lower one of its number
+-- a page of the virtual segment that does not agree with a lower one of its number
 abbrev pub is_virtual_apart : Shape → Seen → Bool
 is_virtual_apart shape s = is_virtual_page shape s && not s.agrees
 

@@ -15,9 +15,11 @@ pub record Reached : Type 0 where
 abbrev pub reached_by : List Bool → List ℕ → Reached
 reached_by marks queue = record { marks = marks; queue = queue }
 
--- one more node, below the count
+-- the nodes that were reached, with one more that lies below the count
 abbrev pub with_node : ℕ → Reached → ℕ → Reached
-with_node nodes s n = if nat_lt n nodes && not (slice_index_or s.marks n false) then record { marks = slice_set s.marks n true; queue = s.queue ++ n ∷ [] } else s
+with_node nodes s n =
+    if nat_lt n nodes && not (slice_index_or s.marks n false) then record { marks = slice_set s.marks n true; queue = s.queue ++ n ∷ [] }
+    else s
 
 -- the node that the entry at a place names
 abbrev pub target_of : EntryPlace → Option ℕ

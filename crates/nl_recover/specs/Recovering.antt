@@ -26,20 +26,20 @@ use Rattle.nl_recover.specs.declared.opening.Walked.{Walked}
 
 -- What a volume is begun with over a device, beside what a scan saw.
 pub record IsWalked {D : Type 0} (g : Ghosts D) (s : D) (seen : List Seen) (w : Walked) : Type 0 where
-  -- the running pages, with the list of the scan, are consistent;
+  -- the running pages, with the list of the scan, are consistent
   pub consistent : ConsistentOver (g.shape s) (running_on g s w.meta) seen
-  -- they are the committed ones, none of them is dirty, and each that is needed is resident,
+  -- the running pages are the committed ones, none of them is dirty, and each that is needed is resident
   pub same : g.tells → (v : ℕ) → running_on g s w.meta v ≡ committed (g.shape s) (stored_on g s) v
   pub clean : w.meta.dirty ≡ []
   pub resident : (v : ℕ) → IsNeeded (g.shape s) (running_on g s w.meta) v → IsSome (page_of w.meta v)
   pub super_resident : IsSome (page_of w.meta 0)
-  -- and none of the journal's addresses is;
+  -- none of the journal's addresses is resident
   pub apart : (v : ℕ) → 1 ≤ v → v < 67 → page_of w.meta v ≡ None
   pub runs : Runs g s w.meta
-  -- what they do not use is free;
+  -- what the running pages do not use is free
   pub free : AreFree (g.shape s) (running_on g s w.meta) w.nodes
   pub spaces : SpacesOf (g.shape s) w.nodes
-  -- these are the count of calls that the super page tells, and the pointers of files in the order of nodes and indexes;
+  -- the count of calls is the one that the super page tells, and the pointers are those of files in the order of nodes and indexes
   pub count : (rec : SuperRec) × (super_of_pages (running_on g s w.meta) ≡ Some rec) × (rec.count ≡ w.count)
   pub kept : w.kept.items ≡ map (λ h. h.pointer) (held_in (g.shape s) (running_on g s w.meta))
   -- the transaction that counts is restored, and the next one has the next number. Where no write of an address failed before, the journal
@@ -64,7 +64,7 @@ IfDamaged Memory P = ⊤
 abbrev pub IsFirstFault : {D : Type 0} → Ghosts D → D → Shape → List Seen → Place → Type 0
 IsFirstFault g s shape seen place = (m : Metadata) × IsRead g s m × (walk_over shape (page_of m.meta) seen ≡ Some place)
 
--- It is ready exactly where a walk finds no fault, and else damaged at the first one.
+-- An opening that reads all it needs is ready exactly where a walk finds no fault, and else damaged at the first one.
 abbrev pub Finds : Option Place → Recovered → Type 0
 Finds fault (Ready w) = fault ≡ None
 Finds fault (Damaged place) = fault ≡ Some place

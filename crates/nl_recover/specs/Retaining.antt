@@ -11,6 +11,7 @@ use Rattle.nl_meta.specs.Nodes.{held_in}
 abbrev pub pointers_in : Shape → VirtualMap → List Pointer
 pointers_in shape pages = map (λ h. h.pointer) (held_in shape pages)
 
--- so it is of the pointers of each volume that is consistent beside the pages that a scan saw
+-- something is told of the pointers of each volume that is consistent beside the pages that a scan saw
 abbrev pub OfConsistent : (Shape → List Seen → List Pointer → Type 0) → Type 0
-OfConsistent Told = (shape : Shape) (pages : VirtualMap) (seen : List Seen) → ConsistentOver shape pages seen → Told shape seen (pointers_in shape pages)
+OfConsistent Told =
+    (shape : Shape) (pages : VirtualMap) (seen : List Seen) → ConsistentOver shape pages seen → Told shape seen (pointers_in shape pages)

@@ -13,17 +13,20 @@ use Rattle.nl_meta_running.specs.Running.{Runs}
 use Rattle.nl_recover.specs.Recovering.{IsWalked}
 use Rattle.nl_recover.specs.declared.opening.Walked.{Walked}
 
--- Its metadata runs and its journal is in order: as many of the frozen pages are home as the journal says, each of them runs as it was
--- frozen, and no transaction waits for its commit page. The super page is resident, and no page of the journal's addresses is.
+-- What a volume is begun with: its metadata runs and its journal is in order, as many of the frozen pages are home as the journal says,
+-- each of them runs as it was frozen, and no transaction waits for its commit page. The super page is resident, and no page of the
+-- journal's addresses is.
 pub record Starts {D : Type 0} (g : Ghosts D) (s : D) (w : Walked) : Type 0 where
   pub runs : Runs g s w.meta
   pub order : InOrder g s w.journal w.meta.frozen
   pub home : g.tells → AreHome w.meta.frozen (copied w.journal.phase) (bytes_of (g.map s))
-  pub frozen : (i : ℕ) → i < length w.meta.frozen.addresses → page_of w.meta (slice_index w.meta.frozen.addresses i) ≡ Some (main_at w.meta.frozen.images i)
+  pub frozen : (i : ℕ) → i < length w.meta.frozen.addresses
+      → page_of w.meta (slice_index w.meta.frozen.addresses i) ≡ Some (main_at w.meta.frozen.images i)
   pub decided : units_left w.journal.phase (length w.meta.frozen.addresses) ≤ length w.meta.frozen.addresses
   pub super_page : IsSome (page_of w.meta 0)
   pub apart : (v : ℕ) → 1 ≤ v → v < 67 → page_of w.meta v ≡ None
 
--- So it is where no write of an address failed before.
+-- What a walk found sound starts a volume where no write of an address failed before.
 abbrev pub WalkedStarts : {D : Type 0} → Ghosts D → Type 0
-WalkedStarts {D} g = (s : D) (seen : List Seen) (w : Walked) → IsWalked g s seen w → (g.tells → NoneFailed (g.shape s).vaddrs (g.failed s)) → Starts g s w
+WalkedStarts {D} g =
+    (s : D) (seen : List Seen) (w : Walked) → IsWalked g s seen w → (g.tells → NoneFailed (g.shape s).vaddrs (g.failed s)) → Starts g s w

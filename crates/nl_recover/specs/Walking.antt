@@ -11,7 +11,7 @@ use Rattle.nl_recover.specs.declared.walk.Outcome.TheVariants.{Sound, Damaged}
 abbrev pub place_in : What → ℕ → Place
 place_in what n = record { place = n; what = what }
 
--- It is damaged at the first fault, and sound exactly where there is none; then these are the pointers of all files.
+-- A walk answers that a volume is damaged at the first fault, or sound, exactly where there is none, with the pointers of all files.
 abbrev pub Answers : Shape → VirtualMap → Option Place → Outcome → Type 0
 Answers shape pages fault (Sound held) = (fault ≡ None) × (held ≡ held_in shape pages)
 Answers shape pages fault (Damaged place) = fault ≡ Some place

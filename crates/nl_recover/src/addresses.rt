@@ -1,3 +1,4 @@
+//! The phase of a walk that looks at the addresses of nodes.
 ghost use Rattle.std.specs.Prelude.{◌≡◌, ◌<◌, ◌∷◌, ◌||◌, [], ℕ, false, length, slice_index_or, IfOk, MatchOption};
 ghost use Rattle.nl_field.specs.Numbers.{ShapeBounds};
 ghost use Rattle.nl_field.specs.Pointers.{indirect_of};
@@ -42,7 +43,8 @@ fn node_fault(shape: &Shape, meta: &Meta, used: &mut Vec<bool>, ino: u32) -> Opt
     requires bounds { ShapeBounds shape.now }
     requires size { length used.old.items ≡ shape.now.vaddrs }
     ensures size { length used.new.items ≡ length used.old.items }
-    ensures passes { PassesAddresses shape.now (page_of meta.now) used.old.items used.new.items (addresses_in ino (inode_at (page_of meta.now) ino)) result }
+    ensures passes { PassesAddresses shape.now (page_of meta.now) used.old.items used.new.items
+        (addresses_in ino (inode_at (page_of meta.now) ino)) result }
 {
     match inode(meta, ino) {
         Some(rec) => match rec.kind {
@@ -147,7 +149,8 @@ fn either(a: bool, b: bool) -> bool
 fn pointer_at(shape: &Shape, page: &PageBuf, slot: u32) -> Option<Pointer>
     requires bounds { ShapeBounds shape.now }
     requires inside { slot < 256 }
-    ensures { MatchOption result (SpelledAt shape.now page.now.main slot → ⊥) (λ p. SpelledAt shape.now page.now.main slot × (p ≡ pointer_in page.now.main slot)) }
+    ensures { MatchOption result (SpelledAt shape.now page.now.main slot → ⊥)
+        (λ p. SpelledAt shape.now page.now.main slot × (p ≡ pointer_in page.now.main slot)) }
 {
     match Pointer::of(page, 16 * slot) {
         Some(pointer) => {

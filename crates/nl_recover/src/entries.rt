@@ -1,3 +1,4 @@
+//! The phase of a walk that looks at the entries of directories.
 ghost use Rattle.std.specs.Prelude.{◌≡◌, ◌==◌, ◌<◌, ◌≤◌, ◌*◌, ℕ, [], false, length, bytes_eq, slice_index_or, IfOk, IsTrue, Some};
 ghost use Rattle.std.specs.Int.{div_ceil};
 ghost use Rattle.std.specs.List.{list_any};
@@ -54,7 +55,8 @@ fn node_fault(
     requires bounds { ShapeBounds shape.now }
     requires size { length nodes.old.items ≡ shape.now.nodes }
     ensures size { length nodes.new.items ≡ length nodes.old.items }
-    ensures passes { IfOk result (PassesPlaces shape.now (page_of meta.now) (named_by nodes.old.items []) (named_by nodes.new.items names.new.items) (places_in (page_of meta.now) ino (inode_at (page_of meta.now) ino))) }
+    ensures passes { IfOk result (PassesPlaces shape.now (page_of meta.now) (named_by nodes.old.items [])
+        (named_by nodes.new.items names.new.items) (places_in (page_of meta.now) ino (inode_at (page_of meta.now) ino))) }
 {
     names.clear();
     match inode(meta, ino) {
@@ -80,7 +82,8 @@ fn dir_fault(
     requires dir { rec.now.kind ≡ Kind.Dir }
     requires spelled { IsTrue (is_inode rec.now) }
     ensures size { length nodes.new.items ≡ length nodes.old.items }
-    ensures passes { IfOk result (PassesPlaces shape.now (page_of meta.now) (named_by nodes.old.items names.old.items) (named_by nodes.new.items names.new.items) (places_of (page_of meta.now) (ino, rec.now))) }
+    ensures passes { IfOk result (PassesPlaces shape.now (page_of meta.now) (named_by nodes.old.items names.old.items)
+        (named_by nodes.new.items names.new.items) (places_of (page_of meta.now) (ino, rec.now))) }
 {
     for place in 0..place_count(rec) {
         match place_fault(shape, meta, nodes, names, ino, rec, place) {
@@ -124,7 +127,8 @@ fn place_fault(
     requires size { length nodes.old.items ≡ shape.now.nodes }
     requires inside { place < 1024 }
     ensures size { length nodes.new.items ≡ length nodes.old.items }
-    ensures passes { IfOk result (PassesPlaces shape.now (page_of meta.now) (named_by nodes.old.items names.old.items) (named_by nodes.new.items names.new.items) (place_there (page_of meta.now) ino rec.now place)) }
+    ensures passes { IfOk result (PassesPlaces shape.now (page_of meta.now) (named_by nodes.old.items names.old.items)
+        (named_by nodes.new.items names.new.items) (place_there (page_of meta.now) ino rec.now place)) }
 {
     let address = address_at(rec, place);
     if !meta.resident(address) {
@@ -159,7 +163,8 @@ fn slot_fault(
     requires size { length nodes.old.items ≡ shape.now.nodes }
     requires inside { slot < 64 }
     ensures size { length nodes.new.items ≡ length nodes.old.items }
-    ensures slot { IfOk result (NamesSlot shape.now (page_of meta.now) (named_by nodes.old.items names.old.items) (named_by nodes.new.items names.new.items) is_entry (slot_in 64 slot page.now.main)) }
+    ensures slot { IfOk result (NamesSlot shape.now (page_of meta.now) (named_by nodes.old.items names.old.items)
+        (named_by nodes.new.items names.new.items) is_entry (slot_in 64 slot page.now.main)) }
 {
     if is_entry {
         name(shape, meta, nodes, names, EntryRec::of(page, 64 * slot))
@@ -178,7 +183,8 @@ fn name(
 ) -> Result<bool, Memory>
     requires { length nodes.old.items ≡ shape.now.nodes }
     ensures size { length nodes.new.items ≡ length nodes.old.items }
-    ensures names { IfOk result (Names shape.now (page_of meta.now) (named_by nodes.old.items names.old.items) (named_by nodes.new.items names.new.items) entry) }
+    ensures names { IfOk result (Names shape.now (page_of meta.now) (named_by nodes.old.items names.old.items)
+        (named_by nodes.new.items names.new.items) entry) }
 {
     match entry {
         Some(entry) => {

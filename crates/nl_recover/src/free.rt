@@ -1,3 +1,4 @@
+//! The free nodes and the free addresses of a volume, gathered from its records.
 ghost use Rattle.std.specs.Prelude.{◌≡◌, ◌<◌, ◌∷◌, [], IfOk, true};
 ghost use Rattle.nl_field.specs.Numbers.{ShapeBounds};
 ghost use Rattle.nl_inode.specs.Nodes.{AreFree};
@@ -30,7 +31,8 @@ fn use_node(nodes: &mut Nodes, shape: &Shape, meta: &Meta, ino: u32)
     requires bounds { ShapeBounds shape.now }
     requires spaces { SpacesOf shape.now nodes.old }
     requires below { ino < shape.now.nodes }
-    ensures { TakesNode shape.now ino (is_used_record (inode_at (page_of meta.now) ino)) (taken_by (inode_at (page_of meta.now) ino)) nodes.old nodes.new }
+    ensures { TakesNode shape.now ino (is_used_record (inode_at (page_of meta.now) ino))
+        (taken_by (inode_at (page_of meta.now) ino)) nodes.old nodes.new }
 {
     match inode(meta, ino) {
         Some(rec) => match rec.kind {

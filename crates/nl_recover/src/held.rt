@@ -1,3 +1,4 @@
+//! The pointers of all files, gathered in the order of nodes and indexes.
 ghost use Rattle.std.specs.Prelude.{◌≡◌, ◌+◌, ◌*◌, ◌<◌, ◌≤◌, ◌^◌, ◌++◌, ℕ, length, IfOk, OnOk};
 ghost use Rattle.nl_field.specs.Numbers.{ShapeBounds};
 ghost use Rattle.nl_indirect.specs.Ranges.{HasRange, IsFileRecord};

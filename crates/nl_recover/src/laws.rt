@@ -1,4 +1,4 @@
-//! Laws of the definitions. Each function stands for the law that its contract names.
+//! Laws of an opening: the walk looks at the committed pages, and a volume without a fault can be begun. A function stands for each law.
 ghost use Rattle.std.specs.Prelude.{◌≡◌, ◌≢◌, ◌≤◌, ◌*◌, ◌==◌, true, All, IsSome, filter, length, map};
 ghost use Rattle.std.specs.List.{AllPairs, list_any};
 ghost use Rattle.nl_field.specs.ScanList.{is_lost_seen, owns_seen, physical_seen, physical_spare_seen};
@@ -19,7 +19,8 @@ pub fn walks_alike()
 /// their stamps, and a page of each of them; no two share a stamp or a name; they own their names, and few are lost.
 pub fn kept_can_be_retained()
     ensures spare { OfConsistent (λ shape seen pointers. IsSome (physical_spare_seen shape seen (map (λ p. p.stamp) pointers))) }
-    ensures found { OfConsistent (λ shape seen pointers. All (λ p. list_any (λ s. stamp_of s.rec == p.stamp) (physical_seen shape seen) ≡ true) pointers) }
+    ensures found { OfConsistent (λ shape seen pointers.
+        All (λ p. list_any (λ s. stamp_of s.rec == p.stamp) (physical_seen shape seen) ≡ true) pointers) }
     ensures differ { OfConsistent (λ shape seen pointers. AllPairs (λ p q. p.stamp ≢ q.stamp) pointers) }
     ensures names_differ { OfConsistent (λ shape seen pointers. AllPairs (λ p q. p.name ≢ q.name) pointers) }
     ensures own { OfConsistent (λ shape seen pointers. All (λ p. owns_seen shape seen p ≡ true) pointers) }

@@ -1,3 +1,4 @@
+//! The pages at which a walk looks are made resident.
 ghost use Rattle.std.specs.Prelude.{◌≡◌, ◌<◌, ◌≤◌, ℕ, false, true, length, slice_index};
 ghost use Rattle.nl_field.specs.Numbers.{ShapeBounds};
 ghost use Rattle.nl_field.specs.Virtual.{is_inode_address, map_bytes};
@@ -19,7 +20,7 @@ use nl_meta::Meta;
 #[derive(Clone, Copy, Debug, PartialEq, Eq)]
 pub(crate) enum Fill {
     Ready,
-    /// There is none, or it was lost.
+    /// The address has no page, or its page was lost.
     Absent,
     Fault,
 }
@@ -35,7 +36,8 @@ pub fn load<D: VirtualPages>(device: &mut D, meta: &mut Meta, shape: &Shape) -> 
     ensures device { OnlyReads D.Counts device.old device.new }
     ensures faults { ReadsCounted D.Counts (result ≡ false) device.old device.new }
     ensures loads { result ≡ true → Loads D.tells (map_bytes (D.shape device.old) (D.map device.old)) meta.old meta.new }
-    ensures alike { D.tells → result ≡ true → LooksAlike shape.now (running_over (map_bytes (D.shape device.old) (D.map device.old)) meta.old) (page_of meta.new) }
+    ensures alike { D.tells → result ≡ true
+        → LooksAlike shape.now (running_over (map_bytes (D.shape device.old) (D.map device.old)) meta.old) (page_of meta.new) }
 {
     if !load_tables(device, meta, shape) {
         return false;
@@ -53,7 +55,8 @@ fn load_tables<D: VirtualPages>(device: &mut D, meta: &mut Meta, shape: &Shape) 
     ensures device { OnlyReads D.Counts device.old device.new }
     ensures faults { ReadsCounted D.Counts (result ≡ false) device.old device.new }
     ensures loads { result ≡ true → Loads D.tells (map_bytes (D.shape device.old) (D.map device.old)) meta.old meta.new }
-    ensures settled { result ≡ true → (u : ℕ) → IsTableAddress shape.now u → Settled D.tells (map_bytes (D.shape device.old) (D.map device.old)) meta.old meta.new u }
+    ensures settled { result ≡ true → (u : ℕ) → IsTableAddress shape.now u
+        → Settled D.tells (map_bytes (D.shape device.old) (D.map device.old)) meta.old meta.new u }
 {
     if !load_page(device, meta, 0, shape) {
         return false;
@@ -78,7 +81,8 @@ fn load_range<D: VirtualPages>(
     ensures device { OnlyReads D.Counts device.old device.new }
     ensures faults { ReadsCounted D.Counts (result ≡ false) device.old device.new }
     ensures loads { result ≡ true → Loads D.tells (map_bytes (D.shape device.old) (D.map device.old)) meta.old meta.new }
-    ensures settled { result ≡ true → (u : ℕ) → from ≤ u → u < to → Settled D.tells (map_bytes (D.shape device.old) (D.map device.old)) meta.old meta.new u }
+    ensures settled { result ≡ true → (u : ℕ) → from ≤ u → u < to
+        → Settled D.tells (map_bytes (D.shape device.old) (D.map device.old)) meta.old meta.new u }
 {
     if to <= from {
         return true;
@@ -105,7 +109,8 @@ fn load_nodes<D: VirtualPages>(
     ensures device { OnlyReads D.Counts device.old device.new }
     ensures faults { ReadsCounted D.Counts (result ≡ false) device.old device.new }
     ensures loads { result ≡ true → Loads D.tells (map_bytes (D.shape device.old) (D.map device.old)) meta.old meta.new }
-    ensures settled { result ≡ true → (n slot a : ℕ) → from ≤ n → n < to → AddressAt shape.now (page_of meta.old) n slot a → IsPoolAddress shape.now a → Settled D.tells (map_bytes (D.shape device.old) (D.map device.old)) meta.old meta.new a }
+    ensures settled { result ≡ true → (n slot a : ℕ) → from ≤ n → n < to → AddressAt shape.now (page_of meta.old) n slot a
+        → IsPoolAddress shape.now a → Settled D.tells (map_bytes (D.shape device.old) (D.map device.old)) meta.old meta.new a }
 {
     if to <= from {
         return true;
@@ -125,7 +130,8 @@ fn load_node<D: VirtualPages>(device: &mut D, meta: &mut Meta, shape: &Shape, in
     ensures device { OnlyReads D.Counts device.old device.new }
     ensures faults { ReadsCounted D.Counts (result ≡ false) device.old device.new }
     ensures loads { result ≡ true → Loads D.tells (map_bytes (D.shape device.old) (D.map device.old)) meta.old meta.new }
-    ensures settled { result ≡ true → (slot a : ℕ) → AddressAt shape.now (page_of meta.old) ino slot a → IsPoolAddress shape.now a → Settled D.tells (map_bytes (D.shape device.old) (D.map device.old)) meta.old meta.new a }
+    ensures settled { result ≡ true → (slot a : ℕ) → AddressAt shape.now (page_of meta.old) ino slot a → IsPoolAddress shape.now a
+        → Settled D.tells (map_bytes (D.shape device.old) (D.map device.old)) meta.old meta.new a }
 {
     match inode(meta, ino) {
         Some(rec) => load_addresses(device, meta, shape, &rec.addresses, 0),
@@ -149,7 +155,8 @@ fn load_addresses<D: VirtualPages>(
     ensures device { OnlyReads D.Counts device.old device.new }
     ensures faults { ReadsCounted D.Counts (result ≡ false) device.old device.new }
     ensures loads { result ≡ true → Loads D.tells (map_bytes (D.shape device.old) (D.map device.old)) meta.old meta.new }
-    ensures settled { result ≡ true → (k : ℕ) → from ≤ k → k < length addresses.now → IsPoolAddress shape.now (slice_index addresses.now k) → Settled D.tells (map_bytes (D.shape device.old) (D.map device.old)) meta.old meta.new (slice_index addresses.now k) }
+    ensures settled { result ≡ true → (k : ℕ) → from ≤ k → k < length addresses.now → IsPoolAddress shape.now (slice_index addresses.now k)
+        → Settled D.tells (map_bytes (D.shape device.old) (D.map device.old)) meta.old meta.new (slice_index addresses.now k) }
 {
     if addresses.len() <= from {
         return true;
@@ -175,7 +182,8 @@ fn load_address<D: VirtualPages>(
     ensures device { OnlyReads D.Counts device.old device.new }
     ensures faults { ReadsCounted D.Counts (result ≡ false) device.old device.new }
     ensures loads { result ≡ true → Loads D.tells (map_bytes (D.shape device.old) (D.map device.old)) meta.old meta.new }
-    ensures settled { result ≡ true → IsPoolAddress shape.now address → Settled D.tells (map_bytes (D.shape device.old) (D.map device.old)) meta.old meta.new address }
+    ensures settled { result ≡ true → IsPoolAddress shape.now address
+        → Settled D.tells (map_bytes (D.shape device.old) (D.map device.old)) meta.old meta.new address }
 {
     if address < 67 + shape.inode_pages || shape.vaddrs <= address {
         return true;

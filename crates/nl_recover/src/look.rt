@@ -1,3 +1,4 @@
+//! What the resident pages say: the super record, the records of nodes, and whether bytes are zero.
 ghost use Rattle.std.specs.Prelude.{◌≡◌, ◌≤◌, ◌+◌, take, drop};
 ghost use Rattle.nl_field.specs.Bytes.{all_zero};
 ghost use Rattle.nl_meta.specs.Nodes.{bytes_of_node, inode_at, super_of_pages};

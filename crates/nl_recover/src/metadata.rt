@@ -1,3 +1,4 @@
+//! The journal and the committed pages of a volume are read, as far as a walk looks at them.
 ghost use Rattle.std.specs.Prelude.{◌≡◌, IfOk};
 ghost use Rattle.nl_iface.specs.Calls.{OnlyReads, ReadsCounted};
 ghost use Rattle.nl_meta.specs.Pages.{no_pages};
@@ -17,9 +18,10 @@ pub struct Metadata {
     pub meta: Meta,
 }
 
-/// What reading them answers.
+/// What the reading of the journal and of the committed pages answers.
 #[derive(Drop)]
 pub enum ReadPages {
+    /// The journal and the committed pages were read.
     Done(Metadata),
     /// A read failed.
     Fault,

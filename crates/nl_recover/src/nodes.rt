@@ -1,3 +1,4 @@
+//! The phases of a walk that look at the super page and at the records of nodes.
 ghost use Rattle.std.specs.Prelude.{◌≡◌, ◌==◌, ◌&&◌, ◌||◌, not};
 ghost use Rattle.std.specs.List.{list_all};
 ghost use Rattle.nl_field.specs.Medium.{first_physical};

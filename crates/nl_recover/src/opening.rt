@@ -1,3 +1,4 @@
+//! The opening of a volume over a started device: its metadata is read and walked, and what it is begun with is gathered.
 ghost use Rattle.std.specs.Prelude.{◌≡◌, IfOk};
 ghost use Rattle.nl_field.specs.Numbers.{ShapeBounds};
 ghost use Rattle.nl_iface.specs.Calls.{OnlyReads, ReadsCounted};
@@ -36,6 +37,7 @@ pub struct Walked {
 /// What an opening answers.
 #[derive(Drop)]
 pub enum Recovered {
+    /// The walk found no fault, and a volume can be begun with this.
     Ready(Walked),
     /// The first place at fault.
     Damaged(Place),

@@ -1,3 +1,4 @@
+//! The phase of a walk that looks for used nodes which no chain of entries reaches from node 0.
 ghost use Rattle.std.specs.Prelude.{◌≡◌, ◌<◌, ◌&&◌, ℕ, false, not, filter_map, length, replicate, slice_index_or, IfOk, IsTrue, OnOk, option_to_list};
 ghost use Rattle.nl_field.specs.Inode.{is_inode};
 ghost use Rattle.nl_field.specs.Numbers.{ShapeBounds};
@@ -25,7 +26,8 @@ pub fn reach_fault(alloc: Global, shape: &Shape, meta: &Meta) -> Result<Option<u
 
 fn first_unreached(shape: &Shape, meta: &Meta, marks: &[bool]) -> Option<u32>
     requires size { length marks.now ≡ shape.now.nodes }
-    requires marks { (n : ℕ) → n < shape.now.nodes → slice_index_or marks.now n false ≡ is_reached (filter_map naming_of (all_places shape.now (page_of meta.now))) shape.now.nodes n }
+    requires marks { (n : ℕ) → n < shape.now.nodes
+        → slice_index_or marks.now n false ≡ is_reached (filter_map naming_of (all_places shape.now (page_of meta.now))) shape.now.nodes n }
     ensures { result ≡ reach_fault shape.now (page_of meta.now) }
 {
     for ino in 0..shape.nodes {
@@ -43,11 +45,12 @@ fn is_unmarked(meta: &Meta, marks: &[bool], ino: u32) -> bool
     is_used(&inode(meta, ino)) && !marks[ino as usize]
 }
 
-// Of each node whether it is reached.
+// For each node, whether a chain of entries from node 0 reaches it.
 fn reach(alloc: Global, shape: &Shape, meta: &Meta) -> Result<Vec<bool>, Memory>
     requires { ShapeBounds shape.now }
     ensures size { IfOk result (λ v. length v.items ≡ shape.now.nodes) }
-    ensures marks { IfOk result (λ v. (n : ℕ) → n < shape.now.nodes → slice_index_or v.items n false ≡ is_reached (filter_map naming_of (all_places shape.now (page_of meta.now))) shape.now.nodes n) }
+    ensures marks { IfOk result (λ v. (n : ℕ) → n < shape.now.nodes
+        → slice_index_or v.items n false ≡ is_reached (filter_map naming_of (all_places shape.now (page_of meta.now))) shape.now.nodes n) }
 {
     let mut marks = unmarked(alloc, shape.nodes as usize)?;
     let mut queue = Vec::new(alloc);
@@ -78,7 +81,8 @@ fn visit(
 ) -> Result<(), Memory>
     requires { length marks.old.items ≡ shape.now.nodes }
     ensures size { length marks.new.items ≡ length marks.old.items }
-    ensures visited { OnOk result (reached_by marks.new.items queue.new.items ≡ gathered (with_node shape.now.nodes) (reached_by marks.old.items queue.old.items) (targets_of (page_of meta.now) dir)) }
+    ensures visited { OnOk result (reached_by marks.new.items queue.new.items
+        ≡ gathered (with_node shape.now.nodes) (reached_by marks.old.items queue.old.items) (targets_of (page_of meta.now) dir)) }
 {
     match inode(meta, dir) {
         Some(rec) => match rec.kind {
@@ -102,7 +106,9 @@ fn visit_places(
     requires dir { rec.now.kind ≡ Kind.Dir }
     requires spelled { IsTrue (is_inode rec.now) }
     ensures size { length marks.new.items ≡ length marks.old.items }
-    ensures visited { OnOk result (reached_by marks.new.items queue.new.items ≡ gathered (with_node shape.now.nodes) (reached_by marks.old.items queue.old.items) (filter_map target_of (places_of (page_of meta.now) (dir, rec.now)))) }
+    ensures visited { OnOk result (reached_by marks.new.items queue.new.items
+        ≡ gathered (with_node shape.now.nodes) (reached_by marks.old.items queue.old.items)
+        (filter_map target_of (places_of (page_of meta.now) (dir, rec.now)))) }
 {
     for place in 0..place_count(rec) {
         visit_place(shape, meta, marks, queue, dir, rec, place)?;
@@ -122,7 +128,9 @@ fn visit_place(
     requires size { length marks.old.items ≡ shape.now.nodes }
     requires inside { place < 1024 }
     ensures size { length marks.new.items ≡ length marks.old.items }
-    ensures visited { OnOk result (reached_by marks.new.items queue.new.items ≡ gathered (with_node shape.now.nodes) (reached_by marks.old.items queue.old.items) (filter_map target_of (place_there (page_of meta.now) dir rec.now place))) }
+    ensures visited { OnOk result (reached_by marks.new.items queue.new.items
+        ≡ gathered (with_node shape.now.nodes) (reached_by marks.old.items queue.old.items)
+        (filter_map target_of (place_there (page_of meta.now) dir rec.now place))) }
 {
     match target(meta, dir, rec, place) {
         Some(ino) => {
@@ -155,7 +163,8 @@ fn target(meta: &Meta, dir: u32, rec: &InodeRec, place: u32) -> Option<u32>
 fn mark(shape: &Shape, marks: &mut Vec<bool>, queue: &mut Vec<u32>, ino: u32) -> Result<(), Memory>
     requires { length marks.old.items ≡ shape.now.nodes }
     ensures size { length marks.new.items ≡ length marks.old.items }
-    ensures marked { OnOk result (reached_by marks.new.items queue.new.items ≡ with_node shape.now.nodes (reached_by marks.old.items queue.old.items) ino) }
+    ensures marked { OnOk result (reached_by marks.new.items queue.new.items
+        ≡ with_node shape.now.nodes (reached_by marks.old.items queue.old.items) ino) }
 {
     if ino < shape.nodes && !marks[ino as usize] {
         marks[ino as usize] = true;

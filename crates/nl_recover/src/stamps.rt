@@ -1,3 +1,4 @@
+//! The phase of a walk that looks for pages of one write sequence number which do not agree.
 ghost use Rattle.std.specs.Prelude.{◌≡◌};
 ghost use Rattle.nl_field.specs.Numbers.{ShapeBounds};
 ghost use Rattle.nl_field.specs.ScanList.{physical_seen, virtual_seen};

@@ -1,3 +1,4 @@
+//! The walk of an opening: its phases in their order, over the resident pages and those that a scan saw.
 ghost use Rattle.std.specs.Prelude.{◌≡◌, IfOk, None, option_map};
 ghost use Rattle.nl_field.specs.Numbers.{ShapeBounds};
 ghost use Rattle.nl_meta.specs.Consistent.{AddressesRight};
@@ -22,7 +23,9 @@ use std::alloc::Global;
 /// What a walk answers: the first place at fault, or the pointers of all files where there is none.
 #[derive(Debug, Drop)]
 pub enum Outcome {
+    /// No place is at fault. These are the pointers of all files.
     Sound(HeldList),
+    /// The first place at fault.
     Damaged(Place),
 }
 

@@ -17,7 +17,7 @@ use Rattle.nl_recover_pointers.specs.declared.spare.PageCopy.{PageCopy}
 abbrev pub virtual_copy : ℕ → Bool → Seen → PageCopy
 virtual_copy size needed s = record { block = s.page / size; address = address_of s.rec; stamp = stamp_of s.rec; is_needed = needed }
 
--- those with the greatest write sequence number of their address are needed
+-- copies of pages, of which those with the greatest write sequence number of their address are needed
 unfoldable pub virtual_copies : ℕ → List Seen → List PageCopy
 virtual_copies size pages = map (λ s. virtual_copy size (has_greatest_among on_list pages s) s) pages
 
@@ -36,11 +36,11 @@ AreGreatest pages greatest = (address : ℕ) → unwrap_or (get nat_cmp greatest
 abbrev pub physical_copy : ℕ → Bool → Seen → PageCopy
 physical_copy size needed s = record { block = s.page / size; address = 0; stamp = stamp_of s.rec; is_needed = needed }
 
--- a pointer has that write sequence number
+-- whether a pointer has this write sequence number
 abbrev pub is_stamp_of : List Held → ℕ → Bool
 is_stamp_of held stamp = list_any (λ h. h.pointer.stamp == stamp) held
 
--- those with the write sequence number of a pointer are needed
+-- copies of pages, of which those with the write sequence number of a pointer are needed
 unfoldable pub physical_copies : ℕ → List Held → List Seen → List PageCopy
 physical_copies size held pages = map (λ s. physical_copy size (is_stamp_of held (stamp_of s.rec)) s) pages
 

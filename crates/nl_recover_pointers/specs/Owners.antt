@@ -34,7 +34,7 @@ greatest_zeros pages stamp tag = fold (with_page stamp tag) None pages
 abbrev pub AreOwned : List Seen → BTreeMap PageKey ℕ → Type 0
 AreOwned pages zeros = (stamp : ℕ) (tag : Tag) → get key_cmp zeros (key_of stamp tag) ≡ greatest_zeros pages stamp tag
 
--- there is such a page, and each is zero from there on
+-- whether there is a page of the key, and each is zero from an offset on
 abbrev pub is_zero_from : ℕ → Option ℕ → Bool
 is_zero_from end None = false
 is_zero_from end (Some zeros) = nat_le zeros end

@@ -12,7 +12,8 @@ is_copy q r = q.address == r.address && q.stamp == r.stamp
 
 -- each needed page of the block has a copy in another block
 abbrev pub is_spare_among : List PageCopy → ℕ → Bool
-is_spare_among pages block = list_all (λ r. not (r.block == block && r.is_needed) || list_any (λ q. not (q.block == block) && is_copy q r) pages) pages
+is_spare_among pages block =
+    list_all (λ r. not (r.block == block && r.is_needed) || list_any (λ q. not (q.block == block) && is_copy q r) pages) pages
 
 -- one of the blocks from the first on, so many of them, can be erased
 unfoldable pub has_spare : ℕ → ℕ → List PageCopy → Bool
@@ -20,7 +21,7 @@ has_spare first count pages = list_any (is_spare_among pages) (range_with_len fi
 
 -- ---- in which blocks the copies of a page lie
 
--- with one copy more, in this block
+-- where the copies of a page lie, with one copy more in this block
 abbrev pub spread_more : Spread → ℕ → Spread
 spread_more Nowhere block = In block
 spread_more (In other) block = if other == block then In other else Several
@@ -39,12 +40,13 @@ spread_at (Some spread) = spread
 abbrev pub with_copy : ℕ → ℕ → Spread → PageCopy → Spread
 with_copy address stamp spread q = if q.address == address && q.stamp == stamp then spread_more spread q.block else spread
 
--- in which blocks the pages of that address and write sequence number lie
+-- in which blocks the pages of an address and write sequence number lie
 unfoldable pub spread_among : List PageCopy → ℕ → ℕ → Spread
 spread_among pages address stamp = fold (with_copy address stamp) Nowhere pages
 
 abbrev pub AreSpreads : List PageCopy → BTreeMap PlaceKey Spread → Type 0
-AreSpreads pages spreads = (address stamp : ℕ) → spread_at (get pair_cmp spreads (place_key address stamp)) ≡ spread_among pages address stamp
+AreSpreads pages spreads =
+    (address stamp : ℕ) → spread_at (get pair_cmp spreads (place_key address stamp)) ≡ spread_among pages address stamp
 
 -- the page lies in this block, is needed, and by the spread of its copies has none in another block
 abbrev pub is_alone_in : ℕ → Spread → PageCopy → Bool

@@ -1,3 +1,4 @@
+//! The phase of a walk that counts the pages of files against the room of the volume.
 ghost use Rattle.std.specs.Prelude.{◌≡◌, nat_lt, length};
 ghost use Rattle.nl_meta.specs.Walk.{zero_where};
 

@@ -1,3 +1,4 @@
+//! The pages of both segments as copies, each with whether it is needed.
 ghost use Rattle.std.specs.Prelude.{◌≡◌, ◌<◌, max, not, nat_lt, unwrap_or, map, true, IfOk, OnOk, Some};
 ghost use Rattle.std.specs.BTreeMap.{get, Updates};
 ghost use Rattle.std.specs.BTreeSet.{contains};
@@ -34,7 +35,8 @@ fn greatest_of(greatest: &BTreeMap<u32, u64>, address: u32) -> u64
 }
 
 fn raise(greatest: &mut BTreeMap<u32, u64>, address: u32, stamp: u64) -> Result<(), Memory>
-    ensures { OnOk result (Updates nat_cmp greatest.old greatest.new address (Some (max (unwrap_or (get nat_cmp greatest.old address) 0) stamp))) }
+    ensures { OnOk result (Updates nat_cmp greatest.old greatest.new address
+        (Some (max (unwrap_or (get nat_cmp greatest.old address) 0) stamp))) }
 {
     let most = greatest_of(greatest, address).max(stamp);
     greatest.insert(address, most)?;
@@ -55,7 +57,8 @@ fn greatest(alloc: Global, pages: &Vec<Seen>) -> Result<BTreeMap<u32, u64>, Memo
 
 fn virtual_copy(size: u32, greatest: &BTreeMap<u32, u64>, page: &Seen) -> PageCopy
     requires { 0 < size }
-    ensures { result ≡ virtual_copy size (not (nat_lt (stamp_of page.now.rec) (unwrap_or (get nat_cmp greatest.now (address_of page.now.rec)) 0))) page.now }
+    ensures { result ≡ virtual_copy size
+        (not (nat_lt (stamp_of page.now.rec) (unwrap_or (get nat_cmp greatest.now (address_of page.now.rec)) 0))) page.now }
 {
     let address = address_on(&page.rec);
     let stamp = stamp_on(&page.rec);

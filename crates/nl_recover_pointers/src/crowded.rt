@@ -1,3 +1,4 @@
+//! The phase of a walk that looks for a block which can be erased in each segment, and counts pointers with stale names.
 ghost use Rattle.std.specs.Prelude.{◌≡◌, ◌<◌, count_by, is_some, IfOk};
 ghost use Rattle.nl_field.specs.ScanList.{is_lost_seen, virtual_spare_seen};
 ghost use Rattle.nl_meta.specs.Walk.{crowded_fault, spare_beside};

@@ -1,3 +1,4 @@
+//! The pointers of files as a walk gathers them, each with the owner of its page and the size of its file.
 ghost use Rattle.std.specs.Prelude.{◌≡◌, ◌<◌, ◌+◌, ◌^◌, [], ◌∷◌, ◌++◌, length, map, slice_get, Some, IfOk, OnOk, OnErr};
 ghost use Rattle.nl_recover_pointers.specs.Held.{held_of};
 
@@ -51,6 +52,7 @@ impl HeldList {
         Ok(())
     }
 
+    /// How many pointers the list has.
     pub fn len(&self) -> u32
         ensures count { result ≡ length self.now }
     {

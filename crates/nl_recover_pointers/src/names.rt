@@ -1,3 +1,4 @@
+//! The phase of a walk that looks for pointers whose name leads to another page.
 ghost use Rattle.std.specs.Prelude.{◌≡◌, IfOk};
 ghost use Rattle.nl_meta.specs.Walk.{name_fault};
 

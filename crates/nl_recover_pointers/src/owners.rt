@@ -1,3 +1,4 @@
+//! From which offset on the pages of a write sequence number and an owner are zero, gathered from a scan.
 ghost use Rattle.std.specs.Prelude.{◌≡◌, ◌*◌, ◌-◌, IfOk, OnOk, Some};
 ghost use Rattle.std.specs.BTreeMap.{get, Updates};
 ghost use Rattle.nl_recover_pointers.specs.Owners.{AreOwned, is_zero_from, key_cmp, key_of, more_zeros};
@@ -47,7 +48,8 @@ pub fn owners(alloc: Global, pages: &Vec<Seen>) -> Result<BTreeMap<PageKey, u32>
 
 /// Whether a page has the pointer's write sequence number and owner, and each such page is zero from the end of the file on.
 pub fn has_page(zeros: &BTreeMap<PageKey, u32>, held: &HeldPointer) -> bool
-    ensures { result ≡ is_zero_from (held.now.size - 4096 * held.now.tag.index) (get key_cmp zeros.now (key_of held.now.pointer.stamp held.now.tag)) }
+    ensures { result
+        ≡ is_zero_from (held.now.size - 4096 * held.now.tag.index) (get key_cmp zeros.now (key_of held.now.pointer.stamp held.now.tag)) }
 {
     match zeros.get(&key_of(held.pointer.stamp, &held.tag)) {
         Some(from) => *from as u64 <= held.size.saturating_sub(4096 * held.tag.index as u64),

@@ -1,3 +1,4 @@
+//! The pages that a scan saw, split by segment.
 ghost use Rattle.std.specs.Prelude.{◌≡◌, nat_le, nat_lt, ◌&&◌, IfOk};
 ghost use Rattle.nl_field.specs.Medium.{first_physical, is_virtual_rec, is_physical_rec};
 ghost use Rattle.nl_field.specs.ScanList.{virtual_seen, physical_seen};
@@ -7,6 +8,7 @@ use nl_field::{Memory, Seen, Shape, SpareRec};
 use nl_scan::ScanTables;
 use std::alloc::Global;
 
+/// The write sequence number of a spare record of either segment.
 pub fn stamp_on(rec: &SpareRec) -> u64
     ensures { result ≡ stamp_of rec.now }
 {

@@ -1,3 +1,4 @@
+//! The pages of the physical segment by number, each with its write sequence number.
 ghost use Rattle.std.specs.Prelude.{◌≡◌, ◌||◌, not, true, IfOk, OnOk};
 ghost use Rattle.std.specs.BTreeSet.{Updates, contains};
 ghost use Rattle.std.specs.Ordering.{nat_cmp};
@@ -26,6 +27,7 @@ impl Places {
         Ok(())
     }
 
+    /// The numbers of these pages, each also with its write sequence number. `Memory` where there is no room for them.
     pub fn of(alloc: Global, pages: &Vec<Seen>) -> Result<Places, Memory>
         ensures { IfOk result (KnowsPlaces pages.now.items) }
     {
@@ -49,7 +51,8 @@ impl Places {
 
     /// Whether the page of its name has the pointer's write sequence number, or there is no such page.
     pub fn owns(&self, pointer: &Pointer) -> bool
-        ensures { result ≡ (contains pair_cmp self.now.stamped (place_key pointer.now.name pointer.now.stamp) || not (contains nat_cmp self.now.pages pointer.now.name)) }
+        ensures { result ≡ (contains pair_cmp self.now.stamped (place_key pointer.now.name pointer.now.stamp)
+            || not (contains nat_cmp self.now.pages pointer.now.name)) }
     {
         self.holds(pointer) || !self.pages.contains(&pointer.name)
     }

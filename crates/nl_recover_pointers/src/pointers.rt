@@ -1,3 +1,4 @@
+//! The phase of a walk that looks at each pointer of a file: its index, and the pages with its write sequence number.
 ghost use Rattle.std.specs.Prelude.{◌≡◌, ◌*◌, ◌-◌, ◌||◌, nat_lt, not, option_map, true, IfOk, OnOk};
 ghost use Rattle.std.specs.BTreeMap.{get};
 ghost use Rattle.std.specs.BTreeSet.{Updates, contains};
@@ -24,7 +25,8 @@ fn is_at_fault(
 ) -> Result<bool, Memory>
     ensures fault { IfOk result (λ fault. fault ≡ (not (nat_lt held.now.tag.index (div_ceil held.now.size 4096))
         || (contains nat_cmp earlier.old.stamps held.now.pointer.stamp || contains nat_cmp earlier.old.names held.now.pointer.name)
-        || not (is_zero_from (held.now.size - 4096 * held.now.tag.index) (get key_cmp zeros.now (key_of held.now.pointer.stamp held.now.tag))))) }
+        || not (is_zero_from (held.now.size - 4096 * held.now.tag.index)
+        (get key_cmp zeros.now (key_of held.now.pointer.stamp held.now.tag))))) }
     ensures stamps { OnOk result (Updates nat_cmp earlier.old.stamps earlier.new.stamps held.now.pointer.stamp true) }
     ensures names { OnOk result (Updates nat_cmp earlier.old.names earlier.new.names held.now.pointer.name true) }
 {

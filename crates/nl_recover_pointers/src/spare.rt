@@ -1,3 +1,4 @@
+//! Whether a block of a segment can be erased: each needed page in it has a copy in another block.
 ghost use Rattle.std.specs.Prelude.{◌≡◌, ◌+◌, ◌<◌, ◌&&◌, ◌||◌, ◌==◌, ℕ, false, is_some, length, not, slice_index_or, unwrap_or, IfOk, OnOk, Some};
 ghost use Rattle.std.specs.List.{list_all};
 ghost use Rattle.std.specs.BTreeMap.{get, Updates};
@@ -23,12 +24,14 @@ pub struct PageCopy {
 #[derive(Clone, Copy, Debug, PartialEq, Eq)]
 pub enum Spread {
     Nowhere,
+    /// All copies lie in this block.
     In(u32),
+    /// Copies lie in more than one block.
     Several,
 }
 
 impl Spread {
-    /// With one more copy, in this block.
+    /// The blocks of the copies, with one more copy in this block.
     fn more(self, block: u32) -> Spread
         ensures { result ≡ spread_more self block }
     {
@@ -65,7 +68,8 @@ fn spread_of(spreads: &BTreeMap<CopyKey, Spread>, page: &PageCopy) -> Spread
 
 /// Notes the block of a page.
 fn note(spreads: &mut BTreeMap<CopyKey, Spread>, page: &PageCopy) -> Result<(), Memory>
-    ensures { OnOk result (let key = place_key page.now.address page.now.stamp in Updates pair_cmp spreads.old spreads.new key (Some (spread_more (spread_at (get pair_cmp spreads.old key)) page.now.block))) }
+    ensures { OnOk result (let key = place_key page.now.address page.now.stamp in Updates pair_cmp spreads.old spreads.new key
+        (Some (spread_more (spread_at (get pair_cmp spreads.old key)) page.now.block))) }
 {
     let spread = spread_of(spreads, page).more(page.block);
     spreads.insert((page.address, page.stamp), spread)?;
@@ -86,7 +90,8 @@ fn spreads(alloc: Global, pages: &Vec<PageCopy>) -> Result<BTreeMap<CopyKey, Spr
 /// Marks a block, where it is one of those from the first one on.
 fn mark(marks: &mut Vec<bool>, first: u32, block: u32)
     ensures count { length marks.new.items ≡ length marks.old.items }
-    ensures each { (i : ℕ) → i < length marks.old.items → slice_index_or marks.new.items i false ≡ (slice_index_or marks.old.items i false || block == first + i) }
+    ensures each { (i : ℕ) → i < length marks.old.items
+        → slice_index_or marks.new.items i false ≡ (slice_index_or marks.old.items i false || block == first + i) }
 {
     if block >= first {
         let at = (block - first) as usize;
@@ -105,7 +110,8 @@ fn mark_alone(
 )
     ensures count { length marks.new.items ≡ length marks.old.items }
     ensures each { (i : ℕ) → i < length marks.old.items → slice_index_or marks.new.items i false
-        ≡ (slice_index_or marks.old.items i false || is_alone_in (first + i) (spread_at (get pair_cmp spreads.now (place_key page.now.address page.now.stamp))) page.now) }
+        ≡ (slice_index_or marks.old.items i false
+        || is_alone_in (first + i) (spread_at (get pair_cmp spreads.now (place_key page.now.address page.now.stamp))) page.now) }
 {
     if page.is_needed && !spread_of(spreads, page).has_other(page.block) {
         mark(marks, first, page.block);

@@ -1,3 +1,4 @@
+// Lists of links in rising order.
 ghost use Rattle.std.specs.Prelude.{◌≡◌, ℕ, ◌+◌, ◌*◌, ◌^◌, ◌<◌, ◌≤◌, length, insert, nat_lt, vec_capacity};
 ghost use Rattle.nl_remap.specs.Links.{IsPlace, IsRising, rank};
 

@@ -1,3 +1,4 @@
+// Changes both lists of pairs at once: takes a pair out, leads one on, or puts one in.
 ghost use Rattle.std.specs.Prelude.{◌≡◌, ℕ, ◌+◌, ◌<◌, ◌≤◌, length, insert, remove, slice_set, vec_capacity};
 ghost use Rattle.nl_remap.specs.Links.{HasLink, link_at};
 ghost use Rattle.nl_remap.specs.Table.{IsOld, IsPaired, pair, place_of};

@@ -1,3 +1,4 @@
+// The table of pages that had to move, with its lists by old name and by target.
 ghost use Rattle.std.specs.Prelude.{◌≡◌, ℕ, ◌+◌, ◌-◌, ◌<◌, ◌≤◌, ◌↔◌, ◌==◌, if◌then◌else◌, [], length, map, insert, remove, slice_set, IsTrue, IfOk, IfSome, IfNone};
 ghost use Rattle.std.specs.Bool.{OnTrue, OnFalse};
 ghost use Rattle.nl_remap.specs.Links.{HasLink, link_at};
@@ -27,7 +28,8 @@ impl Model for Remap {
 
     ghost view = { λ r. record { pairs = r.by_old.items; room = r.room - length r.by_old.items } };
 
-    ghost invariant = { λ r. (IsPaired r.by_old.items r.by_target.items) × (length r.by_old.items ≤ r.room) × (r.room ≤ vec_capacity r.by_old) × (r.room ≤ vec_capacity r.by_target) };
+    ghost invariant = { λ r. (IsPaired r.by_old.items r.by_target.items) × (length r.by_old.items ≤ r.room)
+        × (r.room ≤ vec_capacity r.by_old) × (r.room ≤ vec_capacity r.by_target) };
 }
 
 impl Remap {
@@ -102,7 +104,8 @@ impl Remap {
         requires other { old ≡ new → ⊥ }
         ensures place { let at = place_of self.old.pairs name in at < length self.old.pairs }
         ensures pair { let at = place_of self.old.pairs name in link_at self.old.pairs at ≡ pair name old }
-        ensures led { let at = place_of self.old.pairs name in self.new ≡ record { pairs = slice_set self.old.pairs at (pair name new); room = self.old.room } }
+        ensures led { let at = place_of self.old.pairs name in self.new
+            ≡ record { pairs = slice_set self.old.pairs at (pair name new); room = self.old.room } }
     {
         let at = place(&self.by_old, name, 0);
         lead_pair(&mut self.by_old, &mut self.by_target, at, new);
@@ -116,7 +119,10 @@ impl Remap {
         requires other { old ≡ new → ⊥ }
         requires led { (name : ℕ) → HasLink self.old.pairs (pair name old) → ⊥ }
         ensures table { IsRemap self.new.pairs }
-        ensures put { self.new ≡ record { pairs = insert self.old.pairs (place_of self.old.pairs old) (pair old new); room = self.old.room - 1 } }
+        ensures put { self.new ≡ record {
+          pairs = insert self.old.pairs (place_of self.old.pairs old) (pair old new);
+          room = self.old.room - 1;
+        } }
     {
         put_pair(&mut self.by_old, &mut self.by_target, old, new);
     }
@@ -128,7 +134,8 @@ impl Remap {
         requires fresh { IsOld self.old.pairs old → ⊥ }
         requires free { IsOld self.old.pairs new → ⊥ }
         requires other { old ≡ new → ⊥ }
-        ensures added { let pairs = map (led_on old new) self.old.pairs in self.new ≡ record { pairs = insert pairs (place_of pairs old) (pair old new); room = self.old.room - 1 } }
+        ensures added { let pairs = map (led_on old new) self.old.pairs in self.new
+            ≡ record { pairs = insert pairs (place_of pairs old) (pair old new); room = self.old.room - 1 } }
         ensures table { IsRemap self.new.pairs }
         ensures ways { (name : ℕ) → led self.new.pairs name ≡ (if led self.old.pairs name == old then new else led self.old.pairs name) }
     {
@@ -142,11 +149,13 @@ impl Remap {
     /// Takes the pair of this old name away. False exactly where there is none.
     pub fn drop_name(&mut self, name: u32) -> bool
         ensures found { IsTrue result ↔ IsOld self.old.pairs name }
-        ensures dropped { OnTrue result (self.new ≡ record { pairs = remove self.old.pairs (place_of self.old.pairs name); room = self.old.room + 1 }) }
+        ensures dropped { OnTrue result
+            (self.new ≡ record { pairs = remove self.old.pairs (place_of self.old.pairs name); room = self.old.room + 1 }) }
         ensures kept { OnFalse result (self.new ≡ self.old) }
         ensures table { IsRemap self.new.pairs }
         ensures ways { OnTrue result ((other : ℕ) → led self.new.pairs other ≡ (if other == name then name else led self.old.pairs other)) }
-        ensures beside { OnTrue result (let target = led self.old.pairs name in beside self.new.pairs target ≡ beside self.old.pairs target) }
+        ensures beside { OnTrue result
+            (let target = led self.old.pairs name in beside self.new.pairs target ≡ beside self.old.pairs target) }
     {
         let at = place(&self.by_old, name, 0);
         if at == self.by_old.len() || self.by_old[at].from != name {

@@ -29,7 +29,7 @@ use Rattle.nl_scan.proofs.Readables.{IsOneOf, below_none, below_more_none, below
 abbrev pub Holds : BTreeMap ℕ First → List Readable → Type 0
 Holds firsts pages = (stamp : ℕ) → get nat_cmp firsts stamp ≡ first_of pages stamp
 
--- the other stamps
+-- another stamp is another key
 pub other_stamp : (k stamp : ℕ) → (k ≡ stamp → ⊥) → is_eq (nat_cmp k stamp) ≡ false
 other_stamp k stamp apart = grind (arith, nat_tests)
 

@@ -29,7 +29,7 @@ none_left : (bytes : List ℕ) → zeros_from (take 0 bytes) ≡ 0
 unfolding zeros_from
 none_left bytes = refl
 
--- there is none, or a byte before that is not zero
+-- the zeros at the end begin where no byte stands before, or one that is not zero
 pub ends_there : (bytes : List ℕ) (end : ℕ) → end ≤ length bytes → (end ≡ 0) ⊎ (get_or bytes (end - 1) 0 ≡ 0 → ⊥) → zeros_from (take end bytes) ≡ end
 ends_there bytes end within why =
     ⊎_elim

@@ -8,7 +8,7 @@ use Rattle.nl_field.specs.SpareRecord.{spare_bytes}
 use Rattle.nl_field.specs.declared.spare.SpareRec.{SpareRec}
 use Rattle.nl_scan.specs.declared.firsts.First.{First}
 
--- the same record apart from wear
+-- two spare records are the same apart from wear
 abbrev pub same_record : SpareRec → SpareRec → Bool
 same_record a b = bytes_eq (spare_bytes (without_wear a)) (spare_bytes (without_wear b))
 
@@ -25,7 +25,11 @@ is_alike rec main page = agrees_with rec main (readable page)
 abbrev pub noted : Image → Readable → Option First → First
 noted image r None = record { page = r.page; rec = r.rec; mixed = false }
 noted image r (Some f) =
-    record { page = f.page; rec = f.rec; mixed = f.mixed || not (is_alike r.rec r.main (f.page, page_at image f.page) && same_record f.rec r.rec) }
+    record {
+      page = f.page;
+      rec = f.rec;
+      mixed = f.mixed || not (is_alike r.rec r.main (f.page, page_at image f.page) && same_record f.rec r.rec);
+    }
 
 -- the first of these pages with this stamp, and whether one of them with that stamp differs from it
 unfoldable pub first_of : List Readable → ℕ → Option First

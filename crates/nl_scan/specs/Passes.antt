@@ -47,7 +47,8 @@ abbrev pub is_own_physical : Shape → Readable → Bool
 is_own_physical shape r = nat_le (first_physical shape) r.page && is_physical_rec r.rec
 
 -- A page was noted in its segment, if its record is of that, and in no other one.
-pub record NotedIn (shape : Shape) (r : Readable) (agrees : Bool) (virtuals virtuals' physicals physicals' : BTreeMap ℕ First) : Type 0 where
+pub record NotedIn (shape : Shape) (r : Readable) (agrees : Bool)
+    (virtuals virtuals' physicals physicals' : BTreeMap ℕ First) : Type 0 where
   pub in_virtual : MatchBool (is_own_virtual shape r) (Notes r.rec agrees virtuals virtuals') (virtuals' ≡ virtuals)
   pub in_physical : MatchBool (is_own_physical shape r) (Notes r.rec agrees physicals physicals') (physicals' ≡ physicals)
 
@@ -56,9 +57,13 @@ unfoldable pub readable_below : Image → ℕ → List Readable
 readable_below image at = filter_map readable (enumerate_from 0 (take at image.contents))
 
 -- A page was compared with the lower pages of its segment, and noted among the first pages there.
-pub record Compared (image : Image) (shape : Shape) (r : Readable) (virtuals virtuals' physicals physicals' : BTreeMap ℕ First) (agrees : Bool) : Type 0 where
-  pub in_virtual : MatchBool (is_own_virtual shape r) (Updates nat_cmp virtuals virtuals' (stamp_on r) (Some (noted image r (get nat_cmp virtuals (stamp_on r))))) (virtuals' ≡ virtuals)
-  pub in_physical : MatchBool (is_own_physical shape r) (Updates nat_cmp physicals physicals' (stamp_on r) (Some (noted image r (get nat_cmp physicals (stamp_on r))))) (physicals' ≡ physicals)
+pub record Compared (image : Image) (shape : Shape) (r : Readable) (virtuals virtuals' physicals physicals' : BTreeMap ℕ First)
+    (agrees : Bool) : Type 0 where
+  pub in_virtual : MatchBool (is_own_virtual shape r)
+      (Updates nat_cmp virtuals virtuals' (stamp_on r) (Some (noted image r (get nat_cmp virtuals (stamp_on r))))) (virtuals' ≡ virtuals)
+  pub in_physical : MatchBool (is_own_physical shape r)
+      (Updates nat_cmp physicals physicals' (stamp_on r) (Some (noted image r (get nat_cmp physicals (stamp_on r)))))
+      (physicals' ≡ physicals)
   pub verdict : agrees ≡ (not (is_own_virtual shape r && (noted image r (get nat_cmp virtuals (stamp_on r))).mixed)
       && not (is_own_physical shape r && (noted image r (get nat_cmp physicals (stamp_on r))).mixed))
 
@@ -72,8 +77,10 @@ pub record Added (image : Image) (shape : Shape) (r : Readable) (old new : Pass)
 -- what a pass knows of the readable pages of an image below a number
 pub record KnowsPages (image : Image) (at : ℕ) (pass : Pass) : Type 0 where
   pub each_page : pass.seen.items ≡ map (seen_of image) (readable_below image at)
-  pub virtuals : (stamp : ℕ) → get nat_cmp pass.virtuals stamp ≡ first_of (filter (is_own_virtual (shape_of_image image)) (readable_below image at)) stamp
-  pub physicals : (stamp : ℕ) → get nat_cmp pass.physicals stamp ≡ first_of (filter (is_own_physical (shape_of_image image)) (readable_below image at)) stamp
+  pub virtuals : (stamp : ℕ) → get nat_cmp pass.virtuals stamp
+      ≡ first_of (filter (is_own_virtual (shape_of_image image)) (readable_below image at)) stamp
+  pub physicals : (stamp : ℕ) → get nat_cmp pass.physicals stamp
+      ≡ first_of (filter (is_own_physical (shape_of_image image)) (readable_below image at)) stamp
   pub newest : pass.newest ≡ fold super_after no_super (readable_below image at)
 
 -- so far all pages of the block are erased

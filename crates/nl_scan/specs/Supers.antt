@@ -12,7 +12,7 @@ no_super = record { stamp = 0; version = 0 }
 abbrev pub version_on : Readable → ℕ
 version_on r = unwrap_or (option_map (λ rec. rec.version) (super_of r.main)) 0
 
--- it is the super page among the pages so far
+-- the page is the super page among the pages so far
 abbrev pub is_newer : SuperSeen → Readable → Bool
 is_newer newest r = is_super_rec r.rec && nat_lt newest.stamp (stamp_on r)
 

@@ -31,7 +31,8 @@ pub record IsKept (seen : List Seen) (greatest : ℕ) : Type 0 where
 pub record IsTableOf (image : Image) (t : Table) : Type 0 where
   pub each_page : t.seen ≡ seen_in image
   pub next : 1 + greatest_stamp t.seen ≡ next_stamp_of image
-  pub each_block : (block : ℕ) → block < image.blocks → IsTrue (slice_index_or t.erased block false) ↔ ErasedWithin image (block * image.pages) (block * image.pages + image.pages)
+  pub each_block : (block : ℕ) → block < image.blocks
+      → IsTrue (slice_index_or t.erased block false) ↔ ErasedWithin image (block * image.pages) (block * image.pages + image.pages)
   pub super_page : t.version ≡ super_version image
 
 -- a readable page of a medium of so many pages
@@ -42,7 +43,9 @@ pub record IsSeen (pages : ℕ) (s : Seen) : Type 0 where
 
 -- those of these pages that agree and have one stamp have one record apart from wear
 abbrev pub HaveOneRecord : List Seen → Type 0
-HaveOneRecord pages = (s q : Seen) → Has pages s → Has pages q → s.agrees ≡ true → q.agrees ≡ true → stamp_of s.rec ≡ stamp_of q.rec → without_wear s.rec ≡ without_wear q.rec
+HaveOneRecord pages =
+    (s q : Seen) → Has pages s → Has pages q → s.agrees ≡ true → q.agrees ≡ true → stamp_of s.rec ≡ stamp_of q.rec
+    → without_wear s.rec ≡ without_wear q.rec
 
 -- Whatever the pages hold, these are pages of the medium in rising order, there is an answer for each block, and in either segment
 -- a stamp has one record, and so one address or one owner, on all pages that agree.

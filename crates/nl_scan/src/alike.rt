@@ -1,3 +1,4 @@
+//! Comparisons of two readable pages: whether their records and their main bytes agree apart from wear.
 ghost use Rattle.std.specs.Prelude.{◌≡◌, ℕ, IsTrue, true};
 ghost use Rattle.nl_field.specs.SpareRecord.{is_spare};
 ghost use Rattle.nl_field.specs.Scan.{without_wear};

@@ -1,3 +1,4 @@
+//! The first page of each stamp, and whether later pages of it agree with it.
 ghost use Rattle.std.specs.Prelude.{◌≡◌, ◌<◌, ◌*◌, ℕ, IsTrue, IfSome, IfOk, OnOk, Some, None, Err, true, not, ◌&&◌};
 ghost use Rattle.std.specs.Ordering.{nat_cmp};
 ghost use Rattle.std.specs.BTreeMap.{get, Updates};
@@ -31,6 +32,7 @@ pub enum Stopped {
     Memory,
 }
 
+/// The write sequence number of a spare record.
 pub fn stamp_on(rec: &SpareRec) -> u64
     ensures { result ≡ stamp_of rec.now }
 {
@@ -52,7 +54,9 @@ fn compare<M: Nand>(
     requires page { first.now.page < (M.geometry media.old).blocks * (M.geometry media.old).pages }
     requires noted { IsTrue (is_spare first.now.rec) }
     requires spelled { IsTrue (is_spare rec.now) }
-    ensures told { M.tells → IfSome result (λ same. same ≡ (is_alike rec.now buf.now.main (first.now.page, page_at (M.contents media.old) first.now.page) && same_record first.now.rec rec.now)) }
+    ensures told { M.tells → IfSome result
+        (λ same. same ≡ (is_alike rec.now buf.now.main (first.now.page, page_at (M.contents media.old) first.now.page)
+        && same_record first.now.rec rec.now)) }
     ensures same { IfSome result (λ same. same ≡ true → without_wear first.now.rec ≡ without_wear rec.now) }
     ensures reads { OnlyReads M.geometry M.contents M.clock M.write_faults M.left media.old media.new }
     ensures faults { FaultsCounted (M.read_faults media.old) (M.read_faults media.new) (result ≡ None) }
@@ -79,7 +83,9 @@ pub fn note<M: Nand>(
     requires page { page < (M.geometry media.old).blocks * (M.geometry media.old).pages }
     requires firsts { AreFirsts ((M.geometry media.old).blocks * (M.geometry media.old).pages) firsts.old }
     requires spelled { IsTrue (is_spare rec.now) }
-    ensures told { M.tells → IfOk result (λ agrees. let first = noted (M.contents media.old) (record { page = page; rec = rec.now; main = buf.now.main }) (get nat_cmp firsts.old (stamp_of rec.now)) in
+    ensures told { M.tells → IfOk result
+        (λ agrees. let first = noted (M.contents media.old) (record { page = page; rec = rec.now; main = buf.now.main })
+        (get nat_cmp firsts.old (stamp_of rec.now)) in
         (agrees ≡ not first.mixed) × Updates nat_cmp firsts.old firsts.new (stamp_of rec.now) (Some first)) }
     ensures noted { IfOk result (λ agrees. Notes rec.now agrees firsts.old firsts.new) }
     ensures firsts { OnOk result (AreFirsts ((M.geometry media.old).blocks * (M.geometry media.old).pages) firsts.new) }

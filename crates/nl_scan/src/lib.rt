@@ -76,7 +76,9 @@ fn pages<M: Nand>(
     requires geometry { geometry ≡ M.geometry media.old }
     requires legal { IsTrue (is_legal geometry.blocks geometry.pages) }
     requires shape { shape.now ≡ shape_for geometry.blocks geometry.pages }
-    ensures tables { M.tells → IfOk result (λ pass. IsTableOf (M.contents media.old) (record { seen = pass.seen.items; erased = pass.erased.items; version = pass.newest.version })) }
+    ensures tables { M.tells → IfOk result
+        (λ pass. IsTableOf (M.contents media.old)
+        (record { seen = pass.seen.items; erased = pass.erased.items; version = pass.newest.version })) }
     ensures stands { IfOk result (Stands geometry shape.now (geometry.blocks * geometry.pages)) }
     ensures reads { OnlyReads M.geometry M.contents M.clock M.write_faults M.left media.old media.new }
     ensures faults { FaultsCounted (M.read_faults media.old) (M.read_faults media.new) (result ≡ Err Stopped.Fault) }

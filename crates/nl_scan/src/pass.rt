@@ -1,3 +1,4 @@
+//! One pass over the pages of a medium, page by page.
 ghost use Rattle.std.specs.Prelude.{◌≡◌, ◌↔◌, ◌<◌, ◌≤◌, ◌*◌, ◌+◌, ◌/◌, ◌∷◌, ◌++◌, ℕ, IsTrue, OnOk, IfOk, Err, [], length, max, slice_set, false};
 ghost use Rattle.nl_field.specs.Page.{page_at, erased};
 ghost use Rattle.nl_field.specs.Medium.{first_physical, shape_of_image};
@@ -87,8 +88,11 @@ fn agrees_so_far<M: Nand>(
     requires spelled { IsTrue (is_spare rec.now) }
     requires virtuals { AreFirsts ((M.geometry media.old).blocks * (M.geometry media.old).pages) virtuals.old }
     requires physicals { AreFirsts ((M.geometry media.old).blocks * (M.geometry media.old).pages) physicals.old }
-    ensures told { M.tells → IfOk result (Compared (M.contents media.old) shape.now (record { page = page; rec = rec.now; main = buf.now.main }) virtuals.old virtuals.new physicals.old physicals.new) }
-    ensures noted { IfOk result (λ agrees. NotedIn shape.now (record { page = page; rec = rec.now; main = buf.now.main }) agrees virtuals.old virtuals.new physicals.old physicals.new) }
+    ensures told { M.tells → IfOk result
+        (Compared (M.contents media.old) shape.now
+        (record { page = page; rec = rec.now; main = buf.now.main }) virtuals.old virtuals.new physicals.old physicals.new) }
+    ensures noted { IfOk result (λ agrees. NotedIn shape.now
+        (record { page = page; rec = rec.now; main = buf.now.main }) agrees virtuals.old virtuals.new physicals.old physicals.new) }
     ensures virtuals { OnOk result (AreFirsts ((M.geometry media.old).blocks * (M.geometry media.old).pages) virtuals.new) }
     ensures physicals { OnOk result (AreFirsts ((M.geometry media.old).blocks * (M.geometry media.old).pages) physicals.new) }
     ensures reads { OnlyReads M.geometry M.contents M.clock M.write_faults M.left media.old media.new }
@@ -116,7 +120,8 @@ fn add<M: Nand>(
     requires page { page < (M.geometry media.old).blocks * (M.geometry media.old).pages }
     requires spelled { IsTrue (is_spare rec) }
     requires stands { Stands (M.geometry media.old) shape.now page pass.old }
-    ensures told { M.tells → OnOk result (Added (M.contents media.old) shape.now (record { page = page; rec = rec; main = buf.now.main }) pass.old pass.new) }
+    ensures told { M.tells → OnOk result
+        (Added (M.contents media.old) shape.now (record { page = page; rec = rec; main = buf.now.main }) pass.old pass.new) }
     ensures stands { OnOk result (Stands (M.geometry media.old) shape.now (page + 1) pass.new) }
     ensures erased { OnOk result (pass.new.erased.items ≡ pass.old.erased.items) }
     ensures reads { OnlyReads M.geometry M.contents M.clock M.write_faults M.left media.old media.new }

@@ -1,3 +1,4 @@
+//! The newest super page among the pages of a pass.
 ghost use Rattle.std.specs.Prelude.{◌≡◌};
 ghost use Rattle.nl_scan.specs.Supers.{no_super, super_after};
 
@@ -6,13 +7,14 @@ use nl_field::{PageBuf, SpareRec, SuperRec};
 /// The super page so far: the least of the greatest stamp among the readable pages with a virtual record of address 0.
 #[derive(Clone, Copy, Debug, PartialEq, Eq)]
 pub struct SuperSeen {
-    /// Its stamp, 0 where there is none.
+    /// The stamp of the super page, 0 where there is none.
     pub stamp: u64,
-    /// The version that it spells, 0 where it spells none.
+    /// The version that the super page spells, 0 where it spells none.
     pub version: u32,
 }
 
 impl SuperSeen {
+    /// No super page: stamp 0 and version 0.
     pub fn none() -> SuperSeen
         ensures { result ≡ no_super }
     {

@@ -1,3 +1,4 @@
+//! The tables that a scan leaves.
 ghost use Rattle.std.specs.Prelude.{◌≡◌, ◌<◌, ◌+◌, length, slice_get, slice_index_or, Some, false};
 ghost use Rattle.nl_scan.specs.Tables.{IsKept, greatest_stamp};
 

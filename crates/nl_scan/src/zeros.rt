@@ -1,3 +1,4 @@
+//! Where the zeros at the end of a page begin.
 ghost use Rattle.std.specs.Prelude.{◌≡◌, ◌≤◌, ◌<◌, ◌^◌, length};
 ghost use Rattle.nl_field.specs.Scan.{zeros_from};
 

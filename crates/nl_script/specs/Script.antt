@@ -49,7 +49,8 @@ lines_from n round calls total (raw ∷ rest) =
       | Ok (CallOf worker made) ↦
           elim (counted calls total made) [
             | Err why ↦ Err (Refused n 1 why)
-            | Ok sum ↦ line_before (record { line = n; round = round; worker = worker; call = made }) (lines_from (n + 1) round (calls + 1) sum rest)
+            | Ok sum ↦ line_before (record { line = n; round = round; worker = worker; call = made })
+                (lines_from (n + 1) round (calls + 1) sum rest)
           ]
     ]
 

@@ -1,8 +1,10 @@
+// The commands of a script, and the words that name them.
 ghost use Rattle.std.specs.Prelude.{◌≡◌};
 ghost use Rattle.nl_script.specs.Spellings as spells;
 
 use crate::Why;
 
+/// The commands that a worker may give.
 #[derive(Clone, Copy)]
 pub(crate) enum Command {
     Mkdir,
@@ -20,6 +22,7 @@ pub(crate) enum Command {
     Clean,
 }
 
+/// The command that a word names, or why it names none.
 #[tactic(auto, unfolding(crate::specs::Spellings::command_of))]
 pub(crate) fn command_of(word: &[u8]) -> Result<Command, Why>
     ensures { result ≡ spells.command_of word.now }

@@ -1,3 +1,4 @@
+// Cuts bytes in two at the first separator.
 ghost use Rattle.std.specs.Prelude.{◌≡◌, ◌<◌, ◌+◌, [], ◌∷◌, length, IfSome, MatchOption, ◌==◌, position};
 ghost use Rattle.nl_script.specs.Words.{parts};
 

@@ -1,3 +1,4 @@
+// The fault of a line.
 use crate::Why;
 
 // Why a line is refused, and at which of its columns, from 1.

@@ -1,4 +1,4 @@
-// What a line says.
+// Reads one line: what it says, or why it is refused.
 ghost use Rattle.std.specs.Prelude.{◌≡◌, ◌≤◌, ◌+◌, ◌∷◌, length, IfOk, position, slice_index, ◌==◌};
 ghost use Rattle.nl_script.specs.declared.why.Why.TheVariants.{Missing};
 ghost use Rattle.nl_script.specs.Grammar as says;

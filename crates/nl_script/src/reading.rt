@@ -105,7 +105,8 @@ fn add_call(
     ensures place { IfOk result (λ next. (next.number ≡ number) × (next.round ≡ at.round)) }
     ensures added { OnOk result (lines.new ≡ lines.old ++ record { line = number; round = at.round; worker = worker; call = call } ∷ []) }
     ensures read { IfOk result (λ next. IsRead next lines.new) }
-    ensures refusal { IfErr result (λ e. (e ≡ OutOfMemory) ⊎ ((why : Why) × (spec.counted (length lines.old) at.total call ≡ Err why) × (e ≡ Refused number 1 why))) }
+    ensures refusal { IfErr result (λ e. (e ≡ OutOfMemory)
+        ⊎ ((why : Why) × (spec.counted (length lines.old) at.total call ≡ Err why) × (e ≡ Refused number 1 why))) }
 {
     match counted(lines.len(), at.total, &call) {
         Err(why) => Err(ScriptRefusal::Refused {

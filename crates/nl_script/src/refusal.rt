@@ -1,3 +1,4 @@
+// The refusal of a script.
 use crate::Why;
 
 /// The first fault of a script. Lines and columns count from 1, and both are 0 for `Size`.

@@ -1,3 +1,4 @@
+// The lines of a script by their kind.
 use nl_tree::Call;
 
 // What a line says.

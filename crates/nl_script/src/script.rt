@@ -1,3 +1,4 @@
+// Reads the lines of a whole script, or finds the first line at fault.
 ghost use Rattle.std.specs.Prelude.{◌≡◌, ◌≤◌, ◌<◌, ◌∷◌, length, IfOk, IfErr, ◌⊎◌, Ok, Err};
 ghost use Rattle.nl_script.specs.Script.{script, max_calls, max_total, read_total};
 ghost use Rattle.nl_script.specs.Words.{lines_of};

@@ -1,4 +1,4 @@
-// What a word spells.
+// Reads one word: the worker, path, number or bytes that it spells.
 ghost use Rattle.std.specs.Prelude.{◌≡◌, ◌<◌, ◌≤◌, true, false, MatchOption, IfOk};
 ghost use Rattle.std.specs.Char.{is_ascii_digit, digit_value};
 ghost use Rattle.nl_script.specs.Spellings as spells;
@@ -10,6 +10,7 @@ use nl_field::{MAX_BYTES, Memory, Text};
 use nl_tree::Path;
 use std::alloc::Global;
 
+/// The worker that a word names, 0 to 7, or why it names none.
 pub(crate) fn worker_of(word: &[u8]) -> Result<u8, Why>
     ensures worker { result ≡ spells.worker_of word.now }
     ensures small { IfOk result (λ w. w ≤ 7) }
@@ -28,6 +29,7 @@ fn is_name(name: &[u8]) -> bool
     !name.is_empty() && !is_dot && !is_dots
 }
 
+/// The path that a word spells, or why it spells none. An outer error where memory is refused.
 #[tactic(auto, unfolding(crate::specs::Spellings::path_of))]
 pub(crate) fn path_of(alloc: Global, word: &[u8]) -> Result<Result<Path, Why>, Memory>
     ensures { IfOk result (λ r. r ≡ spells.path_of word.now) }
@@ -82,6 +84,7 @@ fn digits_of(word: &[u8]) -> Option<u64>
     if value < 1 << 63 { Some(value) } else { None }
 }
 
+/// The decimal number that a word spells, or why it spells none.
 pub(crate) fn number_of(word: &[u8]) -> Result<u64, Why>
     ensures { result ≡ spells.number_of word.now }
 {
@@ -91,6 +94,7 @@ pub(crate) fn number_of(word: &[u8]) -> Result<u64, Why>
     }
 }
 
+/// The length in bytes that a word spells, or why it spells none that a call may have.
 #[tactic(auto, unfolding(crate::specs::Spellings::length_of))]
 pub(crate) fn length_of(word: &[u8]) -> Result<u32, Why>
     ensures { result ≡ spells.length_of word.now }
@@ -102,6 +106,7 @@ pub(crate) fn length_of(word: &[u8]) -> Result<u32, Why>
     Ok(count as u32)
 }
 
+/// The bytes that a word spells in hexadecimal, or why it spells none. An outer error where memory is refused.
 #[tactic(auto, unfolding(crate::specs::Spellings::data_of))]
 pub(crate) fn data_of(alloc: Global, word: &[u8]) -> Result<Result<Text, Why>, Memory>
     ensures { IfOk result (λ r. r ≡ spells.data_of word.now) }
@@ -124,6 +129,7 @@ pub(crate) fn data_of(alloc: Global, word: &[u8]) -> Result<Result<Text, Why>, M
     }
 }
 
+/// The byte that a word spells in two hexadecimal digits, or why it spells none.
 #[tactic(auto, unfolding(crate::specs::Spellings::byte_of))]
 pub(crate) fn byte_of(word: &[u8]) -> Result<u8, Why>
     ensures { result ≡ spells.byte_of word.now }

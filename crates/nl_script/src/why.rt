@@ -1,3 +1,4 @@
+// The causes for which a script is refused.
 ghost use Rattle.std.specs.Prelude.{◌≡◌};
 ghost use Rattle.nl_script.specs.Causes.{cause_word};
 

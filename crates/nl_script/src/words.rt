@@ -1,3 +1,4 @@
+// Cuts a line into its words.
 ghost use Rattle.std.specs.Prelude.{◌≡◌, ◌<◌, ◌≤◌, ◌+◌, [], ◌∷◌, length, MatchOption};
 ghost use Rattle.nl_script.specs.Words.{words_from, with_part};
 
@@ -20,12 +21,14 @@ impl<'a> Model for Word<'a> {
 }
 
 impl<'a> Word<'a> {
+    /// The column of its first byte in the line, from 1.
     pub(crate) fn column(&self) -> u32
         ensures { result ≡ self.now.column }
     {
         self.column
     }
 
+    /// The bytes of the word.
     pub(crate) fn bytes(&self) -> &'a [u8]
         ensures { result.now ≡ self.now.bytes }
     {
@@ -52,6 +55,7 @@ impl<'a> Model for Words<'a> {
 }
 
 impl<'a> Words<'a> {
+    /// The words of a line of at most 140,000 bytes, none taken yet.
     pub(crate) fn of(line: &'a [u8]) -> Words<'a>
         requires { length line.now ≤ 140000 }
         ensures { result ≡ words_from 1 line.now }

@@ -52,7 +52,7 @@ module _ {D : Type 0} (g : Ghosts D) (s : D) (p : Progress) (pages : Pages) (j :
   base_bytes u home none Commit r = r.0.home u (bytes_of (g.map s) u) home (inl refl)
   base_bytes u home none (Home i) r = r.others u (bytes_of (g.map s) u) home none (inl refl)
 
-  -- and that of one that is frozen is its image, once it is committed
+  -- the committed page of an address that is frozen is its image, once it is committed
   finished_there : (u i : ℕ) → IsHome (g.shape s).vaddrs u → place pages.frozen u ≡ Some i → (x : Phase) → StandsAt x → finished x pages.frozen (committed_on g s) u ≡ Some (main_at pages.frozen.images i)
   finished_there u i home at Header r = page_there pages.frozen (committed_on g s) u i at
   finished_there u i home at (Image k) r = page_there pages.frozen (committed_on g s) u i at

@@ -24,7 +24,7 @@ abbrev pub LosesEach : List (Tag × Pointer) → List (Tag × Pointer) → List 
 LosesEach [] old new = new ≡ old
 LosesEach (x ∷ xs) old new = (mid : List (Tag × Pointer)) × ListLoses tagged x old mid × LosesEach xs mid new
 
--- and with each of these more
+-- a list with each of these more, one after the other
 abbrev pub GainsEach : List (Tag × Pointer) → List (Tag × Pointer) → List (Tag × Pointer) → Type 0
 GainsEach [] old new = new ≡ old
 GainsEach (x ∷ xs) old new = (mid : List (Tag × Pointer)) × ListGains tagged x old mid × GainsEach xs mid new
@@ -45,40 +45,52 @@ given_up p = if not (is_none_pointer p) then p ∷ [] else []
 -- Pages leave the running metadata, and await their free, behind the others. Pages come into it that were in flight.
 abbrev pub ReplacingKeepsHeld : {D : Type 0} → Ghosts D → Type 0
 ReplacingKeepsHeld {D} g =
-    (s t : D) (p : Progress) (pages now : Pages) (flight later gone come between : List (Tag × Pointer)) (freeing : List Pointer) → IsVolumeShape (g.shape s) → IsJournaled g s p pages
-    → IsHeldVolume g s p pages flight freeing → OnlyReads g s t → now.frozen ≡ pages.frozen → LosesEach gone (running_holders g s pages) between
-    → GainsEach come between (running_holders g t now) → LosesEach come flight later → IsHeldVolume g t p now later (freeing ++ map tagged gone)
+    (s t : D) (p : Progress) (pages now : Pages) (flight later gone come between : List (Tag × Pointer)) (freeing : List Pointer)
+    → IsVolumeShape (g.shape s) → IsJournaled g s p pages
+    → IsHeldVolume g s p pages flight freeing → OnlyReads g s t → now.frozen ≡ pages.frozen
+    → LosesEach gone (running_holders g s pages) between
+    → GainsEach come between (running_holders g t now) → LosesEach come flight later
+    → IsHeldVolume g t p now later (freeing ++ map tagged gone)
 
--- So it is where a file is cut: of the pointers some that stand one behind the other are gone, and of others that one has a new page.
+-- A file that is cut leaves a volume held: of the pointers some that stand one behind the other are gone, and of others that one has a new
+-- page.
 abbrev pub CuttingKeepsHeld : {D : Type 0} → Ghosts D → Type 0
 CuttingKeepsHeld {D} g =
-    (s t : D) (p : Progress) (pages now : Pages) (flight later gone come : List (Tag × Pointer)) (freeing : List Pointer) → IsVolumeShape (g.shape s) → IsJournaled g s p pages
-    → IsHeldVolume g s p pages flight freeing → OnlyReads g s t → now.frozen ≡ pages.frozen → ReplacesSome gone come (running_holders g s pages) (running_holders g t now)
+    (s t : D) (p : Progress) (pages now : Pages) (flight later gone come : List (Tag × Pointer)) (freeing : List Pointer)
+    → IsVolumeShape (g.shape s) → IsJournaled g s p pages
+    → IsHeldVolume g s p pages flight freeing → OnlyReads g s t → now.frozen ≡ pages.frozen
+    → ReplacesSome gone come (running_holders g s pages) (running_holders g t now)
     → LosesEach come flight later → IsHeldVolume g t p now later (freeing ++ map tagged gone)
 
--- And where a page in flight is installed in a file, in place of the one that the index had.
+-- A page in flight that is installed in a file, in place of the one that the index had, leaves a volume held.
 abbrev pub InstallingKeepsHeld : {D : Type 0} → Ghosts D → Type 0
 InstallingKeepsHeld {D} g =
-    (s t : D) (p : Progress) (pages now : Pages) (flight later : List (Tag × Pointer)) (freeing : List Pointer) (tag : Tag) (was to : Pointer) → IsVolumeShape (g.shape s) → IsJournaled g s p pages
-    → IsHeldVolume g s p pages flight freeing → OnlyReads g s t → now.frozen ≡ pages.frozen → OneChanges tag was to (running_holders g s pages) (running_holders g t now)
+    (s t : D) (p : Progress) (pages now : Pages) (flight later : List (Tag × Pointer)) (freeing : List Pointer) (tag : Tag)
+    (was to : Pointer) → IsVolumeShape (g.shape s) → IsJournaled g s p pages
+    → IsHeldVolume g s p pages flight freeing → OnlyReads g s t → now.frozen ≡ pages.frozen
+    → OneChanges tag was to (running_holders g s pages) (running_holders g t now)
     → is_none_pointer to ≡ false → ListLoses tagged (tag, to) flight later → IsHeldVolume g t p now later (freeing ++ given_up was)
 
 -- The pointers of all files are what they were, as where names change.
 abbrev pub NamesKeepHeld : {D : Type 0} → Ghosts D → Type 0
 NamesKeepHeld {D} g =
-    (s t : D) (p : Progress) (pages now : Pages) (flight : List (Tag × Pointer)) (freeing : List Pointer) → IsVolumeShape (g.shape s) → IsJournaled g s p pages → IsHeldVolume g s p pages flight freeing
-    → OnlyReads g s t → now.frozen ≡ pages.frozen → running_holders g t now ≡ running_holders g s pages → IsHeldVolume g t p now flight freeing
+    (s t : D) (p : Progress) (pages now : Pages) (flight : List (Tag × Pointer)) (freeing : List Pointer) → IsVolumeShape (g.shape s)
+    → IsJournaled g s p pages → IsHeldVolume g s p pages flight freeing
+    → OnlyReads g s t → now.frozen ≡ pages.frozen → running_holders g t now ≡ running_holders g s pages
+    → IsHeldVolume g t p now flight freeing
 
 -- Pages are read, and some become resident.
 abbrev pub ReadingKeepsHeld : {D : Type 0} → Ghosts D → Type 0
 ReadingKeepsHeld {D} g =
-    (s t : D) (p : Progress) (pages now : Pages) (flight : List (Tag × Pointer)) (freeing : List Pointer) → IsVolumeShape (g.shape s) → IsJournaled g s p pages → IsHeldVolume g s p pages flight freeing
+    (s t : D) (p : Progress) (pages now : Pages) (flight : List (Tag × Pointer)) (freeing : List Pointer) → IsVolumeShape (g.shape s)
+    → IsJournaled g s p pages → IsHeldVolume g s p pages flight freeing
     → RunsOn g s pages t now → IsHeldVolume g t p now flight freeing
 
 -- The super page has other bytes, as where the count of calls is stored.
 abbrev pub SuperPageKeepsHeld : {D : Type 0} → Ghosts D → Type 0
 SuperPageKeepsHeld {D} g =
-    (s : D) (p : Progress) (pages : Pages) (bytes : List ℕ) (flight : List (Tag × Pointer)) (freeing : List Pointer) → IsVolumeShape (g.shape s) → IsJournaled g s p pages
+    (s : D) (p : Progress) (pages : Pages) (bytes : List ℕ) (flight : List (Tag × Pointer)) (freeing : List Pointer)
+    → IsVolumeShape (g.shape s) → IsJournaled g s p pages
     → IsHeldVolume g s p pages flight freeing → IsHeldVolume g s p (with_dirty pages 0 bytes) flight freeing
 
 -- ---- steps of lists
@@ -87,5 +99,5 @@ SuperPageKeepsHeld {D} g =
 pub record RunsOfLists : Type 0 where
   pub lost : (front xs behind : List (Tag × Pointer)) → LosesEach xs (front ++ xs ++ behind) (front ++ behind)
   pub gained : (front xs behind : List (Tag × Pointer)) → GainsEach xs (front ++ behind) (front ++ xs ++ behind)
-  -- one after the other
+  -- what is lost by one list and then by another is lost by both, one after the other
   pub lost_then : (xs ys l m n : List (Tag × Pointer)) → LosesEach xs l m → LosesEach ys m n → LosesEach (xs ++ ys) l n

@@ -24,18 +24,22 @@ pub record HoldsOn (v w : Holding) : Type 0 where
 -- also where a write failed, both are held as they were.
 abbrev pub CompletingHolds : {D : Type 0} → Ghosts D → Type 0
 CompletingHolds {D} g =
-    (answer : VirtualWrite) (s t : D) (p q : Progress) (pages now : Pages) (v : Holding) → IsVolumeShape (g.shape s) → IsHoldingOn g s p pages v → IsJournaled g s p pages
+    (answer : VirtualWrite) (s t : D) (p q : Progress) (pages now : Pages) (v : Holding) → IsVolumeShape (g.shape s)
+    → IsHoldingOn g s p pages v → IsJournaled g s p pages
     → Completes g (answer ≡ write.Done) s p pages t q now
     → (w : Holding) × IsHoldingOn g t q now w × HoldsOn v w × (IsOpen p pages.frozen → answer ≡ write.Done → w.due ≡ v.leaving)
 
 -- Once the dirty pages are frozen, their transaction keeps what the running metadata has, and gives up all that awaits its free.
 abbrev pub FreezingHolds : {D : Type 0} → Ghosts D → Type 0
 FreezingHolds {D} g =
-    (s : D) (p : Progress) (pages : Pages) (v : Holding) → IsVolumeShape (g.shape s) → IsHoldingOn g s p pages v → IsJournaled g s p pages → IsPages pages
-    → CanFreeze (g.shape s).vaddrs p pages → (w : Holding) × IsHoldingOn g s p (with_frozen pages) w × HoldsOn v w × (w.leaving ≡ length v.freeing)
+    (s : D) (p : Progress) (pages : Pages) (v : Holding) → IsVolumeShape (g.shape s) → IsHoldingOn g s p pages v → IsJournaled g s p pages
+    → IsPages pages
+    → CanFreeze (g.shape s).vaddrs p pages
+    → (w : Holding) × IsHoldingOn g s p (with_frozen pages) w × HoldsOn v w × (w.leaving ≡ length v.freeing)
 
--- Another super page changes nothing of it.
+-- Another super page changes nothing of who holds live pages.
 abbrev pub SuperPageHolds : {D : Type 0} → Ghosts D → Type 0
 SuperPageHolds {D} g =
-    (s : D) (p : Progress) (pages : Pages) (bytes : List ℕ) (v : Holding) → IsVolumeShape (g.shape s) → IsJournaled g s p pages → IsHoldingOn g s p pages v
+    (s : D) (p : Progress) (pages : Pages) (bytes : List ℕ) (v : Holding) → IsVolumeShape (g.shape s) → IsJournaled g s p pages
+    → IsHoldingOn g s p pages v
     → IsHoldingOn g s p (with_dirty pages 0 bytes) v

@@ -21,8 +21,10 @@ use Rattle.nl_spec_commits.specs.Trees.{OpensAs, StandsFor, Trees}
 -- A call that leaves the addresses as they were leaves the trees.
 abbrev pub AddressesGo : {D : Type 0} → Ghosts D → Type 0
 AddressesGo {D} g =
-    (s t : D) (p : Progress) (pages : Pages) (count : ℕ) (page_of_stamp : ℕ → Option PageOfStamp) (x : Trees) → IsVolumeShape (g.shape s) → g.tells → HasNumber p (length pages.frozen.addresses)
-    → IsJournaled g s p pages → KeepsVirtual g s t → StandsFor g s p pages count page_of_stamp x → StandsFor g t p pages count page_of_stamp x
+    (s t : D) (p : Progress) (pages : Pages) (count : ℕ) (page_of_stamp : ℕ → Option PageOfStamp) (x : Trees) → IsVolumeShape (g.shape s)
+    → g.tells → HasNumber p (length pages.frozen.addresses)
+    → IsJournaled g s p pages → KeepsVirtual g s t → StandsFor g s p pages count page_of_stamp x
+    → StandsFor g t p pages count page_of_stamp x
 
 -- each page that a write sequence number has is still that page
 abbrev pub Extends : (ℕ → Option PageOfStamp) → (ℕ → Option PageOfStamp) → Type 0
@@ -31,10 +33,11 @@ Extends old new = (stamp : ℕ) (page : PageOfStamp) → old stamp ≡ Some page
 -- Further pages leave the trees.
 abbrev pub PagesGo : {D : Type 0} → Ghosts D → Type 0
 PagesGo {D} g =
-    (s : D) (p : Progress) (pages : Pages) (count : ℕ) (old new : ℕ → Option PageOfStamp) (x : Trees) → Extends old new → StandsFor g s p pages count old x → StandsFor g s p pages count new x
+    (s : D) (p : Progress) (pages : Pages) (count : ℕ) (old new : ℕ → Option PageOfStamp) (x : Trees) → Extends old new
+    → StandsFor g s p pages count old x → StandsFor g s p pages count new x
 
--- What a call of the device leaves: the addresses have what they had, and pages of one write sequence number are the same. The live pages are
--- those of some names, some of which may have moved by then, and who held what they were of holds them on.
+-- What a call of the device leaves: the addresses have what they had, and pages of one write sequence number are the same. The live pages
+-- are those of some names, some of which may have moved by then, and who held what they were of holds them on.
 pub record LeavesHolding {D : Type 0} (g : Ghosts D) (s : D) (page_of_stamp : ℕ → Option PageOfStamp) (c : Stored) : Type 0 where
   pub same_virtual : SameVirtual (stored g s) c
   pub agree : NamedAgree c
@@ -44,12 +47,16 @@ pub record LeavesHolding {D : Type 0} (g : Ghosts D) (s : D) (page_of_stamp : �
   pub shows : ShowsPages moved contents page_of_stamp
   pub pages : LeavesPages (g.shape s) moved contents c
 
--- It opens as the committed tree. So does what there is now.
+-- What a call of the device leaves opens as the committed tree.
 abbrev pub HoldingOpens : {D : Type 0} → Ghosts D → Type 0
 HoldingOpens {D} g =
-    (s : D) (p : Progress) (pages : Pages) (count : ℕ) (page_of_stamp : ℕ → Option PageOfStamp) (x : Trees) (flight : List (Tag × Pointer)) (freeing : List Pointer) (c : Stored) → IsVolumeShape (g.shape s) → g.tells
-    → HasNumber p (length pages.frozen.addresses) → IsHeldVolume g s p pages flight freeing → IsFirm g s → StoresMap g s → StandsFor g s p pages count page_of_stamp x → LeavesHolding g s page_of_stamp c
+    (s : D) (p : Progress) (pages : Pages) (count : ℕ) (page_of_stamp : ℕ → Option PageOfStamp) (x : Trees) (flight : List (Tag × Pointer))
+    (freeing : List Pointer) (c : Stored) → IsVolumeShape (g.shape s) → g.tells
+    → HasNumber p (length pages.frozen.addresses) → IsHeldVolume g s p pages flight freeing → IsFirm g s → StoresMap g s
+    → StandsFor g s p pages count page_of_stamp x → LeavesHolding g s page_of_stamp c
     → OpensAs (g.shape s) c x.committed
 
 abbrev pub NowHolds : {D : Type 0} → Ghosts D → Type 0
-NowHolds {D} g = (s : D) (page_of_stamp : ℕ → Option PageOfStamp) → IsFirm g s → ShowsPages (g.names s) (g.bytes s) page_of_stamp → LeavesHolding g s page_of_stamp (stored g s)
+NowHolds {D} g =
+    (s : D) (page_of_stamp : ℕ → Option PageOfStamp) → IsFirm g s → ShowsPages (g.names s) (g.bytes s) page_of_stamp
+    → LeavesHolding g s page_of_stamp (stored g s)

@@ -13,10 +13,12 @@ use Rattle.nl_journal.specs.Progress.{Progress}
 use Rattle.nl_meta.specs.Pages.{Pages}
 use Rattle.nl_spec_commits.specs.Standing.{IsFirm}
 
--- What is stored of the addresses stays, and pages of one stamp agree where they did: so it is where pages are moved, and a victim is erased.
+-- What is stored of the addresses stays, and pages of one stamp agree where they did: so it is where pages are moved, and a victim is
+-- erased.
 abbrev pub StoredKeepsFirm : {D : Type 0} → Ghosts D → Type 0
 StoredKeepsFirm {D} g =
-    (s t : D) → g.tells → IsFirm g s → KeepsVirtual g s t → SameVirtual (stored g s) (stored g t) → (NamedAgree (stored g s) → NamedAgree (stored g t)) → StoresPages g t → IsFirm g t
+    (s t : D) → g.tells → IsFirm g s → KeepsVirtual g s t → SameVirtual (stored g s) (stored g t)
+    → (NamedAgree (stored g s) → NamedAgree (stored g t)) → StoresPages g t → IsFirm g t
 
 -- The medium is as it was: so it is where it is only read, where pages are freed, and callbacks handled or acknowledged.
 abbrev pub MediumKeepsFirm : {D : Type 0} → Ghosts D → Type 0
@@ -25,10 +27,12 @@ MediumKeepsFirm {D} g = (s t : D) → g.tells → IsFirm g s → KeepsMedium g s
 -- A page is programmed under a new name, or its program failed: no other page has its stamp.
 abbrev pub ProgramKeepsFirm : {D : Type 0} → Ghosts D → Type 0
 ProgramKeepsFirm {D} g =
-    (s t : D) (tag : Tag) (main : List ℕ) (answer : Named) → g.tells → IsFirm g s → KeepsVirtual g s t → LeavesNew g tag main answer s t → StoresPages g t → IsFirm g t
+    (s t : D) (tag : Tag) (main : List ℕ) (answer : Named) → g.tells → IsFirm g s → KeepsVirtual g s t → LeavesNew g tag main answer s t
+    → StoresPages g t → IsFirm g t
 
 -- A commit is done, or no write failed in it.
 abbrev pub CommitKeepsFirm : {D : Type 0} → Ghosts D → Type 0
 CommitKeepsFirm {D} g =
-    (answer : VirtualWrite) (most : ℕ) (s t : D) (p r : Progress) (pages now : Pages) → g.tells → IsFirm g s → CommitWrites g (answer ≡ write.Done) p r pages now s t
+    (answer : VirtualWrite) (most : ℕ) (s t : D) (p r : Progress) (pages now : Pages) → g.tells → IsFirm g s
+    → CommitWrites g (answer ≡ write.Done) p r pages now s t
     → Passes g (answer ≡ write.Done) most s t → (answer ≡ write.Done) ⊎ NoWriteFailed g s t → StoresPages g t → IsFirm g t

@@ -28,7 +28,8 @@ use Rattle.nl_spec_commits.specs.SettlingLaws.{IsTold}
 
 -- Each live page is held once: by the running metadata, in flight, or while it awaits its free. Where the medium tells its contents and
 -- the numbers of transactions have not ended, what is committed and what is frozen keep their pages. None is due.
-pub record IsHeldVolume {D : Type 0} (g : Ghosts D) (s : D) (p : Progress) (pages : Pages) (flight : List (Tag × Pointer)) (freeing : List Pointer) : Type 0 where
+pub record IsHeldVolume {D : Type 0} (g : Ghosts D) (s : D) (p : Progress) (pages : Pages) (flight : List (Tag × Pointer))
+    (freeing : List Pointer) : Type 0 where
   pub holding : Holding
   pub is_of : IsHoldingOn g s p pages holding
   pub in_flight : holding.flight ≡ flight
@@ -38,7 +39,8 @@ pub record IsHeldVolume {D : Type 0} (g : Ghosts D) (s : D) (p : Progress) (page
   pub committed : IsTold g p pages → KeepsCommitted holding
 
 -- A commit, done or not, holds pages on; once it is done, all are due that await their free.
-pub record CommitsOn {D : Type 0} (g : Ghosts D) (done : Type 0) (p : Progress) (pages : Pages) (t : D) (r : Progress) (now : Pages) (v w : Holding) : Type 0 where
+pub record CommitsOn {D : Type 0} (g : Ghosts D) (done : Type 0) (p : Progress) (pages : Pages) (t : D) (r : Progress) (now : Pages)
+    (v w : Holding) : Type 0 where
   pub is_of : IsHoldingOn g t r now w
   pub holds : HoldsOn v w
   pub due : done → w.due ≡ length v.freeing
@@ -46,27 +48,35 @@ pub record CommitsOn {D : Type 0} (g : Ghosts D) (done : Type 0) (p : Progress) 
 
 abbrev pub CommitHolds : {D : Type 0} → Ghosts D → Type 0
 CommitHolds {D} g =
-    (answer : VirtualWrite) (earlier decided : Option ℕ) (s t : D) (p r : Progress) (pages now : Pages) (v : Holding) → IsVolumeShape (g.shape s) → IsJournaled g s p pages → IsHoldingOn g s p pages v
-    → CommitsInParts g (answer ≡ write.Done) earlier decided s p pages t r now → (w : Holding) × CommitsOn g (answer ≡ write.Done) p pages t r now v w
+    (answer : VirtualWrite) (earlier decided : Option ℕ) (s t : D) (p r : Progress) (pages now : Pages) (v : Holding)
+    → IsVolumeShape (g.shape s) → IsJournaled g s p pages → IsHoldingOn g s p pages v
+    → CommitsInParts g (answer ≡ write.Done) earlier decided s p pages t r now
+    → (w : Holding) × CommitsOn g (answer ≡ write.Done) p pages t r now v w
 
--- So a commit leaves the volume held. Done or not, the same pages await their free.
+-- A commit leaves the volume held. Done or not, the same pages await their free.
 abbrev pub CommitKeepsHeld : {D : Type 0} → Ghosts D → Type 0
 CommitKeepsHeld {D} g =
-    (answer : VirtualWrite) (earlier decided : Option ℕ) (s t : D) (p r : Progress) (pages now : Pages) (flight : List (Tag × Pointer)) (freeing : List Pointer) → IsVolumeShape (g.shape s) → IsJournaled g s p pages
-    → IsHeldVolume g s p pages flight freeing → CommitsInParts g (answer ≡ write.Done) earlier decided s p pages t r now → IsHeldVolume g t r now flight freeing
+    (answer : VirtualWrite) (earlier decided : Option ℕ) (s t : D) (p r : Progress) (pages now : Pages) (flight : List (Tag × Pointer))
+    (freeing : List Pointer) → IsVolumeShape (g.shape s) → IsJournaled g s p pages
+    → IsHeldVolume g s p pages flight freeing → CommitsInParts g (answer ≡ write.Done) earlier decided s p pages t r now
+    → IsHeldVolume g t r now flight freeing
 
--- Once it is done and all of them are freed, none awaits its free.
+-- Once a commit is done and all pages are freed that awaited their free, none awaits its free.
 abbrev pub FreedKeepsHeld : {D : Type 0} → Ghosts D → Type 0
 FreedKeepsHeld {D} g =
-    (answer : VirtualWrite) (earlier decided : Option ℕ) (s t u : D) (p r : Progress) (pages now : Pages) (flight : List (Tag × Pointer)) (freeing : List Pointer) → IsVolumeShape (g.shape s) → IsJournaled g s p pages → IsHeldVolume g s p pages flight freeing
-    → CommitsInParts g (answer ≡ write.Done) earlier decided s p pages t r now → answer ≡ write.Done → IsVolumeShape (g.shape t) → IsJournaled g t r now → (IsOpen r now.frozen → ⊥) → OldNamesDiffer (g.names t) → KeepsMedium g t u
+    (answer : VirtualWrite) (earlier decided : Option ℕ) (s t u : D) (p r : Progress) (pages now : Pages) (flight : List (Tag × Pointer))
+    (freeing : List Pointer) → IsVolumeShape (g.shape s) → IsJournaled g s p pages → IsHeldVolume g s p pages flight freeing
+    → CommitsInParts g (answer ≡ write.Done) earlier decided s p pages t r now → answer ≡ write.Done → IsVolumeShape (g.shape t)
+    → IsJournaled g t r now → (IsOpen r now.frozen → ⊥) → OldNamesDiffer (g.names t) → KeepsMedium g t u
     → FreesEach freeing (g.names t) (g.names u) → IsHeldVolume g u r now flight []
 
--- And callbacks are acknowledged that transactions handled which count.
+-- A volume stays held where callbacks are acknowledged that transactions handled which count.
 abbrev pub AcknowledgedKeepsHeld : {D : Type 0} → Ghosts D → Type 0
 AcknowledgedKeepsHeld {D} g =
-    (s t : D) (p : Progress) (pages : Pages) (flight : List (Tag × Pointer)) (freeing : List Pointer) (upto : ℕ) → IsVolumeShape (g.shape s) → IsJournaled g s p pages → IsHeldVolume g s p pages flight freeing
-    → KeepsMedium g s t → (IsTold g p pages → upto ≤ p.number) → Acknowledges upto (g.names s) (g.names t) → IsHeldVolume g t p pages flight freeing
+    (s t : D) (p : Progress) (pages : Pages) (flight : List (Tag × Pointer)) (freeing : List Pointer) (upto : ℕ) → IsVolumeShape (g.shape s)
+    → IsJournaled g s p pages → IsHeldVolume g s p pages flight freeing
+    → KeepsMedium g s t → (IsTold g p pages → upto ≤ p.number) → Acknowledges upto (g.names s) (g.names t)
+    → IsHeldVolume g t p pages flight freeing
 
 -- who holds pages of a volume that was opened: nothing but its metadata, which is the committed one
 abbrev pub opened : {D : Type 0} → Ghosts D → D → Progress → Pages → Holding
@@ -84,9 +94,11 @@ opened g s p pages = record {
   next = p.number + 1;
 }
 
--- So an opening leaves a volume held, where no transaction is open, and its metadata is what is committed.
+-- An opening leaves a volume held, where no transaction is open, and its metadata is what is committed.
 abbrev pub OpeningIsHeld : {D : Type 0} → Ghosts D → Type 0
 OpeningIsHeld {D} g =
-    (s : D) (p : Progress) (pages : Pages) (kept : List Pointer) (place : Pointer → ℕ) (found : List (ℕ × LivePage)) → IsVolumeShape (g.shape s) → IsJournaled g s p pages
-    → (IsOpen p pages.frozen → ⊥) → (g.tells → (v : ℕ) → IsHome (g.shape s).vaddrs v → read_as (g.shape s) (committed_on g s) v ≡ running_on g s pages v)
+    (s : D) (p : Progress) (pages : Pages) (kept : List Pointer) (place : Pointer → ℕ) (found : List (ℕ × LivePage))
+    → IsVolumeShape (g.shape s) → IsJournaled g s p pages
+    → (IsOpen p pages.frozen → ⊥)
+    → (g.tells → (v : ℕ) → IsHome (g.shape s).vaddrs v → read_as (g.shape s) (committed_on g s) v ≡ running_on g s pages v)
     → IsTable (g.names s) → Retains kept place found (g.names s) → Opens kept (opened g s p pages) → IsHeldVolume g s p pages [] []

@@ -15,6 +15,8 @@ pub record StoresFirm (image : Image) : Type 0 where
 abbrev pub ConsistentIsFirm : Type 0
 ConsistentIsFirm = (image : Image) → Consistent image → StoresFirm image
 
--- So a device that was opened over one is firm, where no write counts as failed.
+-- A device that was opened over a firm image is firm, where no write counts as failed.
 abbrev pub OpenedIsFirm : {D : Type 0} → Ghosts D → Type 0
-OpenedIsFirm {D} g = (s : D) (image : Image) → stored g s ≡ stored_in image → Consistent image → NoneFailed (g.shape s).vaddrs (g.failed s) → StoresPages g s → IsFirm g s
+OpenedIsFirm {D} g =
+    (s : D) (image : Image) → stored g s ≡ stored_in image → Consistent image → NoneFailed (g.shape s).vaddrs (g.failed s) → StoresPages g s
+    → IsFirm g s

@@ -1,5 +1,5 @@
--- Between two commits: what leaves the addresses as they were, and the metadata as it changes; and after one pages that are due are freed, and
--- callbacks acknowledged.
+-- Between two commits: what leaves the addresses as they were, and the metadata as it changes; and after one pages that are due are freed,
+-- and callbacks acknowledged.
 use Rattle.std.specs.Prelude.{◌≡◌, ℕ, ◌≤◌, List, ◌++◌, length}
 use Rattle.nl_field.specs.declared.pointer.Pointer.{Pointer}
 use Rattle.nl_field.specs.declared.pointer.Tag.{Tag}
@@ -31,34 +31,41 @@ IsTold g p pages = g.tells × HasNumber p (length pages.frozen.addresses)
 -- A call that leaves the addresses as they were leaves what is committed and what is frozen, whoever else holds pages then.
 abbrev pub AddressesHold : {D : Type 0} → Ghosts D → Type 0
 AddressesHold {D} g =
-    (s t : D) (p : Progress) (pages : Pages) (v : Holding) (flight : List (Tag × Pointer)) (freeing : List Pointer) (due : ℕ) → IsVolumeShape (g.shape s) → IsJournaled g s p pages → KeepsVirtual g s t
+    (s t : D) (p : Progress) (pages : Pages) (v : Holding) (flight : List (Tag × Pointer)) (freeing : List Pointer) (due : ℕ)
+    → IsVolumeShape (g.shape s) → IsJournaled g s p pages → KeepsVirtual g s t
     → IsHoldingOn g s p pages v → IsHoldingOn g t p pages (record v { names = g.names t; flight = flight; freeing = freeing; due = due })
 
 -- Where the metadata changes, and no frozen page, and it runs then, it is journaled as before.
 abbrev pub ChangesJournaled : {D : Type 0} → Ghosts D → Type 0
-ChangesJournaled {D} g = (s : D) (p : Progress) (pages now : Pages) → IsJournaled g s p pages → ChangesPages pages now → Runs g s now → IsJournaled g s p now
+ChangesJournaled {D} g =
+    (s : D) (p : Progress) (pages now : Pages) → IsJournaled g s p pages → ChangesPages pages now → Runs g s now → IsJournaled g s p now
 
--- The same while the device leaves what its addresses have, as one that is only read.
+-- The metadata is journaled as before while the device leaves what its addresses have, as one that is only read.
 abbrev pub StepsJournaled : {D : Type 0} → Ghosts D → Type 0
 StepsJournaled {D} g =
-    (s t : D) (p : Progress) (pages now : Pages) → IsVolumeShape (g.shape s) → IsJournaled g s p pages → KeepsVirtual g s t → ChangesPages pages now → Runs g t now → IsJournaled g t p now
+    (s t : D) (p : Progress) (pages now : Pages) → IsVolumeShape (g.shape s) → IsJournaled g s p pages → KeepsVirtual g s t
+    → ChangesPages pages now → Runs g t now → IsJournaled g t p now
 
 -- Where the metadata changes, and no frozen page, its pointers are those of the pages that run then.
 abbrev pub MetadataHolds : {D : Type 0} → Ghosts D → Type 0
 MetadataHolds {D} g =
-    (s : D) (p : Progress) (pages now : Pages) (v : Holding) (flight : List (Tag × Pointer)) (freeing : List Pointer) → now.frozen ≡ pages.frozen → IsHoldingOn g s p pages v
+    (s : D) (p : Progress) (pages now : Pages) (v : Holding) (flight : List (Tag × Pointer)) (freeing : List Pointer)
+    → now.frozen ≡ pages.frozen → IsHoldingOn g s p pages v
     → IsHoldingOn g s p now (record v { running = running_holders g s now; flight = flight; freeing = freeing })
 
 -- Where nothing is frozen, the first of the pages that await their free are freed, if so many are due.
 abbrev pub FreesHold : {D : Type 0} → Ghosts D → Type 0
 FreesHold {D} g =
-    (s t : D) (p : Progress) (pages : Pages) (v : Holding) (front rest : List Pointer) → IsHoldingOn g s p pages v → (IsOpen p pages.frozen → ⊥) → OldNamesDiffer (g.names s)
-    → v.freeing ≡ front ++ rest → v.due ≡ length front → FreesEach front (g.names s) (g.names t) → GoesOn (IsTold g p pages) v (record v { names = g.names t; freeing = rest; due = 0 })
+    (s t : D) (p : Progress) (pages : Pages) (v : Holding) (front rest : List Pointer) → IsHoldingOn g s p pages v
+    → (IsOpen p pages.frozen → ⊥) → OldNamesDiffer (g.names s)
+    → v.freeing ≡ front ++ rest → v.due ≡ length front → FreesEach front (g.names s) (g.names t)
+    → GoesOn (IsTold g p pages) v (record v { names = g.names t; freeing = rest; due = 0 })
 
 -- Callbacks are acknowledged that transactions handled which count.
 abbrev pub AcknowledgesHold : {D : Type 0} → Ghosts D → Type 0
 AcknowledgesHold {D} g =
-    (s t : D) (p : Progress) (pages : Pages) (v : Holding) (upto : ℕ) → IsHoldingOn g s p pages v → (IsTold g p pages → upto ≤ p.number) → Acknowledges upto (g.names s) (g.names t)
+    (s t : D) (p : Progress) (pages : Pages) (v : Holding) (upto : ℕ) → IsHoldingOn g s p pages v → (IsTold g p pages → upto ≤ p.number)
+    → Acknowledges upto (g.names s) (g.names t)
     → GoesOn (IsTold g p pages) v (record v { names = g.names t })
 
 -- Where no page is due, and the frozen transaction gives up none, all is kept too.

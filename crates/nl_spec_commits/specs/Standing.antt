@@ -28,46 +28,60 @@ use Rattle.nl_spec_commits.specs.Committed.{IsHoldingOn, read_as}
 
 -- The committed pages of a device read so, whether the inode pages that were never written are given their zeros before or after.
 abbrev pub CommittedReads : Type 0
-CommittedReads = (shape : Shape) (values : ℕ → Option Value) (v : ℕ) → IsVolumeShape shape → v < shape.vaddrs → committed shape (map_bytes shape values) v ≡ read_as shape (committed_now shape values) v
+CommittedReads =
+    (shape : Shape) (values : ℕ → Option Value) (v : ℕ) → IsVolumeShape shape → v < shape.vaddrs
+    → committed shape (map_bytes shape values) v ≡ read_as shape (committed_now shape values) v
 
 -- Where the dirty pages are a transaction, what a commit puts in place is what runs.
 abbrev pub AheadIsRunning : {D : Type 0} → Ghosts D → Type 0
 AheadIsRunning {D} g =
-    (s : D) (p : Progress) (pages : Pages) → IsJournaled g s p pages → IsPages pages → IsTransaction (g.shape s).vaddrs (dirty_pages pages) → g.tells → HasNumber p (length pages.frozen.addresses)
+    (s : D) (p : Progress) (pages : Pages) → IsJournaled g s p pages → IsPages pages → IsTransaction (g.shape s).vaddrs (dirty_pages pages)
+    → g.tells → HasNumber p (length pages.frozen.addresses)
     → (v : ℕ) → IsHome (g.shape s).vaddrs v → read_as (g.shape s) (ahead_on g s p pages) v ≡ running_on g s pages v
 
 -- Pages that agree stand for the same.
 abbrev pub StandsAlike : Type 0
 StandsAlike =
-    (shape : Shape) (old new : VirtualMap) (page_of_stamp : ℕ → Option PageOfStamp) (count : ℕ) (tree : Tree) → Agrees shape.vaddrs new old → MapStands shape old page_of_stamp count tree
+    (shape : Shape) (old new : VirtualMap) (page_of_stamp : ℕ → Option PageOfStamp) (count : ℕ) (tree : Tree) → Agrees shape.vaddrs new old
+    → MapStands shape old page_of_stamp count tree
     → MapStands shape new page_of_stamp count tree
 
 -- The pages stand for this tree after so many calls, and each of their pointers leads to the live page of its stamp.
-pub record StandFor {D : Type 0} (g : Ghosts D) (s : D) (pages : VirtualMap) (page_of_stamp : ℕ → Option PageOfStamp) (count : ℕ) (tree : Tree) : Type 0 where
+pub record StandFor {D : Type 0} (g : Ghosts D) (s : D) (pages : VirtualMap) (page_of_stamp : ℕ → Option PageOfStamp) (count : ℕ)
+    (tree : Tree) : Type 0 where
   pub map : MapStands (g.shape s) (read_as (g.shape s) pages) page_of_stamp count tree
-  pub lead : (h : Held) → members.Has (held_in (g.shape s) (read_as (g.shape s) pages)) h → IsLiveFor (g.names s) (g.bytes s) page_of_stamp h
+  pub lead : (h : Held) → members.Has (held_in (g.shape s) (read_as (g.shape s) pages)) h
+      → IsLiveFor (g.names s) (g.bytes s) page_of_stamp h
 
 -- each live page is the page of its stamp
 abbrev pub ShowsPages : Names → (ℕ → List ℕ) → (ℕ → Option PageOfStamp) → Type 0
-ShowsPages names bytes page_of_stamp = (p : ℕ) (page : LivePage) → names.live p ≡ Some page → page_of_stamp page.stamp ≡ Some (record { tag = page.tag; bytes = bytes p })
+ShowsPages names bytes page_of_stamp =
+    (p : ℕ) (page : LivePage) → names.live p ≡ Some page → page_of_stamp page.stamp ≡ Some (record { tag = page.tag; bytes = bytes p })
 
 -- Where pages are held for what is committed and frozen, and these maps stand for trees, their pointers lead.
-pub record LeadsCommitted {D : Type 0} (g : Ghosts D) (s : D) (p : Progress) (pages : Pages) (page_of_stamp : ℕ → Option PageOfStamp) : Type 0 where
-  pub committed : (count : ℕ) (tree : Tree) → MapStands (g.shape s) (read_as (g.shape s) (committed_on g s)) page_of_stamp count tree → StandFor g s (committed_on g s) page_of_stamp count tree
-  pub frozen : IsOpen p pages.frozen → (count : ℕ) (tree : Tree) → MapStands (g.shape s) (read_as (g.shape s) (finished_on g s p pages)) page_of_stamp count tree
+pub record LeadsCommitted {D : Type 0} (g : Ghosts D) (s : D) (p : Progress) (pages : Pages)
+    (page_of_stamp : ℕ → Option PageOfStamp) : Type 0 where
+  pub committed : (count : ℕ) (tree : Tree) → MapStands (g.shape s) (read_as (g.shape s) (committed_on g s)) page_of_stamp count tree
+      → StandFor g s (committed_on g s) page_of_stamp count tree
+  pub frozen : IsOpen p pages.frozen → (count : ℕ) (tree : Tree)
+      → MapStands (g.shape s) (read_as (g.shape s) (finished_on g s p pages)) page_of_stamp count tree
       → StandFor g s (finished_on g s p pages) page_of_stamp count tree
 
 abbrev pub HeldLead : {D : Type 0} → Ghosts D → Type 0
 HeldLead {D} g =
-    (s : D) (p : Progress) (pages : Pages) (v : Holding) (page_of_stamp : ℕ → Option PageOfStamp) → g.tells → HasNumber p (length pages.frozen.addresses) → IsHoldingOn g s p pages v → KeepsCommitted v
+    (s : D) (p : Progress) (pages : Pages) (v : Holding) (page_of_stamp : ℕ → Option PageOfStamp) → g.tells
+    → HasNumber p (length pages.frozen.addresses) → IsHoldingOn g s p pages v → KeepsCommitted v
     → ShowsPages (g.names s) (g.bytes s) page_of_stamp → LeadsCommitted g s p pages page_of_stamp
 
--- And where each live page is held once, those of the running metadata lead.
+-- Where each live page is held once, the pointers of the running metadata lead.
 abbrev pub RunningLead : {D : Type 0} → Ghosts D → Type 0
 RunningLead {D} g =
-    (s : D) (p : Progress) (pages : Pages) (v : Holding) (page_of_stamp : ℕ → Option PageOfStamp) (count : ℕ) (tree : Tree) → g.tells → HasNumber p (length pages.frozen.addresses)
-    → IsVolumeShape (g.shape s) → IsJournaled g s p pages → IsPages pages → IsTransaction (g.shape s).vaddrs (dirty_pages pages) → IsHoldingOf g s pages v → HoldsPages v
-    → ShowsPages (g.names s) (g.bytes s) page_of_stamp → MapStands (g.shape s) (running_on g s pages) page_of_stamp count tree → StandFor g s (ahead_on g s p pages) page_of_stamp count tree
+    (s : D) (p : Progress) (pages : Pages) (v : Holding) (page_of_stamp : ℕ → Option PageOfStamp) (count : ℕ) (tree : Tree) → g.tells
+    → HasNumber p (length pages.frozen.addresses)
+    → IsVolumeShape (g.shape s) → IsJournaled g s p pages → IsPages pages → IsTransaction (g.shape s).vaddrs (dirty_pages pages)
+    → IsHoldingOf g s pages v → HoldsPages v
+    → ShowsPages (g.names s) (g.bytes s) page_of_stamp → MapStands (g.shape s) (running_on g s pages) page_of_stamp count tree
+    → StandFor g s (ahead_on g s p pages) page_of_stamp count tree
 
 -- What is stored can be opened: its virtual segment is firm, no write failed at an address, its pages under names are those of the device,
 -- and pages of one stamp agree.
@@ -77,19 +91,24 @@ pub record IsFirm {D : Type 0} (g : Ghosts D) (s : D) : Type 0 where
   pub pages : StoresPages g s
   pub agree : NamedAgree (stored g s)
 
--- Of a device of which that holds a stop within a call of the journal leaves a tree, where the pages stand for it that are committed then.
+-- A stop within a call of the journal leaves a tree, where the pages stand for it that are committed then.
 pub record LeavesStanding {D : Type 0} (g : Ghosts D) (s : D) : Type 0 where
-  pub one : (a : VirtualMap) (page_of_stamp : ℕ → Option PageOfStamp) (c : Stored) (count : ℕ) (tree : Tree) → LeavesOne g s a c → StandFor g s a page_of_stamp count tree
+  pub one : (a : VirtualMap) (page_of_stamp : ℕ → Option PageOfStamp) (c : Stored) (count : ℕ) (tree : Tree) → LeavesOne g s a c
+      → StandFor g s a page_of_stamp count tree
       → LeavesTree (g.shape s) (g.names s) (g.bytes s) page_of_stamp c count tree
   -- before its commit page is finished, one of two
-  pub either : (a b : VirtualMap) (page_of_stamp : ℕ → Option PageOfStamp) (c : Stored) (count after : ℕ) (tree later : Tree) → LeavesEither g s a b c
+  pub either : (a b : VirtualMap) (page_of_stamp : ℕ → Option PageOfStamp) (c : Stored) (count after : ℕ) (tree later : Tree)
+      → LeavesEither g s a b c
       → StandFor g s a page_of_stamp count tree → StandFor g s b page_of_stamp after later
-      → LeavesTree (g.shape s) (g.names s) (g.bytes s) page_of_stamp c count tree ⊎ LeavesTree (g.shape s) (g.names s) (g.bytes s) page_of_stamp c after later
+      → LeavesTree (g.shape s) (g.names s) (g.bytes s) page_of_stamp c count tree
+      ⊎ LeavesTree (g.shape s) (g.names s) (g.bytes s) page_of_stamp c after later
   -- in a whole commit one of three: the pages of before, those with the frozen ones, or those with the dirty ones too
-  pub one_of : (a b d : VirtualMap) (page_of_stamp : ℕ → Option PageOfStamp) (c : Stored) (count after last : ℕ) (tree later newest : Tree) → LeavesOneOf g s a b d c
+  pub one_of : (a b d : VirtualMap) (page_of_stamp : ℕ → Option PageOfStamp) (c : Stored) (count after last : ℕ) (tree later newest : Tree)
+      → LeavesOneOf g s a b d c
       → StandFor g s a page_of_stamp count tree → StandFor g s b page_of_stamp after later → StandFor g s d page_of_stamp last newest
       → LeavesTree (g.shape s) (g.names s) (g.bytes s) page_of_stamp c count tree
-      ⊎ (LeavesTree (g.shape s) (g.names s) (g.bytes s) page_of_stamp c after later ⊎ LeavesTree (g.shape s) (g.names s) (g.bytes s) page_of_stamp c last newest)
+      ⊎ (LeavesTree (g.shape s) (g.names s) (g.bytes s) page_of_stamp c after later
+      ⊎ LeavesTree (g.shape s) (g.names s) (g.bytes s) page_of_stamp c last newest)
 
 abbrev pub StopsStand : {D : Type 0} → Ghosts D → Type 0
 StopsStand {D} g = (s : D) → IsVolumeShape (g.shape s) → IsFirm g s → LeavesStanding g s

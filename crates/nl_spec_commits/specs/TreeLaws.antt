@@ -37,20 +37,25 @@ frozen_now count t = record t { frozen = (count, t.running) }
 
 abbrev pub CompletingGoes : {D : Type 0} → Ghosts D → Type 0
 CompletingGoes {D} g =
-    (answer : VirtualWrite) (s t : D) (p q : Progress) (pages now : Pages) (count : ℕ) (page_of_stamp : ℕ → Option PageOfStamp) (x : Trees) (decided : Option ℕ) → IsVolumeShape (g.shape s) → g.tells
-    → HasNumber p (length pages.frozen.addresses) → IsJournaled g s p pages → Completes g (answer ≡ write.Done) s p pages t q now → IsDecided decided p q pages.frozen now.frozen
+    (answer : VirtualWrite) (s t : D) (p q : Progress) (pages now : Pages) (count : ℕ) (page_of_stamp : ℕ → Option PageOfStamp) (x : Trees)
+    (decided : Option ℕ) → IsVolumeShape (g.shape s) → g.tells
+    → HasNumber p (length pages.frozen.addresses) → IsJournaled g s p pages → Completes g (answer ≡ write.Done) s p pages t q now
+    → IsDecided decided p q pages.frozen now.frozen
     → StandsFor g s p pages count page_of_stamp x → StandsFor g t q now count page_of_stamp (completed decided x)
 
 abbrev pub FreezingGoes : {D : Type 0} → Ghosts D → Type 0
 FreezingGoes {D} g =
-    (s : D) (p : Progress) (pages : Pages) (count : ℕ) (page_of_stamp : ℕ → Option PageOfStamp) (x : Trees) → IsVolumeShape (g.shape s) → g.tells → HasNumber p (length pages.frozen.addresses)
-    → IsJournaled g s p pages → IsPages pages → CanFreeze (g.shape s).vaddrs p pages → page_of pages 0 ≡ Some (super_bytes (record_of (g.shape s) count)) → count < 2 ^ 63
+    (s : D) (p : Progress) (pages : Pages) (count : ℕ) (page_of_stamp : ℕ → Option PageOfStamp) (x : Trees) → IsVolumeShape (g.shape s)
+    → g.tells → HasNumber p (length pages.frozen.addresses)
+    → IsJournaled g s p pages → IsPages pages → CanFreeze (g.shape s).vaddrs p pages
+    → page_of pages 0 ≡ Some (super_bytes (record_of (g.shape s) count)) → count < 2 ^ 63
     → StandsFor g s p pages count page_of_stamp x → StandsFor g s p (with_frozen pages) count page_of_stamp (frozen_now count x)
 
--- Another count in the super page changes none of them.
+-- Another count in the super page changes none of the trees for which a volume stands.
 abbrev pub SuperPageGoes : {D : Type 0} → Ghosts D → Type 0
 SuperPageGoes {D} g =
-    (s : D) (p : Progress) (pages : Pages) (shape : Shape) (stored count : ℕ) (page_of_stamp : ℕ → Option PageOfStamp) (x : Trees) → IsVolumeShape (g.shape s) → IsJournaled g s p pages
+    (s : D) (p : Progress) (pages : Pages) (shape : Shape) (stored count : ℕ) (page_of_stamp : ℕ → Option PageOfStamp) (x : Trees)
+    → IsVolumeShape (g.shape s) → IsJournaled g s p pages
     → StandsFor g s p pages count page_of_stamp x → StandsFor g s p (with_count shape stored pages) count page_of_stamp x
 
 -- what a whole commit leaves
@@ -59,7 +64,8 @@ committed_by count earlier None t = decided_tree earlier t
 committed_by count earlier (Some moment) t = (count, t.running)
 
 -- The volume goes on to stand for the tree of all calls. What is committed is what was committed before, or frozen, or all calls.
-pub record CommitsTrees {D : Type 0} (g : Ghosts D) (t : D) (r : Progress) (now : Pages) (count : ℕ) (page_of_stamp : ℕ → Option PageOfStamp) (earlier decided : Option ℕ) (x : Trees) : Type 0 where
+pub record CommitsTrees {D : Type 0} (g : Ghosts D) (t : D) (r : Progress) (now : Pages) (count : ℕ)
+    (page_of_stamp : ℕ → Option PageOfStamp) (earlier decided : Option ℕ) (x : Trees) : Type 0 where
   pub trees : Trees
   pub stands : StandsFor g t r now count page_of_stamp trees
   pub running : trees.running ≡ x.running
@@ -68,8 +74,10 @@ pub record CommitsTrees {D : Type 0} (g : Ghosts D) (t : D) (r : Progress) (now 
 
 abbrev pub CommitGoes : {D : Type 0} → Ghosts D → Type 0
 CommitGoes {D} g =
-    (answer : VirtualWrite) (s t : D) (p r : Progress) (pages now : Pages) (count : ℕ) (page_of_stamp : ℕ → Option PageOfStamp) (x : Trees) (earlier decided : Option ℕ) → IsVolumeShape (g.shape s) → g.tells
-    → HasNumber r (length now.frozen.addresses) → count < 2 ^ 63 → IsJournaled g s p pages → CommitsInParts g (answer ≡ write.Done) earlier decided s p (with_count (g.shape s) count pages) t r now
+    (answer : VirtualWrite) (s t : D) (p r : Progress) (pages now : Pages) (count : ℕ) (page_of_stamp : ℕ → Option PageOfStamp) (x : Trees)
+    (earlier decided : Option ℕ) → IsVolumeShape (g.shape s) → g.tells
+    → HasNumber r (length now.frozen.addresses) → count < 2 ^ 63 → IsJournaled g s p pages
+    → CommitsInParts g (answer ≡ write.Done) earlier decided s p (with_count (g.shape s) count pages) t r now
     → StandsFor g s p pages count page_of_stamp x → CommitsTrees g t r now count page_of_stamp earlier decided x
 
 -- the moment of the last commit page that was finished
@@ -80,14 +88,19 @@ moment_of before None None = before
 
 -- What a stop leaves opens as one of the trees, from that moment on as none earlier than what is committed then.
 abbrev pub OpensFrom : Shape → ℕ → ℕ → Trees → Prefix → ℕ → Stored → Type 0
-OpensFrom shape count moment x committed m c = (z : Prefix) × Has (prefixes count x) z × OpensAs shape c z × (moment ≤ m → committed.0 ≤ z.0)
+OpensFrom shape count moment x committed m c =
+    (z : Prefix) × Has (prefixes count x) z × OpensAs shape c z × (moment ≤ m → committed.0 ≤ z.0)
 
 abbrev pub CommitLeaves : {D : Type 0} → Ghosts D → Type 0
 CommitLeaves {D} g =
-    (answer : VirtualWrite) (s t : D) (p r : Progress) (pages now : Pages) (count before : ℕ) (page_of_stamp : ℕ → Option PageOfStamp) (x : Trees) (earlier decided : Option ℕ) (flight : List (Tag × Pointer)) (freeing : List Pointer)
-    → IsVolumeShape (g.shape s) → g.tells → HasNumber p (length pages.frozen.addresses) → HasNumber r (length now.frozen.addresses) → count < 2 ^ 63 → g.clock t < 2 ^ 63
-    → IsJournaled g s p pages → IsPages pages → IsHeldVolume g s p pages flight freeing → IsFirm g s → ShowsPages (g.names s) (g.bytes s) page_of_stamp
+    (answer : VirtualWrite) (s t : D) (p r : Progress) (pages now : Pages) (count before : ℕ) (page_of_stamp : ℕ → Option PageOfStamp)
+    (x : Trees) (earlier decided : Option ℕ) (flight : List (Tag × Pointer)) (freeing : List Pointer)
+    → IsVolumeShape (g.shape s) → g.tells → HasNumber p (length pages.frozen.addresses) → HasNumber r (length now.frozen.addresses)
+    → count < 2 ^ 63 → g.clock t < 2 ^ 63
+    → IsJournaled g s p pages → IsPages pages → IsHeldVolume g s p pages flight freeing → IsFirm g s
+    → ShowsPages (g.names s) (g.bytes s) page_of_stamp
     → CommitWrites g (answer ≡ write.Done) p r (with_count (g.shape s) count pages) now s t
-    → IfSome earlier (EarlierAt g s t p r (with_count (g.shape s) count pages) now) → IfSome decided (ChangesAt g s t p r (with_count (g.shape s) count pages) now)
+    → IfSome earlier (EarlierAt g s t p r (with_count (g.shape s) count pages) now)
+    → IfSome decided (ChangesAt g s t p r (with_count (g.shape s) count pages) now)
     → StandsFor g s p pages count page_of_stamp x
     → Leaves g (OpensFrom (g.shape s) count (moment_of before earlier decided) x (committed_by count earlier decided x)) s t

@@ -28,7 +28,11 @@ pub record Trees : Type 0 where
   pub frozen : Prefix
   pub running : Tree
 
--- those that are committed, now or later, where so many calls were answered
+-- all trees of a volume are this one, after so many calls
+abbrev pub all_at : ℕ → Tree → Trees
+all_at count tree = record { committed = (count, tree); frozen = (count, tree); running = tree }
+
+-- the trees that are committed, now or later, where so many calls were answered, each with its count of calls
 abbrev pub prefixes : ℕ → Trees → List Prefix
 prefixes count t = t.committed ∷ t.frozen ∷ (count, t.running) ∷ []
 
@@ -44,7 +48,8 @@ StandsAs shape pages page_of_stamp x = MapStands shape (read_as shape pages) pag
 
 -- The running pages, the committed ones and those of a frozen transaction stand for these trees, with what the page of each write sequence
 -- number holds.
-pub record StandsFor {D : Type 0} (g : Ghosts D) (s : D) (p : Progress) (pages : Pages) (count : ℕ) (page_of_stamp : ℕ → Option PageOfStamp) (t : Trees) : Type 0 where
+pub record StandsFor {D : Type 0} (g : Ghosts D) (s : D) (p : Progress) (pages : Pages) (count : ℕ) (page_of_stamp : ℕ → Option PageOfStamp)
+    (t : Trees) : Type 0 where
   pub running : RunsAs (g.shape s) (running_on g s pages) page_of_stamp t.running
   pub committed : StandsAs (g.shape s) (committed_on g s) page_of_stamp t.committed
   pub frozen : IsOpen p pages.frozen → StandsAs (g.shape s) (finished_on g s p pages) page_of_stamp t.frozen
@@ -54,4 +59,5 @@ pub record StandsFor {D : Type 0} (g : Ghosts D) (s : D) (p : Progress) (pages :
 
 -- what is stored opens as the tree after so many calls
 abbrev pub OpensAs : Shape → Stored → Prefix → Type 0
-OpensAs shape c x = (names : Names) × (bytes : ℕ → List ℕ) × (page_of_stamp : ℕ → Option PageOfStamp) × LeavesTree shape names bytes page_of_stamp c x.0 x.1
+OpensAs shape c x =
+    (names : Names) × (bytes : ℕ → List ℕ) × (page_of_stamp : ℕ → Option PageOfStamp) × LeavesTree shape names bytes page_of_stamp c x.0 x.1

@@ -1,4 +1,4 @@
-//! Laws of the definitions. Each function stands for the laws that its contract names.
+//! Laws of a volume between two calls: who holds its pages, and for which trees it stands, through each step. A function stands for each.
 ghost use Rattle.std.specs.Prelude.{◌≡◌};
 ghost use Rattle.nl_iface.specs.Calls.{StoresMap, StoresPages};
 ghost use Rattle.nl_iface.specs.Device.{IsVolumeShape};
@@ -41,8 +41,8 @@ pub fn stops_stand<D: VirtualPages>()
     ensures stops { StopsStand D.Counts }
 {}
 
-/// What is committed and frozen keeps its pages while the addresses stay as they are, and while the metadata changes: also as pages that are
-/// due are freed, and callbacks acknowledged that transactions handled which count.
+/// What is committed and frozen keeps its pages while the addresses stay as they are, and while the metadata changes: also as pages that
+/// are due are freed, and callbacks acknowledged that transactions handled which count.
 pub fn settling_holds<D: VirtualPages>()
     ensures addresses { AddressesHold D.Counts }
     ensures changes { ChangesJournaled D.Counts }
@@ -96,15 +96,15 @@ pub fn devices_keep_held<D: VirtualPages>()
     ensures tables { TablesKeepHeld D.Counts }
 {}
 
-/// So does any step that leaves what the addresses have, and what is frozen, where who holds pages holds them on under the number of the last
-/// transaction that was begun: callbacks are handled by one that comes after it.
+/// Any step leaves a volume held that leaves what the addresses have, and what is frozen, where who holds pages holds them on under the
+/// number of the last transaction that was begun: callbacks are handled by one that comes after it.
 pub fn steps_keep_held<D: VirtualPages>()
     ensures step { StepKeepsHeld D.Counts }
     ensures handling { HandlingKeepsHeld D.Counts }
 {}
 
-/// And so does each change of the metadata, over a device that is only read: a page in flight is installed in a file, a file is cut, names
-/// change, pages are read, the super page changes; or any pages leave the metadata, and others come into it.
+/// Each change of the metadata leaves a volume held, over a device that is only read: a page in flight is installed in a file, a file is
+/// cut, names change, pages are read, the super page changes; or any pages leave the metadata, and others come into it.
 pub fn changes_keep_held<D: VirtualPages>()
     ensures installing { InstallingKeepsHeld D.Counts }
     ensures cutting { CuttingKeepsHeld D.Counts }

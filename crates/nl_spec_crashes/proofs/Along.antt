@@ -18,12 +18,11 @@ use Rattle.nl_spec_image.specs.Crash.{OpensAsPrefix, Run, with_call, with_sync}
 use Rattle.nl_spec_image.specs.LeftIsSound.{LeavesTree}
 use Rattle.nl_spec_image.proofs.LeftIsSoundProofs.{what_is_left_is_sound}
 use Rattle.nl_spec_image.proofs.StopsKept.{more_calls, more_syncs}
-use Rattle.nl_spec_commits.specs.Trees.{OpensAs, Prefix, Trees, prefixes}
+use Rattle.nl_spec_commits.specs.Trees.{OpensAs, Prefix, Trees, all_at, prefixes}
 use Rattle.nl_core.specs.Goes.{Goes}
 use Rattle.nl_core.specs.Trees.{CoreRuns, IsTold}
 use Rattle.nl_core.specs.declared.state.Core.{Core}
 use Rattle.nl_core.proofs.Onward.{paid_on}
-use Rattle.nl_core_open.specs.Beginning.{all_at}
 use Rattle.nl_spec_crashes.specs.Along.{GoesAlong, IsAlong, IsOfRun, opens_as, tree_at}
 use Rattle.nl_spec_crashes.specs.Laws.{CallGoesAlong, EffectGoesAlong, EndsStanding, OpeningGoesAlong, OpensSound, SyncGoesAlong}
 

@@ -36,9 +36,9 @@ pub record IsAlong {D : Type 0} (g : Ghosts D) (run : Run) (v : Core D) (page_of
   pub frozen : IsOfRun run t.frozen
   pub synced : (s : SyncPoint) → Has run.syncs s → s.upto ≤ t.committed.0
 
--- The volume has answered the calls of the run since its first moment, when it was this one, the origin: what a stop had left before is no part of
--- the run. The number of its transactions has risen by no more than the clock since. While the medium tells its contents, it runs as the tree
--- after all of the calls. While counts have not ended either, it goes along the run, and so does what a stop leaves.
+-- The volume has answered the calls of the run since its first moment, when it was this one, the origin: what a stop had left before is no
+-- part of the run. The number of its transactions has risen by no more than the clock since. While the medium tells its contents, it runs
+-- as the tree after all of the calls. While counts have not ended either, it goes along the run, and so does what a stop leaves.
 pub record GoesAlong {D : Type 0} (g : Ghosts D) (origin : Core D) (first : ℕ) (run : Run) (v : Core D) : Type 0 where
   pub shape : g.shape v.device ≡ run.shape
   pub from : first ≤ g.clock v.device
@@ -46,4 +46,5 @@ pub record GoesAlong {D : Type 0} (g : Ghosts D) (origin : Core D) (first : ℕ)
   pub paid : PaidSince g first origin.journal.number v
   pub runs : g.tells → (page_of_stamp : ℕ → Option PageOfStamp) × CoreRuns g v page_of_stamp (replay run.shape run.tree run.calls)
   pub trees : IsTold g v → (page_of_stamp : ℕ → Option PageOfStamp) × (t : Trees) × IsAlong g run v page_of_stamp t
-  pub stops : IsTold g v → StopsSafely (opens_as g run.shape) (λ m c. g.left origin.device m c) (λ m c. g.left v.device m c) first (g.clock v.device) run
+  pub stops : IsTold g v
+      → StopsSafely (opens_as g run.shape) (λ m c. g.left origin.device m c) (λ m c. g.left v.device m c) first (g.clock v.device) run

@@ -17,4 +17,6 @@ counted v = record v { count = saturated (v.count + 1) }
 
 -- A step whose pages stand for that tree, and that is counted, is the effect of the call.
 abbrev pub StepTakesEffect : {D : Type 0} → Ghosts D → Type 0
-StepTakesEffect {D} g = (old new : Core D) (x : Call × Option FaultReply) → IsVolumeShape (g.shape old.device) → IsCore g old → Steps g old new → MakesTree g old new x → TakesEffect g old (counted new) x
+StepTakesEffect {D} g =
+    (old new : Core D) (x : Call × Option FaultReply) → IsVolumeShape (g.shape old.device) → IsCore g old → Steps g old new
+    → MakesTree g old new x → TakesEffect g old (counted new) x

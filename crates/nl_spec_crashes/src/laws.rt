@@ -1,4 +1,4 @@
-//! Laws of the definitions. Each function stands for the laws that its contract names.
+//! Laws of a volume along its run: what a stop leaves of it, and when a step takes effect. A function stands for each law.
 ghost use Rattle.nl_spec_crashes.specs.Laws.{CallGoesAlong, EffectGoesAlong, EndsStanding, OpeningGoesAlong, OpensSound, SyncGoesAlong};
 ghost use Rattle.nl_spec_crashes.specs.Effects.{StepTakesEffect};
 

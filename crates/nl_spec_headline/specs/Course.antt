@@ -20,8 +20,8 @@ pub record RepliedLine : Type 0 where
   pub reply : Reply
   pub bytes : List ℕ
 
--- A volume of these numbers opened with this count of calls, this tree and this next write sequence number. The lines were answered at the places
--- behind that count, in this order.
+-- A volume of these numbers opened with this count of calls, this tree and this next write sequence number. The lines were answered at the
+-- places behind that count, in this order.
 pub record Course : Type 0 where
   pub shape : Shape
   pub count : ℕ

@@ -1,5 +1,5 @@
--- The seven sentences on a run: as what it opened, the one order of its lines, their answers, the printed text, the syncs, what a stop leaves, and
--- what the medium holds at the end. All of them speak of one course.
+-- The seven sentences on a run: as what it opened, the one order of its lines, their answers, the printed text, the syncs, what a stop
+-- leaves, and what the medium holds at the end. All of them speak of one course.
 use Rattle.std.specs.Prelude.{◌≡◌, ℕ, ◌+◌, ◌-◌, ◌<◌, ◌^◌, Bool, false, List, map, filter_map, slice_get, IfSome, Ok}
 use Rattle.nl_field.specs.Medium.{shape_of_image}
 use Rattle.nl_field.specs.Page.{Image}
@@ -20,7 +20,8 @@ use Rattle.nl_spec_headline.specs.declared.lists.Synced.{Synced}
 
 -- ---- premises
 
--- The clock, the last place and the numbers of transactions stay below 2^63. The number of the last transaction rises by no more than the clock.
+-- The clock, the last place and the numbers of transactions stay below 2^63. The number of the last transaction rises by no more than the
+-- clock.
 pub record IsYoung (image : Image) (before now : Counts) (course : Course) : Type 0 where
   pub clock : now.clock < 2 ^ 63
   pub places : count_after course < 2 ^ 63
@@ -42,18 +43,22 @@ pub record ReadsScript (source source' : Stream) (lines : List Line) : Type 0 wh
   pub whole : ReadsWhole source source' bytes
   pub script_is : script bytes ≡ Ok lines
 
--- The list that is told is the one order of the answered lines: each line of the script once and no other, and none before one that has to precede it.
+-- The list that is told is the one order of the answered lines: each line of the script once and no other, and none before one that has to
+-- precede it.
 pub record IsOneOrder (lines : List Line) (order : List Ordered) (course : Course) : Type 0 where
   pub in_order : IsOrderOf lines (lines_in course)
   pub told : order ≡ order_in course
 
 -- ---- the answers
 
--- Each answer is what the plain tree replies after those before it, with the fault replies of the list itself; and each fault reply has its cause
--- between start and end. Below the greatest, each failed line has a number of its own; lines refused by a read-only volume have one number.
+-- Each answer is what the plain tree replies after those before it, with the fault replies of the list itself; and each fault reply has its
+-- cause between start and end. Below the greatest, each failed line has a number of its own; lines refused by a read-only volume have one
+-- number.
 pub record AnswersByTree (tells : Type 0) (before now : Counts) (course : Course) : Type 0 where
-  pub due : tells → (i : ℕ) → IfSome (slice_get course.answers i) (λ a. IfSome (answer_due course.shape course.tree (calls_in course) i) (λ due. Answers due a.reply a.bytes))
-  pub causes : (i : ℕ) → IfSome (slice_get course.answers i) (λ a. IfSome (fault_in a.reply) (HasCause tells before now course.next_stamp a.line.call))
+  pub due : tells → (i : ℕ) → IfSome (slice_get course.answers i)
+      (λ a. IfSome (answer_due course.shape course.tree (calls_in course) i) (λ due. Answers due a.reply a.bytes))
+  pub causes : (i : ℕ)
+      → IfSome (slice_get course.answers i) (λ a. IfSome (fault_in a.reply) (HasCause tells before now course.next_stamp a.line.call))
   pub failed : DifferBelowTop (filter_map (λ (a : RepliedLine). eio_of (fault_in a.reply)) course.answers)
   pub refused : AreOneNumber (filter_map (λ (a : RepliedLine). erofs_of (fault_in a.reply)) course.answers)
 
@@ -65,8 +70,8 @@ TellsSyncs before now course syncs = AreSyncs course.count before.clock now.cloc
 
 -- ---- stops
 
--- What `stops` says of the run: what a stop at any moment leaves was left before the call, or is sound, and as the tree after a prefix of the list
--- that has every call made durable by then. What there was at the start is so too, at that moment.
+-- What `stops` says of the run: what a stop at any moment leaves was left before the call, or is sound, and as the tree after a prefix of
+-- the list that has every call made durable by then. What there was at the start is so too, at that moment.
 pub record StopsLeavePrefixes (image : Image) (before : Counts) (stops : Run → Type 0) (course : Course) : Type 0 where
   pub starts : OpensAsPrefix SoundAs (run_in course) before.clock image
   pub leaves : stops (run_in course)
@@ -79,12 +84,15 @@ EndsAfterAll image course = SoundAs image (count_after course) (tree_after cours
 
 -- ---- all of them
 
--- What a call of the store says of a run of these lines. What the medium held is spoken of where it tells its contents, and what counts bound while
--- they last. `worn`: closing found the write sequence numbers exhausted.
-pub record RunsLines (tells : Type 0) (lines : List Line) (stops : Run → Type 0) (medium medium' : Medium) (order : List Ordered) (syncs : List Synced) (worn : Bool) (course : Course) : Type 0 where
+-- What a call of the store says of a run of these lines. What the medium held is spoken of where it tells its contents, and what counts
+-- bound while they last. `worn`: closing found the write sequence numbers exhausted.
+pub record RunsLines (tells : Type 0) (lines : List Line) (stops : Run → Type 0) (medium medium' : Medium) (order : List Ordered)
+    (syncs : List Synced) (worn : Bool) (course : Course) : Type 0 where
   pub opens : tells → OpensAs medium.contents course
   pub order_is : IsOneOrder lines order course
   pub answers : AnswersByTree tells medium.counts medium'.counts course
   pub syncs_are : count_after course < 2 ^ 63 → TellsSyncs medium.counts medium'.counts course syncs
-  pub stopped : tells → IsYoung medium.contents medium.counts medium'.counts course → StopsLeavePrefixes medium.contents medium.counts stops course
-  pub ends : tells → IsYoung medium.contents medium.counts medium'.counts course → (MediumRose medium medium' → ⊥) → worn ≡ false → EndsAfterAll medium'.contents course
+  pub stopped : tells → IsYoung medium.contents medium.counts medium'.counts course
+      → StopsLeavePrefixes medium.contents medium.counts stops course
+  pub ends : tells → IsYoung medium.contents medium.counts medium'.counts course → (MediumRose medium medium' → ⊥) → worn ≡ false
+      → EndsAfterAll medium'.contents course

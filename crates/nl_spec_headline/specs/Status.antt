@@ -21,8 +21,8 @@ DoneStatus status failed sink sink' text =
     ⊎ (((status ≡ 4) × (failed → ⊥) × Rose sink.faults sink'.faults)
     ⊎ ((status ≡ 0) × (failed → ⊥) × PrintsWhole sink sink' text))
 
--- Over a medium that tells its contents no page is lost. The write sequence numbers are exhausted only where programs since the opening may have used
--- them up.
+-- Over a medium that tells its contents no page is lost. The write sequence numbers are exhausted only where programs since the opening may
+-- have used them up.
 pub record HaveCauses (tells : Type 0) (before now : Counts) (next_stamp : ℕ) (lost worn : Bool) : Type 0 where
   pub lost_is : tells → lost ≡ false
   pub worn_is : worn ≡ true → MayBeWorn before now next_stamp

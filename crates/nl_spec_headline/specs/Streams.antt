@@ -51,7 +51,7 @@ stops_within g old new = StopsSafely SoundAs (λ m c. g.left old m c) (λ m c. g
 abbrev pub MediumRose : Medium → Medium → Type 0
 MediumRose old new = FaultRose old.counts new.counts
 
--- these bytes were read from the source, and nothing is left of it
+-- A source was read whole: these bytes were read from it, and nothing is left of it.
 pub record ReadsWhole (old new : Stream) (bytes : List ℕ) : Type 0 where
   pub read : old.bytes ≡ option_map (λ rest. bytes ++ rest) new.bytes
   pub none_left : IfSome new.bytes (λ rest. rest ≡ [])

@@ -50,6 +50,7 @@ impl OrderList {
         }
     }
 
+    /// Adds a line behind the others. `Memory` only where no room is left, and the list is as before then.
     pub fn push(&mut self, line: Ordered) -> Result<(), Memory>
         requires { length self.old.items + 1 < 2 ^ 32 }
         ensures ok { OnOk result (self.new.items ≡ self.old.items ++ line ∷ []) }
@@ -70,6 +71,7 @@ impl OrderList {
         self.items.reserve(more as usize)
     }
 
+    /// How many lines the list has.
     pub fn len(&self) -> u32
         ensures { result ≡ length self.now.items }
     {
@@ -83,6 +85,7 @@ impl OrderList {
         self.items.iter().any(|line| line.fault.is_some())
     }
 
+    /// The line at a place below the length.
     pub fn get(&self, at: u32) -> &Ordered
         requires { at < length self.now.items }
         ensures { slice_get self.now.items at ≡ Some result.now }
@@ -119,6 +122,7 @@ impl SyncList {
         }
     }
 
+    /// Adds a sync behind the others. `Memory` only where no room is left, and the list is as before then.
     pub fn push(&mut self, sync: Synced) -> Result<(), Memory>
         requires { length self.old.items + 1 < 2 ^ 32 }
         ensures ok { OnOk result (self.new.items ≡ self.old.items ++ sync ∷ []) }
@@ -139,12 +143,14 @@ impl SyncList {
         self.items.reserve(more as usize)
     }
 
+    /// How many syncs the list has.
     pub fn len(&self) -> u32
         ensures { result ≡ length self.now.items }
     {
         self.items.len() as u32
     }
 
+    /// The sync at a place below the length.
     pub fn get(&self, at: u32) -> &Synced
         requires { at < length self.now.items }
         ensures { slice_get self.now.items at ≡ Some result.now }

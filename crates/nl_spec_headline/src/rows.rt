@@ -9,8 +9,10 @@ ghost use Rattle.nl_spec_headline.specs.Examples.{one_line, three_lines};
 
 /// What is told of three answered lines.
 pub fn three_answers()
-    ensures order { order_in three_lines ≡ record { line = 3; fault = None } ∷ record { line = 5; fault = Some (fault.Eio 1) } ∷ record { line = 6; fault = None } ∷ [] }
-    ensures calls { calls_in three_lines ≡ (call.Mkdir (codes "a" ∷ []), None) ∷ (call.Stat [], Some (fault.Eio 1)) ∷ (call.Sync, None) ∷ [] }
+    ensures order { order_in three_lines
+        ≡ record { line = 3; fault = None } ∷ record { line = 5; fault = Some (fault.Eio 1) } ∷ record { line = 6; fault = None } ∷ [] }
+    ensures calls { calls_in three_lines
+        ≡ (call.Mkdir (codes "a" ∷ []), None) ∷ (call.Stat [], Some (fault.Eio 1)) ∷ (call.Sync, None) ∷ [] }
     ensures syncs { (run_in three_lines).syncs ≡ record { upto = 41; moment = 9 } ∷ [] }
     ensures told { map line_sync_of (record { line = 6; upto = 41; moment = 9 } ∷ []) ≡ filter_map line_sync (replies_in three_lines) }
     ensures count { count_after three_lines ≡ 43 }

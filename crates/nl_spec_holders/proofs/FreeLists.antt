@@ -84,7 +84,7 @@ there_led (x ∷ xs) n p d h = by (λ k. there_led xs n p d.1 k) (cases_eq x.0 n
     by rest (inr far) (inl k) = absurd (far (eqb-true x.0 n (and_parts (x.0 == n) (x.1 == p) k).0))
     by rest (inr far) (inr k) = at_tail x xs n far ∙ rest k
 
--- and where an old name is resolved to it, there is one
+-- where an old name is resolved to a place, a pair leads there
 led_there : (xs : List (ℕ × ℕ)) (n p : ℕ) → resolve xs n ≡ p → resolve xs n ≢ n → list_any (leads_there n p) xs ≡ true
 led_there [] n p e far = absurd (far refl)
 led_there (x ∷ xs) n p e far = by (λ a b. led_there xs n p a b) (cases_eq x.0 n)

@@ -404,7 +404,7 @@ module _ (v : Holding) where
     due_awaits = f.leaving_awaits;
   }
 
--- It may count or not, as its last program failed, or its pages are running pages only.
+-- The frozen transaction may count or not, as its last program failed, or its pages are running pages only.
 module _ (v : Holding) (committed : List Pointer) (either : (p : Pointer) → Has committed p → Has v.committed p ⊎ Has v.frozen p) (none_due : v.due ≡ 0) (next : ℕ) (later : v.decided < next) where
   pub doubt-held : Holds v → Holds (record v { committed = committed; frozen = []; number = v.decided; leaving = 0; next = next })
   doubt-held f = record { table = f.table; running = f.running; flight = f.flight; freeing = f.freeing; once = f.once; each = f.each }

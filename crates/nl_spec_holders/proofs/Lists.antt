@@ -40,7 +40,7 @@ times_drop at s zero xs = omega arith
 times_drop at s (suc k) [] = omega arith
 times_drop at s (suc k) (x ∷ xs) = let n = times_drop at s k xs in omega (arith, n)
 
--- one more at the end
+-- how often a stamp stands in a list with one pointer more at the end
 pub times_push : {X : Type 0} (at : X → Pointer) (s : ℕ) (xs : List X) (x : X) → times at s (xs ++ x ∷ []) ≡ times at s xs + one (at x).stamp s
 times_push at s xs x = let n = times_append at s xs (x ∷ []) in omega (arith, n)
 
@@ -96,7 +96,7 @@ renames_map {X} at want s name f xs hit miss = record {
     each y x has e (inl is) = inr (sym (ap (λ z. (at z).name) e) ∙ (hit x is).0, (x, has, is, λ page w. subst (λ z. want z page) e ((hit x is).2 page w)))
     each y x has e (inr far) = inl (subst (λ z. (at z).stamp ≢ s) (sym (miss x far) ∙ e) far, subst (λ z. Has xs z) (sym (miss x far) ∙ e) has)
 
--- and behind each place
+-- a list in which each pointer of the stamp was renamed has the same stamps behind each place
 pub behind_map : {X : Type 0} (at : X → Pointer) (f : X → X) (xs : List X) → ((x : X) → (at (f x)).stamp ≡ (at x).stamp) → SameBehind at xs (map f xs)
 behind_map at f xs same k t = ap (times at t) (drop-map f k xs) ∙ times_same at f same t (drop k xs)
 

@@ -49,11 +49,15 @@ acknowledged_early = volume (names 300 [] [] (λ n. None)) ((some_tag, pointer 3
 
 -- Of two moves of a page the second was handled and acknowledged; the first then renames to the place that it tells of.
 abbrev pub renamed_to_after : Holding
-renamed_to_after = volume (names 400 ((40, 400) ∷ []) (callback 1 40 300 7 ∷ []) (λ n. if n == 1 then Some 3 else None)) ((some_tag, pointer 300 7) ∷ []) [] [] [] []
+renamed_to_after =
+    volume (names 400 ((40, 400) ∷ []) (callback 1 40 300 7 ∷ []) (λ n. if n == 1 then Some 3 else None))
+    ((some_tag, pointer 300 7) ∷ []) [] [] [] []
 
 -- The handler overlooks the page in flight.
 abbrev pub flight_overlooked : Holding
-flight_overlooked = volume (names 300 ((40, 300) ∷ []) (callback 1 40 300 7 ∷ []) (λ n. if n == 1 then Some 3 else None)) [] ((some_tag, pointer 40 7) ∷ []) [] [] []
+flight_overlooked =
+    volume (names 300 ((40, 300) ∷ []) (callback 1 40 300 7 ∷ []) (λ n. if n == 1 then Some 3 else None)) []
+    ((some_tag, pointer 40 7) ∷ []) [] [] []
 
 -- The old page is freed as the new one is installed.
 abbrev pub freed_early : Holding
@@ -65,7 +69,9 @@ name_trusted = volume (names 300 [] [] (λ n. None)) ((some_tag, pointer 40 7) �
 
 -- A callback that is handled while a transaction is frozen counts as handled by that one.
 abbrev pub handled_for_frozen : Holding
-handled_for_frozen = volume (names 300 ((40, 300) ∷ []) (callback 1 40 300 7 ∷ []) (λ n. if n == 1 then Some 2 else None)) ((some_tag, pointer 300 7) ∷ []) [] [] [] (pointer 40 7 ∷ [])
+handled_for_frozen =
+    volume (names 300 ((40, 300) ∷ []) (callback 1 40 300 7 ∷ []) (λ n. if n == 1 then Some 2 else None))
+    ((some_tag, pointer 300 7) ∷ []) [] [] [] (pointer 40 7 ∷ [])
 
 -- A page that awaits its free since the freeze is freed with the frozen transaction: 1 is due, and the committed pointer has its stamp.
 abbrev pub freed_for_frozen : Holding
@@ -73,4 +79,6 @@ freed_for_frozen = record (volume (names 40 [] [] (λ n. None)) [] [] (pointer 4
 
 -- a volume that meets all: handled for the next transaction, with the committed and the frozen pointer under the old name
 abbrev pub in_order : Holding
-in_order = volume (names 300 ((40, 300) ∷ []) (callback 1 40 300 7 ∷ []) (λ n. if n == 1 then Some 3 else None)) ((some_tag, pointer 300 7) ∷ []) [] [] (pointer 40 7 ∷ []) (pointer 40 7 ∷ [])
+in_order =
+    volume (names 300 ((40, 300) ∷ []) (callback 1 40 300 7 ∷ []) (λ n. if n == 1 then Some 3 else None))
+    ((some_tag, pointer 300 7) ∷ []) [] [] (pointer 40 7 ∷ []) (pointer 40 7 ∷ [])

@@ -21,9 +21,11 @@ OldNamesDiffer names = AllDiffer (map (λ pair. pair.0) names.pairs)
 
 -- A page is programmed under a new name and a stamp that no live page has, and is in flight.
 abbrev pub ProgramKeeps : Type 0
-ProgramKeeps = (v : Holding) (t : Names) (flight : List (Tag × Pointer)) (p : ℕ) (page : LivePage) → v.names.live p ≡ None → led v.names p ≡ p
+ProgramKeeps =
+    (v : Holding) (t : Names) (flight : List (Tag × Pointer)) (p : ℕ) (page : LivePage) → v.names.live p ≡ None → led v.names p ≡ p
     → ((q : ℕ) (other : LivePage) → v.names.live q ≡ Some other → other.stamp ≢ page.stamp) → Gains p page v.names t
-    → ListGains tagged (page.tag, record { name = p; stamp = page.stamp }) v.flight flight → Keeps v (record v { names = t; flight = flight })
+    → ListGains tagged (page.tag, record { name = p; stamp = page.stamp }) v.flight flight
+    → Keeps v (record v { names = t; flight = flight })
 
 -- The cleaner moves a live page.
 abbrev pub CopyKeeps : Type 0
@@ -35,7 +37,9 @@ EraseKeeps = (v : Holding) (t : Names) → SameTables v.names t → Keeps v (rec
 
 -- A page in flight becomes one of the running metadata.
 abbrev pub InstallKeeps : Type 0
-InstallKeeps = (v : Holding) (h : Tag × Pointer) (running flight : List (Tag × Pointer)) → ListLoses tagged h v.flight flight → ListGains tagged h v.running running
+InstallKeeps =
+    (v : Holding) (h : Tag × Pointer) (running flight : List (Tag × Pointer)) → ListLoses tagged h v.flight flight
+    → ListGains tagged h v.running running
     → Keeps v (record v { running = running; flight = flight })
 
 -- A page leaves the running metadata, and awaits its free.
@@ -45,13 +49,17 @@ CutKeeps = (v : Holding) (h : Tag × Pointer) (running : List (Tag × Pointer)) 
 
 -- A page in flight is freed.
 abbrev pub DropKeeps : Type 0
-DropKeeps = (v : Holding) (t : Names) (h : Tag × Pointer) (flight : List (Tag × Pointer)) → OldNamesDiffer v.names → Drops (led v.names h.1.name) v.names t
+DropKeeps =
+    (v : Holding) (t : Names) (h : Tag × Pointer) (flight : List (Tag × Pointer)) → OldNamesDiffer v.names
+    → Drops (led v.names h.1.name) v.names t
     → ListLoses tagged h v.flight flight → Keeps v (record v { names = t; flight = flight })
 
 -- A callback is handled: the holder of its stamp has as its name the place to which the old name leads, and it counts for a transaction
 -- after the frozen one.
 abbrev pub HandleKeeps : Type 0
-HandleKeeps = (v : Holding) (t : Names) (c : Callback) (n : ℕ) → v.number < n → Marks c n v.names t → (running flight : List (Tag × Pointer)) (freeing : List Pointer)
+HandleKeeps =
+    (v : Holding) (t : Names) (c : Callback) (n : ℕ) → v.number < n → Marks c n v.names t
+    → (running flight : List (Tag × Pointer)) (freeing : List Pointer)
     → Renames tagged wants_tagged c.stamp (led v.names c.before) v.running running
     → Renames tagged wants_tagged c.stamp (led v.names c.before) v.flight flight
     → Renames plain wants c.stamp (led v.names c.before) v.freeing freeing → SameBehind plain v.freeing freeing
@@ -59,7 +67,9 @@ HandleKeeps = (v : Holding) (t : Names) (c : Callback) (n : ℕ) → v.number < 
 
 -- The running metadata is frozen for the transaction that is next.
 abbrev pub FreezeKeeps : Type 0
-FreezeKeeps = (v : Holding) (frozen : List Pointer) (next : ℕ) → v.next < next → ((p : Pointer) → Has frozen p → (h : Tag × Pointer) × Has v.running h × (h.1 ≡ p))
+FreezeKeeps =
+    (v : Holding) (frozen : List Pointer) (next : ℕ) → v.next < next
+    → ((p : Pointer) → Has frozen p → (h : Tag × Pointer) × Has v.running h × (h.1 ≡ p))
     → Keeps v (record v { frozen = frozen; number = v.next; leaving = length v.freeing; next = next })
 
 -- The frozen transaction counts from now on.
@@ -68,29 +78,38 @@ DecideKeeps = (v : Holding) → Keeps v (record v { committed = v.frozen; decide
 
 -- A commit failed: the frozen transaction counts, or the one before it, and the next one has any number after that one.
 abbrev pub DoubtKeeps : Type 0
-DoubtKeeps = (v : Holding) (committed : List Pointer) (next : ℕ) → ((p : Pointer) → Has committed p → Has v.committed p ⊎ Has v.frozen p) → v.due ≡ 0 → v.decided < next
+DoubtKeeps =
+    (v : Holding) (committed : List Pointer) (next : ℕ) → ((p : Pointer) → Has committed p → Has v.committed p ⊎ Has v.frozen p) → v.due ≡ 0
+    → v.decided < next
     → Keeps v (record v { committed = committed; frozen = []; number = v.decided; leaving = 0; next = next })
 
 -- The first page that is due is freed, while nothing is frozen.
 abbrev pub FreeKeeps : Type 0
-FreeKeeps = (v : Holding) (t : Names) (p : Pointer) (rest : List Pointer) (k : ℕ) → v.freeing ≡ p ∷ rest → v.due ≡ k + 1 → v.frozen ≡ [] → v.leaving ≡ 0
+FreeKeeps =
+    (v : Holding) (t : Names) (p : Pointer) (rest : List Pointer) (k : ℕ) → v.freeing ≡ p ∷ rest → v.due ≡ k + 1 → v.frozen ≡ []
+    → v.leaving ≡ 0
     → OldNamesDiffer v.names → Drops (led v.names p.name) v.names t → Keeps v (record v { names = t; freeing = rest; due = k })
 
 -- Callbacks of transactions that count are acknowledged.
 abbrev pub AcknowledgeKeeps : Type 0
 AcknowledgeKeeps = (v : Holding) (t : Names) (upto : ℕ) → upto ≤ v.decided → Acknowledges upto v.names t → Keeps v (record v { names = t })
 
--- After an opening all holds.
+-- After an opening each live page is held once, and what is committed is kept.
 abbrev pub OpeningHolds : Type 0
-OpeningHolds = (kept : List Pointer) (place : Pointer → ℕ) (found : List (ℕ × LivePage)) (v : Holding) → IsTable v.names → Retains kept place found v.names → Opens kept v
+OpeningHolds =
+    (kept : List Pointer) (place : Pointer → ℕ) (found : List (ℕ × LivePage)) (v : Holding) → IsTable v.names
+    → Retains kept place found v.names → Opens kept v
     → HoldsPages v × KeepsCommitted v
 
 -- ---- marks
 
 -- Where no callback was handled by a later transaction, an acknowledgement leaves none that was handled.
 abbrev pub NoneHandled : Type 0
-NoneHandled = (upto : ℕ) (s t : Names) → Acknowledges upto s t → MarkedTo s upto → (c : Callback) → Has t.pending c → t.handled c.number ≡ None
+NoneHandled =
+    (upto : ℕ) (s t : Names) → Acknowledges upto s t → MarkedTo s upto → (c : Callback) → Has t.pending c → t.handled c.number ≡ None
 
--- Where each was handled by one that is acknowledged, none is left.
+-- Where each pending callback was handled by a transaction that is acknowledged, none is left.
 abbrev pub NoneLeft : Type 0
-NoneLeft = (upto : ℕ) (s t : Names) → Acknowledges upto s t → ((c : Callback) → Has s.pending c → IsOver s upto c) → (c : Callback) → Has t.pending c → ⊥
+NoneLeft =
+    (upto : ℕ) (s t : Names) → Acknowledges upto s t → ((c : Callback) → Has s.pending c → IsOver s upto c) → (c : Callback)
+    → Has t.pending c → ⊥

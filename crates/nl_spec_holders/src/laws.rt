@@ -1,4 +1,4 @@
-//! Laws of the steps of a volume. Each function stands for the laws that its contract names.
+//! Laws of the steps of a volume: each live page is held once through them, and what is committed is kept. A function stands for each law.
 ghost use Rattle.nl_spec_holders.specs.Laws.{AcknowledgeKeeps, CopyKeeps, CutKeeps, DecideKeeps, DoubtKeeps, DropKeeps, EraseKeeps, FreeKeeps, FreezeKeeps, HandleKeeps, InstallKeeps, NoneHandled, NoneLeft, OpeningHolds, ProgramKeeps};
 
 /// What a device does: a page is programmed, one is moved by the cleaner, a victim is begun or erased.

@@ -34,7 +34,7 @@ named_member image r m =
     let n = named_of_rec r.rec r.main r.page ((pages_are_readable.physical image r).0 m).2 in
     (n.0, ap named_in (f.1 ∙ ap (λ (x : Readable). Some x) same) ∙ n.1, n.2)
 
--- and what is stored is on a readable page
+-- what is stored of the segment is on a readable page
 pub member_named : (image : Image) (p : ℕ) (n : NamedPage) → (stored_in image).named p ≡ Some n → (r : Readable) × Has (physical_pages image) r × (r.page ≡ p) × IsNamed r n
 unfolding stored_in physical_page_at
 member_named image p n e = by (find (λ (r : Readable). r.page == p) (physical_pages image)) refl e

@@ -1,5 +1,5 @@
--- A turn, a call and a sync keep what is said of stops.
-use Rattle.std.proofs.Common.{◌≡◌, inl, inr, ⊎_elim, ℕ, ◌+◌, ◌-◌, ◌<◌, ◌≤◌, Bool, true, false, cond, List, [], ◌∷◌, ◌++◌, length, refl, sym, ◌∙◌, subst, arith, length-append, Option}
+-- What opens as a prefix of a run opens so after more calls, after a later sync, and at an earlier moment.
+use Rattle.std.proofs.Common.{◌≡◌, ℕ, ◌+◌, ◌-◌, ◌<◌, ◌≤◌, Bool, true, false, cond, List, [], ◌∷◌, ◌++◌, length, refl, sym, ◌∙◌, subst, arith, length-append, Option}
 use Rattle.std.specs.Prelude.{max, nat_le}
 use Rattle.std.proofs.lemmas.Bool.Decides.{nat_tests}
 use Rattle.std.proofs.lemmas.List.{take-append-le}
@@ -9,8 +9,8 @@ use Rattle.nl_tree.specs.Replay.{replay}
 use Rattle.nl_tree.specs.Order.{SyncPoint, durable_prefix}
 use Rattle.nl_tree.specs.declared.call.Call.{Call}
 use Rattle.nl_tree.specs.declared.reply.FaultReply.{FaultReply}
-use Rattle.nl_spec_image.specs.Crash.{Run, with_call, with_sync, OpensAsPrefix, StopsSafely, StopsStand, LeavesPrefixes}
-use Rattle.nl_spec_image.specs.CrashLaws.{PrefixesGoOn, TurnKeepsStops, CallKeepsStops, SyncKeepsStops}
+use Rattle.nl_spec_image.specs.Crash.{Run, with_call, with_sync, OpensAsPrefix}
+use Rattle.nl_spec_image.specs.CrashLaws.{PrefixesGoOn}
 
 -- one sync more
 one_more : (syncs : List SyncPoint) (s : SyncPoint) (count m : ℕ)
@@ -27,16 +27,6 @@ prefix_earlier syncs s count m before = one_more syncs s count m ∙ go (nat_le 
     go : (b : Bool) → nat_le s.moment m ≡ b → cond b (max d s.upto) d ≡ d
     go true e = absurd (grind (arith, nat_tests))
     go false e = refl
-
-prefix_within : (syncs : List SyncPoint) (s : SyncPoint) (count m n : ℕ) → durable_prefix syncs count m ≤ n → s.upto ≤ n → durable_prefix (syncs ++ s ∷ []) count m ≤ n
-prefix_within syncs s count m n old new = subst (λ x. x ≤ n) (sym (one_more syncs s count m)) (go (nat_le s.moment m))
-  where
-    d : ℕ
-    d = durable_prefix syncs count m
-
-    go : (b : Bool) → cond b (max d s.upto) d ≤ n
-    go true = omega arith
-    go false = old
 
 -- syncs are made safe as time goes on
 step_rises : (k m a b upto moment : ℕ) → k ≤ m → a ≤ b → cond (nat_le moment k) (max a upto) a ≤ cond (nat_le moment m) (max b upto) b
@@ -88,50 +78,3 @@ module _ {I : Type 0} (opens : I → ℕ → Tree → Type 0) where
 
   pub prefixes_go_on : PrefixesGoOn opens
   prefixes_go_on = record { more_calls = more_calls; more_syncs = more_syncs; earlier_moment = earlier_moment }
-
-  module _ (before left_old left_new : ℕ → I → Type 0) where
-    -- the images left, where those of the turn open as prefixes of a run that goes on from the old one
-    left_kept : (first start end : ℕ) (old new : I) (run next : Run) → StopsStand opens before left_old first start old run → first ≤ start
-        → ((m : ℕ) (c : I) → m ≤ start → OpensAsPrefix opens run m c → OpensAsPrefix opens next m c)
-        → LeavesPrefixes opens left_old left_new start end new next → StopsSafely opens before left_new first end next
-    left_kept first start end old new run next stands since goes leaves = record {
-      each = λ m c l. elim (leaves.each m c l) [
-        | inl was ↦ elim (stands.safely.each m c was) [
-          | inl b ↦ inl b
-          | inr o ↦ let t = o.1 in let later = leaves.later in inr (o.0, omega arith, goes m c t o.2)
-        ]
-        | inr is ↦ let t = is.0 in inr (omega arith, is.1, is.2)
-      ];
-    }
-
-    pub turn_keeps : TurnKeepsStops opens before left_old left_new
-    turn_keeps first start end old new run stands since leaves = record {
-      safely = left_kept first start end old new run run stands since (λ m c t o. o) leaves;
-      current = leaves.current;
-      in_range = stands.in_range;
-    }
-
-    with_more : (start end : ℕ) (new : I) (run : Run) (x : Call × Option FaultReply) → LeavesPrefixes opens left_old left_new start end new run → LeavesPrefixes opens left_old left_new start end new (with_call run x)
-    with_more start end new run x leaves = record {
-      later = leaves.later;
-      each = λ m c l. ⊎_elim (λ was. inl was) (λ is. inr (is.0, is.1, more_calls run x m c is.2)) (leaves.each m c l);
-      current = λ m. more_calls run x m new (leaves.current m);
-    }
-
-    pub call_keeps : CallKeepsStops opens before left_old left_new
-    call_keeps first start end old new run x stands since leaves = record {
-      safely = left_kept first start end old new run (with_call run x) stands since (λ m c t o. more_calls run x m c o) (with_more start end new run x leaves);
-      current = λ m. more_calls run x m new (leaves.current m);
-      in_range = λ m. let l = length-append run.calls (x ∷ []) in let r = stands.in_range m in omega arith;
-    }
-
-    pub sync_keeps : SyncKeepsStops opens before left_old left_new
-    sync_keeps first start end old new run x s stands since ticks upto leaves = record {
-      safely = left_kept first start end old new run (with_sync (with_call run x) s) stands since
-          (λ m c t o. more_syncs (with_call run x) s m c (omega arith) (more_calls run x m c o)) (with_more start end new (with_sync run s) x leaves);
-      current = λ m. more_calls (with_sync run s) x m new (leaves.current m);
-      in_range = λ m.
-          let l = length-append run.calls (x ∷ []) in
-          let r = stands.in_range m in
-          prefix_within run.syncs s run.count m (run.count + length (run.calls ++ x ∷ [])) (omega arith) (omega arith);
-    }

@@ -30,17 +30,6 @@ pub record OpensAsPrefix {I : Type 0} (opens : I → ℕ → Tree → Type 0) (r
   pub sound : opens image prefix (replay run.shape run.tree (take (prefix - run.count) run.calls))
 
 -- Each image that a stop may leave was left before the run, or opens so and is of a moment from the first to the last.
-pub record StopsSafely {I : Type 0} (opens : I → ℕ → Tree → Type 0) (before left : ℕ → I → Type 0) (first last : ℕ) (run : Run) : Type 0 where
+pub record StopsSafely {I : Type 0} (opens : I → ℕ → Tree → Type 0) (before left : ℕ → I → Type 0) (first last : ℕ)
+    (run : Run) : Type 0 where
   pub each : (moment : ℕ) (image : I) → left moment image → before moment image ⊎ ((first ≤ moment) × (moment ≤ last) × OpensAsPrefix opens run moment image)
-
--- What is kept from turn to turn: beside it, what there is now holds every sync of the run, and no sync made safe more than was called.
-pub record StopsStand {I : Type 0} (opens : I → ℕ → Tree → Type 0) (before left : ℕ → I → Type 0) (first now : ℕ) (contents : I) (run : Run) : Type 0 where
-  pub safely : StopsSafely opens before left first now run
-  pub current : (moment : ℕ) → OpensAsPrefix opens run moment contents
-  pub in_range : (moment : ℕ) → durable_prefix run.syncs run.count moment ≤ run.count + length run.calls
-
--- What a turn from one moment to another leaves: what was left before it, or what opens as a prefix of the run; as does what there is then.
-pub record LeavesPrefixes {I : Type 0} (opens : I → ℕ → Tree → Type 0) (earlier left : ℕ → I → Type 0) (start end : ℕ) (contents : I) (run : Run) : Type 0 where
-  pub later : start ≤ end
-  pub each : (moment : ℕ) (image : I) → left moment image → earlier moment image ⊎ ((start ≤ moment) × (moment ≤ end) × OpensAsPrefix opens run moment image)
-  pub current : (moment : ℕ) → OpensAsPrefix opens run moment contents

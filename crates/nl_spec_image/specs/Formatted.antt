@@ -25,5 +25,6 @@ pub record IsFormatted (blocks pages : ℕ) (image : Image) : Type 0 where
 -- Such an image opens as the tree with only the root, after no call.
 abbrev pub FormattedIsSound : Type 0
 FormattedIsSound =
-    (blocks pages : ℕ) (image : Image) → IsTrue (is_image image) → image.blocks ≡ blocks → image.pages ≡ pages → IsTrue (is_legal blocks pages)
+    (blocks pages : ℕ) (image : Image) → IsTrue (is_image image) → image.blocks ≡ blocks → image.pages ≡ pages
+    → IsTrue (is_legal blocks pages)
     → IsFormatted blocks pages image → SoundAs image 0 empty_tree

@@ -35,7 +35,7 @@ pub record HasFreshPages (image : Image) : Type 0 where
   pub no_other : (r : Readable) → Has (virtual_pages image) r → IsFresh image r
   pub no_data : (r : Readable) → Has (physical_pages image) r → ⊥
 
--- With a spare block they open as the tree with only the root, after no call.
+-- With a spare block the pages of a fresh volume open as the tree with only the root, after no call.
 abbrev pub FreshIsSound : Type 0
 FreshIsSound = (image : Image) → HasFreshPages image → IsSome (virtual_spare image) → SoundAs image 0 empty_tree
 
@@ -44,13 +44,14 @@ abbrev pub SpareByCopies : Type 0
 SpareByCopies =
     (image : Image) (block : ℕ) → block < (shape_of_image image).vblocks
     → ((r : Readable) → Has (virtual_pages image) r → r.page / image.pages ≡ block
-    → (q : Readable) × Has (virtual_pages image) q × (q.page / image.pages ≢ block) × (address_on q ≡ address_on r) × (stamp_on q ≡ stamp_on r))
+    → (q : Readable) × Has (virtual_pages image) q × (q.page / image.pages ≢ block) × (address_on q ≡ address_on r)
+    × (stamp_on q ≡ stamp_on r))
     → IsSome (virtual_spare image)
 
--- And where fewer pages are readable than there are blocks.
+-- There is a spare block where fewer pages are readable than there are blocks.
 abbrev pub SpareByFewPages : Type 0
 SpareByFewPages = (image : Image) → length (virtual_pages image) < (shape_of_image image).vblocks → IsSome (virtual_spare image)
 
--- So at most four readable pages leave a spare block, and then they open so.
+-- At most four readable pages of a fresh volume open as the tree with only the root, after no call.
 abbrev pub FewFreshAreSound : Type 0
 FewFreshAreSound = (image : Image) → HasFreshPages image → length (virtual_pages image) ≤ 4 → SoundAs image 0 empty_tree

@@ -15,4 +15,5 @@ pub record HoldersChange (tag : Tag) (p q : Pointer) (old new : List (Tag × Poi
   pub size : length new + length (shown tag p) ≡ length old + length (shown tag q)
 
 abbrev pub OneChangesHolders : Type 0
-OneChangesHolders = (tag : Tag) (p q : Pointer) (old new : List (Tag × Pointer)) → OneChanges tag p q old new → HoldersChange tag p q old new
+OneChangesHolders =
+    (tag : Tag) (p q : Pointer) (old new : List (Tag × Pointer)) → OneChanges tag p q old new → HoldersChange tag p q old new

@@ -38,7 +38,8 @@ committed_in shape c = committed shape (map_bytes shape c.virtual)
 
 -- What is left of a device with these names: its virtual segment is firm, pages of one stamp agree, and its live pages are held; its
 -- committed pages stand for the tree, and each of their pointers leads.
-pub record LeavesTree (shape : Shape) (names : Names) (bytes : ℕ → List ℕ) (page_of_stamp : ℕ → Option PageOfStamp) (c : Stored) (count : ℕ) (tree : Tree) : Type 0 where
+pub record LeavesTree (shape : Shape) (names : Names) (bytes : ℕ → List ℕ) (page_of_stamp : ℕ → Option PageOfStamp) (c : Stored) (count : ℕ)
+    (tree : Tree) : Type 0 where
   pub firm : c.firm ≡ true
   pub agree : NamedAgree c
   pub pages : LeavesPages shape names bytes c
@@ -49,4 +50,5 @@ pub record LeavesTree (shape : Shape) (names : Names) (bytes : ℕ → List ℕ)
 abbrev pub WhatIsLeftIsSound : Type 0
 WhatIsLeftIsSound =
     (names : Names) (bytes : ℕ → List ℕ) (page_of_stamp : ℕ → Option PageOfStamp) (image : Image) (count : ℕ) (tree : Tree)
-    → IsTrue (is_image image) → LeavesTree (shape_of_image image) names bytes page_of_stamp (stored_in image) count tree → SoundAs image count tree
+    → IsTrue (is_image image) → LeavesTree (shape_of_image image) names bytes page_of_stamp (stored_in image) count tree
+    → SoundAs image count tree

@@ -14,6 +14,8 @@ pub record WrittenAt (image : Image) (r : Readable) : Type 0 where
 
 pub record PagesAreReadable : Type 0 where
   pub virtual : (image : Image) (r : Readable)
-      → Has (virtual_pages image) r ↔ (WrittenAt image r × (r.page < first_physical (shape_of_image image)) × IsTrue (is_virtual_rec (shape_of_image image) r.rec))
+      → Has (virtual_pages image) r ↔ (WrittenAt image r × (r.page < first_physical (shape_of_image image))
+      × IsTrue (is_virtual_rec (shape_of_image image) r.rec))
   pub physical : (image : Image) (r : Readable)
-      → Has (physical_pages image) r ↔ (WrittenAt image r × (first_physical (shape_of_image image) ≤ r.page) × IsTrue (is_physical_rec r.rec))
+      → Has (physical_pages image) r ↔ (WrittenAt image r × (first_physical (shape_of_image image) ≤ r.page)
+      × IsTrue (is_physical_rec r.rec))

@@ -17,11 +17,13 @@ pub record PagesRepresent (shape : Shape) (pages : VirtualMap) (page_of_stamp : 
   pub is_tree : IsTree tree
   pub depicts : Represents (bytes_for page_of_stamp) (graph_of shape pages) tree
 
--- at least one
+-- Metadata that is right represents a tree.
 abbrev pub RightRepresents : Type 0
-RightRepresents = (shape : Shape) (pages : VirtualMap) (page_of_stamp : ℕ → Option PageOfStamp) → RightFor shape pages page_of_stamp → (tree : Tree) × PagesRepresent shape pages page_of_stamp tree
+RightRepresents =
+    (shape : Shape) (pages : VirtualMap) (page_of_stamp : ℕ → Option PageOfStamp) → RightFor shape pages page_of_stamp
+    → (tree : Tree) × PagesRepresent shape pages page_of_stamp tree
 
--- and no second one
+-- Metadata that is right represents no second tree.
 abbrev pub RepresentedIsOne : Type 0
 RepresentedIsOne =
     (shape : Shape) (pages : VirtualMap) (page_of_stamp : ℕ → Option PageOfStamp) (tree tree' : Tree)
@@ -32,7 +34,7 @@ pub record ChargesOfPages (shape : Shape) (pages : VirtualMap) (tree : Tree) : T
   pub data_pages : data_charge tree ≡ length (held_in shape pages)
   pub used : node_charge tree ≡ length (used_nodes shape pages)
   pub meta_pages : meta_charge tree ≡ length (flat_map addresses_of (used_nodes shape pages))
-  -- there are no more than the volume has, and no directory has more entries than it may have
+  -- no more nodes and addresses are used than the volume has, and no directory has more entries than it may have
   pub few_entries : (n : ℕ) → length (entries_in (graph_of shape pages n).body) ≤ max_entries
   pub few_nodes : length (used_nodes shape pages) ≤ shape.nodes
   pub few_meta : length (flat_map addresses_of (used_nodes shape pages)) ≤ shape.meta

@@ -9,14 +9,16 @@ use Rattle.nl_meta.specs.Walk.{walk}
 use Rattle.nl_spec_image.specs.RightFor.{ChargesOfPages}
 use Rattle.nl_spec_image.specs.Stands.{Stands, Sound}
 
--- at least one tree
+-- An image whose metadata is right stands for a tree.
 abbrev pub MetadataStands : Type 0
-MetadataStands = (image : Image) → IsTrue (is_image image) → (right : MetadataRight image) → (tree : Tree) × Stands image right.super_rec.count tree
+MetadataStands =
+    (image : Image) → IsTrue (is_image image) → (right : MetadataRight image) → (tree : Tree) × Stands image right.super_rec.count tree
 
--- and no second count or tree
+-- An image stands for no second count or tree.
 abbrev pub StandsForOne : Type 0
 StandsForOne =
-    (image : Image) (count count' : ℕ) (tree tree' : Tree) → Stands image count tree → Stands image count' tree' → (count ≡ count') × (tree ≡ tree')
+    (image : Image) (count count' : ℕ) (tree tree' : Tree) → Stands image count tree → Stands image count' tree'
+    → (count ≡ count') × (tree ≡ tree')
 
 -- Exactly the sound images are without a first fault, of those whose pages are whole.
 abbrev pub WalkIsSoundness : Type 0
@@ -24,4 +26,5 @@ WalkIsSoundness = (image : Image) → IsTrue (is_image image) → (walk image �
 
 -- The charges of the tree are those of the image's committed pages.
 abbrev pub StandsWithCharges : Type 0
-StandsWithCharges = (image : Image) (count : ℕ) (tree : Tree) → Stands image count tree → ChargesOfPages (shape_of_image image) (committed_of image) tree
+StandsWithCharges =
+    (image : Image) (count : ℕ) (tree : Tree) → Stands image count tree → ChargesOfPages (shape_of_image image) (committed_of image) tree

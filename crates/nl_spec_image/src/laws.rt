@@ -1,4 +1,4 @@
-//! Laws of the definitions. Each function stands for the law that its contract names.
+//! Laws of images: for which tree one stands, when it is sound, and which blocks can be done without. A function stands for each law.
 ghost use Rattle.nl_spec_image.specs.Formatted.{FormattedIsSound};
 ghost use Rattle.nl_spec_image.specs.Fresh.{FewFreshAreSound, FreshIsSound, SpareByCopies, SpareByFewPages};
 ghost use Rattle.nl_spec_image.specs.HolderLists.{OneChangesHolders};
@@ -7,69 +7,69 @@ ghost use Rattle.nl_spec_image.specs.ReadablePages.{PagesAreReadable};
 ghost use Rattle.nl_spec_image.specs.RightFor.{RepresentedIsOne, RightCharges, RightRepresents};
 ghost use Rattle.nl_spec_image.specs.StandsLaws.{MetadataStands, StandsForOne, WalkIsSoundness, StandsWithCharges};
 
-// Metadata that is right represents a tree, also without an image: exactly one, whose charges are counts of what its pages have.
+/// Metadata that is right represents a tree, also without an image: exactly one, whose charges are counts of what its pages have.
 pub fn pages_represent()
     ensures some { RightRepresents }
     ensures one { RepresentedIsOne }
     ensures charges { RightCharges }
 {}
 
-// Metadata of an image that is right stands for a tree.
+/// Metadata of an image that is right stands for a tree.
 pub fn metadata_stands()
     ensures { MetadataStands }
 {}
 
-// An image stands for at most one count and tree.
+/// An image stands for at most one count and tree.
 pub fn stands_for_one()
     ensures { StandsForOne }
 {}
 
-// Of images whose pages are whole exactly the sound ones are without a first fault.
+/// Of images whose pages are whole exactly the sound ones are without a first fault.
 pub fn walk_is_soundness()
     ensures { WalkIsSoundness }
 {}
 
-// The charges of the tree for which an image stands are those of the image's nodes.
+/// The charges of the tree for which an image stands are those of the image's nodes.
 pub fn charges_of_image()
     ensures { StandsWithCharges }
 {}
 
-// A block whose pages have copies in other blocks can be done without.
+/// A block whose pages have copies in other blocks can be done without.
 pub fn spare_by_copies()
     ensures { SpareByCopies }
 {}
 
-// With fewer readable pages than blocks, a block can be done without.
+/// With fewer readable pages than blocks, a block can be done without.
 pub fn spare_by_few_pages()
     ensures { SpareByFewPages }
 {}
 
-// The pages that formatting leaves open as the tree with only the root, on any legal geometry.
+/// The pages that formatting leaves open as the tree with only the root, on any legal geometry.
 pub fn fresh_is_sound()
     ensures { FreshIsSound }
 {}
 
-// What a format leaves opens as the tree with only the root.
+/// What a format leaves opens as the tree with only the root.
 pub fn formatted_is_sound()
     ensures { FormattedIsSound }
 {}
 
-// With at most four readable pages there is a spare block, and so they open so.
+/// At most four readable pages that a format left open as the tree with only the root.
 pub fn few_fresh_are_sound()
     ensures { FewFreshAreSound }
 {}
 
-// Which pages of an image are the readable ones of a segment.
+/// Which pages of an image are the readable ones of a segment.
 pub fn pages_are_readable()
     ensures { PagesAreReadable }
 {}
 
-// What a device promises of what a stop leaves makes it sound, where the committed map stands for a tree and its pointers lead.
+/// What a device promises of what a stop leaves makes it sound, where the committed map stands for a tree and its pointers lead.
 pub fn what_is_left_is_sound()
     ensures { WhatIsLeftIsSound }
 {}
 
-// One pointer that changes in the list of all changes those of its write sequence number, and no others.
+/// One pointer that changes in the list of all changes those of its write sequence number, and no others.
 pub fn one_changes_holders()
     ensures { OneChangesHolders }
 {}

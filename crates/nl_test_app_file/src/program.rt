@@ -1,4 +1,4 @@
-// On image files in the folder where the tests run.
+// The program on image files in the folder where the tests run.
 use nl_app_file::{Notice, answer};
 use nl_field::{FailList, Memory, Text};
 use nl_io::{MemSink, MemSource, Words};
@@ -54,7 +54,7 @@ fn sink_of(alloc: Global, write: u64) -> Result<MemSink, Memory> {
     MemSink::new(alloc, 1000, only(alloc, write)?)
 }
 
-// It promises nothing, so that no caller carries what the call promises.
+// How the program ends on an image file. The function promises nothing, so that no caller carries what the call promises.
 fn ended<Rt: Files<File = File> + AllocGlobal + Threads + Wait + Sync>(
     rt: &Rt,
     path: &str,

@@ -150,7 +150,8 @@ fn in_one_block() -> [Row; 5] {
     ]
 }
 
-/// The same, and pages of addresses that no node has, one page in each of the first seven blocks. The eighth has one of this address.
+/// The addresses of nodes, of the super page, of the root's entry and of the file's pointers, and pages of addresses that no node has, one
+/// page in each of the first seven blocks. The eighth block has one of this address.
 fn in_each_block(last: u32) -> [Row; 8] {
     [
         metadata(0, 67, 5),

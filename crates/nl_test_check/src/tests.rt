@@ -20,6 +20,7 @@ pub struct Bytes {
     pub bytes: [u8; 24],
 }
 
+/// The beginning of the super page of a volume of 32 blocks of 32 pages.
 pub const SUPER: Bytes = Bytes {
     vaddr: 0,
     at: 0,
@@ -39,7 +40,7 @@ pub const ROOT: Bytes = Bytes {
     bytes: *b"\x02\0\0\0\0\0\0\0\x01\0\0\0\0\0\0\0\0\0\0\0\0\0\0\0",
 };
 
-/// Its address 71.
+/// The address 71 of the root.
 pub const ROOT_ADDRESS: Bytes = Bytes {
     vaddr: 67,
     at: 192,
@@ -72,14 +73,14 @@ const FILE: Bytes = Bytes {
     bytes: *b"\x01\0\0\0\x01\0\0\0\0\x20\0\0\0\0\0\0\0\0\0\0\0\0\0\0",
 };
 
-/// Its first pointer, to page 256 under 3, and half of the second, to page 257.
+/// The file's first pointer, to page 256 under 3, and half of the second, to page 257.
 const POINTERS: Bytes = Bytes {
     vaddr: 67,
     at: 320,
     bytes: *b"\0\x01\0\0\0\0\0\0\x03\0\0\0\0\0\0\0\x01\x01\0\0\0\0\0\0",
 };
 
-/// The number of the second, 4.
+/// The write sequence number of the file's second pointer, 4.
 const SECOND: Bytes = Bytes {
     vaddr: 67,
     at: 344,
@@ -133,7 +134,7 @@ const IMAGE: Bytes = Bytes {
     bytes: *b"NAMELESS\x01\0\0\0\x20\0\0\0\x20\0\0\0\0\0\0\0",
 };
 
-/// Its count of calls, 2.
+/// The count of calls of the super page as an image, 2.
 const IMAGE_COUNT: Bytes = Bytes {
     vaddr: 2,
     at: 24,
@@ -167,6 +168,7 @@ pub struct Row {
     pub what: Content,
 }
 
+/// What a page of the medium is written as.
 #[derive(Clone, Copy)]
 pub enum Content {
     /// The page of an address under a number.
@@ -175,6 +177,7 @@ pub enum Content {
     Data { index: u32, stamp: u64, byte: u8 },
 }
 
+/// The page of that number with the page of an address, under a write sequence number.
 pub fn metadata(page: u32, vaddr: u32, stamp: u64) -> Row {
     Row {
         page,
@@ -182,6 +185,7 @@ pub fn metadata(page: u32, vaddr: u32, stamp: u64) -> Row {
     }
 }
 
+/// The page of that number with the page of an index of node 1, under a write sequence number, with one byte.
 pub fn data(page: u32, index: u32, stamp: u64, byte: u8) -> Row {
     Row {
         page,
@@ -308,12 +312,14 @@ fn found(alloc: Global, changes: &[Bytes], more: &[Row], journal: bool) -> Resul
     Ok(checked_of(alloc, image(alloc, &rows, &bytes)?))
 }
 
+/// The findings with just this one.
 pub fn only(what: What) -> Findings {
     let mut bits = Findings::none();
     bits.add(what);
     bits
 }
 
+/// Whether a check found just these, and so many calls.
 pub fn is_found(checked: &Checked, wanted: Findings, calls: u64) -> bool {
     match checked {
         Checked::Found { bits, count } => *bits == wanted && *count == calls,
@@ -321,7 +327,7 @@ pub fn is_found(checked: &Checked, wanted: Findings, calls: u64) -> bool {
     }
 }
 
-/// Whether just that is found.
+/// Whether just the wanted is found of the volume with these changes and pages, after so many calls.
 fn is_right(
     alloc: Global,
     changes: &[Bytes],
@@ -346,7 +352,7 @@ const FAULTS: [([Bytes; 2], What); 9] = [
     ([SECOND_AS_FIRST, OLD_ENTRY], What::Entry),
 ];
 
-// How many of them are found before the first that is not.
+// How many of the faults are found before the first that is not.
 fn faults_found(alloc: Global) -> Result<usize, Memory> {
     for (at, fault) in FAULTS.iter().enumerate() {
         let (changes, what) = *fault;

@@ -1,6 +1,6 @@
-// A small full volume, byte by byte, on 32 blocks of 32 pages: 64 nodes in addresses 67 to 70, the pool from 71 on, and the pages of files from
-// page 256 on. The root has file `a`, node 1, and directory `d`, node 2, which has file `b`, node 3. Of the 480 pages that its files may have,
-// `a` has 464 and `b` 16.
+// A small full volume, byte by byte, on 32 blocks of 32 pages: 64 nodes in addresses 67 to 70, the pool from 71 on, and the pages of files
+// from page 256 on. The root has file `a`, node 1, and directory `d`, node 2, which has file `b`, node 3. Of the 480 pages that its files
+// may have, `a` has 464 and `b` 16.
 ghost use Rattle.std.specs.Prelude.{◌≡◌, ◌+◌, ◌<◌, ◌≤◌, IfOk, IfSome};
 ghost use Rattle.nl_nand.specs.Memory.{contents_of, geometry_of};
 ghost use Rattle.nl_nand.specs.Nand.{ErasedWithin};
@@ -12,8 +12,8 @@ use std::alloc::Global;
 /// How many pages the files have.
 pub const PAGES: u32 = 480;
 
-/// The addresses of the volume: of the super page, of the nodes, of the entries of the root, of the pointers of `a`, of the entries of `d`, and of
-/// the pointers of `b`.
+/// The addresses of the volume: of the super page, of the nodes, of the entries of the root, of the pointers of `a`, of the entries of `d`,
+/// and of the pointers of `b`.
 pub const ADDRESSES: [u32; 7] = [0, 67, 71, 72, 73, 74, 75];
 
 /// How many live pages each block from 8 on begins with. The other pages of a block that has some were live once.
@@ -26,8 +26,8 @@ pub struct Slot {
     pub at: usize,
 }
 
-/// Where the pointer of that page stands. The first eight pointers of a file stand in its node. Of `a` the next 256 stand in address 72, and the
-/// others in address 73; of `b` the next eight in address 75.
+/// Where the pointer of that page stands. The first eight pointers of a file stand in its node. Of `a` the next 256 stand in address 72,
+/// and the others in address 73; of `b` the next eight in address 75.
 pub fn slot_of(number: u32) -> Slot
     requires { number < 480 }
     ensures { result.at ≤ 4080 }

@@ -1,5 +1,5 @@
-//! Tests of a core over a small full volume, which is built byte by byte and read back: rounds of reclaiming, what a stop within each of their
-//! operations leaves, failures of the medium, pages that are programmed where few blocks are Free, and background tasks.
+//! Tests of a core over a small full volume, which is built byte by byte and read back: rounds of reclaiming, what a stop within each of
+//! their operations leaves, failures of the medium, pages that are programmed where few blocks are Free, and background tasks.
 #![tactic(auto)]
 
 #[cfg(test)]

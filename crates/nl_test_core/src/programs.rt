@@ -16,10 +16,10 @@ const CROWDED: Layout = [
 /// How many pages are programmed as it is built.
 const BUILT: u64 = 647;
 
-// One of the four Free blocks is kept for the cleaner, so 96 pages find room. The next one does after eight rounds, each of which gains eight
-// pages: each has 24 copies and an erase, and all but the first begin with a transaction, the second one of addresses 0, 67 and 72, and the others
-// of 0 and 72. Of the four blocks of pages that are gained then, the copies of the last round wait for the end of their old names, two blocks
-// were filled, and one takes the last 32 pages.
+// One of the four Free blocks is kept for the cleaner, so 96 pages find room. The next one does after eight rounds, each of which gains
+// eight pages: each has 24 copies and an erase, and all but the first begin with a transaction, the second one of addresses 0, 67 and 72,
+// and the others of 0 and 72. Of the four blocks of pages that are gained then, the copies of the last round wait for the end of their old
+// names, two blocks were filled, and one takes the last 32 pages.
 const PROGRAMS: [(Step, Seen); 28] = [
     (Step::FreeBlocks, Seen::Number(4)),
     (Step::Program(0, 16), Seen::Did),
@@ -83,7 +83,7 @@ const WRITE_FAILS: [(Step, Seen); 10] = [
     (Step::Program(7, 1), Seen::ReadOnly),
 ];
 
-// And where a read fails. Then the rounds go on.
+// The page that needs rounds, after a call, where a read of theirs fails. The rounds go on with the next program.
 const READ_FAILS: [(Step, Seen); 10] = [
     (Step::Program(0, 16), Seen::Did),
     (Step::Program(1, 16), Seen::Did),
@@ -97,8 +97,8 @@ const READ_FAILS: [(Step, Seen); 10] = [
     (Step::Program(6, 1), Seen::Did),
 ];
 
-/// After how many calls the metadata is committed once so many operations have finished: the commit page of the first transaction is operation
-/// 126.
+/// After how many calls the metadata is committed once so many operations have finished: the commit page of the first transaction is
+/// operation 126.
 fn committed_after(operations: u64) -> u64 {
     if operations < 126 { 7 } else { 8 }
 }

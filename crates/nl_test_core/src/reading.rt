@@ -34,6 +34,7 @@ pub struct Work {
 }
 
 impl Work {
+    /// Room for the pages and the names; a failure is want of memory.
     pub fn new(alloc: Global) -> Result<Work, Memory> {
         Ok(Work {
             page: PageBuf::new(alloc)?,
@@ -68,8 +69,8 @@ fn find_names(meta: &Meta, names: &mut Vec<u32>) {
     }
 }
 
-/// The first address whose bytes are others than those that were built, but for the names of pages. A page of nodes that was never written has
-/// zeros.
+/// The first address whose bytes are others than those that were built, but for the names of pages. A page of nodes that was never written
+/// has zeros.
 fn wrong_address(meta: &Meta, names: &[u32], calls: u64, wanted: &mut PageBuf) -> Option<Wrong> {
     for vaddr in ADDRESSES.iter().chain([68, 69, 70].iter()) {
         fill_metadata(*vaddr, names, calls, wanted);

@@ -11,10 +11,10 @@ pub const DEAD: Layout = [
 /// How many pages are programmed as it is built.
 pub const BUILT: u64 = 519;
 
-// The block with 14 dead pages is cleaned first, by 18 copies and an erase: operations 1 to 19. It waits until the old names are gone: with the
-// transaction of addresses 0, 67, 73 and 75, operations 20 to 29, whose commit page is operation 25. The next block has 22 copies and an erase,
-// 30 to 52, and a transaction of addresses 0 and 73, 53 to 58, with commit page 56; the third 24 copies and an erase, 59 to 83, and such a
-// transaction, 84 to 89, with commit page 87. The 64 pages that were copied fill two blocks.
+// The block with 14 dead pages is cleaned first, by 18 copies and an erase: operations 1 to 19. It waits until the old names are gone: with
+// the transaction of addresses 0, 67, 73 and 75, operations 20 to 29, whose commit page is operation 25. The next block has 22 copies and
+// an erase, 30 to 52, and a transaction of addresses 0 and 73, 53 to 58, with commit page 56; the third 24 copies and an erase, 59 to 83,
+// and such a transaction, 84 to 89, with commit page 87. The 64 pages that were copied fill two blocks.
 const ROUNDS: [(Step, Seen); 35] = [
     (Step::Clock, Seen::Number(BUILT)),
     (Step::FreeBlocks, Seen::Number(8)),

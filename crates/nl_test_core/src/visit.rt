@@ -31,7 +31,7 @@ pub struct Holds {
     pub in_flight: u32,
 }
 
-/// These rows, after which nothing is in flight.
+/// A visit by these rows, after which the metadata runs after so many calls, and nothing is in flight.
 pub fn tree(rows: &[(Step, Seen)], calls: u64) -> Visit<'_> {
     let holds = Holds {
         calls,
@@ -43,7 +43,7 @@ pub fn tree(rows: &[(Step, Seen)], calls: u64) -> Visit<'_> {
     }
 }
 
-/// No call fails, and the medium may stop.
+/// A plan in which no call fails, and the medium may stop.
 pub fn sound(alloc: Global, stop: Option<Stop>) -> Plan {
     Plan {
         reads: FailList::new(alloc),
@@ -52,7 +52,7 @@ pub fn sound(alloc: Global, stop: Option<Stop>) -> Plan {
     }
 }
 
-/// The calls of these numbers fail, where they are not zero.
+/// A plan in which the read and the write of these numbers fail, where they are not zero.
 pub fn failing(alloc: Global, read: u64, write: u64) -> Result<Plan, Memory> {
     Ok(Plan {
         reads: only(alloc, read)?,
@@ -142,7 +142,8 @@ fn either(first: Option<Differs>, second: Option<Differs>) -> Option<Differs> {
     }
 }
 
-/// What differs in a volume that is opened again: it has answered so many calls, and holds what it held, also once no page is dead any more.
+/// What differs in a volume that is opened again: it has answered so many calls, and holds what it held, also once no page is dead any
+/// more.
 fn reopened(
     alloc: Global,
     media: MemNand,

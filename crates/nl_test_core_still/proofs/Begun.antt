@@ -52,8 +52,8 @@ none_of : {X Y : Type 0} (f : X → Y) (xs : List X) → map f xs ≡ [] → xs 
 none_of f [] is = refl
 none_of f (x ∷ xs) is = absurd (let no : ⊥ = cc in no)
 
--- No page is live, no name leads away, and no callback is pending. The virtual segment keeps a spare block, and one more write that fails can be
--- counted.
+-- No page is live, no name leads away, and no callback is pending. The virtual segment keeps a spare block, and one more write that fails
+-- can be counted.
 pub record IsIdle {D : Type 0} (g : Ghosts D) (s : D) : Type 0 where
   pub formed : g.formed s
   pub volume : IsVolumeShape (g.shape s)
@@ -85,7 +85,7 @@ module _ {D : Type 0} (g : Ghosts D) (s : D) (seen : List Seen) (w : Walked) (fr
     stopped = 0;
   }
 
-  -- it is the core that is put together so
+  -- the core is the one that is put together so
   pub made : (shape : Shape) (flight : List InFlight) (moment : ℕ) → shape ≡ g.shape s → flight ≡ nothing → g.clock s ≡ moment
       → core_over ≡ record { device = s; shape = shape; journal = w.journal; meta = w.meta; nodes = w.nodes; flight = flight; freeing = freeing; count = w.count; committed = w.count; moment = moment; stopped = 0 }
   made shape flight moment is_shape is_flight is_moment = λ i. record {

@@ -5,7 +5,7 @@ use Rattle.nl_testkit_still.specs.Stands.{IsStill}
 use Rattle.nl_testkit_still.specs.Still.{live_at}
 use Rattle.nl_testkit_still.specs.declared.still.Still.{Still}
 
--- It has these numbers, no page is live, and no erase failed.
+-- The memory has these numbers, no page is live, and no erase failed.
 pub record IsIdle (numbers : Shape) (s : Still) : Type 0 where
   pub formed : IsStill s
   pub same : s.shape ≡ numbers

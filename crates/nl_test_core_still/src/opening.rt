@@ -79,7 +79,7 @@ fn opened(
     }
 }
 
-// And where no file has a page.
+// The core over the volume that is on this memory, where no file has a page.
 fn begun(
     still: Still,
     shape: Shape,

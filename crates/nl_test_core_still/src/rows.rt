@@ -11,8 +11,8 @@ use nl_testkit_still::Still;
 use std::alloc::Global;
 use std::test::Fail;
 
-/// What a core tells: the blocks that can be written, the pairs of old names, the pages that were written, the number of the next one, and the sum
-/// of both fault counts once it is read-only.
+/// What a core tells: the blocks that can be written, the pairs of old names, the pages that were written, the number of the next one, and
+/// the sum of both fault counts once it is read-only.
 #[derive(Clone, Copy, PartialEq)]
 struct Told {
     free: u32,
@@ -59,7 +59,8 @@ fn lines(core: &mut Core<Still>, count: u32, buf: &PageBuf) -> u32
     whole
 }
 
-/// What is told of a new volume; after a line of sixteen pages, where a seventeenth finds no place; and after the line was dropped and a commit made.
+/// What is told of a new volume; after a line of sixteen pages, where a seventeenth finds no place; and after the line was dropped and a
+/// commit made.
 fn of_a_line(alloc: Global) -> Result<[Told; 3], Memory> {
     let buf = PageBuf::new(alloc)?;
     let mut core = opened(alloc)?;
@@ -75,8 +76,8 @@ fn of_a_line(alloc: Global) -> Result<[Told; 3], Memory> {
     Ok([first, second, third])
 }
 
-// The two pages of the new volume were written before. Sixteen pages lie in the first of the blocks, so that 22 whole ones can be written and the
-// last one is kept. The commit writes a header, the image of the super page, its commit page, and the super page in its place.
+// The two pages of the new volume were written before. Sixteen pages lie in the first of the blocks, so that 22 whole ones can be written
+// and the last one is kept. The commit writes a header, the image of the super page, its commit page, and the super page in its place.
 const OF_A_LINE: [Told; 3] = [
     Told {
         free: 24,

@@ -14,11 +14,11 @@ own_page x = record { page = x.0; stamp = x.1; tag = record { ino = 3; generatio
 abbrev pub wanted_at : ℕ → ℕ × ℕ
 wanted_at at = if nat_lt at 33 then (256 + at, at + 1) else (if at == 33 then (320, 3) else (321, 15))
 
--- the place among them of the page that is seen at a place: of each fifteen only the first five may be seen
+-- the place among the written pages of the page that is seen at a place: of each fifteen only the first five may be seen
 abbrev pub place_of : ℕ → Bool → ℕ → ℕ
 place_of first fives at = first + at + (if fives then at / 5 * 10 else 0)
 
--- so many of them, from this one on
+-- so many of the written pages that are seen, from this one on
 abbrev pub pages_from : ℕ → Bool → ℕ → List KeptPage
 pages_from first fives count = map (λ at. own_page (wanted_at (place_of first fives at))) (range_with_len 0 count)
 

@@ -1,4 +1,4 @@
-// A device: pages under names, and pages by address.
+// Rows of calls on a device, on pages under names and pages by address, with what each answers.
 ghost use Rattle.std.specs.Prelude.{◌≡◌, ◌<◌, IfOk, IsTrue};
 ghost use Rattle.nl_test_device.specs.Rigs.{HasAddressed};
 ghost use Rattle.nl_nand.specs.Memory.{contents_of, geometry_of};
@@ -74,6 +74,7 @@ pub enum Seen {
     Worn,
 }
 
+/// The owner of all pages that are written: index 5 of node 3 of generation 1.
 pub const TAG: Tag = Tag {
     ino: 3,
     generation: 1,
@@ -233,6 +234,7 @@ impl Rig {
         Seen::Number(done)
     }
 
+    /// Whether the block of the victim was erased, there was none to erase, or the erase failed.
     pub fn erase(&mut self) -> Seen {
         match self.device.erase() {
             Erasing::Done => Seen::Did,

@@ -25,11 +25,11 @@ enum Left {
     Lost,
     /// As `Erased`, but of the block's pages those from 0 to 4, from 15 to 19, 30 and 31 are left, and so the old page 258, but not 270.
     Partly,
-    /// As `Lost`, but with these pages.
+    /// As `Lost`, but of the block's pages the same are left as in `Partly`.
     PartlyLost,
 }
 
-/// Whether it is the page of that number, with this stamp and the owner of all pages.
+/// Whether this is the page of that number, with this stamp and the owner of all pages.
 fn is_page(page: &Page, number: u32, stamp: u64) -> bool
     ensures { IsTrue result → kept_from 256 page.now ≡ Some (own_page (number, stamp)) }
 {
@@ -212,8 +212,8 @@ fn kept(rig: &mut Rig, first: u32, second: u32, next: u32) -> Option<usize> {
     ])
 }
 
-/// The same with the old names of pages that were copied. Each of the two has a callback, in the order of the pointers, and their block
-/// waits for both names.
+/// What a device answers that was opened with the old names of the two pages of the victim, which were copied. Each of the two has a
+/// callback, in the order of the pointers, and their block waits for both names.
 fn led(rig: &mut Rig, next: u32) -> Option<usize> {
     rig.differs(&[
         (Step::FreeBlocks, Seen::Number(21)),

@@ -30,7 +30,8 @@ pub fn started(alloc: Global, media: MemNand) -> Result<Device<MemNand>, Memory>
     ensures numbers { IfOk result (λ d. ⟦<Device<MemNand> as Counts>⟧.shape d ≡ shape_for 32 32) }
     ensures spare { IfOk result (λ d. ⟦<Device<MemNand> as Counts>⟧.keeps_spare d) }
     ensures idle { IfOk result (λ d. (⟦<Device<MemNand> as Counts>⟧.names d).pending ≡ []) }
-    ensures none_failed { IfOk result (λ d. NoneFailed (⟦<Device<MemNand> as Counts>⟧.shape d).vaddrs (⟦<Device<MemNand> as Counts>⟧.failed d)) }
+    ensures none_failed { IfOk result (λ d. NoneFailed (⟦<Device<MemNand> as Counts>⟧.shape d).vaddrs
+        (⟦<Device<MemNand> as Counts>⟧.failed d)) }
 {
     match Device::start(alloc, media) {
         Started::Ready(device, tables) => {

@@ -79,7 +79,8 @@ fn make_beside(alloc: Global, device: &mut Device<MemNand>) -> Result<Beside, Me
     requires numbers { ⟦<Device<MemNand> as Counts>⟧.shape device.old ≡ shape_for 32 32 }
     requires spare { ⟦<Device<MemNand> as Counts>⟧.keeps_spare device.old }
     requires idle { (⟦<Device<MemNand> as Counts>⟧.names device.old).pending ≡ [] }
-    requires none_failed { NoneFailed (⟦<Device<MemNand> as Counts>⟧.shape device.old).vaddrs (⟦<Device<MemNand> as Counts>⟧.failed device.old) }
+    requires none_failed { NoneFailed (⟦<Device<MemNand> as Counts>⟧.shape device.old).vaddrs
+        (⟦<Device<MemNand> as Counts>⟧.failed device.old) }
     ensures { IfOk result (λ b. Stands ⟦<Device<MemNand> as Counts>⟧ device.new b.journal b.meta) }
 {
     let mut journal = Journal::new(alloc)?;

@@ -311,7 +311,8 @@ const STANDS: [(u32, u8); 6] = [
     (102, 199),
 ];
 
-/// What a write that copies a page, erases a block and programs a page leaves that is stopped within one of these. None where it is not stopped.
+/// What a write that copies a page, erases a block and programs a page leaves that is stopped within one of these. None where it is not
+/// stopped.
 fn stopped(alloc: Global, operation: u64, cut: Cut) -> Result<Option<Left>, Memory> {
     let stop = Some(Stop { operation, cut });
     let mut rig = fresh(alloc, FailList::new(alloc), FailList::new(alloc), stop)?;

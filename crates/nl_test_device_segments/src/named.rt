@@ -130,7 +130,7 @@ fn second_of_soiled(rig: &mut Rig) -> Option<SpareRec>
     }
 }
 
-/// The same in a new segment whose first erase fails.
+/// The record of the second page that is written in a new segment, where all blocks are soiled and the first erase fails.
 fn second_of_new(alloc: Global) -> Result<Option<SpareRec>, Memory> {
     let mut rig = fresh(alloc, failing(alloc, 1, 0)?)?;
     let second = second_of_soiled(&mut rig);

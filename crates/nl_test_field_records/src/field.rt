@@ -51,8 +51,8 @@ fn spare_bytes() -> [u8; 64] {
     bytes
 }
 
-// Whether another record is read where that bit is changed, and one at all just where the wear, the sequence number below its highest bit, or the owner
-// has another value.
+// Whether another record is read where that bit is changed, and one at all just where the wear, the sequence number below its highest bit,
+// or the owner has another value.
 fn is_changed(at: usize, bit: u8) -> bool
     requires { at < 64 }
 {
@@ -63,7 +63,7 @@ fn is_changed(at: usize, bit: u8) -> bool
     read != Some(SPARE) && read.is_some() == may
 }
 
-// The first byte with a bit that is not so, and 64 where there is none.
+// The first byte of the spare record with a bit that changes it otherwise, and 64 where there is none.
 fn unchanged() -> usize {
     for at in 0..64 {
         for bit in [1u8, 2, 4, 8, 16, 32, 64, 128] {
@@ -97,7 +97,7 @@ enum Form {
     Directory,
     /// Node 0: a file of 4097 bytes with the pointer of name 256 and sequence number 9.
     File,
-    /// That pointer.
+    /// The pointer of name 256 and sequence number 9.
     Pointer,
     /// Node 7 of generation 2 under the name `a!b`.
     Entry,
@@ -226,7 +226,7 @@ fn is_spelled(alloc: Global, form: Form) -> Result<bool, Memory> {
     Ok(is)
 }
 
-// How many of them are read before the first that is not.
+// How many of the forms are read from their bytes before the first that is not.
 fn spelled(alloc: Global) -> Result<usize, Memory> {
     for (at, form) in FORMS.iter().enumerate() {
         if !is_spelled(alloc, *form)? {
@@ -298,7 +298,7 @@ fn is_spoilt(alloc: Global, row: &Changed) -> Result<bool, Memory> {
     Ok(is)
 }
 
-// How many of them are none before the first that is read.
+// How many of the changed records are read as none before the first that is read.
 fn spoilt(alloc: Global) -> Result<usize, Memory> {
     for (at, row) in CHANGED.iter().enumerate() {
         if !is_spoilt(alloc, row)? {
@@ -341,7 +341,7 @@ fn spell_entry(page: &mut PageBuf) {
     }
 }
 
-// Writes the record.
+// Writes the record of a form where the rows have it.
 fn spell(page: &mut PageBuf, form: Form) {
     match form {
         Form::Super => FRESH.into_page(page, 0),
@@ -398,7 +398,7 @@ fn is_written(alloc: Global, form: Form) -> Result<bool, Memory> {
     is
 }
 
-// How many of them are written before the first that is not.
+// How many of the forms are written as their bytes before the first that is not.
 fn written(alloc: Global) -> Result<usize, Memory> {
     for (at, form) in FORMS.iter().enumerate() {
         if !is_written(alloc, *form)? {
@@ -425,7 +425,7 @@ const NAMES: [(&[u8], bool); 9] = [
     (&[b'x'; 56], false),
 ];
 
-// How many of them are names as they say before the first that is not.
+// How many of the rows tell right whether their bytes are a name, before the first that does not.
 fn named() -> usize {
     for (at, row) in NAMES.iter().enumerate() {
         let (bytes, is_name) = *row;

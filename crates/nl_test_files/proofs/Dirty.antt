@@ -11,6 +11,6 @@ few-besides (x ∷ xs) = by (not (x == 0)) (few-besides xs)
     by true h = omega (arith, h)
     by false h = omega (arith, h)
 
--- so names can be changed
+-- there is room to change names
 pub room-for-names : (p : Pages) → length p.dirty ≤ 50 → HasRoomFor 8 p
 room-for-names p few = let f = few-besides p.dirty in omega (arith, f, few)

@@ -26,7 +26,7 @@ pub enum Step {
     Spread(u32, u8),
     /// The file has this size. The page in which it ends stays.
     Size(u64),
-    /// The same, and the page in which it ends begins with these bytes, and has zeros else.
+    /// The file has this size, and the page in which it ends begins with these bytes, and has zeros else.
     Cut(u64, &'static [u8]),
     /// The entries of a directory take an address of the pool.
     Entries,

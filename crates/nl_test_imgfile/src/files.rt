@@ -173,7 +173,7 @@ fn same(media: &mut FileNand, file: &File, buf: &mut PageBuf, table: &[Row]) -> 
     table.len()
 }
 
-/// The same of the medium in a file, which another handle has open.
+/// How many rows come before the first that the medium in a file answers otherwise, which another handle has open.
 fn same_in(alloc: Global, file: File, other: &File, table: &[Row]) -> Option<usize> {
     let mut buf = PageBuf::new(alloc).ok()?;
     let mut media = attached(alloc, file)?;
@@ -190,7 +190,7 @@ fn on_new(rt: &HostRuntime, path: &str, table: &[Row]) -> Option<usize> {
     on_old(rt, path, table)
 }
 
-/// The same where the medium has the file open for reading alone.
+/// How many rows come before the first that the medium answers otherwise, where it has its file open for reading alone.
 fn on_unwritable(rt: &HostRuntime, path: &str, table: &[Row]) -> Option<usize> {
     let other = opened(rt, path)?;
     same_in(rt.alloc(), File::open(rt, path).ok()?, &other, table)

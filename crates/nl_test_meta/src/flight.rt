@@ -1,3 +1,4 @@
+// Rows of calls on the lines of workers and their pages in flight, with what each answers.
 use nl_field::{Pointer, Tag};
 use nl_flight::Flight;
 

@@ -140,7 +140,7 @@ fn other<D: Stamps>(
     first_other(alloc, device, shape, scan, volume, rows, 0)
 }
 
-/// The same over a device in memory.
+/// The first row that is answered otherwise, on a volume with an empty root over a device in memory.
 fn differs(
     alloc: Global,
     blocks: u32,

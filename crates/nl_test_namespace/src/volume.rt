@@ -76,7 +76,7 @@ pub fn reopened<D: Stamps>(
     }
 }
 
-/// It is opened again where many pages are dirty.
+/// The volume, opened again where many pages are dirty.
 fn settled<D: Stamps>(
     alloc: Global,
     device: &mut D,

@@ -1,3 +1,4 @@
+// Rows of calls on a table of blocks, with what each answers.
 ghost use Rattle.std.specs.Prelude.{IsTrue};
 ghost use Rattle.nl_blocks.specs.Table.{HasBlock, HasPage};
 

@@ -1,3 +1,4 @@
+// Rows of calls on callbacks that wait for their transaction, and the queue of their numbers.
 ghost use Rattle.nl_callbacks.specs.Notices.{IsSender, IsTaker};
 
 use nl_callbacks::{NoticePass, Notices, Pending};

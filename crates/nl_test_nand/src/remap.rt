@@ -1,3 +1,4 @@
+// Rows of calls on the table of moved pages, with what each answers.
 use nl_remap::Remap;
 
 #[derive(Clone, Copy)]

@@ -1,3 +1,4 @@
+// Rows of three blocks, with the victims among them.
 ghost use Rattle.std.specs.Prelude.{IsTrue};
 ghost use Rattle.nl_blocks.specs.Table.{HasBlock, HasPage};
 

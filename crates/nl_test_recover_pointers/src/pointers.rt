@@ -1,3 +1,4 @@
+// Tests of what a scan says of pointers: their faults, their names, and the blocks that are crowded.
 ghost use Rattle.std.specs.Prelude.{◌≡◌};
 ghost use Rattle.nl_nand.specs.Memory.{geometry_of, contents_of};
 ghost use Rattle.nl_nand.specs.Nand.{ErasedWithin};
@@ -200,7 +201,7 @@ const POINTERS: [(u64, (u32, u32), u32, u64, Option<u32>); 14] = [
     (SIZE, (5, 2), 256, 13, Some(5)),
 ];
 
-// How many of them have their fault before the first that has another.
+// How many of the rows of pointers have their fault before the first that has another.
 fn pointers_found(alloc: Global, tables: &ScanTables) -> Result<usize, Memory> {
     let first = held(SIZE, tag(5, 0), 256, 11);
     for (at, row) in POINTERS.iter().enumerate() {
@@ -236,7 +237,7 @@ const NAMES: [(u32, u64, Option<u32>); 6] = [
     (300, 13, Some(300)),
 ];
 
-// How many of them have their fault before the first that has another.
+// How many of the rows of names have their fault before the first that has another.
 fn names_found(alloc: Global, tables: &ScanTables) -> Result<usize, Memory> {
     let first = held(SIZE, tag(5, 0), 256, 11);
     for (at, row) in NAMES.iter().enumerate() {
@@ -256,8 +257,8 @@ fn files_right(alloc: Global) -> Result<(bool, usize), Memory> {
     Ok((pointers?, names?))
 }
 
-// A pointer is found by its write sequence number and its owner, whatever its name. A name is the pointer's own where its page has the number, or is no
-// page of the physical segment.
+// A pointer is found by its write sequence number and its owner, whatever its name. A name is the pointer's own where its page has the
+// number, or is no page of the physical segment.
 #[test]
 fn pointers_and_names(rt: HostRuntime) {
     assert_eq!(rt; files_right(rt.alloc()), Ok((true, NAMES.len())));
@@ -334,12 +335,12 @@ fn spare_right(alloc: Global) -> Result<bool, Memory> {
     if crowded(alloc, &rows, 24)? != Some(1) {
         return Ok(false);
     }
-    // the same number, so a copy of it; and block 31 has a page that no pointer needs
+    // block 7 has a page of address 0 under the same number, so a copy; and block 31 has a page that no pointer needs
     rows[7] = virtual_row(224, 0, 50);
     if crowded(alloc, &rows, 24)? != Some(1) || crowded(alloc, &rows, 23)? != None {
         return Ok(false);
     }
-    // and now a copy of the page in block 8
+    // block 31 has a copy of the page in block 8
     rows[31] = physical_row(992, tag(5, 0), 1000, 0);
     Ok(crowded(alloc, &rows, 24)? == None)
 }

@@ -19,15 +19,15 @@ geometry_told blocks pages told_blocks told_pages =
       contents = at_address 67 1 (dir_of 0 []) ∷ at_address 0 2 (super_bytes (record { version = 1; blocks = told_blocks; pages = told_pages; count = 0 })) ∷ replicate (blocks * pages - 2) erased;
     }
 
--- it is for blocks of other pages
+-- the super page is for blocks of other pages
 abbrev pub other_pages : Image
 other_pages = geometry_told 32 32 32 64
 
--- it was never written
+-- the super page was never written
 abbrev pub no_super : Image
 no_super = image_with (at_address 67 1 (dir_of 0 []) ∷ []) []
 
--- it is for the numbers of the image, of which a volume has none
+-- the super page is for the numbers of the image, of which there is no volume
 abbrev pub illegal_numbers : Image
 illegal_numbers = geometry_told 31 32 31 32
 
@@ -49,7 +49,7 @@ pointer_before = nodes_with (dir_of 1 (71 ∷ [])) (file_of 8192 (ptr 256 3 ∷ 
 abbrev pub pointer_behind : Image
 pointer_behind = nodes_with (dir_of 1 (71 ∷ [])) (file_of 8192 (ptr 256 3 ∷ ptr 1024 4 ∷ []))
 
--- Of 32 blocks of 36 pages, which have 72 nodes in 5 pages: something stands behind the last.
+-- An image of 32 blocks of 36 pages has 72 nodes in 5 pages: something stands behind the last node.
 abbrev pub behind_nodes : Image
 behind_nodes =
     record {
@@ -66,7 +66,7 @@ behind_nodes =
 abbrev pub address_before : Image
 address_before = nodes_with (dir_of 1 (70 ∷ [])) (file_of 0 [])
 
--- they stand in the address behind the last
+-- the root's entries stand in the address behind the last
 abbrev pub address_behind : Image
 address_behind = image_with (at_address 67 5 (dir_of 1 (103 ∷ []) ++ file_of 0 []) ∷ at_address 0 6 (super_with 2) ∷ at_address 103 7 (entry_for 1 1 (codes "a")) ∷ []) []
 
@@ -84,11 +84,11 @@ with_ninth p page =
     image_with (at_address 67 5 (dir_of 1 (71 ∷ []) ++ inode_bytes (file_of_pages 9 p)) ∷ at_address 0 6 (super_with 2) ∷ at_address 71 7 (entry_for 1 1 (codes "a"))
     ∷ at_address 72 8 page ∷ []) []
 
--- no pointer is spelled there
+-- no pointer is spelled in the address of the last pointer
 abbrev pub indirect_unspelled : Image
 indirect_unspelled = with_ninth (λ i. ptr (256 + i) (10 + i)) (1 ∷ [])
 
--- it has no pointer
+-- the address of the last pointer holds no pointer
 abbrev pub indirect_empty : Image
 indirect_empty = with_ninth (λ i. ptr (256 + i) (10 + i)) []
 
@@ -109,15 +109,15 @@ with_entry entry = usual usual_nodes entry usual_data
 abbrev pub entry_unspelled : Image
 entry_unspelled = with_entry (entry_for 1 1 (codes ".."))
 
--- it names the root
+-- the entry names the root
 abbrev pub names_root : Image
 names_root = usual (dir_of 1 (71 ∷ [])) (entry_for 0 0 (codes "a")) []
 
--- it names a node that is unused, of its generation
+-- the entry names a node that is unused, of its generation
 abbrev pub names_unused : Image
 names_unused = usual (dir_of 1 (71 ∷ [])) (entry_for 1 0 (codes "a")) []
 
--- It names the number behind the last node. The page behind those of nodes spells a file there.
+-- An entry names the number behind the last node. The page behind those of nodes spells a file there.
 abbrev pub names_behind : Image
 names_behind = image_with (at_address 67 5 (dir_of 1 (72 ∷ [])) ∷ at_address 0 6 (super_with 2) ∷ at_address 71 7 (file_of 0 []) ∷ at_address 72 8 (entry_for 64 1 (codes "a")) ∷ []) []
 

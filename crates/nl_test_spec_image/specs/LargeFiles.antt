@@ -49,7 +49,8 @@ listed_at page v stamp zeros = record { page = page; rec = Virtual v stamp 0; ze
 
 -- the data page of node 1, generation 1, by its index
 abbrev pub listed_data : ℕ → Seen
-listed_data i = record { page = 256 + i; rec = Physical (record { ino = 1; generation = 1; index = i }) (10 + i) 0; zeros = 0; agrees = true }
+listed_data i =
+    record { page = 256 + i; rec = Physical (record { ino = 1; generation = 1; index = i }) (10 + i) 0; zeros = 0; agrees = true }
 
 -- what a scan lists of that image, where the file has more than 264 pages
 abbrev pub list_of_filled : ℕ → List Seen
@@ -59,7 +60,8 @@ list_of_filled n =
 
 -- a page in the first n physical blocks, each where its pointer says
 abbrev pub spread : ℕ → Image
-spread n = with_pages n (λ i. ptr (256 + 32 * i) (10 + i)) (flat_map (λ i. data_page i (10 + i) [] ∷ replicate 31 erased) (range_with_len 0 n))
+spread n =
+    with_pages n (λ i. ptr (256 + 32 * i) (10 + i)) (flat_map (λ i. data_page i (10 + i) [] ∷ replicate 31 erased) (range_with_len 0 n))
 
 -- n pages in a row, and each pointer names an erased page
 abbrev pub lost : ℕ → Image

@@ -47,7 +47,8 @@ abbrev pub usual_nodes : List ℕ
 usual_nodes = dir_of 1 (71 ∷ []) ++ file_of 8192 (ptr 256 3 ∷ ptr 257 4 ∷ [])
 
 abbrev pub usual : List ℕ → List ℕ → List Page → Image
-usual nodes entries data_pages = image_with (at_address 67 5 nodes ∷ at_address 0 6 (super_with 2) ∷ at_address 71 7 entries ∷ []) data_pages
+usual nodes entries data_pages =
+    image_with (at_address 67 5 nodes ∷ at_address 0 6 (super_with 2) ∷ at_address 71 7 entries ∷ []) data_pages
 
 abbrev pub usual_data : List Page
 usual_data = data_page 0 3 (codes "one") ∷ data_page 1 4 (codes "two") ∷ []
@@ -81,7 +82,9 @@ behind_entries = usual usual_nodes (entry_for 1 1 (codes "a") ++ 1 ∷ []) usual
 
 -- two entries name one node
 abbrev pub two_names : Image
-two_names = usual (dir_of 2 (71 ∷ []) ++ file_of 8192 (ptr 256 3 ∷ ptr 257 4 ∷ [])) (entry_for 1 1 (codes "a") ++ entry_for 1 1 (codes "b")) usual_data
+two_names =
+    usual (dir_of 2 (71 ∷ []) ++ file_of 8192 (ptr 256 3 ∷ ptr 257 4 ∷ []))
+    (entry_for 1 1 (codes "a") ++ entry_for 1 1 (codes "b")) usual_data
 
 -- node 1 is used and has no entry
 abbrev pub unreached : Image
@@ -93,7 +96,8 @@ bad_pointer = usual (dir_of 1 (71 ∷ []) ++ file_of 8192 (ptr 256 3 ∷ ptr 257
 
 -- the page of stamp 4 was moved to 258, and 257 is readable under another stamp
 abbrev pub bad_names : Image
-bad_names = usual usual_nodes (entry_for 1 1 (codes "a")) (data_page 0 3 (codes "one") ∷ data_page 5 9 [] ∷ data_page 1 4 (codes "two") ∷ [])
+bad_names =
+    usual usual_nodes (entry_for 1 1 (codes "a")) (data_page 0 3 (codes "one") ∷ data_page 5 9 [] ∷ data_page 1 4 (codes "two") ∷ [])
 
 -- the page of stamp 4 was moved to 258, and 257 is erased
 abbrev pub moved_page : Image

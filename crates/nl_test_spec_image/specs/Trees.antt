@@ -17,7 +17,8 @@ tree_with_a = ([], directory) ∷ (codes "a" ∷ [], file hello) ∷ []
 
 -- `create /a` on a fresh volume
 abbrev pub run_of_a : List SyncPoint → Run
-run_of_a syncs = record { shape = shape_of_image fresh_image; count = 0; tree = empty_tree; calls = (Create (codes "a" ∷ []), None) ∷ []; syncs = syncs }
+run_of_a syncs =
+    record { shape = shape_of_image fresh_image; count = 0; tree = empty_tree; calls = (Create (codes "a" ∷ []), None) ∷ []; syncs = syncs }
 
 -- `mkdir /b` and `unlink /a` on a volume with two calls
 abbrev pub run_from_two : List SyncPoint → Run

@@ -1,3 +1,4 @@
+// The numbers of volumes, and records that are spelled and read back, computed from the definitions.
 ghost use Rattle.std.specs.Prelude.{◌≡◌, ◌==◌, find, true, false, ◌∷◌, [], take, replicate, ◌++◌, codes, option_map, option_and_then};
 ghost use Rattle.nl_field.specs.Numbers.{is_legal, shape_for};
 ghost use Rattle.nl_field.specs.SpareRecord.{spare_bytes, spare_rec_of};
@@ -18,18 +19,22 @@ ghost use Rattle.nl_field.specs.Space.{virtual_spare, physical_spare, place_outs
 ghost use Rattle.nl_field.specs.declared.inode.Kind.{Kind};
 ghost use Rattle.nl_field.specs.declared.spare.SpareRec.TheVariants.{Physical};
 
+/// The numbers of the smallest volume, of 32 blocks of 32 pages.
 pub fn numbers_32_32()
     ensures { shape_for 32 32 ≡ record { blocks = 32; pages = 32; nodes = 64; inode_pages = 4; meta = 32; vaddrs = 103; vblocks = 8; pblocks = 24; cap = 480 } }
 {}
 
+/// The numbers of a volume of 256 blocks of 64 pages.
 pub fn numbers_256_64()
     ensures { shape_for 256 64 ≡ record { blocks = 256; pages = 64; nodes = 1024; inode_pages = 64; meta = 512; vaddrs = 643; vblocks = 15; pblocks = 241; cap = 15008 } }
 {}
 
+/// The numbers of a volume of 512 blocks of 64 pages.
 pub fn numbers_512_64()
     ensures { shape_for 512 64 ≡ record { blocks = 512; pages = 64; nodes = 2048; inode_pages = 128; meta = 1024; vaddrs = 1219; vblocks = 24; pblocks = 488; cap = 30816 } }
 {}
 
+/// Of which counts of blocks and pages there is a volume: 32 to 4096 blocks of 32 to 256 pages, and not too many pages in all.
 pub fn numbers_refused()
     ensures few_blocks { is_legal 31 32 ≡ false }
     ensures many_blocks { is_legal 4097 32 ≡ false }
@@ -40,7 +45,7 @@ pub fn numbers_refused()
     ensures smallest { is_legal 32 32 ≡ true }
 {}
 
-// The physical record of node 1, generation 1, index 0, stamp 5, wear 0.
+/// The physical record of node 1, generation 1, index 0, stamp 5, wear 0.
 pub fn example_spare()
     ensures written { spare_bytes (Physical (record { ino = 1; generation = 1; index = 0 }) 5 0)
         ≡ (2 ∷ 0 ∷ 0 ∷ 0 ∷ 0 ∷ 0 ∷ 0 ∷ 0 ∷ 5 ∷ 0 ∷ 0 ∷ 0 ∷ 0 ∷ 0 ∷ 0 ∷ 0 ∷ 1 ∷ 0 ∷ 0 ∷ 0 ∷ 1 ∷ []) ++ replicate 43 0 }
@@ -50,28 +55,32 @@ pub fn example_spare()
     ensures no_stamp { spare_rec_of (2 ∷ replicate 63 0) ≡ None }
 {}
 
-// The head of a fresh super page, and that it is read back from its 4096 bytes.
+/// The head of a fresh super page, and that it is read back from its 4096 bytes.
 pub fn fresh_super()
     ensures head { take 32 (super_bytes (record { version = 1; blocks = 32; pages = 32; count = 0 }))
         ≡ 78 ∷ 65 ∷ 77 ∷ 69 ∷ 76 ∷ 69 ∷ 83 ∷ 83 ∷ 1 ∷ 0 ∷ 0 ∷ 0 ∷ 32 ∷ 0 ∷ 0 ∷ 0 ∷ 32 ∷ 0 ∷ 0 ∷ 0 ∷ replicate 12 0 }
-    ensures back { super_of (super_bytes (record { version = 1; blocks = 32; pages = 32; count = 0 })) ≡ Some (record { version = 1; blocks = 32; pages = 32; count = 0 }) }
+    ensures back { super_of (super_bytes (record { version = 1; blocks = 32; pages = 32; count = 0 }))
+        ≡ Some (record { version = 1; blocks = 32; pages = 32; count = 0 }) }
 {}
 
-// A header of two addresses, a directory node with one entry, and an entry are read back.
+/// A header of two addresses, a directory node with one entry, and an entry are read back.
 pub fn others_back()
-    ensures header { header_of (header_bytes (record { number = 3; addresses = 0 ∷ 67 ∷ [] })) ≡ Some (record { number = 3; addresses = 0 ∷ 67 ∷ [] }) }
+    ensures header { header_of (header_bytes (record { number = 3; addresses = 0 ∷ 67 ∷ [] }))
+        ≡ Some (record { number = 3; addresses = 0 ∷ 67 ∷ [] }) }
     ensures falling { header_of (header_bytes (record { number = 3; addresses = 67 ∷ 0 ∷ [] })) ≡ None }
     ensures commit { commit_of (commit_bytes (record { number = 3 })) ≡ Some (record { number = 3 }) }
     ensures inode { inode_of (inode_bytes (record { kind = Kind.Dir; generation = 0; size = 1; direct = replicate 8 no_pointer; addresses = 71 ∷ replicate 15 0 }))
         ≡ Some (record { kind = Kind.Dir; generation = 0; size = 1; direct = replicate 8 no_pointer; addresses = 71 ∷ replicate 15 0 }) }
     ensures unfilled { inode_of (inode_bytes (record { kind = Kind.Dir; generation = 0; size = 1; direct = replicate 8 no_pointer; addresses = replicate 16 0 })) ≡ None }
-    ensures entry { entry_of (entry_bytes (record { ino = 1; generation = 1; name = codes "a" })) ≡ Some (record { ino = 1; generation = 1; name = codes "a" }) }
+    ensures entry { entry_of (entry_bytes (record { ino = 1; generation = 1; name = codes "a" }))
+        ≡ Some (record { ino = 1; generation = 1; name = codes "a" }) }
     ensures dots { entry_of (entry_bytes (record { ino = 1; generation = 1; name = codes ".." })) ≡ None }
-    ensures indirect { indirect_of (indirect_bytes (record { name = 256; stamp = 9 } ∷ replicate 255 no_pointer)) ≡ Some (record { name = 256; stamp = 9 } ∷ replicate 255 no_pointer) }
+    ensures indirect { indirect_of (indirect_bytes (record { name = 256; stamp = 9 } ∷ replicate 255 no_pointer))
+        ≡ Some (record { name = 256; stamp = 9 } ∷ replicate 255 no_pointer) }
     ensures no_indirect { indirect_of (replicate 4096 0) ≡ None }
 {}
 
-// An image of 32 by 32 as `format` leaves it: the root under stamp 1, the super page under stamp 2.
+/// An image of 32 by 32 as `format` leaves it: the root under stamp 1, the super page under stamp 2.
 pub fn formatted_image()
     ensures super_page { option_map (λ r. stamp_on r) (newest fresh_image 0) ≡ Some 2 }
     ensures root { option_and_then (λ bytes. inode_of (take 256 bytes)) (virtual_bytes fresh_image 67) ≡ Some root_inode }
@@ -81,23 +90,24 @@ pub fn formatted_image()
     ensures data_spare { physical_spare fresh_image [] ≡ Some 8 }
 {}
 
-// Of two pages of one address and stamp the one outside the spare block is taken.
+/// Of two pages of one address and stamp the one outside the spare block is taken.
 pub fn newest_of_two()
     ensures outside { option_map (λ r. r.page) (newest two_supers 0) ≡ Some 33 }
     ensures spare { virtual_spare two_supers ≡ Some 0 }
 {}
 
-// A page of another address is no copy, whatever its stamp.
+/// A page of another address is no copy, whatever its stamp.
 pub fn copies_have_the_address()
     ensures { virtual_spare one_stamp_two_addresses ≡ Some 2 }
 {}
 
+/// An image that a format leaves is one, and a page that is too short is in none.
 pub fn image_or_not()
     ensures fresh { is_image fresh_image ≡ true }
     ensures short { is_image short_page ≡ false }
 {}
 
-// The place of a pointer is never in the spare block, and its own name only where that page holds the stamp.
+/// The place of a pointer is never in the spare block, and its own name only where that page holds the stamp.
 pub fn places_of_pointers()
     ensures spare { physical_spare two_copies (3 ∷ []) ≡ Some 8 }
     ensures other { place_outside two_copies (Some 8) (record { name = 256; stamp = 3 }) ≡ Some 288 }
@@ -106,6 +116,7 @@ pub fn places_of_pointers()
     ensures none { place_outside two_copies (Some 10) (record { name = 256; stamp = 4 }) ≡ None }
 {}
 
+/// What a scan tells of images: the next write sequence number, the version, the wear, and whether pages are those below others.
 pub fn scanned()
     ensures next { next_stamp_of fresh_image ≡ 3 }
     ensures version { super_version fresh_image ≡ 1 }
@@ -118,8 +129,8 @@ pub fn scanned()
     ensures all_zero { zeros_from (0 ∷ 0 ∷ []) ≡ 0 }
 {}
 
-// What a scan lists of two images, and what the list tells of pointers: a name is owned by the page of its stamp, or where no page
-// is readable.
+/// What a scan lists of two images, and what the list tells of pointers: a name is owned by the page of its stamp, or where no page
+/// is readable.
 pub fn listed()
     ensures lower { option_map (λ s. s.agrees) (find (λ s. s.page == 0) (seen_in two_supers)) ≡ Some true }
     ensures differs { option_map (λ s. s.agrees) (find (λ s. s.page == 33) (seen_in two_supers)) ≡ Some false }
@@ -131,7 +142,7 @@ pub fn listed()
     ensures place { place_seen (shape_for 32 32) (seen_in two_copies) (Some 8) (record { name = 256; stamp = 3 }) ≡ Some 288 }
 {}
 
-// A device's address reads as its value, an inode page as zeros where it has none, and one beyond the last as nothing.
+/// A device's address reads as its value, an inode page as zeros where it has none, and one beyond the last as nothing.
 pub fn addresses_read()
     ensures value { map_bytes (shape_for 32 32) (λ v. Some (1, codes "a")) 71 ≡ Some (codes "a") }
     ensures unwritten { map_bytes (shape_for 32 32) (λ v. None) 70 ≡ Some (replicate 4096 0) }
@@ -140,7 +151,7 @@ pub fn addresses_read()
     ensures beyond { map_bytes (shape_for 32 32) (λ v. Some (1, codes "a")) 103 ≡ None }
 {}
 
-// Two bytes across a border lie in two pages, no bytes in none. Of a file of one byte the page behind it is none of its pages.
+/// Two bytes across a border lie in two pages, no bytes in none. Of a file of one byte the page behind it is none of its pages.
 pub fn pages_touched()
     ensures first { is_touched 4095 2 0 ≡ true }
     ensures second { is_touched 4095 2 1 ≡ true }
@@ -151,7 +162,7 @@ pub fn pages_touched()
     ensures hole { has_page (record { size = 4097; pages = (1, codes "a") ∷ [] }) 0 ≡ false }
 {}
 
-// A file without pages is a content, one with a short page or with a page past its size is none.
+/// A file without pages is a content, one with a short page or with a page past its size is none.
 pub fn content_or_not()
     ensures hole { is_content (record { size = 5000; pages = [] }) ≡ true }
     ensures short { is_content (record { size = 5000; pages = (1, codes "a") ∷ [] }) ≡ false }

@@ -10,8 +10,8 @@ use std::sync::Wait;
 use std::test::Fail;
 use std::thread::Threads;
 
-// Programs of the saving from the first to the last: where one of them fails, the place of the answer that tells it, what the last three lines answer,
-// and after how many calls the volume opens then. Where that place is behind the last line, all is answered.
+// Programs of the saving from the first to the last: where one of them fails, the place of the answer that tells it, what the last three
+// lines answer, and after how many calls the volume opens then. Where that place is behind the last line, all is answered.
 type Failure = (u64, u64, usize, [&'static str; 3], u64);
 
 const FAILURES: [Failure; 10] = [

@@ -72,7 +72,7 @@ fn lines_refused<Rt: Threads + Wait + Sync>(rig: &mut Rig<'_, Rt>) -> Result<boo
     rig.play(&[("check", "", 7, "blank\n"), FORMAT])
 }
 
-// The same of the scripts.
+// Whether each of the scripts is refused with its text, and leaves the volume sound after no call.
 fn scripts_refused<Rt: Threads + Wait + Sync>(rig: &mut Rig<'_, Rt>) -> Result<bool, Memory> {
     for row in SCRIPTS.iter() {
         let (script, text) = *row;

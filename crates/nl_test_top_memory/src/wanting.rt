@@ -1,4 +1,5 @@
-// Commands of which one may be for want of memory: it is not carried out then, or the medium failed for want of it. With ample memory all is as ever.
+// Commands of which one may be for want of memory: it is not carried out then, or the medium failed for want of it. With ample memory all
+// is as ever.
 use nl_field::Memory;
 use nl_nand::Nand;
 use nl_testkit_program::play::{FORMAT, Step, answered};
@@ -32,8 +33,9 @@ const STEPS: [Step<'static>; 8] = [
         "opened 3\n1 @4 ok 68656c6c6f\n",
     ),
     ("tree", "", 0, "opened 4\nd / 1\nf /a 5 1\n"),
-    // The making programs 2 pages, the file has 1, the sync writes 3 pages by 8 programs, and each closing 1 page by 4; before the second one the page of
-    // the last transaction is copied home once more. The block of the making has no needed page then: it is erased, and takes the pages of the second run.
+    // The making programs 2 pages, the file has 1, the sync writes 3 pages by 8 programs, and each closing 1 page by 4; before the second
+    // one the page of the last transaction is copied home once more. The block of the making has no needed page then: it is erased, and
+    // takes the pages of the second run.
     (
         "report",
         "",

@@ -26,6 +26,7 @@ pub struct Holding {
 }
 
 impl Holding {
+    /// A gate at which no worker was yet.
     pub fn new() -> Holding {
         Holding {
             staged: AtomicU32::new(0),
@@ -34,7 +35,7 @@ impl Holding {
         }
     }
 
-    /// How many of them were held until then.
+    /// How many of the two workers were held until what they waited for was done.
     pub fn held(&self) -> u32 {
         self.held.load(Ordering::SeqCst)
     }
@@ -66,6 +67,7 @@ pub struct Chores {
 }
 
 impl Chores {
+    /// A gate at which nothing was done yet.
     pub fn new() -> Chores {
         Chores {
             cleaned: AtomicU32::new(0),
@@ -74,7 +76,7 @@ impl Chores {
         }
     }
 
-    /// Whether it was held until then.
+    /// Whether worker 0 was held until the cleaner and the handler had done something.
     pub fn held(&self) -> bool {
         self.held.load(Ordering::SeqCst) > 0
     }

@@ -23,7 +23,7 @@ fn course_right<Rt: Threads + Wait + Sync>(
     right
 }
 
-// The same, and then of the steps behind them.
+// Whether these lines are told as wanted on a new volume, and then the steps behind them.
 fn work_right<Rt: Threads + Wait + Sync>(
     rig: &mut Rig<'_, Rt>,
     work: &Workload,
@@ -76,7 +76,7 @@ type Pattern = (&'static str, &'static str);
 // A worker has a directory of its own.
 const FIRST: [Pattern; 2] = [("mkdir /w%", "ok"), ("create /w%/f", "ok")];
 
-// It fills the file, and reads and writes across the end of its first page.
+// A worker fills its file, and reads and writes across the end of the first page.
 const TURN: [Pattern; 5] = [
     ("fill /w%/f 0 65536 #", "ok 65536"),
     ("read /w%/f 65535 2", "ok #"),
@@ -161,7 +161,8 @@ fn of_eight(alloc: Global) -> Result<Workload, Memory> {
     Ok(work)
 }
 
-// Eight workers program 1024 pages of files and more, where there are 768, so that blocks are cleaned meanwhile. They make 8 * 47 + 2 calls.
+// Eight workers program 1024 pages of files and more, where there are 768, so that blocks are cleaned meanwhile. They make 8 * 47 + 2
+// calls.
 const BEHIND_EIGHT: [Step<'static>; 2] = [
     ("check", "", 0, "sound 378\n"),
     (

@@ -21,6 +21,7 @@ pub struct Workload {
 }
 
 impl Workload {
+    /// A script without lines.
     pub fn new(alloc: Global) -> Workload {
         Workload {
             script: String::new(alloc),
@@ -29,6 +30,7 @@ impl Workload {
         }
     }
 
+    /// Puts a call of a worker behind the others, with the answer that is due; a failure is want of memory.
     pub fn add(
         &mut self,
         alloc: Global,
@@ -45,11 +47,12 @@ impl Workload {
         Ok(())
     }
 
+    /// Puts a sync of a worker behind the others; a failure is want of memory.
     pub fn sync(&mut self, alloc: Global, worker: u8) -> Result<(), Memory> {
         self.add(alloc, worker, "sync", "")
     }
 
-    /// The lines behind it wait for all before it.
+    /// Puts a barrier behind the lines: those behind it wait for all before it; a failure is want of memory.
     pub fn barrier(&mut self, alloc: Global) -> Result<(), Memory> {
         self.script.push_str("barrier\n")?;
         self.due.push(Due {
@@ -61,6 +64,7 @@ impl Workload {
         Ok(())
     }
 
+    /// The text of the lines.
     pub fn script(&self) -> &str {
         self.script.as_str()
     }
@@ -86,8 +90,8 @@ impl Workload {
     }
 }
 
-/// What the answered lines are told as, of a volume after so many calls: the text, the place of each line of the script, and the durable count of each
-/// sync, 0 where there is none.
+/// What the answered lines are told as, of a volume after so many calls: the text, the place of each line of the script, and the durable
+/// count of each sync, 0 where there is none.
 #[derive(Drop)]
 struct Course {
     text: String,
@@ -151,7 +155,8 @@ fn value(values: &[u64], at: usize) -> u64 {
     }
 }
 
-// Whether the places keep the order of a worker's lines and of the rounds, and each sync tells a count below its place that has all lines before it.
+// Whether the places keep the order of a worker's lines and of the rounds, and each sync tells a count below its place that has all lines
+// before it.
 fn is_ordered(work: &Workload, course: &Course) -> bool {
     for at in 0..work.due.len() {
         let place = value(&course.places, at);
@@ -172,8 +177,8 @@ fn is_ordered(work: &Workload, course: &Course) -> bool {
     true
 }
 
-/// Whether these lines are told as wanted on a volume after so many calls: each line has one place, the places are those behind the count, and each
-/// answer is that of its line.
+/// Whether these lines are told as wanted on a volume after so many calls: each line has one place, the places are those behind the count,
+/// and each answer is that of its line.
 pub fn is_course(alloc: Global, work: &Workload, told: &Told, opened: u64) -> Result<bool, Memory> {
     let course = course_of(alloc, work, told, opened)?;
     let placed = course.places.iter().filter(|place| **place > 0).count();

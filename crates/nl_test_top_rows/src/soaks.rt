@@ -1,5 +1,5 @@
-// A soak: its summary, the same one each time. The expected texts are those of a generator and a tree of files that were written apart from the
-// program.
+// A soak: its summary, the same one each time. The expected texts are those of a generator and a tree of files that were written apart from
+// the program.
 use nl_testkit_program::play::{FORMAT, Step, play_blank};
 use std::test::Fail;
 

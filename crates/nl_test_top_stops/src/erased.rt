@@ -17,9 +17,9 @@ const CLEANED: &str = "0 create /a
 0 clean
 ";
 
-/// The erase of the cleaning: before it come the 48 pages of the fills, the 12 programs of the sync (a header, the images of the super page, the nodes,
-/// the root and the pointers of both files, the commit page, and five pages that are copied home), and the copies of the 16 pages of the first block
-/// that are live.
+/// The erase of the cleaning: before it come the 48 pages of the fills, the 12 programs of the sync (a header, the images of the super
+/// page, the nodes, the root and the pointers of both files, the commit page, and five pages that are copied home), and the copies of the
+/// 16 pages of the first block that are live.
 const ERASE: u64 = 48 + 12 + 16 + 1;
 
 /// The run in which that erase does not come to its end.

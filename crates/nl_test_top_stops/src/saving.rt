@@ -50,8 +50,8 @@ fn each_program_is_stopped_and_spoilt(rt: HostRuntime) -> Result<(), Fail> {
     Ok(())
 }
 
-// Whether the savings are right that are stopped with one cut, and whose next run is stopped with another. Of the next run another program is stopped for
-// each of the saving.
+// Whether the savings are right that are stopped with one cut, and whose next run is stopped with another. Of the next run another program
+// is stopped for each of the saving.
 fn next_right<Rt: Threads + Wait + Sync>(
     rig: &mut Rig<'_, Rt>,
     cut: Cut,
@@ -135,7 +135,7 @@ const NOT_COMMITTED: Stop = Stop {
     cut: Cut::Spoilt,
 };
 
-// The same before a program, and with a spoilt page.
+// Whether the runs behind a stop are right that are stopped before a program, and those that are stopped with a spoilt page.
 fn commit_right<Rt: Threads + Wait + Sync>(
     rig: &mut Rig<'_, Rt>,
     first: Stop,
@@ -192,7 +192,8 @@ fn no_program_is_left(rt: HostRuntime) -> Result<(), Fail> {
     Ok(())
 }
 
-// The sixth program is the commit page: it comes behind a page of the file, the header, and the images of the super page, the nodes and the root.
+// The sixth program is the commit page: it comes behind a page of the file, the header, and the images of the super page, the nodes and the
+// root.
 const COMMIT_PAGE: [(Cut, &str); 3] = [
     (Cut::Before, "opened 0\nd / 0\n"),
     (Cut::Spoilt, "opened 0\nd / 0\n"),

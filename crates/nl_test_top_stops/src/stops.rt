@@ -7,7 +7,8 @@ use nl_testkit_program::program::Rig;
 use std::sync::Wait;
 use std::thread::Threads;
 
-/// What a run told that was stopped: its status, what the last sync has made durable, and whether the text of a volume after so many calls was begun.
+/// What a run told that was stopped: its status, what the last sync has made durable, and whether the text of a volume after so many calls
+/// was begun.
 #[derive(Clone, Copy)]
 pub struct Stopped {
     pub status: u8,
@@ -94,8 +95,8 @@ fn other_left<Rt: Threads + Wait + Sync>(
     }
 }
 
-/// Whether a volume is right that was left by one stop, and whose next run is stopped there: the other file is there with its sync or not at all. With
-/// it comes whether that run met its stop.
+/// Whether a volume is right that was left by one stop, and whose next run is stopped there: the other file is there with its sync or not
+/// at all. With it comes whether that run met its stop.
 pub fn again_right<Rt: Threads + Wait + Sync>(
     rig: &mut Rig<'_, Rt>,
     first: Stop,

@@ -86,7 +86,7 @@ of_no_length = Create a ∷ Write a 0 [] ∷ Write b 0 [] ∷ Fill a 7 0 97 ∷ 
 abbrev pub full : List Call
 full = Create a ∷ map (λ i. Fill a (65536 * i) 65536 97) (range_with_len 0 30) ++ Write a 1966080 (98 ∷ []) ∷ Stat a ∷ []
 
--- the same on a volume with 4 data pages
+-- a volume with 4 data pages, which one fill of 16,384 bytes reaches
 abbrev pub tiny : Shape
 tiny = record small { cap = 4 }
 
@@ -109,7 +109,8 @@ refused_calls =
     Mkdir root ∷ Create root ∷ Rmdir root ∷ Unlink root ∷ Rename root b ∷ Rename a root ∷ Write root 0 [] ∷ Read root 0 1 ∷ Truncate root 0
     ∷ Mkdir a ∷ Create d ∷ Create bx ∷ Mkdir ax ∷ Rmdir ax ∷ Rmdir b ∷ Rmdir a ∷ Rmdir d ∷ Unlink b ∷ Unlink d
     ∷ Rename b b ∷ Rename a bx ∷ Rename a ax ∷ Rename d a ∷ Rename a d ∷ Rename e d ∷ Rename dx dx
-    ∷ Fill b 0 1 97 ∷ Write d 0 [] ∷ Read d 0 1 ∷ Truncate b 0 ∷ Truncate a 16809985 ∷ Stat b ∷ Stat ax ∷ ListCall b ∷ ListCall a ∷ Clean ∷ []
+    ∷ Fill b 0 1 97 ∷ Write d 0 [] ∷ Read d 0 1 ∷ Truncate b 0 ∷ Truncate a 16809985 ∷ Stat b ∷ Stat ax ∷ ListCall b ∷ ListCall a ∷ Clean
+    ∷ []
 
 abbrev pub calls_and_refusals : List Call
 calls_and_refusals = Mkdir d ∷ Create a ∷ Create dx ∷ Mkdir e ∷ refused_calls
@@ -117,7 +118,8 @@ calls_and_refusals = Mkdir d ∷ Create a ∷ Create dx ∷ Mkdir e ∷ refused_
 -- a directory with what is under it moves, also over an empty one
 abbrev pub subtree_moves : List Call
 subtree_moves =
-    Mkdir d ∷ Mkdir dx ∷ Create (dx ++ a) ∷ Write (dx ++ a) 0 (97 ∷ []) ∷ Rename dx b ∷ Stat d ∷ Rename b d ∷ ListCall root ∷ Read (d ++ a) 0 1 ∷ Stat (dx ++ a) ∷ []
+    Mkdir d ∷ Mkdir dx ∷ Create (dx ++ a) ∷ Write (dx ++ a) 0 (97 ∷ []) ∷ Rename dx b ∷ Stat d ∷ Rename b d ∷ ListCall root
+    ∷ Read (d ++ a) 0 1 ∷ Stat (dx ++ a) ∷ []
 
 -- `/a/x` stands before `/a!`, and `/a` before both
 abbrev pub order_of_names : List Call
@@ -126,7 +128,8 @@ order_of_names = Create (codes "a!" ∷ []) ∷ Mkdir a ∷ Create ax ∷ []
 -- Pages behind the size go, and the bytes behind it in the last page are zero.
 abbrev pub pages_cut : List Call
 pages_cut =
-    Create a ∷ Write a 0 (codes "hello") ∷ Write a 8192 (98 ∷ []) ∷ Truncate a 4096 ∷ Stat a ∷ Truncate a 3 ∷ Stat a ∷ Truncate a 5000 ∷ Stat a
+    Create a ∷ Write a 0 (codes "hello") ∷ Write a 8192 (98 ∷ []) ∷ Truncate a 4096 ∷ Stat a ∷ Truncate a 3 ∷ Stat a ∷ Truncate a 5000
+    ∷ Stat a
     ∷ Read a 0 5 ∷ Truncate a 0 ∷ Stat a ∷ []
 
 abbrev pub note : List (List ℕ)
@@ -150,7 +153,8 @@ abbrev pub long_path : ℕ → List (List ℕ)
 long_path len = replicate 18 (name_of 55) ++ name_of len ∷ []
 
 abbrev pub long_names : List Call
-long_names = Create (at (name_of 55)) ∷ Create (at (name_of 56)) ∷ Create (long_path 14) ∷ Create (long_path 15) ∷ Rename root (at (name_of 56)) ∷ []
+long_names =
+    Create (at (name_of 55)) ∷ Create (at (name_of 56)) ∷ Create (long_path 14) ∷ Create (long_path 15) ∷ Rename root (at (name_of 56)) ∷ []
 
 -- 3 nodes
 abbrev pub few_nodes : Shape
@@ -165,7 +169,9 @@ few_meta = record small { meta = 2 }
 
 -- the second range of pages, and then a second directory with entries
 abbrev pub meta_runs_out : List Call
-meta_runs_out = Create a ∷ Mkdir d ∷ Write a 32768 (97 ∷ []) ∷ Write a 1081344 (97 ∷ []) ∷ Write a 0 (97 ∷ []) ∷ Rename a (d ++ a) ∷ Create dx ∷ Truncate a 32768 ∷ Create dx ∷ []
+meta_runs_out =
+    Create a ∷ Mkdir d ∷ Write a 32768 (97 ∷ []) ∷ Write a 1081344 (97 ∷ []) ∷ Write a 0 (97 ∷ []) ∷ Rename a (d ++ a) ∷ Create dx
+    ∷ Truncate a 32768 ∷ Create dx ∷ []
 
 -- 1024 names of two letters
 abbrev pub many_names : List (List ℕ)

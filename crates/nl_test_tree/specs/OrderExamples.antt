@@ -52,7 +52,8 @@ abbrev pub two_syncs : ℕ → List (Line × Reply)
 two_syncs moment = (the_sync, Synced 5 moment) ∷ (later_sync, Synced 6 4) ∷ []
 
 abbrev pub both_syncs : ℕ → List LineSync
-both_syncs moment = record { line = 3; sync = record { upto = 5; moment = moment } } ∷ record { line = 4; sync = record { upto = 6; moment = 4 } } ∷ []
+both_syncs moment =
+    record { line = 3; sync = record { upto = 5; moment = moment } } ∷ record { line = 4; sync = record { upto = 6; moment = 4 } } ∷ []
 
 -- ---- turns
 

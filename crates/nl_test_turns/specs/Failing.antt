@@ -23,7 +23,7 @@ failing_opening calls faults =
 abbrev pub failing_counts : ℕ → Counts
 failing_counts faults = record { clock = 0; read_faults = faults; write_faults = 0 }
 
--- it counts the calls and its effects, and its failed reads only grow
+-- the volume counts its calls and its effects, and its failed reads only grow
 pub record FailingStands (opening : Opening) (history : List Entry) (calls done faults : ℕ) : Type 0 where
   pub count : calls ≡ saturated (opening.count + effects history)
   pub done_is : done ≡ saturated (effects history)
@@ -33,6 +33,6 @@ pub record FailingStands (opening : Opening) (history : List Entry) (calls done 
 abbrev pub pages_to_stage : List ℕ → ℕ → ℕ → ℕ
 pages_to_stage staged worker line = if slice_index_or staged worker 0 == line then 0 else 1
 
--- it refuses nothing before it is tried
+-- the volume refuses no line before it is tried
 abbrev pub refuses_none : FaultState
 refuses_none = record { staged = None; read_only = None; next_stamp = 1 }

@@ -1,4 +1,4 @@
--- The lines of the tests.
+-- The lines that the workers of the tests run.
 use Rattle.std.specs.Prelude.{◌≡◌, ℕ, List, length}
 use Rattle.nl_tree.specs.Calls.{AreLines}
 use Rattle.nl_tree.specs.declared.call.Line.{Line}

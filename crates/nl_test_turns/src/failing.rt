@@ -1,3 +1,4 @@
+// A volume on which no call succeeds, for tests of what takes turns with one.
 ghost use Rattle.std.specs.Prelude.{◌≡◌, ◌+◌, ⊤};
 
 use nl_tree::{Answered, Call, Duty, DutyAnswer, FaultReply, Reply, ReplyBuf, Stage};
@@ -22,6 +23,7 @@ pub struct FailingVolume {
 }
 
 impl FailingVolume {
+    /// A volume without calls, effects and failed reads.
     pub fn new() -> Self
         ensures calls { result.calls ≡ 0 }
         ensures done { result.done ≡ 0 }

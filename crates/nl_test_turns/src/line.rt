@@ -27,7 +27,8 @@ fn stage_turn<V: Served, R: Wait>(
     requires line { HasLine seat.old.opening line.now }
     ensures seat { seat.new ≡ record seat.old { seen = seat.new.seen } }
     ensures grows { IsPrefix seat.old.seen seat.new.seen }
-    ensures own { entries_of seat.old.number seat.new.seen ≡ entries_of seat.old.number seat.old.seen ++ stage_entry line.now.line result ∷ [] }
+    ensures own { entries_of seat.old.number seat.new.seen
+        ≡ entries_of seat.old.number seat.old.seen ++ stage_entry line.now.line result ∷ [] }
 {
     let mut turn = turns.take(rt, seat);
     let answer = turn.value.stage(line.worker, line.line, &line.call);
@@ -49,9 +50,11 @@ pub(crate) fn effect_turn<V: Served, R: Wait>(
     requires line { HasLine seat.old.opening line.now }
     ensures seat { seat.new ≡ record seat.old { seen = seat.new.seen } }
     ensures grows { IsPrefix seat.old.seen seat.new.seen }
-    ensures own { entries_of seat.old.number seat.new.seen ≡ entries_of seat.old.number seat.old.seen ++ effect_entry line.now.line result.reply ∷ [] }
+    ensures own { entries_of seat.old.number seat.new.seen
+        ≡ entries_of seat.old.number seat.old.seen ++ effect_entry line.now.line result.reply ∷ [] }
     ensures place { result.place ≡ saturated (seat.old.opening.count + effects (entries seat.new.seen)) }
-    ensures answer { V.tells → (before : List TurnEntry) × (entries seat.new.seen ≡ before ++ effect_entry line.now.line result.reply ∷ []) × Answers (outcome_due seat.old.opening before line.now.call result.reply) result.reply out.new }
+    ensures answer { V.tells → (before : List TurnEntry) × (entries seat.new.seen ≡ before ++ effect_entry line.now.line result.reply ∷ [])
+        × Answers (outcome_due seat.old.opening before line.now.call result.reply) result.reply out.new }
 {
     let mut turn = turns.take(rt, seat);
     let answered = turn.value.effect(line.worker, line.line, &line.call, out);
@@ -73,7 +76,8 @@ pub fn run_line<V: Served, R: Wait>(
     ensures seat { result.0 ≡ record seat { seen = result.0.seen } }
     ensures grows { IsPrefix seat.seen result.0.seen }
     ensures own { (k : ℕ) × (last : LastStage) × (is_staged last ≡ false) × (entries_of seat.number result.0.seen
-        ≡ (entries_of seat.number seat.seen ++ replicate k (stage_entry line.now.line stage.Staged)) ++ stage_entry line.now.line last ∷ effect_entry line.now.line result.1.reply ∷ []) }
+        ≡ (entries_of seat.number seat.seen ++ replicate k (stage_entry line.now.line stage.Staged)) ++ stage_entry line.now.line last
+        ∷ effect_entry line.now.line result.1.reply ∷ []) }
     ensures place { result.1.place ≡ saturated (seat.opening.count + effects (entries result.0.seen)) }
 {
     for _ in rt.forever() {

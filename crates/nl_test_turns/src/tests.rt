@@ -1,3 +1,4 @@
+// Tests of threads that take turns with a volume, and of the two turns of a line.
 use super::*;
 use nl_tree::{Answered, FaultReply, Reply, ReplyBuf};
 use nl_turns::Turns;

@@ -24,6 +24,7 @@ pub struct Meeting {
 }
 
 impl Meeting {
+    /// A gate at which no worker was yet.
     pub fn new() -> Meeting {
         Meeting {
             here: AtomicU32::new(0),
@@ -31,7 +32,7 @@ impl Meeting {
         }
     }
 
-    /// How many of them saw the other.
+    /// How many of the two workers saw the other.
     pub fn met(&self) -> u32 {
         self.met.load(Ordering::SeqCst)
     }
@@ -57,6 +58,7 @@ pub struct Overtaking {
 }
 
 impl Overtaking {
+    /// A gate at which no worker was yet, for so many lines of worker 1.
     pub fn new(wanted: u32) -> Overtaking {
         Overtaking {
             wanted,
@@ -65,7 +67,7 @@ impl Overtaking {
         }
     }
 
-    /// Whether the other worker finished them in that time.
+    /// Whether worker 1 finished its lines while worker 0 was held.
     pub fn is_overtaken(&self) -> bool {
         self.overtaken.load(Ordering::SeqCst)
     }
@@ -92,6 +94,7 @@ pub struct Chores {
 }
 
 impl Chores {
+    /// A gate at which nothing was done yet.
     pub fn new() -> Chores {
         Chores {
             cleaned: AtomicU32::new(0),
@@ -100,7 +103,7 @@ impl Chores {
         }
     }
 
-    /// Whether both did something in that time.
+    /// Whether the cleaner and the handler both did something while worker 0 was held.
     pub fn are_done(&self) -> bool {
         self.both.load(Ordering::SeqCst)
     }

@@ -1,3 +1,4 @@
+// Tests of workers that run a script under gates.
 use super::*;
 use nl_test_turns::sync_script;
 use nl_tree::{FaultReply, Reply};

@@ -42,9 +42,10 @@ pub const SAVED: &str = "opened 0
 14 @13 ok dir 1
 ";
 
-/// How many programs the run makes: 1 for the bytes of the note, 12 for the first sync, 1 for the new bytes, 8 for each of the other syncs, and 4
-/// for the closing. A commit of n pages is a header, n images, the commit page, and n pages that are copied home: those of the first are the super
-/// page, the nodes and three directories, those of the others the super page, the nodes and one directory, and that of the last the super page.
+/// How many programs the run makes: 1 for the bytes of the note, 12 for the first sync, 1 for the new bytes, 8 for each of the other syncs,
+/// and 4 for the closing. A commit of n pages is a header, n images, the commit page, and n pages that are copied home: those of the first
+/// are the super page, the nodes and three directories, those of the others the super page, the nodes and one directory, and that of the
+/// last the super page.
 pub const PROGRAMS: u64 = 34;
 
 /// After how many calls the volume opens, once so many programs of the run are finished: commit pages are the programs 8, 19, 27 and 33.
@@ -76,8 +77,8 @@ pub const OTHER: &str = "0 create /b\n0 write /b 0 62\n0 sync\n0 read /b 0 9\n";
 const READS: &str =
     "0 list /\n0 read /b 0 9\n0 list /home\n0 list /home/ann\n0 read /home/ann/note 0 9\n0 read /home/ann/.note.tmp 0 9\n";
 
-// What these reads answer without the other file and with it, where the saving has not made the note, has made it, has made the new file, and has renamed
-// it.
+// What these reads answer without the other file and with it, where the saving has not made the note, has made it, has made the new file,
+// and has renamed it.
 const ANSWERS: [[&str; 6]; 8] = [
     ["ok 0", "ENOENT", "ENOENT", "ENOENT", "ENOENT", "ENOENT"],
     ["ok 1 b", "ok 62", "ENOENT", "ENOENT", "ENOENT", "ENOENT"],
@@ -147,8 +148,8 @@ fn row(saved: u64, other: bool) -> usize
     if other { stage + 1 } else { stage }
 }
 
-/// Whether a volume opens after so many calls, is sound, and holds what the saving has after so many of its calls, and the other file or not. It has
-/// six more calls afterwards. What is told otherwise is noted.
+/// Whether a volume opens after so many calls, is sound, and holds what the saving has after so many of its calls, and the other file or
+/// not. It has six more calls afterwards. What is told otherwise is noted.
 pub fn holds<Rt: Threads + Wait + Sync>(
     rig: &mut Rig<'_, Rt>,
     opened: u64,

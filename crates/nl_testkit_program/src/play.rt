@@ -63,7 +63,8 @@ impl<'a, Rt: Threads + Wait + Sync> Rig<'a, Rt> {
         Ok(true)
     }
 
-    /// The same on a new volume of 32 blocks of 32 pages.
+    /// Whether each of the steps tells what it wants on a new volume of 32 blocks of 32 pages. What the first one tells that does not is
+    /// noted.
     pub fn play_new(&mut self, steps: &[Step<'_>]) -> Result<bool, Memory> {
         Ok(self.step(&FORMAT)? && self.play(steps)?)
     }
@@ -94,8 +95,8 @@ impl<'a, Rt: Threads + Wait + Sync> Rig<'a, Rt> {
     }
 }
 
-/// What is told otherwise than wanted by the first of the steps of which that is so, on a medium that was never formed, and the empty text where there
-/// is none.
+/// What is told otherwise than wanted by the first of the steps of which that is so, on a medium that was never formed, and the empty text
+/// where there is none.
 pub fn play_blank<Rt: Threads + Wait + Sync>(
     rt: &Rt,
     alloc: Global,
@@ -106,7 +107,8 @@ pub fn play_blank<Rt: Threads + Wait + Sync>(
     rig.ended(right)
 }
 
-/// The same on a new volume.
+/// What is told otherwise than wanted by the first of the steps of which that is so, on a new volume, and the empty text where there is
+/// none.
 pub fn played<Rt: Threads + Wait + Sync>(
     rt: &Rt,
     alloc: Global,
@@ -117,7 +119,8 @@ pub fn played<Rt: Threads + Wait + Sync>(
     rig.ended(right)
 }
 
-/// The same for each row of steps, on a new volume each.
+/// What is told otherwise than wanted by the first of the steps of which that is so, with a new volume for each row of steps, and the empty
+/// text where there is none.
 pub fn play_rows<Rt: Threads + Wait + Sync>(
     rt: &Rt,
     alloc: Global,

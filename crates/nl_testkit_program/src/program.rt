@@ -8,8 +8,8 @@ use std::mem;
 use std::sync::Wait;
 use std::thread::Threads;
 
-/// What the program is given beside its medium: the words, the script, and the read of the source and the write of the sink that fail, where they are
-/// not 0.
+/// What the program is given beside its medium: the words, the script, and the read of the source and the write of the sink that fail,
+/// where they are not 0.
 #[derive(Clone, Copy)]
 pub struct Given<'a> {
     pub words: &'a str,
@@ -28,10 +28,12 @@ pub struct Told {
 }
 
 impl Told {
+    /// The bytes that the sink took.
     pub fn text(&self) -> &[u8] {
         self.sink.bytes()
     }
 
+    /// Whether the program ended with this status and this text.
     pub fn is(&self, status: u8, text: &str) -> bool {
         self.status == status && self.text() == text.as_bytes()
     }
@@ -74,7 +76,8 @@ fn words_of(alloc: Global, line: &str) -> Result<Words, Memory> {
     Ok(words)
 }
 
-// It promises nothing, so that no caller carries what the call promises, and it alone owns a medium.
+// Answers the words on a medium, and leaves the medium then. The function promises nothing, so that no caller carries what the call
+// promises, and it alone owns a medium.
 fn call<Rt: Threads + Wait + Sync, G: Gate + Sync>(
     rt: &Rt,
     alloc: Global,
@@ -133,6 +136,7 @@ pub struct Rig<'a, Rt: Threads + Wait + Sync> {
 }
 
 impl<'a, Rt: Threads + Wait + Sync> Rig<'a, Rt> {
+    /// The program with this medium, and nothing told otherwise than wanted.
     pub fn on(rt: &'a Rt, alloc: Global, media: MemNand) -> Rig<'a, Rt> {
         Rig {
             rt,
@@ -142,7 +146,7 @@ impl<'a, Rt: Threads + Wait + Sync> Rig<'a, Rt> {
         }
     }
 
-    /// With a medium that was never formed.
+    /// The program with a medium that was never formed.
     pub fn new(rt: &'a Rt, alloc: Global) -> Rig<'a, Rt> {
         Rig::on(rt, alloc, blank(alloc))
     }

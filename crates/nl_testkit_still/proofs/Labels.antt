@@ -30,7 +30,7 @@ set_label labels k x q l within is = elim (cases_eq q k) [
   | inr ne ↦ inr (ne, sym (get_or-set_other labels k q (Some x) None ne) ∙ is)
 ]
 
--- and after one less
+-- the label at a place, where the label of one place was taken away
 pub clear_label : (labels : List (Option Label)) (k q : ℕ) (l : Label) → k < length labels → label_at (set labels k None) q ≡ Some l → (q ≡ k → ⊥) × (label_at labels q ≡ Some l)
 clear_label labels k q l within is = elim (cases_eq q k) [
   | inl same ↦ absurd (none-some l (sym (get_or-set_same labels k None None within) ∙ (ap (λ n. label_at (set labels k None) n) (sym same) ∙ is)))

@@ -40,7 +40,7 @@ next_in_segment s f p within =
     let parts : (s.shape.vblocks + s.shape.pblocks) * s.shape.pages ≡ s.shape.vblocks * s.shape.pages + s.shape.pblocks * s.shape.pages = omega arith in
     omega (arith, within, all, parts)
 
--- and holds nothing
+-- the page that is written next holds nothing
 pub next_is_none : (s : Still) → IsStill s → label_at s.labels.items s.given ≡ None
 next_is_none s f = by (label_at s.labels.items s.given) refl
   where

@@ -25,7 +25,8 @@ was_some f (Some x) y is = (x, refl, same_Some (f x) y is)
 
 -- ---- addresses
 
-pub stamp_of_value : (stamps : List (Option ℕ)) (values : List PageBytes) (v : ℕ) → option_map (λ (x : Value). x.0) (map_at stamps values v) ≡ stamp_at stamps v
+pub stamp_of_value : (stamps : List (Option ℕ)) (values : List PageBytes) (v : ℕ)
+    → option_map (λ (x : Value). x.0) (map_at stamps values v) ≡ stamp_at stamps v
 stamp_of_value stamps values v = by (stamp_at stamps v)
   where
     by : (o : Option ℕ) → option_map (λ (x : Value). x.0) (option_map (value_with (bytes_at values v)) o) ≡ o
@@ -47,10 +48,12 @@ at_most_now s m now = omega (arith, now)
 -- ---- pages under names
 
 -- a live page and what it was written with
-pub written_as : (s : Still) → IsStill s → (p : ℕ) (page : LivePage) → live_at s.live.items p ≡ Some page → (l : Label) × (label_at s.labels.items p ≡ Some l) × (page_of l ≡ page)
+pub written_as : (s : Still) → IsStill s → (p : ℕ) (page : LivePage) → live_at s.live.items p ≡ Some page
+    → (l : Label) × (label_at s.labels.items p ≡ Some l) × (page_of l ≡ page)
 written_as s f p page live = let w = was_some page_of (label_at s.live.items p) page live in (w.0, f.holds p w.0 w.1, w.2)
 
-entry_was : (place : ℕ) (bytes : List ℕ) (o : Option LivePage) (e : LiveEntry) → entry_with place bytes o ≡ Some e → (page : LivePage) × (o ≡ Some page) × (page.stamp ≡ e.stamp) × (e.place ≡ place)
+entry_was : (place : ℕ) (bytes : List ℕ) (o : Option LivePage) (e : LiveEntry) → entry_with place bytes o ≡ Some e
+    → (page : LivePage) × (o ≡ Some page) × (page.stamp ≡ e.stamp) × (e.place ≡ place)
 entry_was place bytes None e is = absurd (none-some e is)
 entry_was place bytes (Some page) e is =
     let same = same_Some (record { tag = page.tag; stamp = page.stamp; bytes = bytes; place = place }) e is in
@@ -98,7 +101,8 @@ is_space s f =
     }
 
 -- where a live page is
-pub place_is : (s : Still) → IsStill s → (p : ℕ) (page : LivePage) → live_at s.live.items p ≡ Some page → (l : Label) × (page_of l ≡ page) × (label_at s.labels.items p ≡ Some l) × IsLabel (first_physical s.shape) s.given s.next p l
+pub place_is : (s : Still) → IsStill s → (p : ℕ) (page : LivePage) → live_at s.live.items p ≡ Some page
+    → (l : Label) × (page_of l ≡ page) × (label_at s.labels.items p ≡ Some l) × IsLabel (first_physical s.shape) s.given s.next p l
 place_is s f p page live = let w = written_as s f p page live in (w.0, w.2, w.1, f.written p w.0 w.1)
 
 pub is_names : (s : Still) → IsStill s → IsNames s.shape s.next (names_of s)
@@ -123,7 +127,8 @@ holds_live s f p page live =
     ∙ ap (λ (x : LivePage). Some (record { tag = x.tag; stamp = x.stamp; bytes = bytes_at s.pages.items p })) w.2
 
 -- No live page is in the last block: so it is left, where each is held at its place.
-pub leaves_in : (s : Still) → IsStill s → (c : Stored) → HoldsLive (λ p. live_at s.live.items p) (λ p. bytes_at s.pages.items p) c → LeavesPages s.shape (names_of s) (λ p. bytes_at s.pages.items p) c
+pub leaves_in : (s : Still) → IsStill s → (c : Stored) → HoldsLive (λ p. live_at s.live.items p) (λ p. bytes_at s.pages.items p) c
+    → LeavesPages s.shape (names_of s) (λ p. bytes_at s.pages.items p) c
 leaves_in s f c holds =
     let b = f.bounds in
     let blocks = b.segments in
@@ -169,7 +174,8 @@ pub leaves_pages : (s : Still) → IsStill s → LeavesPages s.shape (names_of s
 leaves_pages s f = leaves_in s f (stored_in s) (holds_live s f)
 
 -- each page was written under a stamp below the next
-pub named_below : (s : Still) → IsStill s → (p : ℕ) (page : NamedPage) → named_at s.labels.items s.pages.items p ≡ Some page → page.stamp + 1 ≤ s.next
+pub named_below : (s : Still) → IsStill s → (p : ℕ) (page : NamedPage) → named_at s.labels.items s.pages.items p ≡ Some page
+    → page.stamp + 1 ≤ s.next
 named_below s f p page is =
     let w = was_some (holding (bytes_at s.pages.items p)) (label_at s.labels.items p) page is in
     let stamp = (f.written p w.0 w.1).stamp in

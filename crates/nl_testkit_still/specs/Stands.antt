@@ -15,8 +15,8 @@ pub record IsLabel (first given next p : ℕ) (l : Label) : Type 0 where
   pub some : 1 ≤ l.stamp
   pub stamp : l.stamp < next
 
--- The lists have their lengths. Pages were written from the first of the segment on, no two under one stamp, and a live page is one of them;
--- those that can be written are the others but the last block.
+-- The lists have their lengths. Pages were written from the first of the segment on, no two under one stamp, and a live page is one of
+-- them; those that can be written are the others but the last block.
 pub record IsStill (s : Still) : Type 0 where
   pub volume : IsVolumeShape s.shape
   pub bounds : ShapeBounds s.shape

@@ -1,3 +1,4 @@
+// The memory as a device: its clock, its failures and its contents.
 ghost use Rattle.std.specs.Prelude.{◌≡◌, ⊤, []};
 ghost use Rattle.nl_iface.specs.Stored.{Stored};
 ghost use Rattle.nl_testkit_still.specs.Stands.{IsStill};

@@ -1,5 +1,5 @@
-//! A second device: a memory whose pages are written once and never move. It meets each trait of a device, so that what stands on the traits
-//! stands over it too.
+//! A second device: a memory whose pages are written once and never move. It meets each trait of a device, so that what stands on the
+//! traits stands over it too.
 #![tactic(auto)]
 
 mod counts;

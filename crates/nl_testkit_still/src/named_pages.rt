@@ -1,3 +1,4 @@
+// The memory as a device that names the pages written to it.
 ghost use Rattle.nl_testkit_still.specs.Laws.{holds_live, is_a_state, is_names, leaves_pages, named_below};
 
 use crate::still::Still;

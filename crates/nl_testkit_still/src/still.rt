@@ -21,9 +21,9 @@ pub struct Label {
 #[derive(Drop)]
 pub struct Still {
     pub(crate) shape: Shape,
-    /// What each page holds, None where it was not written.
+    /// What each page was written with, None where it was not written.
     pub(crate) labels: Vec<Option<Label>>,
-    /// The same of the live pages alone.
+    /// What each live page holds, None where no live page is.
     pub(crate) live: Vec<Option<Label>>,
     pub(crate) pages: Vec<PageBuf>,
     /// The page that is written next.

@@ -1,3 +1,4 @@
+// The memory as a device whose caller gives the addresses of pages.
 ghost use Rattle.std.specs.Prelude.{refl};
 ghost use Rattle.nl_testkit_still.specs.Laws.{at_most_now, none_from, none_lost, shows_map, stamp_of_value};
 

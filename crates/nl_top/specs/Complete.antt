@@ -21,7 +21,7 @@ pub record CountsLast (medium medium' : Medium) : Type 0 where
 abbrev pub NoFaultAnswered : List Ordered → Type 0
 NoFaultAnswered order = list_any (λ o. is_some o.fault) order ≡ false
 
--- It is carried out, and no answer is a fault reply; or memory was wanting.
+-- The run is carried out, and no answer is a fault reply; or memory was wanting.
 abbrev pub RunCompletes : ℕ → List Ordered → Type 0
 RunCompletes status order = ((status ≡ 0) × NoFaultAnswered order) ⊎ (status ≡ 6)
 
@@ -31,8 +31,10 @@ abbrev pub CarriesOut : Option Command → Type 0 → Stream → Medium → Medi
 CarriesOut None tells source medium medium' order status = ⊤
 CarriesOut (Some (Format blocks pages)) tells source medium medium' order status = Completes status
 CarriesOut (Some Run) tells source medium medium' order status =
-    (bytes : List ℕ) (lines : List Line) (count : ℕ) → source.bytes ≡ Some bytes → script bytes ≡ Ok lines → StartsSound tells medium count → CountsLast medium medium' → RunCompletes status order
+    (bytes : List ℕ) (lines : List Line) (count : ℕ) → source.bytes ≡ Some bytes → script bytes ≡ Ok lines → StartsSound tells medium count
+    → CountsLast medium medium' → RunCompletes status order
 CarriesOut (Some Check) tells source medium medium' order status = (count : ℕ) → StartsSound tells medium count → Completes status
 CarriesOut (Some Tree) tells source medium medium' order status = (count : ℕ) → StartsSound tells medium count → Completes status
 CarriesOut (Some Report) tells source medium medium' order status = (count : ℕ) → StartsSound tells medium count → Completes status
-CarriesOut (Some (Soak seed lines workers)) tells source medium medium' order status = (count : ℕ) → StartsSound tells medium count → CountsLast medium medium' → RunCompletes status order
+CarriesOut (Some (Soak seed lines workers)) tells source medium medium' order status =
+    (count : ℕ) → StartsSound tells medium count → CountsLast medium medium' → RunCompletes status order

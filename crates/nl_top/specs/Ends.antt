@@ -1,5 +1,5 @@
--- How a call of the store ends: by which command, with which status, text and cause, and what it then says of source, sink and medium, and of what
--- a stop leaves.
+-- How a call of the store ends: by which command, with which status, text and cause, and what it then says of source, sink and medium, and
+-- of what a stop leaves.
 use Rattle.std.specs.Prelude.{◌≡◌, ℕ, List, codes, None, Some, Ok}
 use Rattle.nl_cmd_words.specs.Command.{command_of}
 use Rattle.nl_cmd_words.specs.Ends.{CheckEnds, EndsBefore, FormatEnds}
@@ -17,18 +17,24 @@ use Rattle.nl_top.specs.Soak.{Summarises}
 
 -- Each call ends in one of these ways, by its words.
 pub data Ends (tells : Type 0) (words : List (List ℕ)) (leaves : Leaving → Type 0) (source source' sink sink' : Stream) (medium medium' : Medium) (order : List Ordered) (syncs : List Synced) (status : ℕ) : Type 0 where
-  faulty_words : command_of words ≡ None → status ≡ 2 → source' ≡ source → leaves nothing_new → EndsBefore tells (codes "words\n") sink sink' medium medium' order syncs
+  faulty_words : command_of words ≡ None → status ≡ 2 → source' ≡ source → leaves nothing_new
+      → EndsBefore tells (codes "words\n") sink sink' medium medium' order syncs
       → Ends tells words leaves source source' sink sink' medium medium' order syncs status
   runs : command_of words ≡ Some RunScript → ScriptEnds tells leaves source source' sink sink' medium medium' order syncs status
       → Ends tells words leaves source source' sink sink' medium medium' order syncs status
-  formats : (blocks pages : ℕ) → command_of words ≡ Some (Format blocks pages) → source' ≡ source → leaves new_volume → FormatEnds tells blocks pages sink sink' medium medium' order syncs status
+  formats : (blocks pages : ℕ) → command_of words ≡ Some (Format blocks pages) → source' ≡ source → leaves new_volume
+      → FormatEnds tells blocks pages sink sink' medium medium' order syncs status
       → Ends tells words leaves source source' sink sink' medium medium' order syncs status
-  checks : command_of words ≡ Some Check → source' ≡ source → leaves nothing_new → CheckEnds tells sink sink' medium medium' order syncs status
+  checks : command_of words ≡ Some Check → source' ≡ source → leaves nothing_new
+      → CheckEnds tells sink sink' medium medium' order syncs status
       → Ends tells words leaves source source' sink sink' medium medium' order syncs status
-  shows_tree : command_of words ≡ Some TreeCommand → source' ≡ source → leaves nothing_new → TreeEnds tells sink sink' medium medium' order syncs status
+  shows_tree : command_of words ≡ Some TreeCommand → source' ≡ source → leaves nothing_new
+      → TreeEnds tells sink sink' medium medium' order syncs status
       → Ends tells words leaves source source' sink sink' medium medium' order syncs status
-  reports : command_of words ≡ Some Report → source' ≡ source → leaves nothing_new → LookEnds tells Reports sink sink' medium medium' order syncs status
+  reports : command_of words ≡ Some Report → source' ≡ source → leaves nothing_new
+      → LookEnds tells Reports sink sink' medium medium' order syncs status
       → Ends tells words leaves source source' sink sink' medium medium' order syncs status
-  soaks : (seed count workers : ℕ) (lines : List Line) → command_of words ≡ Some (Soak seed count workers) → source' ≡ source → script (soak_text seed count workers) ≡ Ok lines
+  soaks : (seed count workers : ℕ) (lines : List Line) → command_of words ≡ Some (Soak seed count workers) → source' ≡ source
+      → script (soak_text seed count workers) ≡ Ok lines
       → RunEnds tells lines (Summarises tells) leaves sink sink' medium medium' order syncs status
       → Ends tells words leaves source source' sink sink' medium medium' order syncs status

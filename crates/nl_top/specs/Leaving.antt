@@ -12,8 +12,10 @@ pub data Leaving : Type 0 where
   new_volume : Leaving
   prefixes_of : Run → Leaving
 
--- What a call leaves that took the medium from the first of these to the second. Of a medium that does not tell its contents nothing is said.
+-- What a call leaves that took the medium from the first of these to the second. Of a medium that does not tell its contents nothing is
+-- said.
 abbrev pub leaves_within : {M : Type 0} → Ghosts M → M → M → Leaving → Type 0
 leaves_within g old new nothing_new = g.tells → (moment : ℕ) (image : Image) → g.left new moment image → g.left old moment image
-leaves_within g old new new_volume = g.tells → (moment : ℕ) (image : Image) → g.left new moment image → g.left old moment image ⊎ OpensAsNew image
+leaves_within g old new new_volume =
+    g.tells → (moment : ℕ) (image : Image) → g.left new moment image → g.left old moment image ⊎ OpensAsNew image
 leaves_within g old new (prefixes_of run) = stops_within g old new run

@@ -1,5 +1,5 @@
--- How a command ends that runs lines, with which status, text and cause, and what it then says of source, sink and medium, and of what a stop
--- leaves.
+-- How a command ends that runs lines, with which status, text and cause, and what it then says of source, sink and medium, and of what a
+-- stop leaves.
 use Rattle.std.specs.Prelude.{◌≡◌, ℕ, ◌<◌, ◌^◌, Bool, List, codes}
 use Rattle.nl_field.specs.CrashStates.{Rose}
 use Rattle.nl_spec_headline.specs.Course.{Course, count_after, text_in}
@@ -33,18 +33,22 @@ pub record Ran (tells : Type 0) (lines : List Line) (shows : Course → List ℕ
 
 -- How a run of lines ends.
 pub data RunEnds (tells : Type 0) (lines : List Line) (shows : Course → List ℕ → Type 0) (leaves : Leaving → Type 0) (sink sink' : Stream) (medium medium' : Medium) (order : List Ordered) (syncs : List Synced) (status : ℕ) : Type 0 where
-  not_run : (text : List ℕ) → NotOpened tells medium medium' status text → leaves nothing_new → EndsBefore tells text sink sink' medium medium' order syncs
+  not_run : (text : List ℕ) → NotOpened tells medium medium' status text → leaves nothing_new
+      → EndsBefore tells text sink sink' medium medium' order syncs
       → RunEnds tells lines shows leaves sink sink' medium medium' order syncs status
-  ran : Ran tells lines shows leaves sink sink' medium medium' order syncs status → RunEnds tells lines shows leaves sink sink' medium medium' order syncs status
+  ran : Ran tells lines shows leaves sink sink' medium medium' order syncs status
+      → RunEnds tells lines shows leaves sink sink' medium medium' order syncs status
 
 -- How the command ends that runs the script of a source. The order is source, script, memory, opening, run, sink.
 pub data ScriptEnds (tells : Type 0) (leaves : Leaving → Type 0) (source source' sink sink' : Stream) (medium medium' : Medium) (order : List Ordered) (syncs : List Synced) (status : ℕ) : Type 0 where
-  source_fault : status ≡ 3 → Rose source.faults source'.faults → leaves nothing_new → EndsBefore tells (codes "source fault\n") sink sink' medium medium' order syncs
+  source_fault : status ≡ 3 → Rose source.faults source'.faults → leaves nothing_new
+      → EndsBefore tells (codes "source fault\n") sink sink' medium medium' order syncs
       → ScriptEnds tells leaves source source' sink sink' medium medium' order syncs status
   source_no_memory : status ≡ 6 → leaves nothing_new → EndsBefore tells (codes "memory\n") sink sink' medium medium' order syncs
       → ScriptEnds tells leaves source source' sink sink' medium medium' order syncs status
   script_refused : (line column : ℕ) (why : Why) → status ≡ 2 → RefusesScript source source' line column why
       → leaves nothing_new → EndsBefore tells (refused_text line column (cause_word why)) sink sink' medium medium' order syncs
       → ScriptEnds tells leaves source source' sink sink' medium medium' order syncs status
-  runs_script : (lines : List Line) → ReadsScript source source' lines → RunEnds tells lines TellsAnswers leaves sink sink' medium medium' order syncs status
+  runs_script : (lines : List Line) → ReadsScript source source' lines
+      → RunEnds tells lines TellsAnswers leaves sink sink' medium medium' order syncs status
       → ScriptEnds tells leaves source source' sink sink' medium medium' order syncs status

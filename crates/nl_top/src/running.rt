@@ -56,7 +56,8 @@ pub(crate) fn run_on<Rt: Threads + Wait + Sync, K: Sink, M: Nand + Send, G: Gate
     media: M,
     gate: &G,
 ) -> Done<M>
-    ensures { RunEnds M.tells lines.now (Shows told M.tells) (leaves_within M.Nand media result.media) (sink_seen K.Sink sink.old) (sink_seen K.Sink sink.new) (medium_seen M.Nand media) (medium_seen M.Nand result.media)
+    ensures { RunEnds M.tells lines.now (Shows told M.tells) (leaves_within M.Nand media result.media) (sink_seen K.Sink sink.old)
+        (sink_seen K.Sink sink.new) (medium_seen M.Nand media) (medium_seen M.Nand result.media)
         result.order.items result.syncs.items result.status }
 {
     let Ok(mut tables) = tables_for(alloc, lines) else {

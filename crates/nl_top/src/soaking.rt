@@ -31,7 +31,8 @@ pub(crate) fn soak<Rt: Threads + Wait + Sync, K: Sink, M: Nand + Send, G: Gate +
 ) -> Done<M>
     requires count { (0 < count) × (count ≤ 20000) }
     requires workers { (0 < workers) × (workers ≤ 8) }
-    ensures { (lines : List Line) × (script (soak_text seed count workers) ≡ Ok lines) × RunEnds M.tells lines (Summarises M.tells) (leaves_within M.Nand media result.media)
+    ensures { (lines : List Line) × (script (soak_text seed count workers) ≡ Ok lines)
+        × RunEnds M.tells lines (Summarises M.tells) (leaves_within M.Nand media result.media)
         (sink_seen K.Sink sink.old) (sink_seen K.Sink sink.new)
         (medium_seen M.Nand media) (medium_seen M.Nand result.media)
         result.order.items result.syncs.items result.status }

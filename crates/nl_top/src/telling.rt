@@ -36,8 +36,12 @@ pub(crate) fn tell<K: Sink, M: Nand>(
     ensures media { result.media ≡ ran.media }
     ensures order { result.order.items ≡ order_of_rows tables.answers.rows }
     ensures syncs { result.syncs.items ≡ syncs_of_rows tables.answers.rows }
-    ensures prints { Prints (sink_seen K.Sink sink.old) (sink_seen K.Sink sink.new) (told_text told ran.count ran.charges tables.answers.rows) }
-    ensures status { DoneStatus result.status (RunFailed result.order.items (record { clock = M.clock ran.media; read_faults = before.reads; write_faults = before.writes }) (record { clock = M.clock ran.media; read_faults = M.read_faults ran.media; write_faults = M.write_faults ran.media }) ran.lost ran.worn)
+    ensures prints { Prints (sink_seen K.Sink sink.old) (sink_seen K.Sink sink.new)
+        (told_text told ran.count ran.charges tables.answers.rows) }
+    ensures status { DoneStatus result.status (RunFailed result.order.items
+        (record { clock = M.clock ran.media; read_faults = before.reads; write_faults = before.writes })
+        (record { clock = M.clock ran.media; read_faults = M.read_faults ran.media; write_faults = M.write_faults ran.media })
+        ran.lost ran.worn)
         (sink_seen K.Sink sink.old) (sink_seen K.Sink sink.new) (told_text told ran.count ran.charges tables.answers.rows) }
 {
     let Tables {

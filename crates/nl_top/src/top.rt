@@ -29,12 +29,12 @@ use std::thread::Threads;
 /// Of a run, and of a soak, one order of all its lines is told. Each answer is what a plain tree of files replies at its place in that
 /// order, or a fault reply that has its cause; a stop within any program or erase leaves a medium that opens as the tree after a prefix of
 /// that order holding every synced call; and the medium ends as the tree after all of it, where nothing failed. The gate decides nothing of
-/// it. A stop within a call that runs no line leaves nothing new, but for a format: after its forming a stop leaves a blank image, one damaged
-/// at its super page, or the empty volume.
+/// it. A stop within a call that runs no line leaves nothing new, but for a format: after its forming a stop leaves a blank image, one
+/// damaged at its super page, or the empty volume.
 ///
-/// Statuses: 0; 2 for faulty words, and for a script that is refused; 3 where the source failed; 4 where the sink failed; 5 where the medium
-/// failed, a page was lost, the volume is worn or an answer is a fault reply; 6 for want of memory, before the first turn; 7 for a medium
-/// that is blank or damaged; 8 where a check found something.
+/// Statuses: 0; 2 for faulty words, and for a script that is refused; 3 where the source failed; 4 where the sink failed; 5 where the
+/// medium failed, a page was lost, the volume is worn or an answer is a fault reply; 6 for want of memory, before the first turn; 7 for a
+/// medium that is blank or damaged; 8 where a check found something.
 pub fn nameless<Rt: Threads + Wait + Sync, S: Source, K: Sink, M: Nand + Send, G: Gate + Sync>(
     rt: &Rt,
     alloc: Global,
@@ -49,8 +49,10 @@ pub fn nameless<Rt: Threads + Wait + Sync, S: Source, K: Sink, M: Nand + Send, G
         (medium_seen M.Nand media) (medium_seen M.Nand result.media) result.order.items result.syncs.items result.status }
 
     // Where nothing fails, the command of these words is carried out, unless memory is wanting.
-    ensures completes { NothingRose (source_seen S.Source src.old) (source_seen S.Source src.new) (sink_seen K.Sink sink.old) (sink_seen K.Sink sink.new) (medium_seen M.Nand media) (medium_seen M.Nand result.media)
-        → CarriesOut (command_of words.now) M.tells (source_seen S.Source src.old) (medium_seen M.Nand media) (medium_seen M.Nand result.media) result.order.items result.status }
+    ensures completes { NothingRose (source_seen S.Source src.old) (source_seen S.Source src.new) (sink_seen K.Sink sink.old)
+        (sink_seen K.Sink sink.new) (medium_seen M.Nand media) (medium_seen M.Nand result.media)
+        → CarriesOut (command_of words.now) M.tells (source_seen S.Source src.old) (medium_seen M.Nand media)
+        (medium_seen M.Nand result.media) result.order.items result.status }
 {
     match command_of(words) {
         None => ended(alloc, 2, b"words", sink, media),

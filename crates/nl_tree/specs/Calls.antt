@@ -1,4 +1,4 @@
--- What every call that the file system takes has by condition.
+-- The conditions that each call meets which the file system takes.
 use Rattle.std.specs.Prelude.{ℕ, ◌<◌, ◌≤◌, IsTrue, List, length, All, AllPairs}
 use Rattle.std.specs.List.{AllByRecursion}
 use Rattle.nl_field.specs.Names.{is_name}

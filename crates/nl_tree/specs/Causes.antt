@@ -86,14 +86,15 @@ FaultIsDue tells state before now call reply =
 abbrev pub WriteFailed : Counts → Counts → Type 0
 WriteFailed before now = (before.write_faults < now.write_faults) ⊎ (now.write_faults ≡ top)
 
--- it is the sum after some fault since
+-- the number is the sum of faults after some fault since
 abbrev pub IsSumSince : Counts → Counts → ℕ → Type 0
 IsSumSince before now n = ((fault_sum before < n) ⊎ (n ≡ top)) × (n ≤ fault_sum now)
 
 -- the stamps may have reached their limit, from this next stamp on
 abbrev pub MayBeWorn : Counts → Counts → ℕ → Type 0
 MayBeWorn before now next_stamp =
-    (max_stamp ≤ next_stamp + (now.clock - before.clock) + (now.write_faults - before.write_faults)) ⊎ ((now.clock ≡ top) ⊎ (now.write_faults ≡ top))
+    (max_stamp ≤ next_stamp + (now.clock - before.clock) + (now.write_faults - before.write_faults))
+    ⊎ ((now.clock ≡ top) ⊎ (now.write_faults ≡ top))
 
 -- A fault reply to a call has its cause since the opening, where the opening had these counts and this next stamp.
 abbrev pub HasCause : Type 0 → Counts → Counts → ℕ → Call → FaultReply → Type 0

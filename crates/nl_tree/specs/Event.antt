@@ -24,7 +24,8 @@ is_whole from len index = nat_le from (4096 * index) && nat_le (4096 * index + 4
 
 -- the bytes that a call gives a page that lies wholly in its range
 unfoldable pub page_given : Call → ℕ → Option (List ℕ)
-page_given (Write path from bytes) index = if is_whole from (length bytes) index then Some (take 4096 (drop (4096 * index - from) bytes)) else None
+page_given (Write path from bytes) index =
+    if is_whole from (length bytes) index then Some (take 4096 (drop (4096 * index - from) bytes)) else None
 page_given (Fill path from len byte) index = if is_whole from len index then Some (replicate 4096 byte) else None
 page_given _ index = None
 

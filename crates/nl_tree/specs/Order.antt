@@ -19,7 +19,8 @@ pub record SyncPoint : Type 0 where
   pub upto : ℕ
   pub moment : ℕ
 
--- The calls that a stop can no longer lose: the greatest `upto` of the syncs up to a moment, and the count of the opening where there is none.
+-- The calls that a stop can no longer lose: the greatest `upto` of the syncs up to a moment, and the count of the opening where
+-- there is none.
 unfoldable pub durable_prefix : List SyncPoint → ℕ → ℕ → ℕ
 durable_prefix syncs count moment = fold (λ best sync. if nat_le sync.moment moment then max best sync.upto else best) count syncs
 
@@ -33,7 +34,8 @@ sync_answered _ = None
 pub record IsSyncAt (count : ℕ) (answered : List Line) (i : ℕ) (line : Line) (sync : SyncPoint) : Type 0 where
   pub not_below_opening : count ≤ sync.upto
   pub below_place : sync.upto < count + i + 1
-  pub earlier_lines : (j : ℕ) → j < i → IfSome (slice_get answered j) (λ earlier. IsTrue (has_to_precede earlier line) → count + j + 1 ≤ sync.upto)
+  pub earlier_lines : (j : ℕ) → j < i
+      → IfSome (slice_get answered j) (λ earlier. IsTrue (has_to_precede earlier line) → count + j + 1 ≤ sync.upto)
 
 -- a sync that was answered ok, with the number of its line
 pub record LineSync : Type 0 where

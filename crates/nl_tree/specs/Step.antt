@@ -52,7 +52,8 @@ refusal_of_new tree path = first_of (when (is_root path) Eexist ∷ prefix_refus
 -- for a call on a file
 unfoldable pub refusal_of_file : Tree → List (List ℕ) → Option Refusal
 refusal_of_file tree path =
-    first_of (when (is_root path) Eisdir ∷ prefix_refusal tree path ∷ missing tree path ∷ when (is_directory (node_at tree path)) Eisdir ∷ [])
+    first_of (when (is_root path) Eisdir ∷ prefix_refusal tree path ∷ missing tree path
+    ∷ when (is_directory (node_at tree path)) Eisdir ∷ [])
 
 unfoldable pub refusal_of_rmdir : Tree → List (List ℕ) → Option Refusal
 refusal_of_rmdir tree path =
@@ -74,7 +75,8 @@ refusal_of_rename tree from to =
     ∷ (if paths_eq from to then None else refusal_of_move tree from to) ∷ [])
 
 abbrev pub refusal_of_write : Tree → List (List ℕ) → ℕ → ℕ → Option Refusal
-refusal_of_write tree path from len = first_of (refusal_of_file tree path ∷ when (nat_lt 0 len && nat_lt max_file_size (from + len)) Efbig ∷ [])
+refusal_of_write tree path from len =
+    first_of (refusal_of_file tree path ∷ when (nat_lt 0 len && nat_lt max_file_size (from + len)) Efbig ∷ [])
 
 -- the call's own refusals
 unfoldable pub own_refusal : Tree → Call → Option Refusal
@@ -147,7 +149,8 @@ effect_of tree (Rmdir path) = done_with (without tree path)
 effect_of tree (Unlink path) = done_with (without tree path)
 effect_of tree (Rename from to) = done_with (if paths_eq from to then tree else with_renamed tree from to)
 effect_of tree (Write path from bytes) = write_outcome tree path (length bytes) (written_over (content_of (node_at tree path)) from bytes)
-effect_of tree (Fill path from len byte) = write_outcome tree path len (written_over (content_of (node_at tree path)) from (replicate len byte))
+effect_of tree (Fill path from len byte) =
+    write_outcome tree path len (written_over (content_of (node_at tree path)) from (replicate len byte))
 effect_of tree (Read path from len) = record { reply = Content; bytes = bytes_read (content_of (node_at tree path)) from len; tree = tree }
 effect_of tree (Truncate path size) = done_with (with_content tree path (cut_to (content_of (node_at tree path)) size))
 effect_of tree (Stat path) = record { reply = status_of (length (entries_of tree path)) (node_at tree path); bytes = []; tree = tree }

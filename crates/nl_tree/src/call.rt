@@ -1,3 +1,4 @@
+//! The calls that a worker may give.
 use crate::Path;
 use nl_field::Text;
 

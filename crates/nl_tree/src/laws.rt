@@ -35,7 +35,7 @@ pub fn added_entry()
     ensures { AddedEntryAddsPath }
 {}
 
-// Other changes of nodes, and what they do to the tree.
+// An entry removed or moved, and a file changed: what these changes of nodes do to the tree.
 pub fn graph_changes()
     ensures { GraphChanges }
 {}

@@ -1,3 +1,4 @@
+//! The test that a path or a name in it is too long for a call.
 ghost use Rattle.std.specs.Prelude.{◌≡◌};
 ghost use Rattle.nl_tree.specs.Step.{is_too_long};
 

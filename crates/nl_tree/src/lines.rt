@@ -1,3 +1,4 @@
+//! The lines of a script, each a call of a worker in a round.
 ghost use Rattle.std.specs.Prelude.{◌≡◌, ◌==◌, ◌<◌, ◌≤◌, ◌+◌, ◌^◌, [], ◌∷◌, ◌++◌, length, All, OnOk, OnErr, Some, slice_get, find};
 ghost use Rattle.nl_tree.specs.Calls.{IsLine, AreLines};
 
@@ -47,6 +48,7 @@ impl Lines {
         Ok(())
     }
 
+    /// How many lines there are.
     pub fn len(&self) -> u32
         ensures count { result ≡ length self.now }
     {
@@ -63,6 +65,7 @@ impl Lines {
         &self.lines[at as usize]
     }
 
+    /// All lines, in the order of the script.
     pub fn as_slice(&self) -> &[Line]
         ensures lines { result.now ≡ self.now }
         ensures small { length self.now < 2 ^ 32 }
@@ -71,6 +74,7 @@ impl Lines {
         &self.lines
     }
 
+    /// All lines, in the order of the script, without a copy.
     pub fn into_vec(self) -> Vec<Line>
         ensures lines { result.items ≡ self }
         ensures small { length result.items < 2 ^ 32 }

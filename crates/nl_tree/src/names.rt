@@ -1,3 +1,4 @@
+//! Paths as walks over a tree read them.
 ghost use Rattle.std.specs.Prelude.{◌≡◌, ◌<◌, length, slice_get, Some};
 
 use nl_tree_content::Path;

@@ -1,3 +1,5 @@
+//! The replies to calls: results, refusals and faults.
+
 /// What a volume ran out of: entries of a directory, nodes, metadata pages, or data pages.
 #[derive(Clone, Copy, Debug, PartialEq, Eq)]
 pub enum Space {
@@ -34,6 +36,7 @@ pub enum FaultReply {
     Edamaged { wanted: u64, found: u64 },
 }
 
+/// What a call is answered: its result, a refusal, or a fault.
 #[derive(Clone, Copy, Debug, PartialEq, Eq)]
 pub enum Reply {
     Done,

@@ -1,3 +1,4 @@
+//! What the turns of a volume report: a staging, an effect, and a task in the background.
 use crate::Reply;
 
 /// What one staging did.

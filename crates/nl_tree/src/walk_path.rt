@@ -1,3 +1,4 @@
+//! The path of a walk over a tree, whose room is taken beforehand.
 ghost use Rattle.std.specs.Prelude.{◌≡◌, ◌<◌, ◌≤◌, ◌^◌, ◌+◌, ◌↔◌, [], ◌∷◌, ◌++◌, length, take, IfOk, IsSome, slice_get, Some};
 ghost use Rattle.std.specs.Option.{option_to_list};
 

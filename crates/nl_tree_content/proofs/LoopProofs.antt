@@ -8,7 +8,7 @@ pub pushed : {X : Type 0} (xs kept next : List X) (i : ℕ) (x : X) → i < leng
 pushed {X} xs kept next i x lt read grown before =
     grown ∙ ap (λ (k : List X). k ++ x ∷ []) before ∙ ap (λ (y : X). take i xs ++ y ∷ []) read ∙ sym (take_more xs i x lt)
 
--- the same behind others
+-- one more item pushed, behind items that were there before
 pub pushed_behind : {X : Type 0} (old xs kept next : List X) (i : ℕ) (x : X) → i < length xs → x ≡ get_or xs i x → next ≡ kept ++ x ∷ [] → kept ≡ old ++ take i xs → next ≡ old ++ take (i + 1) xs
 pushed_behind {X} old xs kept next i x lt read grown before =
     grown ∙ ap (λ (k : List X). k ++ x ∷ []) before ∙ append_assoc old (take i xs) (x ∷ [])

@@ -19,31 +19,38 @@ is_touched from len index = nat_lt 0 len && nat_lt (4096 * index) (from + len) &
 abbrev pub cut_page : ℕ → ℕ → List ℕ → List ℕ
 cut_page size index page = take (size - 4096 * index) page ++ zeros (4096 - min 4096 (size - 4096 * index))
 
--- Of a content. A size grows to the end of the bytes written; each byte within them is theirs, and each other stays.
+-- A write to a content makes a content. Its size grows to the end of the bytes written; each byte within them is theirs, and each
+-- other stays.
 pub record WriteLaws : Type 0 where
-  pub is_content_still : (file : FileContent) (from : ℕ) (bytes : List ℕ) → IsTrue (is_content file) → IsTrue (is_content (written_over file from bytes))
+  pub is_content_still : (file : FileContent) (from : ℕ) (bytes : List ℕ) → IsTrue (is_content file)
+      → IsTrue (is_content (written_over file from bytes))
   pub size : (file : FileContent) (from : ℕ) (bytes : List ℕ)
       → (written_over file from bytes).size ≡ (if nat_lt 0 (length bytes) then max file.size (from + length bytes) else file.size)
   pub byte : (file : FileContent) (from : ℕ) (bytes : List ℕ) (i : ℕ) → IsTrue (is_content file)
-      → byte_of (written_over file from bytes) i ≡ (if nat_le from i && nat_lt i (from + length bytes) then slice_index bytes (i - from) else byte_of file i)
+      → byte_of (written_over file from bytes) i
+      ≡ (if nat_le from i && nat_lt i (from + length bytes) then slice_index bytes (i - from) else byte_of file i)
   pub page : (file : FileContent) (from : ℕ) (bytes : List ℕ) (index : ℕ)
       → value_at nat_cmp index (written_over file from bytes).pages
-      ≡ (if is_touched from (length bytes) index then Some (overlaid (page_bytes file index) index from bytes) else value_at nat_cmp index file.pages)
+      ≡ (if is_touched from (length bytes) index then Some (overlaid (page_bytes file index) index from bytes)
+      else value_at nat_cmp index file.pages)
   pub indexes : (file : FileContent) (from : ℕ) (bytes : List ℕ) (index : ℕ)
       → has_page (written_over file from bytes) index ≡ (is_touched from (length bytes) index || has_page file index)
   pub touched_indexes : (from len index : ℕ) → list_any (λ i. i == index) (touched from len) ≡ is_touched from len index
 
--- Of any file. Bytes below the new size stay, and those from it on are zero; pages stay that lie below the pages of the new size.
+-- A cut of any file. Bytes below the new size stay, and those from it on are zero; pages stay that lie below the pages of the new
+-- size.
 pub record CutLaws : Type 0 where
   pub is_content_still : (file : FileContent) (size : ℕ) → IsTrue (is_content file) → IsTrue (is_content (cut_to file size))
   pub size : (file : FileContent) (size : ℕ) → (cut_to file size).size ≡ size
   pub byte : (file : FileContent) (size i : ℕ) → byte_of (cut_to file size) i ≡ (if nat_lt i size then byte_of file i else 0)
   pub page : (file : FileContent) (size index : ℕ)
-      → value_at nat_cmp index (cut_to file size).pages ≡ (if nat_lt index (div_ceil size 4096) then option_map (cut_page size index) (value_at nat_cmp index file.pages) else None)
-  pub indexes : (file : FileContent) (size index : ℕ) → has_page (cut_to file size) index ≡ (has_page file index && nat_lt index (div_ceil size 4096))
+      → value_at nat_cmp index (cut_to file size).pages
+      ≡ (if nat_lt index (div_ceil size 4096) then option_map (cut_page size index) (value_at nat_cmp index file.pages) else None)
+  pub indexes : (file : FileContent) (size index : ℕ)
+      → has_page (cut_to file size) index ≡ (has_page file index && nat_lt index (div_ceil size 4096))
 
--- Of a content. Bytes at and past the size are zero, and a page's bytes, or a part of them, are those of its offsets. Its size and what is at each index
--- make up a content.
+-- The bytes of a content at and past its size are zero, and a page's bytes, or a part of them, are those of its offsets. Its size and
+-- what is at each index make up a content.
 pub record ByteLaws : Type 0 where
   pub past_size : (file : FileContent) (i : ℕ) → IsTrue (is_content file) → file.size ≤ i → byte_of file i ≡ 0
   pub in_page : (file : FileContent) (index i : ℕ) → i < 4096 → slice_index (page_bytes file index) i ≡ byte_of file (4096 * index + i)

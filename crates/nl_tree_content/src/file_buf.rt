@@ -1,4 +1,4 @@
-//! What a file holds.
+//! The content of a file in memory: its size, and its pages by index.
 ghost use Rattle.std.specs.Prelude.{◌≡◌, ◌<◌, ◌≤◌, ◌^◌, ◌+◌, ◌*◌, ◌&&◌, length};
 ghost use Rattle.nl_field.specs.Numbers.{max_file_size};
 ghost use Rattle.nl_field.specs.FileContent.{FileContent, empty_file};
@@ -32,6 +32,7 @@ impl Model for FileBuf {
 }
 
 impl FileBuf {
+    /// An empty file: its size is 0, and it holds no page.
     pub fn empty(alloc: Global) -> Self
         ensures { result ≡ empty_file }
     {
@@ -56,6 +57,7 @@ impl FileBuf {
         }
     }
 
+    /// The size in bytes.
     pub fn size(&self) -> u64
         ensures size { result ≡ self.now.size }
         ensures small { self.now.size ≤ max_file_size }
@@ -63,12 +65,14 @@ impl FileBuf {
         self.size
     }
 
+    /// In how many ranges of 256 pages, past the first 8 pages, it holds a page.
     pub fn ranges(&self) -> u32
         ensures { result ≡ ranges_of_pages self.now.pages }
     {
         self.ranges
     }
 
+    /// How many pages it holds.
     pub fn page_count(&self) -> usize
         ensures count { result ≡ length self.now.pages }
         ensures small { result < 2 ^ 63 }

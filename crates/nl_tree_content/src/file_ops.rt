@@ -42,7 +42,7 @@ fn page_of(file: &FileBuf, index: u32) -> Option<&SharedPage>
     find(file.pages(), index)
 }
 
-/// The same pages.
+/// The pages of the file once more, shared with it.
 fn copy_of(alloc: Global, file: &FileBuf) -> Result<Vec<Page>, Memory>
     ensures pages { IfOk result (λ v. v.items ≡ file.now.pages) }
     ensures whole { IfOk result (λ v. AreWhole v.items) }
@@ -119,7 +119,9 @@ fn put_touched(
     requires some { 0 < length bytes.now }
     requires small { length bytes.now ≤ max_bytes }
     requires end { from + length bytes.now ≤ max_file_size }
-    ensures pages { OnOk result (pages.new.items ≡ fold (λ pages index. with_entry nat_cmp index (overlaid (page_bytes file.now index) index from bytes.now) pages) pages.old.items (touched from (length bytes.now))) }
+    ensures pages { OnOk result (pages.new.items
+        ≡ fold (λ pages index. with_entry nat_cmp index
+        (overlaid (page_bytes file.now index) index from bytes.now) pages) pages.old.items (touched from (length bytes.now))) }
     ensures whole { OnOk result (AreWhole pages.new.items) }
 {
     let first = (from / 4096) as u32;
@@ -140,7 +142,8 @@ fn put_overlaid(
 ) -> Result<(), Memory>
     requires whole { AreWhole pages.old.items }
     requires small { length bytes.now ≤ max_bytes }
-    ensures pages { OnOk result (pages.new.items ≡ with_entry nat_cmp index (overlaid (page_bytes file.now index) index from bytes.now) pages.old.items) }
+    ensures pages { OnOk result (pages.new.items
+        ≡ with_entry nat_cmp index (overlaid (page_bytes file.now index) index from bytes.now) pages.old.items) }
     ensures whole { OnOk result (AreWhole pages.new.items) }
 {
     let page = overlaid_page(alloc, file, index, from, bytes)?;

@@ -61,7 +61,7 @@ fn is_at(pages: &Vec<Page>, at: usize, index: u32) -> bool
     at < pages.len() && index.cmp(&pages[at].0) == Ordering::Equal
 }
 
-/// The same pages.
+/// A list of the same pages, shared with the first.
 pub(crate) fn copy(alloc: Global, pages: &[Page]) -> Result<Vec<Page>, Memory>
     ensures { IfOk result (λ v. v.items ≡ pages.now) }
 {
@@ -106,6 +106,7 @@ pub(crate) fn overlay(
     SharedPage::new(alloc, whole)
 }
 
+/// The lesser of two numbers.
 pub(crate) fn min_of(a: u64, b: u64) -> u64
     ensures value { result ≡ min a b }
     ensures first { result ≤ a }
@@ -134,7 +135,8 @@ pub(crate) fn push_cut(
     size: u64,
 ) -> Result<(), Memory>
     requires whole { length page.now.1 ≡ 4096 }
-    ensures { OnOk result (kept.new.items ≡ kept.old.items ++ (if nat_lt page.now.0 (div_ceil size 4096) then cut_entry size page.now ∷ [] else [])) }
+    ensures { OnOk result (kept.new.items
+        ≡ kept.old.items ++ (if nat_lt page.now.0 (div_ceil size 4096) then cut_entry size page.now ∷ [] else [])) }
 {
     if page.0 as u64 >= size.div_ceil(4096) {
         return Ok(());

@@ -1,3 +1,4 @@
+//! Paths as lists of names.
 ghost use Rattle.std.specs.Prelude.{◌≡◌, ◌<◌, ◌^◌, ◌+◌, ◌↔◌, [], ◌∷◌, ◌++◌, length, OnOk, OnErr, IsSome, slice_get, Some};
 ghost use Rattle.std.specs.Option.{option_to_list};
 
@@ -85,6 +86,7 @@ impl Path {
         &self.names[at as usize]
     }
 
+    /// The names of the path, from the root on.
     pub fn names(&self) -> &[Text]
         ensures { result.now ≡ self.now }
     {

@@ -1,3 +1,4 @@
+//! The bytes of a reply, whose room is taken beforehand.
 ghost use Rattle.std.specs.Prelude.{◌≡◌, ◌<◌, ◌≤◌, ◌+◌, [], ◌∷◌, ◌++◌, length, IfOk, Some, slice_get};
 ghost use Rattle.nl_field.specs.Numbers.{max_bytes};
 
@@ -32,6 +33,7 @@ impl ReplyBuf {
         })
     }
 
+    /// How many bytes there are.
     pub fn len(&self) -> u32
         ensures count { result ≡ length self.now }
         ensures room { length self.now ≤ max_bytes }
@@ -39,6 +41,7 @@ impl ReplyBuf {
         self.bytes.len() as u32
     }
 
+    /// The byte at a place below the length.
     pub fn get(&self, at: u32) -> &u8
         requires { at < length self.now }
         ensures { slice_get self.now at ≡ Some result.now }
@@ -46,6 +49,7 @@ impl ReplyBuf {
         &self.bytes[at as usize]
     }
 
+    /// All its bytes, in order.
     pub fn bytes(&self) -> &[u8]
         ensures bytes { result.now ≡ self.now }
         ensures room { length self.now ≤ max_bytes }
@@ -53,12 +57,14 @@ impl ReplyBuf {
         &self.bytes
     }
 
+    /// Takes all bytes out.
     pub fn clear(&mut self)
         ensures { self.new ≡ [] }
     {
         self.bytes.clear();
     }
 
+    /// Adds a byte at the end, where there are fewer than a reply may have.
     pub fn push(&mut self, byte: u8)
         requires { length self.old < max_bytes }
         ensures { self.new ≡ self.old ++ byte ∷ [] }

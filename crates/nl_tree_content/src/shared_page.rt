@@ -21,6 +21,7 @@ impl Model for SharedPage {
 }
 
 impl SharedPage {
+    /// A page of these bytes, to be shared. An error where memory is refused.
     pub(crate) fn new(alloc: Global, bytes: Vec<u8>) -> Result<Self, Memory>
         ensures { IfOk result (λ p. p ≡ bytes.items) }
     {
@@ -29,6 +30,7 @@ impl SharedPage {
         })
     }
 
+    /// This page, shared once more. An error where that is refused.
     pub(crate) fn share(&self) -> Result<Self, Memory>
         ensures { IfOk result (λ p. p ≡ self.now) }
     {
@@ -37,6 +39,7 @@ impl SharedPage {
         })
     }
 
+    /// The bytes of the page.
     pub(crate) fn bytes(&self) -> &[u8]
         ensures { result.now ≡ self.now }
     {

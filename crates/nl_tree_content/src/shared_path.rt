@@ -22,6 +22,7 @@ impl Model for SharedPath {
 }
 
 impl SharedPath {
+    /// This path, to be shared. An error where memory is refused.
     pub fn new(alloc: Global, path: Path) -> Result<Self, Memory>
         ensures { IfOk result (λ p. p ≡ path) }
     {
@@ -30,6 +31,7 @@ impl SharedPath {
         })
     }
 
+    /// This path, shared once more. An error where that is refused.
     pub fn share(&self) -> Result<Self, Memory>
         ensures { IfOk result (λ p. p ≡ self.now) }
     {
@@ -38,6 +40,7 @@ impl SharedPath {
         })
     }
 
+    /// The names of the path, from the root on.
     pub fn names(&self) -> &[Text]
         ensures { result.now ≡ self.now }
     {

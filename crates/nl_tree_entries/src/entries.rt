@@ -64,7 +64,7 @@ pub(crate) fn is_at(tree: &[Entry], at: usize, path: &SharedPath) -> bool
     at < tree.len() && are_equal(path.names(), tree[at].0.names())
 }
 
-/// The same entries.
+/// A list of the entries of the tree, shared with it.
 pub fn copy(alloc: Global, tree: &[Entry]) -> Result<Vec<Entry>, Memory>
     ensures { IfOk result (λ v. v.items ≡ tree.now) }
 {
@@ -80,6 +80,7 @@ fn share(entry: &Entry) -> Result<Entry, Memory>
     Ok((path, entry.1.share()?))
 }
 
+/// Adds an entry at the end, shared with where it is. An error where memory is refused.
 pub(crate) fn push(kept: &mut Vec<Entry>, entry: &Entry) -> Result<(), Memory>
     ensures { OnOk result (kept.new.items ≡ kept.old.items ++ entry.now ∷ []) }
 {
@@ -88,6 +89,7 @@ pub(crate) fn push(kept: &mut Vec<Entry>, entry: &Entry) -> Result<(), Memory>
     Ok(())
 }
 
+/// Adds entries at the end, in their order, shared with where they are. An error where memory is refused.
 pub(crate) fn push_all(kept: &mut Vec<Entry>, entries: &[Entry]) -> Result<(), Memory>
     ensures { OnOk result (kept.new.items ≡ kept.old.items ++ entries.now) }
 {
@@ -174,6 +176,7 @@ fn step_of(path: &SharedPath, other: &SharedPath) -> usize
     if longer { 1 } else { 0 }
 }
 
+/// Whether the other path has exactly one name more.
 pub(crate) fn is_one_longer(path: &[Text], other: &[Text]) -> bool
     ensures { result ≡ (length other.now == length path.now + 1) }
 {
@@ -201,6 +204,7 @@ fn weight_of(path: &[Text], entry: &SharedPath) -> usize
     if counts { 1 } else { 0 }
 }
 
+/// Whether the second path is that of an entry of the directory at the first.
 pub(crate) fn is_entry(path: &[Text], entry: &SharedPath) -> bool
     ensures { result ≡ is_entry_of path.now entry.now }
 {

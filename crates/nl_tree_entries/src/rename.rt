@@ -33,7 +33,8 @@ fn all_moved(
     from: &[Text],
     to: &[Text],
 ) -> Result<Vec<Entry>, Memory>
-    ensures { IfOk result (λ v. v.items ≡ map (λ e. (to.now ++ drop (length from.now) e.0, e.1)) (where_key path_cmp (is_at_or_under from.now) tree.now)) }
+    ensures { IfOk result (λ v. v.items
+        ≡ map (λ e. (to.now ++ drop (length from.now) e.0, e.1)) (where_key path_cmp (is_at_or_under from.now) tree.now)) }
 {
     let mut moved = Vec::new(alloc);
     'entries: for entry in tree {
@@ -49,7 +50,9 @@ fn push_moved(
     from: &[Text],
     to: &[Text],
 ) -> Result<(), Memory>
-    ensures { OnOk result (moved.new.items ≡ moved.old.items ++ (if is_at_or_under from.now entry.now.0 then (to.now ++ drop (length from.now) entry.now.0, entry.now.1) ∷ [] else [])) }
+    ensures { OnOk result (moved.new.items
+        ≡ moved.old.items
+        ++ (if is_at_or_under from.now entry.now.0 then (to.now ++ drop (length from.now) entry.now.0, entry.now.1) ∷ [] else [])) }
 {
     let names = entry.0.names();
     if !is_under(from, names) {

@@ -41,6 +41,7 @@ impl SharedNode {
         })
     }
 
+    /// This node, shared once more. An error where that is refused.
     pub(crate) fn share(&self) -> Result<Self, Memory>
         ensures { IfOk result (λ n. n ≡ self.now) }
     {

@@ -83,8 +83,8 @@ abbrev pub joined_before : List ℕ → List ℕ
 joined_before [] = []
 joined_before (m ∷ ms) = ms
 
--- Once the opening is picked no view is blank. A seat that took in another, of another number, has what both had seen, with all entries of the other, of its own, and of those
--- taken in before.
+-- Once the opening is picked no view is blank. A seat that took in another, of another number, has what both had seen, with all entries of
+-- the other, of its own, and of those taken in before.
 abbrev pub HostFits : View → Role → Type 0
 HostFits v (hosts n xs ys) =
     IsPrefix ys v.seen × IsPrefix xs v.seen × (by_seat n v.seen ≡ by_seat n xs) × (by_seat v.number v.seen ≡ by_seat v.number ys)
@@ -119,7 +119,8 @@ SlotFits stood spot (some (Some value)) = (spot ≡ 0) × stood value
 -- of which there are at most 10. The history has one entry for each turn passed. The value at home stands for the opening and the
 -- whole history; where it is not at home, some view has its turn. No number from the next one on is in use or in the history, and
 -- each number in use has a living view.
-pub record IsTicketLock {V : Type 0} (stands : Opening → List Passed → V → Type 0) (opening : Opening) (seats : ℕ) (s : State (Option V) View) : Type 0 where
+pub record IsTicketLock {V : Type 0} (stands : Opening → List Passed → V → Type 0) (opening : Opening) (seats : ℕ)
+    (s : State (Option V) View) : Type 0 where
   pub truth : Truth
   pub home : maybe.Option (Option V)
   pub words : s.words ≡ truth.drawn % 2 ^ 64 ∷ truth.passed % 2 ^ 64 ∷ []
@@ -138,4 +139,5 @@ pub record IsTicketLock {V : Type 0} (stands : Opening → List Passed → V →
 -- the rule for one opening.
 abbrev pub IsLock : {V : Type 0} → (Opening → List Passed → V → Type 0) → V → ℕ → State (Option V) View → Type 0
 IsLock stands origin seats s =
-    ((s ≡ at_start (0 ∷ 0 ∷ []) (Some origin ∷ []) (blank_view seats)) × (0 < seats) × (seats ≤ 10)) ⊎ ((o : Opening) × IsTicketLock stands o seats s)
+    ((s ≡ at_start (0 ∷ 0 ∷ []) (Some origin ∷ []) (blank_view seats)) × (0 < seats) × (seats ≤ 10))
+    ⊎ ((o : Opening) × IsTicketLock stands o seats s)

@@ -75,7 +75,8 @@ module _ {V : Type 0} (stands : V → Opening → List Entry → V → Type 0) (
   -- P holds from each origin, opening and history for which the value stands and which have the line
   abbrev pub FromEachWithLine : ℕ → ℕ → Call → (V → Opening → List Entry → Type 0) → Type 0
   FromEachWithLine worker line call P =
-      (origin : V) (opening : Opening) (history : List Entry) → stands origin opening history value → IsLineOf opening worker line call → P origin opening history
+      (origin : V) (opening : Opening) (history : List Entry) → stands origin opening history value → IsLineOf opening worker line call
+      → P origin opening history
 
 -- the sum of the opening's count and of the effects with this one
 abbrev pub place_due : Opening → List Entry → ℕ → Reply → ℕ

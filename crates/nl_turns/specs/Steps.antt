@@ -82,7 +82,8 @@ module _ {V : Type 0} where
 
   -- the first seat is at rest again, and knows how the two histories belong together, and that it has few places
   abbrev pub settles : Step (Option V) → Me (Option V) View → ℕ → Me (Option V) View → Type 0
-  settles st m n m' = (m' ≡ (record m.0 { role = idle }, m.1)) × HostFits m.0 m.0.role × (m.0.number ≡ 0 → m.0.places + 1 ≤ 10) × IsTold m.0 m.0.seen
+  settles st m n m' =
+      (m' ≡ (record m.0 { role = idle }, m.1)) × HostFits m.0 m.0.role × (m.0.number ≡ 0 → m.0.places + 1 ≤ 10) × IsTold m.0 m.0.seen
 
 -- ---- the seat between calls
 
@@ -90,7 +91,7 @@ abbrev pub is_inside : Role → Bool
 is_inside (inside t) = true
 is_inside _ = false
 
--- it waits for nothing, and holds no slot
+-- a seat between calls waits for nothing, and holds no slot
 abbrev pub IsBetweenCalls : Role → Type 0
 IsBetweenCalls idle = Unit {0}
 IsBetweenCalls (inside t) = Unit {0}

@@ -8,17 +8,17 @@ pub data Role : Type 0 where
   -- of the first seat, as the lock is made: the opening is still to be picked
   blank : Role
   idle : Role
-  -- it has drawn this ticket
+  -- of a seat that has drawn this ticket
   waits : ℕ → Role
-  -- the turn of its ticket has come: it has the slot, from which it takes the value
+  -- of a seat whose turn has come: it has the slot, from which it takes the value
   enters : ℕ → Role
-  -- it has the value; the slot is at home, and empty
+  -- of a seat that has the value; the slot is at home, and empty
   inside : ℕ → Role
-  -- it has the slot again, into which it puts the value
+  -- of a seat that has the slot again, into which it puts the value
   leaves : ℕ → Role
-  -- it took in the seat of this number, which had seen the first of these histories, and had seen the second itself
+  -- of a seat that took in the seat of this number, which had seen the first of these histories, and had seen the second itself
   hosts : ℕ → List Passed → List Passed → Role
-  -- it was taken in by another
+  -- of a seat that was taken in by another
   spent : Role
 
 pub record View : Type 0 where

@@ -1,3 +1,4 @@
+//! The entry that a history has of one turn.
 ghost use Rattle.std.specs.Prelude.{◌≡◌};
 ghost use Rattle.nl_turns.specs.Served.{stage_entry, effect_entry, duty_entry};
 
@@ -7,6 +8,7 @@ use nl_tree::{DutyAnswer, FaultReply, Reply, Stage};
 #[derive(Clone, Copy, Debug, PartialEq, Eq)]
 pub enum FaultMark {
     NoFault,
+    /// The effect had this fault reply.
     Fault(FaultReply),
 }
 
@@ -14,6 +16,7 @@ pub enum FaultMark {
 #[derive(Clone, Copy, Debug, PartialEq, Eq)]
 pub enum SyncMark {
     NoSync,
+    /// The sync made so many calls durable, at this moment of the medium's clock.
     At { upto: u64, moment: u64 },
 }
 
@@ -34,7 +37,7 @@ pub struct Entry {
 }
 
 impl Entry {
-    /// Of a turn that staged for a line.
+    /// The entry of a turn that staged a page for a line.
     pub fn of_stage(line: u32, answer: Stage) -> Entry
         ensures { result ≡ stage_entry line answer }
     {
@@ -48,7 +51,7 @@ impl Entry {
         }
     }
 
-    /// Of a turn with a line's effect, with the fault of its reply, or the numbers of a sync.
+    /// The entry of a turn with a line's effect, with the fault of its reply, or the numbers of a sync.
     pub fn of_effect(line: u32, reply: Reply) -> Entry
         ensures { result ≡ effect_entry line reply }
     {
@@ -62,7 +65,7 @@ impl Entry {
         entry
     }
 
-    /// Of a turn with a background task.
+    /// The entry of a turn with a background task.
     pub fn of_duty(answer: DutyAnswer) -> Entry
         ensures { result ≡ duty_entry answer }
     {

@@ -1,3 +1,4 @@
+//! A value with the opening and the history that explain it.
 use std::marker::Brand;
 
 /// A value that an opening and the history of its turns explain. `Turns` keeps it.

@@ -15,6 +15,7 @@ impl<V, O: Opens> Play<Option<V>, SeatView> for Begin<O> {
     ghost then = { begins O.opening };
 }
 
+/// Draws a ticket.
 pub(crate) struct Draw;
 
 impl<V> Play<Option<V>, SeatView> for Draw {
@@ -36,6 +37,7 @@ impl<V> Origin<V> for Brand {
     ghost origin = { None };
 }
 
+/// Looks at the count of turns that were passed.
 pub(crate) struct Look<O> {
     picked: PhantomData<O>,
 }

@@ -1,3 +1,4 @@
+//! A seat at the lock, with which a thread takes turns.
 use crate::table::SeatView;
 use atomic_table::Badge;
 use std::marker::Model;

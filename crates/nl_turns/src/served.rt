@@ -1,3 +1,4 @@
+//! What a value behind the lock does in a turn, as a trait.
 ghost use Rattle.std.specs.Prelude.{◌≡◌, ◌≢◌, ◌≤◌, ℕ, List, ◌++◌, ◌∷◌, []};
 ghost use Rattle.nl_tree.specs.Replay.{Answers};
 ghost use Rattle.nl_turns.specs.History.{Opening, opening_counts};
@@ -15,7 +16,7 @@ pub trait Served: Kept {
     ghost use Rattle.std.specs.Prelude.{ℕ, Option};
     ghost use Rattle.nl_tree.specs.Causes.{Counts, FaultState};
 
-    /// It stands on a medium that tells its contents.
+    /// The value stands on a medium that tells its contents.
     ghost tells: { Type 0 };
 
     /// The clock and the counts of faults of its medium.
@@ -25,7 +26,7 @@ pub trait Served: Kept {
     /// volume became read-only, and the next stamp.
     ghost refusing: { Self → ℕ → ℕ → FaultState };
 
-    /// The number with which it became read-only.
+    /// The number with which the volume became read-only.
     ghost read_only: { Self → Option ℕ };
 
     /// How many pages a line of a worker has left to stage, counted by its range alone.
@@ -40,32 +41,40 @@ pub trait Served: Kept {
     /// Stages one whole page of a line ahead of its effect: `Staged`, or why there was none.
     fn stage(&mut self, worker: u8, line: u32, call: &Call) -> Stage
         requires { StandsForSomeWithLine Self.stands self.old worker line call.now }
-        ensures stands { FromEachWithLine Self.stands self.old worker line call.now (λ v o h. Self.stands v o (h ++ stage_entry line result ∷ []) self.new) }
+        ensures stands { FromEachWithLine Self.stands self.old worker line call.now
+            (λ v o h. Self.stands v o (h ++ stage_entry line result ∷ []) self.new) }
         ensures counts { NeverFall (counts self.old) (counts self.new) }
         ensures less { StagesLess (to_stage self.old) (to_stage self.new) worker line (is_staged result) }
         ensures read_only { StaysReadOnly (counts self.old) (counts self.new) (read_only self.old) (read_only self.new) }
-        ensures staged { KeepsStagedFaults (refusing self.old) (refusing self.new) worker line (is_fault result) (fault_sum (counts self.new)) }
+        ensures staged { KeepsStagedFaults (refusing self.old) (refusing self.new) worker line (is_fault result)
+            (fault_sum (counts self.new)) }
         ensures fault { result ≡ Stage.Fault → FaultRose (counts self.old) (counts self.new) }
         ensures lost { (wanted : ℕ) (found : ℕ) → result ≡ Stage.Lost wanted found → LostHasCause tells wanted found };
 
     /// The effect of a line: its place in the order of all calls, and its reply, with the bytes that belong to it in the buffer.
     fn effect(&mut self, worker: u8, line: u32, call: &Call, out: &mut ReplyBuf) -> Answered
         requires { StandsForSomeWithLine Self.stands self.old worker line call.now }
-        ensures stands { FromEachWithLine Self.stands self.old worker line call.now (λ v o h. Self.stands v o (h ++ effect_entry line result.reply ∷ []) self.new) }
+        ensures stands { FromEachWithLine Self.stands self.old worker line call.now
+            (λ v o h. Self.stands v o (h ++ effect_entry line result.reply ∷ []) self.new) }
         ensures counts { NeverFall (counts self.old) (counts self.new) }
         ensures less { (w : ℕ) (l : ℕ) → w ≢ worker → to_stage self.new w l ≤ to_stage self.old w l }
         ensures read_only { StaysReadOnly (counts self.old) (counts self.new) (read_only self.old) (read_only self.new) }
         ensures staged { (w : ℕ) (l : ℕ) → w ≢ worker → (refusing self.new w l).staged ≡ (refusing self.old w l).staged }
-        ensures place { FromEachWithLine Self.stands self.old worker line call.now (λ v o h. result.place ≡ place_due o h line result.reply) }
-        ensures ordinal { FromEachWithLine Self.stands self.old worker line call.now (λ v o h. result.ordinal ≡ ordinal_due h line result.reply) }
-        ensures answer { tells → FromEachWithLine Self.stands self.old worker line call.now (λ v o h. Answers (outcome_due o h call.now result.reply) result.reply out.new) }
+        ensures place { FromEachWithLine Self.stands self.old worker line call.now
+            (λ v o h. result.place ≡ place_due o h line result.reply) }
+        ensures ordinal { FromEachWithLine Self.stands self.old worker line call.now
+            (λ v o h. result.ordinal ≡ ordinal_due h line result.reply) }
+        ensures answer { tells → FromEachWithLine Self.stands self.old worker line call.now
+            (λ v o h. Answers (outcome_due o h call.now result.reply) result.reply out.new) }
         ensures cause { FaultIsDue tells (refusing self.old worker line) (counts self.old) (counts self.new) call.now result.reply }
-        ensures since_opening { FromEachWithLine Self.stands self.old worker line call.now (λ v o h. FaultHasCause tells o (counts self.new) call.now result.reply) };
+        ensures since_opening { FromEachWithLine Self.stands self.old worker line call.now
+            (λ v o h. FaultHasCause tells o (counts self.new) call.now result.reply) };
 
     /// One background task.
     fn duty(&mut self, which: Duty) -> DutyAnswer
         requires { StandsForSome Self.stands self.old }
-        ensures stands { (v : Self) (o : Opening) (h : List TurnEntry) → Self.stands v o h self.old → Self.stands v o (h ++ duty_entry result ∷ []) self.new }
+        ensures stands { (v : Self) (o : Opening) (h : List TurnEntry) → Self.stands v o h self.old
+            → Self.stands v o (h ++ duty_entry result ∷ []) self.new }
         ensures counts { NeverFall (counts self.old) (counts self.new) }
         ensures less { NoMoreToStage (to_stage self.old) (to_stage self.new) }
         ensures read_only { StaysReadOnly (counts self.old) (counts self.new) (read_only self.old) (read_only self.new) }

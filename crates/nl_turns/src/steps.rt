@@ -18,7 +18,9 @@ use std::thread;
 /// The table, and its first seat.
 pub(crate) fn open<V: Kept>(alloc: Global, value: V, seats: u32) -> Result<(Board<V>, Place<V>), V>
     requires seats { (0 < seats) × (seats ≤ 10) }
-    ensures ok { IfOk result (λ r. (r.0.shared.table_id.words ≡ 2) × (r.0.shared.table_id.slots ≡ 1) × (r.1.table_id ≡ r.0.shared.table_id) × (r.0.shared.key.seats ≡ seats) × (r.0.shared.key.value.value ≡ value) × (r.1.me ≡ (blank_view seats, []))) }
+    ensures ok { IfOk result (λ r. (r.0.shared.table_id.words ≡ 2) × (r.0.shared.table_id.slots ≡ 1)
+        × (r.1.table_id ≡ r.0.shared.table_id) × (r.0.shared.key.seats ≡ seats) × (r.0.shared.key.value.value ≡ value)
+        × (r.1.me ≡ (blank_view seats, []))) }
     ensures err { IfErr result (λ v. v ≡ value) }
 {
     let Ok(mut slots) = Vec::with_capacity(alloc, 1) else {
@@ -89,7 +91,8 @@ pub(crate) fn take_out<V: Kept>(top: &Top<V>, place: &mut Place<V>)
     requires table { (place.old.table_id ≡ top.now.table_id) × (top.now.table_id.words ≡ 2) }
     requires turn { (t : ℕ) × (place.old.me.0.role ≡ inside t) × (place.old.me.1 ≡ []) }
     ensures place { (place.new.table_id ≡ place.old.table_id) × (place.new.id ≡ place.old.id) }
-    ensures fetched { (t : ℕ) → place.old.me.0.role ≡ inside t → place.new.me ≡ (record place.old.me.0 { role = leaves t }, (0, None) ∷ []) }
+    ensures fetched { (t : ℕ) → place.old.me.0.role ≡ inside t
+        → place.new.me ≡ (record place.old.me.0 { role = leaves t }, (0, None) ∷ []) }
 {
     top.load::<Fetch>(place, 1);
 }
@@ -98,7 +101,8 @@ pub(crate) fn take_out<V: Kept>(top: &Top<V>, place: &mut Place<V>)
 pub(crate) fn add<V: Kept, E: Says>(top: &Top<V>, place: &mut Place<V>, entry: Entry)
     requires said { E.entry ≡ entry }
     requires table { (place.old.table_id ≡ top.now.table_id) × (top.now.table_id.words ≡ 2) × (top.now.table_id.slots ≡ 1) }
-    requires turn { (t : ℕ) × (y : V) × (place.old.me.0.role ≡ leaves t) × (place.old.me.1 ≡ (0, Some y) ∷ []) × V.stands top.now.key.value.value place.old.me.0.opening (entries place.old.me.0.seen ++ entry ∷ []) y }
+    requires turn { (t : ℕ) × (y : V) × (place.old.me.0.role ≡ leaves t) × (place.old.me.1 ≡ (0, Some y) ∷ [])
+        × V.stands top.now.key.value.value place.old.me.0.opening (entries place.old.me.0.seen ++ entry ∷ []) y }
     ensures place { (place.new.table_id ≡ place.old.table_id) × (place.new.id ≡ place.old.id) }
     ensures added { place.new.me ≡ (after_pass place.old.me.0 entry, []) }
 {
@@ -109,7 +113,8 @@ pub(crate) fn add<V: Kept, E: Says>(top: &Top<V>, place: &mut Place<V>, entry: E
 pub(crate) fn settle<V: Kept>(top: &Top<V>, place: &mut Place<V>)
     requires table { (place.old.table_id ≡ top.now.table_id) × (top.now.table_id.words ≡ 2) }
     requires hosts { (n : ℕ) × (xs : List Passed) × (ys : List Passed) × (place.old.me.0.role ≡ hosts n xs ys) }
-    ensures place { (place.new.table_id ≡ place.old.table_id) × (place.new.id ≡ place.old.id) × (place.new.me ≡ (record place.old.me.0 { role = idle }, place.old.me.1)) }
+    ensures place { (place.new.table_id ≡ place.old.table_id) × (place.new.id ≡ place.old.id)
+        × (place.new.me ≡ (record place.old.me.0 { role = idle }, place.old.me.1)) }
     ensures host { HostFits place.old.me.0 place.old.me.0.role }
     ensures few { place.old.me.0.number ≡ 0 → place.old.me.0.places + 1 ≤ 10 }
     ensures told { IsTold place.old.me.0 place.old.me.0.seen }

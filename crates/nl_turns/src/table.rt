@@ -28,6 +28,7 @@ pub struct About<V> {
     pub seats: u32,
 }
 
+/// The rule of the lock, as the table wants it. No value of it is needed.
 pub struct TicketLock;
 
 impl<V: Kept> TableRule<Option<V>, SeatView, About<V>> for TicketLock {
@@ -38,8 +39,11 @@ impl<V: Kept> TableRule<Option<V>, SeatView, About<V>> for TicketLock {
     ghost first = { λ a. blank_view a.seats };
 }
 
+/// The table of a lock over a value of this type.
 pub type Board<V> = Table<Option<V>, SeatView, About<V>, TicketLock, Global>;
 
+/// The table as the seats share it.
 pub type Top<V> = Shared<Option<V>, SeatView, About<V>, TicketLock>;
 
+/// A seat at the table.
 pub type Place<V> = Seat<Option<V>, SeatView>;

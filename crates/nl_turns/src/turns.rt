@@ -1,3 +1,4 @@
+//! The ticket lock: a turn is taken, the value is borrowed for it, and the lock is closed at the end.
 ghost use Rattle.std.specs.Prelude.{◌≡◌, ℕ, ◌+◌, ◌-◌, ◌<◌, ◌≤◌, ◌∷◌, ◌++◌, [], true, false, Contains, IfOk, IfErr, IfSome, IfNone};
 ghost use mathlib.Core.List.{IsPrefix};
 ghost use Rattle.nl_turns.specs.Seat.{entries, by_seat, passed_by, longer, NoneBeyond, SeatState};
@@ -17,8 +18,8 @@ use std::sync::Wait;
 
 /// A ticket lock over one value, which threads share by reference. Turns come in the order of the tickets.
 ///
-/// Contracts see which lock it is, how many seats it has in all, and its origin: the value with which it was made. What a seat has seen is a beginning of one history, which has
-/// an entry for each turn that was passed.
+/// Contracts see which lock it is, how many seats it has in all, and its origin: the value with which it was made. What a seat has seen is
+/// a beginning of one history, which has an entry for each turn that was passed.
 pub struct Turns<V: Kept> {
     table: Board<V>,
 }
@@ -107,7 +108,8 @@ impl<V: Kept> Turns<V> {
         requires idle { seat.old.has_turn ≡ false }
         requires first { seat.old.number ≡ 0 }
         ensures none { IfNone result ((seat.old.places ≡ 0) × (seat.new ≡ seat.old)) }
-        ensures seat { IfSome result (λ r. (0 < seat.old.places) × (seat.new ≡ record seat.old { places = seat.old.places - 1; next = seat.old.next + 1 })) }
+        ensures seat { IfSome result (λ r. (0 < seat.old.places)
+            × (seat.new ≡ record seat.old { places = seat.old.places - 1; next = seat.old.next + 1 })) }
         ensures given { IfSome result (λ r. r ≡ record seat.old { number = seat.old.next; places = 0; next = 0; joined = [] }) }
         ensures numbers { IfSome result (λ r. (0 < r.number) × NoneBeyond r.number r.seen) }
     {
@@ -131,7 +133,8 @@ impl<V: Kept> Turns<V> {
         requires lock { (seat.old.lock ≡ self.now.name) × (other.lock ≡ self.now.name) }
         requires idle { (seat.old.has_turn ≡ false) × (other.has_turn ≡ false) }
         requires first { seat.old.number ≡ 0 }
-        ensures seat { seat.new ≡ record seat.old { seen = longer seat.old.seen other.seen; places = seat.old.places + 1; joined = other.number ∷ seat.old.joined } }
+        ensures seat { seat.new
+            ≡ record seat.old { seen = longer seat.old.seen other.seen; places = seat.old.places + 1; joined = other.number ∷ seat.old.joined } }
         ensures grows { IsPrefix seat.old.seen seat.new.seen × IsPrefix other.seen seat.new.seen }
         ensures own { by_seat 0 seat.new.seen ≡ by_seat 0 seat.old.seen }
         ensures theirs { by_seat other.number seat.new.seen ≡ by_seat other.number other.seen }

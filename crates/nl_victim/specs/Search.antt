@@ -12,7 +12,8 @@ pub record IsMostDeadBelow (t : Table) (end block : ℕ) : Type 0 where
   pub first : (other : ℕ) → IsSealed t other → other < block → dead_count (block_at t other) < dead_count (block_at t block)
 
 abbrev pub MostDeadBelow : Table → ℕ → Option ℕ → Type 0
-MostDeadBelow t end best = MatchOption best ((other : ℕ) → IsSealed t other → other < end → dead_count (block_at t other) ≡ 0) (IsMostDeadBelow t end)
+MostDeadBelow t end best =
+    MatchOption best ((other : ℕ) → IsSealed t other → other < end → dead_count (block_at t other) ≡ 0) (IsMostDeadBelow t end)
 
 -- of the Sealed blocks below `end`, the block is the first of those with the least wear
 pub record IsColdestBelow (t : Table) (end block : ℕ) : Type 0 where

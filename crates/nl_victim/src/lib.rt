@@ -49,7 +49,9 @@ fn deader(blocks: &Blocks, best: Option<u32>, block: u32) -> Option<u32>
 /// Sealed, or no block's wear exceeds that one's by at least 16.
 pub fn coldest(blocks: &Blocks) -> Option<u32>
     ensures some { IfSome result (IsColdest blocks.now) }
-    ensures worn { IfSome result (λ block. (other : ℕ) × HasBlock blocks.now other × (wear_of (block_at blocks.now block) + 16 ≤ wear_of (block_at blocks.now other))) }
+    ensures worn { IfSome result
+        (λ block. (other : ℕ) × HasBlock blocks.now other
+        × (wear_of (block_at blocks.now block) + 16 ≤ wear_of (block_at blocks.now other))) }
     ensures none { IfNone result ((block : ℕ) → IsSealed blocks.now block → IsLevel blocks.now (wear_of (block_at blocks.now block))) }
 {
     let first = blocks.first();

@@ -9,10 +9,10 @@ use Rattle.nl_flight.specs.Flight.{InFlight, begun, nothing, of_worker}
 use Rattle.nl_iface.specs.declared.counts.Counts.{Ghosts}
 use Rattle.nl_meta.specs.Consistent.{PageOfStamp}
 use Rattle.nl_spec_image.specs.Crash.{Run}
+use Rattle.nl_spec_commits.specs.Trees.{all_at}
 use Rattle.nl_core.specs.Core.{IsCore}
 use Rattle.nl_core.specs.Trees.{CoreStands}
 use Rattle.nl_core.specs.declared.state.Core.{Core}
-use Rattle.nl_core_open.specs.Beginning.{all_at}
 use Rattle.nl_core_open.specs.Opening.{IsOpened}
 use Rattle.nl_spec_crashes.specs.Along.{GoesAlong}
 use Rattle.nl_spec_crashes.proofs.Along.{opening_goes_along}

@@ -14,7 +14,7 @@ use Rattle.nl_spec_image.specs.Stands.{Sound}
 use Rattle.nl_spec_image.proofs.SoundProofs.{walk_is_soundness}
 use Rattle.nl_volume.specs.Opened.{OpensAs, OpensOn}
 
--- so it opened on each medium that has the same contents
+-- a volume that opened on a medium opened on each medium that has the same contents
 pub opens_on_same : {D : Type 0} (g : Ghosts D) (image image' : Image) (v : Core D) → (g.tells → image' ≡ image) → OpensOn g image v → OpensOn g image' v
 opens_on_same g image image' v same o = record {
   tree = o.tree;

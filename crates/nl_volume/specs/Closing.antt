@@ -20,8 +20,8 @@ pub record EndsAs {M : Type 0} (g : Ghosts (Device M)) (old last : Core (Device 
   pub goes : Goes g 512 old last
   pub medium : media ≡ medium_of last.device
 
--- The medium tells its contents, and clock, count of calls and numbers of transactions have not ended: since the opening, when this was the last one
--- that was begun, they rise by no more than the clock.
+-- The medium tells its contents, and clock, count of calls and numbers of transactions have not ended: since the opening, when this was the
+-- last one that was begun, they rise by no more than the clock.
 pub record IsYoungAtEnd (tells : Type 0) (opening : Opening) (history : List Entry) (begun clock : ℕ) : Type 0 where
   pub told : tells
   pub moments : clock < 2 ^ 63

@@ -11,8 +11,8 @@ use Rattle.nl_calls.specs.Answering.{AnswersOn, Cleans, EndsLine, HasEffectOf, i
 use Rattle.nl_volume_stage.specs.Serving.{counts_of, refusing_of}
 use Rattle.nl_spec_crashes.specs.Effects.{counted}
 
--- A line was refused before it was tried, or tried: its reply is the one that is due, it had its effect, and a fault has its cause. Exactly a sync
--- without a fault has the numbers of one. The worker has no line afterwards, and files have so many pages.
+-- A line was refused before it was tried, or tried: its reply is the one that is due, it had its effect, and a fault has its cause. Exactly
+-- a sync without a fault has the numbers of one. The worker has no line afterwards, and files have so many pages.
 pub record AnswersLine {D : Type 0} (g : Ghosts D) (worker line : ℕ) (call : Call) (old new : Core D) (reply : Reply) (out : List ℕ) (files : ℕ) : Type 0 where
   pub core : IsCore g new
   pub effect : HasEffectOf g call old new reply

@@ -21,8 +21,8 @@ pub record OpensAs {D : Type 0} (g : Ghosts D) (image : Image) (v : Core D) (tre
   pub shape : g.shape v.device ≡ shape_of_image image
   pub next_stamp : g.next_stamp v.device ≡ next_stamp_of image
 
--- Where the medium tells its contents, the volume opened as what the image is, with this tree, and its next transaction has the number that the image
--- tells.
+-- Where the medium tells its contents, the volume opened as what the image is, with this tree, and its next transaction has the number that
+-- the image tells.
 pub record OpensOn {D : Type 0} (g : Ghosts D) (image : Image) (v : Core D) : Type 0 where
   pub tree : Tree
   pub opens : g.tells → OpensAs g image v tree
@@ -38,6 +38,7 @@ medium_in (Memory m) = m
 -- No page is readable; a page is and the image is not sound, with this first place at fault; a read failed; or memory was wanting.
 abbrev pub IsReason : {M : Type 0} → Type 0 → (M → Image) → (M → ℕ) → M → NotOpened M → Type 0
 IsReason tells contents read_faults before (Blank m) = tells → readable_pages (contents before) ≡ []
-IsReason tells contents read_faults before (Damaged m place) = tells → (readable_pages (contents before) ≢ []) × (walk (contents before) ≡ Some place) × (Sound (contents before) → ⊥)
+IsReason tells contents read_faults before (Damaged m place) =
+    tells → (readable_pages (contents before) ≢ []) × (walk (contents before) ≡ Some place) × (Sound (contents before) → ⊥)
 IsReason tells contents read_faults before (Fault m) = Rose (read_faults before) (read_faults m)
 IsReason tells contents read_faults before (Memory m) = ⊤

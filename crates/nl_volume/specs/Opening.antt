@@ -50,8 +50,8 @@ opened_medium (Damaged m place) = m
 opened_medium (Fault m) = m
 opened_medium (Memory m) = m
 
--- What an image opens as: blank where no page is readable, and else a volume where the image is consistent, or damaged at the first place at which
--- a walk finds a fault.
+-- What an image opens as: blank where no page is readable, and else a volume where the image is consistent, or damaged at the first place
+-- at which a walk finds a fault.
 abbrev pub OpensImage : {M : Type 0} → Image → Opened M → Type 0
 OpensImage image (Ready v) = (readable_pages image ≢ []) × Consistent image
 OpensImage image (Blank m) = readable_pages image ≡ []

@@ -8,12 +8,12 @@ use Rattle.nl_core.specs.Trees.{CoreRuns}
 use Rattle.nl_core.specs.declared.state.Core.{Core}
 use Rattle.nl_volume.specs.declared.report.VolumeReport.{VolumeReport}
 
--- It tells the charges of the tree.
+-- The report tells the charges of the tree.
 pub record HasCharges (report : VolumeReport) (tree : Tree) : Type 0 where
   pub pages : report.data_pages ≡ data_charge tree
   pub nodes : report.nodes ≡ node_charge tree
   pub meta : report.meta ≡ meta_charge tree
 
--- They are the charges of each tree as which the core runs.
+-- The report tells the charges of each tree as which the core runs.
 abbrev pub TellsCharges : {D : Type 0} → Ghosts D → Core D → VolumeReport → Type 0
 TellsCharges g v report = (page_of_stamp : ℕ → Option PageOfStamp) (tree : Tree) → CoreRuns g v page_of_stamp tree → HasCharges report tree

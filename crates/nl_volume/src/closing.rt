@@ -32,22 +32,31 @@ pub struct Closed<M: Nand> {
 }
 
 impl<M: Nand> Volume<M> {
-    /// Commits once, unless the volume is read-only or worn, and gives the medium back. What a stop left at any moment since the opening was
-    /// left before it, or is sound as the tree after a prefix of the calls that holds each sync up to that moment. Where a volume that can be
-    /// written to is closed with no fault and no page lost, all calls are committed; where no write failed in it either, the medium ends sound
-    /// as the tree after all calls. So it does where no operation failed since the opening and the volume is not worn.
+    /// Commits once, unless the volume is read-only or worn, and gives the medium back. What a stop left at any moment since the opening
+    /// was left before it, or is sound as the tree after a prefix of the calls that holds each sync up to that moment. Where a volume that
+    /// can be written to is closed with no fault and no page lost, all calls are committed; where no write failed in it either, the medium
+    /// ends sound as the tree after all calls. So it does where no operation failed since the opening and the volume is not worn.
     pub fn close(self) -> Closed<M>
         requires { StandsForSome ⟦<Volume<M> as Kept>⟧.stands self }
-        ensures stops { (v : VolumeOf M) (o : Opening) (h : List TurnEntry) → ⟦<Volume<M> as Kept>⟧.stands v o h self → IsYoungAtEnd M.tells o h (begun_of v.core) (M.clock result.media)
-            → StopsSafely SoundAs (λ m c. M.left (medium_of v.core.device) m c) (λ m c. M.left result.media m c) o.clock (M.clock result.media) (run_of o h) }
-        ensures ends { (v : VolumeOf M) (o : Opening) (h : List TurnEntry) → ⟦<Volume<M> as Kept>⟧.stands v o h self → IsYoungAtEnd M.tells o h (begun_of v.core) (M.clock result.media)
-            → IsCommitted self.core result → (Rose (⟦<Device<M> as Counts>⟧.write_faults self.core.device) (M.write_faults result.media) → ⊥) → SoundAs (M.contents result.media) (o.count + effects h) (tree_after o h) }
-        ensures ends_well { (v : VolumeOf M) (o : Opening) (h : List TurnEntry) → ⟦<Volume<M> as Kept>⟧.stands v o h self → IsYoungAtEnd M.tells o h (begun_of v.core) (M.clock result.media)
-            → (FaultRose (opening_counts o) (counts_on M.clock M.read_faults M.write_faults result.media) → ⊥) → result.worn ≡ false → SoundAs (M.contents result.media) (o.count + effects h) (tree_after o h) }
+        ensures stops { (v : VolumeOf M) (o : Opening) (h : List TurnEntry) → ⟦<Volume<M> as Kept>⟧.stands v o h self
+            → IsYoungAtEnd M.tells o h (begun_of v.core) (M.clock result.media)
+            → StopsSafely SoundAs (λ m c. M.left (medium_of v.core.device) m c) (λ m c. M.left result.media m c) o.clock
+            (M.clock result.media) (run_of o h) }
+        ensures ends { (v : VolumeOf M) (o : Opening) (h : List TurnEntry) → ⟦<Volume<M> as Kept>⟧.stands v o h self
+            → IsYoungAtEnd M.tells o h (begun_of v.core) (M.clock result.media)
+            → IsCommitted self.core result
+            → (Rose (⟦<Device<M> as Counts>⟧.write_faults self.core.device) (M.write_faults result.media) → ⊥)
+            → SoundAs (M.contents result.media) (o.count + effects h) (tree_after o h) }
+        ensures ends_well { (v : VolumeOf M) (o : Opening) (h : List TurnEntry) → ⟦<Volume<M> as Kept>⟧.stands v o h self
+            → IsYoungAtEnd M.tells o h (begun_of v.core) (M.clock result.media)
+            → (FaultRose (opening_counts o) (counts_on M.clock M.read_faults M.write_faults result.media) → ⊥) → result.worn ≡ false
+            → SoundAs (M.contents result.media) (o.count + effects h) (tree_after o h) }
         ensures commits { IsCommitted self.core result → CommitsLast ⟦<Device<M> as Counts>⟧ self.core result.media }
         ensures left { (self.core.stopped ≢ 0) ⊎ (result.worn ≡ true) → result.media ≡ medium_of self.core.device }
-        ensures counts { NeverFall (counts_of ⟦<Device<M> as Counts>⟧ self.core.device) (counts_on M.clock M.read_faults M.write_faults result.media) }
-        ensures fault { result.fault ≡ true → FaultRose (counts_of ⟦<Device<M> as Counts>⟧ self.core.device) (counts_on M.clock M.read_faults M.write_faults result.media) }
+        ensures counts { NeverFall (counts_of ⟦<Device<M> as Counts>⟧ self.core.device)
+            (counts_on M.clock M.read_faults M.write_faults result.media) }
+        ensures fault { result.fault ≡ true → FaultRose (counts_of ⟦<Device<M> as Counts>⟧ self.core.device)
+            (counts_on M.clock M.read_faults M.write_faults result.media) }
         ensures lost { M.tells → result.lost ≡ false }
         ensures worn { IsTrue result.worn ↔ 2 ^ 62 ≤ ⟦<Device<M> as Counts>⟧.next_stamp self.core.device }
     {

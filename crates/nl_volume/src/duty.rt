@@ -1,3 +1,4 @@
+// A background task on a volume.
 ghost use Rattle.std.specs.Prelude.{◌≡◌, ℕ, List, ◌++◌, ◌∷◌, []};
 ghost use Rattle.nl_tree.specs.Causes.{FaultRose, LostHasCause, NeverFall};
 ghost use Rattle.nl_core.specs.Duties.{DoesDuty};
@@ -23,15 +24,21 @@ impl<M: Nand> Volume<M> {
     /// the task has nothing to do.
     pub fn duty(&mut self, which: Duty) -> DutyAnswer
         requires { StandsForSome ⟦<Volume<M> as Kept>⟧.stands self.old }
-        ensures stands { (v : VolumeOf M) (o : Opening) (h : List TurnEntry) → ⟦<Volume<M> as Kept>⟧.stands v o h self.old → ⟦<Volume<M> as Kept>⟧.stands v o (h ++ duty_entry result ∷ []) self.new }
+        ensures stands { (v : VolumeOf M) (o : Opening) (h : List TurnEntry) → ⟦<Volume<M> as Kept>⟧.stands v o h self.old
+            → ⟦<Volume<M> as Kept>⟧.stands v o (h ++ duty_entry result ∷ []) self.new }
         ensures does { DoesDuty ⟦<Device<M> as Counts>⟧
             (moving ⟦<Device<M> as MovingPages>⟧.victim ⟦<Device<M> as MovingPages>⟧.most_dead ⟦<Device<M> as MovingPages>⟧.coldest ⟦<Device<M> as MovingPages>⟧.blank)
             which self.old.core self.new.core result }
-        ensures counts { NeverFall (counts_of ⟦<Device<M> as Counts>⟧ self.old.core.device) (counts_of ⟦<Device<M> as Counts>⟧ self.new.core.device) }
+        ensures counts { NeverFall (counts_of ⟦<Device<M> as Counts>⟧ self.old.core.device)
+            (counts_of ⟦<Device<M> as Counts>⟧ self.new.core.device) }
         ensures less { NoMoreToStage (to_stage_of self.old.core.flight) (to_stage_of self.new.core.flight) }
-        ensures read_only { StaysReadOnly (counts_of ⟦<Device<M> as Counts>⟧ self.old.core.device) (counts_of ⟦<Device<M> as Counts>⟧ self.new.core.device) (some_number self.old.core.stopped) (some_number self.new.core.stopped) }
-        ensures staged { (w : ℕ) (l : ℕ) → (refusing_of ⟦<Device<M> as Counts>⟧ self.new.core w l).staged ≡ (refusing_of ⟦<Device<M> as Counts>⟧ self.old.core w l).staged }
-        ensures fault { result ≡ DutyAnswer.Fault → FaultRose (counts_of ⟦<Device<M> as Counts>⟧ self.old.core.device) (counts_of ⟦<Device<M> as Counts>⟧ self.new.core.device) }
+        ensures read_only { StaysReadOnly (counts_of ⟦<Device<M> as Counts>⟧ self.old.core.device)
+            (counts_of ⟦<Device<M> as Counts>⟧ self.new.core.device) (some_number self.old.core.stopped)
+            (some_number self.new.core.stopped) }
+        ensures staged { (w : ℕ) (l : ℕ) → (refusing_of ⟦<Device<M> as Counts>⟧ self.new.core w l).staged
+            ≡ (refusing_of ⟦<Device<M> as Counts>⟧ self.old.core w l).staged }
+        ensures fault { result ≡ DutyAnswer.Fault
+            → FaultRose (counts_of ⟦<Device<M> as Counts>⟧ self.old.core.device) (counts_of ⟦<Device<M> as Counts>⟧ self.new.core.device) }
         ensures lost { (wanted : ℕ) (found : ℕ) → result ≡ DutyAnswer.Lost wanted found → LostHasCause M.tells wanted found }
         ensures wear { (self.new.least ≡ self.old.least) × (self.new.greatest ≡ self.old.greatest) }
     {

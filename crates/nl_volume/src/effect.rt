@@ -1,3 +1,4 @@
+// The effect of a line on a volume, and its reply.
 ghost use Rattle.std.specs.Prelude.{◌≡◌, ◌≢◌, ◌≤◌, ◌<◌, ◌++◌, ◌∷◌, [], ℕ, None};
 ghost use Rattle.nl_tree.specs.Causes.{FaultIsDue, NeverFall, fault_due};
 ghost use Rattle.nl_tree.specs.Replay.{Answers};
@@ -22,22 +23,35 @@ use nl_turns::Kept;
 use nl_volume_stage::{counts, leave_other, refusal};
 
 impl<M: Nand> Volume<M> {
-    /// The effect of a line: its place in the order of all calls, its number among the effects since the opening, and its reply, with the bytes
-    /// that belong to it in the buffer. A line whose staging failed is answered with that number; one that changes something is refused on a
-    /// volume that is read-only or worn; else a fault comes only of what failed within. Pages in flight of another line of the worker are freed
-    /// first, and nothing of the worker is in flight afterwards. A call for cleaning that is done did a round of reclaiming.
+    /// The effect of a line: its place in the order of all calls, its number among the effects since the opening, and its reply, with the
+    /// bytes that belong to it in the buffer. A line whose staging failed is answered with that number; one that changes something is
+    /// refused on a volume that is read-only or worn; else a fault comes only of what failed within. Pages in flight of another line of the
+    /// worker are freed first, and nothing of the worker is in flight afterwards. A call for cleaning that is done did a round of
+    /// reclaiming.
     pub fn effect(&mut self, worker: u8, line: u32, call: &Call, out: &mut ReplyBuf) -> Answered
         requires { StandsForSomeWithLine ⟦<Volume<M> as Kept>⟧.stands self.old worker line call.now }
-        ensures stands { FromEachWithLine ⟦<Volume<M> as Kept>⟧.stands self.old worker line call.now (λ v o h. ⟦<Volume<M> as Kept>⟧.stands v o (h ++ effect_entry line result.reply ∷ []) self.new) }
-        ensures counts { NeverFall (counts_of ⟦<Device<M> as Counts>⟧ self.old.core.device) (counts_of ⟦<Device<M> as Counts>⟧ self.new.core.device) }
+        ensures stands { FromEachWithLine ⟦<Volume<M> as Kept>⟧.stands self.old worker line call.now
+            (λ v o h. ⟦<Volume<M> as Kept>⟧.stands v o (h ++ effect_entry line result.reply ∷ []) self.new) }
+        ensures counts { NeverFall (counts_of ⟦<Device<M> as Counts>⟧ self.old.core.device)
+            (counts_of ⟦<Device<M> as Counts>⟧ self.new.core.device) }
         ensures less { (w : ℕ) (l : ℕ) → w ≢ worker → to_stage_of self.new.core.flight w l ≤ to_stage_of self.old.core.flight w l }
-        ensures read_only { StaysReadOnly (counts_of ⟦<Device<M> as Counts>⟧ self.old.core.device) (counts_of ⟦<Device<M> as Counts>⟧ self.new.core.device) (some_number self.old.core.stopped) (some_number self.new.core.stopped) }
-        ensures staged { (w : ℕ) (l : ℕ) → w ≢ worker → (refusing_of ⟦<Device<M> as Counts>⟧ self.new.core w l).staged ≡ (refusing_of ⟦<Device<M> as Counts>⟧ self.old.core w l).staged }
-        ensures place { FromEachWithLine ⟦<Volume<M> as Kept>⟧.stands self.old worker line call.now (λ v o h. result.place ≡ place_due o h line result.reply) }
-        ensures ordinal { FromEachWithLine ⟦<Volume<M> as Kept>⟧.stands self.old worker line call.now (λ v o h. result.ordinal ≡ ordinal_due h line result.reply) }
-        ensures answer { M.tells → FromEachWithLine ⟦<Volume<M> as Kept>⟧.stands self.old worker line call.now (λ v o h. Answers (outcome_due o h call.now result.reply) result.reply out.new) }
-        ensures cause { FaultIsDue M.tells (refusing_of ⟦<Device<M> as Counts>⟧ self.old.core worker line) (counts_of ⟦<Device<M> as Counts>⟧ self.old.core.device) (counts_of ⟦<Device<M> as Counts>⟧ self.new.core.device) call.now result.reply }
-        ensures since_opening { FromEachWithLine ⟦<Volume<M> as Kept>⟧.stands self.old worker line call.now (λ v o h. FaultHasCause M.tells o (counts_of ⟦<Device<M> as Counts>⟧ self.new.core.device) call.now result.reply) }
+        ensures read_only { StaysReadOnly (counts_of ⟦<Device<M> as Counts>⟧ self.old.core.device)
+            (counts_of ⟦<Device<M> as Counts>⟧ self.new.core.device) (some_number self.old.core.stopped)
+            (some_number self.new.core.stopped) }
+        ensures staged { (w : ℕ) (l : ℕ) → w ≢ worker
+            → (refusing_of ⟦<Device<M> as Counts>⟧ self.new.core w l).staged
+            ≡ (refusing_of ⟦<Device<M> as Counts>⟧ self.old.core w l).staged }
+        ensures place { FromEachWithLine ⟦<Volume<M> as Kept>⟧.stands self.old worker line call.now
+            (λ v o h. result.place ≡ place_due o h line result.reply) }
+        ensures ordinal { FromEachWithLine ⟦<Volume<M> as Kept>⟧.stands self.old worker line call.now
+            (λ v o h. result.ordinal ≡ ordinal_due h line result.reply) }
+        ensures answer { M.tells → FromEachWithLine ⟦<Volume<M> as Kept>⟧.stands self.old worker line call.now
+            (λ v o h. Answers (outcome_due o h call.now result.reply) result.reply out.new) }
+        ensures cause { FaultIsDue M.tells (refusing_of ⟦<Device<M> as Counts>⟧ self.old.core worker line)
+            (counts_of ⟦<Device<M> as Counts>⟧ self.old.core.device)
+            (counts_of ⟦<Device<M> as Counts>⟧ self.new.core.device) call.now result.reply }
+        ensures since_opening { FromEachWithLine ⟦<Volume<M> as Kept>⟧.stands self.old worker line call.now
+            (λ v o h. FaultHasCause M.tells o (counts_of ⟦<Device<M> as Counts>⟧ self.new.core.device) call.now result.reply) }
         ensures cleaned { call.now ≡ Clean → result.reply ≡ Reply.Done → CleansAndCounts ⟦<Device<M> as Counts>⟧
             (moving ⟦<Device<M> as MovingPages>⟧.victim ⟦<Device<M> as MovingPages>⟧.most_dead ⟦<Device<M> as MovingPages>⟧.coldest ⟦<Device<M> as MovingPages>⟧.blank)
             self.old.core self.new.core }
@@ -95,7 +109,7 @@ fn answer<D: MovingPages>(
     }
 }
 
-// The same of a line that is not refused before it is tried.
+// What a line is answered that is not refused before it is tried.
 fn try_line<D: MovingPages>(
     core: &mut Core<D>,
     worker: u8,

@@ -15,8 +15,8 @@ use nl_volume_format::Made;
 use std::alloc::Global;
 
 impl<M: Nand> Volume<M> {
-    /// Makes an empty volume of these numbers on a medium: it stands for the empty tree after no call. Whatever the medium held is gone. A stop
-    /// after the forming leaves a blank image, one damaged at its super page, or the empty volume.
+    /// Makes an empty volume of these numbers on a medium: it stands for the empty tree after no call. Whatever the medium held is gone. A
+    /// stop after the forming leaves a blank image, one damaged at its super page, or the empty volume.
     pub fn make(alloc: Global, media: M, blocks: u32, pages: u32) -> Made<M>
         requires { IsTrue (is_legal blocks pages) }
         ensures done { IfDone result (λ m. M.geometry m ≡ record { blocks = blocks; pages = pages }) }

@@ -31,15 +31,19 @@ pub enum NotOpened<M: Nand> {
     Memory(M),
 }
 
-/// The volume of a medium, which is only read, or why there is none. Over a medium that tells its contents it opens as what the image is: its
-/// tree, its next write sequence number, the number of its next transaction, its pairs and its wear are those of the image. It stands for a run of
-/// whatever lines from the tree as which the image is sound.
+/// The volume of a medium, which is only read, or why there is none. Over a medium that tells its contents it opens as what the image is:
+/// its tree, its next write sequence number, the number of its next transaction, its pairs and its wear are those of the image. It stands
+/// for a run of whatever lines from the tree as which the image is sound.
 pub fn open<M: Nand>(alloc: Global, media: M) -> Result<Volume<M>, NotOpened<M>>
     ensures opened { IfOk result (λ v. OpensOn ⟦<Device<M> as Counts>⟧ (M.contents media) v.core) }
     ensures pairs { IfOk result (λ v. M.tells → (⟦<Device<M> as Counts>⟧.names v.core.device).space.pairs ≡ pairs_of (M.contents media)) }
-    ensures wear { IfOk result (λ v. M.tells → (v.least ≡ least_wear (M.contents media)) × (v.greatest ≡ greatest_wear (M.contents media))) }
-    ensures stands { IfOk result (λ v. (tree : Tree) (lines : List Line) → EachIsLine lines → (M.tells → SoundAs (M.contents media) v.core.count tree) → ⟦<Volume<M> as Kept>⟧.stands v (opening_of ⟦<Device<M> as Counts>⟧ v.core tree lines) [] v) }
-    ensures only_read { IfOk result (λ v. OnlyReadsMedium M.tells M.contents M.clock M.write_faults M.left media (medium_of v.core.device)) }
+    ensures wear { IfOk result (λ v. M.tells → (v.least ≡ least_wear (M.contents media))
+        × (v.greatest ≡ greatest_wear (M.contents media))) }
+    ensures stands { IfOk result (λ v. (tree : Tree) (lines : List Line) → EachIsLine lines
+        → (M.tells → SoundAs (M.contents media) v.core.count tree)
+        → ⟦<Volume<M> as Kept>⟧.stands v (opening_of ⟦<Device<M> as Counts>⟧ v.core tree lines) [] v) }
+    ensures only_read { IfOk result (λ v. OnlyReadsMedium M.tells M.contents M.clock M.write_faults M.left media
+        (medium_of v.core.device)) }
     ensures no_fault { IfOk result (λ v. M.read_faults (medium_of v.core.device) ≡ M.read_faults media) }
     ensures why { IfErr result (λ why. IsReason M.tells M.contents M.read_faults media why) }
     ensures left { IfErr result (λ why. OnlyReadsMedium M.tells M.contents M.clock M.write_faults M.left media (medium_in why)) }

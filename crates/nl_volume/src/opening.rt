@@ -39,16 +39,23 @@ pub enum Opened<M: Nand> {
 impl<M: Nand> Volume<M> {
     /// Opens the volume on a medium, which is only read. Over a medium that tells what it stores it is blank exactly where no page is
     /// readable, and else opened exactly where the image is consistent, or damaged at the walk's first fault. Opened, it stands for a run
-    /// from its count on, and from the tree as which the image is sound, with any lines that are to come. Its next write sequence number, the
-    /// number of its next transaction, how many pairs it has, and the least and the greatest wear that it keeps are what the image tells.
+    /// from its count on, and from the tree as which the image is sound, with any lines that are to come. Its next write sequence number,
+    /// the number of its next transaction, how many pairs it has, and the least and the greatest wear that it keeps are what the image
+    /// tells.
     pub fn open_volume(alloc: Global, media: M) -> Opened<M>
-        ensures stands { (tree : Tree) (lines : List LineOf) → EachIsLine lines → IfOpened result (λ v. (M.tells → SoundAs (M.contents media) v.core.count tree) → ⟦<Volume<M> as Kept>⟧.stands v (opening_of ⟦<Device<M> as Counts>⟧ v.core tree lines) [] v) }
+        ensures stands { (tree : Tree) (lines : List LineOf) → EachIsLine lines
+            → IfOpened result (λ v. (M.tells → SoundAs (M.contents media) v.core.count tree)
+            → ⟦<Volume<M> as Kept>⟧.stands v (opening_of ⟦<Device<M> as Counts>⟧ v.core tree lines) [] v) }
         ensures sound { M.tells → IfOpened result (λ v. (tree : Tree) × SoundAs (M.contents media) v.core.count tree) }
         ensures told { M.tells → OpensImage (M.contents media) result }
-        ensures next_stamp { M.tells → IfOpened result (λ v. ⟦<Device<M> as Counts>⟧.next_stamp v.core.device ≡ next_stamp_of (M.contents media)) }
-        ensures number { M.tells → IfOpened result (λ v. begun_of v.core + 1 ≡ next_number (shape_of_image (M.contents media)) (virtual_bytes (M.contents media))) }
-        ensures pairs { M.tells → IfOpened result (λ v. (⟦<Device<M> as Counts>⟧.names v.core.device).space.pairs ≡ pairs_of (M.contents media)) }
-        ensures wear { M.tells → IfOpened result (λ v. (v.least ≡ least_wear (M.contents media)) × (v.greatest ≡ greatest_wear (M.contents media))) }
+        ensures next_stamp { M.tells → IfOpened result (λ v. ⟦<Device<M> as Counts>⟧.next_stamp v.core.device
+            ≡ next_stamp_of (M.contents media)) }
+        ensures number { M.tells → IfOpened result (λ v. begun_of v.core + 1
+            ≡ next_number (shape_of_image (M.contents media)) (virtual_bytes (M.contents media))) }
+        ensures pairs { M.tells → IfOpened result (λ v. (⟦<Device<M> as Counts>⟧.names v.core.device).space.pairs
+            ≡ pairs_of (M.contents media)) }
+        ensures wear { M.tells → IfOpened result (λ v. (v.least ≡ least_wear (M.contents media))
+            × (v.greatest ≡ greatest_wear (M.contents media))) }
         ensures medium { OnlyReadsMedium M.tells M.contents M.clock M.write_faults M.left media (opened_medium result) }
         ensures fault { IsFault result → Rose (M.read_faults media) (M.read_faults (opened_medium result)) }
         ensures no_fault { (IsFault result → ⊥) → M.read_faults (opened_medium result) ≡ M.read_faults media }

@@ -30,8 +30,8 @@ pub struct VolumeReport {
 }
 
 impl<M: Nand> Volume<M> {
-    /// What its tree takes of it now, how many pairs it has now, the least and the greatest wear of the pages that were readable at its opening,
-    /// and its next write sequence number.
+    /// What its tree takes of it now, how many pairs it has now, the least and the greatest wear of the pages that were readable at its
+    /// opening, and its next write sequence number.
     pub fn report(&self) -> VolumeReport
         requires { StandsForSome ⟦<Volume<M> as Kept>⟧.stands self.now }
         ensures charges { TellsCharges ⟦<Device<M> as Counts>⟧ self.now.core result }

@@ -1,3 +1,4 @@
+// A volume as that with which workers take turns.
 use crate::volume::Volume;
 use nl_device::Device;
 use nl_iface::Counts;

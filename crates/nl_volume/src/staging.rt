@@ -1,3 +1,4 @@
+// The staging of one page of a line ahead of its effect.
 ghost use Rattle.std.specs.Prelude.{◌≡◌, ◌≢◌, ◌⊎◌, ◌↔◌, ◌≤◌, ◌^◌, ℕ, ◌++◌, ◌∷◌, []};
 ghost use Rattle.nl_tree.specs.Causes.{FaultRose, LostHasCause, NeverFall, fault_sum};
 ghost use Rattle.nl_turns.specs.Served.{FromEachWithLine, KeepsStagedFaults, StagesLess, StandsForSomeWithLine, StaysReadOnly, is_fault, is_staged, stage_entry};
@@ -14,19 +15,27 @@ use nl_volume_stage::stage_line;
 
 impl<M: Nand> Volume<M> {
     /// Stages one whole page of a line ahead of its effect: it is programmed, and in flight from now on. `Stopped` comes exactly where the
-    /// volume is read-only or worn, `Whole` where no whole page of the line is left: its path leads to no file, or it has no further page that
-    /// lies wholly in its range, or its range ends behind the greatest size. Where none is left, `Fault` and `Lost` come only from reading what
-    /// the path leads to. Pages in flight of another line of the worker are freed first.
+    /// volume is read-only or worn, `Whole` where no whole page of the line is left: its path leads to no file, or it has no further page
+    /// that lies wholly in its range, or its range ends behind the greatest size. Where none is left, `Fault` and `Lost` come only from
+    /// reading what the path leads to. Pages in flight of another line of the worker are freed first.
     pub fn stage(&mut self, worker: u8, line: u32, call: &Call) -> Stage
         requires { StandsForSomeWithLine ⟦<Volume<M> as Kept>⟧.stands self.old worker line call.now }
-        ensures stands { FromEachWithLine ⟦<Volume<M> as Kept>⟧.stands self.old worker line call.now (λ v o h. ⟦<Volume<M> as Kept>⟧.stands v o (h ++ stage_entry line result ∷ []) self.new) }
+        ensures stands { FromEachWithLine ⟦<Volume<M> as Kept>⟧.stands self.old worker line call.now
+            (λ v o h. ⟦<Volume<M> as Kept>⟧.stands v o (h ++ stage_entry line result ∷ []) self.new) }
         ensures left { TellsLeft ⟦<Device<M> as Counts>⟧ worker line call.now self.old.core self.new.core result }
-        ensures stopped { result ≡ Stage.Stopped ↔ (self.old.core.stopped ≢ 0) ⊎ (2 ^ 62 ≤ ⟦<Device<M> as Counts>⟧.next_stamp self.old.core.device) }
-        ensures counts { NeverFall (counts_of ⟦<Device<M> as Counts>⟧ self.old.core.device) (counts_of ⟦<Device<M> as Counts>⟧ self.new.core.device) }
+        ensures stopped { result ≡ Stage.Stopped ↔ (self.old.core.stopped ≢ 0)
+            ⊎ (2 ^ 62 ≤ ⟦<Device<M> as Counts>⟧.next_stamp self.old.core.device) }
+        ensures counts { NeverFall (counts_of ⟦<Device<M> as Counts>⟧ self.old.core.device)
+            (counts_of ⟦<Device<M> as Counts>⟧ self.new.core.device) }
         ensures less { StagesLess (to_stage_of self.old.core.flight) (to_stage_of self.new.core.flight) worker line (is_staged result) }
-        ensures read_only { StaysReadOnly (counts_of ⟦<Device<M> as Counts>⟧ self.old.core.device) (counts_of ⟦<Device<M> as Counts>⟧ self.new.core.device) (some_number self.old.core.stopped) (some_number self.new.core.stopped) }
-        ensures staged { KeepsStagedFaults (refusing_of ⟦<Device<M> as Counts>⟧ self.old.core) (refusing_of ⟦<Device<M> as Counts>⟧ self.new.core) worker line (is_fault result) (fault_sum (counts_of ⟦<Device<M> as Counts>⟧ self.new.core.device)) }
-        ensures fault { result ≡ Stage.Fault → FaultRose (counts_of ⟦<Device<M> as Counts>⟧ self.old.core.device) (counts_of ⟦<Device<M> as Counts>⟧ self.new.core.device) }
+        ensures read_only { StaysReadOnly (counts_of ⟦<Device<M> as Counts>⟧ self.old.core.device)
+            (counts_of ⟦<Device<M> as Counts>⟧ self.new.core.device) (some_number self.old.core.stopped)
+            (some_number self.new.core.stopped) }
+        ensures staged { KeepsStagedFaults (refusing_of ⟦<Device<M> as Counts>⟧ self.old.core)
+            (refusing_of ⟦<Device<M> as Counts>⟧ self.new.core) worker line (is_fault result)
+            (fault_sum (counts_of ⟦<Device<M> as Counts>⟧ self.new.core.device)) }
+        ensures fault { result ≡ Stage.Fault
+            → FaultRose (counts_of ⟦<Device<M> as Counts>⟧ self.old.core.device) (counts_of ⟦<Device<M> as Counts>⟧ self.new.core.device) }
         ensures lost { (wanted : ℕ) (found : ℕ) → result ≡ Stage.Lost wanted found → LostHasCause M.tells wanted found }
         ensures wear { (self.new.least ≡ self.old.least) × (self.new.greatest ≡ self.old.greatest) }
     {

@@ -14,7 +14,7 @@ pub trait Told {
     /// The opening of a run by it, with this tree and these lines to come.
     ghost opening: { Self → Tree → List Line → Opening };
 
-    /// It opened as what the image is, where its medium tells its contents.
+    /// The volume opened as what the image is, where its medium tells its contents.
     ghost opened_on: { Image → Self → Type 0 };
 }
 

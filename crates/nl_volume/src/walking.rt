@@ -19,12 +19,13 @@ use nl_volume_list::{TreeItem, TreeWalk};
 use nl_volume_stage::counts;
 
 impl<M: Nand> Volume<M> {
-    /// The next path of its tree, and what stands there; the walk holds that path then. `End` comes exactly where no path is left. After `End`,
-    /// `Fault` and `Lost` the walk stays. No call had its effect since the walk was made. Pages are only read.
+    /// The next path of its tree, and what stands there; the walk holds that path then. `End` comes exactly where no path is left. After
+    /// `End`, `Fault` and `Lost` the walk stays. No call had its effect since the walk was made. Pages are only read.
     pub fn next_path(&mut self, walk: &mut TreeWalk) -> TreeItem
         requires stands { StandsForSome ⟦<Volume<M> as Kept>⟧.stands self.old }
         requires way { IsOnWay ⟦<Device<M> as Counts>⟧ self.old.core walk.old }
-        ensures stands { (v : VolumeOf M) (o : Opening) (h : List TurnEntry) → ⟦<Volume<M> as Kept>⟧.stands v o h self.old → ⟦<Volume<M> as Kept>⟧.stands v o h self.new }
+        ensures stands { (v : VolumeOf M) (o : Opening) (h : List TurnEntry) → ⟦<Volume<M> as Kept>⟧.stands v o h self.old
+            → ⟦<Volume<M> as Kept>⟧.stands v o h self.new }
         ensures same { ReadsOn ⟦<Device<M> as Counts>⟧ self.old.core self.new.core }
         ensures rest { self.new ≡ record self.old { core = self.new.core } }
         ensures way { IsOnWay ⟦<Device<M> as Counts>⟧ self.new.core walk.new }

@@ -19,10 +19,11 @@ pub record IsBegun (blocks pages : ℕ) (image : Image) : Type 0 where
   pub same_pages : image.pages ≡ pages
   pub root : (page_at image 0 ≡ erased) ⊎ ((page_at image 0 ≡ uncorrectable) ⊎ (page_at image 0 ≡ written formatted_root))
   pub numbers : (page_at image 1 ≡ erased)
-      ⊎ ((page_at image 0 ≡ written formatted_root) × ((page_at image 1 ≡ uncorrectable) ⊎ (page_at image 1 ≡ written (formatted_super blocks pages))))
+      ⊎ ((page_at image 0 ≡ written formatted_root)
+      × ((page_at image 1 ≡ uncorrectable) ⊎ (page_at image 1 ≡ written (formatted_super blocks pages))))
   pub others : (p : ℕ) → 2 ≤ p → page_at image p ≡ erased
 
--- It opens as blank, as damaged at its super page, or as the tree with only the root after no call.
+-- The image opens as blank, as damaged at its super page, or as the tree with only the root after no call.
 abbrev pub OpensAsNew : Image → Type 0
 OpensAsNew image = (readable_pages image ≡ []) ⊎ ((walk image ≡ Some (record { place = 0; what = Super })) ⊎ SoundAs image 0 empty_tree)
 

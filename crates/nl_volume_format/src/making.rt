@@ -17,7 +17,7 @@ use std::alloc::Global;
 /// What making a volume answers: the medium.
 #[derive(Drop)]
 pub enum Made<M: Nand> {
-    /// It holds an empty volume.
+    /// The medium holds an empty volume.
     Done(M),
     /// The forming or a program failed.
     Fault(M),
@@ -25,7 +25,8 @@ pub enum Made<M: Nand> {
 }
 
 /// Makes an empty volume of these numbers on a medium: it is formed, and then the first page of nodes and the super page are written, which
-/// have the first two write sequence numbers and no wear. Whatever it held is gone. A stop after the forming leaves a blank image, one damaged at its super page, or the empty volume.
+/// have the first two write sequence numbers and no wear. Whatever it held is gone. A stop after the forming leaves a blank image, one
+/// damaged at its super page, or the empty volume.
 pub fn make<M: Nand>(alloc: Global, media: M, blocks: u32, pages: u32) -> Made<M>
     requires { IsTrue (is_legal blocks pages) }
     ensures done { IfDone result (λ m. M.geometry m ≡ record { blocks = blocks; pages = pages }) }

@@ -119,6 +119,6 @@ module _ {D : Type 0} (g : Ghosts D) (s : D) (p : Pages) where
           let held = resident_is_running (stored_on g t) q rec (λ i h. there (i / 64) (omega (arith, h))) in
           record { directory = held.directory.0 (owned.directory right); entries = sym held.entries ∙ owned.entries }
 
-      -- they are those that it had before
+      -- the entries are those that the directory had before
       pub held-before : (r : Pages) → HasEntries g t q r rec → HasEntries g s p r rec
       held-before r has = record { directory = has.directory; entries = has.entries ∙ (own (g.shape s) bounds (running_on g s p) (running_on g t q) on.needed n rec is dir).entries }

@@ -69,7 +69,7 @@ module _ (graph : Graph) (walk : WalkState) (way : OnWay graph walk) (begun : wa
       end : drop i walk.path ≡ []
       end = drop-all walk.path i (omega (arith, whole))
 
-      -- it goes on at the least entry of its node,
+      -- the walk goes on at the least entry of its node
       pub leads-first : (entry : EntryRec) → HasLeastBehind graph (get_or walk.nodes i 0) [] entry → LeadsOn graph walk (record { kept = i; entry = entry })
       leads-first entry least = record {
         kept = low;
@@ -77,7 +77,7 @@ module _ (graph : Graph) (walk : WalkState) (way : OnWay graph walk) (begun : wa
         next = first-next graph walk.path (take i walk.path) (drop i walk.path) (get_or walk.nodes i 0) (node-at i low) (parts i) entry end (named (get_or walk.nodes i 0)) least;
       }
 
-      -- and where it has none, there is nothing under its path
+      -- where the node has no entry, there is nothing under the path of the walk
       pub under-first : HasNoneBehind graph (get_or walk.nodes i 0) [] → NoneUnder graph walk.path walk.path
       under-first none =
           subst (NoneUnder graph walk.path) (take_all i walk.path (omega (arith, whole)))
@@ -90,7 +90,7 @@ module _ (graph : Graph) (walk : WalkState) (way : OnWay graph walk) (begun : wa
       under-name : NoneUnder graph walk.path (take j walk.path ++ h ∷ [])
       under-name = subst (NoneUnder graph walk.path) (take-step walk.path j h at) deeper
 
-      -- it goes on at the least entry behind a name of its path,
+      -- the walk goes on at the least entry behind a name of its path
       pub leads-beside : (entry : EntryRec) → HasLeastBehind graph (get_or walk.nodes j 0) h entry → LeadsOn graph walk (record { kept = j; entry = entry })
       leads-beside entry least = record {
         kept = within;
@@ -98,7 +98,7 @@ module _ (graph : Graph) (walk : WalkState) (way : OnWay graph walk) (begun : wa
         next = beside-next graph walk.path (take j walk.path) (drop j walk.path) (get_or walk.nodes j 0) (node-at j within) (parts j) entry h (drop (j + 1) walk.path) (drop-step walk.path j h at) least under-name;
       }
 
-      -- and where there is none, nothing is left under what is before that name
+      -- where there is no entry behind that name, nothing is left under what is before it
       pub under-beside : HasNoneBehind graph (get_or walk.nodes j 0) h → NoneUnder graph walk.path (take j walk.path)
       under-beside none =
           climbed graph walk.path (take j walk.path) (drop j walk.path) (get_or walk.nodes j 0) (node-at j within) (parts j) h (drop (j + 1) walk.path) (drop-step walk.path j h at) none under-name

@@ -59,7 +59,7 @@ module _ (es : List EntryRec) (k : ℕ) (e : EntryRec) (at : slice_get es k ≡ 
   last-more = subst (λ (xs : List EntryRec). Has xs e) (sym one-more) (append-member-right (take k es) (e ∷ []) e (inl refl))
 
   module _ (after : List ℕ) where
-    -- it does not come behind the name
+    -- the entry does not come behind the name
     pub least-before : (o : Option EntryRec) → IsLeastOf (take k es) after o → is_behind after e.name ≡ false → IsLeastOf (take (k + 1) es) after o
     least-before None none out = λ x h. by x (of-more x h)
       where
@@ -72,7 +72,7 @@ module _ (es : List EntryRec) (k : ℕ) (e : EntryRec) (at : slice_get es k ≡ 
         by x b (inl m) = least.least x m b
         by x b (inr s) = absurd (true-false (sym b ∙ sym (ap (λ (y : EntryRec). is_behind after y.name) s) ∙ out))
 
-    -- it does not come before the least so far
+    -- the entry does not come before the least so far
     pub least-stays : (o : Option EntryRec) → IsLeastOf (take k es) after o → is_lesser e o ≡ false → IsLeastOf (take (k + 1) es) after o
     least-stays None none out = absurd (true-false out)
     least-stays (Some l) least out = record { has = is-more l least.has; behind = least.behind; least = λ x h b. by x b (of-more x h) }
@@ -81,7 +81,7 @@ module _ (es : List EntryRec) (k : ℕ) (e : EntryRec) (at : slice_get es k ≡ 
         by x b (inl m) = least.least x m b
         by x b (inr s) = subst (λ (y : EntryRec). is_behind y.name l.name ≡ false) s out
 
-    -- it is the least
+    -- the entry is the least
     pub least-now : (o : Option EntryRec) → IsLeastOf (take k es) after o → is_behind after e.name ≡ true → is_lesser e o ≡ true → IsLeastOf (take (k + 1) es) after (Some e)
     least-now o least behind lesser = record { has = last-more; behind = behind; least = λ x h b. by o least lesser x b (of-more x h) }
       where

@@ -133,7 +133,7 @@ module _ {D : Type 0} (g : Ghosts D) (u v : Core D) (volume : IsVolumeShape (g.s
     room = is.room ∙ sym (ap (λ s. s.nodes) on.runs.reads.medium.virtual.same_shape);
   }
 
-  -- it goes on, or stays
+  -- the walk goes on, or stays
   pub way-after : (old new : WalkState) (there : Path) (b : Bool) → IsOnWay g u old → (b ≡ true → GaveAt (nodes_of g u) old new there) → (b ≡ false → new ≡ old) → IsOnWay g v new
   way-after old new there true is gave stays =
       let h = gave refl in

@@ -9,7 +9,7 @@ use Rattle.nl_core.specs.Trees.{CoreRuns}
 use Rattle.nl_core.specs.declared.state.Core.{Core}
 use Rattle.nl_volume_list.specs.declared.counting.Taken.{Taken}
 
--- They are the charges of each tree as which the core runs: its nodes, and its pages of entries and of pointers.
+-- The counts are the charges of a tree: its nodes, and its pages of entries and of pointers.
 pub record IsCharged (taken : Taken) (tree : Tree) : Type 0 where
   pub nodes : taken.nodes ≡ node_charge tree
   pub meta : taken.meta ≡ meta_charge tree
@@ -17,6 +17,8 @@ pub record IsCharged (taken : Taken) (tree : Tree) : Type 0 where
 abbrev pub CountsCharges : {D : Type 0} → Ghosts D → Core D → Taken → Type 0
 CountsCharges g v taken = (page_of_stamp : ℕ → Option PageOfStamp) (tree : Tree) → CoreRuns g v page_of_stamp tree → IsCharged taken tree
 
--- The pages of its files are those that are held for them.
+-- The pages of the files of a tree as which a core runs are those that are held for them.
 abbrev pub FilesAreCharged : {D : Type 0} → Ghosts D → Type 0
-FilesAreCharged {D} g = (v : Core D) (page_of_stamp : ℕ → Option PageOfStamp) (tree : Tree) → CoreRuns g v page_of_stamp tree → data_charge tree ≡ length (running_holders g v.device v.meta)
+FilesAreCharged {D} g =
+    (v : Core D) (page_of_stamp : ℕ → Option PageOfStamp) (tree : Tree) → CoreRuns g v page_of_stamp tree
+    → data_charge tree ≡ length (running_holders g v.device v.meta)

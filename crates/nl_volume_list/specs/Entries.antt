@@ -11,13 +11,13 @@ use Rattle.nl_tree.specs.GraphLaws.{entry_at}
 abbrev pub is_behind : List ℕ → List ℕ → Bool
 is_behind after name = is_lt (slice_cmp nat_cmp after name)
 
--- Of these entries it is the least behind a name.
+-- An entry is the least of these behind a name.
 pub record IsLeast (entries : List EntryRec) (after : List ℕ) (entry : EntryRec) : Type 0 where
   pub has : Has entries entry
   pub behind : is_behind after entry.name ≡ true
   pub least : (other : EntryRec) → Has entries other → is_behind after other.name ≡ true → is_behind other.name entry.name ≡ false
 
--- it comes before another one, where there is one
+-- an entry comes before another one, where there is another
 abbrev pub is_lesser : EntryRec → Option EntryRec → Bool
 is_lesser entry None = true
 is_lesser entry (Some other) = is_behind entry.name other.name
@@ -33,7 +33,7 @@ IsLeastOf entries after (Some entry) = IsLeast entries after entry
 abbrev pub HasNoneBehind : Graph → ℕ → List ℕ → Type 0
 HasNoneBehind graph n after = (name : List ℕ) (m : ℕ) → entry_at graph n name ≡ Some m → is_behind after name ≡ false
 
--- It has this one, and it is the least.
+-- The node has this entry behind a name, and it is the least of those.
 pub record HasLeastBehind (graph : Graph) (n : ℕ) (after : List ℕ) (entry : EntryRec) : Type 0 where
   pub at : entry_at graph n entry.name ≡ Some entry.ino
   pub behind : is_behind after entry.name ≡ true

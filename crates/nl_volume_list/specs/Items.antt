@@ -19,6 +19,6 @@ item_of entries (file content) = item.File content.size (length content.pages)
 unfoldable pub items_of : Tree → List Told
 items_of tree = map (λ e. (e.0, item_of (length (entries_of tree e.0)) e.1)) (all_paths tree)
 
--- those of them that come behind a path
+-- the items whose paths come behind a path
 unfoldable pub items_behind : List (List ℕ) → List Told → List Told
 items_behind path items = where_key path_cmp (λ q. is_lt (path_cmp path q)) items

@@ -23,15 +23,17 @@ pub record IsOnWay {D : Type 0} (g : Ghosts D) (v : Core D) (walk : WalkState) :
   pub way : OnWay (nodes_of g v) walk
   pub room : walk.room ≡ (g.shape v.device).nodes
 
--- It gives the next of each tree as which the core runs.
+-- The walk gives the next path of each tree as which the core runs.
 abbrev pub GivesNext : {D : Type 0} → Ghosts D → Core D → WalkState → WalkState → TreeItem → Type 0
-GivesNext g v old new answer = (page_of_stamp : ℕ → Option PageOfStamp) (tree : Tree) → CoreRuns g v page_of_stamp tree → Gives tree old new answer
+GivesNext g v old new answer =
+    (page_of_stamp : ℕ → Option PageOfStamp) (tree : Tree) → CoreRuns g v page_of_stamp tree → Gives tree old new answer
 
 -- ---- how it begins
 
 -- A walk that was made for a core is one over it,
 abbrev pub WalksBegin : {D : Type 0} → Ghosts D → Type 0
-WalksBegin {D} g = (v : Core D) (walk : WalkState) → walk ≡ record { path = []; nodes = []; room = (g.shape v.device).nodes } → IsOnWay g v walk
+WalksBegin {D} g =
+    (v : Core D) (walk : WalkState) → walk ≡ record { path = []; nodes = []; room = (g.shape v.device).nodes } → IsOnWay g v walk
 
 -- ---- its parts
 

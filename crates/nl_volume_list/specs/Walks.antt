@@ -25,7 +25,7 @@ left_behind tree path (n ∷ nodes) = items_behind path (items_of tree)
 abbrev pub left_of : Tree → WalkState → List Told
 left_of tree walk = left_behind tree walk.path walk.nodes
 
--- It gives the first of what was left, and the rest is left then. The end comes where nothing was left.
+-- A walk gives the first of what was left, and the rest is left then. The end comes where nothing was left.
 abbrev pub Gives : Tree → WalkState → WalkState → TreeItem → Type 0
 Gives tree old new (item.Dir entries) = left_of tree old ≡ (new.path, item.Dir entries) ∷ left_of tree new
 Gives tree old new (item.File size pages) = left_of tree old ≡ (new.path, item.File size pages) ∷ left_of tree new

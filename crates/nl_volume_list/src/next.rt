@@ -19,8 +19,9 @@ use nl_iface::MovingPages;
 use nl_meta_running::Stop;
 use nl_spec_commits::laws::device_stands;
 
-/// The next path of the tree as which the core runs, and what stands there; the walk holds that path then. `End` comes exactly where no path is
-/// left. After `End`, `Fault` and `Lost` the walk stays. The core is the one over which the walk began, but for pages that were read.
+/// The next path of the tree as which the core runs, and what stands there; the walk holds that path then. `End` comes exactly where no
+/// path is left. After `End`, `Fault` and `Lost` the walk stays. The core is the one over which the walk began, but for pages that were
+/// read.
 pub fn next_path<D: MovingPages>(core: &mut Core<D>, walk: &mut TreeWalk) -> TreeItem
     requires core { IsCore D.Counts core.old }
     requires way { IsOnWay D.Counts core.old walk.old }

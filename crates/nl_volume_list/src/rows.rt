@@ -12,7 +12,9 @@ pub fn all_items()
 
 /// What is left behind a file, behind a directory, and behind the last path.
 pub fn left_items()
-    ensures file { items_behind (codes "a" ∷ codes "x" ∷ []) (items_of small_tree) ≡ (codes "a!" ∷ [], item.File 8192 0) ∷ (codes "b" ∷ [], item.Dir 0) ∷ [] }
-    ensures directory { items_behind (codes "a" ∷ []) (items_of small_tree) ≡ (codes "a" ∷ codes "x" ∷ [], item.File 4 1) ∷ (codes "a!" ∷ [], item.File 8192 0) ∷ (codes "b" ∷ [], item.Dir 0) ∷ [] }
+    ensures file { items_behind (codes "a" ∷ codes "x" ∷ []) (items_of small_tree)
+        ≡ (codes "a!" ∷ [], item.File 8192 0) ∷ (codes "b" ∷ [], item.Dir 0) ∷ [] }
+    ensures directory { items_behind (codes "a" ∷ []) (items_of small_tree)
+        ≡ (codes "a" ∷ codes "x" ∷ [], item.File 4 1) ∷ (codes "a!" ∷ [], item.File 8192 0) ∷ (codes "b" ∷ [], item.Dir 0) ∷ [] }
     ensures last { items_behind (codes "b" ∷ []) (items_of small_tree) ≡ [] }
 {}

@@ -80,11 +80,11 @@ within_since tells opening before now next_stamp call (Edamaged wanted found) si
 pub due_tried : (tells : Type 0) (state : FaultState) (before now : Counts) (call : Call) (reply : Reply) → fault_due state call ≡ None → IfSome (fault_in reply) (FaultWithin tells before now) → FaultIsDue tells state before now call reply
 due_tried tells state before now call reply none is = subst (λ (o : Option FaultReply). MatchOption o (IfSome (fault_in reply) (FaultWithin tells before now)) (λ fault. reply ≡ Fault fault)) (sym none) is
 
--- and one that is
+-- a call that is refused
 pub due_refused : (tells : Type 0) (state : FaultState) (before now : Counts) (call : Call) (f : FaultReply) → fault_due state call ≡ Some f → FaultIsDue tells state before now call (Fault f)
 due_refused tells state before now call f some = subst (λ (o : Option FaultReply). MatchOption o (FaultWithin tells before now f) (λ fault. Fault f ≡ Fault fault)) (sym some) refl
 
--- then it may be tried
+-- a call that is not refused may be tried
 pub tried_may : (state : FaultState) (call : Call) → fault_due state call ≡ None → IsTrue (is_changing call) → (state.read_only ≡ None) × (state.next_stamp < max_stamp)
 tried_may state call none changing = by state.staged none
   where

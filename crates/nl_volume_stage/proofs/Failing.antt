@@ -95,7 +95,7 @@ module _ {D : Type 0} (g : Ghosts D) (origin : Core D) (o : Opening) (h : List E
   above_mark e (Some Eworn) m is at same = cc at
   above_mark e (Some (Edamaged wanted found)) m is at same = cc at
 
-  -- so is one that was kept
+  -- a number that was kept is above too
   above_kept : (w : ℕ) → (of_worker now.flight w).fault ≢ 0 → n ≡ (of_worker now.flight w).fault → n ≡ top
   above_kept w some same = ⊎_elim (λ stays. by (a.flight w) stays) (λ none. absurd (some none)) (f.faults w)
     where

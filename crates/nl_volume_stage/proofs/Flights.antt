@@ -83,7 +83,7 @@ pub record KeepsPages {D : Type 0} (g : Ghosts D) (u v : Core D) : Type 0 where
 pub goes_keeps : {D : Type 0} (g : Ghosts D) (n : ℕ) (u v : Core D) → Goes g n u v → KeepsPages g u v
 goes_keeps g n u v goes = record { later = record { clock = goes.clock; read_faults = goes.reads; write_faults = goes.writes }; runs = λ tells page_of_stamp tree at. (tree, goes.runs tells page_of_stamp tree at) }
 
--- So a page in flight keeps its bytes, wherever it is.
+-- A page in flight keeps its bytes, wherever it is.
 module _ {D : Type 0} (g : Ghosts D) (u v : Core D) (before : IsCore g u) (after : IsCore g v) (keeps : KeepsPages g u v) (tells : g.tells) (page_of_stamp : ℕ → Option PageOfStamp) (tree : Tree) (at : CoreRuns g u page_of_stamp tree) where
   pub same_bytes : (x y : Tag × Pointer) → Has (carried u.flight) x → Has (carried v.flight) y → y.1.stamp ≡ x.1.stamp → g.bytes v.device (place_of (names_of g v) y.1) ≡ g.bytes u.device (place_of (names_of g u) x.1)
   same_bytes x y was is same =

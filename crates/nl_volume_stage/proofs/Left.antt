@@ -50,7 +50,7 @@ rest_stays p (suc k) a (suc n) below above =
     ap (λ b. cond b (a ∷ filter p (range_with_len (a + 1) n)) (filter p (range_with_len (a + 1) n))) (below a (omega arith) (omega arith))
     ∙ (rest_stays p k (a + 1) n (λ i low high. below i (omega (arith, low)) (omega (arith, high))) (λ i low. above i (omega (arith, low))) ∙ (λ j. range_with_len (from j) (many j)))
 
--- those behind the first so many
+-- the indexes behind the first so many
 ahead_of : (first n place : ℕ) → filter (λ index. not (list_any (λ i. i == index) (range_with_len first place))) (range_with_len first n) ≡ range_with_len (first + place) (n - place)
 ahead_of first n place =
     rest_stays (λ index. not (list_any (λ i. i == index) (range_with_len first place))) place first n (λ i low high. ap not (in_range i first place low high)) (λ i low. ap not (out_of_range i first place low))

@@ -115,7 +115,7 @@ module _ {D : Type 0} (g : Ghosts D) (o : Opening) (u : Core D) (worker line : �
   not_line : now.line ≡ 0 → now.line ≢ line
   not_line none is = let from = of.numbered in let off : ⊥ = omega (arith, from, is, none) in off
 
-  -- its first whole pages, one after the other
+  -- the line's first whole pages, one after the other
   staged_first : staged_indexes u.flight worker line ≡ range_with_len (first_whole call) (length now.pages)
   staged_first = ⊎_elim none some has
     where

@@ -19,7 +19,8 @@ staged_fault flight worker line = if (of_worker flight worker).line == line then
 
 -- what refuses a line of a worker before it is tried
 abbrev pub refusing_of : {D : Type 0} → Ghosts D → Core D → ℕ → ℕ → FaultState
-refusing_of g v worker line = record { staged = staged_fault v.flight worker line; read_only = some_number v.stopped; next_stamp = g.next_stamp v.device }
+refusing_of g v worker line =
+    record { staged = staged_fault v.flight worker line; read_only = some_number v.stopped; next_stamp = g.next_stamp v.device }
 
 -- How many pages a line of a worker has left to stage: it has room for sixteen, less those that are in flight for it.
 abbrev pub to_stage_of : List InFlight → ℕ → ℕ → ℕ

@@ -29,22 +29,25 @@ use Rattle.nl_volume_stage.specs.Standing.{StandsFor, first_whole}
 use Rattle.nl_volume_stage.specs.declared.next.Next.{Next}
 use Rattle.nl_volume_stage.specs.declared.next.Next.TheVariants as next
 
--- For whatever it stood, it stands.
+-- The volume stands for whatever it stood for.
 abbrev pub StandsOn : {D : Type 0} → Ghosts D → Core D → Core D → Type 0
-StandsOn {D} g old new = (origin : Core D) (o : Opening) (h : List Entry) (done : ℕ) → StandsFor g origin o h old done → StandsFor g origin o h new done
+StandsOn {D} g old new =
+    (origin : Core D) (o : Opening) (h : List Entry) (done : ℕ) → StandsFor g origin o h old done → StandsFor g origin o h new done
 
--- so it does for each opening that has this line, of this worker and with this call
+-- the volume stands for whatever it stood for, with an opening that has this line, of this worker and with this call
 abbrev pub StandsOnWith : {D : Type 0} → Ghosts D → ℕ → ℕ → Call → Core D → Core D → Type 0
 StandsOnWith {D} g worker line call old new =
-    (origin : Core D) (o : Opening) (h : List Entry) (done : ℕ) → StandsFor g origin o h old done → IsLineOf o worker line call → StandsFor g origin o h new done
+    (origin : Core D) (o : Opening) (h : List Entry) (done : ℕ) → StandsFor g origin o h old done → IsLineOf o worker line call
+    → StandsFor g origin o h new done
 
--- it stands for some opening and history
+-- the volume stands for some opening and history
 abbrev pub Stands : {D : Type 0} → Ghosts D → Core D → Type 0
 Stands {D} g v = (origin : Core D) × (o : Opening) × (h : List Entry) × (done : ℕ) × StandsFor g origin o h v done
 
--- and the opening has this line, of this worker and with this call
+-- the volume stands for some history and an opening that has this line, of this worker and with this call
 abbrev pub StandsWithLine : {D : Type 0} → Ghosts D → ℕ → ℕ → Call → Core D → Type 0
-StandsWithLine {D} g worker line call v = (origin : Core D) × (o : Opening) × (h : List Entry) × (done : ℕ) × StandsFor g origin o h v done × IsLineOf o worker line call
+StandsWithLine {D} g worker line call v =
+    (origin : Core D) × (o : Opening) × (h : List Entry) × (done : ℕ) × StandsFor g origin o h v done × IsLineOf o worker line call
 
 -- A part of a staging that programs no page: what the volume shows of the worker's line stays, and so do the lines of others.
 pub record PassesOn {D : Type 0} (g : Ghosts D) (worker line : ℕ) (old new : Core D) : Type 0 where
@@ -55,13 +58,15 @@ pub record PassesOn {D : Type 0} (g : Ghosts D) (worker line : ℕ) (old new : C
   pub fault : staged_fault new.flight worker line ≡ staged_fault old.flight worker line
   pub room : to_stage_of new.flight worker line ≡ to_stage_of old.flight worker line
 
--- A staging, or its last part. The line keeps the number with which it failed, and has room for one page less where a page was put in flight.
+-- A staging, or its last part. The line keeps the number with which it failed, and has room for one page less where a page was put in
+-- flight.
 pub record StagesOn {D : Type 0} (g : Ghosts D) (worker line : ℕ) (call : Call) (old new : Core D) (answer : Stage) : Type 0 where
   pub most : ℕ
   pub goes : Goes g most old new
   pub on : StandsOnWith g worker line call old new
   pub others : OthersStay worker old.flight new.flight
-  pub fault : staged_fault new.flight worker line ≡ (if is_fault answer then Some (fault_sum (counts_of g new.device)) else staged_fault old.flight worker line)
+  pub fault : staged_fault new.flight worker line
+      ≡ (if is_fault answer then Some (fault_sum (counts_of g new.device)) else staged_fault old.flight worker line)
   pub room : is_staged answer ≡ true → to_stage_of old.flight worker line ≡ to_stage_of new.flight worker line + 1
   pub failed : answer ≡ stage.Fault → FaultRose (counts_of g old.device) (counts_of g new.device)
   pub lost : (w f : ℕ) → answer ≡ stage.Lost w f → LostHasCause g.tells w f
@@ -81,10 +86,11 @@ IfPage next.Fault P = ⊤
 
 -- the indexes of the pages in flight for a line of a worker
 abbrev pub staged_indexes : List InFlight → ℕ → ℕ → List ℕ
-staged_indexes flight worker line = if (of_worker flight worker).line == line then map (λ page. page.index) (of_worker flight worker).pages else []
+staged_indexes flight worker line =
+    if (of_worker flight worker).line == line then map (λ page. page.index) (of_worker flight worker).pages else []
 
--- What a staging says by its answer of the indexes that are left before it and after it: the first of them was staged; or none was left. Where none
--- was left it fails only where a read failed.
+-- What a staging says by its answer of the indexes that are left before it and after it: the first of them was staged; or none was left.
+-- Where none was left it fails only where a read failed.
 abbrev pub StagesFirst : (before after : List ℕ) → Type 0 → Stage → Type 0
 StagesFirst before after read_failed stage.Staged = (index : ℕ) × (before ≡ index ∷ after)
 StagesFirst before after read_failed stage.Whole = before ≡ []
@@ -92,21 +98,25 @@ StagesFirst before after read_failed stage.Fault = before ≡ [] → read_failed
 StagesFirst before after read_failed stage.Stopped = ⊤
 StagesFirst before after read_failed (stage.Lost w f) = ⊤
 
--- so it is of the line's pages, while the medium tells its contents, in each tree as which the core runs
+-- a staging says so of the line's pages, while the medium tells its contents, in each tree as which the core runs
 abbrev pub TellsLeft : {D : Type 0} → Ghosts D → ℕ → ℕ → Call → Core D → Core D → Stage → Type 0
 TellsLeft g worker line call old new answer =
     g.tells → (page_of_stamp : ℕ → Option PageOfStamp) (tree : Tree) → CoreRuns g old page_of_stamp tree
-    → StagesFirst (left_to_stage tree call (staged_indexes old.flight worker line)) (left_to_stage tree call (staged_indexes new.flight worker line)) (Rose (g.read_faults old.device) (g.read_faults new.device)) answer
+    → StagesFirst (left_to_stage tree call (staged_indexes old.flight worker line))
+    (left_to_stage tree call (staged_indexes new.flight worker line)) (Rose (g.read_faults old.device) (g.read_faults new.device)) answer
 
 -- in each tree for which the pages of the core stand, a file is at the path, or none
 abbrev pub HasFile : {D : Type 0} → Ghosts D → Core D → List (List ℕ) → Bool → Type 0
-HasFile g v path is = (page_of_stamp : ℕ → Option PageOfStamp) (tree : Tree) → RunsAs (g.shape v.device) (running_of g v) page_of_stamp tree → is_file (node_at tree path) ≡ is
+HasFile g v path is =
+    (page_of_stamp : ℕ → Option PageOfStamp) (tree : Tree) → RunsAs (g.shape v.device) (running_of g v) page_of_stamp tree
+    → is_file (node_at tree path) ≡ is
 
--- What is next of a range of a file, so many of whose pages are in flight. A page of it is, which ends at the greatest size at the latest; or none,
--- where it is of no file, or ends behind the greatest size or before that page.
+-- What is next of a range of a file, so many of whose pages are in flight. A page of it is, which ends at the greatest size at the latest;
+-- or none, where it is of no file, or ends behind the greatest size or before that page.
 abbrev pub IsNextOf : (file none : Type 0) → (from len place : ℕ) → Next → Type 0
 IsNextOf file none from len place (next.Page tag) = file × (from + len ≤ max_file_size)
-IsNextOf file none from len place next.Whole = none ⊎ (max_file_size < from + len) ⊎ (is_whole from len (div_ceil from 4096 + place) ≡ false)
+IsNextOf file none from len place next.Whole =
+    none ⊎ (max_file_size < from + len) ⊎ (is_whole from len (div_ceil from 4096 + place) ≡ false)
 IsNextOf file none from len place (next.Lost w f) = ⊤
 IsNextOf file none from len place next.Fault = ⊤
 

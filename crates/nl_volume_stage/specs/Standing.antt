@@ -33,34 +33,38 @@ run_of opening history = record { shape = opening.shape; count = opening.count; 
 abbrev pub first_whole : Call → ℕ
 first_whole call = div_ceil (from_of call) 4096
 
--- The line is one of the worker in the opening, and the pages of its call are staged one after the other. A number that its staging failed with is
--- the sum of both fault counts after a failure since the opening.
+-- The line is one of the worker in the opening, and the pages of its call are staged one after the other. A number that its staging failed
+-- with is the sum of both fault counts after a failure since the opening.
 pub record IsInFlight {D : Type 0} (g : Ghosts D) (opening : Opening) (s : D) (worker : ℕ) (now : InFlight) : Type 0 where
   pub call : Call
   pub known : IsLineOf opening worker now.line call
   pub staged : (place : ℕ) (page : FlightPage) → slice_get now.pages place ≡ Some page → IsStagedPage g s call place page
   pub fault : now.fault ≢ 0 → IsSumSince (opening_counts opening) (counts_of g s) now.fault
 
--- Each worker's line is so, where it has one; else no failure of a staging is kept.
+-- The line of each worker stands in the opening, where it has one; else no failure of a staging is kept.
 abbrev pub FlightStands : {D : Type 0} → Ghosts D → Opening → D → List InFlight → Type 0
 FlightStands g opening s flight =
-    (worker : ℕ) → (((of_worker flight worker).line ≡ 0) × ((of_worker flight worker).fault ≡ 0)) ⊎ IsInFlight g opening s worker (of_worker flight worker)
+    (worker : ℕ) → (((of_worker flight worker).line ≡ 0) × ((of_worker flight worker).fault ≡ 0))
+    ⊎ IsInFlight g opening s worker (of_worker flight worker)
 
 -- ---- the numbers of failed lines
 
--- Below the greatest, a failed line has a number of its own: no two lines of the history, no line of the history and one in flight, and no two in
--- flight have the same. All lines that were refused as the volume was read-only have the number with which it became so.
+-- Below the greatest, a failed line has a number of its own: no two lines of the history, no line of the history and one in flight, and no
+-- two in flight have the same. All lines that were refused as the volume was read-only have the number with which it became so.
 pub record NumbersDiffer (history : List Entry) (flight : List InFlight) (stopped : ℕ) : Type 0 where
   pub past : AllPairs (λ a b. (n : ℕ) → eio_of (fault_of a.fault) ≡ Some n → eio_of (fault_of b.fault) ≡ Some n → n ≡ top) history
-  pub kept : (worker : ℕ) (e : Entry) (n : ℕ) → members.Has history e → eio_of (fault_of e.fault) ≡ Some n → (of_worker flight worker).fault ≡ n → n ≡ top
-  pub apart : (w w' : ℕ) → w ≢ w' → (of_worker flight w).fault ≢ 0 → (of_worker flight w).fault ≡ (of_worker flight w').fault → (of_worker flight w).fault ≡ top
+  pub kept : (worker : ℕ) (e : Entry) (n : ℕ) → members.Has history e → eio_of (fault_of e.fault) ≡ Some n
+      → (of_worker flight worker).fault ≡ n → n ≡ top
+  pub apart : (w w' : ℕ) → w ≢ w' → (of_worker flight w).fault ≢ 0 → (of_worker flight w).fault ≡ (of_worker flight w').fault
+      → (of_worker flight w).fault ≡ top
   pub one : (e : Entry) (n : ℕ) → members.Has history e → erofs_of (fault_of e.fault) ≡ Some n → (n ≡ stopped) × (stopped ≢ 0)
 
 -- ---- the whole
 
 -- a fault reply of the history stands at the effect of a call, and has its cause since the opening
 abbrev pub MarkHasCause : Type 0 → Opening → Counts → Entry → FaultReply → Type 0
-MarkHasCause tells opening now entry fault = (call : Call) × (call_of opening entry ≡ Some call) × HasCause tells (opening_counts opening) now opening.next_stamp call fault
+MarkHasCause tells opening now entry fault =
+    (call : Call) × (call_of opening entry ≡ Some call) × HasCause tells (opening_counts opening) now opening.next_stamp call fault
 
 -- The moments of the syncs do not fall. Each is later than the clock of the opening, and no later than the moment of the last commit.
 pub record MomentsRise (opening : Opening) (syncs : List SyncPoint) (moment now : ℕ) : Type 0 where
@@ -73,8 +77,9 @@ pub record MomentsRise (opening : Opening) (syncs : List SyncPoint) (moment now 
 abbrev pub EachIsLine : List Line → Type 0
 EachIsLine lines = (l : Line) → members.Has lines l → IsLine l
 
--- The volume is in order, and has answered the calls of the history since it was the origin, with which it was opened: it goes along their run.
--- It is read-only only where a write failed since. Each fault that was answered has its cause; each sync has made safe the calls before it.
+-- The volume is in order, and has answered the calls of the history since it was the origin, with which it was opened: it goes along their
+-- run. It is read-only only where a write failed since. Each fault that was answered has its cause; each sync has made safe the calls
+-- before it.
 pub record Serves {D : Type 0} (g : Ghosts D) (origin : Core D) (opening : Opening) (history : List Entry) (v : Core D) (done : ℕ) : Type 0 where
   pub few : opening.count ≤ top
   pub lines : EachIsLine opening.lines
@@ -85,12 +90,13 @@ pub record Serves {D : Type 0} (g : Ghosts D) (origin : Core D) (opening : Openi
   pub since : NeverFall (opening_counts opening) (counts_of g v.device)
   pub next_stamp : g.clock v.device < top → g.write_faults v.device < top
       → g.next_stamp v.device ≤ opening.next_stamp + (g.clock v.device - opening.clock) + (g.write_faults v.device - opening.write_faults)
-  pub read_only : v.stopped ≢ 0 → WriteFailed (opening_counts opening) (counts_of g v.device) × IsSumSince (opening_counts opening) (counts_of g v.device) v.stopped
+  pub read_only : v.stopped ≢ 0
+      → WriteFailed (opening_counts opening) (counts_of g v.device) × IsSumSince (opening_counts opening) (counts_of g v.device) v.stopped
   pub marks : (e : Entry) → members.Has history e → IfSome (fault_of e.fault) (MarkHasCause g.tells opening (counts_of g v.device) e)
   pub syncs : SyncsInRange opening history
   pub moments : MomentsRise opening (syncs_of history) v.moment (g.clock v.device)
 
--- It serves, what is in flight is of lines of the opening, and each failed line has a number of its own.
+-- The volume serves the history, what is in flight is of lines of the opening, and each failed line has a number of its own.
 pub record StandsFor {D : Type 0} (g : Ghosts D) (origin : Core D) (opening : Opening) (history : List Entry) (v : Core D) (done : ℕ) : Type 0 where
   pub serves : Serves g origin opening history v done
   pub flight : FlightStands g opening v.device v.flight

@@ -1,3 +1,4 @@
+// The page of a line that is to be staged next.
 ghost use Rattle.std.specs.Prelude.{◌≡◌, ◌≢◌, ℕ, ◌+◌, ◌-◌, ◌*◌, ◌≤◌, ◌<◌, false, take, drop, IfSome, IsSome, IsTrue, Some, None, length};
 ghost use Rattle.nl_field.specs.Numbers.{max_file_size};
 ghost use Rattle.nl_meta_running.specs.Running.{IsUsed};
@@ -29,9 +30,9 @@ const MOST: u64 = 16_809_984;
 /// The page of a line that is staged next.
 #[derive(Clone, Copy, Debug, PartialEq, Eq)]
 pub(crate) enum Next {
-    /// That of this tag.
+    /// The page of this tag is next.
     Page(Tag),
-    /// None is left.
+    /// No whole page is left.
     Whole,
     /// A page that was read does not hold the wanted number: `found` is another one, 0 where it holds none.
     Lost { wanted: u64, found: u64 },
@@ -63,7 +64,7 @@ pub(crate) fn next_of<D: MovingPages>(core: &mut Core<D>, call: &Call, place: u3
     }
 }
 
-// The same of a range of bytes.
+// What is staged next of a range of bytes of what a path leads to, so many of whose pages are in flight.
 fn next_in<D: MovingPages>(core: &mut Core<D>, path: &Path, from: u64, len: u64, place: u32) -> Next
     requires core { IsCore D.Counts core.old }
     requires few { place ≤ 16 }
@@ -84,7 +85,7 @@ fn next_in<D: MovingPages>(core: &mut Core<D>, path: &Path, from: u64, len: u64,
     }
 }
 
-// The same of a node that is used.
+// What is staged next of a range of bytes of a node that is used, so many of whose pages are in flight.
 fn next_at<D: MovingPages>(core: &mut Core<D>, ino: u32, from: u64, len: u64, place: u32) -> Next
     requires core { IsCore D.Counts core.old }
     requires used { IsUsed D.Counts core.old.device core.old.meta ino }

@@ -11,8 +11,8 @@ use nl_iface::MovingPages;
 use nl_spec_commits::laws::device_stands;
 use nl_tree::{Call, Stage};
 
-/// Stages one whole page of a line ahead of its effect: it is programmed, and in flight from now on. `Stopped` comes exactly where the volume is
-/// read-only or worn. Pages in flight of another line of the worker are freed first. The page given has bytes of the call then.
+/// Stages one whole page of a line ahead of its effect: it is programmed, and in flight from now on. `Stopped` comes exactly where the
+/// volume is read-only or worn. Pages in flight of another line of the worker are freed first. The page given has bytes of the call then.
 pub fn stage_line<D: MovingPages>(
     core: &mut Core<D>,
     worker: u8,

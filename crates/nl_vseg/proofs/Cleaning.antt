@@ -31,7 +31,7 @@ use Rattle.nl_vseg.proofs.Using.{closed_image, numbered, numbered_image, opened,
 abbrev pub with_table : State → Table → State
 with_table s table = record s { blocks = table }
 
--- and with another active block
+-- a state with another table and another active block
 abbrev pub with_active : State → Table → ℕ → State
 with_active s table block = record s { blocks = table; active = block }
 
@@ -44,7 +44,7 @@ formed_numbered s table same used rising formed = record {
   targets = formed.targets ∙ sym same.numbers.same_size;
 }
 
--- and where a Free block is the active one now
+-- a state is formed where a Free block is the active one now
 pub formed_opened : (s : State) (table : Table) (block : ℕ) → IsFormed s → block < length s.blocks.blocks → block_is_free s.blocks block ≡ true → Restated block false s.blocks table → IsOpened block s.blocks table
     → IsFormed (with_active s table block)
 formed_opened s table block formed within free taken used = record {

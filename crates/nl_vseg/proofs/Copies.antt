@@ -51,7 +51,7 @@ used_below {targets = targets} are hole =
     let short = not_all_pass is_some targets hole.at (Some 0) None (omega (arith, are.count, hole.within)) (ap is_some hole.not_copied) refl in
     omega (arith, short, are.count, are.as_many)
 
--- also after one copy more
+-- the target has room still after one copy more
 pub room_left : {pages victim target used : ℕ} {x : Option Place} {targets : List (Option ℕ)} (place : Place) → x ≡ Some place → place.page / pages ≡ victim → 0 < pages
     → AreTargets pages target used targets → LeavesHole pages victim x targets → target_at targets (place.page % pages) ≡ None → used + 1 < pages
 room_left {pages} {victim} {target} {used} {x} {targets} place named in_victim some are hole none =
@@ -201,7 +201,7 @@ moved_segment seg copies used victim wide is room fits count are moved = record 
     in_use v place (inl was) = is.in_use v place was.0
     in_use v place (inr new) = ap (block_is_free seg.table) (block_of place.page seg.table.size seg.active new.0 (omega (arith, new.1, fits))) ∙ is.taken room
 
--- and then the victim holds no page of the map
+-- once all pages are moved, the victim holds no page of the map
 pub moved_unmapped : (pages victim target used : ℕ) (old new : List (Option Place)) → (target ≡ victim → ⊥) → used ≤ pages → AreMoved pages victim target used old new → IsUnmapped pages new victim
 moved_unmapped pages victim target used old new ne fits moved v place named = ⊎_elim
     (λ was. beside_of place.page pages victim was.1)
@@ -328,6 +328,6 @@ opened_room old new full two begins size less =
     let same : (free_count new.table - 1) * new.table.size ≡ (free_count new.table - 1) * old.table.size = ap (λ n. (free_count new.table - 1) * n) size in
     omega (arith, was, is, product, same, full, begins, size)
 
--- with these numbers for those
+-- what holds with the numbers of one segment holds with those of another of its shape
 pub resized : (P : ℕ → ℕ → Type 0) (old new : Layout) → SameShape old new → P new.table.size (bound new) → P old.table.size (bound old)
 resized P old new same is = subst (λ n. P n (bound old)) same.pages (subst (P new.table.size) (λ i. same.blocks i * same.pages i) is)

@@ -251,7 +251,7 @@ module _ (seg : Layout) (table : Table) (use_is : SameUse seg.table table) where
         seg_is.blank p (n.0, ⊎_elim (λ next. inl next) (λ free. inr (sym (use_is.free (p / seg.table.size)) ∙ free.0, free.1)) n.1);
   }
 
--- the same, where the numbers are given by other names
+-- a map is kept, where the numbers are given by other names
 pub keeps_as : {M : Type 0} {clock : M → ℕ} {contents : M → Image} {left : M → ℕ → Image → Type 0} {pages bounds more_pages more_bounds : ℕ} {m0 m1 : ℕ → Option (ℕ × List ℕ)} {a b : M}
     → pages ≡ more_pages → bounds ≡ more_bounds → KeepsMap clock contents left pages bounds m0 m1 a b → KeepsMap clock contents left more_pages more_bounds m0 m1 a b
 keeps_as {M} {clock} {contents} {left} {pages} {bounds} {more_pages} {more_bounds} {m0} {m1} {a} {b} p q k =

@@ -118,7 +118,7 @@ new_blank shape room p below =
     taken_blank (record { places = replicate shape.vaddrs None; table = new_table 0 shape.vblocks shape.pages; soiled = replicate shape.vblocks false; active = 0; used = shape.pages }) p
     (below, inr (new_free shape (p / shape.pages), new_clean shape.vblocks (p / shape.pages)))
 
--- and no block was erased
+-- no block of a new segment was erased
 pub new_wear : (shape : Shape) (block : ℕ)
     → wear_of (shown (record { places = replicate shape.vaddrs None; table = new_table 0 shape.vblocks shape.pages; soiled = replicate shape.vblocks false; active = 0; used = shape.pages })) block ≡ 0
 new_wear shape block = wear_at (new_table 0 shape.vblocks shape.pages) block refl ∙ at shape.vblocks (block - 0)

@@ -159,7 +159,7 @@ module _ (seg : Layout) (block : ℕ) where
       (λ here t. (t.0, ⊎_elim (λ next. absurd (omega (arith, next.0, next.1))) (λ free. inr free) t.1))
       (λ other t. t)
 
-  -- but as much of the other blocks
+  -- as much of the other blocks is taken as erased as before
   pub closed_beside : (p : ℕ) → TakenAsErased seg p → (p / seg.table.size ≡ block → ⊥) → TakenAsErased (closed_in seg block) p
   closed_beside p t ne = closed_cases (λ n. TakenAsErased (record seg { used = n }) p)
       (λ here. (t.0, ⊎_elim (λ next. absurd (ne (block_of p seg.table.size seg.active (omega (arith, next.0)) next.1 ∙ here))) (λ free. inr free) t.1))
@@ -207,7 +207,7 @@ module _ (old : Layout) (table : Table) (block : ℕ) (is : IsLayout old) (withi
       let ne : b ≡ block → ⊥ = (λ same. true≢false (sym is_free_now ∙ (ap (block_is_free table) same ∙ restated.here))) in
       (ne, sym (restated.others b ne) ∙ is_free_now)
 
-  -- where it was erased
+  -- the image of a segment whose Free block is the active one now, where that block was erased
   pub opened_image : (image : Image) → is_soiled old block ≡ false → IsLayoutOf image old → IsLayoutOf image (record old { table = table; active = block; used = 0 })
   opened_image image clean seg = record {
     holds = seg.holds;
@@ -224,7 +224,7 @@ module _ (old : Layout) (table : Table) (block : ℕ) (is : IsLayout old) (withi
         );
   }
 
-  -- and where it is still to be erased
+  -- the image of a segment whose Free block is the active one now, where that block is still to be erased
   pub opened_soiled : (image : Image) → IsLayoutOf image old → IsLayoutOf image (closed (record old { table = table; active = block; used = 0 }))
   opened_soiled image seg = record {
     holds = seg.holds;
@@ -239,7 +239,7 @@ module _ (old : Layout) (table : Table) (block : ℕ) (is : IsLayout old) (withi
         );
   }
 
--- the same blocks are Free, and as many pages of the active one are used
+-- a segment with another table, where the same blocks are Free and as many pages of the active one are used
 module _ (seg : Layout) (t : Table) (use_is : SameUse seg.table t) (used_is : used_of t seg.active ≡ seg.used) where
   pub numbered : IsLayout seg → IsLayout (record seg { table = t; used = used_of t seg.active })
   numbered is = subst (λ n. IsLayout (record seg { table = t; used = n })) (sym used_is) (same_use_segment seg t use_is is)
@@ -264,7 +264,7 @@ room_next seg left free =
 pub same_wear : (old new : Table) (block : ℕ) → old.first ≡ 0 → new.first ≡ 0 → wears_of new ≡ wears_of old → (block_at new block).wear ≡ (block_at old block).wear
 same_wear old new block first first_new same = sym (wear_at new block first_new) ∙ (ap (λ (l : List ℕ). get_or l block 0) same ∙ wear_at old block first)
 
--- the same blocks are Free, and others may be soiled
+-- a segment with another table, where the same blocks are Free and others may be soiled
 pub marked_segment : (seg : Layout) (t : Table) (soiled : List Bool) → SameUse seg.table t → length soiled ≡ length seg.soiled → IsLayout seg → IsLayout (record seg { table = t; soiled = soiled })
 marked_segment seg t soiled use_is count is =
     let same = same_use_segment seg t use_is is in

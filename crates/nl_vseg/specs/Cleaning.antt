@@ -25,8 +25,10 @@ pub record KeepsValues {M : Type 0} (g : Ghosts M) (failed : Type 0) (s t : Stat
   pub stands : StandsOn g t new
   pub shape : SameShape (seen s) (seen t)
   pub stamps : (v : ℕ) → stamp_for t.places.items v ≡ stamp_for s.places.items v
-  pub map : g.tells → KeepsMap g.clock g.contents g.left s.blocks.size (bound (seen s)) (map_of s.places.items (g.contents old)) (map_of t.places.items (g.contents new)) old new
-  pub operates : Operates g.tells s.blocks.size (snapshot (wears_of s.blocks) (g.clock old) (g.contents old)) (snapshot (wears_of t.blocks) (g.clock new) (g.contents new))
+  pub map : g.tells → KeepsMap g.clock g.contents g.left s.blocks.size (bound (seen s)) (map_of s.places.items (g.contents old))
+      (map_of t.places.items (g.contents new)) old new
+  pub operates : Operates g.tells s.blocks.size (snapshot (wears_of s.blocks) (g.clock old) (g.contents old))
+      (snapshot (wears_of t.blocks) (g.clock new) (g.contents new))
   pub geometry : g.geometry new ≡ g.geometry old
   pub counts : Counted g.clock g.read_faults g.write_faults old new failed
 

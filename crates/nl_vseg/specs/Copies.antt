@@ -18,7 +18,8 @@ use Rattle.nl_vseg.specs.declared.place.Place.{Place}
 
 -- What has to hold before a page is copied: the medium has the target, another block than the victim, with pages as the table
 -- says. Its pages that are not used are erased and hold no place, and the page of each place shows its address.
-pub record CanCopy {M : Type 0} (g : Ghosts M) (pages victim target : ℕ) (places : List (Option Place)) (table : Table) (medium : M) : Type 0 where
+pub record CanCopy {M : Type 0} (g : Ghosts M) (pages victim target : ℕ) (places : List (Option Place)) (table : Table)
+    (medium : M) : Type 0 where
   pub same_pages : (g.geometry medium).pages ≡ pages
   pub some : 0 < pages
   pub in_medium : target < (g.geometry medium).blocks
@@ -33,8 +34,9 @@ pub record CanCopy {M : Type 0} (g : Ghosts M) (pages victim target : ℕ) (plac
   pub holds : g.tells → Holds (g.contents medium) places
   pub erased : g.tells → ErasedWithin (g.contents medium) (target * pages + used_of table target) (target * pages + pages)
 
--- What has to hold before the next copy holds again, and the map is as it was.
-pub record HasCopied {M : Type 0} (g : Ghosts M) (pages victim target : ℕ) (was places : List (Option Place)) (table : Table) (old new : M) : Type 0 where
+-- After a copy, what has to hold before the next one holds again, and the map is as it was.
+pub record HasCopied {M : Type 0} (g : Ghosts M) (pages victim target : ℕ) (was places : List (Option Place)) (table : Table)
+    (old new : M) : Type 0 where
   pub next : CanCopy g pages victim target places table new
   pub map : g.tells → (v : ℕ) → map_of places (g.contents new) v ≡ map_of was (g.contents old) v
 
@@ -60,13 +62,15 @@ pub record MarksCopy (pages victim target used : ℕ) (place : Option Place) (do
   pub grown : (at page : ℕ) → target_at new at ≡ Some page → (target_at old at ≡ Some page) ⊎ IsAt pages victim at place
 
 -- Since the image only pages of the target have changed, to copies of these places, also where a stop came.
-pub record ChangesIn {M : Type 0} (g : Ghosts M) (pages target : ℕ) (places : List (Option Place)) (image : Image) (old new : M) : Type 0 where
+pub record ChangesIn {M : Type 0} (g : Ghosts M) (pages target : ℕ) (places : List (Option Place)) (image : Image)
+    (old new : M) : Type 0 where
   pub now : ChangedIn pages target places image (g.contents new)
   pub crash : LeavesOnly g.clock g.left old new (λ m c. ChangedIn pages target places image c)
 
 -- The copies to a block were programs that write the wear of that block. None is Lost where the medium tells its contents.
 pub record CopiesTo {M : Type 0} (g : Ghosts M) (pages block wear : ℕ) (answer : VirtualWrite) (old new : M) : Type 0 where
-  pub operates : (wears : List ℕ) → wear_in wears block ≡ wear → Operates g.tells pages (snapshot wears (g.clock old) (g.contents old)) (snapshot wears (g.clock new) (g.contents new))
+  pub operates : (wears : List ℕ) → wear_in wears block ≡ wear
+      → Operates g.tells pages (snapshot wears (g.clock old) (g.contents old)) (snapshot wears (g.clock new) (g.contents new))
   pub told : g.tells → IsLost answer → ⊥
   pub geometry : g.geometry new ≡ g.geometry old
   pub counts : Counted g.clock g.read_faults g.write_faults old new (answer ≡ write.Fault)

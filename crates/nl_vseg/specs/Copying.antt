@@ -17,13 +17,13 @@ is_in pages block (Some place) = place.page / pages == block
 abbrev pub mapped_in : ℕ → ℕ → List (Option Place) → ℕ
 mapped_in pages block places = count_by (is_in pages block) places
 
--- as many blocks, with the same numbers
+-- two tables have as many blocks, with the same numbers
 pub record SameNumbers (old new : Table) : Type 0 where
   pub same_first : new.first ≡ old.first
   pub same_size : new.size ≡ old.size
   pub same_count : length new.blocks ≡ length old.blocks
 
--- the same blocks are Free
+-- in two tables the same blocks are Free
 pub record SameUse (old new : Table) : Type 0 where
   pub numbers : SameNumbers old new
   pub free : (block : ℕ) → block_is_free new block ≡ block_is_free old block
@@ -55,7 +55,8 @@ pub record Restated (block : ℕ) (free : Bool) (old new : Table) : Type 0 where
 pub record IsSettled (places : List (Option Place)) (table : Table) : Type 0 where
   pub sealed : (block : ℕ) → block < length table.blocks → block_is_free table block ≡ false → is_sealed (block_at table block) ≡ true
   pub rows : (block : ℕ) → block < length table.blocks → length (block_at table block).pages ≡ table.size
-  pub counted : (block : ℕ) → block < length table.blocks → table.size ≤ mapped_in table.size block places + dead_count (block_at table block)
+  pub counted : (block : ℕ) → block < length table.blocks
+      → table.size ≤ mapped_in table.size block places + dead_count (block_at table block)
   pub live : (v : ℕ) (place : Place) → place_of places v ≡ Some place → (row_page table place.page).state ≡ Live
 
 -- the page is that of no address
@@ -108,7 +109,8 @@ pub record AreMoved (pages victim target used : ℕ) (old new : List (Option Pla
 
 -- the page shows what one of these places shows
 abbrev pub IsCopy : List (Option Place) → Image → Page → Type 0
-IsCopy places image page = (v : ℕ) × ((place : Place) × ((place_of places v ≡ Some place) × (fact_of page ≡ fact_of (page_at image place.page))))
+IsCopy places image page =
+    (v : ℕ) × ((place : Place) × ((place_of places v ≡ Some place) × (fact_of page ≡ fact_of (page_at image place.page))))
 
 -- Only pages of the block have changed, and each of them shows nothing, or what one of these places shows.
 pub record ChangedIn (pages block : ℕ) (places : List (Option Place)) (old c : Image) : Type 0 where

@@ -24,7 +24,8 @@ pub record Takes (pages bound : ℕ) (map : ℕ → Option (ℕ × List ℕ)) (v
   pub beyond : (p : ℕ) → bound ≤ p → page_at c p ≡ page_at old p
 
 -- A call that leaves the map: the image keeps it, and so does each image that a stop within the call may have left.
-pub record KeepsMap {M : Type 0} (clock : M → ℕ) (contents : M → Image) (left : M → ℕ → Image → Type 0) (pages bound : ℕ) (map_old map_new : ℕ → Option (ℕ × List ℕ)) (old new : M) : Type 0 where
+pub record KeepsMap {M : Type 0} (clock : M → ℕ) (contents : M → Image) (left : M → ℕ → Image → Type 0) (pages bound : ℕ)
+    (map_old map_new : ℕ → Option (ℕ × List ℕ)) (old new : M) : Type 0 where
   pub same : (v : ℕ) → map_new v ≡ map_old v
   pub keeps : Keeps pages bound map_old (contents old) (contents new)
   pub crash : LeavesOnly clock left old new (λ m c. Keeps pages bound map_old (contents old) c)
@@ -37,7 +38,7 @@ pub record Counted {M : Type 0} (clock read_faults write_faults : M → ℕ) (ol
   pub cause : failed → Rose (read_faults old) (read_faults new) ⊎ Rose (write_faults old) (write_faults new)
   pub stays : (failed → ⊥) → (read_faults new ≡ read_faults old) × (write_faults new ≡ write_faults old)
 
--- One page of the block was programmed: it has these bytes. Other pages have changed only in that block, where it was erased
+-- One page of the block was programmed: the page has these bytes. Other pages have changed only in that block, where it was erased
 -- first, and are erased there.
 pub record Programmed (pages bound block : ℕ) (v s wear : ℕ) (main : List ℕ) (old new : Image) : Type 0 where
   pub page : ℕ

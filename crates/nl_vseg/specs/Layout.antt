@@ -37,7 +37,7 @@ pub record HasSpare (seg : Layout) : Type 0 where
   pub within : block < length seg.table.blocks
   pub unmapped : IsUnmapped seg.table.size seg.places block
 
--- as many addresses, and as many blocks of as many pages
+-- two segments have as many addresses, and as many blocks of as many pages
 pub record SameShape (old new : Layout) : Type 0 where
   pub addresses : length new.places ≡ length old.places
   pub blocks : length new.table.blocks ≡ length old.table.blocks
@@ -55,9 +55,11 @@ IsNext seg p = (seg.active * seg.table.size + seg.used ≤ p) × (p < seg.active
 -- The segment takes the page as erased: it is one of the active block that is not used, or one of a Free block that was not
 -- told to be soiled.
 abbrev pub TakenAsErased : Layout → ℕ → Type 0
-TakenAsErased seg p = (p < bound seg) × (IsNext seg p ⊎ ((block_is_free seg.table (p / seg.table.size) ≡ true) × (is_soiled seg (p / seg.table.size) ≡ false)))
+TakenAsErased seg p =
+    (p < bound seg)
+    × (IsNext seg p ⊎ ((block_is_free seg.table (p / seg.table.size) ≡ true) × (is_soiled seg (p / seg.table.size) ≡ false)))
 
--- the same, as a choice
+-- whether a page is taken as erased, as a test
 unfoldable pub is_taken : Layout → ℕ → Bool
 is_taken seg p = nat_lt p (bound seg)
     && ((nat_le (seg.active * seg.table.size + seg.used) p && nat_lt p (seg.active * seg.table.size + seg.table.size))

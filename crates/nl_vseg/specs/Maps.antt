@@ -11,7 +11,7 @@ Map = ℕ → Option (ℕ × List ℕ)
 abbrev pub with_at : Map → ℕ → ℕ × List ℕ → Map
 with_at map v x u = if u == v then Some x else map u
 
--- it is the value, or it is older
+-- the number and the bytes are those of the value, or the number is less
 abbrev pub Dominated : Option (ℕ × List ℕ) → ℕ → List ℕ → Type 0
 Dominated None t n = ⊥
 Dominated (Some x) t n = (t < x.0) ⊎ ((t ≡ x.0) × (n ≡ x.1))

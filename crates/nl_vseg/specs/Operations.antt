@@ -30,10 +30,12 @@ wears_after write.Done block wears = slice_set wears block (worn (wear_in wears 
 wears_after write.Failed block wears = wears
 
 -- A program, which writes the wear of its block and leaves the wears.
-pub record Programs (told : Type 0) (pages page address stamp : ℕ) (main : List ℕ) (answer : WriteAnswer) (old new : Snapshot) : Type 0 where
+pub record Programs (told : Type 0) (pages page address stamp : ℕ) (main : List ℕ) (answer : WriteAnswer)
+    (old new : Snapshot) : Type 0 where
   pub same_wears : new.wears ≡ old.wears
   pub ticks : new.clock ≡ ticked old.clock answer
-  pub leaves : told → Leaves page (page + 1) (written (page_with main address stamp (wear_in old.wears (page / pages)))) old.image answer new.image
+  pub leaves : told → Leaves page (page + 1)
+      (written (page_with main address stamp (wear_in old.wears (page / pages)))) old.image answer new.image
 
 -- An erase of a block, after which its wear is one more, where it finished.
 pub record Erases (told : Type 0) (pages block : ℕ) (answer : WriteAnswer) (old new : Snapshot) : Type 0 where

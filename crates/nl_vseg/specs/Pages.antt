@@ -33,7 +33,8 @@ IsBeside pages block p = (p < block * pages) ⊎ (block * pages + pages ≤ p)
 
 -- a page below this one, and not in this block, shows it
 abbrev pub ShowsBeside : ℕ → ℕ → ℕ → Image → ℕ → ℕ → List ℕ → Type 0
-ShowsBeside pages block bound image v s main = (p : ℕ) × (p < bound) × IsBeside pages block p × (fact_of (page_at image p) ≡ Some (v, s, main))
+ShowsBeside pages block bound image v s main =
+    (p : ℕ) × (p < bound) × IsBeside pages block p × (fact_of (page_at image p) ≡ Some (v, s, main))
 
 abbrev pub main_of : Page → List ℕ
 main_of erased = []

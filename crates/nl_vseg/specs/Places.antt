@@ -29,7 +29,9 @@ IsUnmapped pages places block = (v : ℕ) (place : Place) → place_of places v 
 
 -- the page of each place shows the address and its number
 abbrev pub Holds : Image → List (Option Place) → Type 0
-Holds image places = (v : ℕ) (place : Place) → place_of places v ≡ Some place → fact_of (page_at image place.page) ≡ Some (v, place.stamp, main_of (page_at image place.page))
+Holds image places =
+    (v : ℕ) (place : Place) → place_of places v ≡ Some place
+    → fact_of (page_at image place.page) ≡ Some (v, place.stamp, main_of (page_at image place.page))
 
 -- each page of the map is below the bound
 abbrev pub AreBelow : ℕ → List (Option Place) → Type 0

@@ -28,6 +28,7 @@ pub record Puts {M : Type 0} (g : Ghosts M) (v stamp : ℕ) (main : List ℕ) (a
   pub rest : KeepsRest s t
   pub less : room (seen t) + 1 ≡ room (seen s)
   pub writes : Writes g v stamp main (answer ≡ write.Done) (answer ≡ write.Failed) (segment_of s) (segment_of t) old new
-  pub programmed : g.tells → answer ≡ write.Done → Programmed s.blocks.size (bound (seen s)) s.active v stamp (block_at t.blocks s.active).wear main (g.contents old) (g.contents new)
+  pub programmed : g.tells → answer ≡ write.Done
+      → Programmed s.blocks.size (bound (seen s)) s.active v stamp (block_at t.blocks s.active).wear main (g.contents old) (g.contents new)
   pub failed : answer ≡ write.Failed → t.places.items ≡ s.places.items
   pub write_fault : answer ≡ write.Failed → Rose (g.write_faults old) (g.write_faults new)

@@ -1,4 +1,4 @@
--- The segment that a state is.
+-- How the state of a virtual segment is seen, and which states are formed.
 use Rattle.std.specs.Prelude.{◌≡◌, ◌≤◌, length}
 use Rattle.nl_nand.specs.declared.geometry.Geometry.{Geometry}
 use Rattle.nl_vseg.specs.Layout.{Layout, IsLayout, shown}

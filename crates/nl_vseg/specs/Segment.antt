@@ -30,7 +30,7 @@ pub record KeepsSpare (seg : Segment) : Type 0 where
   pub within : block * seg.pages + seg.pages ≤ seg.bound
   pub unmapped : IsUnmapped seg.pages seg.places block
 
--- as many addresses, as many pages, and blocks of as many pages
+-- two segments have as many addresses, as many pages, and blocks of as many pages
 pub record SameSize (old new : Segment) : Type 0 where
   pub addresses : length new.places ≡ length old.places
   pub same_pages : new.pages ≡ old.pages

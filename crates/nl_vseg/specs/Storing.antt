@@ -15,13 +15,15 @@ pub record WritesStamp (v s : ℕ) (done : Type 0) (old new : List (Option Place
 
 -- Once the write is done the map has this value, and the medium takes it. Else the map is as it was, and the medium keeps it; it may
 -- show the value too where a write failed. A stop within the write leaves a medium that keeps the map, or takes the value.
-pub record WritesValue {M : Type 0} (clock write_faults : M → ℕ) (contents : M → Image) (left : M → ℕ → Image → Type 0) (v s : ℕ) (main : List ℕ) (done : Type 0) (seg now : Segment) (old new : M) : Type 0 where
+pub record WritesValue {M : Type 0} (clock write_faults : M → ℕ) (contents : M → Image) (left : M → ℕ → Image → Type 0) (v s : ℕ)
+    (main : List ℕ) (done : Type 0) (seg now : Segment) (old new : M) : Type 0 where
   pub map : done → (u : ℕ) → map_of now.places (contents new) u ≡ with_at (map_of seg.places (contents old)) v (s, main) u
   pub same : (done → ⊥) → (u : ℕ) → map_of now.places (contents new) u ≡ map_of seg.places (contents old) u
   pub takes : done → Takes seg.pages seg.bound (map_of seg.places (contents old)) v s main (contents old) (contents new)
   pub either : Keeps seg.pages seg.bound (map_of seg.places (contents old)) (contents old) (contents new)
       ⊎ Takes seg.pages seg.bound (map_of seg.places (contents old)) v s main (contents old) (contents new)
-  pub unused : (done → ⊥) → (Rose (write_faults old) (write_faults new) → ⊥) → Keeps seg.pages seg.bound (map_of seg.places (contents old)) (contents old) (contents new)
+  pub unused : (done → ⊥) → (Rose (write_faults old) (write_faults new) → ⊥)
+      → Keeps seg.pages seg.bound (map_of seg.places (contents old)) (contents old) (contents new)
   pub crash : LeavesOnly clock left old new (Turns done (clock new)
       (λ c. Keeps seg.pages seg.bound (map_of seg.places (contents old)) (contents old) c)
       (λ c. Takes seg.pages seg.bound (map_of seg.places (contents old)) v s main (contents old) c))

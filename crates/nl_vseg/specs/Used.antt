@@ -28,7 +28,7 @@ pub record IsClosed (block : ℕ) (old new : Table) : Type 0 where
   pub others : (other : ℕ) → other < length old.blocks → (other ≡ block → ⊥) → used_of new other ≡ used_of old other
   pub rising : AreRising old → AreRising new
 
--- of each block as many pages are used as before
+-- as many pages of each block are used as before
 pub record KeepsUsed (old new : Table) : Type 0 where
   pub each : (block : ℕ) → block < length old.blocks → used_of new block ≡ used_of old block
   pub rising : AreRising old → AreRising new

@@ -33,15 +33,23 @@ fn copy_page<M: Nand>(
     requires within { place.page < (M.geometry media.old).blocks * (M.geometry media.old).pages }
     requires to { to < (M.geometry media.old).blocks * (M.geometry media.old).pages }
     requires spelled { IsTrue (is_stamp place.stamp) }
-    requires shows { M.tells → fact_of (page_at (M.contents media.old) place.page) ≡ Some (vaddr, place.stamp, main_of (page_at (M.contents media.old) place.page)) }
+    requires shows { M.tells → fact_of (page_at (M.contents media.old) place.page)
+        ≡ Some (vaddr, place.stamp, main_of (page_at (M.contents media.old) place.page)) }
     requires erased { M.tells → CanProgram (M.contents media.old) to }
-    ensures filled { M.tells → result ≡ VirtualWrite.Done → Filled to (to + 1) (copy_of (page_at (M.contents media.old) place.page) vaddr place.stamp wear) (M.contents media.old) (M.contents media.new) }
-    ensures cut { M.tells → Cut to (to + 1) (copy_of (page_at (M.contents media.old) place.page) vaddr place.stamp wear) (M.contents media.old) (M.contents media.new) }
-    ensures crash { M.tells → LeavesOnly M.clock M.left media.old media.new (λ m c. Cut to (to + 1) (copy_of (page_at (M.contents media.old) place.page) vaddr place.stamp wear) (M.contents media.old) c) }
-    ensures copied { M.tells → fact_of (copy_of (page_at (M.contents media.old) place.page) vaddr place.stamp wear) ≡ fact_of (page_at (M.contents media.old) place.page) }
+    ensures filled { M.tells → result ≡ VirtualWrite.Done
+        → Filled to (to + 1) (copy_of (page_at (M.contents media.old) place.page) vaddr place.stamp wear) (M.contents media.old)
+        (M.contents media.new) }
+    ensures cut { M.tells → Cut to (to + 1) (copy_of (page_at (M.contents media.old) place.page) vaddr place.stamp wear)
+        (M.contents media.old) (M.contents media.new) }
+    ensures crash { M.tells → LeavesOnly M.clock M.left media.old media.new
+        (λ m c. Cut to (to + 1) (copy_of (page_at (M.contents media.old) place.page) vaddr place.stamp wear) (M.contents media.old) c) }
+    ensures copied { M.tells → fact_of (copy_of (page_at (M.contents media.old) place.page) vaddr place.stamp wear)
+        ≡ fact_of (page_at (M.contents media.old) place.page) }
     ensures lost { (w f : ℕ) → result ≡ VirtualWrite.Lost w f → (w ≡ place.stamp) × (f ≡ place.stamp → ⊥) }
     ensures kept { M.tells → IsLost result → ⊥ }
-    ensures operates { (pages : ℕ) (wears : List ℕ) → wear_in wears (to / pages) ≡ wear → Operates M.tells pages (snapshot wears (M.clock media.old) (M.contents media.old)) (snapshot wears (M.clock media.new) (M.contents media.new)) }
+    ensures operates { (pages : ℕ) (wears : List ℕ) → wear_in wears (to / pages) ≡ wear
+        → Operates M.tells pages (snapshot wears (M.clock media.old) (M.contents media.old))
+        (snapshot wears (M.clock media.new) (M.contents media.new)) }
     ensures geometry { M.geometry media.new ≡ M.geometry media.old }
     ensures counts { Counted M.clock M.read_faults M.write_faults media.old media.new (result ≡ VirtualWrite.Fault) }
 {
@@ -75,12 +83,18 @@ fn copy_one<M: Nand>(
     requires vaddr { v < length copies.old.items }
     requires targets { AreTargets pages target (used_of blocks.old target) targets.old.items }
     requires hole { LeavesHole pages victim (place_of copies.old.items v) targets.old.items }
-    requires fresh { M.tells → (at page : ℕ) → target_at targets.old.items at ≡ Some page → IsAt pages victim at (place_of copies.old.items v) → ⊥ }
+    requires fresh { M.tells → (at page : ℕ) → target_at targets.old.items at ≡ Some page
+        → IsAt pages victim at (place_of copies.old.items v) → ⊥ }
     ensures used { UsesMore pages target blocks.old blocks.new }
-    ensures done { result ≡ VirtualWrite.Done → HasCopied M.Nand pages victim target copies.old.items copies.new.items blocks.new media.old media.new }
-    ensures places { MovesPlace pages victim target (used_of blocks.new target) v (result ≡ VirtualWrite.Done) copies.old.items copies.new.items }
-    ensures targets { MarksCopy pages victim target (used_of blocks.new target) (place_of copies.old.items v) (result ≡ VirtualWrite.Done) targets.old.items targets.new.items }
-    ensures changed { M.tells → (first : List (Option PlaceOf)) (image : Image) → place_of first v ≡ place_of copies.old.items v → IsUnmapped pages first target → ChangedIn pages target first image (M.contents media.old) → ChangesIn M.Nand pages target first image media.old media.new }
+    ensures done { result ≡ VirtualWrite.Done
+        → HasCopied M.Nand pages victim target copies.old.items copies.new.items blocks.new media.old media.new }
+    ensures places { MovesPlace pages victim target (used_of blocks.new target) v
+        (result ≡ VirtualWrite.Done) copies.old.items copies.new.items }
+    ensures targets { MarksCopy pages victim target (used_of blocks.new target) (place_of copies.old.items v)
+        (result ≡ VirtualWrite.Done) targets.old.items targets.new.items }
+    ensures changed { M.tells → (first : List (Option PlaceOf)) (image : Image) → place_of first v ≡ place_of copies.old.items v
+        → IsUnmapped pages first target → ChangedIn pages target first image (M.contents media.old)
+        → ChangesIn M.Nand pages target first image media.old media.new }
     ensures lost { (w f : ℕ) → result ≡ VirtualWrite.Lost w f → (stamp_in_place (place_of copies.old.items v) ≡ Some w) × (f ≡ w → ⊥) }
     ensures medium { CopiesTo M.Nand pages target wear result media.old media.new }
 {
@@ -139,12 +153,15 @@ pub fn copy_block<M: Nand>(
     requires targets { targets.old.items ≡ replicate pages None }
     requires hole { HasHole pages victim copies.old.items }
     ensures used { UsesMore pages target blocks.old blocks.new }
-    ensures done { result ≡ VirtualWrite.Done → HasCopied M.Nand pages victim target copies.old.items copies.new.items blocks.new media.old media.new }
-    ensures moved { result ≡ VirtualWrite.Done → AreMoved pages victim target (used_of blocks.new target) copies.old.items copies.new.items }
+    ensures done { result ≡ VirtualWrite.Done
+        → HasCopied M.Nand pages victim target copies.old.items copies.new.items blocks.new media.old media.new }
+    ensures moved { result ≡ VirtualWrite.Done
+        → AreMoved pages victim target (used_of blocks.new target) copies.old.items copies.new.items }
     ensures count { length copies.new.items ≡ length copies.old.items }
     ensures size { length targets.new.items ≡ length targets.old.items }
     ensures changed { M.tells → ChangesIn M.Nand pages target copies.old.items (M.contents media.old) media.old media.new }
-    ensures lost { (w f : ℕ) → result ≡ VirtualWrite.Lost w f → ((v : ℕ) × (stamp_in_place (place_of copies.old.items v) ≡ Some w)) × (f ≡ w → ⊥) }
+    ensures lost { (w f : ℕ) → result ≡ VirtualWrite.Lost w f
+        → ((v : ℕ) × (stamp_in_place (place_of copies.old.items v) ≡ Some w)) × (f ≡ w → ⊥) }
     ensures medium { CopiesTo M.Nand pages target wear result media.old media.new }
 {
     for v in 0..copies.len() {

@@ -58,8 +58,10 @@ pub fn program_page<M: Nand>(
     requires erased { M.tells → CanProgram (M.contents media.old) page }
     requires spelled { IsTrue (is_stamp stamp) }
     ensures shows { fact_of (written (page_with buf.old.main vaddr stamp wear)) ≡ Some (vaddr, stamp, buf.old.main) }
-    ensures effect { M.tells → Leaves page (page + 1) (written (page_with buf.old.main vaddr stamp wear)) (M.contents media.old) result (M.contents media.new) }
-    ensures crash { CrashLeaves M.clock M.contents M.left page (page + 1) (written (page_with buf.old.main vaddr stamp wear)) media.old media.new }
+    ensures effect { M.tells → Leaves page (page + 1) (written (page_with buf.old.main vaddr stamp wear))
+        (M.contents media.old) result (M.contents media.new) }
+    ensures crash { CrashLeaves M.clock M.contents M.left page (page + 1)
+        (written (page_with buf.old.main vaddr stamp wear)) media.old media.new }
     ensures counted { OperationCounted M.geometry M.clock M.read_faults M.write_faults media.old media.new result }
 {
     let mut spare = [0; 64];

@@ -1,3 +1,4 @@
+// The places of virtual addresses.
 ghost use Rattle.std.specs.Prelude.{◌≡◌, length, replicate, None, IfOk};
 
 use nl_field::Memory;

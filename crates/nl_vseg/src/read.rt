@@ -1,3 +1,4 @@
+// Reads an address.
 ghost use Rattle.std.specs.Prelude.{◌≡◌, ◌<◌, length};
 ghost use Rattle.nl_nand.specs.Nand.{FaultsCounted, OnlyReads};
 ghost use Rattle.nl_vseg.specs.Places.{map_of, stamp_for};
@@ -11,6 +12,7 @@ use nl_field::{PageBuf, VirtualRead};
 use nl_nand::Nand;
 
 impl State {
+    /// Reads the page of an address: `Unmapped` exactly where it has none, and a `Fault` is counted.
     pub fn read<M: Nand>(&self, media: &mut M, vaddr: u32, buf: &mut PageBuf) -> VirtualRead
         requires formed { IsFormed self.now }
         requires fits { Fits (M.geometry media.old) (segment_of self.now) }

@@ -104,7 +104,9 @@ impl State {
         ensures kept { soiled ≡ true → wears_of self.new.blocks ≡ wears_of self.old.blocks }
         ensures worn { soiled ≡ false → wears_of self.new.blocks ≡ wears_after WriteAnswer.Done block (wears_of self.old.blocks) }
         ensures soiled { is_soiled (seen self.new) block ≡ soiled }
-        ensures erased { (p : ℕ) → TakenAsErased (seen self.new) p → (p / self.old.blocks.size ≡ block → soiled ≡ false) × ((p / self.old.blocks.size ≡ block → ⊥) → TakenAsErased (seen self.old) p) }
+        ensures erased { (p : ℕ) → TakenAsErased (seen self.new) p
+            → (p / self.old.blocks.size ≡ block → soiled ≡ false)
+            × ((p / self.old.blocks.size ≡ block → ⊥) → TakenAsErased (seen self.old) p) }
     {
         free_block(&mut self.blocks, block, soiled);
         self.soiled[block as usize] = soiled;
@@ -117,8 +119,10 @@ impl State {
         requires unmapped { IsUnmapped self.old.blocks.size self.old.places.items block }
         ensures keeps { KeepsValues M.Nand (result ≡ WriteAnswer.Failed) self.old self.new media.old media.new }
         ensures free { Frees block self.old self.new }
-        ensures blank { M.tells → result ≡ WriteAnswer.Done → (p : ℕ) → p / self.old.blocks.size ≡ block → page_at (M.contents media.new) p ≡ erased }
-        ensures others { M.tells → (p : ℕ) → (p / self.old.blocks.size ≡ block → ⊥) → page_at (M.contents media.new) p ≡ page_at (M.contents media.old) p }
+        ensures blank { M.tells → result ≡ WriteAnswer.Done → (p : ℕ) → p / self.old.blocks.size ≡ block
+            → page_at (M.contents media.new) p ≡ erased }
+        ensures others { M.tells → (p : ℕ) → (p / self.old.blocks.size ≡ block → ⊥)
+            → page_at (M.contents media.new) p ≡ page_at (M.contents media.old) p }
     {
         match media.erase(block) {
             WriteAnswer::Done => {
@@ -142,7 +146,8 @@ impl State {
         ensures active { self.new.active ≡ self.old.active }
         ensures states { SameUse self.old.blocks self.new.blocks }
         ensures worn { wears_of self.new.blocks ≡ wears_after WriteAnswer.Done block (wears_of self.old.blocks) }
-        ensures erased { (p : ℕ) → TakenAsErased (seen self.new) p → (p / self.old.blocks.size ≡ block → ⊥) → TakenAsErased (seen self.old) p }
+        ensures erased { (p : ℕ) → TakenAsErased (seen self.new) p → (p / self.old.blocks.size ≡ block → ⊥)
+            → TakenAsErased (seen self.old) p }
     {
         wear_out(&mut self.blocks, block);
         self.soiled[block as usize] = false;
@@ -160,8 +165,10 @@ impl State {
         ensures kept { result ≡ WriteAnswer.Done → SameUse self.old.blocks self.new.blocks }
         ensures used { result ≡ WriteAnswer.Done → (seen self.new).used ≡ (seen self.old).used }
         ensures given { result ≡ WriteAnswer.Failed → GivesBack self.old self.new }
-        ensures blank { M.tells → result ≡ WriteAnswer.Done → (p : ℕ) → p / self.old.blocks.size ≡ self.old.active → page_at (M.contents media.new) p ≡ erased }
-        ensures others { M.tells → (p : ℕ) → (p / self.old.blocks.size ≡ self.old.active → ⊥) → page_at (M.contents media.new) p ≡ page_at (M.contents media.old) p }
+        ensures blank { M.tells → result ≡ WriteAnswer.Done → (p : ℕ) → p / self.old.blocks.size ≡ self.old.active
+            → page_at (M.contents media.new) p ≡ erased }
+        ensures others { M.tells → (p : ℕ) → (p / self.old.blocks.size ≡ self.old.active → ⊥)
+            → page_at (M.contents media.new) p ≡ page_at (M.contents media.old) p }
     {
         let block = self.active;
         match media.erase(block) {
@@ -186,7 +193,8 @@ impl State {
         ensures same { result ≡ WriteAnswer.Failed → SameUse self.old.blocks self.new.blocks }
         ensures closed { result ≡ WriteAnswer.Failed → (seen self.new).used ≡ self.new.blocks.size }
         ensures opened { result ≡ WriteAnswer.Done → Opens self.old self.new }
-        ensures others { M.tells → result ≡ WriteAnswer.Done → StaysOrErased self.old.blocks.size self.new.active (M.contents media.old) (M.contents media.new) }
+        ensures others { M.tells → result ≡ WriteAnswer.Done
+            → StaysOrErased self.old.blocks.size self.new.active (M.contents media.old) (M.contents media.new) }
     {
         let block = take(&mut self.blocks);
         self.active = block;
@@ -203,7 +211,8 @@ impl State {
         ensures formed { IsFormed self.new }
         ensures given { GivesBack self.old self.new }
         ensures wears { wears_of self.new.blocks ≡ wears_of self.old.blocks }
-        ensures erased { (p : ℕ) → TakenAsErased (seen self.new) p → TakenAsErased (seen self.old) p × (p / self.old.blocks.size ≡ self.old.active → ⊥) }
+        ensures erased { (p : ℕ) → TakenAsErased (seen self.new) p
+            → TakenAsErased (seen self.old) p × (p / self.old.blocks.size ≡ self.old.active → ⊥) }
     {
         let block = self.active;
         self.set_free(block, true);
@@ -303,8 +312,10 @@ impl State {
         ensures keeps { KeepsValues M.Nand (result ≡ VirtualWrite.Fault) self.old self.new media.old media.new }
         ensures spare { HasSpare (seen self.new) }
         ensures room { result ≡ VirtualWrite.Done → ((seen self.new).used < self.new.blocks.size) × (1 ≤ free_count self.new.blocks) }
-        ensures direct { 0 < room (seen self.old) → result ≡ VirtualWrite.Done → (room (seen self.new) ≡ room (seen self.old)) × (self.new.places.items ≡ self.old.places.items) }
-        ensures others { M.tells → 0 < room (seen self.old) → result ≡ VirtualWrite.Done → StaysOrErased self.old.blocks.size self.new.active (M.contents media.old) (M.contents media.new) }
+        ensures direct { 0 < room (seen self.old) → result ≡ VirtualWrite.Done
+            → (room (seen self.new) ≡ room (seen self.old)) × (self.new.places.items ≡ self.old.places.items) }
+        ensures others { M.tells → 0 < room (seen self.old) → result ≡ VirtualWrite.Done
+            → StaysOrErased self.old.blocks.size self.new.active (M.contents media.old) (M.contents media.new) }
         ensures lost { LosesUntold M.tells self.old.places.items result }
     {
         if has_room(&self.blocks, self.active) && self.blocks.free() > 0 {

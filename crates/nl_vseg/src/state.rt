@@ -1,3 +1,4 @@
+// The state of a virtual segment.
 ghost use Rattle.std.specs.Prelude.{◌≡◌, ◌<◌, IfOk, IsTrue, length, replicate, false, None};
 ghost use Rattle.nl_field.specs.Numbers.{is_legal, shape_for};
 ghost use Rattle.nl_blocks.specs.Table.{new_table};
@@ -37,11 +38,18 @@ fn no_targets(alloc: Global, count: usize) -> Result<Vec<Option<u32>>, Memory>
 }
 
 impl State {
+    /// A segment no address of which was written. An error where memory is refused.
     pub fn new(alloc: Global, shape: &Shape) -> Result<State, Memory>
         requires legal { IsTrue (is_legal shape.now.blocks shape.now.pages) }
         requires numbers { shape.now ≡ shape_for shape.now.blocks shape.now.pages }
         ensures formed { IfOk result IsFormed }
-        ensures seen { IfOk result (λ s. seen s ≡ record { places = replicate shape.now.vaddrs None; table = new_table 0 shape.now.vblocks shape.now.pages; soiled = replicate shape.now.vblocks false; active = 0; used = shape.now.pages }) }
+        ensures seen { IfOk result (λ s. seen s ≡ record {
+          places = replicate shape.now.vaddrs None;
+          table = new_table 0 shape.now.vblocks shape.now.pages;
+          soiled = replicate shape.now.vblocks false;
+          active = 0;
+          used = shape.now.pages;
+        }) }
     {
         Ok(State {
             places: no_places(alloc, shape.vaddrs)?,

@@ -52,7 +52,8 @@ fn seal_all(blocks: &mut Blocks)
     requires { blocks.old.first ≡ 0 }
     ensures states { SameUse blocks.old blocks.new }
     ensures wears { wears_of blocks.new ≡ wears_of blocks.old }
-    ensures sealed { (block : ℕ) → block < length blocks.new.blocks → block_is_free blocks.new block ≡ false → is_sealed (block_at blocks.new block) ≡ true }
+    ensures sealed { (block : ℕ) → block < length blocks.new.blocks → block_is_free blocks.new block ≡ false
+        → is_sealed (block_at blocks.new block) ≡ true }
 {
     for block in 0..blocks.count() {
         seal_used(blocks, block);
@@ -92,8 +93,10 @@ fn mark_live(blocks: &mut Blocks, places: &Vec<Option<Place>>)
     requires pages { (page : ℕ) → page < length blocks.old.blocks * blocks.old.size → (page_at blocks.old page).state ≡ PageState.Dead }
     ensures states { SameStates blocks.old blocks.new }
     ensures rows { (block : ℕ) → block < length blocks.new.blocks → length (block_at blocks.new block).pages ≡ blocks.new.size }
-    ensures counted { (block : ℕ) → block < length blocks.new.blocks → blocks.new.size ≤ mapped_in blocks.new.size block places.now.items + dead_count (block_at blocks.new block) }
-    ensures live { (v : ℕ) (place : PlaceOf) → place_of places.now.items v ≡ Some place → (page_at blocks.new place.page).state ≡ PageState.Live }
+    ensures counted { (block : ℕ) → block < length blocks.new.blocks
+        → blocks.new.size ≤ mapped_in blocks.new.size block places.now.items + dead_count (block_at blocks.new block) }
+    ensures live { (v : ℕ) (place : PlaceOf) → place_of places.now.items v ≡ Some place
+        → (page_at blocks.new place.page).state ≡ PageState.Live }
 {
     let _ = blocks.count();
     for v in 0..places.len() {
@@ -129,7 +132,8 @@ pub fn choose(blocks: &mut Blocks, places: &Vec<Option<Place>>) -> u32
     ensures within { result < length blocks.old.blocks }
     ensures in_use { block_is_free blocks.old result ≡ false }
     ensures hole { HasHole blocks.old.size result places.now.items }
-    ensures unmapped { free_count blocks.old ≡ 0 → (block : ℕ) → block < length blocks.old.blocks → IsUnmapped blocks.old.size places.now.items block → IsUnmapped blocks.old.size places.now.items result }
+    ensures unmapped { free_count blocks.old ≡ 0 → (block : ℕ) → block < length blocks.old.blocks
+        → IsUnmapped blocks.old.size places.now.items block → IsUnmapped blocks.old.size places.now.items result }
 {
     settle(blocks, places);
     match most_dead(blocks) {

@@ -1,3 +1,4 @@
+// A virtual segment as its users see it.
 ghost use Rattle.std.specs.Prelude.{◌≡◌, ℕ, ◌+◌, ◌*◌, ◌/◌, ◌<◌, ◌≤◌, length, slice_set, replicate, true, None, Some, IsTrue, IfOk};
 ghost use Rattle.nl_field.specs.Numbers.{is_legal, shape_for};
 ghost use Rattle.nl_field.specs.Spelling.{is_stamp};
@@ -61,8 +62,10 @@ impl VSeg {
         requires stamp { IsTrue (is_stamp stamp) }
         ensures places { self.new.places ≡ slice_set self.old.places vaddr (Some (record { page = page; stamp = stamp })) }
         ensures numbers { SameSize self.old self.new }
-        ensures erased { (p : ℕ) → is_blank self.new p ≡ true → (is_blank self.old p ≡ true) × (p / self.old.pages ≡ page / self.old.pages → ⊥) }
-        ensures still { (p : ℕ) → is_blank self.old p ≡ true → (p / self.old.pages ≡ page / self.old.pages → ⊥) → is_blank self.new p ≡ true }
+        ensures erased { (p : ℕ) → is_blank self.new p ≡ true
+            → (is_blank self.old p ≡ true) × (p / self.old.pages ≡ page / self.old.pages → ⊥) }
+        ensures still { (p : ℕ) → is_blank self.old p ≡ true → (p / self.old.pages ≡ page / self.old.pages → ⊥)
+            → is_blank self.new p ≡ true }
         ensures wear { (block : ℕ) → wear_of self.new block ≡ wear_of self.old block }
     {
         self.state.load(page, vaddr, stamp);
@@ -117,8 +120,10 @@ impl VSeg {
         requires spare { KeepsSpare self.old }
         requires segment { M.tells → IsSegmentOf (M.contents media.old) self.old }
         ensures serves { StillServes M.Nand self.old self.new media.new }
-        ensures writes { Writes M.Nand vaddr stamp from.now.main (result ≡ VirtualWrite.Done) (result ≡ VirtualWrite.Fault) self.old self.new media.old media.new }
-        ensures direct { 0 < self.old.room → result ≡ VirtualWrite.Done → WritesDirectly M.Nand vaddr stamp from.now.main self.old self.new media.old media.new }
+        ensures writes { Writes M.Nand vaddr stamp from.now.main (result ≡ VirtualWrite.Done)
+            (result ≡ VirtualWrite.Fault) self.old self.new media.old media.new }
+        ensures direct { 0 < self.old.room → result ≡ VirtualWrite.Done
+            → WritesDirectly M.Nand vaddr stamp from.now.main self.old self.new media.old media.new }
         ensures lost { LosesUntold M.tells self.old.places result }
     {
         self.state.write(media, vaddr, from, stamp)

@@ -1,3 +1,4 @@
+// Writes an address to a new page.
 ghost use Rattle.std.specs.Prelude.{◌≡◌, ◌<◌, ◌≤◌, length, true, IsTrue};
 ghost use Rattle.nl_field.specs.Spelling.{is_stamp};
 ghost use Rattle.nl_blocks.specs.Table.{block_at, free_count, is_sealed};
@@ -59,6 +60,7 @@ impl State {
         answer
     }
 
+    /// Writes an address under this write sequence number, and makes room first where there is none.
     pub fn write<M: Nand>(
         &mut self,
         media: &mut M,
@@ -74,8 +76,10 @@ impl State {
         requires segment { M.tells → IsSegmentOf (M.contents media.old) (segment_of self.old) }
         ensures formed { IsFormed self.new }
         ensures serves { StillServes M.Nand (segment_of self.old) (segment_of self.new) media.new }
-        ensures writes { Writes M.Nand vaddr stamp from.now.main (result ≡ VirtualWrite.Done) (result ≡ VirtualWrite.Fault) (segment_of self.old) (segment_of self.new) media.old media.new }
-        ensures direct { 0 < room (seen self.old) → result ≡ VirtualWrite.Done → WritesDirectly M.Nand vaddr stamp from.now.main (segment_of self.old) (segment_of self.new) media.old media.new }
+        ensures writes { Writes M.Nand vaddr stamp from.now.main (result ≡ VirtualWrite.Done) (result ≡ VirtualWrite.Fault)
+            (segment_of self.old) (segment_of self.new) media.old media.new }
+        ensures direct { 0 < room (seen self.old) → result ≡ VirtualWrite.Done
+            → WritesDirectly M.Nand vaddr stamp from.now.main (segment_of self.old) (segment_of self.new) media.old media.new }
         ensures lost { LosesUntold M.tells self.old.places.items result }
     {
         match self.make_room(media) {

@@ -43,7 +43,8 @@ pub record MayStart (tells : Type 0) (lines : List Line) (from to : ℕ) (seat :
   pub stations_are : (w : ℕ) (s : Station) → slice_get stations w ≡ Some s → IsStation tells seat.opening lines w from seat.seen s
 
 -- The workers did their lines. Some had seats of their own, with the next numbers, which the first seat took back.
-pub record HasRun (tells : Type 0) (lines : List Line) (from to : ℕ) (seat : SeatState) (stations : List Station) (after : SeatState) (worked : List Station) : Type 0 where
+pub record HasRun (tells : Type 0) (lines : List Line) (from to : ℕ) (seat : SeatState) (stations : List Station) (after : SeatState)
+    (worked : List Station) : Type 0 where
   pub count : ℕ
   pub same : after ≡ record seat { seen = after.seen; next = seat.next + count; joined = after.joined }
   pub grows : IsPrefix seat.seen after.seen
@@ -53,6 +54,7 @@ pub record HasRun (tells : Type 0) (lines : List Line) (from to : ℕ) (seat : S
   pub placed : EachPlaced lines 0 after.seen
   pub done : (m : ℕ) → 0 < m → effects_of m (entries_of 0 after.seen) + effects_from m seat.next count after.seen
       ≡ effects_of m (entries_of 0 seat.seen) + lines_below m (length stations) (lines_between from to lines)
-  pub knows : KnowsLosses (any_lost stations) (any_lost worked) (losses_by 0 seat.seen) (losses_by 0 after.seen + losses_from seat.next count after.seen)
+  pub knows : KnowsLosses (any_lost stations) (any_lost worked) (losses_by 0 seat.seen)
+      (losses_by 0 after.seen + losses_from seat.next count after.seen)
   pub size : length worked ≡ length stations
   pub stations_are : (w : ℕ) (s : Station) → slice_get worked w ≡ Some s → IsStation tells seat.opening lines w to after.seen s

@@ -17,13 +17,13 @@ abbrev pub is_copy : Duty → Bool
 is_copy Copy = true
 is_copy _ = false
 
--- its entries have neither a line nor a staging
+-- A seat went on by background tasks: its entries have neither a line nor a staging.
 pub record HasServed (seat after : SeatState) : Type 0 where
   pub goes : GoesOn seat after
   pub placed : (lines : List Line) → EachPlaced lines seat.number seat.seen → EachPlaced lines seat.number after.seen
   pub done : (m : ℕ) → 0 < m → effects_of m (entries_of seat.number after.seen) ≡ effects_of m (entries_of seat.number seat.seen)
 
--- it has sent the numbers from 1 to its last one, each once and in order, and nobody else sends
+-- The cleaner's end has sent the numbers from 1 to its last one, each once and in order, and nobody else sends.
 pub record IsOutbox (notices : Notices) (outbox : Outbox) : Type 0 where
   pub sender : IsSender notices outbox.pass
   pub numbers : sent outbox.pass ≡ range_with_len 1 outbox.last
@@ -35,12 +35,13 @@ pub record MayClean (lock : TableId) (notices : Notices) (cleaner : Cleaner) : T
   pub at_rest : cleaner.seat.has_turn ≡ false
   pub sends : IsOutbox notices cleaner.outbox
 
--- it knows whether one of its turns lost a page; over a medium that tells its contents none is lost
+-- The cleaner knows whether one of its turns lost a page; over a medium that tells its contents none is lost.
 pub record HasCleaned (tells : Type 0) (notices : Notices) (cleaner after : Cleaner) : Type 0 where
   pub served : HasServed cleaner.seat after.seat
   pub sends : IsOutbox notices after.outbox
   pub goes_on : cleaner.outbox.last ≤ after.outbox.last
-  pub knows : KnowsLosses cleaner.lost after.lost (losses_by cleaner.seat.number cleaner.seat.seen) (losses_by cleaner.seat.number after.seat.seen)
+  pub knows : KnowsLosses cleaner.lost after.lost (losses_by cleaner.seat.number cleaner.seat.seen)
+      (losses_by cleaner.seat.number after.seat.seen)
   pub none_lost : tells → after.lost ≡ cleaner.lost
 
 -- ---- the handler
@@ -53,5 +54,6 @@ pub record MayHandle (lock : TableId) (notices : Notices) (handler : Handler) : 
 pub record HasHandled (tells : Type 0) (notices : Notices) (handler after : Handler) : Type 0 where
   pub served : HasServed handler.seat after.seat
   pub takes : IsTaker notices after.pass
-  pub knows : KnowsLosses handler.lost after.lost (losses_by handler.seat.number handler.seat.seen) (losses_by handler.seat.number after.seat.seen)
+  pub knows : KnowsLosses handler.lost after.lost (losses_by handler.seat.number handler.seat.seen)
+      (losses_by handler.seat.number after.seat.seen)
   pub none_lost : tells → after.lost ≡ handler.lost

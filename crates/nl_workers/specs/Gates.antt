@@ -18,14 +18,15 @@ stagings_of line es = count_by (λ (e : Entry). e.staged == line && e.more) es
 abbrev pub told_of : Line → GatePlace → Told
 told_of line place = record { worker = line.worker; line = line.line; place = place }
 
--- of a task of the cleaner or of the handler that did something
+-- what a gate was told of a task of the cleaner or of the handler that did something
 abbrev pub told_of_task : ℕ → DutyAnswer → Option Told
 told_of_task worker Did = Some (record { worker = worker; line = 0; place = After })
 told_of_task worker _ = None
 
 -- since the first seat's history pages were staged for the line
 abbrev pub has_staged : ℕ → SeatState → SeatState → Bool
-has_staged line seat after = nat_lt (stagings_of line (entries_of seat.number seat.seen)) (stagings_of line (entries_of seat.number after.seen))
+has_staged line seat after =
+    nat_lt (stagings_of line (entries_of seat.number seat.seen)) (stagings_of line (entries_of seat.number after.seen))
 
 -- The gate was told of the line before its turns, of its stagings exactly where a page was staged, and of its effect.
 pub record GateWasTold (line : Line) (seat after : SeatState) (told : LineTold) : Type 0 where

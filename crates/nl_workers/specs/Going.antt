@@ -27,17 +27,21 @@ abbrev pub times_in : ℕ → List Line → ℕ
 times_in number lines = count_by (λ (l : Line). l.line == number) lines
 
 -- the lines below a position are done, with the seat at rest
-pub record IsGoing (tells : Type 0) (lock : TableId) (notices : Notices) (lines : List Line) (first : SeatState) (count : ℕ) (crew : Crew) : Type 0 where
+pub record IsGoing (tells : Type 0) (lock : TableId) (notices : Notices) (lines : List Line) (first : SeatState) (count : ℕ)
+    (crew : Crew) : Type 0 where
   pub same : crew.seat ≡ record first { seen = crew.seat.seen; next = crew.seat.next; joined = crew.seat.joined }
   pub below : count ≤ length lines
   pub numbers : NoneBeyond crew.seat.next crew.seat.seen
   pub some : 3 ≤ crew.seat.next
   pub known : (n : ℕ) → 3 ≤ n → n < crew.seat.next → Contains crew.seat.joined n × EachPlaced lines n crew.seat.seen
   pub placed : EachPlaced lines 0 crew.seat.seen
-  pub done : (m : ℕ) → 0 < m → effects_of m (entries_of 0 crew.seat.seen) + effects_from m 3 (crew.seat.next - 3) crew.seat.seen ≡ times_in m (take count lines)
-  pub workers_know : KnowsLosses false (any_lost crew.stations.items) 0 (losses_by 0 crew.seat.seen + losses_from 3 (crew.seat.next - 3) crew.seat.seen)
+  pub done : (m : ℕ) → 0 < m
+      → effects_of m (entries_of 0 crew.seat.seen) + effects_from m 3 (crew.seat.next - 3) crew.seat.seen ≡ times_in m (take count lines)
+  pub workers_know : KnowsLosses false (any_lost crew.stations.items) 0
+      (losses_by 0 crew.seat.seen + losses_from 3 (crew.seat.next - 3) crew.seat.seen)
   pub size : length crew.stations.items ≡ 8
-  pub stations_are : (w : ℕ) (s : Station) → slice_get crew.stations.items w ≡ Some s → IsStation tells first.opening lines w count crew.seat.seen s
+  pub stations_are : (w : ℕ) (s : Station) → slice_get crew.stations.items w ≡ Some s
+      → IsStation tells first.opening lines w count crew.seat.seen s
   pub cleaner : MayClean lock notices crew.cleaner
   pub cleaner_seat : IsDutySeat lines 1 crew.cleaner.seat
   pub cleaner_knows : KnowsLosses false crew.cleaner.lost 0 (losses_by 1 crew.cleaner.seat.seen)
@@ -60,7 +64,8 @@ pub record IsHome (seat first second after : SeatState) : Type 0 where
   pub numbers : NoneBeyond after.next after.seen
 
 -- what is needed to run all lines
-pub record MayRunRounds (lock : TableId) (notices : Notices) (lines : List Line) (seat : SeatState) (stations : List Station) (passes : Passes) (places : ℕ) : Type 0 where
+pub record MayRunRounds (lock : TableId) (notices : Notices) (lines : List Line) (seat : SeatState) (stations : List Station)
+    (passes : Passes) (places : ℕ) : Type 0 where
   pub of_lock : seat.lock ≡ lock
   pub first : IsFirstSeat lines seat
   pub fresh : AreFresh lines stations
@@ -82,4 +87,5 @@ pub record HasRunAll (tells : Type 0) (lines : List Line) (seat after : SeatStat
   pub placed : AllPlaced lines after.seen
   pub done : (m : ℕ) → 0 < m → effects_of m (entries after.seen) ≡ times_in m lines
   pub size : length stations ≡ 8
-  pub stations_are : (w : ℕ) (s : Station) → slice_get stations w ≡ Some s → IsStation tells seat.opening lines w (length lines) after.seen s
+  pub stations_are : (w : ℕ) (s : Station) → slice_get stations w ≡ Some s
+      → IsStation tells seat.opening lines w (length lines) after.seen s

@@ -60,7 +60,8 @@ pub record HasEffect (line : ℕ) (history : List Passed) : Type 0 where
 -- the effects of all lines that have to precede the line stand in the history
 abbrev pub MayRun : List Line → ℕ → List Passed → Type 0
 MayRun lines number history =
-    IfSome (line_at lines number) (λ line. (earlier : Line) → Contains lines earlier → IsTrue (has_to_precede earlier line) → HasEffect earlier.line history)
+    IfSome (line_at lines number)
+    (λ line. (earlier : Line) → Contains lines earlier → IsTrue (has_to_precede earlier line) → HasEffect earlier.line history)
 
 -- the last entry is that the line had nothing left to stage
 pub record EndsStaged (line : ℕ) (mine : List Entry) : Type 0 where
@@ -79,16 +80,19 @@ pub record IsPlaced (lines : List Line) (number : ℕ) (before : List Passed) (e
 -- each entry of the seat does
 abbrev pub EachPlaced : List Line → ℕ → List Passed → Type 0
 EachPlaced lines number history =
-    (before : List Passed) (entry : Entry) (after : List Passed) → before ++ passed_by number entry ∷ after ≡ history → IsPlaced lines number before entry
+    (before : List Passed) (entry : Entry) (after : List Passed) → before ++ passed_by number entry ∷ after ≡ history
+    → IsPlaced lines number before entry
 
 -- the answer has the place, the number among the effects, and the content that are due behind this history
-pub record IsDueAt (tells : Type 0) (opening : Opening) (line : Line) (answered : Answered) (bytes : List ℕ) (before : List Entry) : Type 0 where
+pub record IsDueAt (tells : Type 0) (opening : Opening) (line : Line) (answered : Answered) (bytes : List ℕ)
+    (before : List Entry) : Type 0 where
   pub place : answered.place ≡ place_due opening before line.line answered.reply
   pub ordinal : answered.ordinal ≡ ordinal_due before line.line answered.reply
   pub answer : tells → Answers (outcome_due opening before line.call answered.reply) answered.reply bytes
 
 -- the history has the effect with this answer
-pub record IsAnswered (tells : Type 0) (opening : Opening) (line : Line) (answered : Answered) (bytes : List ℕ) (history : List Passed) : Type 0 where
+pub record IsAnswered (tells : Type 0) (opening : Opening) (line : Line) (answered : Answered) (bytes : List ℕ)
+    (history : List Passed) : Type 0 where
   pub number : ℕ
   pub before : List Passed
   pub after : List Passed
@@ -96,11 +100,13 @@ pub record IsAnswered (tells : Type 0) (opening : Opening) (line : Line) (answer
   pub due : IsDueAt tells opening line answered bytes (entries before)
 
 -- a seat ran one line
-pub record HasAnswered (tells : Type 0) (lines : List Line) (line : Line) (answered : Answered) (bytes : List ℕ) (seat after : SeatState) : Type 0 where
+pub record HasAnswered (tells : Type 0) (lines : List Line) (line : Line) (answered : Answered) (bytes : List ℕ)
+    (seat after : SeatState) : Type 0 where
   pub goes : GoesOn seat after
   pub placed : EachPlaced lines seat.number after.seen
   pub answered_is : IsAnswered tells seat.opening line answered bytes after.seen
-  pub done : (m : ℕ) → 0 < m → effects_of m (entries_of seat.number after.seen) ≡ effects_of m (entries_of seat.number seat.seen) + one_if (line.line == m)
+  pub done : (m : ℕ) → 0 < m
+      → effects_of m (entries_of seat.number after.seen) ≡ effects_of m (entries_of seat.number seat.seen) + one_if (line.line == m)
 
 -- a seat has staged for a line, and may go on
 pub record IsStaging (lines : List Line) (line : ℕ) (seat after : SeatState) : Type 0 where

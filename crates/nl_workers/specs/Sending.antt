@@ -4,7 +4,7 @@ use Rattle.nl_callbacks.specs.declared.notices.Notices.{Notices}
 use Rattle.nl_workers.specs.Duties.{IsOutbox}
 use Rattle.nl_workers.specs.declared.outbox.Outbox.{Outbox}
 
--- it has sent on up to this number
+-- The cleaner's end has sent on up to this number.
 pub record IsSending (notices : Notices) (posted number : ℕ) (outbox after : Outbox) : Type 0 where
   pub sends : IsOutbox notices after
   pub at : after.last ≡ number

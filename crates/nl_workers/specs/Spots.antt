@@ -37,7 +37,8 @@ AreSpots stations spots = (i : ℕ) (spot : Spot) → slice_get spots i ≡ Some
 -- each row has an ordinal from 1 up to the count of places
 abbrev pub OrdinalsFit : List Station → ℕ → Type 0
 OrdinalsFit stations places =
-    (w : ℕ) (s : Station) (j : ℕ) (row : Row) → slice_get stations w ≡ Some s → slice_get s.desk.rows j ≡ Some row → (0 < row.answered.ordinal) × (row.answered.ordinal ≤ places)
+    (w : ℕ) (s : Station) (j : ℕ) (row : Row) → slice_get stations w ≡ Some s → slice_get s.desk.rows j ≡ Some row
+    → (0 < row.answered.ordinal) × (row.answered.ordinal ≤ places)
 
 -- the spot of this ordinal leads to a row that has it
 pub record IsSpotted (stations : List Station) (spots : List Spot) (ordinal : ℕ) : Type 0 where
@@ -49,5 +50,7 @@ pub record IsSpotted (stations : List Station) (spots : List Spot) (ordinal : �
 
 -- the rows of the first desks have their spots, and the first rows of the next desk
 pub record AreSpotted (stations : List Station) (worker at : ℕ) (spots : List Spot) : Type 0 where
-  pub whole : (w : ℕ) (s : Station) (j : ℕ) (row : Row) → w < worker → slice_get stations w ≡ Some s → slice_get s.desk.rows j ≡ Some row → IsSpotted stations spots row.answered.ordinal
-  pub begun : (s : Station) (j : ℕ) (row : Row) → j < at → slice_get stations worker ≡ Some s → slice_get s.desk.rows j ≡ Some row → IsSpotted stations spots row.answered.ordinal
+  pub whole : (w : ℕ) (s : Station) (j : ℕ) (row : Row) → w < worker → slice_get stations w ≡ Some s → slice_get s.desk.rows j ≡ Some row
+      → IsSpotted stations spots row.answered.ordinal
+  pub begun : (s : Station) (j : ℕ) (row : Row) → j < at → slice_get stations worker ≡ Some s → slice_get s.desk.rows j ≡ Some row
+      → IsSpotted stations spots row.answered.ordinal

@@ -26,7 +26,7 @@ bytes_for worker line = if line.worker == worker then read_length line.call else
 abbrev pub bytes_to_come : ℕ → List Line → ℕ
 bytes_to_come worker lines = sum_by (bytes_for worker) lines
 
--- it has room for just these lines of the worker
+-- A desk has room for just these lines of the worker.
 pub record HasRoom (worker : ℕ) (lines : List Line) (desk : DeskState) : Type 0 where
   pub lines_left : desk.lines_left ≡ lines_to_come worker lines
   pub bytes_left : desk.bytes_left ≡ bytes_to_come worker lines

@@ -1,3 +1,4 @@
+//! The table of answers, in the order of the lines' places, with room for a given number of lines.
 ghost use Rattle.std.specs.Prelude.{◌≡◌, ◌==◌, ◌<◌, ◌≤◌, ◌+◌, [], length, IfOk, IfSome, Some, slice_get};
 ghost use Rattle.nl_tree.specs.Calls.{IsLine};
 ghost use Rattle.nl_workers.specs.Placed.{one_if};
@@ -24,7 +25,7 @@ pub struct AnswerTable {
     pub(crate) stations: Vec<Station>,
     /// Where the answers stand, in the order of their places.
     pub(crate) spots: Vec<Spot>,
-    /// As many spots as there are lines, until the lines are answered.
+    /// Room for the spots: one for each line until the lines are answered.
     pub(crate) spare: Vec<Spot>,
     pub(crate) lost: bool,
 }

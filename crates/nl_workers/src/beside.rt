@@ -1,3 +1,4 @@
+//! The workers of an epoch run in threads, beside the loops of the cleaner and the handler.
 ghost use Rattle.std.specs.Prelude.{◌≡◌};
 ghost use Rattle.std.specs.Thread.{IsSync};
 ghost use Rattle.nl_workers.specs.Crew.{MayStart, HasRun};
@@ -49,8 +50,10 @@ pub(crate) fn run_beside<V: Served + Send, R: Threads + Wait + Sync, G: Gate + S
             ensures { HasCleaned V.tells notices.entry.now cleaner result }
         { clean(rt, turns, cleaner, stop, notices, gate) },
         move || -> (Handler, (TurnSeat, Vec<Station>))
-            requires { IsSync R.row × IsSync G.row × MayHandle turns.now.name notices.now handler × (seat.lock ≡ turns.now.name) × MayStart V.tells lines.now span.from span.to seat stations.items }
-            ensures { HasHandled V.tells notices.entry.now handler result.0 × HasRun V.tells lines.entry.now span.from span.to seat stations.items result.1.0 result.1.1.items }
+            requires { IsSync R.row × IsSync G.row × MayHandle turns.now.name notices.now handler × (seat.lock ≡ turns.now.name)
+                × MayStart V.tells lines.now span.from span.to seat stations.items }
+            ensures { HasHandled V.tells notices.entry.now handler result.0
+                × HasRun V.tells lines.entry.now span.from span.to seat stations.items result.1.0 result.1.1.items }
         {
             handle_beside(
                 rt, turns, stop, notices, handler, seat, lines, span, stations, gate,
@@ -90,7 +93,8 @@ fn handle_beside<V: Served + Send, R: Threads + Wait + Sync, G: Gate + Sync>(
             ensures { HasHandled V.tells notices.entry.now handler result }
         { handle(rt, turns, handler, stop, notices, gate) },
         move || -> (TurnSeat, Vec<Station>)
-            requires { IsSync R.row × IsSync G.row × (seat.lock ≡ turns.now.name) × MayStart V.tells lines.now span.from span.to seat stations.items }
+            requires { IsSync R.row × IsSync G.row × (seat.lock ≡ turns.now.name)
+                × MayStart V.tells lines.now span.from span.to seat stations.items }
             ensures { HasRun V.tells lines.entry.now span.from span.to seat stations.items result.0 result.1.items }
         {
             let ran = run_crew(rt, turns, seat, lines, span, stations, gate);

@@ -1,3 +1,4 @@
+//! All who take turns at the lock, and the run of one epoch by its workers.
 ghost use Rattle.std.specs.Prelude.{◌≡◌, vec_len, vec_capacity};
 ghost use Rattle.std.specs.Thread.{IsSync};
 ghost use Rattle.nl_workers.specs.Worked.{MayWork, HasWorked};
@@ -58,8 +59,10 @@ pub(crate) fn run_crew<V: Served + Send, R: Threads + Wait + Sync, G: Gate + Syn
             ensures { HasWorked V.tells lines.entry.now worker span.from span.to own station result.0 result.1 }
         { work(rt, turns, own, lines, span, worker, station, gate) },
         move || -> (TurnSeat, Vec<Station>)
-            requires { IsSync R.row × IsSync G.row × (seat.lock ≡ turns.now.name) × MayStart V.tells lines.now span.from span.to seat stations.items }
-            ensures { HasRun V.tells lines.entry.now span.from span.to seat stations.items result.0 result.1.items × (vec_capacity result.1 ≡ vec_capacity stations) }
+            requires { IsSync R.row × IsSync G.row × (seat.lock ≡ turns.now.name)
+                × MayStart V.tells lines.now span.from span.to seat stations.items }
+            ensures { HasRun V.tells lines.entry.now span.from span.to seat stations.items result.0 result.1.items
+                × (vec_capacity result.1 ≡ vec_capacity stations) }
         { run_crew(rt, turns, seat, lines, span, stations, gate) },
     );
     turns.join(&mut seat, own);

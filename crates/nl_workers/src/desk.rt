@@ -1,3 +1,4 @@
+//! The answers of one worker, a row for each line.
 ghost use Rattle.std.specs.Prelude.{◌≡◌, ◌+◌, ◌-◌, ◌<◌, ◌≤◌, ◌++◌, ◌∷◌, [], IfOk, IfSome, Some, slice_get, length, vec_len, vec_capacity};
 ghost use Rattle.nl_field.specs.Numbers.{max_bytes};
 ghost use Rattle.nl_tree.specs.Calls.{read_length};
@@ -61,7 +62,8 @@ impl Desk {
     pub(crate) fn add(&mut self, line: u32, call: &Call, answered: Answered, out: &ReplyBuf)
         requires lines { 0 < self.old.lines_left }
         requires bytes { read_length call.now ≤ self.old.bytes_left }
-        ensures rows { self.new.rows ≡ self.old.rows ++ record { line = line; answered = answered; bytes = kept_bytes (read_length call.now) out.now } ∷ [] }
+        ensures rows { self.new.rows
+            ≡ self.old.rows ++ record { line = line; answered = answered; bytes = kept_bytes (read_length call.now) out.now } ∷ [] }
         ensures lines { self.new.lines_left ≡ self.old.lines_left - 1 }
         ensures bytes { self.new.bytes_left ≡ self.old.bytes_left - read_length call.now }
         ensures out { length out.now ≤ max_bytes }
@@ -79,12 +81,14 @@ impl Desk {
         self.bytes_left -= room;
     }
 
+    /// How many lines the worker has answered.
     pub(crate) fn len(&self) -> u32
         ensures { result ≡ length self.now.rows }
     {
         self.filed.len() as u32
     }
 
+    /// The answer at a place below the length, in the order in which they were given.
     pub(crate) fn get(&self, at: u32) -> &LineAnswer
         requires { at < length self.now.rows }
         ensures { IfSome (slice_get self.now.rows at) (λ row. (result.now.line ≡ row.line) × (result.now.answered ≡ row.answered)) }

@@ -1,3 +1,4 @@
+//! The loops of the cleaner and the handler, a turn for each background task.
 ghost use Rattle.std.specs.Prelude.{◌≡◌, ◌<◌, ◌||◌, true, false};
 ghost use Rattle.nl_turns.specs.Served.{duty_entry, is_lost_duty};
 ghost use Rattle.nl_workers.specs.Placed.{HasPassed};
@@ -139,8 +140,8 @@ fn rest<G: Gate>(gate: &G, worker: u8, answer: DutyAnswer) -> Option<Told>
     }
 }
 
-/// How many times the cleaner lets others run before its next turn: not at all behind a task that did something, and else about twice as often
-/// as before.
+/// How many times the cleaner lets others run before its next turn: not at all behind a task that did something, and else about twice as
+/// often as before.
 fn rests_after(rests: u32, answer: DutyAnswer) -> u32 {
     if matches!(answer, DutyAnswer::Did) {
         0
@@ -189,8 +190,8 @@ pub(crate) fn handle<V: Served, R: Wait, G: Gate>(
 }
 
 #[tactic(auto, using(crate::proofs::Serving::cleans_none))]
-/// Cleans until the flag is raised, and sends the number of each new callback. While there is nothing to do its turns come more and more seldom, so
-/// that workers need not wait for them.
+/// Cleans until the flag is raised, and sends the number of each new callback. While there is nothing to do its turns come more and more
+/// seldom, so that workers need not wait for them.
 pub(crate) fn clean<V: Served, R: Wait, G: Gate>(
     rt: &R,
     turns: &Turns<V>,

@@ -1,3 +1,4 @@
+//! The lines of one epoch, as a range of positions.
 ghost use Rattle.std.specs.Prelude.{◌≡◌, ◌<◌, ◌≤◌, ◌≢◌, true, length, slice_get, Some};
 ghost use Rattle.nl_tree.specs.Calls.{AreLines};
 ghost use Rattle.nl_tree.specs.declared.call.Line.{Line as LineState};
@@ -17,7 +18,8 @@ pub(crate) fn end_of_epoch(lines: &Lines, from: u32) -> u32
     requires { from < length lines.now }
     ensures rises { from < result }
     ensures epoch { IsEpoch lines.now from result }
-    ensures whole { (a : LineState) (b : LineState) → slice_get lines.now from ≡ Some a → slice_get lines.now result ≡ Some b → b.round ≢ a.round }
+    ensures whole { (a : LineState) (b : LineState) → slice_get lines.now from ≡ Some a → slice_get lines.now result ≡ Some b
+        → b.round ≢ a.round }
 {
     let round = lines.get(from).round;
     for at in from..lines.len() {

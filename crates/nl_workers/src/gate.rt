@@ -1,3 +1,4 @@
+//! A gate, which is told of the steps of workers and may hold them there.
 ghost use Rattle.std.specs.Prelude.{◌≡◌};
 
 /// Where a worker stands with a line.

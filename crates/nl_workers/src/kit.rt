@@ -1,3 +1,4 @@
+//! What the cleaner and the handler share while an epoch runs.
 ghost use Rattle.std.specs.Prelude.{◌≡◌, IfOk};
 ghost use Rattle.nl_workers.specs.Kit.{KitState};
 

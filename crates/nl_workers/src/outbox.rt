@@ -1,3 +1,4 @@
+//! The cleaner's end of the queue on which it sends the numbers of callbacks.
 ghost use Rattle.std.specs.Prelude.{◌≡◌, ◌≤◌, max};
 ghost use Rattle.nl_workers.specs.Duties.{IsOutbox};
 

@@ -1,3 +1,4 @@
+//! Where the row of each place stands among the desks of the workers.
 ghost use Rattle.std.specs.Prelude.{◌≡◌, ◌+◌, ◌<◌, ◌≤◌, length, vec_len, IfOk, Some, slice_get};
 ghost use Rattle.nl_workers.specs.Spots.{OrdinalsFit, AreSpotted};
 
@@ -12,7 +13,7 @@ pub(crate) struct Spot {
     pub(crate) at: u32,
 }
 
-/// So many spots, which lead nowhere yet.
+/// A list of so many spots, which lead nowhere yet. `Memory` where there is no room for it.
 pub(crate) fn blank_spots(alloc: Global, count: u32) -> Result<Vec<Spot>, Memory>
     ensures { IfOk result (λ v. vec_len v ≡ count) }
 {

@@ -1,3 +1,4 @@
+//! All lines of a script are run, epoch by epoch.
 ghost use Rattle.std.specs.Prelude.{◌≡◌, ◌||◌, ◌+◌, ◌-◌, ◌<◌, ◌≤◌, ◌^◌, [], length, false, vec_len};
 ghost use Rattle.std.specs.Thread.{IsSync};
 ghost use Rattle.nl_callbacks.specs.Notices.{IsTaker};
@@ -139,7 +140,8 @@ fn run_all<V: Served + Send, R: Threads + Wait + Sync, G: Gate + Sync>(
 
 /// Takes the seats of the cleaner and the handler back.
 fn send_home<V: Served>(turns: &Turns<V>, crew: Crew) -> (TurnSeat, Home)
-    requires lock { (crew.seat.lock ≡ turns.now.name) × (crew.cleaner.seat.lock ≡ turns.now.name) × (crew.handler.seat.lock ≡ turns.now.name) }
+    requires lock { (crew.seat.lock ≡ turns.now.name) × (crew.cleaner.seat.lock ≡ turns.now.name)
+        × (crew.handler.seat.lock ≡ turns.now.name) }
     requires idle { (crew.seat.has_turn ≡ false) × (crew.cleaner.seat.has_turn ≡ false) × (crew.handler.seat.has_turn ≡ false) }
     requires first { crew.seat.number ≡ 0 }
     ensures home { IsHome crew.seat crew.cleaner.seat crew.handler.seat result.0 }
@@ -236,7 +238,8 @@ pub fn run_rounds<V: Served + Send, R: Threads + Wait + Sync, G: Gate + Sync>(
     let (home, spots) = TurnSeat::lend(
         seat,
         move |own: TurnSeat| -> (TurnSeat, (Home, Vec<Spot>))
-            requires { IsSync R.row × IsSync G.row × MayRunRounds turns.now.name notices.now lines.now own stations.items passes (vec_len spare) }
+            requires { IsSync R.row × IsSync G.row
+                × MayRunRounds turns.now.name notices.now lines.now own stations.items passes (vec_len spare) }
             ensures ran { RoundsRan V.tells own lines.entry.now (rows_at result.1.0.stations.items result.1.1.items) result.0 }
             ensures spots { AreSpots result.1.0.stations.items result.1.1.items × (length result.1.1.items < 2 ^ 32) }
             ensures kit { IsOutbox notices.entry.now result.1.0.passes.outbox × IsTaker notices.entry.now result.1.0.passes.taker }

@@ -9,7 +9,7 @@ ghost use Rattle.nl_workers.specs.Examples.{first_row, has_staged_for, one_done}
 ghost use Rattle.nl_workers.specs.Placed.{IsPlaced, KnowsLosses};
 ghost use Rattle.nl_workers.specs.Rounds.{IsRowAt};
 
-// A row has the place, the number among the effects, the fault and the answer of its effect.
+/// A row has the place, the number among the effects, the fault and the answer of its effect.
 pub fn answers()
     ensures row { IsRowAt ⊤ from_five (five_turns 6) 0 (effect_entry 1 Done) (first_row 6 1 Done []) }
     ensures other_place { IsRowAt ⊤ from_five (five_turns 6) 0 (effect_entry 1 Done) (first_row 7 1 Done []) → ⊥ }
@@ -19,14 +19,14 @@ pub fn answers()
     ensures other_bytes { IsRowAt ⊤ from_five (five_turns 6) 0 (effect_entry 1 Done) (first_row 6 1 Done (97 ∷ [])) → ⊥ }
 {}
 
-// A line stages behind the effects of all lines that have to precede it: line 3 behind line 1, which is of its worker.
+/// A line stages behind the effects of all lines that have to precede it: line 3 behind line 1, which is of its worker.
 pub fn stagings()
     ensures first { IsPlaced three_lines 3 [] (stage_entry 1 Whole) }
     ensures too_early { IsPlaced three_lines 3 [] (stage_entry 3 Whole) → ⊥ }
     ensures in_order { IsPlaced three_lines 3 one_done (stage_entry 3 Whole) }
 {}
 
-// An effect stands directly behind the end of its own staging, by its own seat.
+/// An effect stands directly behind the end of its own staging, by its own seat.
 pub fn effects()
     ensures staged { IsPlaced three_lines 3 (has_staged_for 3 1 Whole) (effect_entry 1 Done) }
     ensures not_begun { IsPlaced three_lines 3 [] (effect_entry 1 Done) → ⊥ }
@@ -35,7 +35,7 @@ pub fn effects()
     ensures other_seat { IsPlaced three_lines 3 (has_staged_for 4 1 Whole) (effect_entry 1 Done) → ⊥ }
 {}
 
-// A lost page is known exactly where one was lost before, or the history has more of them.
+/// A lost page is known exactly where one was lost before, or the history has more of them.
 pub fn lost_pages()
     ensures found { KnowsLosses false true 0 1 }
     ensures stays { KnowsLosses true true 1 1 }

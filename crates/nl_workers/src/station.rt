@@ -1,3 +1,4 @@
+//! What one worker has in hand while it answers its lines.
 ghost use Rattle.std.specs.Prelude.{◌≡◌, ◌||◌};
 
 use crate::desk::Desk;
@@ -12,6 +13,7 @@ pub(crate) struct Station {
     pub(crate) lost: bool,
 }
 
+/// Whether one of the two holds.
 pub(crate) fn either(a: bool, b: bool) -> bool
     ensures { result ≡ (a || b) }
 {

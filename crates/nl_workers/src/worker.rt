@@ -1,3 +1,4 @@
+//! A worker answers its lines among a range of positions, one after the other.
 ghost use Rattle.std.specs.Prelude.{◌≡◌, ◌+◌, ◌<◌, length, false, IfSome, slice_get};
 ghost use Rattle.nl_workers.specs.Worked.{MayRunAt, MayWork, HasWorked};
 

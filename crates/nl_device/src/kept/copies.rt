@@ -1,3 +1,4 @@
+// Where the copies of a stamp lie.
 ghost use Rattle.std.specs.Prelude.{◌≡◌, ◌<◌, ◌/◌, Some};
 ghost use Rattle.std.specs.Ordering.{nat_cmp};
 ghost use Rattle.std.specs.BTreeMap.{get, Updates};
@@ -21,7 +22,7 @@ impl Copies {
         }
     }
 
-    /// With a later page of the stamp, where a block has so many pages.
+    /// The copies of the stamp with one more, later page of it. A block has `size` pages.
     pub fn with(self, page: u32, size: u32) -> Copies
         requires { 0 < size }
         ensures { result ≡ noted size page (Some self) }

@@ -1,3 +1,4 @@
+// A page as it is kept of a scan.
 use nl_field::Tag;
 
 /// A readable page of the physical segment.

@@ -1,3 +1,4 @@
+// Looks up, in what is kept of a scan, where the page of a pointer is.
 ghost use Rattle.std.specs.Prelude.{◌≡◌, ◌==◌, ◌&&◌, find, option_map};
 ghost use Rattle.nl_field.specs.Space.{is_outside};
 ghost use Rattle.nl_device.specs.Kept.{has_stamp, is_at_name, place_among};

@@ -1,3 +1,4 @@
+// Loads the listed pointers into the physical segment, each at its place.
 ghost use Rattle.std.specs.Prelude.{◌≡◌, ◌≢◌, ℕ, ◌<◌, cond, length};
 ghost use Rattle.nl_callbacks.specs.Pending.{callback_of};
 ghost use Rattle.nl_device.specs.Posting.{Posts};
@@ -13,7 +14,8 @@ use nl_pseg::PSeg;
 fn call(pending: &mut Pending, at: &Pointer, page: u32, tag: Tag)
     requires { at.now.name ≢ page → 0 < pending.old.room }
     ensures here { at.now.name ≡ page → pending.new ≡ pending.old }
-    ensures away { at.now.name ≢ page → (number : ℕ) × Posts (callback_of number at.now.name page tag at.now.stamp) pending.old pending.new }
+    ensures away { at.now.name ≢ page
+        → (number : ℕ) × Posts (callback_of number at.now.name page tag at.now.stamp) pending.old pending.new }
 {
     if page != at.name {
         pending.post(at.name, page, tag, at.stamp);

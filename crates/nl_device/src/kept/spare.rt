@@ -1,3 +1,4 @@
+// Which block of the physical segment can be erased next, by the pages that are kept of a scan.
 ghost use Rattle.std.specs.Prelude.{◌≡◌, ℕ, ◌<◌, ◌≤◌, ◌+◌, ◌-◌, ◌/◌, ◌^◌, IfSome, false, find, not, length, map, slice_index_or};
 ghost use Rattle.std.specs.List.{range_with_len};
 ghost use Rattle.std.specs.Ordering.{nat_cmp};
@@ -24,7 +25,8 @@ fn clear(alone: &mut Vec<bool>)
 /// Marks the block of a stamp that has pages in this block only. Blocks are marked from the first on.
 fn mark(alone: &mut Vec<bool>, copies: &BTreeMap<u64, Copies>, stamp: u64, first: u32, size: u32)
     requires some { 0 < size }
-    requires within { IfSome (get nat_cmp copies.now stamp) (λ c. (first ≤ c.first / size) × (c.first / size < first + length alone.old.items)) }
+    requires within { IfSome (get nat_cmp copies.now stamp)
+        (λ c. (first ≤ c.first / size) × (c.first / size < first + length alone.old.items)) }
     ensures { alone.new.items ≡ marked first size (get nat_cmp copies.now stamp) alone.old.items }
 {
     if let Some(copies) = copies.get(&stamp) {

@@ -25,7 +25,8 @@ fn is_outside(pages: u32, spare: Option<u32>, page: u32) -> bool
 fn take(picks: &mut Vec<Option<Own>>, own: &Own, pages: u32, spare: Option<u32>)
     requires some { 0 < pages }
     requires below { own.now.vaddr < length picks.old.items }
-    ensures { picks.new.items ≡ slice_set picks.old.items own.now.vaddr (with_pick pages spare (slice_index_or picks.old.items own.now.vaddr None) own.now) }
+    ensures { picks.new.items
+        ≡ slice_set picks.old.items own.now.vaddr (with_pick pages spare (slice_index_or picks.old.items own.now.vaddr None) own.now) }
 {
     let at = own.vaddr as usize;
     if picks[at].is_none() && is_outside(pages, spare, own.page) {
@@ -37,7 +38,8 @@ fn take(picks: &mut Vec<Option<Own>>, own: &Own, pages: u32, spare: Option<u32>)
 fn fill(picks: &mut Vec<Option<Own>>, needed: &Vec<Own>, pages: u32, spare: Option<u32>)
     requires some { 0 < pages }
     requires below { All (λ (o : OwnOf). o.vaddr < length picks.old.items) needed.now.items }
-    ensures { Tabulates (length picks.old.items) None (λ v. filled pages spare needed.now.items (slice_index_or picks.old.items v None) v) picks.new.items }
+    ensures { Tabulates (length picks.old.items) None
+        (λ v. filled pages spare needed.now.items (slice_index_or picks.old.items v None) v) picks.new.items }
 {
     for own in needed {
         take(picks, own, pages, spare);

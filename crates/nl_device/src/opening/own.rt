@@ -65,7 +65,8 @@ pub fn owns(alloc: Global, tables: &ScanTables, shape: &Shape) -> Result<Vec<Own
 
 fn raise(greatest: &mut Vec<u64>, own: &Own)
     requires { own.now.vaddr < length greatest.old.items }
-    ensures { greatest.new.items ≡ slice_set greatest.old.items own.now.vaddr (max (slice_index_or greatest.old.items own.now.vaddr 0) own.now.stamp) }
+    ensures { greatest.new.items
+        ≡ slice_set greatest.old.items own.now.vaddr (max (slice_index_or greatest.old.items own.now.vaddr 0) own.now.stamp) }
 {
     let at = own.vaddr as usize;
     greatest[at] = greatest[at].max(own.stamp);

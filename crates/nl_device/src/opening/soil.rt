@@ -50,7 +50,8 @@ pub fn soil_virtual(vseg: &mut VSeg, tables: &ScanTables, wears: &Vec<u32>, coun
     requires bound { vseg.old.bound ≡ count * vseg.old.pages }
     ensures places { vseg.new.places ≡ vseg.old.places }
     ensures numbers { SameSize vseg.old vseg.new }
-    ensures blank { (p : ℕ) → is_blank vseg.new p ≡ true → (is_blank vseg.old p ≡ true) × (p / vseg.old.pages < count → SaysErased tables.now (p / vseg.old.pages)) }
+    ensures blank { (p : ℕ) → is_blank vseg.new p ≡ true
+        → (is_blank vseg.old p ≡ true) × (p / vseg.old.pages < count → SaysErased tables.now (p / vseg.old.pages)) }
 {
     for block in 0..count {
         if !tables.erased(block) {
@@ -88,7 +89,8 @@ pub fn soil_physical(pseg: &mut PSeg, tables: &ScanTables, wears: &Vec<u32>, fir
     requires whole { IsWhole pseg.old }
     requires none { pseg.old.victim ≡ None }
     ensures same { IsSoiled pseg.old pseg.new }
-    ensures erased { (p : ℕ) → TakenAsErased pseg.new p → TakenAsErased pseg.old p × (first ≤ p / pseg.old.size → p / pseg.old.size < end → SaysErased tables.now (p / pseg.old.size)) }
+    ensures erased { (p : ℕ) → TakenAsErased pseg.new p
+        → TakenAsErased pseg.old p × (first ≤ p / pseg.old.size → p / pseg.old.size < end → SaysErased tables.now (p / pseg.old.size)) }
     ensures clean { ((block : ℕ) → first ≤ block → block < end → SaysErased tables.now block) → IsClean pseg.new }
     ensures kept { KeepsBlock pseg.new }
     ensures whole { IsWhole pseg.new }

@@ -36,7 +36,8 @@ pub fn no_spreads(alloc: Global, count: u32) -> Result<Vec<Spread>, Memory>
 /// A page of the group lies in the block.
 pub fn note(spreads: &mut Vec<Spread>, group: u32, block: u32)
     requires { group < length spreads.old.items }
-    ensures { spreads.new.items ≡ slice_set spreads.old.items group (spread_more (slice_index_or spreads.old.items group Spread.Nowhere) block) }
+    ensures { spreads.new.items
+        ≡ slice_set spreads.old.items group (spread_more (slice_index_or spreads.old.items group Spread.Nowhere) block) }
 {
     spreads[group as usize] = more(spreads[group as usize], block);
 }
@@ -44,7 +45,8 @@ pub fn note(spreads: &mut Vec<Spread>, group: u32, block: u32)
 /// The block that holds this group alone is marked, where it is one of those from the first on.
 fn mark(held: &mut Vec<bool>, spread: Spread, first: u32)
     ensures count { length held.new.items ≡ length held.old.items }
-    ensures each { (i : ℕ) → i < length held.old.items → slice_index_or held.new.items i false ≡ (slice_index_or held.old.items i false || is_alone_in (first + i) spread) }
+    ensures each { (i : ℕ) → i < length held.old.items
+        → slice_index_or held.new.items i false ≡ (slice_index_or held.old.items i false || is_alone_in (first + i) spread) }
 {
     if let Spread::In(block) = spread {
         if block >= first {

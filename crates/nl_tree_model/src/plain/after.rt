@@ -106,7 +106,8 @@ fn after_write(
 ) -> Result<Vec<Entry>, Memory>
     requires small { length bytes.now ≤ max_bytes }
     requires end { 0 < length bytes.now → from + length bytes.now ≤ max_file_size }
-    ensures { IfOk result (λ v. v.items ≡ with_content tree.now path.now (written_over (content_of (node_at tree.now path.now)) from bytes.now)) }
+    ensures { IfOk result (λ v. v.items
+        ≡ with_content tree.now path.now (written_over (content_of (node_at tree.now path.now)) from bytes.now)) }
 {
     let content = match content_at(tree, path.names()) {
         Some(content) => written(alloc, content, from, bytes)?,
@@ -125,7 +126,8 @@ fn after_fill(
 ) -> Result<Vec<Entry>, Memory>
     requires small { len ≤ max_bytes }
     requires end { 0 < len → from + len ≤ max_file_size }
-    ensures { IfOk result (λ v. v.items ≡ with_content tree.now path.now (written_over (content_of (node_at tree.now path.now)) from (replicate len byte))) }
+    ensures { IfOk result (λ v. v.items
+        ≡ with_content tree.now path.now (written_over (content_of (node_at tree.now path.now)) from (replicate len byte))) }
 {
     let bytes = vec![in alloc; byte; len as usize]?;
     after_write(alloc, tree, path, from, &bytes)

@@ -12,7 +12,7 @@ use nl_field::{MAX_FILE_SIZE, Text};
 use nl_tree::{Call, Path, Refusal, is_long};
 use nl_tree_entries::{Entry, are_equal, count_entries, find, is_under};
 
-/// The first that holds.
+/// The first refusal of a list in which None stands for none.
 pub(crate) fn first_of(refusals: &[Option<Refusal>]) -> Option<Refusal>
     ensures { result ≡ step.first_of refusals.now }
 {
@@ -23,6 +23,7 @@ pub(crate) fn first_of(refusals: &[Option<Refusal>]) -> Option<Refusal>
     }
 }
 
+/// The refusal where the condition holds, else None.
 pub(crate) fn refused_when(holds: bool, refusal: Refusal) -> Option<Refusal>
     ensures { result ≡ when holds refusal }
 {
@@ -38,6 +39,7 @@ fn is_root_path(path: &[Text]) -> bool
     }
 }
 
+/// Whether the tree has nothing at the path.
 pub(crate) fn is_missing(tree: &[Entry], path: &[Text]) -> bool
     ensures { result ≡ is_none (node_at tree.now path.now) }
 {
@@ -127,7 +129,7 @@ fn of_rmdir(tree: &[Entry], path: &[Text]) -> Option<Refusal>
     ])
 }
 
-/// Of a rename to another path.
+/// The refusal of a rename to another path.
 #[tactic(auto, unfolding(nl_tree::specs::Step::refusal_of_move))]
 fn of_move(tree: &[Entry], from: &[Text], to: &[Text]) -> Option<Refusal>
     ensures { result ≡ step.refusal_of_move tree.now from.now to.now }
@@ -201,7 +203,8 @@ fn of_stat(tree: &[Entry], path: &[Text]) -> Option<Refusal>
 }
 
 fn of_list(tree: &[Entry], path: &[Text]) -> Option<Refusal>
-    ensures { result ≡ step.first_of (step.prefix_refusal tree.now path.now ∷ step.missing tree.now path.now ∷ when (is_file (node_at tree.now path.now)) Enotdir ∷ []) }
+    ensures { result ≡ step.first_of
+        (step.prefix_refusal tree.now path.now ∷ step.missing tree.now path.now ∷ when (is_file (node_at tree.now path.now)) Enotdir ∷ []) }
 {
     first_of(&[
         of_prefix(tree, path),
@@ -234,6 +237,7 @@ pub(crate) fn of_call(tree: &[Entry], call: &Call) -> Option<Refusal>
     }
 }
 
+/// Whether a path of the call is too long, or a name in one.
 pub(crate) fn has_long_path(call: &Call) -> bool
     ensures { result ≡ list_any is_too_long (paths_of call.now) }
 {

@@ -28,6 +28,7 @@ fn is_overfull(tree: &[Entry], at: usize) -> bool
     entry_count(tree, at) > MAX_ENTRIES as usize
 }
 
+/// Whether a directory of the tree has more entries than one may have.
 pub(crate) fn has_full_directory(tree: &[Entry]) -> bool
     requires { IsInOrder tree.now }
     ensures { result ≡ list_any (λ e. nat_lt max_entries (length (entries_of tree.now e.0))) tree.now }
@@ -51,6 +52,7 @@ fn meta_pages(tree: &[Entry], at: usize) -> u64
     entries + ranges(&tree[at].1)
 }
 
+/// In how many ranges of 256 pages, past the first 8 pages, a file holds a page; 0 for a directory.
 pub(crate) fn ranges(node: &SharedNode) -> u64
     ensures pages { result ≡ ranges_of_node node.now }
     ensures bound { result < 2 ^ 32 }
@@ -61,6 +63,7 @@ pub(crate) fn ranges(node: &SharedNode) -> u64
     }
 }
 
+/// Whether the tree takes more nodes than the limit.
 pub(crate) fn exceeds_nodes(tree: &[Entry], limit: u32) -> bool
     ensures { result ≡ nat_lt limit (node_charge tree.now) }
 {

@@ -9,12 +9,13 @@ use Rattle.nl_field.specs.declared.shape.Shape.{Shape}
 use Rattle.nl_flight.specs.Flight.{IsFlight}
 use Rattle.nl_iface.specs.Names.{Has}
 use Rattle.nl_meta_running.specs.Running.{running_on}
+use Rattle.nl_spec_commits.specs.Trees.{all_at}
 use Rattle.nl_recover.specs.Retaining.{pointers_in}
 use Rattle.nl_core.specs.Core.{IsCore}
 use Rattle.nl_core.specs.declared.state.Core.{Core}
 use Rattle.nl_meta.specs.Consistent.{page_on}
 use Rattle.nl_core.specs.Trees.{CoreStands}
-use Rattle.nl_core_open.specs.Beginning.{all_at, stopped_by}
+use Rattle.nl_core_open.specs.Beginning.{stopped_by}
 use Rattle.nl_core_open.proofs.Begun.{as_many_pages, begun_core, begun_stands, made}
 use Rattle.nl_core_open.proofs.OneKept.{one_kept}
 use Rattle.nl_core_open.proofs.Owners.{found_is_seen}

@@ -12,10 +12,10 @@ use Rattle.nl_meta.specs.Walk.{walk, walk_over}
 use Rattle.nl_iface.specs.Stored.{stored_in}
 use Rattle.nl_meta_running.specs.Running.{stored_on}
 use Rattle.nl_meta_running.proofs.Holds.{bounds-of}
+use Rattle.nl_spec_commits.specs.Trees.{all_at}
 use Rattle.nl_core.specs.Trees.{CoreStands}
 use Rattle.nl_spec_image.specs.Stands.{SoundAs}
 use Rattle.nl_recover.proofs.Imaged.{lists_readable}
-use Rattle.nl_core_open.specs.Beginning.{all_at}
 use Rattle.nl_core_open.specs.Figures.{greatest_seen, least_seen}
 use Rattle.nl_core_open.proofs.CanOpen.{can_begin}
 use Rattle.nl_core_open.proofs.Imaged.{consistent, counted, none_failed, over, pairs, sound, walk_is}

@@ -2,8 +2,8 @@ use Rattle.std.proofs.Common.{◌≤◌, arith, subst}
 use Rattle.nl_device.specs.contracts.counts.DeviceCounts.TheImpl.{ghosts}
 use Rattle.nl_field.specs.CrashStates.{top}
 use Rattle.nl_meta.specs.Consistent.{page_on}
+use Rattle.nl_spec_commits.specs.Trees.{all_at}
 use Rattle.nl_core.specs.Trees.{CoreStands}
-use Rattle.nl_core_open.specs.Beginning.{all_at}
 use Rattle.nl_spec_image.proofs.SoundProofs.{stands_for_one}
 use Rattle.nl_volume.proofs.Begins.{opening_stands}
 use Rattle.nl_volume.proofs.volume.Volume.open_volume.Goals as goal
